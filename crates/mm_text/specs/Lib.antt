@@ -1,0 +1,5 @@
+pub mod Token
+pub mod Statement
+pub mod Reading
+pub mod Reader
+pub mod Remaining

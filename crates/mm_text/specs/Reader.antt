@@ -1,0 +1,141 @@
+-- The plain reader that the code computes: one token after the other, with what is unfinished. That it gives the reading
+-- of the files is proved apart from the code; public clauses speak of the reading.
+use Rattle.std.specs.Prelude.{◌≡◌, ℕ, ◌+◌, ◌==◌, ◌&&◌, nat_eq, nat_le, List, [], ◌∷◌, ◌++◌, length, Bool, true, false, not, if◌then◌else◌, codes, Option, Some, None}
+use Rattle.std.specs.List.{list_any, list_all}
+use Rattle.std.specs.Cmp.Lexicographic.{pointwise}
+use Rattle.mm_text.specs.declared.fault.TextRule.{TextRule}
+use Rattle.mm_text.specs.declared.fault.TextRule.TheVariants.{X8, S1, S2, S3, S4, S5}
+use Rattle.mm_text.specs.declared.statement.Kind.{Kind}
+use Rattle.mm_text.specs.declared.statement.Kind.TheVariants.{Constants, Variables, Distinct, Floating, Essential, Axiom, Provable, Opening, Closing}
+use Rattle.mm_text.specs.Token.{PlainToken, is_label_byte}
+use Rattle.mm_text.specs.Statement.{PlainStatement, keywords}
+use Rattle.mm_text.specs.Reading.{PlainFault, Item, Plain, Wrong, End}
+
+-- the statement of which tokens were read: none yet, a label, its symbols so far, or its proof so far
+pub data Part : Type 0 where
+  Between : Part
+  Labelled : (label : PlainToken) → Part
+  InBody : (statement : PlainStatement) → Part
+  InProof : (statement : PlainStatement) → Part
+
+-- what a token makes of it
+pub data Step : Type 0 where
+  More : (part : Part) → Step
+  Whole : (statement : PlainStatement) → Step
+  Faulty : (rule : TextRule) → Step
+
+abbrev pub same_text : List ℕ → List ℕ → Bool
+same_text a b = pointwise nat_eq a b
+
+abbrev pub is_keyword : List ℕ → Bool
+is_keyword text = list_any (same_text text) keywords
+
+-- a statement with no symbols yet
+abbrev pub begun : Kind → PlainToken → Option PlainToken → PlainStatement
+begun kind first label = record { kind = kind; first = first; label = label; symbols = []; proof = []; span = (0, 0) }
+
+-- the token that begins a statement
+abbrev pub at_start : PlainToken → Step
+at_start t =
+    if same_text t.text (codes "$c") then More (InBody (begun Constants t None))
+    else (if same_text t.text (codes "$v") then More (InBody (begun Variables t None))
+    else (if is_keyword t.text then Faulty S1
+    else (if list_all is_label_byte t.text then More (Labelled t) else Faulty S2)))
+
+-- the token after a label
+abbrev pub after_label : PlainToken → PlainToken → Step
+after_label label t =
+    if same_text t.text (codes "$f") then More (InBody (begun Floating label (Some label)))
+    else (if same_text t.text (codes "$a") then More (InBody (begun Axiom label (Some label)))
+    else (if same_text t.text (codes "$p") then More (InBody (begun Provable label (Some label)))
+    else Faulty S3))
+
+-- whether a statement of a kind may have so many symbols
+abbrev pub has_count : Kind → ℕ → Bool
+has_count Constants n = nat_le 1 n
+has_count Variables n = nat_le 1 n
+has_count Distinct n = nat_le 2 n
+has_count Floating n = n == 2
+has_count Essential n = nat_le 1 n
+has_count Axiom n = nat_le 1 n
+has_count Provable n = nat_le 1 n
+has_count Opening n = n == 0
+has_count Closing n = n == 0
+
+-- whether another symbol is one too many
+abbrev pub is_full : Kind → ℕ → Bool
+is_full Floating n = n == 2
+is_full kind n = false
+
+abbrev pub is_provable : Kind → Bool
+is_provable Provable = true
+is_provable kind = false
+
+-- the token after symbols
+abbrev pub in_body : PlainStatement → PlainToken → Step
+in_body s t =
+    if is_keyword t.text
+    then (if same_text t.text (if is_provable s.kind then codes "$=" else codes "$.")
+    then (if has_count s.kind (length s.symbols)
+    then (if is_provable s.kind then More (InProof (record s { span = (t.at + 2, 0) })) else Whole s)
+    else Faulty S5)
+    else Faulty S4)
+    else (if is_full s.kind (length s.symbols) then Faulty S5 else More (InBody (record s { symbols = s.symbols ++ t ∷ [] })))
+
+-- the token after steps of a proof
+abbrev pub in_proof : PlainStatement → PlainToken → Step
+in_proof s t =
+    if is_keyword t.text
+    then (if same_text t.text (codes "$.") then Whole (record s { span = (s.span.0, t.at) }) else Faulty S4)
+    else More (InProof (record s { proof = s.proof ++ t ∷ [] }))
+
+unfoldable pub step : Part → PlainToken → Step
+step Between t = at_start t
+step (Labelled label) t = after_label label t
+step (InBody s) t = in_body s t
+step (InProof s) t = in_proof s t
+
+-- the label of what is unfinished, and its first token
+abbrev pub part_label : Part → Option PlainToken
+part_label Between = None
+part_label (Labelled label) = Some label
+part_label (InBody s) = s.label
+part_label (InProof s) = s.label
+
+abbrev pub part_first : Part → Option PlainToken
+part_first Between = None
+part_first (Labelled label) = Some label
+part_first (InBody s) = Some s.first
+part_first (InProof s) = Some s.first
+
+-- the statements of a text and the fault that ends them, or none
+pub record PlainReading : Type 0 where
+  pub statements : List PlainStatement
+  pub ending : Option PlainFault
+
+abbrev pub ended : Option PlainFault → PlainReading
+ended ending = record { statements = []; ending = ending }
+
+abbrev pub with_statement : PlainStatement → PlainReading → PlainReading
+with_statement s reading = record { statements = s ∷ reading.statements; ending = reading.ending }
+
+-- the fault of a file that ends in what is unfinished
+abbrev pub end_fault : Part → Option PlainFault
+end_fault part = elim (part_first part) [
+  | None ↦ None
+  | Some first ↦ Some (record { rule = X8; file = first.file; at = first.at; label = part_label part })
+]
+
+abbrev pub step_fault : Part → PlainToken → TextRule → Option PlainFault
+step_fault part t rule = Some (record { rule = rule; file = t.file; at = t.at; label = part_label part })
+
+-- what the items that are left give, after what is unfinished
+unfoldable pub reading_of : Part → List Item → PlainReading
+reading_of part [] = ended None
+reading_of part (End file ∷ items) = ended (end_fault part)
+reading_of part (Wrong rule t ∷ items) = ended (step_fault part t rule)
+reading_of part (Plain t ∷ items) = elim (step part t) [
+  | More next ↦ reading_of next items
+  | Whole s ↦ with_statement s (reading_of Between items)
+  | Faulty rule ↦ ended (step_fault part t rule)
+]

@@ -1,0 +1,207 @@
+-- The reading of the handed files: the statements that they hold, and how it ends (the Metamath book, sections 4.1 and 4.2).
+use Rattle.std.specs.Prelude.{◌≡◌, ◌≢◌, ℕ, ◌+◌, ◌<◌, ◌≤◌, ◌==◌, ◌&&◌, ◌||◌, nat_eq, List, [], ◌∷◌, ◌++◌, length, map, sum_by, slice_get, Bool, true, false, not, if◌then◌else◌, codes, Option, Some, None, IfSome, ◌⊎◌, slice_range}
+use Rattle.std.specs.List.{list_any, list_all, AllByRecursion}
+use Rattle.std.specs.Cmp.Lexicographic.{pointwise}
+use Rattle.mm_text.specs.declared.file.File.{File}
+use Rattle.mm_text.specs.declared.fault.LoadRule.{LoadRule}
+use Rattle.mm_text.specs.declared.fault.LoadRule.TheVariants.{F1, F2, F3}
+use Rattle.mm_text.specs.declared.fault.TextRule.{TextRule}
+use Rattle.mm_text.specs.declared.fault.TextRule.TheVariants.{X1, X4, X8, X9, S1, S2, S3, S4, S5}
+use Rattle.mm_text.specs.declared.statement.Kind.{Kind}
+use Rattle.mm_text.specs.declared.statement.Kind.TheVariants.{Constants, Variables, Distinct, Floating, Essential, Axiom, Provable, Opening, Closing}
+use Rattle.mm_text.specs.Token.{PlainToken, tokens_from, is_printable, IsLabel, HoldsNoDollar}
+use Rattle.mm_text.specs.Statement.{PlainStatement, IsKeyword, keywords, IsHead, AreSymbols, FitsCount, label_in, SpellsAll, keyword_of}
+
+-- a file without where it lies in memory
+pub record PlainFile : Type 0 where
+  pub name : List ℕ
+  pub bytes : List ℕ
+
+abbrev pub plain_file : File → PlainFile
+plain_file f = record { name = f.name.now; bytes = f.bytes.now }
+
+-- how many bytes the files hold in all
+abbrev pub total_bytes : List PlainFile → ℕ
+total_bytes files = sum_by (λ f. length f.bytes) files
+
+-- two of the files have one name
+pub record HasTwins (files : List PlainFile) : Type 0 where
+  pub i : ℕ
+  pub j : ℕ
+  pub one : PlainFile
+  pub other : PlainFile
+  pub apart : i < j
+  pub at_i : slice_get files i ≡ Some one
+  pub at_j : slice_get files j ≡ Some other
+  pub same : one.name ≡ other.name
+
+-- the rule that the handed files break as a whole, the first one of F1, F2, F3
+abbrev pub BreaksLoad : List PlainFile → LoadRule → Type 0
+BreaksLoad files F1 = files ≡ []
+BreaksLoad files F2 = (files ≢ []) × HasTwins files
+BreaksLoad files F3 = (files ≢ []) × ¬ (HasTwins files) × (1073741824 < total_bytes files)
+
+-- A fault in the text: its rule, the number of its file and its place there, and the label of the statement in which it stands.
+pub record PlainFault : Type 0 where
+  pub rule : TextRule
+  pub file : ℕ
+  pub at : ℕ
+  pub label : Option PlainToken
+
+-- what a file gives, token by token
+pub data Item : Type 0 where
+  Plain : (token : PlainToken) → Item
+  Wrong : (rule : TextRule) (token : PlainToken) → Item
+  End : (file : ℕ) → Item
+
+-- the rule that a token breaks whatever stands before it: the first one of X1, X4, X9
+abbrev pub broken_by : List ℕ → Option TextRule
+broken_by text =
+    if not (list_all is_printable text) then Some X1
+    else (if pointwise nat_eq text (codes "$)") || pointwise nat_eq text (codes "$]") then Some X4
+    else (if list_any (λ b. b == 36) text && not (list_any (pointwise nat_eq text) keywords) then Some X9
+    else None))
+
+-- The items of a file with these tokens. The first faulty token ends them.
+unfoldable pub items_of : ℕ → List PlainToken → List Item
+items_of file [] = End file ∷ []
+items_of file (t ∷ tokens) = elim (broken_by t.text) [ Some rule ↦ Wrong rule t ∷ [] | None ↦ Plain t ∷ items_of file tokens ]
+
+-- The items of the handed files: those of the first, the top file. Inclusions aren't read yet, so no other is reached.
+abbrev pub items : List PlainFile → List Item
+items [] = []
+items (top ∷ others) = items_of 0 (tokens_from 0 0 top.bytes)
+
+-- the tokens in items
+abbrev pub plain_tokens : List Item → List PlainToken
+plain_tokens [] = []
+plain_tokens (Plain t ∷ rest) = t ∷ plain_tokens rest
+plain_tokens (Wrong rule t ∷ rest) = plain_tokens rest
+plain_tokens (End file ∷ rest) = plain_tokens rest
+
+-- no item is a fault
+abbrev pub HoldNoFault : List Item → Type 0
+HoldNoFault [] = Unit {0}
+HoldNoFault (Plain t ∷ rest) = HoldNoFault rest
+HoldNoFault (Wrong rule t ∷ rest) = ⊥
+HoldNoFault (End file ∷ rest) = HoldNoFault rest
+
+-- an unfinished statement of this kind, which has these symbols so far
+pub record IsBody (tokens : List PlainToken) (kind : Kind) (symbols : List PlainToken) : Type 0 where
+  pub head : List PlainToken
+  pub whole : tokens ≡ head ++ symbols
+  pub begins : IsHead kind head
+  pub spelled : AreSymbols symbols
+  pub room : kind ≡ Floating → length symbols ≤ 2
+
+-- an unfinished `$p` with its `$=`
+pub record IsInProof (tokens : List PlainToken) : Type 0 where
+  pub body : List PlainToken
+  pub symbols : List PlainToken
+  pub equals : PlainToken
+  pub proof : List PlainToken
+  pub whole : tokens ≡ body ++ equals ∷ proof
+  pub stated : IsBody body Provable symbols
+  pub some : 1 ≤ length symbols
+  pub sign : equals.text ≡ codes "$="
+  pub steps : AreSymbols proof
+
+-- nothing yet
+abbrev pub IsNothing : List PlainToken → Type 0
+IsNothing tokens = tokens ≡ []
+
+-- a label, with no keyword yet
+pub record IsLone (tokens : List PlainToken) : Type 0 where
+  pub label : PlainToken
+  pub whole : tokens ≡ label ∷ []
+  pub named : IsLabel label.text
+
+-- nothing, or a beginning of a statement that more tokens would finish
+abbrev pub IsBeginning : List PlainToken → Type 0
+IsBeginning tokens =
+    IsNothing tokens ⊎ IsLone tokens ⊎ ((kind : Kind) × (symbols : List PlainToken) × IsBody tokens kind symbols) ⊎ IsInProof tokens
+
+-- A front of the items that reads as these statements, followed by these tokens, which are a beginning of one. A file
+-- ends only where no statement is unfinished.
+pub record Viable (front : List Item) (statements : List PlainStatement) (unfinished : List PlainToken) : Type 0 where
+  pub clean : HoldNoFault front
+  pub finished : List PlainToken
+  pub whole : plain_tokens front ≡ finished ++ unfinished
+  pub spelled : SpellsAll finished statements
+  pub begun : IsBeginning unfinished
+  pub ended : (before after : List Item) (file : ℕ) → front ≡ before ++ End file ∷ after
+      → (earlier : List PlainStatement) × SpellsAll (plain_tokens before) earlier
+
+-- the keyword that ends the symbols of a statement of this kind
+abbrev pub closes_symbols : Kind → List ℕ
+closes_symbols Provable = codes "$="
+closes_symbols kind = codes "$."
+
+-- S1: a keyword that begins no statement stands where one should begin. So far `$c` and `$v` alone begin one.
+abbrev pub MeetsS1 : List PlainToken → PlainToken → Type 0
+MeetsS1 unfinished t =
+    IsNothing unfinished × IsKeyword t.text × (t.text ≢ keyword_of Constants) × (t.text ≢ keyword_of Variables)
+
+-- S2: a label holds another byte than a label may
+abbrev pub MeetsS2 : List PlainToken → PlainToken → Type 0
+MeetsS2 unfinished t = IsNothing unfinished × ¬ (IsKeyword t.text) × ¬ (IsLabel t.text)
+
+-- S3: after a label comes no `$f`, `$a` or `$p`. A `$e` isn't read yet.
+abbrev pub MeetsS3 : List PlainToken → PlainToken → Type 0
+MeetsS3 unfinished t =
+    IsLone unfinished × (t.text ≢ keyword_of Floating) × (t.text ≢ keyword_of Axiom) × (t.text ≢ keyword_of Provable)
+
+-- S4: in a statement's body a keyword that can't stand there
+abbrev pub MeetsS4 : List PlainToken → PlainToken → Type 0
+MeetsS4 unfinished t =
+    IsKeyword t.text
+    × (((kind : Kind) × (symbols : List PlainToken) × IsBody unfinished kind symbols × (t.text ≢ closes_symbols kind))
+    ⊎ (IsInProof unfinished × (t.text ≢ codes "$.")))
+
+-- S5: the symbols are closed after too few of them, or a `$f` has a third one
+abbrev pub MeetsS5 : List PlainToken → PlainToken → Type 0
+MeetsS5 unfinished t =
+    (kind : Kind) × (symbols : List PlainToken) × IsBody unfinished kind symbols
+    × (((t.text ≡ closes_symbols kind) × ¬ (FitsCount kind (length symbols)))
+    ⊎ (HoldsNoDollar t.text × (kind ≡ Floating) × (length symbols ≡ 2)))
+
+-- the first of these rules that a token breaks after these tokens of an unfinished statement
+abbrev pub Meets : List PlainToken → PlainToken → TextRule → Type 0
+Meets unfinished t S1 = MeetsS1 unfinished t
+Meets unfinished t S2 = MeetsS2 unfinished t
+Meets unfinished t S3 = MeetsS3 unfinished t
+Meets unfinished t S4 = MeetsS4 unfinished t
+Meets unfinished t S5 = MeetsS5 unfinished t
+Meets unfinished t rule = ⊥
+
+-- the fault of a token in a statement of which these tokens came before
+abbrev pub fault_at : TextRule → PlainToken → List PlainToken → PlainFault
+fault_at rule t unfinished = record { rule = rule; file = t.file; at = t.at; label = label_in unfinished }
+
+-- how a reading ends at the item after the longest viable front
+abbrev pub EndsAt : List PlainToken → Item → PlainFault → Type 0
+EndsAt unfinished (Plain t) fault = (rule : TextRule) × Meets unfinished t rule × (fault ≡ fault_at rule t unfinished)
+EndsAt unfinished (Wrong rule t) fault = fault ≡ fault_at rule t unfinished
+EndsAt unfinished (End file) fault =
+    (first : PlainToken) × (others : List PlainToken) × (unfinished ≡ first ∷ others) × (fault ≡ fault_at X8 first unfinished)
+
+-- The statements that the files hold, and the fault that ends them, or none: those of a viable front of the items that is
+-- all of them, or after which the next item is a fault.
+abbrev pub Reads : List PlainFile → List PlainStatement → Option PlainFault → Type 0
+Reads files statements None =
+    Viable (items files) statements []
+Reads files statements (Some fault) =
+    (front : List Item) × (item : Item) × (rest : List Item) × (unfinished : List PlainToken)
+    × (items files ≡ front ++ item ∷ rest) × Viable front statements unfinished × EndsAt unfinished item fault
+
+-- a token's text is the slice of its file at its place
+abbrev pub IsSliceOf : List PlainFile → PlainToken → Type 0
+IsSliceOf files t =
+    (file : PlainFile) × (slice_get files t.file ≡ Some file) × (slice_range file.bytes t.at (t.at + length t.text) ≡ t.text)
+
+-- each token of a statement is
+pub record IsInPlace (files : List PlainFile) (s : PlainStatement) : Type 0 where
+  pub first : IsSliceOf files s.first
+  pub label : IfSome s.label (IsSliceOf files)
+  pub symbols : AllByRecursion (IsSliceOf files) s.symbols
+  pub proof : AllByRecursion (IsSliceOf files) s.proof

@@ -1,0 +1,38 @@
+-- What a reader has still to give.
+use Rattle.std.specs.Prelude.{◌≡◌, ℕ, List, [], ◌∷◌, Bool, true, false, Option, Some, None, Result, Ok, Err, option_map}
+use Rattle.mm_text.specs.declared.fault.TextFault.{TextFault}
+use Rattle.mm_text.specs.declared.fault.TextFault.TheVariants.{Load, Fault, Memory}
+use Rattle.mm_text.specs.Token.{plain_token}
+use Rattle.mm_text.specs.Statement.{PlainStatement}
+use Rattle.mm_text.specs.Reading.{PlainFile, PlainFault}
+
+-- The statements of the files that weren't given yet, and the fault that ends them; whether a growth was refused, after
+-- which nothing is given; and whether the end, a fault or want of memory was answered.
+pub record Remaining : Type 0 where
+  pub files : List PlainFile
+  pub statements : List PlainStatement
+  pub ending : Option PlainFault
+  pub refused : Bool
+  pub told : Bool
+
+-- a statement that holds no token in its lists
+pub record IsEmpty (s : PlainStatement) : Type 0 where
+  pub symbols : s.symbols ≡ []
+  pub proof : s.proof ≡ []
+
+-- What a call of `read` answers, and what it leaves: the next statement, the end, the fault, or want of memory, which is
+-- answered for good, and is new only where neither the end nor a fault was told.
+abbrev pub Gives : Remaining → Result Bool TextFault → Remaining → PlainStatement → Type 0
+Gives old (Ok true) new into =
+    (old.refused ≡ false) × (old.told ≡ false) × (old.statements ≡ into ∷ new.statements)
+    × (new ≡ record old { statements = new.statements })
+Gives old (Ok false) new into =
+    (old.refused ≡ false) × (old.statements ≡ []) × (old.ending ≡ None) × (new ≡ record old { told = true }) × IsEmpty into
+Gives old (Err (Fault rule file at label)) new into =
+    (old.refused ≡ false) × (old.statements ≡ [])
+    × (old.ending ≡ Some (record { rule = rule; file = file; at = at; label = option_map plain_token label }))
+    × (new ≡ record old { told = true }) × IsEmpty into
+Gives old (Err Memory) new into =
+    (old.told ≡ true → old.refused ≡ true)
+    × (new ≡ record old { statements = []; ending = None; refused = true; told = true }) × IsEmpty into
+Gives old (Err (Load rule)) new into = ⊥

@@ -1,0 +1,90 @@
+//! Why files could not be read.
+
+ghost use Rattle.std.specs.Prelude.{◌≡◌};
+ghost use Rattle.mm_text.specs.declared.fault.TextFault.TheVariants.{Memory};
+
+use crate::token::Token;
+use std::alloc::{AllocError, AllocFailed};
+
+/// What is wrong with the handed files as a whole.
+#[derive(Clone, Copy, PartialEq, Eq, Debug)]
+pub enum LoadRule {
+    /// No file was handed in.
+    F1,
+    /// Two handed names are equal.
+    F2,
+    /// The files hold over 1,073,741,824 bytes in all.
+    F3,
+}
+
+/// What is wrong with the text (X) or with the form of a statement (S).
+#[derive(Clone, Copy, PartialEq, Eq, Debug)]
+pub enum TextRule {
+    /// A token holds a byte outside 0x21 to 0x7E.
+    X1,
+    /// A file ends in a comment.
+    X2,
+    /// In a comment a token other than `$)` holds `$(` or `$)`.
+    X3,
+    /// `$)` outside a comment, or `$]` outside an inclusion.
+    X4,
+    /// An inclusion that isn't `$[ name $]`.
+    X5,
+    /// `$[` in a block or in a statement.
+    X6,
+    /// The file that an inclusion names was not handed in.
+    X7,
+    /// A file ends in a statement.
+    X8,
+    /// A token outside comments and inclusions holds `$` and is no keyword.
+    X9,
+    /// A keyword that begins no statement stands where one should begin.
+    S1,
+    /// A label holds another byte than a label may.
+    S2,
+    /// After a label comes no `$f`, `$e`, `$a` or `$p`.
+    S3,
+    /// In a statement's body stands a keyword that can't stand there.
+    S4,
+    /// `$.` or `$=` after too few symbols, or a third symbol in a `$f`.
+    S5,
+    /// `$}` with no block open.
+    S6,
+    /// The top file ends with a block open.
+    S7,
+}
+
+/// Why no further statement can be read.
+#[derive(Clone, Copy, Drop)]
+pub enum TextFault<'a> {
+    /// The handed files break a rule as a whole.
+    Load(LoadRule),
+    /// The first fault met in the text.
+    Fault {
+        rule: TextRule,
+        /// The number of the handed file in which it stands, from 0.
+        file: usize,
+        /// The place of the faulty token in that file, from 0.
+        at: u32,
+        /// The label of the statement in which the fault stands, if it was read.
+        label: Option<Token<'a>>,
+    },
+    /// A growth was refused.
+    Memory,
+}
+
+impl<'a> From<AllocError> for TextFault<'a> {
+    ghost from_gives = { λ _ e. e ≡ Memory };
+
+    fn from(_e: AllocError) -> TextFault<'a> {
+        TextFault::Memory
+    }
+}
+
+impl<'a, T: Drop> From<AllocFailed<T>> for TextFault<'a> {
+    ghost from_gives = { λ _ e. e ≡ Memory };
+
+    fn from(_e: AllocFailed<T>) -> TextFault<'a> {
+        TextFault::Memory
+    }
+}

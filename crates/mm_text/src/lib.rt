@@ -1,0 +1,12 @@
+//! The reader: the files of a Metamath database, cut into tokens and statements.
+#![tactic(auto)]
+
+mod fault;
+mod file;
+mod statement;
+mod token;
+
+pub use fault::{LoadRule, TextFault, TextRule};
+pub use file::File;
+pub use statement::{Kind, Statement};
+pub use token::Token;
