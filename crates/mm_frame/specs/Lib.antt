@@ -1,0 +1,4 @@
+pub mod Sentence
+pub mod Active
+pub mod Rules
+pub mod Frame

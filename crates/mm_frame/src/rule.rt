@@ -1,0 +1,38 @@
+//! The rules of meaning, by the codes that are printed.
+
+/// What a statement's meaning may break, in the order in which the rules are judged (the Metamath
+/// book, sections 4.2.1 to 4.2.8).
+#[derive(Clone, Copy, PartialEq, Eq, Debug)]
+pub enum MeaningRule {
+    /// A `$c` stands in a block.
+    M1,
+    /// A symbol of a `$c` was declared before as constant or variable, active or not, or stands
+    /// twice in it.
+    M2,
+    /// A symbol of a `$v` is an active variable, was declared a constant, or stands twice in it.
+    M3,
+    /// A symbol of a `$c` or `$v` equals an earlier label.
+    M4,
+    /// The label equals an earlier label.
+    M5,
+    /// The label equals a symbol declared before, active or not.
+    M6,
+    /// A symbol of a `$d`, `$f`, `$e`, `$a` or `$p` isn't active.
+    M7,
+    /// A member of a `$d` is a constant.
+    M8,
+    /// A member stands twice in a `$d`.
+    M9,
+    /// The type code of a `$f` is a variable.
+    M10,
+    /// The second symbol of a `$f` is a constant.
+    M11,
+    /// The variable of a `$f` has an active `$f`.
+    M12,
+    /// An earlier `$f`, active or not, gave the variable of that name another type code.
+    M13,
+    /// The first symbol of a `$e`, `$a` or `$p` is a variable.
+    M14,
+    /// A variable in a `$e`, `$a` or `$p` has no active `$f`.
+    M15,
+}

@@ -1,0 +1,3 @@
+pub mod Substitution
+pub mod Tree
+pub mod Proof

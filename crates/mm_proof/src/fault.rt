@@ -1,0 +1,68 @@
+//! Why a proof isn't accepted.
+
+ghost use Rattle.std.specs.Prelude.{◌≡◌};
+ghost use Rattle.mm_proof.specs.declared.fault.ProofFault.TheVariants.{Memory};
+
+use std::alloc::{AllocError, AllocFailed};
+
+/// What a proof may break. P1 to P5 are judged over the whole proof, P6 to P12 and L1 step by step,
+/// P13 and P14 at the end (the Metamath book, section 4.3 and appendix B).
+#[derive(Clone, Copy, PartialEq, Eq, Debug)]
+pub enum ProofRule {
+    /// The first token is `(`, and there is no `)` among the others.
+    P1,
+    /// A label isn't that of an earlier statement.
+    P2,
+    /// A label is that of a hypothesis that isn't active.
+    P3,
+    /// A byte of the letters isn't `A` to `Z`.
+    P4,
+    /// Leading digits are followed by `Z` or by the end of the letters.
+    P5,
+    /// A number is over those of hypotheses, listed labels and tags so far.
+    P6,
+    /// A `Z` before any step.
+    P7,
+    /// The stack holds fewer entries than mandatory hypotheses.
+    P8,
+    /// The type code of a `$f` differs from its entry's first symbol.
+    P9,
+    /// A substituted `$e` differs from its entry.
+    P10,
+    /// The replacements of a mandatory distinct pair share a variable.
+    P11,
+    /// A pair of variables of these replacements isn't an active pair.
+    P12,
+    /// At the end the stack doesn't hold exactly one entry.
+    P13,
+    /// That entry differs from the expression of the `$p`.
+    P14,
+    /// A step pushes an expression of over 1,048,576 symbols, the type code counted.
+    L1,
+}
+
+/// Why a proof isn't accepted.
+#[derive(Clone, Copy, PartialEq, Eq, Debug)]
+pub enum ProofFault {
+    /// The first rule that the proof breaks, and the number of its step: 0 for P1 to P5, else from 1
+    /// on; for P13 and P14 one more than the number of steps.
+    Rule { rule: ProofRule, step: usize },
+    /// A growth was refused.
+    Memory,
+}
+
+impl From<AllocError> for ProofFault {
+    ghost from_gives = { λ _ e. e ≡ Memory };
+
+    fn from(_e: AllocError) -> ProofFault {
+        ProofFault::Memory
+    }
+}
+
+impl<T: Drop> From<AllocFailed<T>> for ProofFault {
+    ghost from_gives = { λ _ e. e ≡ Memory };
+
+    fn from(_e: AllocFailed<T>) -> ProofFault {
+        ProofFault::Memory
+    }
+}
