@@ -1,11 +1,14 @@
 //! Reading a device to its end, up to a limit.
-ghost use Rattle.std.specs.Prelude.{◌≡◌, ◌+◌, ◌<◌, ◌≤◌, ◌↔◌, ◌⊎◌, length, OnOk, OnErr, IfOk, IfSome, IsErrOf, vec_len};
+ghost use Rattle.std.specs.Prelude.{◌≡◌, ◌+◌, ◌<◌, ◌≤◌, ◌↔◌, length, OnOk, OnErr, IfOk, IfSome, IsErrOf, vec_len};
 ghost use Rattle.std.specs.Io.KnownBytes.{IsAtEnd};
 ghost use Rattle.mm_text.specs.Device.{faults_of, inner_of};
 
 use crate::counted::Counted;
 use std::alloc::Global;
 use std::io::Read;
+
+#[cfg(test)]
+mod tests;
 
 /// Why a device was not read to its end.
 #[derive(Clone, Copy, Debug, PartialEq, Eq)]
@@ -46,8 +49,8 @@ pub fn read_all<R: Read>(
         IfSome (R.remaining (inner_of reader.old)) (λ all. 0 < length all) }
     ensures device { IsErrOf result LoadFault.Device ↔
         (faults_of reader.new ≡ faults_of reader.old + 1) }
-    ensures uncounted { IsErrOf result LoadFault.Device
-        ⊎ (faults_of reader.new ≡ faults_of reader.old) }
+    ensures uncounted { ¬ IsErrOf result LoadFault.Device →
+        faults_of reader.new ≡ faults_of reader.old }
 {
     let mut piece = [0; PIECE];
     let mut bytes = Vec::new(alloc);
