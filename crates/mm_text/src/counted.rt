@@ -47,7 +47,7 @@ impl<T> Counted<T> {
 
 impl<R: Read> Counted<R> {
     /// Reads once, and answers what the reader answers. The count rises by one exactly where that
-    /// is an error.
+    /// is an error. No clause says which error came, since the reader's own contract does not.
     pub fn read(&mut self, buf: &mut [u8]) -> io::Result<usize>
         requires { faults_of self.old < u64.MAX }
         ensures bound { ReadsAtMost result buf.new }
@@ -66,7 +66,8 @@ impl<R: Read> Counted<R> {
 
 impl<W: Write> Counted<W> {
     /// Writes once, and answers what the writer answers. The count rises by one exactly where that
-    /// is an error, or 0 for a piece that has bytes.
+    /// is an error, or 0 for a piece that has bytes. No clause says which error came, since the
+    /// writer's own contract does not.
     pub fn write(&mut self, bytes: &[u8]) -> io::Result<usize>
         requires { faults_of self.old < u64.MAX }
         ensures bound { WritesAtMost result bytes.now }

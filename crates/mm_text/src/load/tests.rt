@@ -139,18 +139,27 @@ fn counts_failed_calls(rt: HostRuntime) -> Result<(), Fail> {
     let mut piece = [0; 2];
     assert_eq!(rt; reader.read(&mut piece)?, 1);
     assert_eq!(rt; (reader.faults(), piece), (0, [b'a', 0]));
-    assert!(rt; reader.read(&mut piece).is_err());
+    let failed = reader.read(&mut piece).err();
+    assert_eq!(rt; failed.map(|e| e.kind()), Some(ErrorKind::Interrupted));
     assert_eq!(rt; reader.faults(), 1);
 
-    let mut writer = Counted::new(FailingWriter {
-        taken: Vec::new(rt.alloc()),
-        fails_at: 2,
-        answers_zero: true,
-    });
-    assert_eq!(rt; writer.write(b"")?, 0);
-    assert_eq!(rt; writer.write(TEXT)?, 1);
-    assert_eq!(rt; writer.faults(), 0);
-    assert_eq!(rt; writer.write(TEXT)?, 0);
-    assert_eq!(rt; writer.faults(), 1);
+    for answers_zero in [false, true] {
+        let mut writer = Counted::new(FailingWriter {
+            taken: Vec::new(rt.alloc()),
+            fails_at: 2,
+            answers_zero,
+        });
+        assert_eq!(rt; writer.write(b"")?, 0);
+        assert_eq!(rt; writer.write(TEXT)?, 1);
+        assert_eq!(rt; writer.faults(), 0);
+        let failed = writer.write(TEXT).map_err(|e| e.kind());
+        let wanted = if answers_zero {
+            Ok(0)
+        } else {
+            Err(ErrorKind::BrokenPipe)
+        };
+        assert_eq!(rt; failed, wanted);
+        assert_eq!(rt; writer.faults(), 1);
+    }
     Ok(())
 }
