@@ -1,5 +1,6 @@
-pub mod Token
-pub mod Statement
-pub mod Reading
+pub mod Device
 pub mod Reader
+pub mod Reading
 pub mod Remaining
+pub mod Statement
+pub mod Token

@@ -1,0 +1,70 @@
+//! Reading a device to its end, up to a limit.
+ghost use Rattle.std.specs.Prelude.{◌≡◌, ◌+◌, ◌<◌, ◌≤◌, ◌↔◌, length, OnOk, IfOk, IfSome, IsErrOf, vec_len};
+ghost use Rattle.std.specs.Io.KnownBytes.{IsAtEnd};
+ghost use Rattle.mm_text.specs.Device.{faults_of, inner_of};
+
+use crate::counted::Counted;
+use std::alloc::Global;
+use std::io::Read;
+
+#[cfg(test)]
+mod tests;
+
+/// Why a device was not read to its end.
+#[derive(Clone, Copy, Debug, PartialEq, Eq)]
+pub enum LoadFault {
+    /// The reader failed in a call.
+    Device,
+    /// More bytes came than may be taken.
+    TooLong,
+    /// Memory for the bytes was refused.
+    Memory,
+}
+
+/// How many bytes one call of the reader may give.
+const PIECE: usize = 64 * 1024;
+
+/// All bytes that the reader gives up to its end, at most `max` of them. Stops at the first
+/// failed call.
+///
+/// # Errors
+///
+/// - `Device` exactly where a call of the reader failed; the count then rose by one. Where `max`
+///   bytes came, the call that looks for the end can still fail.
+/// - `TooLong` exactly where more than `max` bytes came.
+/// - `Memory` where a growth was refused, and nowhere else.
+pub fn read_all<R: Read>(
+    alloc: Global,
+    reader: &mut Counted<R>,
+    max: usize,
+) -> Result<Vec<u8>, LoadFault>
+    requires { faults_of reader.old < u64.MAX }
+    ensures within { IfOk result (λ bytes. vec_len bytes ≤ max) }
+    ensures all { IfOk result (λ bytes.
+        IfSome (R.remaining (inner_of reader.old)) (λ all. bytes.items ≡ all)) }
+    ensures end { OnOk result (IsAtEnd (R.remaining (inner_of reader.new))) }
+    ensures too_long { IsErrOf result LoadFault.TooLong →
+        IfSome (R.remaining (inner_of reader.old)) (λ all. max < length all) }
+    ensures memory { IsErrOf result LoadFault.Memory →
+        IfSome (R.remaining (inner_of reader.old)) (λ all. 0 < length all) }
+    ensures device { IsErrOf result LoadFault.Device ↔
+        (faults_of reader.new ≡ faults_of reader.old + 1) }
+    ensures uncounted { ¬ IsErrOf result LoadFault.Device →
+        faults_of reader.new ≡ faults_of reader.old }
+{
+    let mut piece = [0; PIECE];
+    let mut bytes = Vec::new(alloc);
+    loop {
+        let count = match reader.read(&mut piece) {
+            Ok(0) => return Ok(bytes),
+            Ok(count) => count,
+            Err(_) => return Err(LoadFault::Device),
+        };
+        if count > max - bytes.len() {
+            return Err(LoadFault::TooLong);
+        }
+        if bytes.extend_from_slice(&piece[..count]).is_err() {
+            return Err(LoadFault::Memory);
+        }
+    }
+}
