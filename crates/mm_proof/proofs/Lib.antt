@@ -1,3 +1,5 @@
 pub mod Places
 pub mod Meaning
 pub mod Frames
+pub mod Steps
+pub mod Runs
