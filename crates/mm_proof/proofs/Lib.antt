@@ -3,3 +3,5 @@ pub mod Meaning
 pub mod Frames
 pub mod Steps
 pub mod Runs
+pub mod Limits
+pub mod Verdicts

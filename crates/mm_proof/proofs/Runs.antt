@@ -94,7 +94,7 @@ entry_of before label place assertion hypotheses σ i f entry code x all names o
         same_Some entry (substituted σ f.symbols) (sym at ∙ slice_get-map (λ (h : Sentence). substituted σ h.symbols) hypotheses i ∙ rw there refl) in
     record { replacement = r.0; replaced = r.1; is = made ∙ ap (substituted σ) types.1 ∙ typing_entry σ code x r.0 constant r.1 }
 
-tree_step : (before : List Sentence) (label : List ℕ) (place : ℕ) (assertion : Sentence) (hypotheses : List Sentence) (σ : List ℕ → Option (List (List ℕ)))
+pub tree_step : (before : List Sentence) (label : List ℕ) (place : ℕ) (assertion : Sentence) (hypotheses : List Sentence) (σ : List ℕ → Option (List (List ℕ)))
     (stack : List (List (List ℕ))) (e : List (List ℕ)) → AllMeant before → Names before label place assertion hypotheses
     → IsOn (IsMandatory (take place before) assertion) σ → KeepsApart before place assertion σ → e ≡ substituted σ assertion.symbols
     → StepTo before (stack ++ map (λ (h : Sentence). substituted σ h.symbols) hypotheses) label stack e
