@@ -1,7 +1,9 @@
 pub mod Places
 pub mod Meaning
+pub mod Formed
 pub mod Frames
 pub mod Steps
 pub mod Runs
+pub mod Growth
 pub mod Limits
 pub mod Verdicts

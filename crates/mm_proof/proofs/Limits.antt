@@ -1,5 +1,5 @@
 -- The first step of a tree's spelling that makes an expression over the limit.
-use Rattle.std.proofs.Common.{◌≡◌, ◌≢◌, ℕ, zero, suc, ◌+◌, ◌<◌, ◌≤◌, List, [], ◌∷◌, ◌++◌, length, take, map, slice_get, Option, ◌⊎◌, inl, inr, ⊎_elim, refl, sym, ap, subst, ◌∙◌, append_assoc, arith}
+use Rattle.std.proofs.Common.{◌≡◌, ℕ, List, [], ◌∷◌, ◌++◌, length, take, map, Option, ◌⊎◌, inl, inr, ⊎_elim, refl, sym, ap, ◌∙◌, append_assoc, arith}
 use Rattle.std.proofs.lemmas.Bool.{cases_lt}
 use Rattle.mm_frame.specs.Sentence.{Sentence, IsHypothesis, IsLabelled}
 use Rattle.mm_frame.specs.Active.{SomeActive}
@@ -7,8 +7,8 @@ use Rattle.mm_frame.specs.Frame.{IsMandatory}
 use Rattle.mm_frame.specs.Rules.{AllMeant}
 use Rattle.mm_proof.specs.Substitution.{IsOn, substituted}
 use Rattle.mm_proof.specs.Tree.{Trees, none, tree, spelling, Names, KeepsApart, DeriveAll, AnyExpression}
-use Rattle.mm_proof.specs.Proof.{expression_limit, IsWithinLimit, Meets, Passed}
-use Rattle.mm_proof.proofs.Steps.{Pushes, Applies, StepTo}
+use Rattle.mm_proof.specs.Proof.{expression_limit, IsWithinLimit, Passed}
+use Rattle.mm_proof.proofs.Steps.{StepTo}
 use Rattle.mm_proof.proofs.Runs.{tree_step}
 
 -- What is said of one tree where trees derive expressions: it is a leaf or an assertion's.
@@ -27,7 +27,7 @@ pub derive_any : (before : List Sentence) (trees : Trees) (es : List (List (List
 derive_any before none es d = d
 derive_any before (tree label below right) es d =
     let one : DeriveOne AnyExpression before label below d.0 = ⊎_elim (λ leaf. inl leaf)
-        (λ n. inr (n.0, n.1, n.2, n.3, n.4, n.5, derive_any before below (map (λ (h : Sentence). substituted n.3 h.symbols) n.2) n.6, n.7, n.8)) d.4 in
+    (λ n. inr (n.0, n.1, n.2, n.3, n.4, n.5, derive_any before below (map (λ (h : Sentence). substituted n.3 h.symbols) n.2) n.6, n.7, n.8)) d.4 in
     (d.0, d.1, d.2, tt, one, derive_any before right d.1 d.5)
 
 -- The first of these labels' steps that makes an expression over the limit: those before it passed, and it breaks no rule else.
@@ -141,8 +141,8 @@ pub first_over : (before : List Sentence) (trees : Trees) (es : List (List (List
 first_over before none es all d = inl d
 first_over before (tree label below right) es all d =
     let one : DeriveOne IsWithinLimit before label below d.0 ⊎ FirstOver before (spelling below) = ⊎_elim (λ leaf. inl (inl leaf))
-        (λ n. ⊎_elim (λ w. inl (inr (n.0, n.1, n.2, n.3, n.4, n.5, w, n.7, n.8))) (λ o. inr o)
-            (first_over before below (map (λ (h : Sentence). substituted n.3 h.symbols) n.2) all n.6)) d.4 in
+    (λ n. ⊎_elim (λ w. inl (inr (n.0, n.1, n.2, n.3, n.4, n.5, w, n.7, n.8))) (λ o. inr o)
+    (first_over before below (map (λ (h : Sentence). substituted n.3 h.symbols) n.2) all n.6)) d.4 in
     let others : DeriveAll IsWithinLimit before right d.1 ⊎ FirstOver before (spelling right) = first_over before right d.1 all d.5 in
     joined before label below right es d.0 d.1 all d.2 one others
   where
@@ -152,6 +152,6 @@ first_over before (tree label below right) es all d =
         → DeriveAll IsWithinLimit before (tree label below right) es ⊎ FirstOver before (spelling below ++ label ∷ spelling right)
     joined before label below right es e rest all parts (inr o) others = inr (over_below before (spelling below) (label ∷ spelling right) o)
     joined before label below right es e rest all parts (inl one) others = elim (within_or_over e) [
-        inr over ↦ inr (over_here before label below e (spelling right) all over one)
-        | inl fits ↦ ⊎_elim (λ w. inl (e, rest, parts, fits, one, w)) (λ o. inr (over_right before label below e (spelling right) fits one o)) others
-        ]
+      | inr over ↦ inr (over_here before label below e (spelling right) all over one)
+      | inl fits ↦ ⊎_elim (λ w. inl (e, rest, parts, fits, one, w)) (λ o. inr (over_right before label below e (spelling right) fits one o)) others
+    ]

@@ -1,6 +1,6 @@
 -- Lists by place: the element at a place, in fronts and in sums of lists; and lists that can't differ.
-use Rattle.std.proofs.Common.{◌≡◌, ℕ, zero, suc, ◌+◌, ◌<◌, ◌≤◌, List, [], ◌∷◌, ◌++◌, length, take, drop, get_or, slice_get, Option, Some, None, refl, sym, ap, ◌∙◌, arith, zero-lt-suc}
-use Rattle.std.proofs.lemmas.Option.{same_Some, none-some, slice_get_within, slice_get-get_or}
+use Rattle.std.proofs.Common.{◌≡◌, ℕ, zero, suc, ◌<◌, List, [], ◌∷◌, ◌++◌, length, take, drop, slice_get, Option, Some, None, refl, sym, ap, ◌∙◌, arith}
+use Rattle.std.proofs.lemmas.Option.{same_Some, none-some, slice_get_within}
 use Rattle.std.proofs.lemmas.List.{length-take, length-append, take_at, drop_at}
 use Rattle.std.proofs.Math.Decide.{ℕ_discrete}
 use mathlib.Core.List.{List-discrete}
@@ -44,9 +44,10 @@ get_beside (x' ∷ xs) (y ∷ ys) (suc i) x l e = get_beside xs ys i x (omega ar
 -- a list parts in one way only into a front and an end of known length
 pub one_split : {X : Type 0} (a b c d : List X) → a ++ b ≡ c ++ d → length b ≡ length d → (a ≡ c) × (b ≡ d)
 one_split {X} a b c d e l =
-    let n : length a ≡ length c = omega (arith, length-append a b, length-append c d, ap length e) in
-    (sym (take_at a b (length c) n) ∙ ap (take (length c)) e ∙ take_at c d (length c) refl,
-     sym (drop_at a b (length c) n) ∙ ap (drop (length c)) e ∙ drop_at c d (length c) refl)
+    let n : length a ≡ length c = omega (arith, length-append a b, length-append c d, ap length e) in (
+      sym (take_at a b (length c) n) ∙ ap (take (length c)) e ∙ take_at c d (length c) refl,
+      sym (drop_at a b (length c) n) ∙ ap (drop (length c)) e ∙ drop_at c d (length c) refl,
+    )
 
 unless_not : {P : Type 0} → Dec P → ¬ (¬ P) → P
 unless_not (yes p) h = p

@@ -1,20 +1,18 @@
 -- The steps of a proof one after the other on a stack of expressions, as a relation; what trees derive, their spelling does.
-use Rattle.std.proofs.Common.{◌≡◌, ◌≢◌, ℕ, zero, suc, ◌+◌, List, [], ◌∷◌, ◌++◌, length, take, drop, map, slice_get, unwrap_or, Option, Some, None, IsSome, IsNone, ◌⊎◌, ◌↔◌, inl, inr, ⊎_elim, refl, sym, ap, subst, ◌∙◌, append_assoc, append-nil, arith}
-use Rattle.std.proofs.lemmas.Option.{same_Some, none-some, slice_get-map}
+use Rattle.std.proofs.Common.{◌≡◌, ℕ, List, [], ◌∷◌, ◌++◌, take, drop, map, slice_get, Option, Some, None, IsSome, inl, inr, ⊎_elim, refl, sym, ap, subst, ◌∙◌, append_assoc, append-nil}
+use Rattle.std.proofs.lemmas.Option.{same_Some, slice_get-map}
 use Rattle.std.proofs.lemmas.List.{length-map}
 use Rattle.mm_text.specs.declared.statement.Kind.{Kind}
 use Rattle.mm_text.specs.declared.statement.Kind.TheVariants.{Floating, Essential}
 use Rattle.mm_frame.specs.Sentence.{Sentence, IsHypothesis, IsLabelled, Types}
-use Rattle.mm_frame.specs.Active.{IsActive, SomeActive, IsVariable}
+use Rattle.mm_frame.specs.Active.{SomeActive}
 use Rattle.mm_frame.specs.Frame.{IsMandatory, IsMandatoryAt}
 use Rattle.mm_frame.specs.Rules.{AllMeant}
 use Rattle.mm_proof.specs.Substitution.{IsOn, substituted}
 use Rattle.mm_proof.specs.Tree.{Trees, none, tree, spelling, Names, KeepsApart, DeriveAll}
-use Rattle.mm_proof.specs.Proof.{Meets}
-use Rattle.mm_proof.proofs.Places.{get_from_take}
 use Rattle.mm_proof.proofs.Meaning.{meant_front, code_is_constant}
 use Rattle.mm_proof.proofs.Frames.{those_hold}
-use Rattle.mm_proof.proofs.Steps.{Pushes, Applies, StepTo, step_once}
+use Rattle.mm_proof.proofs.Steps.{StepTo, step_once}
 
 -- The steps by these labels break no rule and lead from one stack to the other; of each expression that one makes, Fits holds.
 abbrev pub Runs : (List (List ℕ) → Type 0) → List Sentence → List (List ℕ) → List (List (List ℕ)) → List (List (List ℕ)) → Type 0
@@ -41,7 +39,7 @@ runs_once Fits Gits before [] a b c all r q = r ∙ sym q
 runs_once Fits Gits before (label ∷ labels) a b c all r q =
     let one = step_once before a label r.0 q.0 r.1 q.1 all r.2 q.2 in
     let r' : Runs Fits before labels (q.0 ++ q.1 ∷ []) b =
-        subst (λ e. Runs Fits before labels (q.0 ++ e ∷ []) b) one.1 (subst (λ s. Runs Fits before labels (s ++ r.1 ∷ []) b) one.0 r.4) in
+    subst (λ e. Runs Fits before labels (q.0 ++ e ∷ []) b) one.1 (subst (λ s. Runs Fits before labels (s ++ r.1 ∷ []) b) one.0 r.4) in
     runs_once Fits Gits before labels (q.0 ++ q.1 ∷ []) b c all r' q.4
 
 -- ---- a tree's own step
@@ -88,10 +86,10 @@ entry_of before label place assertion hypotheses σ i f entry code x all names o
     let same = same_typing f t.0 t.1 code x t.2 types in
     let mandatory : IsMandatory (take place before) assertion x = subst (IsMandatory (take place before) assertion) same.1 t.3 in
     let constant : σ code ≡ None = absent (σ code) (λ some.
-        code_is_constant (take place before) t.4 f code x (meant_front before place all) t.5 types ((on code).0 some).0) in
+    code_is_constant (take place before) t.4 f code x (meant_front before place all) t.5 types ((on code).0 some).0) in
     let r = present (σ x) ((on x).1 mandatory) in
     let made : entry ≡ substituted σ f.symbols =
-        same_Some entry (substituted σ f.symbols) (sym at ∙ slice_get-map (λ (h : Sentence). substituted σ h.symbols) hypotheses i ∙ rw there refl) in
+    same_Some entry (substituted σ f.symbols) (sym at ∙ slice_get-map (λ (h : Sentence). substituted σ h.symbols) hypotheses i ∙ rw there refl) in
     record { replacement = r.0; replaced = r.1; is = made ∙ ap (substituted σ) types.1 ∙ typing_entry σ code x r.0 constant r.1 }
 
 pub tree_step : (before : List Sentence) (label : List ℕ) (place : ℕ) (assertion : Sentence) (hypotheses : List Sentence) (σ : List ℕ → Option (List (List ℕ)))
@@ -101,8 +99,8 @@ pub tree_step : (before : List Sentence) (label : List ℕ) (place : ℕ) (asser
 tree_step before label place assertion hypotheses σ stack e all names on apart made =
     let entries : List (List (List ℕ)) = map (λ (h : Sentence). substituted σ h.symbols) hypotheses in
     let typed : (i : ℕ) (f : Sentence) (entry : List (List ℕ)) (code x : List ℕ) → slice_get hypotheses i ≡ Some f → slice_get entries i ≡ Some entry
-            → Types code x f → IsTypingEntry σ code x entry =
-        λ i f entry code x there at types. entry_of before label place assertion hypotheses σ i f entry code x all names on there at types in
+    → Types code x f → IsTypingEntry σ code x entry =
+    λ i f entry code x there at types. entry_of before label place assertion hypotheses σ i f entry code x all names on there at types in
     inr (record {
       meets = record {
         place = place;
@@ -135,7 +133,7 @@ leaf_runs : (Fits : List (List ℕ) → Type 0) (before : List Sentence) (label 
     → Runs Fits before (spelling below ++ label ∷ []) stack (stack ++ e ∷ [])
 leaf_runs Fits before label below e stack fits bare h =
     subst (λ b. Runs Fits before (spelling b ++ label ∷ []) stack (stack ++ e ∷ [])) (sym bare)
-        (stack, e, inl (record { kept = refl; place = h.0; hypothesis = h.1; there = h.2; active = h.3; named = h.4.0; kind = h.4.1; made = h.4.2 }), fits, refl)
+    (stack, e, inl (record { kept = refl; place = h.0; hypothesis = h.1; there = h.2; active = h.3; named = h.4.0; kind = h.4.1; made = h.4.2 }), fits, refl)
 
 -- on any stack
 pub derive_runs : (Fits : List (List ℕ) → Type 0) (before : List Sentence) (trees : Trees) (es stack : List (List (List ℕ))) → AllMeant before
@@ -143,17 +141,17 @@ pub derive_runs : (Fits : List (List ℕ) → Type 0) (before : List Sentence) (
 derive_runs Fits before none es stack all d = ap (λ l. stack ++ l) d ∙ append-nil stack
 derive_runs Fits before (tree label below right) es stack all d =
     let one : Runs Fits before (spelling below ++ label ∷ []) stack (stack ++ d.0 ∷ []) = ⊎_elim
-        (λ leaf. leaf_runs Fits before label below d.0 stack d.3 leaf.0 leaf.1)
-        (λ n.
-            let entries : List (List (List ℕ)) = map (λ (h : Sentence). substituted n.3 h.symbols) n.2 in
-            let children : Runs Fits before (spelling below) stack (stack ++ entries) = derive_runs Fits before below entries stack all n.6 in
-            runs_join Fits before (spelling below) (label ∷ []) stack (stack ++ entries) (stack ++ d.0 ∷ []) children
-                (stack, d.0, tree_step before label n.0 n.1 n.2 n.3 stack d.0 all n.4 n.5 n.7 n.8, d.3, refl)) d.4 in
+    (λ leaf. leaf_runs Fits before label below d.0 stack d.3 leaf.0 leaf.1)
+    (λ n.
+    let entries : List (List (List ℕ)) = map (λ (h : Sentence). substituted n.3 h.symbols) n.2 in
+    let children : Runs Fits before (spelling below) stack (stack ++ entries) = derive_runs Fits before below entries stack all n.6 in
+    runs_join Fits before (spelling below) (label ∷ []) stack (stack ++ entries) (stack ++ d.0 ∷ []) children
+    (stack, d.0, tree_step before label n.0 n.1 n.2 n.3 stack d.0 all n.4 n.5 n.7 n.8, d.3, refl)) d.4 in
     let others : Runs Fits before (spelling right) (stack ++ d.0 ∷ []) (stack ++ es) =
-        subst (λ s. Runs Fits before (spelling right) (stack ++ d.0 ∷ []) s) (append_assoc stack (d.0 ∷ []) d.1 ∙ ap (λ l. stack ++ l) (sym d.2))
-            (derive_runs Fits before right d.1 (stack ++ d.0 ∷ []) all d.5) in
+    subst (λ s. Runs Fits before (spelling right) (stack ++ d.0 ∷ []) s) (append_assoc stack (d.0 ∷ []) d.1 ∙ ap (λ l. stack ++ l) (sym d.2))
+    (derive_runs Fits before right d.1 (stack ++ d.0 ∷ []) all d.5) in
     subst (λ l. Runs Fits before l stack (stack ++ es)) (append_assoc (spelling below) (label ∷ []) (spelling right))
-        (runs_join Fits before (spelling below ++ label ∷ []) (spelling right) stack (stack ++ d.0 ∷ []) (stack ++ es) one others)
+    (runs_join Fits before (spelling below ++ label ∷ []) (spelling right) stack (stack ++ d.0 ∷ []) (stack ++ es) one others)
 
 -- equal spellings derive the same
 pub derived_once : (Fits Gits : List (List ℕ) → Type 0) (before : List Sentence) (t u : Trees) (es fs : List (List (List ℕ))) → AllMeant before

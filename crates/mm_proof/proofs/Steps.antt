@@ -1,21 +1,20 @@
 -- One step of a proof on a stack of expressions, as a relation, and that it makes one thing only.
-use Rattle.std.proofs.Common.{◌≡◌, ◌≢◌, ℕ, zero, suc, ◌+◌, ◌<◌, ◌≤◌, List, [], ◌∷◌, ◌++◌, length, take, drop, map, slice_get, Contains, Option, Some, None, IsSome, ◌⊎◌, ◌↔◌, inl, inr, ⊎_elim, refl, sym, ap, subst, ◌∙◌, append-nil, arith}
-use Rattle.std.proofs.lemmas.Option.{same_Some, none-some, slice_get_within, slice_get-map}
-use Rattle.std.proofs.lemmas.List.{length-append, length-map}
+use Rattle.std.proofs.Common.{◌≡◌, ℕ, ◌+◌, ◌<◌, List, length, take, drop, slice_get, Option, Some, None, ◌⊎◌, inl, inr, refl, sym, ap, subst, ◌∙◌, arith}
+use Rattle.std.proofs.lemmas.List.{length-append}
 use Rattle.mm_text.specs.declared.statement.Kind.{Kind}
 use Rattle.mm_text.specs.declared.statement.Kind.TheVariants.{Floating, Essential, Axiom, Provable}
-use Rattle.mm_frame.specs.Sentence.{Sentence, IsHypothesis, IsAssertion, IsStated, IsLabelled, Types}
-use Rattle.mm_frame.specs.Active.{IsActive, SomeActive, IsVariable, IsTyped}
-use Rattle.mm_frame.specs.Frame.{IsMandatory, IsMandatoryAt, AreThose, AreMandatory, IsMandatoryPair}
+use Rattle.mm_frame.specs.Sentence.{Sentence, IsHypothesis, IsAssertion, IsLabelled, Types}
+use Rattle.mm_frame.specs.Active.{IsActive, IsTyped}
+use Rattle.mm_frame.specs.Frame.{IsMandatory, IsMandatoryAt, AreMandatory, IsMandatoryPair}
 use Rattle.mm_frame.specs.Rules.{AllMeant}
 use Rattle.mm_proof.specs.declared.fault.ProofRule.{ProofRule}
 use Rattle.mm_proof.specs.declared.fault.ProofRule.TheVariants.{P1, P2, P3, P4, P5, P6, P7, P8, P9, P10, P11, P12, P13, P14, L1}
 use Rattle.mm_proof.specs.Substitution.{IsOn, substituted}
 use Rattle.mm_proof.specs.Tree.{Names, KeepsApart}
-use Rattle.mm_proof.specs.Proof.{IsWithinLimit, Meets, BreaksStep, rank}
-use Rattle.mm_proof.proofs.Places.{get_from_take, get_beside, one_split, same_replacement}
-use Rattle.mm_proof.proofs.Meaning.{meant_front, one_label, one_labelled, code_is_constant, mandatory_typed}
-use Rattle.mm_proof.proofs.Frames.{those_once, those_hold, those_have}
+use Rattle.mm_proof.specs.Proof.{IsWithinLimit, Meets, BreaksStep}
+use Rattle.mm_proof.proofs.Places.{get_beside, one_split, same_replacement}
+use Rattle.mm_proof.proofs.Meaning.{one_label, one_labelled, mandatory_typed}
+use Rattle.mm_proof.proofs.Frames.{those_once, those_have}
 
 -- the label is that of an active hypothesis, whose expression is pushed
 pub record Pushes (before : List Sentence) (stack : List (List (List ℕ))) (label : List ℕ) (rest : List (List (List ℕ))) (e : List (List ℕ)) : Type 0 where
@@ -61,7 +60,7 @@ hypothesis_zero k (inr e) = ap is_assertion_kind e
 not_both_kinds : (k : Kind) → IsHypothesis k → IsAssertion k → ⊥
 not_both_kinds k h a = omega (arith, hypothesis_zero k h, assertion_one k a)
 
-hypothesis_or_assertion : (before : List Sentence) (i j : ℕ) (h a : Sentence) (label : List ℕ) → AllMeant before → slice_get before i ≡ Some h → slice_get before j ≡ Some a
+pub hypothesis_or_assertion : (before : List Sentence) (i j : ℕ) (h a : Sentence) (label : List ℕ) → AllMeant before → slice_get before i ≡ Some h → slice_get before j ≡ Some a
     → IsLabelled label h → IsLabelled label a → IsHypothesis h.kind → IsAssertion a.kind → ⊥
 hypothesis_or_assertion before i j h a label all at_i at_j lh la kh ka =
     not_both_kinds a.kind (subst (λ (s : Sentence). IsHypothesis s.kind) (one_labelled before i j h a label all at_i at_j lh la) kh) ka
@@ -80,7 +79,7 @@ typing_among : (before : List Sentence) (label : List ℕ) (place : ℕ) (assert
 typing_among before label place assertion hypotheses x names mandatory f =
     let at : f.0 ≡ 0 + f.0 = omega arith in
     let h = those_have (IsMandatoryAt (take place before) assertion) 0 (take place before) hypotheses f.0 f.1 names.mandatory f.2
-        (subst (λ k. IsMandatoryAt (take place before) assertion k f.1) at (f.3, inr (f.4.0, x, f.4.1, mandatory))) in
+    (subst (λ k. IsMandatoryAt (take place before) assertion k f.1) at (f.3, inr (f.4.0, x, f.4.1, mandatory))) in
     (h.0, f.1, f.4.0, h.1, f.4.1)
 
 one_entry : (hypotheses : List Sentence) (entries : List (List (List ℕ))) (σ τ : List ℕ → Option (List (List ℕ))) (i : ℕ) (f : Sentence) (code x : List ℕ)
@@ -98,7 +97,8 @@ one_replacement before label place assertion hypotheses entries σ τ all names 
     mandatory_same : IsMandatory (take place before) assertion x → σ x ≡ τ x
     mandatory_same m = same_replacement (σ x) (τ x) (λ differ. mandatory_typed before place assertion x all names.there (inr names.kind) m
         (λ typed. let f = typing_among before label place assertion hypotheses x names m typed in
-            differ (one_entry hypotheses entries σ τ f.0 f.1 f.2 x l s t f.3 f.4)))
+        differ (one_entry hypotheses entries σ τ f.0 f.1 f.2 x l s t f.3 f.4)))
+
     go : (a b : Option (List (List ℕ))) → σ x ≡ a → τ x ≡ b → σ x ≡ τ x
     go None None p q = p ∙ sym q
     go (Some a) b p q = mandatory_same ((on_σ x).0 (rw p refl))
@@ -106,11 +106,11 @@ one_replacement before label place assertion hypotheses entries σ τ all names 
 
 -- ---- what a step meets is determined
 
-one_frame : (before : List Sentence) (place place' : ℕ) (a a' : Sentence) (hypotheses hypotheses' : List Sentence) → place ≡ place' → a ≡ a'
+pub one_frame : (before : List Sentence) (place place' : ℕ) (a a' : Sentence) (hypotheses hypotheses' : List Sentence) → place ≡ place' → a ≡ a'
     → AreMandatory (take place before) a hypotheses → AreMandatory (take place' before) a' hypotheses' → hypotheses ≡ hypotheses'
 one_frame before place place' a a' hypotheses hypotheses' p s m m' =
     those_once (IsMandatoryAt (take place' before) a') 0 (take place' before) hypotheses hypotheses'
-        (subst (λ b. AreMandatory (take place' before) b hypotheses) s (subst (λ k. AreMandatory (take k before) a hypotheses) p m)) m'
+    (subst (λ b. AreMandatory (take place' before) b hypotheses) s (subst (λ k. AreMandatory (take k before) a hypotheses) p m)) m'
 
 pub record Agree (before : List Sentence) (stack : List (List (List ℕ))) (label : List ℕ) (m n : Meets before stack label) : Type 0 where
   pub place : m.place ≡ n.place
@@ -127,9 +127,9 @@ agree before stack label all m n =
     let hypotheses : m.hypotheses ≡ n.hypotheses = one_frame before m.place n.place m.assertion n.assertion m.hypotheses n.hypotheses place assertion m.names.mandatory n.names.mandatory in
     let parts = one_split m.rest m.entries n.rest n.entries (sym m.split ∙ n.split) (m.paired ∙ ap length hypotheses ∙ sym n.paired) in
     let on : IsOn (IsMandatory (take n.place before) n.assertion) m.σ =
-        subst (λ b. IsOn (IsMandatory (take n.place before) b) m.σ) assertion (subst (λ k. IsOn (IsMandatory (take k before) m.assertion) m.σ) place m.on) in
+    subst (λ b. IsOn (IsMandatory (take n.place before) b) m.σ) assertion (subst (λ k. IsOn (IsMandatory (take k before) m.assertion) m.σ) place m.on) in
     let replaced : Replaces n.hypotheses n.entries m.σ =
-        subst (λ hs. Replaces hs n.entries m.σ) hypotheses (subst (λ es. Replaces m.hypotheses es m.σ) parts.1 m.replaced) in
+    subst (λ hs. Replaces hs n.entries m.σ) hypotheses (subst (λ es. Replaces m.hypotheses es m.σ) parts.1 m.replaced) in
     record {
       place = place;
       assertion = assertion;
@@ -145,17 +145,19 @@ same_substituted σ τ e same = ap (λ ρ. substituted ρ e) (λ i x. same x i)
 -- a step makes one thing only
 pub step_once : (before : List Sentence) (stack : List (List (List ℕ))) (label : List ℕ) (rest rest' : List (List (List ℕ))) (e e' : List (List ℕ)) → AllMeant before
     → StepTo before stack label rest e → StepTo before stack label rest' e' → (rest ≡ rest') × (e ≡ e')
-step_once before stack label rest rest' e e' all (inl p) (inl q) =
-    (p.kept ∙ sym q.kept,
-     p.made ∙ ap (λ (s : Sentence). s.symbols) (one_labelled before p.place q.place p.hypothesis q.hypothesis label all p.there q.there p.named q.named) ∙ sym q.made)
+step_once before stack label rest rest' e e' all (inl p) (inl q) = (
+  p.kept ∙ sym q.kept,
+  p.made ∙ ap (λ (s : Sentence). s.symbols) (one_labelled before p.place q.place p.hypothesis q.hypothesis label all p.there q.there p.named q.named) ∙ sym q.made,
+)
 step_once before stack label rest rest' e e' all (inl p) (inr q) =
     absurd (hypothesis_or_assertion before p.place q.meets.place p.hypothesis q.meets.assertion label all p.there q.meets.names.there p.named q.meets.names.named p.kind q.meets.names.kind)
 step_once before stack label rest rest' e e' all (inr p) (inl q) =
     absurd (hypothesis_or_assertion before q.place p.meets.place q.hypothesis p.meets.assertion label all q.there p.meets.names.there q.named p.meets.names.named q.kind p.meets.names.kind)
 step_once before stack label rest rest' e e' all (inr p) (inr q) =
-    let a = agree before stack label all p.meets q.meets in
-    (p.kept ∙ a.rest ∙ sym q.kept,
-     p.made ∙ same_substituted p.meets.σ q.meets.σ p.meets.assertion.symbols a.replacement ∙ ap (λ (s : Sentence). substituted q.meets.σ s.symbols) a.assertion ∙ sym q.made)
+    let a = agree before stack label all p.meets q.meets in (
+      p.kept ∙ a.rest ∙ sym q.kept,
+      p.made ∙ same_substituted p.meets.σ q.meets.σ p.meets.assertion.symbols a.replacement ∙ ap (λ (s : Sentence). substituted q.meets.σ s.symbols) a.assertion ∙ sym q.made,
+    )
 
 -- ---- a step that breaks no rule breaks no rule
 
@@ -189,7 +191,7 @@ apart_of before stack label rest e m all step x y e' f pair at_x at_y =
     let p = s.0 in
     let a = s.1 in
     let pair' : IsMandatoryPair (take p.meets.place before) p.meets.assertion x y =
-        subst (λ b. IsMandatoryPair (take p.meets.place before) b x y) (sym a.assertion) (subst (λ k. IsMandatoryPair (take k before) m.assertion x y) (sym a.place) pair) in
+    subst (λ b. IsMandatoryPair (take p.meets.place before) b x y) (sym a.assertion) (subst (λ k. IsMandatoryPair (take k before) m.assertion x y) (sym a.place) pair) in
     p.apart x y e' f pair' (a.replacement x ∙ at_x) (a.replacement y ∙ at_y)
 
 -- A step that breaks no rule breaks none of P1 to P12, nor the limit if what it makes is within it.
@@ -233,4 +235,3 @@ pub step_breaks_limit : (before : List Sentence) (stack : List (List (List ℕ))
 step_breaks_limit before stack label rest e over (inl p) =
     inl (p.place, p.hypothesis, p.there, p.active, (p.named, p.kind, subst (λ l. ¬ (IsWithinLimit l)) p.made over))
 step_breaks_limit before stack label rest e over (inr p) = inr (p.meets, subst (λ l. ¬ (IsWithinLimit l)) p.made over)
-

@@ -1,16 +1,17 @@
 -- The verdict on a proof is one: it is proved, or it has one first fault.
-use Rattle.std.proofs.Common.{◌≡◌, ◌≢◌, ℕ, zero, suc, ◌+◌, ◌<◌, ◌≤◌, List, [], ◌∷◌, ◌++◌, length, slice_get, Option, Some, None, ◌⊎◌, inl, inr, ⊎_elim, refl, sym, ap, subst, ◌∙◌, arith, lt_irrefl}
+use Rattle.std.proofs.Common.{◌≡◌, ◌≢◌, ℕ, ◌+◌, ◌<◌, List, [], ◌∷◌, ◌++◌, length, slice_get, Some, ◌⊎◌, inl, inr, ⊎_elim, refl, sym, ap, subst, ◌∙◌, lt_irrefl}
 use Rattle.std.proofs.lemmas.Option.{same_Some}
 use Rattle.std.proofs.lemmas.Bool.{cases_order}
 use Rattle.mm_frame.specs.Sentence.{Sentence}
 use Rattle.mm_frame.specs.Rules.{AllMeant}
 use Rattle.mm_proof.specs.declared.fault.ProofRule.{ProofRule}
 use Rattle.mm_proof.specs.declared.fault.ProofRule.TheVariants.{P1, P2, P3, P4, P5, P6, P7, P8, P9, P10, P11, P12, P13, P14, L1}
-use Rattle.mm_proof.specs.Tree.{Trees, none, tree, spelling, DeriveAll, AnyExpression}
-use Rattle.mm_proof.specs.Proof.{IsWithinLimit, rank, BreaksWhole, IsWhole, IsProvedWithin, IsProved, BreaksStep, FirstAtStep, Passed, IsWholeFault, IsStepFault, BreaksEnd, IsEndFault, IsFault}
-use Rattle.mm_proof.specs.Laws.{OneVerdict, LimitsAside}
+use Rattle.mm_proof.specs.Tree.{none, tree, AnyExpression}
+use Rattle.mm_proof.specs.Proof.{IsWithinLimit, rank, BreaksWhole, IsWhole, IsProvedWithin, IsProved, BreaksStep, FirstAtStep, Passed, IsStepFault, BreaksEnd, IsEndFault, IsFault}
+use Rattle.mm_proof.specs.Laws.{OneTree, OneVerdict, LimitsAside}
 use Rattle.mm_proof.proofs.Steps.{StepTo, step_breaks_none, step_breaks_limit}
-use Rattle.mm_proof.proofs.Runs.{Runs, derive_runs, runs_split, runs_once}
+use Rattle.mm_proof.proofs.Runs.{Runs, derive_runs, derived_once, runs_split, runs_once}
+use Rattle.mm_proof.proofs.Growth.{one_row}
 use Rattle.mm_proof.proofs.Limits.{derive_any, FirstOver, first_over}
 
 -- ---- the first of the rules is one
@@ -39,10 +40,10 @@ at_rank L1 = refl
 first_once : (Broken : ProofRule → Type 0) (r q : ProofRule) → Broken r → Broken q → ((other : ProofRule) → rank other < rank r → ¬ (Broken other))
     → ((other : ProofRule) → rank other < rank q → ¬ (Broken other)) → r ≡ q
 first_once Broken r q br bq fr fq = elim (cases_order (rank r) (rank q)) [
-    inl same ↦ same_Some r q (sym (at_rank r) ∙ ap (slice_get ranked) same ∙ at_rank q)
-    | inr (inl less) ↦ absurd (fq r less br)
-    | inr (inr more) ↦ absurd (fr q more bq)
-    ]
+  | inl same ↦ same_Some r q (sym (at_rank r) ∙ ap (slice_get ranked) same ∙ at_rank q)
+  | inr (inl less) ↦ absurd (fq r less br)
+  | inr (inr more) ↦ absurd (fr q more bq)
+]
 
 -- ---- passed steps
 
@@ -76,10 +77,10 @@ compare_splits (z ∷ a) x c [] y d e = inr (inr (a, ap (λ w. w ∷ a) (heads z
 compare_splits (z ∷ a) x c (w ∷ b) y d e =
     let h = heads z w (a ++ x ∷ c) (b ++ y ∷ d) e in
     elim (compare_splits a x c b y d h.1) [
-        inl same ↦ inl (ap (λ l. z ∷ l) same.0 ∙ ap (λ v. v ∷ b) h.0, same.1)
-        | inr (inl more) ↦ inr (inl (more.0, ap (λ l. w ∷ l) more.1 ∙ ap (λ v. v ∷ (a ++ x ∷ more.0)) (sym h.0)))
-        | inr (inr more) ↦ inr (inr (more.0, ap (λ l. z ∷ l) more.1 ∙ ap (λ v. v ∷ (b ++ y ∷ more.0)) h.0))
-        ]
+      | inl same ↦ inl (ap (λ l. z ∷ l) same.0 ∙ ap (λ v. v ∷ b) h.0, same.1)
+      | inr (inl more) ↦ inr (inl (more.0, ap (λ l. w ∷ l) more.1 ∙ ap (λ v. v ∷ (a ++ x ∷ more.0)) (sym h.0)))
+      | inr (inr more) ↦ inr (inr (more.0, ap (λ l. z ∷ l) more.1 ∙ ap (λ v. v ∷ (b ++ y ∷ more.0)) h.0))
+    ]
 
 -- ---- a proved proof has no fault
 
@@ -99,10 +100,10 @@ pub proved_no_fault : (before : List Sentence) (s : Sentence) (rule : ProofRule)
 proved_no_fault before s rule step all p (inl w) = p.whole rule w.1.broken
 proved_no_fault before s rule step all p (inr (inl f)) =
     no_fault_within before f.earlier f.label f.later f.stack (s.symbols ∷ []) rule all
-        (subst (λ l. Runs IsWithinLimit before l [] (s.symbols ∷ [])) f.proof (proved_runs before s all p)) f.passed f.fault
+    (subst (λ l. Runs IsWithinLimit before l [] (s.symbols ∷ [])) f.proof (proved_runs before s all p)) f.passed f.fault
 proved_no_fault before s rule step all p (inr (inr f)) =
     no_end_fault rule f.stack s.symbols
-        (runs_once IsWithinLimit IsWithinLimit before s.proof [] f.stack (s.symbols ∷ []) all (passed_runs before s.proof f.stack all f.passed) (proved_runs before s all p)) f.broken
+    (runs_once IsWithinLimit IsWithinLimit before s.proof [] f.stack (s.symbols ∷ []) all (passed_runs before s.proof f.stack all f.passed) (proved_runs before s all p)) f.broken
 
 -- ---- two faults are one
 
@@ -115,18 +116,19 @@ same_step : (before : List Sentence) (s : Sentence) (rule rule' : ProofRule) (st
     → f.earlier ≡ g.earlier → f.label ≡ g.label → Same rule step rule' step'
 same_step before s rule rule' step step' all f g a x =
     let stacks : f.stack ≡ g.stack = runs_once IsWithinLimit IsWithinLimit before g.earlier [] f.stack g.stack all
-        (subst (λ l. Runs IsWithinLimit before l [] f.stack) a (passed_runs before f.earlier f.stack all f.passed)) (passed_runs before g.earlier g.stack all g.passed) in
-    let fault : FirstAtStep rule before g.stack g.label = subst (λ l. FirstAtStep rule before g.stack l) x (subst (λ k. FirstAtStep rule before k f.label) stacks f.fault) in
-    (first_once (λ r. BreaksStep r before g.stack g.label) rule rule' fault.broken g.fault.broken fault.first g.fault.first,
-     f.number ∙ ap (λ l. length l + 1) a ∙ sym g.number)
+    (subst (λ l. Runs IsWithinLimit before l [] f.stack) a (passed_runs before f.earlier f.stack all f.passed)) (passed_runs before g.earlier g.stack all g.passed) in
+    let fault : FirstAtStep rule before g.stack g.label = subst (λ l. FirstAtStep rule before g.stack l) x (subst (λ k. FirstAtStep rule before k f.label) stacks f.fault) in (
+      first_once (λ r. BreaksStep r before g.stack g.label) rule rule' fault.broken g.fault.broken fault.first g.fault.first,
+      f.number ∙ ap (λ l. length l + 1) a ∙ sym g.number,
+    )
 
 two_steps : (before : List Sentence) (s : Sentence) (rule rule' : ProofRule) (step step' : ℕ) → AllMeant before → IsStepFault before s rule step → IsStepFault before s rule' step'
     → Same rule step rule' step'
 two_steps before s rule rule' step step' all f g = elim (compare_splits f.earlier f.label f.later g.earlier g.label g.later (sym f.proof ∙ g.proof)) [
-    inl same ↦ same_step before s rule rule' step step' all f g same.0 same.1
-    | inr (inl more) ↦ absurd (longer_passed before f.earlier f.label more.0 g.earlier f.stack g.stack rule all more.1 g.passed f.passed f.fault)
-    | inr (inr more) ↦ absurd (longer_passed before g.earlier g.label more.0 f.earlier g.stack f.stack rule' all more.1 f.passed g.passed g.fault)
-    ]
+  | inl same ↦ same_step before s rule rule' step step' all f g same.0 same.1
+  | inr (inl more) ↦ absurd (longer_passed before f.earlier f.label more.0 g.earlier f.stack g.stack rule all more.1 g.passed f.passed f.fault)
+  | inr (inr more) ↦ absurd (longer_passed before g.earlier g.label more.0 f.earlier g.stack f.stack rule' all more.1 f.passed g.passed g.fault)
+]
 
 step_and_end : (before : List Sentence) (s : Sentence) (rule rule' : ProofRule) (step step' : ℕ) → AllMeant before → IsStepFault before s rule step → IsEndFault before s rule' step' → ⊥
 step_and_end before s rule rule' step step' all f g = longer_passed before f.earlier f.label f.later s.proof f.stack g.stack rule all f.proof g.passed f.passed f.fault
@@ -135,11 +137,12 @@ two_ends : (before : List Sentence) (s : Sentence) (rule rule' : ProofRule) (ste
     → Same rule step rule' step'
 two_ends before s rule rule' step step' all f g =
     let stacks : f.stack ≡ g.stack = runs_once IsWithinLimit IsWithinLimit before s.proof [] f.stack g.stack all (passed_runs before s.proof f.stack all f.passed) (passed_runs before s.proof g.stack all g.passed) in
-    let lengths : length f.stack ≡ length g.stack = ap length stacks in
-    (one_end rule rule' (length f.stack) (length g.stack) lengths
-        (⊎_elim (λ p. inl (p.0, p.1)) (λ p. inr (p.0, p.1)) (end_rule rule f.stack s.symbols f.broken))
-        (⊎_elim (λ p. inl (p.0, p.1)) (λ p. inr (p.0, p.1)) (end_rule rule' g.stack s.symbols g.broken)),
-     f.number ∙ sym g.number)
+    let lengths : length f.stack ≡ length g.stack = ap length stacks in (
+      one_end rule rule' (length f.stack) (length g.stack) lengths
+          (⊎_elim (λ p. inl (p.0, p.1)) (λ p. inr (p.0, p.1)) (end_rule rule f.stack s.symbols f.broken))
+          (⊎_elim (λ p. inl (p.0, p.1)) (λ p. inr (p.0, p.1)) (end_rule rule' g.stack s.symbols g.broken)),
+      f.number ∙ sym g.number,
+    )
   where
     one_end : (r q : ProofRule) (n m : ℕ) → n ≡ m → ((r ≡ P13) × (n ≢ 1)) ⊎ ((r ≡ P14) × (n ≡ 1)) → ((q ≡ P13) × (m ≢ 1)) ⊎ ((q ≡ P14) × (m ≡ 1)) → r ≡ q
     one_end r q n m e (inl a) (inl b) = a.0 ∙ sym b.0
@@ -171,23 +174,26 @@ limit_first before stack label rest e all over step = record {
 }
 
 over_fault : (before : List Sentence) (s : Sentence) → AllMeant before → IsWhole before s → FirstOver before s.proof → (step : ℕ) × IsFault before s L1 step
-over_fault before s all whole o = (length o.earlier + 1, inr (inl (record {
-  whole = whole;
-  earlier = o.earlier;
-  label = o.label;
-  later = o.later;
-  proof = o.parts;
-  number = refl;
-  stack = o.stack;
-  passed = o.passed;
-  fault = limit_first before o.stack o.label o.rest o.e all o.over o.step;
-})))
+over_fault before s all whole o = (
+  length o.earlier + 1,
+  inr (inl (record {
+    whole = whole;
+    earlier = o.earlier;
+    label = o.label;
+    later = o.later;
+    proof = o.parts;
+    number = refl;
+    stack = o.stack;
+    passed = o.passed;
+    fault = limit_first before o.stack o.label o.rest o.e all o.over o.step;
+  })),
+)
 
 pub proved_or_over : (before : List Sentence) (s : Sentence) → AllMeant before → IsProved before s → IsProvedWithin IsWithinLimit before s ⊎ ((step : ℕ) × IsFault before s L1 step)
 proved_or_over before s all p = elim (first_over before (tree p.label p.below none) (s.symbols ∷ []) all p.derived) [
-    inl within ↦ inl (record { whole = p.whole; label = p.label; below = p.below; spelled = p.spelled; derived = within })
-    | inr over ↦ inr (over_fault before s all p.whole (subst (FirstOver before) p.spelled over))
-    ]
+  | inl within ↦ inl (record { whole = p.whole; label = p.label; below = p.below; spelled = p.spelled; derived = within })
+  | inr over ↦ inr (over_fault before s all p.whole (subst (FirstOver before) p.spelled over))
+]
 
 within_proved : (before : List Sentence) (s : Sentence) → IsProvedWithin IsWithinLimit before s → IsProved before s
 within_proved before s p =
@@ -198,6 +204,10 @@ only_limit before s rule step all p f = ⊎_elim (λ within. absurd (proved_no_f
     (λ over. (one_fault before s rule L1 step over.0 all f over.1).0) (proved_or_over before s all p)
 
 -- ---- the laws
+
+pub one_tree_holds : OneTree
+one_tree_holds before t u es fs all d g same =
+    (one_row AnyExpression AnyExpression before t u es fs all d g same, derived_once AnyExpression AnyExpression before t u es fs all d g same)
 
 pub one_verdict_holds : OneVerdict
 one_verdict_holds before s all = (λ p rule step. proved_no_fault before s rule step all p, λ rule rule' step step'. one_fault before s rule rule' step step' all)

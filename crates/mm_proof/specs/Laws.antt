@@ -4,7 +4,14 @@ use Rattle.mm_frame.specs.Sentence.{Sentence}
 use Rattle.mm_frame.specs.Rules.{AllMeant}
 use Rattle.mm_proof.specs.declared.fault.ProofRule.{ProofRule}
 use Rattle.mm_proof.specs.declared.fault.ProofRule.TheVariants.{L1}
+use Rattle.mm_proof.specs.Tree.{Trees, spelling, DeriveAll, AnyExpression}
 use Rattle.mm_proof.specs.Proof.{IsWithinLimit, IsProvedWithin, IsProved, IsFault}
+
+-- Trees that derive expressions are told by their spelling: no other trees that derive any have it.
+abbrev pub OneTree : Type 0
+OneTree =
+    (before : List Sentence) (t u : Trees) (es fs : List (List (List ℕ))) → AllMeant before
+    → DeriveAll AnyExpression before t es → DeriveAll AnyExpression before u fs → spelling t ≡ spelling u → (t ≡ u) × (es ≡ fs)
 
 -- What is proved within the limit has no fault; and what has a fault has one rule and one step.
 abbrev pub OneVerdict : Type 0

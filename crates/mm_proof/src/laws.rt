@@ -1,6 +1,15 @@
 //! Laws of verdicts on proofs. The functions do nothing: their contracts are the laws.
 
-ghost use Rattle.mm_proof.specs.Laws.{OneVerdict, LimitsAside};
+ghost use Rattle.mm_proof.specs.Laws.{OneTree, OneVerdict, LimitsAside};
+
+/// A proof spells one tree.
+///
+/// After statements that break no rule of meaning, trees that derive expressions and have equal
+/// spellings are equal, and derive the same expressions. So the tree of a proof that is proved is
+/// one, and what each of its steps makes is determined.
+pub fn one_tree()
+    ensures { OneTree }
+{}
 
 /// The verdict on a proof is one.
 ///
@@ -10,8 +19,7 @@ ghost use Rattle.mm_proof.specs.Laws.{OneVerdict, LimitsAside};
 /// to be at fault in two ways.
 pub fn one_verdict()
     ensures { OneVerdict }
-{
-}
+{}
 
 /// What the limit on an expression's length changes, and that it changes nothing else.
 ///
@@ -21,5 +29,4 @@ pub fn one_verdict()
 /// where another rule is named, no derivation is spelled, however long expressions may be.
 pub fn limits_aside()
     ensures { LimitsAside }
-{
-}
+{}
