@@ -7,3 +7,5 @@ pub mod Runs
 pub mod Growth
 pub mod Limits
 pub mod Verdicts
+pub mod Decisions
+pub mod Replacements
