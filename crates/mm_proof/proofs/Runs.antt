@@ -45,7 +45,7 @@ runs_once Fits Gits before (label ∷ labels) a b c all r q =
 -- ---- a tree's own step
 
 -- what a substitution makes of the `$f` of a mandatory variable
-typing_entry : (σ : List ℕ → Option (List (List ℕ))) (code x : List ℕ) (e : List (List ℕ)) → σ code ≡ None → σ x ≡ Some e → substituted σ (code ∷ x ∷ []) ≡ code ∷ e
+pub typing_entry : (σ : List ℕ → Option (List (List ℕ))) (code x : List ℕ) (e : List (List ℕ)) → σ code ≡ None → σ x ≡ Some e → substituted σ (code ∷ x ∷ []) ≡ code ∷ e
 typing_entry σ code x e p q = rw (p, q) (ap (λ l. code ∷ l) (append-nil e))
 
 absent : (o : Option (List (List ℕ))) → ¬ (IsSome o) → o ≡ None
@@ -62,14 +62,14 @@ pub record IsTypingEntry (σ : List ℕ → Option (List (List ℕ))) (code x : 
   pub replaced : σ x ≡ Some replacement
   pub is : entry ≡ code ∷ replacement
 
-same_typing : (f : Sentence) (code x code' x' : List ℕ) → Types code x f → Types code' x' f → (code ≡ code') × (x ≡ x')
+pub same_typing : (f : Sentence) (code x code' x' : List ℕ) → Types code x f → Types code' x' f → (code ≡ code') × (x ≡ x')
 same_typing f code x code' x' t t' = let e : code ∷ x ∷ [] ≡ code' ∷ x' ∷ [] = sym t.1 ∙ t'.1 in (cc, cc)
 
-not_essential : (k : Kind) → k ≡ Essential → k ≡ Floating → ⊥
+pub not_essential : (k : Kind) → k ≡ Essential → k ≡ Floating → ⊥
 not_essential k e f = let g : Essential ≡ Floating = sym e ∙ f in absurd cc
 
 -- the `$f` among the mandatory hypotheses
-typing_of : (before : List Sentence) (label : List ℕ) (place : ℕ) (assertion : Sentence) (hypotheses : List Sentence) (i : ℕ) (f : Sentence)
+pub typing_of : (before : List Sentence) (label : List ℕ) (place : ℕ) (assertion : Sentence) (hypotheses : List Sentence) (i : ℕ) (f : Sentence)
     → Names before label place assertion hypotheses → slice_get hypotheses i ≡ Some f → f.kind ≡ Floating
     → (code : List ℕ) × (x : List ℕ) × Types code x f × IsMandatory (take place before) assertion x × (j : ℕ) × (slice_get (take place before) j ≡ Some f)
 typing_of before label place assertion hypotheses i f names there floating =

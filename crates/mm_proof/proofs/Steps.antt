@@ -73,7 +73,7 @@ Replaces hypotheses entries σ = (i : ℕ) (h : Sentence) (entry : List (List �
     → slice_get entries i ≡ Some entry → Types code x h → σ x ≡ Some (drop 1 entry)
 
 -- an active `$f` of a mandatory variable is among the mandatory hypotheses
-typing_among : (before : List Sentence) (label : List ℕ) (place : ℕ) (assertion : Sentence) (hypotheses : List Sentence) (x : List ℕ)
+pub typing_among : (before : List Sentence) (label : List ℕ) (place : ℕ) (assertion : Sentence) (hypotheses : List Sentence) (x : List ℕ)
     → Names before label place assertion hypotheses → IsMandatory (take place before) assertion x → IsTyped (take place before) x
     → (i : ℕ) × (f : Sentence) × (code : List ℕ) × (slice_get hypotheses i ≡ Some f) × Types code x f
 typing_among before label place assertion hypotheses x names mandatory f =
