@@ -14,21 +14,21 @@ use Rattle.mm_proof.proofs.Places.{get_take}
 
 -- ---- of parts
 
-dec_both : {A B : Type 0} → Dec A → Dec B → Dec (A × B)
+pub dec_both : {A B : Type 0} → Dec A → Dec B → Dec (A × B)
 dec_both (yes a) (yes b) = yes (a, b)
 dec_both (yes a) (no b) = no (λ h. b h.1)
 dec_both (no a) b = no (λ h. a h.0)
 
-dec_if : {A B : Type 0} → Dec A → Dec B → Dec (A → B)
+pub dec_if : {A B : Type 0} → Dec A → Dec B → Dec (A → B)
 dec_if a (yes b) = yes (λ x. b)
 dec_if (yes a) (no b) = no (λ f. b (f a))
 dec_if (no a) (no b) = yes (λ x. absurd (a x))
 
-dec_as : {A B : Type 0} → (A → B) → (B → A) → Dec A → Dec B
+pub dec_as : {A B : Type 0} → (A → B) → (B → A) → Dec A → Dec B
 dec_as f g (yes a) = yes (f a)
 dec_as f g (no a) = no (λ b. a (g b))
 
-dec_below : (n : ℕ) (P : ℕ → Type 0) → ((k : ℕ) → Dec (P k)) → Dec ((k : ℕ) → k < n → P k)
+pub dec_below : (n : ℕ) (P : ℕ → Type 0) → ((k : ℕ) → Dec (P k)) → Dec ((k : ℕ) → k < n → P k)
 dec_below zero P each = yes (λ k h. absurd (omega arith))
 dec_below (suc n) P each = go (dec_below n P each) (each n)
   where
@@ -37,7 +37,7 @@ dec_below (suc n) P each = go (dec_below n P each) (each n)
     go (yes a) (no b) = no (λ h. b (h n (omega arith)))
     go (no a) b = no (λ h. a (λ k less. h k (omega arith)))
 
-dec_some : {X : Type 0} (P : ℕ → X → Type 0) → ((k : ℕ) (x : X) → Dec (P k x)) → (xs : List X) → Dec ((k : ℕ) × (x : X) × (slice_get xs k ≡ Some x) × P k x)
+pub dec_some : {X : Type 0} (P : ℕ → X → Type 0) → ((k : ℕ) (x : X) → Dec (P k x)) → (xs : List X) → Dec ((k : ℕ) × (x : X) × (slice_get xs k ≡ Some x) × P k x)
 dec_some P each [] = no (λ h. none-some h.1 h.2)
 dec_some {X} P each (y ∷ xs) = go (each 0 y) (dec_some (λ k x. P (suc k) x) (λ k x. each (suc k) x) xs)
   where
@@ -49,7 +49,7 @@ dec_some {X} P each (y ∷ xs) = go (each 0 y) (dec_some (λ k x. P (suc k) x) (
     go (no p) (yes b) = yes (suc b.0, b.1, b.2, b.3)
     go (no p) (no b) = no (λ h. b (later h.0 h.1 h.2 h.3 p))
 
-dec_le : (a b : ℕ) → Dec (a ≤ b)
+pub dec_le : (a b : ℕ) → Dec (a ≤ b)
 dec_le a b = elim (cases_lt b a) [ inl less ↦ no (λ h. absurd (omega arith)) | inr more ↦ yes more ]
 
 -- ---- kinds and lists
@@ -88,7 +88,7 @@ symbol_dec x y = List-discrete ℕ_discrete x y
 pub expression_dec : (x y : List (List ℕ)) → Dec (x ≡ y)
 expression_dec x y = List-discrete (List-discrete ℕ_discrete) x y
 
-contains_dec : (xs : List (List ℕ)) (x : List ℕ) → Dec (Contains xs x)
+pub contains_dec : (xs : List (List ℕ)) (x : List ℕ) → Dec (Contains xs x)
 contains_dec [] x = no (λ h. absurd (let less : h.0 < 0 = h.1 in omega arith))
 contains_dec (y ∷ xs) x = go (symbol_dec y x) (contains_dec xs x)
   where
@@ -110,7 +110,7 @@ unclosed_all d h n = elim (cases_lt n (suc (length d))) [
         subst (λ l. closings l ≤ openings l) (take_all (length d) d (omega arith) ∙ sym (take_all n d (omega arith))) (h (length d) (omega arith))
     ]
 
-open_dec : (before : List Sentence) (place : ℕ) → Dec (IsOpen before place)
+pub open_dec : (before : List Sentence) (place : ℕ) → Dec (IsOpen before place)
 open_dec before place = go (slice_get before place) refl
   where
     d : List Sentence
@@ -124,7 +124,7 @@ open_dec before place = go (slice_get before place) refl
             (dec_below (suc (length (drop (suc place) before))) (λ n. closings (take n (drop (suc place) before)) ≤ openings (take n (drop (suc place) before)))
                 (λ n. dec_le (closings (take n (drop (suc place) before))) (openings (take n (drop (suc place) before))))))
 
-active_dec : (before : List Sentence) (place : ℕ) → Dec (IsActive before place)
+pub active_dec : (before : List Sentence) (place : ℕ) → Dec (IsActive before place)
 active_dec before place = dec_as
     (λ h. record { within = h.0; kept = λ outer holds. h.1 outer holds.0 holds.1 })
     (λ a. (a.within, λ outer less o. a.kept outer (less, o)))

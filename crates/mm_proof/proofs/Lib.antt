@@ -9,3 +9,4 @@ pub mod Limits
 pub mod Verdicts
 pub mod Decisions
 pub mod Replacements
+pub mod Searches
