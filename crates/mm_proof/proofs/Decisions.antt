@@ -132,19 +132,6 @@ active_dec before place = dec_as
         (dec_below place (λ outer. IsOpen (take (suc place) before) outer → IsOpen before outer)
             (λ outer. dec_if (open_dec (take (suc place) before) outer) (open_dec before outer))))
 
--- an active pair that can't be none is one
-pub distinct_unless : (before : List Sentence) (x y : List ℕ) → ¬ (¬ (IsDistinct before x y)) → IsDistinct before x y
-distinct_unless before x y h =
-    let search = dec_some (λ place (d : Sentence). IsActive before place × ((d.kind ≡ Distinct) × Contains d.symbols x × Contains d.symbols y))
-        (λ place d. dec_both (active_dec before place)
-            (dec_as (λ c. (c.0, c.1.0, c.1.1)) (λ c. (c.0, (c.1, c.2))) (dec_both (kind_dec d.kind Distinct) (dec_both (contains_dec d.symbols x) (contains_dec d.symbols y))))) before in
-    go search
-  where
-    go : Dec ((place : ℕ) × (d : Sentence) × (slice_get before place ≡ Some d) × (IsActive before place × ((d.kind ≡ Distinct) × Contains d.symbols x × Contains d.symbols y)))
-        → IsDistinct before x y
-    go (yes s) = (λ same. h (λ d. d.0 same), (s.0, s.1, s.2, s.3.0, s.3.1))
-    go (no n) = absurd (h (λ d. n (d.1.0, d.1.1, d.1.2, (d.1.3, d.1.4))))
-
 -- ---- what is active later was active before
 
 pub active_earlier : (before : List Sentence) (i place : ℕ) → place < i → IsActive before place → IsActive (take i before) place

@@ -1,24 +1,13 @@
--- What the grammar says of a statement, said of what it says.
-use Rattle.std.proofs.Common.{◌≡◌, ℕ, List, length, Option, Some, None, option_map, sym, ap, subst}
+-- What statements in form say is in form.
+use Rattle.std.proofs.Common.{◌≡◌, ℕ, List, length, map, slice_get, Option, Some, None, option_map, sym, refl, ap, subst, ◌∙◌}
 use Rattle.std.proofs.lemmas.List.{length-map}
+use Rattle.std.proofs.lemmas.Option.{same_Some, none-some, slice_get-map}
 use Rattle.mm_text.specs.declared.statement.Kind.{Kind}
 use Rattle.mm_text.specs.declared.statement.Kind.TheVariants.{Floating, Essential, Axiom, Provable}
 use Rattle.mm_text.specs.Token.{PlainToken, IsLabel}
 use Rattle.mm_text.specs.Statement.{PlainStatement, FitsCount, HasLabel, IsFormed}
 use Rattle.mm_frame.specs.Sentence.{Sentence, said}
-
--- a label, for the kinds that have one
-abbrev pub IsNamed : Kind → Option (List ℕ) → Type 0
-IsNamed Floating label = (l : List ℕ) × (label ≡ Some l) × IsLabel l
-IsNamed Essential label = (l : List ℕ) × (label ≡ Some l) × IsLabel l
-IsNamed Axiom label = (l : List ℕ) × (label ≡ Some l) × IsLabel l
-IsNamed Provable label = (l : List ℕ) × (label ≡ Some l) × IsLabel l
-IsNamed kind label = label ≡ None
-
--- the statement has as many symbols as its kind asks for, and a label where its kind has one
-pub record IsFormedSentence (s : Sentence) : Type 0 where
-  pub count : FitsCount s.kind (length s.symbols)
-  pub label : IsNamed s.kind s.label
+use Rattle.mm_proof.specs.Formed.{IsNamed, IsFormedSentence, AllFormed}
 
 named_said : (kind : Kind) (label : Option PlainToken) → HasLabel kind label → IsNamed kind (option_map (λ t. t.text) label)
 named_said Floating label h = (h.0.text, ap (option_map (λ t. t.text)) h.1, h.2)
@@ -33,3 +22,12 @@ formed_said s f = record {
   count = subst (FitsCount s.kind) (sym (length-map s.symbols (λ t. t.text))) f.count;
   label = named_said s.kind s.label f.label;
 }
+
+pub all_formed_said : (statements : List PlainStatement) → ((place : ℕ) (s : PlainStatement) → slice_get statements place ≡ Some s → IsFormed s) → AllFormed (map said statements)
+all_formed_said statements each place t there =
+    let e : option_map said (slice_get statements place) ≡ Some t = sym (slice_get-map said statements place) ∙ there in
+    go (slice_get statements place) refl e
+  where
+    go : (o : Option PlainStatement) → slice_get statements place ≡ o → option_map said o ≡ Some t → IsFormedSentence t
+    go None at e = absurd (none-some t e)
+    go (Some s) at e = subst IsFormedSentence (same_Some (said s) t e) (formed_said s (each place s at))

@@ -10,3 +10,4 @@ pub mod Verdicts
 pub mod Decisions
 pub mod Replacements
 pub mod Searches
+pub mod Forward

@@ -48,7 +48,7 @@ runs_once Fits Gits before (label ∷ labels) a b c all r q =
 pub typing_entry : (σ : List ℕ → Option (List (List ℕ))) (code x : List ℕ) (e : List (List ℕ)) → σ code ≡ None → σ x ≡ Some e → substituted σ (code ∷ x ∷ []) ≡ code ∷ e
 typing_entry σ code x e p q = rw (p, q) (ap (λ l. code ∷ l) (append-nil e))
 
-absent : (o : Option (List (List ℕ))) → ¬ (IsSome o) → o ≡ None
+pub absent : (o : Option (List (List ℕ))) → ¬ (IsSome o) → o ≡ None
 absent None h = refl
 absent (Some x) h = absurd (h refl)
 
