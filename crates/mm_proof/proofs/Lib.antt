@@ -11,3 +11,4 @@ pub mod Decisions
 pub mod Replacements
 pub mod Searches
 pub mod Forward
+pub mod Judged

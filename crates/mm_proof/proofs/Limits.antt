@@ -132,7 +132,7 @@ over_here before label below e more all over (inr n) = record {
   over = over;
 }
 
-within_or_over : (e : List (List ℕ)) → IsWithinLimit e ⊎ (¬ (IsWithinLimit e))
+pub within_or_over : (e : List (List ℕ)) → IsWithinLimit e ⊎ (¬ (IsWithinLimit e))
 within_or_over e = elim (cases_lt expression_limit (length e)) [ inl over ↦ inr (λ within. absurd (omega arith)) | inr within ↦ inl within ]
 
 -- what trees derive they derive within the limit, or a step is the first over it

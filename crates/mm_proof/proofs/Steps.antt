@@ -162,7 +162,7 @@ step_once before stack label rest rest' e e' all (inr p) (inr q) =
 -- ---- a step that breaks no rule breaks no rule
 
 -- an assertion's step by which the stack is too short
-too_short : (before : List Sentence) (stack : List (List (List ℕ))) (label : List ℕ) (rest : List (List (List ℕ))) (e : List (List ℕ)) → AllMeant before
+pub too_short : (before : List Sentence) (stack : List (List (List ℕ))) (label : List ℕ) (rest : List (List (List ℕ))) (e : List (List ℕ)) → AllMeant before
     → StepTo before stack label rest e → BreaksStep P8 before stack label → ⊥
 too_short before stack label rest e all (inl p) b =
     hypothesis_or_assertion before p.place b.0 p.hypothesis b.1 label all p.there b.3.there p.named b.3.named p.kind b.3.kind

@@ -16,10 +16,10 @@ use Rattle.mm_proof.proofs.Limits.{derive_any, FirstOver, first_over}
 
 -- ---- the first of the rules is one
 
-abbrev ranked : List ProofRule
+abbrev pub ranked : List ProofRule
 ranked = P1 ∷ P1 ∷ P2 ∷ P3 ∷ P4 ∷ P5 ∷ P6 ∷ P7 ∷ P8 ∷ P9 ∷ P10 ∷ P11 ∷ P12 ∷ L1 ∷ P13 ∷ P14 ∷ []
 
-at_rank : (rule : ProofRule) → slice_get ranked (rank rule) ≡ Some rule
+pub at_rank : (rule : ProofRule) → slice_get ranked (rank rule) ≡ Some rule
 at_rank P1 = refl
 at_rank P2 = refl
 at_rank P3 = refl
@@ -166,7 +166,7 @@ one_fault before s rule rule' step step' all (inr (inr f)) (inr (inr g)) = two_e
 -- ---- limits
 
 -- a step over the limit that breaks no rule breaks the limit first
-limit_first : (before : List Sentence) (stack : List (List (List ℕ))) (label : List ℕ) (rest : List (List (List ℕ))) (e : List (List ℕ)) → AllMeant before
+pub limit_first : (before : List Sentence) (stack : List (List (List ℕ))) (label : List ℕ) (rest : List (List (List ℕ))) (e : List (List ℕ)) → AllMeant before
     → ¬ (IsWithinLimit e) → StepTo before stack label rest e → FirstAtStep L1 before stack label
 limit_first before stack label rest e all over step = record {
   broken = step_breaks_limit before stack label rest e over step;
