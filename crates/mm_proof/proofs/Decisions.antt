@@ -1,5 +1,5 @@
 -- What can be decided of statements: kinds, what lists hold, what is open and active, and active pairs.
-use Rattle.std.proofs.Common.{◌≡◌, ◌≢◌, ℕ, zero, suc, ◌+◌, ◌-◌, ◌<◌, ◌≤◌, List, [], ◌∷◌, length, take, drop, slice_get, get_or, Contains, Option, Some, None, ◌⊎◌, inl, inr, refl, sym, ap, subst, ◌∙◌, arith}
+use Rattle.std.proofs.Common.{◌≡◌, ◌≢◌, ℕ, zero, suc, ◌+◌, ◌-◌, ◌<◌, ◌≤◌, List, [], ◌∷◌, length, take, drop, slice_get, get_or, Contains, Option, Some, None, inl, inr, refl, sym, ap, subst, ◌∙◌, arith}
 use Rattle.std.proofs.lemmas.Option.{same_Some, none-some}
 use Rattle.std.proofs.lemmas.Bool.{cases_lt}
 use Rattle.std.proofs.lemmas.List.{length-take, take_all, take-take, drop-take}
@@ -8,8 +8,7 @@ use mathlib.Core.List.{List-discrete}
 use Rattle.mm_text.specs.declared.statement.Kind.{Kind}
 use Rattle.mm_text.specs.declared.statement.Kind.TheVariants.{Constants, Variables, Distinct, Floating, Essential, Axiom, Provable, Opening, Closing}
 use Rattle.mm_frame.specs.Sentence.{Sentence}
-use Rattle.mm_frame.specs.Active.{openings, closings, IsOpen, Holds, IsActive, SomeActive}
-use Rattle.mm_frame.specs.Frame.{IsDistinct}
+use Rattle.mm_frame.specs.Active.{openings, closings, IsOpen, IsActive}
 use Rattle.mm_proof.proofs.Places.{get_take}
 
 -- ---- of parts
@@ -44,6 +43,7 @@ dec_some {X} P each (y ∷ xs) = go (each 0 y) (dec_some (λ k x. P (suc k) x) (
     later : (k : ℕ) (x : X) → slice_get (y ∷ xs) k ≡ Some x → P k x → ¬ (P 0 y) → (j : ℕ) × (z : X) × (slice_get xs j ≡ Some z) × P (suc j) z
     later zero x e p n = absurd (n (subst (P 0) (sym (same_Some y x e)) p))
     later (suc k) x e p n = (k, x, e, p)
+
     go : Dec (P 0 y) → Dec ((k : ℕ) × (x : X) × (slice_get xs k ≡ Some x) × P (suc k) x) → Dec ((k : ℕ) × (x : X) × (slice_get (y ∷ xs) k ≡ Some x) × P k x)
     go (yes p) b = yes (0, y, refl, p)
     go (no p) (yes b) = yes (suc b.0, b.1, b.2, b.3)
@@ -95,6 +95,7 @@ contains_dec (y ∷ xs) x = go (symbol_dec y x) (contains_dec xs x)
     later : (k : ℕ) → k < length (y ∷ xs) → get_or (y ∷ xs) k x ≡ x → y ≢ x → Contains xs x
     later zero less e n = absurd (n e)
     later (suc k) less e n = (k, omega arith, e)
+
     go : Dec (y ≡ x) → Dec (Contains xs x) → Dec (Contains (y ∷ xs) x)
     go (yes e) b = yes (0, omega arith, e)
     go (no n) (yes b) = yes (suc b.0, let less : b.0 < length xs = b.1 in omega arith, b.2)
@@ -105,32 +106,33 @@ contains_dec (y ∷ xs) x = go (symbol_dec y x) (contains_dec xs x)
 -- fronts past the end are the whole
 unclosed_all : (d : List Sentence) → ((n : ℕ) → n < suc (length d) → closings (take n d) ≤ openings (take n d)) → (n : ℕ) → closings (take n d) ≤ openings (take n d)
 unclosed_all d h n = elim (cases_lt n (suc (length d))) [
-    inl less ↦ h n less
-    | inr more ↦
-        subst (λ l. closings l ≤ openings l) (take_all (length d) d (omega arith) ∙ sym (take_all n d (omega arith))) (h (length d) (omega arith))
-    ]
+  | inl less ↦ h n less
+  | inr more ↦
+      subst (λ l. closings l ≤ openings l) (take_all (length d) d (omega arith) ∙ sym (take_all n d (omega arith))) (h (length d) (omega arith))
+]
 
 pub open_dec : (before : List Sentence) (place : ℕ) → Dec (IsOpen before place)
 open_dec before place = go (slice_get before place) refl
   where
     d : List Sentence
     d = drop (suc place) before
+
     go : (o : Option Sentence) → slice_get before place ≡ o → Dec (IsOpen before place)
     go None e = no (λ o. none-some o.opening (sym e ∙ o.there))
     go (Some s) e = dec_as
         (λ h. record { opening = s; there = e; opened = h.0; unclosed = unclosed_all (drop (suc place) before) h.1 })
         (λ o. (ap (λ (t : Sentence). t.kind) (same_Some s o.opening (sym e ∙ o.there)) ∙ o.opened, λ n less. o.unclosed n))
         (dec_both (kind_dec s.kind Opening)
-            (dec_below (suc (length (drop (suc place) before))) (λ n. closings (take n (drop (suc place) before)) ≤ openings (take n (drop (suc place) before)))
-                (λ n. dec_le (closings (take n (drop (suc place) before))) (openings (take n (drop (suc place) before))))))
+        (dec_below (suc (length (drop (suc place) before))) (λ n. closings (take n (drop (suc place) before)) ≤ openings (take n (drop (suc place) before)))
+        (λ n. dec_le (closings (take n (drop (suc place) before))) (openings (take n (drop (suc place) before))))))
 
 pub active_dec : (before : List Sentence) (place : ℕ) → Dec (IsActive before place)
 active_dec before place = dec_as
     (λ h. record { within = h.0; kept = λ outer holds. h.1 outer holds.0 holds.1 })
     (λ a. (a.within, λ outer less o. a.kept outer (less, o)))
     (dec_both (dec_le (suc place) (length before))
-        (dec_below place (λ outer. IsOpen (take (suc place) before) outer → IsOpen before outer)
-            (λ outer. dec_if (open_dec (take (suc place) before) outer) (open_dec before outer))))
+    (dec_below place (λ outer. IsOpen (take (suc place) before) outer → IsOpen before outer)
+    (λ outer. dec_if (open_dec (take (suc place) before) outer) (open_dec before outer))))
 
 -- ---- what is active later was active before
 
@@ -141,19 +143,20 @@ active_earlier before i place less active =
       within = omega (arith, length-take i before);
       kept = λ outer holds.
           open_before before i outer (let l : outer < place = holds.0 in omega arith)
-              (active.kept outer (holds.0, subst (λ l. IsOpen l outer) (take-take (suc place) i before less) holds.1));
+          (active.kept outer (holds.0, subst (λ l. IsOpen l outer) (take-take (suc place) i before less) holds.1));
     }
   where
     unclosed_before : (d : List Sentence) (m n : ℕ) → ((n : ℕ) → closings (take n d) ≤ openings (take n d)) → closings (take n (take m d)) ≤ openings (take n (take m d))
     unclosed_before d m n all = elim (cases_lt m n) [
-        inl more ↦ subst (λ l. closings l ≤ openings l) (sym (take_all n (take m d) (omega (arith, length-take m d)))) (all m)
-        | inr less ↦ subst (λ l. closings l ≤ openings l) (sym (take-take n m d less)) (all n)
-        ]
+      | inl more ↦ subst (λ l. closings l ≤ openings l) (sym (take_all n (take m d) (omega (arith, length-take m d)))) (all m)
+      | inr less ↦ subst (λ l. closings l ≤ openings l) (sym (take-take n m d less)) (all n)
+    ]
+
     open_before : (before : List Sentence) (i outer : ℕ) → outer < i → IsOpen before outer → IsOpen (take i before) outer
     open_before before i outer less o =
         let m : i ≡ suc outer + (i - suc outer) = omega arith in
         let part : drop (suc outer) (take i before) ≡ take (i - suc outer) (drop (suc outer) before) =
-            ap (λ k. drop (suc outer) (take k before)) m ∙ drop-take (suc outer) (i - suc outer) before in
+        ap (λ k. drop (suc outer) (take k before)) m ∙ drop-take (suc outer) (i - suc outer) before in
         record {
           opening = o.opening;
           there = get_take before i outer less ∙ o.there;

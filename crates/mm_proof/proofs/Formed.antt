@@ -1,12 +1,12 @@
 -- What statements in form say is in form.
-use Rattle.std.proofs.Common.{◌≡◌, ℕ, List, length, map, slice_get, Option, Some, None, option_map, sym, refl, ap, subst, ◌∙◌}
+use Rattle.std.proofs.Common.{◌≡◌, ℕ, List, map, slice_get, Option, Some, None, option_map, sym, refl, ap, subst, ◌∙◌}
 use Rattle.std.proofs.lemmas.List.{length-map}
 use Rattle.std.proofs.lemmas.Option.{same_Some, none-some, slice_get-map}
 use Rattle.mm_text.specs.declared.statement.Kind.{Kind}
 use Rattle.mm_text.specs.declared.statement.Kind.TheVariants.{Floating, Essential, Axiom, Provable}
-use Rattle.mm_text.specs.Token.{PlainToken, IsLabel}
+use Rattle.mm_text.specs.Token.{PlainToken}
 use Rattle.mm_text.specs.Statement.{PlainStatement, FitsCount, HasLabel, IsFormed}
-use Rattle.mm_frame.specs.Sentence.{Sentence, said}
+use Rattle.mm_frame.specs.Sentence.{said}
 use Rattle.mm_proof.specs.Formed.{IsNamed, IsFormedSentence, AllFormed}
 
 named_said : (kind : Kind) (label : Option PlainToken) → HasLabel kind label → IsNamed kind (option_map (λ t. t.text) label)

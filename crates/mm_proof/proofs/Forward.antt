@@ -1,18 +1,17 @@
 -- A step that breaks no rule carries passed steps on: its tree stands for the trees of its hypotheses.
-use Rattle.std.proofs.Common.{◌≡◌, ◌≢◌, ℕ, zero, suc, ◌+◌, List, [], ◌∷◌, ◌++◌, length, take, drop, map, slice_get, Option, Some, None, ◌⊎◌, inl, inr, ⊎_elim, refl, sym, ap, subst, ◌∙◌, append_assoc, append-nil, option_map, arith}
+use Rattle.std.proofs.Common.{◌≡◌, ℕ, suc, List, [], ◌∷◌, ◌++◌, length, take, drop, map, slice_get, Some, None, inl, inr, ⊎_elim, refl, sym, ap, subst, ◌∙◌, append_assoc, append-nil, option_map, arith}
 use Rattle.std.proofs.lemmas.Option.{same_Some, none-some, slice_get-map}
 use Rattle.std.proofs.lemmas.List.{length-map}
-use Rattle.mm_text.specs.declared.statement.Kind.TheVariants.{Floating, Essential}
-use Rattle.mm_frame.specs.Sentence.{Sentence, Types}
-use Rattle.mm_frame.specs.Frame.{IsMandatory, IsMandatoryAt}
+use Rattle.mm_frame.specs.Sentence.{Sentence}
+use Rattle.mm_frame.specs.Frame.{IsMandatoryAt}
 use Rattle.mm_frame.specs.Rules.{AllMeant}
-use Rattle.mm_proof.specs.Substitution.{IsOn, substituted}
-use Rattle.mm_proof.specs.Tree.{Trees, none, tree, spelling, Names, DeriveAll}
-use Rattle.mm_proof.specs.Proof.{IsWithinLimit, Meets, IsWhole, IsProvedWithin, Passed}
+use Rattle.mm_proof.specs.Substitution.{substituted}
+use Rattle.mm_proof.specs.Tree.{Trees, none, tree, spelling, DeriveAll}
+use Rattle.mm_proof.specs.Proof.{IsWithinLimit, IsWhole, IsProvedWithin, Passed}
 use Rattle.mm_proof.proofs.Places.{get_beside}
 use Rattle.mm_proof.proofs.Meaning.{meant_front, code_is_constant}
 use Rattle.mm_proof.proofs.Frames.{those_hold}
-use Rattle.mm_proof.proofs.Steps.{Pushes, Applies, StepTo}
+use Rattle.mm_proof.proofs.Steps.{Applies, StepTo}
 use Rattle.mm_proof.proofs.Runs.{typing_entry, absent}
 use Rattle.mm_proof.proofs.Growth.{beside}
 
@@ -76,21 +75,21 @@ entry_is before stack label rest e all p i h entry there at =
     let front : List Sentence = take m.place before in
     let k = those_hold (IsMandatoryAt front m.assertion) 0 front m.hypotheses i h m.names.mandatory there in
     ⊎_elim (λ essential. p.equal i h entry there at essential)
-        (λ t.
-            let constant : m.σ t.0 ≡ None = absent (m.σ t.0) (λ some. code_is_constant front k.0 h t.0 t.1 (meant_front before m.place all) k.1 t.2 ((m.on t.0).0 some).0) in
-            let first : slice_get entry 0 ≡ Some t.0 = p.typed i h entry there at t.2.0 ∙ ap (λ l. slice_get l 0) t.2.1 in
-            front_is entry t.0 first ∙ sym (ap (substituted m.σ) t.2.1 ∙ typing_entry m.σ t.0 t.1 (drop 1 entry) constant (m.replaced i h entry t.0 t.1 there at t.2)))
-        k.2.1
+    (λ t.
+    let constant : m.σ t.0 ≡ None = absent (m.σ t.0) (λ some. code_is_constant front k.0 h t.0 t.1 (meant_front before m.place all) k.1 t.2 ((m.on t.0).0 some).0) in
+    let first : slice_get entry 0 ≡ Some t.0 = p.typed i h entry there at t.2.0 ∙ ap (λ l. slice_get l 0) t.2.1 in
+    front_is entry t.0 first ∙ sym (ap (substituted m.σ) t.2.1 ∙ typing_entry m.σ t.0 t.1 (drop 1 entry) constant (m.replaced i h entry t.0 t.1 there at t.2)))
+    k.2.1
 
 entries_are : (before : List Sentence) (stack : List (List (List ℕ))) (label : List ℕ) (rest : List (List (List ℕ))) (e : List (List ℕ)) → AllMeant before
     → (p : Applies before stack label rest e) → p.meets.entries ≡ map (λ (h : Sentence). substituted p.meets.σ h.symbols) p.meets.hypotheses
 entries_are before stack label rest e all p =
     let f : Sentence → List (List ℕ) = λ h. substituted p.meets.σ h.symbols in
     same_by_places p.meets.entries (map f p.meets.hypotheses) (p.meets.paired ∙ sym (length-map p.meets.hypotheses f))
-        (λ i entry made at there.
-            let h = get_beside p.meets.entries p.meets.hypotheses i entry (sym p.meets.paired) at in
-            entry_is before stack label rest e all p i h.0 entry h.1 at
-                ∙ same_Some (f h.0) made (sym (slice_get-map f p.meets.hypotheses i ∙ ap (λ o. option_map f o) h.1) ∙ there))
+    (λ i entry made at there.
+    let h = get_beside p.meets.entries p.meets.hypotheses i entry (sym p.meets.paired) at in
+    entry_is before stack label rest e all p i h.0 entry h.1 at
+    ∙ same_Some (f h.0) made (sym (slice_get-map f p.meets.hypotheses i ∙ ap (λ o. option_map f o) h.1) ∙ there))
 
 -- ---- one step more
 
@@ -110,16 +109,16 @@ pub passed_step : (before : List Sentence) (labels : List (List ℕ)) (stack : L
     → Passed before labels stack → StepTo before stack label rest e → IsWithinLimit e → Passed before (labels ++ label ∷ []) (rest ++ e ∷ [])
 passed_step before labels stack label rest e all passed (inl p) within =
     more_trees before labels label passed.trees none rest e (append-nil (spelling passed.trees) ∙ passed.spelled)
-        (subst (DeriveAll IsWithinLimit before passed.trees) (sym p.kept) passed.derived)
-        (e, [], refl, within, inl (refl, (p.place, p.hypothesis, p.there, p.active, (p.named, p.kind, p.made))), refl)
+    (subst (DeriveAll IsWithinLimit before passed.trees) (sym p.kept) passed.derived)
+    (e, [], refl, within, inl (refl, (p.place, p.hypothesis, p.there, p.active, (p.named, p.kind, p.made))), refl)
 passed_step before labels stack label rest e all passed (inr p) within =
     let m = p.meets in
     let h = derive_halves IsWithinLimit before passed.trees m.rest m.entries (subst (DeriveAll IsWithinLimit before passed.trees) m.split passed.derived) in
     let children : DeriveAll IsWithinLimit before h.right (map (λ (t : Sentence). substituted m.σ t.symbols) m.hypotheses) =
-        subst (DeriveAll IsWithinLimit before h.right) (entries_are before stack label rest e all p) h.derive_right in
+    subst (DeriveAll IsWithinLimit before h.right) (entries_are before stack label rest e all p) h.derive_right in
     more_trees before labels label h.left h.right rest e (sym (spelling-beside h.left h.right) ∙ ap spelling (sym h.parts) ∙ passed.spelled)
-        (subst (DeriveAll IsWithinLimit before h.left) (sym p.kept) h.derive_left)
-        (e, [], refl, within, inr (m.place, m.assertion, m.hypotheses, m.σ, m.names, m.on, children, p.apart, p.made), refl)
+    (subst (DeriveAll IsWithinLimit before h.left) (sym p.kept) h.derive_left)
+    (e, [], refl, within, inr (m.place, m.assertion, m.hypotheses, m.σ, m.names, m.on, children, p.apart, p.made), refl)
 
 -- ---- the end
 

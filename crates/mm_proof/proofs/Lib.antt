@@ -5,10 +5,10 @@ pub mod Frames
 pub mod Steps
 pub mod Runs
 pub mod Growth
+pub mod Forward
 pub mod Limits
 pub mod Verdicts
 pub mod Decisions
-pub mod Replacements
 pub mod Searches
-pub mod Forward
+pub mod Replacements
 pub mod Judged

@@ -1,15 +1,11 @@
 -- The entries of an assertion's hypotheses give the replacement of its variables: what a step meets.
-use Rattle.std.proofs.Common.{◌≡◌, ◌≢◌, ℕ, zero, suc, ◌+◌, ◌<◌, ◌≤◌, List, [], ◌∷◌, ◌++◌, length, take, drop, slice_get, Option, Some, None, IsSome, ◌⊎◌, ◌↔◌, inl, inr, ⊎_elim, refl, sym, ap, subst, ◌∙◌, arith}
+use Rattle.std.proofs.Common.{◌≡◌, ℕ, zero, suc, ◌+◌, ◌<◌, List, [], ◌∷◌, ◌++◌, length, take, drop, slice_get, Option, Some, None, IsSome, inl, inr, refl, sym, ap, subst, ◌∙◌, arith}
 use Rattle.std.proofs.lemmas.Option.{same_Some, none-some}
 use Rattle.std.proofs.lemmas.Bool.{cases_order}
-use Rattle.mm_text.specs.declared.statement.Kind.{Kind}
-use Rattle.mm_text.specs.declared.statement.Kind.TheVariants.{Floating}
 use Rattle.mm_frame.specs.declared.rule.MeaningRule.TheVariants.{M12}
 use Rattle.mm_frame.specs.Sentence.{Sentence, Types}
-use Rattle.mm_frame.specs.Active.{IsTyped}
 use Rattle.mm_frame.specs.Frame.{IsMandatory, IsMandatoryAt, AreThose, AreMandatory}
 use Rattle.mm_frame.specs.Rules.{AllMeant}
-use Rattle.mm_proof.specs.Substitution.{IsOn}
 use Rattle.mm_proof.specs.Tree.{Names}
 use Rattle.mm_proof.specs.Proof.{Meets}
 use Rattle.mm_proof.proofs.Places.{get_take, get_beside}
@@ -17,25 +13,13 @@ use Rattle.mm_proof.proofs.Meaning.{meant_at, meant_front, mandatory_typed}
 use Rattle.mm_proof.proofs.Frames.{those_hold}
 use Rattle.mm_proof.proofs.Steps.{typing_among}
 use Rattle.mm_proof.proofs.Runs.{typing_of, same_typing}
-use Rattle.mm_proof.proofs.Decisions.{kind_dec, symbol_dec, active_earlier}
+use Rattle.mm_proof.proofs.Decisions.{dec_as, symbol_dec, active_earlier}
+use Rattle.mm_proof.proofs.Searches.{typing_so_dec}
 
 -- ---- whether a statement is a `$f` of the variable
 
-heads_of_two : (a b c d : List ℕ) → a ∷ b ∷ [] ≡ c ∷ d ∷ [] → b ≡ d
-heads_of_two a b c d e = cc
-
 pub typing_dec : (x : List ℕ) (h : Sentence) → Dec ((code : List ℕ) × Types code x h)
-typing_dec x h = go (kind_dec h.kind Floating) h.symbols refl
-  where
-    go : Dec (h.kind ≡ Floating) → (symbols : List (List ℕ)) → h.symbols ≡ symbols → Dec ((code : List ℕ) × Types code x h)
-    go (no n) symbols e = no (λ t. n t.1.0)
-    go (yes k) [] e = no (λ t. let p : [] ≡ t.0 ∷ x ∷ [] = sym e ∙ t.1.1 in absurd cc)
-    go (yes k) (a ∷ []) e = no (λ t. let p : a ∷ [] ≡ t.0 ∷ x ∷ [] = sym e ∙ t.1.1 in absurd cc)
-    go (yes k) (a ∷ b ∷ c ∷ more) e = no (λ t. let p : a ∷ b ∷ c ∷ more ≡ t.0 ∷ x ∷ [] = sym e ∙ t.1.1 in absurd cc)
-    go (yes k) (a ∷ b ∷ []) e = elim (symbol_dec b x) [
-        yes s ↦ yes (a, (k, e ∙ ap (λ y. a ∷ y ∷ []) s))
-        | no n ↦ no (λ t. n (heads_of_two a b t.0 x (sym e ∙ t.1.1)))
-        ]
+typing_dec x h = dec_as (λ t. (t.0, subst (λ y. Types t.0 y h) t.3 t.2)) (λ t. (t.0, x, t.1, refl)) (typing_so_dec h (λ y. y ≡ x) (λ y. symbol_dec y x))
 
 -- ---- what the first `$f` of the variable gives
 
@@ -120,10 +104,10 @@ not_typed_twice before s hypotheses i j f g code code' x all mandatory p q t u l
 
 typed_once : (before : List Sentence) (s : Sentence) (hypotheses : List Sentence) → AllMeant before → AreMandatory before s hypotheses → IsTypedOnce hypotheses
 typed_once before s hypotheses all mandatory i j f g code code' x p q t u = elim (cases_order i j) [
-    inl same ↦ same
-    | inr (inl less) ↦ absurd (not_typed_twice before s hypotheses i j f g code code' x all mandatory p q t u less)
-    | inr (inr more) ↦ absurd (not_typed_twice before s hypotheses j i g f code' code x all mandatory q p u t more)
-    ]
+  | inl same ↦ same
+  | inr (inl less) ↦ absurd (not_typed_twice before s hypotheses i j f g code code' x all mandatory p q t u less)
+  | inr (inr more) ↦ absurd (not_typed_twice before s hypotheses j i g f code' code x all mandatory q p u t more)
+]
 
 -- ---- what a step meets
 
@@ -156,8 +140,9 @@ meets_of before stack label place assertion hypotheses rest entries all names sp
         let f = replaced_found hypotheses entries x some in
         let t = typing_of before label place assertion hypotheses f.0 f.1 names f.3 f.4.0 in
         subst (IsMandatory (take place before) assertion) (same_typing f.1 t.0 t.1 f.2 x t.2 f.4).1 t.3
+
     given : IsTypedOnce hypotheses → (x : List ℕ) → IsMandatory (take place before) assertion x → IsSome (replaced_by hypotheses entries x)
     given once x m = some_unless (replaced_by hypotheses entries x) (λ none. mandatory_typed before place assertion x all names.there (inr names.kind) m
         (λ typed. let f = typing_among before label place assertion hypotheses x names m typed in
-            let e = get_beside hypotheses entries f.0 f.1 paired f.3 in
-            none-some (drop 1 e.0) (sym none ∙ replaced_at hypotheses entries once f.0 f.1 e.0 f.2 x f.3 e.1 f.4)))
+        let e = get_beside hypotheses entries f.0 f.1 paired f.3 in
+        none-some (drop 1 e.0) (sym none ∙ replaced_at hypotheses entries once f.0 f.1 e.0 f.2 x f.3 e.1 f.4)))

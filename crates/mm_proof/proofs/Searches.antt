@@ -1,7 +1,6 @@
 -- What can be decided of frames, and of what replaces the members of their pairs.
-use Rattle.std.proofs.Common.{◌≡◌, ◌≢◌, ℕ, zero, suc, ◌+◌, ◌<◌, ◌≤◌, List, [], ◌∷◌, length, take, drop, slice_get, get_or, Contains, Option, Some, None, ◌⊎◌, inl, inr, refl, sym, ap, subst, ◌∙◌, arith}
+use Rattle.std.proofs.Common.{◌≡◌, ◌≢◌, ℕ, zero, suc, ◌+◌, ◌<◌, List, [], ◌∷◌, length, get_or, Contains, Option, Some, None, ◌⊎◌, inl, inr, refl, sym, ap, subst, ◌∙◌, arith}
 use Rattle.std.proofs.lemmas.Option.{same_Some, none-some}
-use Rattle.mm_text.specs.declared.statement.Kind.{Kind}
 use Rattle.mm_text.specs.declared.statement.Kind.TheVariants.{Variables, Distinct, Floating, Essential}
 use Rattle.mm_frame.specs.Sentence.{Sentence, SomeSentence, IsLabelled, Declares, Types}
 use Rattle.mm_frame.specs.Active.{IsActive, SomeActive, IsVariable}
@@ -40,6 +39,7 @@ dec_member P each (y ∷ xs) = go (each y) (dec_member P each xs)
     other : (x : List ℕ) → (y ≡ x) ⊎ Contains xs x → P x → ¬ (P y) → Contains xs x
     other x (inl e) p n = absurd (n (subst P (sym e) p))
     other x (inr c) p n = c
+
     go : Dec (P y) → Dec ((x : List ℕ) × Contains xs x × P x) → Dec ((x : List ℕ) × Contains (y ∷ xs) x × P x)
     go (yes p) b = yes (y, contains_first y xs, p)
     go (no n) (yes b) = yes (b.0, contains_later y xs b.0 b.1, b.2)
@@ -52,6 +52,7 @@ dec_each P each (y ∷ xs) = go (each y) (dec_each P each xs)
     of_cases : P y → ((x : List ℕ) → Contains xs x → P x) → (x : List ℕ) → (y ≡ x) ⊎ Contains xs x → P x
     of_cases p f x (inl e) = subst P e p
     of_cases p f x (inr c) = f x c
+
     go : Dec (P y) → Dec ((x : List ℕ) → Contains xs x → P x) → Dec ((x : List ℕ) → Contains (y ∷ xs) x → P x)
     go (yes p) (yes f) = yes (λ x h. of_cases p f x (contains_cases y xs x h))
     go (yes p) (no n) = no (λ h. n (λ x c. h x (contains_later y xs x c)))
@@ -93,7 +94,7 @@ two_heads : (a b c d : List ℕ) → a ∷ b ∷ [] ≡ c ∷ d ∷ [] → b ≡
 two_heads a b c d e = cc
 
 -- a `$f` whose variable is so
-typing_so_dec : (h : Sentence) (P : List ℕ → Type 0) → ((x : List ℕ) → Dec (P x)) → Dec ((code : List ℕ) × (x : List ℕ) × Types code x h × P x)
+pub typing_so_dec : (h : Sentence) (P : List ℕ → Type 0) → ((x : List ℕ) → Dec (P x)) → Dec ((code : List ℕ) × (x : List ℕ) × Types code x h × P x)
 typing_so_dec h P each = go (kind_dec h.kind Floating) h.symbols refl
   where
     go : Dec (h.kind ≡ Floating) → (symbols : List (List ℕ)) → h.symbols ≡ symbols → Dec ((code : List ℕ) × (x : List ℕ) × Types code x h × P x)
@@ -102,9 +103,9 @@ typing_so_dec h P each = go (kind_dec h.kind Floating) h.symbols refl
     go (yes k) (a ∷ []) e = no (λ t. let p : a ∷ [] ≡ t.0 ∷ t.1 ∷ [] = sym e ∙ t.2.1 in absurd cc)
     go (yes k) (a ∷ b ∷ c ∷ more) e = no (λ t. let p : a ∷ b ∷ c ∷ more ≡ t.0 ∷ t.1 ∷ [] = sym e ∙ t.2.1 in absurd cc)
     go (yes k) (a ∷ b ∷ []) e = elim (each b) [
-        yes s ↦ yes (a, b, (k, e), s)
-        | no n ↦ no (λ t. n (subst P (sym (two_heads a b t.0 t.1 (sym e ∙ t.2.1))) t.3))
-        ]
+      | yes s ↦ yes (a, b, (k, e), s)
+      | no n ↦ no (λ t. n (subst P (sym (two_heads a b t.0 t.1 (sym e ∙ t.2.1))) t.3))
+    ]
 
 pub mandatory_at_dec : (before : List Sentence) (s : Sentence) (place : ℕ) (h : Sentence) → Dec (IsMandatoryAt before s place h)
 mandatory_at_dec before s place h = dec_both (active_dec before place)
@@ -115,7 +116,7 @@ mandatory_at_dec before s place h = dec_both (active_dec before place)
 pub distinct_dec : (before : List Sentence) (x y : List ℕ) → Dec (IsDistinct before x y)
 distinct_dec before x y = dec_both (dec_not (symbol_dec x y))
     (some_active_dec before (λ d. (d.kind ≡ Distinct) × Contains d.symbols x × Contains d.symbols y)
-        (λ d. dec_as (λ c. (c.0, c.1.0, c.1.1)) (λ c. (c.0, (c.1, c.2))) (dec_both (kind_dec d.kind Distinct) (dec_both (contains_dec d.symbols x) (contains_dec d.symbols y)))))
+    (λ d. dec_as (λ c. (c.0, c.1.0, c.1.1)) (λ c. (c.0, (c.1, c.2))) (dec_both (kind_dec d.kind Distinct) (dec_both (contains_dec d.symbols x) (contains_dec d.symbols y)))))
 
 pub share_dec : (before : List Sentence) (e f : List (List ℕ)) → Dec (ShareNoVariable before e f)
 share_dec before e f = dec_as (λ h u v c d. h u c v d) (λ h u c v d. h u v c d)
@@ -124,8 +125,8 @@ share_dec before e f = dec_as (λ h u v c d. h u c v d) (λ h u c v d. h u v c d
 pub apart_dec : (before : List Sentence) (e f : List (List ℕ)) → Dec (AreDistinct before e f)
 apart_dec before e f = dec_as (λ h u v p q c d. h u c p v d q) (λ h u c p v d q. h u v p q c d)
     (dec_each (λ u. IsVariable before u → (v : List ℕ) → Contains f v → IsVariable before v → IsDistinct before u v)
-        (λ u. dec_if (variable_dec before u)
-            (dec_each (λ v. IsVariable before v → IsDistinct before u v) (λ v. dec_if (variable_dec before v) (distinct_dec before u v)) f)) e)
+    (λ u. dec_if (variable_dec before u)
+    (dec_each (λ v. IsVariable before v → IsDistinct before u v) (λ v. dec_if (variable_dec before v) (distinct_dec before u v)) f)) e)
 
 -- what replaces two symbols is so
 abbrev pub BothReplaced : (List ℕ → Option (List (List ℕ))) → (List (List ℕ) → List (List ℕ) → Type 0) → List ℕ → List ℕ → Type 0
@@ -138,9 +139,9 @@ both_replaced_dec σ P each x y = go (σ x) (σ y) refl refl
     go None b p q = no (λ h. none-some h.0 (sym p ∙ h.2))
     go (Some a) None p q = no (λ h. none-some h.1 (sym q ∙ h.3))
     go (Some a) (Some b) p q = elim (each a b) [
-        yes h ↦ yes (a, b, p, q, h)
-        | no n ↦ no (λ h. n (subst (λ f. P a f) (same_Some h.1 b (sym h.3 ∙ q)) (subst (λ e. P e h.1) (same_Some h.0 a (sym h.2 ∙ p)) h.4)))
-        ]
+      | yes h ↦ yes (a, b, p, q, h)
+      | no n ↦ no (λ h. n (subst (λ f. P a f) (same_Some h.1 b (sym h.3 ∙ q)) (subst (λ e. P e h.1) (same_Some h.0 a (sym h.2 ∙ p)) h.4)))
+    ]
 
 -- some mandatory pair of the assertion is replaced so
 pub some_pair_dec : (before : List Sentence) (s : Sentence) (σ : List ℕ → Option (List (List ℕ))) (P : List (List ℕ) → List (List ℕ) → Type 0)
@@ -149,10 +150,10 @@ some_pair_dec before s σ P each = dec_as
     (λ h. (h.3.1.0, h.3.1.2.0, (((h.3.1.2.2.0, (h.0, h.1, h.2, h.3.0.0, (h.3.0.1, h.3.1.1, h.3.1.2.1))), h.3.1.2.2.1, h.3.1.2.2.2)), h.3.1.2.2.3))
     (λ h. (h.2.0.1.0, h.2.0.1.1, h.2.0.1.2, ((h.2.0.1.3, h.2.0.1.4.0), (h.0, h.2.0.1.4.1, (h.1, h.2.0.1.4.2, (h.2.0.0, h.2.1, h.2.2, h.3))))))
     (dec_some (λ place (d : Sentence). (IsActive before place × (d.kind ≡ Distinct)) × ((x : List ℕ) × Contains d.symbols x × ((y : List ℕ) × Contains d.symbols y
-            × ((x ≢ y) × IsMandatory before s x × IsMandatory before s y × BothReplaced σ P x y))))
-        (λ place d. dec_both (dec_both (active_dec before place) (kind_dec d.kind Distinct))
-            (dec_member (λ x. (y : List ℕ) × Contains d.symbols y × ((x ≢ y) × IsMandatory before s x × IsMandatory before s y × BothReplaced σ P x y))
-                (λ x. dec_member (λ y. (x ≢ y) × IsMandatory before s x × IsMandatory before s y × BothReplaced σ P x y)
-                    (λ y. dec_as (λ c. (c.0.0, c.0.1, c.1.0, c.1.1)) (λ c. ((c.0, c.1), (c.2, c.3)))
-                        (dec_both (dec_both (dec_not (symbol_dec x y)) (mandatory_dec before s x)) (dec_both (mandatory_dec before s y) (both_replaced_dec σ P each x y))))
-                    d.symbols) d.symbols)) before)
+    × ((x ≢ y) × IsMandatory before s x × IsMandatory before s y × BothReplaced σ P x y))))
+    (λ place d. dec_both (dec_both (active_dec before place) (kind_dec d.kind Distinct))
+    (dec_member (λ x. (y : List ℕ) × Contains d.symbols y × ((x ≢ y) × IsMandatory before s x × IsMandatory before s y × BothReplaced σ P x y))
+    (λ x. dec_member (λ y. (x ≢ y) × IsMandatory before s x × IsMandatory before s y × BothReplaced σ P x y)
+    (λ y. dec_as (λ c. (c.0.0, c.0.1, c.1.0, c.1.1)) (λ c. ((c.0, c.1), (c.2, c.3)))
+    (dec_both (dec_both (dec_not (symbol_dec x y)) (mandatory_dec before s x)) (dec_both (mandatory_dec before s y) (both_replaced_dec σ P each x y))))
+    d.symbols) d.symbols)) before)

@@ -161,21 +161,29 @@ step_once before stack label rest rest' e e' all (inr p) (inr q) =
 
 -- ---- a step that breaks no rule breaks no rule
 
--- an assertion's step by which the stack is too short
-pub too_short : (before : List Sentence) (stack : List (List (List ℕ))) (label : List ℕ) (rest : List (List (List ℕ))) (e : List (List ℕ)) → AllMeant before
-    → StepTo before stack label rest e → BreaksStep P8 before stack label → ⊥
-too_short before stack label rest e all (inl p) b =
-    hypothesis_or_assertion before p.place b.0 p.hypothesis b.1 label all p.there b.3.there p.named b.3.named p.kind b.3.kind
-too_short before stack label rest e all (inr p) b =
-    let m = p.meets in
-    let place : m.place ≡ b.0 = one_label before m.place b.0 m.assertion b.1 label all m.names.there b.3.there m.names.named b.3.named in
-    let assertion : m.assertion ≡ b.1 = one_labelled before m.place b.0 m.assertion b.1 label all m.names.there b.3.there m.names.named b.3.named in
-    let hypotheses : m.hypotheses ≡ b.2 = one_frame before m.place b.0 m.assertion b.1 m.hypotheses b.2 place assertion m.names.mandatory b.3.mandatory in
+-- one label names one assertion's hypotheses
+one_names : (before : List Sentence) (label : List ℕ) (place place' : ℕ) (a a' : Sentence) (hypotheses hypotheses' : List Sentence) → AllMeant before
+    → Names before label place a hypotheses → Names before label place' a' hypotheses' → hypotheses ≡ hypotheses'
+one_names before label place place' a a' hypotheses hypotheses' all n n' =
+    one_frame before place place' a a' hypotheses hypotheses' (one_label before place place' a a' label all n.there n'.there n.named n'.named)
+    (one_labelled before place place' a a' label all n.there n'.there n.named n'.named) n.mandatory n'.mandatory
+
+-- where the step meets all hypotheses, the stack isn't too short
+pub meets_enough : (before : List Sentence) (stack : List (List (List ℕ))) (label : List ℕ) → AllMeant before → Meets before stack label → ¬ (BreaksStep P8 before stack label)
+meets_enough before stack label all m b =
+    let same = one_names before label m.place b.0 m.assertion b.1 m.hypotheses b.2 all m.names b.3 in
     let l : length stack ≡ length m.rest + length m.entries = ap length m.split ∙ length-append m.rest m.entries in
-    let n : length m.hypotheses ≡ length b.2 = ap length hypotheses in
+    let n : length m.hypotheses ≡ length b.2 = ap length same in
     let k : length m.entries ≡ length m.hypotheses = m.paired in
     let less : length stack < length b.2 = b.4 in
     absurd (omega arith)
+
+-- nor is it where a step breaks no rule
+too_short : (before : List Sentence) (stack : List (List (List ℕ))) (label : List ℕ) (rest : List (List (List ℕ))) (e : List (List ℕ)) → AllMeant before
+    → StepTo before stack label rest e → BreaksStep P8 before stack label → ⊥
+too_short before stack label rest e all (inl p) b =
+    hypothesis_or_assertion before p.place b.0 p.hypothesis b.1 label all p.there b.3.there p.named b.3.named p.kind b.3.kind
+too_short before stack label rest e all (inr p) b = meets_enough before stack label all p.meets b
 
 -- a step that meets something else is that step
 same_meets : (before : List Sentence) (stack : List (List (List ℕ))) (label : List ℕ) (rest : List (List (List ℕ))) (e : List (List ℕ)) (m : Meets before stack label) → AllMeant before

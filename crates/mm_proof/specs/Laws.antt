@@ -4,6 +4,7 @@ use Rattle.mm_frame.specs.Sentence.{Sentence}
 use Rattle.mm_frame.specs.Rules.{AllMeant}
 use Rattle.mm_proof.specs.declared.fault.ProofRule.{ProofRule}
 use Rattle.mm_proof.specs.declared.fault.ProofRule.TheVariants.{L1}
+use Rattle.mm_proof.specs.Formed.{AllFormed}
 use Rattle.mm_proof.specs.Tree.{Trees, spelling, DeriveAll, AnyExpression}
 use Rattle.mm_proof.specs.Proof.{IsWithinLimit, IsProvedWithin, IsProved, IsFault}
 
@@ -12,6 +13,12 @@ abbrev pub OneTree : Type 0
 OneTree =
     (before : List Sentence) (t u : Trees) (es fs : List (List (List ℕ))) → AllMeant before
     → DeriveAll AnyExpression before t es → DeriveAll AnyExpression before u fs → spelling t ≡ spelling u → (t ≡ u) × (es ≡ fs)
+
+-- After statements in form each proof is proved within the limit, or has a fault.
+abbrev pub SomeVerdict : Type 0
+SomeVerdict =
+    (before : List Sentence) (s : Sentence) → AllMeant before → AllFormed before
+    → IsProvedWithin IsWithinLimit before s ⊎ ((rule : ProofRule) × (step : ℕ) × IsFault before s rule step)
 
 -- What is proved within the limit has no fault; and what has a fault has one rule and one step.
 abbrev pub OneVerdict : Type 0

@@ -1,6 +1,6 @@
 //! Laws of verdicts on proofs. The functions do nothing: their contracts are the laws.
 
-ghost use Rattle.mm_proof.specs.Laws.{OneTree, OneVerdict, LimitsAside};
+ghost use Rattle.mm_proof.specs.Laws.{OneTree, SomeVerdict, OneVerdict, LimitsAside};
 
 /// A proof spells one tree.
 ///
@@ -9,6 +9,15 @@ ghost use Rattle.mm_proof.specs.Laws.{OneTree, OneVerdict, LimitsAside};
 /// one, and what each of its steps makes is determined.
 pub fn one_tree()
     ensures { OneTree }
+{}
+
+/// Each proof has a verdict.
+///
+/// After statements that are in form and break no rule of meaning, a proof spells a derivation of
+/// its statement's expression with each step's expression within the limit, or it has a fault: the
+/// rules leave no case out. So where the verdict isn't that it's proved, a rule and a step tell why.
+pub fn some_verdict()
+    ensures { SomeVerdict }
 {}
 
 /// The verdict on a proof is one.

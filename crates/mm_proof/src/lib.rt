@@ -5,4 +5,4 @@ mod fault;
 mod laws;
 
 pub use fault::{ProofFault, ProofRule};
-pub use laws::{limits_aside, one_tree, one_verdict};
+pub use laws::{limits_aside, one_tree, one_verdict, some_verdict};
