@@ -1,3 +1,5 @@
 pub mod Substitution
 pub mod Tree
 pub mod Proof
+pub mod Formed
+pub mod Laws

@@ -1,0 +1,14 @@
+pub mod Places
+pub mod Meaning
+pub mod Formed
+pub mod Frames
+pub mod Steps
+pub mod Runs
+pub mod Growth
+pub mod Forward
+pub mod Limits
+pub mod Verdicts
+pub mod Decisions
+pub mod Searches
+pub mod Replacements
+pub mod Judged
