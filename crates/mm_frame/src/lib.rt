@@ -1,6 +1,8 @@
 //! The meaning of statements: names and scopes, the rules of meaning, and frames.
 #![tactic(auto)]
 
+mod names;
 mod rule;
 
+pub use names::labelled;
 pub use rule::MeaningRule;
