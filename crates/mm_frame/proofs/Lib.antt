@@ -1,1 +1,4 @@
 pub mod Places
+pub mod Symbols
+pub mod Flat
+pub mod Frames

@@ -18,7 +18,7 @@ some_from_any v P xs (k, x, lt, is, p) =
     (k, v x, slice_get-map v xs k ∙ ap (λ o. option_map v o) (slice_get_read xs (length xs) k x refl lt (sym is)), p)
 
 -- the element of which it is said
-said_at : {X Y : Type 0} (v : X → Y) (P : Y → Type 0) (xs : List X) (k : ℕ) (y : Y) → slice_get (map v xs) k ≡ Some y → P y → (x : X) × (k < length xs) × (slice_index_or xs k x ≡ x) × P (v x)
+pub said_at : {X Y : Type 0} (v : X → Y) (P : Y → Type 0) (xs : List X) (k : ℕ) (y : Y) → slice_get (map v xs) k ≡ Some y → P y → (x : X) × (k < length xs) × (slice_index_or xs k x ≡ x) × P (v x)
 said_at v P xs k y there p =
     elim (slice_get_cases xs k).1 [
       | inl (x, lt, at, is) ↦

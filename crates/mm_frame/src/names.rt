@@ -1,9 +1,10 @@
 //! Looking names up among the statements before, one after the other.
 
-ghost use Rattle.std.specs.Prelude.{◌≡◌, ◌↔◌, IsTrue, MatchOption, map};
-ghost use Rattle.mm_frame.specs.Sentence.{said_by, IsLabelled, SomeSentence, IsFirstLabelled};
+ghost use Rattle.std.specs.Prelude.{◌≡◌, ◌↔◌, ℕ, IsTrue, MatchOption, Contains, List, map};
+ghost use Rattle.mm_frame.specs.Sentence.{said_by, Declares, IsLabelled, SomeSentence, Types, IsFirstLabelled};
+ghost use Rattle.mm_frame.specs.Active.{IsConstant, IsVariable};
 
-use mm_text::Statement;
+use mm_text::{Kind, Statement};
 
 // Whether the statement has this label.
 fn has_label(statement: &Statement, label: &[u8]) -> bool
@@ -25,4 +26,56 @@ pub fn labelled(earlier: &[Statement], label: &[u8]) -> Option<usize>
     earlier
         .iter()
         .position(|statement| has_label(statement, label))
+}
+
+// Whether some statement has this label.
+pub(crate) fn is_label(earlier: &[Statement], label: &[u8]) -> bool
+    ensures { IsTrue result ↔ SomeSentence (map said_by earlier.now) (IsLabelled label.now) }
+{
+    earlier.iter().any(|statement| has_label(statement, label))
+}
+
+// Whether the symbol stands in the statement.
+pub(crate) fn has_symbol(statement: &Statement, symbol: &[u8]) -> bool
+    ensures { IsTrue result ↔ Contains (said_by statement.now).symbols symbol.now }
+{
+    statement.symbols.iter().any(|token| token.text == symbol)
+}
+
+// Whether the statement is of this kind and has the symbol.
+fn declares(statement: &Statement, kind: Kind, symbol: &[u8]) -> bool
+    ensures { IsTrue result ↔ Declares kind symbol.now (said_by statement.now) }
+{
+    statement.kind == kind && has_symbol(statement, symbol)
+}
+
+// Whether some `$c` declares the symbol.
+pub(crate) fn is_constant(earlier: &[Statement], symbol: &[u8]) -> bool
+    ensures { IsTrue result ↔ IsConstant (map said_by earlier.now) symbol.now }
+{
+    earlier
+        .iter()
+        .any(|statement| declares(statement, Kind::Constants, symbol))
+}
+
+// Whether some `$v` declares the symbol.
+pub(crate) fn is_variable(earlier: &[Statement], symbol: &[u8]) -> bool
+    ensures { IsTrue result ↔ IsVariable (map said_by earlier.now) symbol.now }
+{
+    earlier
+        .iter()
+        .any(|statement| declares(statement, Kind::Variables, symbol))
+}
+
+// The type code and the variable of a `$f`.
+pub(crate) fn typing<'a>(statement: &Statement<'a>) -> Option<(&'a [u8], &'a [u8])>
+    ensures { MatchOption
+        result
+        ((code x : List ℕ) → ¬ (Types code x (said_by statement.now)))
+        (λ t. Types t.0.now t.1.now (said_by statement.now)) }
+{
+    match statement.symbols.as_slice() {
+        [code, variable] if statement.kind == Kind::Floating => Some((code.text, variable.text)),
+        _ => None,
+    }
 }
