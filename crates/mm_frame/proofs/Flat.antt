@@ -1,13 +1,13 @@
 -- Where the statements are of the kinds that are read so far, no block is open, each earlier statement is active, and there
 -- are no `$d` and no `$e`.
-use Rattle.std.proofs.Common.{◌≡◌, All, ℕ, zero, suc, ◌<◌, length, take, List, [], ◌∷◌, map, Some, refl, subst}
+use Rattle.std.proofs.Common.{Bool, IsTrue, ◌↔◌, ◌⊎◌, inl, inr, ◌≡◌, All, ℕ, zero, suc, ◌<◌, length, take, List, [], ◌∷◌, map, Some, refl, subst}
 use Rattle.std.specs.List.{slice_get}
 use Rattle.std.proofs.lemmas.Option.{slice_get_within}
 use Rattle.mm_text.specs.declared.statement.Kind.TheVariants.{Essential}
 use Rattle.mm_text.specs.declared.statement.Statement.{Statement}
 use Rattle.mm_text.specs.Statement.{plain_statement, IsRead, IsFormed}
 use Rattle.mm_frame.specs.Sentence.{Sentence, said_by, SomeSentence}
-use Rattle.mm_frame.specs.Active.{IsOpen, IsActive, SomeActive}
+use Rattle.mm_frame.specs.Active.{IsOpen, IsActive, SomeActive, IsConstant, IsVariable, IsActiveSymbol}
 use Rattle.mm_frame.specs.Frame.{IsDistinct}
 use Rattle.mm_frame.proofs.Places.{said_at}
 
@@ -57,3 +57,15 @@ pub none_distinct : (statements : List Sentence) (x y : List ℕ) → IsFlat sta
 none_distinct statements x y flat distinct =
     let (place, s, there, active, p) = distinct.1 in
     absurd (subst IsRead p.0 (flat.read place s there))
+
+-- a test whether some statement is so tells whether some active one is
+pub active_like : (statements : List Sentence) (P : Sentence → Type 0) (r : Bool) → IsFlat statements → (IsTrue r ↔ SomeSentence statements P) → IsTrue r ↔ SomeActive statements P
+active_like statements P r flat h = ((λ t. some_active statements P flat (h.0 t)), (λ a. h.1 (some_sentence statements P a)))
+
+pub active_from_declared : (statements : List Sentence) (symbol : List ℕ) → IsFlat statements → IsConstant statements symbol ⊎ IsVariable statements symbol → IsActiveSymbol statements symbol
+active_from_declared statements symbol flat (inl (place, s, there, declared)) = some_active statements _ flat (place, s, there, inl declared)
+active_from_declared statements symbol flat (inr (place, s, there, declared)) = some_active statements _ flat (place, s, there, inr declared)
+
+pub declared_from_active : (statements : List Sentence) (symbol : List ℕ) → IsActiveSymbol statements symbol → IsConstant statements symbol ⊎ IsVariable statements symbol
+declared_from_active statements symbol (place, s, there, active, declared) =
+    elim declared [ inl constant ↦ inl (place, s, there, constant) | inr variable ↦ inr (place, s, there, variable) ]

@@ -4,7 +4,9 @@
 mod frame;
 mod names;
 mod rule;
+mod rules;
 
 pub use frame::mandatory;
 pub use names::labelled;
 pub use rule::MeaningRule;
+pub use rules::first_broken;

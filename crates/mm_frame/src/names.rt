@@ -1,10 +1,36 @@
 //! Looking names up among the statements before, one after the other.
 
-ghost use Rattle.std.specs.Prelude.{◌≡◌, ◌↔◌, ℕ, IsTrue, MatchOption, Contains, List, map};
+ghost use Rattle.std.specs.Prelude.{◌≡◌, ◌↔◌, ℕ, IsTrue, MatchOption, Contains, List, [], ◌∷◌, map};
 ghost use Rattle.mm_frame.specs.Sentence.{said_by, Declares, IsLabelled, SomeSentence, Types, IsFirstLabelled};
 ghost use Rattle.mm_frame.specs.Active.{IsConstant, IsVariable};
 
 use mm_text::{Kind, Statement};
+
+// The label of the statement.
+pub(crate) fn label_of<'a>(statement: &Statement<'a>) -> Option<&'a [u8]>
+    ensures { MatchOption
+        result
+        ((label : List ℕ) → ¬ (IsLabelled label (said_by statement.now)))
+        (λ label. IsLabelled label.now (said_by statement.now)) }
+{
+    match &statement.label {
+        Some(token) => Some(token.text),
+        None => None,
+    }
+}
+
+// The first symbol of the statement.
+pub(crate) fn first_of<'a>(statement: &Statement<'a>) -> Option<&'a [u8]>
+    ensures { MatchOption
+        result
+        ((said_by statement.now).symbols ≡ [])
+        (λ first. (others : List (List ℕ)) × ((said_by statement.now).symbols ≡ first.now ∷ others)) }
+{
+    match statement.symbols.as_slice() {
+        [first, ..] => Some(first.text),
+        [] => None,
+    }
+}
 
 // Whether the statement has this label.
 fn has_label(statement: &Statement, label: &[u8]) -> bool
