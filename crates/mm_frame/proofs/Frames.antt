@@ -1,5 +1,5 @@
 -- Those of a list, one after the other; and the mandatory hypotheses, where no block is open.
-use Rattle.std.proofs.Common.{◌≡◌, ℕ, zero, suc, ◌+◌, ◌<◌, ◌≤◌, length, take, map, get_or, List, [], ◌∷◌, ◌++◌, Contains, inl, inr, refl, sym, ◌∙◌, ap, subst, arith}
+use Rattle.std.proofs.Common.{◌≡◌, ◌-◌, ℕ, zero, suc, ◌+◌, ◌<◌, ◌≤◌, length, take, map, get_or, List, [], ◌∷◌, ◌++◌, Contains, inl, inr, refl, sym, ◌∙◌, ap, subst, arith}
 use Rattle.std.specs.List.{slice_get}
 use Rattle.std.specs.Prelude.{Some}
 use Rattle.std.specs.Option.{option_map}
@@ -132,3 +132,14 @@ pub mandatory_is_needed : (before : List Sentence) (s : Sentence) (hypotheses : 
 mandatory_is_needed before s hypotheses k h flat mandatory there =
     let (j, in_it, at) = AreThose-at (IsMandatoryAt before s) 0 before hypotheses k h mandatory there in
     needed_from_mandatory before s h (0 + j) flat (let e : 0 + j ≡ j = omega arith in subst (λ m. slice_get before m ≡ Some h) (sym e) in_it) at
+
+-- What a caller learns that asks for the mandatory hypotheses of one of its statements after those before it. The list of
+-- those before comes as it does from `&earlier[..place]`.
+pub mandatory_at : (earlier : List Statement) (place : ℕ) (x : Statement) (s : Sentence) (hypotheses : List Sentence) → place < length earlier → x ≡ get_or earlier place x → slice_get (map said_by earlier) place ≡ Some s
+    → AreMandatory (map said_by (take (place - 0) earlier)) (said_by x) hypotheses → AreMandatory (take place (map said_by earlier)) s hypotheses
+mandatory_at earlier place x s hypotheses lt is there mandatory =
+    let same : said_by x ≡ s = let e = there_at earlier place x lt is in cc in
+    let front : map said_by (take (place - 0) earlier) ≡ take place (map said_by earlier) =
+    ap (λ n. map said_by (take n earlier)) (let e : place - 0 ≡ place = omega arith in e) ∙ sym (take-map said_by place earlier) in
+    subst (λ (t : Sentence). AreMandatory (take place (map said_by earlier)) t hypotheses) same
+    (subst (λ before. AreMandatory before (said_by x) hypotheses) front mandatory)

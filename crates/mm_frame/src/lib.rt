@@ -10,3 +10,6 @@ pub use frame::mandatory;
 pub use names::labelled;
 pub use rule::MeaningRule;
 pub use rules::first_broken;
+
+#[cfg(test)]
+mod tests;
