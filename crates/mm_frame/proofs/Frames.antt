@@ -1,11 +1,12 @@
 -- Those of a list, one after the other; and the mandatory hypotheses, where no block is open.
-use Rattle.std.proofs.Common.{◌≡◌, ◌-◌, ℕ, zero, suc, ◌+◌, ◌<◌, ◌≤◌, length, take, map, get_or, List, [], ◌∷◌, ◌++◌, Contains, inl, inr, refl, sym, ◌∙◌, ap, subst, arith}
+use Rattle.std.proofs.Common.{Bor, All, ◌≡◌, ◌-◌, ℕ, zero, suc, ◌+◌, ◌<◌, ◌≤◌, length, take, map, get_or, List, [], ◌∷◌, ◌++◌, Contains, inl, inr, refl, sym, ◌∙◌, ap, subst, arith}
 use Rattle.std.specs.List.{slice_get}
 use Rattle.std.specs.Prelude.{Some}
 use Rattle.std.specs.Option.{option_map}
-use Rattle.std.proofs.lemmas.Option.{slice_get_within, slice_get-map, slice_get_read}
+use Rattle.std.proofs.lemmas.Option.{slice_get_within, slice_get-map, slice_get_read, slice_get-get_or}
 use Rattle.std.proofs.lemmas.List.{take_more, take-map, map-append, length-map, length-take-le}
 use Rattle.mm_text.specs.declared.statement.Statement.{Statement}
+use Rattle.mm_text.specs.Token.{plain_token}
 use Rattle.mm_frame.specs.Sentence.{Sentence, said_by, Types}
 use Rattle.mm_frame.specs.Active.{IsVariable}
 use Rattle.mm_frame.specs.Frame.{IsMandatoryAt, AreThose, AreMandatory}
@@ -143,3 +144,14 @@ mandatory_at earlier place x s hypotheses lt is there mandatory =
     ap (λ n. map said_by (take n earlier)) (let e : place - 0 ≡ place = omega arith in e) ∙ sym (take-map said_by place earlier) in
     subst (λ (t : Sentence). AreMandatory (take place (map said_by earlier)) t hypotheses) same
     (subst (λ before. AreMandatory before (said_by x) hypotheses) front mandatory)
+
+-- So far each mandatory hypothesis has two symbols, its type code and its variable.
+pub two_symbols : (before : List Sentence) (s : Sentence) (items : List (Bor Statement)) → IsFlat before → AreMandatory before s (map (λ h. said_by h.now) items)
+    → All (λ (h : Bor Statement). length h.now.symbols.items ≡ 2) items
+two_symbols before s items flat mandatory = λ k d lt.
+    let h = get_or items k d in
+    let there : slice_get (map (λ (g : Bor Statement). said_by g.now) items) k ≡ Some (said_by h.now) =
+    slice_get-map (λ (g : Bor Statement). said_by g.now) items k ∙ ap (λ o. option_map (λ (g : Bor Statement). said_by g.now) o) (slice_get-get_or items k d lt) in
+    let (code, x, types, variable, stands) = mandatory_is_needed before s _ k (said_by h.now) flat mandatory there in
+    let count : length (said_by h.now).symbols ≡ 2 = ap length types.1 in
+    sym (length-map h.now.symbols.items plain_token) ∙ sym (length-map (map plain_token h.now.symbols.items) (λ t. t.text)) ∙ count
