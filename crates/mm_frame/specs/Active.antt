@@ -1,7 +1,7 @@
 -- What is active at a place (the Metamath book, section 4.2.8, on scopes).
-use Rattle.std.specs.Prelude.{◌≡◌, ℕ, suc, ◌<◌, ◌≤◌, List, [], ◌∷◌, length, take, drop, count_by, slice_get, Bool, true, false, Option, Some, Contains, ◌⊎◌}
+use Rattle.std.specs.Prelude.{◌≡◌, ℕ, suc, ◌<◌, ◌≤◌, List, length, take, drop, count_by, slice_get, Bool, true, false, Some, ◌⊎◌}
 use Rattle.mm_text.specs.declared.statement.Kind.{Kind}
-use Rattle.mm_text.specs.declared.statement.Kind.TheVariants.{Constants, Variables, Distinct, Floating, Essential, Axiom, Provable, Opening, Closing}
+use Rattle.mm_text.specs.declared.statement.Kind.TheVariants.{Constants, Variables, Opening, Closing}
 use Rattle.mm_frame.specs.Sentence.{Sentence, SomeSentence, Declares, Types}
 
 abbrev pub is_opening : Kind → Bool

@@ -1,7 +1,7 @@
 -- What statements say, without where they stand.
-use Rattle.std.specs.Prelude.{◌≡◌, ℕ, ◌<◌, List, [], ◌∷◌, map, slice_get, Contains, Option, Some, None, option_map, ◌⊎◌}
+use Rattle.std.specs.Prelude.{◌≡◌, ℕ, ◌<◌, List, [], ◌∷◌, map, slice_get, Contains, Option, Some, option_map, ◌⊎◌}
 use Rattle.mm_text.specs.declared.statement.Kind.{Kind}
-use Rattle.mm_text.specs.declared.statement.Kind.TheVariants.{Constants, Variables, Distinct, Floating, Essential, Axiom, Provable, Opening, Closing}
+use Rattle.mm_text.specs.declared.statement.Kind.TheVariants.{Distinct, Floating, Essential, Axiom, Provable}
 use Rattle.mm_text.specs.declared.statement.Statement.{Statement}
 use Rattle.mm_text.specs.Statement.{PlainStatement, plain_statement}
 
@@ -62,3 +62,10 @@ pub record StandsTwice (symbols : List (List ℕ)) (symbol : List ℕ) : Type 0 
   pub apart : i < j
   pub at_i : slice_get symbols i ≡ Some symbol
   pub at_j : slice_get symbols j ≡ Some symbol
+
+-- the statement at the place has this label, and none before it has
+pub record IsFirstLabelled (statements : List Sentence) (label : List ℕ) (place : ℕ) : Type 0 where
+  pub statement : Sentence
+  pub there : slice_get statements place ≡ Some statement
+  pub named : IsLabelled label statement
+  pub first : (k : ℕ) (other : Sentence) → k < place → slice_get statements k ≡ Some other → ¬ (IsLabelled label other)

@@ -1,0 +1,10 @@
+use Rattle.std.proofs.Common.{rules}
+use Rattle.std.proofs.lemmas.Iterator.{YieldsList-from_slice}
+use borrow.Author.Tests.{tests}
+use Rattle.mm_text.specs.declared.statement.Kind.TheVariants.{Constants}
+use Rattle.mm_frame.specs.Sentence.{said_by, Declares}
+use Rattle.mm_frame.proofs.Places.{some_says}
+use Rattle.mm_frame.proofs.names.is_constant.Goals as goal
+
+pub returns : goal.returns
+returns c = some_says said_by (Declares Constants c.args.symbol.now) _ _ _ c.any.ensures.ran (YieldsList-from_slice c.args.earlier.now cc) (λ x b q k. search (rules, tests))
