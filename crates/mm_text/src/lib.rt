@@ -3,6 +3,7 @@
 
 mod fault;
 mod file;
+mod scan;
 mod statement;
 mod token;
 
