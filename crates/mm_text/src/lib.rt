@@ -1,6 +1,7 @@
 //! The reader: the files of a Metamath database, cut into tokens and statements.
 #![tactic(auto)]
 
+mod class;
 mod fault;
 mod file;
 mod scan;
