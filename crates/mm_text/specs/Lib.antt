@@ -4,3 +4,4 @@ pub mod Reading
 pub mod Reader
 pub mod Remaining
 pub mod Class
+pub mod Steps

@@ -2,6 +2,7 @@
 #![tactic(auto)]
 
 mod class;
+mod cursor;
 mod fault;
 mod file;
 mod scan;
