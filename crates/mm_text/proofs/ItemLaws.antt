@@ -8,7 +8,7 @@ use Rattle.mm_text.specs.declared.class.Class.TheVariants as class
 use Rattle.mm_text.specs.Token.{PlainToken}
 use Rattle.mm_text.specs.Reading.{Item, Plain, Wrong, End, items_of, broken_by}
 use Rattle.mm_text.specs.Class.{spelling, ClassIs}
-use Rattle.mm_text.specs.Steps.{TakesToken}
+use Rattle.mm_text.specs.Steps.{items_with, IsOfClass}
 
 pub items_of-nil : (file : ℕ) → items_of file [] ≡ End file ∷ []
 unfolding items_of
@@ -38,9 +38,13 @@ keyword_stands Closing = refl
 keyword_stands Comment = refl
 keyword_stands Inclusion = refl
 
--- the first token of a file is taken as its class says
-pub takes_first : (file : ℕ) (t : PlainToken) (tokens : List PlainToken) (kind : Class) → ClassIs t.text kind → TakesToken (items_of file (t ∷ tokens)) t kind (items_of file tokens)
-takes_first file t tokens (class.Wrong rule) h = items_of-wrong file t tokens rule h
-takes_first file t tokens (class.Keyword keyword) h =
-    (items_of-plain file t tokens (ap broken_by h ∙ keyword_stands keyword), h)
-takes_first file t tokens class.Word h = (items_of-plain file t tokens h.0, h.1)
+-- the first token of a file is the first item, as its class says
+pub items_of-class : (file : ℕ) (t : PlainToken) (tokens : List PlainToken) (kind : Class) → ClassIs t.text kind → items_of file (t ∷ tokens) ≡ items_with t kind (items_of file tokens)
+items_of-class file t tokens (class.Wrong rule) h = items_of-wrong file t tokens rule h
+items_of-class file t tokens (class.Keyword keyword) h = items_of-plain file t tokens (ap broken_by h ∙ keyword_stands keyword)
+items_of-class file t tokens class.Word h = items_of-plain file t tokens h.0
+
+pub class_tells : (t : PlainToken) (kind : Class) → ClassIs t.text kind → IsOfClass t kind
+class_tells t (class.Wrong rule) h = tt
+class_tells t (class.Keyword keyword) h = h
+class_tells t class.Word h = h.1

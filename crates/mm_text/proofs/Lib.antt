@@ -1,2 +1,3 @@
 pub mod TokenLaws
 pub mod ItemLaws
+pub mod StepLaws

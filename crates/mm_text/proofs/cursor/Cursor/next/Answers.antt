@@ -1,10 +1,9 @@
-use Rattle.std.proofs.Common.{◌≡◌, ◌∷◌, drop, sym, ap, ◌∙◌, subst, arith}
+use Rattle.std.proofs.Common.{◌≡◌, ◌∷◌, drop, sym, ap, ◌∙◌, arith}
 use Rattle.std.specs.Prelude.{slice_range}
 use Rattle.mm_text.specs.Token.{PlainToken, tokens_from}
 use Rattle.mm_text.specs.Reading.{items_of}
-use Rattle.mm_text.specs.Steps.{TakesToken}
 use Rattle.mm_text.proofs.TokenLaws.{tokens_from-end}
-use Rattle.mm_text.proofs.ItemLaws.{items_of-nil, takes_first}
+use Rattle.mm_text.proofs.ItemLaws.{items_of-nil, items_of-class, class_tells}
 use Rattle.mm_text.proofs.cursor.Cursor.next.Goals as goal
 
 -- nothing but white space is left
@@ -29,7 +28,8 @@ returns c =
     let rest = tokens_from file stop (drop stop bytes) in
     let first_is : items_of file (t ∷ rest) ≡ c.args.self.now =
         sym (sym c.self.view_is ∙ ap (items_of file) (c.skip_space-start.ensures.same_tokens file ∙ c.token_end-end.ensures.token file)) in
-    (
-      subst (λ old. TakesToken old t c.class_of.result (items_of file rest)) first_is (takes_first file t rest c.class_of.result c.class_of.ensures),
-      omega arith,
-    )
+    record {
+      first = sym first_is ∙ items_of-class file t rest c.class_of.result c.class_of.ensures;
+      text = class_tells t c.class_of.result c.class_of.ensures;
+      at = omega arith;
+    }
