@@ -1,3 +1,4 @@
 pub mod TokenLaws
 pub mod ItemLaws
 pub mod StepLaws
+pub mod PartLaws

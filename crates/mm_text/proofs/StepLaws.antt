@@ -4,11 +4,8 @@ use Rattle.std.specs.Prelude.{nat_eq, option_map}
 use Rattle.std.specs.List.{list_any, list_all}
 use Rattle.std.specs.Cmp.Lexicographic.{pointwise, bytes_decides}
 use Rattle.std.proofs.lemmas.Bool.{false≢true}
-use Rattle.mm_text.specs.declared.token.Token.{Token}
 use Rattle.mm_text.specs.declared.fault.TextRule.{TextRule}
 use Rattle.mm_text.specs.declared.fault.TextRule.TheVariants.{S1, S2, S3, S4, S5, X8}
-use Rattle.mm_text.specs.declared.fault.TextFault.{TextFault}
-use Rattle.mm_text.specs.declared.fault.TextFault.TheVariants.{Load, Fault, Memory}
 use Rattle.mm_text.specs.declared.statement.Kind.{Kind}
 use Rattle.mm_text.specs.declared.statement.Kind.TheVariants as kind
 use Rattle.mm_text.specs.declared.class.Keyword.{Keyword}
@@ -17,8 +14,8 @@ use Rattle.mm_text.specs.Token.{PlainToken, plain_token, HoldsNoDollar, is_label
 use Rattle.mm_text.specs.Statement.{PlainStatement, keywords}
 use Rattle.mm_text.specs.Reading.{Item, Plain, Wrong, End, PlainFault}
 use Rattle.mm_text.specs.Class.{spelling}
-use Rattle.mm_text.specs.Reader.{same_text, is_keyword, begun, Part, Between, Labelled, InBody, InProof, Step, More, Whole, Faulty, at_start, after_label, has_count, is_full, is_provable, in_body, in_proof, step, step_fault, end_fault, part_label, PlainReading, ended, with_statement, reading_of}
-use Rattle.mm_text.specs.Steps.{fault_of, GivesPart, StepsTo, bare_kind, labelled_kind}
+use Rattle.mm_text.specs.Reader.{same_text, is_keyword, begun, Part, Between, Labelled, InBody, InProof, Step, More, Whole, Faulty, at_start, after_label, has_count, is_full, is_provable, in_body, in_proof, step, step_fault, end_fault, part_label, part_first, PlainReading, ended, with_statement, reading_of}
+use Rattle.mm_text.specs.Steps.{bare_kind, labelled_kind, ends_symbols}
 
 -- ---- the reading of items, by the first
 
@@ -182,10 +179,6 @@ step_label_word label t word =
 
 -- ---- the token after symbols
 
--- whether a keyword ends the symbols of a kind of statement
-abbrev pub ends_symbols : Kind → Keyword → Bool
-ends_symbols kind k = same_text (spelling k) (if is_provable kind then codes "$=" else codes "$.")
-
 body_keyword : (s : PlainStatement) (t : PlainToken) (k : Keyword) → t.text ≡ spelling k → step (InBody s) t ≡
     (if ends_symbols s.kind k
     then (if has_count s.kind (length s.symbols)
@@ -217,36 +210,18 @@ step_too_many s t word full = let none = word_is_no_keyword t.text word in simp 
 
 -- ---- the token after steps of a proof
 
-pub step_ends_proof : (s : PlainStatement) (t : PlainToken) → t.text ≡ spelling keyword.Stop → step (InProof s) t ≡ Whole (record s { span = (s.span.0, t.at) })
+proof_keyword : (s : PlainStatement) (t : PlainToken) (k : Keyword) → t.text ≡ spelling k → step (InProof s) t ≡
+    (if same_text (spelling k) (codes "$.") then Whole (record s { span = (s.span.0, t.at) }) else Faulty S4)
 unfolding step
-step_ends_proof s t e = rw e refl
+proof_keyword s t k e = let one = keyword_is_one k in simp (e, one)
 
-pub step_in_proof : (s : PlainStatement) (t : PlainToken) (k : Keyword) → t.text ≡ spelling k → k ≢ keyword.Stop → step (InProof s) t ≡ Faulty S4
-unfolding step
-step_in_proof s t keyword.Constants e other = rw e refl
-step_in_proof s t keyword.Variables e other = rw e refl
-step_in_proof s t keyword.Distinct e other = rw e refl
-step_in_proof s t keyword.Floating e other = rw e refl
-step_in_proof s t keyword.Essential e other = rw e refl
-step_in_proof s t keyword.Axiom e other = rw e refl
-step_in_proof s t keyword.Provable e other = rw e refl
-step_in_proof s t keyword.Stop e other = absurd (other refl)
-step_in_proof s t keyword.Equals e other = rw e refl
-step_in_proof s t keyword.Opening e other = rw e refl
-step_in_proof s t keyword.Closing e other = rw e refl
-step_in_proof s t keyword.Comment e other = rw e refl
-step_in_proof s t keyword.Inclusion e other = rw e refl
+pub step_ends_proof : (s : PlainStatement) (t : PlainToken) (k : Keyword) → t.text ≡ spelling k → same_text (spelling k) (codes "$.") ≡ true → step (InProof s) t ≡ Whole (record s { span = (s.span.0, t.at) })
+step_ends_proof s t k e stop = proof_keyword s t k e ∙ simp stop
+
+pub step_in_proof : (s : PlainStatement) (t : PlainToken) (k : Keyword) → t.text ≡ spelling k → same_text (spelling k) (codes "$.") ≡ false → step (InProof s) t ≡ Faulty S4
+step_in_proof s t k e stop = proof_keyword s t k e ∙ simp stop
 
 pub step_proof_token : (s : PlainStatement) (t : PlainToken) → HoldsNoDollar t.text → step (InProof s) t ≡ More (InProof (record s { proof = s.proof ++ t ∷ [] }))
 unfolding step
 step_proof_token s t word = let none = word_is_no_keyword t.text word in simp none
 
--- ---- what a part of the reader answers
-
--- a fault at the next token
-pub gives_fault : (reading : PlainReading) (fault : TextFault) (rule : TextRule) (file at : ℕ) (label : Option Token) (into : PlainStatement) (new : List Item) → fault ≡ Fault rule file at label → reading ≡ ended (Some (fault_of rule file at label)) → GivesPart reading (Err fault) into new
-gives_fault reading fault rule file at label into new e h = subst (λ f. GivesPart reading (Err f) into new) (sym e) h
-
--- the reading of the items is the same after a token
-pub gives_same : (reading other : PlainReading) (r : Result Unit TextFault) (into : PlainStatement) (new : List Item) → reading ≡ other → GivesPart other r into new → GivesPart reading r into new
-gives_same reading other r into new e h = subst (λ x. GivesPart x r into new) (sym e) h

@@ -5,3 +5,4 @@ pub mod Reader
 pub mod Remaining
 pub mod Class
 pub mod Steps
+pub mod Empty

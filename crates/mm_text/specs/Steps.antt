@@ -1,5 +1,5 @@
 -- What the parts of the reader's code answer, in the words of the plain reader. Private clauses speak of this.
-use Rattle.std.specs.Prelude.{◌≡◌, ℕ, ◌<◌, List, [], ◌∷◌, Bool, true, false, Option, Some, None, Result, Ok, Err, option_map}
+use Rattle.std.specs.Prelude.{◌≡◌, ℕ, ◌<◌, List, [], ◌∷◌, Bool, true, false, Option, Some, None, Result, Ok, Err, option_map, codes, if◌then◌else◌}
 use Rattle.mm_text.specs.declared.token.Token.{Token}
 use Rattle.mm_text.specs.declared.class.Keyword.{Keyword}
 use Rattle.mm_text.specs.declared.class.Keyword.TheVariants as keyword
@@ -14,7 +14,7 @@ use Rattle.mm_text.specs.Class.{spelling}
 use Rattle.mm_text.specs.Token.{PlainToken, plain_token, HoldsNoDollar}
 use Rattle.mm_text.specs.Statement.{PlainStatement}
 use Rattle.mm_text.specs.Reading.{Item, Plain, Wrong, End, PlainFault}
-use Rattle.mm_text.specs.Reader.{PlainReading, Part, Between, step, More, Faulty, step_fault, reading_of, ended, with_statement}
+use Rattle.mm_text.specs.Reader.{PlainReading, Part, Between, step, More, Faulty, step_fault, same_text, is_provable, reading_of, ended, with_statement}
 
 -- the items that begin with a token of a class
 abbrev pub items_with : PlainToken → Class → List Item → List Item
@@ -43,13 +43,17 @@ Takes old (Some found) new = TakesToken old (plain_token found.0) found.1 new
 abbrev pub fault_of : TextRule → ℕ → ℕ → Option Token → PlainFault
 fault_of rule file at label = record { rule = rule; file = file; at = at; label = option_map plain_token label }
 
+-- what a part of the reader answers of the reading that it is in, by its result
+abbrev pub AnswersPart : PlainReading → Result Unit TextFault → PlainStatement → List Item → Type 0
+AnswersPart reading (Ok unit) into new = reading ≡ with_statement into (reading_of Between new)
+AnswersPart reading (Err (Fault rule file at label)) into new = reading ≡ ended (Some (fault_of rule file at label))
+AnswersPart reading (Err Memory) into new = Unit {0}
+AnswersPart reading (Err (Load rule)) into new = ⊥
+
 -- a part of the reader read on in the items up to the end of a statement, and those are left; or it met the fault that
 -- ends the reading
-abbrev pub GivesPart : PlainReading → Result Unit TextFault → PlainStatement → List Item → Type 0
-GivesPart reading (Ok unit) into new = reading ≡ with_statement into (reading_of Between new)
-GivesPart reading (Err (Fault rule file at label)) into new = reading ≡ ended (Some (fault_of rule file at label))
-GivesPart reading (Err Memory) into new = Unit {0}
-GivesPart reading (Err (Load rule)) into new = ⊥
+pub record GivesPart (reading : PlainReading) (r : Result Unit TextFault) (into : PlainStatement) (new : List Item) : Type 0 where
+  pub answer : AnswersPart reading r into new
 
 -- the first token of a statement, and what follows it up to the statement's end; or that there is none
 abbrev pub GivesStatement : List Item → Result Bool TextFault → PlainStatement → List Item → Type 0
@@ -79,3 +83,7 @@ labelled_kind keyword.Floating = Some kind.Floating
 labelled_kind keyword.Axiom = Some kind.Axiom
 labelled_kind keyword.Provable = Some kind.Provable
 labelled_kind other = None
+
+-- whether a keyword ends the symbols of a kind of statement
+abbrev pub ends_symbols : Kind → Keyword → Bool
+ends_symbols kind keyword = same_text (spelling keyword) (if is_provable kind then codes "$=" else codes "$.")

@@ -5,6 +5,7 @@ mod class;
 mod cursor;
 mod fault;
 mod file;
+mod parts;
 mod scan;
 mod statement;
 mod token;
