@@ -2,3 +2,4 @@ pub mod TokenLaws
 pub mod ItemLaws
 pub mod StepLaws
 pub mod PartLaws
+pub mod HandedLaws

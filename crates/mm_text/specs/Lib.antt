@@ -6,3 +6,5 @@ pub mod Remaining
 pub mod Class
 pub mod Steps
 pub mod Empty
+pub mod Handed
+pub mod ReaderState

@@ -5,9 +5,11 @@ mod class;
 mod cursor;
 mod fault;
 mod file;
+mod handed;
 mod parts;
 mod scan;
 mod statement;
+mod statements;
 mod token;
 
 pub use fault::{LoadRule, TextFault, TextRule};
