@@ -1,14 +1,16 @@
 -- Two files with one name, found by the code and as they are defined.
-use Rattle.std.proofs.Common.{◌≡◌, ◌≢◌, ℕ, suc, zero, ◌+◌, ◌<◌, ◌≤◌, List, [], ◌∷◌, map, length, ◌==◌, ⊎_elim, Bool, true, false, ◌||◌, Option, Some, None, refl, sym, ap, ◌∙◌, subst, arith}
+use Rattle.std.proofs.Common.{◌≡◌, ◌≢◌, ℕ, suc, zero, ◌+◌, ◌<◌, ◌≤◌, List, [], ◌∷◌, map, length, get_or, ◌==◌, ⊎_elim, Bool, true, false, ◌||◌, Option, Some, None, refl, sym, ap, ◌∙◌, subst, arith}
 use Rattle.std.specs.Prelude.{nat_eq, slice_get}
 use Rattle.std.specs.List.{list_any}
 use Rattle.std.specs.Cmp.Lexicographic.{pointwise, bytes_decides}
 use Rattle.std.proofs.lemmas.Bool.{false≢true}
 use Rattle.std.proofs.str.Laws.{order}
+use Rattle.std.proofs.lemmas.List.Sums.{sum_by_from}
 use Rattle.mm_text.specs.declared.file.File.{File}
 use Rattle.mm_text.specs.declared.fault.LoadRule.{LoadRule}
 use Rattle.mm_text.specs.declared.fault.LoadRule.TheVariants.{F1, F2, F3}
-use Rattle.mm_text.specs.Reading.{PlainFile, plain_file, total_bytes, HasTwins, BreaksLoad}
+use Rattle.mm_text.specs.Reading.{PlainFile, plain_file, total_bytes, HasTwins, BreaksLoad, items, items_of}
+use Rattle.mm_text.specs.Token.{tokens_from}
 use Rattle.mm_text.specs.Handed.{has_twins}
 
 -- a file with a name, and its place
@@ -94,3 +96,27 @@ breaks_one files F2 F3 h g = absurd (g.1 h.1)
 breaks_one files F3 F1 h g = absurd (h.0 g)
 breaks_one files F3 F2 h g = absurd (h.1 g.1)
 breaks_one files F3 F3 h g = refl
+
+-- files that aren't none
+pub some_from_kept : (files : List File) → ¬ (BreaksLoad (map plain_file files) F1) → 0 < length files
+some_from_kept [] h = absurd (h refl)
+some_from_kept (f ∷ files) h = omega arith
+
+-- files that keep the limit
+pub within_from_kept : (files : List PlainFile) → ((rule : LoadRule) → ¬ (BreaksLoad files rule)) → total_bytes files ≤ 1073741824
+within_from_kept files kept =
+    ⊎_elim
+    (λ above. absurd (kept F3 (kept F1, (λ twins. kept F2 (kept F1, twins)), above)))
+    (λ within. within)
+    (order 1073741824 (total_bytes files))
+
+-- the top file holds no more than all
+pub top_within : (files : List File) (d : File) (limit : ℕ) → 0 < length files → total_bytes (map plain_file files) ≤ limit → length (get_or files 0 d).bytes.now ≤ limit
+top_within [] d limit some within = absurd (omega arith)
+top_within (f ∷ files) d limit some within =
+    omega (arith, sum_by_from (λ (g : PlainFile). length g.bytes) (0 + length f.bytes.now) (map plain_file files))
+
+-- the items of the files are those of the top file
+pub items-top : (files : List File) (d : File) → 0 < length files → items (map plain_file files) ≡ items_of 0 (tokens_from 0 0 (get_or files 0 d).bytes.now)
+items-top [] d some = absurd (omega arith)
+items-top (f ∷ files) d some = refl

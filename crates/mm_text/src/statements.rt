@@ -56,3 +56,50 @@ fn answer<'a>(state: State<'a>, cursor: &mut Cursor<'a>, into: &mut Statement<'a
         State::Failed(fault) => Err(fault),
     }
 }
+
+impl<'a> Statements<'a> {
+    /// A reader of the handed files, of which the first is the top file.
+    ///
+    /// The files are judged as a whole first, in this order: `Load(F1)` where there is none,
+    /// `Load(F2)` where two have one name, `Load(F3)` where they hold over 1,073,741,824 bytes in
+    /// all. There is no other error.
+    pub fn new(files: &'a [File<'a>]) -> Result<Statements<'a>, TextFault<'a>>
+        ensures breaks { (rule : LoadRule) → ((result ≡ Err (TextFault.Load rule)) ↔ BreaksLoad (map plain_file files.now) rule) }
+        ensures only_load { IfErr result (λ fault. (rule : LoadRule) × (fault ≡ TextFault.Load rule)) }
+        ensures unread { IfOk result (λ s. s ≡ unread (map plain_file files.now)) }
+    {
+        if let Some(rule) = broken_rule(files) {
+            return Err(TextFault::Load(rule));
+        }
+        let top = files[0];
+        Ok(Statements {
+            files,
+            cursor: Cursor::new(top.bytes, 0),
+            state: State::Reading,
+        })
+    }
+
+    /// Reads the next statement into `into`; `false` at the end. The lists of `into` keep their
+    /// room, and are empty after `false` and after a fault.
+    ///
+    /// The first fault of the text is answered once every statement before it was given: X1, X4,
+    /// X8, X9, S1, S2, S3, S4 or S5. `Memory` is answered where a list of `into` could not grow.
+    /// A fault, `Memory` included, is answered again by every later call, and so is the end.
+    pub fn read(&mut self, into: &mut Statement<'a>) -> Result<bool, TextFault<'a>>
+        ensures { Gives self.old result self.new (plain_statement into.new) }
+    {
+        let answer = answer(self.state, &mut self.cursor, into);
+        match answer {
+            Ok(true) => {}
+            Ok(false) => {
+                into.clear();
+                self.state = State::Ended;
+            }
+            Err(fault) => {
+                into.clear();
+                self.state = State::Failed(fault);
+            }
+        }
+        answer
+    }
+}
