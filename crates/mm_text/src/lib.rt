@@ -10,9 +10,13 @@ mod parts;
 mod scan;
 mod statement;
 mod statements;
+#[cfg(test)]
+mod tests;
 mod token;
 
 pub use fault::{LoadRule, TextFault, TextRule};
 pub use file::File;
+pub use handed::BYTE_LIMIT;
 pub use statement::{Kind, Statement};
+pub use statements::Statements;
 pub use token::Token;
