@@ -1,12 +1,12 @@
 -- The items of a file, one token at a time.
-use Rattle.std.proofs.Common.{◌≡◌, ℕ, ◌<◌, List, [], ◌∷◌, drop, Option, Some, None, refl, sym, ap, ◌∙◌, subst}
+use Rattle.std.proofs.Common.{◌≡◌, ℕ, List, [], ◌∷◌, Some, None, refl, ap, ◌∙◌}
 use Rattle.mm_text.specs.declared.fault.TextRule.{TextRule}
 use Rattle.mm_text.specs.declared.class.Keyword.{Keyword}
 use Rattle.mm_text.specs.declared.class.Keyword.TheVariants.{Constants, Variables, Distinct, Floating, Essential, Axiom, Provable, Stop, Equals, Opening, Closing, Comment, Inclusion}
 use Rattle.mm_text.specs.declared.class.Class.{Class}
 use Rattle.mm_text.specs.declared.class.Class.TheVariants as class
 use Rattle.mm_text.specs.Token.{PlainToken}
-use Rattle.mm_text.specs.Reading.{Item, Plain, Wrong, End, items_of, broken_by}
+use Rattle.mm_text.specs.Reading.{Plain, Wrong, End, items_of, broken_by}
 use Rattle.mm_text.specs.Class.{spelling, ClassIs}
 use Rattle.mm_text.specs.Steps.{items_with, IsOfClass}
 

@@ -1,5 +1,5 @@
 -- What a part of the reader answers at the next item.
-use Rattle.std.proofs.Common.{◌≡◌, ℕ, List, [], ◌∷◌, Option, Some, None, Result, Ok, Err, refl, sym, ap, ◌∙◌, subst}
+use Rattle.std.proofs.Common.{◌≡◌, ℕ, List, [], ◌∷◌, Option, Some, Result, Ok, Err, sym, ap, ◌∙◌, subst}
 use Rattle.std.specs.Prelude.{option_map}
 use Rattle.mm_text.specs.declared.token.Token.{Token}
 use Rattle.mm_text.specs.declared.fault.TextRule.{TextRule}
@@ -12,8 +12,8 @@ use Rattle.mm_text.specs.declared.class.Class.TheVariants as class
 use Rattle.mm_text.specs.Class.{spelling}
 use Rattle.mm_text.specs.Token.{PlainToken, plain_token, HoldsNoDollar}
 use Rattle.mm_text.specs.Statement.{PlainStatement}
-use Rattle.mm_text.specs.Reading.{Item, Plain, Wrong, End, PlainFault}
-use Rattle.mm_text.specs.Reader.{Part, Between, step, More, Whole, Faulty, step_fault, end_fault, part_label, part_first, PlainReading, ended, with_statement, reading_of}
+use Rattle.mm_text.specs.Reading.{Item, Plain, Wrong, End}
+use Rattle.mm_text.specs.Reader.{Part, step, More, Whole, Faulty, step_fault, end_fault, part_label, PlainReading, ended, reading_of}
 use Rattle.mm_text.specs.Steps.{fault_of, items_with, IsOfClass, TakesToken, AnswersPart, GivesPart, StepsTo}
 use Rattle.mm_text.proofs.StepLaws.{read_end, read_wrong, read_more, read_whole, read_faulty}
 

@@ -1,20 +1,18 @@
 -- The plain reader, one token at a time.
-use Rattle.std.proofs.Common.{◌≡◌, ◌≢◌, ℕ, ◌+◌, ◌<◌, ◌==◌, List, [], ◌∷◌, ◌++◌, length, Bool, true, false, cond, if◌then◌else◌, Option, Some, None, Result, Ok, Err, refl, sym, ap, ◌∙◌, subst, codes}
-use Rattle.std.specs.Prelude.{nat_eq, option_map}
+use Rattle.std.proofs.Common.{◌≡◌, ℕ, ◌+◌, ◌==◌, List, [], ◌∷◌, ◌++◌, length, true, false, cond, if◌then◌else◌, Option, Some, None, refl, sym, ap, ◌∙◌, codes}
 use Rattle.std.specs.List.{list_any, list_all}
-use Rattle.std.specs.Cmp.Lexicographic.{pointwise, bytes_decides}
+use Rattle.std.specs.Cmp.Lexicographic.{bytes_decides}
 use Rattle.std.proofs.lemmas.Bool.{false≢true}
 use Rattle.mm_text.specs.declared.fault.TextRule.{TextRule}
-use Rattle.mm_text.specs.declared.fault.TextRule.TheVariants.{S1, S2, S3, S4, S5, X8}
+use Rattle.mm_text.specs.declared.fault.TextRule.TheVariants.{S1, S2, S3, S4, S5}
 use Rattle.mm_text.specs.declared.statement.Kind.{Kind}
-use Rattle.mm_text.specs.declared.statement.Kind.TheVariants as kind
 use Rattle.mm_text.specs.declared.class.Keyword.{Keyword}
 use Rattle.mm_text.specs.declared.class.Keyword.TheVariants as keyword
-use Rattle.mm_text.specs.Token.{PlainToken, plain_token, HoldsNoDollar, is_label_byte}
-use Rattle.mm_text.specs.Statement.{PlainStatement, keywords}
-use Rattle.mm_text.specs.Reading.{Item, Plain, Wrong, End, PlainFault}
+use Rattle.mm_text.specs.Token.{PlainToken, HoldsNoDollar, is_label_byte}
+use Rattle.mm_text.specs.Statement.{PlainStatement}
+use Rattle.mm_text.specs.Reading.{Item, Plain, Wrong, End}
 use Rattle.mm_text.specs.Class.{spelling}
-use Rattle.mm_text.specs.Reader.{same_text, is_keyword, begun, Part, Between, Labelled, InBody, InProof, Step, More, Whole, Faulty, at_start, after_label, has_count, is_full, is_provable, in_body, in_proof, step, step_fault, end_fault, part_label, part_first, PlainReading, ended, with_statement, reading_of}
+use Rattle.mm_text.specs.Reader.{same_text, is_keyword, begun, Part, Between, Labelled, InBody, InProof, Step, More, Whole, Faulty, has_count, is_full, is_provable, step, step_fault, end_fault, PlainReading, ended, with_statement, reading_of}
 use Rattle.mm_text.specs.Steps.{bare_kind, labelled_kind, ends_symbols}
 
 -- ---- the reading of items, by the first
@@ -224,4 +222,3 @@ step_in_proof s t k e stop = proof_keyword s t k e ∙ simp stop
 pub step_proof_token : (s : PlainStatement) (t : PlainToken) → HoldsNoDollar t.text → step (InProof s) t ≡ More (InProof (record s { proof = s.proof ++ t ∷ [] }))
 unfolding step
 step_proof_token s t word = let none = word_is_no_keyword t.text word in simp none
-

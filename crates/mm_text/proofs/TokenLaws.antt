@@ -1,5 +1,5 @@
 -- How the tokens of a file come from its bytes: white space is skipped, and a run of other bytes is one token.
-use Rattle.std.proofs.Common.{◌≡◌, ℕ, ◌+◌, ◌-◌, ◌<◌, ◌≤◌, ◌==◌, List, [], ◌∷◌, ◌++◌, length, get_or, take, drop, cond, Bool, true, false, refl, sym, ap, ◌∙◌, subst, suc, arith, eq-eqb, add-zero}
+use Rattle.std.proofs.Common.{◌≡◌, ℕ, ◌+◌, ◌-◌, ◌<◌, ◌≤◌, ◌==◌, List, [], ◌∷◌, ◌++◌, length, get_or, drop, cond, true, false, refl, sym, ap, ◌∙◌, subst, suc, arith, eq-eqb, add-zero}
 use Rattle.std.specs.Prelude.{slice_range}
 use Rattle.std.proofs.lemmas.List.{drop_more, drop_all, drop-drop, take-append-drop, get_or-drop, get_or-take, length-drop, length-take-le}
 use Rattle.std.proofs.lemmas.Bool.{ne_eqb}
@@ -115,11 +115,11 @@ tokens_from-token bytes file start stop some within run after =
     let text = slice_range bytes start stop in
     let long : length text ≡ stop - start = length-take-le (stop - start) (drop start bytes) (omega (arith, length-drop start bytes)) in
     let split : text ++ drop stop bytes ≡ drop start bytes =
-        ap (λ n. text ++ drop n bytes) (omega arith) ∙ ap (λ l. text ++ l) (sym (drop-drop (stop - start) start bytes)) ∙ take-append-drop (stop - start) (drop start bytes) in
+    ap (λ n. text ++ drop n bytes) (omega arith) ∙ ap (λ l. text ++ l) (sym (drop-drop (stop - start) start bytes)) ∙ take-append-drop (stop - start) (drop start bytes) in
     let place : (k : ℕ) → k < length text → is_space (get_or text k 0) ≡ false = λ k lt.
-        ap is_space (get_or-take (stop - start) (drop start bytes) k 0 (omega arith) ∙ get_or-drop start bytes k 0) ∙ run (start + k) (omega arith) (omega arith) in
+    ap is_space (get_or-take (stop - start) (drop start bytes) k 0 (omega arith) ∙ get_or-drop start bytes k 0) ∙ run (start + k) (omega arith) (omega arith) in
     let space : BeginsWithSpace (drop stop bytes) = space_from_place (drop stop bytes) (λ lt.
-        ap is_space (get_or-drop stop bytes 0 0 ∙ ap (λ n. get_or bytes n 0) (add-zero stop)) ∙ after (omega (arith, length-drop stop bytes))) in
+    ap is_space (get_or-drop stop bytes 0 0 ∙ ap (λ n. get_or bytes n 0) (add-zero stop)) ∙ after (omega (arith, length-drop stop bytes))) in
     let ends : start + length text ≡ stop = omega arith in
     ap (tokens_from file start) (sym split)
     ∙ run_of file start text (drop stop bytes) (omega arith) (ink_from_places text place) space

@@ -1,5 +1,5 @@
 -- What the reader's code tells of a token by its bytes alone. Private clauses speak of this; public ones of `broken_by`.
-use Rattle.std.specs.Prelude.{◌≡◌, ℕ, List, codes, Option, Some, None}
+use Rattle.std.specs.Prelude.{◌≡◌, ℕ, List, codes, Some, None}
 use Rattle.mm_text.specs.declared.class.Keyword.{Keyword}
 use Rattle.mm_text.specs.declared.class.Keyword.TheVariants.{Constants, Variables, Distinct, Floating, Essential, Axiom, Provable, Stop, Equals, Opening, Closing, Comment, Inclusion}
 use Rattle.mm_text.specs.declared.class.Class.{Class}

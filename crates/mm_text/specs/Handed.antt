@@ -1,5 +1,5 @@
 -- How the code looks for two files with one name. Private clauses speak of this; public ones of `HasTwins`.
-use Rattle.std.specs.Prelude.{List, [], ◌∷◌, Bool, true, false, ◌||◌, nat_eq}
+use Rattle.std.specs.Prelude.{List, [], ◌∷◌, Bool, false, ◌||◌, nat_eq}
 use Rattle.std.specs.Cmp.Lexicographic.{pointwise}
 use Rattle.std.specs.List.{list_any}
 use Rattle.mm_text.specs.declared.file.File.{File}

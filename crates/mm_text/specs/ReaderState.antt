@@ -1,5 +1,5 @@
 -- What the fields of a reader say of what it has still to give.
-use Rattle.std.specs.Prelude.{◌≡◌, List, [], Bool, true, false, Option, Some, None, Result, Ok, Err, map}
+use Rattle.std.specs.Prelude.{◌≡◌, List, [], Bool, true, false, Some, None, Result, Ok, Err, map}
 use Rattle.mm_text.specs.declared.fault.TextFault.{TextFault}
 use Rattle.mm_text.specs.declared.fault.TextFault.TheVariants.{Load, Fault, Memory}
 use Rattle.mm_text.specs.declared.statements.State.{State}

@@ -60,7 +60,9 @@ fn is_printable(text: &[u8]) -> bool
 pub fn is_label(text: &[u8]) -> bool
     ensures { result ≡ list_all is_label_byte text.now }
 {
-    text.iter().all(|byte| matches!(*byte, b'A'..=b'Z' | b'a'..=b'z' | b'0'..=b'9' | b'-' | b'_' | b'.'))
+    text.iter().all(
+        |byte| matches!(*byte, b'A'..=b'Z' | b'a'..=b'z' | b'0'..=b'9' | b'-' | b'_' | b'.'),
+    )
 }
 
 /// The class of a token that holds a `$`.

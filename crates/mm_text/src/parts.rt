@@ -135,7 +135,12 @@ fn proof<'a>(cursor: &mut Cursor<'a>, into: &mut Statement<'a>) -> Result<(), Te
 }
 
 /// Reads on from a keyword after symbols.
-fn after_symbols<'a>(cursor: &mut Cursor<'a>, into: &mut Statement<'a>, token: Token<'a>, keyword: Keyword) -> Result<(), TextFault<'a>>
+fn after_symbols<'a>(
+    cursor: &mut Cursor<'a>,
+    into: &mut Statement<'a>,
+    token: Token<'a>,
+    keyword: Keyword,
+) -> Result<(), TextFault<'a>>
     requires sign { token.text.now ≡ spelling keyword }
     requires at { token.at < 1073741824 }
     ensures { GivesPart (reading_of (InBody (plain_statement into.old)) (Plain (plain_token token.entry) ∷ cursor.old)) result (plain_statement into.new) cursor.new }
@@ -169,7 +174,11 @@ fn body<'a>(cursor: &mut Cursor<'a>, into: &mut Statement<'a>) -> Result<(), Tex
 }
 
 /// Reads what follows a label.
-fn after_label<'a>(cursor: &mut Cursor<'a>, into: &mut Statement<'a>, label: Token<'a>) -> Result<(), TextFault<'a>>
+fn after_label<'a>(
+    cursor: &mut Cursor<'a>,
+    into: &mut Statement<'a>,
+    label: Token<'a>,
+) -> Result<(), TextFault<'a>>
     ensures { GivesPart (reading_of (Labelled (plain_token label.entry)) cursor.old) result (plain_statement into.new) cursor.new }
 {
     let Some((token, class)) = cursor.next() else {
@@ -189,7 +198,12 @@ fn after_label<'a>(cursor: &mut Cursor<'a>, into: &mut Statement<'a>, label: Tok
 }
 
 /// Reads a statement from its first token on.
-fn from_first<'a>(cursor: &mut Cursor<'a>, into: &mut Statement<'a>, first: Token<'a>, class: Class) -> Result<(), TextFault<'a>>
+fn from_first<'a>(
+    cursor: &mut Cursor<'a>,
+    into: &mut Statement<'a>,
+    first: Token<'a>,
+    class: Class,
+) -> Result<(), TextFault<'a>>
     requires { IsOfClass (plain_token first) class }
     ensures { GivesPart (reading_of Between (items_with (plain_token first.entry) class cursor.old)) result (plain_statement into.new) cursor.new }
 {
@@ -208,7 +222,10 @@ fn from_first<'a>(cursor: &mut Cursor<'a>, into: &mut Statement<'a>, first: Toke
 }
 
 /// Reads the next statement; `false` at the end.
-pub fn statement<'a>(cursor: &mut Cursor<'a>, into: &mut Statement<'a>) -> Result<bool, TextFault<'a>>
+pub fn statement<'a>(
+    cursor: &mut Cursor<'a>,
+    into: &mut Statement<'a>,
+) -> Result<bool, TextFault<'a>>
     ensures { GivesStatement cursor.old result (plain_statement into.new) cursor.new }
 {
     let Some((first, class)) = cursor.next() else {

@@ -47,7 +47,11 @@ impl<'a> Model for Statements<'a> {
 }
 
 /// What a call answers in a state.
-fn answer<'a>(state: State<'a>, cursor: &mut Cursor<'a>, into: &mut Statement<'a>) -> Result<bool, TextFault<'a>>
+fn answer<'a>(
+    state: State<'a>,
+    cursor: &mut Cursor<'a>,
+    into: &mut Statement<'a>,
+) -> Result<bool, TextFault<'a>>
     ensures { AnswersIn state.entry cursor.old result (plain_statement into.new) cursor.new }
 {
     match state {

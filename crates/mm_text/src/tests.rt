@@ -36,7 +36,10 @@ fn reads_a_database(rt: HostRuntime) -> Result<(), Fail> {
         (Kind::Provable, 103, 6, (126, 139)),
     ];
     for (kind, at, symbols, span) in wanted {
-        assert!(rt; matches!(statements.read(&mut statement), Ok(true)), "at {at}");
+        assert!(rt;
+            matches!(statements.read(&mut statement), Ok(true)),
+            "at {at}"
+        );
         assert_eq!(rt; statement.kind, kind, "at {at}");
         assert_eq!(rt; statement.first.at, at);
         assert_eq!(rt; statement.symbols.len(), symbols, "at {at}");
@@ -74,18 +77,25 @@ fn answers_the_first_fault_for_good(rt: HostRuntime) -> Result<(), Fail> {
         };
         let mut statement = Statement::empty(rt.alloc());
         for _ in 0..6 {
-            let Err(TextFault::Fault {
-                rule: found,
-                file,
-                at: place,
-                label,
-            }) = statements.read(&mut statement) else {
+            let Err(
+                TextFault::Fault {
+                    rule: found,
+                    file,
+                    at: place,
+                    label,
+                },
+            ) = statements.read(&mut statement)
+            else {
                 return Err(Fail::from("no fault"));
             };
             assert_eq!(rt; found, rule);
             assert_eq!(rt; file, 0);
             assert_eq!(rt; place, at, "{rule:?}");
-            assert_eq!(rt; label.map_or(0, |token| token.text.len()), length, "{rule:?}");
+            assert_eq!(rt;
+                label.map_or(0, |token| token.text.len()),
+                length,
+                "{rule:?}"
+            );
             assert!(rt; is_empty(&statement));
         }
     }
@@ -99,5 +109,10 @@ fn judges_the_files_first(rt: HostRuntime) {
         bytes: b"$c a",
     };
     assert!(rt; matches!(Statements::new(&[]), Err(TextFault::Load(LoadRule::F1))));
-    assert!(rt; matches!(Statements::new(&[file, file]), Err(TextFault::Load(LoadRule::F2))));
+    assert!(rt;
+        matches!(
+            Statements::new(&[file, file]),
+            Err(TextFault::Load(LoadRule::F2))
+        )
+    );
 }

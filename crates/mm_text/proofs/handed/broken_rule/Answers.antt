@@ -20,5 +20,5 @@ returns-then-not-is_within_limit c = (
 pub returns-else-not-is_within_limit : goal.returns-else-not-is_within_limit
 returns-else-not-is_within_limit c =
     let apart : ¬ (HasTwins (map plain_file c.args.files.now)) =
-        λ twins. false≢true (sym (sym c.has_twins.ensures ∙ c.if-has_twins.false) ∙ found_from_twins c.args.files.now twins) in
+    λ twins. false≢true (sym (sym c.has_twins.ensures ∙ c.if-has_twins.false) ∙ found_from_twins c.args.files.now twins) in
     none_broken _ (some_handed c.args.files.now (sym c.is_empty.ensures ∙ c.if-is_empty.false)) apart (c.if-not-is_within_limit.ensures.0 refl)

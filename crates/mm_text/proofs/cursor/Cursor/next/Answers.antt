@@ -9,12 +9,11 @@ use Rattle.mm_text.proofs.cursor.Cursor.next.Goals as goal
 -- nothing but white space is left
 pub returns-then-start-self : goal.returns-then-start-self
 returns-then-start-self c =
-    let at_end = tokens_from-end c.self.inside.bytes.now c.self.inside.file c.skip_space-start.result (omega arith) in
-    (
+    let at_end = tokens_from-end c.self.inside.bytes.now c.self.inside.file c.skip_space-start.result (omega arith) in (
       c.self.inside.file,
       sym c.self.view_is
-      ∙ ap (items_of c.self.inside.file) (c.skip_space-start.ensures.same_tokens c.self.inside.file ∙ at_end)
-      ∙ items_of-nil c.self.inside.file,
+          ∙ ap (items_of c.self.inside.file) (c.skip_space-start.ensures.same_tokens c.self.inside.file ∙ at_end)
+          ∙ items_of-nil c.self.inside.file,
     )
 
 -- the run of bytes up to white space is the first token that is left
@@ -27,7 +26,7 @@ returns c =
     let t : PlainToken = record { text = slice_range bytes start stop; file = file; at = start } in
     let rest = tokens_from file stop (drop stop bytes) in
     let first_is : items_of file (t ∷ rest) ≡ c.args.self.now =
-        sym (sym c.self.view_is ∙ ap (items_of file) (c.skip_space-start.ensures.same_tokens file ∙ c.token_end-end.ensures.token file)) in
+    sym (sym c.self.view_is ∙ ap (items_of file) (c.skip_space-start.ensures.same_tokens file ∙ c.token_end-end.ensures.token file)) in
     record {
       first = sym first_is ∙ items_of-class file t rest c.class_of.result c.class_of.ensures;
       text = class_tells t c.class_of.result c.class_of.ensures;

@@ -20,5 +20,5 @@ new-requires c =
 pub returns-clause-unread : goal.returns-clause-unread
 returns-clause-unread c =
     let remaining = λ (left : List Item). let reading = reading_of Between left in
-        let r : Remaining = record { files = map plain_file c.args.files.now; statements = reading.statements; ending = reading.ending; refused = false; told = false } in r in
+    let r : Remaining = record { files = map plain_file c.args.files.now; statements = reading.statements; ending = reading.ending; refused = false; told = false } in r in
     ap remaining (c.new.ensures ∙ sym (items-top c.args.files.now _ (some_from_kept c.args.files.now (c.in_default.ensures F1))))
