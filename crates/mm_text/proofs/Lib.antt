@@ -1,3 +1,4 @@
 pub mod Texts
 pub mod Items
 pub mod Parts
+pub mod Steps
