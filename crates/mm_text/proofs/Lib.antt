@@ -2,3 +2,4 @@ pub mod Texts
 pub mod Items
 pub mod Parts
 pub mod Steps
+pub mod ReadingLaws

@@ -65,18 +65,11 @@ Describes-label (InBody s) tokens d = ap label_in d.whole ∙ label_in-front d.h
 Describes-label (InProof s) tokens d =
     ap label_in (d.whole ∙ append_assoc d.head s.symbols (d.equals ∷ s.proof)) ∙ label_in-front d.head s.first d.others (s.symbols ++ d.equals ∷ s.proof) d.first ∙ sym d.label
 
--- the first token of what the reader has
-pub record HasFirst (part : Part) (tokens : List PlainToken) : Type 0 where
-  pub first : PlainToken
-  pub others : List PlainToken
-  pub whole : tokens ≡ first ∷ others
-  pub is : part_first part ≡ Some first
+pub body-first : (s : PlainStatement) (tokens : List PlainToken) (d : IsPartBody s tokens) → tokens ≡ s.first ∷ d.others ++ s.symbols
+body-first s tokens d = d.whole ∙ ap (λ (h : List PlainToken). h ++ s.symbols) d.first
 
-pub Describes-first : (part : Part) (tokens : List PlainToken) → Describes part tokens → (part ≢ Between) → HasFirst part tokens
-Describes-first Between tokens d ne = absurd (ne refl)
-Describes-first (Labelled label) tokens d ne = record { first = label; others = []; whole = d.0; is = refl }
-Describes-first (InBody s) tokens d ne = record { first = s.first; others = d.others ++ s.symbols; whole = d.whole ∙ ap (λ (h : List PlainToken). h ++ s.symbols) d.first; is = refl }
-Describes-first (InProof s) tokens d ne = record { first = s.first; others = (d.others ++ s.symbols) ++ d.equals ∷ s.proof; whole = d.whole ∙ ap (λ (h : List PlainToken). (h ++ s.symbols) ++ d.equals ∷ s.proof) d.first; is = refl }
+pub proof-first : (s : PlainStatement) (tokens : List PlainToken) (d : IsPartProof s tokens) → tokens ≡ s.first ∷ (d.others ++ s.symbols) ++ d.equals ∷ s.proof
+proof-first s tokens d = d.whole ∙ ap (λ (h : List PlainToken). (h ++ s.symbols) ++ d.equals ∷ s.proof) d.first
 
 -- ---- a head by itself
 
