@@ -3,3 +3,4 @@ pub mod Items
 pub mod Parts
 pub mod Steps
 pub mod ReadingLaws
+pub mod Runs
