@@ -43,7 +43,7 @@ items_of-end file = refl
 
 -- ---- a front of them
 
-nil-append : (front : List Item) (item : Item) (rest : List Item) → [] ≡ front ++ item ∷ rest → ⊥
+pub nil-append : (front : List Item) (item : Item) (rest : List Item) → [] ≡ front ++ item ∷ rest → ⊥
 nil-append [] item rest e = absurd cc
 nil-append (x ∷ front) item rest e = absurd cc
 

@@ -4,3 +4,4 @@ pub mod Parts
 pub mod Steps
 pub mod ReadingLaws
 pub mod Runs
+pub mod OneReading
