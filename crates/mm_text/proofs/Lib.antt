@@ -5,3 +5,5 @@ pub mod Steps
 pub mod ReadingLaws
 pub mod Runs
 pub mod OneReading
+pub mod Formed
+pub mod InPlace
