@@ -7,3 +7,4 @@ pub mod Runs
 pub mod OneReading
 pub mod Formed
 pub mod InPlace
+pub mod TokenLaws

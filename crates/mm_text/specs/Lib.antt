@@ -3,3 +3,4 @@ pub mod Statement
 pub mod Reading
 pub mod Reader
 pub mod Remaining
+pub mod Laws
