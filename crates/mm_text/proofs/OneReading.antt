@@ -1,5 +1,5 @@
 -- A reading of the files is what the reader computes, so there is one reading.
-use Rattle.std.proofs.Common.{◌≡◌, ◌≢◌, ℕ, length, List, [], ◌∷◌, ◌++◌, Bool, true, false, cond, refl, sym, ap, subst, ◌∙◌, codes, Option, Some, None, append_assoc, ◌⊎◌, inl, inr, lit<}
+use Rattle.std.proofs.Common.{◌≡◌, ◌≢◌, ℕ, length, List, [], ◌∷◌, ◌++◌, false, cond, refl, sym, ap, subst, ◌∙◌, codes, Option, Some, None, ◌⊎◌, inl, inr, lit<}
 use Rattle.std.specs.List.{list_all}
 use Rattle.std.proofs.lemmas.List.{append-nil}
 use Rattle.std.proofs.lemmas.Bool.{cond-true, cond-false, false_from_ne_true, eq-eqb}
@@ -9,14 +9,15 @@ use Rattle.mm_text.specs.declared.statement.Kind.{Kind}
 use Rattle.mm_text.specs.declared.statement.Kind.TheVariants.{Floating}
 use Rattle.mm_text.specs.Token.{PlainToken, tokens_from, is_label_byte, HoldsNoDollar}
 use Rattle.mm_text.specs.Statement.{PlainStatement, label_in, SpellsAll, IsKeyword, FitsCount}
-use Rattle.mm_text.specs.Reading.{PlainFile, PlainFault, Item, Plain, Wrong, End, items_of, items, plain_tokens, closes_symbols, IsBody, IsInProof, IsBeginning, Viable, Meets, MeetsS1, MeetsS2, MeetsS3, MeetsS4, MeetsS5, fault_at, EndsAt, Reads}
-use Rattle.mm_text.specs.Reader.{Part, Between, Labelled, InBody, InProof, Step, More, Whole, Faulty, step, same_text, is_keyword, is_full, is_provable, part_label, PlainReading, ended, with_statement, end_fault, step_fault, reading_of}
-use Rattle.mm_text.proofs.Texts.{same_text-ne, is_keyword-ne, is_keyword_from, symbol-is_keyword}
-use Rattle.mm_text.proofs.Items.{plains, append-plains, clean_items, front_of_items, cons_parts, nil-append, plains-append, plain_tokens-plains}
-use Rattle.mm_text.proofs.Parts.{Describes, Describes-label, IsPartBody, IsPartProof, body-first, proof-first, part_of_body, part_of_proof, part_of_beginning}
-use Rattle.mm_text.proofs.Steps.{closing_sign}
-use Rattle.mm_text.proofs.ReadingLaws.{reading-end, reading-wrong, reading-faulty}
-use Rattle.mm_text.proofs.Runs.{closing_short, part_run, with_statements, statements_run}
+use Rattle.mm_text.specs.Reading.{PlainFile, PlainFault, Item, Plain, Wrong, End, items_of, items, plain_tokens, closes_symbols, IsBody, IsInProof, IsBeginning, Viable, Meets, MeetsS1, MeetsS2, MeetsS3, fault_at, EndsAt, Reads}
+use Rattle.mm_text.specs.Reader.{PlainReading, Part, Between, Labelled, InBody, InProof, Faulty, step, same_text, is_keyword, is_full, is_provable, ended, with_statement, end_fault, reading_of}
+use Rattle.mm_text.specs.Laws.{EachHasOneReading}
+use Rattle.mm_text.proofs.TextFacts.{same_text-ne, is_keyword-ne, is_keyword_from, symbol-is_keyword}
+use Rattle.mm_text.proofs.ItemFacts.{plains, append-plains, clean_items, front_of_items, cons_parts, nil-append, plains-append, plain_tokens-plains}
+use Rattle.mm_text.proofs.PartFacts.{Describes, Describes-label, body-first, proof-first, part_of_body, part_of_proof, part_of_beginning}
+use Rattle.mm_text.proofs.StepFacts.{closing_sign}
+use Rattle.mm_text.proofs.ReadingLaws.{reading_reads, reading-end, reading-wrong, reading-faulty}
+use Rattle.mm_text.proofs.StatementRuns.{closing_short, part_run, with_statements, statements_run}
 
 -- ---- faulty tokens
 
@@ -179,3 +180,12 @@ reads_reading (top ∷ others) statements None v =
     let whole = clean_items 0 tokens v.clean in
     reads_whole (items_of 0 tokens) tokens (End 0 ∷ []) statements v whole (ap plain_tokens whole ∙ plain_tokens-plains tokens (End 0 ∷ []) ∙ append-nil tokens) (reading-end Between 0 [])
 reads_reading (top ∷ others) statements (Some fault) r = reads_faulty 0 (tokens_from 0 0 top.bytes) r.0 r.1 r.2 r.3 statements fault r.4 r.5 r.6
+
+-- each list of files has one reading
+pub each_has_one_reading : EachHasOneReading
+each_has_one_reading files = record {
+  statements = (reading_of Between (items files)).statements;
+  ending = (reading_of Between (items files)).ending;
+  reads = reading_reads files;
+  only = λ others end r. let e = sym (reads_reading files others end r) in (ap (λ (x : PlainReading). x.statements) e, ap (λ (x : PlainReading). x.ending) e);
+}

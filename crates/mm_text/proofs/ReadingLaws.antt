@@ -1,15 +1,15 @@
 -- What the reader computes is a reading of the files.
-use Rattle.std.proofs.Common.{◌≡◌, ◌≢◌, ℕ, length, List, [], ◌∷◌, ◌++◌, Bool, true, false, refl, sym, ap, subst, ◌∙◌, Option, Some, None, append_assoc, inl, inr}
+use Rattle.std.proofs.Common.{◌≡◌, ℕ, List, [], ◌∷◌, ◌++◌, refl, sym, ap, subst, ◌∙◌, Option, Some, None, append_assoc, inl}
 use Rattle.std.proofs.lemmas.List.{append-nil}
 use Rattle.mm_text.specs.declared.fault.TextRule.{TextRule}
 use Rattle.mm_text.specs.declared.fault.TextRule.TheVariants.{X8}
 use Rattle.mm_text.specs.Token.{PlainToken, tokens_from}
-use Rattle.mm_text.specs.Statement.{PlainStatement, label_in, Spells, SpellsAll}
-use Rattle.mm_text.specs.Reading.{PlainFile, PlainFault, Item, Plain, Wrong, End, broken_by, items_of, items, plain_tokens, HoldNoFault, IsBeginning, Viable, Meets, fault_at, EndsAt, Reads}
-use Rattle.mm_text.specs.Reader.{Part, Between, Labelled, InBody, InProof, Step, More, Whole, Faulty, step, part_label, part_first, PlainReading, ended, with_statement, end_fault, step_fault, reading_of}
-use Rattle.mm_text.proofs.Items.{plains, append-plains, plain_tokens-plains, clean_plains, items_of-plain, items_of-wrong, items_of-end, no_end, before_end}
-use Rattle.mm_text.proofs.Parts.{Describes, Describes-label, body-first, proof-first, beginning_of_part}
-use Rattle.mm_text.proofs.Steps.{StepsTo, step_right}
+use Rattle.mm_text.specs.Statement.{PlainStatement, Spells, SpellsAll}
+use Rattle.mm_text.specs.Reading.{PlainFile, PlainFault, Item, Plain, Wrong, End, broken_by, items_of, items, plain_tokens, HoldNoFault, IsBeginning, Viable, fault_at, EndsAt, Reads}
+use Rattle.mm_text.specs.Reader.{Part, Between, Labelled, InBody, InProof, Step, More, Whole, Faulty, step, part_label, PlainReading, ended, with_statement, end_fault, step_fault, reading_of}
+use Rattle.mm_text.proofs.ItemFacts.{plains, append-plains, plain_tokens-plains, clean_plains, items_of-plain, items_of-wrong, items_of-end, no_end, before_end}
+use Rattle.mm_text.proofs.PartFacts.{Describes, Describes-label, body-first, proof-first, beginning_of_part}
+use Rattle.mm_text.proofs.StepFacts.{StepsTo, step_right}
 
 -- ---- what the reader computes, by the first item
 
@@ -156,14 +156,14 @@ reads_on file (t ∷ tokens) part unfinished d =
     stepped inner ok (Faulty rule) e so =
         let its = items_of file tokens in
         subst (ReadsAs unfinished (Plain t ∷ its)) (sym (reading-faulty part rule t its e))
-          (stops_here unfinished (Plain t) its (record { rule = rule; file = t.file; at = t.at; label = part_label part }) (beginning_of_part part unfinished d) (rule, so, fault_label rule t part unfinished d))
+        (stops_here unfinished (Plain t) its (record { rule = rule; file = t.file; at = t.at; label = part_label part }) (beginning_of_part part unfinished d) (rule, so, fault_label rule t part unfinished d))
 
     go : ((next : Part) (more : List PlainToken) → Describes next more → ReadsAs more (items_of file tokens) (reading_of next (items_of file tokens)))
         → (o : Option TextRule) → broken_by t.text ≡ o → ReadsAs unfinished (items_of file (t ∷ tokens)) (reading_of part (items_of file (t ∷ tokens)))
     go inner (Some rule) b =
         subst (λ (x : List Item). ReadsAs unfinished x (reading_of part x)) (sym (items_of-wrong file t tokens rule b))
-          (subst (ReadsAs unfinished (Wrong rule t ∷ [])) (sym (reading-wrong part rule t []))
-            (stops_here unfinished (Wrong rule t) [] (record { rule = rule; file = t.file; at = t.at; label = part_label part }) (beginning_of_part part unfinished d) (fault_label rule t part unfinished d)))
+        (subst (ReadsAs unfinished (Wrong rule t ∷ [])) (sym (reading-wrong part rule t []))
+        (stops_here unfinished (Wrong rule t) [] (record { rule = rule; file = t.file; at = t.at; label = part_label part }) (beginning_of_part part unfinished d) (fault_label rule t part unfinished d)))
     go inner None b =
         subst (λ (x : List Item). ReadsAs unfinished x (reading_of part x)) (sym (items_of-plain file t tokens b)) (stepped inner b (step part t) refl (step_right part unfinished t b d))
 

@@ -3,10 +3,12 @@
 
 mod fault;
 mod file;
+mod laws;
 mod statement;
 mod token;
 
 pub use fault::{LoadRule, TextFault, TextRule};
 pub use file::File;
+pub use laws::{one_reading, statements_are_formed_in_place, tokens_are_longest_runs};
 pub use statement::{Kind, Statement};
 pub use token::Token;

@@ -1,18 +1,16 @@
 -- What a token makes of an unfinished statement is what the grammar says.
-use Rattle.std.proofs.Common.{◌≡◌, ◌≢◌, ℕ, ◌+◌, ◌<◌, ◌≤◌, ◌==◌, length, List, [], ◌∷◌, ◌++◌, Bool, true, false, not, cond, refl, sym, ap, subst, ◌∙◌, codes, Option, Some, None, arith, append_assoc, inl, inr, if◌then◌else◌}
+use Rattle.std.proofs.Common.{◌≡◌, ◌≢◌, ℕ, ◌+◌, length, List, [], ◌∷◌, ◌++◌, Bool, true, false, cond, refl, sym, ap, subst, ◌∙◌, codes, Some, None, arith, append_assoc, inl, inr}
 use Rattle.std.specs.List.{list_all}
-use Rattle.std.proofs.lemmas.List.{append-nil, length-append}
-use Rattle.std.proofs.lemmas.Bool.{false≢true, both_ways, cond_both, eqb-true, eqb-false, leb-true, leb-false, le-leb, eq-eqb}
-use Rattle.mm_text.specs.declared.fault.TextRule.{TextRule}
-use Rattle.mm_text.specs.declared.fault.TextRule.TheVariants.{S1, S2, S3, S4, S5}
+use Rattle.std.proofs.lemmas.List.{length-append}
+use Rattle.std.proofs.lemmas.Bool.{both_ways, cond_both, eqb-true, eqb-false, leb-true, le-leb, eq-eqb}
 use Rattle.mm_text.specs.declared.statement.Kind.{Kind}
 use Rattle.mm_text.specs.declared.statement.Kind.TheVariants.{Constants, Variables, Distinct, Floating, Essential, Axiom, Provable, Opening, Closing}
 use Rattle.mm_text.specs.Token.{PlainToken, IsLabel, is_label_byte, HoldsNoDollar}
-use Rattle.mm_text.specs.Statement.{PlainStatement, IsHead, AreSymbols, FitsCount, label_in, keyword_of, Spells, IsTail, EndsAtOnce, EndsInProof}
-use Rattle.mm_text.specs.Reading.{Item, Plain, broken_by, closes_symbols, Meets}
+use Rattle.mm_text.specs.Statement.{PlainStatement, IsHead, AreSymbols, FitsCount, Spells, IsTail, EndsAtOnce}
+use Rattle.mm_text.specs.Reading.{broken_by, closes_symbols, Meets}
 use Rattle.mm_text.specs.Reader.{Part, Between, Labelled, InBody, InProof, Step, More, Whole, Faulty, step, at_start, after_label, in_body, in_proof, same_text, is_keyword, begun, has_count, is_full, is_provable}
-use Rattle.mm_text.proofs.Texts.{same_text-true, same_text_from, same_text-ne, same_text-false, is_keyword-true, is_keyword_from, is_keyword-false, is_keyword-ne, symbol-is_keyword, label-is_keyword, whole-symbol}
-use Rattle.mm_text.proofs.Parts.{IsPartBody, IsPartProof, Describes, symbols-append, body_of_part, proof_of_part}
+use Rattle.mm_text.proofs.TextFacts.{same_text-true, same_text-false, is_keyword-true, is_keyword-false, whole-symbol}
+use Rattle.mm_text.proofs.PartFacts.{IsPartBody, IsPartProof, Describes, symbols-append, body_of_part, proof_of_part}
 
 -- ---- kinds
 
@@ -107,24 +105,24 @@ begun_labelled kind label tokens t d h e = record {
 at_start_right : (tokens : List PlainToken) (t : PlainToken) → tokens ≡ [] → StepsTo tokens t (at_start t)
 at_start_right tokens t d =
     cond_both (same_text t.text (codes "$c")) _ _ (StepsTo tokens t)
-      (λ c. let e = same_text-true t.text (codes "$c") c in begun_bare Constants tokens t d (record { keyword = t; tokens = refl; sign = e }) (ap (list_all is_label_byte) e))
-      (λ nc. cond_both (same_text t.text (codes "$v")) _ _ (StepsTo tokens t)
-        (λ v. let e = same_text-true t.text (codes "$v") v in begun_bare Variables tokens t d (record { keyword = t; tokens = refl; sign = e }) (ap (list_all is_label_byte) e))
-        (λ nv. cond_both (is_keyword t.text) _ _ (StepsTo tokens t)
-          (λ k. (d, is_keyword-true t.text k, same_text-false t.text (codes "$c") nc, same_text-false t.text (codes "$v") nv))
-          (λ nk. cond_both (list_all is_label_byte t.text) _ _ (StepsTo tokens t)
-            (λ l. (ap (λ (x : List PlainToken). x ++ t ∷ []) d, l))
-            (λ nl. (d, is_keyword-false t.text nk, λ l. both_ways _ nl l)))))
+    (λ c. let e = same_text-true t.text (codes "$c") c in begun_bare Constants tokens t d (record { keyword = t; tokens = refl; sign = e }) (ap (list_all is_label_byte) e))
+    (λ nc. cond_both (same_text t.text (codes "$v")) _ _ (StepsTo tokens t)
+    (λ v. let e = same_text-true t.text (codes "$v") v in begun_bare Variables tokens t d (record { keyword = t; tokens = refl; sign = e }) (ap (list_all is_label_byte) e))
+    (λ nv. cond_both (is_keyword t.text) _ _ (StepsTo tokens t)
+    (λ k. (d, is_keyword-true t.text k, same_text-false t.text (codes "$c") nc, same_text-false t.text (codes "$v") nv))
+    (λ nk. cond_both (list_all is_label_byte t.text) _ _ (StepsTo tokens t)
+    (λ l. (ap (λ (x : List PlainToken). x ++ t ∷ []) d, l))
+    (λ nl. (d, is_keyword-false t.text nk, λ l. both_ways _ nl l)))))
 
 after_label_right : (label : PlainToken) (tokens : List PlainToken) (t : PlainToken) → tokens ≡ label ∷ [] → IsLabel label.text → StepsTo tokens t (after_label label t)
 after_label_right label tokens t d l =
     cond_both (same_text t.text (codes "$f")) _ _ (StepsTo tokens t)
-      (λ f. begun_labelled Floating label tokens t d (record { label = label; keyword = t; tokens = refl; named = l; sign = same_text-true t.text (codes "$f") f }) l)
-      (λ nf. cond_both (same_text t.text (codes "$a")) _ _ (StepsTo tokens t)
-        (λ a. begun_labelled Axiom label tokens t d (record { label = label; keyword = t; tokens = refl; named = l; sign = same_text-true t.text (codes "$a") a }) l)
-        (λ na. cond_both (same_text t.text (codes "$p")) _ _ (StepsTo tokens t)
-          (λ p. begun_labelled Provable label tokens t d (record { label = label; keyword = t; tokens = refl; named = l; sign = same_text-true t.text (codes "$p") p }) l)
-          (λ np. (record { label = label; whole = d; named = l }, same_text-false t.text (codes "$f") nf, same_text-false t.text (codes "$a") na, same_text-false t.text (codes "$p") np))))
+    (λ f. begun_labelled Floating label tokens t d (record { label = label; keyword = t; tokens = refl; named = l; sign = same_text-true t.text (codes "$f") f }) l)
+    (λ nf. cond_both (same_text t.text (codes "$a")) _ _ (StepsTo tokens t)
+    (λ a. begun_labelled Axiom label tokens t d (record { label = label; keyword = t; tokens = refl; named = l; sign = same_text-true t.text (codes "$a") a }) l)
+    (λ na. cond_both (same_text t.text (codes "$p")) _ _ (StepsTo tokens t)
+    (λ p. begun_labelled Provable label tokens t d (record { label = label; keyword = t; tokens = refl; named = l; sign = same_text-true t.text (codes "$p") p }) l)
+    (λ np. (record { label = label; whole = d; named = l }, same_text-false t.text (codes "$f") nf, same_text-false t.text (codes "$a") na, same_text-false t.text (codes "$p") np))))
 
 push_whole : (tokens head symbols : List PlainToken) (t : PlainToken) → tokens ≡ head ++ symbols → tokens ++ t ∷ [] ≡ head ++ (symbols ++ t ∷ [])
 push_whole tokens head symbols t e = ap (λ (x : List PlainToken). x ++ t ∷ []) e ∙ append_assoc head symbols (t ∷ [])
@@ -181,18 +179,18 @@ body_symbol s tokens t d h f = record {
 in_body_right : (s : PlainStatement) (tokens : List PlainToken) (t : PlainToken) → broken_by t.text ≡ None → IsPartBody s tokens → StepsTo tokens t (in_body s t)
 in_body_right s tokens t ok d =
     cond_both (is_keyword t.text) _ _ (StepsTo tokens t)
-      (λ k. cond_both (same_text t.text (cond (is_provable s.kind) (codes "$=") (codes "$."))) _ _ (StepsTo tokens t)
-        (λ same. let sign = same_text-true t.text (cond (is_provable s.kind) (codes "$=") (codes "$.")) same in
-          cond_both (has_count s.kind (length s.symbols)) _ _ (StepsTo tokens t)
-            (λ c. let count = has_count-true s.kind (length s.symbols) c in
-              cond_both (is_provable s.kind) _ _ (StepsTo tokens t)
-                (λ p. body_equals s tokens t d (is_provable-true s.kind p) (sign ∙ ap (λ (b : Bool). cond b (codes "$=") (codes "$.")) p) count)
-                (λ np. body_ends s tokens t d np (sign ∙ ap (λ (b : Bool). cond b (codes "$=") (codes "$.")) np) count))
-            (λ nc. (s.kind, s.symbols, body_of_part s tokens d, inl (sign ∙ closing_sign s.kind, λ f. both_ways _ nc (has_count_from s.kind (length s.symbols) f)))))
-        (λ other. (is_keyword-true t.text k, inl (s.kind, s.symbols, body_of_part s tokens d, λ e. same_text-false t.text (cond (is_provable s.kind) (codes "$=") (codes "$.")) other (e ∙ sym (closing_sign s.kind))))))
-      (λ nk. cond_both (is_full s.kind (length s.symbols)) _ _ (StepsTo tokens t)
-        (λ f. let full = is_full-true s.kind (length s.symbols) f in (s.kind, s.symbols, body_of_part s tokens d, inr (whole-symbol t.text ok nk, full.0, full.1)))
-        (λ nf. body_symbol s tokens t d (whole-symbol t.text ok nk) nf))
+    (λ k. cond_both (same_text t.text (cond (is_provable s.kind) (codes "$=") (codes "$."))) _ _ (StepsTo tokens t)
+    (λ same. let sign = same_text-true t.text (cond (is_provable s.kind) (codes "$=") (codes "$.")) same in
+    cond_both (has_count s.kind (length s.symbols)) _ _ (StepsTo tokens t)
+    (λ c. let count = has_count-true s.kind (length s.symbols) c in
+    cond_both (is_provable s.kind) _ _ (StepsTo tokens t)
+    (λ p. body_equals s tokens t d (is_provable-true s.kind p) (sign ∙ ap (λ (b : Bool). cond b (codes "$=") (codes "$.")) p) count)
+    (λ np. body_ends s tokens t d np (sign ∙ ap (λ (b : Bool). cond b (codes "$=") (codes "$.")) np) count))
+    (λ nc. (s.kind, s.symbols, body_of_part s tokens d, inl (sign ∙ closing_sign s.kind, λ f. both_ways _ nc (has_count_from s.kind (length s.symbols) f)))))
+    (λ other. (is_keyword-true t.text k, inl (s.kind, s.symbols, body_of_part s tokens d, λ e. same_text-false t.text (cond (is_provable s.kind) (codes "$=") (codes "$.")) other (e ∙ sym (closing_sign s.kind))))))
+    (λ nk. cond_both (is_full s.kind (length s.symbols)) _ _ (StepsTo tokens t)
+    (λ f. let full = is_full-true s.kind (length s.symbols) f in (s.kind, s.symbols, body_of_part s tokens d, inr (whole-symbol t.text ok nk, full.0, full.1)))
+    (λ nf. body_symbol s tokens t d (whole-symbol t.text ok nk) nf))
 
 -- the `$.` after a proof
 proof_ends : (s : PlainStatement) (tokens : List PlainToken) (t : PlainToken) → IsPartProof s tokens → t.text ≡ codes "$." → Spells (tokens ++ t ∷ []) (record s { span = (s.span.0, t.at) })
@@ -230,10 +228,10 @@ proof_token s tokens t d h = record {
 in_proof_right : (s : PlainStatement) (tokens : List PlainToken) (t : PlainToken) → broken_by t.text ≡ None → IsPartProof s tokens → StepsTo tokens t (in_proof s t)
 in_proof_right s tokens t ok d =
     cond_both (is_keyword t.text) _ _ (StepsTo tokens t)
-      (λ k. cond_both (same_text t.text (codes "$.")) _ _ (StepsTo tokens t)
-        (λ same. proof_ends s tokens t d (same_text-true t.text (codes "$.") same))
-        (λ other. (is_keyword-true t.text k, inr (proof_of_part s tokens d, same_text-false t.text (codes "$.") other))))
-      (λ nk. proof_token s tokens t d (whole-symbol t.text ok nk))
+    (λ k. cond_both (same_text t.text (codes "$.")) _ _ (StepsTo tokens t)
+    (λ same. proof_ends s tokens t d (same_text-true t.text (codes "$.") same))
+    (λ other. (is_keyword-true t.text k, inr (proof_of_part s tokens d, same_text-false t.text (codes "$.") other))))
+    (λ nk. proof_token s tokens t d (whole-symbol t.text ok nk))
 
 -- the reader's step is the grammar's
 pub step_right : (part : Part) (tokens : List PlainToken) (t : PlainToken) → broken_by t.text ≡ None → Describes part tokens → StepsTo tokens t (step part t)

@@ -1,20 +1,19 @@
 -- Tokens that spell statements, or begin one, lead the reader to those statements.
-use Rattle.std.proofs.Common.{◌≡◌, ◌≢◌, ℕ, ◌+◌, ◌<◌, ◌≤◌, ◌==◌, length, List, [], ◌∷◌, ◌++◌, Bool, true, false, not, cond, refl, sym, ap, subst, ◌∙◌, codes, Option, Some, None, arith, append_assoc, ◌⊎◌, inl, inr}
+use Rattle.std.proofs.Common.{◌≡◌, ℕ, ◌+◌, ◌<◌, ◌≤◌, length, List, [], ◌∷◌, ◌++◌, true, false, cond, refl, sym, ap, subst, ◌∙◌, codes, Option, Some, None, arith, append_assoc, ◌⊎◌, inl, inr}
 use Rattle.std.specs.List.{list_all}
 use Rattle.std.proofs.lemmas.List.{append-nil, length-append}
-use Rattle.std.proofs.lemmas.Bool.{false≢true, cond-true, cond-false, ne_eqb, false_from_ne_true}
-use Rattle.mm_text.specs.declared.fault.TextRule.{TextRule}
-use Rattle.mm_text.specs.declared.fault.TextRule.TheVariants.{S1, S2, S3, S4, S5}
+use Rattle.std.proofs.lemmas.Bool.{cond-true, cond-false, ne_eqb, false_from_ne_true}
+use Rattle.mm_text.specs.declared.fault.TextRule.TheVariants.{S5}
 use Rattle.mm_text.specs.declared.statement.Kind.{Kind}
 use Rattle.mm_text.specs.declared.statement.Kind.TheVariants.{Constants, Variables, Distinct, Floating, Essential, Axiom, Provable, Opening, Closing}
 use Rattle.mm_text.specs.Token.{PlainToken, IsLabel, is_label_byte, HoldsNoDollar}
 use Rattle.mm_text.specs.Statement.{PlainStatement, IsHead, IsBareHead, IsLabelledHead, AreSymbols, FitsCount, label_in, keyword_of, Spells, SpellsAll, IsTail, EndsAtOnce, EndsInProof}
-use Rattle.mm_text.specs.Reading.{Item, Plain, closes_symbols, Meets}
-use Rattle.mm_text.specs.Reader.{Part, Between, Labelled, InBody, InProof, Step, More, Whole, Faulty, step, at_start, after_label, in_body, in_proof, same_text, is_keyword, begun, has_count, is_full, is_provable, PlainReading, with_statement, reading_of}
-use Rattle.mm_text.proofs.Texts.{same_text_from, same_text-ne, is_keyword-ne, is_keyword_from, symbol-is_keyword, label-is_keyword, label_ne}
-use Rattle.mm_text.proofs.Items.{plains, plains-append, cons_parts}
-use Rattle.mm_text.proofs.Parts.{IsPartBody, IsPartProof, Describes, part_of_body, part_of_proof}
-use Rattle.mm_text.proofs.Steps.{has_count_from, has_count-true, closing_sign}
+use Rattle.mm_text.specs.Reading.{Item, Plain, closes_symbols}
+use Rattle.mm_text.specs.Reader.{Part, Between, Labelled, InBody, InProof, More, Whole, Faulty, step, same_text, is_keyword, begun, has_count, is_full, is_provable, PlainReading, with_statement, reading_of}
+use Rattle.mm_text.proofs.TextFacts.{same_text_from, symbol-is_keyword, label-is_keyword, label_ne}
+use Rattle.mm_text.proofs.ItemFacts.{plains, plains-append, cons_parts}
+use Rattle.mm_text.proofs.PartFacts.{IsPartBody, IsPartProof, Describes}
+use Rattle.mm_text.proofs.StepFacts.{has_count_from, has_count-true, closing_sign}
 use Rattle.mm_text.proofs.ReadingLaws.{reading-more, reading-whole}
 
 -- ---- single steps
@@ -178,7 +177,7 @@ proving_run s tokens rest d =
     ∙ ap (reading_of Between) (plains-append (d.head ++ s.symbols) (d.equals ∷ s.proof) rest)
     ∙ body_run stated (d.head ++ s.symbols) (Plain d.equals ∷ plains s.proof rest) (before_equals s tokens d)
     ∙ reading-more (InBody stated) (InProof proving) d.equals (plains s.proof rest)
-        (closing_counted stated d.equals (d.sign ∙ ap closes_symbols (sym d.kind)) (subst (λ (k : Kind). FitsCount k (length s.symbols)) (sym d.kind) d.some) ∙ cond-true (is_provable s.kind) _ _ (ap is_provable d.kind))
+    (closing_counted stated d.equals (d.sign ∙ ap closes_symbols (sym d.kind)) (subst (λ (k : Kind). FitsCount k (length s.symbols)) (sym d.kind) d.some) ∙ cond-true (is_provable s.kind) _ _ (ap is_provable d.kind))
     ∙ proof_run proving s.proof rest d.steps
     ∙ (λ i. reading_of (InProof (record s { span = sym d.span i })) rest)
 

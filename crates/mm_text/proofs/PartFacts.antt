@@ -1,15 +1,11 @@
 -- What a reader has of an unfinished statement, against its tokens.
-use Rattle.std.proofs.Common.{◌≡◌, ◌≢◌, ℕ, ◌+◌, ◌<◌, ◌≤◌, length, List, [], ◌∷◌, ◌++◌, Bool, true, false, not, cond, refl, sym, ap, subst, ◌∙◌, codes, Option, Some, None, arith, append_assoc, inl, inr}
-use Rattle.std.proofs.lemmas.List.{append-nil, length-append}
-use Rattle.std.proofs.lemmas.Bool.{false≢true}
-use Rattle.mm_text.specs.declared.fault.TextRule.{TextRule}
-use Rattle.mm_text.specs.declared.fault.TextRule.TheVariants.{X8, S1, S2, S3, S4, S5}
+use Rattle.std.proofs.Common.{◌≡◌, ◌+◌, ◌≤◌, length, List, [], ◌∷◌, ◌++◌, refl, sym, ap, subst, ◌∙◌, codes, append_assoc, inl, inr}
 use Rattle.mm_text.specs.declared.statement.Kind.{Kind}
 use Rattle.mm_text.specs.declared.statement.Kind.TheVariants.{Constants, Variables, Distinct, Floating, Essential, Axiom, Provable, Opening, Closing}
-use Rattle.mm_text.specs.Token.{PlainToken, IsLabel, is_label_byte, HoldsNoDollar}
-use Rattle.mm_text.specs.Statement.{PlainStatement, IsHead, AreSymbols, FitsCount, label_in, keyword_of}
-use Rattle.mm_text.specs.Reading.{Item, Plain, IsBeginning, IsBody, IsInProof, IsNothing, IsLone}
-use Rattle.mm_text.specs.Reader.{Part, Between, Labelled, InBody, InProof, part_label, part_first}
+use Rattle.mm_text.specs.Token.{PlainToken, IsLabel}
+use Rattle.mm_text.specs.Statement.{PlainStatement, IsHead, AreSymbols, label_in}
+use Rattle.mm_text.specs.Reading.{IsBeginning, IsBody, IsInProof}
+use Rattle.mm_text.specs.Reader.{Part, Between, Labelled, InBody, InProof, part_label}
 
 -- the tokens of a statement of which only symbols were read after its head
 pub record IsPartBody (s : PlainStatement) (tokens : List PlainToken) : Type 0 where

@@ -1,14 +1,16 @@
 -- Each token of a file, and so each token of a statement, is the slice of its file at its place.
-use Rattle.std.proofs.Common.{◌≡◌, ℕ, zero, suc, ◌+◌, ◌-◌, ◌==◌, Bool, true, false, cond, length, take, drop, slice_get, slice_range, List, [], ◌∷◌, ◌++◌, refl, sym, ap, subst, ◌∙◌, Option, Some, None, IfSome, arith}
+use Rattle.std.proofs.Common.{◌≡◌, ℕ, suc, ◌+◌, ◌-◌, ◌==◌, length, take, drop, slice_get, List, [], ◌∷◌, ◌++◌, refl, sym, ap, subst, ◌∙◌, Option, Some, None, IfSome, arith}
 use Rattle.std.specs.List.{AllByRecursion, list_all}
 use Rattle.std.proofs.lemmas.Bool.{cond_both, eqb-true}
-use Rattle.std.proofs.lemmas.List.{drop-drop, append-nil}
+use Rattle.std.proofs.lemmas.List.{drop-drop}
 use Rattle.mm_text.specs.declared.statement.Kind.{Kind}
 use Rattle.mm_text.specs.declared.statement.Kind.TheVariants.{Constants, Variables, Distinct, Floating, Essential, Axiom, Provable, Opening, Closing}
 use Rattle.mm_text.specs.Token.{PlainToken, is_space, is_label_byte, with_byte, tokens_from}
-use Rattle.mm_text.specs.Statement.{PlainStatement, label_in, Spells, SpellsAll, IsTail, EndsAtOnce, EndsInProof}
-use Rattle.mm_text.specs.Reading.{PlainFile, PlainFault, Item, items, items_of, plain_tokens, Reads, IsSliceOf, IsInPlace}
-use Rattle.mm_text.proofs.Items.{plains, plain_tokens-plains, front_of_items, append-plains, all_in_items, nil-append}
+use Rattle.mm_text.specs.Statement.{PlainStatement, label_in, Spells, SpellsAll, IsTail}
+use Rattle.mm_text.specs.Reading.{PlainFile, PlainFault, Item, items, plain_tokens, Reads, IsSliceOf, IsInPlace}
+use Rattle.mm_text.specs.Laws.{ReadingsAreFormedInPlace}
+use Rattle.mm_text.proofs.FormedLaws.{reading_formed}
+use Rattle.mm_text.proofs.ItemFacts.{all_in_items}
 
 -- ---- tokens of a file
 
@@ -32,8 +34,8 @@ with_byte_stands : (file at b : ℕ) (bytes rest : List ℕ) (tokens : List Plai
 with_byte_stands file at b bytes rest [] e f h = (byte_stands file at b bytes rest e, tt)
 with_byte_stands file at b bytes rest (t ∷ tokens) e f h =
     cond_both (t.at == at + 1) _ _ (AllByRecursion (StandsIn file bytes))
-      (λ p. (longer_stands file at b bytes rest t e f (eqb-true t.at (at + 1) p) h.0, h.1))
-      (λ p. (byte_stands file at b bytes rest e, h))
+    (λ p. (longer_stands file at b bytes rest t e f (eqb-true t.at (at + 1) p) h.0, h.1))
+    (λ p. (byte_stands file at b bytes rest e, h))
 
 drop_next : (bytes rest : List ℕ) (at b : ℕ) → drop at bytes ≡ b ∷ rest → drop (at + 1) bytes ≡ rest
 drop_next bytes rest at b e = sym (drop-drop 1 at bytes) ∙ ap (drop 1) e
@@ -125,3 +127,6 @@ reads_in_place files statements (Some fault) r =
     let front = all_left (IsSliceOf files) (plain_tokens r.0) (plain_tokens (r.1 ∷ r.2)) (subst (AllByRecursion (IsSliceOf files)) cut (items_in_place files)) in
     let all = subst (AllByRecursion (IsSliceOf files)) r.5.whole front in
     all_in_place files r.5.finished statements r.5.spelled (all_left (IsSliceOf files) r.5.finished r.3 all)
+
+pub readings_are_formed_in_place : ReadingsAreFormedInPlace
+readings_are_formed_in_place files statements ending r = record { formed = reading_formed files statements ending r; in_place = reads_in_place files statements ending r }

@@ -1,9 +1,8 @@
 -- Texts of tokens: keywords, labels, and texts that hold no `$`.
-use Rattle.std.proofs.Common.{◌≡◌, ◌≢◌, ℕ, zero, suc, ◌+◌, ◌<◌, ◌==◌, ◌&&◌, ◌||◌, not, cond, nat_eq, eqb, length, get_or, List, [], ◌∷◌, Bool, true, false, refl, sym, ap, subst, ◌∙◌, codes, Option, Some, None, Contains, arith, ◌⊎◌, inl, inr}
+use Rattle.std.proofs.Common.{◌≡◌, ◌≢◌, ℕ, zero, suc, ◌<◌, ◌==◌, ◌&&◌, ◌||◌, not, cond, nat_eq, length, get_or, List, [], ◌∷◌, Bool, true, false, refl, sym, ap, ◌∙◌, codes, Some, None, Contains, arith, inl, inr}
 use Rattle.std.specs.List.{list_any, list_all}
 use Rattle.std.specs.Cmp.Lexicographic.{pointwise, bytes_decides}
-use Rattle.std.proofs.lemmas.Bool.{or_parts, or_cases, or_left, or_right, and_parts, and_from, false≢true, both_ways, false_from_ne_true, cases_Bool, eqb-true, cond-true, cond-false}
-use Rattle.mm_text.specs.declared.fault.TextRule.{TextRule}
+use Rattle.std.proofs.lemmas.Bool.{or_parts, or_cases, or_left, or_right, and_parts, false≢true, both_ways, false_from_ne_true, eqb-true}
 use Rattle.mm_text.specs.declared.fault.TextRule.TheVariants.{X1, X4, X9}
 use Rattle.mm_text.specs.Token.{IsLabel, is_label_byte, HoldsNoDollar, is_printable}
 use Rattle.mm_text.specs.Statement.{keywords, IsKeyword}

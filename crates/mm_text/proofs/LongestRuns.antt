@@ -1,11 +1,10 @@
 -- The tokens of a file are its longest runs of bytes that aren't white space.
-use Rattle.std.proofs.Common.{◌≡◌, ◌≢◌, ℕ, zero, suc, ◌+◌, ◌-◌, ◌<◌, ◌≤◌, ◌==◌, Bool, true, false, cond, length, get_or, take, drop, List, [], ◌∷◌, refl, sym, ap, subst, ◌∙◌, arith, ◌⊎◌, inl, inr, Contains}
-use Rattle.std.specs.Prelude.{slice_index, AllPairs}
+use Rattle.std.proofs.Common.{◌≡◌, ℕ, zero, suc, ◌+◌, ◌-◌, ◌<◌, ◌≤◌, ◌==◌, true, false, length, get_or, take, drop, List, [], ◌∷◌, refl, ap, subst, ◌∙◌, arith, ◌⊎◌, inl, inr, Contains}
 use Rattle.std.specs.List.{AllByRecursion}
 use Rattle.std.proofs.lemmas.Bool.{cond_both, eqb-true, eqb-false, both_ways, cases_Bool, cases_order}
 use Rattle.mm_text.specs.Token.{PlainToken, is_space, with_byte, tokens_from, IsToken}
-use Rattle.mm_text.specs.Laws.{IsRunOf, AreLongestRuns, TokensAreLongestRuns}
-use Rattle.mm_text.proofs.InPlace.{StandsIn, tokens_in_place}
+use Rattle.mm_text.specs.Laws.{IsRunOf, TokensAreLongestRuns}
+use Rattle.mm_text.proofs.PlaceLaws.{StandsIn, tokens_in_place}
 
 -- ---- one more byte in front
 
@@ -168,8 +167,10 @@ runs_behind_space at b bytes tokens light h = record {
 runs_taken_in : (file at b : ℕ) (bytes : List ℕ) (t : PlainToken) (tokens : List PlainToken) → is_space b ≡ false → t.at ≡ at + 1 → AreRuns (at + 1) bytes (t ∷ tokens)
     → AreRuns at (b ∷ bytes) (record { text = b ∷ t.text; file = file; at = at } ∷ tokens)
 runs_taken_in file at b bytes t tokens dark next h = record {
-  each = (record { start = 0; stop = suc first.stop; place = omega arith; end = omega arith; run = longer b bytes first.stop dark own },
-      all_both (HasRun (at + 1) bytes) (λ u. t.at < u.at) (HasRun at (b ∷ bytes)) (λ u r lt. run_behind at b bytes u (λ e. absurd (omega arith)) r) tokens h.each.1 h.rising.0);
+  each = (
+    record { start = 0; stop = suc first.stop; place = omega arith; end = omega arith; run = longer b bytes first.stop dark own },
+    all_both (HasRun (at + 1) bytes) (λ u. t.at < u.at) (HasRun at (b ∷ bytes)) (λ u r lt. run_behind at b bytes u (λ e. absurd (omega arith)) r) tokens h.each.1 h.rising.0,
+  );
   every = every;
   rising = (all_so (λ u. t.at < u.at) (λ u. at < u.at) (λ u lt. omega arith) tokens h.rising.0, h.rising.1);
 }
@@ -203,8 +204,10 @@ runs_taken_in file at b bytes t tokens dark next h = record {
 runs_apart : (file at b : ℕ) (bytes : List ℕ) (tokens : List PlainToken) → is_space b ≡ false → AllByRecursion (λ u. at + 1 < u.at) tokens → AreRuns (at + 1) bytes tokens
     → AreRuns at (b ∷ bytes) (record { text = b ∷ []; file = file; at = at } ∷ tokens)
 runs_apart file at b bytes tokens dark far h = record {
-  each = (record { start = 0; stop = 1; place = omega arith; end = refl; run = alone b bytes dark (next bytes none) },
-      all_both (HasRun (at + 1) bytes) (λ u. at + 1 < u.at) (HasRun at (b ∷ bytes)) (λ u r lt. run_behind at b bytes u (λ e. absurd (omega arith)) r) tokens h.each far);
+  each = (
+    record { start = 0; stop = 1; place = omega arith; end = refl; run = alone b bytes dark (next bytes none) },
+    all_both (HasRun (at + 1) bytes) (λ u. at + 1 < u.at) (HasRun at (b ∷ bytes)) (λ u r lt. run_behind at b bytes u (λ e. absurd (omega arith)) r) tokens h.each far,
+  );
   every = every;
   rising = (all_so (λ u. at + 1 < u.at) (λ u. at < u.at) (λ u lt. omega arith) tokens far, h.rising);
 }
@@ -231,9 +234,9 @@ runs_with_byte : (file at b : ℕ) (bytes : List ℕ) (tokens : List PlainToken)
 runs_with_byte file at b bytes [] dark h = runs_apart file at b bytes [] dark tt h
 runs_with_byte file at b bytes (t ∷ tokens) dark h =
     cond_both (t.at == at + 1) _ _ (AreRuns at (b ∷ bytes))
-      (λ e. runs_taken_in file at b bytes t tokens dark (eqb-true t.at (at + 1) e) h)
-      (λ ne. let off = eqb-false t.at (at + 1) ne in let far : at + 1 < t.at = omega (arith, h.each.0.place) in
-        runs_apart file at b bytes (t ∷ tokens) dark (far, all_so (λ u. t.at < u.at) (λ u. at + 1 < u.at) (λ u lt. omega arith) tokens h.rising.0) h)
+    (λ e. runs_taken_in file at b bytes t tokens dark (eqb-true t.at (at + 1) e) h)
+    (λ ne. let off = eqb-false t.at (at + 1) ne in let far : at + 1 < t.at = omega (arith, h.each.0.place) in
+    runs_apart file at b bytes (t ∷ tokens) dark (far, all_so (λ u. t.at < u.at) (λ u. at + 1 < u.at) (λ u lt. omega arith) tokens h.rising.0) h)
 
 none_of_nothing : (start stop : ℕ) → IsToken [] start stop → ⊥
 none_of_nothing start stop r = omega (arith, r.some, r.within)
@@ -244,8 +247,8 @@ tokens_are_runs file at [] = record { each = tt; every = none_of_nothing; rising
 tokens_are_runs file at (b ∷ bytes) =
     let inner = tokens_are_runs file (at + 1) bytes in
     cond_both (is_space b) _ _ (AreRuns at (b ∷ bytes))
-      (λ light. runs_behind_space at b bytes (tokens_from file (at + 1) bytes) light inner)
-      (λ dark. runs_with_byte file at b bytes (tokens_from file (at + 1) bytes) dark inner)
+    (λ light. runs_behind_space at b bytes (tokens_from file (at + 1) bytes) light inner)
+    (λ dark. runs_with_byte file at b bytes (tokens_from file (at + 1) bytes) dark inner)
 
 -- ---- the law
 
