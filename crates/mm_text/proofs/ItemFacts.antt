@@ -97,3 +97,16 @@ all_in_items P file (t ∷ tokens) h = go (all_in_items P file tokens h.1) (brok
     go : AllByRecursion P (plain_tokens (items_of file tokens)) → (o : Option TextRule) → broken_by t.text ≡ o → AllByRecursion P (plain_tokens (items_of file (t ∷ tokens)))
     go inner (Some rule) b = subst (λ (l : List Item). AllByRecursion P (plain_tokens l)) (sym (items_of-wrong file t tokens rule b)) tt
     go inner None b = subst (λ (l : List Item). AllByRecursion P (plain_tokens l)) (sym (items_of-plain file t tokens b)) (h.0, inner)
+
+pub plain_tokens-append : (a b : List Item) → plain_tokens (a ++ b) ≡ plain_tokens a ++ plain_tokens b
+plain_tokens-append [] b = refl
+plain_tokens-append (Plain t ∷ a) b = ap (λ (x : List PlainToken). t ∷ x) (plain_tokens-append a b)
+plain_tokens-append (Wrong rule t ∷ a) b = plain_tokens-append a b
+plain_tokens-append (End file ∷ a) b = plain_tokens-append a b
+
+-- a fault inside is one
+pub clean_behind : (front : List Item) (rule : TextRule) (t : PlainToken) (rest : List Item) → HoldNoFault (front ++ Wrong rule t ∷ rest) → ⊥
+clean_behind [] rule t rest h = h
+clean_behind (Plain u ∷ front) rule t rest h = clean_behind front rule t rest h
+clean_behind (Wrong other u ∷ front) rule t rest h = h
+clean_behind (End file ∷ front) rule t rest h = clean_behind front rule t rest h

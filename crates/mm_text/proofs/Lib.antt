@@ -8,3 +8,4 @@ pub mod OneReading
 pub mod FormedLaws
 pub mod PlaceLaws
 pub mod LongestRuns
+pub mod LongestFront

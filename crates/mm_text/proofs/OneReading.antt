@@ -124,7 +124,7 @@ ends_so (InProof s) tokens fault first others d w f =
     ends_first s.first first s.label tokens fault (cons_parts s.first first ((d.others ++ s.symbols) ++ d.equals ∷ s.proof) others (sym (proof-first s tokens d) ∙ w)).0 (Describes-label (InProof s) tokens d) f
 
 -- a fault ends what the reader computes
-last_item : (tokens : List PlainToken) (item : Item) (rest : List Item) (fault : PlainFault) → IsBeginning tokens → EndsAt tokens item fault
+pub last_item : (tokens : List PlainToken) (item : Item) (rest : List Item) (fault : PlainFault) → IsBeginning tokens → EndsAt tokens item fault
     → reading_of Between (plains tokens (item ∷ rest)) ≡ ended (Some fault)
 last_item tokens (Plain t) rest fault b e =
     let broken = meets_breaks tokens t e.0 e.1 in
@@ -149,7 +149,7 @@ with_ended (s ∷ statements) ending = ap (with_statement s) (with_ended stateme
 -- ---- one reading
 
 -- what the reader computes of a front that spells statements, and of what follows
-front_reading : (its : List Item) (tokens finished unfinished : List PlainToken) (statements : List PlainStatement) (rest : List Item) → its ≡ plains tokens rest → tokens ≡ finished ++ unfinished
+pub front_reading : (its : List Item) (tokens finished unfinished : List PlainToken) (statements : List PlainStatement) (rest : List Item) → its ≡ plains tokens rest → tokens ≡ finished ++ unfinished
     → SpellsAll finished statements → reading_of Between its ≡ with_statements statements (reading_of Between (plains unfinished rest))
 front_reading its tokens finished unfinished statements rest e w h =
     ap (reading_of Between) (e ∙ ap (λ (x : List PlainToken). plains x rest) w ∙ plains-append finished unfinished rest) ∙ statements_run finished statements (plains unfinished rest) h

@@ -10,7 +10,7 @@ use Rattle.mm_text.specs.Statement.{PlainStatement, label_in, Spells, SpellsAll,
 use Rattle.mm_text.specs.Reading.{PlainFile, PlainFault, Item, items, plain_tokens, Reads, IsSliceOf, IsInPlace}
 use Rattle.mm_text.specs.Laws.{ReadingsAreFormedInPlace}
 use Rattle.mm_text.proofs.FormedLaws.{reading_formed}
-use Rattle.mm_text.proofs.ItemFacts.{all_in_items}
+use Rattle.mm_text.proofs.ItemFacts.{plain_tokens-append, all_in_items}
 
 -- ---- tokens of a file
 
@@ -105,12 +105,6 @@ slice_of top others t h =
     let here : slice_get (top ∷ others) t.file ≡ Some top = ap (slice_get (top ∷ others)) h.home in
     let long : (t.at + length t.text) - t.at ≡ length t.text = omega arith in
     (top, here, ap (λ (n : ℕ). take n (drop t.at top.bytes)) long ∙ h.text)
-
-plain_tokens-append : (a b : List Item) → plain_tokens (a ++ b) ≡ plain_tokens a ++ plain_tokens b
-plain_tokens-append [] b = refl
-plain_tokens-append (Item.Plain t ∷ a) b = ap (λ (x : List PlainToken). t ∷ x) (plain_tokens-append a b)
-plain_tokens-append (Item.Wrong rule t ∷ a) b = plain_tokens-append a b
-plain_tokens-append (Item.End file ∷ a) b = plain_tokens-append a b
 
 items_in_place : (files : List PlainFile) → AllByRecursion (IsSliceOf files) (plain_tokens (items files))
 items_in_place [] = tt

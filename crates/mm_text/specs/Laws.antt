@@ -1,9 +1,9 @@
 -- The laws of tokens and of readings.
-use Rattle.std.specs.Prelude.{◌≡◌, ℕ, ◌+◌, ◌<◌, List, length, slice_range, Contains, Option, AllPairs}
+use Rattle.std.specs.Prelude.{◌≡◌, ℕ, ◌+◌, ◌<◌, ◌≤◌, List, ◌∷◌, ◌++◌, length, slice_range, Contains, Option, AllPairs}
 use Rattle.std.specs.List.{AllByRecursion}
 use Rattle.mm_text.specs.Token.{PlainToken, IsToken, tokens_from}
 use Rattle.mm_text.specs.Statement.{PlainStatement, IsFormed}
-use Rattle.mm_text.specs.Reading.{PlainFile, PlainFault, Reads, IsInPlace}
+use Rattle.mm_text.specs.Reading.{PlainFile, PlainFault, Item, items, Viable, EndsAt, Reads, IsInPlace}
 
 -- a token of this file is the slice of its bytes at its place, and that is a longest run of bytes that aren't white space
 pub record IsRunOf (file : ℕ) (bytes : List ℕ) (t : PlainToken) : Type 0 where
@@ -33,6 +33,20 @@ pub record HasOneReading (files : List PlainFile) : Type 0 where
 -- files of every kind have one reading
 abbrev pub EachHasOneReading : Type 0
 EachHasOneReading = (files : List PlainFile) → HasOneReading files
+
+-- no longer front of the items is viable
+abbrev pub IsLongestViable : List Item → List Item → Type 0
+IsLongestViable its front =
+    (longer after : List Item) (statements : List PlainStatement) (unfinished : List PlainToken)
+    → its ≡ longer ++ after → Viable longer statements unfinished → length longer ≤ length front
+
+-- a fault comes only after the longest viable front
+abbrev pub FaultsEndLongestFronts : Type 0
+FaultsEndLongestFronts =
+    (files : List PlainFile) (front : List Item) (item : Item) (rest : List Item)
+    (statements : List PlainStatement) (unfinished : List PlainToken) (fault : PlainFault)
+    → items files ≡ front ++ item ∷ rest → Viable front statements unfinished → EndsAt unfinished item fault
+    → IsLongestViable (items files) front
 
 -- each statement of a reading is formed by the grammar, and each of its tokens is the slice of its file at its place
 pub record AreFormedInPlace (files : List PlainFile) (statements : List PlainStatement) : Type 0 where
