@@ -9,3 +9,4 @@ pub mod FormedLaws
 pub mod PlaceLaws
 pub mod LongestRuns
 pub mod LongestFront
+pub mod Beginnings

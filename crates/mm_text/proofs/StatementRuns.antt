@@ -190,7 +190,7 @@ part_run (InProof s) tokens rest d = proving_run s tokens rest d
 
 -- ---- whole statements
 
-tail_cases : (s : PlainStatement) (kind : Kind) (head tail : List PlainToken) → IsHead kind head → IsTail s kind tail → ((is_provable kind ≡ false) × (closes_symbols kind ≡ codes "$.") × EndsAtOnce s tail) ⊎ ((kind ≡ Provable) × EndsInProof s tail)
+pub tail_cases : (s : PlainStatement) (kind : Kind) (head tail : List PlainToken) → IsHead kind head → IsTail s kind tail → ((is_provable kind ≡ false) × (closes_symbols kind ≡ codes "$.") × EndsAtOnce s tail) ⊎ ((kind ≡ Provable) × EndsInProof s tail)
 tail_cases s Constants head tail h k = inl (refl, refl, k)
 tail_cases s Variables head tail h k = inl (refl, refl, k)
 tail_cases s Floating head tail h k = inl (refl, refl, k)
@@ -201,7 +201,7 @@ tail_cases s Essential head tail h k = absurd h
 tail_cases s Opening head tail h k = absurd h
 tail_cases s Closing head tail h k = absurd h
 
-room_of : (kind : Kind) (n : ℕ) → FitsCount kind n → kind ≡ Floating → n ≤ 2
+pub room_of : (kind : Kind) (n : ℕ) → FitsCount kind n → kind ≡ Floating → n ≤ 2
 room_of Floating n c k = omega arith
 room_of _ n c k = absurd cc
 

@@ -1,9 +1,9 @@
 -- The laws of tokens and of readings.
-use Rattle.std.specs.Prelude.{◌≡◌, ℕ, ◌+◌, ◌<◌, ◌≤◌, List, ◌∷◌, ◌++◌, length, slice_range, Contains, Option, AllPairs}
+use Rattle.std.specs.Prelude.{◌≡◌, ◌≢◌, ℕ, ◌+◌, ◌<◌, ◌≤◌, List, [], ◌∷◌, ◌++◌, length, slice_range, Contains, Option, AllPairs}
 use Rattle.std.specs.List.{AllByRecursion}
 use Rattle.mm_text.specs.Token.{PlainToken, IsToken, tokens_from}
-use Rattle.mm_text.specs.Statement.{PlainStatement, IsFormed}
-use Rattle.mm_text.specs.Reading.{PlainFile, PlainFault, Item, items, Viable, EndsAt, Reads, IsInPlace}
+use Rattle.mm_text.specs.Statement.{PlainStatement, Spells, IsFormed}
+use Rattle.mm_text.specs.Reading.{PlainFile, PlainFault, Item, items, IsBeginning, Viable, EndsAt, Reads, IsInPlace}
 
 -- a token of this file is the slice of its bytes at its place, and that is a longest run of bytes that aren't white space
 pub record IsRunOf (file : ℕ) (bytes : List ℕ) (t : PlainToken) : Type 0 where
@@ -33,6 +33,19 @@ pub record HasOneReading (files : List PlainFile) : Type 0 where
 -- files of every kind have one reading
 abbrev pub EachHasOneReading : Type 0
 EachHasOneReading = (files : List PlainFile) → HasOneReading files
+
+-- more tokens make a whole statement of these
+pub record BeginsStatement (tokens : List PlainToken) : Type 0 where
+  pub more : List PlainToken
+  pub some : more ≢ []
+  pub statement : PlainStatement
+  pub spelled : Spells (tokens ++ more) statement
+
+-- a beginning of a statement is what more tokens make a whole statement of, and nothing else
+abbrev pub BeginningsBeginStatements : Type 0
+BeginningsBeginStatements =
+    (tokens : List PlainToken)
+    → (IsBeginning tokens → BeginsStatement tokens) × (BeginsStatement tokens → IsBeginning tokens)
 
 -- no longer front of the items is viable
 abbrev pub IsLongestViable : List Item → List Item → Type 0

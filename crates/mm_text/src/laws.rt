@@ -1,7 +1,7 @@
 //! What holds of the tokens and of the readings of all files. A law is the contract of a function
 //! that does nothing: what it ensures is proved, and there is no need to call it.
 
-ghost use Rattle.mm_text.specs.Laws.{EachHasOneReading, FaultsEndLongestFronts, ReadingsAreFormedInPlace, TokensAreLongestRuns};
+ghost use Rattle.mm_text.specs.Laws.{BeginningsBeginStatements, EachHasOneReading, FaultsEndLongestFronts, ReadingsAreFormedInPlace, TokensAreLongestRuns};
 
 /// The tokens of a file are its longest runs of bytes that aren't white space (the Metamath book,
 /// section 4.1.1): each token is the slice of the file at its place and such a run, each such run
@@ -16,6 +16,13 @@ pub fn tokens_are_longest_runs()
 /// the grammar allows as their reading is the same statements and the same ending.
 pub fn one_reading()
     ensures { EachHasOneReading }
+{}
+
+/// The beginnings of statements, of which the grammar speaks apart from whole statements, are
+/// exactly the fronts of whole statements: tokens are a beginning if some more tokens make a whole
+/// statement of them, and only then.
+pub fn beginnings_begin_statements()
+    ensures { BeginningsBeginStatements }
 {}
 
 /// A fault that ends a reading comes after the longest front of the files' items that is whole

@@ -10,7 +10,8 @@ mod token;
 pub use fault::{LoadRule, TextFault, TextRule};
 pub use file::File;
 pub use laws::{
-    faults_end_longest_fronts, one_reading, statements_are_formed_in_place, tokens_are_longest_runs,
+    beginnings_begin_statements, faults_end_longest_fronts, one_reading,
+    statements_are_formed_in_place, tokens_are_longest_runs,
 };
 pub use statement::{Kind, Statement};
 pub use token::Token;
