@@ -1,14 +1,14 @@
 -- The beginnings of statements are the fronts of whole statements.
-use Rattle.std.proofs.Common.{◌≡◌, ◌≢◌, ℕ, suc, ◌+◌, ◌≤◌, length, List, [], ◌∷◌, ◌++◌, refl, sym, ap, subst, ◌∙◌, Option, Some, None, codes, ◌⊎◌, inl, inr, arith, append_assoc}
+use Rattle.std.proofs.Common.{◌≡◌, ◌≢◌, ℕ, ◌+◌, ◌≤◌, length, List, [], ◌∷◌, ◌++◌, refl, sym, ap, subst, ◌∙◌, None, codes, ◌⊎◌, inl, inr, arith, append_assoc}
 use Rattle.std.proofs.lemmas.List.{append-nil, length-append}
 use Rattle.mm_text.specs.declared.statement.Kind.{Kind}
 use Rattle.mm_text.specs.declared.statement.Kind.TheVariants.{Constants, Variables, Distinct, Floating, Essential, Axiom, Provable, Opening, Closing}
 use Rattle.mm_text.specs.Token.{PlainToken}
-use Rattle.mm_text.specs.Statement.{PlainStatement, IsHead, IsBareHead, IsLabelledHead, AreSymbols, FitsCount, label_in, Spells, IsTail, EndsAtOnce, EndsInProof}
+use Rattle.mm_text.specs.Statement.{PlainStatement, IsHead, IsBareHead, IsLabelledHead, AreSymbols, FitsCount, label_in, Spells, IsTail, EndsAtOnce}
 use Rattle.mm_text.specs.Reading.{IsBeginning, IsBody, IsInProof, IsLone}
 use Rattle.mm_text.specs.Laws.{BeginsStatement, BeginningsBeginStatements}
 use Rattle.mm_text.proofs.ItemFacts.{cons_parts}
-use Rattle.mm_text.proofs.PartFacts.{symbols-append, IsStarted, started}
+use Rattle.mm_text.proofs.PartFacts.{symbols-append, started}
 use Rattle.mm_text.proofs.StatementRuns.{tail_cases, room_of}
 
 -- ---- a beginning is finished by more tokens

@@ -1,11 +1,11 @@
 -- The front of the items after which a fault comes is the longest viable one.
-use Rattle.std.proofs.Common.{◌≡◌, ◌≢◌, ℕ, suc, ◌≤◌, length, List, [], ◌∷◌, ◌++◌, refl, sym, ap, ◌∙◌, Option, Some, None, ◌⊎◌, inl, inr, arith}
+use Rattle.std.proofs.Common.{◌≡◌, ℕ, ◌≤◌, length, List, [], ◌∷◌, ◌++◌, refl, sym, ap, ◌∙◌, Some, None, ◌⊎◌, inl, inr, arith}
 use Rattle.std.proofs.lemmas.List.{append-nil}
 use Rattle.mm_text.specs.Token.{PlainToken}
 use Rattle.mm_text.specs.Statement.{PlainStatement, SpellsAll}
 use Rattle.mm_text.specs.Reading.{PlainFault, Item, Plain, Wrong, End, plain_tokens, Viable, EndsAt, IsBeginning}
 use Rattle.mm_text.specs.Reader.{PlainReading, Part, Between, ended, reading_of}
-use Rattle.mm_text.specs.Laws.{IsLongestViable, FaultsEndLongestFronts}
+use Rattle.mm_text.specs.Laws.{FaultsEndLongestFronts}
 use Rattle.mm_text.proofs.ItemFacts.{plains, plains-append, plain_tokens-append, clean_behind, cons_parts}
 use Rattle.mm_text.proofs.PartFacts.{part_of_beginning}
 use Rattle.mm_text.proofs.ReadingLaws.{reading-end}
