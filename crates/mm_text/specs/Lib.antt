@@ -8,3 +8,4 @@ pub mod Steps
 pub mod Empty
 pub mod Handed
 pub mod ReaderState
+pub mod Laws

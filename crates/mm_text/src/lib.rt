@@ -6,6 +6,7 @@ mod cursor;
 mod fault;
 mod file;
 mod handed;
+mod laws;
 mod parts;
 mod scan;
 mod statement;
@@ -17,6 +18,10 @@ mod token;
 pub use fault::{LoadRule, TextFault, TextRule};
 pub use file::File;
 pub use handed::BYTE_LIMIT;
+pub use laws::{
+    beginnings_begin_statements, faults_end_longest_fronts, one_reading,
+    statements_are_formed_in_place, tokens_are_longest_runs,
+};
 pub use statement::{Kind, Statement};
 pub use statements::Statements;
 pub use token::Token;
