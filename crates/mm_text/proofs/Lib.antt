@@ -15,3 +15,4 @@ pub mod PlaceLaws
 pub mod LongestRuns
 pub mod LongestFront
 pub mod Beginnings
+pub mod ReaderLaws

@@ -6,9 +6,10 @@ use Rattle.mm_text.specs.declared.statements.State.{State}
 use Rattle.mm_text.specs.declared.statements.State.TheVariants.{Reading, Ended, Failed}
 use Rattle.mm_text.specs.declared.statements.Statements.TheInside.{Inside}
 use Rattle.mm_text.specs.Statement.{PlainStatement}
-use Rattle.mm_text.specs.Reading.{PlainFile, plain_file, Item, items}
+use Rattle.mm_text.specs.Reading.{PlainFile, plain_file, Item}
 use Rattle.mm_text.specs.Reader.{PlainReading, Between, reading_of}
 use Rattle.mm_text.specs.Remaining.{Remaining}
+use Rattle.mm_text.specs.Laws.{AreFormedInPlace}
 use Rattle.mm_text.specs.Steps.{fault_of, GivesStatement}
 
 -- what is left in a state, where reading on would give this
@@ -32,14 +33,13 @@ IsAnswerable (Failed (Fault rule file at label)) = Unit {0}
 IsAnswerable (Failed Memory) = Unit {0}
 IsAnswerable (Failed (Load rule)) = ⊥
 
+-- what holds of the fields of each reader: what is left to give is formed and stands in the files
+pub record IsReader (s : Inside) : Type 0 where
+  pub answerable : IsAnswerable s.state
+  pub formed_in_place : AreFormedInPlace (map plain_file s.files.now) (remaining_of s).statements
+
 -- what a call answers in a state
 abbrev pub AnswersIn : State → List Item → Result Bool TextFault → PlainStatement → List Item → Type 0
 AnswersIn Reading old r into new = GivesStatement old r into new
 AnswersIn Ended old r into new = r ≡ Ok false
 AnswersIn (Failed fault) old r into new = r ≡ Err fault
-
--- nothing of the files was given yet
-abbrev pub unread : List PlainFile → Remaining
-unread files =
-    let reading : PlainReading = reading_of Between (items files) in
-    record { files = files; statements = reading.statements; ending = reading.ending; refused = false; told = false }

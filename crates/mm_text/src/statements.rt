@@ -1,11 +1,11 @@
 //! The statements of the handed files, one after the other.
 
-ghost use Rattle.std.specs.Prelude.{◌≡◌, ◌↔◌, map, Err, IfOk, IfErr};
+ghost use Rattle.std.specs.Prelude.{◌≡◌, ◌↔◌, true, map, Ok, Err, IfOk, IfErr};
 ghost use Rattle.mm_text.specs.declared.fault.LoadRule.{LoadRule};
-ghost use Rattle.mm_text.specs.Statement.{plain_statement};
-ghost use Rattle.mm_text.specs.Reading.{plain_file, BreaksLoad};
-ghost use Rattle.mm_text.specs.Remaining.{Gives};
-ghost use Rattle.mm_text.specs.ReaderState.{unread, AnswersIn};
+ghost use Rattle.mm_text.specs.Statement.{plain_statement, IsFormed};
+ghost use Rattle.mm_text.specs.Reading.{plain_file, BreaksLoad, IsInPlace};
+ghost use Rattle.mm_text.specs.Remaining.{Gives, IsUnread};
+ghost use Rattle.mm_text.specs.ReaderState.{AnswersIn};
 
 use crate::cursor::Cursor;
 use crate::fault::TextFault;
@@ -39,11 +39,11 @@ impl<'a> Model for Statements<'a> {
 
     ghost Value = { Remaining };
 
-    ghost use Rattle.mm_text.specs.ReaderState.{remaining_of, IsAnswerable};
+    ghost use Rattle.mm_text.specs.ReaderState.{remaining_of, IsReader};
 
     ghost view = { remaining_of };
 
-    ghost invariant = { λ s. IsAnswerable s.state };
+    ghost invariant = { IsReader };
 }
 
 /// What a call answers in a state.
@@ -70,7 +70,7 @@ impl<'a> Statements<'a> {
     pub fn new(files: &'a [File<'a>]) -> Result<Statements<'a>, TextFault<'a>>
         ensures breaks { (rule : LoadRule) → ((result ≡ Err (TextFault.Load rule)) ↔ BreaksLoad (map plain_file files.now) rule) }
         ensures only_load { IfErr result (λ fault. (rule : LoadRule) × (fault ≡ TextFault.Load rule)) }
-        ensures unread { IfOk result (λ s. s ≡ unread (map plain_file files.now)) }
+        ensures unread { IfOk result (λ s. IsUnread (map plain_file files.now) s) }
     {
         if let Some(rule) = broken_rule(files) {
             return Err(TextFault::Load(rule));
@@ -90,7 +90,9 @@ impl<'a> Statements<'a> {
     /// X8, X9, S1, S2, S3, S4 or S5. `Memory` is answered where a list of `into` could not grow.
     /// A fault, `Memory` included, is answered again by every later call, and so is the end.
     pub fn read(&mut self, into: &mut Statement<'a>) -> Result<bool, TextFault<'a>>
-        ensures { Gives self.old result self.new (plain_statement into.new) }
+        ensures gives { Gives self.old result self.new (plain_statement into.new) }
+        ensures formed { result ≡ Ok true → IsFormed (plain_statement into.new) }
+        ensures in_place { result ≡ Ok true → IsInPlace self.old.files (plain_statement into.new) }
     {
         let answer = answer(self.state, &mut self.cursor, into);
         match answer {
