@@ -96,16 +96,11 @@ impl<'a> Statements<'a> {
     {
         let answer = answer(self.state, &mut self.cursor, into);
         match answer {
-            Ok(true) => {}
-            Ok(false) => {
-                into.clear();
-                self.state = State::Ended;
-            }
-            Err(fault) => {
-                into.clear();
-                self.state = State::Failed(fault);
-            }
+            Ok(true) => return answer,
+            Ok(false) => self.state = State::Ended,
+            Err(fault) => self.state = State::Failed(fault),
         }
+        into.clear();
         answer
     }
 }
