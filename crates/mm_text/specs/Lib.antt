@@ -4,3 +4,9 @@ pub mod Reading
 pub mod Remaining
 pub mod Statement
 pub mod Token
+pub mod Class
+pub mod Steps
+pub mod Empty
+pub mod Handed
+pub mod ReaderState
+pub mod Laws

@@ -4,7 +4,7 @@ use Rattle.mm_text.specs.declared.fault.TextFault.{TextFault}
 use Rattle.mm_text.specs.declared.fault.TextFault.TheVariants.{Load, Fault, Memory}
 use Rattle.mm_text.specs.Token.{plain_token}
 use Rattle.mm_text.specs.Statement.{PlainStatement}
-use Rattle.mm_text.specs.Reading.{PlainFile, PlainFault}
+use Rattle.mm_text.specs.Reading.{PlainFile, PlainFault, Reads}
 
 -- The statements of the files that weren't given yet, and the fault that ends them; whether a growth was refused, after
 -- which nothing is given; and whether the end, a fault or want of memory was answered.
@@ -14,6 +14,13 @@ pub record Remaining : Type 0 where
   pub ending : Option PlainFault
   pub refused : Bool
   pub told : Bool
+
+-- nothing of the files was given yet: all that their reading says is left
+pub record IsUnread (files : List PlainFile) (s : Remaining) : Type 0 where
+  pub same : s.files ≡ files
+  pub reads : Reads files s.statements s.ending
+  pub refused : s.refused ≡ false
+  pub told : s.told ≡ false
 
 -- a statement that holds no token in its lists
 pub record IsEmpty (s : PlainStatement) : Type 0 where

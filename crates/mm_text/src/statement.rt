@@ -1,5 +1,7 @@
 //! Statements as they are read.
 
+ghost use Rattle.std.specs.Prelude.{◌≡◌, option_map};
+
 use crate::token::Token;
 use std::alloc::Global;
 
@@ -41,4 +43,48 @@ pub struct Statement<'a> {
     /// The place of the bytes after the `$=` up to the `$.`, from the first one up to and without
     /// the last; `(0, 0)` where there is no proof.
     pub span: (u32, u32),
+}
+
+impl<'a> Statement<'a> {
+    ghost use Rattle.mm_text.specs.Token.{plain_token};
+    ghost use Rattle.mm_text.specs.Statement.{plain_statement};
+    ghost use Rattle.mm_text.specs.Reader.{begun};
+    ghost use Rattle.mm_text.specs.Empty.{no_statement, emptied};
+
+    /// A statement to read into, with empty lists. It takes no memory.
+    pub fn empty(alloc: Global) -> Statement<'a>
+        ensures { plain_statement result ≡ no_statement }
+    {
+        Statement {
+            kind: Kind::Constants,
+            first: Token {
+                text: &[],
+                file: 0,
+                at: 0,
+            },
+            label: None,
+            symbols: Vec::new(alloc),
+            proof: Vec::new(alloc),
+            span: (0, 0),
+        }
+    }
+
+    /// Empties the lists, which keep their room.
+    pub(crate) fn clear(&mut self)
+        ensures { plain_statement self.new ≡ emptied (plain_statement self.old) }
+    {
+        self.symbols.clear();
+        self.proof.clear();
+    }
+
+    /// Begins a statement, with no symbols yet. The lists keep their room.
+    pub(crate) fn begin(&mut self, kind: Kind, first: Token<'a>, label: Option<Token<'a>>)
+        ensures { plain_statement self.new ≡ begun kind (plain_token first.entry) (option_map plain_token label.entry) }
+    {
+        self.clear();
+        self.kind = kind;
+        self.first = first;
+        self.label = label;
+        self.span = (0, 0);
+    }
 }

@@ -1,0 +1,261 @@
+-- Tokens that spell statements, or begin one, lead the reader to those statements.
+use Rattle.std.proofs.Common.{◌≡◌, ℕ, ◌+◌, ◌<◌, ◌≤◌, length, List, [], ◌∷◌, ◌++◌, true, false, cond, refl, sym, ap, subst, ◌∙◌, codes, Option, Some, None, arith, append_assoc, ◌⊎◌, inl, inr}
+use Rattle.std.specs.List.{list_all}
+use Rattle.std.proofs.lemmas.List.{append-nil, length-append}
+use Rattle.std.proofs.lemmas.Bool.{cond-true, cond-false, ne_eqb, false_from_ne_true}
+use Rattle.mm_text.specs.declared.fault.TextRule.TheVariants.{S5}
+use Rattle.mm_text.specs.declared.statement.Kind.{Kind}
+use Rattle.mm_text.specs.declared.statement.Kind.TheVariants.{Constants, Variables, Distinct, Floating, Essential, Axiom, Provable, Opening, Closing}
+use Rattle.mm_text.specs.Token.{PlainToken, IsLabel, is_label_byte, HoldsNoDollar}
+use Rattle.mm_text.specs.Statement.{PlainStatement, IsHead, IsBareHead, IsLabelledHead, AreSymbols, FitsCount, label_in, keyword_of, Spells, SpellsAll, IsTail, EndsAtOnce, EndsInProof}
+use Rattle.mm_text.specs.Reading.{Item, Plain, closes_symbols}
+use Rattle.mm_text.specs.Reader.{Part, Between, Labelled, InBody, InProof, More, Whole, Faulty, step, same_text, is_keyword, begun, has_count, is_full, is_provable, PlainReading, with_statement, reading_of}
+use Rattle.mm_text.proofs.TextFacts.{same_text_from, symbol-is_keyword, label-is_keyword, label_ne}
+use Rattle.mm_text.proofs.ItemFacts.{plains, plains-append, cons_parts}
+use Rattle.mm_text.proofs.PartFacts.{IsPartBody, IsPartProof, Describes}
+use Rattle.mm_text.proofs.StepFacts.{has_count_from, has_count-true, closing_sign}
+use Rattle.mm_text.proofs.ReadingLaws.{reading-more, reading-whole}
+
+-- ---- single steps
+
+start_constants : (t : PlainToken) → t.text ≡ codes "$c" → step Between t ≡ More (InBody (begun Constants t None))
+unfolding step
+start_constants t e = rw e refl
+
+start_variables : (t : PlainToken) → t.text ≡ codes "$v" → step Between t ≡ More (InBody (begun Variables t None))
+unfolding step
+start_variables t e = rw e refl
+
+start_label : (t : PlainToken) → IsLabel t.text → step Between t ≡ More (Labelled t)
+unfolding step
+start_label t h =
+    cond-false (same_text t.text (codes "$c")) _ _ (label_ne t.text (codes "$c") h refl)
+    ∙ cond-false (same_text t.text (codes "$v")) _ _ (label_ne t.text (codes "$v") h refl)
+    ∙ cond-false (is_keyword t.text) _ _ (label-is_keyword t.text h)
+    ∙ cond-true (list_all is_label_byte t.text) _ _ h
+
+label_floating : (label t : PlainToken) → t.text ≡ codes "$f" → step (Labelled label) t ≡ More (InBody (begun Floating label (Some label)))
+unfolding step
+label_floating label t e = rw e refl
+
+label_axiom : (label t : PlainToken) → t.text ≡ codes "$a" → step (Labelled label) t ≡ More (InBody (begun Axiom label (Some label)))
+unfolding step
+label_axiom label t e = rw e refl
+
+label_provable : (label t : PlainToken) → t.text ≡ codes "$p" → step (Labelled label) t ≡ More (InBody (begun Provable label (Some label)))
+unfolding step
+label_provable label t e = rw e refl
+
+symbol_step : (s : PlainStatement) (t : PlainToken) → HoldsNoDollar t.text → is_full s.kind (length s.symbols) ≡ false → step (InBody s) t ≡ More (InBody (record s { symbols = s.symbols ++ t ∷ [] }))
+unfolding step
+symbol_step s t h f = cond-false (is_keyword t.text) _ _ (symbol-is_keyword t.text h) ∙ cond-false (is_full s.kind (length s.symbols)) _ _ f
+
+closing_is_keyword : (kind : Kind) → is_keyword (cond (is_provable kind) (codes "$=") (codes "$.")) ≡ true
+closing_is_keyword Provable = refl
+closing_is_keyword _ = refl
+
+-- a keyword that closes the symbols, up to their count
+closing_step : (s : PlainStatement) (t : PlainToken) (sign : t.text ≡ closes_symbols s.kind)
+    → step (InBody s) t ≡ cond (has_count s.kind (length s.symbols)) (cond (is_provable s.kind) (More (InProof (record s { span = (t.at + 2, 0) }))) (Whole s)) (Faulty S5)
+unfolding step
+closing_step s t sign =
+    let e : t.text ≡ cond (is_provable s.kind) (codes "$=") (codes "$.") = sign ∙ sym (closing_sign s.kind) in
+    cond-true (is_keyword t.text) _ _ (ap is_keyword e ∙ closing_is_keyword s.kind)
+    ∙ cond-true (same_text t.text (cond (is_provable s.kind) (codes "$=") (codes "$."))) _ _ (same_text_from t.text (cond (is_provable s.kind) (codes "$=") (codes "$.")) e)
+
+pub closing_counted : (s : PlainStatement) (t : PlainToken) → t.text ≡ closes_symbols s.kind → FitsCount s.kind (length s.symbols)
+    → step (InBody s) t ≡ cond (is_provable s.kind) (More (InProof (record s { span = (t.at + 2, 0) }))) (Whole s)
+closing_counted s t sign c = closing_step s t sign ∙ cond-true (has_count s.kind (length s.symbols)) _ _ (has_count_from s.kind (length s.symbols) c)
+
+pub closing_short : (s : PlainStatement) (t : PlainToken) → t.text ≡ closes_symbols s.kind → ¬ (FitsCount s.kind (length s.symbols)) → step (InBody s) t ≡ Faulty S5
+closing_short s t sign c = closing_step s t sign ∙ cond-false (has_count s.kind (length s.symbols)) _ _ (false_from_ne_true _ (λ e. c (has_count-true s.kind (length s.symbols) e)))
+
+proof_step : (s : PlainStatement) (t : PlainToken) → HoldsNoDollar t.text → step (InProof s) t ≡ More (InProof (record s { proof = s.proof ++ t ∷ [] }))
+unfolding step
+proof_step s t h = cond-false (is_keyword t.text) _ _ (symbol-is_keyword t.text h)
+
+proof_stop : (s : PlainStatement) (t : PlainToken) → t.text ≡ codes "$." → step (InProof s) t ≡ Whole (record s { span = (s.span.0, t.at) })
+unfolding step
+proof_stop s t e = rw e refl
+
+-- ---- symbols and proofs
+
+not_full : (kind : Kind) (n : ℕ) → (kind ≡ Floating → n < 2) → is_full kind n ≡ false
+not_full Floating n h = let lt = h refl in ne_eqb n 2 (λ e. omega arith)
+not_full _ n h = refl
+
+symbols_run : (s : PlainStatement) (symbols : List PlainToken) (rest : List Item) → AreSymbols symbols → (s.kind ≡ Floating → length s.symbols + length symbols ≤ 2)
+    → reading_of (InBody s) (plains symbols rest) ≡ reading_of (InBody (record s { symbols = s.symbols ++ symbols })) rest
+symbols_run s [] rest h room = ap (λ (x : List PlainToken). reading_of (InBody (record s { symbols = x })) rest) (sym (append-nil s.symbols))
+symbols_run s (t ∷ symbols) rest h room =
+    let more : PlainStatement = record s { symbols = s.symbols ++ t ∷ [] } in
+    reading-more (InBody s) (InBody more) t (plains symbols rest) (symbol_step s t h.0 (not_full s.kind (length s.symbols) (λ k. let le = room k in omega arith)))
+    ∙ symbols_run more symbols rest h.1 (λ k. let le = room k in omega (arith, length-append s.symbols (t ∷ [])))
+    ∙ ap (λ (x : List PlainToken). reading_of (InBody (record s { symbols = x })) rest) (append_assoc s.symbols (t ∷ []) symbols)
+
+proof_run : (s : PlainStatement) (proof : List PlainToken) (rest : List Item) → AreSymbols proof
+    → reading_of (InProof s) (plains proof rest) ≡ reading_of (InProof (record s { proof = s.proof ++ proof })) rest
+proof_run s [] rest h = ap (λ (x : List PlainToken). reading_of (InProof (record s { proof = x })) rest) (sym (append-nil s.proof))
+proof_run s (t ∷ proof) rest h =
+    let more : PlainStatement = record s { proof = s.proof ++ t ∷ [] } in
+    reading-more (InProof s) (InProof more) t (plains proof rest) (proof_step s t h.0)
+    ∙ proof_run more proof rest h.1
+    ∙ ap (λ (x : List PlainToken). reading_of (InProof (record s { proof = x })) rest) (append_assoc s.proof (t ∷ []) proof)
+
+-- ---- heads
+
+-- a statement with no symbols yet
+abbrev fresh : Kind → PlainToken → Option PlainToken → Part
+fresh kind first label = InBody (begun kind first label)
+
+bare_run : (kind : Kind) (head : List PlainToken) (first : PlainToken) (others : List PlainToken) (label : Option PlainToken) (rest : List Item)
+    → ((t : PlainToken) → t.text ≡ keyword_of kind → step Between t ≡ More (fresh kind t None)) → list_all is_label_byte (keyword_of kind) ≡ false
+    → IsBareHead kind head → head ≡ first ∷ others → label ≡ label_in head → reading_of Between (plains head rest) ≡ reading_of (fresh kind first label) rest
+bare_run kind head first others label rest starts no_label h f l =
+    let parts = cons_parts h.keyword first [] others (sym h.tokens ∙ f) in
+    let none : None ≡ label = sym (l ∙ ap label_in h.tokens ∙ cond-false (list_all is_label_byte h.keyword.text) _ _ (ap (list_all is_label_byte) h.sign ∙ no_label)) in
+    ap (λ (x : List PlainToken). reading_of Between (plains x rest)) h.tokens
+    ∙ reading-more Between (fresh kind h.keyword None) h.keyword rest (starts h.keyword h.sign)
+    ∙ (λ i. reading_of (fresh kind (parts.0 i) (none i)) rest)
+
+labelled_run : (kind : Kind) (head : List PlainToken) (first : PlainToken) (others : List PlainToken) (label : Option PlainToken) (rest : List Item)
+    → ((l t : PlainToken) → t.text ≡ keyword_of kind → step (Labelled l) t ≡ More (fresh kind l (Some l)))
+    → IsLabelledHead kind head → head ≡ first ∷ others → label ≡ label_in head → reading_of Between (plains head rest) ≡ reading_of (fresh kind first label) rest
+labelled_run kind head first others label rest goes h f l =
+    let parts = cons_parts h.label first (h.keyword ∷ []) others (sym h.tokens ∙ f) in
+    let some : Some h.label ≡ label = sym (l ∙ ap label_in h.tokens ∙ cond-true (list_all is_label_byte h.label.text) _ _ h.named) in
+    ap (λ (x : List PlainToken). reading_of Between (plains x rest)) h.tokens
+    ∙ reading-more Between (Labelled h.label) h.label (Plain h.keyword ∷ rest) (start_label h.label h.named)
+    ∙ reading-more (Labelled h.label) (fresh kind h.label (Some h.label)) h.keyword rest (goes h.label h.keyword h.sign)
+    ∙ (λ i. reading_of (fresh kind (parts.0 i) (some i)) rest)
+
+head_run : (kind : Kind) (head : List PlainToken) (first : PlainToken) (others : List PlainToken) (label : Option PlainToken) (rest : List Item)
+    → IsHead kind head → head ≡ first ∷ others → label ≡ label_in head → reading_of Between (plains head rest) ≡ reading_of (fresh kind first label) rest
+head_run Constants head first others label rest h f l = bare_run Constants head first others label rest start_constants refl h f l
+head_run Variables head first others label rest h f l = bare_run Variables head first others label rest start_variables refl h f l
+head_run Floating head first others label rest h f l = labelled_run Floating head first others label rest label_floating h f l
+head_run Axiom head first others label rest h f l = labelled_run Axiom head first others label rest label_axiom h f l
+head_run Provable head first others label rest h f l = labelled_run Provable head first others label rest label_provable h f l
+head_run Distinct head first others label rest h f l = absurd h
+head_run Essential head first others label rest h f l = absurd h
+head_run Opening head first others label rest h f l = absurd h
+head_run Closing head first others label rest h f l = absurd h
+
+-- ---- unfinished statements
+
+body_run : (s : PlainStatement) (tokens : List PlainToken) (rest : List Item) → IsPartBody s tokens → reading_of Between (plains tokens rest) ≡ reading_of (InBody s) rest
+body_run s tokens rest d =
+    ap (λ (x : List PlainToken). reading_of Between (plains x rest)) d.whole
+    ∙ ap (reading_of Between) (plains-append d.head s.symbols rest)
+    ∙ head_run s.kind d.head s.first d.others s.label (plains s.symbols rest) d.begins d.first d.label
+    ∙ symbols_run (begun s.kind s.first s.label) s.symbols rest d.spelled (λ k. let le = d.room k in omega arith)
+    ∙ (λ i. reading_of (InBody (record s { proof = sym d.proof i; span = sym d.span i })) rest)
+
+-- the body of a `$p`, as it was before its `$=`
+before_equals : (s : PlainStatement) (tokens : List PlainToken) (d : IsPartProof s tokens) → IsPartBody (record s { proof = []; span = (0, 0) }) (d.head ++ s.symbols)
+before_equals s tokens d = record {
+  head = d.head;
+  others = d.others;
+  whole = refl;
+  begins = subst (λ (k : Kind). IsHead k d.head) (sym d.kind) d.begins;
+  first = d.first;
+  label = d.label;
+  spelled = d.spelled;
+  room = λ k. absurd (provable_floating (sym d.kind ∙ k));
+  proof = refl;
+  span = refl;
+}
+  where
+    provable_floating : Provable ≡ Floating → ⊥
+    provable_floating e = cc
+
+proving_run : (s : PlainStatement) (tokens : List PlainToken) (rest : List Item) → IsPartProof s tokens → reading_of Between (plains tokens rest) ≡ reading_of (InProof s) rest
+proving_run s tokens rest d =
+    let stated : PlainStatement = record s { proof = []; span = (0, 0) } in
+    let proving : PlainStatement = record s { proof = []; span = (d.equals.at + 2, 0) } in
+    ap (λ (x : List PlainToken). reading_of Between (plains x rest)) d.whole
+    ∙ ap (reading_of Between) (plains-append (d.head ++ s.symbols) (d.equals ∷ s.proof) rest)
+    ∙ body_run stated (d.head ++ s.symbols) (Plain d.equals ∷ plains s.proof rest) (before_equals s tokens d)
+    ∙ reading-more (InBody stated) (InProof proving) d.equals (plains s.proof rest)
+    (closing_counted stated d.equals (d.sign ∙ ap closes_symbols (sym d.kind)) (subst (λ (k : Kind). FitsCount k (length s.symbols)) (sym d.kind) d.some) ∙ cond-true (is_provable s.kind) _ _ (ap is_provable d.kind))
+    ∙ proof_run proving s.proof rest d.steps
+    ∙ (λ i. reading_of (InProof (record s { span = sym d.span i })) rest)
+
+-- the reader has what the tokens are
+pub part_run : (part : Part) (tokens : List PlainToken) (rest : List Item) → Describes part tokens → reading_of Between (plains tokens rest) ≡ reading_of part rest
+part_run Between tokens rest d = ap (λ (x : List PlainToken). reading_of Between (plains x rest)) d
+part_run (Labelled label) tokens rest d = ap (λ (x : List PlainToken). reading_of Between (plains x rest)) d.0 ∙ reading-more Between (Labelled label) label rest (start_label label d.1)
+part_run (InBody s) tokens rest d = body_run s tokens rest d
+part_run (InProof s) tokens rest d = proving_run s tokens rest d
+
+-- ---- whole statements
+
+pub tail_cases : (s : PlainStatement) (kind : Kind) (head tail : List PlainToken) → IsHead kind head → IsTail s kind tail → ((is_provable kind ≡ false) × (closes_symbols kind ≡ codes "$.") × EndsAtOnce s tail) ⊎ ((kind ≡ Provable) × EndsInProof s tail)
+tail_cases s Constants head tail h k = inl (refl, refl, k)
+tail_cases s Variables head tail h k = inl (refl, refl, k)
+tail_cases s Floating head tail h k = inl (refl, refl, k)
+tail_cases s Axiom head tail h k = inl (refl, refl, k)
+tail_cases s Provable head tail h k = inr (refl, k)
+tail_cases s Distinct head tail h k = absurd h
+tail_cases s Essential head tail h k = absurd h
+tail_cases s Opening head tail h k = absurd h
+tail_cases s Closing head tail h k = absurd h
+
+pub room_of : (kind : Kind) (n : ℕ) → FitsCount kind n → kind ≡ Floating → n ≤ 2
+room_of Floating n c k = omega arith
+room_of _ n c k = absurd cc
+
+at_once_run : (tokens : List PlainToken) (s : PlainStatement) (rest : List Item) (h : Spells tokens s) → is_provable s.kind ≡ false → closes_symbols s.kind ≡ codes "$." → EndsAtOnce s h.tail
+    → reading_of Between (plains tokens rest) ≡ with_statement s (reading_of Between rest)
+at_once_run tokens s rest h np sign k =
+    let body : IsPartBody s (h.head ++ s.symbols) = record { head = h.head; others = h.first.0; whole = refl; begins = h.begins; first = h.first.1; label = h.label; spelled = h.symbols; room = room_of s.kind (length s.symbols) h.count; proof = k.proof; span = k.span } in
+    ap (λ (x : List PlainToken). reading_of Between (plains x rest)) (h.whole ∙ ap (λ (x : List PlainToken). (h.head ++ s.symbols) ++ x) k.tokens)
+    ∙ ap (reading_of Between) (plains-append (h.head ++ s.symbols) (k.stop ∷ []) rest)
+    ∙ body_run s (h.head ++ s.symbols) (Plain k.stop ∷ rest) body
+    ∙ reading-whole (InBody s) s k.stop rest (closing_counted s k.stop (k.end ∙ sym sign) h.count ∙ cond-false (is_provable s.kind) _ _ np)
+
+in_proof_run : (tokens : List PlainToken) (s : PlainStatement) (rest : List Item) (h : Spells tokens s) → s.kind ≡ Provable → EndsInProof s h.tail
+    → reading_of Between (plains tokens rest) ≡ with_statement s (reading_of Between rest)
+in_proof_run tokens s rest h p k =
+    let begun_proof : PlainStatement = record s { span = (k.equals.at + 2, 0) } in
+    let front : List PlainToken = (h.head ++ s.symbols) ++ k.equals ∷ s.proof in
+    let proving : IsPartProof begun_proof front = record {
+      kind = p;
+      head = h.head;
+      others = h.first.0;
+      equals = k.equals;
+      whole = refl;
+      begins = subst (λ (x : Kind). IsHead x h.head) p h.begins;
+      first = h.first.1;
+      label = h.label;
+      spelled = h.symbols;
+      some = subst (λ (x : Kind). FitsCount x (length s.symbols)) p h.count;
+      sign = k.sign;
+      steps = k.proof;
+      span = refl;
+    } in
+    ap (λ (x : List PlainToken). reading_of Between (plains x rest)) (h.whole ∙ ap (λ (x : List PlainToken). (h.head ++ s.symbols) ++ x) k.tokens ∙ sym (append_assoc (h.head ++ s.symbols) (k.equals ∷ s.proof) (k.stop ∷ [])))
+    ∙ ap (reading_of Between) (plains-append front (k.stop ∷ []) rest)
+    ∙ proving_run begun_proof front (Plain k.stop ∷ rest) proving
+    ∙ reading-whole (InProof begun_proof) (record s { span = (k.equals.at + 2, k.stop.at) }) k.stop rest (proof_stop begun_proof k.stop k.end)
+    ∙ (λ i. with_statement (record s { span = sym k.span i }) (reading_of Between rest))
+
+pub statement_run : (tokens : List PlainToken) (s : PlainStatement) (rest : List Item) → Spells tokens s → reading_of Between (plains tokens rest) ≡ with_statement s (reading_of Between rest)
+statement_run tokens s rest h =
+    elim (tail_cases s s.kind h.head h.tail h.begins h.ends) [
+      | inl k ↦ at_once_run tokens s rest h k.0 k.1 k.2
+      | inr k ↦ in_proof_run tokens s rest h k.0 k.1
+    ]
+
+-- statements before a reading
+abbrev pub with_statements : List PlainStatement → PlainReading → PlainReading
+with_statements [] reading = reading
+with_statements (s ∷ statements) reading = with_statement s (with_statements statements reading)
+
+pub statements_run : (tokens : List PlainToken) (statements : List PlainStatement) (rest : List Item) → SpellsAll tokens statements → reading_of Between (plains tokens rest) ≡ with_statements statements (reading_of Between rest)
+statements_run tokens [] rest h = ap (λ (x : List PlainToken). reading_of Between (plains x rest)) h
+statements_run tokens (s ∷ statements) rest h =
+    ap (λ (x : List PlainToken). reading_of Between (plains x rest)) h.2
+    ∙ ap (reading_of Between) (plains-append h.0 h.1 rest)
+    ∙ statement_run h.0 s (plains h.1 rest) h.3
+    ∙ ap (with_statement s) (statements_run h.1 statements rest h.4)

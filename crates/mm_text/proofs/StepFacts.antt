@@ -1,0 +1,242 @@
+-- What a token makes of an unfinished statement is what the grammar says.
+use Rattle.std.proofs.Common.{◌≡◌, ◌≢◌, ℕ, ◌+◌, length, List, [], ◌∷◌, ◌++◌, Bool, true, false, cond, refl, sym, ap, subst, ◌∙◌, codes, Some, None, arith, append_assoc, inl, inr}
+use Rattle.std.specs.List.{list_all}
+use Rattle.std.proofs.lemmas.List.{length-append}
+use Rattle.std.proofs.lemmas.Bool.{both_ways, cond_both, eqb-true, eqb-false, leb-true, le-leb, eq-eqb}
+use Rattle.mm_text.specs.declared.statement.Kind.{Kind}
+use Rattle.mm_text.specs.declared.statement.Kind.TheVariants.{Constants, Variables, Distinct, Floating, Essential, Axiom, Provable, Opening, Closing}
+use Rattle.mm_text.specs.Token.{PlainToken, IsLabel, is_label_byte, HoldsNoDollar}
+use Rattle.mm_text.specs.Statement.{PlainStatement, IsHead, AreSymbols, FitsCount, Spells, IsTail, EndsAtOnce}
+use Rattle.mm_text.specs.Reading.{broken_by, closes_symbols, Meets}
+use Rattle.mm_text.specs.Reader.{Part, Between, Labelled, InBody, InProof, Step, More, Whole, Faulty, step, at_start, after_label, in_body, in_proof, same_text, is_keyword, begun, has_count, is_full, is_provable}
+use Rattle.mm_text.proofs.TextFacts.{same_text-true, same_text-false, is_keyword-true, is_keyword-false, whole-symbol}
+use Rattle.mm_text.proofs.PartFacts.{IsPartBody, IsPartProof, Describes, symbols-append, body_of_part, proof_of_part}
+
+-- ---- kinds
+
+pub has_count-true : (kind : Kind) (n : ℕ) → has_count kind n ≡ true → FitsCount kind n
+has_count-true Constants n e = leb-true 1 n e
+has_count-true Variables n e = leb-true 1 n e
+has_count-true Distinct n e = leb-true 2 n e
+has_count-true Floating n e = eqb-true n 2 e
+has_count-true Essential n e = leb-true 1 n e
+has_count-true Axiom n e = leb-true 1 n e
+has_count-true Provable n e = leb-true 1 n e
+has_count-true Opening n e = eqb-true n 0 e
+has_count-true Closing n e = eqb-true n 0 e
+
+pub has_count_from : (kind : Kind) (n : ℕ) → FitsCount kind n → has_count kind n ≡ true
+has_count_from Constants n h = le-leb 1 n h
+has_count_from Variables n h = le-leb 1 n h
+has_count_from Distinct n h = le-leb 2 n h
+has_count_from Floating n h = eq-eqb n 2 h
+has_count_from Essential n h = le-leb 1 n h
+has_count_from Axiom n h = le-leb 1 n h
+has_count_from Provable n h = le-leb 1 n h
+has_count_from Opening n h = eq-eqb n 0 h
+has_count_from Closing n h = eq-eqb n 0 h
+
+pub is_provable-true : (kind : Kind) → is_provable kind ≡ true → kind ≡ Provable
+is_provable-true Provable e = refl
+is_provable-true _ e = absurd cc
+
+pub closing_sign : (kind : Kind) → cond (is_provable kind) (codes "$=") (codes "$.") ≡ closes_symbols kind
+closing_sign Provable = refl
+closing_sign _ = refl
+
+pub is_full-true : (kind : Kind) (n : ℕ) → is_full kind n ≡ true → (kind ≡ Floating) × (n ≡ 2)
+is_full-true Floating n e = (refl, eqb-true n 2 e)
+is_full-true _ n e = absurd cc
+
+pub is_full-false : (kind : Kind) (n : ℕ) → is_full kind n ≡ false → kind ≡ Floating → n ≢ 2
+is_full-false Floating n e f = eqb-false n 2 e
+is_full-false _ n e f = absurd cc
+
+-- what ends the symbols of a statement with no proof ends the statement
+pub tail_at_once : (s : PlainStatement) (kind : Kind) (head tail : List PlainToken) → is_provable kind ≡ false → IsHead kind head → EndsAtOnce s tail → IsTail s kind tail
+tail_at_once s Constants head tail e h k = k
+tail_at_once s Variables head tail e h k = k
+tail_at_once s Floating head tail e h k = k
+tail_at_once s Axiom head tail e h k = k
+tail_at_once s Provable head tail e h k = absurd cc
+tail_at_once s Distinct head tail e h k = absurd h
+tail_at_once s Essential head tail e h k = absurd h
+tail_at_once s Opening head tail e h k = absurd h
+tail_at_once s Closing head tail e h k = absurd h
+
+-- ---- one token
+
+-- what a token makes of a statement of which these tokens were read
+abbrev pub StepsTo : List PlainToken → PlainToken → Step → Type 0
+StepsTo tokens t (More next) = Describes next (tokens ++ t ∷ [])
+StepsTo tokens t (Whole s) = Spells (tokens ++ t ∷ []) s
+StepsTo tokens t (Faulty rule) = Meets tokens t rule
+
+begun_bare : (kind : Kind) (tokens : List PlainToken) (t : PlainToken) → tokens ≡ [] → IsHead kind (t ∷ []) → list_all is_label_byte t.text ≡ false
+    → IsPartBody (begun kind t None) (tokens ++ t ∷ [])
+begun_bare kind tokens t d h e = record {
+  head = t ∷ [];
+  others = [];
+  whole = ap (λ (x : List PlainToken). x ++ t ∷ []) d;
+  begins = h;
+  first = refl;
+  label = rw e refl;
+  spelled = tt;
+  room = λ _. omega arith;
+  proof = refl;
+  span = refl;
+}
+
+begun_labelled : (kind : Kind) (label : PlainToken) (tokens : List PlainToken) (t : PlainToken) → tokens ≡ label ∷ [] → IsHead kind (label ∷ t ∷ []) → IsLabel label.text
+    → IsPartBody (begun kind label (Some label)) (tokens ++ t ∷ [])
+begun_labelled kind label tokens t d h e = record {
+  head = label ∷ t ∷ [];
+  others = t ∷ [];
+  whole = ap (λ (x : List PlainToken). x ++ t ∷ []) d;
+  begins = h;
+  first = refl;
+  label = rw e refl;
+  spelled = tt;
+  room = λ _. omega arith;
+  proof = refl;
+  span = refl;
+}
+
+at_start_right : (tokens : List PlainToken) (t : PlainToken) → tokens ≡ [] → StepsTo tokens t (at_start t)
+at_start_right tokens t d =
+    cond_both (same_text t.text (codes "$c")) _ _ (StepsTo tokens t)
+    (λ c. let e = same_text-true t.text (codes "$c") c in begun_bare Constants tokens t d (record { keyword = t; tokens = refl; sign = e }) (ap (list_all is_label_byte) e))
+    (λ nc. cond_both (same_text t.text (codes "$v")) _ _ (StepsTo tokens t)
+    (λ v. let e = same_text-true t.text (codes "$v") v in begun_bare Variables tokens t d (record { keyword = t; tokens = refl; sign = e }) (ap (list_all is_label_byte) e))
+    (λ nv. cond_both (is_keyword t.text) _ _ (StepsTo tokens t)
+    (λ k. (d, is_keyword-true t.text k, same_text-false t.text (codes "$c") nc, same_text-false t.text (codes "$v") nv))
+    (λ nk. cond_both (list_all is_label_byte t.text) _ _ (StepsTo tokens t)
+    (λ l. (ap (λ (x : List PlainToken). x ++ t ∷ []) d, l))
+    (λ nl. (d, is_keyword-false t.text nk, λ l. both_ways _ nl l)))))
+
+after_label_right : (label : PlainToken) (tokens : List PlainToken) (t : PlainToken) → tokens ≡ label ∷ [] → IsLabel label.text → StepsTo tokens t (after_label label t)
+after_label_right label tokens t d l =
+    cond_both (same_text t.text (codes "$f")) _ _ (StepsTo tokens t)
+    (λ f. begun_labelled Floating label tokens t d (record { label = label; keyword = t; tokens = refl; named = l; sign = same_text-true t.text (codes "$f") f }) l)
+    (λ nf. cond_both (same_text t.text (codes "$a")) _ _ (StepsTo tokens t)
+    (λ a. begun_labelled Axiom label tokens t d (record { label = label; keyword = t; tokens = refl; named = l; sign = same_text-true t.text (codes "$a") a }) l)
+    (λ na. cond_both (same_text t.text (codes "$p")) _ _ (StepsTo tokens t)
+    (λ p. begun_labelled Provable label tokens t d (record { label = label; keyword = t; tokens = refl; named = l; sign = same_text-true t.text (codes "$p") p }) l)
+    (λ np. (record { label = label; whole = d; named = l }, same_text-false t.text (codes "$f") nf, same_text-false t.text (codes "$a") na, same_text-false t.text (codes "$p") np))))
+
+push_whole : (tokens head symbols : List PlainToken) (t : PlainToken) → tokens ≡ head ++ symbols → tokens ++ t ∷ [] ≡ head ++ (symbols ++ t ∷ [])
+push_whole tokens head symbols t e = ap (λ (x : List PlainToken). x ++ t ∷ []) e ∙ append_assoc head symbols (t ∷ [])
+
+-- the `$=`
+body_equals : (s : PlainStatement) (tokens : List PlainToken) (t : PlainToken) → IsPartBody s tokens → s.kind ≡ Provable → t.text ≡ codes "$=" → FitsCount s.kind (length s.symbols)
+    → IsPartProof (record s { span = (t.at + 2, 0) }) (tokens ++ t ∷ [])
+body_equals s tokens t d p e c = record {
+  kind = p;
+  head = d.head;
+  others = d.others;
+  equals = t;
+  whole = ap (λ (x : List PlainToken). x ++ t ∷ []) d.whole ∙ ap (λ (x : List PlainToken). (d.head ++ s.symbols) ++ t ∷ x) (sym d.proof);
+  begins = subst (λ (k : Kind). IsHead k d.head) p d.begins;
+  first = d.first;
+  label = d.label;
+  spelled = d.spelled;
+  some = subst (λ (k : Kind). FitsCount k (length s.symbols)) p c;
+  sign = e;
+  steps = subst AreSymbols (sym d.proof) tt;
+  span = refl;
+}
+
+-- the `$.` of a statement with no proof
+body_ends : (s : PlainStatement) (tokens : List PlainToken) (t : PlainToken) → IsPartBody s tokens → is_provable s.kind ≡ false → t.text ≡ codes "$." → FitsCount s.kind (length s.symbols)
+    → Spells (tokens ++ t ∷ []) s
+body_ends s tokens t d p e c = record {
+  head = d.head;
+  tail = t ∷ [];
+  whole = ap (λ (x : List PlainToken). x ++ t ∷ []) d.whole;
+  begins = d.begins;
+  first = (d.others, d.first);
+  label = d.label;
+  symbols = d.spelled;
+  count = c;
+  ends = tail_at_once s s.kind d.head (t ∷ []) p d.begins (record { stop = t; tokens = refl; end = e; proof = d.proof; span = d.span });
+}
+
+body_symbol : (s : PlainStatement) (tokens : List PlainToken) (t : PlainToken) → IsPartBody s tokens → HoldsNoDollar t.text → is_full s.kind (length s.symbols) ≡ false
+    → IsPartBody (record s { symbols = s.symbols ++ t ∷ [] }) (tokens ++ t ∷ [])
+body_symbol s tokens t d h f = record {
+  head = d.head;
+  others = d.others;
+  whole = push_whole tokens d.head s.symbols t d.whole;
+  begins = d.begins;
+  first = d.first;
+  label = d.label;
+  spelled = symbols-append s.symbols (t ∷ []) d.spelled (h, tt);
+  room = λ k. let ne = is_full-false s.kind (length s.symbols) f k in let le = d.room k in omega (arith, length-append s.symbols (t ∷ []));
+  proof = d.proof;
+  span = d.span;
+}
+
+in_body_right : (s : PlainStatement) (tokens : List PlainToken) (t : PlainToken) → broken_by t.text ≡ None → IsPartBody s tokens → StepsTo tokens t (in_body s t)
+in_body_right s tokens t ok d =
+    cond_both (is_keyword t.text) _ _ (StepsTo tokens t)
+    (λ k. cond_both (same_text t.text (cond (is_provable s.kind) (codes "$=") (codes "$."))) _ _ (StepsTo tokens t)
+    (λ same. let sign = same_text-true t.text (cond (is_provable s.kind) (codes "$=") (codes "$.")) same in
+    cond_both (has_count s.kind (length s.symbols)) _ _ (StepsTo tokens t)
+    (λ c. let count = has_count-true s.kind (length s.symbols) c in
+    cond_both (is_provable s.kind) _ _ (StepsTo tokens t)
+    (λ p. body_equals s tokens t d (is_provable-true s.kind p) (sign ∙ ap (λ (b : Bool). cond b (codes "$=") (codes "$.")) p) count)
+    (λ np. body_ends s tokens t d np (sign ∙ ap (λ (b : Bool). cond b (codes "$=") (codes "$.")) np) count))
+    (λ nc. (s.kind, s.symbols, body_of_part s tokens d, inl (sign ∙ closing_sign s.kind, λ f. both_ways _ nc (has_count_from s.kind (length s.symbols) f)))))
+    (λ other. (is_keyword-true t.text k, inl (s.kind, s.symbols, body_of_part s tokens d, λ e. same_text-false t.text (cond (is_provable s.kind) (codes "$=") (codes "$.")) other (e ∙ sym (closing_sign s.kind))))))
+    (λ nk. cond_both (is_full s.kind (length s.symbols)) _ _ (StepsTo tokens t)
+    (λ f. let full = is_full-true s.kind (length s.symbols) f in (s.kind, s.symbols, body_of_part s tokens d, inr (whole-symbol t.text ok nk, full.0, full.1)))
+    (λ nf. body_symbol s tokens t d (whole-symbol t.text ok nk) nf))
+
+-- the `$.` after a proof
+proof_ends : (s : PlainStatement) (tokens : List PlainToken) (t : PlainToken) → IsPartProof s tokens → t.text ≡ codes "$." → Spells (tokens ++ t ∷ []) (record s { span = (s.span.0, t.at) })
+proof_ends s tokens t d e =
+    let made : PlainStatement = record s { span = (s.span.0, t.at) } in
+    record {
+      head = d.head;
+      tail = d.equals ∷ s.proof ++ t ∷ [];
+      whole = ap (λ (x : List PlainToken). x ++ t ∷ []) d.whole ∙ append_assoc (d.head ++ s.symbols) (d.equals ∷ s.proof) (t ∷ []);
+      begins = subst (λ (k : Kind). IsHead k d.head) (sym d.kind) d.begins;
+      first = (d.others, d.first);
+      label = d.label;
+      symbols = d.spelled;
+      count = subst (λ (k : Kind). FitsCount k (length s.symbols)) (sym d.kind) d.some;
+      ends = subst (λ (k : Kind). IsTail made k (d.equals ∷ s.proof ++ t ∷ [])) (sym d.kind) (record { equals = d.equals; stop = t; tokens = refl; sign = d.sign; end = e; proof = d.steps; span = ap (λ (x : ℕ × ℕ). (x.0, t.at)) d.span });
+    }
+
+proof_token : (s : PlainStatement) (tokens : List PlainToken) (t : PlainToken) → IsPartProof s tokens → HoldsNoDollar t.text → IsPartProof (record s { proof = s.proof ++ t ∷ [] }) (tokens ++ t ∷ [])
+proof_token s tokens t d h = record {
+  kind = d.kind;
+  head = d.head;
+  others = d.others;
+  equals = d.equals;
+  whole = ap (λ (x : List PlainToken). x ++ t ∷ []) d.whole ∙ append_assoc (d.head ++ s.symbols) (d.equals ∷ s.proof) (t ∷ []);
+  begins = d.begins;
+  first = d.first;
+  label = d.label;
+  spelled = d.spelled;
+  some = d.some;
+  sign = d.sign;
+  steps = symbols-append s.proof (t ∷ []) d.steps (h, tt);
+  span = d.span;
+}
+
+in_proof_right : (s : PlainStatement) (tokens : List PlainToken) (t : PlainToken) → broken_by t.text ≡ None → IsPartProof s tokens → StepsTo tokens t (in_proof s t)
+in_proof_right s tokens t ok d =
+    cond_both (is_keyword t.text) _ _ (StepsTo tokens t)
+    (λ k. cond_both (same_text t.text (codes "$.")) _ _ (StepsTo tokens t)
+    (λ same. proof_ends s tokens t d (same_text-true t.text (codes "$.") same))
+    (λ other. (is_keyword-true t.text k, inr (proof_of_part s tokens d, same_text-false t.text (codes "$.") other))))
+    (λ nk. proof_token s tokens t d (whole-symbol t.text ok nk))
+
+-- the reader's step is the grammar's
+pub step_right : (part : Part) (tokens : List PlainToken) (t : PlainToken) → broken_by t.text ≡ None → Describes part tokens → StepsTo tokens t (step part t)
+unfolding step
+step_right Between tokens t ok d = at_start_right tokens t d
+step_right (Labelled label) tokens t ok d = after_label_right label tokens t d.0 d.1
+step_right (InBody s) tokens t ok d = in_body_right s tokens t ok d
+step_right (InProof s) tokens t ok d = in_proof_right s tokens t ok d

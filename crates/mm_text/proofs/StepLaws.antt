@@ -1,0 +1,224 @@
+-- The plain reader, one token at a time.
+use Rattle.std.proofs.Common.{◌≡◌, ℕ, ◌+◌, ◌==◌, List, [], ◌∷◌, ◌++◌, length, true, false, cond, if◌then◌else◌, Option, Some, None, refl, sym, ap, ◌∙◌, codes}
+use Rattle.std.specs.List.{list_any, list_all}
+use Rattle.std.specs.Cmp.Lexicographic.{bytes_decides}
+use Rattle.std.proofs.lemmas.Bool.{false≢true}
+use Rattle.mm_text.specs.declared.fault.TextRule.{TextRule}
+use Rattle.mm_text.specs.declared.fault.TextRule.TheVariants.{S1, S2, S3, S4, S5}
+use Rattle.mm_text.specs.declared.statement.Kind.{Kind}
+use Rattle.mm_text.specs.declared.class.Keyword.{Keyword}
+use Rattle.mm_text.specs.declared.class.Keyword.TheVariants as keyword
+use Rattle.mm_text.specs.Token.{PlainToken, HoldsNoDollar, is_label_byte}
+use Rattle.mm_text.specs.Statement.{PlainStatement}
+use Rattle.mm_text.specs.Reading.{Item, Plain, Wrong, End}
+use Rattle.mm_text.specs.Class.{spelling}
+use Rattle.mm_text.specs.Reader.{same_text, is_keyword, begun, Part, Between, Labelled, InBody, InProof, Step, More, Whole, Faulty, has_count, is_full, is_provable, step, step_fault, end_fault, PlainReading, ended, with_statement, reading_of}
+use Rattle.mm_text.specs.Steps.{bare_kind, labelled_kind, ends_symbols}
+
+-- ---- the reading of items, by the first
+
+pub read_end : (part : Part) (file : ℕ) (items : List Item) → reading_of part (End file ∷ items) ≡ ended (end_fault part)
+unfolding reading_of
+read_end part file items = refl
+
+pub read_wrong : (part : Part) (rule : TextRule) (t : PlainToken) (items : List Item) → reading_of part (Wrong rule t ∷ items) ≡ ended (step_fault part t rule)
+unfolding reading_of
+read_wrong part rule t items = refl
+
+read_by : Part → PlainToken → List Item → Step → PlainReading
+read_by part t items s = elim s [
+  | More next ↦ reading_of next items
+  | Whole s ↦ with_statement s (reading_of Between items)
+  | Faulty rule ↦ ended (step_fault part t rule)
+]
+
+read_plain : (part : Part) (t : PlainToken) (items : List Item) → reading_of part (Plain t ∷ items) ≡ read_by part t items (step part t)
+unfolding reading_of read_by
+read_plain part t items = refl
+
+pub read_more : (part : Part) (t : PlainToken) (items : List Item) (next : Part) → step part t ≡ More next → reading_of part (Plain t ∷ items) ≡ reading_of next items
+unfolding read_by
+read_more part t items next e = read_plain part t items ∙ ap (read_by part t items) e
+
+pub read_whole : (part : Part) (t : PlainToken) (items : List Item) (s : PlainStatement) → step part t ≡ Whole s → reading_of part (Plain t ∷ items) ≡ with_statement s (reading_of Between items)
+unfolding read_by
+read_whole part t items s e = read_plain part t items ∙ ap (read_by part t items) e
+
+pub read_faulty : (part : Part) (t : PlainToken) (items : List Item) (rule : TextRule) → step part t ≡ Faulty rule → reading_of part (Plain t ∷ items) ≡ ended (step_fault part t rule)
+unfolding read_by
+read_faulty part t items rule e = read_plain part t items ∙ ap (read_by part t items) e
+
+-- ---- words and keywords
+
+-- a text with no `$` is no text that holds one
+other_text : (text sign : List ℕ) → HoldsNoDollar text → list_any (λ b. b == 36) sign ≡ true → same_text text sign ≡ false
+other_text text sign word dollar =
+    elim (same_text text sign) as (λ same. same_text text sign ≡ same → same ≡ false) [
+      | true ↦ λ e. absurd (false≢true (sym word ∙ ap (list_any (λ b. b == 36)) ((bytes_decides text sign).0 e) ∙ dollar))
+      | false ↦ λ e. refl
+    ] refl
+
+-- a text with no `$` is no keyword
+pub word_is_no_keyword : (text : List ℕ) → HoldsNoDollar text → is_keyword text ≡ false
+word_is_no_keyword text word = simp (
+  other_text text (codes "$c") word refl,
+  other_text text (codes "$v") word refl,
+  other_text text (codes "$f") word refl,
+  other_text text (codes "$e") word refl,
+  other_text text (codes "$d") word refl,
+  other_text text (codes "$a") word refl,
+  other_text text (codes "$p") word refl,
+  other_text text (codes "$.") word refl,
+  other_text text (codes "$=") word refl,
+  other_text text (codes "$(") word refl,
+  other_text text (codes "$)") word refl,
+  other_text text (codes "$[") word refl,
+  other_text text (codes "$]") word refl,
+  other_text text (codes "${") word refl,
+  other_text text (codes "$}") word refl,
+)
+
+pub keyword_is_one : (k : Keyword) → is_keyword (spelling k) ≡ true
+keyword_is_one keyword.Constants = refl
+keyword_is_one keyword.Variables = refl
+keyword_is_one keyword.Distinct = refl
+keyword_is_one keyword.Floating = refl
+keyword_is_one keyword.Essential = refl
+keyword_is_one keyword.Axiom = refl
+keyword_is_one keyword.Provable = refl
+keyword_is_one keyword.Stop = refl
+keyword_is_one keyword.Equals = refl
+keyword_is_one keyword.Opening = refl
+keyword_is_one keyword.Closing = refl
+keyword_is_one keyword.Comment = refl
+keyword_is_one keyword.Inclusion = refl
+
+-- ---- the first token of a statement
+
+start_by : PlainToken → Option Kind → Step
+start_by t None = Faulty S1
+start_by t (Some kind) = More (InBody (begun kind t None))
+
+start_keyword : (t : PlainToken) (k : Keyword) → t.text ≡ spelling k → step Between t ≡ start_by t (bare_kind k)
+unfolding step start_by
+start_keyword t keyword.Constants e = rw e refl
+start_keyword t keyword.Variables e = rw e refl
+start_keyword t keyword.Distinct e = rw e refl
+start_keyword t keyword.Floating e = rw e refl
+start_keyword t keyword.Essential e = rw e refl
+start_keyword t keyword.Axiom e = rw e refl
+start_keyword t keyword.Provable e = rw e refl
+start_keyword t keyword.Stop e = rw e refl
+start_keyword t keyword.Equals e = rw e refl
+start_keyword t keyword.Opening e = rw e refl
+start_keyword t keyword.Closing e = rw e refl
+start_keyword t keyword.Comment e = rw e refl
+start_keyword t keyword.Inclusion e = rw e refl
+
+pub step_begins : (t : PlainToken) (k : Keyword) (kind : Kind) → t.text ≡ spelling k → bare_kind k ≡ Some kind → step Between t ≡ More (InBody (begun kind t None))
+unfolding start_by
+step_begins t k kind e begins = start_keyword t k e ∙ ap (start_by t) begins
+
+pub step_begins_none : (t : PlainToken) (k : Keyword) → t.text ≡ spelling k → bare_kind k ≡ None → step Between t ≡ Faulty S1
+unfolding start_by
+step_begins_none t k e begins = start_keyword t k e ∙ ap (start_by t) begins
+
+start_word : (t : PlainToken) → HoldsNoDollar t.text → step Between t ≡ cond (list_all is_label_byte t.text) (More (Labelled t)) (Faulty S2)
+unfolding step
+start_word t word =
+    let constants = other_text t.text (codes "$c") word refl in
+    let variables = other_text t.text (codes "$v") word refl in
+    let none = word_is_no_keyword t.text word in
+    rw none (simp (constants, variables))
+
+pub step_label : (t : PlainToken) → HoldsNoDollar t.text → list_all is_label_byte t.text ≡ true → step Between t ≡ More (Labelled t)
+step_label t word named = start_word t word ∙ ap (λ b. cond b (More (Labelled t)) (Faulty S2)) named
+
+pub step_no_label : (t : PlainToken) → HoldsNoDollar t.text → list_all is_label_byte t.text ≡ false → step Between t ≡ Faulty S2
+step_no_label t word named = start_word t word ∙ ap (λ b. cond b (More (Labelled t)) (Faulty S2)) named
+
+-- ---- the token after a label
+
+labelled_by : PlainToken → Option Kind → Step
+labelled_by label None = Faulty S3
+labelled_by label (Some kind) = More (InBody (begun kind label (Some label)))
+
+label_keyword : (label t : PlainToken) (k : Keyword) → t.text ≡ spelling k → step (Labelled label) t ≡ labelled_by label (labelled_kind k)
+unfolding step labelled_by
+label_keyword label t keyword.Constants e = rw e refl
+label_keyword label t keyword.Variables e = rw e refl
+label_keyword label t keyword.Distinct e = rw e refl
+label_keyword label t keyword.Floating e = rw e refl
+label_keyword label t keyword.Essential e = rw e refl
+label_keyword label t keyword.Axiom e = rw e refl
+label_keyword label t keyword.Provable e = rw e refl
+label_keyword label t keyword.Stop e = rw e refl
+label_keyword label t keyword.Equals e = rw e refl
+label_keyword label t keyword.Opening e = rw e refl
+label_keyword label t keyword.Closing e = rw e refl
+label_keyword label t keyword.Comment e = rw e refl
+label_keyword label t keyword.Inclusion e = rw e refl
+
+pub step_after_label : (label t : PlainToken) (k : Keyword) (kind : Kind) → t.text ≡ spelling k → labelled_kind k ≡ Some kind → step (Labelled label) t ≡ More (InBody (begun kind label (Some label)))
+unfolding labelled_by
+step_after_label label t k kind e begins = label_keyword label t k e ∙ ap (labelled_by label) begins
+
+pub step_after_label_none : (label t : PlainToken) (k : Keyword) → t.text ≡ spelling k → labelled_kind k ≡ None → step (Labelled label) t ≡ Faulty S3
+unfolding labelled_by
+step_after_label_none label t k e begins = label_keyword label t k e ∙ ap (labelled_by label) begins
+
+pub step_label_word : (label t : PlainToken) → HoldsNoDollar t.text → step (Labelled label) t ≡ Faulty S3
+unfolding step
+step_label_word label t word =
+    let floating = other_text t.text (codes "$f") word refl in
+    let axiom_sign = other_text t.text (codes "$a") word refl in
+    let provable = other_text t.text (codes "$p") word refl in
+    simp (floating, axiom_sign, provable)
+
+-- ---- the token after symbols
+
+body_keyword : (s : PlainStatement) (t : PlainToken) (k : Keyword) → t.text ≡ spelling k → step (InBody s) t ≡
+    (if ends_symbols s.kind k
+    then (if has_count s.kind (length s.symbols)
+    then (if is_provable s.kind then More (InProof (record s { span = (t.at + 2, 0) })) else Whole s)
+    else Faulty S5)
+    else Faulty S4)
+unfolding step
+body_keyword s t k e = let one = keyword_is_one k in simp (e, one)
+
+pub step_not_ended : (s : PlainStatement) (t : PlainToken) (k : Keyword) → t.text ≡ spelling k → ends_symbols s.kind k ≡ false → step (InBody s) t ≡ Faulty S4
+step_not_ended s t k e ends = body_keyword s t k e ∙ simp ends
+
+pub step_too_few : (s : PlainStatement) (t : PlainToken) (k : Keyword) → t.text ≡ spelling k → ends_symbols s.kind k ≡ true → has_count s.kind (length s.symbols) ≡ false → step (InBody s) t ≡ Faulty S5
+step_too_few s t k e ends count = body_keyword s t k e ∙ simp (ends, count)
+
+pub step_whole : (s : PlainStatement) (t : PlainToken) (k : Keyword) → t.text ≡ spelling k → ends_symbols s.kind k ≡ true → has_count s.kind (length s.symbols) ≡ true → is_provable s.kind ≡ false → step (InBody s) t ≡ Whole s
+step_whole s t k e ends count plain = body_keyword s t k e ∙ rw ends (simp (count, plain))
+
+pub step_to_proof : (s : PlainStatement) (t : PlainToken) (k : Keyword) → t.text ≡ spelling k → ends_symbols s.kind k ≡ true → has_count s.kind (length s.symbols) ≡ true → is_provable s.kind ≡ true → step (InBody s) t ≡ More (InProof (record s { span = (t.at + 2, 0) }))
+step_to_proof s t k e ends count proved = body_keyword s t k e ∙ rw ends (simp (count, proved))
+
+pub step_symbol : (s : PlainStatement) (t : PlainToken) → HoldsNoDollar t.text → is_full s.kind (length s.symbols) ≡ false → step (InBody s) t ≡ More (InBody (record s { symbols = s.symbols ++ t ∷ [] }))
+unfolding step
+step_symbol s t word room = let none = word_is_no_keyword t.text word in simp (none, room)
+
+pub step_too_many : (s : PlainStatement) (t : PlainToken) → HoldsNoDollar t.text → is_full s.kind (length s.symbols) ≡ true → step (InBody s) t ≡ Faulty S5
+unfolding step
+step_too_many s t word full = let none = word_is_no_keyword t.text word in simp (none, full)
+
+-- ---- the token after steps of a proof
+
+proof_keyword : (s : PlainStatement) (t : PlainToken) (k : Keyword) → t.text ≡ spelling k → step (InProof s) t ≡
+    (if same_text (spelling k) (codes "$.") then Whole (record s { span = (s.span.0, t.at) }) else Faulty S4)
+unfolding step
+proof_keyword s t k e = let one = keyword_is_one k in simp (e, one)
+
+pub step_ends_proof : (s : PlainStatement) (t : PlainToken) (k : Keyword) → t.text ≡ spelling k → same_text (spelling k) (codes "$.") ≡ true → step (InProof s) t ≡ Whole (record s { span = (s.span.0, t.at) })
+step_ends_proof s t k e stop = proof_keyword s t k e ∙ simp stop
+
+pub step_in_proof : (s : PlainStatement) (t : PlainToken) (k : Keyword) → t.text ≡ spelling k → same_text (spelling k) (codes "$.") ≡ false → step (InProof s) t ≡ Faulty S4
+step_in_proof s t k e stop = proof_keyword s t k e ∙ simp stop
+
+pub step_proof_token : (s : PlainStatement) (t : PlainToken) → HoldsNoDollar t.text → step (InProof s) t ≡ More (InProof (record s { proof = s.proof ++ t ∷ [] }))
+unfolding step
+step_proof_token s t word = let none = word_is_no_keyword t.text word in simp none

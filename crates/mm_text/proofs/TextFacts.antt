@@ -1,0 +1,102 @@
+-- Texts of tokens: keywords, labels, and texts that hold no `$`.
+use Rattle.std.proofs.Common.{◌≡◌, ◌≢◌, ℕ, zero, suc, ◌<◌, ◌==◌, ◌&&◌, ◌||◌, not, cond, nat_eq, length, get_or, List, [], ◌∷◌, Bool, true, false, refl, sym, ap, ◌∙◌, codes, Some, None, Contains, arith, inl, inr}
+use Rattle.std.specs.List.{list_any, list_all}
+use Rattle.std.specs.Cmp.Lexicographic.{pointwise, bytes_decides}
+use Rattle.std.proofs.lemmas.Bool.{or_parts, or_cases, or_left, or_right, and_parts, false≢true, both_ways, false_from_ne_true, eqb-true}
+use Rattle.mm_text.specs.declared.fault.TextRule.TheVariants.{X1, X4, X9}
+use Rattle.mm_text.specs.Token.{IsLabel, is_label_byte, HoldsNoDollar, is_printable}
+use Rattle.mm_text.specs.Statement.{keywords, IsKeyword}
+use Rattle.mm_text.specs.Reading.{broken_by}
+use Rattle.mm_text.specs.Reader.{same_text, is_keyword}
+
+pub same_text-true : (a b : List ℕ) → same_text a b ≡ true → a ≡ b
+same_text-true a b e = (bytes_decides a b).0 e
+
+pub same_text_from : (a b : List ℕ) → a ≡ b → same_text a b ≡ true
+same_text_from a b e = (bytes_decides a b).1 e
+
+pub same_text-ne : (a b : List ℕ) → a ≢ b → same_text a b ≡ false
+same_text-ne a b ne = false_from_ne_true _ (λ e. ne (same_text-true a b e))
+
+pub same_text-false : (a b : List ℕ) → same_text a b ≡ false → a ≢ b
+same_text-false a b e same = both_ways _ e (same_text_from a b same)
+
+-- ---- lists of texts
+
+any-Contains : (text : List ℕ) (xs : List (List ℕ)) → list_any (same_text text) xs ≡ true → Contains xs text
+any-Contains text [] e = absurd (false≢true e)
+any-Contains text (x ∷ xs) e =
+    elim (or_cases (same_text text x) (list_any (same_text text) xs) e) [
+      | inl here ↦ (zero, omega arith, sym (same_text-true text x here))
+      | inr there ↦ let c = any-Contains text xs there in (suc c.0, omega (arith, c.1), c.2)
+    ]
+
+Contains-any : (text : List ℕ) (xs : List (List ℕ)) (k : ℕ) → k < length xs → get_or xs k text ≡ text → list_any (same_text text) xs ≡ true
+Contains-any text [] k lt e = absurd (omega arith)
+Contains-any text (x ∷ xs) zero lt e = or_left _ _ (same_text_from text x (sym e))
+Contains-any text (x ∷ xs) (suc k) lt e = or_right (same_text text x) (list_any (same_text text) xs) (Contains-any text xs k (omega arith) e)
+
+pub is_keyword-true : (text : List ℕ) → is_keyword text ≡ true → IsKeyword text
+is_keyword-true text e = any-Contains text keywords e
+
+pub is_keyword_from : (text : List ℕ) → IsKeyword text → is_keyword text ≡ true
+is_keyword_from text h = Contains-any text keywords h.0 h.1 h.2
+
+pub is_keyword-false : (text : List ℕ) → is_keyword text ≡ false → ¬ (IsKeyword text)
+is_keyword-false text e h = both_ways _ e (is_keyword_from text h)
+
+pub is_keyword-ne : (text : List ℕ) → ¬ (IsKeyword text) → is_keyword text ≡ false
+is_keyword-ne text none = false_from_ne_true _ (λ e. none (is_keyword-true text e))
+
+-- ---- the first byte
+
+abbrev begins_dollar : List ℕ → Bool
+begins_dollar [] = false
+begins_dollar (b ∷ bytes) = b == 36
+
+any_of_dollars : (text : List ℕ) (xs : List (List ℕ)) → list_all begins_dollar xs ≡ true → begins_dollar text ≡ false → list_any (same_text text) xs ≡ false
+any_of_dollars text [] all none = refl
+any_of_dollars text (x ∷ xs) all none =
+    let parts = and_parts (begins_dollar x) (list_all begins_dollar xs) all in
+    let here : same_text text x ≡ false = same_text-ne text x (λ e. both_ways _ none (ap begins_dollar e ∙ parts.0)) in
+    rw here (any_of_dollars text xs parts.1 none)
+
+no_keyword : (text : List ℕ) → begins_dollar text ≡ false → is_keyword text ≡ false
+no_keyword text none = any_of_dollars text keywords refl none
+
+no_dollar-begins : (text : List ℕ) → HoldsNoDollar text → begins_dollar text ≡ false
+no_dollar-begins [] h = refl
+no_dollar-begins (b ∷ bytes) h = (or_parts (b == 36) (list_any (λ x. x == 36) bytes) h).0
+
+label-begins : (text : List ℕ) → IsLabel text → begins_dollar text ≡ false
+label-begins [] h = refl
+label-begins (b ∷ bytes) h =
+    let byte = (and_parts (is_label_byte b) (list_all is_label_byte bytes) h).0 in
+    false_from_ne_true _ (λ e. false≢true (ap is_label_byte (sym (eqb-true b 36 e)) ∙ byte))
+
+-- a text that holds no `$` is no keyword
+pub symbol-is_keyword : (text : List ℕ) → HoldsNoDollar text → is_keyword text ≡ false
+symbol-is_keyword text h = no_keyword text (no_dollar-begins text h)
+
+-- nor is a label
+pub label-is_keyword : (text : List ℕ) → IsLabel text → is_keyword text ≡ false
+label-is_keyword text h = no_keyword text (label-begins text h)
+
+-- nor is it one by itself
+pub label_ne : (text key : List ℕ) → IsLabel text → is_keyword key ≡ true → same_text text key ≡ false
+label_ne text key h k = same_text-ne text key (λ e. both_ways _ (label-is_keyword text h) (ap is_keyword e ∙ k))
+
+-- and a keyword is no label
+pub keyword-label : (text : List ℕ) → is_keyword text ≡ true → list_all is_label_byte text ≡ false
+keyword-label text k = false_from_ne_true _ (λ h. both_ways _ (label-is_keyword text h) k)
+
+-- a token that breaks no rule and is no keyword holds no `$`
+pub whole-symbol : (text : List ℕ) → broken_by text ≡ None → is_keyword text ≡ false → HoldsNoDollar text
+whole-symbol text ok none = go (not (list_all is_printable text)) (pointwise nat_eq text (codes "$)") || pointwise nat_eq text (codes "$]")) (list_any (λ b. b == 36) text) (is_keyword text) ok none
+  where
+    go : (a b c d : Bool) → cond a (Some X1) (cond b (Some X4) (cond (c && not d) (Some X9) None)) ≡ None → d ≡ false → c ≡ false
+    go true b c d e f = absurd cc
+    go false true c d e f = absurd cc
+    go false false true true e f = absurd cc
+    go false false true false e f = absurd cc
+    go false false false d e f = refl

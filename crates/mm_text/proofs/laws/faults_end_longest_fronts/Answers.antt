@@ -1,0 +1,5 @@
+use Rattle.mm_text.proofs.LongestFront.{faults_end_longest_fronts}
+use Rattle.mm_text.proofs.laws.faults_end_longest_fronts.Goals as goal
+
+pub returns : goal.returns
+returns c = faults_end_longest_fronts

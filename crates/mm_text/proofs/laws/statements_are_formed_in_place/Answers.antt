@@ -1,0 +1,5 @@
+use Rattle.mm_text.proofs.PlaceLaws.{readings_are_formed_in_place}
+use Rattle.mm_text.proofs.laws.statements_are_formed_in_place.Goals as goal
+
+pub returns : goal.returns
+returns c = readings_are_formed_in_place

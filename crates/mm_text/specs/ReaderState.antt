@@ -1,0 +1,45 @@
+-- What the fields of a reader say of what it has still to give.
+use Rattle.std.specs.Prelude.{◌≡◌, List, [], Bool, true, false, Some, None, Result, Ok, Err, map}
+use Rattle.mm_text.specs.declared.fault.TextFault.{TextFault}
+use Rattle.mm_text.specs.declared.fault.TextFault.TheVariants.{Load, Fault, Memory}
+use Rattle.mm_text.specs.declared.statements.State.{State}
+use Rattle.mm_text.specs.declared.statements.State.TheVariants.{Reading, Ended, Failed}
+use Rattle.mm_text.specs.declared.statements.Statements.TheInside.{Inside}
+use Rattle.mm_text.specs.Statement.{PlainStatement}
+use Rattle.mm_text.specs.Reading.{PlainFile, plain_file, Item}
+use Rattle.mm_text.specs.Reader.{PlainReading, Between, reading_of}
+use Rattle.mm_text.specs.Remaining.{Remaining}
+use Rattle.mm_text.specs.Laws.{AreFormedInPlace}
+use Rattle.mm_text.specs.Steps.{fault_of, GivesStatement}
+
+-- what is left in a state, where reading on would give this
+abbrev pub remaining_in : State → List PlainFile → PlainReading → Remaining
+remaining_in Reading files reading = record { files = files; statements = reading.statements; ending = reading.ending; refused = false; told = false }
+remaining_in Ended files reading = record { files = files; statements = []; ending = None; refused = false; told = true }
+remaining_in (Failed (Fault rule file at label)) files reading =
+    record { files = files; statements = []; ending = Some (fault_of rule file at label); refused = false; told = true }
+remaining_in (Failed Memory) files reading = record { files = files; statements = []; ending = None; refused = true; told = true }
+remaining_in (Failed (Load rule)) files reading = record { files = files; statements = []; ending = None; refused = true; told = true }
+
+-- what a reader has still to give
+abbrev pub remaining_of : Inside → Remaining
+remaining_of s = remaining_in s.state (map plain_file s.files.now) (reading_of Between s.cursor)
+
+-- a fault that a reader may answer: the files are judged as a whole before there is one
+abbrev pub IsAnswerable : State → Type 0
+IsAnswerable Reading = Unit {0}
+IsAnswerable Ended = Unit {0}
+IsAnswerable (Failed (Fault rule file at label)) = Unit {0}
+IsAnswerable (Failed Memory) = Unit {0}
+IsAnswerable (Failed (Load rule)) = ⊥
+
+-- what holds of the fields of each reader: what is left to give is formed and stands in the files
+pub record IsReader (s : Inside) : Type 0 where
+  pub answerable : IsAnswerable s.state
+  pub formed_in_place : AreFormedInPlace (map plain_file s.files.now) (remaining_of s).statements
+
+-- what a call answers in a state
+abbrev pub AnswersIn : State → List Item → Result Bool TextFault → PlainStatement → List Item → Type 0
+AnswersIn Reading old r into new = GivesStatement old r into new
+AnswersIn Ended old r into new = r ≡ Ok false
+AnswersIn (Failed fault) old r into new = r ≡ Err fault

@@ -1,0 +1,39 @@
+//! What holds of the tokens and of the readings of all files. A law is the contract of a function
+//! that does nothing: what it ensures is proved, and there is no need to call it.
+
+ghost use Rattle.mm_text.specs.Laws.{BeginningsBeginStatements, EachHasOneReading, FaultsEndLongestFronts, ReadingsAreFormedInPlace, TokensAreLongestRuns};
+
+/// The tokens of a file are its longest runs of bytes that aren't white space (the Metamath book,
+/// section 4.1.1): each token is the slice of the file at its place and such a run, each such run
+/// is one of the tokens, and they come in the order of their places, no place twice. White space
+/// is the space, the tab, the line feed, the form feed and the carriage return.
+pub fn tokens_are_longest_runs()
+    ensures { TokensAreLongestRuns }
+{}
+
+/// Any files have exactly one reading (the Metamath book, sections 4.1 and 4.2): there are
+/// statements and an ending, or none, that the grammar allows as their reading, and whatever else
+/// the grammar allows as their reading is the same statements and the same ending.
+pub fn one_reading()
+    ensures { EachHasOneReading }
+{}
+
+/// The beginnings of statements, of which the grammar speaks apart from whole statements, are
+/// exactly the fronts of whole statements: tokens are a beginning if some more tokens make a whole
+/// statement of them, and only then.
+pub fn beginnings_begin_statements()
+    ensures { BeginningsBeginStatements }
+{}
+
+/// A fault that ends a reading comes after the longest front of the files' items that is whole
+/// statements and at most a beginning of one: no longer front of the items is.
+pub fn faults_end_longest_fronts()
+    ensures { FaultsEndLongestFronts }
+{}
+
+/// Each statement of a reading is one that the grammar knows, with as many symbols as its kind
+/// asks for and with a label exactly if its kind has one (the Metamath book, section 4.2), and
+/// each of its tokens is the slice of its file at the token's place.
+pub fn statements_are_formed_in_place()
+    ensures { ReadingsAreFormedInPlace }
+{}

@@ -1,0 +1,106 @@
+//! The statements of the handed files, one after the other.
+
+ghost use Rattle.std.specs.Prelude.{◌≡◌, ◌↔◌, true, map, Ok, Err, IfOk, IfErr};
+ghost use Rattle.mm_text.specs.declared.fault.LoadRule.{LoadRule};
+ghost use Rattle.mm_text.specs.Statement.{plain_statement, IsFormed};
+ghost use Rattle.mm_text.specs.Reading.{plain_file, BreaksLoad, IsInPlace};
+ghost use Rattle.mm_text.specs.Remaining.{Gives, IsUnread};
+ghost use Rattle.mm_text.specs.ReaderState.{AnswersIn};
+
+use crate::cursor::Cursor;
+use crate::fault::TextFault;
+use crate::file::File;
+use crate::handed::broken_rule;
+use crate::parts::statement;
+use crate::statement::Statement;
+use std::marker::Model;
+
+/// What reading has come to.
+#[derive(Clone, Copy, Drop)]
+enum State<'a> {
+    /// The next call reads on.
+    Reading,
+    /// The end was answered.
+    Ended,
+    /// This fault was answered.
+    Failed(TextFault<'a>),
+}
+
+/// A reader of the statements that the handed files hold. It takes no memory.
+#[derive(Drop)]
+pub struct Statements<'a> {
+    files: &'a [File<'a>],
+    cursor: Cursor<'a>,
+    state: State<'a>,
+}
+
+impl<'a> Model for Statements<'a> {
+    ghost use Rattle.mm_text.specs.Remaining.{Remaining};
+
+    ghost Value = { Remaining };
+
+    ghost use Rattle.mm_text.specs.ReaderState.{remaining_of, IsReader};
+
+    ghost view = { remaining_of };
+
+    ghost invariant = { IsReader };
+}
+
+/// What a call answers in a state.
+fn answer<'a>(
+    state: State<'a>,
+    cursor: &mut Cursor<'a>,
+    into: &mut Statement<'a>,
+) -> Result<bool, TextFault<'a>>
+    ensures { AnswersIn state.entry cursor.old result (plain_statement into.new) cursor.new }
+{
+    match state {
+        State::Reading => statement(cursor, into),
+        State::Ended => Ok(false),
+        State::Failed(fault) => Err(fault),
+    }
+}
+
+impl<'a> Statements<'a> {
+    /// A reader of the handed files, of which the first is the top file.
+    ///
+    /// The files are judged as a whole first, in this order: `Load(F1)` where there is none,
+    /// `Load(F2)` where two have one name, `Load(F3)` where they hold over 1,073,741,824 bytes in
+    /// all. There is no other error.
+    pub fn new(files: &'a [File<'a>]) -> Result<Statements<'a>, TextFault<'a>>
+        ensures breaks { (rule : LoadRule) → ((result ≡ Err (TextFault.Load rule)) ↔ BreaksLoad (map plain_file files.now) rule) }
+        ensures only_load { IfErr result (λ fault. (rule : LoadRule) × (fault ≡ TextFault.Load rule)) }
+        ensures unread { IfOk result (λ s. IsUnread (map plain_file files.now) s) }
+    {
+        if let Some(rule) = broken_rule(files) {
+            return Err(TextFault::Load(rule));
+        }
+        let top = files[0];
+        Ok(Statements {
+            files,
+            cursor: Cursor::new(top.bytes, 0),
+            state: State::Reading,
+        })
+    }
+
+    /// Reads the next statement into `into`; `false` at the end. The lists of `into` keep their
+    /// room, and are empty after `false` and after a fault.
+    ///
+    /// The first fault of the text is answered once every statement before it was given: X1, X4,
+    /// X8, X9, S1, S2, S3, S4 or S5. `Memory` is answered where a list of `into` could not grow.
+    /// A fault, `Memory` included, is answered again by every later call, and so is the end.
+    pub fn read(&mut self, into: &mut Statement<'a>) -> Result<bool, TextFault<'a>>
+        ensures gives { Gives self.old result self.new (plain_statement into.new) }
+        ensures formed { result ≡ Ok true → IsFormed (plain_statement into.new) }
+        ensures in_place { result ≡ Ok true → IsInPlace self.old.files (plain_statement into.new) }
+    {
+        let answer = answer(self.state, &mut self.cursor, into);
+        match answer {
+            Ok(true) => return answer,
+            Ok(false) => self.state = State::Ended,
+            Err(fault) => self.state = State::Failed(fault),
+        }
+        into.clear();
+        answer
+    }
+}

@@ -1,0 +1,118 @@
+//! The reader over small files.
+
+use crate::{File, Kind, LoadRule, Statement, Statements, TextFault, TextRule};
+use std::test::Fail;
+
+/// A small database: the first expressions of demo0.mm.
+const FIRST: &[u8] = b"$c 0 + ( ) term $.\n\
+$v t r $.\n\
+tt $f term t $.\n\
+tr $f term r $.\n\
+tze $a term 0 $.\n\
+tpl $a term ( t + r ) $.\n\
+th $p term ( 0 + 0 ) $= tze tze tpl $.\n";
+
+fn is_empty(statement: &Statement) -> bool {
+    statement.symbols.is_empty() && statement.proof.is_empty()
+}
+
+#[test]
+fn reads_a_database(rt: HostRuntime) -> Result<(), Fail> {
+    let files = [File {
+        name: b"first.mm",
+        bytes: FIRST,
+    }];
+    let Ok(mut statements) = Statements::new(&files) else {
+        return Err(Fail::from("refused"));
+    };
+    let mut statement = Statement::empty(rt.alloc());
+    let wanted = [
+        (Kind::Constants, 0, 5, (0, 0)),
+        (Kind::Variables, 19, 2, (0, 0)),
+        (Kind::Floating, 29, 2, (0, 0)),
+        (Kind::Floating, 45, 2, (0, 0)),
+        (Kind::Axiom, 61, 2, (0, 0)),
+        (Kind::Axiom, 78, 6, (0, 0)),
+        (Kind::Provable, 103, 6, (126, 139)),
+    ];
+    for (kind, at, symbols, span) in wanted {
+        assert!(rt;
+            matches!(statements.read(&mut statement), Ok(true)),
+            "at {at}"
+        );
+        assert_eq!(rt; statement.kind, kind, "at {at}");
+        assert_eq!(rt; statement.first.at, at);
+        assert_eq!(rt; statement.symbols.len(), symbols, "at {at}");
+        assert_eq!(rt; statement.span, span, "at {at}");
+    }
+    assert_eq!(rt; statement.proof.len(), 3);
+    for _ in 0..3 {
+        assert!(rt; matches!(statements.read(&mut statement), Ok(false)));
+        assert!(rt; is_empty(&statement));
+    }
+    Ok(())
+}
+
+#[test]
+fn answers_the_first_fault_for_good(rt: HostRuntime) -> Result<(), Fail> {
+    // The rule, its place, and how long the label is; 0 where there is none.
+    let faults: [(&[u8], TextRule, u32, usize); 12] = [
+        (b"$c a", TextRule::X8, 0, 0),
+        (b" a", TextRule::X8, 1, 1),
+        (b"$c a\x7f $.", TextRule::X1, 3, 0),
+        (b"$c a $) $.", TextRule::X4, 5, 0),
+        (b"ab $a a$ $.", TextRule::X9, 6, 2),
+        (b"$f a b $.", TextRule::S1, 0, 0),
+        (b"a# $a a $.", TextRule::S2, 0, 0),
+        (b"a $c b $.", TextRule::S3, 2, 1),
+        (b"p $p $.", TextRule::S4, 5, 1),
+        (b"$c $=", TextRule::S4, 3, 0),
+        (b"p $p $=", TextRule::S5, 5, 1),
+        (b"f $f a b c $.", TextRule::S5, 9, 1),
+    ];
+    for (bytes, rule, at, length) in faults {
+        let files = [File { name: b"a", bytes }];
+        let Ok(mut statements) = Statements::new(&files) else {
+            return Err(Fail::from("refused"));
+        };
+        let mut statement = Statement::empty(rt.alloc());
+        for _ in 0..6 {
+            let Err(
+                TextFault::Fault {
+                    rule: found,
+                    file,
+                    at: place,
+                    label,
+                },
+            ) = statements.read(&mut statement)
+            else {
+                return Err(Fail::from("no fault"));
+            };
+            assert_eq!(rt; found, rule);
+            assert_eq!(rt; file, 0);
+            assert_eq!(rt; place, at, "{rule:?}");
+            assert_eq!(rt;
+                label.map_or(0, |token| token.text.len()),
+                length,
+                "{rule:?}"
+            );
+            assert!(rt; is_empty(&statement));
+        }
+    }
+    Ok(())
+}
+
+#[test]
+fn judges_the_files_first(rt: HostRuntime) {
+    let file = File {
+        name: b"a",
+        bytes: b"$c a",
+    };
+    assert!(rt; matches!(Statements::new(&[]), Err(TextFault::Load(LoadRule::F1))));
+    assert!(rt;
+        matches!(
+            Statements::new(&[file, file]),
+            Err(TextFault::Load(LoadRule::F2))
+        )
+    );
+}
