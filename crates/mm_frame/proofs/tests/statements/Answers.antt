@@ -1,4 +1,4 @@
-use Rattle.std.proofs.Common.{rules, All}
+use Rattle.std.proofs.Common.{rules}
 use Rattle.std.proofs.lemmas.List.Elements.{All-push, All-same}
 use Rattle.mm_text.specs.declared.statement.Statement.{Statement}
 use Rattle.mm_text.specs.Statement.{plain_statement, IsFormed}
