@@ -1,3 +1,4 @@
 pub mod Substitution
 pub mod Tree
 pub mod Proof
+pub mod Step
