@@ -1,3 +1,4 @@
 pub mod Trees
 pub mod Lists
 pub mod Database
+pub mod Replaced

@@ -2,3 +2,4 @@ pub mod Substitution
 pub mod Tree
 pub mod Proof
 pub mod Step
+pub mod Replaced
