@@ -2,3 +2,4 @@ pub mod Trees
 pub mod Lists
 pub mod Database
 pub mod Replaced
+pub mod Faults
