@@ -1,19 +1,18 @@
 -- Statements that break no rule, where there are no blocks, no `$d` and no `$e`: everything is active, labels are of one
 -- statement each, and no symbol is both a constant and a variable.
-use Rattle.std.proofs.Common.{◌≡◌, ◌≢◌, ℕ, zero, suc, ◌+◌, ◌<◌, ◌≤◌, List, [], ◌∷◌, ◌++◌, map, take, drop, length, Option, Some, None, ◌⊎◌, inl, inr, refl, sym, ap, subst, ◌∙◌, arith, Contains}
+use Rattle.std.proofs.Common.{◌≡◌, ℕ, suc, ◌+◌, ◌<◌, List, take, drop, length, Option, Some, inl, inr, refl, sym, ap, subst, ◌∙◌, arith, Contains}
 use Rattle.std.specs.List.{slice_get}
 use Rattle.std.proofs.lemmas.Option.{slice_get_within}
 use Rattle.std.proofs.lemmas.Bool.{cases_lt}
-use Rattle.mm_text.specs.declared.statement.Kind.{Kind}
-use Rattle.mm_text.specs.declared.statement.Kind.TheVariants.{Constants, Variables, Distinct, Floating, Essential, Opening}
+use Rattle.mm_text.specs.declared.statement.Kind.TheVariants.{Constants, Variables, Distinct, Essential, Opening}
 use Rattle.mm_text.specs.Statement.{IsRead, FitsCount}
-use Rattle.mm_frame.specs.Sentence.{Sentence, SomeSentence, IsLabelled, IsAssertion, Declares, Types}
-use Rattle.mm_frame.specs.Active.{IsActive, IsOpen, Holds, SomeActive, IsConstant, IsVariable, IsActiveSymbol, IsTyped}
+use Rattle.mm_frame.specs.Sentence.{Sentence, IsLabelled, IsAssertion, Types}
+use Rattle.mm_frame.specs.Active.{IsActive, IsConstant, IsVariable, IsActiveSymbol, IsTyped}
 use Rattle.mm_frame.specs.declared.rule.MeaningRule.TheVariants.{M2, M3, M5, M7, M10, M12, M15}
-use Rattle.mm_frame.specs.Rules.{AllMeant, IsMeant, Breaks}
-use Rattle.mm_frame.specs.Frame.{IsMandatory, IsMandatoryAt, AreMandatory, IsDistinct, IsMandatoryPair}
+use Rattle.mm_frame.specs.Rules.{AllMeant, IsMeant}
+use Rattle.mm_frame.specs.Frame.{IsMandatory, IsMandatoryAt, AreMandatory, IsDistinct}
 use Rattle.mm_proof.specs.Tree.{Names, KeepsApart}
-use Rattle.mm_proof.proofs.Lists.{some-is, get-take, take-get, within-take, split-at, those-from, those-have, those-order, those-same}
+use Rattle.mm_proof.proofs.Lists.{some-is, get-take, take-get, split-at, those-from, those-have, those-order, those-same}
 
 -- what the forms of statements say of each
 pub record IsShaped (s : Sentence) : Type 0 where
@@ -57,9 +56,9 @@ one-label before meant label i j s t at_i at_j s_named t_named =
     elim (cases_lt i j) [
       | inl lt ↦ absurd (label-later before meant label i j s t at_i at_j s_named t_named lt)
       | inr le ↦ elim (cases_lt j i) [
-          | inl lt ↦ absurd (label-later before meant label j i t s at_j at_i t_named s_named lt)
-          | inr ge ↦ omega arith
-        ]
+        | inl lt ↦ absurd (label-later before meant label j i t s at_j at_i t_named s_named lt)
+        | inr ge ↦ omega arith
+      ]
     ]
 
 pub no-both : (before : List Sentence) → AllMeant before → (x : List ℕ) → IsConstant before x → IsVariable before x → ⊥
@@ -67,15 +66,15 @@ no-both before meant x c v =
     elim (cases_lt c.0 v.0) [
       | inl lt ↦ meant-at before meant v.0 v.1 v.2 M3 (v.3.0, (x, v.3.1, inr (inl (c.0, c.1, take-get v.0 before c.0 c.1 lt c.2, c.3))))
       | inr le ↦ elim (cases_lt v.0 c.0) [
-          | inl lt ↦ meant-at before meant c.0 c.1 c.2 M2 (c.3.0, (x, c.3.1, inr (inl (v.0, v.1, take-get c.0 before v.0 v.1 lt v.2, v.3))))
-          | inr ge ↦
-              let same : c.0 ≡ v.0 = omega arith in
-              absurd (let at_v : slice_get before v.0 ≡ Some c.1 = subst (λ (n : ℕ). slice_get before n ≡ Some c.1) same c.2 in
-              let s_is : c.1 ≡ v.1 = some-is c.1 v.1 (sym at_v ∙ v.2) in
-              let k : c.1.kind ≡ v.1.kind = ap (λ (s : Sentence). s.kind) s_is in
-              let kc : c.1.kind ≡ Constants = c.3.0 in
-              let kv : v.1.kind ≡ Variables = v.3.0 in cc)
-        ]
+        | inl lt ↦ meant-at before meant c.0 c.1 c.2 M2 (c.3.0, (x, c.3.1, inr (inl (v.0, v.1, take-get c.0 before v.0 v.1 lt v.2, v.3))))
+        | inr ge ↦
+            let same : c.0 ≡ v.0 = omega arith in
+            absurd (let at_v : slice_get before v.0 ≡ Some c.1 = subst (λ (n : ℕ). slice_get before n ≡ Some c.1) same c.2 in
+            let s_is : c.1 ≡ v.1 = some-is c.1 v.1 (sym at_v ∙ v.2) in
+            let k : c.1.kind ≡ v.1.kind = ap (λ (s : Sentence). s.kind) s_is in
+            let kc : c.1.kind ≡ Constants = c.3.0 in
+            let kv : v.1.kind ≡ Variables = v.3.0 in cc)
+      ]
     ]
 
 code-not-active : (before : List Sentence) → AllMeant before → (place : ℕ) (f : Sentence) (code x : List ℕ) → slice_get before place ≡ Some f → Types code x f → IsVariable before code → IsActiveSymbol (take place before) code → ⊥

@@ -1,23 +1,20 @@
 -- What one step breaks first, and what it does where it breaks nothing.
-use Rattle.std.proofs.Common.{◌≡◌, ◌≢◌, ℕ, ◌+◌, ◌<◌, ◌≤◌, List, [], ◌∷◌, ◌++◌, map, take, drop, length, Option, Some, None, ◌⊎◌, inl, inr, refl, sym, ap, subst, ◌∙◌, arith}
+use Rattle.std.proofs.Common.{◌≡◌, ℕ, ◌<◌, ◌≤◌, List, [], ◌∷◌, ◌++◌, take, drop, length, Some, inl, inr, refl, sym, ap, subst, ◌∙◌, arith}
 use Rattle.std.specs.List.{slice_get}
 use Rattle.std.proofs.lemmas.List.{append-nil, length-append, drop_at}
 use Rattle.mm_text.specs.declared.statement.Kind.{Kind}
-use Rattle.mm_text.specs.declared.statement.Kind.TheVariants.{Floating, Essential, Axiom, Provable}
-use Rattle.mm_frame.specs.Sentence.{Sentence, SomeSentence, IsLabelled, IsHypothesis, IsAssertion}
-use Rattle.mm_frame.specs.Active.{IsActive}
+use Rattle.mm_frame.specs.Sentence.{Sentence, IsLabelled, IsHypothesis, IsAssertion}
 use Rattle.mm_frame.specs.Rules.{AllMeant}
-use Rattle.mm_frame.specs.Frame.{IsMandatory}
 use Rattle.mm_proof.specs.declared.fault.ProofRule.{ProofRule}
 use Rattle.mm_proof.specs.declared.fault.ProofRule.TheVariants.{P1, P2, P3, P4, P5, P6, P7, P8, P9, P10, P11, P12, P13, P14, L1}
 use Rattle.mm_proof.specs.Substitution.{substituted}
 use Rattle.mm_proof.specs.Tree.{Names}
-use Rattle.mm_proof.specs.Proof.{expression_limit, IsWithinLimit, BreaksWhole, IsWhole, Meets, SomePair, BreaksStep, FirstAtStep, IsWholeFault, IsStepFault, IsEndFault, IsFault, Passed, rank}
-use Rattle.mm_proof.specs.Step.{MakesHypothesis, MakesAssertion, Steps}
-use Rattle.mm_proof.specs.Replaced.{replacement_of, AreTyped, SomeMistyped}
-use Rattle.mm_proof.proofs.Lists.{some-is, get-take}
-use Rattle.mm_proof.proofs.Database.{IsFlat, IsFlat-take, IsTypingOf, SameNames, one-label, same-names, active-at, keeps-apart, no-pair, no-essential}
-use Rattle.mm_proof.proofs.Replaced.{IsStepBy, once-by, types-by, replacement-at, replaces-mandatory, matches-entries}
+use Rattle.mm_proof.specs.Proof.{IsWithinLimit, Meets, BreaksStep, FirstAtStep, rank}
+use Rattle.mm_proof.specs.Step.{MakesAssertion, Steps}
+use Rattle.mm_proof.specs.Replaced.{typing_in, typings_of, replacement_of, AreTyped, SomeMistyped}
+use Rattle.mm_proof.proofs.Lists.{some-is}
+use Rattle.mm_proof.proofs.Database.{IsFlat, IsFlat-take, one-label, same-names, active-at, keeps-apart, no-pair}
+use Rattle.mm_proof.proofs.Replaced.{IsStepBy, types-by, typing-at, given-by, code-of, replaces-at, replaces-mandatory, matches-entries}
 
 -- ---- a step by an assertion: what the code has found before it judges
 
@@ -43,9 +40,9 @@ meets-by before stack label place s hs rest es a =
       entries = es;
       split = a.split;
       paired = a.paired;
-      σ = replacement_of hs es;
+      σ = replacement_of (typings_of hs) es;
       on = replaces-mandatory before place s hs es b a.paired;
-      replaced = λ i h entry code x at_h at_e t. replacement-at hs es (once-by before place s hs b) i h entry code x at_h at_e t;
+      replaced = λ i h entry code x at_h at_e t. replaces-at before place s hs es b i h entry code x at_h at_e t;
     }
 
 -- ---- the rules that a step can't break
@@ -61,7 +58,7 @@ no-P8 before stack label place s hs meant names enough b =
     let lens : length hs ≡ length b.2 = ap length same.lists in
     absurd (omega (arith, b.4))
 
-no-P9 : (before : List Sentence) (stack : List (List (List ℕ))) (label : List ℕ) (place : ℕ) (s : Sentence) (hs : List Sentence) (rest es : List (List (List ℕ))) → IsAt before stack label place s hs rest es → AreTyped hs es → ¬ (BreaksStep P9 before stack label)
+no-P9 : (before : List Sentence) (stack : List (List (List ℕ))) (label : List ℕ) (place : ℕ) (s : Sentence) (hs : List Sentence) (rest es : List (List (List ℕ))) → IsAt before stack label place s hs rest es → AreTyped (typings_of hs) es → ¬ (BreaksStep P9 before stack label)
 no-P9 before stack label place s hs rest es a typed b =
     let m = b.0 in
     let same = same-names before a.meant label place m.place s m.assertion hs m.hypotheses a.names m.names in
@@ -70,7 +67,9 @@ no-P9 before stack label place s hs rest es a typed b =
     let p = b.1 in
     let at_h : slice_get hs p.0 ≡ Some p.1 = subst (λ (xs : List Sentence). slice_get xs p.0 ≡ Some p.1) (sym same.lists) p.3 in
     let at_e : slice_get es p.0 ≡ Some p.2 = subst (λ (xs : List (List (List ℕ))). slice_get xs p.0 ≡ Some p.2) (sym ends) p.4 in
-    p.5.1 (typed p.0 p.1 p.2 at_h at_e)
+    let first : slice_get p.2 0 ≡ Some (typing_in p.1).0 = typed p.0 (typing_in p.1) p.2 (typing-at hs p.0 p.1 at_h) at_e in
+    let b = step-by before label place s hs a.flat a.meant a.names in
+    p.5.1 (first ∙ sym (code-of before place s hs b p.0 p.1 at_h))
 
 no-P10 : (before : List Sentence) (stack : List (List (List ℕ))) (label : List ℕ) → IsFlat before → AllMeant before → ¬ (BreaksStep P10 before stack label)
 no-P10 before stack label flat meant b =
@@ -115,16 +114,18 @@ first-P8 before stack label place s hs flat meant names few = record {
 enough : (before : List Sentence) (stack : List (List (List ℕ))) (label : List ℕ) (place : ℕ) (s : Sentence) (hs : List Sentence) (rest es : List (List (List ℕ))) → IsAt before stack label place s hs rest es → length hs ≤ length stack
 enough before stack label place s hs rest es a = omega (arith, length-append rest es, ap length a.split, a.paired)
 
-pub first-P9 : (before : List Sentence) (stack : List (List (List ℕ))) (label : List ℕ) (place : ℕ) (s : Sentence) (hs : List Sentence) (rest es : List (List (List ℕ))) → IsAt before stack label place s hs rest es → SomeMistyped hs es → FirstAtStep P9 before stack label
+pub first-P9 : (before : List Sentence) (stack : List (List (List ℕ))) (label : List ℕ) (place : ℕ) (s : Sentence) (hs : List Sentence) (rest es : List (List (List ℕ))) → IsAt before stack label place s hs rest es → SomeMistyped (typings_of hs) es → FirstAtStep P9 before stack label
 unfolding meets-by
 first-P9 before stack label place s hs rest es a p =
-    let t = types-by before place s hs (step-by before label place s hs a.flat a.meant a.names) p.0 p.1 p.3 in
+    let b = step-by before label place s hs a.flat a.meant a.names in
+    let g = given-by before place s hs b p.0 p.1 p.3 in
+    let same : slice_get g.h.symbols 0 ≡ Some p.1.0 = ap (λ (symbols : List (List ℕ)). slice_get symbols 0) g.types_it.1 in
     record {
-      broken = (meets-by before stack label place s hs rest es a, (p.0, p.1, p.2, p.3, p.4, (t.types.0, p.5)));
+      broken = (meets-by before stack label place s hs rest es a, (p.0, g.h, p.2, g.there, p.4, (g.types_it.0, λ e. p.5 (e ∙ same))));
       first = none-below before stack label 9 (omega arith) a.flat a.meant (λ lt. no-P8 before stack label place s hs a.meant a.names (enough before stack label place s hs rest es a)) (λ lt. absurd (omega arith));
     }
 
-pub first-L1 : (before : List Sentence) (stack : List (List (List ℕ))) (label : List ℕ) (place : ℕ) (s : Sentence) (hs : List Sentence) (rest es : List (List (List ℕ))) → IsAt before stack label place s hs rest es → AreTyped hs es → ¬ (IsWithinLimit (substituted (replacement_of hs es) s.symbols)) → FirstAtStep L1 before stack label
+pub first-L1 : (before : List Sentence) (stack : List (List (List ℕ))) (label : List ℕ) (place : ℕ) (s : Sentence) (hs : List Sentence) (rest es : List (List (List ℕ))) → IsAt before stack label place s hs rest es → AreTyped (typings_of hs) es → ¬ (IsWithinLimit (substituted (replacement_of (typings_of hs) es) s.symbols)) → FirstAtStep L1 before stack label
 unfolding meets-by
 first-L1 before stack label place s hs rest es a typed long = record {
   broken = inr (meets-by before stack label place s hs rest es a, long);
@@ -165,19 +166,19 @@ steps-hypothesis before stack after label place h flat there named kind fits is 
   pushed = is;
 }
 
-pub steps-assertion : (before : List Sentence) (stack after : List (List (List ℕ))) (label : List ℕ) (place : ℕ) (s : Sentence) (hs : List Sentence) (rest es : List (List (List ℕ))) → IsAt before stack label place s hs rest es → AreTyped hs es
-    → IsWithinLimit (substituted (replacement_of hs es) s.symbols) → after ≡ rest ++ substituted (replacement_of hs es) s.symbols ∷ [] → Steps before stack label after
+pub steps-assertion : (before : List Sentence) (stack after : List (List (List ℕ))) (label : List ℕ) (place : ℕ) (s : Sentence) (hs : List Sentence) (rest es : List (List (List ℕ))) → IsAt before stack label place s hs rest es → AreTyped (typings_of hs) es
+    → IsWithinLimit (substituted (replacement_of (typings_of hs) es) s.symbols) → after ≡ rest ++ substituted (replacement_of (typings_of hs) es) s.symbols ∷ [] → Steps before stack label after
 steps-assertion before stack after label place s hs rest es a typed fits is =
     let b = step-by before label place s hs a.flat a.meant a.names in
-    let m : MakesAssertion before es label (substituted (replacement_of hs es) s.symbols) = record {
+    let m : MakesAssertion before es label (substituted (replacement_of (typings_of hs) es) s.symbols) = record {
       place = place;
       assertion = s;
       hypotheses = hs;
-      σ = replacement_of hs es;
+      σ = replacement_of (typings_of hs) es;
       names = a.names;
       on = replaces-mandatory before place s hs es b a.paired;
       matched = matches-entries before place s hs es b a.paired typed;
-      apart = keeps-apart before a.flat place s (replacement_of hs es);
+      apart = keeps-apart before a.flat place s (replacement_of (typings_of hs) es);
       made = refl;
     } in
-    record { rest = rest; entries = es; made = substituted (replacement_of hs es) s.symbols; split = a.split; makes = inr m; fits = fits; pushed = is }
+    record { rest = rest; entries = es; made = substituted (replacement_of (typings_of hs) es) s.symbols; split = a.split; makes = inr m; fits = fits; pushed = is }

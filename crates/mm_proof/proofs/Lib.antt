@@ -3,3 +3,4 @@ pub mod Lists
 pub mod Database
 pub mod Replaced
 pub mod Faults
+pub mod Walks

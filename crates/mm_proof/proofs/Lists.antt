@@ -1,5 +1,5 @@
 -- Elements of lists by their places, and the elements of which something holds.
-use Rattle.std.proofs.Common.{◌≡◌, ◌≢◌, ℕ, zero, suc, ◌+◌, ◌<◌, ◌≤◌, List, [], ◌∷◌, ◌++◌, map, take, drop, length, Option, Some, None, ◌⊎◌, inl, inr, refl, sym, ap, subst, ◌∙◌, arith}
+use Rattle.std.proofs.Common.{◌≡◌, ℕ, zero, suc, ◌+◌, ◌<◌, List, [], ◌∷◌, ◌++◌, take, drop, length, Some, inl, inr, refl, sym, ap, subst, ◌∙◌, arith}
 use Rattle.std.specs.List.{slice_get}
 use Rattle.mm_frame.specs.Frame.{AreThose}
 
@@ -121,11 +121,11 @@ those-same P k [] a b p q = p ∙ sym q
 those-same {X} P k (y ∷ xs) a b p q =
     elim p [
       | inl c ↦ elim q [
-          | inl d ↦ c.2 ∙ ap (λ (zs : List X). y ∷ zs) (those-same P (k + 1) xs c.1 d.1 c.3 d.3) ∙ sym d.2
-          | inr d ↦ absurd (d.0 c.0)
-        ]
+        | inl d ↦ c.2 ∙ ap (λ (zs : List X). y ∷ zs) (those-same P (k + 1) xs c.1 d.1 c.3 d.3) ∙ sym d.2
+        | inr d ↦ absurd (d.0 c.0)
+      ]
       | inr c ↦ elim q [
-          | inl d ↦ absurd (c.0 d.0)
-          | inr d ↦ those-same P (k + 1) xs a b c.1 d.1
-        ]
+        | inl d ↦ absurd (c.0 d.0)
+        | inr d ↦ those-same P (k + 1) xs a b c.1 d.1
+      ]
     ]

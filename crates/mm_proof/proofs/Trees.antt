@@ -1,13 +1,9 @@
 -- Rows of trees side by side: what they spell and derive, and how a step extends a front of a proof that passed.
-use Rattle.std.proofs.Common.{◌≡◌, ℕ, List, [], ◌∷◌, ◌++◌, map, take, Option, ◌⊎◌, inl, inr, refl, sym, ap, subst, ◌∙◌, append_assoc}
-use Rattle.std.proofs.lemmas.List.{append-nil}
-use Rattle.mm_frame.specs.Sentence.{Sentence, IsHypothesis, IsLabelled}
-use Rattle.mm_frame.specs.Active.{SomeActive}
-use Rattle.mm_frame.specs.Frame.{IsMandatory}
-use Rattle.mm_proof.specs.Substitution.{IsOn, substituted}
-use Rattle.mm_proof.specs.Tree.{Trees, none, tree, spelling, Names, KeepsApart, DeriveAll}
+use Rattle.std.proofs.Common.{◌≡◌, ℕ, List, [], ◌∷◌, ◌++◌, inl, inr, refl, sym, ap, subst, ◌∙◌, append_assoc}
+use Rattle.mm_frame.specs.Sentence.{Sentence}
+use Rattle.mm_proof.specs.Tree.{Trees, none, tree, spelling, DeriveAll}
 use Rattle.mm_proof.specs.Proof.{IsWithinLimit, IsWhole, IsProvedWithin, Passed}
-use Rattle.mm_proof.specs.Step.{MakesHypothesis, MakesAssertion, Steps}
+use Rattle.mm_proof.specs.Step.{Steps}
 
 -- two rows side by side
 abbrev pub beside : Trees → Trees → Trees

@@ -3,3 +3,4 @@ pub mod Tree
 pub mod Proof
 pub mod Step
 pub mod Replaced
+pub mod View

@@ -2,5 +2,7 @@
 #![tactic(auto)]
 
 mod fault;
+mod substitution;
+mod typing;
 
 pub use fault::{ProofFault, ProofRule};
