@@ -4,3 +4,5 @@ pub mod Database
 pub mod Replaced
 pub mod Faults
 pub mod Walks
+pub mod Findings
+pub mod Applied

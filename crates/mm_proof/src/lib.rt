@@ -2,7 +2,10 @@
 #![tactic(auto)]
 
 mod fault;
+mod step;
 mod substitution;
 mod typing;
+mod verdict;
 
 pub use fault::{ProofFault, ProofRule};
+pub use verdict::verify;
