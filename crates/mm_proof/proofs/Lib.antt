@@ -12,3 +12,11 @@ pub mod Decisions
 pub mod Searches
 pub mod Replacements
 pub mod Judged
+pub mod Trees
+pub mod Lists
+pub mod Database
+pub mod Replaced
+pub mod Faults
+pub mod Walks
+pub mod Findings
+pub mod Applied

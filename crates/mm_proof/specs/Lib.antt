@@ -3,3 +3,8 @@ pub mod Tree
 pub mod Proof
 pub mod Formed
 pub mod Laws
+pub mod Answer
+pub mod Step
+pub mod Replaced
+pub mod Applied
+pub mod View

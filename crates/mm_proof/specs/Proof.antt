@@ -1,9 +1,9 @@
 -- When a `$p` is proved, and the first fault of a proof (the Metamath book, section 4.3 and appendix B).
-use Rattle.std.specs.Prelude.{◌≡◌, ◌≢◌, ℕ, ◌+◌, ◌<◌, ◌≤◌, List, [], ◌∷◌, ◌++◌, map, take, drop, length, zip, slice_get, Contains, Option, Some, None, ◌⊎◌}
+use Rattle.std.specs.Prelude.{◌≡◌, ◌≢◌, ℕ, ◌+◌, ◌<◌, ◌≤◌, List, [], ◌∷◌, ◌++◌, take, drop, length, slice_get, Contains, Option, Some, ◌⊎◌}
 use Rattle.mm_text.specs.declared.statement.Kind.TheVariants.{Floating, Essential}
 use Rattle.mm_frame.specs.Sentence.{Sentence, SomeSentence, IsHypothesis, IsLabelled, Types}
-use Rattle.mm_frame.specs.Active.{IsActive, SomeActive, IsVariable}
-use Rattle.mm_frame.specs.Frame.{IsMandatory, AreMandatory, IsDistinct, IsMandatoryPair}
+use Rattle.mm_frame.specs.Active.{IsActive, SomeActive}
+use Rattle.mm_frame.specs.Frame.{IsMandatory, IsMandatoryPair}
 use Rattle.mm_proof.specs.declared.fault.ProofRule.{ProofRule}
 use Rattle.mm_proof.specs.declared.fault.ProofRule.TheVariants.{P1, P2, P3, P4, P5, P6, P7, P8, P9, P10, P11, P12, P13, P14, L1}
 use Rattle.mm_proof.specs.Substitution.{IsOn, substituted}

@@ -1,5 +1,5 @@
 -- Substitution (the Metamath book, section 4.2.5).
-use Rattle.std.specs.Prelude.{◌≡◌, ℕ, List, [], ◌∷◌, ◌++◌, Option, Some, None, unwrap_or, IsSome, ◌↔◌}
+use Rattle.std.specs.Prelude.{ℕ, List, [], ◌∷◌, Option, unwrap_or, IsSome, ◌↔◌}
 use Rattle.std.specs.List.{flat_map}
 
 -- Symbols are told apart by their names. An expression is a list of symbols; the first is its type code.
