@@ -1,10 +1,12 @@
 -- The letter code of compressed proofs: what its letters say (the Metamath book, appendix B).
-use Rattle.std.specs.Prelude.{◌≡◌, ℕ, ◌+◌, ◌*◌, ◌<◌, ◌≤◌, min, List, [], ◌∷◌, ◌++◌, map, fold, Result, Ok, Err}
+use Rattle.std.specs.Prelude.{◌≡◌, ℕ, ◌+◌, ◌*◌, ◌<◌, ◌≤◌, min, List, [], ◌∷◌, ◌++◌, map, fold, All, Any, Result, Ok, Err}
 use Rattle.std.specs.Global.{Vec}
+use denote.Ref.{Bor}
 use Rattle.std.specs.List.{flat_map, AllByRecursion}
 use Rattle.mm_code.specs.declared.code.Code.{Code}
 use Rattle.mm_code.specs.declared.code.Code.TheVariants.{Number, Tag}
 use Rattle.mm_code.specs.declared.code.CodeRule.{CodeRule}
+use Rattle.mm_code.specs.declared.code.CodeRule.TheVariants.{P4, P5}
 use Rattle.mm_code.specs.declared.code.CodeFault.{CodeFault}
 use Rattle.mm_code.specs.declared.code.CodeFault.TheVariants.{Rule, Memory}
 
@@ -109,3 +111,12 @@ abbrev pub Answers : Result (Vec Code) CodeFault → Result (List Code) CodeRule
 Answers (Ok codes) answer = answer ≡ Ok codes.items
 Answers (Err (Rule rule)) answer = answer ≡ Err rule
 Answers (Err Memory) answer = Unit {0}
+
+-- The letters break this rule: a byte is no letter; or else leading digits are followed by `Z` or by the end.
+abbrev pub Breaks : CodeRule → List ℕ → Type 0
+Breaks P4 text = Any (λ byte. ¬ (IsLetter byte)) text
+Breaks P5 text = All IsLetter text × IsCut text
+
+-- the letters of tokens that white space cut apart
+abbrev pub joined_tokens : List (Bor (List ℕ)) → List ℕ
+joined_tokens tokens = flat_map (λ token. token.now) tokens

@@ -1,10 +1,10 @@
 //! The letters of compressed proofs, read and written.
 
 ghost use Rattle.std.specs.Prelude.{◌≡◌, ℕ, List, [], Result};
-ghost use Rattle.std.specs.Prelude.{◌+◌, ◌*◌, min, ◌∷◌, ◌++◌};
+ghost use Rattle.std.specs.Prelude.{◌+◌, ◌*◌, min, ◌∷◌, ◌++◌, IfOk, IsErrOf};
 ghost use Rattle.std.specs.List.{flat_map, list_all};
 ghost use Rattle.std.specs.Char.{is_ascii_uppercase};
-ghost use Rattle.mm_code.specs.Letters.{Answers};
+ghost use Rattle.mm_code.specs.Letters.{Letters, Answers, Breaks, joined_tokens};
 ghost use Rattle.mm_code.specs.Reading.{with_front, reading, rule_behind, FaultOf, GoesOn};
 
 use crate::code::{Code, CodeFault, CodeRule};
@@ -88,7 +88,7 @@ fn read_token(codes: &mut Vec<Code>, leading: u32, token: &[u8]) -> Result<u32, 
 /// The fault of the letters so far and of these tokens, which are all that follow them.
 fn fault_with_tokens(fault: CodeFault, tokens: &[&[u8]]) -> CodeFault
     ensures { (read : Result (List Code) CodeRule) →
-        FaultOf fault (flat_map (λ token. token.now) tokens.now) read → FaultOf result [] read }
+        FaultOf fault (joined_tokens tokens.now) read → FaultOf result [] read }
 {
     let mut known = fault;
     for token in tokens {
@@ -99,7 +99,7 @@ fn fault_with_tokens(fault: CodeFault, tokens: &[&[u8]]) -> CodeFault
 
 /// The codes of the tokens, read from the left.
 fn read_tokens(alloc: Global, tokens: &[&[u8]]) -> Result<Vec<Code>, CodeFault>
-    ensures { Answers result (reading 0 (flat_map (λ token. token.now) tokens.now)) }
+    ensures { Answers result (reading 0 (joined_tokens tokens.now)) }
 {
     let mut codes = Vec::new(alloc);
     let mut value = 0;
@@ -113,4 +113,26 @@ fn read_tokens(alloc: Global, tokens: &[&[u8]]) -> Result<Vec<Code>, CodeFault>
         return Err(CodeFault::Rule(CodeRule::P5));
     }
     Ok(codes)
+}
+
+/// The codes that the letters of a compressed proof say (the Metamath book, appendix B). White space may cut the
+/// letters anywhere, inside a number too: the tokens are read as if they were joined.
+///
+/// `A` to `T` are the last digits 1 to 20 of a number, `U` to `Y` its leading digits 1 to 5, and `Z` is a tag. A number
+/// is 20 times the base-5 value of its leading digits, plus its last digit. A spelled number above 4,294,967,295 is read
+/// as 4,294,967,295.
+///
+/// Errors: `Rule(P4)` where a byte is no letter `A` to `Z`; or else `Rule(P5)` where leading digits are followed by `Z`
+/// or by the end; `Memory` where an allocation was refused.
+pub fn read_codes(alloc: Global, tokens: &[&[u8]]) -> Result<Vec<Code>, CodeFault>
+    // What is read is what the letters say.
+    ensures read { IfOk result (λ codes. Letters (joined_tokens tokens.now) codes.items) }
+    // What the letters say is read.
+    ensures whole { (codes : List Code) → Letters (joined_tokens tokens.now) codes → Answers result (Ok codes) }
+
+    // A rule is answered only where the letters break it, and where they break it.
+    ensures rule { (rule : CodeRule) → IsErrOf result (CodeFault.Rule rule) → Breaks rule (joined_tokens tokens.now) }
+    ensures broken { (rule : CodeRule) → Breaks rule (joined_tokens tokens.now) → Answers result (Err rule) }
+{
+    read_tokens(alloc, tokens)
 }
