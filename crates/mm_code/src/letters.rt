@@ -1,10 +1,10 @@
 //! The letters of compressed proofs, read and written.
 
 ghost use Rattle.std.specs.Prelude.{◌≡◌, ℕ, List, [], Result};
-ghost use Rattle.std.specs.Prelude.{◌+◌, ◌*◌, min, ◌∷◌, ◌++◌, IfOk, IsErrOf};
+ghost use Rattle.std.specs.Prelude.{◌+◌, ◌*◌, min, ◌∷◌, ◌++◌, ◌≤◌, All, IfOk, OnOk, IsErrOf, IsOkUnless};
 ghost use Rattle.std.specs.List.{flat_map, list_all};
 ghost use Rattle.std.specs.Char.{is_ascii_uppercase};
-ghost use Rattle.mm_code.specs.Letters.{Letters, Answers, Breaks, joined_tokens};
+ghost use Rattle.mm_code.specs.Letters.{Spells, Letters, held, HasSpelling, IsExact, AppendsLeading, AppendsCode, Answers, Breaks, joined_tokens};
 ghost use Rattle.mm_code.specs.Reading.{with_front, reading, rule_behind, FaultOf, GoesOn};
 
 use crate::code::{Code, CodeFault, CodeRule};
@@ -135,4 +135,66 @@ pub fn read_codes(alloc: Global, tokens: &[&[u8]]) -> Result<Vec<Code>, CodeFaul
     ensures broken { (rule : CodeRule) → Breaks rule (joined_tokens tokens.now) → Answers result (Err rule) }
 {
     read_tokens(alloc, tokens)
+}
+
+/// Writes the leading digits that are worth this value: none for 0.
+fn push_leading(text: &mut Vec<u8>, value: u32) -> Result<(), CodeFault>
+    ensures appends { OnOk result (AppendsLeading text.old.items text.new.items value) }
+    ensures memory { IsOkUnless result CodeFault.Memory }
+{
+    if value > 0 {
+        push_leading(text, (value - 1) / 5)?;
+        text.push(b'U' + ((value - 1) % 5) as u8)?;
+    }
+    Ok(())
+}
+
+/// Writes the spelling of a number.
+fn push_number(text: &mut Vec<u8>, number: u32) -> Result<(), CodeFault>
+    requires { 1 ≤ number }
+    ensures appends { OnOk result (AppendsCode text.old.items text.new.items (Code.Number number)) }
+    ensures memory { IsOkUnless result CodeFault.Memory }
+{
+    push_leading(text, (number - 1) / 20)?;
+    text.push(b'A' + ((number - 1) % 20) as u8)?;
+    Ok(())
+}
+
+/// Writes what says one code.
+fn push_code(text: &mut Vec<u8>, code: Code) -> Result<(), CodeFault>
+    requires { HasSpelling code }
+    ensures appends { OnOk result (AppendsCode text.old.items text.new.items code) }
+    ensures is_held { held code ≡ code }
+    ensures memory { IsOkUnless result CodeFault.Memory }
+{
+    match code {
+        Code::Number(number) => push_number(text, number),
+        Code::Tag => {
+            text.push(b'Z')?;
+            Ok(())
+        }
+    }
+}
+
+/// The letters of codes: the one spelling of each number, and `Z` for each tag, joined (the Metamath book, appendix B).
+///
+/// Each number is at least 1. Reading the letters gives the codes back; below 4,294,967,295 no other letters do.
+///
+/// Errors: `Memory` where an allocation was refused.
+pub fn write_codes(alloc: Global, codes: &[Code]) -> Result<Vec<u8>, CodeFault>
+    requires { All HasSpelling codes.now }
+
+    // The text is the spellings, and so reading it gives the codes.
+    ensures spelled { IfOk result (λ text. Spells text.items codes.now) }
+    ensures letters { IfOk result (λ text. Letters text.items codes.now) }
+    // No other text has these codes, where no number may stand for a larger one.
+    ensures only { IfOk result (λ text.
+        All IsExact codes.now → (other : List ℕ) → Letters other codes.now → other ≡ text.items) }
+    ensures memory { IsOkUnless result CodeFault.Memory }
+{
+    let mut text = Vec::new(alloc);
+    for code in codes {
+        push_code(&mut text, *code)?;
+    }
+    Ok(text)
 }

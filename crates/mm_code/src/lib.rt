@@ -10,4 +10,4 @@ mod code;
 mod letters;
 
 pub use code::{Code, CodeFault, CodeRule};
-pub use letters::read_codes;
+pub use letters::{read_codes, write_codes};
