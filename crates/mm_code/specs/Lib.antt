@@ -1,2 +1,4 @@
 pub mod Letters
 pub mod Reading
+pub mod Layout
+pub mod Lines

@@ -7,7 +7,9 @@
 #![tactic(auto)]
 
 mod code;
+mod layout;
 mod letters;
 
 pub use code::{Code, CodeFault, CodeRule};
+pub use layout::{lay_out_compressed, lay_out_normal};
 pub use letters::{read_codes, write_codes};
