@@ -128,6 +128,20 @@ one_pieces (x ∷ a) (y ∷ b) (code ∷ codes) p q =
 pub one_text_only : (a b : List ℕ) (codes : List Code) → Spells a codes → Spells b codes → a ≡ b
 one_text_only a b codes p q = p.joined ∙ one_pieces p.pieces q.pieces codes p.each q.each ∙ sym q.joined
 
+some_piece : (code : Code) → HasSpelling code → (piece : List ℕ) × Says piece code
+some_piece (Number number) has = some_spelling number has
+some_piece Tag has = (tag_letter ∷ [], refl)
+
+some_pieces : (codes : List Code) → All HasSpelling codes → (pieces : List (List ℕ)) × EachSays pieces codes
+some_pieces [] has = ([], tt)
+some_pieces (code ∷ codes) has =
+    let first = some_piece code (All-head HasSpelling code codes has) in
+    let others = some_pieces codes (All-tail HasSpelling code codes has) in
+    (first.0 ∷ others.0, (first.1, others.1))
+
+pub some_text : (codes : List Code) → All HasSpelling codes → (text : List ℕ) × Spells text codes
+some_text codes has = let pieces = some_pieces codes has in (_, record { pieces = pieces.0; each = pieces.1; joined = refl })
+
 -- ---- one list of codes
 
 pub one_reading_only : (text : List ℕ) (a b : List Code) → Letters text a → Letters text b → a ≡ b

@@ -7,9 +7,14 @@
 #![tactic(auto)]
 
 mod code;
+mod laws;
 mod layout;
 mod letters;
 
 pub use code::{Code, CodeFault, CodeRule};
+pub use laws::{one_layout, one_spelling, one_text};
 pub use layout::{lay_out_compressed, lay_out_normal};
 pub use letters::{read_codes, write_codes};
+
+#[cfg(test)]
+mod tests;
