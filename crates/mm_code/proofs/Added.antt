@@ -1,11 +1,11 @@
 -- One step of `rest_of`, and the lines that it makes.
-use Rattle.std.proofs.Common.{◌≡◌, ℕ, zero, suc, ◌+◌, ◌-◌, ◌<◌, ◌≤◌, ◌⊎◌, inl, inr, List, [], ◌∷◌, ◌++◌, length, Result, Ok, Err, refl, sym, ap, subst, ◌∙◌, append_assoc, arith}
+use Rattle.std.proofs.Common.{◌≡◌, ℕ, ◌+◌, ◌-◌, ◌<◌, ◌≤◌, inl, inr, List, [], ◌∷◌, ◌++◌, length, Result, Ok, Err, refl, sym, ap, subst, ◌∙◌, append_assoc, arith}
 use Rattle.std.specs.Prelude.{IfOk, OnOk}
-use Rattle.std.specs.List.{flat_map, join_with_byte, AllByRecursion}
+use Rattle.std.specs.List.{join_with_byte}
 use Rattle.std.proofs.lemmas.Bool.{lt-ltb, le-ltb, cases_lt}
 use Rattle.std.proofs.lemmas.List.{length-append, append-nil}
 use Rattle.mm_code.specs.declared.code.CodeFault.{CodeFault}
-use Rattle.mm_code.specs.Layout.{indent, line_of, width, IsLine, IsFull, IsGreedy, LaidOut}
+use Rattle.mm_code.specs.Layout.{indent, line_of, width, IsLine, IsFull, LaidOut}
 use Rattle.mm_code.specs.Lines.{rest_of, room_after}
 
 pub rest_fits : (room : ℕ) (token : List ℕ) (tokens : List (List ℕ)) → length token < room → rest_of room (token ∷ tokens) ≡ (32 ∷ token) ++ rest_of (room - length token - 1) tokens
@@ -32,7 +32,7 @@ pub breaking_added : (old between new token : List ℕ) (room : ℕ) → between
 breaking_added old between new token room was is le more =
     let rest = rest_of (room_after (length token)) more in
     ap (λ (t : List ℕ). t ++ rest) (is ∙ ap (λ (t : List ℕ). t ++ (indent ++ token)) was ∙ append_assoc old (10 ∷ []) (indent ++ token)) ∙ append_assoc old ((10 ∷ indent) ++ token) rest
-      ∙ ap (λ (t : List ℕ). old ++ t) (sym (rest_breaks room token more le))
+    ∙ ap (λ (t : List ℕ). old ++ t) (sym (rest_breaks room token more le))
 
 pub begun_adds : (result : Result ℕ CodeFault) (old between new token : List ℕ) (room : ℕ) → between ≡ old ++ 10 ∷ [] → OnOk result (new ≡ between ++ (indent ++ token))
     → IfOk result (λ left. left ≡ room_after (length token)) → room ≤ length token → IfOk result (λ left. (more : List (List ℕ)) → new ++ rest_of left more ≡ old ++ rest_of room (token ∷ more))
@@ -84,29 +84,29 @@ laid_out_from [] line room is left =
 laid_out_from (token ∷ more) line room is left =
     elim (cases_lt (length token) room) [
       | inl fits ↦
-        let grown = line ++ token ∷ [] in
-        let some = line_length line is in
-        let wider = width-push line token some in
-        let is_line : IsLine grown = inr (omega (arith, length-append line (token ∷ [])), omega (arith, wider)) in
-        let rest = rest_of (room - length token - 1) more in
-        let laid = laid_out_from more grown (room - length token - 1) is_line (omega (arith, wider)) in
-        let tokens_same : grown ++ more ≡ line ++ token ∷ more = append_assoc line (token ∷ []) more in
-        let text_same : line_of grown ++ rest ≡ line_of line ++ rest_of room (token ∷ more) =
+          let grown = line ++ token ∷ [] in
+          let some = line_length line is in
+          let wider = width-push line token some in
+          let is_line : IsLine grown = inr (omega (arith, length-append line (token ∷ [])), omega (arith, wider)) in
+          let rest = rest_of (room - length token - 1) more in
+          let laid = laid_out_from more grown (room - length token - 1) is_line (omega (arith, wider)) in
+          let tokens_same : grown ++ more ≡ line ++ token ∷ more = append_assoc line (token ∷ []) more in
+          let text_same : line_of grown ++ rest ≡ line_of line ++ rest_of room (token ∷ more) =
           ap (λ (t : List ℕ). t ++ rest) (line_of-push line token some) ∙ append_assoc (line_of line) (32 ∷ token) rest
-            ∙ ap (λ (t : List ℕ). line_of line ++ t) (sym (rest_fits room token more fits)) in
-        let P : List (List ℕ) → Type 0 = λ ts. LaidOut ts (line_of grown ++ rest) in
-        let Q : List ℕ → Type 0 = λ t. LaidOut (line ++ token ∷ more) t in
-        subst Q text_same (subst P tokens_same laid)
+          ∙ ap (λ (t : List ℕ). line_of line ++ t) (sym (rest_fits room token more fits)) in
+          let P : List (List ℕ) → Type 0 = λ ts. LaidOut ts (line_of grown ++ rest) in
+          let Q : List ℕ → Type 0 = λ t. LaidOut (line ++ token ∷ more) t in
+          subst Q text_same (subst P tokens_same laid)
       | inr breaks ↦
-        let some = line_length line is in
-        let wider = width-push line token some in
-        let rest = rest_of (room_after (length token)) more in
-        let laid = laid_out_from more (token ∷ []) (room_after (length token)) (inl refl) (omega arith) in
-        let full : IsFull line (token ∷ more) = omega (arith, wider) in
-        let text_same : (line_of line ++ 10 ∷ []) ++ (line_of (token ∷ []) ++ rest) ≡ line_of line ++ rest_of room (token ∷ more) =
+          let some = line_length line is in
+          let wider = width-push line token some in
+          let rest = rest_of (room_after (length token)) more in
+          let laid = laid_out_from more (token ∷ []) (room_after (length token)) (inl refl) (omega arith) in
+          let full : IsFull line (token ∷ more) = omega (arith, wider) in
+          let text_same : (line_of line ++ 10 ∷ []) ++ (line_of (token ∷ []) ++ rest) ≡ line_of line ++ rest_of room (token ∷ more) =
           append_assoc (line_of line) (10 ∷ []) (line_of (token ∷ []) ++ rest) ∙ ap (λ (t : List ℕ). line_of line ++ t) (sym (rest_breaks room token more breaks)) in
-        let Q : List ℕ → Type 0 = λ t. LaidOut (line ++ token ∷ more) t in
-        subst Q text_same (laid-cons line (token ∷ more) (line_of (token ∷ []) ++ rest) is full laid)
+          let Q : List ℕ → Type 0 = λ t. LaidOut (line ++ token ∷ more) t in
+          subst Q text_same (laid-cons line (token ∷ more) (line_of (token ∷ []) ++ rest) is full laid)
     ]
 
 -- the lines that a first token begins

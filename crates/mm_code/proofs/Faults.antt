@@ -1,18 +1,17 @@
 -- Which rule the reading answers, and that it is the rule that the letters break.
-use Rattle.std.proofs.Common.{◌≡◌, ℕ, zero, suc, ◌+◌, ◌-◌, ◌*◌, ◌<◌, ◌≤◌, ◌⊎◌, inl, inr, min, Bool, true, false, cond, ◌&&◌, length, List, [], ◌∷◌, ◌++◌, map, Result, Ok, Err, All, refl, sym, ap, subst, ◌∙◌, append_assoc, arith}
+use Rattle.std.proofs.Common.{◌≡◌, ℕ, suc, ◌<◌, ◌≤◌, ◌⊎◌, inl, inr, Bool, true, false, ◌&&◌, List, [], ◌∷◌, ◌++◌, Err, All, refl, sym, ap, subst, ◌∙◌, arith}
 use Rattle.std.specs.Prelude.{Any}
 use Rattle.std.specs.List.{list_all}
 use Rattle.std.specs.Char.{is_ascii_uppercase}
-use Rattle.std.proofs.lemmas.Bool.{cases_eq, cases_Bool, le-leb, lt-leb, leb-true, and_parts, and_from, false_from_ne_true}
+use Rattle.std.proofs.lemmas.Bool.{cases_eq, cases_Bool, le-leb, leb-true, and_parts, and_from, false_from_ne_true}
 use Rattle.std.proofs.lemmas.List.Elements.{All-cons, All-nil, All-head, All-tail}
-use Rattle.mm_code.specs.declared.code.Code.{Code}
 use Rattle.mm_code.specs.declared.code.Code.TheVariants.{Number, Tag}
 use Rattle.mm_code.specs.declared.code.CodeRule.{CodeRule}
 use Rattle.mm_code.specs.declared.code.CodeRule.TheVariants.{P4, P5}
-use Rattle.mm_code.specs.Letters.{tag_letter, IsLetter, IsLeadingLetter, IsEndOrTag, IsCut, Breaks}
+use Rattle.mm_code.specs.Letters.{IsLetter, IsLeadingLetter, IsEndOrTag, IsCut, Breaks}
 use Rattle.mm_code.specs.Reading.{with_front, reading, rule_behind, further, ended}
 use Rattle.mm_code.proofs.Steps.{read_below, read_above, read_last, read_leading, read_tag, read_cut_by_tag, read_end, read_cut_by_end}
-use Rattle.mm_code.proofs.ByteKinds.{Kind, below, last, leading, tag, above, kind, with_front-ok, with_front-err}
+use Rattle.mm_code.proofs.ByteKinds.{below, last, leading, tag, above, kind, with_front-err}
 
 abbrev HasOther : List ℕ → Type 0
 HasOther text = Any (λ byte. ¬ (IsLetter byte)) text
@@ -46,8 +45,8 @@ other-tested [] e = absurd cc
 other-tested (byte ∷ text) e =
     elim (cases_Bool (is_ascii_uppercase byte)) [
       | inl is_one ↦
-        let rest : list_all is_ascii_uppercase text ≡ false = ap (λ (b : Bool). b && list_all is_ascii_uppercase text) (sym is_one) ∙ e in
-        other-later byte text (other-tested text rest)
+          let rest : list_all is_ascii_uppercase text ≡ false = ap (λ (b : Bool). b && list_all is_ascii_uppercase text) (sym is_one) ∙ e in
+          other-later byte text (other-tested text rest)
       | inr is_none ↦ other-here byte text (λ is. absurd (cc (is_none, letter-test byte is)))
     ]
 
@@ -80,15 +79,15 @@ reads_other value (byte ∷ text) e =
       | below low ↦ read_below value byte text low
       | above high ↦ read_above value byte text high
       | last low high ↦
-        read_last value byte text low high ∙ ap (with_front (Number (ended value byte) ∷ [])) (reads_other 0 text (rest-test byte text false low (omega arith) e))
+          read_last value byte text low high ∙ ap (with_front (Number (ended value byte) ∷ [])) (reads_other 0 text (rest-test byte text false low (omega arith) e))
       | leading low high ↦
-        read_leading value byte text low high ∙ reads_other (further value byte) text (rest-test byte text false (omega arith) (omega arith) e)
+          read_leading value byte text low high ∙ reads_other (further value byte) text (rest-test byte text false (omega arith) (omega arith) e)
       | tag is ↦
-        let rest = rest-test byte text false (omega arith) (omega arith) e in
-        elim (cases_eq value 0) [
-          | inl none ↦ read_tag value byte text is none ∙ ap (with_front (Tag ∷ [])) (reads_other 0 text rest)
-          | inr some ↦ let positive : 0 < value = omega arith in read_cut_by_tag value byte text is positive ∙ ap Err (rule_behind-other text rest)
-        ]
+          let rest = rest-test byte text false (omega arith) (omega arith) e in
+          elim (cases_eq value 0) [
+            | inl none ↦ read_tag value byte text is none ∙ ap (with_front (Tag ∷ [])) (reads_other 0 text rest)
+            | inr some ↦ let positive : 0 < value = omega arith in read_cut_by_tag value byte text is positive ∙ ap Err (rule_behind-other text rest)
+          ]
     ]
 
 -- P5 is answered where all bytes are letters
@@ -115,12 +114,12 @@ reads_P4 value (byte ∷ text) e =
       | tag is ↦ elim (cases_eq value 0) [
         | inl none ↦ other-later byte text (reads_P4 0 text (with_front-err (Tag ∷ []) P4 (reading 0 text) (sym (read_tag value byte text is none) ∙ e)))
         | inr some ↦
-          let positive : 0 < value = omega arith in
-          let rule : rule_behind text ≡ P4 = cc (read_cut_by_tag value byte text is positive, e) in
-          elim (cases_Bool (list_all is_ascii_uppercase text)) [
-            | inl are ↦ absurd (cc (rule_behind-letters text are, rule))
-            | inr are_not ↦ other-later byte text (other-tested text are_not)
-          ]
+            let positive : 0 < value = omega arith in
+            let rule : rule_behind text ≡ P4 = cc (read_cut_by_tag value byte text is positive, e) in
+            elim (cases_Bool (list_all is_ascii_uppercase text)) [
+              | inl are ↦ absurd (cc (rule_behind-letters text are, rule))
+              | inr are_not ↦ other-later byte text (other-tested text are_not)
+            ]
       ]
     ]
 
@@ -173,7 +172,7 @@ cut_read : (before : List ℕ) (value digit : ℕ) (after : List ℕ) → IsLead
     → reading value (before ++ digit ∷ after) ≡ Err P5
 cut_read [] value digit after is stops e =
     read_leading value digit after is.0 (omega (arith, is.1))
-      ∙ cut_there (further value digit) after (omega (arith, is.0)) stops (rest-test digit after true (omega (arith, is.0)) (omega (arith, is.1)) e)
+    ∙ cut_there (further value digit) after (omega (arith, is.0)) stops (rest-test digit after true (omega (arith, is.0)) (omega (arith, is.1)) e)
 cut_read (byte ∷ before) value digit after is stops e =
     let text = before ++ digit ∷ after in
     let parts = and_parts (is_ascii_uppercase byte) (list_all is_ascii_uppercase text) e in

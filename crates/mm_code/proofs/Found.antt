@@ -1,17 +1,15 @@
 -- What is read is what the letters say.
-use Rattle.std.proofs.Common.{◌≡◌, ℕ, zero, suc, ◌+◌, ◌-◌, ◌*◌, ◌<◌, ◌≤◌, ◌⊎◌, inl, inr, min, Bool, true, false, cond, List, [], ◌∷◌, ◌++◌, map, Result, Ok, Err, refl, sym, ap, subst, ◌∙◌, append_assoc, arith}
-use Rattle.std.specs.List.{fold, flat_map, AllByRecursion}
+use Rattle.std.proofs.Common.{◌≡◌, ℕ, ◌+◌, ◌-◌, ◌*◌, ◌<◌, ◌≤◌, inl, inr, min, List, [], ◌∷◌, ◌++◌, map, Ok, refl, sym, ap, subst, ◌∙◌, append_assoc, arith}
+use Rattle.std.specs.List.{fold, AllByRecursion}
 use Rattle.std.proofs.lemmas.List.{map-append}
 use Rattle.std.proofs.lemmas.List.Sums.{fold-append}
 use Rattle.std.proofs.lemmas.Bool.{cases_eq}
 use Rattle.mm_code.specs.declared.code.Code.{Code}
 use Rattle.mm_code.specs.declared.code.Code.TheVariants.{Number, Tag}
-use Rattle.mm_code.specs.declared.code.CodeRule.{CodeRule}
-use Rattle.mm_code.specs.declared.code.CodeRule.TheVariants.{P4, P5}
-use Rattle.mm_code.specs.Letters.{last_letter, leading_letter, tag_letter, IsLeadingDigit, IsLastDigit, leading_value, IsSpelling, Says, EachSays, Spells, Letters, held, largest}
-use Rattle.mm_code.specs.Reading.{with_front, reading, further, ended}
+use Rattle.mm_code.specs.Letters.{last_letter, leading_letter, tag_letter, IsLeadingDigit, leading_value, IsSpelling, Says, Letters, held, largest}
+use Rattle.mm_code.specs.Reading.{reading, further, ended}
 use Rattle.mm_code.proofs.Steps.{read_below, read_above, read_last, read_leading, read_tag, read_cut_by_tag, read_end, read_cut_by_end}
-use Rattle.mm_code.proofs.ByteKinds.{Kind, below, last, leading, tag, above, kind, with_front-ok}
+use Rattle.mm_code.proofs.ByteKinds.{below, last, leading, tag, above, kind, with_front-ok}
 
 pub letters-nil : Letters [] []
 letters-nil = record { spelled = []; spells = record { pieces = []; each = tt; joined = refl }; are_held = refl }
@@ -65,12 +63,12 @@ pub is_read : (text digits : List ℕ) (codes : List Code) → AllByRecursion Is
 is_read [] digits codes ok e =
     elim (cases_eq (leading_value digits) 0) [
       | inl none ↦
-        let zero_value : min (leading_value digits) largest ≡ 0 = omega arith in
-        let same : codes ≡ [] = cc (read_end (min (leading_value digits) largest) zero_value, e) in
-        rw (none_if_zero digits ok none, same) letters-nil
+          let zero_value : min (leading_value digits) largest ≡ 0 = omega arith in
+          let same : codes ≡ [] = cc (read_end (min (leading_value digits) largest) zero_value, e) in
+          rw (none_if_zero digits ok none, same) letters-nil
       | inr some ↦
-        let positive : 0 < min (leading_value digits) largest = omega arith in
-        absurd (cc (read_cut_by_end (min (leading_value digits) largest) positive, e))
+          let positive : 0 < min (leading_value digits) largest = omega arith in
+          absurd (cc (read_cut_by_end (min (leading_value digits) largest) positive, e))
     ]
 is_read (byte ∷ text) digits codes ok e =
     let value = min (leading_value digits) largest in
@@ -78,33 +76,33 @@ is_read (byte ∷ text) digits codes ok e =
       | below low ↦ absurd (cc (read_below value byte text low, e))
       | above high ↦ absurd (cc (read_above value byte text high, e))
       | last low high ↦
-        let rest = with_front-ok (Number (ended value byte) ∷ []) codes (reading 0 text) (sym (read_last value byte text low high) ∙ e) in
-        let letters = letters-number digits byte text rest.0 ok low high (is_read text [] rest.0 tt rest.1) in
-        let number : ended value byte ≡ min (20 * leading_value digits + (byte - 64)) largest = omega arith in
-        let same : codes ≡ Number (min (20 * leading_value digits + (byte - 64)) largest) ∷ rest.0 = rest.2 ∙ ap (λ (n : ℕ). Number n ∷ rest.0) number in
-        subst (λ (cs : List Code). Letters (map leading_letter digits ++ byte ∷ text) cs) (sym same) letters
+          let rest = with_front-ok (Number (ended value byte) ∷ []) codes (reading 0 text) (sym (read_last value byte text low high) ∙ e) in
+          let letters = letters-number digits byte text rest.0 ok low high (is_read text [] rest.0 tt rest.1) in
+          let number : ended value byte ≡ min (20 * leading_value digits + (byte - 64)) largest = omega arith in
+          let same : codes ≡ Number (min (20 * leading_value digits + (byte - 64)) largest) ∷ rest.0 = rest.2 ∙ ap (λ (n : ℕ). Number n ∷ rest.0) number in
+          subst (λ (cs : List Code). Letters (map leading_letter digits ++ byte ∷ text) cs) (sym same) letters
       | leading low high ↦
-        let digit = byte - 84 in
-        let is_byte : leading_letter digit ≡ byte = omega arith in
-        let worth : leading_value (digits ++ digit ∷ []) ≡ 5 * leading_value digits + digit = leading_value-push digits digit in
-        let next : further value byte ≡ min (leading_value (digits ++ digit ∷ [])) largest = omega arith in
-        let read : reading (min (leading_value (digits ++ digit ∷ [])) largest) text ≡ Ok codes = ap (λ (v : ℕ). reading v text) (sym next) ∙ sym (read_leading value byte text low high) ∙ e in
-        let letters = is_read text (digits ++ digit ∷ []) codes (leading-push digits digit ok (omega arith, omega arith)) read in
-        let same : map leading_letter (digits ++ digit ∷ []) ++ text ≡ map leading_letter digits ++ byte ∷ text =
+          let digit = byte - 84 in
+          let is_byte : leading_letter digit ≡ byte = omega arith in
+          let worth : leading_value (digits ++ digit ∷ []) ≡ 5 * leading_value digits + digit = leading_value-push digits digit in
+          let next : further value byte ≡ min (leading_value (digits ++ digit ∷ [])) largest = omega arith in
+          let read : reading (min (leading_value (digits ++ digit ∷ [])) largest) text ≡ Ok codes = ap (λ (v : ℕ). reading v text) (sym next) ∙ sym (read_leading value byte text low high) ∙ e in
+          let letters = is_read text (digits ++ digit ∷ []) codes (leading-push digits digit ok (omega arith, omega arith)) read in
+          let same : map leading_letter (digits ++ digit ∷ []) ++ text ≡ map leading_letter digits ++ byte ∷ text =
           ap (λ (t : List ℕ). t ++ text) (map-append leading_letter digits (digit ∷ [])) ∙ append_assoc (map leading_letter digits) (leading_letter digit ∷ []) text ∙ ap (λ (b : ℕ). map leading_letter digits ++ b ∷ text) is_byte in
-        subst (λ (t : List ℕ). Letters t codes) same letters
+          subst (λ (t : List ℕ). Letters t codes) same letters
       | tag is ↦ elim (cases_eq (leading_value digits) 0) [
         | inl none ↦
-          let zero_value : value ≡ 0 = omega arith in
-          let rest = with_front-ok (Tag ∷ []) codes (reading 0 text) (sym (read_tag value byte text is zero_value) ∙ e) in
-          let letters = letters-cons (tag_letter ∷ []) text Tag rest.0 refl (is_read text [] rest.0 tt rest.1) in
-          let no_digits : digits ≡ [] = none_if_zero digits ok none in
-          let same : tag_letter ∷ text ≡ map leading_letter digits ++ byte ∷ text = ap (λ (b : ℕ). b ∷ text) (sym is) ∙ ap (λ (ds : List ℕ). map leading_letter ds ++ byte ∷ text) (sym no_digits) in
-          let Q : List ℕ → Type 0 = λ t. Letters t codes in
-          let P : List Code → Type 0 = λ cs. Letters (tag_letter ∷ text) cs in
-          subst Q same (subst P (sym rest.2) letters)
+            let zero_value : value ≡ 0 = omega arith in
+            let rest = with_front-ok (Tag ∷ []) codes (reading 0 text) (sym (read_tag value byte text is zero_value) ∙ e) in
+            let letters = letters-cons (tag_letter ∷ []) text Tag rest.0 refl (is_read text [] rest.0 tt rest.1) in
+            let no_digits : digits ≡ [] = none_if_zero digits ok none in
+            let same : tag_letter ∷ text ≡ map leading_letter digits ++ byte ∷ text = ap (λ (b : ℕ). b ∷ text) (sym is) ∙ ap (λ (ds : List ℕ). map leading_letter ds ++ byte ∷ text) (sym no_digits) in
+            let Q : List ℕ → Type 0 = λ t. Letters t codes in
+            let P : List Code → Type 0 = λ cs. Letters (tag_letter ∷ text) cs in
+            subst Q same (subst P (sym rest.2) letters)
         | inr some ↦
-          let positive : 0 < value = omega arith in
-          absurd (cc (read_cut_by_tag value byte text is positive, e))
+            let positive : 0 < value = omega arith in
+            absurd (cc (read_cut_by_tag value byte text is positive, e))
       ]
     ]

@@ -1,10 +1,10 @@
 -- The lines of letters, and the whole layouts.
-use Rattle.std.proofs.Common.{◌≡◌, ℕ, ◌+◌, ◌-◌, ◌<◌, ◌≤◌, ◌⊎◌, inl, inr, min, List, [], ◌∷◌, ◌++◌, length, map, take, drop, refl, sym, ap, subst, ◌∙◌, append_assoc, arith}
+use Rattle.std.proofs.Common.{◌≡◌, ℕ, ◌<◌, ◌≤◌, ◌⊎◌, inl, inr, min, List, [], ◌∷◌, ◌++◌, length, take, drop, refl, sym, ap, subst, ◌∙◌, append_assoc, arith}
 use denote.Ref.{Bor}
 use Rattle.std.specs.List.{flat_map}
 use Rattle.std.proofs.lemmas.Bool.{cases_lt}
-use Rattle.std.proofs.lemmas.List.{length-append, append-nil, length-take, length-drop, take-append-drop, nil_from_length, take_all, drop_all}
-use Rattle.mm_code.specs.Layout.{indent, line_of, LaidOut, AreLetterLines, LettersLaidOut, in_parentheses, CompressedLaidOut, texts}
+use Rattle.std.proofs.lemmas.List.{length-append, append-nil, length-take, length-drop, take-append-drop, nil_from_length}
+use Rattle.mm_code.specs.Layout.{indent, LaidOut, AreLetterLines, LettersLaidOut, in_parentheses, CompressedLaidOut, texts}
 use Rattle.mm_code.specs.Lines.{rest_of, room_after, AppendsLetters}
 use Rattle.mm_code.proofs.Added.{rest_ends, laid-nil, laid_out_begun}
 
@@ -71,8 +71,8 @@ tokens_laid_out empty begun added text token room left tokens none first after o
     let Q : List ℕ → Type 0 = λ t. LaidOut (token ∷ tokens) t in
     let begins : begun ≡ indent ++ token = first ∙ ap (λ (t : List ℕ). t ++ (indent ++ token)) none in
     let same : (indent ++ token) ++ rest_of (room_after (length token)) tokens ≡ text =
-      ap (λ (t : List ℕ). t ++ rest_of (room_after (length token)) tokens) (sym begins) ∙ ap (λ (r : ℕ). begun ++ rest_of r tokens) (sym after)
-        ∙ ap (λ (ts : List (List ℕ)). begun ++ rest_of room ts) (sym (append-nil tokens)) ∙ sym (others []) ∙ ap (λ (t : List ℕ). added ++ t) (rest_ends left) ∙ sym is in
+    ap (λ (t : List ℕ). t ++ rest_of (room_after (length token)) tokens) (sym begins) ∙ ap (λ (r : ℕ). begun ++ rest_of r tokens) (sym after)
+    ∙ ap (λ (ts : List (List ℕ)). begun ++ rest_of room ts) (sym (append-nil tokens)) ∙ sym (others []) ∙ ap (λ (t : List ℕ). added ++ t) (rest_ends left) ∙ sym is in
     subst Q same (laid_out_begun token tokens)
 
 pub labels_laid_out : (labels others : List (Bor (List ℕ))) (first : Bor (List ℕ)) (text : List ℕ) → labels ≡ first ∷ others → LaidOut (first.now ∷ texts others) text → LaidOut (texts labels) text

@@ -1,7 +1,7 @@
 -- Tokens have one layout, and letters have one.
-use Rattle.std.proofs.Common.{◌≡◌, ℕ, zero, suc, ◌+◌, ◌-◌, ◌<◌, ◌≤◌, ◌⊎◌, inl, inr, List, [], ◌∷◌, ◌++◌, length, refl, sym, ap, subst, ◌∙◌, append_assoc, arith}
+use Rattle.std.proofs.Common.{◌≡◌, ℕ, suc, ◌+◌, ◌<◌, ◌≤◌, inl, inr, List, [], ◌∷◌, ◌++◌, length, refl, sym, ap, subst, ◌∙◌, append_assoc, arith}
 use Rattle.std.specs.List.{flat_map, join_with_byte, AllByRecursion}
-use Rattle.std.proofs.lemmas.List.{length-append, append_cancel_left, nil_from_length}
+use Rattle.std.proofs.lemmas.List.{length-append}
 use Rattle.mm_code.specs.Layout.{indent, line_of, width, IsLine, IsFull, IsGreedy, LaidOut, AreLetterLines, LettersLaidOut, in_parentheses, CompressedLaidOut}
 
 -- Of two fronts of one list, they are the same, or one goes on where the other ends.

@@ -1,13 +1,13 @@
 -- Each number from 1 on has exactly one spelling, and each list of codes one text.
-use Rattle.std.proofs.Common.{◌≡◌, ℕ, zero, suc, ◌+◌, ◌-◌, ◌*◌, ◌/◌, ◌%◌, ◌<◌, ◌≤◌, ◌⊎◌, inl, inr, min, List, [], ◌∷◌, ◌++◌, map, reverse, length, All, Result, Ok, Err, refl, sym, ap, subst, ◌∙◌, append_assoc, arith}
-use Rattle.std.specs.List.{fold, flat_map, AllByRecursion}
+use Rattle.std.proofs.Common.{◌≡◌, ℕ, zero, suc, ◌+◌, ◌-◌, ◌*◌, ◌/◌, ◌%◌, ◌<◌, ◌≤◌, inl, inr, min, List, [], ◌∷◌, ◌++◌, map, reverse, All, refl, sym, ap, subst, ◌∙◌, arith}
+use Rattle.std.specs.List.{flat_map, AllByRecursion}
 use Rattle.std.proofs.lemmas.List.{reverse-reverse, same_from_push}
 use Rattle.std.proofs.lemmas.List.Elements.{All-head, All-tail}
 use Rattle.std.proofs.lemmas.Grind.{reverse_onto}
 use Rattle.std.proofs.lemmas.Bool.{cases_eq}
 use Rattle.mm_code.specs.declared.code.Code.{Code}
 use Rattle.mm_code.specs.declared.code.Code.TheVariants.{Number, Tag}
-use Rattle.mm_code.specs.Letters.{last_letter, leading_letter, tag_letter, IsLeadingDigit, IsLastDigit, leading_value, IsSpelling, Says, EachSays, Spells, Letters, held, largest, HasSpelling, IsExact}
+use Rattle.mm_code.specs.Letters.{last_letter, leading_letter, tag_letter, IsLeadingDigit, leading_value, IsSpelling, Says, EachSays, Spells, Letters, held, largest, HasSpelling, IsExact}
 use Rattle.mm_code.proofs.Found.{leading_value-push, leading-push}
 use Rattle.mm_code.proofs.Again.{is_read_again}
 
@@ -73,8 +73,8 @@ some_leading (suc bound) value le =
     elim (cases_eq value 0) [
       | inl none ↦ record { digits = []; ok = tt; is = omega arith }
       | inr some ↦
-        let had = some_leading bound ((value - 1) / 5) (omega arith) in
-        record { digits = had.digits ++ ((value - 1) % 5 + 1) ∷ []; ok = grown-leading value had.digits had.ok; is = grown-value value had.digits had.is (omega arith) }
+          let had = some_leading bound ((value - 1) / 5) (omega arith) in
+          record { digits = had.digits ++ ((value - 1) % 5 + 1) ∷ []; ok = grown-leading value had.digits had.ok; is = grown-value value had.digits had.is (omega arith) }
     ]
 
 pub spelling-of : (number rest : ℕ) (had : HasLeading rest) → rest ≡ (number - 1) / 20 → 1 ≤ number → IsSpelling (map leading_letter had.digits ++ last_letter ((number - 1) % 20 + 1) ∷ []) number

@@ -1,11 +1,12 @@
 -- The steps of writing, on lists.
-use Rattle.std.proofs.Common.{◌≡◌, ℕ, ◌+◌, ◌-◌, ◌*◌, ◌/◌, ◌%◌, ◌<◌, ◌≤◌, List, [], ◌∷◌, ◌++◌, map, length, get_or, take, All, refl, sym, ap, subst, ◌∙◌, append_assoc, arith}
-use Rattle.std.specs.List.{flat_map, AllByRecursion}
+use Rattle.std.proofs.Common.{◌≡◌, ℕ, ◌+◌, ◌-◌, ◌/◌, ◌%◌, ◌<◌, ◌≤◌, List, [], ◌∷◌, ◌++◌, map, length, get_or, take, All, sym, ap, subst, ◌∙◌, append_assoc, arith}
+use Rattle.std.specs.List.{flat_map}
 use Rattle.std.proofs.lemmas.List.{map-append, append-nil, take_more, take_all, map_push}
 use Rattle.std.proofs.lemmas.List.Concat.{flat_map-append}
 use Rattle.mm_code.specs.declared.code.Code.{Code}
-use Rattle.mm_code.specs.declared.code.Code.TheVariants.{Number, Tag}
-use Rattle.mm_code.specs.Letters.{last_letter, leading_letter, IsLeadingDigit, leading_value, IsSpelling, Says, EachSays, Spells, Letters, held, IsExact, AppendsLeading, AppendsCode}
+use Rattle.mm_code.specs.declared.code.Code.TheVariants.{Number}
+use Rattle.mm_code.specs.Letters.{last_letter, leading_letter, Says, EachSays, Spells, Letters, held, IsExact}
+use Rattle.mm_code.specs.Writing.{AppendsLeading, AppendsCode}
 use Rattle.mm_code.proofs.Unique.{HasLeading, grown-leading, grown-value, spelling-of, exact_spelled, one_text_only}
 
 -- one more leading digit's letter
@@ -18,8 +19,8 @@ leading-written old between new value rest byte had is quotient letter positive 
       are_leading = grown-leading value had.digits had.are_leading;
       is_worth = grown-value value had.digits (had.is_worth ∙ quotient) positive;
       text = is ∙ ap (λ (t : List ℕ). t ++ byte ∷ []) had.text ∙ append_assoc old (map leading_letter had.digits) (byte ∷ [])
-        ∙ ap (λ (b : ℕ). old ++ (map leading_letter had.digits ++ b ∷ [])) same
-        ∙ ap (λ (t : List ℕ). old ++ t) (sym (map-append leading_letter had.digits (digit ∷ [])));
+          ∙ ap (λ (b : ℕ). old ++ (map leading_letter had.digits ++ b ∷ [])) same
+          ∙ ap (λ (t : List ℕ). old ++ t) (sym (map-append leading_letter had.digits (digit ∷ [])));
     }
 
 -- the last digit's letter
@@ -32,7 +33,7 @@ number-written old between new number rest byte had is quotient letter positive 
       piece = map leading_letter had.digits ++ last_letter digit ∷ [];
       says = spelling-of number rest leading quotient positive;
       text = is ∙ ap (λ (t : List ℕ). t ++ byte ∷ []) had.text ∙ append_assoc old (map leading_letter had.digits) (byte ∷ [])
-        ∙ ap (λ (b : ℕ). old ++ (map leading_letter had.digits ++ b ∷ [])) same;
+          ∙ ap (λ (b : ℕ). old ++ (map leading_letter had.digits ++ b ∷ [])) same;
     }
 
 each-push : (pieces : List (List ℕ)) (codes : List Code) (piece : List ℕ) (code : Code) → EachSays pieces codes → Says piece code → EachSays (pieces ++ piece ∷ []) (codes ++ code ∷ [])
@@ -49,7 +50,7 @@ code-written old new codes i d lt spells more =
       pieces = spells.pieces ++ more.piece ∷ [];
       each = each-push spells.pieces (take i codes) more.piece (get_or codes i d) spells.each more.says;
       joined = more.text ∙ ap (λ (t : List ℕ). t ++ more.piece) spells.joined ∙ ap (λ (t : List ℕ). flat_map (λ piece. piece) spells.pieces ++ t) (sym (append-nil more.piece))
-        ∙ sym (flat_map-append (λ (piece : List ℕ). piece) spells.pieces (more.piece ∷ []));
+          ∙ sym (flat_map-append (λ (piece : List ℕ). piece) spells.pieces (more.piece ∷ []));
     })
 
 pub held-more : (codes : List Code) (i : ℕ) (d : Code) → i < length codes → map held (take i codes) ≡ take i codes → held (get_or codes i d) ≡ get_or codes i d → map held (take (i + 1) codes) ≡ take (i + 1) codes

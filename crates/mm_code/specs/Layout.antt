@@ -1,5 +1,5 @@
 -- The lines in which proofs are printed and saved. A text is a list of bytes, a token a list of bytes in it.
-use Rattle.std.specs.Prelude.{◌≡◌, ℕ, ◌+◌, ◌<◌, ◌≤◌, ◌⊎◌, List, [], ◌∷◌, ◌++◌, length, map}
+use Rattle.std.specs.Prelude.{◌≡◌, ℕ, ◌<◌, ◌≤◌, ◌⊎◌, List, [], ◌∷◌, ◌++◌, length, map}
 use denote.Ref.{Bor}
 use Rattle.std.specs.List.{flat_map, join_with_byte, AllByRecursion}
 

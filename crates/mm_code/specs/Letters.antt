@@ -120,16 +120,3 @@ Breaks P5 text = All IsLetter text × IsCut text
 -- the letters of tokens that white space cut apart
 abbrev pub joined_tokens : List (Bor (List ℕ)) → List ℕ
 joined_tokens tokens = flat_map (λ token. token.now) tokens
-
--- what a text has more than another at its end: these leading digits' letters
-pub record AppendsLeading (old new : List ℕ) (value : ℕ) : Type 0 where
-  pub digits : List ℕ
-  pub are_leading : AllByRecursion IsLeadingDigit digits
-  pub is_worth : leading_value digits ≡ value
-  pub text : new ≡ old ++ map leading_letter digits
-
--- new is old with what says the code at its end
-pub record AppendsCode (old new : List ℕ) (code : Code) : Type 0 where
-  pub piece : List ℕ
-  pub says : Says piece code
-  pub text : new ≡ old ++ piece

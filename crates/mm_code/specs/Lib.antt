@@ -1,4 +1,5 @@
 pub mod Letters
 pub mod Reading
+pub mod Writing
 pub mod Layout
 pub mod Lines

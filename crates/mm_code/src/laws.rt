@@ -11,8 +11,7 @@ pub fn one_spelling()
     ensures some { (number : ℕ) → 1 ≤ number → (text : List ℕ) × IsSpelling text number }
     ensures only { (a b : List ℕ) (number : ℕ) → IsSpelling a number → IsSpelling b number → a ≡ b }
     ensures number { (text : List ℕ) (m n : ℕ) → IsSpelling text m → IsSpelling text n → m ≡ n }
-{
-}
+{}
 
 /// Codes whose numbers are at least 1 have exactly one text that spells them, and the letters of a text say at most one
 /// list of codes.
@@ -20,8 +19,7 @@ pub fn one_text()
     ensures some { (codes : List Code) → All HasSpelling codes → (text : List ℕ) × Spells text codes }
     ensures only { (a b : List ℕ) (codes : List Code) → Spells a codes → Spells b codes → a ≡ b }
     ensures codes { (text : List ℕ) (a b : List Code) → Letters text a → Letters text b → a ≡ b }
-{
-}
+{}
 
 /// Labels have exactly one layout, and so do labels with letters: where no line can take a token more, the lines can be
 /// cut in one way only.
@@ -29,5 +27,4 @@ pub fn one_layout()
     ensures normal { (labels : List (List ℕ)) (a b : List ℕ) → LaidOut labels a → LaidOut labels b → a ≡ b }
     ensures compressed { (labels : List (List ℕ)) (letters a b : List ℕ) →
         CompressedLaidOut labels letters a → CompressedLaidOut labels letters b → a ≡ b }
-{
-}
+{}

@@ -4,7 +4,8 @@ ghost use Rattle.std.specs.Prelude.{◌≡◌, ℕ, List, [], Result};
 ghost use Rattle.std.specs.Prelude.{◌+◌, ◌*◌, min, ◌∷◌, ◌++◌, ◌≤◌, All, IfOk, OnOk, IsErrOf, IsOkUnless};
 ghost use Rattle.std.specs.List.{flat_map, list_all};
 ghost use Rattle.std.specs.Char.{is_ascii_uppercase};
-ghost use Rattle.mm_code.specs.Letters.{Spells, Letters, held, HasSpelling, IsExact, AppendsLeading, AppendsCode, Answers, Breaks, joined_tokens};
+ghost use Rattle.mm_code.specs.Letters.{Spells, Letters, held, HasSpelling, IsExact, Answers, Breaks, joined_tokens};
+ghost use Rattle.mm_code.specs.Writing.{AppendsLeading, AppendsCode};
 ghost use Rattle.mm_code.specs.Reading.{with_front, reading, rule_behind, FaultOf, GoesOn};
 
 use crate::code::{Code, CodeFault, CodeRule};

@@ -35,8 +35,14 @@ fn values(rt: HostRuntime) -> Result<(), Fail> {
 fn white_space_cuts_numbers(rt: HostRuntime) -> Result<(), Fail> {
     let codes = read_codes(rt.alloc(), &[b"U".as_slice(), b"A".as_slice()])?;
     assert_eq!(rt; codes.as_slice(), [Code::Number(21)].as_slice());
-    let with_empty = read_codes(rt.alloc(), &[b"AU".as_slice(), b"".as_slice(), b"UAZ".as_slice()])?;
-    assert_eq!(rt; with_empty.as_slice(), [Code::Number(1), Code::Number(121), Code::Tag].as_slice());
+    let with_empty = read_codes(
+        rt.alloc(),
+        &[b"AU".as_slice(), b"".as_slice(), b"UAZ".as_slice()],
+    )?;
+    assert_eq!(rt;
+        with_empty.as_slice(),
+        [Code::Number(1), Code::Number(121), Code::Tag].as_slice()
+    );
     Ok(())
 }
 
@@ -88,17 +94,24 @@ fn broken_rules(rt: HostRuntime) {
     let alloc = rt.alloc();
     assert_eq!(rt; rule_of(alloc, &[b"Aa".as_slice()]), Some(CodeRule::P4));
     assert_eq!(rt; rule_of(alloc, &[b"Ua".as_slice()]), Some(CodeRule::P4));
-    assert_eq!(rt; rule_of(alloc, &[b"UZ".as_slice(), b"a".as_slice()]), Some(CodeRule::P4));
+    assert_eq!(rt;
+        rule_of(alloc, &[b"UZ".as_slice(), b"a".as_slice()]),
+        Some(CodeRule::P4)
+    );
     assert_eq!(rt; rule_of(alloc, &[b"A@".as_slice()]), Some(CodeRule::P4));
     assert_eq!(rt; rule_of(alloc, &[b"U".as_slice()]), Some(CodeRule::P5));
     assert_eq!(rt; rule_of(alloc, &[b"UZ".as_slice()]), Some(CodeRule::P5));
-    assert_eq!(rt; rule_of(alloc, &[b"U".as_slice(), b"Z".as_slice()]), Some(CodeRule::P5));
+    assert_eq!(rt;
+        rule_of(alloc, &[b"U".as_slice(), b"Z".as_slice()]),
+        Some(CodeRule::P5)
+    );
 }
 
 #[test]
 fn normal_lines(rt: HostRuntime) -> Result<(), Fail> {
     let text = lay_out_normal(rt.alloc(), &[b"tt".as_slice(); 25])?;
-    let wanted = b"      tt tt tt tt tt tt tt tt tt tt tt tt tt tt tt tt tt tt tt tt tt tt tt tt\n      tt\n";
+    let wanted =
+        b"      tt tt tt tt tt tt tt tt tt tt tt tt tt tt tt tt tt tt tt tt tt tt tt tt\n      tt\n";
     assert_eq!(rt; text.as_slice(), wanted.as_slice());
     assert!(rt; lay_out_normal(rt.alloc(), &[])?.is_empty());
     Ok(())
@@ -119,7 +132,10 @@ fn a_line_of_79_bytes(rt: HostRuntime) -> Result<(), Fail> {
 #[test]
 fn a_long_label_has_its_line(rt: HostRuntime) -> Result<(), Fail> {
     let long = [b'x'; 100];
-    let text = lay_out_normal(rt.alloc(), &[b"a".as_slice(), long.as_slice(), b"b".as_slice()])?;
+    let text = lay_out_normal(
+        rt.alloc(),
+        &[b"a".as_slice(), long.as_slice(), b"b".as_slice()],
+    )?;
     assert_eq!(rt; text.len(), 8 + 107 + 8);
     assert!(rt; text.starts_with(b"      a\n      xxx"));
     assert!(rt; text.ends_with(b"xxx\n      b\n"));
@@ -132,13 +148,21 @@ fn compressed_lines(rt: HostRuntime) -> Result<(), Fail> {
     assert_eq!(rt; none.as_slice(), b"      ( )\n".as_slice());
     let letters = [b'A'; 74];
     let one = lay_out_compressed(rt.alloc(), &[], &letters[..73])?;
-    let wanted = b"      ( )\n      AAAAAAAAAAAAAAAAAAAAAAAAAAAAAAAAAAAAAAAAAAAAAAAAAAAAAAAAAAAAAAAAAAAAAAAAA\n";
+    let wanted =
+        b"      ( )\n      AAAAAAAAAAAAAAAAAAAAAAAAAAAAAAAAAAAAAAAAAAAAAAAAAAAAAAAAAAAAAAAAAAAAAAAAA\n";
     assert_eq!(rt; one.as_slice(), wanted.as_slice());
     let two = lay_out_compressed(rt.alloc(), &[], &letters)?;
     assert_eq!(rt; two.len(), wanted.len() + 8);
     assert!(rt; two.starts_with(wanted));
     assert!(rt; two.ends_with(b"\n      A\n"));
-    let listed = lay_out_compressed(rt.alloc(), &[b"nil".as_slice(), b"cat".as_slice()], b"AABZCB")?;
-    assert_eq!(rt; listed.as_slice(), b"      ( nil cat )\n      AABZCB\n".as_slice());
+    let listed = lay_out_compressed(
+        rt.alloc(),
+        &[b"nil".as_slice(), b"cat".as_slice()],
+        b"AABZCB",
+    )?;
+    assert_eq!(rt;
+        listed.as_slice(),
+        b"      ( nil cat )\n      AABZCB\n".as_slice()
+    );
     Ok(())
 }

@@ -1,5 +1,5 @@
 -- A token on the open line, and one on the next, are each a step of `rest_of`.
-use Rattle.std.proofs.Common.{◌≡◌, ◌∷◌, ◌++◌, [], arith}
+use Rattle.std.proofs.Common.{arith}
 use Rattle.mm_code.proofs.Added.{fitting_added, begun_adds}
 use Rattle.mm_code.proofs.layout.add_token.Goals as goal
 

@@ -1,7 +1,5 @@
 -- At the end of the tokens, and at a fault, the invariant gives the answer.
-use Rattle.std.proofs.Common.{◌≡◌, ℕ, List, drop, arith}
-use Rattle.std.specs.List.{flat_map}
-use Rattle.mm_code.specs.Reading.{with_front, reading, FaultOf}
+use Rattle.std.proofs.Common.{arith}
 use Rattle.mm_code.proofs.Steps.{ends_at_cut, ends_whole, fault_ends}
 use Rattle.mm_code.proofs.letters.read_tokens.Goals as goal
 

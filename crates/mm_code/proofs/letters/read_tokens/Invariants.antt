@@ -1,4 +1,4 @@
-use Rattle.std.proofs.Common.{◌≡◌, ℕ, List, drop}
+use Rattle.std.proofs.Common.{◌≡◌, drop}
 use Rattle.std.specs.List.{flat_map}
 use Rattle.mm_code.specs.Reading.{with_front, reading}
 use Rattle.mm_code.proofs.letters.read_tokens.Given as goal

@@ -6,5 +6,5 @@ use Rattle.mm_code.proofs.letters.write_codes.Given as goal
 abbrev pub invariant-loop-code : goal.invariant-loop-code
 invariant-loop-code l = record {
   spelled : Spells l.text.items (take l.code-index l.codes);
-  are_held : map held (take l.code-index l.codes) ≡ take l.code-index l.codes
+  are_held : map held (take l.code-index l.codes) ≡ take l.code-index l.codes;
 }
