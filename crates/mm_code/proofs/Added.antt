@@ -54,7 +54,8 @@ line_of-push (first ∷ line) token lt = ap (λ (t : List ℕ). indent ++ t) (jo
 width-push : (line : List (List ℕ)) (token : List ℕ) → 0 < length line → width (line ++ token ∷ []) ≡ width line + (1 + length token)
 width-push line token lt = ap length (line_of-push line token lt) ∙ length-append (line_of line) (32 ∷ token) ∙ omega arith
 
-line_length : (line : List (List ℕ)) → IsLine line → 0 < length line
+-- a line has some token
+pub line_length : (line : List (List ℕ)) → IsLine line → 0 < length line
 line_length line (inl one) = omega (arith, one)
 line_length line (inr more) = omega (arith, more.0)
 

@@ -11,16 +11,20 @@ use Rattle.mm_code.proofs.Added.{rest_ends, laid-nil, laid_out_begun}
 pub letters_laid-nil : LettersLaidOut [] []
 letters_laid-nil = record { lines = []; in_order = refl; each = tt; printed = refl }
 
--- a line of letters has some
-line_is_some : (line : List ℕ) (lines : List (List ℕ)) → AreLetterLines (line ∷ lines) → 0 < length line
-line_is_some line [] each = omega (arith, each.0)
-line_is_some line (next ∷ lines) each = omega (arith, each.0)
+-- a line of letters has some, and those behind it are lines of letters
+pub some_letters : (line : List ℕ) (lines : List (List ℕ)) → AreLetterLines (line ∷ lines) → (1 ≤ length line) × (length line ≤ 73)
+some_letters line [] each = each
+some_letters line (next ∷ lines) each = (omega (arith, each.0), omega (arith, each.0))
+
+pub other_letters : (line : List ℕ) (lines : List (List ℕ)) → AreLetterLines (line ∷ lines) → AreLetterLines lines
+other_letters line [] each = tt
+other_letters line (next ∷ lines) each = each.1
 
 lines-cons : (line : List ℕ) (lines : List (List ℕ)) → 1 ≤ length line → length line ≤ 73 → (length line ≡ 73) ⊎ (flat_map (λ l. l) lines ≡ []) → AreLetterLines lines → AreLetterLines (line ∷ lines)
 lines-cons line [] low high whole each = (low, high)
 lines-cons line (next ∷ lines) low high (inl full) each = (full, each)
 lines-cons line (next ∷ lines) low high (inr none) each =
-    absurd (omega (arith, line_is_some next lines each, length-append next (flat_map (λ l. l) lines), ap length none))
+    absurd (omega (arith, (some_letters next lines each).0, length-append next (flat_map (λ l. l) lines), ap length none))
 
 -- one more line before those of some letters
 pub letters_laid-cons : (line letters block : List ℕ) → 1 ≤ length line → length line ≤ 73 → (length line ≡ 73) ⊎ (letters ≡ []) → LettersLaidOut letters block

@@ -3,6 +3,8 @@ use Rattle.std.proofs.Common.{◌≡◌, ℕ, suc, ◌+◌, ◌<◌, ◌≤◌, 
 use Rattle.std.specs.List.{flat_map, join_with_byte, AllByRecursion}
 use Rattle.std.proofs.lemmas.List.{length-append}
 use Rattle.mm_code.specs.Layout.{indent, line_of, width, IsLine, IsFull, IsGreedy, LaidOut, AreLetterLines, LettersLaidOut, in_parentheses, CompressedLaidOut}
+use Rattle.mm_code.proofs.Added.{line_length}
+use Rattle.mm_code.proofs.LetterLines.{some_letters, other_letters}
 
 -- Of two fronts of one list, they are the same, or one goes on where the other ends.
 data Fronts {A : Type 0} (a c b d : List A) : Type 0 where
@@ -34,10 +36,6 @@ join-grows (x ∷ []) (y ∷ b) = omega (arith, length-append x (32 ∷ join_wit
 join-grows (x ∷ y ∷ a) b =
     omega (arith, join-grows (y ∷ a) b, length-append x (32 ∷ join_with_byte 32 (y ∷ a)), length-append x (32 ∷ join_with_byte 32 ((y ∷ a) ++ b)))
 
-line_some : (line : List (List ℕ)) → IsLine line → 0 < length line
-line_some line (inl one) = omega (arith, one)
-line_some line (inr more) = omega (arith, more.0)
-
 narrow : (line : List (List ℕ)) → IsLine line → 1 < length line → width line ≤ 79
 narrow line (inl one) lt = absurd (omega (arith, one))
 narrow line (inr more) lt = more.1
@@ -47,7 +45,7 @@ not_longer : (line following other rest more : List (List ℕ)) (token : List �
 not_longer line following other rest more token is full is_other whole next =
     let Full : List (List ℕ) → Type 0 = IsFull line in
     let wide : 79 < width (line ++ token ∷ []) = subst Full next full in
-    let some = line_some line is in
+    let some = line_length line is in
     let same : (line ++ token ∷ []) ++ more ≡ other = append_assoc line (token ∷ []) more ∙ sym whole in
     let count : length other ≡ length line + suc (length more) = ap length whole ∙ length-append line (token ∷ more) in
     let slim : width other ≤ 79 = narrow other is_other (omega arith) in
@@ -56,7 +54,7 @@ not_longer line following other rest more token is full is_other whole next =
     absurd (omega arith)
 
 no_tokens : (line : List (List ℕ)) (lines : List (List (List ℕ))) → IsLine line → [] ≡ flat_map (λ l. l) (line ∷ lines) → ⊥
-no_tokens line lines is e = absurd (omega (arith, line_some line is, length-append line (flat_map (λ l. l) lines), ap length e))
+no_tokens line lines is e = absurd (omega (arith, line_length line is, length-append line (flat_map (λ l. l) lines), ap length e))
 
 one_lines : (a b : List (List (List ℕ))) → AllByRecursion IsLine a → AllByRecursion IsLine b → IsGreedy a → IsGreedy b → flat_map (λ l. l) a ≡ flat_map (λ l. l) b → a ≡ b
 one_lines [] [] p q g h e = refl
@@ -75,14 +73,6 @@ one_text_of_tokens tokens a b p q =
     p.printed ∙ ap (λ (ls : List (List (List ℕ))). flat_map (λ line. line_of line ++ 10 ∷ []) ls) lines ∙ sym q.printed
 
 -- ---- lines of letters
-
-some_letters : (line : List ℕ) (lines : List (List ℕ)) → AreLetterLines (line ∷ lines) → (1 ≤ length line) × (length line ≤ 73)
-some_letters line [] each = each
-some_letters line (next ∷ lines) each = (omega (arith, each.0), omega (arith, each.0))
-
-other_letters : (line : List ℕ) (lines : List (List ℕ)) → AreLetterLines (line ∷ lines) → AreLetterLines lines
-other_letters line [] each = tt
-other_letters line (next ∷ lines) each = each.1
 
 -- a line that others follow is whole
 whole_line : (line : List ℕ) (lines : List (List ℕ)) → AreLetterLines (line ∷ lines) → 0 < length (flat_map (λ l. l) lines) → length line ≡ 73

@@ -3,3 +3,4 @@ pub mod Reading
 pub mod Writing
 pub mod Layout
 pub mod Lines
+pub mod Words

@@ -1,10 +1,12 @@
 //! Laws of the letter code and of the layouts. Each is the contract of a function that does nothing: to call it is to
 //! know the law.
 
-ghost use Rattle.std.specs.Prelude.{◌≡◌, ℕ, ◌≤◌, List, All};
+ghost use Rattle.std.specs.Prelude.{◌≡◌, ℕ, ◌≤◌, ◌++◌, List, All};
+ghost use Rattle.std.specs.List.{AllByRecursion, flat_map};
 ghost use Rattle.mm_code.specs.declared.code.Code.{Code};
 ghost use Rattle.mm_code.specs.Letters.{IsSpelling, HasSpelling, Spells, Letters};
-ghost use Rattle.mm_code.specs.Layout.{LaidOut, CompressedLaidOut};
+ghost use Rattle.mm_code.specs.Layout.{LaidOut, CompressedLaidOut, in_parentheses};
+ghost use Rattle.mm_code.specs.Words.{words, IsWord, IsDark};
 
 /// Each number from 1 on has exactly one spelling, and no text spells two numbers. The numbers have no upper bound.
 pub fn one_spelling()
@@ -28,3 +30,15 @@ pub fn one_layout()
     ensures compressed { (labels : List (List ℕ)) (letters a b : List ℕ) →
         CompressedLaidOut labels letters a → CompressedLaidOut labels letters b → a ≡ b }
 {}
+
+/// What is laid out is found again: where labels are words, not empty and with no white space in them, the words of a
+/// normal layout are the labels, and those of a compressed one are `(`, the labels, `)` and then pieces of the letters
+/// that, joined, are the letters.
+pub fn layout_reads_back()
+    ensures normal { (labels : List (List ℕ)) (text : List ℕ) →
+        AllByRecursion IsWord labels → LaidOut labels text → words text ≡ labels }
+    ensures compressed { (labels : List (List ℕ)) (letters text : List ℕ) →
+        AllByRecursion IsWord labels → IsDark letters → CompressedLaidOut labels letters text →
+        (pieces : List (List ℕ)) × (words text ≡ in_parentheses labels ++ pieces) × (flat_map (λ piece. piece) pieces ≡ letters) }
+{
+}
