@@ -47,11 +47,11 @@ join-push first [] token = refl
 join-push first (next ∷ line) token =
     ap (λ (t : List ℕ). first ++ (32 ∷ t)) (join-push next line token) ∙ sym (append_assoc first (32 ∷ join_with_byte 32 (next ∷ line)) (32 ∷ token))
 
-line_of-push : (line : List (List ℕ)) (token : List ℕ) → 0 < length line → line_of (line ++ token ∷ []) ≡ line_of line ++ (32 ∷ token)
+pub line_of-push : (line : List (List ℕ)) (token : List ℕ) → 0 < length line → line_of (line ++ token ∷ []) ≡ line_of line ++ (32 ∷ token)
 line_of-push [] token lt = absurd (omega arith)
 line_of-push (first ∷ line) token lt = ap (λ (t : List ℕ). indent ++ t) (join-push first line token) ∙ sym (append_assoc indent (join_with_byte 32 (first ∷ line)) (32 ∷ token))
 
-width-push : (line : List (List ℕ)) (token : List ℕ) → 0 < length line → width (line ++ token ∷ []) ≡ width line + (1 + length token)
+pub width-push : (line : List (List ℕ)) (token : List ℕ) → 0 < length line → width (line ++ token ∷ []) ≡ width line + (1 + length token)
 width-push line token lt = ap length (line_of-push line token lt) ∙ length-append (line_of line) (32 ∷ token) ∙ omega arith
 
 -- a line has some token

@@ -1,8 +1,8 @@
 -- What is laid out is found again: the words of the text are its tokens.
-use Rattle.std.proofs.Common.{◌≡◌, ℕ, zero, suc, ◌+◌, ◌<◌, ◌≤◌, Bool, true, false, cond, List, [], ◌∷◌, ◌++◌, length, refl, sym, ap, subst, ◌∙◌, append_assoc, arith}
+use Rattle.std.proofs.Common.{◌≡◌, ℕ, ◌<◌, true, false, List, [], ◌∷◌, ◌++◌, length, refl, sym, ap, subst, ◌∙◌, append_assoc, arith}
 use Rattle.std.specs.List.{flat_map, join_with_byte, AllByRecursion, onto_first}
 use Rattle.std.proofs.lemmas.List.{append-nil}
-use Rattle.mm_code.specs.Layout.{indent, line_of, IsLine, LaidOut, AreLetterLines, LettersLaidOut, in_parentheses, CompressedLaidOut}
+use Rattle.mm_code.specs.Layout.{indent, line_of, IsLine, LaidOut, AreLetterLines, in_parentheses, CompressedLaidOut}
 use Rattle.mm_code.specs.Words.{is_white_space, words, IsDark, IsWord}
 use Rattle.mm_code.proofs.Added.{line_length}
 use Rattle.mm_code.proofs.LetterLines.{some_letters, other_letters}
@@ -36,7 +36,7 @@ words-token (byte ∷ token) space bytes is white = words-word byte token space 
 words-indent : (bytes : List ℕ) → words (indent ++ bytes) ≡ words bytes
 words-indent bytes =
     words-space 32 (32 ∷ 32 ∷ 32 ∷ 32 ∷ 32 ∷ bytes) refl ∙ words-space 32 (32 ∷ 32 ∷ 32 ∷ 32 ∷ bytes) refl ∙ words-space 32 (32 ∷ 32 ∷ 32 ∷ bytes) refl
-      ∙ words-space 32 (32 ∷ 32 ∷ bytes) refl ∙ words-space 32 (32 ∷ bytes) refl ∙ words-space 32 bytes refl
+    ∙ words-space 32 (32 ∷ 32 ∷ bytes) refl ∙ words-space 32 (32 ∷ bytes) refl ∙ words-space 32 bytes refl
 
 -- ---- lines of tokens
 
@@ -44,7 +44,7 @@ words-join : (first : List ℕ) (line : List (List ℕ)) (bytes : List ℕ) → 
 words-join first [] bytes are = words-token first 10 bytes are.0 refl
 words-join first (next ∷ line) bytes are =
     ap words (append_assoc first (32 ∷ join_with_byte 32 (next ∷ line)) (10 ∷ bytes)) ∙ words-token first 32 (join_with_byte 32 (next ∷ line) ++ 10 ∷ bytes) are.0 refl
-      ∙ ap (λ (ws : List (List ℕ)). first ∷ ws) (words-join next line bytes are.1)
+    ∙ ap (λ (ws : List (List ℕ)). first ∷ ws) (words-join next line bytes are.1)
 
 words-line : (line : List (List ℕ)) (bytes : List ℕ) → 0 < length line → AllByRecursion IsWord line → words ((line_of line ++ 10 ∷ []) ++ bytes) ≡ line ++ words bytes
 words-line [] bytes some are = absurd (omega arith)
@@ -69,9 +69,9 @@ words-lines [] bytes each are = refl
 words-lines (line ∷ lines) bytes each are =
     let others = flat_map (λ l. line_of l ++ 10 ∷ []) lines in
     ap words (append_assoc (line_of line ++ 10 ∷ []) others bytes)
-      ∙ words-line line (others ++ bytes) (line_length line each.0) (all-front IsWord line (flat_map (λ l. l) lines) are)
-      ∙ ap (λ (ws : List (List ℕ)). line ++ ws) (words-lines lines bytes each.1 (all-back IsWord line (flat_map (λ l. l) lines) are))
-      ∙ sym (append_assoc line (flat_map (λ l. l) lines) (words bytes))
+    ∙ words-line line (others ++ bytes) (line_length line each.0) (all-front IsWord line (flat_map (λ l. l) lines) are)
+    ∙ ap (λ (ws : List (List ℕ)). line ++ ws) (words-lines lines bytes each.1 (all-back IsWord line (flat_map (λ l. l) lines) are))
+    ∙ sym (append_assoc line (flat_map (λ l. l) lines) (words bytes))
 
 words-laid_out : (tokens : List (List ℕ)) (text bytes : List ℕ) → AllByRecursion IsWord tokens → LaidOut tokens text → words (text ++ bytes) ≡ tokens ++ words bytes
 words-laid_out tokens text bytes are laid =
@@ -95,7 +95,7 @@ words-letters (line ∷ lines) each dark =
     let is_dark = λ (byte : ℕ). is_white_space byte ≡ false in
     let is : IsWord line = (omega (arith, (some_letters line lines each).0), all-front is_dark line (flat_map (λ l. l) lines) dark) in
     ap words (append_assoc (indent ++ line) (10 ∷ []) others) ∙ words-indent (line ++ 10 ∷ others) ∙ words-token line 10 others is refl
-      ∙ ap (λ (ws : List (List ℕ)). line ∷ ws) (words-letters lines (other_letters line lines each) (all-back is_dark line (flat_map (λ l. l) lines) dark))
+    ∙ ap (λ (ws : List (List ℕ)). line ∷ ws) (words-letters lines (other_letters line lines each) (all-back is_dark line (flat_map (λ l. l) lines) dark))
 
 words-parentheses : (labels : List (List ℕ)) → AllByRecursion IsWord labels → AllByRecursion IsWord (in_parentheses labels)
 words-parentheses labels are = ((omega arith, (refl, tt)), all-append IsWord labels ((41 ∷ []) ∷ []) are ((omega arith, (refl, tt)), tt))

@@ -1,7 +1,7 @@
 -- The lines in which proofs are printed and saved. A text is a list of bytes, a token a list of bytes in it.
-use Rattle.std.specs.Prelude.{◌≡◌, ℕ, ◌<◌, ◌≤◌, ◌⊎◌, List, [], ◌∷◌, ◌++◌, length, map}
+use Rattle.std.specs.Prelude.{◌≡◌, ℕ, ◌+◌, ◌*◌, ◌/◌, ◌%◌, min, ◌<◌, ◌≤◌, ◌⊎◌, List, [], ◌∷◌, ◌++◌, length, map}
 use denote.Ref.{Bor}
-use Rattle.std.specs.List.{flat_map, join_with_byte, AllByRecursion}
+use Rattle.std.specs.List.{flat_map, join_with_byte, AllByRecursion, sum_by}
 
 -- six spaces begin each line
 abbrev pub indent : List ℕ
@@ -65,3 +65,15 @@ pub record CompressedLaidOut (labels : List (List ℕ)) (letters : List ℕ) (te
 -- the bytes of tokens that lie in memory
 abbrev pub texts : List (Bor (List ℕ)) → List (List ℕ)
 texts tokens = map (λ token. token.now) tokens
+
+-- the bytes of tokens, and one more behind each
+abbrev pub size_of : List (List ℕ) → ℕ
+size_of tokens = sum_by (λ token. length token + 1) tokens
+
+-- at least the bytes of the lines of tokens of this size
+abbrev pub lines_bound : ℕ → ℕ
+lines_bound size = size + size / 6 + 6
+
+-- at least the bytes of the lines of this many letters: six spaces and a 0x0A besides for each 73
+abbrev pub letters_bound : ℕ → ℕ
+letters_bound count = count + (count / 73 + min 1 (count % 73)) * 7

@@ -1,5 +1,5 @@
 -- What a reader of a text finds in it: the words that white space cuts apart.
-use Rattle.std.specs.Prelude.{◌≡◌, ℕ, ◌<◌, Bool, true, false, ◌||◌, List, [], ◌∷◌, length, if◌then◌else◌, ◌==◌}
+use Rattle.std.specs.Prelude.{◌≡◌, ℕ, ◌<◌, Bool, false, ◌||◌, List, [], ◌∷◌, length, if◌then◌else◌, ◌==◌}
 use Rattle.std.specs.List.{AllByRecursion, onto_first}
 
 -- Metamath's white space: a space, and the characters 9, 10, 12 and 13

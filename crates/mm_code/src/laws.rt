@@ -1,11 +1,11 @@
 //! Laws of the letter code and of the layouts. Each is the contract of a function that does nothing: to call it is to
 //! know the law.
 
-ghost use Rattle.std.specs.Prelude.{◌≡◌, ℕ, ◌≤◌, ◌++◌, List, All};
+ghost use Rattle.std.specs.Prelude.{◌≡◌, ℕ, ◌+◌, ◌≤◌, ◌++◌, List, length, All};
 ghost use Rattle.std.specs.List.{AllByRecursion, flat_map};
 ghost use Rattle.mm_code.specs.declared.code.Code.{Code};
 ghost use Rattle.mm_code.specs.Letters.{IsSpelling, HasSpelling, Spells, Letters};
-ghost use Rattle.mm_code.specs.Layout.{LaidOut, CompressedLaidOut, in_parentheses};
+ghost use Rattle.mm_code.specs.Layout.{LaidOut, CompressedLaidOut, in_parentheses, size_of, lines_bound, letters_bound};
 ghost use Rattle.mm_code.specs.Words.{words, IsWord, IsDark};
 
 /// Each number from 1 on has exactly one spelling, and no text spells two numbers. The numbers have no upper bound.
@@ -31,6 +31,14 @@ pub fn one_layout()
         CompressedLaidOut labels letters a → CompressedLaidOut labels letters b → a ≡ b }
 {}
 
+/// How long a layout is at most: labels, each with a byte behind it, and a sixth of that and six bytes more; for a
+/// compressed proof also the parentheses, and for each 73 letters or less seven bytes besides the letters.
+pub fn layout_size()
+    ensures normal { (labels : List (List ℕ)) (text : List ℕ) → LaidOut labels text → length text ≤ lines_bound (size_of labels) }
+    ensures compressed { (labels : List (List ℕ)) (letters text : List ℕ) → CompressedLaidOut labels letters text →
+        length text ≤ lines_bound (size_of labels + 4) + letters_bound (length letters) }
+{}
+
 /// What is laid out is found again: where labels are words, not empty and with no white space in them, the words of a
 /// normal layout are the labels, and those of a compressed one are `(`, the labels, `)` and then pieces of the letters
 /// that, joined, are the letters.
@@ -40,5 +48,4 @@ pub fn layout_reads_back()
     ensures compressed { (labels : List (List ℕ)) (letters text : List ℕ) →
         AllByRecursion IsWord labels → IsDark letters → CompressedLaidOut labels letters text →
         (pieces : List (List ℕ)) × (words text ≡ in_parentheses labels ++ pieces) × (flat_map (λ piece. piece) pieces ≡ letters) }
-{
-}
+{}

@@ -1,7 +1,7 @@
 //! The lines in which proofs are printed and saved.
 
-ghost use Rattle.std.specs.Prelude.{◌≡◌, ℕ, List, [], ◌∷◌, ◌++◌, ◌-◌, length, IfOk, OnOk, IsOkUnless};
-ghost use Rattle.mm_code.specs.Layout.{indent, LaidOut, LettersLaidOut, CompressedLaidOut, texts};
+ghost use Rattle.std.specs.Prelude.{◌≡◌, ℕ, List, [], ◌∷◌, ◌++◌, ◌-◌, min, length, IfOk, OnOk, IsOkUnless};
+ghost use Rattle.mm_code.specs.Layout.{indent, LaidOut, LettersLaidOut, CompressedLaidOut, texts, size_of, lines_bound, letters_bound};
 ghost use Rattle.mm_code.specs.Lines.{rest_of, room_after, AppendsLetters};
 
 use crate::code::CodeFault;
@@ -48,7 +48,9 @@ fn add_tokens(text: &mut Vec<u8>, room: usize, tokens: &[&[u8]]) -> Result<usize
 }
 
 /// The bytes of tokens, each with what stands behind it: a space, or its line's end.
-fn size_of_tokens(tokens: &[&[u8]]) -> usize {
+fn size_of_tokens(tokens: &[&[u8]]) -> usize
+    ensures { result ≡ min (size_of (texts tokens.now)) usize.MAX }
+{
     let mut size = 0usize;
     for token in tokens {
         size = size.saturating_add(token.len()).saturating_add(1);
@@ -56,14 +58,18 @@ fn size_of_tokens(tokens: &[&[u8]]) -> usize {
     size
 }
 
-/// At least the bytes of the lines of tokens of this size. Two lines in a row have at least 75 bytes of tokens, so all
-/// indents but the last take at most a sixth of the size.
-fn size_of_lines(size: usize) -> usize {
+/// At least the bytes of the lines of tokens of this size, as the law `layout_size` says: two lines in a row have at
+/// least 75 bytes of tokens, so all indents but one take at most a sixth of the size.
+fn size_of_lines(size: usize) -> usize
+    ensures { result ≡ min (lines_bound size) usize.MAX }
+{
     size.saturating_add(size / 6).saturating_add(6)
 }
 
 /// The bytes of the lines of letters: each line has six spaces and its end besides.
-fn size_of_letters(letters: &[u8]) -> usize {
+fn size_of_letters(letters: &[u8]) -> usize
+    ensures { result ≡ min (letters_bound (length letters.now)) usize.MAX }
+{
     let lines = letters.len().div_ceil(73);
     letters.len().saturating_add(lines.saturating_mul(7))
 }
