@@ -1,9 +1,9 @@
 -- What the letters say is read.
 use Rattle.std.proofs.Common.{◌≡◌, ℕ, ◌+◌, ◌*◌, min, List, [], ◌∷◌, ◌++◌, map, Ok, refl, sym, ap, ◌∙◌, append_assoc, arith}
-use Rattle.std.specs.List.{fold, flat_map, AllByRecursion}
+use Rattle.std.specs.List.{fold, flat_map, AllByRecursion, AllZip}
 use Rattle.mm_code.specs.declared.code.Code.{Code}
 use Rattle.mm_code.specs.declared.code.Code.TheVariants.{Number, Tag}
-use Rattle.mm_code.specs.Letters.{last_letter, leading_letter, IsLeadingDigit, IsLastDigit, Says, EachSays, Letters, held, largest}
+use Rattle.mm_code.specs.Letters.{last_letter, leading_letter, IsLeadingDigit, IsLastDigit, Says, Letters, held, largest}
 use Rattle.mm_code.specs.Reading.{with_front, reading, further, ended}
 use Rattle.mm_code.proofs.Steps.{read_last, read_leading, read_tag, read_end}
 
@@ -29,7 +29,7 @@ piece_again piece (Number number) rest says =
     ∙ ap (λ (n : ℕ). with_front (Number (min n largest) ∷ []) (reading 0 rest)) (sym says.value)
 piece_again piece Tag rest says = ap (λ (t : List ℕ). reading 0 (t ++ rest)) says ∙ read_tag 0 90 rest refl refl
 
-pieces_again : (pieces : List (List ℕ)) (codes : List Code) → EachSays pieces codes → reading 0 (flat_map (λ piece. piece) pieces) ≡ Ok (map held codes)
+pieces_again : (pieces : List (List ℕ)) (codes : List Code) → AllZip Says pieces codes → reading 0 (flat_map (λ piece. piece) pieces) ≡ Ok (map held codes)
 pieces_again [] [] each = read_end 0 refl
 pieces_again [] (code ∷ codes) each = absurd each
 pieces_again (piece ∷ pieces) [] each = absurd each

@@ -3,7 +3,7 @@ use Rattle.std.proofs.Common.{◌≡◌, ℕ, ◌<◌, true, false, List, [], �
 use Rattle.std.specs.List.{flat_map, join_with_byte, AllByRecursion, onto_first}
 use Rattle.std.proofs.lemmas.List.{append-nil}
 use Rattle.mm_code.specs.Layout.{indent, line_of, IsLine, LaidOut, AreLetterLines, in_parentheses, CompressedLaidOut}
-use Rattle.mm_code.specs.Words.{is_white_space, words, IsDark, IsWord}
+use Rattle.mm_code.specs.Words.{is_white_space, words, LacksWhiteSpace, IsWord}
 use Rattle.mm_code.proofs.Added.{line_length}
 use Rattle.mm_code.proofs.LetterLines.{some_letters, other_letters}
 
@@ -23,7 +23,7 @@ unfolding words
 words-on byte next bytes dark dark_next = rw (dark, dark_next) refl
 
 -- a word before white space is found
-words-word : (byte : ℕ) (word : List ℕ) (space : ℕ) (bytes : List ℕ) → IsDark (byte ∷ word) → is_white_space space ≡ true → words ((byte ∷ word) ++ space ∷ bytes) ≡ (byte ∷ word) ∷ words bytes
+words-word : (byte : ℕ) (word : List ℕ) (space : ℕ) (bytes : List ℕ) → LacksWhiteSpace (byte ∷ word) → is_white_space space ≡ true → words ((byte ∷ word) ++ space ∷ bytes) ≡ (byte ∷ word) ∷ words bytes
 words-word byte [] space bytes dark white =
     words-end byte space bytes dark.0 white ∙ ap (λ (ws : List (List ℕ)). (byte ∷ []) ∷ ws) (words-space space bytes white)
 words-word byte (next ∷ word) space bytes dark white =
@@ -88,7 +88,7 @@ normal_read_back labels text are laid =
 
 -- ---- lines of letters
 
-words-letters : (lines : List (List ℕ)) → AreLetterLines lines → IsDark (flat_map (λ l. l) lines) → words (flat_map (λ line. (indent ++ line) ++ 10 ∷ []) lines) ≡ lines
+words-letters : (lines : List (List ℕ)) → AreLetterLines lines → LacksWhiteSpace (flat_map (λ l. l) lines) → words (flat_map (λ line. (indent ++ line) ++ 10 ∷ []) lines) ≡ lines
 words-letters [] each dark = words-nil
 words-letters (line ∷ lines) each dark =
     let others = flat_map (λ l. (indent ++ l) ++ 10 ∷ []) lines in
@@ -100,10 +100,10 @@ words-letters (line ∷ lines) each dark =
 words-parentheses : (labels : List (List ℕ)) → AllByRecursion IsWord labels → AllByRecursion IsWord (in_parentheses labels)
 words-parentheses labels are = ((omega arith, (refl, tt)), all-append IsWord labels ((41 ∷ []) ∷ []) are ((omega arith, (refl, tt)), tt))
 
-pub compressed_read_back : (labels : List (List ℕ)) (letters text : List ℕ) → AllByRecursion IsWord labels → IsDark letters → CompressedLaidOut labels letters text
+pub compressed_read_back : (labels : List (List ℕ)) (letters text : List ℕ) → AllByRecursion IsWord labels → LacksWhiteSpace letters → CompressedLaidOut labels letters text
     → (pieces : List (List ℕ)) × (words text ≡ in_parentheses labels ++ pieces) × (flat_map (λ piece. piece) pieces ≡ letters)
 compressed_read_back labels letters text are dark laid =
     let block = laid.letters_laid_out in
-    let P : List ℕ → Type 0 = IsDark in
+    let P : List ℕ → Type 0 = LacksWhiteSpace in
     let found : words laid.block ≡ block.lines = ap words block.printed ∙ words-letters block.lines block.each (subst P (sym block.in_order) dark) in
     (block.lines, ap words laid.whole ∙ words-laid_out (in_parentheses labels) laid.list laid.block (words-parentheses labels are) laid.list_laid_out ∙ ap (λ (ws : List (List ℕ)). in_parentheses labels ++ ws) found, block.in_order)

@@ -1,13 +1,13 @@
 -- Each number from 1 on has exactly one spelling, and each list of codes one text.
 use Rattle.std.proofs.Common.{◌≡◌, ℕ, zero, suc, ◌+◌, ◌-◌, ◌*◌, ◌/◌, ◌%◌, ◌<◌, ◌≤◌, inl, inr, min, List, [], ◌∷◌, ◌++◌, map, reverse, All, refl, sym, ap, subst, ◌∙◌, arith}
-use Rattle.std.specs.List.{flat_map, AllByRecursion}
+use Rattle.std.specs.List.{flat_map, AllByRecursion, AllZip}
 use Rattle.std.proofs.lemmas.List.{reverse-reverse, same_from_push}
 use Rattle.std.proofs.lemmas.List.Elements.{All-head, All-tail}
 use Rattle.std.proofs.lemmas.Grind.{reverse_onto}
 use Rattle.std.proofs.lemmas.Bool.{cases_eq}
 use Rattle.mm_code.specs.declared.code.Code.{Code}
 use Rattle.mm_code.specs.declared.code.Code.TheVariants.{Number, Tag}
-use Rattle.mm_code.specs.Letters.{last_letter, leading_letter, tag_letter, IsLeadingDigit, leading_value, IsSpelling, Says, EachSays, Spells, Letters, held, largest, HasSpelling, IsExact}
+use Rattle.mm_code.specs.Letters.{last_letter, leading_letter, tag_letter, IsLeadingDigit, leading_value, IsSpelling, Says, Spells, Letters, held, largest, HasSpelling, IsExact}
 use Rattle.mm_code.proofs.Found.{leading_value-push, leading-push}
 use Rattle.mm_code.proofs.Again.{is_read_again}
 
@@ -115,7 +115,7 @@ one_piece : (a b : List ℕ) (code : Code) → Says a code → Says b code → a
 one_piece a b (Number number) p q = one_spelling_only a b number p q
 one_piece a b Tag p q = p ∙ sym q
 
-one_pieces : (a b : List (List ℕ)) (codes : List Code) → EachSays a codes → EachSays b codes → flat_map (λ piece. piece) a ≡ flat_map (λ piece. piece) b
+one_pieces : (a b : List (List ℕ)) (codes : List Code) → AllZip Says a codes → AllZip Says b codes → flat_map (λ piece. piece) a ≡ flat_map (λ piece. piece) b
 one_pieces [] [] [] p q = refl
 one_pieces [] [] (code ∷ codes) p q = absurd p
 one_pieces [] (y ∷ b) [] p q = absurd q
@@ -132,7 +132,7 @@ some_piece : (code : Code) → HasSpelling code → (piece : List ℕ) × Says p
 some_piece (Number number) has = some_spelling number has
 some_piece Tag has = (tag_letter ∷ [], refl)
 
-some_pieces : (codes : List Code) → All HasSpelling codes → (pieces : List (List ℕ)) × EachSays pieces codes
+some_pieces : (codes : List Code) → All HasSpelling codes → (pieces : List (List ℕ)) × AllZip Says pieces codes
 some_pieces [] has = ([], tt)
 some_pieces (code ∷ codes) has =
     let first = some_piece code (All-head HasSpelling code codes has) in

@@ -1,11 +1,11 @@
 -- The steps of writing, on lists.
 use Rattle.std.proofs.Common.{◌≡◌, ℕ, ◌+◌, ◌-◌, ◌/◌, ◌%◌, ◌<◌, ◌≤◌, List, [], ◌∷◌, ◌++◌, map, length, get_or, take, All, sym, ap, subst, ◌∙◌, append_assoc, arith}
-use Rattle.std.specs.List.{flat_map}
+use Rattle.std.specs.List.{flat_map, AllZip}
 use Rattle.std.proofs.lemmas.List.{map-append, append-nil, take_more, take_all, map_push}
 use Rattle.std.proofs.lemmas.List.Concat.{flat_map-append}
 use Rattle.mm_code.specs.declared.code.Code.{Code}
 use Rattle.mm_code.specs.declared.code.Code.TheVariants.{Number}
-use Rattle.mm_code.specs.Letters.{last_letter, leading_letter, Says, EachSays, Spells, Letters, held, IsExact}
+use Rattle.mm_code.specs.Letters.{last_letter, leading_letter, Says, Spells, Letters, held, IsExact}
 use Rattle.mm_code.specs.Writing.{AppendsLeading, AppendsCode}
 use Rattle.mm_code.proofs.Unique.{HasLeading, grown-leading, grown-value, spelling-of, exact_spelled, one_text_only}
 
@@ -36,7 +36,7 @@ number-written old between new number rest byte had is quotient letter positive 
           ∙ ap (λ (b : ℕ). old ++ (map leading_letter had.digits ++ b ∷ [])) same;
     }
 
-each-push : (pieces : List (List ℕ)) (codes : List Code) (piece : List ℕ) (code : Code) → EachSays pieces codes → Says piece code → EachSays (pieces ++ piece ∷ []) (codes ++ code ∷ [])
+each-push : (pieces : List (List ℕ)) (codes : List Code) (piece : List ℕ) (code : Code) → AllZip Says pieces codes → Says piece code → AllZip Says (pieces ++ piece ∷ []) (codes ++ code ∷ [])
 each-push [] [] piece code each says = (says, tt)
 each-push [] (c ∷ codes) piece code each says = absurd each
 each-push (p ∷ pieces) [] piece code each says = absurd each

@@ -2,7 +2,7 @@
 use Rattle.std.specs.Prelude.{◌≡◌, ℕ, ◌+◌, ◌*◌, ◌<◌, ◌≤◌, min, List, [], ◌∷◌, ◌++◌, map, fold, All, Any, Result, Ok, Err}
 use Rattle.std.specs.Global.{Vec}
 use denote.Ref.{Bor}
-use Rattle.std.specs.List.{flat_map, AllByRecursion}
+use Rattle.std.specs.List.{flat_map, AllByRecursion, AllZip}
 use Rattle.mm_code.specs.declared.code.Code.{Code}
 use Rattle.mm_code.specs.declared.code.Code.TheVariants.{Number, Tag}
 use Rattle.mm_code.specs.declared.code.CodeRule.{CodeRule}
@@ -46,17 +46,11 @@ abbrev pub Says : List ℕ → Code → Type 0
 Says piece (Number number) = IsSpelling piece number
 Says piece Tag = piece ≡ tag_letter ∷ []
 
--- there are as many pieces as codes, and each says the code at its place
-abbrev pub EachSays : List (List ℕ) → List Code → Type 0
-EachSays [] [] = Unit {0}
-EachSays [] (code ∷ codes) = ⊥
-EachSays (piece ∷ pieces) [] = ⊥
-EachSays (piece ∷ pieces) (code ∷ codes) = Says piece code × EachSays pieces codes
-
--- The text is spellings of the numbers and a `Z` for each tag, joined. Here a number has no upper bound.
+-- The text is pieces joined, one for each code that says it: a spelling of each number, and `Z` for each tag. Here a
+-- number has no upper bound.
 pub record Spells (text : List ℕ) (codes : List Code) : Type 0 where
   pub pieces : List (List ℕ)
-  pub each : EachSays pieces codes
+  pub each : AllZip Says pieces codes
   pub joined : text ≡ flat_map (λ piece. piece) pieces
 
 -- the largest number that a code holds

@@ -15,9 +15,9 @@ words (byte ∷ next ∷ bytes) =
     else (if is_white_space next then (byte ∷ []) ∷ words (next ∷ bytes) else onto_first byte (words (next ∷ bytes)))
 
 -- none of these bytes is white space
-abbrev pub IsDark : List ℕ → Type 0
-IsDark bytes = AllByRecursion (λ byte. is_white_space byte ≡ false) bytes
+abbrev pub LacksWhiteSpace : List ℕ → Type 0
+LacksWhiteSpace bytes = AllByRecursion (λ byte. is_white_space byte ≡ false) bytes
 
 -- a word: some bytes, and no white space among them
 abbrev pub IsWord : List ℕ → Type 0
-IsWord bytes = (0 < length bytes) × IsDark bytes
+IsWord bytes = (0 < length bytes) × LacksWhiteSpace bytes

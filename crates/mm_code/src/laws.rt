@@ -6,7 +6,7 @@ ghost use Rattle.std.specs.List.{AllByRecursion, flat_map};
 ghost use Rattle.mm_code.specs.declared.code.Code.{Code};
 ghost use Rattle.mm_code.specs.Letters.{IsSpelling, HasSpelling, Spells, Letters};
 ghost use Rattle.mm_code.specs.Layout.{LaidOut, CompressedLaidOut, in_parentheses, size_of, lines_bound, letters_bound};
-ghost use Rattle.mm_code.specs.Words.{words, IsWord, IsDark};
+ghost use Rattle.mm_code.specs.Words.{words, IsWord, LacksWhiteSpace};
 
 /// Each number from 1 on has exactly one spelling, and no text spells two numbers. The numbers have no upper bound.
 pub fn one_spelling()
@@ -46,6 +46,6 @@ pub fn layout_reads_back()
     ensures normal { (labels : List (List ℕ)) (text : List ℕ) →
         AllByRecursion IsWord labels → LaidOut labels text → words text ≡ labels }
     ensures compressed { (labels : List (List ℕ)) (letters text : List ℕ) →
-        AllByRecursion IsWord labels → IsDark letters → CompressedLaidOut labels letters text →
+        AllByRecursion IsWord labels → LacksWhiteSpace letters → CompressedLaidOut labels letters text →
         (pieces : List (List ℕ)) × (words text ≡ in_parentheses labels ++ pieces) × (flat_map (λ piece. piece) pieces ≡ letters) }
 {}

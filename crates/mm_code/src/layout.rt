@@ -7,15 +7,24 @@ ghost use Rattle.mm_code.specs.Lines.{rest_of, room_after, AppendsLetters};
 use crate::code::CodeFault;
 use std::alloc::Global;
 
+/// What each line begins with.
+const INDENT: &[u8] = b"      ";
+
+/// How many bytes a line of 79 bytes has behind its indent.
+const LINE_ROOM: usize = 73;
+
+/// How many letters a whole line of letters has.
+const LINE_LETTERS: usize = 73;
+
 /// Begins a line with its first token, whatever its length, and answers the room that is left on it.
 fn begin_line(text: &mut Vec<u8>, token: &[u8]) -> Result<usize, CodeFault>
     ensures text { OnOk result (text.new.items ≡ text.old.items ++ (indent ++ token.now)) }
     ensures room { IfOk result (λ room. room ≡ room_after (length token.now)) }
     ensures memory { IsOkUnless result CodeFault.Memory }
 {
-    text.extend_from_slice(b"      ")?;
+    text.extend_from_slice(INDENT)?;
     text.extend_from_slice(token)?;
-    Ok(73usize.saturating_sub(token.len()))
+    Ok(LINE_ROOM.saturating_sub(token.len()))
 }
 
 /// Adds a token where a line has this room, a space and the token: on that line if it fits, or else on the next.
@@ -70,7 +79,7 @@ fn size_of_lines(size: usize) -> usize
 fn size_of_letters(letters: &[u8]) -> usize
     ensures { result ≡ min (letters_bound (length letters.now)) usize.MAX }
 {
-    let lines = letters.len().div_ceil(73);
+    let lines = letters.len().div_ceil(LINE_LETTERS);
     letters.len().saturating_add(lines.saturating_mul(7))
 }
 
@@ -79,7 +88,7 @@ fn add_letter_line(text: &mut Vec<u8>, line: &[u8]) -> Result<(), CodeFault>
     ensures added { OnOk result (text.new.items ≡ text.old.items ++ ((indent ++ line.now) ++ 10 ∷ [])) }
     ensures memory { IsOkUnless result CodeFault.Memory }
 {
-    text.extend_from_slice(b"      ")?;
+    text.extend_from_slice(INDENT)?;
     text.extend_from_slice(line)?;
     text.push(b'\n')?;
     Ok(())
@@ -92,7 +101,7 @@ fn add_letters(text: &mut Vec<u8>, letters: &[u8]) -> Result<(), CodeFault>
 {
     let mut rest = letters;
     while !rest.is_empty() {
-        let (line, after) = rest.split_at(rest.len().min(73));
+        let (line, after) = rest.split_at(rest.len().min(LINE_LETTERS));
         add_letter_line(text, line)?;
         rest = after;
     }

@@ -4,7 +4,7 @@ ghost use Rattle.std.specs.Prelude.{◌≡◌, ℕ, List, [], Result};
 ghost use Rattle.std.specs.Prelude.{◌+◌, ◌*◌, min, ◌∷◌, ◌++◌, ◌≤◌, All, IfOk, OnOk, IsErrOf, IsOkUnless};
 ghost use Rattle.std.specs.List.{flat_map, list_all};
 ghost use Rattle.std.specs.Char.{is_ascii_uppercase};
-ghost use Rattle.mm_code.specs.Letters.{Spells, Letters, held, HasSpelling, IsExact, Answers, Breaks, joined_tokens};
+ghost use Rattle.mm_code.specs.Letters.{largest, Spells, Letters, held, HasSpelling, IsExact, Answers, Breaks, joined_tokens};
 ghost use Rattle.mm_code.specs.Writing.{AppendsLeading, AppendsCode};
 ghost use Rattle.mm_code.specs.Reading.{with_front, reading, rule_behind, FaultOf, GoesOn};
 
@@ -13,14 +13,14 @@ use std::alloc::Global;
 
 /// The leading value with one more leading digit, up to the largest `u32`: once a value is above it, it stays so.
 fn further(value: u32, digit: u8) -> u32
-    ensures { result ≡ min (5 * value + digit) 4294967295 }
+    ensures { result ≡ min (5 * value + digit) largest }
 {
     value.saturating_mul(5).saturating_add(u32::from(digit))
 }
 
 /// The number that a last digit ends, up to the largest `u32`.
 fn ended(value: u32, digit: u8) -> u32
-    ensures { result ≡ min (20 * value + digit) 4294967295 }
+    ensures { result ≡ min (20 * value + digit) largest }
 {
     value.saturating_mul(20).saturating_add(u32::from(digit))
 }
