@@ -89,7 +89,11 @@ fn finds_the_first_fault(rt: HostRuntime) -> Result<(), Fail> {
         ("th $p term ( t + r ) $= tr tt tpl $.", ProofRule::P14, 4),
     ];
     for (proof, rule, step) in proofs {
-        assert_eq!(rt; verdict_on(rt.alloc(), proof)?, broken(rule, step), "{proof}");
+        assert_eq!(rt;
+            verdict_on(rt.alloc(), proof)?,
+            broken(rule, step),
+            "{proof}"
+        );
     }
     Ok(())
 }
