@@ -1,7 +1,8 @@
 -- Statements that break no rule, where there are no blocks, no `$d` and no `$e`: everything is active, labels are of one
 -- statement each, and no symbol is both a constant and a variable.
-use Rattle.std.proofs.Common.{◌≡◌, ℕ, suc, ◌+◌, ◌<◌, List, take, drop, length, Option, Some, inl, inr, refl, sym, ap, subst, ◌∙◌, arith, Contains}
+use Rattle.std.proofs.Common.{◌≡◌, ℕ, suc, ◌+◌, ◌<◌, List, [], ◌∷◌, ◌++◌, ◌≤◌, take, drop, length, Option, Some, inl, inr, refl, sym, ap, subst, ◌∙◌, arith, Contains}
 use Rattle.std.specs.List.{slice_get}
+use Rattle.std.proofs.lemmas.List.{length-append, take_at, take-append-le}
 use Rattle.std.proofs.lemmas.Option.{slice_get_within}
 use Rattle.std.proofs.lemmas.Bool.{cases_lt}
 use Rattle.mm_text.specs.declared.statement.Kind.TheVariants.{Constants, Variables, Distinct, Essential, Opening}
@@ -12,7 +13,7 @@ use Rattle.mm_frame.specs.declared.rule.MeaningRule.TheVariants.{M2, M3, M5, M7,
 use Rattle.mm_frame.specs.Rules.{AllMeant, IsMeant}
 use Rattle.mm_frame.specs.Frame.{IsMandatory, IsMandatoryAt, AreMandatory, IsDistinct}
 use Rattle.mm_proof.specs.Tree.{Names, KeepsApart}
-use Rattle.mm_proof.proofs.Lists.{some-is, get-take, take-get, split-at, those-from, those-have, those-order, those-same}
+use Rattle.mm_proof.proofs.Lists.{get-past, get-front, some-is, get-take, take-get, split-at, those-from, those-have, those-order, those-same}
 
 -- what the forms of statements say of each
 pub record IsShaped (s : Sentence) : Type 0 where
@@ -150,3 +151,29 @@ mandatory-typed before flat meant place s x there kind m untyped =
 
 pub keeps-apart : (before : List Sentence) → IsFlat before → (place : ℕ) (s : Sentence) (σ : List ℕ → Option (List (List ℕ))) → KeepsApart before place s σ
 keeps-apart before flat place s σ x y e f pair = absurd (no-pair (take place before) (IsFlat-take before place flat) x y pair.0)
+
+-- ---- one more statement
+
+push-earlier : (statements : List Sentence) (s : Sentence) (before after : List Sentence) (t : Sentence) → AllMeant statements → statements ++ s ∷ [] ≡ before ++ t ∷ after → length before < length statements → IsMeant before t
+push-earlier statements s before after t meant is lt =
+    let there : slice_get (statements ++ s ∷ []) (length before) ≡ Some t = ap (λ (xs : List Sentence). slice_get xs (length before)) is ∙ get-past before t after in
+    let here : slice_get statements (length before) ≡ Some t = get-front statements (s ∷ []) (length before) t lt there in
+    let front : take (length before) statements ≡ before = sym (take-append-le (length before) statements (s ∷ []) (omega arith)) ∙ ap (λ (xs : List Sentence). take (length before) xs) is ∙ take_at before (t ∷ after) (length before) refl in
+    subst (λ (b : List Sentence). IsMeant b t) front (meant-at statements meant (length before) t here)
+
+push-last : (statements : List Sentence) (s : Sentence) (before after : List Sentence) (t : Sentence) → IsMeant statements s → statements ++ s ∷ [] ≡ before ++ t ∷ after → length statements ≤ length before → IsMeant before t
+push-last statements s before after t meant is le =
+    let whole = ap length is in
+    let lens : length before ≡ length statements = omega (arith, whole, length-append statements (s ∷ []), length-append before (t ∷ after)) in
+    let front : statements ≡ before = sym (take_at statements (s ∷ []) (length before) (sym lens)) ∙ ap (λ (xs : List Sentence). take (length before) xs) is ∙ take_at before (t ∷ after) (length before) refl in
+    let last : slice_get (statements ++ s ∷ []) (length statements) ≡ Some s = get-past statements s [] in
+    let there : slice_get (statements ++ s ∷ []) (length statements) ≡ Some t = ap (λ (n : ℕ). slice_get (statements ++ s ∷ []) n) (sym lens) ∙ ap (λ (xs : List Sentence). slice_get xs (length before)) is ∙ get-past before t after in
+    subst (λ (b : List Sentence). IsMeant b t) front (subst (λ (u : Sentence). IsMeant statements u) (some-is s t (sym last ∙ there)) meant)
+
+-- after statements that break no rule, one more that breaks none
+pub AllMeant-push : (statements : List Sentence) (s : Sentence) → AllMeant statements → IsMeant statements s → AllMeant (statements ++ s ∷ [])
+AllMeant-push statements s meant last before after t is =
+    elim (cases_lt (length before) (length statements)) [
+      | inl lt ↦ push-earlier statements s before after t meant is lt
+      | inr le ↦ push-last statements s before after t last is le
+    ]

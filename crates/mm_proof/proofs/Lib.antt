@@ -20,3 +20,4 @@ pub mod Faults
 pub mod Walks
 pub mod Findings
 pub mod Applied
+pub mod Exact

@@ -129,3 +129,12 @@ those-same {X} P k (y ∷ xs) a b p q =
         | inr d ↦ those-same P (k + 1) xs a b c.1 d.1
       ]
     ]
+
+pub get-past : {X : Type 0} (xs : List X) (y : X) (ys : List X) → slice_get (xs ++ y ∷ ys) (length xs) ≡ Some y
+get-past [] y ys = refl
+get-past (x ∷ xs) y ys = get-past xs y ys
+
+pub get-front : {X : Type 0} (xs ys : List X) (i : ℕ) (x : X) → i < length xs → slice_get (xs ++ ys) i ≡ Some x → slice_get xs i ≡ Some x
+get-front [] ys i x lt e = absurd (omega arith)
+get-front (y ∷ xs) ys zero x lt e = e
+get-front (y ∷ xs) ys (suc i) x lt e = get-front xs ys i x (omega arith) e

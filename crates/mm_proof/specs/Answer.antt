@@ -1,5 +1,5 @@
--- What a fault says.
-use Rattle.std.specs.Prelude.{ℕ}
+-- What an answer says.
+use Rattle.std.specs.Prelude.{◌≡◌, ℕ, Result, Err, ◌⊎◌}
 use Rattle.mm_proof.specs.declared.fault.ProofRule.{ProofRule}
 use Rattle.mm_proof.specs.declared.fault.ProofFault.{ProofFault}
 use Rattle.mm_proof.specs.declared.fault.ProofFault.TheVariants.{Rule, Memory}
@@ -8,3 +8,7 @@ use Rattle.mm_proof.specs.declared.fault.ProofFault.TheVariants.{Rule, Memory}
 abbrev pub OnRule : ProofFault → (ProofRule → ℕ → Type 0) → Type 0
 OnRule (Rule rule step) P = P rule step
 OnRule Memory P = Unit {0}
+
+-- the answer is this one, unless memory was refused
+abbrev pub IsUnlessMemory : {X : Type 0} → Result X ProofFault → Result X ProofFault → Type 0
+IsUnlessMemory result answer = (result ≡ answer) ⊎ (result ≡ Err Memory)

@@ -11,3 +11,6 @@ mod verdict;
 pub use fault::{ProofFault, ProofRule};
 pub use laws::{limits_aside, one_tree, one_verdict, some_verdict};
 pub use verdict::verify;
+
+#[cfg(test)]
+mod tests;

@@ -1,13 +1,13 @@
 //! The verdict on a proof.
 
-ghost use Rattle.std.specs.Prelude.{◌≡◌, ◌↔◌, map, All, OnOk, IfErr, IsTrue, MatchBool};
+ghost use Rattle.std.specs.Prelude.{◌≡◌, ◌↔◌, ℕ, map, All, OnOk, IfErr, IsTrue, MatchBool};
 ghost use Rattle.mm_text.specs.declared.statement.Kind.TheVariants.{Provable};
 ghost use Rattle.mm_text.specs.Statement.{plain_statement, IsFormed};
 ghost use Rattle.mm_frame.specs.Sentence.{said_by};
 ghost use Rattle.mm_frame.specs.Rules.{AllMeant};
 ghost use Rattle.mm_proof.specs.Proof.{IsWithinLimit, IsProvedWithin, IsFault, BreaksWhole};
 ghost use Rattle.mm_proof.specs.declared.fault.ProofRule.TheVariants.{P2};
-ghost use Rattle.mm_proof.specs.Answer.{OnRule};
+ghost use Rattle.mm_proof.specs.Answer.{OnRule, IsUnlessMemory};
 ghost use Rattle.mm_proof.specs.Applied.{AreNamed};
 ghost use Rattle.mm_proof.specs.View.{symbols_in, entries_in};
 
@@ -47,23 +47,15 @@ fn is_expression(entry: &[&[u8]], statement: &Statement) -> bool
     true
 }
 
-/// Whether the `$p`, with a normal proof, is proved after the earlier statements, which break no
-/// rule (the Metamath book, section 4.3 and appendix B). Otherwise the first rule that its proof
-/// breaks, with the number of the step: P2 with 0 (a label isn't that of an earlier statement), P8,
-/// P9 and L1 with the number of the step from 1 on, P13 and P14 with one more than the number of
-/// steps. `Memory` is answered where memory was refused, whatever the proof.
-pub fn verify<'a>(
+// The first fault of the proof, if it has one.
+fn judged<'a>(
     alloc: Global,
     earlier: &[Statement<'a>],
     statement: &Statement<'a>,
 ) -> Result<(), ProofFault>
     requires formed { All (λ s. IsFormed (plain_statement s)) earlier.now }
     requires meant { AllMeant (map said_by earlier.now) }
-    requires itself { IsFormed (plain_statement statement.now) }
-    requires provable { statement.now.kind ≡ Provable }
-    // What is answered `Ok` is proved.
     ensures proved { OnOk result (IsProvedWithin IsWithinLimit (map said_by earlier.now) (said_by statement.now)) }
-    // The rule and the step are those of the proof's first fault.
     ensures fault { IfErr result (λ e. OnRule e (IsFault (map said_by earlier.now) (said_by statement.now))) }
 {
     if !are_labels(earlier, statement) {
@@ -90,4 +82,30 @@ pub fn verify<'a>(
         });
     }
     Ok(())
+}
+
+/// Whether the `$p`, with a normal proof, is proved after the earlier statements, which break no
+/// rule (the Metamath book, section 4.3 and appendix B). Otherwise the first rule that its proof
+/// breaks, with the number of the step: P2 with 0 (a label isn't that of an earlier statement), P8,
+/// P9 and L1 with the number of the step from 1 on, P13 and P14 with one more than the number of
+/// steps. `Memory` is answered where memory was refused, whatever the proof.
+pub fn verify<'a>(
+    alloc: Global,
+    earlier: &[Statement<'a>],
+    statement: &Statement<'a>,
+) -> Result<(), ProofFault>
+    requires formed { All (λ s. IsFormed (plain_statement s)) earlier.now }
+    requires meant { AllMeant (map said_by earlier.now) }
+    requires itself { IsFormed (plain_statement statement.now) }
+    requires provable { statement.now.kind ≡ Provable }
+    // What is answered `Ok` is proved.
+    ensures proved { OnOk result (IsProvedWithin IsWithinLimit (map said_by earlier.now) (said_by statement.now)) }
+    // The rule and the step are those of the proof's first fault.
+    ensures fault { IfErr result (λ e. OnRule e (IsFault (map said_by earlier.now) (said_by statement.now))) }
+
+    // The other way round: each proof has this one answer, unless memory is refused.
+    ensures accepts { IsProvedWithin IsWithinLimit (map said_by earlier.now) (said_by statement.now) → IsUnlessMemory result (Ok tt) }
+    ensures refuses { (rule : ProofRule) → (at : ℕ) → IsFault (map said_by earlier.now) (said_by statement.now) rule at → IsUnlessMemory result (Err (ProofFault.Rule rule at)) }
+{
+    judged(alloc, earlier, statement)
 }
