@@ -13,8 +13,8 @@ use Rattle.mm_frame.specs.Rules.{AllMeant}
 use Rattle.mm_check.specs.declared.fault.CheckFault.{CheckFault}
 use Rattle.mm_check.specs.Conclusion.{Conclusion}
 use Rattle.mm_check.specs.Verdict.{Verdict, Refused, Load, Yes, HasFault, Obeys, AllObey, HasVerdict, CanBeRead, sentences, labels_of, refusal_of, text_refusal}
-use Rattle.mm_check.specs.Answer.{verdict_of_fault, concluded, IsVerdict}
-use Rattle.mm_check.specs.Judged.{IsUnderWay, RefusesAfter, RefusesEnd, RefusesLoad, TakesNext, Concludes, KeepsLabels}
+use Rattle.mm_check.specs.Answer.{verdict_of_fault, concluded, IsVerdict, KeepsLabels}
+use Rattle.mm_check.specs.Judged.{IsUnderWay, RefusesAfter, RefusesEnd, RefusesLoad, TakesNext, Concludes}
 
 -- what the statements say, in one go and in two
 sentences-plain : (statements : List Statement) → sentences (map plain_statement statements) ≡ map said_by statements

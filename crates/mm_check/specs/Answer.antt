@@ -6,9 +6,10 @@ use Rattle.mm_check.specs.declared.fault.Refusal.{Refusal}
 use Rattle.mm_check.specs.declared.fault.CheckFault.{CheckFault}
 use Rattle.mm_check.specs.declared.fault.CheckFault.TheVariants as fault
 use Rattle.mm_check.specs.Conclusion.{Conclusion}
-use Rattle.mm_text.specs.Reading.{PlainFile}
+use Rattle.mm_text.specs.Statement.{PlainStatement}
+use Rattle.mm_text.specs.Reading.{PlainFile, PlainFault, Reads}
 use Rattle.mm_check.specs.declared.rule.Rule.TheVariants.{L1}
-use Rattle.mm_check.specs.Verdict.{PlainRefusal, Verdict, Load, Refused, Incomplete, Yes, HasVerdict}
+use Rattle.mm_check.specs.Verdict.{PlainRefusal, Verdict, Load, Refused, Incomplete, Yes, HasVerdict, labels_of}
 
 -- a refusal without where its label lies in memory
 abbrev pub plain_refusal : Refusal → PlainRefusal
@@ -21,13 +22,18 @@ plain_refusal r = record {
   step = r.step;
 }
 
--- the labels with these numbers
+-- the labels with these numbers; a number that none has is passed over
 abbrev pub labels_at : List (List ℕ) → List ℕ → List (List ℕ)
 labels_at labels numbers = flat_map (λ number. option_to_list (slice_get labels number)) numbers
 
+-- the verdict where these proofs are incomplete: yes, if there are none
+abbrev pub concluded_with : Conclusion → List ℕ → Verdict
+concluded_with c [] = Yes c.statements c.proofs
+concluded_with c (number ∷ numbers) = Incomplete (labels_at c.labels (number ∷ numbers))
+
 -- a database in which nothing is at fault: yes, unless proofs are incomplete
 abbrev pub concluded : Conclusion → Verdict
-concluded c = elim (c.incomplete) [ [] ↦ Yes c.statements c.proofs | number ∷ numbers ↦ Incomplete (labels_at c.labels (number ∷ numbers)) ]
+concluded c = concluded_with c c.incomplete
 
 -- the verdict of a fault; none for want of memory
 abbrev pub verdict_of_fault : CheckFault → Option Verdict
@@ -56,7 +62,12 @@ IsWantOfMemory answer = answered answer ≡ None
 abbrev pub IsVerdict : List PlainFile → Result Conclusion CheckFault → Type 0
 IsVerdict files answer = (verdict : Verdict) → answered answer ≡ Some verdict → HasVerdict files verdict
 
--- No other verdict holds.
+-- A verdict that holds of the files is the one answered, unless memory was wanting.
 abbrev pub IsOnlyVerdict : List PlainFile → Result Conclusion CheckFault → Type 0
 IsOnlyVerdict files answer =
     (verdict : Verdict) → HasVerdict files verdict → IsWantOfMemory answer ⊎ (answered answer ≡ Some verdict)
+
+-- the labels kept are those of the statements that the files hold
+abbrev pub KeepsLabels : List PlainFile → Conclusion → Type 0
+KeepsLabels files c =
+    (statements : List PlainStatement) (ending : Option PlainFault) → Reads files statements ending → c.labels ≡ labels_of statements

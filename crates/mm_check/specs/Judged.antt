@@ -44,11 +44,6 @@ pub record Concludes (statements : List PlainStatement) (c : Conclusion) : Type 
   pub complete : c.incomplete ≡ []
   pub labels : c.labels ≡ labels_of statements
 
--- the labels kept are those of the statements that the files hold
-abbrev pub KeepsLabels : List PlainFile → Conclusion → Type 0
-KeepsLabels files c =
-    (statements : List PlainStatement) (ending : Option PlainFault) → Reads files statements ending → c.labels ≡ labels_of statements
-
 -- The statements so far and those that are left are the reading of the files, and those so far obey the rules.
 pub record IsUnderWay (files : List PlainFile) (earlier : List Statement) (left : Remaining) : Type 0 where
   pub readable : CanBeRead files

@@ -77,7 +77,7 @@ abbrev pub line_with : List ℕ → List (List ℕ) → List ℕ
 line_with word [] = word ++ codes "\n"
 line_with word (other ∷ others) = word ++ codes " " ++ line_with other others
 
--- the name of a handed file
+-- the name of a handed file; nothing where there is no such file
 abbrev pub name_of : List PlainFile → ℕ → List ℕ
 name_of files file = unwrap_or (option_map (λ f. f.name) (slice_get files file)) []
 
@@ -119,11 +119,11 @@ pub record IsReply (files : List PlainFile) (text : List ℕ) (status : ℕ) : T
   pub said : text ≡ text_of files verdict
   pub ends : status ≡ status_of verdict
 
--- The reply's text was put after what the writer held.
+-- The reply's text was put after what the writer held, where that is known.
 abbrev pub Writes : List PlainFile → ℕ → Option (List ℕ) → Option (List ℕ) → Type 0
 Writes files status old new = (text : List ℕ) × IsReply files text status × Appends old new text
 
--- A beginning of the reply's text was.
+-- A proper beginning of the reply's text was.
 abbrev pub WritesBeginning : List PlainFile → Option (List ℕ) → Option (List ℕ) → Type 0
 WritesBeginning files old new =
     (text : List ℕ) × (status : ℕ) × IsReply files text status × AppendsBeginning old new text

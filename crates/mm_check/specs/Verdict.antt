@@ -1,4 +1,4 @@
--- The verdict over the handed files: yes, or the first fault.
+-- The verdict over the handed files: why they can't be taken, the first statement at fault, incomplete proofs, or yes.
 use Rattle.std.specs.Prelude.{◌≡◌, ◌≢◌, ℕ, ◌+◌, ◌==◌, List, [], ◌∷◌, ◌++◌, map, take, length, count_by, slice_get, Bool, true, false, Option, Some, None, option_map, unwrap_or, ◌⊎◌}
 use Rattle.std.specs.List.{flat_map}
 use Rattle.std.specs.Option.{option_to_list}
@@ -94,10 +94,11 @@ pub data Verdict : Type 0 where
   Incomplete : (labels : List (List ℕ)) → Verdict
   Yes : (statements proofs : ℕ) → Verdict
 
--- the line of a place in a file: one more than the number of line feeds before it
+-- the line of a place in a text: one more than the number of line feeds before it
 abbrev pub line_in : List ℕ → ℕ → ℕ
 line_in bytes at = count_by (λ b. b == 10) (take at bytes) + 1
 
+-- the line of a place in one of the files; where there is no such file, the text is empty
 abbrev pub line_of : List PlainFile → ℕ → ℕ → ℕ
 line_of files file at = line_in (unwrap_or (option_map (λ f. f.bytes) (slice_get files file)) []) at
 
@@ -191,7 +192,7 @@ HasVerdict files (Yes count proofs) =
     × (statements : List PlainStatement) × Reads files statements None × AllObey (sentences statements)
     × (count ≡ length statements) × (proofs ≡ proofs_of statements)
 
--- The files obey every rule of the profile, and each proof spells a derivation tree of its assertion from active hypotheses
+-- The files obey every rule of the profile, as far as it is read so far, and each proof spells a derivation tree of its assertion from active hypotheses
 -- and earlier assertions, respecting all distinct variables.
 pub record ObeyTheProfile (files : List PlainFile) : Type 0 where
   pub handed : CanBeRead files

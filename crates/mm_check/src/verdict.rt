@@ -6,8 +6,8 @@ ghost use Rattle.mm_text.specs.Statement.{plain_statement};
 ghost use Rattle.mm_text.specs.Reading.{plain_file};
 ghost use Rattle.mm_text.specs.Remaining.{IsUnread};
 ghost use Rattle.mm_check.specs.Verdict.{ObeyTheProfile, CanBeRead, labels_of as labels_at, text_refusal as text_refusal_at};
-ghost use Rattle.mm_check.specs.Answer.{IsYes, IsOverLimit, IsWantOfMemory, IsVerdict, IsOnlyVerdict, plain_refusal};
-ghost use Rattle.mm_check.specs.Judged.{TakesNext, RefusesEnd, RefusesLoad, Concludes, KeepsLabels};
+ghost use Rattle.mm_check.specs.Answer.{IsYes, IsOverLimit, IsWantOfMemory, IsVerdict, IsOnlyVerdict, KeepsLabels, plain_refusal};
+ghost use Rattle.mm_check.specs.Judged.{TakesNext, RefusesEnd, RefusesLoad, Concludes};
 
 use crate::checked::Checked;
 use crate::fault::{CheckFault, Refusal};
@@ -124,8 +124,9 @@ fn judge_all<'a>(alloc: Global, files: &'a [File<'a>]) -> Result<Checked<'a>, Ch
 /// Checks the database that the files hold; the first one is the top file.
 ///
 /// Limits and memory aside, the answer is yes exactly if the files obey every rule of the profile
-/// of the language and each proof spells a derivation tree of its assertion from active hypotheses
-/// and earlier assertions, respecting all distinct variables (the Metamath book, chapter 4).
+/// of the language, as far as it is read so far (`docs/LANGUAGE.md`), and each proof spells a
+/// derivation tree of its assertion from active hypotheses and earlier assertions, respecting all
+/// distinct variables (the Metamath book, chapter 4).
 ///
 /// # Errors
 ///

@@ -1,9 +1,6 @@
 -- From what the parts of the program ensure to how it ends.
-use Rattle.std.proofs.Common.{◌≡◌, ℕ, ◌+◌, ◌<◌, ◌≤◌, List, [], ◌∷◌, map, Option, Result, Ok, Err, IfOk, ◌⊎◌, inl, inr, refl, sym, ap, ◌∙◌, codes, arith}
-use Rattle.std.specs.Io.KnownBytes.{Appends}
-use Rattle.mm_text.specs.Reading.{PlainFile, plain_file}
-use Rattle.mm_text.specs.Device.{faults_of, inner_of}
-use Rattle.mm_text.specs.declared.counted.Counted.{Counted}
+use Rattle.std.proofs.Common.{◌≡◌, ℕ, List, [], ◌∷◌, map, Option, Result, Ok, Err, IfOk, inl, inr, refl, sym, ap, ◌∙◌, arith}
+use Rattle.mm_text.specs.Reading.{plain_file}
 use Rattle.mm_text.specs.declared.file.File.{File}
 use Rattle.mm_check.specs.Reply.{Writes, refusal_status, status_of}
 use Rattle.mm_check.specs.Status.{number_of}
@@ -12,9 +9,9 @@ use Rattle.mm_check.specs.declared.rule.Rule.{Rule}
 use Rattle.mm_check.specs.declared.rule.Rule.TheVariants.{L1}
 use Rattle.mm_check.specs.declared.status.Status.{Status}
 use Rattle.mm_check.specs.declared.status.Status.TheVariants as status
-use Rattle.mm_tool.specs.Ending.{stop_status, Leaves, RepliesTo, RepliesOrIsTooLong, Replies, Ends}
-use Rattle.mm_tool.specs.declared.stop.Stop.{Stop}
-use Rattle.mm_tool.specs.declared.stop.Stop.TheVariants.{Usage, NotText, CannotRead, CannotWrite, Memory}
+use Rattle.clap.specs.Words.{Text}
+use Rattle.mm_tool.specs.Words.{AsksCheck}
+use Rattle.mm_tool.specs.Ending.{RepliesTo, RepliesOrIsTooLong, Ends}
 
 -- the names of the files as the verdict sees them
 plain_names : (files : List File) → map (λ f. f.name) (map plain_file files) ≡ map (λ f. f.name.now) files
@@ -41,20 +38,21 @@ verdict_not_two (Yes statements proofs) e = omega arith
 reply_not_two : (names : List (List ℕ)) (old new : Option (List ℕ)) → RepliesTo names 2 old new → ⊥
 reply_not_two names old new (files, e, (text, reply, appended)) = verdict_not_two reply.verdict (sym reply.ends)
 
-pub ends : (s : Status) (names : List (List ℕ)) (old new : Option (List ℕ))
-    → RepliesOrIsTooLong names (number_of s) old new → Ends s old new
-ends status.Done names old new (inl r) = inl (names, r)
-ends status.Done names old new (inr (e, a)) = absurd (omega arith)
-ends status.Refused names old new (inl r) = (names, r)
-ends status.Refused names old new (inr (e, a)) = absurd (omega arith)
-ends status.Usage names old new (inl r) = reply_not_two names old new r
-ends status.Usage names old new (inr (e, a)) = absurd (omega arith)
-ends status.Incomplete names old new (inl r) = (names, r)
-ends status.Incomplete names old new (inr (e, a)) = absurd (omega arith)
-ends status.Stopped names old new (inl r) = inl (names, r)
-ends status.Stopped names old new (inr (e, a)) = inr a
+-- A reply over the files that the words ask to check is the end that they ask for.
+pub ends : (s : Status) (words names : List Text) (old new : Option (List ℕ)) → AsksCheck words names
+    → RepliesOrIsTooLong names (number_of s) old new → Ends words s old new
+ends status.Done words names old new asked (inl r) = inl (names, asked, r)
+ends status.Done words names old new asked (inr (e, a)) = absurd (omega arith)
+ends status.Refused words names old new asked (inl r) = (names, asked, r)
+ends status.Refused words names old new asked (inr (e, a)) = absurd (omega arith)
+ends status.Usage words names old new asked (inl r) = reply_not_two names old new r
+ends status.Usage words names old new asked (inr (e, a)) = absurd (omega arith)
+ends status.Incomplete words names old new asked (inl r) = (names, asked, r)
+ends status.Incomplete words names old new asked (inr (e, a)) = absurd (omega arith)
+ends status.Stopped words names old new asked (inl r) = inl (names, asked, r)
+ends status.Stopped words names old new asked (inr (e, a)) = inr a
 
-pub ends_where_ok : {E : Type 0} (r : Result Status E) (names : List (List ℕ)) (old new : Option (List ℕ))
-    → IfOk r (λ s. RepliesOrIsTooLong names (number_of s) old new) → IfOk r (λ s. Ends s old new)
-ends_where_ok (Ok s) names old new h = ends s names old new h
-ends_where_ok (Err e) names old new h = h
+pub ends_where_ok : {E : Type 0} (r : Result Status E) (words names : List Text) (old new : Option (List ℕ)) → AsksCheck words names
+    → IfOk r (λ s. RepliesOrIsTooLong names (number_of s) old new) → IfOk r (λ s. Ends words s old new)
+ends_where_ok (Ok s) words names old new asked h = ends s words names old new asked h
+ends_where_ok (Err e) words names old new asked h = h

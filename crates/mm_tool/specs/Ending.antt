@@ -9,6 +9,8 @@ use Rattle.mm_check.specs.declared.command.RunFault.{RunFault}
 use Rattle.mm_check.specs.declared.command.RunFault.TheVariants as run
 use Rattle.mm_check.specs.declared.status.Status.{Status}
 use Rattle.mm_check.specs.declared.status.Status.TheVariants as status
+use Rattle.clap.specs.Words.{Text}
+use Rattle.mm_tool.specs.Words.{AsksHelp, AsksCheck}
 use Rattle.mm_tool.specs.declared.stop.Stop.{Stop}
 use Rattle.mm_tool.specs.declared.stop.Stop.TheVariants.{Usage, NotText, CannotRead, CannotWrite, Memory}
 
@@ -46,27 +48,28 @@ Leaves (CannotRead name) old new = (inner_of new ≡ inner_of old) × (faults_of
 Leaves Memory old new = (inner_of new ≡ inner_of old) × (faults_of new ≡ faults_of old)
 
 -- The reply to `check` over files with these names, in this order, with this status, was put after what the writer held.
-abbrev pub RepliesTo : List (List ℕ) → ℕ → Option (List ℕ) → Option (List ℕ) → Type 0
+abbrev pub RepliesTo : List Text → ℕ → Option (List ℕ) → Option (List ℕ) → Type 0
 RepliesTo names status old new =
     (files : List PlainFile) × (map (λ file. file.name) files ≡ names) × Writes files status old new
 
 -- That reply, or, with status 4, the line that says that the files hold more bytes than they may.
-abbrev pub RepliesOrIsTooLong : List (List ℕ) → ℕ → Option (List ℕ) → Option (List ℕ) → Type 0
+abbrev pub RepliesOrIsTooLong : List Text → ℕ → Option (List ℕ) → Option (List ℕ) → Type 0
 RepliesOrIsTooLong names status old new =
     RepliesTo names status old new ⊎ ((status ≡ 4) × Appends old new (codes "load F3\n"))
 
--- A reply to `check` with this status was, over files with some names.
-abbrev pub Replies : ℕ → Option (List ℕ) → Option (List ℕ) → Type 0
-Replies status old new = (names : List (List ℕ)) × RepliesTo names status old new
+-- The reply to `check` over the files that the words ask to check was, with this status.
+abbrev pub Replies : List Text → ℕ → Option (List ℕ) → Option (List ℕ) → Type 0
+Replies words status old new = (names : List Text) × AsksCheck words names × RepliesTo names status old new
 
--- Some text was.
-abbrev pub Prints : Option (List ℕ) → Option (List ℕ) → Type 0
-Prints old new = (text : List ℕ) × Appends old new text
+-- The words ask for help, and some text was.
+abbrev pub PrintsHelp : List Text → Option (List ℕ) → Option (List ℕ) → Type 0
+PrintsHelp words old new = (text : List ℕ) × AsksHelp words × Appends old new text
 
--- what a status says of standard output: a reply with this status; with 0 perhaps the help; with 4 perhaps that the files are too long
-abbrev pub Ends : Status → Option (List ℕ) → Option (List ℕ) → Type 0
-Ends status.Done old new = Replies 0 old new ⊎ Prints old new
-Ends status.Refused old new = Replies 1 old new
-Ends status.Usage old new = ⊥
-Ends status.Incomplete old new = Replies 3 old new
-Ends status.Stopped old new = Replies 4 old new ⊎ Appends old new (codes "load F3\n")
+-- What a status says of standard output: the reply has this status; with 0 it may be the help, and with 4 that the files
+-- hold more bytes than they may.
+abbrev pub Ends : List Text → Status → Option (List ℕ) → Option (List ℕ) → Type 0
+Ends words status.Done old new = Replies words 0 old new ⊎ PrintsHelp words old new
+Ends words status.Refused old new = Replies words 1 old new
+Ends words status.Usage old new = ⊥
+Ends words status.Incomplete old new = Replies words 3 old new
+Ends words status.Stopped old new = Replies words 4 old new ⊎ Appends old new (codes "load F3\n")

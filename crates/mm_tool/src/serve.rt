@@ -5,23 +5,20 @@ ghost use Rattle.std.specs.Io.KnownBytes.{Appends};
 ghost use Rattle.mm_text.specs.Device.{faults_of, inner_of};
 ghost use Rattle.mm_text.specs.Reading.{plain_file};
 ghost use Rattle.mm_check.specs.Status.{number_of};
-ghost use Rattle.mm_tool.specs.Ending.{stop_status, line_of, Says, Leaves, RepliesOrIsTooLong, Replies, Prints, Ends};
+ghost use Rattle.mm_check.specs.declared.status.Status.TheVariants.{Done};
+ghost use Rattle.mm_tool.specs.Ending.{stop_status, line_of, Says, Leaves, RepliesOrIsTooLong, Replies, Ends};
 ghost use Rattle.mm_tool.specs.declared.stop.Stop.TheVariants.{CannotWrite};
 
 use crate::files::{FileFault, ReadFile, read_files};
 use crate::stop::Stop;
 use crate::words::{Request, WordFault, request_of};
 use mm_check::{Command, Status, run};
-use mm_text::{Counted, File};
+use mm_text::{BYTE_LIMIT, Counted, File};
 use std::alloc::{AllocError, AllocGlobal, Global};
 use std::env::Env;
 use std::io::Write;
 use std::rt::Files;
 use std::{env, io};
-
-/// So many bytes the files may hold in all.
-// Until the reader's crate exports this limit, which the verdict's rule F3 speaks of.
-const BYTE_LIMIT: usize = 1_073_741_824;
 
 const TOO_LONG: &[u8] = b"load F3\n";
 
@@ -97,7 +94,7 @@ fn answer<'a, R: Files + AllocGlobal, O: Write>(
     out: &mut Counted<O>,
 ) -> Result<Status, Stop<'a>>
     requires { faults_of out.old < u64.MAX }
-    ensures ended { IfOk result (λ status. Ends status (O.contents (inner_of out.old))
+    ensures ended { IfOk result (λ status. Ends (map (λ word. word.now) words.entry.now) status (O.contents (inner_of out.old))
         (O.contents (inner_of out.new))) }
     ensures left { IfErr result (λ stop. Leaves stop out.old out.new) }
     ensures uncounted { OnOk result (faults_of out.new ≡ faults_of out.old) }
@@ -179,16 +176,18 @@ pub fn serve<R: Files + AllocGlobal, O: Write, E: Write>(
     requires err_faults { faults_of err.old < u64.MAX }
     ensures status { result ≤ 4 }
 
-    // What each status says of standard output; with 0 the reply is yes, or the help is printed.
-    ensures done { result ≡ 0 → Replies 0 (O.contents (inner_of out.old))
-        (O.contents (inner_of out.new)) ⊎ Prints (O.contents (inner_of out.old)) (O.contents (inner_of out.new)) }
-    ensures refused { result ≡ 1 → Replies 1 (O.contents (inner_of out.old))
-        (O.contents (inner_of out.new)) }
+    // What each status says of standard output: 0 that the reply is yes, or that help was asked for
+    // and printed; 1 and 3 that the reply is no, or that proofs are incomplete; 2 that nothing was
+    // written.
+    ensures done { result ≡ 0 → Ends (map (λ word. word.now) words.entry.now) Done
+        (O.contents (inner_of out.old)) (O.contents (inner_of out.new)) }
+    ensures refused { result ≡ 1 → Replies (map (λ word. word.now) words.entry.now) 1
+        (O.contents (inner_of out.old)) (O.contents (inner_of out.new)) }
     ensures usage { result ≡ 2 → inner_of out.new ≡ inner_of out.old }
-    ensures incomplete { result ≡ 3 → Replies 3 (O.contents (inner_of out.old))
-        (O.contents (inner_of out.new)) }
+    ensures incomplete { result ≡ 3 → Replies (map (λ word. word.now) words.entry.now) 3
+        (O.contents (inner_of out.old)) (O.contents (inner_of out.new)) }
 
-    // Standard error stays as it is where there is a reply, and says else why there is none.
+    // Standard error stays as it is, unless the words are not understood or something stood in the way.
     ensures quiet { result ≢ 2 → result ≢ 4 → inner_of err.new ≡ inner_of err.old }
 
     // A failing device is counted once, and a failing standard output ends with 4.

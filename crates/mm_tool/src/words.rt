@@ -1,8 +1,16 @@
 //! What the program is asked by its words.
 
+ghost use Rattle.std.specs.Prelude.{◌≡◌, [], map, IfOk, codes, false, unwrap_or};
+ghost use Rattle.clap.specs.Words.{all_of, app_of, found_of, kind_of, rows_of, rule_of};
+ghost use Rattle.clap.specs.declared.builder.command.Command.TheViews.{out-Command};
+ghost use Rattle.clap.specs.declared.error.kind.ErrorKind.TheVariants.{DisplayHelp};
+ghost use Rattle.mm_tool.specs.Words.{Asks, IsHelp, check_line, command_line, files_rule};
+
 use clap::error::ErrorKind;
-use clap::{Arg, ArgAction, Command, Error};
+use clap::{Arg, ArgAction, ArgMatches, Command, Error};
 use std::alloc::{AllocError, Global};
+
+const PROGRAM: &str = "mm";
 
 const CHECK: &str = "check";
 
@@ -74,37 +82,66 @@ impl From<AllocError> for WordFault {
     }
 }
 
-/// The program's command line, for `clap`.
-fn command_line<'a>(alloc: Global) -> Result<Command<'a>, AllocError> {
-    let files = Arg::new(alloc, FILES)
+/// The names of the files, for `clap`.
+fn files_argument<'a>(alloc: Global) -> Arg<'a>
+    ensures rule { rule_of result ≡ files_rule }
+    ensures local { result.global ≡ false }
+{
+    Arg::new(alloc, FILES)
         .required(true)
         .num_args(1..)
         .action(ArgAction::Append)
-        .help(FILES_HELP);
-    let check = Command::new(alloc, CHECK)
+        .help(FILES_HELP)
+}
+
+/// The command `check`, for `clap`.
+fn check_command<'a>(alloc: Global) -> Result<Command<'a>, AllocError>
+    ensures shape { IfOk result (λ command. app_of command ≡ check_line) }
+    ensures local { IfOk result (λ command. (out-Command command).has_globals ≡ false) }
+{
+    Command::new(alloc, CHECK)
         .about(ABOUT_CHECK)
         .after_help(REPLIES)
-        .arg(files)?;
-    Command::new(alloc, "mm")
-        .bin_name("mm")?
+        .arg(files_argument(alloc))
+}
+
+/// The program's command line, for `clap`.
+fn whole_command<'a>(alloc: Global) -> Result<Command<'a>, AllocError>
+    ensures { IfOk result (λ command. app_of command ≡ command_line) }
+{
+    Command::new(alloc, PROGRAM)
         .about(ABOUT)
         .after_help(STATUSES)
         .subcommand_required(true)
         .arg_required_else_help(true)
-        .subcommand(check)
+        .bin_name(PROGRAM)?
+        .subcommand(check_command(alloc)?)
 }
 
 /// What clap's answer in place of matches is to the program: help where help was asked for, else
 /// a mistake in the words.
-fn request_of_error<'a>(alloc: Global, error: &Error) -> Result<Request<'a>, WordFault> {
+fn request_of_error<'a>(alloc: Global, error: &Error) -> Result<Request<'a>, WordFault>
+    ensures { IfOk result (λ request. IsHelp request × (kind_of error.now ≡ DisplayHelp)) }
+{
     if error.kind() == ErrorKind::OutOfMemory {
         return Err(WordFault::Memory);
     }
     let text = format!(in alloc; "{error}")?;
-    if error.use_stderr() {
-        Err(WordFault::Usage(text))
-    } else {
+    if error.kind() == ErrorKind::DisplayHelp {
         Ok(Request::Help(text))
+    } else {
+        Err(WordFault::Usage(text))
+    }
+}
+
+/// The names of the files, of the matches of `check`.
+fn names_of<'a>(alloc: Global, check: &ArgMatches<'a>) -> Result<Vec<&'a str>, AllocError>
+    ensures { IfOk result (λ names. map (λ name. name.now) names.items
+        ≡ unwrap_or (all_of (codes "FILES") (rows_of (found_of check.now))) []) }
+{
+    match check.get_strs(FILES) {
+        Some(names) => names.to_vec(alloc),
+        None => Ok(Vec::new(alloc)),
     }
 }
 
@@ -113,19 +150,16 @@ fn request_of_error<'a>(alloc: Global, error: &Error) -> Result<Request<'a>, Wor
 /// # Errors
 ///
 /// `Usage` where the words aren't understood; `Memory` where a growth was refused.
-pub(crate) fn request_of<'a>(
-    alloc: Global,
-    words: &'a [&'a str],
-) -> Result<Request<'a>, WordFault> {
-    let mut line = command_line(alloc)?;
-    let matches = match line.try_get_matches_from_mut(words) {
+pub(crate) fn request_of<'a>(alloc: Global, words: &'a [&'a str]) -> Result<Request<'a>, WordFault>
+    ensures { IfOk result (Asks (map (λ word. word.now) words.entry.now)) }
+{
+    let mut command = whole_command(alloc)?;
+    let matches = match command.try_get_matches_from_mut(words) {
         Ok(matches) => matches,
         Err(error) => return request_of_error(alloc, &error),
     };
-    let Some(check) = matches.subcommand_matches(CHECK) else {
-        return Err(WordFault::Usage(line.render_usage()?));
-    };
-    let mut names = Vec::new(alloc);
-    names.extend_from_slice(check.get_strs(FILES).unwrap_or(&[]))?;
-    Ok(Request::Check(names))
+    match matches.subcommand_matches(CHECK) {
+        Some(check) => Ok(Request::Check(names_of(alloc, check)?)),
+        None => Err(WordFault::Usage(command.render_usage()?)),
+    }
 }
