@@ -1,6 +1,6 @@
 -- What a clause reads of a `Counted` device: the value inside, how many of its calls failed, and which calls count as failed.
-use Rattle.std.specs.Prelude.{◌≡◌, ℕ, ◌<◌, List, length, take, Option, Result, MatchResult, ⊤}
-use Rattle.std.specs.Io.KnownBytes.{Appends}
+use Rattle.std.specs.Prelude.{◌≡◌, ℕ, ◌<◌, ◌≤◌, List, length, take, Option, Result, MatchResult, ⊤}
+use Rattle.std.specs.Io.KnownBytes.{Appends, Consumes}
 use Rattle.mm_text.specs.declared.counted.Counted.{Counted}
 
 -- how many calls of the device have failed since it was wrapped
@@ -18,3 +18,11 @@ IsFailedWrite result bytes = MatchResult result (λ taken. (taken ≡ 0) × (0 <
 -- known bytes stay at the front and grow by a beginning of `bytes` that leaves at least one of them out
 abbrev pub AppendsBeginning : Option (List ℕ) → Option (List ℕ) → List ℕ → Type 0
 AppendsBeginning old new bytes = (taken : ℕ) × (taken < length bytes) × Appends old new (take taken bytes)
+
+-- At most max bytes came from the reader.
+abbrev pub CameWithin : Option (List ℕ) → Option (List ℕ) → ℕ → Type 0
+CameWithin old new max = (came : List ℕ) × (length came ≤ max) × Consumes old new came
+
+-- More than max bytes came from the reader.
+abbrev pub CameOver : Option (List ℕ) → Option (List ℕ) → ℕ → Type 0
+CameOver old new max = (came : List ℕ) × (max < length came) × Consumes old new came

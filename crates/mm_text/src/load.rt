@@ -1,7 +1,7 @@
 //! Reading a device to its end, up to a limit.
 ghost use Rattle.std.specs.Prelude.{◌≡◌, ◌+◌, ◌<◌, ◌≤◌, ◌↔◌, length, OnOk, IfOk, IfSome, IsErrOf, vec_len};
 ghost use Rattle.std.specs.Io.KnownBytes.{IsAtEnd};
-ghost use Rattle.mm_text.specs.Device.{faults_of, inner_of};
+ghost use Rattle.mm_text.specs.Device.{faults_of, inner_of, CameWithin, CameOver};
 
 use crate::counted::Counted;
 use std::alloc::Global;
@@ -45,6 +45,11 @@ pub fn read_all<R: Read>(
     ensures end { OnOk result (IsAtEnd (R.remaining (inner_of reader.new))) }
     ensures too_long { IsErrOf result LoadFault.TooLong →
         IfSome (R.remaining (inner_of reader.old)) (λ all. max < length all) }
+    // So many bytes came: over `max` exactly where that is answered.
+    ensures over { IsErrOf result LoadFault.TooLong →
+        CameOver (R.remaining (inner_of reader.old)) (R.remaining (inner_of reader.new)) max }
+    ensures under { IsErrOf result LoadFault.Device →
+        CameWithin (R.remaining (inner_of reader.old)) (R.remaining (inner_of reader.new)) max }
     ensures memory { IsErrOf result LoadFault.Memory →
         IfSome (R.remaining (inner_of reader.old)) (λ all. 0 < length all) }
     ensures device { IsErrOf result LoadFault.Device ↔
