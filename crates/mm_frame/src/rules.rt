@@ -298,7 +298,7 @@ const ORDER: [MeaningRule; 15] = [
 /// M1 to M15 (the Metamath book, sections 4.2.1 to 4.2.8), or `None` where it breaks none.
 ///
 /// The statements before are of the kinds that are read so far: then no block is open, each of them
-/// is active, and M1, M8 and M9 are never broken. It takes no memory.
+/// is active, and M1 is never broken. It takes no memory.
 pub fn first_broken(earlier: &[Statement], statement: &Statement) -> Option<MeaningRule>
     requires formed { All (λ s. IsFormed (plain_statement s)) earlier.now }
     ensures { MatchOption

@@ -1,0 +1,5 @@
+pub mod Lines
+pub mod Replies
+pub mod Verdicts
+pub mod Labels
+pub mod Course

@@ -1,0 +1,103 @@
+-- A line that is written word by word.
+use Rattle.std.proofs.Common.{Bool, false, IsTrue, ◌↔◌, ◌≡◌, ℕ, zero, suc, ◌+◌, ◌<◌, decimal, arith, length-append, List, [], ◌∷◌, ◌++◌, codes, map, take, get_or, slice_get, length, append_assoc, refl, ap, sym, subst, ◌∙◌}
+use Rattle.std.specs.Option.{option_to_list}
+use Rattle.std.proofs.lemmas.List.{take_more, map-append, length-map}
+use Rattle.std.proofs.lemmas.Grind.{flat_map-append}
+use Rattle.mm_check.specs.declared.checked.LabelId.{LabelId}
+use Rattle.mm_check.specs.Answer.{labels_at, concluded}
+use Rattle.mm_check.specs.Conclusion.{Conclusion}
+use Rattle.mm_check.specs.Verdict.{Yes}
+use Rattle.std.specs.List.{AllByRecursion}
+use Rattle.mm_check.specs.Reply.{line_with, lines_of, text_of}
+
+-- a word and five others
+pub six_words : (out w a b c d e o₁ o₂ o₃ o₄ o₅ o₆ o₇ : List ℕ)
+    → o₁ ≡ out ++ w → o₂ ≡ o₁ ++ codes " " ++ a → o₃ ≡ o₂ ++ codes " " ++ b → o₄ ≡ o₃ ++ codes " " ++ c
+    → o₅ ≡ o₄ ++ codes " " ++ d → o₆ ≡ o₅ ++ codes " " ++ e → o₇ ≡ o₆ ++ 10 ∷ []
+    → o₇ ≡ out ++ line_with w (a ∷ b ∷ c ∷ d ∷ e ∷ [])
+six_words out w a b c d e o₁ o₂ o₃ o₄ o₅ o₆ o₇ h₁ h₂ h₃ h₄ h₅ h₆ h₇ =
+    rw (h₇, h₆, h₅, h₄, h₃, h₂, h₁) (simp append_assoc)
+
+-- a word and four others
+pub five_words : (out w a b c d o₁ o₂ o₃ o₄ o₅ o₆ : List ℕ)
+    → o₁ ≡ out ++ w → o₂ ≡ o₁ ++ codes " " ++ a → o₃ ≡ o₂ ++ codes " " ++ b → o₄ ≡ o₃ ++ codes " " ++ c
+    → o₅ ≡ o₄ ++ codes " " ++ d → o₆ ≡ o₅ ++ 10 ∷ []
+    → o₆ ≡ out ++ line_with w (a ∷ b ∷ c ∷ d ∷ [])
+five_words out w a b c d o₁ o₂ o₃ o₄ o₅ o₆ h₁ h₂ h₃ h₄ h₅ h₆ = rw (h₆, h₅, h₄, h₃, h₂, h₁) (simp append_assoc)
+
+-- a line for each label, and one more
+pub one_more_line : (labels : List (List ℕ)) (ids : List LabelId) (k : ℕ) (d : LabelId) → k < length ids
+    → lines_of (labels_at labels (map (λ id. id.0) (take (k + 1) ids)))
+    ≡ lines_of (labels_at labels (map (λ id. id.0) (take k ids))) ++ lines_of (labels_at labels ((get_or ids k d).0 ∷ []))
+one_more_line labels ids k d h =
+    let front : List ℕ = map (λ (id : LabelId). id.0) (take k ids) in
+    let last : List ℕ = (get_or ids k d).0 ∷ [] in
+    let e : map (λ (id : LabelId). id.0) (take (k + 1) ids) ≡ front ++ last = rw (take_more ids k d h) (rw map-append refl) in
+    let named : labels_at labels (front ++ last) ≡ labels_at labels front ++ labels_at labels last =
+    flat_map-append (λ (n : ℕ). option_to_list (slice_get labels n)) front last in
+    let laid : lines_of (labels_at labels front ++ labels_at labels last) ≡ lines_of (labels_at labels front) ++ lines_of (labels_at labels last) =
+    flat_map-append (λ (l : List ℕ). l ++ codes "\n") (labels_at labels front) (labels_at labels last) in
+    ap (λ (ns : List ℕ). lines_of (labels_at labels ns)) e ∙ ap (λ (ls : List (List ℕ)). lines_of ls) named ∙ laid
+
+-- a number that is there has one label
+one_there : (labels : List (List ℕ)) (n : ℕ) → n < length labels → length (option_to_list (slice_get labels n)) ≡ 1
+one_there [] n h = absurd (omega arith)
+one_there (l ∷ labels) zero h = refl
+one_there (l ∷ labels) (suc n) h = one_there labels n (omega arith)
+
+-- numbers that are there have as many labels
+pub length-labels_at : (labels : List (List ℕ)) (numbers : List ℕ) → AllByRecursion (λ n. n < length labels) numbers
+    → length (labels_at labels numbers) ≡ length numbers
+length-labels_at labels [] h = refl
+length-labels_at labels (n ∷ numbers) h =
+    let one : length (option_to_list (slice_get labels n)) ≡ 1 = one_there labels n h.0 in
+    let others : length (labels_at labels numbers) ≡ length numbers = length-labels_at labels numbers h.1 in
+    omega (arith, length-append (option_to_list (slice_get labels n)) (labels_at labels numbers))
+
+-- the text of a database with incomplete proofs
+pub text_of_incomplete : (c : Conclusion) (n : ℕ) (numbers : List ℕ) → c.incomplete ≡ n ∷ numbers
+    → AllByRecursion (λ k. k < length c.labels) c.incomplete
+    → text_of [] (concluded c)
+    ≡ line_with (codes "incomplete") (decimal (length c.incomplete) ∷ []) ++ lines_of (labels_at c.labels c.incomplete)
+text_of_incomplete c n numbers e all =
+    let Text : List ℕ → Type 0 = λ ns. text_of [] (concluded (record c { incomplete = ns }))
+    ≡ line_with (codes "incomplete") (decimal (length ns) ∷ []) ++ lines_of (labels_at c.labels ns) in
+    let All : List ℕ → Type 0 = λ ns. AllByRecursion (λ k. k < length c.labels) ns in
+    let here : AllByRecursion (λ k. k < length c.labels) (n ∷ numbers) = subst All e all in
+    let count : length (labels_at c.labels (n ∷ numbers)) ≡ length (n ∷ numbers) = length-labels_at c.labels (n ∷ numbers) here in
+    subst Text (sym e)
+    (ap (λ (k : ℕ). line_with (codes "incomplete") (decimal k ∷ []) ++ lines_of (labels_at c.labels (n ∷ numbers))) count)
+
+-- the text of a database with none
+pub text_of_complete : (c : Conclusion) → c.incomplete ≡ []
+    → text_of [] (concluded c) ≡ text_of [] (Yes c.statements c.proofs)
+text_of_complete c e =
+    let Text : List ℕ → Type 0 = λ ns. text_of [] (concluded (record c { incomplete = ns })) ≡ text_of [] (Yes c.statements c.proofs) in
+    subst Text (sym e) refl
+
+-- its line, word by word, and the lines of the labels
+pub incomplete_lines : (out count lines o₁ o₂ o₃ o₄ : List ℕ) → o₁ ≡ out ++ codes "incomplete" → o₂ ≡ o₁ ++ codes " " ++ count
+    → o₃ ≡ o₂ ++ 10 ∷ [] → o₄ ≡ o₃ ++ lines → o₄ ≡ out ++ (line_with (codes "incomplete") (count ∷ []) ++ lines)
+incomplete_lines out count lines o₁ o₂ o₃ o₄ h₁ h₂ h₃ h₄ = rw (h₄, h₃, h₂, h₁) (simp append_assoc)
+
+-- a list that isn't empty has a first element
+pub some_first : (b : Bool) (ns : List ℕ) → (IsTrue b ↔ (ns ≡ [])) → b ≡ false → (n : ℕ) × (rest : List ℕ) × (ns ≡ n ∷ rest)
+some_first b [] e h = cc (e.1 refl)
+some_first b (n ∷ rest) e h = (n, rest, refl)
+
+-- the text of a database with incomplete proofs, in lists that equal its own
+pub text_of_some : (c : Conclusion) (b : Bool) (labels : List (List ℕ)) (ids : List LabelId)
+    → (IsTrue b ↔ (c.incomplete ≡ [])) → b ≡ false → labels ≡ c.labels → map (λ id. id.0) ids ≡ c.incomplete
+    → AllByRecursion (λ k. k < length c.labels) c.incomplete
+    → line_with (codes "incomplete") (decimal (length ids) ∷ []) ++ lines_of (labels_at labels (map (λ id. id.0) ids))
+    ≡ text_of [] (concluded c)
+text_of_some c b labels ids e h same_labels same_numbers all =
+    let found = some_first b c.incomplete e h in
+    let text : text_of [] (concluded c) ≡ line_with (codes "incomplete") (decimal (length c.incomplete) ∷ []) ++ lines_of (labels_at c.labels c.incomplete) =
+    text_of_incomplete c found.0 found.1 found.2 all in
+    let count : length ids ≡ length c.incomplete = sym (length-map ids (λ (id : LabelId). id.0)) ∙ ap length same_numbers in
+    let lines : lines_of (labels_at labels (map (λ (id : LabelId). id.0) ids)) ≡ lines_of (labels_at c.labels c.incomplete) =
+    ap (λ (ls : List (List ℕ)). lines_of (labels_at ls (map (λ (id : LabelId). id.0) ids))) same_labels
+    ∙ ap (λ (ns : List ℕ). lines_of (labels_at c.labels ns)) same_numbers in
+    ap (λ (k : ℕ). line_with (codes "incomplete") (decimal k ∷ []) ++ lines_of (labels_at labels (map (λ (id : LabelId). id.0) ids))) count
+    ∙ ap (λ (ls : List ℕ). line_with (codes "incomplete") (decimal (length c.incomplete) ∷ []) ++ ls) lines ∙ sym text

@@ -1,0 +1,299 @@
+-- There is one verdict over files; yes says that the profile is obeyed, and such files get yes, the limit aside.
+use Rattle.std.proofs.Common.{◌≡◌, ℕ, zero, suc, ◌+◌, ◌<◌, List, [], ◌∷◌, ◌++◌, map, length, Option, Some, None, Result, ◌⊎◌, inl, inr, refl, sym, ap, subst, ◌∙◌, arith, append_assoc, nat_lt}
+use Rattle.std.proofs.lemmas.List.{map-append}
+use Rattle.mm_text.specs.declared.fault.LoadRule.{LoadRule}
+use Rattle.mm_text.specs.declared.fault.LoadRule.TheVariants as load
+use Rattle.mm_text.specs.declared.statement.Kind.TheVariants.{Provable}
+use Rattle.mm_text.specs.Statement.{PlainStatement}
+use Rattle.mm_text.specs.Reading.{PlainFile, PlainFault, BreaksLoad, Reads}
+use Rattle.mm_text.proofs.OneReading.{each_has_one_reading}
+use Rattle.mm_frame.specs.declared.rule.MeaningRule.{MeaningRule}
+use Rattle.mm_frame.specs.declared.rule.MeaningRule.TheVariants.{M1, M2, M3, M4, M5, M6, M7, M8, M9, M10, M11, M12, M13, M14, M15}
+use Rattle.mm_frame.specs.Sentence.{Sentence, said}
+use Rattle.mm_frame.specs.Rules.{FirstBroken, IsMeant, AllMeant, rank}
+use Rattle.mm_proof.specs.declared.fault.ProofRule.{ProofRule}
+use Rattle.mm_proof.specs.declared.fault.ProofRule.TheVariants as proof
+use Rattle.mm_proof.specs.Proof.{IsProvedWithin, IsProved, IsWithinLimit, IsFault}
+use Rattle.mm_proof.proofs.Verdicts.{one_verdict_holds, limits_aside_holds}
+use Rattle.mm_check.specs.declared.fault.CheckFault.{CheckFault}
+use Rattle.mm_check.specs.Conclusion.{Conclusion}
+use Rattle.mm_check.specs.Answer.{answered, IsVerdict, IsOnlyVerdict, IsYes, IsOverLimit, IsWantOfMemory}
+use Rattle.mm_check.specs.declared.rule.Rule.{Rule}
+use Rattle.mm_check.specs.declared.rule.Rule.TheVariants.{L1}
+use Rattle.mm_check.specs.Verdict.{Verdict, Load, Refused, Incomplete, Yes, PlainRefusal, Obeys, AllObey, HasFault, HasVerdict, CanBeRead, RefusesStatement, RefusesText, ObeyTheProfile, sentences, load_rule, meaning_rule, proof_rule, refusal_of, text_refusal, proofs_of}
+
+-- ## The rules of the files as a whole
+
+one_load : (files : List PlainFile) (a b : LoadRule) → BreaksLoad files a → BreaksLoad files b → a ≡ b
+one_load files load.F1 load.F1 h k = refl
+one_load files load.F1 load.F2 h k = absurd (k.0 h)
+one_load files load.F1 load.F3 h k = absurd (k.0 h)
+one_load files load.F2 load.F1 h k = absurd (h.0 k)
+one_load files load.F2 load.F2 h k = refl
+one_load files load.F2 load.F3 h k = absurd (k.1 h.1)
+one_load files load.F3 load.F1 h k = absurd (h.0 k)
+one_load files load.F3 load.F2 h k = absurd (h.1 k.1)
+one_load files load.F3 load.F3 h k = refl
+
+-- ## The fault of a statement
+
+-- the rule with this rank
+ranked : ℕ → MeaningRule
+ranked zero = M1
+ranked (suc zero) = M1
+ranked (suc (suc zero)) = M2
+ranked (suc (suc (suc zero))) = M3
+ranked (suc (suc (suc (suc zero)))) = M4
+ranked (suc (suc (suc (suc (suc zero))))) = M5
+ranked (suc (suc (suc (suc (suc (suc zero)))))) = M6
+ranked (suc (suc (suc (suc (suc (suc (suc zero))))))) = M7
+ranked (suc (suc (suc (suc (suc (suc (suc (suc zero)))))))) = M8
+ranked (suc (suc (suc (suc (suc (suc (suc (suc (suc zero))))))))) = M9
+ranked (suc (suc (suc (suc (suc (suc (suc (suc (suc (suc zero)))))))))) = M10
+ranked (suc (suc (suc (suc (suc (suc (suc (suc (suc (suc (suc zero))))))))))) = M11
+ranked (suc (suc (suc (suc (suc (suc (suc (suc (suc (suc (suc (suc zero)))))))))))) = M12
+ranked (suc (suc (suc (suc (suc (suc (suc (suc (suc (suc (suc (suc (suc zero))))))))))))) = M13
+ranked (suc (suc (suc (suc (suc (suc (suc (suc (suc (suc (suc (suc (suc (suc zero)))))))))))))) = M14
+ranked (suc (suc (suc (suc (suc (suc (suc (suc (suc (suc (suc (suc (suc (suc (suc n))))))))))))))) = M15
+
+ranked-rank : (rule : MeaningRule) → ranked (rank rule) ≡ rule
+unfolding ranked
+ranked-rank M1 = refl
+ranked-rank M2 = refl
+ranked-rank M3 = refl
+ranked-rank M4 = refl
+ranked-rank M5 = refl
+ranked-rank M6 = refl
+ranked-rank M7 = refl
+ranked-rank M8 = refl
+ranked-rank M9 = refl
+ranked-rank M10 = refl
+ranked-rank M11 = refl
+ranked-rank M12 = refl
+ranked-rank M13 = refl
+ranked-rank M14 = refl
+ranked-rank M15 = refl
+
+-- one of two numbers is less, or they are equal
+compared : (a b : ℕ) → (a < b) ⊎ (b < a) ⊎ (a ≡ b)
+compared zero zero = inr (inr refl)
+compared zero (suc b) = inl (omega arith)
+compared (suc a) zero = inr (inl (omega arith))
+compared (suc a) (suc b) = elim (compared a b) [
+  | inl h ↦ inl (omega arith)
+  | inr rest ↦ elim rest [ inl h ↦ inr (inl (omega arith)) | inr e ↦ inr (inr (ap suc e)) ]
+]
+
+-- the first rule that a statement breaks is one
+one_first : (before : List Sentence) (s : Sentence) (a b : MeaningRule) → FirstBroken a before s → FirstBroken b before s → a ≡ b
+one_first before s a b f g = elim (compared (rank a) (rank b)) [
+  | inl less ↦ absurd (g.first a less f.broken)
+  | inr rest ↦ elim rest [
+    | inl more ↦ absurd (f.first b more g.broken)
+    | inr same ↦ sym (ranked-rank a) ∙ ap ranked same ∙ ranked-rank b
+  ]
+]
+
+-- what obeys the rules has no fault
+obeying_faultless : (before : List Sentence) (s : Sentence) (rule : Rule) (step : ℕ) → AllMeant before → Obeys before s
+    → HasFault before s rule step → ⊥
+obeying_faultless before s rule step meant obeyed (inl f) = obeyed.meant f.0 f.1.broken
+obeying_faultless before s rule step meant obeyed (inr f) =
+    (one_verdict_holds before s meant).0 (obeyed.proved f.1) f.2 step f.3
+
+-- the fault of a statement is one
+one_statement_fault : (before : List Sentence) (s : Sentence) (rule rule' : Rule) (step step' : ℕ) → AllMeant before
+    → HasFault before s rule step → HasFault before s rule' step' → (rule ≡ rule') × (step ≡ step')
+one_statement_fault before s rule rule' step step' meant (inl f) (inl g) =
+    (f.2 ∙ ap meaning_rule (one_first before s f.0 g.0 f.1 g.1) ∙ sym g.2, f.3 ∙ sym g.3)
+one_statement_fault before s rule rule' step step' meant (inl f) (inr g) = absurd (g.0 f.0 f.1.broken)
+one_statement_fault before s rule rule' step step' meant (inr f) (inl g) = absurd (f.0 g.0 g.1.broken)
+one_statement_fault before s rule rule' step step' meant (inr f) (inr g) =
+    let same = (one_verdict_holds before s meant).1 f.2 g.2 step step' f.3 g.3 in
+    (f.4 ∙ ap proof_rule same.0 ∙ sym g.4, same.1)
+
+-- ## The first statement at fault
+
+all_meant : (statements : List Sentence) → AllObey statements → AllMeant statements
+all_meant statements obeyed before after s split = (obeyed before after s split).meant
+
+-- of two places in one list, one comes before the other, or they are one
+pub data Placed {X : Type 0} (a : List X) (x : X) (b : List X) (y : X) : Type 0 where
+  earlier : (between : List X) → b ≡ a ++ x ∷ between → Placed a x b y
+  later : (between : List X) → a ≡ b ++ y ∷ between → Placed a x b y
+  same : a ≡ b → x ≡ y → Placed a x b y
+
+placed : {X : Type 0} (a : List X) (x : X) (c : List X) (b : List X) (y : X) (d : List X) → a ++ x ∷ c ≡ b ++ y ∷ d → Placed a x b y
+placed [] x c [] y d e = same refl cc
+placed [] x c (z ∷ b) y d e = earlier b cc
+placed (w ∷ a) x c [] y d e = later a cc
+placed (w ∷ a) x c (z ∷ b) y d e =
+    let rest : a ++ x ∷ c ≡ b ++ y ∷ d = cc in
+    let first : w ≡ z = cc in
+    elim (placed a x c b y d rest) [
+      | earlier between h ↦ earlier between (cc (h, first))
+      | later between h ↦ later between (cc (h, first))
+      | same h k ↦ same (cc (h, first)) k
+    ]
+
+-- a statement before others that obey the rules obeys them
+obeys_within : (before between : List PlainStatement) (s : PlainStatement) (all : List PlainStatement) → all ≡ before ++ s ∷ between
+    → AllObey (sentences all) → Obeys (sentences before) (said s)
+obeys_within before between s all e obeyed =
+    obeyed (sentences before) (sentences between) (said s) (ap sentences e ∙ map-append said before (s ∷ between))
+
+-- the statements before the first one at fault are determined, and so is its fault
+one_refused_statement : (files : List PlainFile) (statements : List PlainStatement) (a b : PlainRefusal)
+    → RefusesStatement files statements a → RefusesStatement files statements b → a ≡ b
+one_refused_statement files statements a b r q =
+    elim (placed r.before r.s r.after q.before q.s q.after (sym r.split ∙ q.split)) [
+      | earlier between e ↦ absurd (obeying_faultless (sentences r.before) (said r.s) r.rule r.step (all_meant _ r.obeyed)
+          (obeys_within r.before between r.s q.before e q.obeyed) r.fault)
+      | later between e ↦ absurd (obeying_faultless (sentences q.before) (said q.s) q.rule q.step (all_meant _ q.obeyed)
+          (obeys_within q.before between q.s r.before e r.obeyed) q.fault)
+      | same e f ↦
+          let Faulty : List PlainStatement → PlainStatement → Type 0 = λ before s. HasFault (sentences before) (said s) q.rule q.step in
+          let fault : HasFault (sentences r.before) (said r.s) q.rule q.step =
+          subst (λ (before : List PlainStatement). Faulty before r.s) (sym e) (subst (λ (s : PlainStatement). Faulty q.before s) (sym f) q.fault) in
+          let one = one_statement_fault (sentences r.before) (said r.s) r.rule q.rule r.step q.step (all_meant _ r.obeyed) r.fault fault in
+          r.refused ∙ ap (λ (before : List PlainStatement). refusal_of files (length before) r.s r.rule r.step) e
+          ∙ ap (λ (s : PlainStatement). refusal_of files (length q.before) s r.rule r.step) f
+          ∙ ap (λ (rule : Rule). refusal_of files (length q.before) q.s rule r.step) one.0
+          ∙ ap (λ (step : ℕ). refusal_of files (length q.before) q.s q.rule step) one.1
+          ∙ sym q.refused
+    ]
+
+-- where each statement obeys the rules, none is refused
+none_refused : (files : List PlainFile) (statements : List PlainStatement) (a : PlainRefusal) → AllObey (sentences statements)
+    → RefusesStatement files statements a → ⊥
+none_refused files statements a obeyed r =
+    obeying_faultless (sentences r.before) (said r.s) r.rule r.step (all_meant _ r.obeyed)
+    (obeys_within r.before r.after r.s statements r.split obeyed) r.fault
+
+-- the fault of the text is one
+one_refused_text : (files : List PlainFile) (statements : List PlainStatement) (ending : Option PlainFault) (a b : PlainRefusal)
+    → RefusesText files statements ending a → RefusesText files statements ending b → a ≡ b
+one_refused_text files statements ending a b r q =
+    let same_fault : r.fault ≡ q.fault = cc (r.ended, q.ended) in
+    r.refused ∙ ap (text_refusal files (length statements)) same_fault ∙ sym q.refused
+
+one_refused : (files : List PlainFile) (statements : List PlainStatement) (ending : Option PlainFault) (a b : PlainRefusal)
+    → RefusesStatement files statements a ⊎ RefusesText files statements ending a
+    → RefusesStatement files statements b ⊎ RefusesText files statements ending b → a ≡ b
+one_refused files statements ending a b (inl r) (inl q) = one_refused_statement files statements a b r q
+one_refused files statements ending a b (inl r) (inr q) = absurd (none_refused files statements a q.obeyed r)
+one_refused files statements ending a b (inr r) (inl q) = absurd (none_refused files statements b r.obeyed q)
+one_refused files statements ending a b (inr r) (inr q) = one_refused_text files statements ending a b r q
+
+-- ## The verdict
+
+-- two readings of the files are one
+same_statements : (files : List PlainFile) (a b : List PlainStatement) (d e : Option PlainFault) → Reads files a d → Reads files b e → a ≡ b
+same_statements files a b d e r q =
+    let one = each_has_one_reading files in (one.only a d r).0 ∙ sym (one.only b e q).0
+
+same_ending : (files : List PlainFile) (a b : List PlainStatement) (d e : Option PlainFault) → Reads files a d → Reads files b e → d ≡ e
+same_ending files a b d e r q =
+    let one = each_has_one_reading files in (one.only a d r).1 ∙ sym (one.only b e q).1
+
+-- files that are read to the end, each statement obeying the rules, aren't refused
+yes_or_refused : (files : List PlainFile) (a b : List PlainStatement) (ending : Option PlainFault) (refusal : PlainRefusal)
+    → Reads files a None → AllObey (sentences a) → Reads files b ending
+    → RefusesStatement files b refusal ⊎ RefusesText files b ending refusal → ⊥
+yes_or_refused files a b ending refusal reads obeyed reads' (inl r) =
+    let same = same_statements files a b None ending reads reads' in
+    let Obeyed : List PlainStatement → Type 0 = λ statements. AllObey (sentences statements) in
+    none_refused files b refusal (subst Obeyed same obeyed) r
+yes_or_refused files a b ending refusal reads obeyed reads' (inr r) =
+    let same = same_ending files a b None ending reads reads' in cc (same, r.ended)
+
+pub one_verdict : (files : List PlainFile) (v w : Verdict) → HasVerdict files v → HasVerdict files w → v ≡ w
+one_verdict files (Load a) (Load b) h k = ap Load (h.2 ∙ ap load_rule (one_load files h.0 k.0 h.1 k.1) ∙ sym k.2)
+one_verdict files (Load a) (Refused b) h k = absurd (k.0 h.0 h.1)
+one_verdict files (Load a) (Incomplete ls) h k = absurd k
+one_verdict files (Load a) (Yes n p) h k = absurd (k.0 h.0 h.1)
+one_verdict files (Refused a) (Load b) h k = absurd (h.0 k.0 k.1)
+one_verdict files (Refused a) (Refused b) h k =
+    let statements = same_statements files h.1 k.1 h.2 k.2 h.3 k.3 in
+    let ending = same_ending files h.1 k.1 h.2 k.2 h.3 k.3 in
+    let Refuses : List PlainStatement → Option PlainFault → Type 0 = λ ss e. RefusesStatement files ss a ⊎ RefusesText files ss e a in
+    let moved : RefusesStatement files k.1 a ⊎ RefusesText files k.1 k.2 a =
+    subst (λ (e : Option PlainFault). Refuses k.1 e) ending (subst (λ (ss : List PlainStatement). Refuses ss h.2) statements h.4) in
+    ap Refused (one_refused files k.1 k.2 a b moved k.4)
+one_verdict files (Refused a) (Incomplete ls) h k = absurd k
+one_verdict files (Refused a) (Yes n p) h k = absurd (yes_or_refused files k.1 h.1 h.2 a k.2 k.3 h.3 h.4)
+one_verdict files (Incomplete ls) w h k = absurd h
+one_verdict files (Yes n p) (Load b) h k = absurd (h.0 k.0 k.1)
+one_verdict files (Yes n p) (Refused b) h k = absurd (yes_or_refused files h.1 k.1 k.2 b h.2 h.3 k.3 k.4)
+one_verdict files (Yes n p) (Incomplete ls) h k = absurd k
+one_verdict files (Yes n p) (Yes m q) h k =
+    let statements = same_statements files h.1 k.1 None None h.2 k.2 in
+    let counts : n ≡ m = h.4 ∙ ap length statements ∙ sym k.4 in
+    let proofs : p ≡ q = h.5 ∙ ap proofs_of statements ∙ sym k.5 in
+    cc (counts, proofs)
+
+-- ## Yes, and the profile
+
+pub yes_obeys : (files : List PlainFile) (n p : ℕ) → HasVerdict files (Yes n p) → ObeyTheProfile files
+yes_obeys files n p h = record {
+  handed = h.0;
+  statements = h.1;
+  reading = h.2;
+  meant = λ before after s split. (h.3 before after s split).meant;
+  proved = λ before after s split provable.
+      (limits_aside_holds before s (λ earlier later t e. (h.3 earlier (later ++ s ∷ after) t (split ∙ ap (λ (xs : List Sentence). xs ++ s ∷ after) e ∙ append_assoc earlier (t ∷ later) (s ∷ after))).meant)).0
+      ((h.3 before after s split).proved provable);
+}
+
+-- where the profile is obeyed, what is refused passes the limit
+over_the_limit : (files : List PlainFile) (profile : ObeyTheProfile files) (refusal : PlainRefusal) → RefusesStatement files profile.statements refusal
+    → refusal.rule ≡ L1
+over_the_limit files profile refusal r =
+    let split : sentences profile.statements ≡ sentences r.before ++ said r.s ∷ sentences r.after =
+    ap sentences r.split ∙ map-append said r.before (r.s ∷ r.after) in
+    elim (r.fault) [
+      | inl f ↦ absurd (profile.meant (sentences r.before) (sentences r.after) (said r.s) split f.0 f.1.broken)
+      | inr f ↦
+          let law = limits_aside_holds (sentences r.before) (said r.s) (all_meant _ r.obeyed) in
+          let over : f.2 ≡ proof.L1 = law.2 (profile.proved (sentences r.before) (sentences r.after) (said r.s) split f.1) f.2 r.step f.3 in
+          ap (λ (q : PlainRefusal). q.rule) r.refused ∙ f.4 ∙ ap proof_rule over
+    ]
+
+pub profile_verdict : (files : List PlainFile) → ObeyTheProfile files → (v : Verdict) → HasVerdict files v
+    → ((n : ℕ) × (p : ℕ) × (v ≡ Yes n p)) ⊎ ((refusal : PlainRefusal) × (v ≡ Refused refusal) × (refusal.rule ≡ L1))
+profile_verdict files profile (Load rule) h = absurd (profile.handed h.0 h.1)
+profile_verdict files profile (Incomplete ls) h = absurd h
+profile_verdict files profile (Yes n p) h = inl (n, p, refl)
+profile_verdict files profile (Refused refusal) h = elim (h.4) [
+  | inl r ↦
+      let same = same_statements files h.1 profile.statements h.2 None h.3 profile.reading in
+      inr (refusal, refl, over_the_limit files profile refusal (subst (λ (ss : List PlainStatement). RefusesStatement files ss refusal) same r))
+  | inr r ↦
+      let same = same_ending files h.1 profile.statements h.2 None h.3 profile.reading in
+      cc (same, r.ended)
+]
+
+-- ## What an answer tells
+
+only_told : (files : List PlainFile) (o : Option Verdict) → ((v : Verdict) → o ≡ Some v → HasVerdict files v)
+    → (w : Verdict) → HasVerdict files w → (o ≡ None) ⊎ (o ≡ Some w)
+only_told files None holds w h = inl refl
+only_told files (Some v) holds w h = inr (ap Some (one_verdict files v w (holds v refl) h))
+
+pub only_answer : (files : List PlainFile) (answer : Result Conclusion CheckFault) → IsVerdict files answer → IsOnlyVerdict files answer
+only_answer files answer holds w h = only_told files (answered answer) holds w h
+
+pub yes_answer : (files : List PlainFile) (answer : Result Conclusion CheckFault) → IsVerdict files answer → IsYes answer → ObeyTheProfile files
+yes_answer files answer holds told = yes_obeys files told.0 told.1 (holds (Yes told.0 told.1) told.2)
+
+accepted_told : (files : List PlainFile) (o : Option Verdict) → ((v : Verdict) → o ≡ Some v → HasVerdict files v) → ObeyTheProfile files
+    → ((n : ℕ) × (p : ℕ) × (o ≡ Some (Yes n p))) ⊎ ((refusal : PlainRefusal) × (o ≡ Some (Refused refusal)) × (refusal.rule ≡ L1)) ⊎ (o ≡ None)
+accepted_told files None holds profile = inr (inr refl)
+accepted_told files (Some v) holds profile = elim (profile_verdict files profile v (holds v refl)) [
+  | inl found ↦ inl (found.0, found.1, ap Some found.2)
+  | inr over ↦ inr (inl (over.0, ap Some over.1, over.2))
+]
+
+pub accepted_answer : (files : List PlainFile) (answer : Result Conclusion CheckFault) → IsVerdict files answer → ObeyTheProfile files
+    → IsYes answer ⊎ IsOverLimit answer ⊎ IsWantOfMemory answer
+accepted_answer files answer holds profile = accepted_told files (answered answer) holds profile

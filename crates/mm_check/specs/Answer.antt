@@ -1,0 +1,62 @@
+-- What `check` answers, as a verdict.
+use Rattle.std.specs.Prelude.{◌≡◌, ℕ, List, [], ◌∷◌, map, slice_get, Option, Some, None, option_map, Result, Ok, Err, ◌⊎◌}
+use Rattle.std.specs.List.{flat_map}
+use Rattle.std.specs.Option.{option_to_list}
+use Rattle.mm_check.specs.declared.fault.Refusal.{Refusal}
+use Rattle.mm_check.specs.declared.fault.CheckFault.{CheckFault}
+use Rattle.mm_check.specs.declared.fault.CheckFault.TheVariants as fault
+use Rattle.mm_check.specs.Conclusion.{Conclusion}
+use Rattle.mm_text.specs.Reading.{PlainFile}
+use Rattle.mm_check.specs.declared.rule.Rule.TheVariants.{L1}
+use Rattle.mm_check.specs.Verdict.{PlainRefusal, Verdict, Load, Refused, Incomplete, Yes, HasVerdict}
+
+-- a refusal without where its label lies in memory
+abbrev pub plain_refusal : Refusal → PlainRefusal
+plain_refusal r = record {
+  file = r.file;
+  line = r.line;
+  statement = r.statement;
+  label = option_map (λ l. l.now) r.label;
+  rule = r.rule;
+  step = r.step;
+}
+
+-- the labels with these numbers
+abbrev pub labels_at : List (List ℕ) → List ℕ → List (List ℕ)
+labels_at labels numbers = flat_map (λ number. option_to_list (slice_get labels number)) numbers
+
+-- a database in which nothing is at fault: yes, unless proofs are incomplete
+abbrev pub concluded : Conclusion → Verdict
+concluded c = elim (c.incomplete) [ [] ↦ Yes c.statements c.proofs | number ∷ numbers ↦ Incomplete (labels_at c.labels (number ∷ numbers)) ]
+
+-- the verdict of a fault; none for want of memory
+abbrev pub verdict_of_fault : CheckFault → Option Verdict
+verdict_of_fault (fault.Load rule) = Some (Load rule)
+verdict_of_fault (fault.Refused r) = Some (Refused (plain_refusal r))
+verdict_of_fault fault.Memory = None
+
+-- the verdict that an answer tells; none for want of memory
+abbrev pub answered : Result Conclusion CheckFault → Option Verdict
+answered (Ok c) = Some (concluded c)
+answered (Err e) = verdict_of_fault e
+
+-- the answer is yes
+abbrev pub IsYes : Result Conclusion CheckFault → Type 0
+IsYes answer = (statements proofs : ℕ) × (answered answer ≡ Some (Yes statements proofs))
+
+-- the answer is that a step of a proof passes the limit on expressions
+abbrev pub IsOverLimit : Result Conclusion CheckFault → Type 0
+IsOverLimit answer = (refusal : PlainRefusal) × (answered answer ≡ Some (Refused refusal)) × (refusal.rule ≡ L1)
+
+-- memory was wanting
+abbrev pub IsWantOfMemory : Result Conclusion CheckFault → Type 0
+IsWantOfMemory answer = answered answer ≡ None
+
+-- The answer is the verdict over the files, unless memory was wanting.
+abbrev pub IsVerdict : List PlainFile → Result Conclusion CheckFault → Type 0
+IsVerdict files answer = (verdict : Verdict) → answered answer ≡ Some verdict → HasVerdict files verdict
+
+-- No other verdict holds.
+abbrev pub IsOnlyVerdict : List PlainFile → Result Conclusion CheckFault → Type 0
+IsOnlyVerdict files answer =
+    (verdict : Verdict) → HasVerdict files verdict → IsWantOfMemory answer ⊎ (answered answer ≡ Some verdict)

@@ -1,0 +1,10 @@
+-- What is kept of a database in which nothing is at fault.
+use Rattle.std.specs.Prelude.{ℕ, List}
+
+-- How many statements it has, and how many of its `$p` are proved; the numbers of the incomplete `$p`, and the labels of all
+-- labelled statements, both in database order. The number of a label is its place among the labels.
+pub record Conclusion : Type 0 where
+  pub statements : ℕ
+  pub proofs : ℕ
+  pub incomplete : List ℕ
+  pub labels : List (List ℕ)

@@ -1,0 +1,6 @@
+pub mod Verdict
+pub mod Reply
+pub mod Status
+pub mod Conclusion
+pub mod Answer
+pub mod Judged

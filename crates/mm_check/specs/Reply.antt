@@ -1,0 +1,129 @@
+-- The reply to a command: its text and its status.
+use Rattle.std.specs.Prelude.{◌≡◌, ℕ, List, [], ◌∷◌, ◌++◌, length, slice_get, Option, Some, None, option_map, unwrap_or, Result, MatchOption, codes, decimal}
+use Rattle.std.specs.List.{flat_map}
+use Rattle.std.specs.Io.KnownBytes.{Appends}
+use Rattle.mm_text.specs.Reading.{PlainFile}
+use Rattle.mm_text.specs.Device.{AppendsBeginning}
+use Rattle.mm_check.specs.declared.rule.Rule.{Rule}
+use Rattle.mm_check.specs.declared.rule.Rule.TheVariants.{F1, F2, F3, X1, X2, X3, X4, X5, X6, X7, X8, X9, S1, S2, S3, S4, S5, S6, S7, M1, M2, M3, M4, M5, M6, M7, M8, M9, M10, M11, M12, M13, M14, M15, P1, P2, P3, P4, P5, P6, P7, P8, P9, P10, P11, P12, P13, P14, L1, L2, A1, A2, A3}
+use Rattle.mm_check.specs.declared.fault.CheckFault.{CheckFault}
+use Rattle.mm_check.specs.Conclusion.{Conclusion}
+use Rattle.mm_check.specs.Answer.{answered}
+use Rattle.mm_check.specs.Verdict.{PlainRefusal, Verdict, Load, Refused, Incomplete, Yes, HasVerdict}
+
+-- the printed code of a rule
+abbrev pub code_of : Rule → List ℕ
+code_of F1 = codes "F1"
+code_of F2 = codes "F2"
+code_of F3 = codes "F3"
+code_of X1 = codes "X1"
+code_of X2 = codes "X2"
+code_of X3 = codes "X3"
+code_of X4 = codes "X4"
+code_of X5 = codes "X5"
+code_of X6 = codes "X6"
+code_of X7 = codes "X7"
+code_of X8 = codes "X8"
+code_of X9 = codes "X9"
+code_of S1 = codes "S1"
+code_of S2 = codes "S2"
+code_of S3 = codes "S3"
+code_of S4 = codes "S4"
+code_of S5 = codes "S5"
+code_of S6 = codes "S6"
+code_of S7 = codes "S7"
+code_of M1 = codes "M1"
+code_of M2 = codes "M2"
+code_of M3 = codes "M3"
+code_of M4 = codes "M4"
+code_of M5 = codes "M5"
+code_of M6 = codes "M6"
+code_of M7 = codes "M7"
+code_of M8 = codes "M8"
+code_of M9 = codes "M9"
+code_of M10 = codes "M10"
+code_of M11 = codes "M11"
+code_of M12 = codes "M12"
+code_of M13 = codes "M13"
+code_of M14 = codes "M14"
+code_of M15 = codes "M15"
+code_of P1 = codes "P1"
+code_of P2 = codes "P2"
+code_of P3 = codes "P3"
+code_of P4 = codes "P4"
+code_of P5 = codes "P5"
+code_of P6 = codes "P6"
+code_of P7 = codes "P7"
+code_of P8 = codes "P8"
+code_of P9 = codes "P9"
+code_of P10 = codes "P10"
+code_of P11 = codes "P11"
+code_of P12 = codes "P12"
+code_of P13 = codes "P13"
+code_of P14 = codes "P14"
+code_of L1 = codes "L1"
+code_of L2 = codes "L2"
+code_of A1 = codes "A1"
+code_of A2 = codes "A2"
+code_of A3 = codes "A3"
+
+-- A line of a refusal begins with `limit` for a limit that was passed, else with `no`.
+abbrev pub refusal_word : Rule → List ℕ
+refusal_word L1 = codes "limit"
+refusal_word rule = codes "no"
+
+-- a line: a word, then a space and a word for each of the others, and a line feed
+abbrev pub line_with : List ℕ → List (List ℕ) → List ℕ
+line_with word [] = word ++ codes "\n"
+line_with word (other ∷ others) = word ++ codes " " ++ line_with other others
+
+-- the name of a handed file
+abbrev pub name_of : List PlainFile → ℕ → List ℕ
+name_of files file = unwrap_or (option_map (λ f. f.name) (slice_get files file)) []
+
+-- a line for each label
+abbrev pub lines_of : List (List ℕ) → List ℕ
+lines_of labels = flat_map (λ label. label ++ codes "\n") labels
+
+-- the text of a verdict
+abbrev pub text_of : List PlainFile → Verdict → List ℕ
+text_of files (Load rule) = line_with (codes "load") (code_of rule ∷ [])
+text_of files (Refused r) =
+    line_with (refusal_word r.rule)
+    (name_of files r.file ∷ decimal r.line ∷ unwrap_or r.label (codes "-") ∷ code_of r.rule ∷ decimal r.step ∷ [])
+text_of files (Incomplete labels) =
+    line_with (codes "incomplete") (decimal (length labels) ∷ []) ++ lines_of labels
+text_of files (Yes statements proofs) =
+    line_with (codes "yes") (decimal statements ∷ codes "statements" ∷ decimal proofs ∷ codes "proofs" ∷ [])
+
+-- the status of a refusal: 4 for a limit that was passed, else 1
+abbrev pub refusal_status : Rule → ℕ
+refusal_status L1 = 4
+refusal_status rule = 1
+
+-- the status of a verdict
+abbrev pub status_of : Verdict → ℕ
+status_of (Load rule) = 4
+status_of (Refused r) = refusal_status r.rule
+status_of (Incomplete labels) = 3
+status_of (Yes statements proofs) = 0
+
+-- The text is that of the verdict that the answer tells.
+abbrev pub Tells : List PlainFile → Result Conclusion CheckFault → List ℕ → Type 0
+Tells files answer text = MatchOption (answered answer) ⊥ (λ verdict. text ≡ text_of files verdict)
+
+-- This is the text and the status of the reply to `check`.
+pub record IsReply (files : List PlainFile) (text : List ℕ) (status : ℕ) : Type 0 where
+  pub verdict : Verdict
+  pub holds : HasVerdict files verdict
+  pub said : text ≡ text_of files verdict
+  pub ends : status ≡ status_of verdict
+
+-- The reply's text was put after what the writer held.
+abbrev pub Writes : List PlainFile → ℕ → Option (List ℕ) → Option (List ℕ) → Type 0
+Writes files status old new = (text : List ℕ) × IsReply files text status × Appends old new text
+
+-- A beginning of the reply's text was.
+abbrev pub WritesBeginning : List PlainFile → Option (List ℕ) → Option (List ℕ) → Type 0
+WritesBeginning files old new =
+    (text : List ℕ) × (status : ℕ) × IsReply files text status × AppendsBeginning old new text

@@ -1,0 +1,75 @@
+//! The commands, and their replies to a writer.
+
+ghost use Rattle.std.specs.Prelude.{◌≡◌, ◌+◌, ◌<◌, ◌↔◌, map, IfOk, OnErr, IsErrOf};
+ghost use Rattle.mm_text.specs.Reading.{plain_file};
+ghost use Rattle.mm_text.specs.Device.{faults_of, inner_of};
+ghost use Rattle.mm_check.specs.Status.{number_of};
+ghost use Rattle.mm_check.specs.Reply.{Writes, WritesBeginning};
+ghost use Rattle.mm_check.specs.declared.command.RunFault.TheVariants.{Memory};
+
+use crate::fault::CheckFault;
+use crate::reply::{status_of, text_of};
+use crate::status::Status;
+use crate::verdict::check;
+use mm_text::{Counted, File};
+use std::alloc::{AllocError, Global};
+use std::io::Write;
+
+/// What the program is asked.
+#[derive(Clone, Copy, PartialEq, Eq, Debug)]
+pub enum Command {
+    /// Whether the database is accepted.
+    Check,
+}
+
+/// Why a reply wasn't written, or not to its end.
+#[derive(Clone, Copy, PartialEq, Eq, Debug)]
+pub enum RunFault {
+    /// The writer failed: a beginning of the reply is written.
+    Device,
+    /// A growth was refused: nothing is written.
+    Memory,
+}
+
+impl From<AllocError> for RunFault {
+    ghost from_gives = { λ _ e. e ≡ Memory };
+
+    fn from(_e: AllocError) -> RunFault {
+        RunFault::Memory
+    }
+}
+
+/// Runs a command over the files, the first of which is the top file: writes the text of the reply
+/// and answers its status. The whole reply is made before its first byte is written.
+///
+/// # Errors
+///
+/// `Device` where the writer failed in this call, after a beginning of the reply; `Memory` where a
+/// growth was refused, and then nothing is written.
+pub fn run<W: Write>(
+    alloc: Global,
+    command: Command,
+    files: &[File],
+    out: &mut Counted<W>,
+) -> Result<Status, RunFault>
+    requires { faults_of out.old < u64.MAX }
+    ensures reply { IfOk result (λ status. Writes (map plain_file files.now) (number_of status)
+        (W.contents (inner_of out.old)) (W.contents (inner_of out.new))) }
+    ensures device { IsErrOf result RunFault.Device → WritesBeginning (map plain_file files.now)
+        (W.contents (inner_of out.old)) (W.contents (inner_of out.new)) }
+    ensures memory { IsErrOf result RunFault.Memory → inner_of out.new ≡ inner_of out.old }
+    ensures counted { IsErrOf result RunFault.Device ↔ (faults_of out.new ≡ faults_of out.old + 1) }
+    ensures uncounted { ¬ IsErrOf result RunFault.Device → faults_of out.new ≡ faults_of out.old }
+{
+    match command {
+        Command::Check => {
+            let answer = check(alloc, files);
+            let text = text_of(alloc, files, &answer)?;
+            let status = status_of(&answer);
+            match out.write_all(&text) {
+                Ok(()) => Ok(status),
+                Err(_) => Err(RunFault::Device),
+            }
+        }
+    }
+}

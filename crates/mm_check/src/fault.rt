@@ -1,0 +1,55 @@
+//! Why a database is refused.
+
+ghost use Rattle.std.specs.Prelude.{◌≡◌};
+ghost use Rattle.mm_check.specs.declared.fault.CheckFault.TheVariants.{Memory};
+
+use crate::rule::Rule;
+use std::alloc::{AllocError, AllocFailed};
+use thiserror::Error;
+
+/// The first statement at fault, and its rule.
+#[derive(Clone, Copy, Debug, Drop)]
+pub struct Refusal<'a> {
+    /// The number of the handed file, from 0.
+    pub file: usize,
+    /// The line of the fault's place in its file, from 1.
+    pub line: usize,
+    /// The number of the statement in reading order, from 1.
+    pub statement: usize,
+    /// The statement's label, if it was read.
+    pub label: Option<&'a [u8]>,
+    pub rule: Rule,
+    /// The number of the proof's step, from 1, for the rules that are judged step by step; one more
+    /// than the number of steps for P13 and P14; else 0.
+    pub step: usize,
+}
+
+/// Why a database isn't accepted.
+#[derive(Debug, Drop, Error)]
+pub enum CheckFault<'a> {
+    /// The handed files break F1, F2 or F3 as a whole.
+    #[error("the files cannot be taken")]
+    Load(Rule),
+    /// A statement is at fault.
+    #[error("a statement is at fault")]
+    Refused(Refusal<'a>),
+    /// A growth was refused.
+    #[error("out of memory")]
+    Memory,
+}
+
+impl<'a> From<AllocError> for CheckFault<'a> {
+    ghost from_gives = { λ _ e. e ≡ Memory };
+
+    fn from(_e: AllocError) -> CheckFault<'a> {
+        CheckFault::Memory
+    }
+}
+
+impl<'a, T: Drop> From<AllocFailed<T>> for CheckFault<'a> {
+    ghost from_gives = { λ _ e. e ≡ Memory };
+
+    fn from(_e: AllocFailed<T>) -> CheckFault<'a> {
+        CheckFault::Memory
+    }
+}

@@ -1,0 +1,21 @@
+//! The verdict over a database, and the replies of the program.
+#![tactic(auto)]
+
+mod checked;
+mod command;
+mod fault;
+mod judge;
+mod place;
+mod reply;
+mod rule;
+mod status;
+#[cfg(test)]
+mod tests;
+mod verdict;
+
+pub use checked::{Checked, LabelId};
+pub use command::{Command, RunFault, run};
+pub use fault::{CheckFault, Refusal};
+pub use rule::Rule;
+pub use status::Status;
+pub use verdict::check;

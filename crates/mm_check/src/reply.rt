@@ -1,0 +1,195 @@
+//! The text of a reply.
+
+ghost use Rattle.std.specs.Prelude.{◌≡◌, ◌++◌, [], ◌∷◌, map, OnOk, IfOk, IfSome, codes, decimal, length, unwrap_or};
+ghost use Rattle.mm_text.specs.Reading.{plain_file};
+ghost use Rattle.mm_check.specs.Reply.{text_of as text_at, status_of as status_at, refusal_status as refusal_status_at, refusal_word, name_of as name_at, code_of, line_with, lines_of, Tells};
+ghost use Rattle.mm_check.specs.Verdict.{Refused};
+ghost use Rattle.mm_check.specs.Answer.{plain_refusal, labels_at, concluded, answered};
+ghost use Rattle.mm_check.specs.Status.{number_of};
+
+use crate::checked::{Checked, LabelId};
+use crate::fault::{CheckFault, Refusal};
+use crate::rule::Rule;
+use crate::status::Status;
+use itoa::Buffer;
+use mm_text::File;
+use std::alloc::{AllocError, Global};
+
+/// Puts a space and a word at the end.
+fn push_word(out: &mut Vec<u8>, word: &[u8]) -> Result<(), AllocError>
+    ensures { OnOk result (out.new.items ≡ out.old.items ++ codes " " ++ word.now) }
+{
+    out.push(b' ')?;
+    out.extend_from_slice(word)
+}
+
+/// Puts a space and a number, in decimal, at the end.
+fn push_number(out: &mut Vec<u8>, number: usize) -> Result<(), AllocError>
+    ensures { OnOk result (out.new.items ≡ out.old.items ++ codes " " ++ decimal number) }
+{
+    let mut digits = Buffer::new();
+    push_word(out, digits.format(number).as_bytes())
+}
+
+/// The name of a file; nothing where there is none.
+fn name_of<'a>(files: &[File<'a>], file: usize) -> &'a [u8]
+    ensures { result.now ≡ name_at (map plain_file files.now) file }
+{
+    match files.get(file) {
+        Some(file) => file.name,
+        None => b"",
+    }
+}
+
+/// The word with which the line of a refusal begins.
+fn word_of(rule: Rule) -> &'static [u8]
+    ensures { result.now ≡ refusal_word rule }
+{
+    match rule {
+        Rule::L1 => b"limit",
+        _ => b"no",
+    }
+}
+
+/// The label that a refusal prints: `-` where it has none.
+fn label_of<'a>(refusal: &Refusal<'a>) -> &'a [u8]
+    ensures { result.now ≡ unwrap_or (plain_refusal refusal.now).label (codes "-") }
+{
+    match refusal.label {
+        Some(label) => label,
+        None => b"-",
+    }
+}
+
+/// The line that says that the files can't be taken as a whole.
+fn push_load(out: &mut Vec<u8>, rule: Rule) -> Result<(), AllocError>
+    ensures { OnOk result (out.new.items ≡ out.old.items ++ line_with (codes "load") (code_of rule ∷ [])) }
+{
+    out.extend_from_slice(b"load")?;
+    push_word(out, rule.code())?;
+    out.push(b'\n')?;
+    Ok(())
+}
+
+/// The line of yes.
+#[tactic(auto, using(crate::proofs::Lines::five_words))]
+fn push_yes(out: &mut Vec<u8>, statements: usize, proofs: usize) -> Result<(), AllocError>
+    ensures { OnOk result (out.new.items ≡ out.old.items
+        ++ line_with (codes "yes") (decimal statements ∷ codes "statements" ∷ decimal proofs ∷ codes "proofs" ∷ [])) }
+{
+    out.extend_from_slice(b"yes")?;
+    push_number(out, statements)?;
+    push_word(out, b"statements")?;
+    push_number(out, proofs)?;
+    push_word(out, b"proofs")?;
+    out.push(b'\n')?;
+    Ok(())
+}
+
+/// A line for the label with this number, if there is one.
+fn push_label(out: &mut Vec<u8>, labels: &[&[u8]], number: LabelId) -> Result<(), AllocError>
+    ensures { OnOk result (out.new.items ≡ out.old.items
+        ++ lines_of (labels_at (map (λ label. label.now) labels.now) (number.0 ∷ []))) }
+{
+    if let Some(label) = labels.get(number.0 as usize) {
+        out.extend_from_slice(label)?;
+        out.push(b'\n')?;
+    }
+    Ok(())
+}
+
+/// A line for the label of each of these numbers.
+#[tactic(auto, using(crate::proofs::Lines::one_more_line))]
+fn push_labels(out: &mut Vec<u8>, labels: &[&[u8]], numbers: &[LabelId]) -> Result<(), AllocError>
+    ensures { OnOk result (out.new.items ≡ out.old.items
+        ++ lines_of (labels_at (map (λ label. label.now) labels.now) (map (λ id. id.0) numbers.now))) }
+{
+    for number in numbers {
+        push_label(out, labels, *number)?;
+    }
+    Ok(())
+}
+
+/// The lines that list the incomplete proofs.
+#[tactic(auto, using(crate::proofs::Lines::incomplete_lines))]
+fn push_incomplete(
+    out: &mut Vec<u8>,
+    labels: &[&[u8]],
+    numbers: &[LabelId],
+) -> Result<(), AllocError>
+    ensures { OnOk result (out.new.items ≡ out.old.items
+        ++ (line_with (codes "incomplete") (decimal (length numbers.now) ∷ [])
+        ++ lines_of (labels_at (map (λ label. label.now) labels.now) (map (λ id. id.0) numbers.now)))) }
+{
+    out.extend_from_slice(b"incomplete")?;
+    push_number(out, numbers.len())?;
+    out.push(b'\n')?;
+    push_labels(out, labels, numbers)
+}
+
+/// The lines of a database in which nothing is at fault.
+fn push_conclusion(out: &mut Vec<u8>, checked: &Checked) -> Result<(), AllocError>
+    ensures { OnOk result (out.new.items ≡ out.old.items ++ text_at [] (concluded checked.now)) }
+{
+    if checked.is_complete() {
+        push_yes(out, checked.statements(), checked.proofs())
+    } else {
+        push_incomplete(out, checked.labels(), checked.incomplete())
+    }
+}
+
+/// The status of a refusal: a limit stops the program, any other rule is a refusal.
+fn refusal_status(rule: Rule) -> Status
+    ensures { number_of result ≡ refusal_status_at rule }
+{
+    match rule {
+        Rule::L1 => Status::Stopped,
+        _ => Status::Refused,
+    }
+}
+
+/// The line of a refusal.
+#[tactic(auto, using(crate::proofs::Lines::six_words))]
+fn push_refusal(out: &mut Vec<u8>, files: &[File], refusal: &Refusal) -> Result<(), AllocError>
+    ensures { OnOk result (out.new.items ≡ out.old.items ++ text_at (map plain_file files.now) (Refused (plain_refusal refusal.now))) }
+{
+    out.extend_from_slice(word_of(refusal.rule))?;
+    push_word(out, name_of(files, refusal.file))?;
+    push_number(out, refusal.line)?;
+    push_word(out, label_of(refusal))?;
+    push_word(out, refusal.rule.code())?;
+    push_number(out, refusal.step)?;
+    out.push(b'\n')?;
+    Ok(())
+}
+
+/// The text of the reply that tells an answer. For want of memory there is none.
+pub(crate) fn text_of(
+    alloc: Global,
+    files: &[File],
+    answer: &Result<Checked, CheckFault>,
+) -> Result<Vec<u8>, AllocError>
+    ensures { IfOk result (λ text. Tells (map plain_file files.now) answer.now text.items) }
+{
+    let mut out = Vec::new(alloc);
+    match answer {
+        Ok(checked) => push_conclusion(&mut out, checked)?,
+        Err(CheckFault::Load(rule)) => push_load(&mut out, *rule)?,
+        Err(CheckFault::Refused(refusal)) => push_refusal(&mut out, files, refusal)?,
+        Err(CheckFault::Memory) => return Err(AllocError),
+    }
+    Ok(out)
+}
+
+/// The status of the reply that tells an answer.
+pub(crate) fn status_of(answer: &Result<Checked, CheckFault>) -> Status
+    ensures { IfSome (answered answer.now) (λ verdict. number_of result ≡ status_at verdict) }
+{
+    match answer {
+        Ok(checked) if checked.is_complete() => Status::Done,
+        Ok(_) => Status::Incomplete,
+        Err(CheckFault::Load(_)) => Status::Stopped,
+        Err(CheckFault::Refused(refusal)) => refusal_status(refusal.rule),
+        Err(CheckFault::Memory) => Status::Stopped,
+    }
+}

@@ -1,0 +1,123 @@
+//! One happy path of each public call, and writers that fail in the middle of a reply.
+
+use super::{Checked, Command, LabelId, Rule, RunFault, Status, check, run};
+use mm_text::{Counted, File};
+use std::io;
+use std::io::{ErrorKind, Write};
+use std::test::Fail;
+
+const FIRST: &[u8] = b"$c 0 + ( ) term $.
+$v t r $.
+tt $f term t $.
+tr $f term r $.
+tze $a term 0 $.
+tpl $a term ( t + r ) $.
+th $p term ( 0 + 0 ) $= tze tze tpl $.
+";
+
+const REPLY: &[u8] = b"yes 7 statements 1 proofs\n";
+
+/// Takes one byte a call, but fails at one of its calls, the first of which is number 1.
+#[derive(Drop)]
+struct FailingWriter {
+    taken: Vec<u8>,
+    fails_at: usize,
+    answers_zero: bool,
+}
+
+impl Write for FailingWriter {
+    fn write(&mut self, buf: &[u8]) -> io::Result<usize> {
+        if self.taken.len().saturating_add(1) == self.fails_at {
+            return if self.answers_zero {
+                Ok(0)
+            } else {
+                Err(io::Error::from(ErrorKind::BrokenPipe))
+            };
+        }
+        match buf.first() {
+            Some(byte) => {
+                self.taken.push(*byte)?;
+                Ok(1)
+            }
+            None => Ok(0),
+        }
+    }
+
+    fn flush(&mut self) -> io::Result<()> {
+        Ok(())
+    }
+}
+
+fn first() -> [File<'static>; 1] {
+    [File {
+        name: b"first.mm",
+        bytes: FIRST,
+    }]
+}
+
+#[test]
+fn accepts_the_first_database(rt: HostRuntime) -> Result<(), Fail> {
+    let files = first();
+    let checked = check(rt.alloc(), &files)?;
+    assert!(rt; checked.is_complete());
+    assert!(rt; checked.incomplete().is_empty());
+    assert_eq!(rt; checked.statements(), 7);
+    assert_eq!(rt; checked.proofs(), 1);
+    Ok(())
+}
+
+#[test]
+fn names_a_labelled_statement(rt: HostRuntime) -> Result<(), Fail> {
+    let mut labels = Vec::new(rt.alloc());
+    labels.push(b"tt".as_slice())?;
+    labels.push(b"th".as_slice())?;
+    let checked = Checked::new(3, 1, Vec::new(rt.alloc()), labels);
+    assert_eq!(rt; checked.name(LabelId(1)), b"th".as_slice());
+    Ok(())
+}
+
+#[test]
+fn writes_the_reply(rt: HostRuntime) -> Result<(), Fail> {
+    let files = first();
+    let mut out = Counted::new(Vec::new(rt.alloc()));
+    let status = run(rt.alloc(), Command::Check, &files, &mut out)?;
+    assert_eq!(rt; status, Status::Done);
+    assert_eq!(rt; status.number(), 0);
+    assert_eq!(rt; out.into_inner().as_slice(), REPLY);
+    assert_eq!(rt; Rule::M15.code(), b"M15".as_slice());
+    Ok(())
+}
+
+#[test]
+fn refuses_no_files(rt: HostRuntime) -> Result<(), Fail> {
+    let mut out = Counted::new(Vec::new(rt.alloc()));
+    let status = run(rt.alloc(), Command::Check, &[], &mut out)?;
+    assert_eq!(rt; status, Status::Stopped);
+    assert_eq!(rt; out.into_inner().as_slice(), b"load F1\n".as_slice());
+    Ok(())
+}
+
+// The reply has 26 bytes, so a writer that takes one byte a call is called 26 times.
+#[test]
+fn stops_at_a_failed_write(rt: HostRuntime) -> Result<(), Fail> {
+    let files = first();
+    for answers_zero in [false, true] {
+        for fails_at in 1..=26 {
+            let mut out = Counted::new(FailingWriter {
+                taken: Vec::new(rt.alloc()),
+                fails_at,
+                answers_zero,
+            });
+            let answer = run(rt.alloc(), Command::Check, &files, &mut out).err();
+            assert_eq!(rt; answer, Some(RunFault::Device), "at call {fails_at}");
+            assert_eq!(rt; out.faults(), 1, "at call {fails_at}");
+            let taken = out.into_inner().taken;
+            assert_eq!(rt;
+                Some(taken.as_slice()),
+                REPLY.get(..fails_at - 1),
+                "at call {fails_at}"
+            );
+        }
+    }
+    Ok(())
+}

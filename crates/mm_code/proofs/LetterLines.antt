@@ -1,0 +1,100 @@
+-- The lines of letters, and the whole layouts.
+use Rattle.std.proofs.Common.{◌≡◌, ℕ, ◌<◌, ◌≤◌, ◌⊎◌, inl, inr, min, List, [], ◌∷◌, ◌++◌, length, take, drop, refl, sym, ap, subst, ◌∙◌, append_assoc, arith}
+use denote.Ref.{Bor}
+use Rattle.std.specs.List.{flat_map}
+use Rattle.std.proofs.lemmas.Bool.{cases_lt}
+use Rattle.std.proofs.lemmas.List.{length-append, append-nil, length-take, length-drop, take-append-drop, nil_from_length}
+use Rattle.mm_code.specs.Layout.{indent, LaidOut, AreLetterLines, LettersLaidOut, in_parentheses, CompressedLaidOut, texts}
+use Rattle.mm_code.specs.Lines.{rest_of, room_after, AppendsLetters}
+use Rattle.mm_code.proofs.Added.{rest_ends, laid-nil, laid_out_begun}
+
+pub letters_laid-nil : LettersLaidOut [] []
+letters_laid-nil = record { lines = []; in_order = refl; each = tt; printed = refl }
+
+-- a line of letters has some, and those behind it are lines of letters
+pub some_letters : (line : List ℕ) (lines : List (List ℕ)) → AreLetterLines (line ∷ lines) → (1 ≤ length line) × (length line ≤ 73)
+some_letters line [] each = each
+some_letters line (next ∷ lines) each = (omega (arith, each.0), omega (arith, each.0))
+
+pub other_letters : (line : List ℕ) (lines : List (List ℕ)) → AreLetterLines (line ∷ lines) → AreLetterLines lines
+other_letters line [] each = tt
+other_letters line (next ∷ lines) each = each.1
+
+lines-cons : (line : List ℕ) (lines : List (List ℕ)) → 1 ≤ length line → length line ≤ 73 → (length line ≡ 73) ⊎ (flat_map (λ l. l) lines ≡ []) → AreLetterLines lines → AreLetterLines (line ∷ lines)
+lines-cons line [] low high whole each = (low, high)
+lines-cons line (next ∷ lines) low high (inl full) each = (full, each)
+lines-cons line (next ∷ lines) low high (inr none) each =
+    absurd (omega (arith, (some_letters next lines each).0, length-append next (flat_map (λ l. l) lines), ap length none))
+
+-- one more line before those of some letters
+pub letters_laid-cons : (line letters block : List ℕ) → 1 ≤ length line → length line ≤ 73 → (length line ≡ 73) ⊎ (letters ≡ []) → LettersLaidOut letters block
+    → LettersLaidOut (line ++ letters) (((indent ++ line) ++ 10 ∷ []) ++ block)
+letters_laid-cons line letters block low high whole laid =
+    let P : List ℕ → Type 0 = λ ls. (length line ≡ 73) ⊎ (ls ≡ []) in
+    record {
+      lines = line ∷ laid.lines;
+      in_order = ap (λ (t : List ℕ). line ++ t) laid.in_order;
+      each = lines-cons line laid.lines low high (subst P (sym laid.in_order) whole) laid.each;
+      printed = ap (λ (t : List ℕ). ((indent ++ line) ++ 10 ∷ []) ++ t) laid.printed;
+    }
+
+-- the step of the loop: a line of at most 73 letters is taken from those that are left
+pub line_taken : (first now next rest line after letters : List ℕ) (n : ℕ) → 0 < length rest → n ≡ min (length rest) 73 → line ≡ take n rest → after ≡ drop n rest → next ≡ now ++ ((indent ++ line) ++ 10 ∷ [])
+    → ((block : List ℕ) → LettersLaidOut rest block → AppendsLetters first (now ++ block) letters)
+    → (block : List ℕ) → LettersLaidOut after block → AppendsLetters first (next ++ block) letters
+line_taken first now next rest line after letters n some is front back text so_far block laid =
+    let len : length line ≡ n = omega (arith, ap length front, length-take n rest) in
+    let parts : line ++ after ≡ rest = ap (λ (t : List ℕ). t ++ after) front ∙ ap (λ (t : List ℕ). take n rest ++ t) back ∙ take-append-drop n rest in
+    let whole : (length line ≡ 73) ⊎ (after ≡ []) = elim (cases_lt (length rest) 73) [
+      | inl lt ↦ inr (nil_from_length after (omega (arith, ap length back, length-drop n rest)))
+      | inr le ↦ inl (omega arith)
+    ] in
+    let taken = letters_laid-cons line after block (omega arith) (omega arith) whole laid in
+    let P : List ℕ → Type 0 = λ ls. LettersLaidOut ls (((indent ++ line) ++ 10 ∷ []) ++ block) in
+    let Q : List ℕ → Type 0 = λ t. AppendsLetters first t letters in
+    let same : now ++ (((indent ++ line) ++ 10 ∷ []) ++ block) ≡ next ++ block = sym (append_assoc now ((indent ++ line) ++ 10 ∷ []) block) ∙ ap (λ (t : List ℕ). t ++ block) (sym text) in
+    subst Q same (so_far (((indent ++ line) ++ 10 ∷ []) ++ block) (subst P parts taken))
+
+-- before any line
+pub letters_begun : (first letters block : List ℕ) → LettersLaidOut letters block → AppendsLetters first (first ++ block) letters
+letters_begun first letters block laid = record { block = block; laid_out = laid; text = refl }
+
+-- no letters are left
+pub letters_done : (first now rest letters : List ℕ) → length rest ≡ 0 → ((block : List ℕ) → LettersLaidOut rest block → AppendsLetters first (now ++ block) letters) → AppendsLetters first now letters
+letters_done first now rest letters none so_far =
+    let P : List ℕ → Type 0 = λ ls. LettersLaidOut ls [] in
+    let Q : List ℕ → Type 0 = λ t. AppendsLetters first t letters in
+    subst Q (append-nil now) (so_far [] (subst P (sym (nil_from_length rest none)) letters_laid-nil))
+
+-- ---- whole layouts
+
+-- a first token, further ones, and the end of the last line
+pub tokens_laid_out : (empty begun added text token : List ℕ) (room left : ℕ) (tokens : List (List ℕ)) → empty ≡ [] → begun ≡ empty ++ (indent ++ token) → room ≡ room_after (length token)
+    → ((more : List (List ℕ)) → added ++ rest_of left more ≡ begun ++ rest_of room (tokens ++ more)) → text ≡ added ++ 10 ∷ [] → LaidOut (token ∷ tokens) text
+tokens_laid_out empty begun added text token room left tokens none first after others is =
+    let Q : List ℕ → Type 0 = λ t. LaidOut (token ∷ tokens) t in
+    let begins : begun ≡ indent ++ token = first ∙ ap (λ (t : List ℕ). t ++ (indent ++ token)) none in
+    let same : (indent ++ token) ++ rest_of (room_after (length token)) tokens ≡ text =
+    ap (λ (t : List ℕ). t ++ rest_of (room_after (length token)) tokens) (sym begins) ∙ ap (λ (r : ℕ). begun ++ rest_of r tokens) (sym after)
+    ∙ ap (λ (ts : List (List ℕ)). begun ++ rest_of room ts) (sym (append-nil tokens)) ∙ sym (others []) ∙ ap (λ (t : List ℕ). added ++ t) (rest_ends left) ∙ sym is in
+    subst Q same (laid_out_begun token tokens)
+
+pub labels_laid_out : (labels others : List (Bor (List ℕ))) (first : Bor (List ℕ)) (text : List ℕ) → labels ≡ first ∷ others → LaidOut (first.now ∷ texts others) text → LaidOut (texts labels) text
+labels_laid_out labels others first text is laid =
+    let P : List (Bor (List ℕ)) → Type 0 = λ ls. LaidOut (texts ls) text in
+    subst P (sym is) laid
+
+pub no_labels_laid_out : (labels : List (Bor (List ℕ))) (text : List ℕ) → labels ≡ [] → text ≡ [] → LaidOut (texts labels) text
+no_labels_laid_out labels text none empty =
+    let P : List (Bor (List ℕ)) → Type 0 = λ ls. LaidOut (texts ls) text in
+    let Q : List ℕ → Type 0 = λ t. LaidOut [] t in
+    subst P (sym none) (subst Q (sym empty) laid-nil)
+
+-- labels, and one more token behind them
+pub closed : (begun added text token : List ℕ) (room left last : ℕ) (labels : List (List ℕ)) → ((more : List (List ℕ)) → added ++ rest_of left more ≡ begun ++ rest_of room (labels ++ more))
+    → ((more : List (List ℕ)) → text ++ rest_of last more ≡ added ++ rest_of left (token ∷ more)) → (more : List (List ℕ)) → text ++ rest_of last more ≡ begun ++ rest_of room ((labels ++ token ∷ []) ++ more)
+closed begun added text token room left last labels listed ends more =
+    ends more ∙ listed (token ∷ more) ∙ ap (λ (ts : List (List ℕ)). begun ++ rest_of room ts) (sym (append_assoc labels (token ∷ []) more))
+
+pub compressed_laid_out : (labels : List (List ℕ)) (letters list text : List ℕ) → LaidOut (in_parentheses labels) list → AppendsLetters list text letters → CompressedLaidOut labels letters text
+compressed_laid_out labels letters list text laid more = record { list = list; block = more.block; list_laid_out = laid; letters_laid_out = more.laid_out; whole = more.text }

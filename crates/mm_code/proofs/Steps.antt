@@ -1,0 +1,142 @@
+-- One step of `reading`, for each kind of byte.
+use Rattle.std.proofs.Common.{◌≡◌, ℕ, ◌+◌, ◌-◌, ◌<◌, ◌≤◌, Bool, true, false, cond, ◌&&◌, List, [], ◌∷◌, ◌++◌, length, get_or, take, drop, subst, Bor, Result, Ok, Err, refl, sym, ap, ◌∙◌, append_assoc, arith}
+use Rattle.std.proofs.lemmas.Bool.{lt-ltb, le-ltb, eq-eqb, ne_eqb}
+use Rattle.std.proofs.lemmas.List.{take_rest, drop_more, at_drop_more, at_drop_all, append-nil}
+use Rattle.std.proofs.lemmas.List.Folds.{list_all-append}
+use Rattle.std.specs.List.{list_all, flat_map}
+use Rattle.std.specs.Char.{is_ascii_uppercase}
+use Rattle.mm_code.specs.declared.code.Code.{Code}
+use Rattle.mm_code.specs.declared.code.Code.TheVariants.{Number, Tag}
+use Rattle.mm_code.specs.declared.code.CodeRule.{CodeRule}
+use Rattle.mm_code.specs.declared.code.CodeRule.TheVariants.{P4, P5}
+use Rattle.mm_code.specs.declared.code.CodeFault.{CodeFault}
+use Rattle.mm_code.specs.declared.code.CodeFault.TheVariants.{Rule, Memory}
+use Rattle.mm_code.specs.Letters.{Answers}
+use Rattle.mm_code.specs.Reading.{with_front, reading, rule_behind, further, ended, FaultOf}
+
+pub with_front-with_front : (a b : List Code) (read : Result (List Code) CodeRule) → with_front a (with_front b read) ≡ with_front (a ++ b) read
+with_front-with_front a b (Ok codes) = ap Ok (sym (append_assoc a b codes))
+with_front-with_front a b (Err rule) = refl
+
+pub with_front-nil : (read : Result (List Code) CodeRule) → with_front [] read ≡ read
+with_front-nil (Ok codes) = refl
+with_front-nil (Err rule) = refl
+
+pub read_below : (value byte : ℕ) (bytes : List ℕ) → byte < 65 → reading value (byte ∷ bytes) ≡ Err P4
+unfolding reading
+read_below value byte bytes h = rw (lt-ltb byte 65 h) refl
+
+pub read_above : (value byte : ℕ) (bytes : List ℕ) → 90 < byte → reading value (byte ∷ bytes) ≡ Err P4
+unfolding reading
+read_above value byte bytes h =
+    rw (le-ltb byte 65 (omega arith), le-ltb byte 85 (omega arith), le-ltb byte 90 (omega arith), ne_eqb byte 90 (λ e. omega arith)) refl
+
+pub read_last : (value byte : ℕ) (bytes : List ℕ) → 65 ≤ byte → byte < 85 → reading value (byte ∷ bytes) ≡ with_front (Number (ended value byte) ∷ []) (reading 0 bytes)
+unfolding reading
+read_last value byte bytes low high = rw (le-ltb byte 65 low, lt-ltb byte 85 high) refl
+
+pub read_leading : (value byte : ℕ) (bytes : List ℕ) → 85 ≤ byte → byte < 90 → reading value (byte ∷ bytes) ≡ reading (further value byte) bytes
+unfolding reading
+read_leading value byte bytes low high = rw (le-ltb byte 65 (omega arith), le-ltb byte 85 low, lt-ltb byte 90 high) refl
+
+pub read_tag : (value byte : ℕ) (bytes : List ℕ) → byte ≡ 90 → value ≡ 0 → reading value (byte ∷ bytes) ≡ with_front (Tag ∷ []) (reading 0 bytes)
+unfolding reading
+read_tag value byte bytes is h =
+    rw (le-ltb byte 65 (omega arith), le-ltb byte 85 (omega arith), le-ltb byte 90 (omega arith), eq-eqb byte 90 is, eq-eqb value 0 h) refl
+
+pub read_cut_by_tag : (value byte : ℕ) (bytes : List ℕ) → byte ≡ 90 → 0 < value → reading value (byte ∷ bytes) ≡ Err (rule_behind bytes)
+unfolding reading
+read_cut_by_tag value byte bytes is h =
+    rw (le-ltb byte 65 (omega arith), le-ltb byte 85 (omega arith), le-ltb byte 90 (omega arith), eq-eqb byte 90 is, ne_eqb value 0 (λ e. omega arith)) refl
+
+pub read_end : (value : ℕ) → value ≡ 0 → reading value [] ≡ Ok []
+unfolding reading
+read_end value h = rw (eq-eqb value 0 h) refl
+
+pub read_cut_by_end : (value : ℕ) → 0 < value → reading value [] ≡ Err P5
+unfolding reading
+read_cut_by_end value h = rw (ne_eqb value 0 (λ e. omega arith)) refl
+
+-- The same behind codes that are read already, as `read_letter` meets them. `grind` takes these by their names.
+pub front_below : (codes : List Code) (value byte : ℕ) (bytes : List ℕ) → byte < 65 → with_front codes (reading value (byte ∷ bytes)) ≡ Err P4
+front_below codes value byte bytes h = rw (read_below value byte bytes h) refl
+
+pub front_above : (codes : List Code) (value byte : ℕ) (bytes : List ℕ) → 90 < byte → with_front codes (reading value (byte ∷ bytes)) ≡ Err P4
+front_above codes value byte bytes h = rw (read_above value byte bytes h) refl
+
+pub front_cut : (codes : List Code) (value byte : ℕ) (bytes : List ℕ) → byte ≡ 90 → 0 < value → with_front codes (reading value (byte ∷ bytes)) ≡ Err (rule_behind bytes)
+front_cut codes value byte bytes is h = rw (read_cut_by_tag value byte bytes is h) refl
+
+pub front_tag : (codes : List Code) (value byte : ℕ) (bytes : List ℕ) → byte ≡ 90 → value ≡ 0 → with_front codes (reading value (byte ∷ bytes)) ≡ with_front (codes ++ Tag ∷ []) (reading 0 bytes)
+front_tag codes value byte bytes is h = rw (read_tag value byte bytes is h) (with_front-with_front codes (Tag ∷ []) (reading 0 bytes))
+
+pub front_last : (codes : List Code) (value byte : ℕ) (bytes : List ℕ) → 65 ≤ byte → byte < 85
+    → with_front codes (reading value (byte ∷ bytes)) ≡ with_front (codes ++ Number (ended value byte) ∷ []) (reading 0 bytes)
+front_last codes value byte bytes low high =
+    rw (read_last value byte bytes low high) (with_front-with_front codes (Number (ended value byte) ∷ []) (reading 0 bytes))
+
+pub front_leading : (codes : List Code) (value byte : ℕ) (bytes : List ℕ) → 85 ≤ byte → byte < 90
+    → with_front codes (reading value (byte ∷ bytes)) ≡ with_front codes (reading (further value byte) bytes)
+front_leading codes value byte bytes low high = ap (with_front codes) (read_leading value byte bytes low high)
+
+pub ruleset reading_steps = (front_below, front_above, front_cut, front_tag, front_last, front_leading)
+
+-- ---- a fault, with more bytes
+
+chosen : (a b : Bool) → cond (a && b) P5 P4 ≡ cond a (cond b P5 P4) P4
+chosen true b = refl
+chosen false b = refl
+
+pub rule_behind-append : (bytes rest : List ℕ) → rule_behind (bytes ++ rest) ≡ cond (list_all is_ascii_uppercase bytes) (rule_behind rest) P4
+unfolding rule_behind
+rule_behind-append bytes rest = rw (list_all-append is_ascii_uppercase bytes rest) (chosen (list_all is_ascii_uppercase bytes) (list_all is_ascii_uppercase rest))
+
+cut_cases : (b : Bool) (rest : List ℕ) (read : Result (List Code) CodeRule) → read ≡ Err (cond b (rule_behind rest) P4) → FaultOf (Rule (cond b P5 P4)) rest read
+cut_cases true rest read e = e
+cut_cases false rest read e = e
+
+-- the fault of a cut number, once more bytes are looked at
+pub cut_goes_on : (bytes rest : List ℕ) (rule : CodeRule) (read : Result (List Code) CodeRule) → rule ≡ rule_behind bytes → read ≡ Err (rule_behind (bytes ++ rest)) → FaultOf (Rule rule) rest read
+unfolding rule_behind
+cut_goes_on bytes rest rule read is h =
+    let known : read ≡ Err (cond (list_all is_ascii_uppercase bytes) (rule_behind rest) P4) = h ∙ ap Err (rule_behind-append bytes rest) in
+    let P : CodeRule → Type 0 = λ r. FaultOf (Rule r) rest read in
+    subst P (sym is) (cut_cases (list_all is_ascii_uppercase bytes) rest read known)
+
+-- ---- a list from a place on
+
+pub reading_at : (codes : List Code) (value : ℕ) (bytes : List ℕ) (i byte : ℕ) (rest : List ℕ) → i < length bytes → byte ≡ get_or bytes i byte
+    → with_front codes (reading value (drop i bytes ++ rest)) ≡ with_front codes (reading value (byte ∷ (drop (i + 1) bytes ++ rest)))
+reading_at codes value bytes i byte rest lt is =
+    ap (λ (b : List ℕ). with_front codes (reading value (b ++ rest))) (drop_more bytes i byte lt ∙ ap (λ (x : ℕ). x ∷ drop (i + 1) bytes) (sym is))
+
+-- ---- the end of the letters
+
+pub ends_at_cut : (codes : List Code) (value : ℕ) (tokens : List (Bor (List ℕ))) (i : ℕ) (read : Result (List Code) CodeRule) → length tokens ≤ i → 0 < value
+    → with_front codes (reading value (flat_map (λ token. token.now) (drop i tokens))) ≡ read → read ≡ Err P5
+ends_at_cut codes value tokens i read le h so_far =
+    sym so_far ∙ at_drop_all (λ rest. with_front codes (reading value (flat_map (λ token. token.now) rest))) tokens i le ∙ ap (with_front codes) (read_cut_by_end value h)
+
+pub ends_whole : (codes : List Code) (value : ℕ) (tokens : List (Bor (List ℕ))) (i : ℕ) (read : Result (List Code) CodeRule) → length tokens ≤ i → value ≡ 0
+    → with_front codes (reading value (flat_map (λ token. token.now) (drop i tokens))) ≡ read → read ≡ Ok codes
+ends_whole codes value tokens i read le h so_far =
+    sym so_far ∙ at_drop_all (λ rest. with_front codes (reading value (flat_map (λ token. token.now) rest))) tokens i le ∙ ap (with_front codes) (read_end value h) ∙ ap Ok (append-nil codes)
+
+-- a fault with nothing behind it is the answer
+pub fault_answers : (fault : CodeFault) (read : Result (List Code) CodeRule) → FaultOf fault [] read → Answers (Err fault) read
+unfolding rule_behind
+fault_answers Memory read h = tt
+fault_answers (Rule P4) read h = h
+fault_answers (Rule P5) read h = h
+
+-- a fault in the token at i is the answer once the tokens behind it are looked at
+pub fault_ends : (fault found : CodeFault) (codes : List Code) (value : ℕ) (tokens : List (Bor (List ℕ))) (i : ℕ) (d : Bor (List ℕ)) (read : Result (List Code) CodeRule) → i < length tokens
+    → ((rest : List ℕ) → FaultOf fault rest (with_front codes (reading value ((get_or tokens i d).now ++ rest))))
+    → ((r : Result (List Code) CodeRule) → FaultOf fault (flat_map (λ token. token.now) (take (length tokens - (i + 1)) (drop (i + 1) tokens))) r → FaultOf found [] r)
+    → with_front codes (reading value (flat_map (λ token. token.now) (drop i tokens))) ≡ read → Answers (Err found) read
+fault_ends fault found codes value tokens i d read lt here behind so_far =
+    let step = at_drop_more (λ rest. with_front codes (reading value (flat_map (λ token. token.now) rest))) tokens i d lt in
+    let P : Result (List Code) CodeRule → Type 0 = λ r. FaultOf found [] r in
+    let total = with_front codes (reading value ((get_or tokens i d).now ++ flat_map (λ token. token.now) (drop (i + 1) tokens))) in
+    let Q : List (Bor (List ℕ)) → Type 0 = λ rest. FaultOf fault (flat_map (λ token. token.now) rest) total in
+    fault_answers found read (subst P (sym step ∙ so_far) (behind total (subst Q (sym (take_rest tokens (i + 1))) (here (flat_map (λ token. token.now) (drop (i + 1) tokens))))))

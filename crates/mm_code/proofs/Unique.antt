@@ -1,0 +1,173 @@
+-- Each number from 1 on has exactly one spelling, and each list of codes one text.
+use Rattle.std.proofs.Common.{◌≡◌, ℕ, zero, suc, ◌+◌, ◌-◌, ◌*◌, ◌/◌, ◌%◌, ◌<◌, ◌≤◌, inl, inr, min, List, [], ◌∷◌, ◌++◌, map, reverse, All, refl, sym, ap, subst, ◌∙◌, arith}
+use Rattle.std.specs.List.{flat_map, AllByRecursion, AllZip}
+use Rattle.std.proofs.lemmas.List.{reverse-reverse, same_from_push}
+use Rattle.std.proofs.lemmas.List.Elements.{All-head, All-tail}
+use Rattle.std.proofs.lemmas.Grind.{reverse_onto}
+use Rattle.std.proofs.lemmas.Bool.{cases_eq}
+use Rattle.mm_code.specs.declared.code.Code.{Code}
+use Rattle.mm_code.specs.declared.code.Code.TheVariants.{Number, Tag}
+use Rattle.mm_code.specs.Letters.{last_letter, leading_letter, tag_letter, IsLeadingDigit, leading_value, IsSpelling, Says, Spells, Letters, held, largest, HasSpelling, IsExact}
+use Rattle.mm_code.proofs.Found.{leading_value-push, leading-push}
+use Rattle.mm_code.proofs.Again.{is_read_again}
+
+-- ---- leading digits, from the last one on
+
+worth : List ℕ → ℕ
+worth [] = 0
+worth (d ∷ digits) = 5 * worth digits + d
+
+leading_value-reverse : (digits : List ℕ) → leading_value (reverse digits) ≡ worth digits
+unfolding worth
+leading_value-reverse [] = refl
+leading_value-reverse (d ∷ digits) =
+    ap leading_value (reverse_onto digits d []) ∙ leading_value-push (reverse digits) d ∙ ap (λ (v : ℕ). 5 * v + d) (leading_value-reverse digits)
+
+leading-reverse : (digits : List ℕ) → AllByRecursion IsLeadingDigit digits → AllByRecursion IsLeadingDigit (reverse digits)
+leading-reverse [] ok = tt
+leading-reverse (d ∷ digits) ok =
+    let P : List ℕ → Type 0 = AllByRecursion IsLeadingDigit in
+    subst P (sym (reverse_onto digits d [])) (leading-push (reverse digits) d (leading-reverse digits ok.1) ok.0)
+
+one_worth : (a b : List ℕ) → AllByRecursion IsLeadingDigit a → AllByRecursion IsLeadingDigit b → worth a ≡ worth b → a ≡ b
+unfolding worth
+one_worth [] [] p q e = refl
+one_worth [] (y ∷ b) p q e = absurd (omega (arith, q.0.0, e))
+one_worth (x ∷ a) [] p q e = absurd (omega (arith, p.0.0, e))
+one_worth (x ∷ a) (y ∷ b) p q e =
+    let digit : x ≡ y = omega (arith, p.0.0, p.0.1, q.0.0, q.0.1, e) in
+    let others : worth a ≡ worth b = omega (arith, p.0.0, p.0.1, q.0.0, q.0.1, e) in
+    let same : a ≡ b = one_worth a b p.1 q.1 others in
+    cc
+
+pub one_leading : (a b : List ℕ) → AllByRecursion IsLeadingDigit a → AllByRecursion IsLeadingDigit b → leading_value a ≡ leading_value b → a ≡ b
+one_leading a b p q e =
+    let va : leading_value a ≡ worth (reverse a) = ap leading_value (sym (reverse-reverse a)) ∙ leading_value-reverse (reverse a) in
+    let vb : leading_value b ≡ worth (reverse b) = ap leading_value (sym (reverse-reverse b)) ∙ leading_value-reverse (reverse b) in
+    let same : reverse a ≡ reverse b = one_worth (reverse a) (reverse b) (leading-reverse a p) (leading-reverse b q) (sym va ∙ e ∙ vb) in
+    sym (reverse-reverse a) ∙ ap reverse same ∙ reverse-reverse b
+
+pub one_spelling_only : (a b : List ℕ) (number : ℕ) → IsSpelling a number → IsSpelling b number → a ≡ b
+one_spelling_only a b number p q =
+    let last : p.last ≡ q.last = omega (arith, p.is_last.0, p.is_last.1, q.is_last.0, q.is_last.1, p.value, q.value) in
+    let value : leading_value p.leading ≡ leading_value q.leading = omega (arith, p.is_last.0, p.is_last.1, q.is_last.0, q.is_last.1, p.value, q.value) in
+    let leading = one_leading p.leading q.leading p.are_leading q.are_leading value in
+    p.letters ∙ ap (λ (ds : List ℕ). map leading_letter ds ++ last_letter p.last ∷ []) leading ∙ ap (λ (d : ℕ). map leading_letter q.leading ++ last_letter d ∷ []) last ∙ sym q.letters
+
+-- ---- some spelling
+
+pub record HasLeading (value : ℕ) : Type 0 where
+  pub digits : List ℕ
+  pub ok : AllByRecursion IsLeadingDigit digits
+  pub is : leading_value digits ≡ value
+
+pub grown-leading : (value : ℕ) (digits : List ℕ) → AllByRecursion IsLeadingDigit digits → AllByRecursion IsLeadingDigit (digits ++ ((value - 1) % 5 + 1) ∷ [])
+grown-leading value digits ok = leading-push digits ((value - 1) % 5 + 1) ok (omega arith, omega arith)
+
+pub grown-value : (value : ℕ) (digits : List ℕ) → leading_value digits ≡ (value - 1) / 5 → 0 < value → leading_value (digits ++ ((value - 1) % 5 + 1) ∷ []) ≡ value
+grown-value value digits is positive = omega (arith, leading_value-push digits ((value - 1) % 5 + 1), is)
+
+some_leading : (bound value : ℕ) → value ≤ bound → HasLeading value
+some_leading zero value le = record { digits = []; ok = tt; is = omega arith }
+some_leading (suc bound) value le =
+    elim (cases_eq value 0) [
+      | inl none ↦ record { digits = []; ok = tt; is = omega arith }
+      | inr some ↦
+          let had = some_leading bound ((value - 1) / 5) (omega arith) in
+          record { digits = had.digits ++ ((value - 1) % 5 + 1) ∷ []; ok = grown-leading value had.digits had.ok; is = grown-value value had.digits had.is (omega arith) }
+    ]
+
+pub spelling-of : (number rest : ℕ) (had : HasLeading rest) → rest ≡ (number - 1) / 20 → 1 ≤ number → IsSpelling (map leading_letter had.digits ++ last_letter ((number - 1) % 20 + 1) ∷ []) number
+spelling-of number rest had is positive = record {
+  leading = had.digits;
+  last = (number - 1) % 20 + 1;
+  are_leading = had.ok;
+  is_last = (omega arith, omega arith);
+  letters = refl;
+  value = omega (arith, had.is, is);
+}
+
+pub some_spelling : (number : ℕ) → 1 ≤ number → (text : List ℕ) × IsSpelling text number
+some_spelling number positive = (_, spelling-of number ((number - 1) / 20) (some_leading ((number - 1) / 20) ((number - 1) / 20) (omega arith)) refl positive)
+
+-- ---- one number
+
+one_map : (a b : List ℕ) → map leading_letter a ≡ map leading_letter b → a ≡ b
+one_map [] [] e = refl
+one_map [] (y ∷ b) e = absurd cc
+one_map (x ∷ a) [] e = absurd cc
+one_map (x ∷ a) (y ∷ b) e =
+    let head : leading_letter x ≡ leading_letter y = cc in
+    let digit : x ≡ y = omega (arith, head) in
+    let tail : map leading_letter a ≡ map leading_letter b = cc in
+    let same : a ≡ b = one_map a b tail in
+    cc
+
+pub one_number : (text : List ℕ) (m n : ℕ) → IsSpelling text m → IsSpelling text n → m ≡ n
+one_number text m n p q =
+    let parts = same_from_push (map leading_letter p.leading) (map leading_letter q.leading) (last_letter p.last) (last_letter q.last) (sym p.letters ∙ q.letters) in
+    let leading = ap leading_value (one_map p.leading q.leading parts.0) in
+    omega (arith, p.value, q.value, leading, parts.1)
+
+-- ---- one text
+
+one_piece : (a b : List ℕ) (code : Code) → Says a code → Says b code → a ≡ b
+one_piece a b (Number number) p q = one_spelling_only a b number p q
+one_piece a b Tag p q = p ∙ sym q
+
+one_pieces : (a b : List (List ℕ)) (codes : List Code) → AllZip Says a codes → AllZip Says b codes → flat_map (λ piece. piece) a ≡ flat_map (λ piece. piece) b
+one_pieces [] [] [] p q = refl
+one_pieces [] [] (code ∷ codes) p q = absurd p
+one_pieces [] (y ∷ b) [] p q = absurd q
+one_pieces [] (y ∷ b) (code ∷ codes) p q = absurd p
+one_pieces (x ∷ a) b [] p q = absurd p
+one_pieces (x ∷ a) [] (code ∷ codes) p q = absurd q
+one_pieces (x ∷ a) (y ∷ b) (code ∷ codes) p q =
+    ap (λ (t : List ℕ). t ++ flat_map (λ piece. piece) a) (one_piece x y code p.0 q.0) ∙ ap (λ (t : List ℕ). y ++ t) (one_pieces a b codes p.1 q.1)
+
+pub one_text_only : (a b : List ℕ) (codes : List Code) → Spells a codes → Spells b codes → a ≡ b
+one_text_only a b codes p q = p.joined ∙ one_pieces p.pieces q.pieces codes p.each q.each ∙ sym q.joined
+
+some_piece : (code : Code) → HasSpelling code → (piece : List ℕ) × Says piece code
+some_piece (Number number) has = some_spelling number has
+some_piece Tag has = (tag_letter ∷ [], refl)
+
+some_pieces : (codes : List Code) → All HasSpelling codes → (pieces : List (List ℕ)) × AllZip Says pieces codes
+some_pieces [] has = ([], tt)
+some_pieces (code ∷ codes) has =
+    let first = some_piece code (All-head HasSpelling code codes has) in
+    let others = some_pieces codes (All-tail HasSpelling code codes has) in
+    (first.0 ∷ others.0, (first.1, others.1))
+
+pub some_text : (codes : List Code) → All HasSpelling codes → (text : List ℕ) × Spells text codes
+some_text codes has = let pieces = some_pieces codes has in (_, record { pieces = pieces.0; each = pieces.1; joined = refl })
+
+-- ---- one list of codes
+
+pub one_reading_only : (text : List ℕ) (a b : List Code) → Letters text a → Letters text b → a ≡ b
+one_reading_only text a b p q = cc (is_read_again text a p, is_read_again text b q)
+
+exact_held : (code spelled : Code) → IsExact code → code ≡ held spelled → code ≡ spelled
+exact_held (Number n) (Number m) exact e =
+    let number : n ≡ min m largest = cc in
+    ap Number (omega (arith, number, exact))
+exact_held (Number n) Tag exact e = e
+exact_held Tag (Number m) exact e = absurd cc
+exact_held Tag Tag exact e = refl
+
+exact_all_held : (codes spelled : List Code) → All IsExact codes → codes ≡ map held spelled → codes ≡ spelled
+exact_all_held [] [] exact e = refl
+exact_all_held [] (s ∷ spelled) exact e = absurd cc
+exact_all_held (c ∷ codes) [] exact e = absurd cc
+exact_all_held (c ∷ codes) (s ∷ spelled) exact e =
+    let head : c ≡ held s = cc in
+    let tail : codes ≡ map held spelled = cc in
+    let first = exact_held c s (All-head IsExact c codes exact) head in
+    let others = exact_all_held codes spelled (All-tail IsExact c codes exact) tail in
+    cc
+
+-- codes below the largest number are what their letters spell
+pub exact_spelled : (text : List ℕ) (codes : List Code) → All IsExact codes → Letters text codes → Spells text codes
+exact_spelled text codes exact letters =
+    let P : List Code → Type 0 = Spells text in
+    subst P (sym (exact_all_held codes letters.spelled exact letters.are_held)) letters.spells

@@ -1,0 +1,42 @@
+//! Why the program ends without a reply.
+
+ghost use Rattle.std.specs.Prelude.{◌≡◌};
+ghost use Rattle.mm_tool.specs.Ending.{stop_of};
+ghost use Rattle.mm_tool.specs.declared.stop.Stop.TheVariants.{Memory};
+
+use mm_check::RunFault;
+use std::alloc::AllocError;
+
+/// Why the program ends without a reply, which is told on standard error.
+#[derive(Drop)]
+pub(crate) enum Stop<'a> {
+    /// The words aren't understood; the text says which words are.
+    Usage(String),
+    /// A word isn't UTF-8.
+    NotText,
+    /// The file with this name can't be opened or read.
+    CannotRead(&'a str),
+    /// Standard output didn't take the whole reply.
+    CannotWrite,
+    /// A growth was refused.
+    Memory,
+}
+
+impl<'a> From<AllocError> for Stop<'a> {
+    ghost from_gives = { λ _ e. e ≡ Memory };
+
+    fn from(_e: AllocError) -> Stop<'a> {
+        Stop::Memory
+    }
+}
+
+impl<'a> From<RunFault> for Stop<'a> {
+    ghost from_gives = { λ fault e. e ≡ stop_of fault };
+
+    fn from(fault: RunFault) -> Stop<'a> {
+        match fault {
+            RunFault::Device => Stop::CannotWrite,
+            RunFault::Memory => Stop::Memory,
+        }
+    }
+}
