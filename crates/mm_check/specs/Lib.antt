@@ -4,3 +4,4 @@ pub mod Status
 pub mod Conclusion
 pub mod Answer
 pub mod Judged
+pub mod Laws

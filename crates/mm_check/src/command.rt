@@ -48,7 +48,7 @@ impl From<AllocError> for RunFault {
 /// growth was refused, and then nothing is written.
 pub fn run<W: Write>(
     alloc: Global,
-    command: Command,
+    command: &Command,
     files: &[File],
     out: &mut Counted<W>,
 ) -> Result<Status, RunFault>

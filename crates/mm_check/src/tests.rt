@@ -80,7 +80,7 @@ fn names_a_labelled_statement(rt: HostRuntime) -> Result<(), Fail> {
 fn writes_the_reply(rt: HostRuntime) -> Result<(), Fail> {
     let files = first();
     let mut out = Counted::new(Vec::new(rt.alloc()));
-    let status = run(rt.alloc(), Command::Check, &files, &mut out)?;
+    let status = run(rt.alloc(), &Command::Check, &files, &mut out)?;
     assert_eq!(rt; status, Status::Done);
     assert_eq!(rt; status.number(), 0);
     assert_eq!(rt; out.into_inner().as_slice(), REPLY);
@@ -91,7 +91,7 @@ fn writes_the_reply(rt: HostRuntime) -> Result<(), Fail> {
 #[test]
 fn refuses_no_files(rt: HostRuntime) -> Result<(), Fail> {
     let mut out = Counted::new(Vec::new(rt.alloc()));
-    let status = run(rt.alloc(), Command::Check, &[], &mut out)?;
+    let status = run(rt.alloc(), &Command::Check, &[], &mut out)?;
     assert_eq!(rt; status, Status::Stopped);
     assert_eq!(rt; out.into_inner().as_slice(), b"load F1\n".as_slice());
     Ok(())
@@ -108,7 +108,7 @@ fn stops_at_a_failed_write(rt: HostRuntime) -> Result<(), Fail> {
                 fails_at,
                 answers_zero,
             });
-            let answer = run(rt.alloc(), Command::Check, &files, &mut out).err();
+            let answer = run(rt.alloc(), &Command::Check, &files, &mut out).err();
             assert_eq!(rt; answer, Some(RunFault::Device), "at call {fails_at}");
             assert_eq!(rt; out.faults(), 1, "at call {fails_at}");
             let taken = out.into_inner().taken;

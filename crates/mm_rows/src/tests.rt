@@ -15,7 +15,7 @@ fn compare(rt: &impl Abort, alloc: Global, rows: &[Row]) -> Result<(), Fail> {
             files.push(File { name, bytes })?;
         }
         let mut out = Counted::new(Vec::new(alloc));
-        let status = run(alloc, Command::Check, &files, &mut out)?;
+        let status = run(alloc, &Command::Check, &files, &mut out)?;
         let name = row.name;
         assert_eq!(rt;
             out.into_inner().as_slice(),

@@ -84,7 +84,7 @@ pub(crate) fn check<'a, R: Files + AllocGlobal, O: Write>(
         Err(FileFault::Memory) => return Err(Stop::Memory),
     };
     let handed = handed(rt.alloc(), &files)?;
-    Ok(run(rt.alloc(), Command::Check, &handed, out)?)
+    Ok(run(rt.alloc(), &Command::Check, &handed, out)?)
 }
 
 /// Does what the words ask for, and answers the status that goes with the reply.
