@@ -1,5 +1,5 @@
 -- The course of checking: statement after statement, up to the first fault.
-use Rattle.std.proofs.Common.{◌≡◌, ℕ, zero, suc, ◌+◌, ◌<◌, List, [], ◌∷◌, ◌++◌, map, length, get_or, All, Option, Some, None, Result, Ok, Err, IsErrAnd, ◌⊎◌, inl, inr, refl, sym, ap, subst, ◌∙◌, arith, append_assoc, append-nil, false}
+use Rattle.std.proofs.Common.{◌≡◌, ℕ, zero, suc, ◌<◌, List, [], ◌∷◌, ◌++◌, map, length, get_or, All, Option, Some, None, Result, Ok, Err, IsErrAnd, inl, inr, refl, sym, ap, subst, ◌∙◌, arith, append_assoc, append-nil}
 use Rattle.std.proofs.lemmas.List.{map-append, length-map}
 use Rattle.std.specs.List.{AllByRecursion}
 use Rattle.mm_text.specs.declared.statement.Statement.{Statement}
@@ -8,11 +8,11 @@ use Rattle.mm_text.specs.Reading.{PlainFile, PlainFault, Reads}
 use Rattle.mm_text.specs.Remaining.{Remaining, IsUnread}
 use Rattle.mm_text.proofs.FormedLaws.{reading_formed}
 use Rattle.mm_text.proofs.OneReading.{each_has_one_reading}
-use Rattle.mm_frame.specs.Sentence.{Sentence, said, said_by}
+use Rattle.mm_frame.specs.Sentence.{Sentence, said_by}
 use Rattle.mm_frame.specs.Rules.{AllMeant}
 use Rattle.mm_check.specs.declared.fault.CheckFault.{CheckFault}
 use Rattle.mm_check.specs.Conclusion.{Conclusion}
-use Rattle.mm_check.specs.Verdict.{Verdict, Refused, Load, Yes, HasFault, Obeys, AllObey, HasVerdict, CanBeRead, sentences, labels_of, refusal_of, text_refusal}
+use Rattle.mm_check.specs.Verdict.{Verdict, Yes, HasFault, Obeys, AllObey, HasVerdict, CanBeRead, sentences, labels_of, refusal_of, text_refusal}
 use Rattle.mm_check.specs.Answer.{verdict_of_fault, concluded, IsVerdict, KeepsLabels}
 use Rattle.mm_check.specs.Judged.{IsUnderWay, RefusesAfter, RefusesEnd, RefusesLoad, TakesNext, Concludes}
 

@@ -8,7 +8,7 @@ use Rattle.mm_text.specs.Remaining.{Remaining}
 use Rattle.mm_frame.specs.Sentence.{Sentence, said}
 use Rattle.mm_check.specs.declared.rule.Rule.{Rule}
 use Rattle.mm_check.specs.declared.fault.CheckFault.{CheckFault}
-use Rattle.mm_check.specs.Verdict.{Verdict, Load, Refused, HasFault, refusal_of, text_refusal, load_rule, proofs_of, labels_of, CanBeRead, AllObey, sentences}
+use Rattle.mm_check.specs.Verdict.{Load, Refused, HasFault, refusal_of, text_refusal, load_rule, proofs_of, labels_of, CanBeRead, AllObey, sentences}
 use Rattle.mm_check.specs.Conclusion.{Conclusion}
 use Rattle.mm_check.specs.Answer.{verdict_of_fault}
 

@@ -1,5 +1,5 @@
 -- The reading of the handed files: the statements that they hold, and how it ends (the Metamath book, sections 4.1 and 4.2).
-use Rattle.std.specs.Prelude.{◌≡◌, ◌≢◌, ℕ, ◌+◌, ◌<◌, ◌≤◌, ◌==◌, ◌&&◌, ◌||◌, nat_eq, List, [], ◌∷◌, ◌++◌, length, map, sum_by, slice_get, Bool, true, false, not, if◌then◌else◌, codes, Option, Some, None, IfSome, ◌⊎◌, slice_range}
+use Rattle.std.specs.Prelude.{◌≡◌, ◌≢◌, ℕ, ◌+◌, ◌<◌, ◌≤◌, ◌==◌, ◌&&◌, ◌||◌, nat_eq, List, [], ◌∷◌, ◌++◌, length, sum_by, slice_get, not, if◌then◌else◌, codes, Option, Some, None, IfSome, ◌⊎◌, slice_range}
 use Rattle.std.specs.List.{list_any, list_all, AllByRecursion}
 use Rattle.std.specs.Cmp.Lexicographic.{pointwise}
 use Rattle.mm_text.specs.declared.file.File.{File}
@@ -8,7 +8,7 @@ use Rattle.mm_text.specs.declared.fault.LoadRule.TheVariants.{F1, F2, F3}
 use Rattle.mm_text.specs.declared.fault.TextRule.{TextRule}
 use Rattle.mm_text.specs.declared.fault.TextRule.TheVariants.{X1, X4, X8, X9, S1, S2, S3, S4, S5}
 use Rattle.mm_text.specs.declared.statement.Kind.{Kind}
-use Rattle.mm_text.specs.declared.statement.Kind.TheVariants.{Constants, Variables, Distinct, Floating, Essential, Axiom, Provable, Opening, Closing}
+use Rattle.mm_text.specs.declared.statement.Kind.TheVariants.{Constants, Variables, Floating, Axiom, Provable}
 use Rattle.mm_text.specs.Token.{PlainToken, tokens_from, is_printable, IsLabel, HoldsNoDollar}
 use Rattle.mm_text.specs.Statement.{PlainStatement, IsKeyword, keywords, IsHead, AreSymbols, FitsCount, label_in, SpellsAll, keyword_of}
 

@@ -1,5 +1,5 @@
 -- The course of checking, turn by turn.
-use Rattle.std.proofs.Common.{rules, ◌≡◌, ℕ, List, Option, Some, None, map, length, All, sym, subst, ap}
+use Rattle.std.proofs.Common.{rules, ◌≡◌, ℕ, List, Option, Some, None, map, length, All, sym, subst}
 use Rattle.mm_text.specs.declared.statement.Statement.{Statement}
 use Rattle.mm_text.specs.Statement.{plain_statement, IsFormed}
 use Rattle.mm_text.specs.Reading.{plain_file}
