@@ -6,7 +6,8 @@ use Rattle.mm_text.specs.declared.statement.Kind.{Kind}
 use Rattle.mm_text.specs.declared.statement.Kind.TheVariants.{Constants, Variables, Distinct, Floating, Essential, Axiom, Provable, Opening, Closing}
 use Rattle.mm_text.specs.Token.{PlainToken, is_label_byte, IsLabel}
 use Rattle.mm_text.specs.Statement.{PlainStatement, IsHead, IsBareHead, IsLabelledHead, label_in, keyword_of, Spells, SpellsAll, IsRead, HasLabel, IsFormed}
-use Rattle.mm_text.specs.Reading.{PlainFile, PlainFault, Reads}
+use Rattle.mm_text.specs.Files.{PlainFile}
+use Rattle.mm_text.specs.Reading.{PlainFault, Reads}
 
 bare_label : (kind : Kind) (head : List PlainToken) (label : Option PlainToken) → list_all is_label_byte (keyword_of kind) ≡ false → IsBareHead kind head → label ≡ label_in head → label ≡ None
 bare_label kind head label none h e = e ∙ ap label_in h.tokens ∙ cond-false (list_all is_label_byte h.keyword.text) _ _ (ap (list_all is_label_byte) h.sign ∙ none)

@@ -9,7 +9,8 @@ use Rattle.std.proofs.lemmas.List.Sums.{sum_by_from}
 use Rattle.mm_text.specs.declared.file.File.{File}
 use Rattle.mm_text.specs.declared.fault.LoadRule.{LoadRule}
 use Rattle.mm_text.specs.declared.fault.LoadRule.TheVariants.{F1, F2, F3}
-use Rattle.mm_text.specs.Reading.{PlainFile, plain_file, total_bytes, HasTwins, BreaksLoad, items, items_of}
+use Rattle.mm_text.specs.Files.{PlainFile, plain_file, total_bytes, HasTwins, BreaksLoad}
+use Rattle.mm_text.specs.Items.{items, items_of}
 use Rattle.mm_text.specs.Token.{tokens_from}
 use Rattle.mm_text.specs.Handed.{has_twins}
 

@@ -3,7 +3,7 @@ use Rattle.std.proofs.Common.{◌≡◌, ℕ, List, [], ◌∷◌, ◌++◌, ref
 use Rattle.std.specs.List.{AllByRecursion}
 use Rattle.mm_text.specs.declared.fault.TextRule.{TextRule}
 use Rattle.mm_text.specs.Token.{PlainToken}
-use Rattle.mm_text.specs.Reading.{Item, Plain, Wrong, End, broken_by, items_of, plain_tokens, HoldNoFault}
+use Rattle.mm_text.specs.Items.{Item, Plain, Wrong, End, broken_by, items_of, plain_tokens, HoldNoFault}
 
 -- tokens that break no rule, and items after them
 abbrev pub plains : List PlainToken → List Item → List Item

@@ -6,7 +6,7 @@ use Rattle.mm_text.specs.declared.class.Keyword.TheVariants.{Constants, Variable
 use Rattle.mm_text.specs.declared.class.Class.{Class}
 use Rattle.mm_text.specs.declared.class.Class.TheVariants as class
 use Rattle.mm_text.specs.Token.{PlainToken}
-use Rattle.mm_text.specs.Reading.{Plain, Wrong, End, items_of, broken_by}
+use Rattle.mm_text.specs.Items.{Plain, Wrong, End, items_of, broken_by}
 use Rattle.mm_text.specs.Class.{spelling, ClassIs}
 use Rattle.mm_text.specs.Steps.{items_with, IsOfClass}
 

@@ -3,7 +3,8 @@ use Rattle.std.proofs.Common.{◌≡◌, ℕ, ◌≤◌, length, List, [], ◌�
 use Rattle.std.proofs.lemmas.List.{append-nil}
 use Rattle.mm_text.specs.Token.{PlainToken}
 use Rattle.mm_text.specs.Statement.{PlainStatement, SpellsAll}
-use Rattle.mm_text.specs.Reading.{PlainFault, Item, Plain, Wrong, End, plain_tokens, Viable, EndsAt, IsBeginning}
+use Rattle.mm_text.specs.Items.{Item, Plain, Wrong, End, plain_tokens}
+use Rattle.mm_text.specs.Reading.{PlainFault, Viable, EndsAt, IsBeginning}
 use Rattle.mm_text.specs.Reader.{PlainReading, Part, Between, ended, reading_of}
 use Rattle.mm_text.specs.Laws.{FaultsEndLongestFronts}
 use Rattle.mm_text.proofs.ItemFacts.{plains, plains-append, plain_tokens-append, clean_behind, cons_parts}

@@ -9,7 +9,9 @@ use Rattle.mm_text.specs.declared.statement.Kind.{Kind}
 use Rattle.mm_text.specs.declared.statement.Kind.TheVariants.{Floating}
 use Rattle.mm_text.specs.Token.{PlainToken, tokens_from, is_label_byte, HoldsNoDollar}
 use Rattle.mm_text.specs.Statement.{PlainStatement, label_in, SpellsAll, IsKeyword, FitsCount}
-use Rattle.mm_text.specs.Reading.{PlainFile, PlainFault, Item, Plain, Wrong, End, items_of, items, plain_tokens, closes_symbols, IsBody, IsInProof, IsBeginning, Viable, Meets, MeetsS1, MeetsS2, MeetsS3, fault_at, EndsAt, Reads}
+use Rattle.mm_text.specs.Files.{PlainFile}
+use Rattle.mm_text.specs.Items.{Item, Plain, Wrong, End, items_of, items, plain_tokens}
+use Rattle.mm_text.specs.Reading.{PlainFault, closes_symbols, IsBody, IsInProof, IsBeginning, Viable, Meets, MeetsS1, MeetsS2, MeetsS3, fault_at, EndsAt, Reads}
 use Rattle.mm_text.specs.Reader.{PlainReading, Part, Between, Labelled, InBody, InProof, Faulty, step, same_text, is_keyword, is_full, is_provable, ended, with_statement, end_fault, reading_of}
 use Rattle.mm_text.specs.Laws.{EachHasOneReading}
 use Rattle.mm_text.proofs.TextFacts.{same_text-ne, is_keyword-ne, is_keyword_from, symbol-is_keyword}

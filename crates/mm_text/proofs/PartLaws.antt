@@ -12,7 +12,7 @@ use Rattle.mm_text.specs.declared.class.Class.TheVariants as class
 use Rattle.mm_text.specs.Class.{spelling}
 use Rattle.mm_text.specs.Token.{PlainToken, plain_token, HoldsNoDollar}
 use Rattle.mm_text.specs.Statement.{PlainStatement}
-use Rattle.mm_text.specs.Reading.{Item, Plain, Wrong, End}
+use Rattle.mm_text.specs.Items.{Item, Plain, Wrong, End}
 use Rattle.mm_text.specs.Reader.{Part, step, More, Whole, Faulty, step_fault, end_fault, part_label, PlainReading, ended, reading_of}
 use Rattle.mm_text.specs.Steps.{fault_of, items_with, IsOfClass, TakesToken, AnswersPart, GivesPart, StepsTo}
 use Rattle.mm_text.proofs.StepLaws.{read_end, read_wrong, read_more, read_whole, read_faulty}

@@ -7,7 +7,9 @@ use Rattle.mm_text.specs.declared.statement.Kind.{Kind}
 use Rattle.mm_text.specs.declared.statement.Kind.TheVariants.{Constants, Variables, Distinct, Floating, Essential, Axiom, Provable, Opening, Closing}
 use Rattle.mm_text.specs.Token.{PlainToken, is_space, is_label_byte, with_byte, tokens_from}
 use Rattle.mm_text.specs.Statement.{PlainStatement, label_in, Spells, SpellsAll, IsTail}
-use Rattle.mm_text.specs.Reading.{PlainFile, PlainFault, items, plain_tokens, Reads, IsSliceOf, IsInPlace}
+use Rattle.mm_text.specs.Files.{PlainFile}
+use Rattle.mm_text.specs.Items.{items, plain_tokens}
+use Rattle.mm_text.specs.Reading.{PlainFault, Reads, IsSliceOf, IsInPlace}
 use Rattle.mm_text.specs.Laws.{ReadingsAreFormedInPlace}
 use Rattle.mm_text.proofs.FormedLaws.{reading_formed}
 use Rattle.mm_text.proofs.ItemFacts.{plain_tokens-append, all_in_items}

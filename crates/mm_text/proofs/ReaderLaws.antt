@@ -1,6 +1,7 @@
 -- What holds of a reader of files from the start.
 use Rattle.std.proofs.Common.{List}
-use Rattle.mm_text.specs.Reading.{PlainFile, items}
+use Rattle.mm_text.specs.Files.{PlainFile}
+use Rattle.mm_text.specs.Items.{items}
 use Rattle.mm_text.specs.Reader.{Between, reading_of}
 use Rattle.mm_text.specs.Laws.{AreFormedInPlace}
 use Rattle.mm_text.proofs.ReadingLaws.{reading_reads}

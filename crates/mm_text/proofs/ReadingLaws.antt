@@ -5,7 +5,9 @@ use Rattle.mm_text.specs.declared.fault.TextRule.{TextRule}
 use Rattle.mm_text.specs.declared.fault.TextRule.TheVariants.{X8}
 use Rattle.mm_text.specs.Token.{PlainToken, tokens_from}
 use Rattle.mm_text.specs.Statement.{PlainStatement, Spells, SpellsAll}
-use Rattle.mm_text.specs.Reading.{PlainFile, PlainFault, Item, Plain, Wrong, End, broken_by, items_of, items, plain_tokens, HoldNoFault, IsBeginning, Viable, fault_at, EndsAt, Reads}
+use Rattle.mm_text.specs.Files.{PlainFile}
+use Rattle.mm_text.specs.Items.{Item, Plain, Wrong, End, broken_by, items_of, items, plain_tokens, HoldNoFault}
+use Rattle.mm_text.specs.Reading.{PlainFault, IsBeginning, Viable, fault_at, EndsAt, Reads}
 use Rattle.mm_text.specs.Reader.{Part, Between, Labelled, InBody, InProof, Step, More, Whole, Faulty, step, part_label, PlainReading, ended, with_statement, end_fault, step_fault, reading_of}
 use Rattle.mm_text.proofs.ItemFacts.{plains, append-plains, plain_tokens-plains, clean_plains, items_of-plain, items_of-wrong, items_of-end, no_end, before_end}
 use Rattle.mm_text.proofs.PartFacts.{Describes, Describes-label, body-first, proof-first, beginning_of_part}

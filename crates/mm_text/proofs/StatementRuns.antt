@@ -8,7 +8,8 @@ use Rattle.mm_text.specs.declared.statement.Kind.{Kind}
 use Rattle.mm_text.specs.declared.statement.Kind.TheVariants.{Constants, Variables, Distinct, Floating, Essential, Axiom, Provable, Opening, Closing}
 use Rattle.mm_text.specs.Token.{PlainToken, IsLabel, is_label_byte, HoldsNoDollar}
 use Rattle.mm_text.specs.Statement.{PlainStatement, IsHead, IsBareHead, IsLabelledHead, AreSymbols, FitsCount, label_in, keyword_of, Spells, SpellsAll, IsTail, EndsAtOnce, EndsInProof}
-use Rattle.mm_text.specs.Reading.{Item, Plain, closes_symbols}
+use Rattle.mm_text.specs.Items.{Item, Plain}
+use Rattle.mm_text.specs.Reading.{closes_symbols}
 use Rattle.mm_text.specs.Reader.{Part, Between, Labelled, InBody, InProof, More, Whole, Faulty, step, same_text, is_keyword, begun, has_count, is_full, is_provable, PlainReading, with_statement, reading_of}
 use Rattle.mm_text.proofs.TextFacts.{same_text_from, symbol-is_keyword, label-is_keyword, label_ne}
 use Rattle.mm_text.proofs.ItemFacts.{plains, plains-append, cons_parts}

@@ -10,7 +10,7 @@ use Rattle.mm_text.specs.declared.class.Keyword.{Keyword}
 use Rattle.mm_text.specs.declared.class.Keyword.TheVariants as keyword
 use Rattle.mm_text.specs.Token.{PlainToken, HoldsNoDollar, is_label_byte}
 use Rattle.mm_text.specs.Statement.{PlainStatement}
-use Rattle.mm_text.specs.Reading.{Item, Plain, Wrong, End}
+use Rattle.mm_text.specs.Items.{Item, Plain, Wrong, End}
 use Rattle.mm_text.specs.Class.{spelling}
 use Rattle.mm_text.specs.Reader.{same_text, is_keyword, begun, Part, Between, Labelled, InBody, InProof, Step, More, Whole, Faulty, has_count, is_full, is_provable, step, step_fault, end_fault, PlainReading, ended, with_statement, reading_of}
 use Rattle.mm_text.specs.Steps.{bare_kind, labelled_kind, ends_symbols}

@@ -6,7 +6,7 @@ use Rattle.std.proofs.lemmas.Bool.{or_parts, or_cases, or_left, or_right, and_pa
 use Rattle.mm_text.specs.declared.fault.TextRule.TheVariants.{X1, X4, X9}
 use Rattle.mm_text.specs.Token.{IsLabel, is_label_byte, HoldsNoDollar, is_printable}
 use Rattle.mm_text.specs.Statement.{keywords, IsKeyword}
-use Rattle.mm_text.specs.Reading.{broken_by}
+use Rattle.mm_text.specs.Items.{broken_by}
 use Rattle.mm_text.specs.Reader.{same_text, is_keyword}
 
 pub same_text-true : (a b : List ℕ) → same_text a b ≡ true → a ≡ b

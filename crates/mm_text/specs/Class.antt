@@ -5,7 +5,7 @@ use Rattle.mm_text.specs.declared.class.Keyword.TheVariants.{Constants, Variable
 use Rattle.mm_text.specs.declared.class.Class.{Class}
 use Rattle.mm_text.specs.declared.class.Class.TheVariants as class
 use Rattle.mm_text.specs.Token.{HoldsNoDollar}
-use Rattle.mm_text.specs.Reading.{broken_by}
+use Rattle.mm_text.specs.Items.{broken_by}
 
 -- the bytes of a keyword
 abbrev pub spelling : Keyword → List ℕ

@@ -3,7 +3,9 @@ use Rattle.std.specs.Prelude.{◌≡◌, ◌≢◌, ℕ, ◌+◌, ◌<◌, ◌�
 use Rattle.std.specs.List.{AllByRecursion}
 use Rattle.mm_text.specs.Token.{PlainToken, IsToken, tokens_from}
 use Rattle.mm_text.specs.Statement.{PlainStatement, Spells, IsFormed}
-use Rattle.mm_text.specs.Reading.{PlainFile, PlainFault, Item, items, IsBeginning, Viable, EndsAt, Reads, IsInPlace}
+use Rattle.mm_text.specs.Files.{PlainFile}
+use Rattle.mm_text.specs.Items.{Item, items}
+use Rattle.mm_text.specs.Reading.{PlainFault, IsBeginning, Viable, EndsAt, Reads, IsInPlace}
 
 -- a token of this file is the slice of its bytes at its place, and that is a longest run of bytes that aren't white space
 pub record IsRunOf (file : ℕ) (bytes : List ℕ) (t : PlainToken) : Type 0 where

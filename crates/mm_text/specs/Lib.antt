@@ -1,5 +1,7 @@
 pub mod Device
 pub mod Reader
+pub mod Files
+pub mod Items
 pub mod Reading
 pub mod Remaining
 pub mod Statement

@@ -9,7 +9,8 @@ use Rattle.mm_text.specs.declared.statement.Kind.{Kind}
 use Rattle.mm_text.specs.declared.statement.Kind.TheVariants.{Constants, Variables, Distinct, Floating, Essential, Axiom, Provable, Opening, Closing}
 use Rattle.mm_text.specs.Token.{PlainToken, is_label_byte}
 use Rattle.mm_text.specs.Statement.{PlainStatement, keywords}
-use Rattle.mm_text.specs.Reading.{PlainFault, Item, Plain, Wrong, End}
+use Rattle.mm_text.specs.Items.{Item, Plain, Wrong, End}
+use Rattle.mm_text.specs.Reading.{PlainFault}
 
 -- the statement of which tokens were read: none yet, a label, its symbols so far, or its proof so far
 pub data Part : Type 0 where

@@ -6,7 +6,8 @@ use Rattle.mm_text.specs.declared.statements.State.{State}
 use Rattle.mm_text.specs.declared.statements.State.TheVariants.{Reading, Ended, Failed}
 use Rattle.mm_text.specs.declared.statements.Statements.TheInside.{Inside}
 use Rattle.mm_text.specs.Statement.{PlainStatement}
-use Rattle.mm_text.specs.Reading.{PlainFile, plain_file, Item}
+use Rattle.mm_text.specs.Files.{PlainFile, plain_file}
+use Rattle.mm_text.specs.Items.{Item}
 use Rattle.mm_text.specs.Reader.{PlainReading, Between, reading_of}
 use Rattle.mm_text.specs.Remaining.{Remaining}
 use Rattle.mm_text.specs.Laws.{AreFormedInPlace}

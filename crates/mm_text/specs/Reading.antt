@@ -1,45 +1,14 @@
 -- The reading of the handed files: the statements that they hold, and how it ends (the Metamath book, sections 4.1 and 4.2).
-use Rattle.std.specs.Prelude.{◌≡◌, ◌≢◌, ℕ, ◌+◌, ◌<◌, ◌≤◌, ◌==◌, ◌&&◌, ◌||◌, nat_eq, List, [], ◌∷◌, ◌++◌, length, sum_by, slice_get, not, if◌then◌else◌, codes, Option, Some, None, IfSome, ◌⊎◌, slice_range}
-use Rattle.std.specs.List.{list_any, list_all, AllByRecursion}
-use Rattle.std.specs.Cmp.Lexicographic.{pointwise}
-use Rattle.mm_text.specs.declared.file.File.{File}
-use Rattle.mm_text.specs.declared.fault.LoadRule.{LoadRule}
-use Rattle.mm_text.specs.declared.fault.LoadRule.TheVariants.{F1, F2, F3}
+use Rattle.std.specs.Prelude.{◌≡◌, ◌≢◌, ℕ, ◌+◌, ◌<◌, ◌≤◌, ◌==◌, ◌&&◌, ◌||◌, nat_eq, List, [], ◌∷◌, ◌++◌, length, slice_get, not, if◌then◌else◌, codes, Option, Some, None, IfSome, ◌⊎◌, slice_range}
+use Rattle.std.specs.List.{AllByRecursion}
 use Rattle.mm_text.specs.declared.fault.TextRule.{TextRule}
-use Rattle.mm_text.specs.declared.fault.TextRule.TheVariants.{X1, X4, X8, X9, S1, S2, S3, S4, S5}
+use Rattle.mm_text.specs.declared.fault.TextRule.TheVariants.{X8, S1, S2, S3, S4, S5}
 use Rattle.mm_text.specs.declared.statement.Kind.{Kind}
 use Rattle.mm_text.specs.declared.statement.Kind.TheVariants.{Constants, Variables, Floating, Axiom, Provable}
-use Rattle.mm_text.specs.Token.{PlainToken, tokens_from, is_printable, IsLabel, HoldsNoDollar}
-use Rattle.mm_text.specs.Statement.{PlainStatement, IsKeyword, keywords, IsHead, AreSymbols, FitsCount, label_in, SpellsAll, keyword_of}
-
--- a file without where it lies in memory
-pub record PlainFile : Type 0 where
-  pub name : List ℕ
-  pub bytes : List ℕ
-
-abbrev pub plain_file : File → PlainFile
-plain_file f = record { name = f.name.now; bytes = f.bytes.now }
-
--- how many bytes the files hold in all
-abbrev pub total_bytes : List PlainFile → ℕ
-total_bytes files = sum_by (λ f. length f.bytes) files
-
--- two of the files have one name
-pub record HasTwins (files : List PlainFile) : Type 0 where
-  pub i : ℕ
-  pub j : ℕ
-  pub one : PlainFile
-  pub other : PlainFile
-  pub apart : i < j
-  pub at_i : slice_get files i ≡ Some one
-  pub at_j : slice_get files j ≡ Some other
-  pub same : one.name ≡ other.name
-
--- the rule that the handed files break as a whole, the first one of F1, F2, F3
-abbrev pub BreaksLoad : List PlainFile → LoadRule → Type 0
-BreaksLoad files F1 = files ≡ []
-BreaksLoad files F2 = (files ≢ []) × HasTwins files
-BreaksLoad files F3 = (files ≢ []) × ¬ (HasTwins files) × (1073741824 < total_bytes files)
+use Rattle.mm_text.specs.Token.{PlainToken, IsLabel, HoldsNoDollar}
+use Rattle.mm_text.specs.Files.{PlainFile}
+use Rattle.mm_text.specs.Items.{Item, Plain, Wrong, End, items, plain_tokens, HoldNoFault}
+use Rattle.mm_text.specs.Statement.{PlainStatement, IsKeyword, IsHead, AreSymbols, FitsCount, label_in, SpellsAll, keyword_of}
 
 -- A fault in the text: its rule, the number of its file and its place there, and the label of the statement in which it stands.
 pub record PlainFault : Type 0 where
@@ -47,44 +16,6 @@ pub record PlainFault : Type 0 where
   pub file : ℕ
   pub at : ℕ
   pub label : Option PlainToken
-
--- what a file gives, token by token
-pub data Item : Type 0 where
-  Plain : (token : PlainToken) → Item
-  Wrong : (rule : TextRule) (token : PlainToken) → Item
-  End : (file : ℕ) → Item
-
--- the rule that a token breaks whatever stands before it: the first one of X1, X4, X9
-abbrev pub broken_by : List ℕ → Option TextRule
-broken_by text =
-    if not (list_all is_printable text) then Some X1
-    else (if pointwise nat_eq text (codes "$)") || pointwise nat_eq text (codes "$]") then Some X4
-    else (if list_any (λ b. b == 36) text && not (list_any (pointwise nat_eq text) keywords) then Some X9
-    else None))
-
--- The items of a file with these tokens. The first faulty token ends them.
-unfoldable pub items_of : ℕ → List PlainToken → List Item
-items_of file [] = End file ∷ []
-items_of file (t ∷ tokens) = elim (broken_by t.text) [ Some rule ↦ Wrong rule t ∷ [] | None ↦ Plain t ∷ items_of file tokens ]
-
--- The items of the handed files: those of the first, the top file. Inclusions aren't read yet, so no other is reached.
-abbrev pub items : List PlainFile → List Item
-items [] = []
-items (top ∷ others) = items_of 0 (tokens_from 0 0 top.bytes)
-
--- the tokens in items
-abbrev pub plain_tokens : List Item → List PlainToken
-plain_tokens [] = []
-plain_tokens (Plain t ∷ rest) = t ∷ plain_tokens rest
-plain_tokens (Wrong rule t ∷ rest) = plain_tokens rest
-plain_tokens (End file ∷ rest) = plain_tokens rest
-
--- no item is a fault
-abbrev pub HoldNoFault : List Item → Type 0
-HoldNoFault [] = Unit {0}
-HoldNoFault (Plain t ∷ rest) = HoldNoFault rest
-HoldNoFault (Wrong rule t ∷ rest) = ⊥
-HoldNoFault (End file ∷ rest) = HoldNoFault rest
 
 -- an unfinished statement of this kind, which has these symbols so far
 pub record IsBody (tokens : List PlainToken) (kind : Kind) (symbols : List PlainToken) : Type 0 where

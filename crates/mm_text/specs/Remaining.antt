@@ -4,7 +4,8 @@ use Rattle.mm_text.specs.declared.fault.TextFault.{TextFault}
 use Rattle.mm_text.specs.declared.fault.TextFault.TheVariants.{Load, Fault, Memory}
 use Rattle.mm_text.specs.Token.{plain_token}
 use Rattle.mm_text.specs.Statement.{PlainStatement}
-use Rattle.mm_text.specs.Reading.{PlainFile, PlainFault, Reads}
+use Rattle.mm_text.specs.Files.{PlainFile}
+use Rattle.mm_text.specs.Reading.{PlainFault, Reads}
 
 -- The statements of the files that weren't given yet, and the fault that ends them; whether a growth was refused, after
 -- which nothing is given; and whether the end, a fault or want of memory was answered.

@@ -13,7 +13,8 @@ use Rattle.mm_text.specs.declared.statement.Kind.TheVariants as kind
 use Rattle.mm_text.specs.Class.{spelling}
 use Rattle.mm_text.specs.Token.{PlainToken, plain_token, HoldsNoDollar}
 use Rattle.mm_text.specs.Statement.{PlainStatement}
-use Rattle.mm_text.specs.Reading.{Item, Plain, Wrong, End, PlainFault}
+use Rattle.mm_text.specs.Items.{Item, Plain, Wrong, End}
+use Rattle.mm_text.specs.Reading.{PlainFault}
 use Rattle.mm_text.specs.Reader.{PlainReading, Part, Between, step, More, Faulty, step_fault, same_text, is_provable, reading_of, ended, with_statement}
 
 -- the items that begin with a token of a class

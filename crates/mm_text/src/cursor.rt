@@ -2,7 +2,7 @@
 
 ghost use Rattle.std.specs.Prelude.{◌≡◌, ◌≤◌, ◌<◌, length};
 ghost use Rattle.mm_text.specs.Token.{tokens_from};
-ghost use Rattle.mm_text.specs.Reading.{items_of};
+ghost use Rattle.mm_text.specs.Items.{items_of};
 ghost use Rattle.mm_text.specs.Steps.{Takes};
 
 use crate::class::{Class, class_of};
@@ -21,7 +21,7 @@ pub struct Cursor<'a> {
 impl<'a> Model for Cursor<'a> {
     ghost use Rattle.std.specs.Prelude.{List, ◌≤◌, length, drop};
     ghost use Rattle.mm_text.specs.Token.{tokens_from};
-    ghost use Rattle.mm_text.specs.Reading.{Item, items_of};
+    ghost use Rattle.mm_text.specs.Items.{Item, items_of};
 
     ghost Value = { List Item };
 

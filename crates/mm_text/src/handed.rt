@@ -4,7 +4,7 @@ ghost use Rattle.std.specs.Prelude.{◌≡◌, ◌≤◌, ◌↔◌, nat_eq, map
 ghost use Rattle.std.specs.Cmp.Lexicographic.{pointwise};
 ghost use Rattle.std.specs.List.{list_any};
 ghost use Rattle.mm_text.specs.declared.fault.LoadRule.{LoadRule};
-ghost use Rattle.mm_text.specs.Reading.{plain_file, total_bytes, HasTwins, BreaksLoad};
+ghost use Rattle.mm_text.specs.Files.{plain_file, total_bytes, HasTwins, BreaksLoad};
 ghost use Rattle.mm_text.specs.Handed.{has_twins};
 
 use crate::fault::LoadRule;

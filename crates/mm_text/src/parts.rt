@@ -4,7 +4,7 @@ ghost use Rattle.std.specs.Prelude.{◌≡◌, ◌<◌, ◌∷◌, true, false, 
 ghost use Rattle.mm_text.specs.Token.{plain_token, HoldsNoDollar};
 ghost use Rattle.mm_text.specs.Class.{spelling};
 ghost use Rattle.mm_text.specs.Statement.{plain_statement};
-ghost use Rattle.mm_text.specs.Reading.{Plain};
+ghost use Rattle.mm_text.specs.Items.{Plain};
 ghost use Rattle.mm_text.specs.Reader.{Between, Labelled, InBody, InProof, reading_of, has_count, is_full, is_provable, begun, same_text};
 ghost use Rattle.mm_text.specs.Steps.{items_with, IsOfClass, GivesPart, GivesStatement, StepsTo, bare_kind, labelled_kind, ends_symbols};
 

@@ -3,7 +3,8 @@
 ghost use Rattle.std.specs.Prelude.{◌≡◌, ◌↔◌, true, map, Ok, Err, IfOk, IfErr};
 ghost use Rattle.mm_text.specs.declared.fault.LoadRule.{LoadRule};
 ghost use Rattle.mm_text.specs.Statement.{plain_statement, IsFormed};
-ghost use Rattle.mm_text.specs.Reading.{plain_file, BreaksLoad, IsInPlace};
+ghost use Rattle.mm_text.specs.Files.{plain_file, BreaksLoad};
+ghost use Rattle.mm_text.specs.Reading.{IsInPlace};
 ghost use Rattle.mm_text.specs.Remaining.{Gives, IsUnread};
 ghost use Rattle.mm_text.specs.ReaderState.{AnswersIn};
 

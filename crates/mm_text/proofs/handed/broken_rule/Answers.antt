@@ -1,6 +1,6 @@
 use Rattle.std.proofs.Common.{map, refl, sym, ◌∙◌}
 use Rattle.std.proofs.lemmas.Bool.{false≢true}
-use Rattle.mm_text.specs.Reading.{plain_file, HasTwins}
+use Rattle.mm_text.specs.Files.{plain_file, HasTwins}
 use Rattle.mm_text.proofs.HandedLaws.{twins_from_found, found_from_twins, some_handed, above_from_not, none_broken}
 use Rattle.mm_text.proofs.handed.broken_rule.Goals as goal
 

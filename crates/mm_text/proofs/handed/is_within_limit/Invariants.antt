@@ -1,5 +1,5 @@
 use Rattle.std.proofs.Common.{◌≡◌, ◌+◌, drop, map}
-use Rattle.mm_text.specs.Reading.{plain_file, total_bytes}
+use Rattle.mm_text.specs.Files.{plain_file, total_bytes}
 use Rattle.mm_text.proofs.handed.is_within_limit.Given as goal
 
 -- the files so far hold what is no longer left

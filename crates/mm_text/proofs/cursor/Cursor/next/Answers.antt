@@ -1,7 +1,7 @@
 use Rattle.std.proofs.Common.{◌≡◌, ◌∷◌, drop, sym, ap, ◌∙◌, arith}
 use Rattle.std.specs.Prelude.{slice_range}
 use Rattle.mm_text.specs.Token.{PlainToken, tokens_from}
-use Rattle.mm_text.specs.Reading.{items_of}
+use Rattle.mm_text.specs.Items.{items_of}
 use Rattle.mm_text.proofs.TokenLaws.{tokens_from-end}
 use Rattle.mm_text.proofs.ItemLaws.{items_of-nil, items_of-class, class_tells}
 use Rattle.mm_text.proofs.cursor.Cursor.next.Goals as goal

@@ -1,6 +1,7 @@
 use Rattle.std.proofs.Common.{map, refl, sym, ◌∙◌, subst, arith}
 use Rattle.mm_text.specs.declared.fault.LoadRule.TheVariants.{F1}
-use Rattle.mm_text.specs.Reading.{plain_file, Reads}
+use Rattle.mm_text.specs.Files.{plain_file}
+use Rattle.mm_text.specs.Reading.{Reads}
 use Rattle.mm_text.specs.Reader.{Between, reading_of}
 use Rattle.mm_text.specs.Laws.{AreFormedInPlace}
 use Rattle.mm_text.proofs.HandedLaws.{some_from_kept, within_from_kept, top_within, items-top}
