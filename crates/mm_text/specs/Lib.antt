@@ -7,6 +7,7 @@ pub mod Remaining
 pub mod Statement
 pub mod Token
 pub mod Class
+pub mod Next
 pub mod Steps
 pub mod Empty
 pub mod Handed
