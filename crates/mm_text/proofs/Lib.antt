@@ -1,5 +1,7 @@
 mod Pieces
 pub mod TokenLaws
+pub mod CommentLaws
+pub mod NameLaws
 pub mod ItemLaws
 pub mod StepLaws
 pub mod PartLaws

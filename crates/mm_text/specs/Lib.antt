@@ -8,6 +8,8 @@ pub mod Statement
 pub mod Token
 pub mod Class
 pub mod Next
+pub mod Place
+pub mod Names
 pub mod Steps
 pub mod Empty
 pub mod Handed

@@ -2,6 +2,7 @@
 #![tactic(auto)]
 
 mod class;
+mod comments;
 mod counted;
 mod cursor;
 mod fault;
@@ -9,6 +10,7 @@ mod file;
 mod handed;
 mod laws;
 mod load;
+mod names;
 mod parts;
 mod scan;
 mod statement;
