@@ -10,6 +10,7 @@ pub mod Class
 pub mod Next
 pub mod Place
 pub mod Names
+pub mod Nest
 pub mod Steps
 pub mod Empty
 pub mod Handed

@@ -53,7 +53,13 @@ IsLater p after = (p.at < after) × (after ≤ p.legal)
 
 -- nothing is left but a fault
 abbrev pub IsBroken : List Shown → Wrong → Type 0
-IsBroken shown w = shown ≡ Broken w.rule (plain_token w.token) ∷ []
+IsBroken shown w = (shown ≡ Broken w.rule (plain_token w.token) ∷ []) × (w.token.at < 1073741824)
+
+-- a token outside comments
+pub record IsClear (t : Token) : Type 0 where
+  pub at : t.at < 1073741824
+  pub begins : spells t.text.now (codes "$(") ≡ false
+  pub closes : spells t.text.now (codes "$)") ≡ false
 
 -- what a part of a comment comes to
 abbrev pub GoesOn : Place → PlainToken → Result Comment Wrong → Type 0
@@ -68,13 +74,13 @@ Closes p begin (Err w) = IsBroken (comment_at begin p) w
 
 -- one token or comment is taken
 abbrev pub TakesOne : Place → Result Found Wrong → Place → Type 0
-TakesOne old (Ok (found.Token t)) new = (shown_at old ≡ Clear (plain_token t) ∷ shown_at new) × (t.at < 1073741824)
+TakesOne old (Ok (found.Token t)) new = (shown_at old ≡ Clear (plain_token t) ∷ shown_at new) × IsClear t
 TakesOne old (Ok found.Comment) new = (old.at < new.at) × (shown_at old ≡ shown_at new)
 TakesOne old (Ok found.End) new = shown_at old ≡ []
 TakesOne old (Err w) new = IsBroken (shown_at old) w
 
 -- the first of what stands outside comments is taken, and the rest is left
 abbrev pub TakesShown : List Shown → Result (Option Token) Wrong → List Shown → Type 0
-TakesShown old (Ok (Some t)) new = (old ≡ Clear (plain_token t) ∷ new) × (t.at < 1073741824)
+TakesShown old (Ok (Some t)) new = (old ≡ Clear (plain_token t) ∷ new) × IsClear t
 TakesShown old (Ok None) new = old ≡ []
 TakesShown old (Err w) new = IsBroken old w

@@ -133,7 +133,8 @@ fn comment_stop(bytes: &[u8], at: usize, legal: usize) -> usize
 
 /// What a comment comes to at its next token that holds a `$` or a byte that no token may hold.
 fn comment_step<'a>(place: Place<'a>, begin: Token<'a>) -> Result<Comment, Wrong<'a>>
-    requires { IsPlace place }
+    requires place { IsPlace place }
+    requires begin { begin.at < 1073741824 }
     ensures { GoesOn place.entry (plain_token begin.entry) result }
 {
     let stop = comment_stop(place.bytes, place.at, place.legal);
@@ -166,7 +167,8 @@ fn comment_step<'a>(place: Place<'a>, begin: Token<'a>) -> Result<Comment, Wrong
 
 /// The place after the comment that begins with a `$(` before a place.
 fn comment_end<'a>(mut place: Place<'a>, begin: Token<'a>) -> Result<usize, Wrong<'a>>
-    requires { IsPlace place }
+    requires place { IsPlace place }
+    requires begin { begin.at < 1073741824 }
     ensures { Closes place.entry (plain_token begin.entry) result }
 {
     'parts: loop {

@@ -33,7 +33,7 @@ fn has_twins(files: &[File]) -> bool
 }
 
 /// Whether the files hold no more bytes than they may.
-fn is_within_limit(files: &[File]) -> bool
+pub fn is_within_limit(files: &[File]) -> bool
     ensures { IsTrue result ↔ (total_bytes (map plain_file files.now) ≤ 1073741824) }
 {
     let mut left = BYTE_LIMIT;

@@ -11,6 +11,8 @@ mod handed;
 mod laws;
 mod load;
 mod names;
+mod nest;
+mod next;
 mod parts;
 mod scan;
 mod statement;
