@@ -12,6 +12,7 @@ use Rattle.mm_text.specs.Statement.{keywords}
 pub data Item : Type 0 where
   Plain : (token : PlainToken) → Item
   Wrong : (rule : TextRule) (token : PlainToken) → Item
+  Inclusion : (token : PlainToken) → Item
   End : (file : ℕ) → Item
 
 -- the rule that a token breaks whatever stands before it: the first one of X1, X4, X9
@@ -37,6 +38,7 @@ abbrev pub plain_tokens : List Item → List PlainToken
 plain_tokens [] = []
 plain_tokens (Plain t ∷ rest) = t ∷ plain_tokens rest
 plain_tokens (Wrong rule t ∷ rest) = plain_tokens rest
+plain_tokens (Inclusion t ∷ rest) = plain_tokens rest
 plain_tokens (End file ∷ rest) = plain_tokens rest
 
 -- no item is a fault
@@ -44,4 +46,5 @@ abbrev pub HoldNoFault : List Item → Type 0
 HoldNoFault [] = Unit {0}
 HoldNoFault (Plain t ∷ rest) = HoldNoFault rest
 HoldNoFault (Wrong rule t ∷ rest) = ⊥
+HoldNoFault (Inclusion t ∷ rest) = HoldNoFault rest
 HoldNoFault (End file ∷ rest) = HoldNoFault rest

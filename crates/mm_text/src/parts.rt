@@ -22,6 +22,7 @@ fn fault<'a>(rule: TextRule, token: Token<'a>, label: Option<Token<'a>>) -> Text
         rule,
         file: token.file,
         at: token.at,
+        statement: 1,
         label,
     }
 }
