@@ -8,6 +8,7 @@ pub mod Statement
 pub mod Blocks
 pub mod Token
 pub mod Class
+pub mod Next
 pub mod Steps
 pub mod Empty
 pub mod Handed

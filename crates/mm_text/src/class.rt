@@ -1,14 +1,15 @@
 //! What a token is by its bytes alone: a keyword, another word, or a fault.
 
-ghost use Rattle.std.specs.Prelude.{◌≡◌, ◌==◌, true};
-ghost use Rattle.std.specs.List.{list_any, list_all};
-ghost use Rattle.mm_text.specs.Token.{is_printable, is_label_byte};
-ghost use Rattle.mm_text.specs.Class.{ClassIs};
+ghost use Rattle.std.specs.Prelude.{◌≡◌, true};
+ghost use Rattle.std.specs.List.{list_all};
+ghost use Rattle.mm_text.specs.Token.{is_label_byte};
+ghost use Rattle.mm_text.specs.Items.{holds_dollar};
+ghost use Rattle.mm_text.specs.Class.{IsReadApart, ClassIs};
 
 use crate::fault::TextRule;
 
-/// The keywords that may stand where a token is expected: all but `$)` and `$]`, which close what
-/// is read apart.
+/// The keywords that statements are made of: all but those of comments and inclusions, which are
+/// read apart.
 #[derive(Clone, Copy, PartialEq, Eq)]
 pub enum Keyword {
     /// `$c`
@@ -33,10 +34,6 @@ pub enum Keyword {
     Opening,
     /// `$}`
     Closing,
-    /// `$(`
-    Comment,
-    /// `$[`
-    Inclusion,
 }
 
 /// What a token is.
@@ -47,13 +44,6 @@ pub enum Class {
     Keyword(Keyword),
     /// A label, a math symbol or a token of a proof: it holds no `$`.
     Word,
-}
-
-/// Whether each byte is printable: 0x21 to 0x7E.
-fn is_printable(text: &[u8]) -> bool
-    ensures { result ≡ list_all is_printable text.now }
-{
-    text.iter().all(|byte| *byte >= b'!' && *byte <= b'~')
 }
 
 /// Whether each byte may stand in a label.
@@ -67,8 +57,8 @@ pub fn is_label(text: &[u8]) -> bool
 
 /// The class of a token that holds a `$`.
 fn class_of_dollar(text: &[u8]) -> Class
-    requires printable { list_all is_printable text.now ≡ true }
-    requires dollar { list_any (λ b. b == 36) text.now ≡ true }
+    requires unread { ¬ (IsReadApart text.now) }
+    requires dollar { holds_dollar text.now ≡ true }
     ensures { ClassIs text.now result }
 {
     match text {
@@ -83,20 +73,17 @@ fn class_of_dollar(text: &[u8]) -> Class
         b"$=" => Class::Keyword(Keyword::Equals),
         b"${" => Class::Keyword(Keyword::Opening),
         b"$}" => Class::Keyword(Keyword::Closing),
-        b"$(" => Class::Keyword(Keyword::Comment),
-        b"$[" => Class::Keyword(Keyword::Inclusion),
-        b"$)" | b"$]" => Class::Wrong(TextRule::X4),
+        b"$]" => Class::Wrong(TextRule::X4),
         _ => Class::Wrong(TextRule::X9),
     }
 }
 
-/// What a token is.
+/// What a token is that stands outside comments and inclusions and begins none.
 pub fn class_of(text: &[u8]) -> Class
+    requires unread { ¬ (IsReadApart text.now) }
     ensures { ClassIs text.now result }
 {
-    if !is_printable(text) {
-        Class::Wrong(TextRule::X1)
-    } else if text.contains(&b'$') {
+    if text.contains(&b'$') {
         class_of_dollar(text)
     } else {
         Class::Word

@@ -10,6 +10,18 @@ use crate::scan::{skip_space, token_end};
 use crate::token::Token;
 use std::marker::Model;
 
+/// What a cursor takes.
+pub enum Next<'a> {
+    /// A token outside comments and inclusions, or the one at which the text is wrong.
+    Token(Token<'a>, Class),
+    /// A `$[`.
+    Inclusion(Token<'a>),
+    /// The end of the file with this number.
+    End(usize),
+    /// Nothing is left.
+    Nothing,
+}
+
 /// The place up to which a file was read. Contracts see what is left: its items.
 #[derive(Drop)]
 pub struct Cursor<'a> {

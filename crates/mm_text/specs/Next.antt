@@ -1,0 +1,39 @@
+-- What a cursor takes from the items that are left. Private clauses speak of this.
+use Rattle.std.specs.Prelude.{◌≡◌, ℕ, ◌<◌, List, [], ◌∷◌, Result, Ok, Err}
+use Rattle.mm_text.specs.declared.class.Class.{Class}
+use Rattle.mm_text.specs.declared.class.Class.TheVariants as class
+use Rattle.mm_text.specs.declared.cursor.Next.{Next}
+use Rattle.mm_text.specs.declared.cursor.Next.TheVariants as next
+use Rattle.mm_text.specs.declared.fault.TextFault.{TextFault}
+use Rattle.mm_text.specs.declared.fault.TextFault.TheVariants.{Load, Fault, Memory}
+use Rattle.mm_text.specs.Class.{spelling}
+use Rattle.mm_text.specs.Token.{PlainToken, plain_token, HoldsNoDollar}
+use Rattle.mm_text.specs.Items.{Item, Plain, Wrong, Inclusion, End}
+
+-- the items that begin with a token of a class
+abbrev pub items_with : PlainToken → Class → List Item → List Item
+items_with t (class.Wrong rule) rest = Wrong rule t ∷ []
+items_with t (class.Keyword keyword) rest = Plain t ∷ rest
+items_with t class.Word rest = Plain t ∷ rest
+
+-- what its class tells of a token that breaks no rule by itself
+abbrev pub IsOfClass : PlainToken → Class → Type 0
+IsOfClass t (class.Wrong rule) = Unit {0}
+IsOfClass t (class.Keyword keyword) = t.text ≡ spelling keyword
+IsOfClass t class.Word = HoldsNoDollar t.text
+
+-- the next token is the first of the items, and those after it are left
+pub record TakesToken (old : List Item) (t : PlainToken) (kind : Class) (new : List Item) : Type 0 where
+  pub first : old ≡ items_with t kind new
+  pub text : IsOfClass t kind
+  pub at : t.at < 1073741824
+
+-- The first of the items is taken, and those after it are left. Where memory is wanting nothing is taken.
+abbrev pub TakesNext : List Item → Result Next TextFault → List Item → Type 0
+TakesNext old (Ok (next.Token t kind)) new = TakesToken old (plain_token t) kind new
+TakesNext old (Ok (next.Inclusion t)) new = old ≡ Inclusion (plain_token t) ∷ new
+TakesNext old (Ok (next.End file)) new = old ≡ End file ∷ new
+TakesNext old (Ok next.Nothing) new = (old ≡ []) × (new ≡ [])
+TakesNext old (Err Memory) new = new ≡ old
+TakesNext old (Err (Load rule)) new = ⊥
+TakesNext old (Err (Fault rule file at label)) new = ⊥
