@@ -36,4 +36,4 @@ TakesNext old (Ok (next.End file)) new = old ≡ End file ∷ new
 TakesNext old (Ok next.Nothing) new = (old ≡ []) × (new ≡ [])
 TakesNext old (Err Memory) new = new ≡ old
 TakesNext old (Err (Load rule)) new = ⊥
-TakesNext old (Err (Fault rule file at label)) new = ⊥
+TakesNext old (Err (Fault rule file at statement label)) new = ⊥

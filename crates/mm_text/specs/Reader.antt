@@ -1,6 +1,7 @@
 -- The plain reader that the code computes: one token after the other, with what is unfinished. That it gives the reading
 -- of the files is proved apart from the code; public clauses speak of the reading.
-use Rattle.std.specs.Prelude.{ℕ, ◌+◌, ◌==◌, nat_eq, nat_le, List, [], ◌∷◌, ◌++◌, length, Bool, true, false, if◌then◌else◌, codes, drop, ◌&&◌, Option, Some, None, is_none, option_map}
+use Rattle.std.specs.Prelude.{ℕ, ◌+◌, ◌==◌, nat_eq, nat_le, List, [], ◌∷◌, ◌++◌, length, Bool, true, false, if◌then◌else◌, codes, drop, ◌&&◌, Option, Some, None, option_map}
+use Rattle.std.specs.Option.{is_none}
 use Rattle.std.specs.List.{list_any, list_all}
 use Rattle.std.specs.Cmp.Lexicographic.{pointwise}
 use Rattle.mm_text.specs.declared.fault.TextRule.{TextRule}
@@ -24,6 +25,8 @@ pub data Part : Type 0 where
 pub data Step : Type 0 where
   More : (part : Part) → Step
   Whole : (statement : PlainStatement) → Step
+  Opened : Step
+  Closed : Step
   Faulty : (rule : TextRule) → Step
 
 abbrev pub same_text : List ℕ → List ℕ → Bool
@@ -42,8 +45,8 @@ at_start t =
     if same_text t.text (codes "$c") then More (InBody (begun Constants t None))
     else (if same_text t.text (codes "$v") then More (InBody (begun Variables t None))
     else (if same_text t.text (codes "$d") then More (InBody (begun Distinct t None))
-    else (if same_text t.text (codes "${") then Whole (begun Opening t None)
-    else (if same_text t.text (codes "$}") then Whole (begun Closing t None)
+    else (if same_text t.text (codes "${") then Opened
+    else (if same_text t.text (codes "$}") then Closed
     else (if is_keyword t.text then Faulty S1
     else (if list_all is_label_byte t.text then More (Labelled t) else Faulty S2))))))
 
@@ -128,20 +131,21 @@ with_statement s reading = record { statements = s ∷ reading.statements; endin
 -- what is kept of the statements that were read: how many they are, and the open blocks, the innermost one first
 pub record PlainScope : Type 0 where
   pub count : ℕ
-  pub open : List OpenBlock
+  pub blocks : List OpenBlock
 
 abbrev pub outermost : PlainScope
-outermost = record { count = 0; open = [] }
+outermost = record { count = 0; blocks = [] }
 
--- the open blocks after one more statement
-abbrev pub open_after : PlainScope → PlainStatement → Kind → List OpenBlock
-open_after scope s Opening = record { file = s.first.file; at = s.first.at; statement = scope.count + 1 } ∷ scope.open
-open_after scope s Closing = drop 1 scope.open
-open_after scope s kind = scope.open
+-- one more statement was read: one with symbols, a `${` or a `$}`
+abbrev pub passed : PlainScope → PlainScope
+passed scope = record { count = scope.count + 1; blocks = scope.blocks }
 
--- one more statement was read
-abbrev pub after : PlainScope → PlainStatement → PlainScope
-after scope s = record { count = scope.count + 1; open = open_after scope s s.kind }
+abbrev pub opened : PlainScope → PlainToken → PlainScope
+opened scope t =
+    record { count = scope.count + 1; blocks = record { file = t.file; at = t.at; statement = scope.count + 1 } ∷ scope.blocks }
+
+abbrev pub closed : PlainScope → PlainScope
+closed scope = record { count = scope.count + 1; blocks = drop 1 scope.blocks }
 
 -- the fault of a token after what is unfinished
 abbrev pub fault_in : PlainScope → Part → TextRule → PlainToken → PlainFault
@@ -155,26 +159,25 @@ unfinished_fault scope part = option_map (fault_in scope part X8) (part_first pa
 -- the fault of a top file that ends in a block
 abbrev pub block_fault : List OpenBlock → Option PlainFault
 block_fault [] = None
-block_fault (block ∷ open) =
+block_fault (block ∷ blocks) =
     Some (record { rule = S7; file = block.file; at = block.at; statement = block.statement; label = None })
 
 -- the fault of a file that ends
 abbrev pub end_fault : PlainScope → Part → ℕ → Option PlainFault
 end_fault scope part file =
-    elim (unfinished_fault scope part) [ Some fault ↦ Some fault | None ↦ if file == 0 then block_fault scope.open else None ]
+    elim (unfinished_fault scope part) [ Some fault ↦ Some fault | None ↦ if file == 0 then block_fault scope.blocks else None ]
+
+abbrev pub has_none : List OpenBlock → Bool
+has_none [] = true
+has_none (block ∷ blocks) = false
 
 -- what stands before is whole statements, and each block is closed
 abbrev pub is_outside : PlainScope → Part → Bool
-is_outside scope part = is_none (part_first part) && is_empty scope.open
+is_outside scope part = is_none (part_first part) && has_none scope.blocks
 
 -- the fault of an inclusion
 abbrev pub inclusion_fault : PlainScope → Part → PlainToken → Option PlainFault
 inclusion_fault scope part t = if is_outside scope part then None else Some (fault_in scope part X6 t)
-
--- a `$}` with no block open
-abbrev pub lacks_block : PlainScope → Kind → Bool
-lacks_block scope Closing = is_empty scope.open
-lacks_block scope kind = false
 
 -- what follows, where there is no fault
 abbrev pub unless : Option PlainFault → PlainReading → PlainReading
@@ -189,9 +192,11 @@ reading_of scope part (Wrong rule t ∷ items) = ended (Some (fault_in scope par
 reading_of scope part (Inclusion t ∷ items) = unless (inclusion_fault scope part t) (reading_of scope part items)
 reading_of scope part (Plain t ∷ items) = elim (step part t) [
   | More next ↦ reading_of scope next items
-  | Whole s ↦
-      if lacks_block scope s.kind
+  | Whole s ↦ with_statement s (reading_of (passed scope) Between items)
+  | Opened ↦ with_statement (begun Opening t None) (reading_of (opened scope t) Between items)
+  | Closed ↦
+      if has_none scope.blocks
       then ended (Some (fault_in scope part S6 t))
-      else with_statement s (reading_of (after scope s) Between items)
+      else with_statement (begun Closing t None) (reading_of (closed scope) Between items)
   | Faulty rule ↦ ended (Some (fault_in scope part rule t))
 ]

@@ -11,6 +11,7 @@ mod laws;
 mod load;
 mod parts;
 mod scan;
+mod scope;
 mod statement;
 mod statements;
 #[cfg(test)]
