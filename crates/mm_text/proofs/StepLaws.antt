@@ -4,49 +4,73 @@ use Rattle.std.specs.List.{list_any, list_all}
 use Rattle.std.specs.Cmp.Lexicographic.{bytes_decides}
 use Rattle.std.proofs.lemmas.Bool.{false≢true}
 use Rattle.mm_text.specs.declared.fault.TextRule.{TextRule}
-use Rattle.mm_text.specs.declared.fault.TextRule.TheVariants.{S1, S2, S3, S4, S5}
+use Rattle.mm_text.specs.declared.fault.TextRule.TheVariants.{S1, S2, S3, S4, S5, S6}
 use Rattle.mm_text.specs.declared.statement.Kind.{Kind}
+use Rattle.mm_text.specs.declared.statement.Kind.TheVariants.{Opening, Closing}
 use Rattle.mm_text.specs.declared.class.Keyword.{Keyword}
 use Rattle.mm_text.specs.declared.class.Keyword.TheVariants as keyword
 use Rattle.mm_text.specs.Token.{PlainToken, HoldsNoDollar, is_label_byte}
 use Rattle.mm_text.specs.Statement.{PlainStatement}
-use Rattle.mm_text.specs.Items.{Item, Plain, Wrong, End}
+use Rattle.mm_text.specs.Items.{Item, Plain, Wrong, Inclusion, End}
 use Rattle.mm_text.specs.Class.{spelling}
-use Rattle.mm_text.specs.Reader.{same_text, is_keyword, begun, Part, Between, Labelled, InBody, InProof, Step, More, Whole, Faulty, has_count, is_full, is_provable, step, step_fault, end_fault, PlainReading, ended, with_statement, reading_of}
-use Rattle.mm_text.specs.Steps.{bare_kind, labelled_kind, ends_symbols}
+use Rattle.mm_text.specs.Reader.{same_text, is_keyword, begun, Part, Between, Labelled, InBody, InProof, Step, More, Whole, Opened, Closed, Faulty, has_count, is_full, is_provable, step, PlainScope, passed, opened, closed, has_none, fault_in, unfinished_fault, end_fault, inclusion_fault, unless, PlainReading, ended, with_statement, reading_of}
+use Rattle.mm_text.specs.Steps.{is_block_sign, bare_kind, labelled_kind, ends_symbols}
 
 -- ---- the reading of items, by the first
 
-pub read_end : (part : Part) (file : ℕ) (items : List Item) → reading_of part (End file ∷ items) ≡ ended (end_fault part)
+pub read_nothing : (scope : PlainScope) (part : Part) → reading_of scope part [] ≡ ended (unfinished_fault scope part)
 unfolding reading_of
-read_end part file items = refl
+read_nothing scope part = refl
 
-pub read_wrong : (part : Part) (rule : TextRule) (t : PlainToken) (items : List Item) → reading_of part (Wrong rule t ∷ items) ≡ ended (step_fault part t rule)
+pub read_end : (scope : PlainScope) (part : Part) (file : ℕ) (items : List Item) → reading_of scope part (End file ∷ items) ≡ unless (end_fault scope part file) (reading_of scope part items)
 unfolding reading_of
-read_wrong part rule t items = refl
+read_end scope part file items = refl
 
-read_by : Part → PlainToken → List Item → Step → PlainReading
-read_by part t items s = elim s [
-  | More next ↦ reading_of next items
-  | Whole s ↦ with_statement s (reading_of Between items)
-  | Faulty rule ↦ ended (step_fault part t rule)
+pub read_inclusion : (scope : PlainScope) (part : Part) (t : PlainToken) (items : List Item) → reading_of scope part (Inclusion t ∷ items) ≡ unless (inclusion_fault scope part t) (reading_of scope part items)
+unfolding reading_of
+read_inclusion scope part t items = refl
+
+pub read_wrong : (scope : PlainScope) (part : Part) (rule : TextRule) (t : PlainToken) (items : List Item) → reading_of scope part (Wrong rule t ∷ items) ≡ ended (Some (fault_in scope part rule t))
+unfolding reading_of
+read_wrong scope part rule t items = refl
+
+-- what follows a `$}`
+abbrev pub read_closed : PlainScope → Part → PlainToken → List Item → PlainReading
+read_closed scope part t items =
+    if has_none scope.blocks then ended (Some (fault_in scope part S6 t)) else with_statement (begun Closing t None) (reading_of (closed scope) Between items)
+
+read_by : PlainScope → Part → PlainToken → List Item → Step → PlainReading
+read_by scope part t items s = elim s [
+  | More next ↦ reading_of scope next items
+  | Whole s ↦ with_statement s (reading_of (passed scope) Between items)
+  | Opened ↦ with_statement (begun Opening t None) (reading_of (opened scope t) Between items)
+  | Closed ↦ read_closed scope part t items
+  | Faulty rule ↦ ended (Some (fault_in scope part rule t))
 ]
 
-read_plain : (part : Part) (t : PlainToken) (items : List Item) → reading_of part (Plain t ∷ items) ≡ read_by part t items (step part t)
+read_plain : (scope : PlainScope) (part : Part) (t : PlainToken) (items : List Item) → reading_of scope part (Plain t ∷ items) ≡ read_by scope part t items (step part t)
 unfolding reading_of read_by
-read_plain part t items = refl
+read_plain scope part t items = refl
 
-pub read_more : (part : Part) (t : PlainToken) (items : List Item) (next : Part) → step part t ≡ More next → reading_of part (Plain t ∷ items) ≡ reading_of next items
+pub read_more : (scope : PlainScope) (part : Part) (t : PlainToken) (items : List Item) (next : Part) → step part t ≡ More next → reading_of scope part (Plain t ∷ items) ≡ reading_of scope next items
 unfolding read_by
-read_more part t items next e = read_plain part t items ∙ ap (read_by part t items) e
+read_more scope part t items next e = read_plain scope part t items ∙ ap (read_by scope part t items) e
 
-pub read_whole : (part : Part) (t : PlainToken) (items : List Item) (s : PlainStatement) → step part t ≡ Whole s → reading_of part (Plain t ∷ items) ≡ with_statement s (reading_of Between items)
+pub read_whole : (scope : PlainScope) (part : Part) (t : PlainToken) (items : List Item) (s : PlainStatement) → step part t ≡ Whole s → reading_of scope part (Plain t ∷ items) ≡ with_statement s (reading_of (passed scope) Between items)
 unfolding read_by
-read_whole part t items s e = read_plain part t items ∙ ap (read_by part t items) e
+read_whole scope part t items s e = read_plain scope part t items ∙ ap (read_by scope part t items) e
 
-pub read_faulty : (part : Part) (t : PlainToken) (items : List Item) (rule : TextRule) → step part t ≡ Faulty rule → reading_of part (Plain t ∷ items) ≡ ended (step_fault part t rule)
+pub read_opened : (scope : PlainScope) (part : Part) (t : PlainToken) (items : List Item) → step part t ≡ Opened → reading_of scope part (Plain t ∷ items) ≡ with_statement (begun Opening t None) (reading_of (opened scope t) Between items)
 unfolding read_by
-read_faulty part t items rule e = read_plain part t items ∙ ap (read_by part t items) e
+read_opened scope part t items e = read_plain scope part t items ∙ ap (read_by scope part t items) e
+
+pub read_closing : (scope : PlainScope) (part : Part) (t : PlainToken) (items : List Item) → step part t ≡ Closed → reading_of scope part (Plain t ∷ items) ≡ read_closed scope part t items
+unfolding read_by
+read_closing scope part t items e = read_plain scope part t items ∙ ap (read_by scope part t items) e
+
+pub read_faulty : (scope : PlainScope) (part : Part) (t : PlainToken) (items : List Item) (rule : TextRule) → step part t ≡ Faulty rule → reading_of scope part (Plain t ∷ items) ≡ ended (Some (fault_in scope part rule t))
+unfolding read_by
+read_faulty scope part t items rule e = read_plain scope part t items ∙ ap (read_by scope part t items) e
 
 -- ---- words and keywords
 
@@ -90,8 +114,6 @@ keyword_is_one keyword.Stop = refl
 keyword_is_one keyword.Equals = refl
 keyword_is_one keyword.Opening = refl
 keyword_is_one keyword.Closing = refl
-keyword_is_one keyword.Comment = refl
-keyword_is_one keyword.Inclusion = refl
 
 -- ---- the first token of a statement
 
@@ -99,37 +121,46 @@ start_by : PlainToken → Option Kind → Step
 start_by t None = Faulty S1
 start_by t (Some kind) = More (InBody (begun kind t None))
 
-start_keyword : (t : PlainToken) (k : Keyword) → t.text ≡ spelling k → step Between t ≡ start_by t (bare_kind k)
+pub step_opens : (t : PlainToken) → t.text ≡ codes "${" → step Between t ≡ Opened
+unfolding step
+step_opens t e = rw e refl
+
+pub step_closes : (t : PlainToken) → t.text ≡ codes "$}" → step Between t ≡ Closed
+unfolding step
+step_closes t e = rw e refl
+
+start_keyword : (t : PlainToken) (k : Keyword) → t.text ≡ spelling k → is_block_sign k ≡ false → step Between t ≡ start_by t (bare_kind k)
 unfolding step start_by
-start_keyword t keyword.Constants e = rw e refl
-start_keyword t keyword.Variables e = rw e refl
-start_keyword t keyword.Distinct e = rw e refl
-start_keyword t keyword.Floating e = rw e refl
-start_keyword t keyword.Essential e = rw e refl
-start_keyword t keyword.Axiom e = rw e refl
-start_keyword t keyword.Provable e = rw e refl
-start_keyword t keyword.Stop e = rw e refl
-start_keyword t keyword.Equals e = rw e refl
-start_keyword t keyword.Opening e = rw e refl
-start_keyword t keyword.Closing e = rw e refl
-start_keyword t keyword.Comment e = rw e refl
-start_keyword t keyword.Inclusion e = rw e refl
+start_keyword t keyword.Constants e b = rw e refl
+start_keyword t keyword.Variables e b = rw e refl
+start_keyword t keyword.Distinct e b = rw e refl
+start_keyword t keyword.Floating e b = rw e refl
+start_keyword t keyword.Essential e b = rw e refl
+start_keyword t keyword.Axiom e b = rw e refl
+start_keyword t keyword.Provable e b = rw e refl
+start_keyword t keyword.Stop e b = rw e refl
+start_keyword t keyword.Equals e b = rw e refl
+start_keyword t keyword.Opening e b = absurd (false≢true (sym b))
+start_keyword t keyword.Closing e b = absurd (false≢true (sym b))
 
-pub step_begins : (t : PlainToken) (k : Keyword) (kind : Kind) → t.text ≡ spelling k → bare_kind k ≡ Some kind → step Between t ≡ More (InBody (begun kind t None))
+pub step_begins : (t : PlainToken) (k : Keyword) (kind : Kind) → t.text ≡ spelling k → is_block_sign k ≡ false → bare_kind k ≡ Some kind → step Between t ≡ More (InBody (begun kind t None))
 unfolding start_by
-step_begins t k kind e begins = start_keyword t k e ∙ ap (start_by t) begins
+step_begins t k kind e b begins = start_keyword t k e b ∙ ap (start_by t) begins
 
-pub step_begins_none : (t : PlainToken) (k : Keyword) → t.text ≡ spelling k → bare_kind k ≡ None → step Between t ≡ Faulty S1
+pub step_begins_none : (t : PlainToken) (k : Keyword) → t.text ≡ spelling k → is_block_sign k ≡ false → bare_kind k ≡ None → step Between t ≡ Faulty S1
 unfolding start_by
-step_begins_none t k e begins = start_keyword t k e ∙ ap (start_by t) begins
+step_begins_none t k e b begins = start_keyword t k e b ∙ ap (start_by t) begins
 
 start_word : (t : PlainToken) → HoldsNoDollar t.text → step Between t ≡ cond (list_all is_label_byte t.text) (More (Labelled t)) (Faulty S2)
 unfolding step
 start_word t word =
     let constants = other_text t.text (codes "$c") word refl in
     let variables = other_text t.text (codes "$v") word refl in
+    let distinct = other_text t.text (codes "$d") word refl in
+    let opening = other_text t.text (codes "${") word refl in
+    let closing = other_text t.text (codes "$}") word refl in
     let none = word_is_no_keyword t.text word in
-    rw none (simp (constants, variables))
+    rw none (simp (constants, variables, distinct, opening, closing))
 
 pub step_label : (t : PlainToken) → HoldsNoDollar t.text → list_all is_label_byte t.text ≡ true → step Between t ≡ More (Labelled t)
 step_label t word named = start_word t word ∙ ap (λ b. cond b (More (Labelled t)) (Faulty S2)) named
@@ -156,8 +187,6 @@ label_keyword label t keyword.Stop e = rw e refl
 label_keyword label t keyword.Equals e = rw e refl
 label_keyword label t keyword.Opening e = rw e refl
 label_keyword label t keyword.Closing e = rw e refl
-label_keyword label t keyword.Comment e = rw e refl
-label_keyword label t keyword.Inclusion e = rw e refl
 
 pub step_after_label : (label t : PlainToken) (k : Keyword) (kind : Kind) → t.text ≡ spelling k → labelled_kind k ≡ Some kind → step (Labelled label) t ≡ More (InBody (begun kind label (Some label)))
 unfolding labelled_by
@@ -171,9 +200,10 @@ pub step_label_word : (label t : PlainToken) → HoldsNoDollar t.text → step (
 unfolding step
 step_label_word label t word =
     let floating = other_text t.text (codes "$f") word refl in
+    let essential = other_text t.text (codes "$e") word refl in
     let axiom_sign = other_text t.text (codes "$a") word refl in
     let provable = other_text t.text (codes "$p") word refl in
-    simp (floating, axiom_sign, provable)
+    simp (floating, essential, axiom_sign, provable)
 
 -- ---- the token after symbols
 

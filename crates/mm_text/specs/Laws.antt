@@ -1,10 +1,11 @@
 -- The laws of tokens and of readings.
-use Rattle.std.specs.Prelude.{◌≡◌, ◌≢◌, ℕ, ◌+◌, ◌<◌, ◌≤◌, List, [], ◌∷◌, ◌++◌, length, slice_range, Contains, Option, AllPairs}
+use Rattle.std.specs.Prelude.{◌≡◌, ◌≢◌, ℕ, ◌+◌, ◌<◌, ◌≤◌, List, [], ◌∷◌, ◌++◌, length, sum_by, slice_range, Contains, Option, AllPairs}
 use Rattle.std.specs.List.{AllByRecursion}
 use Rattle.mm_text.specs.Token.{PlainToken, IsToken, tokens_from}
-use Rattle.mm_text.specs.Statement.{PlainStatement, Spells, IsFormed}
-use Rattle.mm_text.specs.Files.{PlainFile}
+use Rattle.mm_text.specs.Statement.{PlainStatement, Spells, HasForm, bytes_in}
+use Rattle.mm_text.specs.Files.{PlainFile, total_bytes}
 use Rattle.mm_text.specs.Items.{Item, items}
+use Rattle.mm_text.specs.Blocks.{AreBalanced}
 use Rattle.mm_text.specs.Reading.{PlainFault, IsBeginning, Viable, EndsAt, Reads, IsInPlace}
 
 -- a token of this file is the slice of its bytes at its place, and that is a longest run of bytes that aren't white space
@@ -60,15 +61,28 @@ abbrev pub FaultsEndLongestFronts : Type 0
 FaultsEndLongestFronts =
     (files : List PlainFile) (front : List Item) (item : Item) (rest : List Item)
     (statements : List PlainStatement) (unfinished : List PlainToken) (fault : PlainFault)
-    → items files ≡ front ++ item ∷ rest → Viable front statements unfinished → EndsAt unfinished item fault
+    → items files ≡ front ++ item ∷ rest → Viable front statements unfinished → EndsAt statements unfinished item fault
     → IsLongestViable (items files) front
 
--- each statement of a reading is formed by the grammar, and each of its tokens is the slice of its file at its place
+-- each statement of a reading is formed by the grammar, each of its tokens holds a byte, and is the slice of its file at its
+-- place
 pub record AreFormedInPlace (files : List PlainFile) (statements : List PlainStatement) : Type 0 where
-  pub formed : AllByRecursion IsFormed statements
+  pub formed : AllByRecursion HasForm statements
   pub in_place : AllByRecursion (IsInPlace files) statements
 
 abbrev pub ReadingsAreFormedInPlace : Type 0
 ReadingsAreFormedInPlace =
     (files : List PlainFile) (statements : List PlainStatement) (ending : Option PlainFault)
     → Reads files statements ending → AreFormedInPlace files statements
+
+-- in each front of a reading's statements there are at most as many `$}` as `${`
+abbrev pub ReadingsAreBalanced : Type 0
+ReadingsAreBalanced =
+    (files : List PlainFile) (statements : List PlainStatement) (ending : Option PlainFault)
+    → Reads files statements ending → AreBalanced statements
+
+-- the tokens of a reading's statements have no more bytes than the files
+abbrev pub ReadingsFit : Type 0
+ReadingsFit =
+    (files : List PlainFile) (statements : List PlainStatement) (ending : Option PlainFault)
+    → Reads files statements ending → sum_by bytes_in statements ≤ total_bytes files

@@ -5,6 +5,7 @@ pub mod Items
 pub mod Reading
 pub mod Remaining
 pub mod Statement
+pub mod Blocks
 pub mod Token
 pub mod Class
 pub mod Next

@@ -15,4 +15,4 @@ abbrev pub AreNames : List PlainFile → Result (List (List ℕ)) TextFault → 
 AreNames files (Ok names) = (names ≡ map (λ f. f.name) files) × ¬ (HasTwins files)
 AreNames files (Err (Load rule)) = (rule ≡ F2) × HasTwins files
 AreNames files (Err Memory) = ⊤
-AreNames files (Err (Fault rule file at label)) = ⊥
+AreNames files (Err (Fault rule file at statement label)) = ⊥

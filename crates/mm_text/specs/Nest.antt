@@ -85,4 +85,4 @@ Includes old (Ok None) new = (items_left new ≡ items_left old) × (new.naming 
 Includes old (Ok (Some w)) new = (items_left old ≡ wrong_item w ∷ []) × (w.token.at < 1073741824)
 Includes old (Err Memory) new = new ≡ old
 Includes old (Err (Load rule)) new = ⊥
-Includes old (Err (Fault rule file at label)) new = ⊥
+Includes old (Err (Fault rule file at statement label)) new = ⊥

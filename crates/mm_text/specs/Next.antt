@@ -38,11 +38,11 @@ TakesNext old (Ok (next.End file)) new = old ≡ End file ∷ new
 TakesNext old (Ok next.Nothing) new = (old ≡ []) × (new ≡ [])
 TakesNext old (Err Memory) new = new ≡ old
 TakesNext old (Err (Load rule)) new = ⊥
-TakesNext old (Err (Fault rule file at label)) new = ⊥
+TakesNext old (Err (Fault rule file at statement label)) new = ⊥
 
 -- The items of the files are left, and no rule is broken by the files as a whole; or one is, or memory is wanting.
 abbrev pub IsFirstCursor : List PlainFile → Result (List Item) TextFault → Type 0
 IsFirstCursor files (Ok left) = (left ≡ items files) × ((rule : LoadRule) → ¬ (BreaksLoad files rule))
 IsFirstCursor files (Err (Load rule)) = BreaksLoad files rule
 IsFirstCursor files (Err Memory) = ⊤
-IsFirstCursor files (Err (Fault rule file at label)) = ⊥
+IsFirstCursor files (Err (Fault rule file at statement label)) = ⊥

@@ -1,15 +1,17 @@
 -- The plain reader that the code computes: one token after the other, with what is unfinished. That it gives the reading
 -- of the files is proved apart from the code; public clauses speak of the reading.
-use Rattle.std.specs.Prelude.{ℕ, ◌+◌, ◌==◌, nat_eq, nat_le, List, [], ◌∷◌, ◌++◌, length, Bool, true, false, if◌then◌else◌, codes, Option, Some, None}
+use Rattle.std.specs.Prelude.{ℕ, ◌+◌, ◌==◌, nat_eq, nat_le, List, [], ◌∷◌, ◌++◌, length, Bool, true, false, if◌then◌else◌, codes, drop, ◌&&◌, Option, Some, None, option_map}
+use Rattle.std.specs.Option.{is_none}
 use Rattle.std.specs.List.{list_any, list_all}
 use Rattle.std.specs.Cmp.Lexicographic.{pointwise}
 use Rattle.mm_text.specs.declared.fault.TextRule.{TextRule}
-use Rattle.mm_text.specs.declared.fault.TextRule.TheVariants.{X8, S1, S2, S3, S4, S5}
+use Rattle.mm_text.specs.declared.fault.TextRule.TheVariants.{X6, X8, S1, S2, S3, S4, S5, S6, S7}
+use Rattle.mm_text.specs.declared.scope.OpenBlock.{OpenBlock}
 use Rattle.mm_text.specs.declared.statement.Kind.{Kind}
 use Rattle.mm_text.specs.declared.statement.Kind.TheVariants.{Constants, Variables, Distinct, Floating, Essential, Axiom, Provable, Opening, Closing}
 use Rattle.mm_text.specs.Token.{PlainToken, is_label_byte}
 use Rattle.mm_text.specs.Statement.{PlainStatement, keywords}
-use Rattle.mm_text.specs.Items.{Item, Plain, Wrong, End}
+use Rattle.mm_text.specs.Items.{Item, Plain, Wrong, Inclusion, End}
 use Rattle.mm_text.specs.Reading.{PlainFault}
 
 -- the statement of which tokens were read: none yet, a label, its symbols so far, or its proof so far
@@ -23,6 +25,8 @@ pub data Part : Type 0 where
 pub data Step : Type 0 where
   More : (part : Part) → Step
   Whole : (statement : PlainStatement) → Step
+  Opened : Step
+  Closed : Step
   Faulty : (rule : TextRule) → Step
 
 abbrev pub same_text : List ℕ → List ℕ → Bool
@@ -40,16 +44,20 @@ abbrev pub at_start : PlainToken → Step
 at_start t =
     if same_text t.text (codes "$c") then More (InBody (begun Constants t None))
     else (if same_text t.text (codes "$v") then More (InBody (begun Variables t None))
+    else (if same_text t.text (codes "$d") then More (InBody (begun Distinct t None))
+    else (if same_text t.text (codes "${") then Opened
+    else (if same_text t.text (codes "$}") then Closed
     else (if is_keyword t.text then Faulty S1
-    else (if list_all is_label_byte t.text then More (Labelled t) else Faulty S2)))
+    else (if list_all is_label_byte t.text then More (Labelled t) else Faulty S2))))))
 
 -- the token after a label
 abbrev pub after_label : PlainToken → PlainToken → Step
 after_label label t =
     if same_text t.text (codes "$f") then More (InBody (begun Floating label (Some label)))
+    else (if same_text t.text (codes "$e") then More (InBody (begun Essential label (Some label)))
     else (if same_text t.text (codes "$a") then More (InBody (begun Axiom label (Some label)))
     else (if same_text t.text (codes "$p") then More (InBody (begun Provable label (Some label)))
-    else Faulty S3))
+    else Faulty S3)))
 
 -- whether a statement of a kind may have so many symbols
 abbrev pub has_count : Kind → ℕ → Bool
@@ -120,23 +128,75 @@ ended ending = record { statements = []; ending = ending }
 abbrev pub with_statement : PlainStatement → PlainReading → PlainReading
 with_statement s reading = record { statements = s ∷ reading.statements; ending = reading.ending }
 
+-- what is kept of the statements that were read: how many they are, and the open blocks, the innermost one first
+pub record PlainScope : Type 0 where
+  pub count : ℕ
+  pub blocks : List OpenBlock
+
+abbrev pub outermost : PlainScope
+outermost = record { count = 0; blocks = [] }
+
+-- one more statement was read: one with symbols, a `${` or a `$}`
+abbrev pub passed : PlainScope → PlainScope
+passed scope = record { count = scope.count + 1; blocks = scope.blocks }
+
+abbrev pub opened : PlainScope → PlainToken → PlainScope
+opened scope t =
+    record { count = scope.count + 1; blocks = record { file = t.file; at = t.at; statement = scope.count + 1 } ∷ scope.blocks }
+
+abbrev pub closed : PlainScope → PlainScope
+closed scope = record { count = scope.count + 1; blocks = drop 1 scope.blocks }
+
+-- the fault of a token after what is unfinished
+abbrev pub fault_in : PlainScope → Part → TextRule → PlainToken → PlainFault
+fault_in scope part rule t =
+    record { rule = rule; file = t.file; at = t.at; statement = scope.count + 1; label = part_label part }
+
 -- the fault of a file that ends in what is unfinished
-abbrev pub end_fault : Part → Option PlainFault
-end_fault part = elim (part_first part) [
-  | None ↦ None
-  | Some first ↦ Some (record { rule = X8; file = first.file; at = first.at; label = part_label part })
-]
+abbrev pub unfinished_fault : PlainScope → Part → Option PlainFault
+unfinished_fault scope part = option_map (fault_in scope part X8) (part_first part)
 
-abbrev pub step_fault : Part → PlainToken → TextRule → Option PlainFault
-step_fault part t rule = Some (record { rule = rule; file = t.file; at = t.at; label = part_label part })
+-- the fault of a top file that ends in a block
+abbrev pub block_fault : List OpenBlock → Option PlainFault
+block_fault [] = None
+block_fault (block ∷ blocks) =
+    Some (record { rule = S7; file = block.file; at = block.at; statement = block.statement; label = None })
 
--- what the items that are left give, after what is unfinished
-unfoldable pub reading_of : Part → List Item → PlainReading
-reading_of part [] = ended None
-reading_of part (End file ∷ items) = ended (end_fault part)
-reading_of part (Wrong rule t ∷ items) = ended (step_fault part t rule)
-reading_of part (Plain t ∷ items) = elim (step part t) [
-  | More next ↦ reading_of next items
-  | Whole s ↦ with_statement s (reading_of Between items)
-  | Faulty rule ↦ ended (step_fault part t rule)
+-- the fault of a file that ends
+abbrev pub end_fault : PlainScope → Part → ℕ → Option PlainFault
+end_fault scope part file =
+    elim (unfinished_fault scope part) [ Some fault ↦ Some fault | None ↦ if file == 0 then block_fault scope.blocks else None ]
+
+abbrev pub has_none : List OpenBlock → Bool
+has_none [] = true
+has_none (block ∷ blocks) = false
+
+-- what stands before is whole statements, and each block is closed
+abbrev pub is_outside : PlainScope → Part → Bool
+is_outside scope part = is_none (part_first part) && has_none scope.blocks
+
+-- the fault of an inclusion
+abbrev pub inclusion_fault : PlainScope → Part → PlainToken → Option PlainFault
+inclusion_fault scope part t = if is_outside scope part then None else Some (fault_in scope part X6 t)
+
+-- what follows, where there is no fault
+abbrev pub unless : Option PlainFault → PlainReading → PlainReading
+unless None reading = reading
+unless (Some fault) reading = ended (Some fault)
+
+-- what the items that are left give, after these statements and what is unfinished
+unfoldable pub reading_of : PlainScope → Part → List Item → PlainReading
+reading_of scope part [] = ended (unfinished_fault scope part)
+reading_of scope part (End file ∷ items) = unless (end_fault scope part file) (reading_of scope part items)
+reading_of scope part (Wrong rule t ∷ items) = ended (Some (fault_in scope part rule t))
+reading_of scope part (Inclusion t ∷ items) = unless (inclusion_fault scope part t) (reading_of scope part items)
+reading_of scope part (Plain t ∷ items) = elim (step part t) [
+  | More next ↦ reading_of scope next items
+  | Whole s ↦ with_statement s (reading_of (passed scope) Between items)
+  | Opened ↦ with_statement (begun Opening t None) (reading_of (opened scope t) Between items)
+  | Closed ↦
+      if has_none scope.blocks
+      then ended (Some (fault_in scope part S6 t))
+      else with_statement (begun Closing t None) (reading_of (closed scope) Between items)
+  | Faulty rule ↦ ended (Some (fault_in scope part rule t))
 ]

@@ -2,19 +2,22 @@
 use Rattle.std.specs.Prelude.{◌≡◌, ◌≢◌, ℕ, ◌+◌, ◌<◌, ◌≤◌, ◌==◌, ◌&&◌, ◌||◌, nat_eq, List, [], ◌∷◌, ◌++◌, length, slice_get, not, if◌then◌else◌, codes, Option, Some, None, IfSome, ◌⊎◌, slice_range}
 use Rattle.std.specs.List.{AllByRecursion}
 use Rattle.mm_text.specs.declared.fault.TextRule.{TextRule}
-use Rattle.mm_text.specs.declared.fault.TextRule.TheVariants.{X8, S1, S2, S3, S4, S5}
+use Rattle.mm_text.specs.declared.fault.TextRule.TheVariants.{X6, X8, S1, S2, S3, S4, S5, S6, S7}
 use Rattle.mm_text.specs.declared.statement.Kind.{Kind}
-use Rattle.mm_text.specs.declared.statement.Kind.TheVariants.{Constants, Variables, Floating, Axiom, Provable}
+use Rattle.mm_text.specs.declared.statement.Kind.TheVariants.{Constants, Variables, Distinct, Floating, Essential, Axiom, Provable, Opening, Closing}
 use Rattle.mm_text.specs.Token.{PlainToken, IsLabel, HoldsNoDollar}
 use Rattle.mm_text.specs.Files.{PlainFile}
-use Rattle.mm_text.specs.Items.{Item, Plain, Wrong, End, items, plain_tokens, HoldNoFault}
-use Rattle.mm_text.specs.Statement.{PlainStatement, IsKeyword, IsHead, AreSymbols, FitsCount, label_in, SpellsAll, keyword_of}
+use Rattle.mm_text.specs.Items.{Item, Plain, Wrong, Inclusion, End, items, plain_tokens, HoldNoFault}
+use Rattle.mm_text.specs.Blocks.{AreBalanced, AreClosed, IsInnermost}
+use Rattle.mm_text.specs.Statement.{PlainStatement, IsKeyword, IsHead, HasBody, AreSymbols, FitsCount, label_in, SpellsAll, keyword_of}
 
--- A fault in the text: its rule, the number of its file and its place there, and the label of the statement in which it stands.
+-- A fault in the text: its rule, the number of its file and its place there, the number of the statement at fault, from 1,
+-- and the label of the statement in which it stands.
 pub record PlainFault : Type 0 where
   pub rule : TextRule
   pub file : ℕ
   pub at : ℕ
+  pub statement : ℕ
   pub label : Option PlainToken
 
 -- an unfinished statement of this kind, which has these symbols so far
@@ -22,6 +25,7 @@ pub record IsBody (tokens : List PlainToken) (kind : Kind) (symbols : List Plain
   pub head : List PlainToken
   pub whole : tokens ≡ head ++ symbols
   pub begins : IsHead kind head
+  pub long : HasBody kind
   pub spelled : AreSymbols symbols
   pub room : kind ≡ Floating → length symbols ≤ 2
 
@@ -52,35 +56,50 @@ abbrev pub IsBeginning : List PlainToken → Type 0
 IsBeginning tokens =
     IsNothing tokens ⊎ IsLone tokens ⊎ ((kind : Kind) × (symbols : List PlainToken) × IsBody tokens kind symbols) ⊎ IsInProof tokens
 
--- A front of the items that reads as these statements, followed by these tokens, which are a beginning of one. A file
--- ends only where no statement is unfinished.
+-- these tokens are whole statements, after which no block is open
+pub record AreOutside (tokens : List PlainToken) : Type 0 where
+  pub statements : List PlainStatement
+  pub spelled : SpellsAll tokens statements
+  pub closed : AreClosed statements
+
+-- A front of the items that reads as these statements, followed by these tokens, which are a beginning of one. No `$}`
+-- lacks its `${`. A file is included only outside of blocks and statements; a file ends only where no statement is
+-- unfinished, and the top file only where no block is open.
 pub record Viable (front : List Item) (statements : List PlainStatement) (unfinished : List PlainToken) : Type 0 where
   pub clean : HoldNoFault front
   pub finished : List PlainToken
   pub whole : plain_tokens front ≡ finished ++ unfinished
   pub spelled : SpellsAll finished statements
   pub begun : IsBeginning unfinished
+  pub balanced : AreBalanced statements
+  pub included : (before after : List Item) (token : PlainToken) → front ≡ before ++ Inclusion token ∷ after
+      → AreOutside (plain_tokens before)
   pub ended : (before after : List Item) (file : ℕ) → front ≡ before ++ End file ∷ after
       → (earlier : List PlainStatement) × SpellsAll (plain_tokens before) earlier
+  pub top_ended : (before after : List Item) → front ≡ before ++ End 0 ∷ after → AreOutside (plain_tokens before)
 
 -- the keyword that ends the symbols of a statement of this kind
 abbrev pub closes_symbols : Kind → List ℕ
 closes_symbols Provable = codes "$="
 closes_symbols kind = codes "$."
 
--- S1: a keyword that begins no statement stands where one should begin. So far `$c` and `$v` alone begin one.
+-- S1: a keyword that begins no statement stands where one should begin
 abbrev pub MeetsS1 : List PlainToken → PlainToken → Type 0
 MeetsS1 unfinished t =
-    IsNothing unfinished × IsKeyword t.text × (t.text ≢ keyword_of Constants) × (t.text ≢ keyword_of Variables)
+    IsNothing unfinished × IsKeyword t.text
+    × (t.text ≢ keyword_of Constants) × (t.text ≢ keyword_of Variables) × (t.text ≢ keyword_of Distinct)
+    × (t.text ≢ keyword_of Opening) × (t.text ≢ keyword_of Closing)
 
 -- S2: a label holds another byte than a label may
 abbrev pub MeetsS2 : List PlainToken → PlainToken → Type 0
 MeetsS2 unfinished t = IsNothing unfinished × ¬ (IsKeyword t.text) × ¬ (IsLabel t.text)
 
--- S3: after a label comes no `$f`, `$a` or `$p`. A `$e` isn't read yet.
+-- S3: after a label comes no `$f`, `$e`, `$a` or `$p`
 abbrev pub MeetsS3 : List PlainToken → PlainToken → Type 0
 MeetsS3 unfinished t =
-    IsLone unfinished × (t.text ≢ keyword_of Floating) × (t.text ≢ keyword_of Axiom) × (t.text ≢ keyword_of Provable)
+    IsLone unfinished
+    × (t.text ≢ keyword_of Floating) × (t.text ≢ keyword_of Essential)
+    × (t.text ≢ keyword_of Axiom) × (t.text ≢ keyword_of Provable)
 
 -- S4: in a statement's body a keyword that can't stand there
 abbrev pub MeetsS4 : List PlainToken → PlainToken → Type 0
@@ -96,25 +115,52 @@ MeetsS5 unfinished t =
     × (((t.text ≡ closes_symbols kind) × ¬ (FitsCount kind (length symbols)))
     ⊎ (HoldsNoDollar t.text × (kind ≡ Floating) × (length symbols ≡ 2)))
 
--- the first of these rules that a token breaks after these tokens of an unfinished statement
-abbrev pub Meets : List PlainToken → PlainToken → TextRule → Type 0
-Meets unfinished t S1 = MeetsS1 unfinished t
-Meets unfinished t S2 = MeetsS2 unfinished t
-Meets unfinished t S3 = MeetsS3 unfinished t
-Meets unfinished t S4 = MeetsS4 unfinished t
-Meets unfinished t S5 = MeetsS5 unfinished t
-Meets unfinished t rule = ⊥
+-- S6: a `$}` with no block open
+abbrev pub MeetsS6 : List PlainStatement → List PlainToken → PlainToken → Type 0
+MeetsS6 statements unfinished t =
+    IsNothing unfinished × (t.text ≡ keyword_of Closing) × AreClosed statements
 
--- the fault of a token in a statement of which these tokens came before
-abbrev pub fault_at : TextRule → PlainToken → List PlainToken → PlainFault
-fault_at rule t unfinished = record { rule = rule; file = t.file; at = t.at; label = label_in unfinished }
+-- the first of these rules that a token breaks after these statements and these tokens of an unfinished one
+abbrev pub Meets : List PlainStatement → List PlainToken → PlainToken → TextRule → Type 0
+Meets statements unfinished t S1 = MeetsS1 unfinished t
+Meets statements unfinished t S2 = MeetsS2 unfinished t
+Meets statements unfinished t S3 = MeetsS3 unfinished t
+Meets statements unfinished t S4 = MeetsS4 unfinished t
+Meets statements unfinished t S5 = MeetsS5 unfinished t
+Meets statements unfinished t S6 = MeetsS6 statements unfinished t
+Meets statements unfinished t rule = ⊥
+
+-- the fault of a token, which is met after these statements, in one of which these tokens came before
+abbrev pub fault_at : TextRule → PlainToken → List PlainStatement → List PlainToken → PlainFault
+fault_at rule t statements unfinished =
+    record { rule = rule; file = t.file; at = t.at; statement = length statements + 1; label = label_in unfinished }
+
+-- X6: a `$[` in a block or in a statement
+abbrev pub MeetsX6 : List PlainStatement → List PlainToken → Type 0
+MeetsX6 statements unfinished = (unfinished ≢ []) ⊎ ¬ (AreClosed statements)
+
+-- X8: a file ends in a statement. The place is the statement's first token.
+abbrev pub EndsInX8 : List PlainStatement → List PlainToken → PlainFault → Type 0
+EndsInX8 statements unfinished fault =
+    (first : PlainToken) × (others : List PlainToken) × (unfinished ≡ first ∷ others)
+    × (fault ≡ fault_at X8 first statements unfinished)
+
+-- S7: the top file ends with a block open. The place is the `${` of the innermost one, and the statement is that `${`.
+abbrev pub EndsInS7 : List PlainStatement → List PlainToken → ℕ → PlainFault → Type 0
+EndsInS7 statements unfinished file fault =
+    IsNothing unfinished × (file ≡ 0)
+    × (before : List PlainStatement) × (opening : PlainStatement) × IsInnermost statements before opening
+    × (fault ≡ fault_at S7 opening.first before [])
 
 -- how a reading ends at the item after the longest viable front
-abbrev pub EndsAt : List PlainToken → Item → PlainFault → Type 0
-EndsAt unfinished (Plain t) fault = (rule : TextRule) × Meets unfinished t rule × (fault ≡ fault_at rule t unfinished)
-EndsAt unfinished (Wrong rule t) fault = fault ≡ fault_at rule t unfinished
-EndsAt unfinished (End file) fault =
-    (first : PlainToken) × (others : List PlainToken) × (unfinished ≡ first ∷ others) × (fault ≡ fault_at X8 first unfinished)
+abbrev pub EndsAt : List PlainStatement → List PlainToken → Item → PlainFault → Type 0
+EndsAt statements unfinished (Plain t) fault =
+    (rule : TextRule) × Meets statements unfinished t rule × (fault ≡ fault_at rule t statements unfinished)
+EndsAt statements unfinished (Wrong rule t) fault = fault ≡ fault_at rule t statements unfinished
+EndsAt statements unfinished (Inclusion t) fault =
+    MeetsX6 statements unfinished × (fault ≡ fault_at X6 t statements unfinished)
+EndsAt statements unfinished (End file) fault =
+    EndsInX8 statements unfinished fault ⊎ EndsInS7 statements unfinished file fault
 
 -- The statements that the files hold, and the fault that ends them, or none: those of a viable front of the items that is
 -- all of them, or after which the next item is a fault.
@@ -123,7 +169,7 @@ Reads files statements None =
     Viable (items files) statements []
 Reads files statements (Some fault) =
     (front : List Item) × (item : Item) × (rest : List Item) × (unfinished : List PlainToken)
-    × (items files ≡ front ++ item ∷ rest) × Viable front statements unfinished × EndsAt unfinished item fault
+    × (items files ≡ front ++ item ∷ rest) × Viable front statements unfinished × EndsAt statements unfinished item fault
 
 -- a token's text is the slice of its file at its place
 abbrev pub IsSliceOf : List PlainFile → PlainToken → Type 0

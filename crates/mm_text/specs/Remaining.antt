@@ -1,10 +1,11 @@
 -- What a reader has still to give.
-use Rattle.std.specs.Prelude.{◌≡◌, List, [], ◌∷◌, Bool, true, false, Option, Some, None, Result, Ok, Err, option_map}
+use Rattle.std.specs.Prelude.{◌≡◌, ◌≤◌, sum_by, List, [], ◌∷◌, Bool, true, false, Option, Some, None, Result, Ok, Err, option_map}
 use Rattle.mm_text.specs.declared.fault.TextFault.{TextFault}
 use Rattle.mm_text.specs.declared.fault.TextFault.TheVariants.{Load, Fault, Memory}
 use Rattle.mm_text.specs.Token.{plain_token}
-use Rattle.mm_text.specs.Statement.{PlainStatement}
-use Rattle.mm_text.specs.Files.{PlainFile}
+use Rattle.mm_text.specs.Statement.{PlainStatement, bytes_in}
+use Rattle.mm_text.specs.Blocks.{AreBalanced}
+use Rattle.mm_text.specs.Files.{PlainFile, total_bytes}
 use Rattle.mm_text.specs.Reading.{PlainFault, Reads}
 
 -- The statements of the files that weren't given yet, and the fault that ends them; whether a growth was refused, after
@@ -16,10 +17,13 @@ pub record Remaining : Type 0 where
   pub refused : Bool
   pub told : Bool
 
--- nothing of the files was given yet: all that their reading says is left
+-- Nothing of the files was given yet: all that their reading says is left. No `$}` of it lacks its `${`, and its tokens have
+-- no more bytes than the files.
 pub record IsUnread (files : List PlainFile) (s : Remaining) : Type 0 where
   pub same : s.files ≡ files
   pub reads : Reads files s.statements s.ending
+  pub balanced : AreBalanced s.statements
+  pub fits : sum_by bytes_in s.statements ≤ total_bytes files
   pub refused : s.refused ≡ false
   pub told : s.told ≡ false
 
@@ -36,9 +40,9 @@ Gives old (Ok true) new into =
     × (new ≡ record old { statements = new.statements })
 Gives old (Ok false) new into =
     (old.refused ≡ false) × (old.statements ≡ []) × (old.ending ≡ None) × (new ≡ record old { told = true }) × IsEmpty into
-Gives old (Err (Fault rule file at label)) new into =
+Gives old (Err (Fault rule file at statement label)) new into =
     (old.refused ≡ false) × (old.statements ≡ [])
-    × (old.ending ≡ Some (record { rule = rule; file = file; at = at; label = option_map plain_token label }))
+    × (old.ending ≡ Some (record { rule = rule; file = file; at = at; statement = statement; label = option_map plain_token label }))
     × (new ≡ record old { told = true }) × IsEmpty into
 Gives old (Err Memory) new into =
     (old.told ≡ true → old.refused ≡ true)

@@ -1,5 +1,5 @@
 -- The forms of statements, as a grammar over tokens (the Metamath book, sections 4.1.3 and 4.2).
-use Rattle.std.specs.Prelude.{◌≡◌, ℕ, ◌+◌, ◌≤◌, List, [], ◌∷◌, ◌++◌, length, map, if◌then◌else◌, codes, Option, Some, None, Contains, option_map}
+use Rattle.std.specs.Prelude.{◌≡◌, ℕ, ◌+◌, ◌≤◌, List, [], ◌∷◌, ◌++◌, length, sum_by, map, if◌then◌else◌, codes, Option, Some, None, Contains, option_map}
 use Rattle.std.specs.List.{AllByRecursion, list_all}
 use Rattle.mm_text.specs.declared.statement.Kind.{Kind}
 use Rattle.mm_text.specs.declared.statement.Kind.TheVariants.{Constants, Variables, Distinct, Floating, Essential, Axiom, Provable, Opening, Closing}
@@ -72,17 +72,23 @@ pub record IsLabelledHead (kind : Kind) (head : List PlainToken) : Type 0 where
   pub named : IsLabel label.text
   pub sign : keyword.text ≡ keyword_of kind
 
--- What stands before the symbols of a statement. Blocks, `$d` and `$e` aren't read yet, so no statement begins so.
+-- what stands before the symbols of a statement; a `${` or a `$}` is a whole statement
 abbrev pub IsHead : Kind → List PlainToken → Type 0
 IsHead Constants head = IsBareHead Constants head
 IsHead Variables head = IsBareHead Variables head
+IsHead Distinct head = IsBareHead Distinct head
 IsHead Floating head = IsLabelledHead Floating head
+IsHead Essential head = IsLabelledHead Essential head
 IsHead Axiom head = IsLabelledHead Axiom head
 IsHead Provable head = IsLabelledHead Provable head
-IsHead Distinct head = ⊥
-IsHead Essential head = ⊥
-IsHead Opening head = ⊥
-IsHead Closing head = ⊥
+IsHead Opening head = IsBareHead Opening head
+IsHead Closing head = IsBareHead Closing head
+
+-- the kinds of statements that have symbols, so that they can be unfinished: all but `${` and `$}`
+abbrev pub HasBody : Kind → Type 0
+HasBody Opening = ⊥
+HasBody Closing = ⊥
+HasBody kind = Unit {0}
 
 -- the label of the statement of which these are the first tokens, if it has one
 abbrev pub label_in : List PlainToken → Option PlainToken
@@ -166,3 +172,15 @@ pub record IsFormed (s : PlainStatement) : Type 0 where
   pub read : IsRead s.kind
   pub count : FitsCount s.kind (length s.symbols)
   pub label : HasLabel s.kind s.label
+
+-- what the grammar says of a statement by itself, and that each of its tokens holds a byte
+pub record HasForm (s : PlainStatement) : Type 0 where
+  pub count : FitsCount s.kind (length s.symbols)
+  pub label : HasLabel s.kind s.label
+  pub first : 1 ≤ length s.first.text
+  pub symbols : AllByRecursion (λ t. 1 ≤ length t.text) s.symbols
+  pub proof : AllByRecursion (λ t. 1 ≤ length t.text) s.proof
+
+-- how many bytes a statement's tokens have: the first one, the symbols, the proof
+abbrev pub bytes_in : PlainStatement → ℕ
+bytes_in s = length s.first.text + sum_by (λ t. length t.text) s.symbols + sum_by (λ t. length t.text) s.proof

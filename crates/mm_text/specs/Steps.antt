@@ -1,10 +1,10 @@
 -- What the parts of the reader's code answer, in the words of the plain reader. Private clauses speak of this.
-use Rattle.std.specs.Prelude.{◌≡◌, ℕ, ◌<◌, List, [], ◌∷◌, Bool, true, false, Option, Some, None, Result, Ok, Err, option_map, codes, if◌then◌else◌}
+use Rattle.std.specs.Prelude.{◌≡◌, ℕ, ◌<◌, List, [], ◌∷◌, Bool, true, false, Option, Some, None, Result, Ok, Err, option_map, codes, reverse, if◌then◌else◌}
 use Rattle.mm_text.specs.declared.token.Token.{Token}
+use Rattle.mm_text.specs.declared.scope.Scope.{Scope}
 use Rattle.mm_text.specs.declared.class.Keyword.{Keyword}
 use Rattle.mm_text.specs.declared.class.Keyword.TheVariants as keyword
 use Rattle.mm_text.specs.declared.class.Class.{Class}
-use Rattle.mm_text.specs.declared.class.Class.TheVariants as class
 use Rattle.mm_text.specs.declared.fault.TextRule.{TextRule}
 use Rattle.mm_text.specs.declared.fault.TextFault.{TextFault}
 use Rattle.mm_text.specs.declared.fault.TextFault.TheVariants.{Load, Fault, Memory}
@@ -13,74 +13,116 @@ use Rattle.mm_text.specs.declared.statement.Kind.TheVariants as kind
 use Rattle.mm_text.specs.Class.{spelling}
 use Rattle.mm_text.specs.Token.{PlainToken, plain_token, HoldsNoDollar}
 use Rattle.mm_text.specs.Statement.{PlainStatement}
-use Rattle.mm_text.specs.Items.{Item, Plain, Wrong, End}
+use Rattle.mm_text.specs.Items.{Item, Plain}
+use Rattle.mm_text.specs.Next.{items_with, IsOfClass}
 use Rattle.mm_text.specs.Reading.{PlainFault}
-use Rattle.mm_text.specs.Reader.{PlainReading, Part, Between, step, More, Faulty, step_fault, same_text, is_provable, reading_of, ended, with_statement}
+use Rattle.mm_text.specs.Reader.{PlainReading, PlainScope, Part, Between, step, More, Faulty, part_first, part_label, fault_in, has_none, passed, opened, closed, same_text, is_provable, reading_of, ended, with_statement}
 
--- the items that begin with a token of a class
-abbrev pub items_with : PlainToken → Class → List Item → List Item
-items_with t (class.Wrong rule) rest = Wrong rule t ∷ []
-items_with t (class.Keyword keyword) rest = Plain t ∷ rest
-items_with t class.Word rest = Plain t ∷ rest
+-- what its keyword, or that it is none, tells of a token
+abbrev pub IsSign : PlainToken → Option Keyword → Type 0
+IsSign t (Some keyword) = t.text ≡ spelling keyword
+IsSign t None = HoldsNoDollar t.text
 
--- what its class tells of a token that breaks no rule by itself
-abbrev pub IsOfClass : PlainToken → Class → Type 0
-IsOfClass t (class.Wrong rule) = Unit {0}
-IsOfClass t (class.Keyword keyword) = t.text ≡ spelling keyword
-IsOfClass t class.Word = HoldsNoDollar t.text
-
--- the next token is the first of the items, and those after it are left
-pub record TakesToken (old : List Item) (t : PlainToken) (kind : Class) (new : List Item) : Type 0 where
-  pub first : old ≡ items_with t kind new
-  pub text : IsOfClass t kind
+-- the next token, which breaks no rule by itself, is the first of the items, and those after it are left
+pub record TakesPlain (old : List Item) (t : PlainToken) (sign : Option Keyword) (new : List Item) : Type 0 where
+  pub first : old ≡ Plain t ∷ new
+  pub text : IsSign t sign
   pub at : t.at < 1073741824
 
--- what the next token of a file is
-abbrev pub Takes : List Item → Option (Token × Class) → List Item → Type 0
-Takes old None new = (file : ℕ) × (old ≡ End file ∷ [])
-Takes old (Some found) new = TakesToken old (plain_token found.0) found.1 new
-
 -- the fault in a text, without where its label lies in memory
-abbrev pub fault_of : TextRule → ℕ → ℕ → Option Token → PlainFault
-fault_of rule file at label = record { rule = rule; file = file; at = at; label = option_map plain_token label }
+abbrev pub fault_of : TextRule → ℕ → ℕ → ℕ → Option Token → PlainFault
+fault_of rule file at statement label =
+    record { rule = rule; file = file; at = at; statement = statement; label = option_map plain_token label }
+
+-- a fault that a part of the reader answers ends the reading; want of memory may be answered of any reading
+abbrev pub AnswersFault : PlainReading → TextFault → Type 0
+AnswersFault reading (Fault rule file at statement label) = reading ≡ ended (Some (fault_of rule file at statement label))
+AnswersFault reading Memory = Unit {0}
+AnswersFault reading (Load rule) = ⊥
+
+-- the next token of an unfinished statement with this first token and this label; or the fault that ends the reading
+abbrev pub TakesWithin : PlainScope → PlainToken → Option PlainToken → List Item → Result (Token × Option Keyword) TextFault → List Item → Type 0
+TakesWithin scope first label old (Ok found) new = TakesPlain old (plain_token found.0) found.1 new
+TakesWithin scope first label old (Err fault) new =
+    (part : Part) → part_first part ≡ Some first → part_label part ≡ label → AnswersFault (reading_of scope part old) fault
 
 -- what a part of the reader answers of the reading that it is in, by its result
-abbrev pub AnswersPart : PlainReading → Result Unit TextFault → PlainStatement → List Item → Type 0
-AnswersPart reading (Ok unit) into new = reading ≡ with_statement into (reading_of Between new)
-AnswersPart reading (Err (Fault rule file at label)) into new = reading ≡ ended (Some (fault_of rule file at label))
-AnswersPart reading (Err Memory) into new = Unit {0}
-AnswersPart reading (Err (Load rule)) into new = ⊥
+abbrev pub AnswersPart : PlainScope → PlainReading → Result Unit TextFault → PlainStatement → List Item → Type 0
+AnswersPart scope reading (Ok unit) into new = reading ≡ with_statement into (reading_of (passed scope) Between new)
+AnswersPart scope reading (Err fault) into new = AnswersFault reading fault
 
--- a part of the reader read on in the items up to the end of a statement, and those are left; or it met the fault that
--- ends the reading
-pub record GivesPart (reading : PlainReading) (r : Result Unit TextFault) (into : PlainStatement) (new : List Item) : Type 0 where
-  pub answer : AnswersPart reading r into new
+-- A part of the reader read on in the items up to the end of a statement, and those are left; or it met the fault that
+-- ends the reading. The scope is that before the statement.
+pub record GivesPart (scope : PlainScope) (reading : PlainReading) (r : Result Unit TextFault) (into : PlainStatement) (new : List Item) : Type 0 where
+  pub answer : AnswersPart scope reading r into new
 
--- the first token of a statement, and what follows it up to the statement's end; or that there is none
-abbrev pub GivesStatement : List Item → Result Bool TextFault → PlainStatement → List Item → Type 0
-GivesStatement old (Ok true) into new = reading_of Between old ≡ with_statement into (reading_of Between new)
-GivesStatement old (Ok false) into new = reading_of Between old ≡ ended None
-GivesStatement old (Err (Fault rule file at label)) into new = reading_of Between old ≡ ended (Some (fault_of rule file at label))
-GivesStatement old (Err Memory) into new = Unit {0}
-GivesStatement old (Err (Load rule)) into new = ⊥
+-- the first token of a statement, or that nothing is left but inclusions and ends; or the fault that ends the reading
+abbrev pub TakesFirst : PlainScope → List Item → Result (Option (Token × Class)) TextFault → List Item → Type 0
+TakesFirst scope old (Ok (Some found)) new =
+    (reading_of scope Between old ≡ reading_of scope Between (items_with (plain_token found.0) found.1 new))
+    × IsOfClass (plain_token found.0) found.1
+TakesFirst scope old (Ok None) new = reading_of scope Between old ≡ ended None
+TakesFirst scope old (Err fault) new = AnswersFault (reading_of scope Between old) fault
+
+-- the statement that the items begin with, and what follows it
+abbrev pub GivesFirst : PlainScope → List Item → Result Unit TextFault → PlainStatement → PlainScope → List Item → Type 0
+GivesFirst scope old (Ok unit) into later new =
+    reading_of scope Between old ≡ with_statement into (reading_of later Between new)
+GivesFirst scope old (Err fault) into later new = AnswersFault (reading_of scope Between old) fault
+
+-- the next statement, and what follows it; or that there is none
+abbrev pub GivesStatement : PlainScope → List Item → Result Bool TextFault → PlainStatement → PlainScope → List Item → Type 0
+GivesStatement scope old (Ok true) into later new =
+    reading_of scope Between old ≡ with_statement into (reading_of later Between new)
+GivesStatement scope old (Ok false) into later new = reading_of scope Between old ≡ ended None
+GivesStatement scope old (Err fault) into later new = AnswersFault (reading_of scope Between old) fault
 
 -- what one token makes of an unfinished statement
-abbrev pub StepsTo : Part → PlainToken → Result Unit TextFault → Part → Type 0
-StepsTo part t (Ok unit) next = step part t ≡ More next
-StepsTo part t (Err (Fault rule file at label)) next =
-    (step part t ≡ Faulty rule) × (step_fault part t rule ≡ Some (fault_of rule file at label))
-StepsTo part t (Err Memory) next = Unit {0}
-StepsTo part t (Err (Load rule)) next = ⊥
+abbrev pub StepsTo : PlainScope → Part → PlainToken → Result Unit TextFault → Part → Type 0
+StepsTo scope part t (Ok unit) next = step part t ≡ More next
+StepsTo scope part t (Err (Fault rule file at statement label)) next =
+    (step part t ≡ Faulty rule) × (fault_in scope part rule t ≡ fault_of rule file at statement label)
+StepsTo scope part t (Err Memory) next = Unit {0}
+StepsTo scope part t (Err (Load rule)) next = ⊥
 
--- the kind of statement that begins with a keyword, without a label
+-- the scope of a reader, without where it lies in memory
+abbrev pub plain_scope : Scope → PlainScope
+plain_scope scope = record { count = scope.count; blocks = reverse scope.blocks.items }
+
+-- what a block that is opened, or closed, makes of a scope
+abbrev pub Opens : PlainScope → PlainToken → Result Unit TextFault → PlainScope → Type 0
+Opens old t (Ok unit) new = new ≡ opened old t
+Opens old t (Err fault) new = fault ≡ Memory
+
+abbrev pub Closes : PlainScope → Bool → PlainScope → Type 0
+Closes old false new = (has_none old.blocks ≡ true) × (new ≡ old)
+Closes old true new =
+    (has_none old.blocks ≡ false) × (new ≡ closed old)
+
+-- a fault that is answered, or none
+abbrev pub TellsFault : Option PlainFault → Option TextFault → Type 0
+TellsFault fault None = fault ≡ None
+TellsFault fault (Some (Fault rule file at statement label)) = fault ≡ Some (fault_of rule file at statement label)
+TellsFault fault (Some Memory) = ⊥
+TellsFault fault (Some (Load rule)) = ⊥
+
+-- a `${` or a `$}`
+abbrev pub is_block_sign : Keyword → Bool
+is_block_sign keyword.Opening = true
+is_block_sign keyword.Closing = true
+is_block_sign other = false
+
+-- the kind of statement with symbols that begins with a keyword, without a label
 abbrev pub bare_kind : Keyword → Option Kind
 bare_kind keyword.Constants = Some kind.Constants
 bare_kind keyword.Variables = Some kind.Variables
+bare_kind keyword.Distinct = Some kind.Distinct
 bare_kind other = None
 
 -- the kind of statement that begins with a label and a keyword
 abbrev pub labelled_kind : Keyword → Option Kind
 labelled_kind keyword.Floating = Some kind.Floating
+labelled_kind keyword.Essential = Some kind.Essential
 labelled_kind keyword.Axiom = Some kind.Axiom
 labelled_kind keyword.Provable = Some kind.Provable
 labelled_kind other = None

@@ -66,6 +66,9 @@ pub enum TextFault<'a> {
         file: usize,
         /// The place of the faulty token in that file, from 0.
         at: u32,
+        /// The number of the statement at fault, from 1: one more than the whole statements
+        /// before its place.
+        statement: usize,
         /// The label of the statement in which the fault stands, if it was read.
         label: Option<Token<'a>>,
     },

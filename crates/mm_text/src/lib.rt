@@ -15,6 +15,7 @@ mod nest;
 mod next;
 mod parts;
 mod scan;
+mod scope;
 mod statement;
 mod statements;
 #[cfg(test)]

@@ -103,7 +103,7 @@ impl<'a> Nest<'a> {
         names: Names<'a>,
     ) -> Result<Nest<'a>, AllocError>
         requires some { 0 < length files.now }
-        requires names { names.entry ≡ map (λ f. f.name) (map plain_file files.now) }
+        requires names { names ≡ map (λ f. f.name) (map plain_file files.now) }
         requires small { total_bytes (map plain_file files.now) ≤ 1073741824 }
         ensures { IfOk result (λ n. IsNest n × (items_left n ≡ items (map plain_file files.now))) }
     {

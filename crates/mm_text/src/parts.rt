@@ -1,38 +1,30 @@
 //! The parts of a statement, each read from the cursor on.
 
-ghost use Rattle.std.specs.Prelude.{◌≡◌, ◌<◌, ◌∷◌, true, false, Some, None, option_map, length, codes};
+ghost use Rattle.std.specs.Prelude.{◌≡◌, ◌≤◌, ◌<◌, ◌∷◌, true, false, Some, None, option_map, length, codes};
 ghost use Rattle.mm_text.specs.Token.{plain_token, HoldsNoDollar};
 ghost use Rattle.mm_text.specs.Class.{spelling};
 ghost use Rattle.mm_text.specs.Statement.{plain_statement};
 ghost use Rattle.mm_text.specs.Items.{Plain};
+ghost use Rattle.mm_text.specs.Next.{items_with, IsOfClass};
 ghost use Rattle.mm_text.specs.Reader.{Between, Labelled, InBody, InProof, reading_of, has_count, is_full, is_provable, begun, same_text};
-ghost use Rattle.mm_text.specs.Steps.{items_with, IsOfClass, GivesPart, GivesStatement, StepsTo, bare_kind, labelled_kind, ends_symbols};
+ghost use Rattle.mm_text.specs.Steps.{plain_scope, TakesWithin, TakesFirst, GivesPart, GivesFirst, GivesStatement, StepsTo, is_block_sign, bare_kind, labelled_kind, ends_symbols};
 
 use crate::class::{Class, Keyword, is_label};
 use crate::cursor::Cursor;
+use crate::next::Next;
 use crate::fault::{TextFault, TextRule};
+use crate::scope::Scope;
 use crate::statement::{Kind, Statement};
 use crate::token::Token;
 
-/// The fault of a token, in the statement with this label.
-fn fault<'a>(rule: TextRule, token: Token<'a>, label: Option<Token<'a>>) -> TextFault<'a>
-    ensures { result ≡ TextFault.Fault rule token.entry.file token.entry.at label.entry }
-{
-    TextFault::Fault {
-        rule,
-        file: token.file,
-        at: token.at,
-        label,
-    }
-}
-
-/// The kind of statement that begins with a keyword, without a label.
+/// The kind of statement with symbols that begins with a keyword, without a label.
 fn bare_kind(keyword: Keyword) -> Option<Kind>
     ensures { result ≡ bare_kind keyword }
 {
     match keyword {
         Keyword::Constants => Some(Kind::Constants),
         Keyword::Variables => Some(Kind::Variables),
+        Keyword::Distinct => Some(Kind::Distinct),
         _ => None,
     }
 }
@@ -43,6 +35,7 @@ fn labelled_kind(keyword: Keyword) -> Option<Kind>
 {
     match keyword {
         Keyword::Floating => Some(Kind::Floating),
+        Keyword::Essential => Some(Kind::Essential),
         Keyword::Axiom => Some(Kind::Axiom),
         Keyword::Provable => Some(Kind::Provable),
         _ => None,
@@ -93,107 +86,187 @@ fn is_full(kind: Kind, count: usize) -> bool
     kind == Kind::Floating && count == 2
 }
 
+/// Takes the next token of a statement with this first token and this label, and tells which
+/// keyword it is; none for a word.
+fn token_within<'a>(
+    cursor: &mut Cursor<'a>,
+    scope: &Scope,
+    first: Token<'a>,
+    label: Option<Token<'a>>,
+) -> Result<(Token<'a>, Option<Keyword>), TextFault<'a>>
+    requires { scope.now.count ≤ 1073741824 }
+    ensures { TakesWithin (plain_scope scope.now) (plain_token first.entry) (option_map plain_token label.entry) cursor.old result cursor.new }
+{
+    match cursor.next()? {
+        Next::Token(token, class) => match class {
+            Class::Wrong(rule) => Err(scope.fault(rule, token, label)),
+            Class::Keyword(keyword) => Ok((token, Some(keyword))),
+            Class::Word => Ok((token, None)),
+        },
+        Next::Inclusion(token) => Err(scope.fault(TextRule::X6, token, label)),
+        Next::End(_) | Next::Nothing => Err(scope.fault(TextRule::X8, first, label)),
+    }
+}
+
 /// Adds a token to the symbols of a statement.
-fn add_symbol<'a>(into: &mut Statement<'a>, token: Token<'a>) -> Result<(), TextFault<'a>>
-    requires { HoldsNoDollar token.text.now }
-    ensures { StepsTo (InBody (plain_statement into.old)) (plain_token token.entry) result (InBody (plain_statement into.new)) }
+fn add_symbol<'a>(
+    into: &mut Statement<'a>,
+    scope: &Scope,
+    token: Token<'a>,
+) -> Result<(), TextFault<'a>>
+    requires word { HoldsNoDollar token.text.now }
+    requires room { scope.now.count ≤ 1073741824 }
+    ensures { StepsTo (plain_scope scope.now) (InBody (plain_statement into.old)) (plain_token token.entry) result (InBody (plain_statement into.new)) }
 {
     if is_full(into.kind, into.symbols.len()) {
-        return Err(fault(TextRule::S5, token, into.label));
+        return Err(scope.fault(TextRule::S5, token, into.label));
     }
     into.symbols.push(token)?;
     Ok(())
 }
 
 /// Adds a token to the proof of a statement.
-fn add_to_proof<'a>(into: &mut Statement<'a>, token: Token<'a>) -> Result<(), TextFault<'a>>
+fn add_to_proof<'a>(
+    into: &mut Statement<'a>,
+    scope: &Scope,
+    token: Token<'a>,
+) -> Result<(), TextFault<'a>>
     requires { HoldsNoDollar token.text.now }
-    ensures { StepsTo (InProof (plain_statement into.old)) (plain_token token.entry) result (InProof (plain_statement into.new)) }
+    ensures { StepsTo (plain_scope scope.now) (InProof (plain_statement into.old)) (plain_token token.entry) result (InProof (plain_statement into.new)) }
 {
     into.proof.push(token)?;
     Ok(())
 }
 
 /// Reads the proof of a statement, of which everything up to the `$=` was read, and its `$.`.
-fn proof<'a>(cursor: &mut Cursor<'a>, into: &mut Statement<'a>) -> Result<(), TextFault<'a>>
-    ensures { GivesPart (reading_of (InProof (plain_statement into.old)) cursor.old) result (plain_statement into.new) cursor.new }
+fn proof<'a>(
+    cursor: &mut Cursor<'a>,
+    into: &mut Statement<'a>,
+    scope: &Scope,
+) -> Result<(), TextFault<'a>>
+    requires { scope.now.count ≤ 1073741824 }
+    ensures { GivesPart (plain_scope scope.now) (reading_of (plain_scope scope.now) (InProof (plain_statement into.old)) cursor.old) result (plain_statement into.new) cursor.new }
 {
-    while let Some((token, class)) = cursor.next() {
-        match class {
-            Class::Wrong(rule) => return Err(fault(rule, token, into.label)),
-            Class::Keyword(keyword) => {
+    loop {
+        let (token, sign) = token_within(cursor, scope, into.first, into.label)?;
+        match sign {
+            Some(keyword) => {
                 if !is_stop(keyword) {
-                    return Err(fault(TextRule::S4, token, into.label));
+                    return Err(scope.fault(TextRule::S4, token, into.label));
                 }
                 into.span = (into.span.0, token.at);
                 return Ok(());
             }
-            Class::Word => add_to_proof(into, token)?,
+            None => add_to_proof(into, scope, token)?,
         }
     }
-    Err(fault(TextRule::X8, into.first, into.label))
 }
 
 /// Reads on from a keyword after symbols.
 fn after_symbols<'a>(
     cursor: &mut Cursor<'a>,
     into: &mut Statement<'a>,
+    scope: &Scope,
     token: Token<'a>,
     keyword: Keyword,
 ) -> Result<(), TextFault<'a>>
     requires sign { token.text.now ≡ spelling keyword }
     requires at { token.at < 1073741824 }
-    ensures { GivesPart (reading_of (InBody (plain_statement into.old)) (Plain (plain_token token.entry) ∷ cursor.old)) result (plain_statement into.new) cursor.new }
+    requires room { scope.now.count ≤ 1073741824 }
+    ensures { GivesPart (plain_scope scope.now) (reading_of (plain_scope scope.now) (InBody (plain_statement into.old)) (Plain (plain_token token.entry) ∷ cursor.old)) result (plain_statement into.new) cursor.new }
 {
     if !ends_symbols(into.kind, keyword) {
-        return Err(fault(TextRule::S4, token, into.label));
+        return Err(scope.fault(TextRule::S4, token, into.label));
     }
     if !has_count(into.kind, into.symbols.len()) {
-        return Err(fault(TextRule::S5, token, into.label));
+        return Err(scope.fault(TextRule::S5, token, into.label));
     }
     if is_provable(into.kind) {
         into.span = (token.at + 2, 0);
-        return proof(cursor, into);
+        return proof(cursor, into, scope);
     }
     Ok(())
 }
 
 /// Reads the symbols of a statement, of which everything up to its keyword was read, and what
 /// follows them.
-fn body<'a>(cursor: &mut Cursor<'a>, into: &mut Statement<'a>) -> Result<(), TextFault<'a>>
-    ensures { GivesPart (reading_of (InBody (plain_statement into.old)) cursor.old) result (plain_statement into.new) cursor.new }
+fn body<'a>(
+    cursor: &mut Cursor<'a>,
+    into: &mut Statement<'a>,
+    scope: &Scope,
+) -> Result<(), TextFault<'a>>
+    requires { scope.now.count ≤ 1073741824 }
+    ensures { GivesPart (plain_scope scope.now) (reading_of (plain_scope scope.now) (InBody (plain_statement into.old)) cursor.old) result (plain_statement into.new) cursor.new }
 {
-    while let Some((token, class)) = cursor.next() {
-        match class {
-            Class::Wrong(rule) => return Err(fault(rule, token, into.label)),
-            Class::Keyword(keyword) => return after_symbols(cursor, into, token, keyword),
-            Class::Word => add_symbol(into, token)?,
+    loop {
+        let (token, sign) = token_within(cursor, scope, into.first, into.label)?;
+        match sign {
+            Some(keyword) => return after_symbols(cursor, into, scope, token, keyword),
+            None => add_symbol(into, scope, token)?,
         }
     }
-    Err(fault(TextRule::X8, into.first, into.label))
 }
 
 /// Reads what follows a label.
 fn after_label<'a>(
     cursor: &mut Cursor<'a>,
     into: &mut Statement<'a>,
+    scope: &Scope,
     label: Token<'a>,
 ) -> Result<(), TextFault<'a>>
-    ensures { GivesPart (reading_of (Labelled (plain_token label.entry)) cursor.old) result (plain_statement into.new) cursor.new }
+    requires { scope.now.count ≤ 1073741824 }
+    ensures { GivesPart (plain_scope scope.now) (reading_of (plain_scope scope.now) (Labelled (plain_token label.entry)) cursor.old) result (plain_statement into.new) cursor.new }
 {
-    let Some((token, class)) = cursor.next() else {
-        return Err(fault(TextRule::X8, label, Some(label)));
+    let (token, sign) = token_within(cursor, scope, label, Some(label))?;
+    let Some(keyword) = sign else {
+        return Err(scope.fault(TextRule::S3, token, Some(label)));
     };
-    match class {
-        Class::Wrong(rule) => Err(fault(rule, token, Some(label))),
-        Class::Keyword(keyword) => match labelled_kind(keyword) {
-            Some(kind) => {
-                into.begin(kind, label, Some(label));
-                body(cursor, into)
-            }
-            None => Err(fault(TextRule::S3, token, Some(label))),
-        },
-        Class::Word => Err(fault(TextRule::S3, token, Some(label))),
+    match labelled_kind(keyword) {
+        Some(kind) => {
+            into.begin(kind, label, Some(label));
+            body(cursor, into, scope)
+        }
+        None => Err(scope.fault(TextRule::S3, token, Some(label))),
+    }
+}
+
+/// Reads a statement with symbols from its keyword on, which is its first token.
+fn from_keyword<'a>(
+    cursor: &mut Cursor<'a>,
+    into: &mut Statement<'a>,
+    scope: &Scope,
+    first: Token<'a>,
+    keyword: Keyword,
+) -> Result<(), TextFault<'a>>
+    requires sign { first.text.now ≡ spelling keyword }
+    requires symbols { is_block_sign keyword ≡ false }
+    requires room { scope.now.count ≤ 1073741824 }
+    ensures { GivesPart (plain_scope scope.now) (reading_of (plain_scope scope.now) Between (Plain (plain_token first.entry) ∷ cursor.old)) result (plain_statement into.new) cursor.new }
+{
+    match bare_kind(keyword) {
+        Some(kind) => {
+            into.begin(kind, first, None);
+            body(cursor, into, scope)
+        }
+        None => Err(scope.fault(TextRule::S1, first, None)),
+    }
+}
+
+/// Reads a statement with symbols from a word on, which is its first token.
+fn from_word<'a>(
+    cursor: &mut Cursor<'a>,
+    into: &mut Statement<'a>,
+    scope: &Scope,
+    first: Token<'a>,
+) -> Result<(), TextFault<'a>>
+    requires word { HoldsNoDollar first.text.now }
+    requires room { scope.now.count ≤ 1073741824 }
+    ensures { GivesPart (plain_scope scope.now) (reading_of (plain_scope scope.now) Between (Plain (plain_token first.entry) ∷ cursor.old)) result (plain_statement into.new) cursor.new }
+{
+    if is_label(first.text) {
+        after_label(cursor, into, scope, first)
+    } else {
+        Err(scope.fault(TextRule::S2, first, None))
     }
 }
 
@@ -201,23 +274,67 @@ fn after_label<'a>(
 fn from_first<'a>(
     cursor: &mut Cursor<'a>,
     into: &mut Statement<'a>,
+    scope: &mut Scope,
     first: Token<'a>,
     class: Class,
 ) -> Result<(), TextFault<'a>>
-    requires { IsOfClass (plain_token first) class }
-    ensures { GivesPart (reading_of Between (items_with (plain_token first.entry) class cursor.old)) result (plain_statement into.new) cursor.new }
+    requires class { IsOfClass (plain_token first) class }
+    requires room { scope.now.count ≤ 1073741824 }
+    ensures { GivesFirst (plain_scope scope.old) (items_with (plain_token first.entry) class cursor.old) result (plain_statement into.new) (plain_scope scope.new) cursor.new }
 {
     match class {
-        Class::Wrong(rule) => Err(fault(rule, first, None)),
-        Class::Keyword(keyword) => match bare_kind(keyword) {
-            Some(kind) => {
-                into.begin(kind, first, None);
-                body(cursor, into)
+        Class::Wrong(rule) => Err(scope.fault(rule, first, None)),
+        Class::Keyword(keyword) => match keyword {
+            Keyword::Opening => {
+                into.begin(Kind::Opening, first, None);
+                scope.enter(first)
             }
-            None => Err(fault(TextRule::S1, first, None)),
+            Keyword::Closing => {
+                into.begin(Kind::Closing, first, None);
+                if scope.leave() {
+                    Ok(())
+                } else {
+                    Err(scope.fault(TextRule::S6, first, None))
+                }
+            }
+            _ => {
+                from_keyword(cursor, into, scope, first, keyword)?;
+                scope.pass();
+                Ok(())
+            }
         },
-        Class::Word if is_label(first.text) => after_label(cursor, into, first),
-        Class::Word => Err(fault(TextRule::S2, first, None)),
+        Class::Word => {
+            from_word(cursor, into, scope, first)?;
+            scope.pass();
+            Ok(())
+        }
+    }
+}
+
+/// Takes the first token of the next statement, past inclusions and the ends of files; none where
+/// nothing is left.
+fn first_token<'a>(
+    cursor: &mut Cursor<'a>,
+    scope: &Scope,
+) -> Result<Option<(Token<'a>, Class)>, TextFault<'a>>
+    requires { scope.now.count ≤ 1073741824 }
+    ensures { TakesFirst (plain_scope scope.now) cursor.old result cursor.new }
+{
+    loop {
+        match cursor.next()? {
+            Next::Token(token, class) => return Ok(Some((token, class))),
+            Next::Inclusion(token) => {
+                if !scope.is_closed() {
+                    return Err(scope.fault(TextRule::X6, token, None));
+                }
+            }
+            Next::End(file) => {
+                if let Some(fault) = scope.end_fault(file) {
+                    return Err(fault);
+                }
+            }
+            Next::Nothing => return Ok(None),
+        }
     }
 }
 
@@ -225,12 +342,14 @@ fn from_first<'a>(
 pub fn statement<'a>(
     cursor: &mut Cursor<'a>,
     into: &mut Statement<'a>,
+    scope: &mut Scope,
 ) -> Result<bool, TextFault<'a>>
-    ensures { GivesStatement cursor.old result (plain_statement into.new) cursor.new }
+    requires { scope.now.count ≤ 1073741824 }
+    ensures { GivesStatement (plain_scope scope.old) cursor.old result (plain_statement into.new) (plain_scope scope.new) cursor.new }
 {
-    let Some((first, class)) = cursor.next() else {
+    let Some((first, class)) = first_token(cursor, scope)? else {
         return Ok(false);
     };
-    from_first(cursor, into, first, class)?;
+    from_first(cursor, into, scope, first, class)?;
     Ok(true)
 }

@@ -1,19 +1,21 @@
 //! The statements of the handed files, one after the other.
 
-ghost use Rattle.std.specs.Prelude.{◌≡◌, ◌↔◌, true, map, Ok, Err, IfOk, IfErr};
+ghost use Rattle.std.specs.Prelude.{◌≡◌, ◌↔◌, ◌≤◌, true, map, Ok, Err, IfOk, IfErr};
 ghost use Rattle.mm_text.specs.declared.fault.LoadRule.{LoadRule};
-ghost use Rattle.mm_text.specs.Statement.{plain_statement, IsFormed};
+ghost use Rattle.mm_text.specs.Statement.{plain_statement, HasForm};
 ghost use Rattle.mm_text.specs.Files.{plain_file, BreaksLoad};
 ghost use Rattle.mm_text.specs.Reading.{IsInPlace};
 ghost use Rattle.mm_text.specs.Remaining.{Gives, IsUnread};
+ghost use Rattle.mm_text.specs.Steps.{plain_scope};
 ghost use Rattle.mm_text.specs.ReaderState.{AnswersIn};
 
 use crate::cursor::Cursor;
 use crate::fault::TextFault;
 use crate::file::File;
-use crate::handed::broken_rule;
 use crate::parts::statement;
+use crate::scope::Scope;
 use crate::statement::Statement;
+use std::alloc::Global;
 use std::marker::Model;
 
 /// What reading has come to.
@@ -27,11 +29,12 @@ enum State<'a> {
     Failed(TextFault<'a>),
 }
 
-/// A reader of the statements that the handed files hold. It takes no memory.
+/// A reader of the statements that the handed files hold.
 #[derive(Drop)]
 pub struct Statements<'a> {
     files: &'a [File<'a>],
     cursor: Cursor<'a>,
+    scope: Scope,
     state: State<'a>,
 }
 
@@ -52,11 +55,13 @@ fn answer<'a>(
     state: State<'a>,
     cursor: &mut Cursor<'a>,
     into: &mut Statement<'a>,
+    scope: &mut Scope,
 ) -> Result<bool, TextFault<'a>>
-    ensures { AnswersIn state.entry cursor.old result (plain_statement into.new) cursor.new }
+    requires { scope.now.count ≤ 1073741824 }
+    ensures { AnswersIn state.entry (plain_scope scope.old) cursor.old result (plain_statement into.new) (plain_scope scope.new) cursor.new }
 {
     match state {
-        State::Reading => statement(cursor, into),
+        State::Reading => statement(cursor, into, scope),
         State::Ended => Ok(false),
         State::Failed(fault) => Err(fault),
     }
@@ -68,18 +73,15 @@ impl<'a> Statements<'a> {
     /// The files are judged as a whole first, in this order: `Load(F1)` where there is none,
     /// `Load(F2)` where two have one name, `Load(F3)` where they hold over 1,073,741,824 bytes in
     /// all. There is no other error.
-    pub fn new(files: &'a [File<'a>]) -> Result<Statements<'a>, TextFault<'a>>
+    pub fn new(alloc: Global, files: &'a [File<'a>]) -> Result<Statements<'a>, TextFault<'a>>
         ensures breaks { (rule : LoadRule) → ((result ≡ Err (TextFault.Load rule)) ↔ BreaksLoad (map plain_file files.now) rule) }
         ensures only_load { IfErr result (λ fault. (rule : LoadRule) × (fault ≡ TextFault.Load rule)) }
         ensures unread { IfOk result (λ s. IsUnread (map plain_file files.now) s) }
     {
-        if let Some(rule) = broken_rule(files) {
-            return Err(TextFault::Load(rule));
-        }
-        let top = files[0];
         Ok(Statements {
             files,
-            cursor: Cursor::new(top.bytes, 0),
+            cursor: Cursor::new(alloc, files)?,
+            scope: Scope::new(alloc),
             state: State::Reading,
         })
     }
@@ -87,15 +89,16 @@ impl<'a> Statements<'a> {
     /// Reads the next statement into `into`; `false` at the end. The lists of `into` keep their
     /// room, and are empty after `false` and after a fault.
     ///
-    /// The first fault of the text is answered once every statement before it was given: X1, X4,
-    /// X8, X9, S1, S2, S3, S4 or S5. `Memory` is answered where a list of `into` could not grow.
+    /// The first fault of the text, of the rules X and S, is answered once every statement before
+    /// it was given. `Memory` is answered where a list of `into` or a list of the reader could not
+    /// grow.
     /// A fault, `Memory` included, is answered again by every later call, and so is the end.
     pub fn read(&mut self, into: &mut Statement<'a>) -> Result<bool, TextFault<'a>>
         ensures gives { Gives self.old result self.new (plain_statement into.new) }
-        ensures formed { result ≡ Ok true → IsFormed (plain_statement into.new) }
+        ensures formed { result ≡ Ok true → HasForm (plain_statement into.new) }
         ensures in_place { result ≡ Ok true → IsInPlace self.old.files (plain_statement into.new) }
     {
-        let answer = answer(self.state, &mut self.cursor, into);
+        let answer = answer(self.state, &mut self.cursor, into, &mut self.scope);
         match answer {
             Ok(true) => return answer,
             Ok(false) => self.state = State::Ended,

@@ -3,6 +3,7 @@ use Rattle.std.proofs.lemmas.List.{map_push, length-map}
 use Rattle.mm_text.specs.Token.{plain_token}
 use Rattle.mm_text.specs.Statement.{plain_statement}
 use Rattle.mm_text.specs.Reader.{InBody, More, is_full}
+use Rattle.mm_text.specs.Steps.{plain_scope}
 use Rattle.mm_text.proofs.StepLaws.{step_symbol, step_too_many}
 use Rattle.mm_text.proofs.PartLaws.{steps_to_fault}
 use Rattle.mm_text.proofs.parts.add_symbol.Goals as goal
@@ -12,8 +13,8 @@ returns-then-is_full c =
     let s = plain_statement c.args.into.now in
     let t = plain_token c.args.token in
     let count : length s.symbols ≡ c.len.result = length-map _ _ ∙ omega arith in
-    steps_to_fault _ t c.fault.result _ _ _ c.fault.ensures
-    (step_too_many s t c.requires (ap (is_full s.kind) count ∙ sym c.is_full.ensures ∙ c.if-is_full.true)) refl
+    steps_to_fault (plain_scope c.args.scope.now) (InBody s) t c.fault.result _ _ _ c.fault.ensures
+    (step_too_many s t c.requires.word (ap (is_full s.kind) count ∙ sym c.is_full.ensures ∙ c.if-is_full.true)) refl
 
 pub returns : goal.returns
 returns c =
@@ -21,5 +22,5 @@ returns c =
     let t = plain_token c.args.token in
     let count : length s.symbols ≡ c.len.result = length-map _ _ ∙ omega arith in
     let pushed = ap (map plain_token) c.in_ok-push.ensures.items ∙ map_push plain_token _ _ in
-    step_symbol s t c.requires (ap (is_full s.kind) count ∙ sym c.is_full.ensures ∙ c.if-is_full.false)
+    step_symbol s t c.requires.word (ap (is_full s.kind) count ∙ sym c.is_full.ensures ∙ c.if-is_full.false)
     ∙ ap (λ symbols. More (InBody (record s { symbols = symbols }))) (sym pushed)

@@ -1,44 +1,41 @@
-use Rattle.std.proofs.Common.{refl, ap, ◌∙◌}
+use Rattle.std.proofs.Common.{Some, None, refl, sym, ap, ◌∙◌}
 use Rattle.std.proofs.lemmas.Result.{err_from_is_err_and}
 use Rattle.mm_text.specs.Token.{plain_token}
 use Rattle.mm_text.specs.Statement.{plain_statement}
 use Rattle.mm_text.specs.Reader.{InBody, reading_of}
-use Rattle.mm_text.proofs.PartLaws.{takes_wrong, takes_keyword, takes_word, gives_same, gives_wrong, gives_end, same_more, gives_refused}
+use Rattle.mm_text.specs.Steps.{plain_scope}
+use Rattle.mm_text.proofs.PartLaws.{sign_is, gives_same, gives_err, answers_same, answers_refused, same_more}
 use Rattle.mm_text.proofs.parts.body.Goals as goal
 
-pub returns-in-Wrong : goal.returns-in-Wrong
-returns-in-Wrong c =
-    gives_same _ _ _ _ _ c.loop-token.invariant
-    (gives_wrong (InBody (plain_statement c.loop-token.into)) c.loop-token.cursor (plain_token c.in-Some.token) c.in-Wrong.rule _ c.loop-token.into.label _ _
-    (takes_wrong _ _ _ _ _ c.in-Some.ensures c.in-Wrong.is) refl c.fault.ensures)
+pub returns-in_err-token : goal.returns-in_err-token
+returns-in_err-token c =
+    let p = err_from_is_err_and c.from_residual.result c.from_residual.ensures.1 in
+    gives_err (plain_scope c.args.scope.now) _ _ _ p.0 _ _ p.1 p.2
+    (answers_same _ _ _ c.loop-token.invariant (c.in_err-token.ensures (InBody (plain_statement c.loop-token.into)) refl refl))
 
 pub after_symbols-requires : goal.after_symbols-requires
 after_symbols-requires c =
-    record { sign = (takes_keyword _ _ _ _ _ c.in-Some.ensures c.in-Keyword.is).1; at = c.in-Some.ensures.at }
+    let taken = sign_is _ _ _ _ _ c.in_ok-token.ensures c.in-Some.is in
+    record { sign = taken.text; at = taken.at; room = c.requires }
 
-pub returns-in-Keyword : goal.returns-in-Keyword
-returns-in-Keyword c =
-    let taken = takes_keyword _ _ _ _ _ c.in-Some.ensures c.in-Keyword.is in
-    gives_same _ _ _ _ _ (c.loop-token.invariant ∙ ap (reading_of (InBody (plain_statement c.loop-token.into))) taken.0) c.after_symbols.ensures
+pub returns-in-Some : goal.returns-in-Some
+returns-in-Some c =
+    let taken = sign_is _ _ _ _ _ c.in_ok-token.ensures c.in-Some.is in
+    gives_same (plain_scope c.args.scope.now) _ _ _ _ _ (c.loop-token.invariant ∙ ap (reading_of (plain_scope c.args.scope.now) (InBody (plain_statement c.loop-token.into))) taken.first) c.after_symbols.ensures
 
 pub add_symbol-requires : goal.add_symbol-requires
-add_symbol-requires c = (takes_word _ _ _ _ c.in-Some.ensures c.in-Word.is).1
+add_symbol-requires c = record { word = (sign_is _ _ _ _ _ c.in_ok-token.ensures c.in-None.is).text; room = c.requires }
 
 pub loop-token-preserved : goal.loop-token-preserved
 loop-token-preserved c =
-    let taken = takes_word _ _ _ _ c.in-Some.ensures c.in-Word.is in
+    let taken = sign_is _ _ _ _ _ c.in_ok-token.ensures c.in-None.is in
     c.loop-token.invariant
-    ∙ same_more (InBody (plain_statement c.loop-token.into)) _ c.loop-token.cursor c.next.new.self (plain_token c.in-Some.token) taken.0 c.in_ok-add_symbol-in-Word.ensures
+    ∙ same_more (plain_scope c.args.scope.now) (InBody (plain_statement c.loop-token.into)) _ c.loop-token.cursor c.token_within.new.cursor (plain_token c.in_ok-token.token) taken.first c.in_ok-add_symbol-in-None.ensures
 
-pub returns-in_err-add_symbol-in-Word : goal.returns-in_err-add_symbol-in-Word
-returns-in_err-add_symbol-in-Word c =
-    let taken = takes_word _ _ _ _ c.in-Some.ensures c.in-Word.is in
-    let p = err_from_is_err_and c.from_residual.result c.from_residual.ensures.1 in
-    rw (p.1, p.2)
-    (gives_same _ _ _ _ _ c.loop-token.invariant
-    (gives_refused (InBody (plain_statement c.loop-token.into)) _ c.loop-token.cursor c.next.new.self (plain_token c.in-Some.token) _ _ _ taken.0 c.in_err-add_symbol-in-Word.ensures))
-
-pub returns : goal.returns
-returns c =
-    gives_same _ _ _ _ _ c.loop-token.invariant
-    (gives_end (InBody (plain_statement c.loop-token.into)) c.loop-token.cursor c.in_default.ensures.0 (plain_token c.loop-token.into.first) _ c.loop-token.into.label _ _ c.in_default.ensures.1 refl c.fault-2.ensures)
+pub returns-in_err-add_symbol-in-None : goal.returns-in_err-add_symbol-in-None
+returns-in_err-add_symbol-in-None c =
+    let taken = sign_is _ _ _ _ _ c.in_ok-token.ensures c.in-None.is in
+    let p = err_from_is_err_and c.from_residual-in_err-add_symbol-in-None.result c.from_residual-in_err-add_symbol-in-None.ensures.1 in
+    gives_err (plain_scope c.args.scope.now) _ _ _ p.0 _ _ p.1 p.2
+    (answers_same _ _ _ c.loop-token.invariant
+    (answers_refused (plain_scope c.args.scope.now) (InBody (plain_statement c.loop-token.into)) (InBody (plain_statement c.add_symbol.new.into)) c.loop-token.cursor c.token_within.new.cursor (plain_token c.in_ok-token.token) _ taken.first c.in_err-add_symbol-in-None.ensures))

@@ -1,11 +1,12 @@
 use Rattle.std.proofs.Common.{◌≡◌, length}
 use Rattle.mm_text.specs.Statement.{plain_statement}
 use Rattle.mm_text.specs.Reader.{InBody, reading_of}
+use Rattle.mm_text.specs.Steps.{plain_scope}
 use Rattle.mm_text.proofs.parts.body.Given as goal
 
 -- what was read so far and what is left give the same reading
 abbrev pub invariant-loop-token : goal.invariant-loop-token
-invariant-loop-token l = reading_of (InBody (plain_statement l.initial.into)) l.initial.cursor ≡ reading_of (InBody (plain_statement l.into)) l.cursor
+invariant-loop-token l = reading_of (plain_scope l.scope) (InBody (plain_statement l.initial.into)) l.initial.cursor ≡ reading_of (plain_scope l.scope) (InBody (plain_statement l.into)) l.cursor
 
 abbrev pub decreases-loop-token : goal.decreases-loop-token
 decreases-loop-token l = length l.cursor

@@ -1,45 +1,33 @@
-use Rattle.std.proofs.Common.{None, refl, sym, ap, ◌∙◌, subst}
+use Rattle.std.proofs.Common.{None, refl, ap, ◌∙◌, subst}
 use Rattle.mm_text.specs.Token.{plain_token}
-use Rattle.mm_text.specs.Reader.{Between, InBody, reading_of}
-use Rattle.mm_text.specs.Steps.{items_with, IsOfClass}
-use Rattle.mm_text.proofs.StepLaws.{step_begins, step_begins_none, step_label, step_no_label}
-use Rattle.mm_text.proofs.PartLaws.{gives_same, gives_wrong, gives_faulty, same_more}
+use Rattle.mm_text.specs.Class.{spelling}
+use Rattle.mm_text.specs.Next.{items_with}
+use Rattle.mm_text.specs.Reader.{Between}
+use Rattle.mm_text.specs.Steps.{plain_scope, Closes}
+use Rattle.mm_text.proofs.PartLaws.{is_keyword_first, answers_wrong, gives_opening, closes_block, answers_closing}
 use Rattle.mm_text.proofs.parts.from_first.Goals as goal
 
 pub returns-in-Wrong : goal.returns-in-Wrong
 returns-in-Wrong c =
     let t = plain_token c.args.first in
-    gives_wrong Between _ t c.in-Wrong.rule _ None _ _ (ap (λ k. items_with t k c.args.cursor.now) c.in-Wrong.is) refl c.fault.ensures
+    answers_wrong (plain_scope c.args.scope.now) Between _ t c.in-Wrong.rule None _ (ap (λ k. items_with t k c.args.cursor.now) c.in-Wrong.is) refl c.fault.ensures
 
-pub returns-in-Some : goal.returns-in-Some
-returns-in-Some c =
+pub returns-in-Opening : goal.returns-in-Opening
+returns-in-Opening c =
     let t = plain_token c.args.first in
-    let first = ap (λ k. items_with t k c.args.cursor.now) c.in-Keyword.is in
-    let begins = sym c.bare_kind.ensures ∙ c.in-Some.is in
-    gives_same _ _ _ _ _
-    (same_more Between _ _ c.args.cursor.now t first (step_begins t c.in-Keyword.keyword c.in-Some.kind (subst (IsOfClass t) c.in-Keyword.is c.requires) begins)
-    ∙ ap (λ s. reading_of (InBody s) c.args.cursor.now) (sym c.begin.ensures))
-    c.body.ensures
+    let first = is_keyword_first t c.args.cursor.now c.args.class _ c.requires.class c.in-Keyword.is in
+    gives_opening (plain_scope c.args.scope.now) _ _ c.args.cursor.now t _ _ first.0 (first.1 ∙ ap spelling c.in-Opening.is) c.begin.ensures c.enter.ensures
 
-pub returns-in-None : goal.returns-in-None
-returns-in-None c =
+pub returns-then-leave : goal.returns-then-leave
+returns-then-leave c =
     let t = plain_token c.args.first in
-    let first = ap (λ k. items_with t k c.args.cursor.now) c.in-Keyword.is in
-    let begins = sym c.bare_kind.ensures ∙ c.in-None.is in
-    gives_faulty Between _ t c.args.cursor.now _ _ None _ _ first
-    (step_begins_none t c.in-Keyword.keyword (subst (IsOfClass t) c.in-Keyword.is c.requires) begins) refl c.fault-in-None.ensures
+    let first = is_keyword_first t c.args.cursor.now c.args.class _ c.requires.class c.in-Keyword.is in
+    closes_block (plain_scope c.args.scope.now) _ _ c.args.cursor.now t _ first.0 (first.1 ∙ ap spelling c.in-Closing.is) c.begin-in-Closing.ensures
+    (subst (λ closed. Closes (plain_scope c.args.scope.now) closed (plain_scope c.leave.new.self)) c.if-leave.true c.leave.ensures)
 
-pub returns-in-Word : goal.returns-in-Word
-returns-in-Word c =
+pub returns-else-leave : goal.returns-else-leave
+returns-else-leave c =
     let t = plain_token c.args.first in
-    let first = ap (λ k. items_with t k c.args.cursor.now) c.in-Word.is in
-    gives_same _ _ _ _ _
-    (same_more Between _ _ c.args.cursor.now t first (step_label t (subst (IsOfClass t) c.in-Word.is c.requires) (sym c.is_label.ensures ∙ c.if-is_label.true)))
-    c.after_label.ensures
-
-pub returns-in-Word-2 : goal.returns-in-Word-2
-returns-in-Word-2 c =
-    let t = plain_token c.args.first in
-    let first = ap (λ k. items_with t k c.args.cursor.now) c.in-Word.is in
-    gives_faulty Between _ t c.args.cursor.now _ _ None _ _ first
-    (step_no_label t (subst (IsOfClass t) c.in-Word.is c.requires) (sym c.is_label.ensures ∙ c.if-is_label.false)) refl c.fault-in-Word-2.ensures
+    let first = is_keyword_first t c.args.cursor.now c.args.class _ c.requires.class c.in-Keyword.is in
+    answers_closing (plain_scope c.args.scope.now) _ _ c.args.cursor.now t _ first.0 (first.1 ∙ ap spelling c.in-Closing.is)
+    (subst (λ closed. Closes (plain_scope c.args.scope.now) closed (plain_scope c.leave.new.self)) c.if-leave.false c.leave.ensures) c.fault-else-leave.ensures
