@@ -2,6 +2,8 @@ mod Pieces
 pub mod TokenLaws
 pub mod CommentLaws
 pub mod NameLaws
+pub mod InclusionLaws
+pub mod NestLaws
 pub mod ItemLaws
 pub mod StepLaws
 pub mod PartLaws

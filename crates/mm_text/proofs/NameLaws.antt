@@ -57,7 +57,7 @@ apart_more names n within apart none i j less more same =
     both_ways _ none (list_any_at (spells (get_or names n [])) (take n names) i [] (omega arith) spelled))
     (order j n)
 
-other_default : {A : Type 0} (xs : List A) (i : ℕ) (d e : A) → i < length xs → get_or xs i d ≡ get_or xs i e
+pub other_default : {A : Type 0} (xs : List A) (i : ℕ) (d e : A) → i < length xs → get_or xs i d ≡ get_or xs i e
 other_default [] i d e lt = absurd (omega arith)
 other_default (x ∷ xs) zero d e lt = refl
 other_default (x ∷ xs) (suc i) d e lt = other_default xs i d e (omega arith)

@@ -15,8 +15,8 @@ use Rattle.mm_text.specs.declared.fault.TextFault.TheVariants.{Load, Fault, Memo
 use Rattle.mm_text.specs.Token.{PlainToken, plain_token}
 use Rattle.mm_text.specs.Files.{plain_file, total_bytes}
 use Rattle.mm_text.specs.Items as items
-use Rattle.mm_text.specs.Items.{Item, Plain, Inclusion, End, Piece, Met, Named, Spot, Outside, Naming, pieces, put_in}
-use Rattle.mm_text.specs.Place.{IsPlace, shown_at}
+use Rattle.mm_text.specs.Items.{Item, Plain, Inclusion, End, Piece, Met, Named, Spot, Outside, Naming, Closing, Clear, pieces, put_in, number_of}
+use Rattle.mm_text.specs.Place.{IsPlace, IsClear, shown_at}
 use Rattle.mm_text.specs.Next.{IsOfClass}
 
 -- ---- one file
@@ -42,6 +42,14 @@ TakesPiece old (next.Inclusion t) new =
 TakesPiece old (next.End file) new = pieces old.file Outside (shown_at old) ≡ Met (End file) ∷ []
 TakesPiece old next.Nothing new = ⊥
 
+-- the first token in an inclusion is taken; where that can't be, it is a fault before the name and after it
+abbrev pub TakesInner : PlainToken → Place → Result Token Wrong → Place → Type 0
+TakesInner begin old (Ok t) new = (shown_at old ≡ Clear (plain_token t) ∷ shown_at new) × IsClear t
+TakesInner begin old (Err w) new =
+    (pieces old.file (Naming begin) (shown_at old) ≡ Met (wrong_item w) ∷ [])
+    × ((name : PlainToken) → pieces old.file (Closing begin name) (shown_at old) ≡ Met (wrong_item w) ∷ [])
+    × (w.token.at < 1073741824)
+
 -- the rest of an inclusion is taken, up to its `$]`
 abbrev pub TakesName : PlainToken → Place → Result Token Wrong → Place → Type 0
 TakesName begin old (Ok name) new =
@@ -63,26 +71,44 @@ spot_of (Some begin) = Naming (plain_token begin)
 
 -- what is left of all files, in pieces
 abbrev pub pieces_left : Nest → List Piece
-pieces_left n = pieces n.place.file (spot_of n.naming) (shown_at n.place) ++ waiting n.open.items
+pieces_left n = pieces n.place.file (spot_of n.naming) (shown_at n.place) ++ waiting n.«open».items
+
+-- the items of pieces, with the files that weren't named yet put in
+abbrev pub put_into : Nest → List Piece → List Item
+put_into n rest = put_in (map plain_file n.files.now) (count_by not n.named.items) n.named.items rest
+
+-- the items after the end of the file that is read
+abbrev pub items_after : Nest → List Item
+items_after n = put_into n (waiting n.«open».items)
 
 -- the items that are left
 abbrev pub items_left : Nest → List Item
 items_left n =
-    if n.is_over then [] else put_in (map plain_file n.files.now) (count_by not n.named.items) n.named.items (pieces_left n)
+    if n.is_over then [] else put_into n (pieces_left n)
 
 -- what holds of the fields
 pub record IsNest (n : Nest) : Type 0 where
   pub place : IsPlace n.place
-  pub waits : AllByRecursion IsPlace n.open.items
+  pub waits : AllByRecursion IsPlace n.«open».items
   pub names : n.names ≡ map (λ f. f.name) (map plain_file n.files.now)
   pub named : length n.named.items ≡ length n.files.now
   pub small : total_bytes (map plain_file n.files.now) ≤ 1073741824
   pub naming : IfSome n.naming (λ begin. begin.at < 1073741824)
 
+-- the file with a number is gone into, where it is named before the rest of a file
+abbrev pub Enters : Nest → Place → ℕ → Result Unit TextFault → Nest → Type 0
+Enters old place number (Ok unit) new =
+    ((name : PlainToken) → number_of (map plain_file old.files.now) name.text ≡ Some number
+    → items_left new ≡ put_into old (Named name ∷ pieces place.file Outside (shown_at place) ++ waiting old.«open».items))
+    × (new.naming ≡ None) × (new.is_over ≡ false)
+Enters old place number (Err Memory) new = items_left new ≡ items_left old
+Enters old place number (Err (Load rule)) new = ⊥
+Enters old place number (Err (Fault rule file at statement label)) new = ⊥
+
 -- what finishing an inclusion comes to
 abbrev pub Includes : Nest → Result (Option Wrong) TextFault → Nest → Type 0
 Includes old (Ok None) new = (items_left new ≡ items_left old) × (new.naming ≡ None) × (new.is_over ≡ false)
 Includes old (Ok (Some w)) new = (items_left old ≡ wrong_item w ∷ []) × (w.token.at < 1073741824)
-Includes old (Err Memory) new = new ≡ old
+Includes old (Err Memory) new = items_left new ≡ items_left old
 Includes old (Err (Load rule)) new = ⊥
 Includes old (Err (Fault rule file at statement label)) new = ⊥

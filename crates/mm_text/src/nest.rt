@@ -1,12 +1,12 @@
 //! The files as they stand in one another: each is put in where it is first named.
 
-ghost use Rattle.std.specs.Prelude.{◌≡◌, ◌<◌, ◌≤◌, length, map, codes, None, Some, Ok, IfOk, false};
+ghost use Rattle.std.specs.Prelude.{◌≡◌, ◌<◌, ◌≤◌, length, map, codes, slice_index_or, None, Some, Ok, IfOk, false};
 ghost use Rattle.mm_text.specs.Token.{plain_token};
 ghost use Rattle.mm_text.specs.Files.{plain_file, total_bytes};
 ghost use Rattle.mm_text.specs.Items.{spells, items};
 ghost use Rattle.mm_text.specs.Place.{IsPlace, IsSameFile};
 ghost use Rattle.mm_text.specs.Next.{TakesNext};
-ghost use Rattle.mm_text.specs.Nest.{TakesPiece, TakesName, Includes, IsNest, items_left};
+ghost use Rattle.mm_text.specs.Nest.{TakesPiece, TakesInner, TakesName, Enters, Includes, IsNest, items_left, items_after};
 
 use crate::class::{Class, class_of};
 use crate::comments::{Place, Wrong, take_token};
@@ -50,6 +50,23 @@ fn take_piece<'a>(place: &mut Place<'a>) -> Next<'a>
     }
 }
 
+/// Takes the next token of an inclusion, which the file's end leaves unfinished.
+fn take_inner<'a>(place: &mut Place<'a>, begin: Token<'a>) -> Result<Token<'a>, Wrong<'a>>
+    requires place { IsPlace place.old }
+    requires begin { begin.at < 1073741824 }
+    ensures place { IsPlace place.new }
+    ensures same { IsSameFile place.old place.new }
+    ensures takes { TakesInner (plain_token begin.entry) place.old result place.new }
+{
+    match take_token(place)? {
+        Some(token) => Ok(token),
+        None => Err(Wrong {
+            rule: TextRule::X5,
+            token: begin,
+        }),
+    }
+}
+
 /// Takes the name and the `$]` after a `$[`.
 fn take_name<'a>(place: &mut Place<'a>, begin: Token<'a>) -> Result<Token<'a>, Wrong<'a>>
     requires place { IsPlace place.old }
@@ -58,18 +75,14 @@ fn take_name<'a>(place: &mut Place<'a>, begin: Token<'a>) -> Result<Token<'a>, W
     ensures same { IsSameFile place.old place.new }
     ensures takes { TakesName (plain_token begin.entry) place.old result place.new }
 {
-    let unfinished = Wrong {
-        rule: TextRule::X5,
-        token: begin,
-    };
-    let name = take_token(place)?.ok_or(unfinished)?;
+    let name = take_inner(place, begin)?;
     if name.text.contains(&b'$') {
         return Err(Wrong {
             rule: TextRule::X5,
             token: name,
         });
     }
-    let close = take_token(place)?.ok_or(unfinished)?;
+    let close = take_inner(place, begin)?;
     if !is_inclusion_end(close.text) {
         return Err(Wrong {
             rule: TextRule::X5,
@@ -120,6 +133,25 @@ impl<'a> Nest<'a> {
         })
     }
 
+    /// Goes into a file that is named for the first time, and keeps the place after its name.
+    /// `Memory` where no more places can be kept; then nothing is taken.
+    fn enter(&mut self, place: Place<'a>, number: usize) -> Result<(), TextFault<'a>>
+        requires nest { IsNest self.old }
+        requires over { self.old.is_over ≡ false }
+        requires place { IsPlace place }
+        requires known { number < length self.old.files.now }
+        requires first { slice_index_or self.old.named.items number true ≡ false }
+        ensures nest { IsNest self.new }
+        ensures enters { Enters self.old place.entry number result self.new }
+    {
+        let begin = Place::begin(self.files[number].bytes, number);
+        self.open.push(place)?;
+        self.named[number] = true;
+        self.place = begin;
+        self.naming = None;
+        Ok(())
+    }
+
     /// Finishes the inclusion that a `$[` begins: its file is gone into where it is named for the
     /// first time. Answers where the text is wrong. `Memory` where no more files can be open; then
     /// nothing is taken.
@@ -141,20 +173,22 @@ impl<'a> Nest<'a> {
                 token: name,
             }));
         };
-        if !self.named[number] {
-            self.open.push(place)?;
-            self.named[number] = true;
-            place = Place::begin(self.files[number].bytes, number);
+        if self.named[number] {
+            self.place = place;
+            self.naming = None;
+        } else {
+            self.enter(place, number)?;
         }
-        self.place = place;
-        self.naming = None;
         Ok(None)
     }
 
     /// Goes back to the file in which the one that ended stands.
     fn leave(&mut self)
-        requires { IsNest self.old }
+        requires nest { IsNest self.old }
+        requires naming { self.old.naming ≡ None }
+        requires over { self.old.is_over ≡ false }
         ensures nest { IsNest self.new }
+        ensures leaves { items_left self.new ≡ items_after self.old }
     {
         match self.open.pop() {
             Some(place) => self.place = place,
@@ -174,7 +208,8 @@ impl<'a> Nest<'a> {
         match next {
             Next::Inclusion(begin) => self.naming = Some(begin),
             Next::End(_) => self.leave(),
-            Next::Token(_, _) | Next::Nothing => {}
+            Next::Token(_, _) => {}
+            Next::Nothing => {}
         }
         next
     }
