@@ -1,5 +1,5 @@
 -- The items that are left, as a file's pieces are taken, a file is gone into and a file ends.
-use Rattle.std.proofs.Common.{◌≡◌, ℕ, zero, suc, ◌+◌, ◌<◌, ◌≤◌, List, [], ◌∷◌, ◌++◌, length, map, Bool, true, false, not, cond, refl, sym, ap, ◌∙◌, subst, Some, None, Option, count_by, get_or, set, arith}
+use Rattle.std.proofs.Common.{◌≡◌, ℕ, zero, suc, ◌+◌, ◌<◌, ◌≤◌, List, [], ◌∷◌, ◌++◌, length, map, Bool, true, false, not, cond, refl, sym, ap, ◌∙◌, subst, Some, None, Option, count_by, get_or, set, drop, replicate, append-nil, arith}
 use Rattle.std.specs.Prelude.{slice_index_or, slice_set, slice_get, sum_by, position, if◌then◌else◌}
 use Rattle.std.proofs.lemmas.List.Sums.{sum_by-set, sum_by_from}
 use Rattle.std.proofs.lemmas.List.Quantifiers.{position-Some}
@@ -12,10 +12,10 @@ use Rattle.mm_text.specs.declared.class.Class.TheVariants as class
 use Rattle.mm_text.specs.declared.fault.TextRule.TheVariants.{X7}
 use Rattle.mm_text.specs.declared.nest.Nest.{Nest}
 use Rattle.mm_text.specs.declared.token.Token.{Token}
-use Rattle.mm_text.specs.Token.{PlainToken, plain_token}
+use Rattle.mm_text.specs.Token.{PlainToken, plain_token, tokens_from}
 use Rattle.mm_text.specs.Files.{PlainFile, plain_file, total_bytes}
 use Rattle.mm_text.specs.Items as items
-use Rattle.mm_text.specs.Items.{Item, Plain, Inclusion, End, Piece, Met, Named, Outside, Naming, pieces, pieces_of, spells, number_of, put_before, put_in}
+use Rattle.mm_text.specs.Items.{Item, Plain, Inclusion, End, Piece, Met, Named, Outside, Naming, pieces, pieces_of, uncommented, spells, number_of, put_before, put_in}
 use Rattle.mm_text.specs.Names.{number_among}
 use Rattle.mm_text.specs.Place.{IsSameFile, shown_at}
 use Rattle.mm_text.specs.Next.{items_with}
@@ -128,7 +128,8 @@ file_there (f ∷ files) (suc n) d lt = file_there files n d (omega arith)
 -- one file fewer wasn't named
 pub count_named : (named : List Bool) (n : ℕ) → n < length named → slice_index_or named n true ≡ false → count_by not named ≡ suc (count_by not (slice_set named n true))
 count_named named n lt e =
-    let one : cond (not (get_or named n true)) 1 0 ≡ 1 = ap (λ b. cond (not b) 1 0) e in
+    let weight : Bool → ℕ = λ b. cond (not b) 1 0 in
+    let one : weight (get_or named n true) ≡ weight false = ap weight e in
     omega (arith, sum_by-set (λ b. cond (not b) 1 0) named n true true lt, one)
 
 -- ---- a file is gone into
@@ -143,14 +144,18 @@ enters n q begin name number d lt nest e first bytes file at =
     let files = map plain_file n.files.now in
     let named = slice_set n.named.items number true in
     let rest = pieces q.file Outside (shown_at q) ++ waiting n.«open».items in
+    let counted = count_named n.named.items number (omega (arith, nest.named)) first in
     let before : put_before files number rest ≡ pieces_of number (plain_file (get_or n.files.now number d)) ++ rest =
     ap (λ o. elim o [ None ↦ rest | Some f ↦ pieces_of number f ++ rest ]) (file_there n.files.now number d lt) in
-    let fresh : pieces begin.file Outside (shown_at begin) ≡ pieces_of number (plain_file (get_or n.files.now number d)) = ? in
+    let fresh : pieces begin.file Outside (shown_at begin) ≡ pieces_of number (plain_file (get_or n.files.now number d)) =
+    ap (λ f. pieces f Outside (uncommented None (tokens_from f begin.at (drop begin.at begin.bytes.now)))) file
+    ∙ ap (λ k. pieces number Outside (uncommented None (tokens_from number k (drop k begin.bytes.now)))) at
+    ∙ ap (λ bs. pieces number Outside (uncommented None (tokens_from number 0 bs))) bytes in
     ap (λ l. put_in files (count_by not named) named (pieces begin.file Outside (shown_at begin) ++ l)) (waiting-push n.«open».items q)
     ∙ ap (λ l. put_in files (count_by not named) named (l ++ rest)) fresh
     ∙ ap (put_in files (count_by not named) named) (sym before)
     ∙ sym (put_in-first files (count_by not named) n.named.items name rest number e first)
-    ∙ ap (λ k. put_in files k n.named.items (Named name ∷ rest)) (sym (count_named n.named.items number (omega (arith, nest.named)) first))
+    ∙ ap (λ k. put_in files k n.named.items (Named name ∷ rest)) (sym counted)
 
 -- ---- a file ends
 
@@ -159,3 +164,44 @@ leaves n places q e = ap (put_into n) (sym (waiting-push places q) ∙ ap waitin
 
 pub leaves_last : (n : Nest) → n.«open».items ≡ [] → items_after n ≡ []
 leaves_last n e = ap (λ l. put_into n (waiting l)) e ∙ put_in-nil (map plain_file n.files.now) (count_by not n.named.items) n.named.items
+
+-- the last of the files that wait goes on
+pub leaves_to : (n m : Nest) (q : Place) → n.is_over ≡ false → n.naming ≡ None → n.«open».items ≡ m.«open».items ++ q ∷ []
+    → m ≡ record n { place = q; «open» = m.«open» } → items_left m ≡ items_after n
+leaves_to n m q over naming e same =
+    ap items_left same
+    ∙ left_outside (record n { place = q; «open» = m.«open» }) over naming
+    ∙ leaves n m.«open».items q e
+
+-- ---- the begin of the top file
+
+abbrev pub no_file : File
+no_file = record { name = record { ref_ptr = (0, 0); now = [] }; bytes = record { ref_ptr = (0, 0); now = [] } }
+
+pub nil_of_length : {A : Type 0} (xs : List A) → length xs ≡ 0 → xs ≡ []
+nil_of_length [] e = refl
+nil_of_length (x ∷ xs) e = absurd (omega arith)
+
+count_replicate : (n : ℕ) → sum_by (λ b. cond (not b) 1 0) (replicate n false) ≡ n
+count_replicate zero = refl
+count_replicate (suc n) = omega (arith, count_replicate n, sum_by_from (λ b. cond (not b) 1 0) (0 + 1) (replicate n false))
+
+count_top : (n : ℕ) → count_by not (true ∷ replicate n false) ≡ n
+count_top n = omega (arith, count_replicate n, sum_by_from (λ b. cond (not b) 1 0) (0 + 0) (replicate n false))
+
+pub begins : (files : List File) (d : File) (named : List Bool) (p : Place) (places : List Place) → 0 < length files → named ≡ replicate (length files) false
+    → p.bytes.now ≡ (get_or files 0 d).bytes.now → p.file ≡ 0 → p.at ≡ 0 → places ≡ []
+    → put_in (map plain_file files) (count_by not (slice_set named 0 true)) (slice_set named 0 true) (pieces p.file Outside (shown_at p) ++ waiting places) ≡ items.items (map plain_file files)
+begins [] d named p places some e bytes file at none = absurd (omega arith)
+begins (f ∷ files) d named p places some e bytes file at none =
+    let all = map plain_file (f ∷ files) in
+    let first : slice_set named 0 true ≡ true ∷ replicate (length files) false = ap (λ l. slice_set l 0 true) e in
+    let fresh : pieces p.file Outside (shown_at p) ≡ pieces_of 0 (plain_file f) =
+    ap (λ n. pieces n Outside (uncommented None (tokens_from n p.at (drop p.at p.bytes.now)))) file
+    ∙ ap (λ k. pieces 0 Outside (uncommented None (tokens_from 0 k (drop k p.bytes.now)))) at
+    ∙ ap (λ bs. pieces 0 Outside (uncommented None (tokens_from 0 0 bs))) bytes in
+    ap (λ l. put_in all (count_by not l) l (pieces p.file Outside (shown_at p) ++ waiting places)) first
+    ∙ ap (λ k. put_in all k (true ∷ replicate (length files) false) (pieces p.file Outside (shown_at p) ++ waiting places)) (count_top (length files))
+    ∙ ap (λ l. put_in all (length files) (true ∷ replicate (length files) false) (pieces p.file Outside (shown_at p) ++ waiting l)) none
+    ∙ ap (put_in all (length files) (true ∷ replicate (length files) false)) (append-nil (pieces p.file Outside (shown_at p)) ∙ fresh)
+    ∙ ap (λ n. put_in all n (true ∷ replicate n false) (pieces_of 0 (plain_file f))) (sym (length-map files plain_file))

@@ -1,6 +1,6 @@
 //! The files as they stand in one another: each is put in where it is first named.
 
-ghost use Rattle.std.specs.Prelude.{◌≡◌, ◌<◌, ◌≤◌, length, map, codes, slice_index_or, None, Some, Ok, IfOk, false};
+ghost use Rattle.std.specs.Prelude.{◌≡◌, ◌<◌, ◌≤◌, length, map, codes, slice_index_or, None, Some, Ok, IfOk, true, false};
 ghost use Rattle.mm_text.specs.Token.{plain_token};
 ghost use Rattle.mm_text.specs.Files.{plain_file, total_bytes};
 ghost use Rattle.mm_text.specs.Items.{spells, items};
@@ -176,9 +176,9 @@ impl<'a> Nest<'a> {
         if self.named[number] {
             self.place = place;
             self.naming = None;
-        } else {
-            self.enter(place, number)?;
+            return Ok(None);
         }
+        self.enter(place, number)?;
         Ok(None)
     }
 
