@@ -4,12 +4,10 @@ pub mod CommentLaws
 pub mod NameLaws
 pub mod InclusionLaws
 pub mod NestLaws
-pub mod ItemLaws
 pub mod StepLaws
 pub mod PartLaws
 pub mod HandedLaws
 pub mod TextFacts
-pub mod ItemFacts
 pub mod PartFacts
 pub mod StepFacts
 pub mod ReadingLaws

@@ -14,6 +14,5 @@ pub mod Names
 pub mod Nest
 pub mod Steps
 pub mod Empty
-pub mod Handed
 pub mod ReaderState
 pub mod Laws
