@@ -1,19 +1,12 @@
 mod Pieces
 pub mod TokenLaws
-pub mod ItemLaws
 pub mod StepLaws
 pub mod PartLaws
 pub mod HandedLaws
 pub mod TextFacts
-pub mod ItemFacts
 pub mod PartFacts
 pub mod StepFacts
-pub mod ReadingLaws
-pub mod StatementRuns
-pub mod OneReading
-pub mod FormedLaws
-pub mod PlaceLaws
 pub mod LongestRuns
-pub mod LongestFront
-pub mod Beginnings
-pub mod ReaderLaws
+pub mod Fronts
+pub mod Runs
+pub mod StatementRuns
