@@ -10,3 +10,4 @@ pub mod LongestRuns
 pub mod Fronts
 pub mod Runs
 pub mod StatementRuns
+pub mod BlockFacts
