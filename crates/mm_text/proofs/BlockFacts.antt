@@ -98,6 +98,9 @@ keeps_one d s h n =
 
 -- ---- balanced statements
 
+pub balanced_nothing : AreBalanced []
+balanced_nothing n = subst (λ (x : List PlainStatement). closings x ≤ openings x) (sym (take-nil n)) (omega arith)
+
 pub balanced_front : (a b : List PlainStatement) → AreBalanced (a ++ b) → AreBalanced a
 balanced_front a b h = keeps_balanced a (keeps_front 0 a b (balanced_keeps (a ++ b) h))
 
@@ -169,7 +172,7 @@ open_body statements s blocks h long =
 open_opening : (statements : List PlainStatement) (s : PlainStatement) (blocks : List OpenBlock) (count : ℕ) → AreOpen statements blocks → s.kind ≡ Opening → count ≡ length statements
     → AreOpen (statements ++ s ∷ []) (record { file = s.first.file; at = s.first.at; statement = count + 1 } ∷ blocks)
 open_opening statements s blocks count h k same =
-    (statements, s, record { within = []; whole = refl; opened = k; balanced = keeps_balanced [] (λ n. subst (λ (x : List PlainStatement). closings x ≤ 0 + openings x) (sym (take-nil n)) (omega arith)); closed = refl },
+    (statements, s, record { within = []; whole = refl; opened = k; balanced = balanced_nothing; closed = refl },
     (λ i. record { file = s.first.file; at = s.first.at; statement = same i + 1 }), h)
 
 open_closing : (statements : List PlainStatement) (s : PlainStatement) (block : OpenBlock) (blocks : List OpenBlock) → AreOpen statements (block ∷ blocks) → s.kind ≡ Closing → AreOpen (statements ++ s ∷ []) blocks
@@ -297,7 +300,7 @@ open_after before (s ∷ statements) scope h same b =
 
 -- the blocks of a scope are those that are open
 pub scope_open : (statements : List PlainStatement) → AreBalanced statements → AreOpen statements (scope_of statements).blocks
-scope_open statements b = open_after [] statements outermost (keeps_balanced [] (λ n. subst (λ (x : List PlainStatement). closings x ≤ 0 + openings x) (sym (take-nil n)) (omega arith)), refl) refl b
+scope_open statements b = open_after [] statements outermost (balanced_nothing, refl) refl b
 
 pub scope_closed : (statements : List PlainStatement) → AreBalanced statements → has_none (scope_of statements).blocks ≡ true → AreClosed statements
 scope_closed statements b e = open_balanced statements (scope_of statements).blocks (scope_open statements b) e

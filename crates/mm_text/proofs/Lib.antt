@@ -11,3 +11,5 @@ pub mod Fronts
 pub mod Runs
 pub mod StatementRuns
 pub mod BlockFacts
+pub mod ReadingLaws
+pub mod OneReading

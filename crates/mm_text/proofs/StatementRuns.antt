@@ -335,3 +335,18 @@ spelled_run tokens finished unfinished statements part e h d =
 -- tokens that spell statements
 pub whole_run : (tokens : List PlainToken) (statements : List PlainStatement) → SpellsAll tokens statements → run Between tokens ≡ Runs statements Between
 whole_run tokens statements h = spelled_run tokens tokens [] statements Between (sym (append-nil tokens)) h refl
+
+-- a `${` or a `$}` alone
+pub spells_sign : (kind : Kind) (tokens : List PlainToken) (t : PlainToken) → tokens ≡ [] → t.text ≡ keyword_of kind → list_all is_label_byte (keyword_of kind) ≡ false
+    → IsHead kind (t ∷ []) → FitsCount kind 0 → IsTail (begun kind t None) kind [] → Spells (tokens ++ t ∷ []) (begun kind t None)
+spells_sign kind tokens t none sign no_label begins count ends = record {
+  head = t ∷ [];
+  tail = [];
+  whole = ap (λ (x : List PlainToken). x ++ t ∷ []) none;
+  begins = begins;
+  first = ([], refl);
+  label = sym (cond-false (list_all is_label_byte t.text) _ _ (ap (list_all is_label_byte) sign ∙ no_label));
+  symbols = tt;
+  count = count;
+  ends = ends;
+}
