@@ -1,25 +1,28 @@
--- A reading of the files is what the reader computes, so there is one reading.
-use Rattle.std.proofs.Common.{◌≡◌, ◌≢◌, ℕ, length, List, [], ◌∷◌, ◌++◌, false, cond, refl, sym, ap, subst, ◌∙◌, codes, Option, Some, None, ◌⊎◌, inl, inr, lit<}
+-- A reading of items is what the reader computes, so there is one reading.
+use Rattle.std.proofs.Common.{◌≡◌, ◌≢◌, ℕ, ◌+◌, ◌==◌, length, List, [], ◌∷◌, ◌++◌, Bool, true, false, cond, refl, sym, ap, subst, ◌∙◌, codes, Option, Some, None, append_assoc, ◌⊎◌, inl, inr, lit<}
 use Rattle.std.specs.List.{list_all}
 use Rattle.std.proofs.lemmas.List.{append-nil}
-use Rattle.std.proofs.lemmas.Bool.{cond-true, cond-false, false_from_ne_true, eq-eqb}
+use Rattle.std.proofs.lemmas.Bool.{cond-true, cond-false, cond_both, false_from_ne_true, false≢true, eq-eqb, eqb-true}
+use Rattle.mm_text.specs.declared.scope.OpenBlock.{OpenBlock}
 use Rattle.mm_text.specs.declared.fault.TextRule.{TextRule}
-use Rattle.mm_text.specs.declared.fault.TextRule.TheVariants.{X8, S1, S2, S3, S4, S5}
+use Rattle.mm_text.specs.declared.fault.TextRule.TheVariants.{X6, X8, S1, S2, S3, S4, S5, S6, S7}
 use Rattle.mm_text.specs.declared.statement.Kind.{Kind}
-use Rattle.mm_text.specs.declared.statement.Kind.TheVariants.{Floating}
-use Rattle.mm_text.specs.Token.{PlainToken, tokens_from, is_label_byte, HoldsNoDollar}
-use Rattle.mm_text.specs.Statement.{PlainStatement, label_in, SpellsAll, IsKeyword, FitsCount}
-use Rattle.mm_text.specs.Files.{PlainFile}
-use Rattle.mm_text.specs.Items.{Item, Plain, Wrong, End, items_of, items, plain_tokens}
-use Rattle.mm_text.specs.Reading.{PlainFault, closes_symbols, IsBody, IsInProof, IsBeginning, Viable, Meets, MeetsS1, MeetsS2, MeetsS3, fault_at, EndsAt, Reads}
-use Rattle.mm_text.specs.Reader.{PlainReading, Part, Between, Labelled, InBody, InProof, Faulty, step, same_text, is_keyword, is_full, is_provable, ended, with_statement, end_fault, reading_of}
-use Rattle.mm_text.specs.Laws.{EachHasOneReading}
-use Rattle.mm_text.proofs.TextFacts.{same_text-ne, is_keyword-ne, is_keyword_from, symbol-is_keyword}
-use Rattle.mm_text.proofs.ItemFacts.{plains, append-plains, clean_items, front_of_items, cons_parts, nil-append, plains-append, plain_tokens-plains}
-use Rattle.mm_text.proofs.PartFacts.{Describes, Describes-label, body-first, proof-first, part_of_body, part_of_proof, part_of_beginning}
-use Rattle.mm_text.proofs.StepFacts.{closing_sign}
-use Rattle.mm_text.proofs.ReadingLaws.{reading_reads, reading-end, reading-wrong, reading-faulty}
-use Rattle.mm_text.proofs.StatementRuns.{closing_short, part_run, with_statements, statements_run}
+use Rattle.mm_text.specs.declared.statement.Kind.TheVariants.{Floating, Opening, Closing}
+use Rattle.mm_text.specs.Token.{PlainToken, is_label_byte, HoldsNoDollar}
+use Rattle.mm_text.specs.Statement.{PlainStatement, HasBody, label_in, SpellsAll, IsKeyword, FitsCount, keyword_of}
+use Rattle.mm_text.specs.Items.{Item, Plain, Wrong, Inclusion, End, plain_tokens, HoldNoFault}
+use Rattle.mm_text.specs.Blocks.{AreBalanced, AreClosed, IsInnermost}
+use Rattle.mm_text.specs.Reading.{PlainFault, closes_symbols, IsBody, IsInProof, IsBeginning, AreOutside, Viable, Meets, MeetsS1, MeetsS2, MeetsS3, MeetsS6, fault_at, EndsInX8, EndsInS7, EndsAt, ReadsAs}
+use Rattle.mm_text.specs.Reader.{Part, Between, Labelled, InBody, InProof, Step, More, Whole, Opened, Closed, Faulty, step, at_start, after_label, in_body, in_proof, begun, same_text, is_keyword, has_count, is_full, is_provable, part_first, PlainScope, outermost, passed, opened, closed, has_none, fault_in, block_fault, unfinished_fault, end_fault, inclusion_fault, unless, PlainReading, ended, with_statement, reading_of}
+use Rattle.mm_text.proofs.TextFacts.{same_text-ne, is_keyword-ne, is_keyword_from, symbol-is_keyword, IsSigned}
+use Rattle.mm_text.proofs.Fronts.{cons_parts, nil_append, plain_tokens-append, clean_behind}
+use Rattle.mm_text.proofs.PartFacts.{Describes, part_of_body, part_of_proof, part_of_beginning, first_of_part}
+use Rattle.mm_text.proofs.StepFacts.{closing_sign, StepsTo, step_right}
+use Rattle.mm_text.proofs.StepLaws.{read_nothing, read_end, read_inclusion, read_wrong, read_more, read_whole, read_opened, read_closing, read_faulty}
+use Rattle.mm_text.proofs.Runs.{Run, Runs, Fails, run, run-nil, run-more, run-whole, run-opened, run-closed, run-faulty, with_first, with_all, with_all-runs, with_all-fails, run_on, runs_parts, fails_not, front_of_run}
+use Rattle.mm_text.proofs.StatementRuns.{closing_short, start_closing, spelled_run, whole_run}
+use Rattle.mm_text.proofs.BlockFacts.{AreOpen, scope_after, scope_of, scope_body, scope_more, scope_open, closed_scope, unclosed_scope, scope_closed, one_innermost, innermost_unclosed, balanced_front, closing_unbalanced}
+use Rattle.mm_text.proofs.ReadingLaws.{fault_is}
 
 -- ---- faulty tokens
 
@@ -36,6 +39,9 @@ breaks_S1 tokens t m = record {
   described = m.0;
   faulty = cond-false (same_text t.text (codes "$c")) _ _ (same_text-ne t.text (codes "$c") m.2)
       ∙ cond-false (same_text t.text (codes "$v")) _ _ (same_text-ne t.text (codes "$v") m.3)
+      ∙ cond-false (same_text t.text (codes "$d")) _ _ (same_text-ne t.text (codes "$d") m.4)
+      ∙ cond-false (same_text t.text (codes "${")) _ _ (same_text-ne t.text (codes "${") m.5)
+      ∙ cond-false (same_text t.text (codes "$}")) _ _ (same_text-ne t.text (codes "$}") m.6)
       ∙ cond-true (is_keyword t.text) _ _ (is_keyword_from t.text m.1);
 }
 
@@ -49,6 +55,9 @@ breaks_S2 tokens t m = record {
   described = m.0;
   faulty = cond-false (same_text t.text (codes "$c")) _ _ (other_than t.text (codes "$c") m.1 (0, lit< tt, refl))
       ∙ cond-false (same_text t.text (codes "$v")) _ _ (other_than t.text (codes "$v") m.1 (1, lit< tt, refl))
+      ∙ cond-false (same_text t.text (codes "$d")) _ _ (other_than t.text (codes "$d") m.1 (4, lit< tt, refl))
+      ∙ cond-false (same_text t.text (codes "${")) _ _ (other_than t.text (codes "${") m.1 (13, lit< tt, refl))
+      ∙ cond-false (same_text t.text (codes "$}")) _ _ (other_than t.text (codes "$}") m.1 (14, lit< tt, refl))
       ∙ cond-false (is_keyword t.text) _ _ (is_keyword-ne t.text m.1)
       ∙ cond-false (list_all is_label_byte t.text) _ _ (false_from_ne_true _ m.2);
 }
@@ -59,8 +68,9 @@ breaks_S3 tokens t m = record {
   part = Labelled m.0.label;
   described = (m.0.whole, m.0.named);
   faulty = cond-false (same_text t.text (codes "$f")) _ _ (same_text-ne t.text (codes "$f") m.1)
-      ∙ cond-false (same_text t.text (codes "$a")) _ _ (same_text-ne t.text (codes "$a") m.2)
-      ∙ cond-false (same_text t.text (codes "$p")) _ _ (same_text-ne t.text (codes "$p") m.3);
+      ∙ cond-false (same_text t.text (codes "$e")) _ _ (same_text-ne t.text (codes "$e") m.2)
+      ∙ cond-false (same_text t.text (codes "$a")) _ _ (same_text-ne t.text (codes "$a") m.3)
+      ∙ cond-false (same_text t.text (codes "$p")) _ _ (same_text-ne t.text (codes "$p") m.4);
 }
 
 body_other : (s : PlainStatement) (t : PlainToken) → IsKeyword t.text → t.text ≢ closes_symbols s.kind → step (InBody s) t ≡ Faulty S4
@@ -97,97 +107,346 @@ breaks_S5 tokens t kind symbols b (inr m) =
     let found = part_of_body tokens kind symbols b in
     record { part = InBody found.0; described = found.3; faulty = third_symbol found.0 t (symbol-is_keyword t.text m.0) (found.1 ∙ m.1) (ap (length {A = PlainToken}) found.2 ∙ m.2) }
 
-meets_breaks : (tokens : List PlainToken) (t : PlainToken) (rule : TextRule) → Meets tokens t rule → Breaks tokens t rule
-meets_breaks tokens t S1 m = breaks_S1 tokens t m
-meets_breaks tokens t S2 m = breaks_S2 tokens t m
-meets_breaks tokens t S3 m = breaks_S3 tokens t m
-meets_breaks tokens t S4 m = breaks_S4 tokens t m.0 m.1
-meets_breaks tokens t S5 m = breaks_S5 tokens t m.0 m.1 m.2 m.3
-meets_breaks tokens t _ m = absurd m
+-- ---- the fault after a front
 
--- ---- the end of a reading
+-- after these tokens the reader ends with this fault at this item
+pub record EndsThere (statements : List PlainStatement) (tokens : List PlainToken) (item : Item) (rest : List Item) (fault : PlainFault) : Type 0 where
+  pub part : Part
+  pub described : Describes part tokens
+  pub last : reading_of (scope_of statements) part (item ∷ rest) ≡ ended (Some fault)
 
-ends_first : (own first : PlainToken) (label : Option PlainToken) (tokens : List PlainToken) (fault : PlainFault) → own ≡ first → label_in tokens ≡ label → fault ≡ fault_at X8 first tokens
-    → ended (Some (record { rule = X8; file = own.file; at = own.at; label = label })) ≡ ended (Some fault)
-ends_first own first label tokens fault p q f =
-    (λ i. ended (Some (record { rule = X8; file = (p i).file; at = (p i).at; label = sym q i }))) ∙ ap (λ (x : PlainFault). ended (Some x)) (sym f)
+breaks_ends : (statements : List PlainStatement) (tokens : List PlainToken) (t : PlainToken) (rule : TextRule) (rest : List Item) (fault : PlainFault) → fault ≡ fault_at rule t statements tokens → Breaks tokens t rule → EndsThere statements tokens (Plain t) rest fault
+breaks_ends statements tokens t rule rest fault e b = record {
+  part = b.part;
+  described = b.described;
+  last = read_faulty (scope_of statements) b.part t rest rule b.faulty ∙ ap (λ (f : PlainFault). ended (Some f)) (fault_is rule t b.part statements tokens b.described ∙ sym e);
+}
 
-ends_so : (part : Part) (tokens : List PlainToken) (fault : PlainFault) (first : PlainToken) (others : List PlainToken) → Describes part tokens → tokens ≡ first ∷ others → fault ≡ fault_at X8 first tokens
-    → ended (end_fault part) ≡ ended (Some fault)
-ends_so Between tokens fault first others d w f = absurd (nothing (sym d ∙ w))
-  where
-    nothing : [] ≡ first ∷ others → ⊥
-    nothing e = cc
-ends_so (Labelled label) tokens fault first others d w f =
-    ends_first label first (Some label) tokens fault (cons_parts label first [] others (sym d.0 ∙ w)).0 (Describes-label (Labelled label) tokens d) f
-ends_so (InBody s) tokens fault first others d w f =
-    ends_first s.first first s.label tokens fault (cons_parts s.first first (d.others ++ s.symbols) others (sym (body-first s tokens d) ∙ w)).0 (Describes-label (InBody s) tokens d) f
-ends_so (InProof s) tokens fault first others d w f =
-    ends_first s.first first s.label tokens fault (cons_parts s.first first ((d.others ++ s.symbols) ++ d.equals ∷ s.proof) others (sym (proof-first s tokens d) ∙ w)).0 (Describes-label (InProof s) tokens d) f
+meets_S6 : (statements : List PlainStatement) (tokens : List PlainToken) (t : PlainToken) (rest : List Item) (fault : PlainFault) → fault ≡ fault_at S6 t statements tokens → AreBalanced statements → MeetsS6 statements tokens t → EndsThere statements tokens (Plain t) rest fault
+meets_S6 statements tokens t rest fault e b m = record {
+  part = Between;
+  described = m.0;
+  last = read_closing (scope_of statements) Between t rest (start_closing t m.1) ∙ cond-true (has_none (scope_of statements).blocks) _ _ (closed_scope statements b m.2)
+      ∙ ap (λ (f : PlainFault). ended (Some f)) (fault_is S6 t Between statements tokens m.0 ∙ sym e);
+}
+
+meets_ends : (statements : List PlainStatement) (tokens : List PlainToken) (t : PlainToken) (rule : TextRule) (rest : List Item) (fault : PlainFault) → fault ≡ fault_at rule t statements tokens → AreBalanced statements → Meets statements tokens t rule
+    → EndsThere statements tokens (Plain t) rest fault
+meets_ends statements tokens t S1 rest fault e b m = breaks_ends statements tokens t S1 rest fault e (breaks_S1 tokens t m)
+meets_ends statements tokens t S2 rest fault e b m = breaks_ends statements tokens t S2 rest fault e (breaks_S2 tokens t m)
+meets_ends statements tokens t S3 rest fault e b m = breaks_ends statements tokens t S3 rest fault e (breaks_S3 tokens t m)
+meets_ends statements tokens t S4 rest fault e b m = breaks_ends statements tokens t S4 rest fault e (breaks_S4 tokens t m.0 m.1)
+meets_ends statements tokens t S5 rest fault e b m = breaks_ends statements tokens t S5 rest fault e (breaks_S5 tokens t m.0 m.1 m.2 m.3)
+meets_ends statements tokens t S6 rest fault e b m = meets_S6 statements tokens t rest fault e b m
+meets_ends statements tokens t _ rest fault e b m = absurd m
+
+wrong_ends : (statements : List PlainStatement) (tokens : List PlainToken) (rule : TextRule) (t : PlainToken) (rest : List Item) (fault : PlainFault) → IsBeginning tokens → fault ≡ fault_at rule t statements tokens → EndsThere statements tokens (Wrong rule t) rest fault
+wrong_ends statements tokens rule t rest fault b e =
+    let found = part_of_beginning tokens b in
+    record { part = found.0; described = found.1; last = read_wrong (scope_of statements) found.0 rule t rest ∙ ap (λ (f : PlainFault). ended (Some f)) (fault_is rule t found.0 statements tokens found.1 ∙ sym e) }
+
+-- an inclusion in a statement or in a block is a fault
+inclusion_is_fault : (statements : List PlainStatement) (tokens : List PlainToken) (part : Part) (t : PlainToken) → AreBalanced statements → Describes part tokens → (tokens ≢ []) ⊎ ¬ (AreClosed statements)
+    → inclusion_fault (scope_of statements) part t ≡ Some (fault_in (scope_of statements) part X6 t)
+inclusion_is_fault statements tokens part t b d why =
+    elim (first_of_part part tokens d) [
+      | inr some ↦ rw (inclusion_fault, some.2) refl
+      | inl none ↦ elim why [
+        | inl not_empty ↦ absurd (not_empty none.1)
+        | inr some_open ↦
+            ap (λ (x : Part). inclusion_fault (scope_of statements) x t) none.0 ∙ cond-false (has_none (scope_of statements).blocks) _ _ (unclosed_scope statements b some_open)
+            ∙ ap (λ (x : Part). Some (fault_in (scope_of statements) x X6 t)) (sym none.0)
+      ]
+    ]
+
+inclusion_ends : (statements : List PlainStatement) (tokens : List PlainToken) (t : PlainToken) (rest : List Item) (fault : PlainFault) → IsBeginning tokens → AreBalanced statements → (tokens ≢ []) ⊎ ¬ (AreClosed statements) → fault ≡ fault_at X6 t statements tokens
+    → EndsThere statements tokens (Inclusion t) rest fault
+inclusion_ends statements tokens t rest fault begins b why e =
+    let found = part_of_beginning tokens begins in
+    record {
+      part = found.0;
+      described = found.1;
+      last = read_inclusion (scope_of statements) found.0 t rest ∙ ap (λ (f : Option PlainFault). unless f (reading_of (scope_of statements) found.0 rest)) (inclusion_is_fault statements tokens found.0 t b found.1 why)
+          ∙ ap (λ (f : PlainFault). ended (Some f)) (fault_is X6 t found.0 statements tokens found.1 ∙ sym e);
+    }
+
+none_first : (first : PlainToken) (others tokens : List PlainToken) → tokens ≡ [] → tokens ≡ first ∷ others → ⊥
+none_first first others tokens e f = absurd cc
+
+end_X8 : (statements : List PlainStatement) (tokens : List PlainToken) (file : ℕ) (rest : List Item) (fault : PlainFault) → IsBeginning tokens → EndsInX8 statements tokens fault → EndsThere statements tokens (End file) rest fault
+end_X8 statements tokens file rest fault begins e =
+    let found = part_of_beginning tokens begins in
+    elim (first_of_part found.0 tokens found.1) [
+      | inl none ↦ absurd (none_first e.0 e.1 tokens none.1 e.2)
+      | inr some ↦
+          let unfinished : end_fault (scope_of statements) found.0 file ≡ Some (fault_in (scope_of statements) found.0 X8 some.0) = rw (end_fault, some.2) refl in
+          let same : some.0 ≡ e.0 = (cons_parts some.0 e.0 some.1 e.1 (sym some.3 ∙ e.2)).0 in
+          record {
+            part = found.0;
+            described = found.1;
+            last = read_end (scope_of statements) found.0 file rest ∙ ap (λ (f : Option PlainFault). unless f (reading_of (scope_of statements) found.0 rest)) unfinished
+                ∙ ap (λ (f : PlainFault). ended (Some f)) (fault_is X8 some.0 found.0 statements tokens found.1 ∙ ap (λ (x : PlainToken). fault_at X8 x statements tokens) same ∙ sym e.3);
+          }
+    ]
+
+-- the fault at the innermost block
+block_is : (statements before : List PlainStatement) (opening : PlainStatement) (blocks : List OpenBlock) → AreBalanced statements → IsInnermost statements before opening → AreOpen statements blocks
+    → block_fault blocks ≡ Some (fault_at S7 opening.first before [])
+block_is statements before opening [] b inner h = absurd (innermost_unclosed statements before opening b inner h.1)
+block_is statements before opening (block ∷ blocks) b inner h =
+    let same = one_innermost statements h.0 before h.1 opening h.2 inner in
+    ap (λ (x : OpenBlock). block_fault (x ∷ blocks)) h.3 ∙ (λ i. Some (fault_at S7 (same.1 i).first (same.0 i) []))
+
+end_S7 : (statements : List PlainStatement) (tokens : List PlainToken) (file : ℕ) (rest : List Item) (fault : PlainFault) → AreBalanced statements → EndsInS7 statements tokens file fault → EndsThere statements tokens (End file) rest fault
+end_S7 statements tokens file rest fault b e = record {
+  part = Between;
+  described = e.0;
+  last = read_end (scope_of statements) Between file rest
+      ∙ ap (λ (f : Option PlainFault). unless f (reading_of (scope_of statements) Between rest)) (ap (end_fault (scope_of statements) Between) e.1 ∙ block_is statements e.2 e.3 (scope_of statements).blocks b e.4 (scope_open statements b))
+      ∙ ap (λ (f : PlainFault). ended (Some f)) (sym e.5);
+}
 
 -- a fault ends what the reader computes
-pub last_item : (tokens : List PlainToken) (item : Item) (rest : List Item) (fault : PlainFault) → IsBeginning tokens → EndsAt tokens item fault
-    → reading_of Between (plains tokens (item ∷ rest)) ≡ ended (Some fault)
-last_item tokens (Plain t) rest fault b e =
-    let broken = meets_breaks tokens t e.0 e.1 in
-    part_run broken.part tokens (Plain t ∷ rest) broken.described
-    ∙ reading-faulty broken.part e.0 t rest broken.faulty
-    ∙ (λ i. ended (Some (record { rule = e.0; file = t.file; at = t.at; label = sym (Describes-label broken.part tokens broken.described) i })))
-    ∙ ap (λ (x : PlainFault). ended (Some x)) (sym e.2)
-last_item tokens (Wrong rule t) rest fault b e =
-    let found = part_of_beginning tokens b in
-    part_run found.0 tokens (Wrong rule t ∷ rest) found.1
-    ∙ reading-wrong found.0 rule t rest
-    ∙ (λ i. ended (Some (record { rule = rule; file = t.file; at = t.at; label = sym (Describes-label found.0 tokens found.1) i })))
-    ∙ ap (λ (x : PlainFault). ended (Some x)) (sym e)
-last_item tokens (End file) rest fault b e =
-    let found = part_of_beginning tokens b in
-    part_run found.0 tokens (End file ∷ rest) found.1 ∙ reading-end found.0 file rest ∙ ends_so found.0 tokens fault e.0 e.1 found.1 e.2 e.3
+pub ends_there : (statements : List PlainStatement) (tokens : List PlainToken) (item : Item) (rest : List Item) (fault : PlainFault) → IsBeginning tokens → AreBalanced statements → EndsAt statements tokens item fault → EndsThere statements tokens item rest fault
+ends_there statements tokens (Plain t) rest fault begins b e = meets_ends statements tokens t e.0 rest fault e.2 b e.1
+ends_there statements tokens (Wrong rule t) rest fault begins b e = wrong_ends statements tokens rule t rest fault begins e
+ends_there statements tokens (Inclusion t) rest fault begins b e = inclusion_ends statements tokens t rest fault begins b e.0 e.1
+ends_there statements tokens (End file) rest fault begins b (inl e) = end_X8 statements tokens file rest fault begins e
+ends_there statements tokens (End file) rest fault begins b (inr e) = end_S7 statements tokens file rest fault b e
+
+-- ---- along a viable front
+
+-- statements before a reading
+abbrev pub with_statements : List PlainStatement → PlainReading → PlainReading
+with_statements [] reading = reading
+with_statements (s ∷ statements) reading = with_statement s (with_statements statements reading)
+
+with_more : (statements : List PlainStatement) (s : PlainStatement) (reading : PlainReading) → with_statements (statements ++ s ∷ []) reading ≡ with_statements statements (with_statement s reading)
+with_more [] s reading = refl
+with_more (first ∷ statements) s reading = ap (with_statement first) (with_more statements s reading)
+
+-- ---- parts of statements with symbols
+
+abbrev pub IsLongPart : Part → Type 0
+IsLongPart Between = Unit {0}
+IsLongPart (Labelled label) = Unit {0}
+IsLongPart (InBody s) = HasBody s.kind
+IsLongPart (InProof s) = HasBody s.kind
+
+abbrev IsLongStep : Step → Type 0
+IsLongStep (More next) = IsLongPart next
+IsLongStep (Whole s) = HasBody s.kind
+IsLongStep Opened = Unit {0}
+IsLongStep Closed = Unit {0}
+IsLongStep (Faulty rule) = Unit {0}
+
+start_long : (t : PlainToken) → IsLongStep (at_start t)
+start_long t =
+    cond_both (same_text t.text (codes "$c")) _ _ IsLongStep (λ _. tt)
+    (λ _. cond_both (same_text t.text (codes "$v")) _ _ IsLongStep (λ _. tt)
+    (λ _. cond_both (same_text t.text (codes "$d")) _ _ IsLongStep (λ _. tt)
+    (λ _. cond_both (same_text t.text (codes "${")) _ _ IsLongStep (λ _. tt)
+    (λ _. cond_both (same_text t.text (codes "$}")) _ _ IsLongStep (λ _. tt)
+    (λ _. cond_both (is_keyword t.text) _ _ IsLongStep (λ _. tt)
+    (λ _. cond_both (list_all is_label_byte t.text) _ _ IsLongStep (λ _. tt) (λ _. tt)))))))
+
+label_long : (label t : PlainToken) → IsLongStep (after_label label t)
+label_long label t =
+    cond_both (same_text t.text (codes "$f")) _ _ IsLongStep (λ _. tt)
+    (λ _. cond_both (same_text t.text (codes "$e")) _ _ IsLongStep (λ _. tt)
+    (λ _. cond_both (same_text t.text (codes "$a")) _ _ IsLongStep (λ _. tt)
+    (λ _. cond_both (same_text t.text (codes "$p")) _ _ IsLongStep (λ _. tt) (λ _. tt))))
+
+body_long : (s : PlainStatement) (t : PlainToken) → HasBody s.kind → IsLongStep (in_body s t)
+body_long s t h =
+    cond_both (is_keyword t.text) _ _ IsLongStep
+    (λ _. cond_both (same_text t.text (cond (is_provable s.kind) (codes "$=") (codes "$."))) _ _ IsLongStep
+    (λ _. cond_both (has_count s.kind (length s.symbols)) _ _ IsLongStep
+    (λ _. cond_both (is_provable s.kind) _ _ IsLongStep (λ _. h) (λ _. h)) (λ _. tt)) (λ _. tt))
+    (λ _. cond_both (is_full s.kind (length s.symbols)) _ _ IsLongStep (λ _. tt) (λ _. h))
+
+proof_long : (s : PlainStatement) (t : PlainToken) → HasBody s.kind → IsLongStep (in_proof s t)
+proof_long s t h =
+    cond_both (is_keyword t.text) _ _ IsLongStep
+    (λ _. cond_both (same_text t.text (codes "$.")) _ _ IsLongStep (λ _. h) (λ _. tt))
+    (λ _. h)
+
+step_long : (part : Part) (t : PlainToken) → IsLongPart part → IsLongStep (step part t)
+unfolding step
+step_long Between t h = start_long t
+step_long (Labelled label) t h = label_long label t
+step_long (InBody s) t h = body_long s t h
+step_long (InProof s) t h = proof_long s t h
+
+-- The reader read a front of a viable front: these statements, and a part of one.
+record IsUnderWay (whole : List Item) (all : List PlainStatement) (last : Part) (pre : List Item) (statements : List PlainStatement) (part : Part) (front : List Item) : Type 0 where
+  cut : whole ≡ pre ++ front
+  done : run Between (plain_tokens pre) ≡ Runs statements part
+  ends : run Between (plain_tokens whole) ≡ Runs all last
+  long : IsLongPart part
+
+-- what is read of the front of a viable front
+record IsSoFar (statements all : List PlainStatement) (part last : Part) (front : List Item) : Type 0 where
+  others : List PlainStatement
+  more : all ≡ statements ++ others
+  rest : run part (plain_tokens front) ≡ Runs others last
+
+so_far : (whole pre front : List Item) (all statements : List PlainStatement) (last part : Part) → IsUnderWay whole all last pre statements part front → IsSoFar statements all part last front
+so_far whole pre front all statements last part w =
+    let whole_tokens : plain_tokens whole ≡ plain_tokens pre ++ plain_tokens front = ap plain_tokens w.cut ∙ plain_tokens-append pre front in
+    let on : run Between (plain_tokens whole) ≡ with_all statements (run part (plain_tokens front)) = ap (run Between) whole_tokens ∙ run_on (plain_tokens pre) (plain_tokens front) statements part w.done in
+    let found = front_of_run statements (run part (plain_tokens front)) all last (sym on ∙ w.ends) in
+    record { others = found.0; more = found.1; rest = found.2 }
+
+-- one item on
+moved : (whole pre front : List Item) (item : Item) (all statements more after : List PlainStatement) (last part next : Part) → IsUnderWay whole all last pre statements part (item ∷ front)
+    → run part (plain_tokens (item ∷ [])) ≡ Runs more next → statements ++ more ≡ after → IsLongPart next → IsUnderWay whole all last (pre ++ item ∷ []) after next front
+moved whole pre front item all statements more after last part next w r is long = record {
+  cut = w.cut ∙ sym (append_assoc pre (item ∷ []) front);
+  done = ap (run Between) (plain_tokens-append pre (item ∷ [])) ∙ run_on (plain_tokens pre) (plain_tokens (item ∷ [])) statements part w.done ∙ ap (with_all statements) r ∙ with_all-runs statements more next
+      ∙ ap (λ (x : List PlainStatement). Runs x next) is;
+  ends = w.ends;
+  long = long;
+}
+
+-- nothing is unfinished where tokens spell statements
+spelled_between : (pre : List Item) (statements earlier : List PlainStatement) (part : Part) → run Between (plain_tokens pre) ≡ Runs statements part → SpellsAll (plain_tokens pre) earlier → (earlier ≡ statements) × (part ≡ Between)
+spelled_between pre statements earlier part done h =
+    let parts = runs_parts earlier statements Between part (sym (whole_run (plain_tokens pre) earlier h) ∙ done) in
+    (parts.0, sym parts.1)
+
+-- how the items of a viable front may stand, whatever they spell
+record AllowsAll (whole : List Item) (all : List PlainStatement) : Type 0 where
+  clean : HoldNoFault whole
+  balanced : AreBalanced all
+  included : (before after : List Item) (token : PlainToken) → whole ≡ before ++ Inclusion token ∷ after → AreOutside (plain_tokens before)
+  ended : (before after : List Item) (file : ℕ) → whole ≡ before ++ End file ∷ after → (earlier : List PlainStatement) × SpellsAll (plain_tokens before) earlier
+  top_ended : (before after : List Item) → whole ≡ before ++ End 0 ∷ after → AreOutside (plain_tokens before)
+
+-- the reader goes along the rest of a front
+abbrev GoesAlong : List Item → List PlainStatement → Part → List Item → List Item → Type 0
+GoesAlong whole all last front rest =
+    (pre : List Item) (statements : List PlainStatement) (part : Part) → IsUnderWay whole all last pre statements part front
+    → with_statements statements (reading_of (scope_of statements) part (front ++ rest)) ≡ with_statements all (reading_of (scope_of all) last rest)
+
+so_far_balanced : (whole pre front : List Item) (all statements : List PlainStatement) (last part : Part) → AllowsAll whole all → IsUnderWay whole all last pre statements part front → AreBalanced statements
+so_far_balanced whole pre front all statements last part v w =
+    let far = so_far whole pre front all statements last part w in
+    balanced_front statements far.others (subst AreBalanced far.more v.balanced)
+
+-- a token that ends a statement
+along_statement : (whole pre front rest : List Item) (all statements : List PlainStatement) (last part : Part) (t : PlainToken) (s : PlainStatement) (scope : PlainScope) → GoesAlong whole all last front rest
+    → IsUnderWay whole all last (pre ++ Plain t ∷ []) (statements ++ s ∷ []) Between front → scope_of (statements ++ s ∷ []) ≡ scope
+    → reading_of (scope_of statements) part (Plain t ∷ front ++ rest) ≡ with_statement s (reading_of scope Between (front ++ rest))
+    → with_statements statements (reading_of (scope_of statements) part (Plain t ∷ front ++ rest)) ≡ with_statements all (reading_of (scope_of all) last rest)
+along_statement whole pre front rest all statements last part t s scope inner w is e =
+    ap (with_statements statements) (e ∙ ap (λ (x : PlainScope). with_statement s (reading_of x Between (front ++ rest))) (sym is))
+    ∙ sym (with_more statements s (reading_of (scope_of (statements ++ s ∷ [])) Between (front ++ rest)))
+    ∙ inner (pre ++ Plain t ∷ []) (statements ++ s ∷ []) Between w
+
+along_closing : (whole pre front rest : List Item) (all statements : List PlainStatement) (last part : Part) (t : PlainToken) → AllowsAll whole all → GoesAlong whole all last front rest → IsUnderWay whole all last pre statements part (Plain t ∷ front)
+    → step part t ≡ Closed → with_statements statements (reading_of (scope_of statements) part (Plain t ∷ front ++ rest)) ≡ with_statements all (reading_of (scope_of all) last rest)
+along_closing whole pre front rest all statements last part t v inner w e =
+    along_statement whole pre front rest all statements last part t s (closed (scope_of statements)) inner after (scope_more statements s)
+    (read_closing (scope_of statements) part t (front ++ rest) e ∙ cond-false (has_none (scope_of statements).blocks) _ _ some_open)
+  where
+    s : PlainStatement
+    s = begun Closing t None
+
+    after : IsUnderWay whole all last (pre ++ Plain t ∷ []) (statements ++ s ∷ []) Between front
+    after = moved whole pre front (Plain t) all statements (s ∷ []) (statements ++ s ∷ []) last part Between w (run-closed part t [] e ∙ ap (with_first s) (run-nil Between)) refl tt
+
+    some_open : has_none (scope_of statements).blocks ≡ false
+    some_open =
+        unclosed_scope statements (so_far_balanced whole pre (Plain t ∷ front) all statements last part v w)
+        (λ c. closing_unbalanced statements s c refl (so_far_balanced whole (pre ++ Plain t ∷ []) front all (statements ++ s ∷ []) last Between v after))
+
+along_token : (whole pre front rest : List Item) (all statements : List PlainStatement) (last part : Part) (t : PlainToken) → AllowsAll whole all → GoesAlong whole all last front rest → IsUnderWay whole all last pre statements part (Plain t ∷ front)
+    → (st : Step) → step part t ≡ st → IsLongStep st → with_statements statements (reading_of (scope_of statements) part (Plain t ∷ front ++ rest)) ≡ with_statements all (reading_of (scope_of all) last rest)
+along_token whole pre front rest all statements last part t v inner w (More next) e long =
+    ap (with_statements statements) (read_more (scope_of statements) part t (front ++ rest) next e)
+    ∙ inner (pre ++ Plain t ∷ []) statements next (moved whole pre front (Plain t) all statements [] statements last part next w (run-more part next t [] e ∙ run-nil next) (append-nil statements) long)
+along_token whole pre front rest all statements last part t v inner w (Whole s) e long =
+    along_statement whole pre front rest all statements last part t s (passed (scope_of statements)) inner
+    (moved whole pre front (Plain t) all statements (s ∷ []) (statements ++ s ∷ []) last part Between w (run-whole part s t [] e ∙ ap (with_first s) (run-nil Between)) refl tt)
+    (scope_body statements s long) (read_whole (scope_of statements) part t (front ++ rest) s e)
+along_token whole pre front rest all statements last part t v inner w Opened e long =
+    let s : PlainStatement = begun Opening t None in
+    along_statement whole pre front rest all statements last part t s (opened (scope_of statements) t) inner
+    (moved whole pre front (Plain t) all statements (s ∷ []) (statements ++ s ∷ []) last part Between w (run-opened part t [] e ∙ ap (with_first s) (run-nil Between)) refl tt)
+    (scope_more statements s) (read_opened (scope_of statements) part t (front ++ rest) e)
+along_token whole pre front rest all statements last part t v inner w Closed e long = along_closing whole pre front rest all statements last part t v inner w e
+along_token whole pre front rest all statements last part t v inner w (Faulty rule) e long =
+    let far = so_far whole pre (Plain t ∷ front) all statements last part w in
+    absurd (fails_not far.others last (sym (run-faulty part rule t (plain_tokens front) e) ∙ far.rest))
+
+-- an item between statements at which there is no fault
+along_between : (whole pre front rest : List Item) (item : Item) (all statements : List PlainStatement) (last part : Part) → GoesAlong whole all last front rest → IsUnderWay whole all last pre statements part (item ∷ front) → plain_tokens (item ∷ []) ≡ []
+    → reading_of (scope_of statements) part (item ∷ front ++ rest) ≡ reading_of (scope_of statements) part (front ++ rest)
+    → with_statements statements (reading_of (scope_of statements) part (item ∷ front ++ rest)) ≡ with_statements all (reading_of (scope_of all) last rest)
+along_between whole pre front rest item all statements last part inner w none e =
+    ap (with_statements statements) e
+    ∙ inner (pre ++ item ∷ []) statements part (moved whole pre front item all statements [] statements last part part w (ap (run part) none ∙ run-nil part) (append-nil statements) w.long)
+
+along_inclusion : (whole pre front rest : List Item) (all statements : List PlainStatement) (last part : Part) (t : PlainToken) → AllowsAll whole all → GoesAlong whole all last front rest → IsUnderWay whole all last pre statements part (Inclusion t ∷ front)
+    → with_statements statements (reading_of (scope_of statements) part (Inclusion t ∷ front ++ rest)) ≡ with_statements all (reading_of (scope_of all) last rest)
+along_inclusion whole pre front rest all statements last part t v inner w =
+    let out = v.included pre front t w.cut in
+    let here = spelled_between pre statements out.statements part w.done out.spelled in
+    let none_open = closed_scope statements (so_far_balanced whole pre (Inclusion t ∷ front) all statements last part v w) (subst AreClosed here.0 out.closed) in
+    let none : inclusion_fault (scope_of statements) part t ≡ None = ap (λ (x : Part). inclusion_fault (scope_of statements) x t) here.1 ∙ cond-true (has_none (scope_of statements).blocks) _ _ none_open in
+    along_between whole pre front rest (Inclusion t) all statements last part inner w refl
+    (read_inclusion (scope_of statements) part t (front ++ rest) ∙ ap (λ (f : Option PlainFault). unless f (reading_of (scope_of statements) part (front ++ rest))) none)
+
+no_block : (blocks : List OpenBlock) → has_none blocks ≡ true → block_fault blocks ≡ None
+no_block [] e = refl
+no_block (block ∷ blocks) e = absurd (false≢true e)
+
+along_end : (whole pre front rest : List Item) (all statements : List PlainStatement) (last part : Part) (file : ℕ) → AllowsAll whole all → GoesAlong whole all last front rest → IsUnderWay whole all last pre statements part (End file ∷ front)
+    → with_statements statements (reading_of (scope_of statements) part (End file ∷ front ++ rest)) ≡ with_statements all (reading_of (scope_of all) last rest)
+along_end whole pre front rest all statements last part file v inner w =
+    let out = v.ended pre front file w.cut in
+    let here = spelled_between pre statements out.0 part w.done out.1 in
+    let top : file ≡ 0 → block_fault (scope_of statements).blocks ≡ None = λ first.
+    let outside = v.top_ended pre front (w.cut ∙ ap (λ (x : ℕ). pre ++ End x ∷ front) first) in
+    let same = spelled_between pre statements outside.statements part w.done outside.spelled in
+    no_block (scope_of statements).blocks (closed_scope statements (so_far_balanced whole pre (End file ∷ front) all statements last part v w) (subst AreClosed same.0 outside.closed)) in
+    let none : end_fault (scope_of statements) part file ≡ None =
+    ap (λ (x : Part). end_fault (scope_of statements) x file) here.1
+    ∙ cond_both (file == 0) _ _ (λ (f : Option PlainFault). f ≡ None) (λ first. top (eqb-true file 0 first)) (λ _. refl) in
+    along_between whole pre front rest (End file) all statements last part inner w refl
+    (read_end (scope_of statements) part file (front ++ rest) ∙ ap (λ (f : Option PlainFault). unless f (reading_of (scope_of statements) part (front ++ rest))) none)
+
+goes_along : (whole : List Item) (all : List PlainStatement) (last : Part) (front rest : List Item) → AllowsAll whole all → GoesAlong whole all last front rest
+goes_along whole all last [] rest v pre statements part w =
+    let same = runs_parts statements all part last (sym w.done ∙ ap (λ (x : List Item). run Between (plain_tokens x)) (sym (w.cut ∙ append-nil pre)) ∙ w.ends) in
+    λ i. with_statements (same.0 i) (reading_of (scope_of (same.0 i)) (same.1 i) rest)
+goes_along whole all last (Plain t ∷ front) rest v pre statements part w =
+    along_token whole pre front rest all statements last part t v (goes_along whole all last front rest v) w (step part t) refl (step_long part t w.long)
+goes_along whole all last (Wrong rule t ∷ front) rest v pre statements part w = absurd (clean_behind pre rule t front (subst HoldNoFault w.cut v.clean))
+goes_along whole all last (Inclusion t ∷ front) rest v pre statements part w = along_inclusion whole pre front rest all statements last part t v (goes_along whole all last front rest v) w
+goes_along whole all last (End file ∷ front) rest v pre statements part w = along_end whole pre front rest all statements last part file v (goes_along whole all last front rest v) w
+
+-- what the reader computes of a viable front and what follows it
+pub front_reading : (front rest : List Item) (statements : List PlainStatement) (unfinished : List PlainToken) (part : Part) → Viable front statements unfinished → Describes part unfinished
+    → reading_of outermost Between (front ++ rest) ≡ with_statements statements (reading_of (scope_of statements) part rest)
+unfolding scope_after
+front_reading front rest statements unfinished part v d =
+    goes_along front statements part front rest (record { clean = v.clean; balanced = v.balanced; included = v.included; ended = v.ended; top_ended = v.top_ended }) [] [] Between
+    (record { cut = refl; done = run-nil Between; ends = spelled_run (plain_tokens front) v.finished unfinished statements part v.whole v.spelled d; long = tt })
+
+-- ---- one reading
 
 with_ended : (statements : List PlainStatement) (ending : Option PlainFault) → with_statements statements (ended ending) ≡ record { statements = statements; ending = ending }
 with_ended [] ending = refl
 with_ended (s ∷ statements) ending = ap (with_statement s) (with_ended statements ending)
 
--- ---- one reading
-
--- what the reader computes of a front that spells statements, and of what follows
-pub front_reading : (its : List Item) (tokens finished unfinished : List PlainToken) (statements : List PlainStatement) (rest : List Item) → its ≡ plains tokens rest → tokens ≡ finished ++ unfinished
-    → SpellsAll finished statements → reading_of Between its ≡ with_statements statements (reading_of Between (plains unfinished rest))
-front_reading its tokens finished unfinished statements rest e w h =
-    ap (reading_of Between) (e ∙ ap (λ (x : List PlainToken). plains x rest) w ∙ plains-append finished unfinished rest) ∙ statements_run finished statements (plains unfinished rest) h
-
-reads_whole : (its : List Item) (tokens : List PlainToken) (rest : List Item) (statements : List PlainStatement) (v : Viable its statements []) → its ≡ plains tokens rest → plain_tokens its ≡ tokens → reading_of Between rest ≡ ended None
-    → reading_of Between its ≡ record { statements = statements; ending = None }
-reads_whole its tokens rest statements v e w last =
-    front_reading its tokens v.finished [] statements rest e (sym w ∙ v.whole) v.spelled ∙ ap (with_statements statements) last ∙ with_ended statements None
-
-reads_faulty : (file : ℕ) (tokens : List PlainToken) (front : List Item) (item : Item) (rest : List Item) (unfinished : List PlainToken) (statements : List PlainStatement) (fault : PlainFault)
-    → items_of file tokens ≡ front ++ item ∷ rest → Viable front statements unfinished → EndsAt unfinished item fault
-    → reading_of Between (items_of file tokens) ≡ record { statements = statements; ending = Some fault }
-reads_faulty file tokens front item rest unfinished statements fault e v ends =
-    let alone : front ≡ plains (plain_tokens front) [] = front_of_items file tokens front item rest e in
-    let whole : items_of file tokens ≡ plains (plain_tokens front) (item ∷ rest) = e ∙ ap (λ (x : List Item). x ++ item ∷ rest) alone ∙ append-plains (plain_tokens front) [] (item ∷ rest) in
-    front_reading (items_of file tokens) (plain_tokens front) v.finished unfinished statements (item ∷ rest) whole v.whole v.spelled
-    ∙ ap (with_statements statements) (last_item unfinished item rest fault v.begun ends)
-    ∙ with_ended statements (Some fault)
-
--- a reading is what the reader computes
-pub reads_reading : (files : List PlainFile) (statements : List PlainStatement) (ending : Option PlainFault) → Reads files statements ending
-    → reading_of Between (items files) ≡ record { statements = statements; ending = ending }
-unfolding reading_of
-reads_reading [] statements None v = reads_whole [] [] [] statements v refl refl refl
-reads_reading [] statements (Some fault) r = absurd (nil-append r.0 r.1 r.2 r.4)
-reads_reading (top ∷ others) statements None v =
-    let tokens = tokens_from 0 0 top.bytes in
-    let whole = clean_items 0 tokens v.clean in
-    reads_whole (items_of 0 tokens) tokens (End 0 ∷ []) statements v whole (ap plain_tokens whole ∙ plain_tokens-plains tokens (End 0 ∷ []) ∙ append-nil tokens) (reading-end Between 0 [])
-reads_reading (top ∷ others) statements (Some fault) r = reads_faulty 0 (tokens_from 0 0 top.bytes) r.0 r.1 r.2 r.3 statements fault r.4 r.5 r.6
-
--- each list of files has one reading
-pub each_has_one_reading : EachHasOneReading
-each_has_one_reading files = record {
-  statements = (reading_of Between (items files)).statements;
-  ending = (reading_of Between (items files)).ending;
-  reads = reading_reads files;
-  only = λ others end r. let e = sym (reads_reading files others end r) in (ap (λ (x : PlainReading). x.statements) e, ap (λ (x : PlainReading). x.ending) e);
-}
+-- a reading of items is what the reader computes
+pub reads_reading : (its : List Item) (statements : List PlainStatement) (ending : Option PlainFault) → ReadsAs its statements ending → reading_of outermost Between its ≡ record { statements = statements; ending = ending }
+reads_reading its statements None v =
+    ap (reading_of outermost Between) (sym (append-nil its)) ∙ front_reading its [] statements [] Between v refl
+    ∙ ap (with_statements statements) (read_nothing (scope_of statements) Between) ∙ with_ended statements None
+reads_reading its statements (Some fault) r =
+    let there = ends_there statements r.3 r.1 r.2 fault r.5.begun r.5.balanced r.6 in
+    ap (reading_of outermost Between) r.4 ∙ front_reading r.0 (r.1 ∷ r.2) statements r.3 there.part r.5 there.described
+    ∙ ap (with_statements statements) there.last ∙ with_ended statements (Some fault)

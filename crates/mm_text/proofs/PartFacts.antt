@@ -1,11 +1,11 @@
 -- What a reader has of an unfinished statement, against its tokens.
-use Rattle.std.proofs.Common.{◌≡◌, ◌+◌, ◌≤◌, length, List, [], ◌∷◌, ◌++◌, refl, sym, ap, subst, ◌∙◌, codes, append_assoc, inl, inr}
+use Rattle.std.proofs.Common.{◌≡◌, ◌+◌, ◌≤◌, length, List, [], ◌∷◌, ◌++◌, refl, sym, ap, subst, ◌∙◌, codes, append_assoc, Some, ◌⊎◌, inl, inr}
 use Rattle.mm_text.specs.declared.statement.Kind.{Kind}
 use Rattle.mm_text.specs.declared.statement.Kind.TheVariants.{Constants, Variables, Distinct, Floating, Essential, Axiom, Provable, Opening, Closing}
 use Rattle.mm_text.specs.Token.{PlainToken, IsLabel}
-use Rattle.mm_text.specs.Statement.{PlainStatement, IsHead, AreSymbols, label_in}
+use Rattle.mm_text.specs.Statement.{PlainStatement, IsHead, HasBody, AreSymbols, label_in}
 use Rattle.mm_text.specs.Reading.{IsBeginning, IsBody, IsInProof}
-use Rattle.mm_text.specs.Reader.{Part, Between, Labelled, InBody, InProof, part_label}
+use Rattle.mm_text.specs.Reader.{Part, Between, Labelled, InBody, InProof, part_label, part_first}
 
 -- the tokens of a statement of which only symbols were read after its head
 pub record IsPartBody (s : PlainStatement) (tokens : List PlainToken) : Type 0 where
@@ -13,6 +13,7 @@ pub record IsPartBody (s : PlainStatement) (tokens : List PlainToken) : Type 0 w
   pub others : List PlainToken
   pub whole : tokens ≡ head ++ s.symbols
   pub begins : IsHead s.kind head
+  pub long : HasBody s.kind
   pub first : head ≡ s.first ∷ others
   pub label : s.label ≡ label_in head
   pub spelled : AreSymbols s.symbols
@@ -80,13 +81,13 @@ bare_started head t rest e = record { first = t; others = rest; is = e }
 pub started : (kind : Kind) (head : List PlainToken) → IsHead kind head → IsStarted kind head
 started Constants head h = record { first = h.keyword; others = []; is = h.tokens }
 started Variables head h = record { first = h.keyword; others = []; is = h.tokens }
+started Distinct head h = record { first = h.keyword; others = []; is = h.tokens }
+started Opening head h = record { first = h.keyword; others = []; is = h.tokens }
+started Closing head h = record { first = h.keyword; others = []; is = h.tokens }
 started Floating head h = record { first = h.label; others = h.keyword ∷ []; is = h.tokens }
+started Essential head h = record { first = h.label; others = h.keyword ∷ []; is = h.tokens }
 started Axiom head h = record { first = h.label; others = h.keyword ∷ []; is = h.tokens }
 started Provable head h = record { first = h.label; others = h.keyword ∷ []; is = h.tokens }
-started Distinct head h = absurd h
-started Essential head h = absurd h
-started Opening head h = absurd h
-started Closing head h = absurd h
 
 -- a body is what the reader has in one
 pub part_of_body : (tokens : List PlainToken) (kind : Kind) (symbols : List PlainToken) → IsBody tokens kind symbols
@@ -94,7 +95,7 @@ pub part_of_body : (tokens : List PlainToken) (kind : Kind) (symbols : List Plai
 part_of_body tokens kind symbols b =
     let st = started kind b.head b.begins in
     let s : PlainStatement = record { kind = kind; first = st.first; label = label_in b.head; symbols = symbols; proof = []; span = (0, 0) } in
-    (s, refl, refl, record { head = b.head; others = st.others; whole = b.whole; begins = b.begins; first = st.is; label = refl; spelled = b.spelled; room = b.room; proof = refl; span = refl })
+    (s, refl, refl, record { head = b.head; others = st.others; whole = b.whole; begins = b.begins; long = b.long; first = st.is; label = refl; spelled = b.spelled; room = b.room; proof = refl; span = refl })
 
 pub part_of_proof : (tokens : List PlainToken) → IsInProof tokens → (s : PlainStatement) × IsPartProof s tokens
 part_of_proof tokens p =
@@ -111,7 +112,7 @@ part_of_beginning tokens (inr (inr (inr p))) = let found = part_of_proof tokens 
 
 -- and the other way round
 pub body_of_part : (s : PlainStatement) (tokens : List PlainToken) → IsPartBody s tokens → IsBody tokens s.kind s.symbols
-body_of_part s tokens d = record { head = d.head; whole = d.whole; begins = d.begins; spelled = d.spelled; room = d.room }
+body_of_part s tokens d = record { head = d.head; whole = d.whole; begins = d.begins; long = d.long; spelled = d.spelled; room = d.room }
 
 pub proof_of_part : (s : PlainStatement) (tokens : List PlainToken) → IsPartProof s tokens → IsInProof tokens
 proof_of_part s tokens d = record {
@@ -120,7 +121,7 @@ proof_of_part s tokens d = record {
   equals = d.equals;
   proof = s.proof;
   whole = d.whole;
-  stated = record { head = d.head; whole = refl; begins = d.begins; spelled = d.spelled; room = λ e. absurd cc };
+  stated = record { head = d.head; whole = refl; begins = d.begins; long = tt; spelled = d.spelled; room = λ e. absurd cc };
   some = d.some;
   sign = d.sign;
   steps = d.steps;
@@ -131,3 +132,11 @@ beginning_of_part Between tokens d = inl d
 beginning_of_part (Labelled label) tokens d = inr (inl (record { label = label; whole = d.0; named = d.1 }))
 beginning_of_part (InBody s) tokens d = inr (inr (inl (s.kind, s.symbols, body_of_part s tokens d)))
 beginning_of_part (InProof s) tokens d = inr (inr (inr (proof_of_part s tokens d)))
+
+-- a part has no token, or a first one
+pub first_of_part : (part : Part) (tokens : List PlainToken) → Describes part tokens
+    → ((part ≡ Between) × (tokens ≡ [])) ⊎ ((first : PlainToken) × (others : List PlainToken) × (part_first part ≡ Some first) × (tokens ≡ first ∷ others))
+first_of_part Between tokens d = inl (refl, d)
+first_of_part (Labelled label) tokens d = inr (label, [], refl, d.0)
+first_of_part (InBody s) tokens d = inr (s.first, d.others ++ s.symbols, refl, body-first s tokens d)
+first_of_part (InProof s) tokens d = inr (s.first, (d.others ++ s.symbols) ++ d.equals ∷ s.proof, refl, proof-first s tokens d)

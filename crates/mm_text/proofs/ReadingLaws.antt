@@ -1,206 +1,356 @@
--- What the reader computes is a reading of the files.
-use Rattle.std.proofs.Common.{◌≡◌, ℕ, List, [], ◌∷◌, ◌++◌, refl, sym, ap, subst, ◌∙◌, Option, Some, None, append_assoc, inl}
+-- What the reader computes of items is a reading of them.
+use Rattle.std.proofs.Common.{◌≡◌, ◌≢◌, ℕ, ◌+◌, ◌==◌, length, List, [], ◌∷◌, ◌++◌, Bool, true, false, cond, refl, sym, ap, subst, ◌∙◌, codes, Option, Some, None, append_assoc, ◌⊎◌, inl, inr}
+use Rattle.std.specs.List.{AllByRecursion}
+use Rattle.std.proofs.Math.Path.{transport}
 use Rattle.std.proofs.lemmas.List.{append-nil}
+use Rattle.std.proofs.lemmas.Bool.{cond-true, cond-false, eqb-true, eqb-false}
+use Rattle.mm_text.specs.declared.scope.OpenBlock.{OpenBlock}
 use Rattle.mm_text.specs.declared.fault.TextRule.{TextRule}
-use Rattle.mm_text.specs.declared.fault.TextRule.TheVariants.{X8}
-use Rattle.mm_text.specs.Token.{PlainToken, tokens_from}
-use Rattle.mm_text.specs.Statement.{PlainStatement, Spells, SpellsAll}
-use Rattle.mm_text.specs.Files.{PlainFile}
-use Rattle.mm_text.specs.Items.{Item, Plain, Wrong, End, broken_by, items_of, items, plain_tokens, HoldNoFault}
-use Rattle.mm_text.specs.Reading.{PlainFault, IsBeginning, Viable, fault_at, EndsAt, Reads}
-use Rattle.mm_text.specs.Reader.{Part, Between, Labelled, InBody, InProof, Step, More, Whole, Faulty, step, part_label, PlainReading, ended, with_statement, end_fault, step_fault, reading_of}
-use Rattle.mm_text.proofs.ItemFacts.{plains, append-plains, plain_tokens-plains, clean_plains, items_of-plain, items_of-wrong, items_of-end, no_end, before_end}
-use Rattle.mm_text.proofs.PartFacts.{Describes, Describes-label, body-first, proof-first, beginning_of_part}
+use Rattle.mm_text.specs.declared.fault.TextRule.TheVariants.{X6, X8, S6, S7}
+use Rattle.mm_text.specs.declared.statement.Kind.TheVariants.{Opening, Closing}
+use Rattle.mm_text.specs.Token.{PlainToken}
+use Rattle.mm_text.specs.Statement.{PlainStatement, HasBody, Spells, SpellsAll}
+use Rattle.mm_text.specs.Items.{Item, Plain, Wrong, Inclusion, End, plain_tokens, HoldNoFault}
+use Rattle.mm_text.specs.Blocks.{AreBalanced, AreClosed}
+use Rattle.mm_text.specs.Reading.{PlainFault, IsBeginning, AreOutside, Viable, fault_at, EndsAt, ReadsAs}
+use Rattle.mm_text.specs.Reader.{Part, Between, Labelled, InBody, InProof, Step, More, Whole, Opened, Closed, Faulty, step, begun, part_first, part_label, PlainScope, outermost, passed, opened, closed, has_none, fault_in, block_fault, unfinished_fault, end_fault, inclusion_fault, unless, PlainReading, ended, with_statement, reading_of}
+use Rattle.mm_text.proofs.TextFacts.{IsSigned}
+use Rattle.mm_text.proofs.Fronts.{nil_append, last_cut, plain_tokens-append, clean_append}
+use Rattle.mm_text.proofs.PartFacts.{Describes, Describes-label, beginning_of_part, first_of_part}
 use Rattle.mm_text.proofs.StepFacts.{StepsTo, step_right}
+use Rattle.mm_text.proofs.StepLaws.{read_nothing, read_end, read_inclusion, read_wrong, read_more, read_whole, read_opened, read_closing, read_faulty}
+use Rattle.mm_text.proofs.StatementRuns.{spells_sign}
+use Rattle.mm_text.proofs.BlockFacts.{AreOpen, scope_after, scope_of, balanced_nothing, scope_body, scope_more, scope_count, scope_open, scope_closed, scope_unclosed, balanced_body, balanced_opening, balanced_closing}
 
--- ---- what the reader computes, by the first item
+-- ---- items that end well
 
-pub reading-end : (part : Part) (file : ℕ) (rest : List Item) → reading_of part (End file ∷ rest) ≡ ended (end_fault part)
-unfolding reading_of
-reading-end part file rest = refl
+-- a fault or the end of a file comes
+abbrev pub ComesToStop : List Item → Type 0
+ComesToStop [] = ⊥
+ComesToStop (Plain t ∷ rest) = ComesToStop rest
+ComesToStop (Inclusion t ∷ rest) = ComesToStop rest
+ComesToStop (Wrong rule t ∷ rest) = Unit {0}
+ComesToStop (End file ∷ rest) = Unit {0}
 
-pub reading-wrong : (part : Part) (rule : TextRule) (t : PlainToken) (rest : List Item) → reading_of part (Wrong rule t ∷ rest) ≡ ended (step_fault part t rule)
-unfolding reading_of
-reading-wrong part rule t rest = refl
+-- after each token a fault or the end of a file comes
+abbrev pub AreSettled : List Item → Type 0
+AreSettled [] = Unit {0}
+AreSettled (Plain t ∷ rest) = ComesToStop rest × AreSettled rest
+AreSettled (Wrong rule t ∷ rest) = AreSettled rest
+AreSettled (Inclusion t ∷ rest) = AreSettled rest
+AreSettled (End file ∷ rest) = AreSettled rest
 
-pub reading-more : (part next : Part) (t : PlainToken) (rest : List Item) → step part t ≡ More next → reading_of part (Plain t ∷ rest) ≡ reading_of next rest
-unfolding reading_of
-reading-more part next t rest e = rw (reading_of, e) refl
+-- ---- a viable front with one item more
 
-pub reading-whole : (part : Part) (s : PlainStatement) (t : PlainToken) (rest : List Item) → step part t ≡ Whole s → reading_of part (Plain t ∷ rest) ≡ with_statement s (reading_of Between rest)
-unfolding reading_of
-reading-whole part s t rest e = rw (reading_of, e) refl
+spells_more : (tokens more : List PlainToken) (statements : List PlainStatement) (s : PlainStatement) → SpellsAll tokens statements → Spells more s → SpellsAll (tokens ++ more) (statements ++ s ∷ [])
+spells_more tokens more [] s h k = (more, [], ap (λ (x : List PlainToken). x ++ more) h ∙ sym (append-nil more), k, refl)
+spells_more tokens more (first ∷ statements) s h k = (h.0, h.1 ++ more, ap (λ (x : List PlainToken). x ++ more) h.2 ∙ append_assoc h.0 h.1 more, h.3, spells_more h.1 more statements s h.4 k)
 
-pub reading-faulty : (part : Part) (rule : TextRule) (t : PlainToken) (rest : List Item) → step part t ≡ Faulty rule → reading_of part (Plain t ∷ rest) ≡ ended (step_fault part t rule)
-unfolding reading_of
-reading-faulty part rule t rest e = rw (reading_of, e) refl
+-- what is to be shown of an item that comes next
+record Follows (pre : List Item) (item : Item) : Type 0 where
+  clean : HoldNoFault (item ∷ [])
+  included : (token : PlainToken) → item ≡ Inclusion token → AreOutside (plain_tokens pre)
+  ended : (file : ℕ) → item ≡ End file → (earlier : List PlainStatement) × SpellsAll (plain_tokens pre) earlier
+  top_ended : item ≡ End 0 → AreOutside (plain_tokens pre)
 
--- ---- a reading of items after unfinished tokens
-
-pub record Stops (unfinished : List PlainToken) (its : List Item) (statements : List PlainStatement) (fault : PlainFault) : Type 0 where
-  pub tokens : List PlainToken
-  pub item : Item
-  pub rest : List Item
-  pub finished : List PlainToken
-  pub left : List PlainToken
-  pub whole : its ≡ plains tokens (item ∷ rest)
-  pub parts : unfinished ++ tokens ≡ finished ++ left
-  pub spelled : SpellsAll finished statements
-  pub begun : IsBeginning left
-  pub ends : EndsAt left item fault
-
-pub record Finishes (unfinished : List PlainToken) (its : List Item) (statements : List PlainStatement) : Type 0 where
-  pub tokens : List PlainToken
-  pub file : ℕ
-  pub whole : its ≡ plains tokens (End file ∷ [])
-  pub spelled : SpellsAll (unfinished ++ tokens) statements
-
-abbrev ReadsOn : List PlainToken → List Item → List PlainStatement → Option PlainFault → Type 0
-ReadsOn unfinished its statements None = Finishes unfinished its statements
-ReadsOn unfinished its statements (Some fault) = Stops unfinished its statements fault
-
-abbrev ReadsAs : List PlainToken → List Item → PlainReading → Type 0
-ReadsAs unfinished its reading = ReadsOn unfinished its reading.statements reading.ending
-
--- a fault at the very next item
-stops_here : (unfinished : List PlainToken) (item : Item) (rest : List Item) (fault : PlainFault) → IsBeginning unfinished → EndsAt unfinished item fault → Stops unfinished (item ∷ rest) [] fault
-stops_here unfinished item rest fault b e = record {
-  tokens = [];
-  item = item;
-  rest = rest;
-  finished = [];
-  left = unfinished;
-  whole = refl;
-  parts = append-nil unfinished;
-  spelled = refl;
-  begun = b;
-  ends = e;
-}
-
--- one more token before
-before : (unfinished : List PlainToken) (t : PlainToken) (its : List Item) (statements : List PlainStatement) (ending : Option PlainFault) → ReadsOn (unfinished ++ t ∷ []) its statements ending
-    → ReadsOn unfinished (Plain t ∷ its) statements ending
-before unfinished t its statements None r = record {
-  tokens = t ∷ r.tokens;
-  file = r.file;
-  whole = ap (λ (x : List Item). Plain t ∷ x) r.whole;
-  spelled = subst (λ (x : List PlainToken). SpellsAll x statements) (append_assoc unfinished (t ∷ []) r.tokens) r.spelled;
-}
-before unfinished t its statements (Some fault) r = record {
-  tokens = t ∷ r.tokens;
-  item = r.item;
-  rest = r.rest;
-  finished = r.finished;
-  left = r.left;
-  whole = ap (λ (x : List Item). Plain t ∷ x) r.whole;
-  parts = sym (append_assoc unfinished (t ∷ []) r.tokens) ∙ r.parts;
-  spelled = r.spelled;
-  begun = r.begun;
-  ends = r.ends;
-}
-
--- a whole statement before
-statement_before : (unfinished : List PlainToken) (t : PlainToken) (s : PlainStatement) (its : List Item) (statements : List PlainStatement) (ending : Option PlainFault) → Spells (unfinished ++ t ∷ []) s
-    → ReadsOn [] its statements ending → ReadsOn unfinished (Plain t ∷ its) (s ∷ statements) ending
-statement_before unfinished t s its statements None sp r = record {
-  tokens = t ∷ r.tokens;
-  file = r.file;
-  whole = ap (λ (x : List Item). Plain t ∷ x) r.whole;
-  spelled = (unfinished ++ t ∷ [], r.tokens, sym (append_assoc unfinished (t ∷ []) r.tokens), sp, r.spelled);
-}
-statement_before unfinished t s its statements (Some fault) sp r = record {
-  tokens = t ∷ r.tokens;
-  item = r.item;
-  rest = r.rest;
-  finished = (unfinished ++ t ∷ []) ++ r.finished;
-  left = r.left;
-  whole = ap (λ (x : List Item). Plain t ∷ x) r.whole;
-  parts = sym (append_assoc unfinished (t ∷ []) r.tokens) ∙ ap (λ (x : List PlainToken). (unfinished ++ t ∷ []) ++ x) r.parts ∙ sym (append_assoc (unfinished ++ t ∷ []) r.finished r.left);
-  spelled = (unfinished ++ t ∷ [], r.finished, refl, sp, r.spelled);
-  begun = r.begun;
-  ends = r.ends;
-}
-
-fault_label : (rule : TextRule) (t : PlainToken) (part : Part) (unfinished : List PlainToken) → Describes part unfinished
-    → ◌≡◌ {A = PlainFault} (record { rule = rule; file = t.file; at = t.at; label = part_label part }) (fault_at rule t unfinished)
-fault_label rule t part unfinished d = λ i. record { rule = rule; file = t.file; at = t.at; label = sym (Describes-label part unfinished d) i }
-
-ends_in : (part : Part) (unfinished : List PlainToken) (file : ℕ) (first : PlainToken) (others : List PlainToken) → Describes part unfinished → unfinished ≡ first ∷ others
-    → Stops unfinished (End file ∷ []) [] (record { rule = X8; file = first.file; at = first.at; label = part_label part })
-ends_in part unfinished file first others d e =
-    stops_here unfinished (End file) [] (record { rule = X8; file = first.file; at = first.at; label = part_label part }) (beginning_of_part part unfinished d) (first, others, e, fault_label X8 first part unfinished d)
-
-at_end : (part : Part) (unfinished : List PlainToken) (file : ℕ) → Describes part unfinished → ReadsAs unfinished (End file ∷ []) (ended (end_fault part))
-at_end Between unfinished file d = record { tokens = []; file = file; whole = refl; spelled = append-nil unfinished ∙ d }
-at_end (Labelled label) unfinished file d = ends_in (Labelled label) unfinished file label [] d d.0
-at_end (InBody s) unfinished file d = ends_in (InBody s) unfinished file s.first (d.others ++ s.symbols) d (body-first s unfinished d)
-at_end (InProof s) unfinished file d = ends_in (InProof s) unfinished file s.first ((d.others ++ s.symbols) ++ d.equals ∷ s.proof) d (proof-first s unfinished d)
-
-pub reads_on : (file : ℕ) (tokens : List PlainToken) (part : Part) (unfinished : List PlainToken) → Describes part unfinished
-    → ReadsAs unfinished (items_of file tokens) (reading_of part (items_of file tokens))
-reads_on file [] part unfinished d =
-    subst (λ (x : List Item). ReadsAs unfinished x (reading_of part x)) (sym (items_of-end file)) (subst (ReadsAs unfinished (End file ∷ [])) (sym (reading-end part file [])) (at_end part unfinished file d))
-reads_on file (t ∷ tokens) part unfinished d =
-    go (λ next more described. reads_on file tokens next more described) (broken_by t.text) refl
-  where
-    stepped : ((next : Part) (more : List PlainToken) → Describes next more → ReadsAs more (items_of file tokens) (reading_of next (items_of file tokens)))
-        → broken_by t.text ≡ None → (st : Step) → step part t ≡ st → StepsTo unfinished t st → ReadsAs unfinished (Plain t ∷ items_of file tokens) (reading_of part (Plain t ∷ items_of file tokens))
-    stepped inner ok (More next) e so =
-        let r = inner next (unfinished ++ t ∷ []) so in
-        let its = items_of file tokens in
-        let reading = reading_of next its in
-        subst (ReadsAs unfinished (Plain t ∷ its)) (sym (reading-more part next t its e)) (before unfinished t its reading.statements reading.ending r)
-    stepped inner ok (Whole s) e so =
-        let r = inner Between [] refl in
-        let its = items_of file tokens in
-        let reading = reading_of Between its in
-        subst (ReadsAs unfinished (Plain t ∷ its)) (sym (reading-whole part s t its e)) (statement_before unfinished t s its reading.statements reading.ending so r)
-    stepped inner ok (Faulty rule) e so =
-        let its = items_of file tokens in
-        subst (ReadsAs unfinished (Plain t ∷ its)) (sym (reading-faulty part rule t its e))
-        (stops_here unfinished (Plain t) its (record { rule = rule; file = t.file; at = t.at; label = part_label part }) (beginning_of_part part unfinished d) (rule, so, fault_label rule t part unfinished d))
-
-    go : ((next : Part) (more : List PlainToken) → Describes next more → ReadsAs more (items_of file tokens) (reading_of next (items_of file tokens)))
-        → (o : Option TextRule) → broken_by t.text ≡ o → ReadsAs unfinished (items_of file (t ∷ tokens)) (reading_of part (items_of file (t ∷ tokens)))
-    go inner (Some rule) b =
-        subst (λ (x : List Item). ReadsAs unfinished x (reading_of part x)) (sym (items_of-wrong file t tokens rule b))
-        (subst (ReadsAs unfinished (Wrong rule t ∷ [])) (sym (reading-wrong part rule t []))
-        (stops_here unfinished (Wrong rule t) [] (record { rule = rule; file = t.file; at = t.at; label = part_label part }) (beginning_of_part part unfinished d) (fault_label rule t part unfinished d)))
-    go inner None b =
-        subst (λ (x : List Item). ReadsAs unfinished x (reading_of part x)) (sym (items_of-plain file t tokens b)) (stepped inner b (step part t) refl (step_right part unfinished t b d))
-
--- ---- a reading of the files
-
-viable_here : (front : List Item) (tokens finished left : List PlainToken) (statements : List PlainStatement) → front ≡ plains tokens [] → tokens ≡ finished ++ left → SpellsAll finished statements
-    → IsBeginning left → Viable front statements left
-viable_here front tokens finished left statements e parts spelled begun = record {
-  clean = subst HoldNoFault (sym e) (clean_plains tokens [] tt);
+extended : (pre : List Item) (item : Item) (statements more : List PlainStatement) (unfinished left finished : List PlainToken) → Viable pre statements unfinished → Follows pre item
+    → plain_tokens pre ++ plain_tokens (item ∷ []) ≡ finished ++ left → SpellsAll finished more → IsBeginning left → AreBalanced more → Viable (pre ++ item ∷ []) more left
+extended pre item statements more unfinished left finished v f whole spelled begun balanced = record {
+  clean = clean_append pre (item ∷ []) v.clean f.clean;
   finished = finished;
-  whole = ap plain_tokens e ∙ plain_tokens-plains tokens [] ∙ append-nil tokens ∙ parts;
+  whole = plain_tokens-append pre (item ∷ []) ∙ whole;
   spelled = spelled;
   begun = begun;
-  ended = λ before after file cut. absurd (no_end tokens before after file (sym e ∙ cut));
+  balanced = balanced;
+  included = λ before after token cut. elim (last_cut pre item before (Inclusion token) after cut) [
+    | inl h ↦ v.included before h.0 token h.1
+    | inr h ↦ subst (λ (x : List Item). AreOutside (plain_tokens x)) (sym h.0) (f.included token h.1)
+  ];
+  ended = λ before after file cut. elim (last_cut pre item before (End file) after cut) [
+    | inl h ↦ v.ended before h.0 file h.1
+    | inr h ↦ subst (λ (x : List Item). (earlier : List PlainStatement) × SpellsAll (plain_tokens x) earlier) (sym h.0) (f.ended file h.1)
+  ];
+  top_ended = λ before after cut. elim (last_cut pre item before (End 0) after cut) [
+    | inl h ↦ v.top_ended before h.0 h.1
+    | inr h ↦ subst (λ (x : List Item). AreOutside (plain_tokens x)) (sym h.0) (f.top_ended h.1)
+  ];
 }
 
-viable_whole : (its : List Item) (tokens : List PlainToken) (file : ℕ) (statements : List PlainStatement) → its ≡ plains tokens (End file ∷ []) → SpellsAll tokens statements → Viable its statements []
-viable_whole its tokens file statements e spelled = record {
-  clean = subst HoldNoFault (sym e) (clean_plains tokens (End file ∷ []) tt);
-  finished = tokens;
-  whole = ap plain_tokens e ∙ plain_tokens-plains tokens (End file ∷ []);
-  spelled = spelled;
-  begun = inl refl;
-  ended = λ before after last cut. (statements, subst (λ (x : List PlainToken). SpellsAll x statements) (sym (before_end tokens file before after last (sym e ∙ cut))) spelled);
+plain_follows : (pre : List Item) (t : PlainToken) → Follows pre (Plain t)
+plain_follows pre t = record { clean = tt; included = λ token e. absurd cc; ended = λ file e. absurd cc; top_ended = λ e. absurd cc }
+
+-- nothing is unfinished
+nothing_left : (pre : List Item) (statements : List PlainStatement) (unfinished : List PlainToken) → (v : Viable pre statements unfinished) → unfinished ≡ [] → plain_tokens pre ≡ v.finished
+nothing_left pre statements unfinished v e = v.whole ∙ ap (λ (x : List PlainToken). v.finished ++ x) e ∙ append-nil v.finished
+
+outside : (pre : List Item) (statements : List PlainStatement) (unfinished : List PlainToken) → Viable pre statements unfinished → unfinished ≡ [] → AreClosed statements → AreOutside (plain_tokens pre)
+outside pre statements unfinished v e closed = record { statements = statements; spelled = subst (λ (x : List PlainToken). SpellsAll x statements) (sym (nothing_left pre statements unfinished v e)) v.spelled; closed = closed }
+
+-- an inclusion, or the end of a file, where nothing is unfinished
+between : (pre : List Item) (item : Item) (statements : List PlainStatement) (unfinished : List PlainToken) → Viable pre statements unfinished → unfinished ≡ [] → plain_tokens (item ∷ []) ≡ [] → Follows pre item → Viable (pre ++ item ∷ []) statements []
+between pre item statements unfinished v e none f =
+    extended pre item statements statements unfinished [] v.finished v f (ap (λ (x : List PlainToken). plain_tokens pre ++ x) none ∙ append-nil (plain_tokens pre) ∙ nothing_left pre statements unfinished v e ∙ sym (append-nil v.finished)) v.spelled (inl refl) v.balanced
+
+-- a token of a statement
+within : (pre : List Item) (t : PlainToken) (statements : List PlainStatement) (unfinished : List PlainToken) (next : Part) → Viable pre statements unfinished → Describes next (unfinished ++ t ∷ []) → Viable (pre ++ Plain t ∷ []) statements (unfinished ++ t ∷ [])
+within pre t statements unfinished next v d =
+    extended pre (Plain t) statements statements unfinished (unfinished ++ t ∷ []) v.finished v (plain_follows pre t)
+    (ap (λ (x : List PlainToken). x ++ t ∷ []) v.whole ∙ append_assoc v.finished unfinished (t ∷ [])) v.spelled (beginning_of_part next (unfinished ++ t ∷ []) d) v.balanced
+
+-- the last token of a statement
+finishing : (pre : List Item) (t : PlainToken) (statements : List PlainStatement) (unfinished : List PlainToken) (s : PlainStatement) → Viable pre statements unfinished → Spells (unfinished ++ t ∷ []) s → AreBalanced (statements ++ s ∷ [])
+    → Viable (pre ++ Plain t ∷ []) (statements ++ s ∷ []) []
+finishing pre t statements unfinished s v h b =
+    extended pre (Plain t) statements (statements ++ s ∷ []) unfinished [] (v.finished ++ (unfinished ++ t ∷ [])) v (plain_follows pre t)
+    (ap (λ (x : List PlainToken). x ++ t ∷ []) v.whole ∙ append_assoc v.finished unfinished (t ∷ []) ∙ sym (append-nil (v.finished ++ (unfinished ++ t ∷ [])))) (spells_more v.finished (unfinished ++ t ∷ []) statements s v.spelled h) (inl refl) b
+
+-- ---- a reading after a viable front
+
+abbrev pub ReadsOn : List Item → List PlainStatement → PlainReading → Type 0
+ReadsOn whole statements reading = ReadsAs whole (statements ++ reading.statements) reading.ending
+
+-- a fault at the very next item
+fault_here : (pre : List Item) (item : Item) (rest : List Item) (statements : List PlainStatement) (unfinished : List PlainToken) (fault : PlainFault) → Viable pre statements unfinished → EndsAt statements unfinished item fault
+    → ReadsOn (pre ++ item ∷ rest) statements (ended (Some fault))
+fault_here pre item rest statements unfinished fault v e =
+    subst (λ (x : List PlainStatement). ReadsAs (pre ++ item ∷ rest) x (Some fault)) (sym (append-nil statements)) (pre, item, rest, unfinished, refl, v, e)
+
+-- one item before
+item_before : (pre : List Item) (item : Item) (rest : List Item) (statements : List PlainStatement) (reading : PlainReading) → ReadsOn ((pre ++ item ∷ []) ++ rest) statements reading → ReadsOn (pre ++ item ∷ rest) statements reading
+item_before pre item rest statements reading h = subst (λ (x : List Item). ReadsOn x statements reading) (append_assoc pre (item ∷ []) rest) h
+
+-- a whole statement before
+statement_before : (whole : List Item) (statements : List PlainStatement) (s : PlainStatement) (reading : PlainReading) → ReadsOn whole (statements ++ s ∷ []) reading → ReadsOn whole statements (with_statement s reading)
+statement_before whole statements s reading h = subst (λ (x : List PlainStatement). ReadsAs whole x reading.ending) (append_assoc statements (s ∷ []) reading.statements) h
+
+-- the reading is the same
+same_reading : (whole : List Item) (statements : List PlainStatement) (reading other : PlainReading) → reading ≡ other → ReadsOn whole statements other → ReadsOn whole statements reading
+same_reading whole statements reading other e h = subst (ReadsOn whole statements) (sym e) h
+
+-- the fault that the reader answers is the one of the grammar
+pub fault_is : (rule : TextRule) (t : PlainToken) (part : Part) (statements : List PlainStatement) (unfinished : List PlainToken) → Describes part unfinished → fault_in (scope_of statements) part rule t ≡ fault_at rule t statements unfinished
+fault_is rule t part statements unfinished d = λ i. record { rule = rule; file = t.file; at = t.at; statement = scope_count statements i + 1; label = sym (Describes-label part unfinished d) i }
+
+-- the front with the items that are left, as far as it was read
+pub record Course (pre : List Item) (statements : List PlainStatement) (unfinished : List PlainToken) (part : Part) : Type 0 where
+  pub viable : Viable pre statements unfinished
+  pub described : Describes part unfinished
+
+-- the reader goes on
+abbrev pub GoesOn : List Item → Type 0
+GoesOn rest =
+    (pre : List Item) (statements : List PlainStatement) (unfinished : List PlainToken) (part : Part) → Course pre statements unfinished part → (part_first part ≡ None) ⊎ ComesToStop rest
+    → ReadsOn (pre ++ rest) statements (reading_of (scope_of statements) part rest)
+
+-- ---- tokens
+
+token_wrong : (pre rest : List Item) (statements : List PlainStatement) (unfinished : List PlainToken) (part : Part) (rule : TextRule) (t : PlainToken) → Course pre statements unfinished part
+    → ReadsOn (pre ++ Wrong rule t ∷ rest) statements (reading_of (scope_of statements) part (Wrong rule t ∷ rest))
+token_wrong pre rest statements unfinished part rule t c =
+    same_reading _ statements _ _ (read_wrong (scope_of statements) part rule t rest ∙ ap (λ (f : PlainFault). ended (Some f)) (fault_is rule t part statements unfinished c.described))
+    (fault_here pre (Wrong rule t) rest statements unfinished (fault_at rule t statements unfinished) c.viable refl)
+
+-- a token that breaks a rule
+token_faulty : (pre rest : List Item) (statements : List PlainStatement) (unfinished : List PlainToken) (part : Part) (t : PlainToken) (rule : TextRule) → Course pre statements unfinished part → step part t ≡ Faulty rule
+    → StepsTo unfinished t (Faulty rule) → ReadsOn (pre ++ Plain t ∷ rest) statements (reading_of (scope_of statements) part (Plain t ∷ rest))
+token_faulty pre rest statements unfinished part t rule c e so =
+    same_reading _ statements _ _ (read_faulty (scope_of statements) part t rest rule e ∙ ap (λ (f : PlainFault). ended (Some f)) (fault_is rule t part statements unfinished c.described))
+    (fault_here pre (Plain t) rest statements unfinished (fault_at rule t statements unfinished) c.viable (rule, so statements, refl))
+
+token_more : (pre rest : List Item) (statements : List PlainStatement) (unfinished : List PlainToken) (part : Part) (t : PlainToken) (next : Part) → GoesOn rest → ComesToStop rest → Course pre statements unfinished part → step part t ≡ More next
+    → StepsTo unfinished t (More next) → ReadsOn (pre ++ Plain t ∷ rest) statements (reading_of (scope_of statements) part (Plain t ∷ rest))
+token_more pre rest statements unfinished part t next inner stops c e so =
+    same_reading _ statements _ _ (read_more (scope_of statements) part t rest next e)
+    (item_before pre (Plain t) rest statements (reading_of (scope_of statements) next rest)
+    (inner (pre ++ Plain t ∷ []) statements (unfinished ++ t ∷ []) next (record { viable = within pre t statements unfinished next c.viable so; described = so }) (inr stops)))
+
+-- a token that ends a statement, with what the scope is after it
+token_ends : (pre rest : List Item) (statements : List PlainStatement) (unfinished : List PlainToken) (part : Part) (t : PlainToken) (s : PlainStatement) (scope : PlainScope) → GoesOn rest → Course pre statements unfinished part
+    → reading_of (scope_of statements) part (Plain t ∷ rest) ≡ with_statement s (reading_of scope Between rest) → scope_of (statements ++ s ∷ []) ≡ scope → Spells (unfinished ++ t ∷ []) s → AreBalanced (statements ++ s ∷ [])
+    → ReadsOn (pre ++ Plain t ∷ rest) statements (reading_of (scope_of statements) part (Plain t ∷ rest))
+token_ends pre rest statements unfinished part t s scope inner c e is h b =
+    same_reading _ statements _ _ (e ∙ ap (λ (x : PlainScope). with_statement s (reading_of x Between rest)) (sym is))
+    (statement_before (pre ++ Plain t ∷ rest) statements s (reading_of (scope_of (statements ++ s ∷ [])) Between rest)
+    (item_before pre (Plain t) rest (statements ++ s ∷ []) (reading_of (scope_of (statements ++ s ∷ [])) Between rest)
+    (inner (pre ++ Plain t ∷ []) (statements ++ s ∷ []) [] Between (record { viable = finishing pre t statements unfinished s c.viable h b; described = refl }) (inl refl))))
+
+token_whole : (pre rest : List Item) (statements : List PlainStatement) (unfinished : List PlainToken) (part : Part) (t : PlainToken) (s : PlainStatement) → GoesOn rest → Course pre statements unfinished part → step part t ≡ Whole s
+    → StepsTo unfinished t (Whole s) → ReadsOn (pre ++ Plain t ∷ rest) statements (reading_of (scope_of statements) part (Plain t ∷ rest))
+token_whole pre rest statements unfinished part t s inner c e so =
+    token_ends pre rest statements unfinished part t s (passed (scope_of statements)) inner c (read_whole (scope_of statements) part t rest s e) (scope_body statements s so.1) so.0 (balanced_body statements s c.viable.balanced so.1)
+
+token_opened : (pre rest : List Item) (statements : List PlainStatement) (unfinished : List PlainToken) (part : Part) (t : PlainToken) → GoesOn rest → Course pre statements unfinished part → step part t ≡ Opened
+    → StepsTo unfinished t Opened → ReadsOn (pre ++ Plain t ∷ rest) statements (reading_of (scope_of statements) part (Plain t ∷ rest))
+token_opened pre rest statements unfinished part t inner c e so =
+    let s : PlainStatement = begun Opening t None in
+    token_ends pre rest statements unfinished part t s (opened (scope_of statements) t) inner c (read_opened (scope_of statements) part t rest e) (scope_more statements s)
+    (spells_sign Opening unfinished t so.0 so.1 refl (record { keyword = t; tokens = refl; sign = so.1 }) refl (refl, refl, refl)) (balanced_opening statements s c.viable.balanced refl)
+
+token_closed : (pre rest : List Item) (statements : List PlainStatement) (unfinished : List PlainToken) (part : Part) (t : PlainToken) → GoesOn rest → Course pre statements unfinished part → step part t ≡ Closed
+    → StepsTo unfinished t Closed → ReadsOn (pre ++ Plain t ∷ rest) statements (reading_of (scope_of statements) part (Plain t ∷ rest))
+token_closed pre rest statements unfinished part t inner c e so = go (has_none (scope_of statements).blocks) refl
+  where
+    s : PlainStatement
+    s = begun Closing t None
+
+    go : (none : Bool) → has_none (scope_of statements).blocks ≡ none → ReadsOn (pre ++ Plain t ∷ rest) statements (reading_of (scope_of statements) part (Plain t ∷ rest))
+    go true none =
+        same_reading _ statements _ _ (read_closing (scope_of statements) part t rest e ∙ cond-true (has_none (scope_of statements).blocks) _ _ none ∙ ap (λ (f : PlainFault). ended (Some f)) (fault_is S6 t part statements unfinished c.described))
+        (fault_here pre (Plain t) rest statements unfinished (fault_at S6 t statements unfinished) c.viable (S6, (so.0, so.1, scope_closed statements c.viable.balanced none), refl))
+    go false some =
+        token_ends pre rest statements unfinished part t s (closed (scope_of statements)) inner c (read_closing (scope_of statements) part t rest e ∙ cond-false (has_none (scope_of statements).blocks) _ _ some) (scope_more statements s)
+        (spells_sign Closing unfinished t so.0 so.1 refl (record { keyword = t; tokens = refl; sign = so.1 }) refl (refl, refl, refl)) (balanced_closing statements s c.viable.balanced refl (scope_unclosed statements c.viable.balanced some))
+
+token_next : (pre rest : List Item) (statements : List PlainStatement) (unfinished : List PlainToken) (part : Part) (t : PlainToken) → GoesOn rest → ComesToStop rest → Course pre statements unfinished part
+    → (st : Step) → step part t ≡ st → StepsTo unfinished t st → ReadsOn (pre ++ Plain t ∷ rest) statements (reading_of (scope_of statements) part (Plain t ∷ rest))
+token_next pre rest statements unfinished part t inner stops c (More next) e so = token_more pre rest statements unfinished part t next inner stops c e so
+token_next pre rest statements unfinished part t inner stops c (Whole s) e so = token_whole pre rest statements unfinished part t s inner c e so
+token_next pre rest statements unfinished part t inner stops c Opened e so = token_opened pre rest statements unfinished part t inner c e so
+token_next pre rest statements unfinished part t inner stops c Closed e so = token_closed pre rest statements unfinished part t inner c e so
+token_next pre rest statements unfinished part t inner stops c (Faulty rule) e so = token_faulty pre rest statements unfinished part t rule c e so
+
+-- ---- inclusions
+
+no_first : (part : Part) (first : PlainToken) → part_first part ≡ Some first → (part_first part ≡ None) → ⊥
+no_first part first e f = absurd cc
+
+nil_cons : (first : PlainToken) (others tokens : List PlainToken) → tokens ≡ first ∷ others → tokens ≢ []
+nil_cons first others tokens e f = absurd cc
+
+-- a file is included in a statement or in a block
+inclusion_faulty : (pre rest : List Item) (statements : List PlainStatement) (unfinished : List PlainToken) (part : Part) (t : PlainToken) → Course pre statements unfinished part
+    → inclusion_fault (scope_of statements) part t ≡ Some (fault_in (scope_of statements) part X6 t) → (unfinished ≢ []) ⊎ ¬ (AreClosed statements)
+    → ReadsOn (pre ++ Inclusion t ∷ rest) statements (reading_of (scope_of statements) part (Inclusion t ∷ rest))
+inclusion_faulty pre rest statements unfinished part t c e why =
+    same_reading _ statements _ _
+    (read_inclusion (scope_of statements) part t rest ∙ ap (λ (f : Option PlainFault). unless f (reading_of (scope_of statements) part rest)) e ∙ ap (λ (f : PlainFault). ended (Some f)) (fault_is X6 t part statements unfinished c.described))
+    (fault_here pre (Inclusion t) rest statements unfinished (fault_at X6 t statements unfinished) c.viable (why, refl))
+
+-- or outside
+inclusion_passed : (pre rest : List Item) (statements : List PlainStatement) (unfinished : List PlainToken) (part : Part) (t : PlainToken) → GoesOn rest → Course pre statements unfinished part → part ≡ Between → unfinished ≡ []
+    → inclusion_fault (scope_of statements) part t ≡ None → AreClosed statements → ReadsOn (pre ++ Inclusion t ∷ rest) statements (reading_of (scope_of statements) part (Inclusion t ∷ rest))
+inclusion_passed pre rest statements unfinished part t inner c between_now none e closed =
+    let follows : Follows pre (Inclusion t) = record { clean = tt; included = λ token is. outside pre statements unfinished c.viable none closed; ended = λ file is. absurd cc; top_ended = λ is. absurd cc } in
+    same_reading _ statements _ _
+    (read_inclusion (scope_of statements) part t rest ∙ ap (λ (f : Option PlainFault). unless f (reading_of (scope_of statements) part rest)) e)
+    (item_before pre (Inclusion t) rest statements (reading_of (scope_of statements) part rest)
+    (inner (pre ++ Inclusion t ∷ []) statements [] part (record { viable = between pre (Inclusion t) statements unfinished c.viable none refl follows; described = subst (λ (x : Part). Describes x []) (sym between_now) refl }) (inl (ap part_first between_now))))
+
+inclusion_next : (pre rest : List Item) (statements : List PlainStatement) (unfinished : List PlainToken) (part : Part) (t : PlainToken) → GoesOn rest → Course pre statements unfinished part
+    → ReadsOn (pre ++ Inclusion t ∷ rest) statements (reading_of (scope_of statements) part (Inclusion t ∷ rest))
+inclusion_next pre rest statements unfinished part t inner c =
+    elim (first_of_part part unfinished c.described) [
+      | inl none ↦ go none.0 none.1 (has_none (scope_of statements).blocks) refl
+      | inr some ↦ inclusion_faulty pre rest statements unfinished part t c (rw (inclusion_fault, some.2) refl) (inl (nil_cons some.0 some.1 unfinished some.3))
+    ]
+  where
+    go : part ≡ Between → unfinished ≡ [] → (b : Bool) → has_none (scope_of statements).blocks ≡ b → ReadsOn (pre ++ Inclusion t ∷ rest) statements (reading_of (scope_of statements) part (Inclusion t ∷ rest))
+    go between_now none true closed =
+        inclusion_passed pre rest statements unfinished part t inner c between_now none
+        (ap (λ (x : Part). inclusion_fault (scope_of statements) x t) between_now ∙ cond-true (has_none (scope_of statements).blocks) _ _ closed) (scope_closed statements c.viable.balanced closed)
+    go between_now none false some_open =
+        inclusion_faulty pre rest statements unfinished part t c
+        (ap (λ (x : Part). inclusion_fault (scope_of statements) x t) between_now ∙ cond-false (has_none (scope_of statements).blocks) _ _ some_open ∙ ap (λ (x : Part). Some (fault_in (scope_of statements) x X6 t)) (sym between_now))
+        (inr (scope_unclosed statements c.viable.balanced some_open))
+
+-- ---- ends of files
+
+end_unfinished : (pre rest : List Item) (statements : List PlainStatement) (unfinished others : List PlainToken) (part : Part) (file : ℕ) (first : PlainToken) → Course pre statements unfinished part → part_first part ≡ Some first → unfinished ≡ first ∷ others
+    → ReadsOn (pre ++ End file ∷ rest) statements (reading_of (scope_of statements) part (End file ∷ rest))
+end_unfinished pre rest statements unfinished others part file first c begun_by is =
+    let e : end_fault (scope_of statements) part file ≡ Some (fault_in (scope_of statements) part X8 first) = rw (end_fault, begun_by) refl in
+    same_reading _ statements _ _
+    (read_end (scope_of statements) part file rest ∙ ap (λ (f : Option PlainFault). unless f (reading_of (scope_of statements) part rest)) e ∙ ap (λ (f : PlainFault). ended (Some f)) (fault_is X8 first part statements unfinished c.described))
+    (fault_here pre (End file) rest statements unfinished (fault_at X8 first statements unfinished) c.viable (inl (first, others, is, refl)))
+
+-- the top file ends in a block
+end_in_block : (pre rest : List Item) (statements : List PlainStatement) (unfinished : List PlainToken) (part : Part) (file : ℕ) (block : OpenBlock) (blocks : List OpenBlock) → Course pre statements unfinished part → part ≡ Between → unfinished ≡ [] → file ≡ 0
+    → (scope_of statements).blocks ≡ block ∷ blocks → ReadsOn (pre ++ End file ∷ rest) statements (reading_of (scope_of statements) part (End file ∷ rest))
+end_in_block pre rest statements unfinished part file block blocks c between_now none top is =
+    let opens : AreOpen statements (block ∷ blocks) = subst (AreOpen statements) is (scope_open statements c.viable.balanced) in
+    let e : end_fault (scope_of statements) part file ≡ block_fault (block ∷ blocks) =
+    (λ i. end_fault (scope_of statements) (between_now i) (top i)) ∙ ap block_fault is in
+    let fault : block_fault (block ∷ blocks) ≡ Some (fault_at S7 opens.1.first opens.0 []) = λ i. block_fault (opens.3 i ∷ blocks) in
+    same_reading _ statements _ _
+    (read_end (scope_of statements) part file rest ∙ ap (λ (f : Option PlainFault). unless f (reading_of (scope_of statements) part rest)) (e ∙ fault))
+    (fault_here pre (End file) rest statements unfinished (fault_at S7 opens.1.first opens.0 []) c.viable (inr (none, top, opens.0, opens.1, opens.2, refl)))
+
+end_passed : (pre rest : List Item) (statements : List PlainStatement) (unfinished : List PlainToken) (part : Part) (file : ℕ) → GoesOn rest → Course pre statements unfinished part → part ≡ Between → unfinished ≡ []
+    → end_fault (scope_of statements) Between file ≡ None → (file ≡ 0 → AreClosed statements) → ReadsOn (pre ++ End file ∷ rest) statements (reading_of (scope_of statements) part (End file ∷ rest))
+end_passed pre rest statements unfinished part file inner c between_now none e closed =
+    let follows : Follows pre (End file) = record {
+      clean = tt;
+      included = λ token is. absurd cc;
+      ended = λ other is. (statements, subst (λ (x : List PlainToken). SpellsAll x statements) (sym (nothing_left pre statements unfinished c.viable none)) c.viable.spelled);
+      top_ended = λ is. outside pre statements unfinished c.viable none (closed (end_number file 0 is));
+    } in
+    same_reading _ statements _ _
+    (read_end (scope_of statements) part file rest ∙ ap (λ (f : Option PlainFault). unless f (reading_of (scope_of statements) part rest)) (ap (λ (x : Part). end_fault (scope_of statements) x file) between_now ∙ e))
+    (item_before pre (End file) rest statements (reading_of (scope_of statements) part rest)
+    (inner (pre ++ End file ∷ []) statements [] part (record { viable = between pre (End file) statements unfinished c.viable none refl follows; described = subst (λ (x : Part). Describes x []) (sym between_now) refl }) (inl (ap part_first between_now))))
+  where
+    end_number : (a b : ℕ) → End a ≡ End b → a ≡ b
+    end_number a b e = cc
+
+end_next : (pre rest : List Item) (statements : List PlainStatement) (unfinished : List PlainToken) (part : Part) (file : ℕ) → GoesOn rest → Course pre statements unfinished part
+    → ReadsOn (pre ++ End file ∷ rest) statements (reading_of (scope_of statements) part (End file ∷ rest))
+end_next pre rest statements unfinished part file inner c =
+    elim (first_of_part part unfinished c.described) [
+      | inl none ↦ go none.0 none.1 (file == 0) refl
+      | inr some ↦ end_unfinished pre rest statements unfinished some.1 part file some.0 c some.2 some.3
+    ]
+  where
+    top : part ≡ Between → unfinished ≡ [] → file ≡ 0 → (blocks : List OpenBlock) → (scope_of statements).blocks ≡ blocks → ReadsOn (pre ++ End file ∷ rest) statements (reading_of (scope_of statements) part (End file ∷ rest))
+    top between_now none first [] is =
+        end_passed pre rest statements unfinished part file inner c between_now none (ap (end_fault (scope_of statements) Between) first ∙ ap block_fault is) (λ _. scope_closed statements c.viable.balanced (ap has_none is))
+    top between_now none first (block ∷ blocks) is = end_in_block pre rest statements unfinished part file block blocks c between_now none first is
+
+    go : part ≡ Between → unfinished ≡ [] → (b : Bool) → (file == 0) ≡ b → ReadsOn (pre ++ End file ∷ rest) statements (reading_of (scope_of statements) part (End file ∷ rest))
+    go between_now none true first = top between_now none (eqb-true file 0 first) (scope_of statements).blocks refl
+    go between_now none false other =
+        end_passed pre rest statements unfinished part file inner c between_now none (cond-false (file == 0) _ _ other) (λ e. absurd (eqb-false file 0 other e))
+
+-- ---- all items
+
+nothing_next : (pre : List Item) (statements : List PlainStatement) (unfinished : List PlainToken) (part : Part) → Course pre statements unfinished part → part_first part ≡ None → ReadsOn (pre ++ []) statements (reading_of (scope_of statements) part [])
+nothing_next pre statements unfinished part c none =
+    elim (first_of_part part unfinished c.described) [
+      | inl is ↦
+          same_reading _ statements _ _ (read_nothing (scope_of statements) part ∙ ap (λ (x : Part). ended (unfinished_fault (scope_of statements) x)) is.0)
+          (transport (λ i. Viable (sym (append-nil pre) i) (sym (append-nil statements) i) (is.1 i)) c.viable)
+      | inr some ↦ absurd (no_first part some.0 some.2 none)
+    ]
+
+-- what the reader computes of items after a viable front is a reading of all
+pub reads_on : (rest : List Item) → AllByRecursion IsSigned (plain_tokens rest) → AreSettled rest → GoesOn rest
+reads_on [] signed settled pre statements unfinished part c (inl none) = nothing_next pre statements unfinished part c none
+reads_on [] signed settled pre statements unfinished part c (inr stops) = absurd stops
+reads_on (Plain t ∷ rest) signed settled pre statements unfinished part c stops =
+    token_next pre rest statements unfinished part t (reads_on rest signed.1 settled.1) settled.0 c (step part t) refl (step_right part unfinished t signed.0 c.described)
+reads_on (Wrong rule t ∷ rest) signed settled pre statements unfinished part c stops = token_wrong pre rest statements unfinished part rule t c
+reads_on (Inclusion t ∷ rest) signed settled pre statements unfinished part c stops = inclusion_next pre rest statements unfinished part t (reads_on rest signed settled) c
+reads_on (End file ∷ rest) signed settled pre statements unfinished part c stops = end_next pre rest statements unfinished part file (reads_on rest signed settled) c
+
+-- the reading of items from the start
+abbrev pub whole_reading : List Item → PlainReading
+whole_reading its = reading_of outermost Between its
+
+nothing_read : Course [] [] [] Between
+nothing_read = record {
+  viable = record {
+    clean = tt;
+    finished = [];
+    whole = refl;
+    spelled = refl;
+    begun = inl refl;
+    balanced = balanced_nothing;
+    included = λ before after token cut. absurd (nil_append before (Inclusion token) after cut);
+    ended = λ before after file cut. absurd (nil_append before (End file) after cut);
+    top_ended = λ before after cut. absurd (nil_append before (End 0) after cut);
+  };
+  described = refl;
 }
 
-from_reads_on : (top : PlainFile) (others : List PlainFile) (statements : List PlainStatement) (ending : Option PlainFault)
-    → ReadsOn [] (items (top ∷ others)) statements ending → Reads (top ∷ others) statements ending
-from_reads_on top others statements None r = viable_whole (items (top ∷ others)) r.tokens r.file statements r.whole r.spelled
-from_reads_on top others statements (Some fault) r =
-    (plains r.tokens [], r.item, r.rest, r.left, r.whole ∙ sym (append-plains r.tokens [] (r.item ∷ r.rest)), viable_here (plains r.tokens []) r.tokens r.finished r.left statements refl r.parts r.spelled r.begun, r.ends)
-
--- what the reader computes is a reading
-pub reading_reads : (files : List PlainFile) → Reads files (reading_of Between (items files)).statements (reading_of Between (items files)).ending
-unfolding reading_of
-reading_reads [] = record { clean = tt; finished = []; whole = refl; spelled = refl; begun = inl refl; ended = λ before after file cut. absurd (no_end [] before after file cut) }
-reading_reads (top ∷ others) =
-    from_reads_on top others (reading_of Between (items (top ∷ others))).statements (reading_of Between (items (top ∷ others))).ending (reads_on 0 (tokens_from 0 0 top.bytes) Between [] refl)
+pub items_read : (its : List Item) → AllByRecursion IsSigned (plain_tokens its) → AreSettled its → ReadsAs its (whole_reading its).statements (whole_reading its).ending
+unfolding scope_after
+items_read its signed settled = reads_on its signed settled [] [] [] Between nothing_read (inl refl)

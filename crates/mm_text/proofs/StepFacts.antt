@@ -6,11 +6,10 @@ use Rattle.std.proofs.lemmas.Bool.{both_ways, cond_both, eqb-true, eqb-false, le
 use Rattle.mm_text.specs.declared.statement.Kind.{Kind}
 use Rattle.mm_text.specs.declared.statement.Kind.TheVariants.{Constants, Variables, Distinct, Floating, Essential, Axiom, Provable, Opening, Closing}
 use Rattle.mm_text.specs.Token.{PlainToken, IsLabel, is_label_byte, HoldsNoDollar}
-use Rattle.mm_text.specs.Statement.{PlainStatement, IsHead, AreSymbols, FitsCount, Spells, IsTail, EndsAtOnce}
-use Rattle.mm_text.specs.Items.{broken_by}
+use Rattle.mm_text.specs.Statement.{PlainStatement, IsHead, HasBody, AreSymbols, FitsCount, keyword_of, Spells, IsTail, EndsAtOnce}
 use Rattle.mm_text.specs.Reading.{closes_symbols, Meets}
-use Rattle.mm_text.specs.Reader.{Part, Between, Labelled, InBody, InProof, Step, More, Whole, Faulty, step, at_start, after_label, in_body, in_proof, same_text, is_keyword, begun, has_count, is_full, is_provable}
-use Rattle.mm_text.proofs.TextFacts.{same_text-true, same_text-false, is_keyword-true, is_keyword-false, whole-symbol}
+use Rattle.mm_text.specs.Reader.{Part, Between, Labelled, InBody, InProof, Step, More, Whole, Opened, Closed, Faulty, step, at_start, after_label, in_body, in_proof, same_text, is_keyword, begun, has_count, is_full, is_provable}
+use Rattle.mm_text.proofs.TextFacts.{same_text-true, same_text-false, is_keyword-true, is_keyword-false, IsSigned, signed_word}
 use Rattle.mm_text.proofs.PartFacts.{IsPartBody, IsPartProof, Describes, symbols-append, body_of_part, proof_of_part}
 
 -- ---- kinds
@@ -54,32 +53,35 @@ is_full-false Floating n e f = eqb-false n 2 e
 is_full-false _ n e f = absurd cc
 
 -- what ends the symbols of a statement with no proof ends the statement
-pub tail_at_once : (s : PlainStatement) (kind : Kind) (head tail : List PlainToken) → is_provable kind ≡ false → IsHead kind head → EndsAtOnce s tail → IsTail s kind tail
-tail_at_once s Constants head tail e h k = k
-tail_at_once s Variables head tail e h k = k
-tail_at_once s Floating head tail e h k = k
-tail_at_once s Axiom head tail e h k = k
-tail_at_once s Provable head tail e h k = absurd cc
-tail_at_once s Distinct head tail e h k = absurd h
-tail_at_once s Essential head tail e h k = absurd h
-tail_at_once s Opening head tail e h k = absurd h
-tail_at_once s Closing head tail e h k = absurd h
+pub tail_at_once : (s : PlainStatement) (kind : Kind) (tail : List PlainToken) → is_provable kind ≡ false → HasBody kind → EndsAtOnce s tail → IsTail s kind tail
+tail_at_once s Constants tail e h k = k
+tail_at_once s Variables tail e h k = k
+tail_at_once s Distinct tail e h k = k
+tail_at_once s Floating tail e h k = k
+tail_at_once s Essential tail e h k = k
+tail_at_once s Axiom tail e h k = k
+tail_at_once s Provable tail e h k = absurd cc
+tail_at_once s Opening tail e h k = absurd h
+tail_at_once s Closing tail e h k = absurd h
 
 -- ---- one token
 
 -- what a token makes of a statement of which these tokens were read
 abbrev pub StepsTo : List PlainToken → PlainToken → Step → Type 0
 StepsTo tokens t (More next) = Describes next (tokens ++ t ∷ [])
-StepsTo tokens t (Whole s) = Spells (tokens ++ t ∷ []) s
-StepsTo tokens t (Faulty rule) = Meets tokens t rule
+StepsTo tokens t (Whole s) = Spells (tokens ++ t ∷ []) s × HasBody s.kind
+StepsTo tokens t Opened = (tokens ≡ []) × (t.text ≡ codes "${")
+StepsTo tokens t Closed = (tokens ≡ []) × (t.text ≡ codes "$}")
+StepsTo tokens t (Faulty rule) = (statements : List PlainStatement) → Meets statements tokens t rule
 
-begun_bare : (kind : Kind) (tokens : List PlainToken) (t : PlainToken) → tokens ≡ [] → IsHead kind (t ∷ []) → list_all is_label_byte t.text ≡ false
+begun_bare : (kind : Kind) (tokens : List PlainToken) (t : PlainToken) → tokens ≡ [] → IsHead kind (t ∷ []) → HasBody kind → list_all is_label_byte t.text ≡ false
     → IsPartBody (begun kind t None) (tokens ++ t ∷ [])
-begun_bare kind tokens t d h e = record {
+begun_bare kind tokens t d h long e = record {
   head = t ∷ [];
   others = [];
   whole = ap (λ (x : List PlainToken). x ++ t ∷ []) d;
   begins = h;
+  long = long;
   first = refl;
   label = rw e refl;
   spelled = tt;
@@ -88,13 +90,14 @@ begun_bare kind tokens t d h e = record {
   span = refl;
 }
 
-begun_labelled : (kind : Kind) (label : PlainToken) (tokens : List PlainToken) (t : PlainToken) → tokens ≡ label ∷ [] → IsHead kind (label ∷ t ∷ []) → IsLabel label.text
+begun_labelled : (kind : Kind) (label : PlainToken) (tokens : List PlainToken) (t : PlainToken) → tokens ≡ label ∷ [] → IsHead kind (label ∷ t ∷ []) → HasBody kind → IsLabel label.text
     → IsPartBody (begun kind label (Some label)) (tokens ++ t ∷ [])
-begun_labelled kind label tokens t d h e = record {
+begun_labelled kind label tokens t d h long e = record {
   head = label ∷ t ∷ [];
   others = t ∷ [];
   whole = ap (λ (x : List PlainToken). x ++ t ∷ []) d;
   begins = h;
+  long = long;
   first = refl;
   label = rw e refl;
   spelled = tt;
@@ -103,27 +106,42 @@ begun_labelled kind label tokens t d h e = record {
   span = refl;
 }
 
+-- `$c`, `$v` and `$d`
+bare_right : (kind : Kind) (tokens : List PlainToken) (t : PlainToken) → tokens ≡ [] → t.text ≡ keyword_of kind → HasBody kind → IsHead kind (t ∷ []) → list_all is_label_byte (keyword_of kind) ≡ false → StepsTo tokens t (More (InBody (begun kind t None)))
+bare_right kind tokens t d e long h none = begun_bare kind tokens t d h long (ap (list_all is_label_byte) e ∙ none)
+
 at_start_right : (tokens : List PlainToken) (t : PlainToken) → tokens ≡ [] → StepsTo tokens t (at_start t)
 at_start_right tokens t d =
     cond_both (same_text t.text (codes "$c")) _ _ (StepsTo tokens t)
-    (λ c. let e = same_text-true t.text (codes "$c") c in begun_bare Constants tokens t d (record { keyword = t; tokens = refl; sign = e }) (ap (list_all is_label_byte) e))
+    (λ c. let e = same_text-true t.text (codes "$c") c in bare_right Constants tokens t d e tt (record { keyword = t; tokens = refl; sign = e }) refl)
     (λ nc. cond_both (same_text t.text (codes "$v")) _ _ (StepsTo tokens t)
-    (λ v. let e = same_text-true t.text (codes "$v") v in begun_bare Variables tokens t d (record { keyword = t; tokens = refl; sign = e }) (ap (list_all is_label_byte) e))
-    (λ nv. cond_both (is_keyword t.text) _ _ (StepsTo tokens t)
-    (λ k. (d, is_keyword-true t.text k, same_text-false t.text (codes "$c") nc, same_text-false t.text (codes "$v") nv))
+    (λ v. let e = same_text-true t.text (codes "$v") v in bare_right Variables tokens t d e tt (record { keyword = t; tokens = refl; sign = e }) refl)
+    (λ nv. cond_both (same_text t.text (codes "$d")) _ _ (StepsTo tokens t)
+    (λ x. let e = same_text-true t.text (codes "$d") x in bare_right Distinct tokens t d e tt (record { keyword = t; tokens = refl; sign = e }) refl)
+    (λ nd. cond_both (same_text t.text (codes "${")) _ _ (StepsTo tokens t)
+    (λ o. (d, same_text-true t.text (codes "${") o))
+    (λ no. cond_both (same_text t.text (codes "$}")) _ _ (StepsTo tokens t)
+    (λ l. (d, same_text-true t.text (codes "$}") l))
+    (λ nl. cond_both (is_keyword t.text) _ _ (StepsTo tokens t)
+    (λ k statements. (d, is_keyword-true t.text k, same_text-false t.text (codes "$c") nc, same_text-false t.text (codes "$v") nv, same_text-false t.text (codes "$d") nd, same_text-false t.text (codes "${") no, same_text-false t.text (codes "$}") nl))
     (λ nk. cond_both (list_all is_label_byte t.text) _ _ (StepsTo tokens t)
     (λ l. (ap (λ (x : List PlainToken). x ++ t ∷ []) d, l))
-    (λ nl. (d, is_keyword-false t.text nk, λ l. both_ways _ nl l)))))
+    (λ none statements. (d, is_keyword-false t.text nk, λ l. both_ways _ none l))))))))
+
+labelled_right : (kind : Kind) (label : PlainToken) (tokens : List PlainToken) (t : PlainToken) → tokens ≡ label ∷ [] → IsLabel label.text → HasBody kind → IsHead kind (label ∷ t ∷ []) → StepsTo tokens t (More (InBody (begun kind label (Some label))))
+labelled_right kind label tokens t d l long h = begun_labelled kind label tokens t d h long l
 
 after_label_right : (label : PlainToken) (tokens : List PlainToken) (t : PlainToken) → tokens ≡ label ∷ [] → IsLabel label.text → StepsTo tokens t (after_label label t)
 after_label_right label tokens t d l =
     cond_both (same_text t.text (codes "$f")) _ _ (StepsTo tokens t)
-    (λ f. begun_labelled Floating label tokens t d (record { label = label; keyword = t; tokens = refl; named = l; sign = same_text-true t.text (codes "$f") f }) l)
-    (λ nf. cond_both (same_text t.text (codes "$a")) _ _ (StepsTo tokens t)
-    (λ a. begun_labelled Axiom label tokens t d (record { label = label; keyword = t; tokens = refl; named = l; sign = same_text-true t.text (codes "$a") a }) l)
+    (λ f. labelled_right Floating label tokens t d l tt (record { label = label; keyword = t; tokens = refl; named = l; sign = same_text-true t.text (codes "$f") f }))
+    (λ nf. cond_both (same_text t.text (codes "$e")) _ _ (StepsTo tokens t)
+    (λ e. labelled_right Essential label tokens t d l tt (record { label = label; keyword = t; tokens = refl; named = l; sign = same_text-true t.text (codes "$e") e }))
+    (λ ne. cond_both (same_text t.text (codes "$a")) _ _ (StepsTo tokens t)
+    (λ a. labelled_right Axiom label tokens t d l tt (record { label = label; keyword = t; tokens = refl; named = l; sign = same_text-true t.text (codes "$a") a }))
     (λ na. cond_both (same_text t.text (codes "$p")) _ _ (StepsTo tokens t)
-    (λ p. begun_labelled Provable label tokens t d (record { label = label; keyword = t; tokens = refl; named = l; sign = same_text-true t.text (codes "$p") p }) l)
-    (λ np. (record { label = label; whole = d; named = l }, same_text-false t.text (codes "$f") nf, same_text-false t.text (codes "$a") na, same_text-false t.text (codes "$p") np))))
+    (λ p. labelled_right Provable label tokens t d l tt (record { label = label; keyword = t; tokens = refl; named = l; sign = same_text-true t.text (codes "$p") p }))
+    (λ np statements. (record { label = label; whole = d; named = l }, same_text-false t.text (codes "$f") nf, same_text-false t.text (codes "$e") ne, same_text-false t.text (codes "$a") na, same_text-false t.text (codes "$p") np)))))
 
 push_whole : (tokens head symbols : List PlainToken) (t : PlainToken) → tokens ≡ head ++ symbols → tokens ++ t ∷ [] ≡ head ++ (symbols ++ t ∷ [])
 push_whole tokens head symbols t e = ap (λ (x : List PlainToken). x ++ t ∷ []) e ∙ append_assoc head symbols (t ∷ [])
@@ -159,7 +177,7 @@ body_ends s tokens t d p e c = record {
   label = d.label;
   symbols = d.spelled;
   count = c;
-  ends = tail_at_once s s.kind d.head (t ∷ []) p d.begins (record { stop = t; tokens = refl; end = e; proof = d.proof; span = d.span });
+  ends = tail_at_once s s.kind (t ∷ []) p d.long (record { stop = t; tokens = refl; end = e; proof = d.proof; span = d.span });
 }
 
 body_symbol : (s : PlainStatement) (tokens : List PlainToken) (t : PlainToken) → IsPartBody s tokens → HoldsNoDollar t.text → is_full s.kind (length s.symbols) ≡ false
@@ -169,6 +187,7 @@ body_symbol s tokens t d h f = record {
   others = d.others;
   whole = push_whole tokens d.head s.symbols t d.whole;
   begins = d.begins;
+  long = d.long;
   first = d.first;
   label = d.label;
   spelled = symbols-append s.symbols (t ∷ []) d.spelled (h, tt);
@@ -177,7 +196,7 @@ body_symbol s tokens t d h f = record {
   span = d.span;
 }
 
-in_body_right : (s : PlainStatement) (tokens : List PlainToken) (t : PlainToken) → broken_by t.text ≡ None → IsPartBody s tokens → StepsTo tokens t (in_body s t)
+in_body_right : (s : PlainStatement) (tokens : List PlainToken) (t : PlainToken) → IsSigned t → IsPartBody s tokens → StepsTo tokens t (in_body s t)
 in_body_right s tokens t ok d =
     cond_both (is_keyword t.text) _ _ (StepsTo tokens t)
     (λ k. cond_both (same_text t.text (cond (is_provable s.kind) (codes "$=") (codes "$."))) _ _ (StepsTo tokens t)
@@ -186,12 +205,12 @@ in_body_right s tokens t ok d =
     (λ c. let count = has_count-true s.kind (length s.symbols) c in
     cond_both (is_provable s.kind) _ _ (StepsTo tokens t)
     (λ p. body_equals s tokens t d (is_provable-true s.kind p) (sign ∙ ap (λ (b : Bool). cond b (codes "$=") (codes "$.")) p) count)
-    (λ np. body_ends s tokens t d np (sign ∙ ap (λ (b : Bool). cond b (codes "$=") (codes "$.")) np) count))
-    (λ nc. (s.kind, s.symbols, body_of_part s tokens d, inl (sign ∙ closing_sign s.kind, λ f. both_ways _ nc (has_count_from s.kind (length s.symbols) f)))))
-    (λ other. (is_keyword-true t.text k, inl (s.kind, s.symbols, body_of_part s tokens d, λ e. same_text-false t.text (cond (is_provable s.kind) (codes "$=") (codes "$.")) other (e ∙ sym (closing_sign s.kind))))))
+    (λ np. (body_ends s tokens t d np (sign ∙ ap (λ (b : Bool). cond b (codes "$=") (codes "$.")) np) count, d.long)))
+    (λ nc statements. (s.kind, s.symbols, body_of_part s tokens d, inl (sign ∙ closing_sign s.kind, λ f. both_ways _ nc (has_count_from s.kind (length s.symbols) f)))))
+    (λ other statements. (is_keyword-true t.text k, inl (s.kind, s.symbols, body_of_part s tokens d, λ e. same_text-false t.text (cond (is_provable s.kind) (codes "$=") (codes "$.")) other (e ∙ sym (closing_sign s.kind))))))
     (λ nk. cond_both (is_full s.kind (length s.symbols)) _ _ (StepsTo tokens t)
-    (λ f. let full = is_full-true s.kind (length s.symbols) f in (s.kind, s.symbols, body_of_part s tokens d, inr (whole-symbol t.text ok nk, full.0, full.1)))
-    (λ nf. body_symbol s tokens t d (whole-symbol t.text ok nk) nf))
+    (λ f statements. let full = is_full-true s.kind (length s.symbols) f in (s.kind, s.symbols, body_of_part s tokens d, inr (signed_word t ok nk, full.0, full.1)))
+    (λ nf. body_symbol s tokens t d (signed_word t ok nk) nf))
 
 -- the `$.` after a proof
 proof_ends : (s : PlainStatement) (tokens : List PlainToken) (t : PlainToken) → IsPartProof s tokens → t.text ≡ codes "$." → Spells (tokens ++ t ∷ []) (record s { span = (s.span.0, t.at) })
@@ -226,16 +245,16 @@ proof_token s tokens t d h = record {
   span = d.span;
 }
 
-in_proof_right : (s : PlainStatement) (tokens : List PlainToken) (t : PlainToken) → broken_by t.text ≡ None → IsPartProof s tokens → StepsTo tokens t (in_proof s t)
+in_proof_right : (s : PlainStatement) (tokens : List PlainToken) (t : PlainToken) → IsSigned t → IsPartProof s tokens → StepsTo tokens t (in_proof s t)
 in_proof_right s tokens t ok d =
     cond_both (is_keyword t.text) _ _ (StepsTo tokens t)
     (λ k. cond_both (same_text t.text (codes "$.")) _ _ (StepsTo tokens t)
-    (λ same. proof_ends s tokens t d (same_text-true t.text (codes "$.") same))
-    (λ other. (is_keyword-true t.text k, inr (proof_of_part s tokens d, same_text-false t.text (codes "$.") other))))
-    (λ nk. proof_token s tokens t d (whole-symbol t.text ok nk))
+    (λ same. (proof_ends s tokens t d (same_text-true t.text (codes "$.") same), subst HasBody (sym d.kind) tt))
+    (λ other statements. (is_keyword-true t.text k, inr (proof_of_part s tokens d, same_text-false t.text (codes "$.") other))))
+    (λ nk. proof_token s tokens t d (signed_word t ok nk))
 
 -- the reader's step is the grammar's
-pub step_right : (part : Part) (tokens : List PlainToken) (t : PlainToken) → broken_by t.text ≡ None → Describes part tokens → StepsTo tokens t (step part t)
+pub step_right : (part : Part) (tokens : List PlainToken) (t : PlainToken) → IsSigned t → Describes part tokens → StepsTo tokens t (step part t)
 unfolding step
 step_right Between tokens t ok d = at_start_right tokens t d
 step_right (Labelled label) tokens t ok d = after_label_right label tokens t d.0 d.1

@@ -1,12 +1,10 @@
 -- Texts of tokens: keywords, labels, and texts that hold no `$`.
-use Rattle.std.proofs.Common.{◌≡◌, ◌≢◌, ℕ, zero, suc, ◌<◌, ◌==◌, ◌&&◌, ◌||◌, not, cond, nat_eq, length, get_or, List, [], ◌∷◌, Bool, true, false, refl, sym, ap, ◌∙◌, codes, Some, None, Contains, arith, inl, inr}
+use Rattle.std.proofs.Common.{◌≡◌, ◌≢◌, ℕ, zero, suc, ◌<◌, ◌==◌, ◌&&◌, ◌||◌, not, cond, nat_eq, length, get_or, List, [], ◌∷◌, Bool, true, false, refl, sym, ap, ◌∙◌, codes, Some, None, Contains, arith, ◌⊎◌, inl, inr}
 use Rattle.std.specs.List.{list_any, list_all}
 use Rattle.std.specs.Cmp.Lexicographic.{pointwise, bytes_decides}
 use Rattle.std.proofs.lemmas.Bool.{or_parts, or_cases, or_left, or_right, and_parts, false≢true, both_ways, false_from_ne_true, eqb-true}
-use Rattle.mm_text.specs.declared.fault.TextRule.TheVariants.{X1, X4, X9}
-use Rattle.mm_text.specs.Token.{IsLabel, is_label_byte, HoldsNoDollar, is_printable}
+use Rattle.mm_text.specs.Token.{PlainToken, IsLabel, is_label_byte, HoldsNoDollar}
 use Rattle.mm_text.specs.Statement.{keywords, IsKeyword}
-use Rattle.mm_text.specs.Items.{broken_by}
 use Rattle.mm_text.specs.Reader.{same_text, is_keyword}
 
 pub same_text-true : (a b : List ℕ) → same_text a b ≡ true → a ≡ b
@@ -90,13 +88,10 @@ label_ne text key h k = same_text-ne text key (λ e. both_ways _ (label-is_keywo
 pub keyword-label : (text : List ℕ) → is_keyword text ≡ true → list_all is_label_byte text ≡ false
 keyword-label text k = false_from_ne_true _ (λ h. both_ways _ (label-is_keyword text h) k)
 
--- a token that breaks no rule and is no keyword holds no `$`
-pub whole-symbol : (text : List ℕ) → broken_by text ≡ None → is_keyword text ≡ false → HoldsNoDollar text
-whole-symbol text ok none = go (not (list_all is_printable text)) (pointwise nat_eq text (codes "$)") || pointwise nat_eq text (codes "$]")) (list_any (λ b. b == 36) text) (is_keyword text) ok none
-  where
-    go : (a b c d : Bool) → cond a (Some X1) (cond b (Some X4) (cond (c && not d) (Some X9) None)) ≡ None → d ≡ false → c ≡ false
-    go true b c d e f = absurd cc
-    go false true c d e f = absurd cc
-    go false false true true e f = absurd cc
-    go false false true false e f = absurd cc
-    go false false false d e f = refl
+-- a token is a keyword or holds no `$`
+abbrev pub IsSigned : PlainToken → Type 0
+IsSigned t = IsKeyword t.text ⊎ HoldsNoDollar t.text
+
+pub signed_word : (t : PlainToken) → IsSigned t → is_keyword t.text ≡ false → HoldsNoDollar t.text
+signed_word t (inl k) none = absurd (both_ways _ none (is_keyword_from t.text k))
+signed_word t (inr h) none = h

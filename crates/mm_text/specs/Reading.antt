@@ -162,14 +162,18 @@ EndsAt statements unfinished (Inclusion t) fault =
 EndsAt statements unfinished (End file) fault =
     EndsInX8 statements unfinished fault ⊎ EndsInS7 statements unfinished file fault
 
--- The statements that the files hold, and the fault that ends them, or none: those of a viable front of the items that is
+-- The statements that the items spell, and the fault that ends them, or none: those of a viable front of the items that is
 -- all of them, or after which the next item is a fault.
-abbrev pub Reads : List PlainFile → List PlainStatement → Option PlainFault → Type 0
-Reads files statements None =
-    Viable (items files) statements []
-Reads files statements (Some fault) =
+abbrev pub ReadsAs : List Item → List PlainStatement → Option PlainFault → Type 0
+ReadsAs its statements None =
+    Viable its statements []
+ReadsAs its statements (Some fault) =
     (front : List Item) × (item : Item) × (rest : List Item) × (unfinished : List PlainToken)
-    × (items files ≡ front ++ item ∷ rest) × Viable front statements unfinished × EndsAt statements unfinished item fault
+    × (its ≡ front ++ item ∷ rest) × Viable front statements unfinished × EndsAt statements unfinished item fault
+
+-- the statements that the files hold, and the fault that ends them, or none
+abbrev pub Reads : List PlainFile → List PlainStatement → Option PlainFault → Type 0
+Reads files statements ending = ReadsAs (items files) statements ending
 
 -- a token's text is the slice of its file at its place
 abbrev pub IsSliceOf : List PlainFile → PlainToken → Type 0

@@ -1,0 +1,315 @@
+-- Blocks: what a reader keeps of them, against the statements that were read.
+use Rattle.std.proofs.Common.{◌≡◌, ℕ, zero, suc, ◌+◌, ◌-◌, ◌<◌, ◌≤◌, length, take, drop, List, [], ◌∷◌, ◌++◌, Bool, true, false, refl, sym, ap, subst, ◌∙◌, arith, append_assoc, ◌⊎◌, inl, inr}
+use Rattle.std.specs.Prelude.{count_by}
+use Rattle.std.proofs.lemmas.List.{append-nil, length-append, take-append-le}
+use Rattle.std.proofs.Math.Seq.{take-append-add, take-length}
+use Rattle.std.proofs.lemmas.List.Sums.{sum_by-append, sum_by-cons}
+use Rattle.std.proofs.lemmas.Bool.{false≢true, false_from_ne_true, true_from_ne_false}
+use Rattle.mm_text.specs.declared.scope.OpenBlock.{OpenBlock}
+use Rattle.mm_text.specs.declared.statement.Kind.{Kind}
+use Rattle.mm_text.specs.declared.statement.Kind.TheVariants.{Constants, Variables, Distinct, Floating, Essential, Axiom, Provable, Opening, Closing}
+use Rattle.mm_text.specs.Statement.{PlainStatement, HasBody}
+use Rattle.mm_text.specs.Blocks.{is_opening, is_closing, openings, closings, AreBalanced, AreClosed, IsInnermost}
+use Rattle.mm_text.specs.Reader.{PlainScope, outermost, passed, opened, closed, has_none}
+use Rattle.mm_text.proofs.Fronts.{two_cuts}
+
+-- ---- counts
+
+-- with so many blocks open before, no `$}` lacks its `${`
+abbrev pub KeepsBlocks : ℕ → List PlainStatement → Type 0
+KeepsBlocks depth statements = (n : ℕ) → closings (take n statements) ≤ depth + openings (take n statements)
+
+openings-append : (a b : List PlainStatement) → openings (a ++ b) ≡ openings a + openings b
+openings-append a b = sum_by-append _ a b
+
+closings-append : (a b : List PlainStatement) → closings (a ++ b) ≡ closings a + closings b
+closings-append a b = sum_by-append _ a b
+
+pub balanced_keeps : (a : List PlainStatement) → AreBalanced a → KeepsBlocks 0 a
+balanced_keeps a h n = omega (arith, h n)
+
+pub keeps_balanced : (a : List PlainStatement) → KeepsBlocks 0 a → AreBalanced a
+keeps_balanced a h n = omega (arith, h n)
+
+keeps_more : (d e : ℕ) (a : List PlainStatement) → d ≤ e → KeepsBlocks d a → KeepsBlocks e a
+keeps_more d e a le h n = omega (arith, h n)
+
+-- how a number stands to a list's length
+past_or_within : (n : ℕ) (a : List PlainStatement) → (n ≤ length a) ⊎ ((m : ℕ) × (n ≡ length a + m))
+past_or_within zero a = inl (omega arith)
+past_or_within (suc n) [] = inr (suc n, omega arith)
+past_or_within (suc n) (s ∷ a) =
+    elim (past_or_within n a) [
+      | inl le ↦ inl (omega arith)
+      | inr past ↦ inr (past.0, omega (arith, past.1))
+    ]
+
+keeps_append : (d e : ℕ) (a b : List PlainStatement) → KeepsBlocks d a → KeepsBlocks e b → d + openings a ≡ closings a + e → KeepsBlocks d (a ++ b)
+keeps_append d e a b h k same n =
+    elim (past_or_within n a) [
+      | inl within ↦ subst (λ (x : List PlainStatement). closings x ≤ d + openings x) (sym (take-append-le n a b within)) (h n)
+      | inr past ↦
+          let cut : take n (a ++ b) ≡ a ++ take past.0 b = ap (λ (x : ℕ). take x (a ++ b)) past.1 ∙ take-append-add a b past.0 in
+          subst (λ (x : List PlainStatement). closings x ≤ d + openings x) (sym cut) (omega (arith, closings-append a (take past.0 b), openings-append a (take past.0 b), k past.0, same))
+    ]
+
+take-nil : (n : ℕ) → take {A = PlainStatement} n [] ≡ []
+take-nil zero = refl
+take-nil (suc n) = refl
+
+-- a front of statements that keep the blocks does
+pub keeps_front : (d : ℕ) (a b : List PlainStatement) → KeepsBlocks d (a ++ b) → KeepsBlocks d a
+keeps_front d a b h n =
+    elim (past_or_within n a) [
+      | inl within ↦ subst (λ (x : List PlainStatement). closings x ≤ d + openings x) (take-append-le n a b within) (h n)
+      | inr past ↦
+          let all : take (length a) (a ++ b) ≡ a = take-append-le (length a) a b (omega arith) ∙ take-length a in
+          let same : take n a ≡ a = ap (λ (x : ℕ). take x a) past.1 ∙ ap (λ (x : List PlainStatement). take (length a + past.0) x) (sym (append-nil a)) ∙ take-append-add a [] past.0 ∙ ap (λ (x : List PlainStatement). a ++ x) (take-nil past.0) ∙ append-nil a in
+          subst (λ (x : List PlainStatement). closings x ≤ d + openings x) (all ∙ sym same) (h (length a))
+    ]
+
+-- ---- one statement
+
+opening_count : (s : PlainStatement) → s.kind ≡ Opening → (openings (s ∷ []) ≡ 1) × (closings (s ∷ []) ≡ 0)
+opening_count s k = (rw k refl, rw k refl)
+
+closing_count : (s : PlainStatement) → s.kind ≡ Closing → (openings (s ∷ []) ≡ 0) × (closings (s ∷ []) ≡ 1)
+closing_count s k = (rw k refl, rw k refl)
+
+no_sign : (kind : Kind) → HasBody kind → (is_opening kind ≡ false) × (is_closing kind ≡ false)
+no_sign Opening h = absurd h
+no_sign Closing h = absurd h
+no_sign _ h = (refl, refl)
+
+body_count : (s : PlainStatement) → HasBody s.kind → (openings (s ∷ []) ≡ 0) × (closings (s ∷ []) ≡ 0)
+body_count s long = let none = no_sign s.kind long in (rw none.0 refl, rw none.1 refl)
+
+one_front : (s : PlainStatement) (n : ℕ) → (take n (s ∷ []) ≡ []) ⊎ (take n (s ∷ []) ≡ s ∷ [])
+one_front s zero = inl refl
+one_front s (suc n) = inr (ap (λ (x : List PlainStatement). s ∷ x) (take-nil n))
+
+-- one statement keeps the blocks where it does in all
+keeps_one : (d : ℕ) (s : PlainStatement) → closings (s ∷ []) ≤ d + openings (s ∷ []) → KeepsBlocks d (s ∷ [])
+keeps_one d s h n =
+    elim (one_front s n) [
+      | inl none ↦ subst (λ (x : List PlainStatement). closings x ≤ d + openings x) (sym none) (omega arith)
+      | inr all ↦ subst (λ (x : List PlainStatement). closings x ≤ d + openings x) (sym all) h
+    ]
+
+-- ---- balanced statements
+
+pub balanced_nothing : AreBalanced []
+balanced_nothing n = subst (λ (x : List PlainStatement). closings x ≤ openings x) (sym (take-nil n)) (omega arith)
+
+pub balanced_front : (a b : List PlainStatement) → AreBalanced (a ++ b) → AreBalanced a
+balanced_front a b h = keeps_balanced a (keeps_front 0 a b (balanced_keeps (a ++ b) h))
+
+-- in all there are at most as many `$}` as `${`
+pub balanced_whole : (a : List PlainStatement) → AreBalanced a → closings a ≤ openings a
+balanced_whole a h = subst (λ (x : List PlainStatement). closings x ≤ openings x) (take-length a) (h (length a))
+
+balanced_append : (a b : List PlainStatement) → AreBalanced a → AreClosed a → AreBalanced b → AreBalanced (a ++ b)
+balanced_append a b h closed k = keeps_balanced (a ++ b) (keeps_append 0 0 a b (balanced_keeps a h) (balanced_keeps b k) (omega (arith, closed)))
+
+closed_append : (a b : List PlainStatement) → AreClosed a → AreClosed b → AreClosed (a ++ b)
+closed_append a b h k = omega (arith, openings-append a b, closings-append a b, h, k)
+
+-- one statement more, which is no `$}`
+pub balanced_more : (a : List PlainStatement) (s : PlainStatement) → AreBalanced a → closings (s ∷ []) ≤ openings (s ∷ []) → AreBalanced (a ++ s ∷ [])
+balanced_more a s h one =
+    let e : ℕ = openings a - closings a in
+    let le = balanced_whole a h in
+    keeps_balanced (a ++ s ∷ []) (keeps_append 0 e a (s ∷ []) (balanced_keeps a h) (keeps_one e s (omega (arith, one))) (omega (arith, le)))
+
+pub balanced_body : (a : List PlainStatement) (s : PlainStatement) → AreBalanced a → HasBody s.kind → AreBalanced (a ++ s ∷ [])
+balanced_body a s h long = let c = body_count s long in balanced_more a s h (omega (arith, c.0, c.1))
+
+pub balanced_opening : (a : List PlainStatement) (s : PlainStatement) → AreBalanced a → s.kind ≡ Opening → AreBalanced (a ++ s ∷ [])
+balanced_opening a s h k = let c = opening_count s k in balanced_more a s h (omega (arith, c.0, c.1))
+
+pub balanced_closing : (a : List PlainStatement) (s : PlainStatement) → AreBalanced a → s.kind ≡ Closing → ¬ (AreClosed a) → AreBalanced (a ++ s ∷ [])
+balanced_closing a s h k some_open =
+    let c = closing_count s k in
+    let e : ℕ = openings a - closings a in
+    let le = balanced_whole a h in
+    let lt : closings a < openings a = omega (arith, le, some_open) in
+    keeps_balanced (a ++ s ∷ []) (keeps_append 0 e a (s ∷ []) (balanced_keeps a h) (keeps_one e s (omega (arith, c.0, c.1, lt))) (omega (arith, le)))
+
+-- after closed blocks there is no `$}`
+pub closing_unbalanced : (a : List PlainStatement) (s : PlainStatement) → AreClosed a → s.kind ≡ Closing → AreBalanced (a ++ s ∷ []) → ⊥
+closing_unbalanced a s closed k h =
+    let c = closing_count s k in
+    let le = balanced_whole (a ++ s ∷ []) h in
+    omega (arith, openings-append a (s ∷ []), closings-append a (s ∷ []), c.0, c.1, closed, le)
+
+-- ---- open blocks
+
+-- these blocks are open after these statements, the innermost one first
+abbrev pub AreOpen : List PlainStatement → List OpenBlock → Type 0
+AreOpen statements [] = AreBalanced statements × AreClosed statements
+AreOpen statements (block ∷ blocks) =
+    (before : List PlainStatement) × (opening : PlainStatement) × IsInnermost statements before opening
+    × (block ≡ record { file = opening.first.file; at = opening.first.at; statement = length before + 1 }) × AreOpen before blocks
+
+-- statements that close the blocks that they open change nothing
+open_segment : (before segment : List PlainStatement) (blocks : List OpenBlock) → AreOpen before blocks → AreBalanced segment → AreClosed segment → AreOpen (before ++ segment) blocks
+open_segment before segment [] h b c = (balanced_append before segment h.0 h.1 b, closed_append before segment h.1 c)
+open_segment before segment (block ∷ blocks) h b c =
+    let inner = h.2 in
+    (h.0, h.1, record {
+      within = inner.within ++ segment;
+      whole = ap (λ (x : List PlainStatement). x ++ segment) inner.whole ∙ append_assoc h.0 (h.1 ∷ inner.within) segment;
+      opened = inner.opened;
+      balanced = balanced_append inner.within segment inner.balanced inner.closed b;
+      closed = closed_append inner.within segment inner.closed c;
+    }, h.3, h.4)
+
+open_body : (statements : List PlainStatement) (s : PlainStatement) (blocks : List OpenBlock) → AreOpen statements blocks → HasBody s.kind → AreOpen (statements ++ s ∷ []) blocks
+open_body statements s blocks h long =
+    let c = body_count s long in
+    open_segment statements (s ∷ []) blocks h (keeps_balanced (s ∷ []) (keeps_one 0 s (omega (arith, c.0, c.1)))) (c.0 ∙ sym c.1)
+
+open_opening : (statements : List PlainStatement) (s : PlainStatement) (blocks : List OpenBlock) (count : ℕ) → AreOpen statements blocks → s.kind ≡ Opening → count ≡ length statements
+    → AreOpen (statements ++ s ∷ []) (record { file = s.first.file; at = s.first.at; statement = count + 1 } ∷ blocks)
+open_opening statements s blocks count h k same =
+    (statements, s, record { within = []; whole = refl; opened = k; balanced = balanced_nothing; closed = refl },
+    (λ i. record { file = s.first.file; at = s.first.at; statement = same i + 1 }), h)
+
+open_closing : (statements : List PlainStatement) (s : PlainStatement) (block : OpenBlock) (blocks : List OpenBlock) → AreOpen statements (block ∷ blocks) → s.kind ≡ Closing → AreOpen (statements ++ s ∷ []) blocks
+open_closing statements s block blocks h k =
+    let inner = h.2 in
+    let o = opening_count h.1 inner.opened in
+    let c = closing_count s k in
+    let after : List PlainStatement = inner.within ++ s ∷ [] in
+    let kept : KeepsBlocks 1 after =
+    keeps_append 1 1 inner.within (s ∷ []) (keeps_more 0 1 inner.within (omega arith) (balanced_keeps inner.within inner.balanced)) (keeps_one 1 s (omega (arith, c.0, c.1))) (omega (arith, inner.closed)) in
+    let segment : List PlainStatement = (h.1 ∷ []) ++ after in
+    let balanced : AreBalanced segment = keeps_balanced segment (keeps_append 0 1 (h.1 ∷ []) after (keeps_one 0 h.1 (omega (arith, o.0, o.1))) kept (omega (arith, o.0, o.1))) in
+    let closed : AreClosed segment =
+    omega (arith, openings-append (h.1 ∷ []) after, closings-append (h.1 ∷ []) after, openings-append inner.within (s ∷ []), closings-append inner.within (s ∷ []), o.0, o.1, c.0, c.1, inner.closed) in
+    subst (λ (x : List PlainStatement). AreOpen x blocks) (sym (ap (λ (x : List PlainStatement). x ++ s ∷ []) inner.whole ∙ append_assoc h.0 (h.1 ∷ inner.within) (s ∷ []))) (open_segment h.0 segment blocks h.4 balanced closed)
+
+-- ---- what the first open block tells
+
+open_balanced : (statements : List PlainStatement) (blocks : List OpenBlock) → AreOpen statements blocks → has_none blocks ≡ true → AreClosed statements
+open_balanced statements [] h e = h.1
+open_balanced statements (block ∷ blocks) h e = absurd (false≢true e)
+
+-- a block that is open isn't closed
+pub innermost_unclosed : (statements before : List PlainStatement) (opening : PlainStatement) → AreBalanced statements → IsInnermost statements before opening → ¬ (AreClosed statements)
+innermost_unclosed statements before opening h inner closed =
+    let o = opening_count opening inner.opened in
+    let le = balanced_whole before (balanced_front before (opening ∷ inner.within) (subst AreBalanced inner.whole h)) in
+    let all : AreClosed (before ++ opening ∷ inner.within) = subst AreClosed inner.whole closed in
+    omega (arith, openings-append before (opening ∷ inner.within), closings-append before (opening ∷ inner.within), openings-append (opening ∷ []) inner.within, closings-append (opening ∷ []) inner.within, o.0, o.1, le, inner.closed, all)
+
+open_unclosed : (statements : List PlainStatement) (blocks : List OpenBlock) → AreBalanced statements → AreOpen statements blocks → has_none blocks ≡ false → ¬ (AreClosed statements)
+open_unclosed statements [] b h e = absurd (false≢true (sym e))
+open_unclosed statements (block ∷ blocks) b h e = innermost_unclosed statements h.0 h.1 b h.2
+
+-- a `${` within closed blocks isn't closed there
+closed_within : (mid within other : List PlainStatement) (opening : PlainStatement) → opening.kind ≡ Opening → AreClosed within → AreBalanced other → AreClosed other → other ≡ mid ++ opening ∷ within → ⊥
+closed_within mid within other opening k c b closed e =
+    let o = opening_count opening k in
+    let le = balanced_whole mid (balanced_front mid (opening ∷ within) (subst AreBalanced e b)) in
+    let all : AreClosed (mid ++ opening ∷ within) = subst AreClosed e closed in
+    omega (arith, openings-append mid (opening ∷ within), closings-append mid (opening ∷ within), openings-append (opening ∷ []) within, closings-append (opening ∷ []) within, o.0, o.1, le, c, all)
+
+-- there is one innermost block
+pub one_innermost : (statements a b : List PlainStatement) (x y : PlainStatement) → IsInnermost statements a x → IsInnermost statements b y → (a ≡ b) × (x ≡ y)
+one_innermost statements a b x y h k =
+    elim (two_cuts a x h.within b y k.within (sym h.whole ∙ k.whole)) [
+      | inl same ↦ (same.0, same.1)
+      | inr (inl mid) ↦ absurd (closed_within mid.0 k.within h.within y k.opened k.closed h.balanced h.closed mid.2)
+      | inr (inr mid) ↦ absurd (closed_within mid.0 h.within k.within x h.opened h.closed k.balanced k.closed mid.2)
+    ]
+
+-- ---- the scope after statements
+
+abbrev pub after_kind : PlainScope → PlainStatement → Kind → PlainScope
+after_kind scope s Opening = opened scope s.first
+after_kind scope s Closing = closed scope
+after_kind scope s kind = passed scope
+
+-- the scope after these statements, from one on
+unfoldable pub scope_after : PlainScope → List PlainStatement → PlainScope
+scope_after scope [] = scope
+scope_after scope (s ∷ statements) = scope_after (after_kind scope s s.kind) statements
+
+abbrev pub scope_of : List PlainStatement → PlainScope
+scope_of statements = scope_after outermost statements
+
+after-append : (scope : PlainScope) (a b : List PlainStatement) → scope_after scope (a ++ b) ≡ scope_after (scope_after scope a) b
+unfolding scope_after
+after-append scope [] b = refl
+after-append scope (s ∷ a) b = after-append (after_kind scope s s.kind) a b
+
+kind_count : (scope : PlainScope) (s : PlainStatement) (kind : Kind) → (after_kind scope s kind).count ≡ scope.count + 1
+kind_count scope s Opening = refl
+kind_count scope s Closing = refl
+kind_count scope s _ = refl
+
+after_count : (scope : PlainScope) (statements : List PlainStatement) → (scope_after scope statements).count ≡ scope.count + length statements
+unfolding scope_after
+after_count scope [] = omega arith
+after_count scope (s ∷ statements) = after_count (after_kind scope s s.kind) statements ∙ ap (λ (n : ℕ). n + length statements) (kind_count scope s s.kind) ∙ omega arith
+
+-- the scope counts the statements
+pub scope_count : (statements : List PlainStatement) → (scope_of statements).count ≡ length statements
+scope_count statements = after_count outermost statements ∙ omega arith
+
+-- one statement more
+pub scope_more : (statements : List PlainStatement) (s : PlainStatement) → scope_of (statements ++ s ∷ []) ≡ after_kind (scope_of statements) s s.kind
+unfolding scope_after
+scope_more statements s = after-append outermost statements (s ∷ [])
+
+body_kind : (scope : PlainScope) (s : PlainStatement) (kind : Kind) → HasBody kind → after_kind scope s kind ≡ passed scope
+body_kind scope s Opening h = absurd h
+body_kind scope s Closing h = absurd h
+body_kind scope s _ h = refl
+
+pub scope_body : (statements : List PlainStatement) (s : PlainStatement) → HasBody s.kind → scope_of (statements ++ s ∷ []) ≡ passed (scope_of statements)
+scope_body statements s long = scope_more statements s ∙ body_kind (scope_of statements) s s.kind long
+
+open_step : (before : List PlainStatement) (s : PlainStatement) (scope : PlainScope) (kind : Kind) → s.kind ≡ kind → AreOpen before scope.blocks → scope.count ≡ length before → AreBalanced (before ++ s ∷ [])
+    → AreOpen (before ++ s ∷ []) (after_kind scope s kind).blocks
+open_step before s scope Opening k h same b = open_opening before s scope.blocks scope.count h k same
+open_step before s scope Closing k h same b = go scope.blocks h
+  where
+    go : (blocks : List OpenBlock) → AreOpen before blocks → AreOpen (before ++ s ∷ []) (drop 1 blocks)
+    go [] h = absurd (closing_unbalanced before s h.1 k b)
+    go (block ∷ blocks) h = open_closing before s block blocks h k
+open_step before s scope Constants k h same b = open_body before s scope.blocks h (subst HasBody (sym k) tt)
+open_step before s scope Variables k h same b = open_body before s scope.blocks h (subst HasBody (sym k) tt)
+open_step before s scope Distinct k h same b = open_body before s scope.blocks h (subst HasBody (sym k) tt)
+open_step before s scope Floating k h same b = open_body before s scope.blocks h (subst HasBody (sym k) tt)
+open_step before s scope Essential k h same b = open_body before s scope.blocks h (subst HasBody (sym k) tt)
+open_step before s scope Axiom k h same b = open_body before s scope.blocks h (subst HasBody (sym k) tt)
+open_step before s scope Provable k h same b = open_body before s scope.blocks h (subst HasBody (sym k) tt)
+
+open_after : (before statements : List PlainStatement) (scope : PlainScope) → AreOpen before scope.blocks → scope.count ≡ length before → AreBalanced (before ++ statements)
+    → AreOpen (before ++ statements) (scope_after scope statements).blocks
+unfolding scope_after
+open_after before [] scope h same b = subst (λ (x : List PlainStatement). AreOpen x scope.blocks) (sym (append-nil before)) h
+open_after before (s ∷ statements) scope h same b =
+    let next : PlainScope = after_kind scope s s.kind in
+    let moved = append_assoc before (s ∷ []) statements in
+    let all : AreBalanced ((before ++ s ∷ []) ++ statements) = subst AreBalanced (sym moved) b in
+    subst (λ (x : List PlainStatement). AreOpen x (scope_after next statements).blocks) moved
+    (open_after (before ++ s ∷ []) statements next (open_step before s scope s.kind refl h same (balanced_front (before ++ s ∷ []) statements all)) (kind_count scope s s.kind ∙ omega (arith, same, length-append before (s ∷ []))) all)
+
+-- the blocks of a scope are those that are open
+pub scope_open : (statements : List PlainStatement) → AreBalanced statements → AreOpen statements (scope_of statements).blocks
+scope_open statements b = open_after [] statements outermost (balanced_nothing, refl) refl b
+
+pub scope_closed : (statements : List PlainStatement) → AreBalanced statements → has_none (scope_of statements).blocks ≡ true → AreClosed statements
+scope_closed statements b e = open_balanced statements (scope_of statements).blocks (scope_open statements b) e
+
+pub scope_unclosed : (statements : List PlainStatement) → AreBalanced statements → has_none (scope_of statements).blocks ≡ false → ¬ (AreClosed statements)
+scope_unclosed statements b e = open_unclosed statements (scope_of statements).blocks b (scope_open statements b) e
+
+pub closed_scope : (statements : List PlainStatement) → AreBalanced statements → AreClosed statements → has_none (scope_of statements).blocks ≡ true
+closed_scope statements b closed = true_from_ne_false _ (λ e. scope_unclosed statements b e closed)
+
+pub unclosed_scope : (statements : List PlainStatement) → AreBalanced statements → ¬ (AreClosed statements) → has_none (scope_of statements).blocks ≡ false
+unclosed_scope statements b open_yet = false_from_ne_true _ (λ e. open_yet (scope_closed statements b e))
