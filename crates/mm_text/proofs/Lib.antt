@@ -4,6 +4,9 @@ pub mod CommentLaws
 pub mod NameLaws
 pub mod InclusionLaws
 pub mod NestLaws
+pub mod Weights
+pub mod TokenWeights
+pub mod OnceLaws
 pub mod StepLaws
 pub mod PartLaws
 pub mod HandedLaws

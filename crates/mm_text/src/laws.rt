@@ -1,6 +1,7 @@
 //! What holds of the tokens and of the readings of all files. A law is the contract of a function
 //! that does nothing: what it ensures is proved, and there is no need to call it.
 
+ghost use Rattle.mm_text.specs.ItemLaws.{FilesArePutInOnce, TokensFitFiles};
 ghost use Rattle.mm_text.specs.Laws.{BeginningsBeginStatements, EachHasOneReading, FaultsEndLongestFronts, ReadingsAreFormedInPlace, TokensAreLongestRuns};
 
 /// The tokens of a file are its longest runs of bytes that aren't white space (the Metamath book,
@@ -36,4 +37,14 @@ pub fn faults_end_longest_fronts()
 /// each of its tokens is the slice of its file at the token's place.
 pub fn statements_are_formed_in_place()
     ensures { ReadingsAreFormedInPlace }
+{}
+
+/// The tokens among the files' items hold no more bytes in all than the files.
+pub fn tokens_fit_files()
+    ensures { TokensFitFiles }
+{}
+
+/// Each file is put in at most once: its end is met at most once, and so is each of its tokens.
+pub fn files_are_put_in_once()
+    ensures { FilesArePutInOnce }
 {}
