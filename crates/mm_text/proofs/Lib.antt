@@ -7,6 +7,7 @@ pub mod NestLaws
 pub mod Weights
 pub mod TokenWeights
 pub mod OnceLaws
+pub mod InclusionsEnd
 pub mod StepLaws
 pub mod PartLaws
 pub mod HandedLaws

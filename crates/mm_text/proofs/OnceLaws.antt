@@ -49,8 +49,12 @@ weigh_ends file (End n ∷ rest) = ap (λ m. cond (n == file) 1 0 + m) (weigh_en
 one_end : (file : ℕ) (files : List PlainFile) → ends_of file (items files) ≤ 1
 one_end file files =
     let w = weight_of (λ t. 0) (end_weight file) in
-    omega (arith, weigh_ends file (items files), items_weight w (no_fault_weight (λ t. 0) (end_weight file)) files,
-    at_most_once w file (λ k f. omega (arith, file_weight (λ t. 0) (end_weight file) k f, no_tokens (tokens_from k 0 f.bytes))) 0 files)
+    omega (
+      arith,
+      weigh_ends file (items files),
+      items_weight w (no_fault_weight (λ t. 0) (end_weight file)) files,
+      at_most_once w file (λ k f. omega (arith, file_weight (λ t. 0) (end_weight file) k f, no_tokens (tokens_from k 0 f.bytes))) 0 files,
+    )
 
 -- ---- tokens
 
@@ -113,8 +117,12 @@ one_token file at k n (t ∷ tokens) r =
 one_place : (file at : ℕ) (files : List PlainFile) → count_by (λ t. t.file == file && t.at == at) (plain_tokens (items files)) ≤ 1
 one_place file at files =
     let w = weight_of (token_weight file at) (λ n. 0) in
-    omega (arith, weigh_plain (token_weight file at) (items files), items_weight w (no_fault_weight (token_weight file at) (λ n. 0)) files,
-    at_most_once w file (λ k f. omega (arith, file_weight (token_weight file at) (λ n. 0) k f, one_token file at k 0 (tokens_from k 0 f.bytes) (tokens_rise k 0 f.bytes))) 0 files)
+    omega (
+      arith,
+      weigh_plain (token_weight file at) (items files),
+      items_weight w (no_fault_weight (token_weight file at) (λ n. 0)) files,
+      at_most_once w file (λ k f. omega (arith, file_weight (token_weight file at) (λ n. 0) k f, one_token file at k 0 (tokens_from k 0 f.bytes) (tokens_rise k 0 f.bytes))) 0 files,
+    )
 
 pub files_are_put_in_once : FilesArePutInOnce
 files_are_put_in_once files file = (one_end file files, λ at. one_place file at files)

@@ -96,6 +96,7 @@ module _ (w : Item → ℕ) where
             → weigh (cond b (spliced files named next rest) (next n rest)) ≤ weigh_pieces rest + unnamed 0 files named
         known inner n true e = inner
         known inner n false e = bound n rest e
+
         go : weigh (spliced files named next rest) ≤ weigh_pieces rest + unnamed 0 files named
             → (o : Option ℕ) → weigh (elim o [ None ↦ Wrong X7 name ∷ [] | Some n ↦ cond (slice_index_or named n true) (spliced files named next rest) (next n rest) ]) ≤ weigh_pieces rest + unnamed 0 files named
         go inner None = omega (arith, faults X7 name)
