@@ -1,5 +1,9 @@
 mod Pieces
 pub mod TokenLaws
+pub mod CommentLaws
+pub mod NameLaws
+pub mod InclusionLaws
+pub mod NestLaws
 pub mod StepLaws
 pub mod PartLaws
 pub mod HandedLaws

@@ -11,8 +11,8 @@ use Rattle.mm_text.specs.declared.statement.Kind.TheVariants.{Opening, Closing}
 use Rattle.mm_text.specs.declared.class.Keyword.{Keyword}
 use Rattle.mm_text.specs.declared.class.Class.{Class}
 use Rattle.mm_text.specs.declared.class.Class.TheVariants as class
-use Rattle.mm_text.specs.declared.cursor.Next.{Next}
-use Rattle.mm_text.specs.declared.cursor.Next.TheVariants as next
+use Rattle.mm_text.specs.declared.next.Next.{Next}
+use Rattle.mm_text.specs.declared.next.Next.TheVariants as next
 use Rattle.mm_text.specs.Class.{spelling}
 use Rattle.mm_text.specs.Token.{PlainToken, plain_token, HoldsNoDollar}
 use Rattle.mm_text.specs.Statement.{PlainStatement}

@@ -20,7 +20,7 @@ unfolding tokens_from
 tokens_from-nil file at = refl
 
 -- the first token, if there is one, begins at or after a place
-abbrev BeginFrom : ℕ → List PlainToken → Type 0
+abbrev pub BeginFrom : ℕ → List PlainToken → Type 0
 BeginFrom at [] = Unit {0}
 BeginFrom at (t ∷ tokens) = at ≤ t.at
 
@@ -36,7 +36,7 @@ with_byte_begins file at b (t ∷ tokens) =
       | false ↦ omega arith
     ]
 
-tokens_from_begin : (file at : ℕ) (bytes : List ℕ) → BeginFrom at (tokens_from file at bytes)
+pub tokens_from_begin : (file at : ℕ) (bytes : List ℕ) → BeginFrom at (tokens_from file at bytes)
 unfolding tokens_from
 tokens_from_begin file at [] = tt
 tokens_from_begin file at (b ∷ bytes) =
@@ -56,7 +56,7 @@ BeginsWithSpace [] = Unit {0}
 BeginsWithSpace (b ∷ bytes) = is_space b ≡ true
 
 -- a byte before tokens that begin later is a token of its own
-with_byte_apart : (file at b : ℕ) (tokens : List PlainToken) → BeginFrom (at + 2) tokens → with_byte file at b tokens ≡ record { text = b ∷ []; file = file; at = at } ∷ tokens
+pub with_byte_apart : (file at b : ℕ) (tokens : List PlainToken) → BeginFrom (at + 2) tokens → with_byte file at b tokens ≡ record { text = b ∷ []; file = file; at = at } ∷ tokens
 with_byte_apart file at b [] h = refl
 with_byte_apart file at b (t ∷ tokens) h =
     let apart : (t.at == at + 1) ≡ false = ne_eqb t.at (at + 1) (λ e. omega (arith, e)) in
@@ -101,7 +101,7 @@ ink_from_places : (bytes : List ℕ) → ((k : ℕ) → k < length bytes → is_
 ink_from_places [] h = tt
 ink_from_places (b ∷ bytes) h = (h 0 (omega arith), ink_from_places bytes (λ k within. h (suc k) (omega arith)))
 
-space_from_place : (bytes : List ℕ) → (0 < length bytes → is_space (get_or bytes 0 0) ≡ true) → BeginsWithSpace bytes
+pub space_from_place : (bytes : List ℕ) → (0 < length bytes → is_space (get_or bytes 0 0) ≡ true) → BeginsWithSpace bytes
 space_from_place [] h = tt
 space_from_place (b ∷ bytes) h = h (omega arith)
 

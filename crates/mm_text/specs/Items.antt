@@ -1,6 +1,6 @@
 -- The items of the handed files: what is met as they are read, token by token, with comments left out and the files put in
 -- that are named (the Metamath book, section 4.1.2).
-use Rattle.std.specs.Prelude.{ℕ, zero, suc, ◌==◌, ◌&&◌, ◌||◌, nat_eq, List, [], ◌∷◌, ◌++◌, length, map, Bool, true, false, not, if◌then◌else◌, codes, Option, Some, None, slice_get, slice_set, slice_index_or, position}
+use Rattle.std.specs.Prelude.{ℕ, zero, suc, ◌==◌, ◌&&◌, ◌||◌, nat_eq, List, [], ◌∷◌, ◌++◌, length, replicate, Bool, true, false, not, if◌then◌else◌, codes, Option, Some, None, slice_get, slice_set, slice_index_or, position}
 use Rattle.std.specs.List.{list_any, list_all}
 use Rattle.std.specs.Cmp.Lexicographic.{pointwise}
 use Rattle.mm_text.specs.declared.fault.TextRule.{TextRule}
@@ -98,7 +98,7 @@ pieces_of number file = pieces number Outside (uncommented None (tokens_from num
 
 -- the number of the file that was handed in under a name
 abbrev pub number_of : List PlainFile → List ℕ → Option ℕ
-number_of files name = position (λ f. spells f.name name) files
+number_of files name = position (λ f. spells name f.name) files
 
 -- The items of pieces, up to the first file that is named for the first time: there `next` goes on, with the number of that
 -- file and the pieces after its name. For each file `named` tells whether it was named before.
@@ -126,7 +126,7 @@ put_in files (suc left) named rest =
 abbrev pub items : List PlainFile → List Item
 items [] = []
 items (top ∷ others) =
-    put_in (top ∷ others) (length others) (true ∷ map (λ f. false) others) (pieces_of 0 top)
+    put_in (top ∷ others) (length others) (true ∷ replicate (length others) false) (pieces_of 0 top)
 
 -- the tokens in items
 abbrev pub plain_tokens : List Item → List PlainToken

@@ -9,8 +9,10 @@ pub mod Blocks
 pub mod Token
 pub mod Class
 pub mod Next
+pub mod Place
+pub mod Names
+pub mod Nest
 pub mod Steps
 pub mod Empty
-pub mod Handed
 pub mod ReaderState
 pub mod Laws

@@ -1,14 +1,16 @@
 -- What a cursor takes from the items that are left. Private clauses speak of this.
-use Rattle.std.specs.Prelude.{◌≡◌, ℕ, ◌<◌, List, [], ◌∷◌, Result, Ok, Err}
+use Rattle.std.specs.Prelude.{◌≡◌, ℕ, ◌<◌, List, [], ◌∷◌, Result, Ok, Err, ⊤}
 use Rattle.mm_text.specs.declared.class.Class.{Class}
 use Rattle.mm_text.specs.declared.class.Class.TheVariants as class
-use Rattle.mm_text.specs.declared.cursor.Next.{Next}
-use Rattle.mm_text.specs.declared.cursor.Next.TheVariants as next
+use Rattle.mm_text.specs.declared.next.Next.{Next}
+use Rattle.mm_text.specs.declared.next.Next.TheVariants as next
 use Rattle.mm_text.specs.declared.fault.TextFault.{TextFault}
 use Rattle.mm_text.specs.declared.fault.TextFault.TheVariants.{Load, Fault, Memory}
 use Rattle.mm_text.specs.Class.{spelling}
 use Rattle.mm_text.specs.Token.{PlainToken, plain_token, HoldsNoDollar}
-use Rattle.mm_text.specs.Items.{Item, Plain, Wrong, Inclusion, End}
+use Rattle.mm_text.specs.Files.{PlainFile, BreaksLoad}
+use Rattle.mm_text.specs.declared.fault.LoadRule.{LoadRule}
+use Rattle.mm_text.specs.Items.{Item, Plain, Wrong, Inclusion, End, items}
 
 -- the items that begin with a token of a class
 abbrev pub items_with : PlainToken → Class → List Item → List Item
@@ -37,3 +39,10 @@ TakesNext old (Ok next.Nothing) new = (old ≡ []) × (new ≡ [])
 TakesNext old (Err Memory) new = new ≡ old
 TakesNext old (Err (Load rule)) new = ⊥
 TakesNext old (Err (Fault rule file at statement label)) new = ⊥
+
+-- The items of the files are left, and no rule is broken by the files as a whole; or one is, or memory is wanting.
+abbrev pub IsFirstCursor : List PlainFile → Result (List Item) TextFault → Type 0
+IsFirstCursor files (Ok left) = (left ≡ items files) × ((rule : LoadRule) → ¬ (BreaksLoad files rule))
+IsFirstCursor files (Err (Load rule)) = BreaksLoad files rule
+IsFirstCursor files (Err Memory) = ⊤
+IsFirstCursor files (Err (Fault rule file at statement label)) = ⊥

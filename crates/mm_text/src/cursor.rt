@@ -1,53 +1,62 @@
-//! A place in the files, from which the next token is taken.
+//! A place in the files, from which the next item is taken.
 
-ghost use Rattle.std.specs.Prelude.{◌≡◌, ◌≤◌, ◌<◌, length};
-ghost use Rattle.mm_text.specs.Next.{TakesNext};
+ghost use Rattle.std.specs.Prelude.{◌≡◌, map};
+ghost use Rattle.mm_text.specs.Files.{plain_file};
+ghost use Rattle.mm_text.specs.Next.{TakesNext, IsFirstCursor};
 
-use crate::class::{Class, class_of};
-use crate::fault::TextFault;
-use crate::token::Token;
+use crate::fault::{LoadRule, TextFault};
+use crate::file::File;
+use crate::handed::is_within_limit;
+use crate::names::Names;
+use crate::nest::Nest;
+use crate::next::Next;
+use std::alloc::Global;
 use std::marker::Model;
 
-/// What a cursor takes.
-pub enum Next<'a> {
-    /// A token outside comments and inclusions, or the one at which the text is wrong.
-    Token(Token<'a>, Class),
-    /// A `$[`.
-    Inclusion(Token<'a>),
-    /// The end of the file with this number.
-    End(usize),
-    /// Nothing is left.
-    Nothing,
-}
-
-/// The place up to which a file was read. Contracts see what is left: its items.
+/// The place up to which the files were read. Contracts see what is left: its items.
 #[derive(Drop)]
 pub struct Cursor<'a> {
-    bytes: &'a [u8],
-    file: usize,
-    at: usize,
+    nest: Nest<'a>,
 }
 
 impl<'a> Model for Cursor<'a> {
-    ghost use Rattle.std.specs.Prelude.{List, []};
+    ghost use Rattle.std.specs.Prelude.{List};
     ghost use Rattle.mm_text.specs.Items.{Item};
 
     ghost Value = { List Item };
 
-    ghost view = { λ c. [] };
+    ghost use Rattle.mm_text.specs.Nest.{IsNest, items_left};
+
+    ghost view = { λ c. items_left c.nest };
+
+    ghost invariant = { λ c. IsNest c.nest };
 }
 
 impl<'a> Cursor<'a> {
-    /// The begin of a file with this number.
-    pub fn new(bytes: &'a [u8], file: usize) -> Cursor<'a>
+    /// The begin of the handed files, of which the first is the top file.
+    ///
+    /// The files are judged as a whole first, in this order: `Load(F1)` where there is none,
+    /// `Load(F2)` where two have one name, `Load(F3)` where they hold over 1,073,741,824 bytes in
+    /// all. Else `Memory` alone can be wanting.
+    pub fn new(alloc: Global, files: &'a [File<'a>]) -> Result<Cursor<'a>, TextFault<'a>>
+        ensures { IsFirstCursor (map plain_file files.now) result }
     {
-        Cursor { bytes, file, at: 0 }
+        if files.is_empty() {
+            return Err(TextFault::Load(LoadRule::F1));
+        }
+        let names = Names::of(alloc, files)?;
+        if !is_within_limit(files) {
+            return Err(TextFault::Load(LoadRule::F3));
+        }
+        let nest = Nest::begin(alloc, files, names)?;
+        Ok(Cursor { nest })
     }
 
-    /// Takes the next token, and tells what it is by its bytes alone; none at the file's end.
+    /// Takes the next item. `Memory` where an inclusion wants another file to be open and there is
+    /// no memory for that; then nothing is taken.
     pub fn next(&mut self) -> Result<Next<'a>, TextFault<'a>>
         ensures { TakesNext self.old result self.new }
     {
-        Ok(Next::Nothing)
+        self.nest.next()
     }
 }

@@ -2,6 +2,7 @@
 #![tactic(auto)]
 
 mod class;
+mod comments;
 mod counted;
 mod cursor;
 mod fault;
@@ -9,6 +10,9 @@ mod file;
 mod handed;
 mod laws;
 mod load;
+mod names;
+mod nest;
+mod next;
 mod parts;
 mod scan;
 mod scope;

@@ -10,7 +10,8 @@ ghost use Rattle.mm_text.specs.Reader.{Between, Labelled, InBody, InProof, readi
 ghost use Rattle.mm_text.specs.Steps.{plain_scope, TakesWithin, TakesFirst, GivesPart, GivesFirst, GivesStatement, StepsTo, is_block_sign, bare_kind, labelled_kind, ends_symbols};
 
 use crate::class::{Class, Keyword, is_label};
-use crate::cursor::{Cursor, Next};
+use crate::cursor::Cursor;
+use crate::next::Next;
 use crate::fault::{TextFault, TextRule};
 use crate::scope::Scope;
 use crate::statement::{Kind, Statement};

@@ -1,7 +1,8 @@
 //! Where tokens begin and end in the bytes of a file.
 
-ghost use Rattle.std.specs.Prelude.{◌≡◌, ℕ, ◌<◌, ◌≤◌, ◌∷◌, true, false, length, drop, slice_index, slice_range};
+ghost use Rattle.std.specs.Prelude.{◌≡◌, ℕ, ◌<◌, ◌≤◌, ◌+◌, ◌∷◌, ◌⊎◌, true, false, length, drop, slice_index, slice_range};
 ghost use Rattle.mm_text.specs.Token.{is_space, tokens_from};
+ghost use Rattle.mm_text.specs.Place.{is_legal, IsLegalFront};
 
 /// Whether a byte is white space.
 fn is_space(byte: u8) -> bool
@@ -17,6 +18,7 @@ pub fn skip_space(bytes: &[u8], start: usize) -> usize
     ensures not_before { start ≤ result }
     ensures within { result ≤ length bytes.now }
     ensures same_tokens { (file : ℕ) → tokens_from file start (drop start bytes.now) ≡ tokens_from file result (drop result bytes.now) }
+    ensures space { (k : ℕ) → start ≤ k → k < result → is_space (slice_index bytes.now k) ≡ true }
     ensures stops { result < length bytes.now → is_space (slice_index bytes.now result) ≡ false }
 {
     for at in start..bytes.len() {
@@ -34,9 +36,50 @@ pub fn token_end(bytes: &[u8], start: usize) -> usize
     ensures after { start < result }
     ensures within { result ≤ length bytes.now }
     ensures token { (file : ℕ) → tokens_from file start (drop start bytes.now) ≡ record { text = slice_range bytes.now start result; file = file; at = start } ∷ tokens_from file result (drop result bytes.now) }
+    ensures ink { (k : ℕ) → start ≤ k → k < result → is_space (slice_index bytes.now k) ≡ false }
 {
     for at in start + 1..bytes.len() {
         if is_space(bytes[at]) {
+            return at;
+        }
+    }
+    bytes.len()
+}
+
+/// The begin of the run of bytes that aren't white space and end with the one at a place, no
+/// further back than `low`.
+pub fn token_start(bytes: &[u8], low: usize, at: usize) -> usize
+    requires from { low ≤ at }
+    requires within { at < length bytes.now }
+    requires ends { is_space (slice_index bytes.now at) ≡ false }
+    ensures from { low ≤ result }
+    ensures before { result ≤ at }
+    ensures ink { (k : ℕ) → result ≤ k → k ≤ at → is_space (slice_index bytes.now k) ≡ false }
+    ensures apart { (result ≡ low) ⊎ ((k : ℕ) → k + 1 ≡ result → is_space (slice_index bytes.now k) ≡ true) }
+{
+    let mut start = at;
+    while start > low {
+        if is_space(bytes[start - 1]) {
+            return start;
+        }
+        start -= 1;
+    }
+    start
+}
+
+/// Whether a byte may stand in a file: white space, or a byte that a token may hold.
+fn is_legal(byte: u8) -> bool
+    ensures { result ≡ is_legal byte }
+{
+    (byte >= b'!' && byte <= b'~') || is_space(byte)
+}
+
+/// The place of the first byte that may not stand in a file, or the file's end.
+pub fn legal_end(bytes: &[u8]) -> usize
+    ensures { IsLegalFront bytes.now result }
+{
+    for at in 0..bytes.len() {
+        if !is_legal(bytes[at]) {
             return at;
         }
     }

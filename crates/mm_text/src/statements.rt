@@ -12,7 +12,6 @@ ghost use Rattle.mm_text.specs.ReaderState.{AnswersIn};
 use crate::cursor::Cursor;
 use crate::fault::TextFault;
 use crate::file::File;
-use crate::handed::broken_rule;
 use crate::parts::statement;
 use crate::scope::Scope;
 use crate::statement::Statement;
@@ -79,13 +78,9 @@ impl<'a> Statements<'a> {
         ensures only_load { IfErr result (λ fault. (rule : LoadRule) × (fault ≡ TextFault.Load rule)) }
         ensures unread { IfOk result (λ s. IsUnread (map plain_file files.now) s) }
     {
-        if let Some(rule) = broken_rule(files) {
-            return Err(TextFault::Load(rule));
-        }
-        let top = files[0];
         Ok(Statements {
             files,
-            cursor: Cursor::new(top.bytes, 0),
+            cursor: Cursor::new(alloc, files)?,
             scope: Scope::new(alloc),
             state: State::Reading,
         })

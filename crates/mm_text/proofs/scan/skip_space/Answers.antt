@@ -1,9 +1,13 @@
-use Rattle.std.proofs.Common.{◌∙◌, sym}
+use Rattle.std.proofs.Common.{◌∙◌, sym, arith}
 use Rattle.mm_text.proofs.TokenLaws.{tokens_from-step}
+use Rattle.mm_text.proofs.CommentLaws.{below_more_from}
 use Rattle.mm_text.proofs.scan.skip_space.Goals as goal
 
 -- a byte of white space is stepped over
 pub loop-at-preserved : goal.loop-at-preserved
-loop-at-preserved c file =
-    c.loop-at.invariant file
-    ∙ tokens_from-step c.args.bytes.now file c.loop-at.at c.loop-at-test.true (sym c.is_space.ensures ∙ c.if-not-is_space.false)
+loop-at-preserved c = record {
+  same = λ file.
+    c.loop-at.invariant.same file
+    ∙ tokens_from-step c.args.bytes.now file c.loop-at.at c.loop-at-test.true (sym c.is_space.ensures ∙ c.if-not-is_space.false);
+  space = below_more_from _ _ _ c.loop-at.invariant.space (sym c.is_space.ensures ∙ c.if-not-is_space.false);
+}

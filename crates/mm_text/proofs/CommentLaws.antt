@@ -1,0 +1,293 @@
+-- How a comment is skipped: bytes that hold no `$` and may stand in a file are passed over, up to a token's begin.
+use Rattle.std.proofs.Common.{◌≡◌, ℕ, ⊎_elim, zero, append-nil, ◌+◌, ◌-◌, ◌<◌, ◌≤◌, ◌==◌, ◌&&◌, ◌||◌, List, [], ◌∷◌, ◌++◌, length, get_or, drop, take, Bool, true, false, not, cond, refl, sym, ap, ◌∙◌, subst, suc, arith, Some, None, ◌⊎◌, inl, inr}
+use Rattle.std.specs.Prelude.{slice_range, codes}
+use Rattle.std.specs.List.{list_any, list_all, AllByRecursion}
+use Rattle.std.proofs.lemmas.List.{drop_more, drop_all, drop-drop, take-append-drop, get_or-drop, get_or-take, length-drop, length-take-le}
+use Rattle.std.proofs.lemmas.Bool.{ne_eqb, or_parts, or_right, both_ways, false_from_ne_true}
+use Rattle.std.proofs.str.Laws.{order}
+use Rattle.std.proofs.lemmas.List.Folds.{list_all_at}
+use Rattle.memchr.specs.Find.{Nowhere, Passes, is_byte}
+use Rattle.mm_text.specs.declared.fault.TextRule.TheVariants.{X1, X2, X3, X4}
+use Rattle.mm_text.specs.Token.{PlainToken, is_space, is_printable, with_byte, tokens_from}
+use Rattle.mm_text.specs.Items.{Shown, Clear, Broken, uncommented, spells, holds_mark}
+use Rattle.mm_text.specs.Place.{is_legal, is_quiet, IsLegalFront, IsPlace, IsLater, moved, comment_at, shown_at}
+use Rattle.std.specs.Cmp.Lexicographic.{bytes_decides}
+use Rattle.mm_text.specs.declared.comments.Place.{Place}
+use Rattle.mm_text.proofs.TokenLaws.{tokens_from-space, tokens_from-byte, tokens_from-nil, tokens_from-step, tokens_from-end, BeginFrom, tokens_from_begin, with_byte_apart, BeginsWithSpace, space_from_place}
+
+-- ---- marks
+
+pub holds_mark-step : (text : List ℕ) (at : ℕ) → 1 ≤ at → at < length text
+    → holds_mark (drop (at - 1) text) ≡ ((get_or text (at - 1) 0 == 36 && (get_or text at 0 == 40 || get_or text at 0 == 41)) || holds_mark (drop at text))
+holds_mark-step text at some within =
+    let before : drop (at - 1) text ≡ get_or text (at - 1) 0 ∷ drop at text =
+    drop_more text (at - 1) 0 (omega arith) ∙ ap (λ n. get_or text (at - 1) 0 ∷ drop n text) (omega arith) in
+    let here : drop at text ≡ get_or text at 0 ∷ drop (at + 1) text = drop_more text at 0 within in
+    ap holds_mark (before ∙ ap (λ l. get_or text (at - 1) 0 ∷ l) here)
+    ∙ ap (λ l. (get_or text (at - 1) 0 == 36 && (get_or text at 0 == 40 || get_or text at 0 == 41)) || holds_mark l) (sym here)
+
+pub holds_mark-short : (text : List ℕ) → length text ≤ 1 → holds_mark text ≡ false
+holds_mark-short [] short = refl
+holds_mark-short (b ∷ []) short = refl
+holds_mark-short (b ∷ c ∷ text) short = absurd (omega arith)
+
+-- ---- bytes that are passed over
+
+-- tokens that are passed over in a comment
+abbrev IsQuiet : PlainToken → Type 0
+IsQuiet t = (list_all is_printable t.text ≡ true) × (list_any (λ b. b == 36) t.text ≡ false)
+
+abbrev AreQuiet : List ℕ → Type 0
+AreQuiet bytes = AllByRecursion (λ b. is_quiet b ≡ true) bytes
+
+quiet_ink : (printable space dollar : Bool) → ((printable || space) && not dollar) ≡ true → space ≡ false → (printable ≡ true) × (dollar ≡ false)
+quiet_ink true false false q s = (refl, refl)
+quiet_ink true false true q s = (refl, absurd cc)
+quiet_ink false false dollar q s = absurd cc
+quiet_ink printable true dollar q s = absurd cc
+
+-- a byte onto the front of a quiet token
+quiet_more : (file at other place b : ℕ) (text : List ℕ) → is_quiet b ≡ true → is_space b ≡ false → IsQuiet (record { text = text; file = other; at = place }) → IsQuiet (record { text = b ∷ text; file = file; at = at })
+quiet_more file at other place b text q ink h =
+    let parts = quiet_ink (is_printable b) (is_space b) (b == 36) q ink in
+    (ap (λ p. p && list_all is_printable text) parts.0 ∙ h.0, ap (λ d. d || list_any (λ x. x == 36) text) parts.1 ∙ h.1)
+
+quiet_one : (file at b : ℕ) → is_quiet b ≡ true → is_space b ≡ false → IsQuiet (record { text = b ∷ []; file = file; at = at })
+quiet_one file at b q ink = quiet_more file at file at b [] q ink (refl, refl)
+
+-- the tokens of quiet bytes before white space, or before the file's end, are quiet
+record QuietFront (tokens rest : List PlainToken) : Type 0 where
+  quiet : List PlainToken
+  each : AllByRecursion IsQuiet quiet
+  whole : tokens ≡ quiet ++ rest
+
+quiet_byte : (file at b : ℕ) (tokens rest : List PlainToken) → is_quiet b ≡ true → is_space b ≡ false → BeginFrom (at + 2) rest → QuietFront tokens rest → QuietFront (with_byte file at b tokens) rest
+quiet_byte file at b tokens rest q ink far h = subst (λ l. QuietFront (with_byte file at b l) rest) (sym h.whole) (go h.quiet h.each)
+  where
+    go : (quiet : List PlainToken) → AllByRecursion IsQuiet quiet → QuietFront (with_byte file at b (quiet ++ rest)) rest
+    go [] each = record { quiet = record { text = b ∷ []; file = file; at = at } ∷ []; each = (quiet_one file at b q ink, tt); whole = with_byte_apart file at b rest far }
+    go (t ∷ ts) each =
+        elim (t.at == at + 1) as (λ joined. QuietFront (cond joined (record { text = b ∷ t.text; file = file; at = at } ∷ ts ++ rest) (record { text = b ∷ []; file = file; at = at } ∷ t ∷ ts ++ rest)) rest) [
+          | true ↦ record { quiet = record { text = b ∷ t.text; file = file; at = at } ∷ ts; each = (quiet_more file at t.file t.at b t.text q ink each.0, each.1); whole = refl }
+          | false ↦ record { quiet = record { text = b ∷ []; file = file; at = at } ∷ t ∷ ts; each = (quiet_one file at b q ink, each); whole = refl }
+        ]
+
+-- after white space, or at the end, tokens begin one place later
+space_begins : (file at : ℕ) (rest : List ℕ) → BeginsWithSpace rest → BeginFrom (at + 1) (tokens_from file at rest)
+space_begins file at [] h = rw tokens_from-nil tt
+space_begins file at (b ∷ rest) h = rw (tokens_from-space file at b rest h) (tokens_from_begin file (at + 1) rest)
+
+begin_far : (at n : ℕ) (tokens : List PlainToken) → n ≤ at → BeginFrom at tokens → BeginFrom n tokens
+begin_far at n [] h k = tt
+begin_far at n (t ∷ tokens) h k = omega arith
+
+quiet_front : (file at : ℕ) (front rest : List ℕ) → AreQuiet front → BeginsWithSpace rest → QuietFront (tokens_from file at (front ++ rest)) (tokens_from file (at + length front) rest)
+quiet_front file at [] rest q after = record { quiet = []; each = tt; whole = ap (λ n. tokens_from file n rest) (omega arith) }
+quiet_front file at (b ∷ front) rest q after =
+    let inner = quiet_front file (at + 1) front rest q.1 after in
+    let further : at + 1 + length front ≡ at + length (b ∷ front) = omega arith in
+    subst (λ n. QuietFront (tokens_from file at (b ∷ front ++ rest)) (tokens_from file n rest)) further (go inner (is_space b) refl)
+  where
+    go : QuietFront (tokens_from file (at + 1) (front ++ rest)) (tokens_from file (at + 1 + length front) rest) → (space : Bool) → is_space b ≡ space → QuietFront (tokens_from file at (b ∷ front ++ rest)) (tokens_from file (at + 1 + length front) rest)
+    go inner true e = subst (λ l. QuietFront l (tokens_from file (at + 1 + length front) rest)) (sym (tokens_from-space file at b (front ++ rest) e)) inner
+    go inner false e =
+        subst (λ l. QuietFront l (tokens_from file (at + 1 + length front) rest)) (sym (tokens_from-byte file at b (front ++ rest) e))
+        (quiet_byte file at b _ _ q.0 e (begin_far (at + 1 + length front + 1) (at + 2) _ (omega arith) (space_begins file (at + 1 + length front) rest after)) inner)
+
+-- ---- tokens in a comment
+
+pub in_comment-illegal : (begin t : PlainToken) (tokens : List PlainToken) → list_all is_printable t.text ≡ false → uncommented (Some begin) (t ∷ tokens) ≡ Broken X1 t ∷ []
+unfolding uncommented
+in_comment-illegal begin t tokens e = simp e
+
+pub in_comment-close : (begin t : PlainToken) (tokens : List PlainToken) → list_all is_printable t.text ≡ true → spells t.text (codes "$)") ≡ true → uncommented (Some begin) (t ∷ tokens) ≡ uncommented None tokens
+unfolding uncommented
+in_comment-close begin t tokens e f = simp (e, f)
+
+pub in_comment-mark : (begin t : PlainToken) (tokens : List PlainToken) → list_all is_printable t.text ≡ true → spells t.text (codes "$)") ≡ false → holds_mark t.text ≡ true → uncommented (Some begin) (t ∷ tokens) ≡ Broken X3 t ∷ []
+unfolding uncommented
+in_comment-mark begin t tokens e f g = simp (e, f, g)
+
+pub in_comment-more : (begin t : PlainToken) (tokens : List PlainToken) → list_all is_printable t.text ≡ true → spells t.text (codes "$)") ≡ false → holds_mark t.text ≡ false → uncommented (Some begin) (t ∷ tokens) ≡ uncommented (Some begin) tokens
+unfolding uncommented
+in_comment-more begin t tokens e f g = simp (e, f, g)
+
+pub in_comment-end : (begin : PlainToken) → uncommented (Some begin) [] ≡ Broken X2 begin ∷ []
+unfolding uncommented
+in_comment-end begin = refl
+
+no_dollar-mark : (text : List ℕ) → list_any (λ b. b == 36) text ≡ false → holds_mark text ≡ false
+no_dollar-mark [] h = refl
+no_dollar-mark (b ∷ []) h = refl
+no_dollar-mark (b ∷ c ∷ text) h =
+    let parts = or_parts (b == 36) (list_any (λ x. x == 36) (c ∷ text)) h in
+    ap (λ d. (d && (c == 40 || c == 41)) || holds_mark (c ∷ text)) parts.0 ∙ no_dollar-mark (c ∷ text) parts.1
+
+no_dollar-spells : (text : List ℕ) (c : ℕ) → list_any (λ b. b == 36) text ≡ false → spells text (36 ∷ c ∷ []) ≡ false
+no_dollar-spells [] c h = refl
+no_dollar-spells (b ∷ text) c h =
+    ap (λ d. d && spells text (c ∷ [])) (or_parts (b == 36) (list_any (λ x. x == 36) text) h).0
+
+quiet_passed : (begin : PlainToken) (quiet rest : List PlainToken) → AllByRecursion IsQuiet quiet → uncommented (Some begin) (quiet ++ rest) ≡ uncommented (Some begin) rest
+quiet_passed begin [] rest each = refl
+quiet_passed begin (t ∷ quiet) rest each =
+    in_comment-more begin t (quiet ++ rest) each.0.0 (no_dollar-spells t.text 41 each.0.1) (no_dollar-mark t.text each.0.1)
+    ∙ quiet_passed begin quiet rest each.1
+
+-- in a comment quiet bytes before white space or the file's end are passed over
+front_passed : (begin : PlainToken) (file at : ℕ) (front rest : List ℕ) → AreQuiet front → BeginsWithSpace rest → uncommented (Some begin) (tokens_from file at (front ++ rest)) ≡ uncommented (Some begin) (tokens_from file (at + length front) rest)
+front_passed begin file at front rest q after =
+    let split = quiet_front file at front rest q after in
+    ap (uncommented (Some begin)) split.whole ∙ quiet_passed begin split.quiet _ split.each
+
+-- ---- the same, of the bytes of a file by their places
+
+quiet_from_places : (bytes : List ℕ) → ((k : ℕ) → k < length bytes → is_quiet (get_or bytes k 0) ≡ true) → AreQuiet bytes
+quiet_from_places [] h = tt
+quiet_from_places (b ∷ bytes) h = (h 0 (omega arith), quiet_from_places bytes (λ k within. h (suc k) (omega arith)))
+
+-- before the place after white space
+passed_space : (begin : PlainToken) (bytes : List ℕ) (file at n : ℕ) → at + n + 1 ≤ length bytes → ((k : ℕ) → at ≤ k → k < at + n → is_quiet (get_or bytes k 0) ≡ true) → is_space (get_or bytes (at + n) 0) ≡ true
+    → uncommented (Some begin) (tokens_from file at (drop at bytes)) ≡ uncommented (Some begin) (tokens_from file (at + n + 1) (drop (at + n + 1) bytes))
+passed_space begin bytes file at n within quiet space =
+    let front = take n (drop at bytes) in
+    let long : length front ≡ n = length-take-le n (drop at bytes) (omega (arith, length-drop at bytes)) in
+    let split : front ++ drop (at + n) bytes ≡ drop at bytes =
+    ap (λ m. front ++ drop m bytes) (omega arith) ∙ ap (λ l. front ++ l) (sym (drop-drop n at bytes)) ∙ take-append-drop n (drop at bytes) in
+    let each : AreQuiet front = quiet_from_places front (λ k lt. ap is_quiet (get_or-take n (drop at bytes) k 0 (omega arith) ∙ get_or-drop at bytes k 0) ∙ quiet (at + k) (omega arith) (omega arith)) in
+    let after : BeginsWithSpace (drop (at + n) bytes) = space_from_place (drop (at + n) bytes) (λ lt. ap is_space (get_or-drop (at + n) bytes 0 0 ∙ ap (λ m. get_or bytes m 0) (omega arith)) ∙ space) in
+    ap (λ l. uncommented (Some begin) (tokens_from file at l)) (sym split)
+    ∙ front_passed begin file at front (drop (at + n) bytes) each after
+    ∙ ap (λ m. uncommented (Some begin) (tokens_from file m (drop (at + n) bytes))) (omega arith)
+    ∙ ap (uncommented (Some begin)) (tokens_from-step bytes file (at + n) (omega arith) space)
+
+-- in a comment quiet bytes are passed over, up to a place after white space
+pub passed_to : (begin : PlainToken) (bytes : List ℕ) (file at start : ℕ) → at ≤ start → start ≤ length bytes → ((k : ℕ) → at ≤ k → k < start → is_quiet (get_or bytes k 0) ≡ true)
+    → (start ≡ at) ⊎ ((k : ℕ) → k + 1 ≡ start → is_space (get_or bytes k 0) ≡ true)
+    → uncommented (Some begin) (tokens_from file at (drop at bytes)) ≡ uncommented (Some begin) (tokens_from file start (drop start bytes))
+passed_to begin bytes file at start from within quiet (inl same) = ap (λ n. uncommented (Some begin) (tokens_from file n (drop n bytes))) (sym same)
+passed_to begin bytes file at start from within quiet (inr space) = go (start - at) (omega arith)
+  where
+    go : (n : ℕ) → at + n ≡ start → uncommented (Some begin) (tokens_from file at (drop at bytes)) ≡ uncommented (Some begin) (tokens_from file start (drop start bytes))
+    go zero e = ap (λ n. uncommented (Some begin) (tokens_from file n (drop n bytes))) (omega arith)
+    go (suc n) e =
+        let last : at + n + 1 ≡ start = omega arith in
+        passed_space begin bytes file at n (omega arith) (λ k low high. quiet k low (omega arith)) (space (at + n) last)
+        ∙ ap (λ m. uncommented (Some begin) (tokens_from file m (drop m bytes))) last
+
+-- and up to the file's end, where the comment is open
+pub passed_all : (begin : PlainToken) (bytes : List ℕ) (file at : ℕ) → at ≤ length bytes → ((k : ℕ) → at ≤ k → k < length bytes → is_quiet (get_or bytes k 0) ≡ true)
+    → uncommented (Some begin) (tokens_from file at (drop at bytes)) ≡ Broken X2 begin ∷ []
+passed_all begin bytes file at within quiet =
+    let front = drop at bytes in
+    let each : AreQuiet front = quiet_from_places front (λ k lt. ap is_quiet (get_or-drop at bytes k 0) ∙ quiet (at + k) (omega arith) (omega (arith, length-drop at bytes))) in
+    ap (λ l. uncommented (Some begin) (tokens_from file at l)) (sym (append-nil front))
+    ∙ front_passed begin file at front [] each tt
+    ∙ ap (uncommented (Some begin)) (tokens_from-nil file (at + length front))
+    ∙ in_comment-end begin
+
+-- no `$` was found, and no byte that may not stand there
+pub quiet_before : (bytes : List ℕ) (at legal n : ℕ) → IsLegalFront bytes legal → at + n ≤ legal → Nowhere (Passes (is_byte 36) (slice_range bytes at legal)) 0 n
+    → (k : ℕ) → at ≤ k → k < at + n → is_quiet (get_or bytes k 0) ≡ true
+quiet_before bytes at legal n front within none k low high =
+    let place : at + (k - at) ≡ k = omega arith in
+    let byte : get_or (slice_range bytes at legal) (k - at) 0 ≡ get_or bytes k 0 =
+    get_or-take (legal - at) (drop at bytes) (k - at) 0 (omega arith) ∙ get_or-drop at bytes (k - at) 0 ∙ ap (λ m. get_or bytes m 0) place in
+    let other : (get_or bytes k 0 == 36) ≡ false = false_from_ne_true _ (λ e. none (k - at) (omega arith) (omega arith) (ap (λ b. b == 36) byte ∙ e)) in
+    ap (λ l. l && not (get_or bytes k 0 == 36)) (front.front k (omega arith)) ∙ ap not other
+
+-- ---- the bytes of a token
+
+all_from_places : (p : ℕ → Bool) (xs : List ℕ) → ((k : ℕ) → k < length xs → p (get_or xs k 0) ≡ true) → list_all p xs ≡ true
+all_from_places p [] h = refl
+all_from_places p (x ∷ xs) h = ap (λ b. b && list_all p xs) (h 0 (omega arith)) ∙ all_from_places p xs (λ k lt. h (suc k) (omega arith))
+
+legal_ink : (b : ℕ) → is_space b ≡ false → is_printable b ≡ is_legal b
+legal_ink b ink = sym (or_false (is_printable b)) ∙ ap (λ s. is_printable b || s) (sym ink)
+  where
+    or_false : (p : Bool) → (p || false) ≡ p
+    or_false true = refl
+    or_false false = refl
+
+slice_byte : (bytes : List ℕ) (start stop k : ℕ) → start + k < stop → get_or (slice_range bytes start stop) k 0 ≡ get_or bytes (start + k) 0
+slice_byte bytes start stop k lt = get_or-take (stop - start) (drop start bytes) k 0 (omega arith) ∙ get_or-drop start bytes k 0
+
+-- a token before the first byte that may not stand there holds none
+pub token_printable : (bytes : List ℕ) (legal start stop : ℕ) → IsLegalFront bytes legal → start < stop → stop ≤ legal → ((k : ℕ) → start ≤ k → k < stop → is_space (get_or bytes k 0) ≡ false)
+    → list_all is_printable (slice_range bytes start stop) ≡ true
+token_printable bytes legal start stop front some within ink =
+    let long : length (slice_range bytes start stop) ≡ stop - start = length-take-le (stop - start) (drop start bytes) (omega (arith, length-drop start bytes, front.within)) in
+    all_from_places is_printable (slice_range bytes start stop) (λ k lt.
+    ap is_printable (slice_byte bytes start stop k (omega arith)) ∙ legal_ink (get_or bytes (start + k) 0) (ink (start + k) (omega arith) (omega arith)) ∙ front.front (start + k) (omega arith))
+
+-- a token across it does
+pub token_illegal : (bytes : List ℕ) (legal start stop : ℕ) → IsLegalFront bytes legal → start ≤ legal → legal < stop → stop ≤ length bytes → ((k : ℕ) → start ≤ k → k < stop → is_space (get_or bytes k 0) ≡ false)
+    → list_all is_printable (slice_range bytes start stop) ≡ false
+token_illegal bytes legal start stop front low high within ink =
+    let long : length (slice_range bytes start stop) ≡ stop - start = length-take-le (stop - start) (drop start bytes) (omega (arith, length-drop start bytes)) in
+    let place : start + (legal - start) ≡ legal = omega arith in
+    list_all_at is_printable (slice_range bytes start stop) (legal - start) 0 (omega arith)
+    (ap is_printable (slice_byte bytes start stop (legal - start) (omega arith) ∙ ap (λ m. get_or bytes m 0) place) ∙ legal_ink (get_or bytes legal 0) (ink legal low high) ∙ front.stops (omega arith))
+
+-- ---- the next token of a comment that holds a `$` or a byte that may not stand there
+
+-- such a token stands here: what is before it is passed over
+pub comment_token : (begin : PlainToken) (p : Place) (stop start end : ℕ) (t : PlainToken) → IsPlace p → p.at ≤ start → start ≤ stop → stop ≤ p.legal
+    → ((k : ℕ) → p.at ≤ k → k < stop → is_quiet (get_or p.bytes.now k 0) ≡ true)
+    → (start ≡ p.at) ⊎ ((k : ℕ) → k + 1 ≡ start → is_space (get_or p.bytes.now k 0) ≡ true)
+    → ((file : ℕ) → tokens_from file start (drop start p.bytes.now) ≡ record { text = slice_range p.bytes.now start end; file = file; at = start } ∷ tokens_from file end (drop end p.bytes.now))
+    → t ≡ record { text = slice_range p.bytes.now start end; file = p.file; at = start }
+    → comment_at begin p ≡ uncommented (Some begin) (t ∷ tokens_from p.file end (drop end p.bytes.now))
+comment_token begin p stop start end t place from before within quiet apart token same =
+    passed_to begin p.bytes.now p.file p.at start from (omega (arith, place.front.within)) (λ k low high. quiet k low (omega arith)) apart
+    ∙ ap (uncommented (Some begin)) (token p.file ∙ ap (λ (u : PlainToken). u ∷ tokens_from p.file end (drop end p.bytes.now)) (sym same))
+
+-- ---- tokens outside comments
+
+pub outside-end : uncommented None [] ≡ []
+unfolding uncommented
+outside-end = refl
+
+pub outside-illegal : (t : PlainToken) (tokens : List PlainToken) → list_all is_printable t.text ≡ false → uncommented None (t ∷ tokens) ≡ Broken X1 t ∷ []
+unfolding uncommented
+outside-illegal t tokens e = simp e
+
+pub outside-begin : (t : PlainToken) (tokens : List PlainToken) → list_all is_printable t.text ≡ true → spells t.text (codes "$(") ≡ true → uncommented None (t ∷ tokens) ≡ uncommented (Some t) tokens
+unfolding uncommented
+outside-begin t tokens e f = simp (e, f)
+
+pub outside-close : (t : PlainToken) (tokens : List PlainToken) → list_all is_printable t.text ≡ true → spells t.text (codes "$(") ≡ false → spells t.text (codes "$)") ≡ true → uncommented None (t ∷ tokens) ≡ Broken X4 t ∷ []
+unfolding uncommented
+outside-close t tokens e f g = simp (e, f, g)
+
+pub outside-clear : (t : PlainToken) (tokens : List PlainToken) → list_all is_printable t.text ≡ true → spells t.text (codes "$(") ≡ false → spells t.text (codes "$)") ≡ false → uncommented None (t ∷ tokens) ≡ Clear t ∷ uncommented None tokens
+unfolding uncommented
+outside-clear t tokens e f g = simp (e, f, g)
+
+-- a text is spelled in one way
+pub spells_other : (text a b : List ℕ) → spells a b ≡ false → spells text a ≡ true → spells text b ≡ false
+spells_other text a b apart e = ap (λ l. spells l b) ((bytes_decides text a).0 e) ∙ apart
+
+-- white space is skipped, and a token stands here
+pub outside_token : (p : Place) (start end : ℕ) (t : PlainToken)
+    → ((file : ℕ) → tokens_from file p.at (drop p.at p.bytes.now) ≡ tokens_from file start (drop start p.bytes.now))
+    → ((file : ℕ) → tokens_from file start (drop start p.bytes.now) ≡ record { text = slice_range p.bytes.now start end; file = file; at = start } ∷ tokens_from file end (drop end p.bytes.now))
+    → t ≡ record { text = slice_range p.bytes.now start end; file = p.file; at = start }
+    → shown_at p ≡ uncommented None (t ∷ tokens_from p.file end (drop end p.bytes.now))
+outside_token p start end t skipped token same =
+    ap (uncommented None) (skipped p.file ∙ token p.file ∙ ap (λ (u : PlainToken). u ∷ tokens_from p.file end (drop end p.bytes.now)) (sym same))
+
+-- a later place of a file
+pub later_place : (p : Place) (after : ℕ) → IsPlace p → IsLater p after → IsPlace (moved p after)
+later_place p after place later = record { within = later.1; front = place.front; small = place.small }
+
+-- what holds from one place up to another, and there
+pub below_more_from : (P : ℕ → Type 0) (low i : ℕ) → ((k : ℕ) → low ≤ k → k < i → P k) → P i → (k : ℕ) → low ≤ k → k < i + 1 → P k
+below_more_from P low i below here k from lt = ⊎_elim (λ (less : k < i). below k from less) (λ (e : i ≤ k). subst P (omega arith) here) (order k i)
+
+-- a byte that may not stand there isn't skipped as white space
+pub skipped_legal : (bytes : List ℕ) (legal at start : ℕ) → IsLegalFront bytes legal → at ≤ legal → start < length bytes → ((k : ℕ) → at ≤ k → k < start → is_space (get_or bytes k 0) ≡ true) → start ≤ legal
+skipped_legal bytes legal at start front from within space =
+    ⊎_elim (λ (less : legal < start).
+    absurd (both_ways _ (front.stops (omega arith)) (or_right (is_printable (get_or bytes legal 0)) (is_space (get_or bytes legal 0)) (space legal from less))))
+    (λ (le : start ≤ legal). le) (order legal start)

@@ -1,0 +1,69 @@
+use Rattle.std.proofs.Common.{◌≡◌, true, sym, ap, ◌∙◌, arith}
+use Rattle.std.specs.List.{list_all}
+use Rattle.mm_text.specs.Token.{PlainToken, plain_token, is_printable}
+use Rattle.mm_text.proofs.CommentLaws.{comment_token, passed_all, in_comment-illegal, in_comment-close, in_comment-mark, in_comment-more, token_printable, token_illegal}
+use Rattle.mm_text.proofs.comments.comment_step.Goals as goal
+
+-- no `$)` is left
+pub returns-then-stop-place : goal.returns-then-stop-place
+returns-then-stop-place c =
+    let p = c.args.place in (
+      passed_all (plain_token c.args.begin) p.bytes.now p.file p.at (omega (arith, c.requires.place.front.within))
+          (λ k low high. c.comment_stop-stop.ensures.quiet k low (omega arith)),
+      c.requires.begin,
+    )
+
+pub returns-then-place-end : goal.returns-then-place-end
+returns-then-place-end c =
+    let p = c.args.place in
+    let start = c.token_start-start.result in
+    let end = c.token_end-end.result in
+    let t = plain_token c.make_token-token.result in
+    let illegal = token_illegal p.bytes.now p.legal start end c.requires.place.front (omega arith) (omega arith) (omega arith) c.token_end-end.ensures.ink in (
+      comment_token (plain_token c.args.begin) p c.comment_stop-stop.result start end t c.requires.place (omega arith) (omega arith) (omega arith)
+          c.comment_stop-stop.ensures.quiet c.token_start-start.ensures.apart c.token_end-end.ensures.token c.make_token-token.ensures.token
+          ∙ in_comment-illegal (plain_token c.args.begin) t _ (ap (λ (u : PlainToken). list_all is_printable u.text) c.make_token-token.ensures.token ∙ illegal),
+      c.make_token-token.ensures.at,
+    )
+
+pub returns-then-is_close : goal.returns-then-is_close
+returns-then-is_close c =
+    let p = c.args.place in
+    let start = c.token_start-start.result in
+    let end = c.token_end-end.result in
+    let t = plain_token c.make_token-token.result in
+    let printable = token_printable p.bytes.now p.legal start end c.requires.place.front (omega arith) (omega arith) c.token_end-end.ensures.ink in (
+      (omega arith, omega arith),
+      comment_token (plain_token c.args.begin) p c.comment_stop-stop.result start end t c.requires.place (omega arith) (omega arith) (omega arith)
+          c.comment_stop-stop.ensures.quiet c.token_start-start.ensures.apart c.token_end-end.ensures.token c.make_token-token.ensures.token
+          ∙ in_comment-close (plain_token c.args.begin) t _ (ap (λ (u : PlainToken). list_all is_printable u.text) c.make_token-token.ensures.token ∙ printable)
+          (sym c.is_close.ensures ∙ c.if-is_close.true),
+    )
+
+pub returns-then-holds_mark : goal.returns-then-holds_mark
+returns-then-holds_mark c =
+    let p = c.args.place in
+    let start = c.token_start-start.result in
+    let end = c.token_end-end.result in
+    let t = plain_token c.make_token-token.result in
+    let printable = token_printable p.bytes.now p.legal start end c.requires.place.front (omega arith) (omega arith) c.token_end-end.ensures.ink in (
+      comment_token (plain_token c.args.begin) p c.comment_stop-stop.result start end t c.requires.place (omega arith) (omega arith) (omega arith)
+          c.comment_stop-stop.ensures.quiet c.token_start-start.ensures.apart c.token_end-end.ensures.token c.make_token-token.ensures.token
+          ∙ in_comment-mark (plain_token c.args.begin) t _ (ap (λ (u : PlainToken). list_all is_printable u.text) c.make_token-token.ensures.token ∙ printable)
+          (sym c.is_close.ensures ∙ c.if-is_close.false) (sym c.holds_mark.ensures ∙ c.if-holds_mark.true),
+      c.make_token-token.ensures.at,
+    )
+
+pub returns : goal.returns
+returns c =
+    let p = c.args.place in
+    let start = c.token_start-start.result in
+    let end = c.token_end-end.result in
+    let t = plain_token c.make_token-token.result in
+    let printable = token_printable p.bytes.now p.legal start end c.requires.place.front (omega arith) (omega arith) c.token_end-end.ensures.ink in (
+      (omega arith, omega arith),
+      comment_token (plain_token c.args.begin) p c.comment_stop-stop.result start end t c.requires.place (omega arith) (omega arith) (omega arith)
+          c.comment_stop-stop.ensures.quiet c.token_start-start.ensures.apart c.token_end-end.ensures.token c.make_token-token.ensures.token
+          ∙ in_comment-more (plain_token c.args.begin) t _ (ap (λ (u : PlainToken). list_all is_printable u.text) c.make_token-token.ensures.token ∙ printable)
+          (sym c.is_close.ensures ∙ c.if-is_close.false) (sym c.holds_mark.ensures ∙ c.if-holds_mark.false),
+    )

@@ -1,4 +1,0 @@
-use Rattle.mm_text.proofs.cursor.Cursor.next.Goals as goal
-
-pub returns : goal.returns
-returns c = ?

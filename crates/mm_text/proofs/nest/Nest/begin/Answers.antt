@@ -1,0 +1,21 @@
+use Rattle.std.proofs.Common.{sym, ap, ◌∙◌, length, subst, true, List, length-set}
+use Rattle.std.specs.List.{AllByRecursion}
+use Rattle.std.proofs.lemmas.List.{length-replicate}
+use Rattle.mm_text.specs.declared.comments.Place.{Place}
+use Rattle.mm_text.specs.Place.{IsPlace}
+use Rattle.mm_text.proofs.NestLaws.{begins, no_file}
+use Rattle.mm_text.proofs.nest.Nest.begin.Goals as goal
+
+pub returns : goal.returns
+returns c =
+    let e = c.in_ok-named.ensures.items_if_clones_equal (λ y h. h) in (
+      record {
+        place = c.begin.ensures.place;
+        waits = subst (λ (l : List Place). AllByRecursion IsPlace l) (sym c.new.ensures.items) tt;
+        names = c.requires.names;
+        named = length-set c.in_ok-named.named.items 0 true ∙ ap length e ∙ length-replicate _ _;
+        small = c.requires.small;
+        naming = tt;
+      },
+      begins c.args.files.now no_file c.in_ok-named.named.items c.begin.result c.new.result.items c.requires.some e c.begin.ensures.bytes c.begin.ensures.file c.begin.ensures.at c.new.ensures.items,
+    )

@@ -1,0 +1,25 @@
+use Rattle.std.proofs.Common.{◌≡◌, ◌≤◌, ◌++◌, None, length, sym, ap, ◌∙◌, refl, arith, set, true}
+use Rattle.std.specs.Vec.{with_item}
+use Rattle.mm_text.specs.Token.{PlainToken}
+use Rattle.mm_text.specs.Items.{Outside, pieces}
+use Rattle.mm_text.specs.Place.{shown_at}
+use Rattle.mm_text.specs.Nest.{put_into, waiting}
+use Rattle.mm_text.proofs.NestLaws.{enters, left_outside, file_within, no_file}
+use Rattle.mm_text.proofs.nest.Nest.enter.Goals as goal
+
+pub begin-begin-requires : goal.begin-begin-requires
+begin-begin-requires c = omega (arith, file_within c.args.self.now.files.now c.args.number no_file c.requires.known, c.requires.nest.small)
+
+pub returns-clause-enters : goal.returns-clause-enters
+returns-clause-enters c =
+    let n = c.args.self.now in
+    let begin = c.begin-begin.result in
+    let m = record n { named = with_item n.named c.args.number true; «open» = c.push.new.self; place = begin; naming = None } in (
+      λ name e.
+      left_outside m c.requires.over refl
+          ∙ ap (λ l. put_into m (pieces begin.file Outside (shown_at begin) ++ waiting l)) c.in_ok-push.ensures.items
+          ∙ enters n c.args.place begin name c.args.number no_file c.requires.known c.requires.nest e c.requires.first
+          c.begin-begin.ensures.bytes c.begin-begin.ensures.file c.begin-begin.ensures.at,
+      refl,
+      c.requires.over,
+    )

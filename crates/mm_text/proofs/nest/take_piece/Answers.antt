@@ -1,0 +1,37 @@
+use Rattle.std.proofs.Common.{[], ◌∷◌, sym, ap, ◌∙◌, ⊎_elim, false, true, ◌≡◌}
+use Rattle.mm_text.specs.Token.{plain_token}
+use Rattle.mm_text.specs.Items.{Outside, pieces, Met, End}
+use Rattle.mm_text.specs.declared.comments.Place.{Place}
+use Rattle.mm_text.proofs.InclusionLaws.{pieces-end, pieces-broken, pieces-inclusion, pieces-class, class_tells}
+use Rattle.mm_text.proofs.nest.take_piece.Goals as goal
+
+pub returns-then-is_inclusion-clause-takes : goal.returns-then-is_inclusion-clause-takes
+returns-then-is_inclusion-clause-takes c =
+    let p = c.args.place.now in
+    let h = rw c.in-Ok-Some.field-0-is at c.in-Ok-Some.ensures.takes in (
+      ap (pieces p.file Outside) h.0 ∙ pieces-inclusion p.file (plain_token c.in-Ok-Some.token) _ (sym c.is_inclusion.ensures ∙ c.if-is_inclusion.true),
+      h.1.at,
+    )
+
+pub returns-in-Err-clause-takes : goal.returns-in-Err-clause-takes
+returns-in-Err-clause-takes c =
+    let p = c.args.place.now in (
+      ap (pieces p.file Outside) c.in-Err.ensures.takes.0 ∙ pieces-broken p.file Outside _ _ [],
+      tt,
+      c.in-Err.ensures.takes.1,
+    )
+
+pub returns-in-Ok-None-clause-takes : goal.returns-in-Ok-None-clause-takes
+returns-in-Ok-None-clause-takes c =
+    let p = c.args.place.now in
+    let h = rw c.in-Ok-None.field-0-is at c.in-Ok-None.ensures.takes in
+    ap (pieces p.file Outside) h ∙ pieces-end p.file ∙ ap (λ n. Met (End n) ∷ []) (sym (ap (λ (q : Place). q.file) c.in-Ok-None.ensures.same))
+
+pub returns-else-is_inclusion-clause-takes : goal.returns-else-is_inclusion-clause-takes
+returns-else-is_inclusion-clause-takes c =
+    let p = c.args.place.now in
+    let h = rw c.in-Ok-Some.field-0-is at c.in-Ok-Some.ensures.takes in (
+      ap (pieces p.file Outside) h.0 ∙ pieces-class p.file (plain_token c.in-Ok-Some.token) _ _ (sym c.is_inclusion.ensures ∙ c.if-is_inclusion.false) c.class_of.ensures,
+      class_tells (plain_token c.in-Ok-Some.token) c.class_of.result c.class_of.ensures,
+      h.1.at,
+    )

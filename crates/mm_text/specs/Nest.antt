@@ -1,0 +1,114 @@
+-- How the code goes through the files: the one that is read, and those that wait for the end of one that they include.
+-- Private clauses speak of this.
+use Rattle.std.specs.Prelude.{◌≡◌, ℕ, ◌<◌, ◌≤◌, ◌++◌, List, [], ◌∷◌, Bool, true, false, not, length, map, count_by, if◌then◌else◌, Option, Some, None, IfSome, Result, Ok, Err}
+use Rattle.std.specs.List.{AllByRecursion}
+use Rattle.mm_text.specs.declared.comments.Place.{Place}
+use Rattle.mm_text.specs.declared.comments.Wrong.{Wrong}
+use Rattle.mm_text.specs.declared.nest.Nest.{Nest}
+use Rattle.mm_text.specs.declared.next.Next.{Next}
+use Rattle.mm_text.specs.declared.next.Next.TheVariants as next
+use Rattle.mm_text.specs.declared.token.Token.{Token}
+use Rattle.mm_text.specs.declared.class.Class.{Class}
+use Rattle.mm_text.specs.declared.class.Class.TheVariants as class
+use Rattle.mm_text.specs.declared.fault.TextFault.{TextFault}
+use Rattle.mm_text.specs.declared.fault.TextFault.TheVariants.{Load, Fault, Memory}
+use Rattle.mm_text.specs.Token.{PlainToken, plain_token}
+use Rattle.mm_text.specs.Files.{plain_file, total_bytes}
+use Rattle.mm_text.specs.Items as items
+use Rattle.mm_text.specs.Items.{Item, Plain, Inclusion, End, Piece, Met, Named, Spot, Outside, Naming, Closing, Clear, pieces, put_in, number_of}
+use Rattle.mm_text.specs.Place.{IsPlace, IsClear, shown_at}
+use Rattle.mm_text.specs.Next.{IsOfClass}
+
+-- ---- one file
+
+-- a fault at which a text is wrong
+abbrev pub wrong_item : Wrong → Item
+wrong_item w = items.Wrong w.rule (plain_token w.token)
+
+-- the pieces that begin with a token of a class
+abbrev pub pieces_with : PlainToken → Class → List Piece → List Piece
+pieces_with t (class.Wrong rule) rest = Met (items.Wrong rule t) ∷ []
+pieces_with t (class.Keyword keyword) rest = Met (Plain t) ∷ rest
+pieces_with t class.Word rest = Met (Plain t) ∷ rest
+
+-- the first piece of a file is taken, outside inclusions
+abbrev pub TakesPiece : Place → Next → Place → Type 0
+TakesPiece old (next.Token t kind) new =
+    (pieces old.file Outside (shown_at old) ≡ pieces_with (plain_token t) kind (pieces old.file Outside (shown_at new)))
+    × IsOfClass (plain_token t) kind × (t.at < 1073741824)
+TakesPiece old (next.Inclusion t) new =
+    (pieces old.file Outside (shown_at old) ≡ Met (Inclusion (plain_token t)) ∷ pieces old.file (Naming (plain_token t)) (shown_at new))
+    × (t.at < 1073741824)
+TakesPiece old (next.End file) new = pieces old.file Outside (shown_at old) ≡ Met (End file) ∷ []
+TakesPiece old next.Nothing new = ⊥
+
+-- the first token in an inclusion is taken; where that can't be, it is a fault before the name and after it
+abbrev pub TakesInner : PlainToken → Place → Result Token Wrong → Place → Type 0
+TakesInner begin old (Ok t) new = (shown_at old ≡ Clear (plain_token t) ∷ shown_at new) × IsClear t
+TakesInner begin old (Err w) new =
+    (pieces old.file (Naming begin) (shown_at old) ≡ Met (wrong_item w) ∷ [])
+    × ((name : PlainToken) → pieces old.file (Closing begin name) (shown_at old) ≡ Met (wrong_item w) ∷ [])
+    × (w.token.at < 1073741824)
+
+-- the rest of an inclusion is taken, up to its `$]`
+abbrev pub TakesName : PlainToken → Place → Result Token Wrong → Place → Type 0
+TakesName begin old (Ok name) new =
+    (pieces old.file (Naming begin) (shown_at old) ≡ Named (plain_token name) ∷ pieces old.file Outside (shown_at new)) × (name.at < 1073741824)
+TakesName begin old (Err w) new =
+    (pieces old.file (Naming begin) (shown_at old) ≡ Met (wrong_item w) ∷ []) × (w.token.at < 1073741824)
+
+-- ---- all files
+
+-- what is left of the files that wait, the last of which goes on first
+abbrev pub waiting : List Place → List Piece
+waiting [] = []
+waiting (p ∷ places) = waiting places ++ pieces p.file Outside (shown_at p)
+
+-- where the next token stands, by the `$[` whose name wasn't read yet
+abbrev pub spot_of : Option Token → Spot
+spot_of None = Outside
+spot_of (Some begin) = Naming (plain_token begin)
+
+-- what is left of all files, in pieces
+abbrev pub pieces_left : Nest → List Piece
+pieces_left n = pieces n.place.file (spot_of n.naming) (shown_at n.place) ++ waiting n.«open».items
+
+-- the items of pieces, with the files that weren't named yet put in
+abbrev pub put_into : Nest → List Piece → List Item
+put_into n rest = put_in (map plain_file n.files.now) (count_by not n.named.items) n.named.items rest
+
+-- the items after the end of the file that is read
+abbrev pub items_after : Nest → List Item
+items_after n = put_into n (waiting n.«open».items)
+
+-- the items that are left
+abbrev pub items_left : Nest → List Item
+items_left n =
+    if n.is_over then [] else put_into n (pieces_left n)
+
+-- what holds of the fields
+pub record IsNest (n : Nest) : Type 0 where
+  pub place : IsPlace n.place
+  pub waits : AllByRecursion IsPlace n.«open».items
+  pub names : n.names ≡ map (λ f. f.name) (map plain_file n.files.now)
+  pub named : length n.named.items ≡ length n.files.now
+  pub small : total_bytes (map plain_file n.files.now) ≤ 1073741824
+  pub naming : IfSome n.naming (λ begin. begin.at < 1073741824)
+
+-- the file with a number is gone into, where it is named before the rest of a file
+abbrev pub Enters : Nest → Place → ℕ → Result Unit TextFault → Nest → Type 0
+Enters old place number (Ok unit) new =
+    ((name : PlainToken) → number_of (map plain_file old.files.now) name.text ≡ Some number
+    → items_left new ≡ put_into old (Named name ∷ pieces place.file Outside (shown_at place) ++ waiting old.«open».items))
+    × (new.naming ≡ None) × (new.is_over ≡ false)
+Enters old place number (Err Memory) new = items_left new ≡ items_left old
+Enters old place number (Err (Load rule)) new = ⊥
+Enters old place number (Err (Fault rule file at statement label)) new = ⊥
+
+-- what finishing an inclusion comes to
+abbrev pub Includes : Nest → Result (Option Wrong) TextFault → Nest → Type 0
+Includes old (Ok None) new = (items_left new ≡ items_left old) × (new.naming ≡ None) × (new.is_over ≡ false)
+Includes old (Ok (Some w)) new = (items_left old ≡ wrong_item w ∷ []) × (w.token.at < 1073741824)
+Includes old (Err Memory) new = items_left new ≡ items_left old
+Includes old (Err (Load rule)) new = ⊥
+Includes old (Err (Fault rule file at statement label)) new = ⊥

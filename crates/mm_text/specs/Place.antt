@@ -1,0 +1,86 @@
+-- How the code goes through a file: from a place on, knowing where the first byte stands that no token may hold.
+-- Private clauses speak of this.
+use Rattle.std.specs.Prelude.{◌≡◌, ℕ, ◌<◌, ◌≤◌, ◌||◌, List, [], ◌∷◌, length, drop, ◌&&◌, ◌==◌, not, Bool, true, false, codes, Option, Some, None, Result, Ok, Err, slice_index}
+use Rattle.mm_text.specs.declared.comments.Place.{Place}
+use Rattle.mm_text.specs.declared.comments.Comment.{Comment}
+use Rattle.mm_text.specs.declared.comments.Comment.TheVariants.{Open, Closed}
+use Rattle.mm_text.specs.declared.comments.Found.{Found}
+use Rattle.mm_text.specs.declared.comments.Found.TheVariants as found
+use Rattle.mm_text.specs.declared.comments.Wrong.{Wrong}
+use Rattle.mm_text.specs.declared.token.Token.{Token}
+use Rattle.mm_text.specs.Token.{PlainToken, plain_token, tokens_from, is_space, is_printable}
+use Rattle.mm_text.specs.Items.{Shown, Clear, Broken, uncommented, spells}
+
+-- a byte may stand in a file
+abbrev pub is_legal : ℕ → Bool
+is_legal b = is_printable b || is_space b
+
+-- a byte may stand in a file, and is no `$`
+abbrev pub is_quiet : ℕ → Bool
+is_quiet b = is_legal b && not (b == 36)
+
+-- the bytes up to a place may stand in a file, and the one there, if there is one, may not
+pub record IsLegalFront (bytes : List ℕ) (stop : ℕ) : Type 0 where
+  pub within : stop ≤ length bytes
+  pub front : (k : ℕ) → k < stop → is_legal (slice_index bytes k) ≡ true
+  pub stops : stop < length bytes → is_legal (slice_index bytes stop) ≡ false
+
+-- what holds of each place that is handed on
+pub record IsPlace (p : Place) : Type 0 where
+  pub within : p.at ≤ p.legal
+  pub front : IsLegalFront p.bytes.now p.legal
+  pub small : length p.bytes.now ≤ 1073741824
+
+-- what is left of a file outside comments, from outside one on
+abbrev pub shown_at : Place → List Shown
+shown_at p = uncommented None (tokens_from p.file p.at (drop p.at p.bytes.now))
+
+-- what is left of a file where a comment is open since a `$(`
+abbrev pub comment_at : PlainToken → Place → List Shown
+comment_at begin p = uncommented (Some begin) (tokens_from p.file p.at (drop p.at p.bytes.now))
+
+-- a file from another place on
+abbrev pub moved : Place → ℕ → Place
+moved p at = record p { at = at }
+
+-- nothing but the place in the file is another
+abbrev pub IsSameFile : Place → Place → Type 0
+IsSameFile old new = new ≡ moved old new.at
+
+-- a later place of a file, before which no byte stands that may not
+abbrev pub IsLater : Place → ℕ → Type 0
+IsLater p after = (p.at < after) × (after ≤ p.legal)
+
+-- nothing is left but a fault
+abbrev pub IsBroken : List Shown → Wrong → Type 0
+IsBroken shown w = (shown ≡ Broken w.rule (plain_token w.token) ∷ []) × (w.token.at < 1073741824)
+
+-- a token outside comments
+pub record IsClear (t : Token) : Type 0 where
+  pub at : t.at < 1073741824
+  pub begins : spells t.text.now (codes "$(") ≡ false
+  pub closes : spells t.text.now (codes "$)") ≡ false
+
+-- what a part of a comment comes to
+abbrev pub GoesOn : Place → PlainToken → Result Comment Wrong → Type 0
+GoesOn p begin (Ok (Open after)) = IsLater p after × (comment_at begin p ≡ comment_at begin (moved p after))
+GoesOn p begin (Ok (Closed after)) = IsLater p after × (comment_at begin p ≡ shown_at (moved p after))
+GoesOn p begin (Err w) = IsBroken (comment_at begin p) w
+
+-- what the whole comment comes to
+abbrev pub Closes : Place → PlainToken → Result ℕ Wrong → Type 0
+Closes p begin (Ok after) = IsLater p after × (comment_at begin p ≡ shown_at (moved p after))
+Closes p begin (Err w) = IsBroken (comment_at begin p) w
+
+-- one token or comment is taken
+abbrev pub TakesOne : Place → Result Found Wrong → Place → Type 0
+TakesOne old (Ok (found.Token t)) new = (shown_at old ≡ Clear (plain_token t) ∷ shown_at new) × IsClear t
+TakesOne old (Ok found.Comment) new = (old.at < new.at) × (shown_at old ≡ shown_at new)
+TakesOne old (Ok found.End) new = shown_at old ≡ []
+TakesOne old (Err w) new = IsBroken (shown_at old) w
+
+-- the first of what stands outside comments is taken, and the rest is left
+abbrev pub TakesShown : List Shown → Result (Option Token) Wrong → List Shown → Type 0
+TakesShown old (Ok (Some t)) new = (old ≡ Clear (plain_token t) ∷ new) × IsClear t
+TakesShown old (Ok None) new = old ≡ []
+TakesShown old (Err w) new = IsBroken old w

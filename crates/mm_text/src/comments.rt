@@ -1,0 +1,230 @@
+//! What stands in a file outside comments.
+
+ghost use Rattle.std.specs.Prelude.{◌≡◌, ℕ, ◌==◌, ◌&&◌, ◌||◌, ◌≤◌, ◌<◌, true, false, length, codes, slice_index, slice_range};
+ghost use Rattle.mm_text.specs.Token.{plain_token, is_space};
+ghost use Rattle.mm_text.specs.Items.{holds_mark, spells};
+ghost use Rattle.mm_text.specs.Place.{is_quiet, IsLegalFront, IsPlace, IsSameFile, GoesOn, Closes, TakesOne, TakesShown, shown_at};
+
+use crate::fault::TextRule;
+use crate::scan::{legal_end, skip_space, token_end, token_start};
+use crate::token::Token;
+use memchr::memchr;
+
+/// The place up to which a file was read.
+#[derive(Clone, Copy)]
+pub struct Place<'a> {
+    pub bytes: &'a [u8],
+    /// The number of the file.
+    pub file: usize,
+    pub at: usize,
+    /// The place of the first byte that no token may hold, or the file's end. It is found once, so
+    /// that no token is looked through for such a byte, and comments are skipped.
+    pub legal: usize,
+}
+
+/// What a part of a comment comes to, with the place after it.
+#[derive(Clone, Copy)]
+pub enum Comment {
+    /// The comment goes on.
+    Open(usize),
+    /// A `$)` closes it.
+    Closed(usize),
+}
+
+/// What stands next in a file.
+#[derive(Clone, Copy)]
+pub enum Found<'a> {
+    /// A token outside comments.
+    Token(Token<'a>),
+    /// A comment.
+    Comment,
+    /// The file's end.
+    End,
+}
+
+/// Where the text is wrong, and by which rule.
+#[derive(Clone, Copy)]
+pub struct Wrong<'a> {
+    pub rule: TextRule,
+    pub token: Token<'a>,
+}
+
+impl<'a> Place<'a> {
+    /// The begin of a file.
+    pub fn begin(bytes: &'a [u8], file: usize) -> Place<'a>
+        requires { length bytes.now ≤ 1073741824 }
+        ensures place { IsPlace result }
+        ensures bytes { result.bytes.now ≡ bytes.now }
+        ensures file { result.file ≡ file }
+        ensures at { result.at ≡ 0 }
+    {
+        Place {
+            bytes,
+            file,
+            at: 0,
+            legal: legal_end(bytes),
+        }
+    }
+}
+
+/// Whether a token is `$(`.
+fn is_begin(text: &[u8]) -> bool
+    ensures { result ≡ spells text.now (codes "$(") }
+{
+    matches!(text, b"$(")
+}
+
+/// Whether a token is `$)`.
+fn is_close(text: &[u8]) -> bool
+    ensures { result ≡ spells text.now (codes "$)") }
+{
+    matches!(text, b"$)")
+}
+
+/// Whether two bytes are `$(` or `$)`.
+fn are_mark(first: u8, second: u8) -> bool
+    ensures { result ≡ (first == 36 && (second == 40 || second == 41)) }
+{
+    first == b'$' && (second == b'(' || second == b')')
+}
+
+/// Whether a token holds the sequence `$(` or `$)`.
+fn holds_mark(text: &[u8]) -> bool
+    ensures { result ≡ holds_mark text.now }
+{
+    for at in 1..text.len() {
+        if are_mark(text[at - 1], text[at]) {
+            return true;
+        }
+    }
+    false
+}
+
+/// The token of a file from one place up to another.
+fn make_token<'a>(bytes: &'a [u8], file: usize, start: usize, end: usize) -> Token<'a>
+    requires order { start < end }
+    requires within { end ≤ length bytes.now }
+    requires small { length bytes.now ≤ 1073741824 }
+    ensures token { plain_token result ≡ record { text = slice_range bytes.now start end; file = file; at = start } }
+    ensures at { result.at < 1073741824 }
+{
+    Token {
+        text: &bytes[start..end],
+        file,
+        at: start as u32,
+    }
+}
+
+/// The next place at which a comment may end or be wrong: that of a `$`, or of a byte that no token
+/// may hold; the file's end where there is none.
+fn comment_stop(bytes: &[u8], at: usize, legal: usize) -> usize
+    requires front { IsLegalFront bytes.now legal }
+    requires within { at ≤ legal }
+    ensures from { at ≤ result }
+    ensures within { result ≤ legal }
+    ensures quiet { (k : ℕ) → at ≤ k → k < result → is_quiet (slice_index bytes.now k) ≡ true }
+    ensures stops { result < length bytes.now → is_space (slice_index bytes.now result) ≡ false }
+{
+    match memchr(b'$', &bytes[at..legal]) {
+        Some(ahead) => at + ahead,
+        None => legal,
+    }
+}
+
+/// What a comment comes to at its next token that holds a `$` or a byte that no token may hold.
+fn comment_step<'a>(place: Place<'a>, begin: Token<'a>) -> Result<Comment, Wrong<'a>>
+    requires place { IsPlace place }
+    requires begin { begin.at < 1073741824 }
+    ensures { GoesOn place.entry (plain_token begin.entry) result }
+{
+    let stop = comment_stop(place.bytes, place.at, place.legal);
+    if stop == place.bytes.len() {
+        return Err(Wrong {
+            rule: TextRule::X2,
+            token: begin,
+        });
+    }
+    let start = token_start(place.bytes, place.at, stop);
+    let end = token_end(place.bytes, start);
+    let token = make_token(place.bytes, place.file, start, end);
+    if place.legal < end {
+        return Err(Wrong {
+            rule: TextRule::X1,
+            token,
+        });
+    }
+    if is_close(token.text) {
+        return Ok(Comment::Closed(end));
+    }
+    if holds_mark(token.text) {
+        return Err(Wrong {
+            rule: TextRule::X3,
+            token,
+        });
+    }
+    Ok(Comment::Open(end))
+}
+
+/// The place after the comment that begins with a `$(` before a place.
+fn comment_end<'a>(mut place: Place<'a>, begin: Token<'a>) -> Result<usize, Wrong<'a>>
+    requires place { IsPlace place }
+    requires begin { begin.at < 1073741824 }
+    ensures { Closes place.entry (plain_token begin.entry) result }
+{
+    'parts: loop {
+        match comment_step(place, begin)? {
+            Comment::Open(after) => place.at = after,
+            Comment::Closed(after) => return Ok(after),
+        }
+    }
+}
+
+/// Takes the next token or comment. Where the text is wrong nothing is taken.
+fn take_one<'a>(place: &mut Place<'a>) -> Result<Found<'a>, Wrong<'a>>
+    requires { IsPlace place.old }
+    ensures place { IsPlace place.new }
+    ensures same { IsSameFile place.old place.new }
+    ensures takes { TakesOne place.old result place.new }
+{
+    let start = skip_space(place.bytes, place.at);
+    if start == place.bytes.len() {
+        return Ok(Found::End);
+    }
+    let end = token_end(place.bytes, start);
+    let token = make_token(place.bytes, place.file, start, end);
+    if place.legal < end {
+        return Err(Wrong {
+            rule: TextRule::X1,
+            token,
+        });
+    }
+    if is_close(token.text) {
+        return Err(Wrong {
+            rule: TextRule::X4,
+            token,
+        });
+    }
+    if is_begin(token.text) {
+        place.at = comment_end(Place { at: end, ..*place }, token)?;
+        return Ok(Found::Comment);
+    }
+    place.at = end;
+    Ok(Found::Token(token))
+}
+
+/// Takes the next token outside comments; none at the file's end. Where the text is wrong no token
+/// is taken.
+pub fn take_token<'a>(place: &mut Place<'a>) -> Result<Option<Token<'a>>, Wrong<'a>>
+    requires { IsPlace place.old }
+    ensures place { IsPlace place.new }
+    ensures same { IsSameFile place.old place.new }
+    ensures takes { TakesShown (shown_at place.old) result (shown_at place.new) }
+{
+    'comments: loop {
+        match take_one(place)? {
+            Found::Token(token) => return Ok(Some(token)),
+            Found::Comment => {}
+            Found::End => return Ok(None),
+        }
+    }
+}

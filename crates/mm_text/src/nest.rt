@@ -1,0 +1,234 @@
+//! The files as they stand in one another: each is put in where it is first named.
+
+ghost use Rattle.std.specs.Prelude.{◌≡◌, ◌<◌, ◌≤◌, length, map, codes, slice_index_or, None, Some, Ok, IfOk, true, false};
+ghost use Rattle.mm_text.specs.Token.{plain_token};
+ghost use Rattle.mm_text.specs.Files.{plain_file, total_bytes};
+ghost use Rattle.mm_text.specs.Items.{spells, items};
+ghost use Rattle.mm_text.specs.Place.{IsPlace, IsSameFile};
+ghost use Rattle.mm_text.specs.Next.{TakesNext};
+ghost use Rattle.mm_text.specs.Nest.{TakesPiece, TakesInner, TakesName, Enters, Includes, IsNest, items_left, items_after};
+
+use crate::class::{Class, class_of};
+use crate::comments::{Place, Wrong, take_token};
+use crate::fault::{TextFault, TextRule};
+use crate::file::File;
+use crate::names::Names;
+use crate::next::Next;
+use crate::token::Token;
+use std::alloc::{AllocError, Global};
+
+/// Whether a token is `$[`.
+fn is_inclusion(text: &[u8]) -> bool
+    ensures { result ≡ spells text.now (codes "$[") }
+{
+    matches!(text, b"$[")
+}
+
+/// Whether a token is `$]`.
+fn is_inclusion_end(text: &[u8]) -> bool
+    ensures { result ≡ spells text.now (codes "$]") }
+{
+    matches!(text, b"$]")
+}
+
+/// Takes the next token of a file outside comments, and tells what it is by its bytes alone.
+fn take_piece<'a>(place: &mut Place<'a>) -> Next<'a>
+    requires { IsPlace place.old }
+    ensures place { IsPlace place.new }
+    ensures same { IsSameFile place.old place.new }
+    ensures takes { TakesPiece place.old result place.new }
+{
+    match take_token(place) {
+        Err(wrong) => Next::Token(wrong.token, Class::Wrong(wrong.rule)),
+        Ok(None) => Next::End(place.file),
+        Ok(Some(token)) => {
+            if is_inclusion(token.text) {
+                return Next::Inclusion(token);
+            }
+            Next::Token(token, class_of(token.text))
+        }
+    }
+}
+
+/// Takes the next token of an inclusion, which the file's end leaves unfinished.
+fn take_inner<'a>(place: &mut Place<'a>, begin: Token<'a>) -> Result<Token<'a>, Wrong<'a>>
+    requires place { IsPlace place.old }
+    requires begin { begin.at < 1073741824 }
+    ensures place { IsPlace place.new }
+    ensures same { IsSameFile place.old place.new }
+    ensures takes { TakesInner (plain_token begin.entry) place.old result place.new }
+{
+    match take_token(place)? {
+        Some(token) => Ok(token),
+        None => Err(Wrong {
+            rule: TextRule::X5,
+            token: begin,
+        }),
+    }
+}
+
+/// Takes the name and the `$]` after a `$[`.
+fn take_name<'a>(place: &mut Place<'a>, begin: Token<'a>) -> Result<Token<'a>, Wrong<'a>>
+    requires place { IsPlace place.old }
+    requires begin { begin.at < 1073741824 }
+    ensures place { IsPlace place.new }
+    ensures same { IsSameFile place.old place.new }
+    ensures takes { TakesName (plain_token begin.entry) place.old result place.new }
+{
+    let name = take_inner(place, begin)?;
+    if name.text.contains(&b'$') {
+        return Err(Wrong {
+            rule: TextRule::X5,
+            token: name,
+        });
+    }
+    let close = take_inner(place, begin)?;
+    if !is_inclusion_end(close.text) {
+        return Err(Wrong {
+            rule: TextRule::X5,
+            token: close,
+        });
+    }
+    Ok(name)
+}
+
+/// The file that is read, and those in which it stands.
+#[derive(Drop)]
+pub struct Nest<'a> {
+    pub files: &'a [File<'a>],
+    pub names: Names<'a>,
+    /// For each file, whether it was named before. The top file counts as named.
+    pub named: Vec<bool>,
+    /// The files that wait for the end of one that they include, the innermost last.
+    pub open: Vec<Place<'a>>,
+    pub place: Place<'a>,
+    /// The `$[` of the inclusion that was begun.
+    pub naming: Option<Token<'a>>,
+    /// Whether the top file's end was met.
+    pub is_over: bool,
+}
+
+impl<'a> Nest<'a> {
+    /// The begin of the top file.
+    pub fn begin(
+        alloc: Global,
+        files: &'a [File<'a>],
+        names: Names<'a>,
+    ) -> Result<Nest<'a>, AllocError>
+        requires some { 0 < length files.now }
+        requires names { names ≡ map (λ f. f.name) (map plain_file files.now) }
+        requires small { total_bytes (map plain_file files.now) ≤ 1073741824 }
+        ensures { IfOk result (λ n. IsNest n × (items_left n ≡ items (map plain_file files.now))) }
+    {
+        let mut named = vec![in alloc; false; files.len()]?;
+        named[0] = true;
+        Ok(Nest {
+            files,
+            names,
+            named,
+            open: Vec::new(alloc),
+            place: Place::begin(files[0].bytes, 0),
+            naming: None,
+            is_over: false,
+        })
+    }
+
+    /// Goes into a file that is named for the first time, and keeps the place after its name.
+    /// `Memory` where no more places can be kept; then nothing is taken.
+    fn enter(&mut self, place: Place<'a>, number: usize) -> Result<(), TextFault<'a>>
+        requires nest { IsNest self.old }
+        requires over { self.old.is_over ≡ false }
+        requires place { IsPlace place }
+        requires known { number < length self.old.files.now }
+        requires first { slice_index_or self.old.named.items number true ≡ false }
+        ensures nest { IsNest self.new }
+        ensures enters { Enters self.old place.entry number result self.new }
+    {
+        let begin = Place::begin(self.files[number].bytes, number);
+        self.open.push(place)?;
+        self.named[number] = true;
+        self.place = begin;
+        self.naming = None;
+        Ok(())
+    }
+
+    /// Finishes the inclusion that a `$[` begins: its file is gone into where it is named for the
+    /// first time. Answers where the text is wrong. `Memory` where no more files can be open; then
+    /// nothing is taken.
+    fn include(&mut self, begin: Token<'a>) -> Result<Option<Wrong<'a>>, TextFault<'a>>
+        requires nest { IsNest self.old }
+        requires naming { self.old.naming ≡ Some begin }
+        requires over { self.old.is_over ≡ false }
+        ensures nest { IsNest self.new }
+        ensures includes { Includes self.old result self.new }
+    {
+        let mut place = self.place;
+        let name = match take_name(&mut place, begin) {
+            Ok(name) => name,
+            Err(wrong) => return Ok(Some(wrong)),
+        };
+        let Some(number) = self.names.number(name.text) else {
+            return Ok(Some(Wrong {
+                rule: TextRule::X7,
+                token: name,
+            }));
+        };
+        if self.named[number] {
+            self.place = place;
+            self.naming = None;
+            return Ok(None);
+        }
+        self.enter(place, number)?;
+        Ok(None)
+    }
+
+    /// Goes back to the file in which the one that ended stands.
+    fn leave(&mut self)
+        requires nest { IsNest self.old }
+        requires naming { self.old.naming ≡ None }
+        requires over { self.old.is_over ≡ false }
+        ensures nest { IsNest self.new }
+        ensures leaves { items_left self.new ≡ items_after self.old }
+    {
+        match self.open.pop() {
+            Some(place) => self.place = place,
+            None => self.is_over = true,
+        }
+    }
+
+    /// Takes the next item outside inclusions.
+    fn take(&mut self) -> Next<'a>
+        requires nest { IsNest self.old }
+        requires naming { self.old.naming ≡ None }
+        requires over { self.old.is_over ≡ false }
+        ensures nest { IsNest self.new }
+        ensures takes { TakesNext (items_left self.old) (Ok result) (items_left self.new) }
+    {
+        let next = take_piece(&mut self.place);
+        match next {
+            Next::Inclusion(begin) => self.naming = Some(begin),
+            Next::End(_) => self.leave(),
+            Next::Token(_, _) => {}
+            Next::Nothing => {}
+        }
+        next
+    }
+
+    /// Takes the next item.
+    pub fn next(&mut self) -> Result<Next<'a>, TextFault<'a>>
+        requires { IsNest self.old }
+        ensures nest { IsNest self.new }
+        ensures takes { TakesNext (items_left self.old) result (items_left self.new) }
+    {
+        if self.is_over {
+            return Ok(Next::Nothing);
+        }
+        let Some(begin) = self.naming else {
+            return Ok(self.take());
+        };
+        if let Some(wrong) = self.include(begin)? {
+            return Ok(Next::Token(wrong.token, Class::Wrong(wrong.rule)));
+        }
+        Ok(self.take())
+    }
+}
