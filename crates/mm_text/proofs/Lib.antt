@@ -23,3 +23,4 @@ pub mod StatementTokens
 pub mod FormedLaws
 pub mod ItemTokens
 pub mod ReaderLaws
+pub mod PlaceLaws

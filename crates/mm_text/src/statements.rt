@@ -5,7 +5,7 @@ ghost use Rattle.mm_text.specs.declared.fault.LoadRule.{LoadRule};
 ghost use Rattle.mm_text.specs.Statement.{plain_statement, HasForm};
 ghost use Rattle.mm_text.specs.Files.{plain_file, BreaksLoad};
 ghost use Rattle.mm_text.specs.Reading.{IsInPlace};
-ghost use Rattle.mm_text.specs.Remaining.{Gives, IsUnread};
+ghost use Rattle.mm_text.specs.Remaining.{Begins, Gives};
 ghost use Rattle.mm_text.specs.Steps.{plain_scope};
 ghost use Rattle.mm_text.specs.ReaderState.{AnswersIn};
 
@@ -72,11 +72,9 @@ impl<'a> Statements<'a> {
     ///
     /// The files are judged as a whole first, in this order: `Load(F1)` where there is none,
     /// `Load(F2)` where two have one name, `Load(F3)` where they hold over 1,073,741,824 bytes in
-    /// all. There is no other error.
+    /// all. Else `Memory` alone can be wanting: the names and the open files are kept.
     pub fn new(alloc: Global, files: &'a [File<'a>]) -> Result<Statements<'a>, TextFault<'a>>
-        ensures breaks { (rule : LoadRule) → ((result ≡ Err (TextFault.Load rule)) ↔ BreaksLoad (map plain_file files.now) rule) }
-        ensures only_load { IfErr result (λ fault. (rule : LoadRule) × (fault ≡ TextFault.Load rule)) }
-        ensures unread { IfOk result (λ s. IsUnread (map plain_file files.now) s) }
+        ensures { Begins (map plain_file files.now) result }
     {
         Ok(Statements {
             files,
