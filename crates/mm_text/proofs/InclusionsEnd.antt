@@ -8,7 +8,7 @@ use Rattle.mm_text.specs.Items.{Item, Plain, Wrong, Inclusion, End, Piece, Met, 
 use Rattle.mm_text.specs.ItemLaws.{InclusionsEnd}
 use Rattle.mm_text.proofs.NestLaws.{count_named, count_top}
 
-in_range : (named : List Bool) (n : ℕ) → slice_index_or named n true ≡ false → n < length named
+pub in_range : (named : List Bool) (n : ℕ) → slice_index_or named n true ≡ false → n < length named
 in_range [] n e = absurd cc
 in_range (b ∷ named) zero e = omega arith
 in_range (b ∷ named) (suc n) e = omega (arith, in_range named n e)

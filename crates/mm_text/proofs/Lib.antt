@@ -21,3 +21,10 @@ pub mod StatementRuns
 pub mod BlockFacts
 pub mod ReadingLaws
 pub mod OneReading
+pub mod Beginnings
+pub mod LongestFront
+pub mod StatementTokens
+pub mod FormedLaws
+pub mod ItemTokens
+pub mod ReaderLaws
+pub mod PlaceLaws

@@ -194,15 +194,15 @@ is_keyword_first t rest kind keyword h e = (ap (λ k. items_with t k rest) e, su
 pub gives_opening : (scope later : PlainScope) (items rest : List Item) (t : PlainToken) (into : PlainStatement) (r : Result Unit TextFault) → items ≡ Plain t ∷ rest → t.text ≡ codes "${" → into ≡ begun Opening t None → Opens scope t r later
     → GivesFirst scope items r into later rest
 gives_opening scope later items rest t into (Ok unit) first sign is h =
-    ap (reading_of scope Between) first ∙ read_opened scope Between t rest (step_opens t sign) ∙ (λ i. with_statement (sym is i) (reading_of (sym h i) Between rest))
+    (ap (reading_of scope Between) first ∙ read_opened scope Between t rest (step_opens t sign) ∙ (λ i. with_statement (sym is i) (reading_of (sym h i) Between rest)), ap (λ (x : PlainScope). x.count) h)
 gives_opening scope later items rest t into (Err fault) first sign is h = subst (AnswersFault (reading_of scope Between items)) (sym h) tt
 
 -- a `$}`
 pub closes_block : (scope later : PlainScope) (items rest : List Item) (t : PlainToken) (into : PlainStatement) → items ≡ Plain t ∷ rest → t.text ≡ codes "$}" → into ≡ begun Closing t None → Closes scope true later
-    → reading_of scope Between items ≡ with_statement into (reading_of later Between rest)
+    → GivesFirst scope items (Ok tt) into later rest
 closes_block scope later items rest t into first sign is h =
-    ap (reading_of scope Between) first ∙ read_closing scope Between t rest (step_closes t sign) ∙ cond-false (has_none scope.blocks) _ _ h.0
-    ∙ (λ i. with_statement (sym is i) (reading_of (sym h.1 i) Between rest))
+    (ap (reading_of scope Between) first ∙ read_closing scope Between t rest (step_closes t sign) ∙ cond-false (has_none scope.blocks) _ _ h.0
+    ∙ (λ i. with_statement (sym is i) (reading_of (sym h.1 i) Between rest)), ap (λ (x : PlainScope). x.count) h.1)
 
 -- with no block open
 pub answers_closing : (scope later : PlainScope) (items rest : List Item) (t : PlainToken) (fault : TextFault) → items ≡ Plain t ∷ rest → t.text ≡ codes "$}" → Closes scope false later
@@ -212,5 +212,5 @@ answers_closing scope later items rest t fault first sign h e =
     (ap (reading_of scope Between) first ∙ read_closing scope Between t rest (step_closes t sign) ∙ cond-true (has_none scope.blocks) _ _ h.0)
 
 -- a statement with symbols
-pub gives_passed : (scope later : PlainScope) (reading : PlainReading) (into : PlainStatement) (rest : List Item) → GivesPart scope reading (Ok tt) into rest → later ≡ passed scope → reading ≡ with_statement into (reading_of later Between rest)
-gives_passed scope later reading into rest h e = h.answer ∙ ap (λ (x : PlainScope). with_statement into (reading_of x Between rest)) (sym e)
+pub gives_passed : (scope later : PlainScope) (items rest : List Item) (into : PlainStatement) → GivesPart scope (reading_of scope Between items) (Ok tt) into rest → later ≡ passed scope → GivesFirst scope items (Ok tt) into later rest
+gives_passed scope later items rest into h e = (h.answer ∙ ap (λ (x : PlainScope). with_statement into (reading_of x Between rest)) (sym e), ap (λ (x : PlainScope). x.count) e)

@@ -1,5 +1,5 @@
 -- What the fields of a reader say of what it has still to give.
-use Rattle.std.specs.Prelude.{◌≡◌, ◌+◌, ◌≤◌, length, List, [], Bool, true, false, Some, None, Result, Ok, Err, map}
+use Rattle.std.specs.Prelude.{◌≡◌, ℕ, ◌+◌, ◌≤◌, length, List, [], Bool, true, false, Some, None, Result, Ok, Err, map}
 use Rattle.mm_text.specs.declared.fault.TextFault.{TextFault}
 use Rattle.mm_text.specs.declared.fault.TextFault.TheVariants.{Load, Fault, Memory}
 use Rattle.mm_text.specs.declared.statements.State.{State}
@@ -34,12 +34,18 @@ IsAnswerable (Failed (Fault rule file at statement label)) = Unit {0}
 IsAnswerable (Failed Memory) = Unit {0}
 IsAnswerable (Failed (Load rule)) = ⊥
 
+-- while statements are read, those that were read and those that are left are few
+abbrev pub AreFew : State → ℕ → ℕ → Type 0
+AreFew Reading count left = count + left ≤ 1073741824
+AreFew Ended count left = Unit {0}
+AreFew (Failed fault) count left = Unit {0}
+
 -- What holds of the fields of each reader: what is left to give is formed and stands in the files, and the numbers of the
 -- statements stay small.
 pub record IsReader (s : Inside) : Type 0 where
   pub answerable : IsAnswerable s.state
   pub formed_in_place : AreFormedInPlace (map plain_file s.files.now) (remaining_of s).statements
-  pub few : s.scope.count + length (remaining_of s).statements ≤ 1073741824
+  pub few : AreFew s.state s.scope.count (length (remaining_of s).statements)
 
 -- what a call answers in a state
 abbrev pub AnswersIn : State → PlainScope → List Item → Result Bool TextFault → PlainStatement → PlainScope → List Item → Type 0

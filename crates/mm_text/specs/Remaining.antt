@@ -1,11 +1,12 @@
 -- What a reader has still to give.
 use Rattle.std.specs.Prelude.{◌≡◌, ◌≤◌, sum_by, List, [], ◌∷◌, Bool, true, false, Option, Some, None, Result, Ok, Err, option_map}
+use Rattle.mm_text.specs.declared.fault.LoadRule.{LoadRule}
 use Rattle.mm_text.specs.declared.fault.TextFault.{TextFault}
 use Rattle.mm_text.specs.declared.fault.TextFault.TheVariants.{Load, Fault, Memory}
 use Rattle.mm_text.specs.Token.{plain_token}
 use Rattle.mm_text.specs.Statement.{PlainStatement, bytes_in}
 use Rattle.mm_text.specs.Blocks.{AreBalanced}
-use Rattle.mm_text.specs.Files.{PlainFile, total_bytes}
+use Rattle.mm_text.specs.Files.{PlainFile, total_bytes, BreaksLoad}
 use Rattle.mm_text.specs.Reading.{PlainFault, Reads}
 
 -- The statements of the files that weren't given yet, and the fault that ends them; whether a growth was refused, after
@@ -26,6 +27,14 @@ pub record IsUnread (files : List PlainFile) (s : Remaining) : Type 0 where
   pub fits : sum_by bytes_in s.statements ≤ total_bytes files
   pub refused : s.refused ≡ false
   pub told : s.told ≡ false
+
+-- What is answered to handed files: a reader of all that they hold, where they break no rule as a whole; the first rule that
+-- they break; or want of memory.
+abbrev pub Begins : List PlainFile → Result Remaining TextFault → Type 0
+Begins files (Ok s) = ((rule : LoadRule) → ¬ (BreaksLoad files rule)) × IsUnread files s
+Begins files (Err (Load rule)) = BreaksLoad files rule
+Begins files (Err Memory) = Unit {0}
+Begins files (Err (Fault rule file at statement label)) = ⊥
 
 -- a statement that holds no token in its lists
 pub record IsEmpty (s : PlainStatement) : Type 0 where

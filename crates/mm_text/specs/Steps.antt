@@ -1,5 +1,5 @@
 -- What the parts of the reader's code answer, in the words of the plain reader. Private clauses speak of this.
-use Rattle.std.specs.Prelude.{◌≡◌, ℕ, ◌<◌, List, [], ◌∷◌, Bool, true, false, Option, Some, None, Result, Ok, Err, option_map, codes, reverse, if◌then◌else◌}
+use Rattle.std.specs.Prelude.{◌≡◌, ℕ, ◌+◌, ◌<◌, List, [], ◌∷◌, Bool, true, false, Option, Some, None, Result, Ok, Err, option_map, codes, reverse, if◌then◌else◌}
 use Rattle.mm_text.specs.declared.token.Token.{Token}
 use Rattle.mm_text.specs.declared.scope.Scope.{Scope}
 use Rattle.mm_text.specs.declared.class.Keyword.{Keyword}
@@ -67,13 +67,13 @@ TakesFirst scope old (Err fault) new = AnswersFault (reading_of scope Between ol
 -- the statement that the items begin with, and what follows it
 abbrev pub GivesFirst : PlainScope → List Item → Result Unit TextFault → PlainStatement → PlainScope → List Item → Type 0
 GivesFirst scope old (Ok unit) into later new =
-    reading_of scope Between old ≡ with_statement into (reading_of later Between new)
+    (reading_of scope Between old ≡ with_statement into (reading_of later Between new)) × (later.count ≡ scope.count + 1)
 GivesFirst scope old (Err fault) into later new = AnswersFault (reading_of scope Between old) fault
 
 -- the next statement, and what follows it; or that there is none
 abbrev pub GivesStatement : PlainScope → List Item → Result Bool TextFault → PlainStatement → PlainScope → List Item → Type 0
 GivesStatement scope old (Ok true) into later new =
-    reading_of scope Between old ≡ with_statement into (reading_of later Between new)
+    (reading_of scope Between old ≡ with_statement into (reading_of later Between new)) × (later.count ≡ scope.count + 1)
 GivesStatement scope old (Ok false) into later new = reading_of scope Between old ≡ ended None
 GivesStatement scope old (Err fault) into later new = AnswersFault (reading_of scope Between old) fault
 

@@ -2,7 +2,7 @@
 //! that does nothing: what it ensures is proved, and there is no need to call it.
 
 ghost use Rattle.mm_text.specs.ItemLaws.{FilesArePutInOnce, InclusionsEnd, TokensFitFiles};
-ghost use Rattle.mm_text.specs.Laws.{BeginningsBeginStatements, EachHasOneReading, FaultsEndLongestFronts, ReadingsAreFormedInPlace, TokensAreLongestRuns};
+ghost use Rattle.mm_text.specs.Laws.{BeginningsBeginStatements, EachHasOneReading, FaultsEndLongestFronts, ReadingsAreBalanced, ReadingsAreFormedInPlace, ReadingsFit, TokensAreLongestRuns};
 
 /// The tokens of a file are its longest runs of bytes that aren't white space (the Metamath book,
 /// section 4.1.1): each token is the slice of the file at its place and such a run, each such run
@@ -27,14 +27,16 @@ pub fn beginnings_begin_statements()
 {}
 
 /// A fault that ends a reading comes after the longest front of the files' items that is whole
-/// statements and at most a beginning of one: no longer front of the items is.
+/// statements and at most a beginning of one, with no `$}` that lacks its `${`, no inclusion in a
+/// block or in a statement, no file that ends in a statement and no top file that ends in a block:
+/// no longer front of the items is.
 pub fn faults_end_longest_fronts()
     ensures { FaultsEndLongestFronts }
 {}
 
 /// Each statement of a reading is one that the grammar knows, with as many symbols as its kind
 /// asks for and with a label exactly if its kind has one (the Metamath book, section 4.2), and
-/// each of its tokens is the slice of its file at the token's place.
+/// each of its tokens holds a byte and is the slice of its file at the token's place.
 pub fn statements_are_formed_in_place()
     ensures { ReadingsAreFormedInPlace }
 {}
@@ -53,4 +55,16 @@ pub fn files_are_put_in_once()
 /// could be put in would change nothing, so no file that is named is left out.
 pub fn inclusions_end()
     ensures { InclusionsEnd }
+{}
+
+/// In a reading no `$}` lacks its `${` (the Metamath book, section 4.2.8): in each front of its
+/// statements there are at most as many `$}` as `${`.
+pub fn readings_are_balanced()
+    ensures { ReadingsAreBalanced }
+{}
+
+/// The tokens of a reading's statements have no more bytes than the files: no byte of a file is
+/// read twice. Counted of a statement are its first token, its symbols and its proof.
+pub fn readings_fit()
+    ensures { ReadingsFit }
 {}

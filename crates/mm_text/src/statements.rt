@@ -1,13 +1,12 @@
 //! The statements of the handed files, one after the other.
 
-ghost use Rattle.std.specs.Prelude.{◌≡◌, ◌↔◌, ◌≤◌, true, map, Ok, Err, IfOk, IfErr};
-ghost use Rattle.mm_text.specs.declared.fault.LoadRule.{LoadRule};
+ghost use Rattle.std.specs.Prelude.{◌≡◌, true, map, Ok};
 ghost use Rattle.mm_text.specs.Statement.{plain_statement, HasForm};
-ghost use Rattle.mm_text.specs.Files.{plain_file, BreaksLoad};
+ghost use Rattle.mm_text.specs.Files.{plain_file};
 ghost use Rattle.mm_text.specs.Reading.{IsInPlace};
-ghost use Rattle.mm_text.specs.Remaining.{Gives, IsUnread};
+ghost use Rattle.mm_text.specs.Remaining.{Begins, Gives};
 ghost use Rattle.mm_text.specs.Steps.{plain_scope};
-ghost use Rattle.mm_text.specs.ReaderState.{AnswersIn};
+ghost use Rattle.mm_text.specs.ReaderState.{AreFew, AnswersIn};
 
 use crate::cursor::Cursor;
 use crate::fault::TextFault;
@@ -57,7 +56,7 @@ fn answer<'a>(
     into: &mut Statement<'a>,
     scope: &mut Scope,
 ) -> Result<bool, TextFault<'a>>
-    requires { scope.now.count ≤ 1073741824 }
+    requires { AreFew state scope.now.count 0 }
     ensures { AnswersIn state.entry (plain_scope scope.old) cursor.old result (plain_statement into.new) (plain_scope scope.new) cursor.new }
 {
     match state {
@@ -72,11 +71,9 @@ impl<'a> Statements<'a> {
     ///
     /// The files are judged as a whole first, in this order: `Load(F1)` where there is none,
     /// `Load(F2)` where two have one name, `Load(F3)` where they hold over 1,073,741,824 bytes in
-    /// all. There is no other error.
+    /// all. Else `Memory` alone can be wanting: the names and the open files are kept.
     pub fn new(alloc: Global, files: &'a [File<'a>]) -> Result<Statements<'a>, TextFault<'a>>
-        ensures breaks { (rule : LoadRule) → ((result ≡ Err (TextFault.Load rule)) ↔ BreaksLoad (map plain_file files.now) rule) }
-        ensures only_load { IfErr result (λ fault. (rule : LoadRule) × (fault ≡ TextFault.Load rule)) }
-        ensures unread { IfOk result (λ s. IsUnread (map plain_file files.now) s) }
+        ensures { Begins (map plain_file files.now) result }
     {
         Ok(Statements {
             files,

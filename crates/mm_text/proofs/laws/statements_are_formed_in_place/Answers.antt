@@ -1,4 +1,4 @@
-use Rattle.mm_text.proofs.PlaceLaws.{readings_are_formed_in_place}
+use Rattle.mm_text.proofs.FormedLaws.{readings_are_formed_in_place}
 use Rattle.mm_text.proofs.laws.statements_are_formed_in_place.Goals as goal
 
 pub returns : goal.returns

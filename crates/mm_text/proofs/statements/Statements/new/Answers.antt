@@ -1,37 +1,18 @@
-use Rattle.std.proofs.Common.{map, refl, sym, ◌∙◌, subst, arith}
-use Rattle.mm_text.specs.declared.fault.LoadRule.TheVariants.{F1}
+use Rattle.std.proofs.Common.{map}
 use Rattle.mm_text.specs.Files.{plain_file}
-use Rattle.mm_text.specs.Reading.{Reads}
-use Rattle.mm_text.specs.Reader.{Between, reading_of}
-use Rattle.mm_text.specs.Laws.{AreFormedInPlace}
-use Rattle.mm_text.proofs.HandedLaws.{some_from_kept, within_from_kept, top_within, items-top}
-use Rattle.mm_text.proofs.ReadingLaws.{reading_reads}
-use Rattle.mm_text.proofs.ReaderLaws.{reading_stands}
+use Rattle.mm_text.specs.Steps.{plain_scope}
+use Rattle.mm_text.proofs.ReaderLaws.{kept_from_start, unread_from_start, bytes_kept}
 use Rattle.mm_text.proofs.statements.Statements.new.Goals as goal
 
--- some file was handed in
-pub bounds-files-0 : goal.bounds-files-0
-bounds-files-0 c = omega (arith, some_from_kept c.args.files.now (c.in_default.ensures F1))
-
--- the top file keeps the limit that all files keep
-pub new-requires : goal.new-requires
-new-requires c =
-    top_within c.args.files.now _ _ (some_from_kept c.args.files.now (c.in_default.ensures F1)) (within_from_kept _ c.in_default.ensures)
-
--- the items of the top file are left
 pub invariant_of-result : goal.invariant_of-result
 invariant_of-result c =
     let files = map plain_file c.args.files.now in
-    let left_is = c.new.ensures ∙ sym (items-top c.args.files.now _ (some_from_kept c.args.files.now (c.in_default.ensures F1))) in
-    record { answerable = tt; formed_in_place = subst (λ left. AreFormedInPlace files (reading_of Between left).statements) (sym left_is) (reading_stands files) }
+    let first = c.in_ok-new.ensures in
+    let kept = kept_from_start files (plain_scope c.new-2.result) c.in_ok-new.field-0 first.0 c.new-2.ensures (bytes_kept files first.1) in
+    record { answerable = tt; formed_in_place = kept.formed_in_place; few = kept.few }
 
-pub returns-clause-unread : goal.returns-clause-unread
-returns-clause-unread c =
+pub returns : goal.returns
+returns c =
     let files = map plain_file c.args.files.now in
-    let left_is = c.new.ensures ∙ sym (items-top c.args.files.now _ (some_from_kept c.args.files.now (c.in_default.ensures F1))) in
-    record {
-      same = refl;
-      reads = subst (λ left. Reads files (reading_of Between left).statements (reading_of Between left).ending) (sym left_is) (reading_reads files);
-      refused = refl;
-      told = refl;
-    }
+    let first = c.in_ok-new.ensures in
+    (first.1, unread_from_start files (plain_scope c.new-2.result) c.in_ok-new.field-0 first.0 c.new-2.ensures)

@@ -1,0 +1,62 @@
+-- The front of the items after which a fault comes is the longest viable one.
+use Rattle.std.proofs.Common.{◌≡◌, ℕ, ◌+◌, ◌≤◌, length, List, [], ◌∷◌, ◌++◌, refl, sym, ap, subst, ◌∙◌, Some, Option, append_assoc, ◌⊎◌, inl, inr, arith}
+use Rattle.mm_text.specs.declared.fault.TextRule.TheVariants.{X1}
+use Rattle.mm_text.specs.Token.{PlainToken}
+use Rattle.mm_text.specs.Statement.{PlainStatement}
+use Rattle.mm_text.specs.Items.{Item, Wrong}
+use Rattle.mm_text.specs.Reading.{PlainFault, Viable, EndsAt}
+use Rattle.mm_text.specs.Reader.{PlainReading, Between, outermost, fault_in, ended, reading_of}
+use Rattle.mm_text.specs.Laws.{FaultsEndLongestFronts}
+use Rattle.mm_text.proofs.Fronts.{cons_parts}
+use Rattle.mm_text.proofs.PartFacts.{part_of_beginning}
+use Rattle.mm_text.proofs.StepLaws.{read_wrong}
+use Rattle.mm_text.proofs.BlockFacts.{scope_of}
+use Rattle.mm_text.proofs.OneReading.{front_reading, ends_there, with_statements}
+
+-- a longer front goes on after the shorter one
+longer_front : (longer after front : List Item) (item : Item) (rest : List Item) → longer ++ after ≡ front ++ item ∷ rest
+    → (length longer ≤ length front) ⊎ ((mid : List Item) × (longer ≡ front ++ item ∷ mid))
+longer_front [] after front item rest e = inl (omega arith)
+longer_front (x ∷ longer) after [] item rest e = inr (longer, ap (λ (y : Item). y ∷ longer) (cons_parts x item (longer ++ after) rest e).0)
+longer_front (x ∷ longer) after (y ∷ front) item rest e =
+    let parts = cons_parts x y (longer ++ after) (front ++ item ∷ rest) e in
+    elim (longer_front longer after front item rest parts.1) [
+      | inl le ↦ inl (omega arith)
+      | inr more ↦ inr (more.0, (λ i. parts.0 i ∷ more.1 i))
+    ]
+
+ending_of : (statements : List PlainStatement) (reading : PlainReading) → (with_statements statements reading).ending ≡ reading.ending
+ending_of [] reading = refl
+ending_of (s ∷ statements) reading = ending_of statements reading
+
+some_parts : (a b : PlainFault) → Some a ≡ Some b → a ≡ b
+some_parts a b e = cc
+
+-- What goes on after a fault isn't viable: a token that is wrong, right after it, would be the fault that ends the reading.
+not_viable : (front : List Item) (item : Item) (mid : List Item) (statements more : List PlainStatement) (unfinished left : List PlainToken) (fault : PlainFault) → Viable front statements unfinished
+    → EndsAt statements unfinished item fault → Viable (front ++ item ∷ mid) more left → ⊥
+not_viable front item mid statements more unfinished left fault v e l =
+    let other : PlainToken = record { text = []; file = 0; at = fault.at + 1 } in
+    let last : List Item = Wrong X1 other ∷ [] in
+    let there = ends_there statements unfinished item (mid ++ last) fault v.begun v.balanced e in
+    let found = part_of_beginning left l.begun in
+    let one : (reading_of outermost Between (front ++ (item ∷ mid ++ last))).ending ≡ Some fault =
+    ap (λ (r : PlainReading). r.ending) (front_reading front (item ∷ mid ++ last) statements unfinished there.part v there.described)
+    ∙ ending_of statements (reading_of (scope_of statements) there.part (item ∷ mid ++ last)) ∙ ap (λ (r : PlainReading). r.ending) there.last in
+    let two : (reading_of outermost Between ((front ++ item ∷ mid) ++ last)).ending ≡ Some (fault_in (scope_of more) found.0 X1 other) =
+    ap (λ (r : PlainReading). r.ending) (front_reading (front ++ item ∷ mid) last more left found.0 l found.1)
+    ∙ ending_of more (reading_of (scope_of more) found.0 last) ∙ ap (λ (r : PlainReading). r.ending) (read_wrong (scope_of more) found.0 X1 other []) in
+    let same = some_parts fault (fault_in (scope_of more) found.0 X1 other) (sym one ∙ ap (λ (x : List Item). (reading_of outermost Between x).ending) (sym (append_assoc front (item ∷ mid) last)) ∙ two) in
+    let place : fault.at ≡ fault.at + 1 = ap (λ (f : PlainFault). f.at) same in
+    omega arith
+
+-- a fault comes only after the longest viable front
+pub faults_end_longest_fronts : FaultsEndLongestFronts
+faults_end_longest_fronts files front item rest statements unfinished fault cut v e longer after more left other l =
+    elim (longer_front longer after front item rest (sym other ∙ cut)) [
+      | inl le ↦ le
+      | inr goes_on ↦ absurd (not_viable front item goes_on.0 statements more unfinished left fault v e (viable_as goes_on.0 goes_on.1))
+    ]
+  where
+    viable_as : (mid : List Item) → longer ≡ front ++ item ∷ mid → Viable (front ++ item ∷ mid) more left
+    viable_as mid p = rw (← p) l

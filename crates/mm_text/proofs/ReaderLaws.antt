@@ -1,0 +1,133 @@
+-- What holds of a reader of files: what it computes is their one reading, and what is left is part of it.
+use Rattle.std.proofs.Common.{◌≡◌, ◌≢◌, ◌≤◌, ◌<◌, ℕ, ◌+◌, length, List, [], ◌∷◌, Bool, true, false, refl, sym, ap, subst, ◌∙◌, Option, Result, Ok, Err, arith}
+use Rattle.std.proofs.lemmas.Bool.{false≢true}
+use Rattle.mm_text.specs.declared.fault.LoadRule.{LoadRule}
+use Rattle.mm_text.specs.declared.fault.LoadRule.TheVariants.{F1, F2, F3}
+use Rattle.mm_text.specs.declared.fault.TextFault.{TextFault}
+use Rattle.mm_text.specs.declared.fault.TextFault.TheVariants.{Load, Fault, Memory}
+use Rattle.mm_text.specs.declared.statements.State.{State}
+use Rattle.mm_text.specs.declared.statements.State.TheVariants.{Reading, Ended, Failed}
+use Rattle.mm_text.specs.Files.{PlainFile, total_bytes, HasTwins, BreaksLoad}
+use Rattle.mm_text.specs.Items.{Item, items}
+use Rattle.mm_text.specs.Statement.{PlainStatement}
+use Rattle.mm_text.specs.Reading.{Reads}
+use Rattle.mm_text.specs.Reader.{PlainReading, PlainScope, Between, outermost, reading_of}
+use Rattle.mm_text.specs.Remaining.{IsUnread}
+use Rattle.mm_text.specs.Steps.{AnswersFault, GivesStatement}
+use Rattle.mm_text.specs.ReaderState.{remaining_in, IsAnswerable, AreFew, AnswersIn}
+use Rattle.mm_text.specs.Laws.{AreFormedInPlace, EachHasOneReading}
+use Rattle.mm_text.proofs.ItemTokens.{items_signed, items_settled}
+use Rattle.mm_text.proofs.ReadingLaws.{items_read}
+use Rattle.mm_text.proofs.OneReading.{reads_reading}
+use Rattle.mm_text.proofs.FormedLaws.{readings_are_formed_in_place, readings_are_balanced, readings_fit, readings_few}
+
+-- the reading of files from the start
+abbrev pub files_reading : List PlainFile → PlainReading
+files_reading files = reading_of outermost Between (items files)
+
+pub reading_reads : (files : List PlainFile) → Reads files (files_reading files).statements (files_reading files).ending
+reading_reads files = items_read (items files) (items_signed files) (items_settled files)
+
+-- each statement of the files is formed and stands in them
+pub reading_stands : (files : List PlainFile) → AreFormedInPlace files (files_reading files).statements
+reading_stands files = readings_are_formed_in_place files _ _ (reading_reads files)
+
+-- each list of files has one reading
+pub each_has_one_reading : EachHasOneReading
+each_has_one_reading files = record {
+  statements = (files_reading files).statements;
+  ending = (files_reading files).ending;
+  reads = reading_reads files;
+  only = λ others end r. let e = sym (reads_reading (items files) others end r) in (ap (λ (x : PlainReading). x.statements) e, ap (λ (x : PlainReading). x.ending) e);
+}
+
+-- ---- the state of a reader
+
+ok_parts : (a b : Bool) → ◌≡◌ {A = Result Bool TextFault} (Ok a) (Ok b) → a ≡ b
+ok_parts a b e = cc
+
+ok_err : (a : Bool) (fault : TextFault) → ◌≡◌ {A = Result Bool TextFault} (Ok a) (Err fault) → ⊥
+ok_err a fault e = cc
+
+err_parts : (a b : TextFault) → ◌≡◌ {A = Result Bool TextFault} (Err a) (Err b) → a ≡ b
+err_parts a b e = cc
+
+-- what holds of what is left to give in a state
+pub record IsKept (files : List PlainFile) (state : State) (scope : PlainScope) (its : List Item) : Type 0 where
+  pub formed_in_place : AreFormedInPlace files (remaining_in state files (reading_of scope Between its)).statements
+  pub few : AreFew state scope.count (length (remaining_in state files (reading_of scope Between its)).statements)
+
+nothing_formed : (files : List PlainFile) → AreFormedInPlace files []
+nothing_formed files = record { formed = tt; in_place = tt }
+
+without_first : (files : List PlainFile) (s : PlainStatement) (statements : List PlainStatement) → AreFormedInPlace files (s ∷ statements) → AreFormedInPlace files statements
+without_first files s statements h = record { formed = h.formed.1; in_place = h.in_place.1 }
+
+-- a statement was read
+pub kept_on : (files : List PlainFile) (state : State) (scope later : PlainScope) (old new : List Item) (r : Result Bool TextFault) (into : PlainStatement)
+    → AnswersIn state scope old r into later new → r ≡ Ok true → IsKept files state scope old → IsKept files state later new
+kept_on files Reading scope later old new r into h e k =
+    let given : GivesStatement scope old (Ok true) into later new = subst (λ (x : Result Bool TextFault). GivesStatement scope old x into later new) e h in
+    let statements : (reading_of scope Between old).statements ≡ into ∷ (reading_of later Between new).statements = ap (λ (x : PlainReading). x.statements) given.0 in
+    let formed = k.formed_in_place in
+    let few = k.few in
+    record {
+      formed_in_place = without_first files into (reading_of later Between new).statements (subst (AreFormedInPlace files) statements formed);
+      few = omega (arith, few, ap (length {A = PlainStatement}) statements, given.1);
+    }
+kept_on files Ended scope later old new r into h e k = absurd (false≢true (sym (ok_parts true false (sym e ∙ h))))
+kept_on files (Failed fault) scope later old new r into h e k = absurd (ok_err true fault (sym e ∙ h))
+
+-- nothing is left after the end
+pub kept_ended : (files : List PlainFile) (scope : PlainScope) (its : List Item) → IsKept files Ended scope its
+kept_ended files scope its = record { formed_in_place = nothing_formed files; few = tt }
+
+-- nor after a fault
+pub kept_failed : (files : List PlainFile) (fault : TextFault) (scope : PlainScope) (its : List Item) → IsKept files (Failed fault) scope its
+kept_failed files (Fault rule file at statement label) scope its = record { formed_in_place = nothing_formed files; few = tt }
+kept_failed files Memory scope its = record { formed_in_place = nothing_formed files; few = tt }
+kept_failed files (Load rule) scope its = record { formed_in_place = nothing_formed files; few = tt }
+
+no_load : (reading : PlainReading) (fault : TextFault) → AnswersFault reading fault → IsAnswerable (Failed fault)
+no_load reading (Fault rule file at statement label) h = tt
+no_load reading Memory h = tt
+no_load reading (Load rule) h = h
+
+-- a fault that is answered may be
+pub fault_answerable : (state : State) (scope later : PlainScope) (old new : List Item) (r : Result Bool TextFault) (into : PlainStatement) (fault : TextFault) → AnswersIn state scope old r into later new → r ≡ Err fault
+    → IsAnswerable state → IsAnswerable (Failed fault)
+fault_answerable Reading scope later old new r into fault h e i = no_load (reading_of scope Between old) fault (subst (λ (x : Result Bool TextFault). GivesStatement scope old x into later new) e h)
+fault_answerable Ended scope later old new r into fault h e i = absurd (ok_err false fault (sym h ∙ e))
+fault_answerable (Failed other) scope later old new r into fault h e i = subst (λ (x : TextFault). IsAnswerable (Failed x)) (err_parts other fault (sym h ∙ e)) i
+
+-- a reader of files from the start
+pub kept_from_start : (files : List PlainFile) (scope : PlainScope) (its : List Item) → its ≡ items files → scope ≡ outermost → total_bytes files ≤ 1073741824 → IsKept files Reading scope its
+kept_from_start files scope its is first le =
+    let statements : (reading_of scope Between its).statements ≡ (files_reading files).statements = λ i. (reading_of (first i) Between (is i)).statements in
+    let few = readings_few files _ _ (reading_reads files) in
+    record {
+      formed_in_place = subst (AreFormedInPlace files) (sym statements) (reading_stands files);
+      few = omega (arith, ap (length {A = PlainStatement}) statements, ap (λ (x : PlainScope). x.count) first, few, le);
+    }
+
+-- and it is unread
+pub unread_from_start : (files : List PlainFile) (scope : PlainScope) (its : List Item) → its ≡ items files → scope ≡ outermost → IsUnread files (remaining_in Reading files (reading_of scope Between its))
+unread_from_start files scope its is first =
+    let same : reading_of scope Between its ≡ files_reading files = λ i. reading_of (first i) Between (is i) in
+    subst (λ (x : PlainReading). IsUnread files (remaining_in Reading files x)) (sym same)
+    (record {
+      same = refl;
+      reads = reading_reads files;
+      balanced = readings_are_balanced files _ _ (reading_reads files);
+      fits = readings_fit files _ _ (reading_reads files);
+      refused = refl;
+      told = refl;
+    })
+
+-- files that break no rule as a whole hold no more bytes than they may
+pub bytes_kept : (files : List PlainFile) → ((rule : LoadRule) → ¬ (BreaksLoad files rule)) → total_bytes files ≤ 1073741824
+bytes_kept files none =
+    let some : files ≢ [] = none F1 in
+    let apart : ¬ (HasTwins files) = λ twins. none F2 (some, twins) in
+    let few : ¬ (1073741824 < total_bytes files) = λ many. none F3 (some, apart, many) in
+    omega (arith, few)
