@@ -171,6 +171,146 @@ all_tokens (t ∷ tokens) = (tt, all_tokens tokens)
 pub items_signed : (files : List PlainFile) → AllByRecursion IsSigned (plain_tokens (items files))
 items_signed files = all_items (λ t. Unit {0}) IsSigned (λ t h e. signed_token t e) files (λ n f there. all_tokens (tokens_from n 0 f.bytes))
 
+-- ---- after each token a fault or the end of a file comes
+
+abbrev Stops : List Piece → Type 0
+Stops [] = ⊥
+Stops (Met (Plain t) ∷ rest) = Stops rest
+Stops (Met (Inclusion t) ∷ rest) = Stops rest
+Stops (Met (Wrong rule t) ∷ rest) = Unit {0}
+Stops (Met (End file) ∷ rest) = Unit {0}
+Stops (Named name ∷ rest) = Stops rest
+
+abbrev Settled : List Piece → Type 0
+Settled [] = Unit {0}
+Settled (Met (Plain t) ∷ rest) = Stops rest × Settled rest
+Settled (Met (Inclusion t) ∷ rest) = Settled rest
+Settled (Met (Wrong rule t) ∷ rest) = Settled rest
+Settled (Met (End file) ∷ rest) = Settled rest
+Settled (Named name ∷ rest) = Settled rest
+
+-- the pieces of a file stop, and so do those after each of its tokens
+abbrev Both : List Piece → Type 0
+Both ps = Stops ps × Settled ps
+
+pieces_stop : (file : ℕ) (spot : Spot) (shown : List Shown) → Both (pieces file spot shown)
+unfolding pieces
+pieces_stop file Outside [] = (tt, tt)
+pieces_stop file (Naming begin) [] = (tt, tt)
+pieces_stop file (Closing begin name) [] = (tt, tt)
+pieces_stop file Outside (Broken rule t ∷ rest) = (tt, tt)
+pieces_stop file (Naming begin) (Broken rule t ∷ rest) = (tt, tt)
+pieces_stop file (Closing begin name) (Broken rule t ∷ rest) = (tt, tt)
+pieces_stop file Outside (Clear t ∷ rest) = go (spells t.text (codes "$[")) (broken_outside t.text) (pieces_stop file (Naming t) rest) (pieces_stop file Outside rest)
+  where
+    go : (a : Bool) (o : Option TextRule) → Both (pieces file (Naming t) rest) → Both (pieces file Outside rest)
+        → Both (cond a (Met (Inclusion t) ∷ pieces file (Naming t) rest) (elim o [ Some rule ↦ Met (Wrong rule t) ∷ [] | None ↦ Met (Plain t) ∷ pieces file Outside rest ]))
+    go true o one two = one
+    go false None one two = (two.0, (two.0, two.1))
+    go false (Some rule) one two = (tt, tt)
+pieces_stop file (Naming begin) (Clear t ∷ rest) = go (holds_dollar t.text) (pieces_stop file (Closing begin t) rest)
+  where
+    go : (a : Bool) → Both (pieces file (Closing begin t) rest) → Both (cond a (Met (Wrong X5 t) ∷ []) (pieces file (Closing begin t) rest))
+    go true one = (tt, tt)
+    go false one = one
+pieces_stop file (Closing begin name) (Clear t ∷ rest) = go (spells t.text (codes "$]")) (pieces_stop file Outside rest)
+  where
+    go : (a : Bool) → Both (pieces file Outside rest) → Both (cond a (Named name ∷ pieces file Outside rest) (Met (Wrong X5 t) ∷ []))
+    go true one = one
+    go false one = (tt, tt)
+
+stops_append : (a b : List Piece) → Stops a → Stops (a ++ b)
+stops_append [] b h = absurd h
+stops_append (Met (Plain t) ∷ a) b h = stops_append a b h
+stops_append (Met (Inclusion t) ∷ a) b h = stops_append a b h
+stops_append (Met (Wrong rule t) ∷ a) b h = tt
+stops_append (Met (End file) ∷ a) b h = tt
+stops_append (Named name ∷ a) b h = stops_append a b h
+
+settled_append : (a b : List Piece) → Settled a → Settled b → Settled (a ++ b)
+settled_append [] b h g = g
+settled_append (Met (Plain t) ∷ a) b h g = (stops_append a b h.0, settled_append a b h.1 g)
+settled_append (Met (Inclusion t) ∷ a) b h g = settled_append a b h g
+settled_append (Met (Wrong rule t) ∷ a) b h g = settled_append a b h g
+settled_append (Met (End file) ∷ a) b h g = settled_append a b h g
+settled_append (Named name ∷ a) b h g = settled_append a b h g
+
+stops_before : (files : List PlainFile) (n : ℕ) (rest : List Piece) → Stops rest → Stops (put_before files n rest)
+stops_before files n rest h = go (slice_get files n)
+  where
+    go : (o : Option PlainFile) → Stops (elim o [ None ↦ rest | Some f ↦ pieces_of n f ++ rest ])
+    go None = h
+    go (Some f) = stops_append (pieces_of n f) rest (pieces_stop n Outside (uncommented None (tokens_from n 0 f.bytes))).0
+
+settled_before : (files : List PlainFile) (n : ℕ) (rest : List Piece) → Settled rest → Settled (put_before files n rest)
+settled_before files n rest h = go (slice_get files n)
+  where
+    go : (o : Option PlainFile) → Settled (elim o [ None ↦ rest | Some f ↦ pieces_of n f ++ rest ])
+    go None = h
+    go (Some f) = settled_append (pieces_of n f) rest (pieces_stop n Outside (uncommented None (tokens_from n 0 f.bytes))).1 h
+
+module _ (files : List PlainFile) (named : List Bool) (next : ℕ → List Piece → List Item)
+    (on : (n : ℕ) (rest : List Piece) → slice_index_or named n true ≡ false → Stops rest → ComesToStop (next n rest)) where
+  stops_spliced : (ps : List Piece) → Stops ps → ComesToStop (spliced files named next ps)
+  unfolding spliced
+  stops_spliced [] h = h
+  stops_spliced (Met (Plain t) ∷ rest) h = stops_spliced rest h
+  stops_spliced (Met (Inclusion t) ∷ rest) h = stops_spliced rest h
+  stops_spliced (Met (Wrong rule t) ∷ rest) h = tt
+  stops_spliced (Met (End file) ∷ rest) h = tt
+  stops_spliced (Named name ∷ rest) h = go (stops_spliced rest h) (number_of files name.text)
+    where
+      known : ComesToStop (spliced files named next rest) → (n : ℕ) (b : Bool) → slice_index_or named n true ≡ b → ComesToStop (cond b (spliced files named next rest) (next n rest))
+      known inner n true e = inner
+      known inner n false e = on n rest e h
+      go : ComesToStop (spliced files named next rest) → (o : Option ℕ)
+          → ComesToStop (elim o [ None ↦ Wrong X7 name ∷ [] | Some n ↦ cond (slice_index_or named n true) (spliced files named next rest) (next n rest) ])
+      go inner None = tt
+      go inner (Some n) = known inner n (slice_index_or named n true) refl
+
+  settled_spliced : ((n : ℕ) (rest : List Piece) → slice_index_or named n true ≡ false → Settled rest → AreSettled (next n rest))
+      → (ps : List Piece) → Settled ps → AreSettled (spliced files named next ps)
+  unfolding spliced
+  settled_spliced later [] h = tt
+  settled_spliced later (Met (Plain t) ∷ rest) h = (stops_spliced rest h.0, settled_spliced later rest h.1)
+  settled_spliced later (Met (Inclusion t) ∷ rest) h = settled_spliced later rest h
+  settled_spliced later (Met (Wrong rule t) ∷ rest) h = tt
+  settled_spliced later (Met (End file) ∷ rest) h = settled_spliced later rest h
+  settled_spliced later (Named name ∷ rest) h = go (settled_spliced later rest h) (number_of files name.text)
+    where
+      known : AreSettled (spliced files named next rest) → (n : ℕ) (b : Bool) → slice_index_or named n true ≡ b → AreSettled (cond b (spliced files named next rest) (next n rest))
+      known inner n true e = inner
+      known inner n false e = later n rest e h
+      go : AreSettled (spliced files named next rest) → (o : Option ℕ)
+          → AreSettled (elim o [ None ↦ Wrong X7 name ∷ [] | Some n ↦ cond (slice_index_or named n true) (spliced files named next rest) (next n rest) ])
+      go inner None = tt
+      go inner (Some n) = known inner n (slice_index_or named n true) refl
+
+stops_put_in : (files : List PlainFile) (left : ℕ) (named : List Bool) (ps : List Piece) → count_by not named ≤ left → Stops ps → ComesToStop (put_in files left named ps)
+unfolding put_in
+stops_put_in files zero named ps fit h =
+    stops_spliced files named _ (λ n rest e g. absurd (omega (arith, count_named named n (in_range named n e) e, fit))) ps h
+stops_put_in files (suc left) named ps fit h =
+    stops_spliced files named _
+    (λ n rest e g. stops_put_in files left (slice_set named n true) (put_before files n rest) (omega (arith, count_named named n (in_range named n e) e, fit)) (stops_before files n rest g))
+    ps h
+
+settled_put_in : (files : List PlainFile) (left : ℕ) (named : List Bool) (ps : List Piece) → count_by not named ≤ left → Settled ps → AreSettled (put_in files left named ps)
+unfolding put_in
+settled_put_in files zero named ps fit h =
+    settled_spliced files named _
+    (λ n rest e g. absurd (omega (arith, count_named named n (in_range named n e) e, fit)))
+    (λ n rest e g. absurd (omega (arith, count_named named n (in_range named n e) e, fit)))
+    ps h
+settled_put_in files (suc left) named ps fit h =
+    settled_spliced files named _
+    (λ n rest e g. stops_put_in files left (slice_set named n true) (put_before files n rest) (omega (arith, count_named named n (in_range named n e) e, fit)) (stops_before files n rest g))
+    (λ n rest e g. settled_put_in files left (slice_set named n true) (put_before files n rest) (omega (arith, count_named named n (in_range named n e) e, fit)) (settled_before files n rest g))
+    ps h
+
 -- after each token a fault or the end of a file comes
 pub items_settled : (files : List PlainFile) → AreSettled (items files)
-items_settled files = ?
+items_settled [] = tt
+items_settled (top ∷ others) =
+    settled_put_in (top ∷ others) (length others) (true ∷ replicate (length others) false) (pieces_of 0 top) (omega (arith, count_top (length others)))
+    (pieces_stop 0 Outside (uncommented None (tokens_from 0 0 top.bytes))).1
