@@ -8,6 +8,7 @@ pub mod Weights
 pub mod TokenWeights
 pub mod OnceLaws
 pub mod InclusionsEnd
+pub mod TopEnd
 pub mod StepLaws
 pub mod PartLaws
 pub mod HandedLaws

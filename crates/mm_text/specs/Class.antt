@@ -1,4 +1,4 @@
--- What the reader's code tells of a token by its bytes alone. Private clauses speak of this; public ones of `broken_by`.
+-- What the reader's code tells of a token by its bytes alone. Private clauses speak of this; public ones of `broken_outside`.
 use Rattle.std.specs.Prelude.{◌≡◌, ℕ, List, codes, Some, ◌⊎◌}
 use Rattle.mm_text.specs.declared.class.Keyword.{Keyword}
 use Rattle.mm_text.specs.declared.class.Keyword.TheVariants.{Constants, Variables, Distinct, Floating, Essential, Axiom, Provable, Stop, Equals, Opening, Closing}

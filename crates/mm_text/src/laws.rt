@@ -1,7 +1,7 @@
 //! What holds of the tokens and of the readings of all files. A law is the contract of a function
 //! that does nothing: what it ensures is proved, and there is no need to call it.
 
-ghost use Rattle.mm_text.specs.ItemLaws.{FilesArePutInOnce, InclusionsEnd, TokensFitFiles};
+ghost use Rattle.mm_text.specs.ItemLaws.{FilesArePutInOnce, InclusionsEnd, TokensFitFiles, TopFileEndsLast};
 ghost use Rattle.mm_text.specs.Laws.{BeginningsBeginStatements, EachHasOneReading, FaultsEndLongestFronts, ReadingsAreBalanced, ReadingsAreFormedInPlace, ReadingsFit, TokensAreLongestRuns};
 
 /// The tokens of a file are its longest runs of bytes that aren't white space (the Metamath book,
@@ -55,6 +55,11 @@ pub fn files_are_put_in_once()
 /// could be put in would change nothing, so no file that is named is left out.
 pub fn inclusions_end()
     ensures { InclusionsEnd }
+{}
+
+/// Nothing of any file comes after the top file's end.
+pub fn top_file_ends_last()
+    ensures { TopFileEndsLast }
 {}
 
 /// In a reading no `$}` lacks its `${` (the Metamath book, section 4.2.8): in each front of its
