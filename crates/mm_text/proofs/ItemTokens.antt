@@ -106,6 +106,7 @@ module _ (Q P : PlainToken → Type 0) (told : (t : PlainToken) → Q t → brok
       known : AllByRecursion P (plain_tokens (spliced files named next rest)) → (n : ℕ) (b : Bool) → AllByRecursion P (plain_tokens (cond b (spliced files named next rest) (next n rest)))
       known inner n true = inner
       known inner n false = on n rest h
+
       go : AllByRecursion P (plain_tokens (spliced files named next rest)) → (o : Option ℕ)
           → AllByRecursion P (plain_tokens (elim o [ None ↦ Wrong X7 name ∷ [] | Some n ↦ cond (slice_index_or named n true) (spliced files named next rest) (next n rest) ]))
       go inner None = tt
@@ -263,6 +264,7 @@ module _ (files : List PlainFile) (named : List Bool) (next : ℕ → List Piece
       known : ComesToStop (spliced files named next rest) → (n : ℕ) (b : Bool) → slice_index_or named n true ≡ b → ComesToStop (cond b (spliced files named next rest) (next n rest))
       known inner n true e = inner
       known inner n false e = on n rest e h
+
       go : ComesToStop (spliced files named next rest) → (o : Option ℕ)
           → ComesToStop (elim o [ None ↦ Wrong X7 name ∷ [] | Some n ↦ cond (slice_index_or named n true) (spliced files named next rest) (next n rest) ])
       go inner None = tt
@@ -281,6 +283,7 @@ module _ (files : List PlainFile) (named : List Bool) (next : ℕ → List Piece
       known : AreSettled (spliced files named next rest) → (n : ℕ) (b : Bool) → slice_index_or named n true ≡ b → AreSettled (cond b (spliced files named next rest) (next n rest))
       known inner n true e = inner
       known inner n false e = later n rest e h
+
       go : AreSettled (spliced files named next rest) → (o : Option ℕ)
           → AreSettled (elim o [ None ↦ Wrong X7 name ∷ [] | Some n ↦ cond (slice_index_or named n true) (spliced files named next rest) (next n rest) ])
       go inner None = tt

@@ -70,6 +70,7 @@ module _ (files : List PlainFile) (named : List Bool) (next : ℕ → List Piece
       known : LastEnd (spliced files named next rest) → (n : ℕ) (b : Bool) → slice_index_or named n true ≡ b → LastEnd (cond b (spliced files named next rest) (next n rest))
       known inner n true e = inner
       known inner n false e = on n rest e h
+
       go : LastEnd (spliced files named next rest) → (o : Option ℕ)
           → LastEnd (elim o [ None ↦ Wrong X7 name ∷ [] | Some n ↦ cond (slice_index_or named n true) (spliced files named next rest) (next n rest) ])
       go inner None = tt

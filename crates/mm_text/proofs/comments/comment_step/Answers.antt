@@ -1,4 +1,4 @@
-use Rattle.std.proofs.Common.{◌≡◌, true, sym, ap, ◌∙◌, arith}
+use Rattle.std.proofs.Common.{sym, ap, ◌∙◌, arith}
 use Rattle.std.specs.List.{list_all}
 use Rattle.mm_text.specs.Token.{PlainToken, plain_token, is_printable}
 use Rattle.mm_text.proofs.CommentLaws.{comment_token, passed_all, in_comment-illegal, in_comment-close, in_comment-mark, in_comment-more, token_printable, token_illegal}

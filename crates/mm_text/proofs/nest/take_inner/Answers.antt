@@ -1,6 +1,6 @@
 use Rattle.std.proofs.Common.{[], ap, ◌∙◌}
 use Rattle.std.proofs.lemmas.Result.{err_from_is_err_and}
-use Rattle.mm_text.specs.Token.{PlainToken, plain_token}
+use Rattle.mm_text.specs.Token.{plain_token}
 use Rattle.mm_text.specs.Items.{Naming, Closing, pieces}
 use Rattle.mm_text.proofs.InclusionLaws.{pieces-broken, naming-end, closing-end}
 use Rattle.mm_text.proofs.nest.take_inner.Goals as goal

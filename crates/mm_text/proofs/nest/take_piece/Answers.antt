@@ -1,4 +1,4 @@
-use Rattle.std.proofs.Common.{[], ◌∷◌, sym, ap, ◌∙◌, ⊎_elim, false, true, ◌≡◌}
+use Rattle.std.proofs.Common.{[], ◌∷◌, sym, ap, ◌∙◌}
 use Rattle.mm_text.specs.Token.{plain_token}
 use Rattle.mm_text.specs.Items.{Outside, pieces, Met, End}
 use Rattle.mm_text.specs.declared.comments.Place.{Place}

@@ -1,4 +1,4 @@
-use Rattle.std.proofs.Common.{◌∙◌, sym, arith}
+use Rattle.std.proofs.Common.{◌∙◌, sym}
 use Rattle.mm_text.proofs.TokenLaws.{tokens_from-step}
 use Rattle.mm_text.proofs.CommentLaws.{below_more_from}
 use Rattle.mm_text.proofs.scan.skip_space.Goals as goal

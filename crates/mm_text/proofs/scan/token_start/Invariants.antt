@@ -1,4 +1,4 @@
-use Rattle.std.proofs.Common.{◌≡◌, ℕ, ◌<◌, ◌≤◌, get_or, false}
+use Rattle.std.proofs.Common.{◌≡◌, ℕ, ◌≤◌, get_or, false}
 use Rattle.mm_text.specs.Token.{is_space}
 use Rattle.mm_text.proofs.scan.token_start.Given as goal
 

@@ -1,4 +1,4 @@
-use Rattle.std.proofs.Common.{map, sym, ap, ◌∙◌}
+use Rattle.std.proofs.Common.{ap, ◌∙◌}
 use Rattle.mm_text.specs.declared.names.Name.{Name}
 use Rattle.mm_text.specs.Items.{spells}
 use Rattle.mm_text.specs.Names.{number_among}

@@ -1,4 +1,4 @@
-use Rattle.std.proofs.Common.{◌≡◌, ℕ, false, true, map, length, take, List, [], sym, ap, ◌∙◌, refl, arith}
+use Rattle.std.proofs.Common.{map, sym, ◌∙◌, refl, arith}
 use Rattle.std.proofs.lemmas.List.{take_all, length-map}
 use Rattle.mm_text.specs.declared.names.Name.{Name}
 use Rattle.mm_text.proofs.NameLaws.{kept_more, apart_with, twins_found, not_true, not_false, no_twins, plain_names}

@@ -1,4 +1,4 @@
-use Rattle.std.proofs.Common.{◌≡◌, ℕ, map, take}
+use Rattle.std.proofs.Common.{◌≡◌, map, take}
 use Rattle.mm_text.proofs.NameLaws.{AreApart}
 use Rattle.mm_text.proofs.names.Names.of.Given as goal
 

@@ -1,6 +1,5 @@
-use Rattle.std.proofs.Common.{◌≡◌, ◌≤◌, ◌++◌, None, length, sym, ap, ◌∙◌, refl, arith, set, true}
+use Rattle.std.proofs.Common.{◌++◌, None, ap, ◌∙◌, refl, arith, true}
 use Rattle.std.specs.Vec.{with_item}
-use Rattle.mm_text.specs.Token.{PlainToken}
 use Rattle.mm_text.specs.Items.{Outside, pieces}
 use Rattle.mm_text.specs.Place.{shown_at}
 use Rattle.mm_text.specs.Nest.{put_into, waiting}

@@ -1,4 +1,4 @@
-use Rattle.std.proofs.Common.{◌≡◌, sym, ap, ◌∙◌, Some, map, true, refl, arith}
+use Rattle.std.proofs.Common.{◌≡◌, sym, ◌∙◌, Some, map, true, refl, arith}
 use Rattle.mm_text.specs.Token.{plain_token}
 use Rattle.mm_text.specs.Files.{plain_file}
 use Rattle.mm_text.specs.Items.{number_of}

@@ -1,4 +1,4 @@
-use Rattle.std.proofs.Common.{refl, sym, ap, ◌∙◌, arith}
+use Rattle.std.proofs.Common.{refl, sym, arith}
 use Rattle.mm_text.proofs.NestLaws.{leaves_to, leaves_last, nil_of_length}
 use Rattle.mm_text.proofs.nest.Nest.leave.Goals as goal
 
