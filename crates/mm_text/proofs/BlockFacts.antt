@@ -155,14 +155,19 @@ AreOpen statements (block ∷ blocks) =
 open_segment : (before segment : List PlainStatement) (blocks : List OpenBlock) → AreOpen before blocks → AreBalanced segment → AreClosed segment → AreOpen (before ++ segment) blocks
 open_segment before segment [] h b c = (balanced_append before segment h.0 h.1 b, closed_append before segment h.1 c)
 open_segment before segment (block ∷ blocks) h b c =
-    let inner = h.2 in
-    (h.0, h.1, record {
-      within = inner.within ++ segment;
-      whole = ap (λ (x : List PlainStatement). x ++ segment) inner.whole ∙ append_assoc h.0 (h.1 ∷ inner.within) segment;
-      opened = inner.opened;
-      balanced = balanced_append inner.within segment inner.balanced inner.closed b;
-      closed = closed_append inner.within segment inner.closed c;
-    }, h.3, h.4)
+    let inner = h.2 in (
+      h.0,
+      h.1,
+      record {
+        within = inner.within ++ segment;
+        whole = ap (λ (x : List PlainStatement). x ++ segment) inner.whole ∙ append_assoc h.0 (h.1 ∷ inner.within) segment;
+        opened = inner.opened;
+        balanced = balanced_append inner.within segment inner.balanced inner.closed b;
+        closed = closed_append inner.within segment inner.closed c;
+      },
+      h.3,
+      h.4,
+    )
 
 open_body : (statements : List PlainStatement) (s : PlainStatement) (blocks : List OpenBlock) → AreOpen statements blocks → HasBody s.kind → AreOpen (statements ++ s ∷ []) blocks
 open_body statements s blocks h long =
@@ -171,9 +176,13 @@ open_body statements s blocks h long =
 
 open_opening : (statements : List PlainStatement) (s : PlainStatement) (blocks : List OpenBlock) (count : ℕ) → AreOpen statements blocks → s.kind ≡ Opening → count ≡ length statements
     → AreOpen (statements ++ s ∷ []) (record { file = s.first.file; at = s.first.at; statement = count + 1 } ∷ blocks)
-open_opening statements s blocks count h k same =
-    (statements, s, record { within = []; whole = refl; opened = k; balanced = balanced_nothing; closed = refl },
-    (λ i. record { file = s.first.file; at = s.first.at; statement = same i + 1 }), h)
+open_opening statements s blocks count h k same = (
+  statements,
+  s,
+  record { within = []; whole = refl; opened = k; balanced = balanced_nothing; closed = refl },
+  (λ i. record { file = s.first.file; at = s.first.at; statement = same i + 1 }),
+  h,
+)
 
 open_closing : (statements : List PlainStatement) (s : PlainStatement) (block : OpenBlock) (blocks : List OpenBlock) → AreOpen statements (block ∷ blocks) → s.kind ≡ Closing → AreOpen (statements ++ s ∷ []) blocks
 open_closing statements s block blocks h k =

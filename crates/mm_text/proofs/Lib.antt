@@ -4,6 +4,10 @@ pub mod CommentLaws
 pub mod NameLaws
 pub mod InclusionLaws
 pub mod NestLaws
+pub mod Weights
+pub mod TokenWeights
+pub mod OnceLaws
+pub mod InclusionsEnd
 pub mod StepLaws
 pub mod PartLaws
 pub mod HandedLaws
@@ -24,3 +28,4 @@ pub mod FormedLaws
 pub mod ItemTokens
 pub mod ReaderLaws
 pub mod PlaceLaws
+pub mod SettledLaws

@@ -186,7 +186,7 @@ count_replicate : (n : ℕ) → sum_by (λ b. cond (not b) 1 0) (replicate n fal
 count_replicate zero = refl
 count_replicate (suc n) = omega (arith, count_replicate n, sum_by_from (λ b. cond (not b) 1 0) (0 + 1) (replicate n false))
 
-count_top : (n : ℕ) → count_by not (true ∷ replicate n false) ≡ n
+pub count_top : (n : ℕ) → count_by not (true ∷ replicate n false) ≡ n
 count_top n = omega (arith, count_replicate n, sum_by_from (λ b. cond (not b) 1 0) (0 + 0) (replicate n false))
 
 pub begins : (files : List File) (d : File) (named : List Bool) (p : Place) (places : List Place) → 0 < length files → named ≡ replicate (length files) false

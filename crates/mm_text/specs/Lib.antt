@@ -2,6 +2,7 @@ pub mod Device
 pub mod Reader
 pub mod Files
 pub mod Items
+pub mod ItemLaws
 pub mod Reading
 pub mod Remaining
 pub mod Statement

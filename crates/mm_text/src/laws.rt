@@ -1,6 +1,7 @@
 //! What holds of the tokens and of the readings of all files. A law is the contract of a function
 //! that does nothing: what it ensures is proved, and there is no need to call it.
 
+ghost use Rattle.mm_text.specs.ItemLaws.{FilesArePutInOnce, InclusionsEnd, TokensFitFiles};
 ghost use Rattle.mm_text.specs.Laws.{BeginningsBeginStatements, EachHasOneReading, FaultsEndLongestFronts, ReadingsAreBalanced, ReadingsAreFormedInPlace, ReadingsFit, TokensAreLongestRuns};
 
 /// The tokens of a file are its longest runs of bytes that aren't white space (the Metamath book,
@@ -50,4 +51,20 @@ pub fn readings_are_balanced()
 /// read twice. Counted of a statement are its first token, its symbols and its proof.
 pub fn readings_fit()
     ensures { ReadingsFit }
+{}
+
+/// The tokens among the files' items hold no more bytes in all than the files.
+pub fn tokens_fit_files()
+    ensures { TokensFitFiles }
+{}
+
+/// Each file is put in at most once: its end is met at most once, and so is each of its tokens.
+pub fn files_are_put_in_once()
+    ensures { FilesArePutInOnce }
+{}
+
+/// The definition of the items puts in so many files as there are beside the top file. That more
+/// could be put in would change nothing, so no file that is named is left out.
+pub fn inclusions_end()
+    ensures { InclusionsEnd }
 {}

@@ -27,8 +27,9 @@ pub use fault::{LoadRule, TextFault, TextRule};
 pub use file::File;
 pub use handed::BYTE_LIMIT;
 pub use laws::{
-    beginnings_begin_statements, faults_end_longest_fronts, one_reading, readings_are_balanced,
-    readings_fit, statements_are_formed_in_place, tokens_are_longest_runs,
+    beginnings_begin_statements, faults_end_longest_fronts, files_are_put_in_once, inclusions_end,
+    one_reading, readings_are_balanced, readings_fit, statements_are_formed_in_place,
+    tokens_are_longest_runs, tokens_fit_files,
 };
 pub use load::{LoadFault, read_all};
 pub use statement::{Kind, Statement};

@@ -11,8 +11,8 @@ ghost use Rattle.mm_text.specs.Steps.{plain_scope, TakesWithin, TakesFirst, Give
 
 use crate::class::{Class, Keyword, is_label};
 use crate::cursor::Cursor;
-use crate::next::Next;
 use crate::fault::{TextFault, TextRule};
+use crate::next::Next;
 use crate::scope::Scope;
 use crate::statement::{Kind, Statement};
 use crate::token::Token;

@@ -47,10 +47,12 @@ returns-in_err-place-clause-takes c =
     let t = plain_token c.make_token-token.result in
     let printable = token_printable p.bytes.now p.legal start end c.requires.front (omega arith) (omega arith) c.token_end-end.ensures.ink in
     let e = err_from_is_err_and c.from_residual.result c.from_residual.ensures.1 in
-    rw (e.1, e.2)
-    ((outside_token p start end t c.skip_space-start.ensures.same_tokens c.token_end-end.ensures.token c.make_token-token.ensures.token
-    ∙ outside-begin t _ (ap (λ (u : PlainToken). list_all is_printable u.text) c.make_token-token.ensures.token ∙ printable) (sym c.is_begin.ensures ∙ c.if-is_begin.true)
-    ∙ c.in_err-place.ensures.0), c.in_err-place.ensures.1)
+    rw (e.1, e.2) (
+      (outside_token p start end t c.skip_space-start.ensures.same_tokens c.token_end-end.ensures.token c.make_token-token.ensures.token
+          ∙ outside-begin t _ (ap (λ (u : PlainToken). list_all is_printable u.text) c.make_token-token.ensures.token ∙ printable) (sym c.is_begin.ensures ∙ c.if-is_begin.true)
+          ∙ c.in_err-place.ensures.0),
+      c.in_err-place.ensures.1,
+    )
 
 pub returns-then-is_begin-clause-takes : goal.returns-then-is_begin-clause-takes
 returns-then-is_begin-clause-takes c =

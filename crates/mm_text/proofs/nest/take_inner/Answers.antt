@@ -10,10 +10,11 @@ returns-in_err-token-clause-takes c =
     let p = c.args.place.now in
     let begin = plain_token c.args.begin in
     let e = err_from_is_err_and c.from_residual.result c.from_residual.ensures.1 in
-    rw (e.1, e.2)
-    (ap (pieces p.file (Naming begin)) c.in_err-token.ensures.takes.0 ∙ pieces-broken p.file (Naming begin) _ _ [],
-    λ name. ap (pieces p.file (Closing begin name)) c.in_err-token.ensures.takes.0 ∙ pieces-broken p.file (Closing begin name) _ _ [],
-    c.in_err-token.ensures.takes.1)
+    rw (e.1, e.2) (
+      ap (pieces p.file (Naming begin)) c.in_err-token.ensures.takes.0 ∙ pieces-broken p.file (Naming begin) _ _ [],
+      λ name. ap (pieces p.file (Closing begin name)) c.in_err-token.ensures.takes.0 ∙ pieces-broken p.file (Closing begin name) _ _ [],
+      c.in_err-token.ensures.takes.1,
+    )
 
 pub returns-in-None-clause-takes : goal.returns-in-None-clause-takes
 returns-in-None-clause-takes c =

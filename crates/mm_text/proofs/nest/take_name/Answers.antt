@@ -22,12 +22,13 @@ returns-in_err-close-clause-takes c =
     let begin = plain_token c.args.begin in
     let name = plain_token c.in_ok-name.name in
     let e = err_from_is_err_and c.from_residual-in_err-close.result c.from_residual-in_err-close.ensures.1 in
-    rw (e.1, e.2)
-    (ap (pieces p.file (Naming begin)) c.in_ok-name.ensures.takes.0
-    ∙ naming-name p.file begin name _ (sym c.contains.ensures.value ∙ c.if-contains.false)
-    ∙ ap (λ n. pieces n (Closing begin name) (shown_at c.take_inner.new.place)) (sym (ap (λ (q : Place). q.file) c.in_ok-name.ensures.same))
-    ∙ c.in_err-close.ensures.takes.1 name,
-    c.in_err-close.ensures.takes.2)
+    rw (e.1, e.2) (
+      ap (pieces p.file (Naming begin)) c.in_ok-name.ensures.takes.0
+          ∙ naming-name p.file begin name _ (sym c.contains.ensures.value ∙ c.if-contains.false)
+          ∙ ap (λ n. pieces n (Closing begin name) (shown_at c.take_inner.new.place)) (sym (ap (λ (q : Place). q.file) c.in_ok-name.ensures.same))
+          ∙ c.in_err-close.ensures.takes.1 name,
+      c.in_err-close.ensures.takes.2,
+    )
 
 pub returns-then-not-is_inclusion_end-clause-takes : goal.returns-then-not-is_inclusion_end-clause-takes
 returns-then-not-is_inclusion_end-clause-takes c =

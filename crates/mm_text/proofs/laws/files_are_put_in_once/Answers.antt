@@ -1,0 +1,5 @@
+use Rattle.mm_text.proofs.OnceLaws.{files_are_put_in_once}
+use Rattle.mm_text.proofs.laws.files_are_put_in_once.Goals as goal
+
+pub returns : goal.returns
+returns c = files_are_put_in_once
