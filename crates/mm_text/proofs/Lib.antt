@@ -29,3 +29,4 @@ pub mod FormedLaws
 pub mod ItemTokens
 pub mod ReaderLaws
 pub mod PlaceLaws
+pub mod SettledLaws

@@ -16,7 +16,8 @@ use Rattle.mm_text.specs.Remaining.{IsUnread}
 use Rattle.mm_text.specs.Steps.{AnswersFault, GivesStatement}
 use Rattle.mm_text.specs.ReaderState.{remaining_in, IsAnswerable, AreFew, AnswersIn}
 use Rattle.mm_text.specs.Laws.{AreFormedInPlace, EachHasOneReading}
-use Rattle.mm_text.proofs.ItemTokens.{items_signed, items_settled}
+use Rattle.mm_text.proofs.ItemTokens.{items_signed}
+use Rattle.mm_text.proofs.SettledLaws.{items_settled}
 use Rattle.mm_text.proofs.ReadingLaws.{items_read}
 use Rattle.mm_text.proofs.OneReading.{reads_reading}
 use Rattle.mm_text.proofs.FormedLaws.{readings_are_formed_in_place, readings_are_balanced, readings_fit, readings_few}

@@ -22,7 +22,7 @@ fn reads_a_database(rt: HostRuntime) -> Result<(), Fail> {
         name: b"first.mm",
         bytes: FIRST,
     }];
-    let Ok(mut statements) = Statements::new(&files) else {
+    let Ok(mut statements) = Statements::new(rt.alloc(), &files) else {
         return Err(Fail::from("refused"));
     };
     let mut statement = Statement::empty(rt.alloc());
@@ -72,7 +72,7 @@ fn answers_the_first_fault_for_good(rt: HostRuntime) -> Result<(), Fail> {
     ];
     for (bytes, rule, at, length) in faults {
         let files = [File { name: b"a", bytes }];
-        let Ok(mut statements) = Statements::new(&files) else {
+        let Ok(mut statements) = Statements::new(rt.alloc(), &files) else {
             return Err(Fail::from("refused"));
         };
         let mut statement = Statement::empty(rt.alloc());
@@ -83,6 +83,7 @@ fn answers_the_first_fault_for_good(rt: HostRuntime) -> Result<(), Fail> {
                     file,
                     at: place,
                     label,
+                    ..
                 },
             ) = statements.read(&mut statement)
             else {
@@ -108,11 +109,46 @@ fn judges_the_files_first(rt: HostRuntime) {
         name: b"a",
         bytes: b"$c a",
     };
-    assert!(rt; matches!(Statements::new(&[]), Err(TextFault::Load(LoadRule::F1))));
+    assert!(rt; matches!(Statements::new(rt.alloc(), &[]), Err(TextFault::Load(LoadRule::F1))));
     assert!(rt;
         matches!(
-            Statements::new(&[file, file]),
+            Statements::new(rt.alloc(), &[file, file]),
             Err(TextFault::Load(LoadRule::F2))
         )
     );
+}
+
+/// The faults that a whole text answers, with the place.
+#[test]
+fn answers_faults_of_comments_and_inclusions(rt: HostRuntime) -> Result<(), Fail> {
+    let faults: [(&[u8], TextRule, u32); 10] = [
+        (b"$( open", TextRule::X2, 0),
+        (b"$[ a $( open", TextRule::X2, 5),
+        (b"$( a$) $)", TextRule::X3, 3),
+        (b"$( \x80$) $)", TextRule::X1, 3),
+        (b" $)", TextRule::X4, 1),
+        (b"$[ $]", TextRule::X5, 3),
+        (b"$[ a", TextRule::X5, 0),
+        (b"$[ b b", TextRule::X5, 5),
+        (b"$[ $( c $) b $] $c", TextRule::X7, 11),
+        (b"$( $a $) $[ a $] $x", TextRule::X9, 17),
+    ];
+    for (bytes, rule, at) in faults {
+        let files = [File { name: b"a", bytes }];
+        let Ok(mut statements) = Statements::new(rt.alloc(), &files) else {
+            return Err(Fail::from("refused"));
+        };
+        let mut statement = Statement::empty(rt.alloc());
+        let Err(TextFault::Fault {
+            rule: found,
+            at: place,
+            ..
+        }) = statements.read(&mut statement)
+        else {
+            return Err(Fail::from("no fault"));
+        };
+        assert_eq!(rt; found, rule);
+        assert_eq!(rt; place, at, "{rule:?}");
+    }
+    Ok(())
 }

@@ -1,4 +1,4 @@
-use Rattle.std.proofs.Common.{map, ap, ◌∙◌, Ok}
+use Rattle.std.proofs.Common.{◌≡◌, map, true, sym, ap, ◌∙◌, Ok}
 use Rattle.mm_text.specs.Files.{plain_file}
 use Rattle.mm_text.specs.Steps.{plain_scope}
 use Rattle.mm_text.proofs.ReaderLaws.{kept_on, kept_ended, kept_failed, fault_answerable}
@@ -8,7 +8,8 @@ pub invariant_of-self : goal.invariant_of-self
 invariant_of-self c =
     let s = c.self.inside in
     let i = c.self.invariant in
-    let kept = kept_on (map plain_file s.files.now) s.state (plain_scope s.scope) _ s.cursor _ _ _ c.answer-answer.ensures (c.in-Ok-true.is ∙ ap Ok c.in-Ok-true.field-0-test) (record { formed_in_place = i.formed_in_place; few = i.few }) in
+    let yes : c.in-Ok-true.field-0 ≡ true = sym c.in-Ok-true.field-0-is ∙ c.in-Ok-true.field-0-test in
+    let kept = kept_on (map plain_file s.files.now) s.state (plain_scope s.scope) _ s.cursor _ _ _ c.answer-answer.ensures (c.in-Ok-true.is ∙ ap Ok yes) (record { formed_in_place = i.formed_in_place; few = i.few }) in
     record { answerable = i.answerable; formed_in_place = kept.formed_in_place; few = kept.few }
 
 pub invariant_of-self-in-Ok-false : goal.invariant_of-self-in-Ok-false
