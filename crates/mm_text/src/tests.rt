@@ -157,7 +157,7 @@ fn reads_blocks_and_files(rt: HostRuntime) -> Result<(), Fail> {
         return Err(Fail::from("no fault"));
     };
     assert_eq!(rt; rule, TextRule::S6);
-    assert_eq!(rt; at, 42);
+    assert_eq!(rt; at, 41);
     assert_eq!(rt; number, 5);
     Ok(())
 }
