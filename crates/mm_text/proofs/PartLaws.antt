@@ -200,9 +200,11 @@ gives_opening scope later items rest t into (Err fault) first sign is h = subst 
 -- a `$}`
 pub closes_block : (scope later : PlainScope) (items rest : List Item) (t : PlainToken) (into : PlainStatement) → items ≡ Plain t ∷ rest → t.text ≡ codes "$}" → into ≡ begun Closing t None → Closes scope true later
     → GivesFirst scope items (Ok tt) into later rest
-closes_block scope later items rest t into first sign is h =
-    (ap (reading_of scope Between) first ∙ read_closing scope Between t rest (step_closes t sign) ∙ cond-false (has_none scope.blocks) _ _ h.0
-    ∙ (λ i. with_statement (sym is i) (reading_of (sym h.1 i) Between rest)), ap (λ (x : PlainScope). x.count) h.1)
+closes_block scope later items rest t into first sign is h = (
+  ap (reading_of scope Between) first ∙ read_closing scope Between t rest (step_closes t sign) ∙ cond-false (has_none scope.blocks) _ _ h.0
+      ∙ (λ i. with_statement (sym is i) (reading_of (sym h.1 i) Between rest)),
+  ap (λ (x : PlainScope). x.count) h.1,
+)
 
 -- with no block open
 pub answers_closing : (scope later : PlainScope) (items rest : List Item) (t : PlainToken) (fault : TextFault) → items ≡ Plain t ∷ rest → t.text ≡ codes "$}" → Closes scope false later

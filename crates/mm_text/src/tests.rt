@@ -56,7 +56,14 @@ fn reads_a_database(rt: HostRuntime) -> Result<(), Fail> {
 #[test]
 fn answers_the_first_fault_for_good(rt: HostRuntime) -> Result<(), Fail> {
     // The rule, its place, and how long the label is; 0 where there is none.
-    let faults: [(&[u8], TextRule, u32, usize); 12] = [
+    let faults: [(&[u8], TextRule, u32, usize); 19] = [
+        (b"e $e a", TextRule::X8, 0, 1),
+        (b"a ${ a", TextRule::S3, 2, 1),
+        (b"$c ${ a", TextRule::S4, 3, 0),
+        (b"$d a $.", TextRule::S5, 5, 0),
+        (b"$}", TextRule::S6, 0, 0),
+        (b"ab $[ a $]", TextRule::X6, 3, 2),
+        (b"a $( b", TextRule::X2, 2, 1),
         (b"$c a", TextRule::X8, 0, 0),
         (b" a", TextRule::X8, 1, 1),
         (b"$c a\x7f $.", TextRule::X1, 3, 0),
@@ -82,8 +89,8 @@ fn answers_the_first_fault_for_good(rt: HostRuntime) -> Result<(), Fail> {
                     rule: found,
                     file,
                     at: place,
+                    statement: number,
                     label,
-                    ..
                 },
             ) = statements.read(&mut statement)
             else {
@@ -91,6 +98,7 @@ fn answers_the_first_fault_for_good(rt: HostRuntime) -> Result<(), Fail> {
             };
             assert_eq!(rt; found, rule);
             assert_eq!(rt; file, 0);
+            assert_eq!(rt; number, 1);
             assert_eq!(rt; place, at, "{rule:?}");
             assert_eq!(rt;
                 label.map_or(0, |token| token.text.len()),
@@ -103,13 +111,99 @@ fn answers_the_first_fault_for_good(rt: HostRuntime) -> Result<(), Fail> {
     Ok(())
 }
 
+/// Blocks, and a file that is put in once. The last `$}` lacks its `${`.
+const TOP: &[u8] = b"$[ b $] ${ e $e a $. $} $[ b $] $( $} $) $} $d x y $.";
+
+#[test]
+fn reads_blocks_and_files(rt: HostRuntime) -> Result<(), Fail> {
+    let files = [
+        File {
+            name: b"a",
+            bytes: TOP,
+        },
+        File {
+            name: b"b",
+            bytes: b"$c a $. $[ a $]",
+        },
+    ];
+    let Ok(mut statements) = Statements::new(rt.alloc(), &files) else {
+        return Err(Fail::from("refused"));
+    };
+    let mut statement = Statement::empty(rt.alloc());
+    let wanted = [
+        (Kind::Constants, 1, 0),
+        (Kind::Opening, 0, 8),
+        (Kind::Essential, 0, 11),
+        (Kind::Closing, 0, 21),
+    ];
+    for (kind, file, at) in wanted {
+        assert!(rt;
+            matches!(statements.read(&mut statement), Ok(true)),
+            "at {at}"
+        );
+        assert_eq!(rt; statement.kind, kind, "at {at}");
+        assert_eq!(rt; statement.first.file, file, "at {at}");
+        assert_eq!(rt; statement.first.at, at);
+    }
+    let Err(
+        TextFault::Fault {
+            rule,
+            at,
+            statement: number,
+            ..
+        },
+    ) = statements.read(&mut statement)
+    else {
+        return Err(Fail::from("no fault"));
+    };
+    assert_eq!(rt; rule, TextRule::S6);
+    assert_eq!(rt; at, 41);
+    assert_eq!(rt; number, 5);
+    Ok(())
+}
+
+#[test]
+fn names_the_innermost_open_block(rt: HostRuntime) -> Result<(), Fail> {
+    let files = [File {
+        name: b"a",
+        bytes: b"$c a $. ${ ${ ${ $} $v x $.",
+    }];
+    let Ok(mut statements) = Statements::new(rt.alloc(), &files) else {
+        return Err(Fail::from("refused"));
+    };
+    let mut statement = Statement::empty(rt.alloc());
+    for _ in 0..6 {
+        assert!(rt; matches!(statements.read(&mut statement), Ok(true)));
+    }
+    let Err(
+        TextFault::Fault {
+            rule,
+            at,
+            statement: number,
+            ..
+        },
+    ) = statements.read(&mut statement)
+    else {
+        return Err(Fail::from("no fault"));
+    };
+    assert_eq!(rt; rule, TextRule::S7);
+    assert_eq!(rt; at, 11);
+    assert_eq!(rt; number, 3);
+    Ok(())
+}
+
 #[test]
 fn judges_the_files_first(rt: HostRuntime) {
     let file = File {
         name: b"a",
         bytes: b"$c a",
     };
-    assert!(rt; matches!(Statements::new(rt.alloc(), &[]), Err(TextFault::Load(LoadRule::F1))));
+    assert!(rt;
+        matches!(
+            Statements::new(rt.alloc(), &[]),
+            Err(TextFault::Load(LoadRule::F1))
+        )
+    );
     assert!(rt;
         matches!(
             Statements::new(rt.alloc(), &[file, file]),
