@@ -3,25 +3,147 @@
 use crate::Part::Text;
 use crate::Row;
 
-/// Examples of `docs/LANGUAGE.md`.
-pub(crate) const LANGUAGE_1: [Row; 1] = [Row {
-    name: "Statements (book, 4.1.3 and 4.2), in docs/LANGUAGE.md",
-    files: &[(
-        b"f.mm",
-        &[Text(
-            b"$c 0 + ( ) term $.\n$v t r $.\ntt $f term t $.\ntr $f term r $.\ntze $a term 0 $.\ntpl $a term ( t + r ) $.\nth $p term ( 0 + 0 ) $= tze tze tpl $.\n",
+/// The examples of `docs/LANGUAGE.md`.
+pub(crate) const LANGUAGE: [Row; 9] = [
+    Row {
+        name: "Comments (book, 4.1.2 and 4.4.1), in docs/LANGUAGE.md",
+        files: &[(b"f.mm", &[Text(b"$( A constant, $( in a comment.\n")])],
+        reply: b"no f.mm 1 - X3 0\n",
+        status: 1,
+    },
+    Row {
+        name: "Inclusions (book, 4.1.2 and 4.4.2), in docs/LANGUAGE.md",
+        files: &[
+            (
+                b"top.mm",
+                &[Text(b"$[ terms.mm $]\n$[ rules.mm $]\nth $p |- 0 = 0 $= tze refl $.\n")],
+            ),
+            (
+                b"terms.mm",
+                &[Text(b"$[ top.mm $]\n$[ symbols.mm $]\ntt $f term t $.\ntze $a term 0 $.\n")],
+            ),
+            (
+                b"rules.mm",
+                &[Text(b"$[ terms.mm $]\nrefl $a |- t = t $.\n")],
+            ),
+            (b"symbols.mm", &[Text(b"$c 0 = term |- $.\n$v t $.\n")]),
+        ],
+        reply: b"yes 6 statements 1 proofs\n",
+        status: 0,
+    },
+    Row {
+        name: "Inclusions (book, 4.1.2 and 4.4.2), in docs/LANGUAGE.md",
+        files: &[
+            (b"top.mm", &[Text(b"$[ terms.mm $]\n")]),
+            (b"terms.mm", &[Text(b"$c 0 term $.\n\ntze $a term 1 $.\n")]),
+        ],
+        reply: b"no terms.mm 3 tze M7 0\n",
+        status: 1,
+    },
+    Row {
+        name: "Statements (book, 4.1.3 and 4.2), in docs/LANGUAGE.md",
+        files: &[(
+            b"f.mm",
+            &[Text(
+                b"$c 0 + ( ) term $.\n$v t r $.\ntt $f term t $.\ntr $f term r $.\ntze $a term 0 $.\ntpl $a term ( t + r ) $.\nth $p term ( 0 + 0 ) $= tze tze tpl $.\n",
+            )],
         )],
-    )],
-    reply: b"yes 7 statements 1 proofs\n",
-    status: 0,
-}];
+        reply: b"yes 7 statements 1 proofs\n",
+        status: 0,
+    },
+    Row {
+        name: "Frames (book, 4.2.7), in docs/LANGUAGE.md",
+        files: &[(
+            b"f.mm",
+            &[Text(
+                b"$c |- set R $.\n$v x y z $.\nvx $f set x $.\nvy $f set y $.\nvz $f set z $.\n${\n$d x y $.\nax $a |- x R y $.\n$}\n${\nh $e |- x R y $.\nfin $a |- x $.\n$}\n",
+            )],
+        )],
+        reply: b"yes 13 statements 0 proofs\n",
+        status: 0,
+    },
+    Row {
+        name: "Normal proofs (book, 4.1.4 and 4.3), in docs/LANGUAGE.md",
+        files: &[(
+            b"f.mm",
+            &[Text(
+                b"$c ( ) -> wff |- $.\n$v P Q $.\nwp $f wff P $.\nwq $f wff Q $.\nwim $a wff ( P -> Q ) $.\nid $a |- ( P -> P ) $.\n${\n  min $e |- P $.\n  maj $e |- ( P -> Q ) $.\n  mp $a |- Q $.\n$}\n${\n  a1 $e |- ( ( P -> P ) -> Q ) $.\n  th $p |- Q $= wp wp wim wq wp id a1 mp $.\n$}\n",
+            )],
+        )],
+        reply: b"yes 15 statements 1 proofs\n",
+        status: 0,
+    },
+    Row {
+        name: "Compressed proofs (book, 4.4.3 and appendix B), in docs/LANGUAGE.md",
+        files: &[(
+            b"f.mm",
+            &[Text(
+                b"$c ( ) -> wff |- $.\n$v P Q $.\nwp $f wff P $.\nwq $f wff Q $.\nwim $a wff ( P -> Q ) $.\nid $a |- ( P -> P ) $.\n${\n  min $e |- P $.\n  maj $e |- ( P -> Q ) $.\n  mp $a |- Q $.\n$}\n${\n  a1 $e |- ( ( P -> P ) -> Q ) $.\n  th $p |- Q $= ( wim id mp ) AADBAECF $.\n$}\n",
+            )],
+        )],
+        reply: b"yes 15 statements 1 proofs\n",
+        status: 0,
+    },
+    Row {
+        name: "Compressed proofs (book, 4.4.3 and appendix B), in docs/LANGUAGE.md",
+        files: &[(
+            b"f.mm",
+            &[Text(
+                b"$c + ( ) term $.\n$v t r $.\ntt $f term t $.\ntr $f term r $.\nplus $a term ( t + r ) $.\nth $p term ( ( t + r ) + ( t + r ) ) $= ( plus ) ABCZDC $.\n",
+            )],
+        )],
+        reply: b"yes 6 statements 1 proofs\n",
+        status: 0,
+    },
+    Row {
+        name: "Incomplete proofs (book, 4.4.4), in docs/LANGUAGE.md",
+        files: &[(
+            b"f.mm",
+            &[Text(
+                b"$c a $. one $a a $.\nu1 $p a $= ? $.\nu2 $p a $= ( one ) A? $.\nth $p a $= u1 $.\n",
+            )],
+        )],
+        reply: b"incomplete 2\nu1\nu2\n",
+        status: 3,
+    },
+];
 
-/// Examples of `docs/RULES.md`.
-pub(crate) const RULES_1: [Row; 16] = [
+/// The examples of `docs/RULES.md`.
+pub(crate) const RULES: [Row; 69] = [
     Row {
         name: "X1, in docs/RULES.md",
         files: &[(b"f.mm", &[Text(b"$c \xc3\xa9 $.\n")])],
         reply: b"no f.mm 1 - X1 0\n",
+        status: 1,
+    },
+    Row {
+        name: "X1, in docs/RULES.md",
+        files: &[(b"f.mm", &[Text(b"$c a $.\n$( \xc3\xa9 $)\n")])],
+        reply: b"no f.mm 2 - X1 0\n",
+        status: 1,
+    },
+    Row {
+        name: "X2, in docs/RULES.md",
+        files: &[(b"f.mm", &[Text(b"$c a $.\n$( open\n")])],
+        reply: b"no f.mm 2 - X2 0\n",
+        status: 1,
+    },
+    Row {
+        name: "X2, in docs/RULES.md",
+        files: &[(b"f.mm", &[Text(b"p $a\n$( open\n")])],
+        reply: b"no f.mm 2 p X2 0\n",
+        status: 1,
+    },
+    Row {
+        name: "X3, in docs/RULES.md",
+        files: &[(b"f.mm", &[Text(b"$( a$) $)\n")])],
+        reply: b"no f.mm 1 - X3 0\n",
+        status: 1,
+    },
+    Row {
+        name: "X3, in docs/RULES.md",
+        files: &[(b"f.mm", &[Text(b"$( one $( two $)\n")])],
+        reply: b"no f.mm 1 - X3 0\n",
         status: 1,
     },
     Row {
@@ -31,9 +153,66 @@ pub(crate) const RULES_1: [Row; 16] = [
         status: 1,
     },
     Row {
+        name: "X4, in docs/RULES.md",
+        files: &[(b"f.mm", &[Text(b"$]\n")])],
+        reply: b"no f.mm 1 - X4 0\n",
+        status: 1,
+    },
+    Row {
+        name: "X4, in docs/RULES.md",
+        files: &[(b"f.mm", &[Text(b"$[ a.mm $)\n")])],
+        reply: b"no f.mm 1 - X4 0\n",
+        status: 1,
+    },
+    Row {
+        name: "X5, in docs/RULES.md",
+        files: &[(b"f.mm", &[Text(b"$[ $]\n")])],
+        reply: b"no f.mm 1 - X5 0\n",
+        status: 1,
+    },
+    Row {
+        name: "X5, in docs/RULES.md",
+        files: &[(b"f.mm", &[Text(b"$[ a.mm\nb.mm $]\n")])],
+        reply: b"no f.mm 2 - X5 0\n",
+        status: 1,
+    },
+    Row {
+        name: "X5, in docs/RULES.md",
+        files: &[(b"f.mm", &[Text(b"$[\na.mm\n")])],
+        reply: b"no f.mm 1 - X5 0\n",
+        status: 1,
+    },
+    Row {
+        name: "X6, in docs/RULES.md",
+        files: &[(b"f.mm", &[Text(b"${ $[ a.mm $] $}\n")])],
+        reply: b"no f.mm 1 - X6 0\n",
+        status: 1,
+    },
+    Row {
+        name: "X6, in docs/RULES.md",
+        files: &[(b"f.mm", &[Text(b"p $a\n$[ $x\n")])],
+        reply: b"no f.mm 2 p X6 0\n",
+        status: 1,
+    },
+    Row {
+        name: "X7, in docs/RULES.md",
+        files: &[(b"f.mm", &[Text(b"$[\na.mm $]\n")])],
+        reply: b"no f.mm 2 - X7 0\n",
+        status: 1,
+    },
+    Row {
         name: "X8, in docs/RULES.md",
         files: &[(b"f.mm", &[Text(b"p $a\nx\n")])],
         reply: b"no f.mm 1 p X8 0\n",
+        status: 1,
+    },
+    Row {
+        name: "X8, in docs/RULES.md",
+        files: &[
+            (b"top.mm", &[Text(b"$[ a.mm $] x $.\n")]),
+            (b"a.mm", &[Text(b"$c\n")]),
+        ],
+        reply: b"no a.mm 1 - X8 0\n",
         status: 1,
     },
     Row {
@@ -67,8 +246,20 @@ pub(crate) const RULES_1: [Row; 16] = [
         status: 1,
     },
     Row {
+        name: "S4, in docs/RULES.md",
+        files: &[(b"f.mm", &[Text(b"$c a ${ $.\n")])],
+        reply: b"no f.mm 1 - S4 0\n",
+        status: 1,
+    },
+    Row {
         name: "S5, in docs/RULES.md",
         files: &[(b"f.mm", &[Text(b"$c $.\n")])],
+        reply: b"no f.mm 1 - S5 0\n",
+        status: 1,
+    },
+    Row {
+        name: "S5, in docs/RULES.md",
+        files: &[(b"f.mm", &[Text(b"$d x $.\n")])],
         reply: b"no f.mm 1 - S5 0\n",
         status: 1,
     },
@@ -79,8 +270,41 @@ pub(crate) const RULES_1: [Row; 16] = [
         status: 1,
     },
     Row {
+        name: "S6, in docs/RULES.md",
+        files: &[(b"f.mm", &[Text(b"$}\n")])],
+        reply: b"no f.mm 1 - S6 0\n",
+        status: 1,
+    },
+    Row {
+        name: "S7, in docs/RULES.md",
+        files: &[(b"f.mm", &[Text(b"$c a $.\n${\n${\n$}\n")])],
+        reply: b"no f.mm 2 - S7 0\n",
+        status: 1,
+    },
+    Row {
+        name: "S7, in docs/RULES.md",
+        files: &[
+            (b"top.mm", &[Text(b"$[ a.mm $]\n${\n$}\n")]),
+            (b"a.mm", &[Text(b"\n${\n")]),
+        ],
+        reply: b"no a.mm 2 - S7 0\n",
+        status: 1,
+    },
+    Row {
+        name: "M1, in docs/RULES.md",
+        files: &[(b"f.mm", &[Text(b"${\n$c a $.\n$}\n")])],
+        reply: b"no f.mm 2 - M1 0\n",
+        status: 1,
+    },
+    Row {
         name: "M2, in docs/RULES.md",
         files: &[(b"f.mm", &[Text(b"$c a $. $v x $.\n$c x $.\n")])],
+        reply: b"no f.mm 2 - M2 0\n",
+        status: 1,
+    },
+    Row {
+        name: "M2, in docs/RULES.md",
+        files: &[(b"f.mm", &[Text(b"${ $v x $. $}\n$c x $.\n")])],
         reply: b"no f.mm 2 - M2 0\n",
         status: 1,
     },
@@ -91,6 +315,12 @@ pub(crate) const RULES_1: [Row; 16] = [
         status: 1,
     },
     Row {
+        name: "M3, in docs/RULES.md",
+        files: &[(b"f.mm", &[Text(b"${ $v x $. $}\n${ $v x $. $}\n")])],
+        reply: b"yes 6 statements 0 proofs\n",
+        status: 0,
+    },
+    Row {
         name: "M4, in docs/RULES.md",
         files: &[(b"f.mm", &[Text(b"$c a $. p $a a $.\n$v p $.\n")])],
         reply: b"no f.mm 2 - M4 0\n",
@@ -98,7 +328,7 @@ pub(crate) const RULES_1: [Row; 16] = [
     },
     Row {
         name: "M5, in docs/RULES.md",
-        files: &[(b"f.mm", &[Text(b"$c a $. p $a a $.\np $a a a $.\n")])],
+        files: &[(b"f.mm", &[Text(b"$c a $. ${ p $e a $. $}\np $a a a $.\n")])],
         reply: b"no f.mm 2 p M5 0\n",
         status: 1,
     },
@@ -114,10 +344,24 @@ pub(crate) const RULES_1: [Row; 16] = [
         reply: b"no f.mm 1 p M7 0\n",
         status: 1,
     },
-];
-
-/// Examples of `docs/RULES.md`.
-pub(crate) const RULES_2: [Row; 12] = [
+    Row {
+        name: "M7, in docs/RULES.md",
+        files: &[(b"f.mm", &[Text(b"$c a $.\n${ $v x $. $}\np $a a x $.\n")])],
+        reply: b"no f.mm 3 p M7 0\n",
+        status: 1,
+    },
+    Row {
+        name: "M8, in docs/RULES.md",
+        files: &[(b"f.mm", &[Text(b"$c a $. $v x $.\n$d a x $.\n")])],
+        reply: b"no f.mm 2 - M8 0\n",
+        status: 1,
+    },
+    Row {
+        name: "M9, in docs/RULES.md",
+        files: &[(b"f.mm", &[Text(b"$v x $.\n$d x x $.\n")])],
+        reply: b"no f.mm 2 - M9 0\n",
+        status: 1,
+    },
     Row {
         name: "M10, in docs/RULES.md",
         files: &[(b"f.mm", &[Text(b"$v x y $. p $f x y $.\n")])],
@@ -140,6 +384,15 @@ pub(crate) const RULES_2: [Row; 12] = [
         status: 1,
     },
     Row {
+        name: "M13, in docs/RULES.md",
+        files: &[(
+            b"f.mm",
+            &[Text(b"$c a b $.\n${ $v x $. fx $f a x $. $}\n${ $v x $. gx $f b x $. $}\n")],
+        )],
+        reply: b"no f.mm 3 gx M13 0\n",
+        status: 1,
+    },
+    Row {
         name: "M14, in docs/RULES.md",
         files: &[(b"f.mm", &[Text(b"$v x $. p $a x $.\n")])],
         reply: b"no f.mm 1 p M14 0\n",
@@ -152,9 +405,90 @@ pub(crate) const RULES_2: [Row; 12] = [
         status: 1,
     },
     Row {
+        name: "P1, in docs/RULES.md",
+        files: &[(
+            b"f.mm",
+            &[Text(b"$c a $. one $a a $.\np $p a $= ( one A $.\n")],
+        )],
+        reply: b"no f.mm 2 p P1 0\n",
+        status: 1,
+    },
+    Row {
         name: "P2, in docs/RULES.md",
         files: &[(b"f.mm", &[Text(b"$c a $. p $p a $= p $.\n")])],
         reply: b"no f.mm 1 p P2 0\n",
+        status: 1,
+    },
+    Row {
+        name: "P2, in docs/RULES.md",
+        files: &[(
+            b"f.mm",
+            &[Text(b"$c a $. one $a a $.\np $p a $= ( one two ) A $.\n")],
+        )],
+        reply: b"no f.mm 2 p P2 0\n",
+        status: 1,
+    },
+    Row {
+        name: "P3, in docs/RULES.md",
+        files: &[(
+            b"f.mm",
+            &[Text(b"$c a $.\n${ h $e a $. $}\np $p a $= h $.\n")],
+        )],
+        reply: b"no f.mm 3 p P3 0\n",
+        status: 1,
+    },
+    Row {
+        name: "P4, in docs/RULES.md",
+        files: &[(
+            b"f.mm",
+            &[Text(b"$c a $. one $a a $.\np $p a $= ( one ) Aa $.\n")],
+        )],
+        reply: b"no f.mm 2 p P4 0\n",
+        status: 1,
+    },
+    Row {
+        name: "P5, in docs/RULES.md",
+        files: &[(
+            b"f.mm",
+            &[Text(b"$c a $. one $a a $.\np $p a $= ( one ) UZ $.\n")],
+        )],
+        reply: b"no f.mm 2 p P5 0\n",
+        status: 1,
+    },
+    Row {
+        name: "P5, in docs/RULES.md",
+        files: &[(
+            b"f.mm",
+            &[Text(b"$c a $. one $a a $.\np $p a $= ( one ) AU $.\n")],
+        )],
+        reply: b"no f.mm 2 p P5 0\n",
+        status: 1,
+    },
+    Row {
+        name: "P6, in docs/RULES.md",
+        files: &[(
+            b"f.mm",
+            &[Text(b"$c a $. one $a a $.\np $p a $= ( one ) B $.\n")],
+        )],
+        reply: b"no f.mm 2 p P6 1\n",
+        status: 1,
+    },
+    Row {
+        name: "P6, in docs/RULES.md",
+        files: &[(
+            b"f.mm",
+            &[Text(b"$c a $. one $a a $.\np $p a $= ( one ) AZB $.\n")],
+        )],
+        reply: b"no f.mm 2 p P13 3\n",
+        status: 1,
+    },
+    Row {
+        name: "P7, in docs/RULES.md",
+        files: &[(
+            b"f.mm",
+            &[Text(b"$c a $. one $a a $.\np $p a $= ( one ) ZT $.\n")],
+        )],
+        reply: b"no f.mm 2 p P7 1\n",
         status: 1,
     },
     Row {
@@ -178,6 +512,50 @@ pub(crate) const RULES_2: [Row; 12] = [
         )],
         reply: b"no f.mm 2 p P9 2\n",
         status: 1,
+    },
+    Row {
+        name: "P10, in docs/RULES.md",
+        files: &[(
+            b"f.mm",
+            &[Text(
+                b"$c a b |- $. $v x $. fx $f a x $.\none $a a b $. bb $a |- b b $.\n${ h $e |- x $. two $a |- x x $. $}\np $p |- b b $= one bb two $.\n",
+            )],
+        )],
+        reply: b"no f.mm 4 p P10 3\n",
+        status: 1,
+    },
+    Row {
+        name: "P11, in docs/RULES.md",
+        files: &[(
+            b"f.mm",
+            &[Text(
+                b"$c a |- $. $v x y $. fx $f a x $. fy $f a y $.\n${ $d x y $. ax $a |- x y $. $}\np $p |- x x $= fx fx ax $.\n",
+            )],
+        )],
+        reply: b"no f.mm 3 p P11 3\n",
+        status: 1,
+    },
+    Row {
+        name: "P12, in docs/RULES.md",
+        files: &[(
+            b"f.mm",
+            &[Text(
+                b"$c a |- $. $v x y $. fx $f a x $. fy $f a y $.\n${ $d x y $. ax $a |- x y $. $}\np $p |- y x $= fy fx ax $.\n",
+            )],
+        )],
+        reply: b"no f.mm 3 p P12 3\n",
+        status: 1,
+    },
+    Row {
+        name: "P12, in docs/RULES.md",
+        files: &[(
+            b"f.mm",
+            &[Text(
+                b"$c a |- $. $v x y $. fx $f a x $. fy $f a y $.\n${ $d x y $. ax $a |- x y $. $}\n${ $d x y $. p $p |- y x $= fy fx ax $. $}\n",
+            )],
+        )],
+        reply: b"yes 12 statements 1 proofs\n",
+        status: 0,
     },
     Row {
         name: "L1, in docs/RULES.md",
@@ -215,6 +593,24 @@ pub(crate) const RULES_2: [Row; 12] = [
             &[Text(b"$c a b $. one $a a b $.\np $p a b $= $.\n\xc3\xa9\n")],
         )],
         reply: b"no f.mm 2 p P13 1\n",
+        status: 1,
+    },
+    Row {
+        name: "Incomplete proofs, in docs/RULES.md",
+        files: &[(
+            b"f.mm",
+            &[Text(b"$c a $. one $a a $.\np $p a $= nope ( ? $.\nq $p a $= p $.\n")],
+        )],
+        reply: b"incomplete 1\np\n",
+        status: 3,
+    },
+    Row {
+        name: "Incomplete proofs, in docs/RULES.md",
+        files: &[(
+            b"f.mm",
+            &[Text(b"$c a $. one $a a $.\np $p a $= ? $.\nq $p a $= one one $.\n")],
+        )],
+        reply: b"no f.mm 3 q P13 3\n",
         status: 1,
     },
 ];

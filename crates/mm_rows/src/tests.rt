@@ -183,18 +183,13 @@ fn nested_blocks(rt: HostRuntime) -> Result<(), Fail> {
 }
 
 #[test]
-fn language_1(rt: HostRuntime) -> Result<(), Fail> {
-    compare(&rt, rt.alloc(), &examples::LANGUAGE_1)
+fn language(rt: HostRuntime) -> Result<(), Fail> {
+    compare(&rt, rt.alloc(), &examples::LANGUAGE)
 }
 
 #[test]
-fn rules_1(rt: HostRuntime) -> Result<(), Fail> {
-    compare(&rt, rt.alloc(), &examples::RULES_1)
-}
-
-#[test]
-fn rules_2(rt: HostRuntime) -> Result<(), Fail> {
-    compare(&rt, rt.alloc(), &examples::RULES_2)
+fn rules(rt: HostRuntime) -> Result<(), Fail> {
+    compare(&rt, rt.alloc(), &examples::RULES)
 }
 
 /// What is done to the byte in a place.
