@@ -1,6 +1,6 @@
-//! The acceptance cases of damaged files and of depth: the demonstration database cut after each of
-//! its bytes and with each of its bytes replaced, many blocks inside each other, and many files that
-//! include each other.
+//! The acceptance cases of damaged files and of depth: the demonstration database cut after each
+//! of its bytes and with each of its bytes replaced, many blocks inside each other, and many files
+//! that include each other.
 
 use crate::Part::Times;
 use crate::Row;

@@ -20,7 +20,12 @@ pub(crate) const LANGUAGE: [Row; 9] = [
             ),
             (
                 b"terms.mm",
-                &[Text(b"$[ top.mm $]\n$[ symbols.mm $]\ntt $f term t $.\ntze $a term 0 $.\n")],
+                &[
+                    Text(b"$[ top.mm $]\n"),
+                    Text(b"$[ symbols.mm $]\n"),
+                    Text(b"tt $f term t $.\n"),
+                    Text(b"tze $a term 0 $.\n"),
+                ],
             ),
             (
                 b"rules.mm",
@@ -44,9 +49,15 @@ pub(crate) const LANGUAGE: [Row; 9] = [
         name: "Statements (book, 4.1.3 and 4.2), in docs/LANGUAGE.md",
         files: &[(
             b"f.mm",
-            &[Text(
-                b"$c 0 + ( ) term $.\n$v t r $.\ntt $f term t $.\ntr $f term r $.\ntze $a term 0 $.\ntpl $a term ( t + r ) $.\nth $p term ( 0 + 0 ) $= tze tze tpl $.\n",
-            )],
+            &[
+                Text(b"$c 0 + ( ) term $.\n"),
+                Text(b"$v t r $.\n"),
+                Text(b"tt $f term t $.\n"),
+                Text(b"tr $f term r $.\n"),
+                Text(b"tze $a term 0 $.\n"),
+                Text(b"tpl $a term ( t + r ) $.\n"),
+                Text(b"th $p term ( 0 + 0 ) $= tze tze tpl $.\n"),
+            ],
         )],
         reply: b"yes 7 statements 1 proofs\n",
         status: 0,
@@ -55,9 +66,21 @@ pub(crate) const LANGUAGE: [Row; 9] = [
         name: "Frames (book, 4.2.7), in docs/LANGUAGE.md",
         files: &[(
             b"f.mm",
-            &[Text(
-                b"$c |- set R $.\n$v x y z $.\nvx $f set x $.\nvy $f set y $.\nvz $f set z $.\n${\n$d x y $.\nax $a |- x R y $.\n$}\n${\nh $e |- x R y $.\nfin $a |- x $.\n$}\n",
-            )],
+            &[
+                Text(b"$c |- set R $.\n"),
+                Text(b"$v x y z $.\n"),
+                Text(b"vx $f set x $.\n"),
+                Text(b"vy $f set y $.\n"),
+                Text(b"vz $f set z $.\n"),
+                Text(b"${\n"),
+                Text(b"$d x y $.\n"),
+                Text(b"ax $a |- x R y $.\n"),
+                Text(b"$}\n"),
+                Text(b"${\n"),
+                Text(b"h $e |- x R y $.\n"),
+                Text(b"fin $a |- x $.\n"),
+                Text(b"$}\n"),
+            ],
         )],
         reply: b"yes 13 statements 0 proofs\n",
         status: 0,
@@ -66,9 +89,23 @@ pub(crate) const LANGUAGE: [Row; 9] = [
         name: "Normal proofs (book, 4.1.4 and 4.3), in docs/LANGUAGE.md",
         files: &[(
             b"f.mm",
-            &[Text(
-                b"$c ( ) -> wff |- $.\n$v P Q $.\nwp $f wff P $.\nwq $f wff Q $.\nwim $a wff ( P -> Q ) $.\nid $a |- ( P -> P ) $.\n${\n  min $e |- P $.\n  maj $e |- ( P -> Q ) $.\n  mp $a |- Q $.\n$}\n${\n  a1 $e |- ( ( P -> P ) -> Q ) $.\n  th $p |- Q $= wp wp wim wq wp id a1 mp $.\n$}\n",
-            )],
+            &[
+                Text(b"$c ( ) -> wff |- $.\n"),
+                Text(b"$v P Q $.\n"),
+                Text(b"wp $f wff P $.\n"),
+                Text(b"wq $f wff Q $.\n"),
+                Text(b"wim $a wff ( P -> Q ) $.\n"),
+                Text(b"id $a |- ( P -> P ) $.\n"),
+                Text(b"${\n"),
+                Text(b"  min $e |- P $.\n"),
+                Text(b"  maj $e |- ( P -> Q ) $.\n"),
+                Text(b"  mp $a |- Q $.\n"),
+                Text(b"$}\n"),
+                Text(b"${\n"),
+                Text(b"  a1 $e |- ( ( P -> P ) -> Q ) $.\n"),
+                Text(b"  th $p |- Q $= wp wp wim wq wp id a1 mp $.\n"),
+                Text(b"$}\n"),
+            ],
         )],
         reply: b"yes 15 statements 1 proofs\n",
         status: 0,
@@ -77,9 +114,23 @@ pub(crate) const LANGUAGE: [Row; 9] = [
         name: "Compressed proofs (book, 4.4.3 and appendix B), in docs/LANGUAGE.md",
         files: &[(
             b"f.mm",
-            &[Text(
-                b"$c ( ) -> wff |- $.\n$v P Q $.\nwp $f wff P $.\nwq $f wff Q $.\nwim $a wff ( P -> Q ) $.\nid $a |- ( P -> P ) $.\n${\n  min $e |- P $.\n  maj $e |- ( P -> Q ) $.\n  mp $a |- Q $.\n$}\n${\n  a1 $e |- ( ( P -> P ) -> Q ) $.\n  th $p |- Q $= ( wim id mp ) AADBAECF $.\n$}\n",
-            )],
+            &[
+                Text(b"$c ( ) -> wff |- $.\n"),
+                Text(b"$v P Q $.\n"),
+                Text(b"wp $f wff P $.\n"),
+                Text(b"wq $f wff Q $.\n"),
+                Text(b"wim $a wff ( P -> Q ) $.\n"),
+                Text(b"id $a |- ( P -> P ) $.\n"),
+                Text(b"${\n"),
+                Text(b"  min $e |- P $.\n"),
+                Text(b"  maj $e |- ( P -> Q ) $.\n"),
+                Text(b"  mp $a |- Q $.\n"),
+                Text(b"$}\n"),
+                Text(b"${\n"),
+                Text(b"  a1 $e |- ( ( P -> P ) -> Q ) $.\n"),
+                Text(b"  th $p |- Q $= ( wim id mp ) AADBAECF $.\n"),
+                Text(b"$}\n"),
+            ],
         )],
         reply: b"yes 15 statements 1 proofs\n",
         status: 0,
@@ -88,9 +139,14 @@ pub(crate) const LANGUAGE: [Row; 9] = [
         name: "Compressed proofs (book, 4.4.3 and appendix B), in docs/LANGUAGE.md",
         files: &[(
             b"f.mm",
-            &[Text(
-                b"$c + ( ) term $.\n$v t r $.\ntt $f term t $.\ntr $f term r $.\nplus $a term ( t + r ) $.\nth $p term ( ( t + r ) + ( t + r ) ) $= ( plus ) ABCZDC $.\n",
-            )],
+            &[
+                Text(b"$c + ( ) term $.\n"),
+                Text(b"$v t r $.\n"),
+                Text(b"tt $f term t $.\n"),
+                Text(b"tr $f term r $.\n"),
+                Text(b"plus $a term ( t + r ) $.\n"),
+                Text(b"th $p term ( ( t + r ) + ( t + r ) ) $= ( plus ) ABCZDC $.\n"),
+            ],
         )],
         reply: b"yes 6 statements 1 proofs\n",
         status: 0,
@@ -99,9 +155,12 @@ pub(crate) const LANGUAGE: [Row; 9] = [
         name: "Incomplete proofs (book, 4.4.4), in docs/LANGUAGE.md",
         files: &[(
             b"f.mm",
-            &[Text(
-                b"$c a $. one $a a $.\nu1 $p a $= ? $.\nu2 $p a $= ( one ) A? $.\nth $p a $= u1 $.\n",
-            )],
+            &[
+                Text(b"$c a $. one $a a $.\n"),
+                Text(b"u1 $p a $= ? $.\n"),
+                Text(b"u2 $p a $= ( one ) A? $.\n"),
+                Text(b"th $p a $= u1 $.\n"),
+            ],
         )],
         reply: b"incomplete 2\nu1\nu2\n",
         status: 3,
@@ -387,7 +446,11 @@ pub(crate) const RULES: [Row; 69] = [
         name: "M13, in docs/RULES.md",
         files: &[(
             b"f.mm",
-            &[Text(b"$c a b $.\n${ $v x $. fx $f a x $. $}\n${ $v x $. gx $f b x $. $}\n")],
+            &[
+                Text(b"$c a b $.\n"),
+                Text(b"${ $v x $. fx $f a x $. $}\n"),
+                Text(b"${ $v x $. gx $f b x $. $}\n"),
+            ],
         )],
         reply: b"no f.mm 3 gx M13 0\n",
         status: 1,
@@ -495,9 +558,11 @@ pub(crate) const RULES: [Row; 69] = [
         name: "P8, in docs/RULES.md",
         files: &[(
             b"f.mm",
-            &[Text(
-                b"$c a b $. $v x $. fx $f a x $. one $a a b $. two $a a x x $.\np $p a b b $= two one $.\n",
-            )],
+            &[
+                Text(b"$c a b $. $v x $. fx $f a x $. one $a a b $. two $a a x x "),
+                Text(b"$.\n"),
+                Text(b"p $p a b b $= two one $.\n"),
+            ],
         )],
         reply: b"no f.mm 2 p P8 1\n",
         status: 1,
@@ -506,9 +571,10 @@ pub(crate) const RULES: [Row; 69] = [
         name: "P9, in docs/RULES.md",
         files: &[(
             b"f.mm",
-            &[Text(
-                b"$c a b $. $v x $. fx $f a x $. one $a b $. two $a a x x $.\np $p a $= one two $.\n",
-            )],
+            &[
+                Text(b"$c a b $. $v x $. fx $f a x $. one $a b $. two $a a x x $.\n"),
+                Text(b"p $p a $= one two $.\n"),
+            ],
         )],
         reply: b"no f.mm 2 p P9 2\n",
         status: 1,
@@ -517,9 +583,12 @@ pub(crate) const RULES: [Row; 69] = [
         name: "P10, in docs/RULES.md",
         files: &[(
             b"f.mm",
-            &[Text(
-                b"$c a b |- $. $v x $. fx $f a x $.\none $a a b $. bb $a |- b b $.\n${ h $e |- x $. two $a |- x x $. $}\np $p |- b b $= one bb two $.\n",
-            )],
+            &[
+                Text(b"$c a b |- $. $v x $. fx $f a x $.\n"),
+                Text(b"one $a a b $. bb $a |- b b $.\n"),
+                Text(b"${ h $e |- x $. two $a |- x x $. $}\n"),
+                Text(b"p $p |- b b $= one bb two $.\n"),
+            ],
         )],
         reply: b"no f.mm 4 p P10 3\n",
         status: 1,
@@ -528,9 +597,11 @@ pub(crate) const RULES: [Row; 69] = [
         name: "P11, in docs/RULES.md",
         files: &[(
             b"f.mm",
-            &[Text(
-                b"$c a |- $. $v x y $. fx $f a x $. fy $f a y $.\n${ $d x y $. ax $a |- x y $. $}\np $p |- x x $= fx fx ax $.\n",
-            )],
+            &[
+                Text(b"$c a |- $. $v x y $. fx $f a x $. fy $f a y $.\n"),
+                Text(b"${ $d x y $. ax $a |- x y $. $}\n"),
+                Text(b"p $p |- x x $= fx fx ax $.\n"),
+            ],
         )],
         reply: b"no f.mm 3 p P11 3\n",
         status: 1,
@@ -539,9 +610,11 @@ pub(crate) const RULES: [Row; 69] = [
         name: "P12, in docs/RULES.md",
         files: &[(
             b"f.mm",
-            &[Text(
-                b"$c a |- $. $v x y $. fx $f a x $. fy $f a y $.\n${ $d x y $. ax $a |- x y $. $}\np $p |- y x $= fy fx ax $.\n",
-            )],
+            &[
+                Text(b"$c a |- $. $v x y $. fx $f a x $. fy $f a y $.\n"),
+                Text(b"${ $d x y $. ax $a |- x y $. $}\n"),
+                Text(b"p $p |- y x $= fy fx ax $.\n"),
+            ],
         )],
         reply: b"no f.mm 3 p P12 3\n",
         status: 1,
@@ -550,9 +623,11 @@ pub(crate) const RULES: [Row; 69] = [
         name: "P12, in docs/RULES.md",
         files: &[(
             b"f.mm",
-            &[Text(
-                b"$c a |- $. $v x y $. fx $f a x $. fy $f a y $.\n${ $d x y $. ax $a |- x y $. $}\n${ $d x y $. p $p |- y x $= fy fx ax $. $}\n",
-            )],
+            &[
+                Text(b"$c a |- $. $v x y $. fx $f a x $. fy $f a y $.\n"),
+                Text(b"${ $d x y $. ax $a |- x y $. $}\n"),
+                Text(b"${ $d x y $. p $p |- y x $= fy fx ax $. $}\n"),
+            ],
         )],
         reply: b"yes 12 statements 1 proofs\n",
         status: 0,
@@ -561,9 +636,12 @@ pub(crate) const RULES: [Row; 69] = [
         name: "L1, in docs/RULES.md",
         files: &[(
             b"f.mm",
-            &[Text(
-                b"$c a b $. $v x $. fx $f a x $. one $a a b $. two $a a x x b $.\np $p a $= one two two two two two two two two two two two two two two two two two two two two $.\n",
-            )],
+            &[
+                Text(b"$c a b $. $v x $. fx $f a x $. one $a a b $. two $a a x x b "),
+                Text(b"$.\n"),
+                Text(b"p $p a $= one two two two two two two two two two two two "),
+                Text(b"two two two two two two two two two $.\n"),
+            ],
         )],
         reply: b"limit f.mm 2 p L1 21\n",
         status: 4,

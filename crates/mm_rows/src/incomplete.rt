@@ -48,7 +48,8 @@ pub(crate) const LISTED: [Row; 7] = [
             b"h.mm",
             &[
                 Text(HEAD),
-                Text(b"u1 $p |- t = t $= ? $. h1 $p term t $= tt $. u2 $p |- 0 = 0 $= tt ? $.\n"),
+                Text(b"u1 $p |- t = t $= ? $. h1 $p term t $= tt $. u2 $p |- 0 = 0 "),
+                Text(b"$= tt ? $.\n"),
             ],
         )],
         reply: b"incomplete 2\nu1\nu2\n",

@@ -1,5 +1,5 @@
-//! The acceptance cases of one file without blocks, `$e`, `$d`, comments and inclusions. The replies
-//! are those of the cases, and no output of the program.
+//! The acceptance cases of one file without blocks, `$e`, `$d`, comments and inclusions. The
+//! replies are those of the cases, and no output of the program.
 
 use crate::Part::{Text, Times};
 use crate::Row;
@@ -29,9 +29,16 @@ pub(crate) const WHOLE_FILES: [Row; 10] = [
         name: "a small database with other white space",
         files: &[(
             b"first.mm",
-            &[Text(
-                b"$c\x0c0\x0c+\x0c(\x0c)\x0cterm\x0c$.\r\n$v\x0ct\x0cr\x0c$.\r\ntt\x0c$f\x0cterm\x0ct\x0c$.\r\ntr\x0c$f\x0cterm\x0cr\x0c$.\r\ntze\x0c$a\x0cterm\x0c0\x0c$.\r\ntpl\x0c$a\x0cterm\x0c(\x0ct\x0c+\x0cr\x0c)\x0c$.\r\nth\x0c$p\x0cterm\x0c(\x0c0\x0c+\x0c0\x0c)\x0c$=\x0ctze\x0ctze\x0ctpl\x0c$.\r\n",
-            )],
+            &[
+                Text(b"$c\x0c0\x0c+\x0c(\x0c)\x0cterm\x0c$.\r\n"),
+                Text(b"$v\x0ct\x0cr\x0c$.\r\n"),
+                Text(b"tt\x0c$f\x0cterm\x0ct\x0c$.\r\n"),
+                Text(b"tr\x0c$f\x0cterm\x0cr\x0c$.\r\n"),
+                Text(b"tze\x0c$a\x0cterm\x0c0\x0c$.\r\n"),
+                Text(b"tpl\x0c$a\x0cterm\x0c(\x0ct\x0c+\x0cr\x0c)\x0c$.\r\n"),
+                Text(b"th\x0c$p\x0cterm\x0c(\x0c0\x0c+\x0c0\x0c)\x0c"),
+                Text(b"$=\x0ctze\x0ctze\x0ctpl\x0c$.\r\n"),
+            ],
         )],
         reply: b"yes 7 statements 1 proofs\n",
         status: 0,
@@ -495,9 +502,12 @@ pub(crate) const STEPS: [Row; 6] = [
         files: &[(
             b"l.mm",
             &[
-                Text(
-                    b"$c e f | $.\n$v x $.\nfx $f e x $.\none $a e | $.\nodd $a e x x | $.\nth $p e | $= one ",
-                ),
+                Text(b"$c e f | $.\n"),
+                Text(b"$v x $.\n"),
+                Text(b"fx $f e x $.\n"),
+                Text(b"one $a e | $.\n"),
+                Text(b"odd $a e x x | $.\n"),
+                Text(b"th $p e | $= one "),
                 Times(b"odd ", 20),
                 Text(b"$.\n"),
             ],
@@ -510,9 +520,12 @@ pub(crate) const STEPS: [Row; 6] = [
         files: &[(
             b"l.mm",
             &[
-                Text(
-                    b"$c e f | $.\n$v x $.\nfx $f e x $.\none $a e | $.\nodd $a e x x | $.\nth $p e | $= one ",
-                ),
+                Text(b"$c e f | $.\n"),
+                Text(b"$v x $.\n"),
+                Text(b"fx $f e x $.\n"),
+                Text(b"one $a e | $.\n"),
+                Text(b"odd $a e x x | $.\n"),
+                Text(b"th $p e | $= one "),
                 Times(b"odd ", 19),
                 Text(b"$.\n"),
             ],

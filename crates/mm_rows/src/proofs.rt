@@ -206,7 +206,10 @@ pub(crate) const WHOLE_LANGUAGE: [Row; 10] = [
         name: "a proof names an active hypothesis",
         files: &[(
             b"q.mm",
-            &[Text(b"$c a |- $. $v x $. fx $f a x $.\n${ h $e |- x $. q $p |- x $= h $. $}\n")],
+            &[
+                Text(b"$c a |- $. $v x $. fx $f a x $.\n"),
+                Text(b"${ h $e |- x $. q $p |- x $= h $. $}\n"),
+            ],
         )],
         reply: b"yes 7 statements 1 proofs\n",
         status: 0,

@@ -10,7 +10,11 @@ pub(crate) const BLOCKS: [Row; 11] = [
         name: "a variable declared again in a second block",
         files: &[(
             b"s.mm",
-            &[Text(b"$c a b $.\n${ $v x $. fx $f a x $. $}\n${ $v x $. fy $f a x $. $}\n")],
+            &[
+                Text(b"$c a b $.\n"),
+                Text(b"${ $v x $. fx $f a x $. $}\n"),
+                Text(b"${ $v x $. fy $f a x $. $}\n"),
+            ],
         )],
         reply: b"yes 9 statements 0 proofs\n",
         status: 0,
@@ -19,7 +23,11 @@ pub(crate) const BLOCKS: [Row; 11] = [
         name: "a variable with another type code in a second block",
         files: &[(
             b"s.mm",
-            &[Text(b"$c a b $.\n${ $v x $. fx $f a x $. $}\n${ $v x $. fy $f b x $. $}\n")],
+            &[
+                Text(b"$c a b $.\n"),
+                Text(b"${ $v x $. fx $f a x $. $}\n"),
+                Text(b"${ $v x $. fy $f b x $. $}\n"),
+            ],
         )],
         reply: b"no s.mm 3 fy M13 0\n",
         status: 1,
@@ -46,7 +54,11 @@ pub(crate) const BLOCKS: [Row; 11] = [
         name: "a label in a block that is a symbol",
         files: &[(
             b"s.mm",
-            &[Text(b"$c a b $.\n${ $v x $. a $f a x $. $}\n${ $v x $. fy $f a x $. $}\n")],
+            &[
+                Text(b"$c a b $.\n"),
+                Text(b"${ $v x $. a $f a x $. $}\n"),
+                Text(b"${ $v x $. fy $f a x $. $}\n"),
+            ],
         )],
         reply: b"no s.mm 2 a M6 0\n",
         status: 1,
@@ -161,7 +173,11 @@ pub(crate) const HYPOTHESES: [Row; 9] = [
         name: "a hypothesis of a closed block in a proof",
         files: &[(
             b"q.mm",
-            &[Text(b"$c a |- $. $v x $. fx $f a x $.\n${ h $e |- x $. $}\nq $p |- x $= h $.\n")],
+            &[
+                Text(b"$c a |- $. $v x $. fx $f a x $.\n"),
+                Text(b"${ h $e |- x $. $}\n"),
+                Text(b"q $p |- x $= h $.\n"),
+            ],
         )],
         reply: b"no q.mm 3 q P3 0\n",
         status: 1,
