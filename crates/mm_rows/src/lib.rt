@@ -17,6 +17,8 @@ mod incomplete;
 #[cfg(test)]
 mod one_file;
 #[cfg(test)]
+mod orders;
+#[cfg(test)]
 mod proofs;
 #[cfg(test)]
 mod scopes;

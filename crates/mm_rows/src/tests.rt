@@ -3,7 +3,7 @@
 use crate::damaged::Span;
 use crate::databases::DEMO;
 use crate::{
-    Part, Row, compressed, damaged, examples, files, incomplete, one_file, proofs, scopes,
+    Part, Row, compressed, damaged, examples, files, incomplete, one_file, orders, proofs, scopes,
 };
 use mm_check::{Command, run};
 use mm_text::{Counted, File};
@@ -175,6 +175,31 @@ fn listed_places(rt: HostRuntime) -> Result<(), Fail> {
 #[test]
 fn past_the_list(rt: HostRuntime) -> Result<(), Fail> {
     compare(&rt, rt.alloc(), &compressed::PAST_THE_LIST)
+}
+
+#[test]
+fn order_of_text(rt: HostRuntime) -> Result<(), Fail> {
+    compare(&rt, rt.alloc(), &orders::TEXT)
+}
+
+#[test]
+fn order_of_meaning(rt: HostRuntime) -> Result<(), Fail> {
+    compare(&rt, rt.alloc(), &orders::MEANING)
+}
+
+#[test]
+fn order_of_proofs(rt: HostRuntime) -> Result<(), Fail> {
+    compare(&rt, rt.alloc(), &orders::PROOFS)
+}
+
+#[test]
+fn frames(rt: HostRuntime) -> Result<(), Fail> {
+    compare(&rt, rt.alloc(), &orders::FRAMES)
+}
+
+#[test]
+fn long_hypotheses(rt: HostRuntime) -> Result<(), Fail> {
+    compare(&rt, rt.alloc(), &orders::LONG_HYPOTHESES)
 }
 
 #[test]
