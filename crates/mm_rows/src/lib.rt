@@ -1,18 +1,43 @@
-//! The acceptance cases as tests of `mm_check::run`, over a writer in memory.
+//! The acceptance cases as tests of `mm_check::run`, over a writer in memory. The replies are those
+//! of the cases and of the documents, and no output of the program.
 #![tactic(auto)]
 
 #[cfg(test)]
+mod compressed;
+#[cfg(test)]
+mod damaged;
+#[cfg(test)]
+mod databases;
+#[cfg(test)]
 mod examples;
+#[cfg(test)]
+mod files;
+#[cfg(test)]
+mod incomplete;
 #[cfg(test)]
 mod one_file;
 #[cfg(test)]
+mod orders;
+#[cfg(test)]
+mod proofs;
+#[cfg(test)]
+mod scopes;
+#[cfg(test)]
 mod tests;
 
-/// A case: the files that are handed in, each a name and its bytes; the reply; and its status.
+/// A piece of a file: bytes, or bytes so many times one after the other.
+#[cfg(test)]
+pub(crate) enum Part {
+    Text(&'static [u8]),
+    Times(&'static [u8], u32),
+}
+
+/// A case: the files that are handed in, each a name and the pieces of its content; the reply; and
+/// its status.
 #[cfg(test)]
 pub(crate) struct Row {
     pub(crate) name: &'static str,
-    pub(crate) files: &'static [(&'static [u8], &'static [u8])],
+    pub(crate) files: &'static [(&'static [u8], &'static [Part])],
     pub(crate) reply: &'static [u8],
     pub(crate) status: u8,
 }

@@ -1,28 +1,27 @@
-//! The acceptance cases of the capability "one file", as tests: each is a list of handed files, the
-//! text of the reply to `check` and its status. The replies are those of the cases, and no output
-//! of the program.
+//! The acceptance cases of one file without blocks, `$e`, `$d`, comments and inclusions. The
+//! replies are those of the cases, and no output of the program.
 
+use crate::Part::{Text, Times};
 use crate::Row;
+use crate::databases::{CAT, FIRST, FIRST_HEAD};
 
-pub(crate) const FIRST_ROWS: [Row; 12] = [
+/// Files that are accepted, files of one name, and a file that is never reached.
+pub(crate) const WHOLE_FILES: [Row; 10] = [
     Row {
         name: "an empty file",
-        files: &[(b"e.mm", b"")],
+        files: &[(b"e.mm", &[])],
         reply: b"yes 0 statements 0 proofs\n",
         status: 0,
     },
     Row {
         name: "a file of white space alone",
-        files: &[(b"e.mm", b" \t\n\x0c\r")],
+        files: &[(b"e.mm", &[Text(b" \t\n\x0c\r")])],
         reply: b"yes 0 statements 0 proofs\n",
         status: 0,
     },
     Row {
         name: "a small database with one theorem",
-        files: &[(
-            b"first.mm",
-            b"$c 0 + ( ) term $.\n$v t r $.\ntt $f term t $.\ntr $f term r $.\ntze $a term 0 $.\ntpl $a term ( t + r ) $.\nth $p term ( 0 + 0 ) $= tze tze tpl $.\n",
-        )],
+        files: &[(b"first.mm", &[Text(FIRST)])],
         reply: b"yes 7 statements 1 proofs\n",
         status: 0,
     },
@@ -30,17 +29,23 @@ pub(crate) const FIRST_ROWS: [Row; 12] = [
         name: "a small database with other white space",
         files: &[(
             b"first.mm",
-            b"$c\x0c0\x0c+\x0c(\x0c)\x0cterm\x0c$.\r\n$v\x0ct\x0cr\x0c$.\r\ntt\x0c$f\x0cterm\x0ct\x0c$.\r\ntr\x0c$f\x0cterm\x0cr\x0c$.\r\ntze\x0c$a\x0cterm\x0c0\x0c$.\r\ntpl\x0c$a\x0cterm\x0c(\x0ct\x0c+\x0cr\x0c)\x0c$.\r\nth\x0c$p\x0cterm\x0c(\x0c0\x0c+\x0c0\x0c)\x0c$=\x0ctze\x0ctze\x0ctpl\x0c$.\r\n",
+            &[
+                Text(b"$c\x0c0\x0c+\x0c(\x0c)\x0cterm\x0c$.\r\n"),
+                Text(b"$v\x0ct\x0cr\x0c$.\r\n"),
+                Text(b"tt\x0c$f\x0cterm\x0ct\x0c$.\r\n"),
+                Text(b"tr\x0c$f\x0cterm\x0cr\x0c$.\r\n"),
+                Text(b"tze\x0c$a\x0cterm\x0c0\x0c$.\r\n"),
+                Text(b"tpl\x0c$a\x0cterm\x0c(\x0ct\x0c+\x0cr\x0c)\x0c$.\r\n"),
+                Text(b"th\x0c$p\x0cterm\x0c(\x0c0\x0c+\x0c0\x0c)\x0c"),
+                Text(b"$=\x0ctze\x0ctze\x0ctpl\x0c$.\r\n"),
+            ],
         )],
         reply: b"yes 7 statements 1 proofs\n",
         status: 0,
     },
     Row {
         name: "the concatenation database by itself",
-        files: &[(
-            b"cat.mm",
-            b"$c e $.\n$v x y $.\nfx $f e x $.\nfy $f e y $.\nnil $a e $.\ncat $a e x y $.\n",
-        )],
+        files: &[(b"cat.mm", &[Text(CAT)])],
         reply: b"yes 6 statements 0 proofs\n",
         status: 0,
     },
@@ -48,7 +53,7 @@ pub(crate) const FIRST_ROWS: [Row; 12] = [
         name: "both variables replaced by nothing",
         files: &[(
             b"cat.mm",
-            b"$c e $.\n$v x y $.\nfx $f e x $.\nfy $f e y $.\nnil $a e $.\ncat $a e x y $.\nth $p e $= nil nil cat $.\n",
+            &[Text(CAT), Text(b"th $p e $= nil nil cat $.\n")],
         )],
         reply: b"yes 7 statements 1 proofs\n",
         status: 0,
@@ -57,16 +62,404 @@ pub(crate) const FIRST_ROWS: [Row; 12] = [
         name: "two variables exchanged at once",
         files: &[(
             b"first.mm",
-            b"$c 0 + ( ) term $.\n$v t r $.\ntt $f term t $.\ntr $f term r $.\ntze $a term 0 $.\ntpl $a term ( t + r ) $.\nth $p term ( 0 + 0 ) $= tze tze tpl $.\nsw $p term ( r + t ) $= tr tt tpl $.\n",
+            &[Text(FIRST), Text(b"sw $p term ( r + t ) $= tr tt tpl $.\n")],
         )],
         reply: b"yes 8 statements 2 proofs\n",
         status: 0,
     },
     Row {
+        name: "the same file handed in twice",
+        files: &[(b"first.mm", &[Text(FIRST)]), (b"first.mm", &[Text(FIRST)])],
+        reply: b"load F2\n",
+        status: 4,
+    },
+    Row {
+        name: "one file under two names",
+        files: &[
+            (b"first.mm", &[Text(FIRST)]),
+            (b"./first.mm", &[Text(FIRST)]),
+        ],
+        reply: b"yes 7 statements 1 proofs\n",
+        status: 0,
+    },
+    Row {
+        name: "a further file is never reached",
+        files: &[
+            (b"first.mm", &[Text(FIRST)]),
+            (b"junk.mm", &[Text(b"$x $) a+ \x80\n")]),
+        ],
+        reply: b"yes 7 statements 1 proofs\n",
+        status: 0,
+    },
+];
+
+/// Faults of the text: bytes, keywords out of place, and files that end too soon.
+pub(crate) const TOKENS: [Row; 12] = [
+    Row {
+        name: "a file ends in a declaration of constants",
+        files: &[(b"f.mm", &[Text(b"$c a\n")])],
+        reply: b"no f.mm 1 - X8 0\n",
+        status: 1,
+    },
+    Row {
+        name: "a file ends in a labelled statement",
+        files: &[(b"f.mm", &[Text(b"x $f a\n")])],
+        reply: b"no f.mm 1 x X8 0\n",
+        status: 1,
+    },
+    Row {
+        name: "a token with a dollar sign that is no keyword",
+        files: &[(b"f.mm", &[Text(b"$x\n")])],
+        reply: b"no f.mm 1 - X9 0\n",
+        status: 1,
+    },
+    Row {
+        name: "the end of a comment outside a comment",
+        files: &[(b"f.mm", &[Text(b"$)\n")])],
+        reply: b"no f.mm 1 - X4 0\n",
+        status: 1,
+    },
+    Row {
+        name: "the end of an inclusion outside an inclusion",
+        files: &[(b"f.mm", &[Text(b"$]\n")])],
+        reply: b"no f.mm 1 - X4 0\n",
+        status: 1,
+    },
+    Row {
+        name: "a file ends after a label",
+        files: &[(b"f.mm", &[Text(b"a\n")])],
+        reply: b"no f.mm 1 a X8 0\n",
+        status: 1,
+    },
+    Row {
+        name: "the end of a comment among constants",
+        files: &[(b"f.mm", &[Text(b"$c a $) b $.\n")])],
+        reply: b"no f.mm 1 - X4 0\n",
+        status: 1,
+    },
+    Row {
+        name: "a label followed by a label with another byte",
+        files: &[(b"f.mm", &[Text(b"a a+ $a\n")])],
+        reply: b"no f.mm 1 a S3 0\n",
+        status: 1,
+    },
+    Row {
+        name: "a byte above the range in a token",
+        files: &[(b"f.mm", &[Text(b"$c a\n  \x80 $.\n")])],
+        reply: b"no f.mm 2 - X1 0\n",
+        status: 1,
+    },
+    Row {
+        name: "a vertical tab is no white space",
+        files: &[(b"f.mm", &[Text(b"$c\x0ba $.\n")])],
+        reply: b"no f.mm 1 - X1 0\n",
+        status: 1,
+    },
+    Row {
+        name: "a byte out of range comes before a stray dollar sign",
+        files: &[(b"f.mm", &[Text(b"x $f $\xff $.\n")])],
+        reply: b"no f.mm 1 x X1 0\n",
+        status: 1,
+    },
+    Row {
+        name: "a byte out of range outside a statement",
+        files: &[(b"first.mm", &[Text(FIRST), Text(b"\x7f\n")])],
+        reply: b"no first.mm 8 - X1 0\n",
+        status: 1,
+    },
+];
+
+/// Faults of the form of statements.
+pub(crate) const FORMS: [Row; 22] = [
+    Row {
+        name: "after a label comes no kind of statement",
+        files: &[(b"f.mm", &[Text(b"a b\n")])],
+        reply: b"no f.mm 1 a S3 0\n",
+        status: 1,
+    },
+    Row {
+        name: "a label with another byte than a label may hold",
+        files: &[(b"f.mm", &[Text(b"a+ $a\n")])],
+        reply: b"no f.mm 1 - S2 0\n",
+        status: 1,
+    },
+    Row {
+        name: "a declaration of no constants",
+        files: &[(b"f.mm", &[Text(b"$c $.\n")])],
+        reply: b"no f.mm 1 - S5 0\n",
+        status: 1,
+    },
+    Row {
+        name: "a kind of statement without its label",
+        files: &[(b"f.mm", &[Text(b"$a\n")])],
+        reply: b"no f.mm 1 - S1 0\n",
+        status: 1,
+    },
+    Row {
+        name: "a theorem without a proof",
+        files: &[(b"f.mm", &[Text(b"a $p x $.\n")])],
+        reply: b"no f.mm 1 a S4 0\n",
+        status: 1,
+    },
+    Row {
+        name: "a theorem without symbols and without a proof",
+        files: &[(b"c.mm", &[Text(b"p $p $.")])],
+        reply: b"no c.mm 1 p S4 0\n",
+        status: 1,
+    },
+    Row {
+        name: "too few symbols of a typed variable",
+        files: &[(b"f.mm", &[Text(b"x $f a $.\n")])],
+        reply: b"no f.mm 1 x S5 0\n",
+        status: 1,
+    },
+    Row {
+        name: "a third symbol of a typed variable",
+        files: &[(b"f.mm", &[Text(b"x $f a b c $.\n")])],
+        reply: b"no f.mm 1 x S5 0\n",
+        status: 1,
+    },
+    Row {
+        name: "no variables declared",
+        files: &[(b"f.mm", &[Text(b"$v $.\n")])],
+        reply: b"no f.mm 1 - S5 0\n",
+        status: 1,
+    },
+    Row {
+        name: "an axiom without symbols",
+        files: &[(b"f.mm", &[Text(b"x $a $.\n")])],
+        reply: b"no f.mm 1 x S5 0\n",
+        status: 1,
+    },
+    Row {
+        name: "a theorem without symbols",
+        files: &[(b"f.mm", &[Text(b"x $p $= $.\n")])],
+        reply: b"no f.mm 1 x S5 0\n",
+        status: 1,
+    },
+    Row {
+        name: "a proof sign in an axiom",
+        files: &[(b"f.mm", &[Text(b"x $a a $= a $.\n")])],
+        reply: b"no f.mm 1 x S4 0\n",
+        status: 1,
+    },
+    Row {
+        name: "a second proof sign in a theorem",
+        files: &[(b"f.mm", &[Text(b"x $p a $= a $= a $.\n")])],
+        reply: b"no f.mm 1 x S4 0\n",
+        status: 1,
+    },
+    Row {
+        name: "a keyword among constants",
+        files: &[(b"f.mm", &[Text(b"$c a $v b $.\n")])],
+        reply: b"no f.mm 1 - S4 0\n",
+        status: 1,
+    },
+    Row {
+        name: "a hypothesis sign among constants",
+        files: &[(b"f.mm", &[Text(b"$c a $e b $.\n")])],
+        reply: b"no f.mm 1 - S4 0\n",
+        status: 1,
+    },
+    Row {
+        name: "a block opened among constants",
+        files: &[(b"f.mm", &[Text(b"$c a ${ b $.\n")])],
+        reply: b"no f.mm 1 - S4 0\n",
+        status: 1,
+    },
+    Row {
+        name: "a distinct sign among constants",
+        files: &[(b"f.mm", &[Text(b"$c a $d b $.\n")])],
+        reply: b"no f.mm 1 - S4 0\n",
+        status: 1,
+    },
+    Row {
+        name: "the end of a statement where one should begin",
+        files: &[(b"f.mm", &[Text(b"$.\n")])],
+        reply: b"no f.mm 1 - S1 0\n",
+        status: 1,
+    },
+    Row {
+        name: "a proof sign where a statement should begin",
+        files: &[(b"f.mm", &[Text(b"$=\n")])],
+        reply: b"no f.mm 1 - S1 0\n",
+        status: 1,
+    },
+    Row {
+        name: "a typing sign where a statement should begin",
+        files: &[(b"f.mm", &[Text(b"$f\n")])],
+        reply: b"no f.mm 1 - S1 0\n",
+        status: 1,
+    },
+    Row {
+        name: "a theorem sign where a statement should begin",
+        files: &[(b"f.mm", &[Text(b"$p\n")])],
+        reply: b"no f.mm 1 - S1 0\n",
+        status: 1,
+    },
+    Row {
+        name: "a hypothesis sign where a statement should begin",
+        files: &[(b"f.mm", &[Text(b"$e\n")])],
+        reply: b"no f.mm 1 - S1 0\n",
+        status: 1,
+    },
+];
+
+/// Faults of meaning.
+pub(crate) const MEANING: [Row; 16] = [
+    Row {
+        name: "a variable declared again as a constant",
+        files: &[(
+            b"m.mm",
+            &[Text(b"$c a b $. $v x y $. fx $f a x $.\n$c x $.\n")],
+        )],
+        reply: b"no m.mm 2 - M2 0\n",
+        status: 1,
+    },
+    Row {
+        name: "a variable declared again while active",
+        files: &[(
+            b"m.mm",
+            &[Text(b"$c a b $. $v x y $. fx $f a x $.\n$v x $.\n")],
+        )],
+        reply: b"no m.mm 2 - M3 0\n",
+        status: 1,
+    },
+    Row {
+        name: "a constant declared again as a variable",
+        files: &[(
+            b"m.mm",
+            &[Text(b"$c a b $. $v x y $. fx $f a x $.\n$v a $.\n")],
+        )],
+        reply: b"no m.mm 2 - M3 0\n",
+        status: 1,
+    },
+    Row {
+        name: "a label declared as a variable",
+        files: &[(
+            b"m.mm",
+            &[Text(b"$c a b $. $v x y $. fx $f a x $.\n$v fx $.\n")],
+        )],
+        reply: b"no m.mm 2 - M4 0\n",
+        status: 1,
+    },
+    Row {
+        name: "a label given again",
+        files: &[(
+            b"m.mm",
+            &[Text(b"$c a b $. $v x y $. fx $f a x $.\nfx $f a y $.\n")],
+        )],
+        reply: b"no m.mm 2 fx M5 0\n",
+        status: 1,
+    },
+    Row {
+        name: "a label that is a symbol",
+        files: &[(
+            b"m.mm",
+            &[Text(b"$c a b $. $v x y $. fx $f a x $.\nb $a a $.\n")],
+        )],
+        reply: b"no m.mm 2 b M6 0\n",
+        status: 1,
+    },
+    Row {
+        name: "a variable without its type",
+        files: &[(
+            b"m.mm",
+            &[Text(b"$c a b $. $v x y $. fx $f a x $.\np $a a y $.\n")],
+        )],
+        reply: b"no m.mm 2 p M15 0\n",
+        status: 1,
+    },
+    Row {
+        name: "a symbol that was never declared",
+        files: &[(
+            b"m.mm",
+            &[Text(b"$c a b $. $v x y $. fx $f a x $.\np $a a z $.\n")],
+        )],
+        reply: b"no m.mm 2 p M7 0\n",
+        status: 1,
+    },
+    Row {
+        name: "a type code that is a variable",
+        files: &[(
+            b"m.mm",
+            &[Text(b"$c a b $. $v x y $. fx $f a x $.\np $f x y $.\n")],
+        )],
+        reply: b"no m.mm 2 p M10 0\n",
+        status: 1,
+    },
+    Row {
+        name: "a constant in the place of the typed variable",
+        files: &[(
+            b"m.mm",
+            &[Text(b"$c a b $. $v x y $. fx $f a x $.\np $f a b $.\n")],
+        )],
+        reply: b"no m.mm 2 p M11 0\n",
+        status: 1,
+    },
+    Row {
+        name: "a variable typed twice",
+        files: &[(
+            b"m.mm",
+            &[Text(b"$c a b $. $v x y $. fx $f a x $.\np $f b x $.\n")],
+        )],
+        reply: b"no m.mm 2 p M12 0\n",
+        status: 1,
+    },
+    Row {
+        name: "a constant declared again",
+        files: &[(
+            b"m.mm",
+            &[Text(b"$c a b $. $v x y $. fx $f a x $.\n$c a $.\n")],
+        )],
+        reply: b"no m.mm 2 - M2 0\n",
+        status: 1,
+    },
+    Row {
+        name: "an axiom that begins with a variable",
+        files: &[(
+            b"m.mm",
+            &[Text(b"$c a b $. $v x y $. fx $f a x $.\np $a x $.\n")],
+        )],
+        reply: b"no m.mm 2 p M14 0\n",
+        status: 1,
+    },
+    Row {
+        name: "a constant twice in one declaration",
+        files: &[(
+            b"m.mm",
+            &[Text(b"$c a b $. $v x y $. fx $f a x $.\n$c d d $.\n")],
+        )],
+        reply: b"no m.mm 2 - M2 0\n",
+        status: 1,
+    },
+    Row {
+        name: "a variable twice in one declaration",
+        files: &[(
+            b"m.mm",
+            &[Text(b"$c a b $. $v x y $. fx $f a x $.\n$v z z $.\n")],
+        )],
+        reply: b"no m.mm 2 - M3 0\n",
+        status: 1,
+    },
+    Row {
+        name: "a label declared as a constant",
+        files: &[(
+            b"m.mm",
+            &[Text(b"$c a b $. $v x y $. fx $f a x $.\n$c fx $.\n")],
+        )],
+        reply: b"no m.mm 2 - M4 0\n",
+        status: 1,
+    },
+];
+
+/// Faults of proofs, and the limit on expressions.
+pub(crate) const STEPS: [Row; 6] = [
+    Row {
         name: "a theorem used in its own proof",
         files: &[(
             b"first.mm",
-            b"$c 0 + ( ) term $.\n$v t r $.\ntt $f term t $.\ntr $f term r $.\ntze $a term 0 $.\ntpl $a term ( t + r ) $.\nth $p term ( 0 + 0 ) $= th $.\n",
+            &[Text(FIRST_HEAD), Text(b"th $p term ( 0 + 0 ) $= th $.\n")],
         )],
         reply: b"no first.mm 7 th P2 0\n",
         status: 1,
@@ -75,7 +468,10 @@ pub(crate) const FIRST_ROWS: [Row; 12] = [
         name: "too few entries on the stack",
         files: &[(
             b"first.mm",
-            b"$c 0 + ( ) term $.\n$v t r $.\ntt $f term t $.\ntr $f term r $.\ntze $a term 0 $.\ntpl $a term ( t + r ) $.\nth $p term ( 0 + 0 ) $= tze tpl $.\n",
+            &[
+                Text(FIRST_HEAD),
+                Text(b"th $p term ( 0 + 0 ) $= tze tpl $.\n"),
+            ],
         )],
         reply: b"no first.mm 7 th P8 2\n",
         status: 1,
@@ -84,7 +480,10 @@ pub(crate) const FIRST_ROWS: [Row; 12] = [
         name: "two entries left at the end",
         files: &[(
             b"first.mm",
-            b"$c 0 + ( ) term $.\n$v t r $.\ntt $f term t $.\ntr $f term r $.\ntze $a term 0 $.\ntpl $a term ( t + r ) $.\nth $p term ( 0 + 0 ) $= tze tze $.\n",
+            &[
+                Text(FIRST_HEAD),
+                Text(b"th $p term ( 0 + 0 ) $= tze tze $.\n"),
+            ],
         )],
         reply: b"no first.mm 7 th P13 3\n",
         status: 1,
@@ -93,376 +492,25 @@ pub(crate) const FIRST_ROWS: [Row; 12] = [
         name: "another expression left at the end",
         files: &[(
             b"first.mm",
-            b"$c 0 + ( ) term $.\n$v t r $.\ntt $f term t $.\ntr $f term r $.\ntze $a term 0 $.\ntpl $a term ( t + r ) $.\nth $p term ( 0 + 0 ) $= tze $.\n",
+            &[Text(FIRST_HEAD), Text(b"th $p term ( 0 + 0 ) $= tze $.\n")],
         )],
         reply: b"no first.mm 7 th P14 2\n",
-        status: 1,
-    },
-    Row {
-        name: "the same file handed in twice",
-        files: &[
-            (
-                b"first.mm",
-                b"$c 0 + ( ) term $.\n$v t r $.\ntt $f term t $.\ntr $f term r $.\ntze $a term 0 $.\ntpl $a term ( t + r ) $.\nth $p term ( 0 + 0 ) $= tze tze tpl $.\n",
-            ),
-            (
-                b"first.mm",
-                b"$c 0 + ( ) term $.\n$v t r $.\ntt $f term t $.\ntr $f term r $.\ntze $a term 0 $.\ntpl $a term ( t + r ) $.\nth $p term ( 0 + 0 ) $= tze tze tpl $.\n",
-            ),
-        ],
-        reply: b"load F2\n",
-        status: 4,
-    },
-];
-
-pub(crate) const SECOND_ROWS: [Row; 12] = [
-    Row {
-        name: "one file under two names",
-        files: &[
-            (
-                b"first.mm",
-                b"$c 0 + ( ) term $.\n$v t r $.\ntt $f term t $.\ntr $f term r $.\ntze $a term 0 $.\ntpl $a term ( t + r ) $.\nth $p term ( 0 + 0 ) $= tze tze tpl $.\n",
-            ),
-            (
-                b"./first.mm",
-                b"$c 0 + ( ) term $.\n$v t r $.\ntt $f term t $.\ntr $f term r $.\ntze $a term 0 $.\ntpl $a term ( t + r ) $.\nth $p term ( 0 + 0 ) $= tze tze tpl $.\n",
-            ),
-        ],
-        reply: b"yes 7 statements 1 proofs\n",
-        status: 0,
-    },
-    Row {
-        name: "a further file is never reached",
-        files: &[
-            (
-                b"first.mm",
-                b"$c 0 + ( ) term $.\n$v t r $.\ntt $f term t $.\ntr $f term r $.\ntze $a term 0 $.\ntpl $a term ( t + r ) $.\nth $p term ( 0 + 0 ) $= tze tze tpl $.\n",
-            ),
-            (b"junk.mm", b"$x $) a+ \x80\n"),
-        ],
-        reply: b"yes 7 statements 1 proofs\n",
-        status: 0,
-    },
-    Row {
-        name: "a file ends in a declaration of constants",
-        files: &[(b"f.mm", b"$c a\n")],
-        reply: b"no f.mm 1 - X8 0\n",
-        status: 1,
-    },
-    Row {
-        name: "a file ends in a labelled statement",
-        files: &[(b"f.mm", b"x $f a\n")],
-        reply: b"no f.mm 1 x X8 0\n",
-        status: 1,
-    },
-    Row {
-        name: "after a label comes no kind of statement",
-        files: &[(b"f.mm", b"a b\n")],
-        reply: b"no f.mm 1 a S3 0\n",
-        status: 1,
-    },
-    Row {
-        name: "a label with another byte than a label may hold",
-        files: &[(b"f.mm", b"a+ $a\n")],
-        reply: b"no f.mm 1 - S2 0\n",
-        status: 1,
-    },
-    Row {
-        name: "a declaration of no constants",
-        files: &[(b"f.mm", b"$c $.\n")],
-        reply: b"no f.mm 1 - S5 0\n",
-        status: 1,
-    },
-    Row {
-        name: "a kind of statement without its label",
-        files: &[(b"f.mm", b"$a\n")],
-        reply: b"no f.mm 1 - S1 0\n",
-        status: 1,
-    },
-    Row {
-        name: "a theorem without a proof",
-        files: &[(b"f.mm", b"a $p x $.\n")],
-        reply: b"no f.mm 1 a S4 0\n",
-        status: 1,
-    },
-    Row {
-        name: "a token with a dollar sign that is no keyword",
-        files: &[(b"f.mm", b"$x\n")],
-        reply: b"no f.mm 1 - X9 0\n",
-        status: 1,
-    },
-    Row {
-        name: "the end of a comment outside a comment",
-        files: &[(b"f.mm", b"$)\n")],
-        reply: b"no f.mm 1 - X4 0\n",
-        status: 1,
-    },
-    Row {
-        name: "the end of an inclusion outside an inclusion",
-        files: &[(b"f.mm", b"$]\n")],
-        reply: b"no f.mm 1 - X4 0\n",
-        status: 1,
-    },
-];
-
-pub(crate) const THIRD_ROWS: [Row; 12] = [
-    Row {
-        name: "a file ends after a label",
-        files: &[(b"f.mm", b"a\n")],
-        reply: b"no f.mm 1 a X8 0\n",
-        status: 1,
-    },
-    Row {
-        name: "a theorem without symbols and without a proof",
-        files: &[(b"c.mm", b"p $p $.")],
-        reply: b"no c.mm 1 p S4 0\n",
-        status: 1,
-    },
-    Row {
-        name: "too few symbols of a typed variable",
-        files: &[(b"f.mm", b"x $f a $.\n")],
-        reply: b"no f.mm 1 x S5 0\n",
-        status: 1,
-    },
-    Row {
-        name: "a third symbol of a typed variable",
-        files: &[(b"f.mm", b"x $f a b c $.\n")],
-        reply: b"no f.mm 1 x S5 0\n",
-        status: 1,
-    },
-    Row {
-        name: "no variables declared",
-        files: &[(b"f.mm", b"$v $.\n")],
-        reply: b"no f.mm 1 - S5 0\n",
-        status: 1,
-    },
-    Row {
-        name: "an axiom without symbols",
-        files: &[(b"f.mm", b"x $a $.\n")],
-        reply: b"no f.mm 1 x S5 0\n",
-        status: 1,
-    },
-    Row {
-        name: "a theorem without symbols",
-        files: &[(b"f.mm", b"x $p $= $.\n")],
-        reply: b"no f.mm 1 x S5 0\n",
-        status: 1,
-    },
-    Row {
-        name: "a proof sign in an axiom",
-        files: &[(b"f.mm", b"x $a a $= a $.\n")],
-        reply: b"no f.mm 1 x S4 0\n",
-        status: 1,
-    },
-    Row {
-        name: "a second proof sign in a theorem",
-        files: &[(b"f.mm", b"x $p a $= a $= a $.\n")],
-        reply: b"no f.mm 1 x S4 0\n",
-        status: 1,
-    },
-    Row {
-        name: "a keyword among constants",
-        files: &[(b"f.mm", b"$c a $v b $.\n")],
-        reply: b"no f.mm 1 - S4 0\n",
-        status: 1,
-    },
-    Row {
-        name: "a hypothesis sign among constants",
-        files: &[(b"f.mm", b"$c a $e b $.\n")],
-        reply: b"no f.mm 1 - S4 0\n",
-        status: 1,
-    },
-    Row {
-        name: "a block opened among constants",
-        files: &[(b"f.mm", b"$c a ${ b $.\n")],
-        reply: b"no f.mm 1 - S4 0\n",
-        status: 1,
-    },
-];
-
-pub(crate) const FOURTH_ROWS: [Row; 12] = [
-    Row {
-        name: "a distinct sign among constants",
-        files: &[(b"f.mm", b"$c a $d b $.\n")],
-        reply: b"no f.mm 1 - S4 0\n",
-        status: 1,
-    },
-    Row {
-        name: "the end of a comment among constants",
-        files: &[(b"f.mm", b"$c a $) b $.\n")],
-        reply: b"no f.mm 1 - X4 0\n",
-        status: 1,
-    },
-    Row {
-        name: "the end of a statement where one should begin",
-        files: &[(b"f.mm", b"$.\n")],
-        reply: b"no f.mm 1 - S1 0\n",
-        status: 1,
-    },
-    Row {
-        name: "a proof sign where a statement should begin",
-        files: &[(b"f.mm", b"$=\n")],
-        reply: b"no f.mm 1 - S1 0\n",
-        status: 1,
-    },
-    Row {
-        name: "a typing sign where a statement should begin",
-        files: &[(b"f.mm", b"$f\n")],
-        reply: b"no f.mm 1 - S1 0\n",
-        status: 1,
-    },
-    Row {
-        name: "a theorem sign where a statement should begin",
-        files: &[(b"f.mm", b"$p\n")],
-        reply: b"no f.mm 1 - S1 0\n",
-        status: 1,
-    },
-    Row {
-        name: "a hypothesis sign where a statement should begin",
-        files: &[(b"f.mm", b"$e\n")],
-        reply: b"no f.mm 1 - S1 0\n",
-        status: 1,
-    },
-    Row {
-        name: "a label followed by a label with another byte",
-        files: &[(b"f.mm", b"a a+ $a\n")],
-        reply: b"no f.mm 1 a S3 0\n",
-        status: 1,
-    },
-    Row {
-        name: "a byte above the range in a token",
-        files: &[(b"f.mm", b"$c a\n  \x80 $.\n")],
-        reply: b"no f.mm 2 - X1 0\n",
-        status: 1,
-    },
-    Row {
-        name: "a vertical tab is no white space",
-        files: &[(b"f.mm", b"$c\x0ba $.\n")],
-        reply: b"no f.mm 1 - X1 0\n",
-        status: 1,
-    },
-    Row {
-        name: "a byte out of range comes before a stray dollar sign",
-        files: &[(b"f.mm", b"x $f $\xff $.\n")],
-        reply: b"no f.mm 1 x X1 0\n",
-        status: 1,
-    },
-    Row {
-        name: "a byte out of range outside a statement",
-        files: &[(
-            b"first.mm",
-            b"$c 0 + ( ) term $.\n$v t r $.\ntt $f term t $.\ntr $f term r $.\ntze $a term 0 $.\ntpl $a term ( t + r ) $.\nth $p term ( 0 + 0 ) $= tze tze tpl $.\n\x7f\n",
-        )],
-        reply: b"no first.mm 8 - X1 0\n",
-        status: 1,
-    },
-];
-
-pub(crate) const FIFTH_ROWS: [Row; 12] = [
-    Row {
-        name: "a variable declared again as a constant",
-        files: &[(b"m.mm", b"$c a b $. $v x y $. fx $f a x $.\n$c x $.\n")],
-        reply: b"no m.mm 2 - M2 0\n",
-        status: 1,
-    },
-    Row {
-        name: "a variable declared again while active",
-        files: &[(b"m.mm", b"$c a b $. $v x y $. fx $f a x $.\n$v x $.\n")],
-        reply: b"no m.mm 2 - M3 0\n",
-        status: 1,
-    },
-    Row {
-        name: "a constant declared again as a variable",
-        files: &[(b"m.mm", b"$c a b $. $v x y $. fx $f a x $.\n$v a $.\n")],
-        reply: b"no m.mm 2 - M3 0\n",
-        status: 1,
-    },
-    Row {
-        name: "a label declared as a variable",
-        files: &[(b"m.mm", b"$c a b $. $v x y $. fx $f a x $.\n$v fx $.\n")],
-        reply: b"no m.mm 2 - M4 0\n",
-        status: 1,
-    },
-    Row {
-        name: "a label given again",
-        files: &[(b"m.mm", b"$c a b $. $v x y $. fx $f a x $.\nfx $f a y $.\n")],
-        reply: b"no m.mm 2 fx M5 0\n",
-        status: 1,
-    },
-    Row {
-        name: "a label that is a symbol",
-        files: &[(b"m.mm", b"$c a b $. $v x y $. fx $f a x $.\nb $a a $.\n")],
-        reply: b"no m.mm 2 b M6 0\n",
-        status: 1,
-    },
-    Row {
-        name: "a variable without its type",
-        files: &[(b"m.mm", b"$c a b $. $v x y $. fx $f a x $.\np $a a y $.\n")],
-        reply: b"no m.mm 2 p M15 0\n",
-        status: 1,
-    },
-    Row {
-        name: "a symbol that was never declared",
-        files: &[(b"m.mm", b"$c a b $. $v x y $. fx $f a x $.\np $a a z $.\n")],
-        reply: b"no m.mm 2 p M7 0\n",
-        status: 1,
-    },
-    Row {
-        name: "a type code that is a variable",
-        files: &[(b"m.mm", b"$c a b $. $v x y $. fx $f a x $.\np $f x y $.\n")],
-        reply: b"no m.mm 2 p M10 0\n",
-        status: 1,
-    },
-    Row {
-        name: "a constant in the place of the typed variable",
-        files: &[(b"m.mm", b"$c a b $. $v x y $. fx $f a x $.\np $f a b $.\n")],
-        reply: b"no m.mm 2 p M11 0\n",
-        status: 1,
-    },
-    Row {
-        name: "a variable typed twice",
-        files: &[(b"m.mm", b"$c a b $. $v x y $. fx $f a x $.\np $f b x $.\n")],
-        reply: b"no m.mm 2 p M12 0\n",
-        status: 1,
-    },
-    Row {
-        name: "a constant declared again",
-        files: &[(b"m.mm", b"$c a b $. $v x y $. fx $f a x $.\n$c a $.\n")],
-        reply: b"no m.mm 2 - M2 0\n",
-        status: 1,
-    },
-];
-
-pub(crate) const SIXTH_ROWS: [Row; 12] = [
-    Row {
-        name: "an axiom that begins with a variable",
-        files: &[(b"m.mm", b"$c a b $. $v x y $. fx $f a x $.\np $a x $.\n")],
-        reply: b"no m.mm 2 p M14 0\n",
-        status: 1,
-    },
-    Row {
-        name: "a constant twice in one declaration",
-        files: &[(b"m.mm", b"$c a b $. $v x y $. fx $f a x $.\n$c d d $.\n")],
-        reply: b"no m.mm 2 - M2 0\n",
-        status: 1,
-    },
-    Row {
-        name: "a variable twice in one declaration",
-        files: &[(b"m.mm", b"$c a b $. $v x y $. fx $f a x $.\n$v z z $.\n")],
-        reply: b"no m.mm 2 - M3 0\n",
-        status: 1,
-    },
-    Row {
-        name: "a label declared as a constant",
-        files: &[(b"m.mm", b"$c a b $. $v x y $. fx $f a x $.\n$c fx $.\n")],
-        reply: b"no m.mm 2 - M4 0\n",
         status: 1,
     },
     Row {
         name: "a step that pushes too long an expression, in a file without blocks",
         files: &[(
             b"l.mm",
-            b"$c e f | $.\n$v x $.\nfx $f e x $.\none $a e | $.\nodd $a e x x | $.\nth $p e | $= one odd odd odd odd odd odd odd odd odd odd odd odd odd odd odd odd odd odd odd odd $.\n",
+            &[
+                Text(b"$c e f | $.\n"),
+                Text(b"$v x $.\n"),
+                Text(b"fx $f e x $.\n"),
+                Text(b"one $a e | $.\n"),
+                Text(b"odd $a e x x | $.\n"),
+                Text(b"th $p e | $= one "),
+                Times(b"odd ", 20),
+                Text(b"$.\n"),
+            ],
         )],
         reply: b"limit l.mm 6 th L1 21\n",
         status: 4,
@@ -471,108 +519,58 @@ pub(crate) const SIXTH_ROWS: [Row; 12] = [
         name: "the longest expression a step may push, in a file without blocks",
         files: &[(
             b"l.mm",
-            b"$c e f | $.\n$v x $.\nfx $f e x $.\none $a e | $.\nodd $a e x x | $.\nth $p e | $= one odd odd odd odd odd odd odd odd odd odd odd odd odd odd odd odd odd odd odd $.\n",
+            &[
+                Text(b"$c e f | $.\n"),
+                Text(b"$v x $.\n"),
+                Text(b"fx $f e x $.\n"),
+                Text(b"one $a e | $.\n"),
+                Text(b"odd $a e x x | $.\n"),
+                Text(b"th $p e | $= one "),
+                Times(b"odd ", 19),
+                Text(b"$.\n"),
+            ],
         )],
         reply: b"no l.mm 6 th P14 21\n",
         status: 1,
     },
-    Row {
-        name: "a block is opened, until scopes",
-        files: &[(b"f.mm", b"${\n")],
-        reply: b"no f.mm 1 - S1 0\n",
-        status: 1,
-    },
-    Row {
-        name: "a block is closed, until scopes",
-        files: &[(b"f.mm", b"$}\n")],
-        reply: b"no f.mm 1 - S1 0\n",
-        status: 1,
-    },
-    Row {
-        name: "a distinct sign where a statement should begin, until scopes",
-        files: &[(b"f.mm", b"$d x y $.\n")],
-        reply: b"no f.mm 1 - S1 0\n",
-        status: 1,
-    },
-    Row {
-        name: "a labelled hypothesis, until scopes",
-        files: &[(b"f.mm", b"x $e a $.\n")],
-        reply: b"no f.mm 1 x S3 0\n",
-        status: 1,
-    },
-    Row {
-        name: "a comment where a statement should begin, until files",
-        files: &[(b"f.mm", b"$( only this $)\n")],
-        reply: b"no f.mm 1 - S1 0\n",
-        status: 1,
-    },
-    Row {
-        name: "a comment among constants, until files",
-        files: &[(b"f.mm", b"$c $( c $) a $.\n")],
-        reply: b"no f.mm 1 - S4 0\n",
-        status: 1,
-    },
 ];
 
-pub(crate) const SEVENTH_ROWS: [Row; 8] = [
+/// Statements whose reply changed as the language that is read grew.
+pub(crate) const FURTHER_FORMS: [Row; 6] = [
     Row {
-        name: "a comment after a label, until files",
-        files: &[(b"f.mm", b"x $( c $) $a a $.\n")],
-        reply: b"no f.mm 1 x S3 0\n",
+        name: "distinct variables that were never declared",
+        files: &[(b"f.mm", &[Text(b"$d x y $.\n")])],
+        reply: b"no f.mm 1 - M7 0\n",
         status: 1,
     },
     Row {
-        name: "an inclusion where a statement should begin, until files",
-        files: &[(b"f.mm", b"$[ a.mm $]\n")],
-        reply: b"no f.mm 1 - S1 0\n",
+        name: "a hypothesis of a constant that was never declared",
+        files: &[(b"f.mm", &[Text(b"x $e a $.\n")])],
+        reply: b"no f.mm 1 x M7 0\n",
         status: 1,
     },
     Row {
-        name: "an inclusion after a label, until files",
-        files: &[(b"f.mm", b"x $[ a.mm $] $a a $.\n")],
-        reply: b"no f.mm 1 x S3 0\n",
+        name: "a comment among constants",
+        files: &[(b"f.mm", &[Text(b"$c $( c $) a $.\n")])],
+        reply: b"yes 1 statements 0 proofs\n",
+        status: 0,
+    },
+    Row {
+        name: "a comment after a label",
+        files: &[(b"f.mm", &[Text(b"x $( c $) $a a $.\n")])],
+        reply: b"no f.mm 1 x M7 0\n",
         status: 1,
     },
     Row {
-        name: "a block is opened after a small database, until scopes",
-        files: &[(
-            b"first.mm",
-            b"$c 0 + ( ) term $.\n$v t r $.\ntt $f term t $.\ntr $f term r $.\ntze $a term 0 $.\ntpl $a term ( t + r ) $.\nth $p term ( 0 + 0 ) $= tze tze tpl $.\n${\n",
-        )],
-        reply: b"no first.mm 8 - S1 0\n",
+        name: "an inclusion of a file that was not handed in",
+        files: &[(b"f.mm", &[Text(b"$[ a.mm $]\n")])],
+        reply: b"no f.mm 1 - X7 0\n",
         status: 1,
     },
     Row {
-        name: "an inclusion among constants, until files",
-        files: &[(b"c.mm", b"$c $[ b.mm $] x $.")],
-        reply: b"no c.mm 1 - S4 0\n",
-        status: 1,
-    },
-    Row {
-        name: "the demonstration database, until files",
-        files: &[(
-            b"demo0.mm",
-            b"$( The demo0 database $)\n$c 0 + = -> ( ) term wff |- $.\n$v t r s P Q $.\ntt $f term t $.\ntr $f term r $.\nts $f term s $.\nwp $f wff P $.\nwq $f wff Q $.\ntze $a term 0 $.\ntpl $a term ( t + r ) $.\nweq $a wff t = r $.\nwim $a wff ( P -> Q ) $.\na1 $a |- ( t = r -> ( t = s -> r = s ) ) $.\na2 $a |- ( t + 0 ) = t $.\n${\n  min $e |- P $.\n  maj $e |- ( P -> Q ) $.\n  mp $a |- Q $.\n$}\nth1 $p |- t = t $=\n      tt tze tpl tt weq tt tt weq tt a2 tt tze tpl tt weq tt tze tpl tt weq tt\n      tt weq wim tt a2 tt tze tpl tt tt a1 mp mp\n$.\n",
-        )],
-        reply: b"no demo0.mm 1 - S1 0\n",
-        status: 1,
-    },
-    Row {
-        name: "a compressed proof, until compressed proofs",
-        files: &[(
-            b"first.mm",
-            b"$c 0 + ( ) term $.\n$v t r $.\ntt $f term t $.\ntr $f term r $.\ntze $a term 0 $.\ntpl $a term ( t + r ) $.\nth $p term ( 0 + 0 ) $= ( tze tpl ) AAB $.\n",
-        )],
-        reply: b"no first.mm 7 th P2 0\n",
-        status: 1,
-    },
-    Row {
-        name: "an unknown step, until normal proofs",
-        files: &[(
-            b"first.mm",
-            b"$c 0 + ( ) term $.\n$v t r $.\ntt $f term t $.\ntr $f term r $.\ntze $a term 0 $.\ntpl $a term ( t + r ) $.\nth $p term ( 0 + 0 ) $= ? $.\n",
-        )],
-        reply: b"no first.mm 7 th P2 0\n",
+        name: "an inclusion after a label of a file that was not handed in",
+        files: &[(b"f.mm", &[Text(b"x $[ a.mm $] $a a $.\n")])],
+        reply: b"no f.mm 1 x X6 0\n",
         status: 1,
     },
 ];

@@ -1,73 +1,306 @@
 //! Each table of cases is one test.
 
-use crate::{Row, examples, one_file};
+use crate::damaged::Span;
+use crate::databases::DEMO;
+use crate::{
+    Part, Row, compressed, damaged, examples, files, incomplete, one_file, orders, proofs, scopes,
+};
 use mm_check::{Command, run};
 use mm_text::{Counted, File};
 use std::alloc::Global;
 use std::process::Abort;
+use std::str::from_utf8;
 use std::test::Fail;
+
+/// The bytes of the pieces, one after the other.
+fn joined(alloc: Global, parts: &[Part]) -> Result<Vec<u8>, Fail> {
+    let mut bytes = Vec::new(alloc);
+    for part in parts {
+        match part {
+            Part::Text(text) => bytes.extend_from_slice(text)?,
+            Part::Times(text, times) => {
+                for _ in 0..*times {
+                    bytes.extend_from_slice(text)?;
+                }
+            }
+        }
+    }
+    Ok(bytes)
+}
+
+/// What `check` replies to the files is this text, with this status.
+fn expect_reply(
+    rt: &impl Abort,
+    alloc: Global,
+    files: &[File<'_>],
+    (reply, status): (&[u8], u8),
+    name: &str,
+) -> Result<(), Fail> {
+    let mut out = Counted::new(Vec::new(alloc));
+    let answered = run(alloc, &Command::Check, files, &mut out)?;
+    let written = out.into_inner();
+    assert_eq!(rt;
+        from_utf8(&written)?,
+        from_utf8(reply)?,
+        "in the case {name}"
+    );
+    assert_eq!(rt; answered.number(), status, "in the case {name}");
+    Ok(())
+}
 
 /// Runs the cases of a table, and compares the text and the status of each reply.
 fn compare(rt: &impl Abort, alloc: Global, rows: &[Row]) -> Result<(), Fail> {
     for row in rows {
-        let mut files = Vec::new(alloc);
-        for (name, bytes) in row.files {
-            files.push(File { name, bytes })?;
+        let mut contents = Vec::new(alloc);
+        for (_, parts) in row.files {
+            contents.push(joined(alloc, parts)?)?;
         }
-        let mut out = Counted::new(Vec::new(alloc));
-        let status = run(alloc, &Command::Check, &files, &mut out)?;
-        let name = row.name;
-        assert_eq!(rt;
-            out.into_inner().as_slice(),
-            row.reply,
-            "in the case {name}"
-        );
-        assert_eq!(rt; status.number(), row.status, "in the case {name}");
+        let mut files = Vec::new(alloc);
+        for ((name, _), bytes) in row.files.iter().zip(contents.iter()) {
+            files.push(File {
+                name,
+                bytes: bytes.as_slice(),
+            })?;
+        }
+        expect_reply(rt, alloc, &files, (row.reply, row.status), row.name)?;
     }
     Ok(())
 }
 
 #[test]
-fn first_rows(rt: HostRuntime) -> Result<(), Fail> {
-    compare(&rt, rt.alloc(), &one_file::FIRST_ROWS)
+fn whole_files(rt: HostRuntime) -> Result<(), Fail> {
+    compare(&rt, rt.alloc(), &one_file::WHOLE_FILES)
 }
 
 #[test]
-fn second_rows(rt: HostRuntime) -> Result<(), Fail> {
-    compare(&rt, rt.alloc(), &one_file::SECOND_ROWS)
+fn tokens(rt: HostRuntime) -> Result<(), Fail> {
+    compare(&rt, rt.alloc(), &one_file::TOKENS)
 }
 
 #[test]
-fn third_rows(rt: HostRuntime) -> Result<(), Fail> {
-    compare(&rt, rt.alloc(), &one_file::THIRD_ROWS)
+fn forms(rt: HostRuntime) -> Result<(), Fail> {
+    compare(&rt, rt.alloc(), &one_file::FORMS)
 }
 
 #[test]
-fn fourth_rows(rt: HostRuntime) -> Result<(), Fail> {
-    compare(&rt, rt.alloc(), &one_file::FOURTH_ROWS)
+fn meaning(rt: HostRuntime) -> Result<(), Fail> {
+    compare(&rt, rt.alloc(), &one_file::MEANING)
 }
 
 #[test]
-fn fifth_rows(rt: HostRuntime) -> Result<(), Fail> {
-    compare(&rt, rt.alloc(), &one_file::FIFTH_ROWS)
+fn steps(rt: HostRuntime) -> Result<(), Fail> {
+    compare(&rt, rt.alloc(), &one_file::STEPS)
 }
 
 #[test]
-fn sixth_rows(rt: HostRuntime) -> Result<(), Fail> {
-    compare(&rt, rt.alloc(), &one_file::SIXTH_ROWS)
+fn further_forms(rt: HostRuntime) -> Result<(), Fail> {
+    compare(&rt, rt.alloc(), &one_file::FURTHER_FORMS)
 }
 
 #[test]
-fn seventh_rows(rt: HostRuntime) -> Result<(), Fail> {
-    compare(&rt, rt.alloc(), &one_file::SEVENTH_ROWS)
+fn blocks(rt: HostRuntime) -> Result<(), Fail> {
+    compare(&rt, rt.alloc(), &scopes::BLOCKS)
 }
 
 #[test]
-fn first_examples(rt: HostRuntime) -> Result<(), Fail> {
-    compare(&rt, rt.alloc(), &examples::FIRST_EXAMPLES)
+fn hypotheses(rt: HostRuntime) -> Result<(), Fail> {
+    compare(&rt, rt.alloc(), &scopes::HYPOTHESES)
 }
 
 #[test]
-fn further_examples(rt: HostRuntime) -> Result<(), Fail> {
-    compare(&rt, rt.alloc(), &examples::FURTHER_EXAMPLES)
+fn comments(rt: HostRuntime) -> Result<(), Fail> {
+    compare(&rt, rt.alloc(), &files::COMMENTS)
+}
+
+#[test]
+fn inclusions(rt: HostRuntime) -> Result<(), Fail> {
+    compare(&rt, rt.alloc(), &files::INCLUSIONS)
+}
+
+#[test]
+fn places_of_inclusions(rt: HostRuntime) -> Result<(), Fail> {
+    compare(&rt, rt.alloc(), &files::PLACES_OF_INCLUSIONS)
+}
+
+#[test]
+fn after_head(rt: HostRuntime) -> Result<(), Fail> {
+    compare(&rt, rt.alloc(), &proofs::AFTER_HEAD)
+}
+
+#[test]
+fn whole_language(rt: HostRuntime) -> Result<(), Fail> {
+    compare(&rt, rt.alloc(), &proofs::WHOLE_LANGUAGE)
+}
+
+#[test]
+fn listed(rt: HostRuntime) -> Result<(), Fail> {
+    compare(&rt, rt.alloc(), &incomplete::LISTED)
+}
+
+#[test]
+fn known_fronts(rt: HostRuntime) -> Result<(), Fail> {
+    compare(&rt, rt.alloc(), &incomplete::KNOWN_FRONTS)
+}
+
+#[test]
+fn after_unknown(rt: HostRuntime) -> Result<(), Fail> {
+    compare(&rt, rt.alloc(), &incomplete::AFTER_UNKNOWN)
+}
+
+#[test]
+fn faulty_fronts(rt: HostRuntime) -> Result<(), Fail> {
+    compare(&rt, rt.alloc(), &incomplete::FAULTY_FRONTS)
+}
+
+#[test]
+fn accepted(rt: HostRuntime) -> Result<(), Fail> {
+    compare(&rt, rt.alloc(), &compressed::ACCEPTED)
+}
+
+#[test]
+fn faults(rt: HostRuntime) -> Result<(), Fail> {
+    compare(&rt, rt.alloc(), &compressed::FAULTS)
+}
+
+#[test]
+fn great_numbers(rt: HostRuntime) -> Result<(), Fail> {
+    compare(&rt, rt.alloc(), &compressed::GREAT_NUMBERS)
+}
+
+#[test]
+fn listed_places(rt: HostRuntime) -> Result<(), Fail> {
+    compare(&rt, rt.alloc(), &compressed::LISTED_PLACES)
+}
+
+#[test]
+fn past_the_list(rt: HostRuntime) -> Result<(), Fail> {
+    compare(&rt, rt.alloc(), &compressed::PAST_THE_LIST)
+}
+
+#[test]
+fn order_of_text(rt: HostRuntime) -> Result<(), Fail> {
+    compare(&rt, rt.alloc(), &orders::TEXT)
+}
+
+#[test]
+fn order_of_meaning(rt: HostRuntime) -> Result<(), Fail> {
+    compare(&rt, rt.alloc(), &orders::MEANING)
+}
+
+#[test]
+fn order_of_proofs(rt: HostRuntime) -> Result<(), Fail> {
+    compare(&rt, rt.alloc(), &orders::PROOFS)
+}
+
+#[test]
+fn frames(rt: HostRuntime) -> Result<(), Fail> {
+    compare(&rt, rt.alloc(), &orders::FRAMES)
+}
+
+#[test]
+fn long_hypotheses(rt: HostRuntime) -> Result<(), Fail> {
+    compare(&rt, rt.alloc(), &orders::LONG_HYPOTHESES)
+}
+
+#[test]
+fn nested_blocks(rt: HostRuntime) -> Result<(), Fail> {
+    compare(&rt, rt.alloc(), &damaged::NESTED_BLOCKS)
+}
+
+#[test]
+fn language(rt: HostRuntime) -> Result<(), Fail> {
+    compare(&rt, rt.alloc(), &examples::LANGUAGE)
+}
+
+#[test]
+fn rules(rt: HostRuntime) -> Result<(), Fail> {
+    compare(&rt, rt.alloc(), &examples::RULES)
+}
+
+/// What is done to the byte in a place.
+#[derive(Clone, Copy)]
+enum Damage {
+    Cut,
+    Put(u8),
+}
+
+/// The demonstration database, damaged in a place.
+fn damaged_at(alloc: Global, damage: Damage, place: usize) -> Result<Vec<u8>, Fail> {
+    let mut bytes = Vec::from_slice(alloc, DEMO)?;
+    match damage {
+        Damage::Cut => bytes.truncate(place),
+        Damage::Put(put) => {
+            if let Some(byte) = bytes.get_mut(place) {
+                *byte = put;
+            }
+        }
+    }
+    Ok(bytes)
+}
+
+/// Checks the demonstration database with each place of the spans damaged.
+fn sweep(rt: &impl Abort, alloc: Global, damage: Damage, spans: &[Span]) -> Result<(), Fail> {
+    for Span(first, end, reply, status) in spans {
+        for place in *first..*end {
+            let bytes = damaged_at(alloc, damage, place)?;
+            let files = [File {
+                name: b"demo0.mm",
+                bytes: bytes.as_slice(),
+            }];
+            let name = format!(in alloc; "place {place} damaged")?;
+            expect_reply(rt, alloc, &files, (reply, *status), name.as_str())?;
+        }
+    }
+    Ok(())
+}
+
+#[test]
+fn cut(rt: HostRuntime) -> Result<(), Fail> {
+    sweep(&rt, rt.alloc(), Damage::Cut, &damaged::CUT)
+}
+
+#[test]
+fn with_dollar(rt: HostRuntime) -> Result<(), Fail> {
+    sweep(&rt, rt.alloc(), Damage::Put(b'$'), &damaged::WITH_DOLLAR)
+}
+
+/// Names of files, one for each number.
+fn numbered_names(alloc: Global, count: usize) -> Result<Vec<String>, Fail> {
+    let mut names = Vec::new(alloc);
+    for number in 0..count {
+        names.push(format!(in alloc; "f{number}")?)?;
+    }
+    Ok(names)
+}
+
+/// The contents of files that each include the next one; the last one is empty.
+fn including_next(alloc: Global, names: &[String]) -> Result<Vec<String>, Fail> {
+    let mut contents = Vec::new(alloc);
+    for name in names.iter().skip(1) {
+        contents.push(format!(in alloc; "$[ {name} $]\n")?)?;
+    }
+    contents.push(String::new(alloc))?;
+    Ok(contents)
+}
+
+#[test]
+fn ten_thousand_files(rt: HostRuntime) -> Result<(), Fail> {
+    let alloc = rt.alloc();
+    let names = numbered_names(alloc, 10_000)?;
+    let contents = including_next(alloc, &names)?;
+    let mut files = Vec::new(alloc);
+    for (name, content) in names.iter().zip(contents.iter()) {
+        files.push(File {
+            name: name.as_bytes(),
+            bytes: content.as_bytes(),
+        })?;
+    }
+    let yes: &[u8] = b"yes 0 statements 0 proofs\n";
+    expect_reply(
+        &rt,
+        alloc,
+        &files,
+        (yes, 0),
+        "files that include each other",
+    )
 }

@@ -1,0 +1,315 @@
+//! The acceptance cases of incomplete proofs: those with a token that holds `?`.
+
+use crate::Part::{Text, Times};
+use crate::Row;
+use crate::databases::{DIST, FIRST_HEAD, HEAD, LIMIT};
+
+/// Incomplete proofs are listed, and faults elsewhere come first.
+pub(crate) const LISTED: [Row; 7] = [
+    Row {
+        name: "an unknown step",
+        files: &[(
+            b"h.mm",
+            &[
+                Text(HEAD),
+                Text(b"u1 $p |- t = t $= ? $. u2 $p |- t = t $= tt u1 $.\n"),
+            ],
+        )],
+        reply: b"incomplete 1\nu1\n",
+        status: 3,
+    },
+    Row {
+        name: "an unknown step before a bracket",
+        files: &[(
+            b"h.mm",
+            &[
+                Text(HEAD),
+                Text(b"u1 $p |- t = t $= ? ( $. u2 $p |- t = t $= tt u1 $.\n"),
+            ],
+        )],
+        reply: b"incomplete 1\nu1\n",
+        status: 3,
+    },
+    Row {
+        name: "an unknown step in a list of labels",
+        files: &[(
+            b"h.mm",
+            &[
+                Text(HEAD),
+                Text(b"u1 $p |- t = t $= ( ? tze ) A $. u2 $p |- t = t $= tt u1 $.\n"),
+            ],
+        )],
+        reply: b"incomplete 1\nu1\n",
+        status: 3,
+    },
+    Row {
+        name: "two incomplete proofs",
+        files: &[(
+            b"h.mm",
+            &[
+                Text(HEAD),
+                Text(b"u1 $p |- t = t $= ? $. h1 $p term t $= tt $. u2 $p |- 0 = 0 "),
+                Text(b"$= tt ? $.\n"),
+            ],
+        )],
+        reply: b"incomplete 2\nu1\nu2\n",
+        status: 3,
+    },
+    Row {
+        name: "a fault after an incomplete proof",
+        files: &[(
+            b"h.mm",
+            &[
+                Text(HEAD),
+                Text(b"u1 $p |- t = t $= ? $.\nth2 $p term t $= tt tt $.\n"),
+            ],
+        )],
+        reply: b"no h.mm 21 th2 P13 3\n",
+        status: 1,
+    },
+    Row {
+        name: "an incomplete proof that breaks a rule of meaning",
+        files: &[(b"h.mm", &[Text(HEAD), Text(b"u1 $p |- z $= ? $.\n")])],
+        reply: b"no h.mm 20 u1 M7 0\n",
+        status: 1,
+    },
+    Row {
+        name: "an incomplete theorem in a small database",
+        files: &[(
+            b"first.mm",
+            &[Text(FIRST_HEAD), Text(b"th $p term ( 0 + 0 ) $= ? $.\n")],
+        )],
+        reply: b"incomplete 1\nth\n",
+        status: 3,
+    },
+];
+
+/// What stands before the unknown step breaks no rule.
+pub(crate) const KNOWN_FRONTS: [Row; 6] = [
+    Row {
+        name: "two entries before the unknown step",
+        files: &[(
+            b"h.mm",
+            &[Text(HEAD), Text(b"u1 $p |- t = t $= tt tt ? $.\n")],
+        )],
+        reply: b"incomplete 1\nu1\n",
+        status: 3,
+    },
+    Row {
+        name: "another expression before the unknown step",
+        files: &[(
+            b"h.mm",
+            &[Text(HEAD), Text(b"u1 $p |- t = t $= tze ? $.\n")],
+        )],
+        reply: b"incomplete 1\nu1\n",
+        status: 3,
+    },
+    Row {
+        name: "the longest expression before the unknown step",
+        files: &[(
+            b"limit.mm",
+            &[
+                Text(LIMIT),
+                Text(b"th $p f $= ( one odd end ) A"),
+                Times(b"B", 19),
+                Text(b"? $.\n"),
+            ],
+        )],
+        reply: b"incomplete 1\nth\n",
+        status: 3,
+    },
+    Row {
+        name: "a number of a tag before the unknown step",
+        files: &[(
+            b"h.mm",
+            &[Text(HEAD), Text(b"u1 $p |- t = t $= ( tze ) AZC? $.\n")],
+        )],
+        reply: b"incomplete 1\nu1\n",
+        status: 3,
+    },
+    Row {
+        name: "an empty known front",
+        files: &[(
+            b"h.mm",
+            &[Text(HEAD), Text(b"u1 $p |- t = t $= ( tze ) ? $.\n")],
+        )],
+        reply: b"incomplete 1\nu1\n",
+        status: 3,
+    },
+    Row {
+        name: "a tagged hypothesis before the unknown step",
+        files: &[(
+            b"h.mm",
+            &[Text(HEAD), Text(b"u1 $p |- t = t $= ( tpl ) AZ? $.\n")],
+        )],
+        reply: b"incomplete 1\nu1\n",
+        status: 3,
+    },
+];
+
+/// What stands after the unknown step, or in a list of labels with one, is not looked at.
+pub(crate) const AFTER_UNKNOWN: [Row; 7] = [
+    Row {
+        name: "an unknown label after the unknown step",
+        files: &[(
+            b"h.mm",
+            &[Text(HEAD), Text(b"u1 $p |- t = t $= tt ? nope $.\n")],
+        )],
+        reply: b"incomplete 1\nu1\n",
+        status: 3,
+    },
+    Row {
+        name: "a first token of a bracket and a question mark",
+        files: &[(
+            b"h.mm",
+            &[Text(HEAD), Text(b"u1 $p |- t = t $= (? nope $.\n")],
+        )],
+        reply: b"incomplete 1\nu1\n",
+        status: 3,
+    },
+    Row {
+        name: "a list of labels that is not closed before the unknown step",
+        files: &[(
+            b"h.mm",
+            &[Text(HEAD), Text(b"u1 $p |- t = t $= ( nope ? $.\n")],
+        )],
+        reply: b"incomplete 1\nu1\n",
+        status: 3,
+    },
+    Row {
+        name: "letters in a list that is not closed before the unknown step",
+        files: &[(
+            b"h.mm",
+            &[Text(HEAD), Text(b"u1 $p |- t = t $= ( tze A ? $.\n")],
+        )],
+        reply: b"incomplete 1\nu1\n",
+        status: 3,
+    },
+    Row {
+        name: "a closing bracket with a question mark",
+        files: &[(
+            b"h.mm",
+            &[Text(HEAD), Text(b"u1 $p |- t = t $= ( tze )? a $.\n")],
+        )],
+        reply: b"incomplete 1\nu1\n",
+        status: 3,
+    },
+    Row {
+        name: "a small letter after the unknown step",
+        files: &[(
+            b"h.mm",
+            &[Text(HEAD), Text(b"u1 $p |- t = t $= ( tze ) A?a $.\n")],
+        )],
+        reply: b"incomplete 1\nu1\n",
+        status: 3,
+    },
+    Row {
+        name: "a list that holds the unknown step is not judged",
+        files: &[(
+            b"h.mm",
+            &[Text(HEAD), Text(b"u1 $p |- t = t $= ( nope ? ) a $.\n")],
+        )],
+        reply: b"incomplete 1\nu1\n",
+        status: 3,
+    },
+];
+
+/// What stands before the unknown step would break a rule. It is not looked at, as long as known
+/// fronts are not judged.
+pub(crate) const FAULTY_FRONTS: [Row; 10] = [
+    Row {
+        name: "too few entries before the unknown step",
+        files: &[(
+            b"h.mm",
+            &[Text(HEAD), Text(b"u1 $p |- t = t $= tt weq ? $.\n")],
+        )],
+        reply: b"incomplete 1\nu1\n",
+        status: 3,
+    },
+    Row {
+        name: "an unknown label before the unknown step",
+        files: &[(
+            b"h.mm",
+            &[Text(HEAD), Text(b"u1 $p |- t = t $= nope ? $.\n")],
+        )],
+        reply: b"incomplete 1\nu1\n",
+        status: 3,
+    },
+    Row {
+        name: "a hypothesis of a closed block before the unknown step",
+        files: &[(
+            b"h.mm",
+            &[Text(HEAD), Text(b"u1 $p |- t = t $= min ? $.\n")],
+        )],
+        reply: b"incomplete 1\nu1\n",
+        status: 3,
+    },
+    Row {
+        name: "an unknown listed label before the unknown step",
+        files: &[(
+            b"h.mm",
+            &[Text(HEAD), Text(b"u1 $p |- t = t $= ( nope ) A? $.\n")],
+        )],
+        reply: b"incomplete 1\nu1\n",
+        status: 3,
+    },
+    Row {
+        name: "too great a number before the unknown step",
+        files: &[(
+            b"h.mm",
+            &[Text(HEAD), Text(b"u1 $p |- t = t $= ( tze ) AC? $.\n")],
+        )],
+        reply: b"incomplete 1\nu1\n",
+        status: 3,
+    },
+    Row {
+        name: "leading digits before the unknown step",
+        files: &[(
+            b"h.mm",
+            &[Text(HEAD), Text(b"u1 $p |- t = t $= ( tze ) U? $.\n")],
+        )],
+        reply: b"incomplete 1\nu1\n",
+        status: 3,
+    },
+    Row {
+        name: "a small letter before the unknown step",
+        files: &[(
+            b"h.mm",
+            &[Text(HEAD), Text(b"u1 $p |- t = t $= ( tze ) a? $.\n")],
+        )],
+        reply: b"incomplete 1\nu1\n",
+        status: 3,
+    },
+    Row {
+        name: "a tag before any step before the unknown step",
+        files: &[(
+            b"h.mm",
+            &[Text(HEAD), Text(b"u1 $p |- t = t $= ( tze ) Z? $.\n")],
+        )],
+        reply: b"incomplete 1\nu1\n",
+        status: 3,
+    },
+    Row {
+        name: "two distinct variables replaced by one before the unknown step",
+        files: &[(
+            b"dist.mm",
+            &[Text(DIST), Text(b"t5 $p |- z R z $= vz vz ax ? $.\n")],
+        )],
+        reply: b"incomplete 1\nt5\n",
+        status: 3,
+    },
+    Row {
+        name: "too long an expression before the unknown step",
+        files: &[(
+            b"limit.mm",
+            &[
+                Text(LIMIT),
+                Text(b"th $p f $= ( one odd end ) A"),
+                Times(b"B", 20),
+                Text(b"? $.\n"),
+            ],
+        )],
+        reply: b"incomplete 1\nth\n",
+        status: 3,
+    },
+];

@@ -1,0 +1,2 @@
+$[ terms.mm $]
+refl $a |- t = t $.

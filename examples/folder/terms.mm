@@ -1,0 +1,4 @@
+$[ top.mm $]
+$[ symbols.mm $]
+tt $f term t $.
+tze $a term 0 $.

@@ -1,0 +1,3 @@
+$[ terms.mm $]
+$[ rules.mm $]
+th $p |- 0 = 0 $= tze refl $.
