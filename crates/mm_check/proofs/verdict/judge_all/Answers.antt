@@ -2,7 +2,7 @@
 use Rattle.std.proofs.Common.{rules, ◌≡◌, ℕ, List, Option, Some, None, map, length, All, sym, subst}
 use Rattle.mm_text.specs.declared.statement.Statement.{Statement}
 use Rattle.mm_text.specs.Statement.{plain_statement, IsFormed}
-use Rattle.mm_text.specs.Reading.{plain_file}
+use Rattle.mm_text.specs.Files.{plain_file}
 use Rattle.mm_frame.specs.Sentence.{said_by}
 use Rattle.mm_frame.specs.Rules.{AllMeant}
 use Rattle.mm_check.specs.Verdict.{Obeys}
