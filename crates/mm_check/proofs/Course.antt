@@ -6,14 +6,14 @@ use Rattle.mm_text.specs.Statement.{PlainStatement, HasForm, bytes_in}
 use Rattle.mm_text.specs.Files.{PlainFile, total_bytes}
 use Rattle.mm_text.specs.Reading.{PlainFault, Reads}
 use Rattle.mm_text.specs.Remaining.{Remaining, IsUnread}
-use Rattle.mm_text.proofs.OneReading.{each_has_one_reading}
+use Rattle.mm_text.proofs.ReaderLaws.{each_has_one_reading}
 use Rattle.mm_frame.specs.Sentence.{Sentence, said}
 use Rattle.mm_check.specs.declared.fault.CheckFault.{CheckFault}
 use Rattle.mm_check.specs.declared.progress.Progress.{Progress}
 use Rattle.mm_check.specs.Conclusion.{Conclusion, labels_in}
 use Rattle.mm_check.specs.Verdict.{Verdict, Yes, HasFault, Obeys, AllObey, HasVerdict, AreAccepted, CanBeRead, sentences, labels_of, unproved_of, proofs_of, refusal_of, text_refusal}
 use Rattle.mm_check.specs.Answer.{verdict_of_fault, concluded, concluded_with, labels_at, IsVerdict, KeepsLabels}
-use Rattle.mm_check.specs.Judged.{IsUnderWay, Knows, Takes, RefusesAfter, RefusesEnd, RefusesLoad, TakesNext}
+use Rattle.mm_check.specs.Judged.{IsUnderWay, IsAtEnd, Knows, Takes, RefusesAfter, RefusesEnd, RefusesLoad, TakesNext}
 use Rattle.mm_check.proofs.Unproved.{one_more}
 use Rattle.mm_check.proofs.Known.{ids, knows_more, labels_said, names_of_ids}
 use Rattle.mm_check.proofs.Numbers.{names_at, numbers_within}
@@ -167,3 +167,13 @@ incomplete_within files p left way =
     sym (names_of_ids (labels_of way.earlier) p.incomplete.items) ∙ way.known.incomplete in
     subst (λ (ls : List (List ℕ)). AllByRecursion (λ n. n < length ls) (ids p.incomplete.items)) (sym labels)
     (numbers_within (labels_of way.earlier) (ids p.incomplete.items) (unproved_of way.earlier) named)
+
+-- where nothing is left, the progress is at its end
+pub at_end : (files : List PlainFile) (p : Progress) (old new : Remaining) (s : PlainStatement) → IsUnderWay files p old → TakesNext old false s new
+    → IsAtEnd files p new
+at_end files p old new s way taken =
+    subst (λ (left : Remaining). IsAtEnd files p left) (sym taken.2) (record {
+      way = record { earlier = way.earlier; readable = way.readable; reads = way.reads; obeyed = way.obeyed; known = way.known };
+      none = taken.0;
+      ending = taken.1;
+    })

@@ -10,8 +10,8 @@ use Rattle.mm_text.specs.Token.{PlainToken}
 use Rattle.mm_text.specs.Statement.{PlainStatement, HasForm, HasLabel, FitsCount}
 use Rattle.mm_text.specs.Files.{PlainFile, BreaksLoad, HasTwins, total_bytes}
 use Rattle.mm_text.specs.Reading.{PlainFault, Reads}
-use Rattle.mm_text.proofs.OneReading.{each_has_one_reading}
-use Rattle.mm_text.proofs.FormedLaws.{reading_formed}
+use Rattle.mm_text.proofs.ReaderLaws.{each_has_one_reading}
+use Rattle.mm_text.proofs.FormedLaws.{readings_are_formed_in_place}
 use Rattle.mm_frame.specs.Sentence.{Sentence, said}
 use Rattle.mm_frame.specs.Rules.{IsMeant}
 use Rattle.mm_frame.specs.Form.{IsNamed, IsFormedSentence, AllFormed}
@@ -142,7 +142,7 @@ no_statement (b ∷ before) after s e = absurd cc
 read_verdict : (files : List PlainFile) → CanBeRead files → (verdict : Verdict) × HasVerdict files verdict
 read_verdict files readable =
     let one = each_has_one_reading files in
-    elim (judged_statements files [] one.statements no_statement (reading_formed files one.statements one.ending one.reads)) [
+    elim (judged_statements files [] one.statements no_statement (readings_are_formed_in_place files one.statements one.ending one.reads).formed) [
       | inl refused ↦ (Refused refused.0, (readable, one.statements, one.ending, one.reads, inl refused.1))
       | inr obeyed ↦ ended_verdict files one.statements one.ending readable one.reads obeyed
     ]

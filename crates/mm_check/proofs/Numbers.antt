@@ -1,5 +1,5 @@
 -- Labels by numbers.
-use Rattle.std.proofs.Common.{◌≡◌, ℕ, zero, suc, ◌+◌, ◌<◌, ◌≤◌, List, [], ◌∷◌, ◌++◌, map, filter, length, sum_by, count_by, slice_get, is_some, Bool, true, false, cond, Option, Some, None, refl, sym, ap, subst, ◌∙◌, arith, length-append}
+use Rattle.std.proofs.Common.{◌≡◌, ℕ, zero, suc, ◌+◌, ◌<◌, ◌≤◌, List, [], ◌∷◌, ◌++◌, map, filter, length, sum_by, count_by, get_or, slice_get, is_some, Bool, true, false, cond, Option, Some, None, refl, sym, ap, subst, ◌∙◌, arith, length-append}
 use Rattle.std.specs.List.{flat_map, AllByRecursion}
 use Rattle.std.specs.Option.{option_to_list, option_map}
 use Rattle.std.proofs.lemmas.List.{map-append, length-map}
@@ -91,3 +91,24 @@ label_at label [] n s l e h = absurd cc
 label_at label (t ∷ ss) n s l e h =
     label_first label t s l (filter (λ s. is_some (label s)) ss) (flat_map (λ s. option_to_list (label s)) ss)
     (λ k f. label_at label ss k s l f h) h (label t) refl n e
+
+get_there : {X : Type 0} (xs : List X) (n : ℕ) → n < length xs → (x : X) × (slice_get xs n ≡ Some x)
+get_there [] n less = absurd (omega arith)
+get_there (x ∷ xs) zero less = (x, refl)
+get_there (x ∷ xs) (suc n) less = get_there xs n (omega arith)
+
+-- the label of the labelled statement at a number, as one that looks it up tells it
+pub label_named : {S : Type 0} (label : S → Option (List ℕ)) (ss : List S) (n : ℕ) (l : List ℕ)
+    → n < length (filter (λ s. is_some (label s)) ss)
+    → ((s : S) → slice_get (filter (λ s. is_some (label s)) ss) n ≡ Some s → label s ≡ Some l)
+    → slice_get (flat_map (λ s. option_to_list (label s)) ss) n ≡ Some l
+label_named label ss n l less told =
+    let there = get_there (filter (λ s. is_some (label s)) ss) n less in
+    label_at label ss n there.0 l there.1 (told there.0 there.1)
+
+-- what holds of each of some numbers holds of the one at a place
+pub all_at : {I : Type 0} (number : I → ℕ) (P : ℕ → Type 0) (is : List I) (k : ℕ) (d : I) → AllByRecursion P (map number is) → k < length is
+    → P (number (get_or is k d))
+all_at number P [] k d all less = absurd (omega arith)
+all_at number P (i ∷ is) zero d all less = all.0
+all_at number P (i ∷ is) (suc k) d all less = all_at number P is k d all.1 (omega arith)

@@ -10,8 +10,8 @@ use Rattle.mm_text.specs.Token.{PlainToken}
 use Rattle.mm_text.specs.Statement.{PlainStatement, HasForm}
 use Rattle.mm_text.specs.Files.{PlainFile, BreaksLoad}
 use Rattle.mm_text.specs.Reading.{PlainFault, Reads}
-use Rattle.mm_text.proofs.OneReading.{each_has_one_reading}
-use Rattle.mm_text.proofs.FormedLaws.{reading_formed}
+use Rattle.mm_text.proofs.ReaderLaws.{each_has_one_reading}
+use Rattle.mm_text.proofs.FormedLaws.{readings_are_formed_in_place}
 use Rattle.mm_frame.specs.declared.rule.MeaningRule.{MeaningRule}
 use Rattle.mm_frame.specs.declared.rule.MeaningRule.TheVariants.{M1, M2, M3, M4, M5, M6, M7, M8, M9, M10, M11, M12, M13, M14, M15}
 use Rattle.mm_frame.specs.Sentence.{Sentence, said}
@@ -200,7 +200,7 @@ yes_obeys files n p h = record {
   meant = λ before after s split. (h.1.obeyed before after s split).meant;
   proved = λ before after s split provable.
       let complete : is_incomplete (proof_of s) ≡ false =
-      complete_where_none before after s (subst (λ (ss : List PlainStatement). AllByRecursion HasForm ss) split (reading_formed files h.0 None h.1.reads))
+      complete_where_none before after s (subst (λ (ss : List PlainStatement). AllByRecursion HasForm ss) split (readings_are_formed_in_place files h.0 None h.1.reads).formed)
       (sym (ap unproved_of split) ∙ h.2) provable in
       (
         complete,

@@ -15,7 +15,7 @@ use Rattle.mm_proof.specs.Proof.{IsProvedWithin, IsWithin, expression_limit, IsF
 use Rattle.mm_check.specs.declared.rule.Rule.{Rule}
 use Rattle.mm_check.specs.declared.fault.CheckFault.{CheckFault}
 use Rattle.mm_check.specs.declared.progress.Progress.{Progress}
-use Rattle.mm_check.specs.Verdict.{Load, Refused, HasFault, Obeys, AllObey, CanBeRead, refusal_of, text_refusal, load_rule, proof_rule, sentences, proof_of, proofs_of, labels_of, unproved_of, is_incomplete, is_proof, is_unproved}
+use Rattle.mm_check.specs.Verdict.{Verdict, HasVerdict, Load, Refused, HasFault, Obeys, AllObey, CanBeRead, refusal_of, text_refusal, load_rule, proof_rule, sentences, proof_of, proofs_of, labels_of, unproved_of, is_incomplete, is_proof, is_unproved}
 use Rattle.mm_check.specs.Answer.{verdict_of_fault}
 
 -- Memory was wanting, or the statement, which comes after so many others, is refused for its fault.
@@ -41,7 +41,7 @@ RefusesLoad files fault =
 -- The next statement was taken from what is left; or there is none, and no fault.
 abbrev pub TakesNext : Remaining → Bool → PlainStatement → Remaining → Type 0
 TakesNext old true s new = (old.statements ≡ s ∷ new.statements) × (new ≡ record old { statements = new.statements })
-TakesNext old false s new = (old.statements ≡ []) × (old.ending ≡ None)
+TakesNext old false s new = (old.statements ≡ []) × (old.ending ≡ None) × (new ≡ record old { told = true })
 
 -- the last of the statements is this `$p`, which has the number
 pub record IsLastProof (statements : List Sentence) (id : ℕ) (s : PlainStatement) : Type 0 where
@@ -50,15 +50,21 @@ pub record IsLastProof (statements : List Sentence) (id : ℕ) (s : PlainStateme
   pub number : id ≡ length (labelled before)
   pub provable : s.kind ≡ Provable
 
--- The proof of the last statement is complete and proved; or incomplete; or this is its fault, unless memory was wanting.
+-- the proof of a `$p` after the statements before is complete, and proved, or incomplete
+abbrev pub IsJudged : List Sentence → PlainStatement → Bool → Type 0
+IsJudged before s complete =
+    (complete ≡ not (is_incomplete (proof_of s)))
+    × (complete ≡ true → IsProvedWithin (IsWithin expression_limit) before (said s) (proof_of s))
+
+-- its proof is complete, and this is its fault; or memory was wanting
+abbrev pub Fails : List Sentence → PlainStatement → ProofFault → Type 0
+Fails before s fault = OnRule fault (λ rule step.
+    (is_incomplete (proof_of s) ≡ false) × IsFault (IsWithin expression_limit) before (said s) (proof_of s) rule step)
+
+-- the verdict on the proof of the last statement
 abbrev pub JudgesProof : List Sentence → PlainStatement → Result Bool ProofFault → Type 0
 JudgesProof statements s result =
-    (before : List Sentence) → statements ≡ before ++ said s ∷ []
-    → MatchResult result
-      (λ complete. (complete ≡ not (is_incomplete (proof_of s)))
-        × (complete ≡ true → IsProvedWithin (IsWithin expression_limit) before (said s) (proof_of s)))
-      (λ fault. OnRule fault (λ rule step. (is_incomplete (proof_of s) ≡ false)
-        × IsFault (IsWithin expression_limit) before (said s) (proof_of s) rule step))
+    (before : List Sentence) → statements ≡ before ++ said s ∷ [] → MatchResult result (IsJudged before s) (Fails before s)
 
 -- the proof of the last statement was counted, or noted as incomplete
 pub record CountsProof (old : Progress) (id : ℕ) (s : PlainStatement) (new : Progress) : Type 0 where
@@ -104,3 +110,13 @@ pub record IsUnderWay (files : List PlainFile) (p : Progress) (left : Remaining)
   pub reads : Reads files (earlier ++ left.statements) left.ending
   pub obeyed : AllObey earlier
   pub known : Knows earlier p
+
+-- No statement is left, and the text has no fault.
+pub record IsAtEnd (files : List PlainFile) (p : Progress) (left : Remaining) : Type 0 where
+  pub way : IsUnderWay files p left
+  pub none : left.statements ≡ []
+  pub ending : left.ending ≡ None
+
+-- The verdict that the fault tells holds of the files; want of memory tells none.
+abbrev pub TellsVerdict : List PlainFile → CheckFault → Type 0
+TellsVerdict files fault = (verdict : Verdict) → verdict_of_fault fault ≡ Some verdict → HasVerdict files verdict

@@ -43,10 +43,10 @@ impl<'a> Checked<'a> {
     pub(crate) fn new(progress: Progress<'a>) -> Checked<'a>
         requires { AllByRecursion (λ n. n < length (labels_in progress.book.statements))
             (map (λ id. id.0) progress.incomplete.items) }
-        ensures statements { result.statements ≡ progress.count }
-        ensures proofs { result.proofs ≡ progress.proofs }
-        ensures incomplete { result.incomplete ≡ map (λ id. id.0) progress.incomplete.items }
-        ensures labels { result.labels ≡ labels_in progress.book.statements }
+        ensures statements { result.statements ≡ progress.entry.count }
+        ensures proofs { result.proofs ≡ progress.entry.proofs }
+        ensures incomplete { result.incomplete ≡ map (λ id. id.0) progress.entry.incomplete.items }
+        ensures labels { result.labels ≡ labels_in progress.entry.book.statements }
     {
         Checked {
             book: progress.book,

@@ -7,7 +7,7 @@ ghost use Rattle.mm_text.specs.Files.{plain_file};
 ghost use Rattle.mm_text.specs.Remaining.{IsUnread};
 ghost use Rattle.mm_check.specs.Verdict.{ObeyTheProfile, CanBeRead, text_refusal as text_refusal_at};
 ghost use Rattle.mm_check.specs.Answer.{IsYes, IsOverLimit, IsWantOfMemory, IsVerdict, IsOnlyVerdict, KeepsLabels, plain_refusal};
-ghost use Rattle.mm_check.specs.Judged.{TakesNext, RefusesEnd, RefusesLoad, Knows};
+ghost use Rattle.mm_check.specs.Judged.{TakesNext, RefusesEnd, RefusesLoad, Knows, IsUnderWay, IsAtEnd, TellsVerdict};
 
 use crate::checked::Checked;
 use crate::fault::{CheckFault, Refusal};
@@ -101,17 +101,32 @@ fn beginning<'a>(alloc: Global) -> Result<Progress<'a>, CheckFault<'a>>
     }
 }
 
-/// Reads the statements one after the other and judges each, up to the first fault.
+/// Reads the statements that are left, one after the other, and judges each, up to the first fault.
+fn judge_rest<'a>(
+    alloc: Global,
+    files: &[File<'a>],
+    statements: &mut Statements<'a>,
+    progress: &mut Progress<'a>,
+) -> Result<(), CheckFault<'a>>
+    requires { IsUnderWay (map plain_file files.now) progress.old statements.old }
+    ensures done { OnOk result (IsAtEnd (map plain_file files.now) progress.new statements.new) }
+    ensures refused { IfErr result (TellsVerdict (map plain_file files.now)) }
+{
+    let mut statement = Statement::empty(alloc);
+    while next(files, statements, &mut statement)? {
+        judge(alloc, files, progress, &statement)?;
+    }
+    Ok(())
+}
+
+/// Judges all statements of the files.
 fn judge_all<'a>(alloc: Global, files: &'a [File<'a>]) -> Result<Checked<'a>, CheckFault<'a>>
     ensures verdict { IsVerdict (map plain_file files.now) result }
     ensures labels { IfOk result (KeepsLabels (map plain_file files.now)) }
 {
     let mut statements = load(alloc, files)?;
-    let mut statement = Statement::empty(alloc);
     let mut progress = beginning(alloc)?;
-    while next(files, &mut statements, &mut statement)? {
-        judge(alloc, files, &mut progress, &statement)?;
-    }
+    judge_rest(alloc, files, &mut statements, &mut progress)?;
     Ok(Checked::new(progress))
 }
 
