@@ -1,5 +1,12 @@
+pub mod Numbers
+pub mod Known
+pub mod Unproved
+pub mod Judging
+pub mod Ranks
+pub mod Meanings
+pub mod Existence
 pub mod Lines
 pub mod Replies
 pub mod Verdicts
-pub mod Labels
+pub mod OnTheWay
 pub mod Course

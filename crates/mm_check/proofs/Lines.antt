@@ -3,7 +3,7 @@ use Rattle.std.proofs.Common.{Bool, false, IsTrue, ◌↔◌, ◌≡◌, ℕ, ze
 use Rattle.std.specs.Option.{option_to_list}
 use Rattle.std.proofs.lemmas.List.{take_more, map-append, length-map}
 use Rattle.std.proofs.lemmas.Grind.{flat_map-append}
-use Rattle.mm_check.specs.declared.checked.LabelId.{LabelId}
+use Rattle.mm_frame.specs.declared.number.LabelId.{LabelId}
 use Rattle.mm_check.specs.Answer.{labels_at, concluded}
 use Rattle.mm_check.specs.Conclusion.{Conclusion}
 use Rattle.mm_check.specs.Verdict.{Yes}

@@ -1,6 +1,6 @@
 -- The text and the status that tell a verdict are those of the reply.
 use Rattle.std.proofs.Common.{◌≡◌, ℕ, List, Option, Some, None, Result, MatchOption, IfSome, refl}
-use Rattle.mm_text.specs.Reading.{PlainFile}
+use Rattle.mm_text.specs.Files.{PlainFile}
 use Rattle.mm_check.specs.declared.fault.CheckFault.{CheckFault}
 use Rattle.mm_check.specs.Conclusion.{Conclusion}
 use Rattle.mm_check.specs.Verdict.{Verdict, HasVerdict}

@@ -1,23 +1,33 @@
 -- There is one verdict over files; yes says that the profile is obeyed, and such files get yes, the limit aside.
-use Rattle.std.proofs.Common.{◌≡◌, ℕ, zero, suc, ◌<◌, List, [], ◌∷◌, ◌++◌, length, Option, Some, None, Result, ◌⊎◌, inl, inr, refl, sym, ap, subst, ◌∙◌, arith, append_assoc}
+use Rattle.std.proofs.Common.{◌≡◌, ◌≢◌, ℕ, zero, suc, ◌<◌, List, [], ◌∷◌, ◌++◌, map, length, Bool, true, false, not, cond, Option, Some, None, Result, ◌⊎◌, inl, inr, refl, sym, ap, subst, ◌∙◌, arith, append_assoc}
+use Rattle.std.specs.List.{AllByRecursion}
 use Rattle.std.proofs.lemmas.List.{map-append}
 use Rattle.mm_text.specs.declared.fault.LoadRule.{LoadRule}
 use Rattle.mm_text.specs.declared.fault.LoadRule.TheVariants as load
-use Rattle.mm_text.specs.Statement.{PlainStatement}
-use Rattle.mm_text.specs.Reading.{PlainFile, PlainFault, BreaksLoad, Reads}
-use Rattle.mm_text.proofs.OneReading.{each_has_one_reading}
+use Rattle.mm_text.specs.declared.statement.Kind.{Kind}
+use Rattle.mm_text.specs.declared.statement.Kind.TheVariants.{Constants, Variables, Distinct, Floating, Essential, Axiom, Provable, Opening, Closing}
+use Rattle.mm_text.specs.Token.{PlainToken}
+use Rattle.mm_text.specs.Statement.{PlainStatement, HasForm}
+use Rattle.mm_text.specs.Files.{PlainFile, BreaksLoad}
+use Rattle.mm_text.specs.Reading.{PlainFault, Reads}
+use Rattle.mm_text.proofs.ReaderLaws.{each_has_one_reading}
+use Rattle.mm_text.proofs.FormedLaws.{readings_are_formed_in_place}
 use Rattle.mm_frame.specs.declared.rule.MeaningRule.{MeaningRule}
 use Rattle.mm_frame.specs.declared.rule.MeaningRule.TheVariants.{M1, M2, M3, M4, M5, M6, M7, M8, M9, M10, M11, M12, M13, M14, M15}
 use Rattle.mm_frame.specs.Sentence.{Sentence, said}
 use Rattle.mm_frame.specs.Rules.{FirstBroken, AllMeant, rank}
+use Rattle.mm_proof.specs.Proof.{expression_limit}
 use Rattle.mm_proof.specs.declared.fault.ProofRule.TheVariants as proof
-use Rattle.mm_proof.proofs.Verdicts.{one_verdict_holds, limits_aside_holds}
+use Rattle.mm_proof.proofs.Verdicts.{one_verdict_holds}
+use Rattle.mm_proof.proofs.Limits.{limits_aside_holds}
 use Rattle.mm_check.specs.declared.fault.CheckFault.{CheckFault}
 use Rattle.mm_check.specs.Conclusion.{Conclusion}
 use Rattle.mm_check.specs.Answer.{answered, IsVerdict, IsOnlyVerdict, IsYes, IsOverLimit, IsWantOfMemory}
 use Rattle.mm_check.specs.declared.rule.Rule.{Rule}
 use Rattle.mm_check.specs.declared.rule.Rule.TheVariants.{L1}
-use Rattle.mm_check.specs.Verdict.{Verdict, Load, Refused, Incomplete, Yes, PlainRefusal, Obeys, AllObey, HasFault, HasVerdict, RefusesStatement, RefusesText, ObeyTheProfile, sentences, load_rule, meaning_rule, proof_rule, refusal_of, text_refusal, proofs_of}
+use Rattle.mm_check.specs.Verdict.{Verdict, Load, Refused, Incomplete, Yes, PlainRefusal, Obeys, AllObey, AreAccepted, HasFault, HasVerdict, RefusesStatement, RefusesText, ObeyTheProfile, sentences, load_rule, meaning_rule, proof_rule, refusal_of, text_refusal, proof_of, proofs_of, label_of, unproved_of, is_provable, is_incomplete, is_proof, is_unproved}
+use Rattle.mm_check.proofs.Ranks.{ranked, ranked-rank, compared}
+use Rattle.mm_check.proofs.Unproved.{all_meant, none_unproved, complete_where_none, proof_there, provable_proof}
 
 -- ## The rules of the files as a whole
 
@@ -34,53 +44,6 @@ one_load files load.F3 load.F3 h k = refl
 
 -- ## The fault of a statement
 
--- the rule with this rank
-ranked : ℕ → MeaningRule
-ranked zero = M1
-ranked (suc zero) = M1
-ranked (suc (suc zero)) = M2
-ranked (suc (suc (suc zero))) = M3
-ranked (suc (suc (suc (suc zero)))) = M4
-ranked (suc (suc (suc (suc (suc zero))))) = M5
-ranked (suc (suc (suc (suc (suc (suc zero)))))) = M6
-ranked (suc (suc (suc (suc (suc (suc (suc zero))))))) = M7
-ranked (suc (suc (suc (suc (suc (suc (suc (suc zero)))))))) = M8
-ranked (suc (suc (suc (suc (suc (suc (suc (suc (suc zero))))))))) = M9
-ranked (suc (suc (suc (suc (suc (suc (suc (suc (suc (suc zero)))))))))) = M10
-ranked (suc (suc (suc (suc (suc (suc (suc (suc (suc (suc (suc zero))))))))))) = M11
-ranked (suc (suc (suc (suc (suc (suc (suc (suc (suc (suc (suc (suc zero)))))))))))) = M12
-ranked (suc (suc (suc (suc (suc (suc (suc (suc (suc (suc (suc (suc (suc zero))))))))))))) = M13
-ranked (suc (suc (suc (suc (suc (suc (suc (suc (suc (suc (suc (suc (suc (suc zero)))))))))))))) = M14
-ranked (suc (suc (suc (suc (suc (suc (suc (suc (suc (suc (suc (suc (suc (suc (suc n))))))))))))))) = M15
-
-ranked-rank : (rule : MeaningRule) → ranked (rank rule) ≡ rule
-unfolding ranked
-ranked-rank M1 = refl
-ranked-rank M2 = refl
-ranked-rank M3 = refl
-ranked-rank M4 = refl
-ranked-rank M5 = refl
-ranked-rank M6 = refl
-ranked-rank M7 = refl
-ranked-rank M8 = refl
-ranked-rank M9 = refl
-ranked-rank M10 = refl
-ranked-rank M11 = refl
-ranked-rank M12 = refl
-ranked-rank M13 = refl
-ranked-rank M14 = refl
-ranked-rank M15 = refl
-
--- one of two numbers is less, or they are equal
-compared : (a b : ℕ) → (a < b) ⊎ (b < a) ⊎ (a ≡ b)
-compared zero zero = inr (inr refl)
-compared zero (suc b) = inl (omega arith)
-compared (suc a) zero = inr (inl (omega arith))
-compared (suc a) (suc b) = elim (compared a b) [
-  | inl h ↦ inl (omega arith)
-  | inr rest ↦ elim rest [ inl h ↦ inr (inl (omega arith)) | inr e ↦ inr (inr (ap suc e)) ]
-]
-
 -- the first rule that a statement breaks is one
 one_first : (before : List Sentence) (s : Sentence) (a b : MeaningRule) → FirstBroken a before s → FirstBroken b before s → a ≡ b
 one_first before s a b f g = elim (compared (rank a) (rank b)) [
@@ -92,27 +55,24 @@ one_first before s a b f g = elim (compared (rank a) (rank b)) [
 ]
 
 -- what obeys the rules has no fault
-obeying_faultless : (before : List Sentence) (s : Sentence) (rule : Rule) (step : ℕ) → AllMeant before → Obeys before s
+obeying_faultless : (before : List Sentence) (s : PlainStatement) (rule : Rule) (step : ℕ) → AllMeant before → Obeys before s
     → HasFault before s rule step → ⊥
 obeying_faultless before s rule step meant obeyed (inl f) = obeyed.meant f.0 f.1.broken
 obeying_faultless before s rule step meant obeyed (inr f) =
-    (one_verdict_holds before s meant).0 (obeyed.proved f.1) f.2 step f.3
+    (one_verdict_holds expression_limit before (said s) (proof_of s) meant).0 (obeyed.proved f.1) f.2 step f.3
 
 -- the fault of a statement is one
-one_statement_fault : (before : List Sentence) (s : Sentence) (rule rule' : Rule) (step step' : ℕ) → AllMeant before
+one_statement_fault : (before : List Sentence) (s : PlainStatement) (rule rule' : Rule) (step step' : ℕ) → AllMeant before
     → HasFault before s rule step → HasFault before s rule' step' → (rule ≡ rule') × (step ≡ step')
 one_statement_fault before s rule rule' step step' meant (inl f) (inl g) =
-    (f.2 ∙ ap meaning_rule (one_first before s f.0 g.0 f.1 g.1) ∙ sym g.2, f.3 ∙ sym g.3)
+    (f.2 ∙ ap meaning_rule (one_first before (said s) f.0 g.0 f.1 g.1) ∙ sym g.2, f.3 ∙ sym g.3)
 one_statement_fault before s rule rule' step step' meant (inl f) (inr g) = absurd (g.0 f.0 f.1.broken)
 one_statement_fault before s rule rule' step step' meant (inr f) (inl g) = absurd (f.0 g.0 g.1.broken)
 one_statement_fault before s rule rule' step step' meant (inr f) (inr g) =
-    let same = (one_verdict_holds before s meant).1 f.2 g.2 step step' f.3 g.3 in
+    let same = (one_verdict_holds expression_limit before (said s) (proof_of s) meant).1 f.2 g.2 step step' f.3 g.3 in
     (f.4 ∙ ap proof_rule same.0 ∙ sym g.4, same.1)
 
 -- ## The first statement at fault
-
-all_meant : (statements : List Sentence) → AllObey statements → AllMeant statements
-all_meant statements obeyed before after s split = (obeyed before after s split).meant
 
 -- of two places in one list, one comes before the other, or they are one
 pub data Placed {X : Type 0} (a : List X) (x : X) (b : List X) (y : X) : Type 0 where
@@ -133,26 +93,20 @@ placed (w ∷ a) x c (z ∷ b) y d e =
       | same h k ↦ same (cc (h, first)) k
     ]
 
--- a statement before others that obey the rules obeys them
-obeys_within : (before between : List PlainStatement) (s : PlainStatement) (all : List PlainStatement) → all ≡ before ++ s ∷ between
-    → AllObey (sentences all) → Obeys (sentences before) (said s)
-obeys_within before between s all e obeyed =
-    obeyed (sentences before) (sentences between) (said s) (ap sentences e ∙ map-append said before (s ∷ between))
-
 -- the statements before the first one at fault are determined, and so is its fault
 one_refused_statement : (files : List PlainFile) (statements : List PlainStatement) (a b : PlainRefusal)
     → RefusesStatement files statements a → RefusesStatement files statements b → a ≡ b
 one_refused_statement files statements a b r q =
     elim (placed r.before r.s r.after q.before q.s q.after (sym r.split ∙ q.split)) [
-      | earlier between e ↦ absurd (obeying_faultless (sentences r.before) (said r.s) r.rule r.step (all_meant _ r.obeyed)
-          (obeys_within r.before between r.s q.before e q.obeyed) r.fault)
-      | later between e ↦ absurd (obeying_faultless (sentences q.before) (said q.s) q.rule q.step (all_meant _ q.obeyed)
-          (obeys_within q.before between q.s r.before e r.obeyed) q.fault)
+      | earlier between e ↦ absurd (obeying_faultless (sentences r.before) r.s r.rule r.step (all_meant _ r.obeyed)
+          (q.obeyed r.before between r.s e) r.fault)
+      | later between e ↦ absurd (obeying_faultless (sentences q.before) q.s q.rule q.step (all_meant _ q.obeyed)
+          (r.obeyed q.before between q.s e) q.fault)
       | same e f ↦
-          let Faulty : List PlainStatement → PlainStatement → Type 0 = λ before s. HasFault (sentences before) (said s) q.rule q.step in
-          let fault : HasFault (sentences r.before) (said r.s) q.rule q.step =
+          let Faulty : List PlainStatement → PlainStatement → Type 0 = λ before s. HasFault (sentences before) s q.rule q.step in
+          let fault : HasFault (sentences r.before) r.s q.rule q.step =
           subst (λ (before : List PlainStatement). Faulty before r.s) (sym e) (subst (λ (s : PlainStatement). Faulty q.before s) (sym f) q.fault) in
-          let one = one_statement_fault (sentences r.before) (said r.s) r.rule q.rule r.step q.step (all_meant _ r.obeyed) r.fault fault in
+          let one = one_statement_fault (sentences r.before) r.s r.rule q.rule r.step q.step (all_meant _ r.obeyed) r.fault fault in
           r.refused ∙ ap (λ (before : List PlainStatement). refusal_of files (length before) r.s r.rule r.step) e
           ∙ ap (λ (s : PlainStatement). refusal_of files (length q.before) s r.rule r.step) f
           ∙ ap (λ (rule : Rule). refusal_of files (length q.before) q.s rule r.step) one.0
@@ -161,18 +115,17 @@ one_refused_statement files statements a b r q =
     ]
 
 -- where each statement obeys the rules, none is refused
-none_refused : (files : List PlainFile) (statements : List PlainStatement) (a : PlainRefusal) → AllObey (sentences statements)
+none_refused : (files : List PlainFile) (statements : List PlainStatement) (a : PlainRefusal) → AllObey statements
     → RefusesStatement files statements a → ⊥
 none_refused files statements a obeyed r =
-    obeying_faultless (sentences r.before) (said r.s) r.rule r.step (all_meant _ r.obeyed)
-    (obeys_within r.before r.after r.s statements r.split obeyed) r.fault
+    obeying_faultless (sentences r.before) r.s r.rule r.step (all_meant _ r.obeyed) (obeyed r.before r.after r.s r.split) r.fault
 
 -- the fault of the text is one
 one_refused_text : (files : List PlainFile) (statements : List PlainStatement) (ending : Option PlainFault) (a b : PlainRefusal)
     → RefusesText files statements ending a → RefusesText files statements ending b → a ≡ b
 one_refused_text files statements ending a b r q =
     let same_fault : r.fault ≡ q.fault = cc (r.ended, q.ended) in
-    r.refused ∙ ap (text_refusal files (length statements)) same_fault ∙ sym q.refused
+    r.refused ∙ ap (text_refusal files) same_fault ∙ sym q.refused
 
 one_refused : (files : List PlainFile) (statements : List PlainStatement) (ending : Option PlainFault) (a b : PlainRefusal)
     → RefusesStatement files statements a ⊎ RefusesText files statements ending a
@@ -194,21 +147,23 @@ same_ending files a b d e r q =
     let one = each_has_one_reading files in (one.only a d r).1 ∙ sym (one.only b e q).1
 
 -- files that are read to the end, each statement obeying the rules, aren't refused
-yes_or_refused : (files : List PlainFile) (a b : List PlainStatement) (ending : Option PlainFault) (refusal : PlainRefusal)
-    → Reads files a None → AllObey (sentences a) → Reads files b ending
+accepted_or_refused : (files : List PlainFile) (a b : List PlainStatement) (ending : Option PlainFault) (refusal : PlainRefusal)
+    → AreAccepted files a → Reads files b ending
     → RefusesStatement files b refusal ⊎ RefusesText files b ending refusal → ⊥
-yes_or_refused files a b ending refusal reads obeyed reads' (inl r) =
-    let same = same_statements files a b None ending reads reads' in
-    let Obeyed : List PlainStatement → Type 0 = λ statements. AllObey (sentences statements) in
-    none_refused files b refusal (subst Obeyed same obeyed) r
-yes_or_refused files a b ending refusal reads obeyed reads' (inr r) =
-    let same = same_ending files a b None ending reads reads' in cc (same, r.ended)
+accepted_or_refused files a b ending refusal accepted reads (inl r) =
+    let same = same_statements files a b None ending accepted.reads reads in
+    none_refused files b refusal (subst AllObey same accepted.obeyed) r
+accepted_or_refused files a b ending refusal accepted reads (inr r) =
+    let same = same_ending files a b None ending accepted.reads reads in cc (same, r.ended)
+
+same_accepted : (files : List PlainFile) (a b : List PlainStatement) → AreAccepted files a → AreAccepted files b → a ≡ b
+same_accepted files a b one other = same_statements files a b None None one.reads other.reads
 
 pub one_verdict : (files : List PlainFile) (v w : Verdict) → HasVerdict files v → HasVerdict files w → v ≡ w
 one_verdict files (Load a) (Load b) h k = ap Load (h.2 ∙ ap load_rule (one_load files h.0 k.0 h.1 k.1) ∙ sym k.2)
 one_verdict files (Load a) (Refused b) h k = absurd (k.0 h.0 h.1)
-one_verdict files (Load a) (Incomplete ls) h k = absurd k
-one_verdict files (Load a) (Yes n p) h k = absurd (k.0 h.0 h.1)
+one_verdict files (Load a) (Incomplete ls) h k = absurd (k.1.readable h.0 h.1)
+one_verdict files (Load a) (Yes n p) h k = absurd (k.1.readable h.0 h.1)
 one_verdict files (Refused a) (Load b) h k = absurd (h.0 k.0 k.1)
 one_verdict files (Refused a) (Refused b) h k =
     let statements = same_statements files h.1 k.1 h.2 k.2 h.3 k.3 in
@@ -217,49 +172,63 @@ one_verdict files (Refused a) (Refused b) h k =
     let moved : RefusesStatement files k.1 a ⊎ RefusesText files k.1 k.2 a =
     subst (λ (e : Option PlainFault). Refuses k.1 e) ending (subst (λ (ss : List PlainStatement). Refuses ss h.2) statements h.4) in
     ap Refused (one_refused files k.1 k.2 a b moved k.4)
-one_verdict files (Refused a) (Incomplete ls) h k = absurd k
-one_verdict files (Refused a) (Yes n p) h k = absurd (yes_or_refused files k.1 h.1 h.2 a k.2 k.3 h.3 h.4)
-one_verdict files (Incomplete ls) w h k = absurd h
-one_verdict files (Yes n p) (Load b) h k = absurd (h.0 k.0 k.1)
-one_verdict files (Yes n p) (Refused b) h k = absurd (yes_or_refused files h.1 k.1 k.2 b h.2 h.3 k.3 k.4)
-one_verdict files (Yes n p) (Incomplete ls) h k = absurd k
+one_verdict files (Refused a) (Incomplete ls) h k = absurd (accepted_or_refused files k.0 h.1 h.2 a k.1 h.3 h.4)
+one_verdict files (Refused a) (Yes n p) h k = absurd (accepted_or_refused files k.0 h.1 h.2 a k.1 h.3 h.4)
+one_verdict files (Incomplete ls) (Load b) h k = absurd (h.1.readable k.0 k.1)
+one_verdict files (Incomplete ls) (Refused b) h k = absurd (accepted_or_refused files h.0 k.1 k.2 b h.1 k.3 k.4)
+one_verdict files (Incomplete ls) (Incomplete ms) h k =
+    ap Incomplete (h.2 ∙ ap unproved_of (same_accepted files h.0 k.0 h.1 k.1) ∙ sym k.2)
+one_verdict files (Incomplete ls) (Yes n p) h k =
+    absurd (h.3 (h.2 ∙ ap unproved_of (same_accepted files h.0 k.0 h.1 k.1) ∙ k.2))
+one_verdict files (Yes n p) (Load b) h k = absurd (h.1.readable k.0 k.1)
+one_verdict files (Yes n p) (Refused b) h k = absurd (accepted_or_refused files h.0 k.1 k.2 b h.1 k.3 k.4)
+one_verdict files (Yes n p) (Incomplete ls) h k =
+    absurd (k.3 (k.2 ∙ ap unproved_of (same_accepted files k.0 h.0 k.1 h.1) ∙ h.2))
 one_verdict files (Yes n p) (Yes m q) h k =
-    let statements = same_statements files h.1 k.1 None None h.2 k.2 in
-    let counts : n ≡ m = h.4 ∙ ap length statements ∙ sym k.4 in
-    let proofs : p ≡ q = h.5 ∙ ap proofs_of statements ∙ sym k.5 in
+    let statements = same_accepted files h.0 k.0 h.1 k.1 in
+    let counts : n ≡ m = h.3 ∙ ap length statements ∙ sym k.3 in
+    let proofs : p ≡ q = h.4 ∙ ap proofs_of statements ∙ sym k.4 in
     cc (counts, proofs)
 
 -- ## Yes, and the profile
 
 pub yes_obeys : (files : List PlainFile) (n p : ℕ) → HasVerdict files (Yes n p) → ObeyTheProfile files
 yes_obeys files n p h = record {
-  handed = h.0;
-  statements = h.1;
-  reading = h.2;
-  meant = λ before after s split. (h.3 before after s split).meant;
+  handed = h.1.readable;
+  statements = h.0;
+  reading = h.1.reads;
+  meant = λ before after s split. (h.1.obeyed before after s split).meant;
   proved = λ before after s split provable.
-      (limits_aside_holds before s (λ earlier later t e. (h.3 earlier (later ++ s ∷ after) t (split ∙ ap (λ (xs : List Sentence). xs ++ s ∷ after) e ∙ append_assoc earlier (t ∷ later) (s ∷ after))).meant)).0
-      ((h.3 before after s split).proved provable);
+      let complete : is_incomplete (proof_of s) ≡ false =
+      complete_where_none before after s (subst (λ (ss : List PlainStatement). AllByRecursion HasForm ss) split (readings_are_formed_in_place files h.0 None h.1.reads).formed)
+      (sym (ap unproved_of split) ∙ h.2) provable in
+      (
+        complete,
+        (limits_aside_holds expression_limit (sentences before) (said s) (proof_of s)
+        (all_meant before (λ earlier later t e. h.1.obeyed earlier (later ++ s ∷ after) t
+        (split ∙ ap (λ (xs : List PlainStatement). xs ++ s ∷ after) e ∙ append_assoc earlier (t ∷ later) (s ∷ after))))).0
+        ((h.1.obeyed before after s split).proved (proof_there s provable complete)),
+      );
 }
 
 -- where the profile is obeyed, what is refused passes the limit
 over_the_limit : (files : List PlainFile) (profile : ObeyTheProfile files) (refusal : PlainRefusal) → RefusesStatement files profile.statements refusal
     → refusal.rule ≡ L1
-over_the_limit files profile refusal r =
-    let split : sentences profile.statements ≡ sentences r.before ++ said r.s ∷ sentences r.after =
-    ap sentences r.split ∙ map-append said r.before (r.s ∷ r.after) in
-    elim (r.fault) [
-      | inl f ↦ absurd (profile.meant (sentences r.before) (sentences r.after) (said r.s) split f.0 f.1.broken)
-      | inr f ↦
-          let law = limits_aside_holds (sentences r.before) (said r.s) (all_meant _ r.obeyed) in
-          let over : f.2 ≡ proof.L1 = law.2 (profile.proved (sentences r.before) (sentences r.after) (said r.s) split f.1) f.2 r.step f.3 in
-          ap (λ (q : PlainRefusal). q.rule) r.refused ∙ f.4 ∙ ap proof_rule over
-    ]
+over_the_limit files profile refusal r = elim (r.fault) [
+  | inl f ↦ absurd (profile.meant r.before r.after r.s r.split f.0 f.1.broken)
+  | inr f ↦
+      let law = limits_aside_holds expression_limit (sentences r.before) (said r.s) (proof_of r.s) (all_meant _ r.obeyed) in
+      let proved = profile.proved r.before r.after r.s r.split (provable_proof r.s.kind (is_incomplete (proof_of r.s)) f.1) in
+      let over : f.2 ≡ proof.L1 = law.2 proved.1 f.2 r.step f.3 in
+      ap (λ (q : PlainRefusal). q.rule) r.refused ∙ f.4 ∙ ap proof_rule over
+]
 
 pub profile_verdict : (files : List PlainFile) → ObeyTheProfile files → (v : Verdict) → HasVerdict files v
     → ((n : ℕ) × (p : ℕ) × (v ≡ Yes n p)) ⊎ ((refusal : PlainRefusal) × (v ≡ Refused refusal) × (refusal.rule ≡ L1))
 profile_verdict files profile (Load rule) h = absurd (profile.handed h.0 h.1)
-profile_verdict files profile (Incomplete ls) h = absurd h
+profile_verdict files profile (Incomplete ls) h =
+    let same = same_statements files h.0 profile.statements None None h.1.reads profile.reading in
+    absurd (h.3 (h.2 ∙ ap unproved_of same ∙ none_unproved profile.statements (λ before after s split provable. (profile.proved before after s split provable).0)))
 profile_verdict files profile (Yes n p) h = inl (n, p, refl)
 profile_verdict files profile (Refused refusal) h = elim (h.4) [
   | inl r ↦

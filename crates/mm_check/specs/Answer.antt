@@ -7,7 +7,8 @@ use Rattle.mm_check.specs.declared.fault.CheckFault.{CheckFault}
 use Rattle.mm_check.specs.declared.fault.CheckFault.TheVariants as fault
 use Rattle.mm_check.specs.Conclusion.{Conclusion}
 use Rattle.mm_text.specs.Statement.{PlainStatement}
-use Rattle.mm_text.specs.Reading.{PlainFile, PlainFault, Reads}
+use Rattle.mm_text.specs.Files.{PlainFile}
+use Rattle.mm_text.specs.Reading.{PlainFault, Reads}
 use Rattle.mm_check.specs.declared.rule.Rule.TheVariants.{L1}
 use Rattle.mm_check.specs.Verdict.{PlainRefusal, Verdict, Load, Refused, Incomplete, Yes, HasVerdict, labels_of}
 

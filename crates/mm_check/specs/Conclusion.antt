@@ -1,5 +1,8 @@
 -- What is kept of a database in which nothing is at fault.
 use Rattle.std.specs.Prelude.{ℕ, List}
+use Rattle.std.specs.List.{flat_map}
+use Rattle.std.specs.Option.{option_to_list}
+use Rattle.mm_frame.specs.Sentence.{Sentence}
 
 -- How many statements it has, and how many of its `$p` are proved; the numbers of the incomplete `$p`, and the labels of all
 -- labelled statements, both in database order. The number of a label is its place among the labels.
@@ -8,3 +11,7 @@ pub record Conclusion : Type 0 where
   pub proofs : ℕ
   pub incomplete : List ℕ
   pub labels : List (List ℕ)
+
+-- the labels of the labelled statements
+abbrev pub labels_in : List Sentence → List (List ℕ)
+labels_in statements = flat_map (λ s. option_to_list s.label) statements

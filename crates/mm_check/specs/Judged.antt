@@ -1,30 +1,36 @@
--- What is answered of one statement, and of the text's end.
-use Rattle.std.specs.Prelude.{◌≡◌, ℕ, List, [], ◌∷◌, ◌++◌, map, length, Option, Some, None, ◌⊎◌}
+-- What checking has come to, and what is answered of one statement and of the text's end.
+use Rattle.std.specs.Prelude.{◌≡◌, ℕ, ◌+◌, List, [], ◌∷◌, ◌++◌, map, length, sum_by, slice_get, not, Bool, true, false, if◌then◌else◌, Option, Some, None, Result, MatchResult, ◌⊎◌}
 use Rattle.mm_text.specs.declared.fault.LoadRule.{LoadRule}
-use Rattle.mm_text.specs.declared.statement.Statement.{Statement}
-use Rattle.mm_text.specs.Statement.{PlainStatement, plain_statement}
-use Rattle.mm_text.specs.Reading.{PlainFile, PlainFault, BreaksLoad, Reads}
+use Rattle.mm_text.specs.declared.statement.Kind.TheVariants.{Provable}
+use Rattle.mm_text.specs.Statement.{PlainStatement, bytes_in}
+use Rattle.mm_text.specs.Files.{PlainFile, BreaksLoad}
+use Rattle.mm_text.specs.Reading.{PlainFault, Reads}
 use Rattle.mm_text.specs.Remaining.{Remaining}
 use Rattle.mm_frame.specs.Sentence.{Sentence, said}
+use Rattle.mm_frame.specs.Numbers.{labelled}
+use Rattle.mm_proof.specs.declared.fault.ProofRule.{ProofRule}
+use Rattle.mm_proof.specs.declared.fault.ProofFault.{ProofFault}
+use Rattle.mm_proof.specs.Answer.{OnRule}
+use Rattle.mm_proof.specs.Proof.{IsProvedWithin, IsWithin, expression_limit, IsFault}
 use Rattle.mm_check.specs.declared.rule.Rule.{Rule}
 use Rattle.mm_check.specs.declared.fault.CheckFault.{CheckFault}
-use Rattle.mm_check.specs.Verdict.{Load, Refused, HasFault, refusal_of, text_refusal, load_rule, proofs_of, labels_of, CanBeRead, AllObey, sentences}
-use Rattle.mm_check.specs.Conclusion.{Conclusion}
+use Rattle.mm_check.specs.declared.progress.Progress.{Progress}
+use Rattle.mm_check.specs.Verdict.{Verdict, HasVerdict, Load, Refused, HasFault, Obeys, AllObey, CanBeRead, refusal_of, text_refusal, load_rule, proof_rule, sentences, proof_of, proofs_of, labels_of, unproved_of, is_incomplete, is_proof, is_unproved}
 use Rattle.mm_check.specs.Answer.{verdict_of_fault}
 
 -- Memory was wanting, or the statement, which comes after so many others, is refused for its fault.
 abbrev pub RefusesAfter : List PlainFile → List Sentence → ℕ → PlainStatement → CheckFault → Type 0
 RefusesAfter files before count s fault =
     (verdict_of_fault fault ≡ None)
-    ⊎ ((rule : Rule) × (step : ℕ) × HasFault before (said s) rule step
+    ⊎ ((rule : Rule) × (step : ℕ) × HasFault before s rule step
     × (verdict_of_fault fault ≡ Some (Refused (refusal_of files count s rule step))))
 
--- Memory was wanting, or no statement is left and the text's fault is answered, after so many statements.
-abbrev pub RefusesEnd : List PlainFile → ℕ → Remaining → CheckFault → Type 0
-RefusesEnd files count left fault =
+-- Memory was wanting, or no statement is left and the text's fault is answered.
+abbrev pub RefusesEnd : List PlainFile → Remaining → CheckFault → Type 0
+RefusesEnd files left fault =
     (verdict_of_fault fault ≡ None)
     ⊎ ((left.statements ≡ []) × (at : PlainFault) × (left.ending ≡ Some at)
-    × (verdict_of_fault fault ≡ Some (Refused (text_refusal files count at))))
+    × (verdict_of_fault fault ≡ Some (Refused (text_refusal files at))))
 
 -- Memory was wanting, or the files break this rule as a whole.
 abbrev pub RefusesLoad : List PlainFile → CheckFault → Type 0
@@ -33,19 +39,84 @@ RefusesLoad files fault =
     ⊎ ((broken : LoadRule) × BreaksLoad files broken × (verdict_of_fault fault ≡ Some (Load (load_rule broken))))
 
 -- The next statement was taken from what is left; or there is none, and no fault.
-abbrev pub TakesNext : Remaining → Option Statement → Remaining → Type 0
-TakesNext old (Some s) new = (old.statements ≡ plain_statement s ∷ new.statements) × (new ≡ record old { statements = new.statements })
-TakesNext old None new = (old.statements ≡ []) × (old.ending ≡ None)
+abbrev pub TakesNext : Remaining → Bool → PlainStatement → Remaining → Type 0
+TakesNext old true s new = (old.statements ≡ s ∷ new.statements) × (new ≡ record old { statements = new.statements })
+TakesNext old false s new = (old.statements ≡ []) × (old.ending ≡ None) × (new ≡ record old { told = true })
 
--- This is kept of the statements.
-pub record Concludes (statements : List PlainStatement) (c : Conclusion) : Type 0 where
-  pub count : c.statements ≡ length statements
-  pub proofs : c.proofs ≡ proofs_of statements
-  pub complete : c.incomplete ≡ []
-  pub labels : c.labels ≡ labels_of statements
+-- the last of the statements is this `$p`, which has the number
+pub record IsLastProof (statements : List Sentence) (id : ℕ) (s : PlainStatement) : Type 0 where
+  pub before : List Sentence
+  pub whole : statements ≡ before ++ said s ∷ []
+  pub number : id ≡ length (labelled before)
+  pub provable : s.kind ≡ Provable
+
+-- the proof of a `$p` after the statements before is complete, and proved, or incomplete
+abbrev pub IsJudged : List Sentence → PlainStatement → Bool → Type 0
+IsJudged before s complete =
+    (complete ≡ not (is_incomplete (proof_of s)))
+    × (complete ≡ true → IsProvedWithin (IsWithin expression_limit) before (said s) (proof_of s))
+
+-- its proof is complete, and this is its fault; or memory was wanting
+abbrev pub Fails : List Sentence → PlainStatement → ProofFault → Type 0
+Fails before s fault = OnRule fault (λ rule step.
+    (is_incomplete (proof_of s) ≡ false) × IsFault (IsWithin expression_limit) before (said s) (proof_of s) rule step)
+
+-- the verdict on the proof of the last statement
+abbrev pub JudgesProof : List Sentence → PlainStatement → Result Bool ProofFault → Type 0
+JudgesProof statements s result =
+    (before : List Sentence) → statements ≡ before ++ said s ∷ [] → MatchResult result (IsJudged before s) (Fails before s)
+
+-- the proof of the last statement was counted, or noted as incomplete
+pub record CountsProof (old : Progress) (id : ℕ) (s : PlainStatement) (new : Progress) : Type 0 where
+  pub proved : (before : List Sentence) → old.book.statements ≡ before ++ said s ∷ []
+      → is_incomplete (proof_of s) ≡ false → IsProvedWithin (IsWithin expression_limit) before (said s) (proof_of s)
+  pub book : new.book ≡ old.book
+  pub count : new.count ≡ old.count
+  pub proofs : new.proofs ≡ old.proofs + (if is_incomplete (proof_of s) then 0 else 1)
+  pub incomplete : map (λ id. id.0) new.incomplete.items
+      ≡ map (λ id. id.0) old.incomplete.items ++ (if is_incomplete (proof_of s) then id ∷ [] else [])
+
+-- Memory was wanting, or the last statement is refused for the fault of its proof.
+abbrev pub RefusesProof : List PlainFile → Progress → PlainStatement → CheckFault → Type 0
+RefusesProof files old s fault =
+    (verdict_of_fault fault ≡ None)
+    ⊎ ((rule : ProofRule) × (step : ℕ) × (is_incomplete (proof_of s) ≡ false)
+    × ((before : List Sentence) → old.book.statements ≡ before ++ said s ∷ []
+      → IsFault (IsWithin expression_limit) before (said s) (proof_of s) rule step)
+    × (verdict_of_fault fault ≡ Some (Refused (refusal_of files old.count s (proof_rule rule) step))))
+
+-- The statement obeys the rules, and is taken into the progress.
+pub record Takes (old : Progress) (s : PlainStatement) (new : Progress) : Type 0 where
+  pub obeys : Obeys old.book.statements s
+  pub statements : new.book.statements ≡ old.book.statements ++ said s ∷ []
+  pub bytes : new.book.bytes ≡ old.book.bytes + bytes_in s
+  pub count : new.count ≡ old.count + 1
+  pub proofs : new.proofs ≡ old.proofs + (if is_proof s then 1 else 0)
+  pub incomplete : map (λ id. id.0) new.incomplete.items
+      ≡ map (λ id. id.0) old.incomplete.items ++ (if is_unproved s then length (labelled old.book.statements) ∷ [] else [])
+
+-- what the progress knows of the statements so far
+pub record Knows (statements : List PlainStatement) (p : Progress) : Type 0 where
+  pub book : p.book.statements ≡ sentences statements
+  pub bytes : p.book.bytes ≡ sum_by bytes_in statements
+  pub count : p.count ≡ length statements
+  pub proofs : p.proofs ≡ proofs_of statements
+  pub incomplete : map (λ id. slice_get (labels_of statements) id.0) p.incomplete.items ≡ map Some (unproved_of statements)
 
 -- The statements so far and those that are left are the reading of the files, and those so far obey the rules.
-pub record IsUnderWay (files : List PlainFile) (earlier : List Statement) (left : Remaining) : Type 0 where
+pub record IsUnderWay (files : List PlainFile) (p : Progress) (left : Remaining) : Type 0 where
+  pub earlier : List PlainStatement
   pub readable : CanBeRead files
-  pub reads : Reads files (map plain_statement earlier ++ left.statements) left.ending
-  pub obeyed : AllObey (sentences (map plain_statement earlier))
+  pub reads : Reads files (earlier ++ left.statements) left.ending
+  pub obeyed : AllObey earlier
+  pub known : Knows earlier p
+
+-- No statement is left, and the text has no fault.
+pub record IsAtEnd (files : List PlainFile) (p : Progress) (left : Remaining) : Type 0 where
+  pub way : IsUnderWay files p left
+  pub none : left.statements ≡ []
+  pub ending : left.ending ≡ None
+
+-- The verdict that the fault tells holds of the files; want of memory tells none.
+abbrev pub TellsVerdict : List PlainFile → CheckFault → Type 0
+TellsVerdict files fault = (verdict : Verdict) → verdict_of_fault fault ≡ Some verdict → HasVerdict files verdict

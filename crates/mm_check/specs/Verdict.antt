@@ -1,6 +1,6 @@
 -- The verdict over the handed files: why they can't be taken, the first statement at fault, incomplete proofs, or yes.
-use Rattle.std.specs.Prelude.{◌≡◌, ℕ, ◌+◌, ◌==◌, List, [], ◌∷◌, ◌++◌, map, take, length, count_by, slice_get, Bool, true, false, Option, Some, None, option_map, unwrap_or, ◌⊎◌}
-use Rattle.std.specs.List.{flat_map}
+use Rattle.std.specs.Prelude.{◌≡◌, ◌≢◌, ℕ, ◌+◌, ◌==◌, ◌&&◌, List, [], ◌∷◌, ◌++◌, map, take, length, count_by, filter, not, slice_get, Bool, true, false, Option, Some, None, option_map, unwrap_or, ◌⊎◌}
+use Rattle.std.specs.List.{flat_map, list_any}
 use Rattle.std.specs.Option.{option_to_list}
 use Rattle.mm_text.specs.declared.fault.LoadRule.{LoadRule}
 use Rattle.mm_text.specs.declared.fault.LoadRule.TheVariants as load
@@ -9,14 +9,15 @@ use Rattle.mm_text.specs.declared.fault.TextRule.TheVariants as text
 use Rattle.mm_text.specs.declared.statement.Kind.{Kind}
 use Rattle.mm_text.specs.declared.statement.Kind.TheVariants.{Provable}
 use Rattle.mm_text.specs.Statement.{PlainStatement}
-use Rattle.mm_text.specs.Reading.{PlainFile, PlainFault, BreaksLoad, Reads}
+use Rattle.mm_text.specs.Files.{PlainFile, BreaksLoad}
+use Rattle.mm_text.specs.Reading.{PlainFault, Reads}
 use Rattle.mm_frame.specs.declared.rule.MeaningRule.{MeaningRule}
 use Rattle.mm_frame.specs.declared.rule.MeaningRule.TheVariants as meaning
 use Rattle.mm_frame.specs.Sentence.{Sentence, said}
 use Rattle.mm_frame.specs.Rules.{FirstBroken, IsMeant}
 use Rattle.mm_proof.specs.declared.fault.ProofRule.{ProofRule}
 use Rattle.mm_proof.specs.declared.fault.ProofRule.TheVariants as proof
-use Rattle.mm_proof.specs.Proof.{IsProvedWithin, IsProved, IsWithinLimit, IsFault}
+use Rattle.mm_proof.specs.Proof.{IsProvedWithin, IsProved, IsWithin, expression_limit, IsFault}
 use Rattle.mm_check.specs.declared.rule.Rule.{Rule}
 use Rattle.mm_check.specs.declared.rule.Rule.TheVariants.{F1, F2, F3, X1, X2, X3, X4, X5, X6, X7, X8, X9, S1, S2, S3, S4, S5, S6, S7, M1, M2, M3, M4, M5, M6, M7, M8, M9, M10, M11, M12, M13, M14, M15, P1, P2, P3, P4, P5, P6, P7, P8, P9, P10, P11, P12, P13, P14, L1}
 
@@ -113,12 +114,12 @@ refusal_of files count s rule step = record {
   step = step;
 }
 
--- the refusal at a fault of the text, which comes after so many statements
-abbrev pub text_refusal : List PlainFile → ℕ → PlainFault → PlainRefusal
-text_refusal files count fault = record {
+-- the refusal at a fault of the text
+abbrev pub text_refusal : List PlainFile → PlainFault → PlainRefusal
+text_refusal files fault = record {
   file = fault.file;
   line = line_of files fault.file fault.at;
-  statement = count + 1;
+  statement = fault.statement;
   label = option_map (λ t. t.text) fault.label;
   rule = text_rule fault.rule;
   step = 0;
@@ -128,25 +129,41 @@ abbrev pub is_provable : Kind → Bool
 is_provable Provable = true
 is_provable kind = false
 
--- The statement obeys the rules after those before it: it breaks no rule of meaning, and as a `$p` it is proved, each step
--- within the limit.
-pub record Obeys (before : List Sentence) (s : Sentence) : Type 0 where
-  pub meant : IsMeant before s
-  pub proved : s.kind ≡ Provable → IsProvedWithin IsWithinLimit before s
+-- the tokens of a statement's proof
+abbrev pub proof_of : PlainStatement → List (List ℕ)
+proof_of s = map (λ t. t.text) s.proof
 
--- each of the statements does
-abbrev pub AllObey : List Sentence → Type 0
-AllObey statements = (before after : List Sentence) (s : Sentence) → statements ≡ before ++ s ∷ after → Obeys before s
+-- some token of the proof holds a `?`
+abbrev pub is_incomplete : List (List ℕ) → Bool
+is_incomplete tokens = list_any (list_any (λ b. b == 63)) tokens
 
--- The fault of a statement: the first rule of meaning that it breaks, else the first fault of its proof.
-abbrev pub HasFault : List Sentence → Sentence → Rule → ℕ → Type 0
-HasFault before s rule step =
-    ((broken : MeaningRule) × FirstBroken broken before s × (rule ≡ meaning_rule broken) × (step ≡ 0))
-    ⊎ (IsMeant before s × (s.kind ≡ Provable)
-    × (broken : ProofRule) × IsFault before s broken step × (rule ≡ proof_rule broken))
+-- a `$p` whose proof is incomplete, and one whose proof is complete
+abbrev pub is_unproved : PlainStatement → Bool
+is_unproved s = is_provable s.kind && is_incomplete (proof_of s)
+
+abbrev pub is_proof : PlainStatement → Bool
+is_proof s = is_provable s.kind && not (is_incomplete (proof_of s))
 
 abbrev pub sentences : List PlainStatement → List Sentence
 sentences statements = map said statements
+
+-- The statement obeys the rules after those before it: it breaks no rule of meaning, and as a `$p` with a complete proof it
+-- is proved, each step within the limit.
+pub record Obeys (before : List Sentence) (s : PlainStatement) : Type 0 where
+  pub meant : IsMeant before (said s)
+  pub proved : is_proof s ≡ true → IsProvedWithin (IsWithin expression_limit) before (said s) (proof_of s)
+
+-- each of the statements does
+abbrev pub AllObey : List PlainStatement → Type 0
+AllObey statements =
+    (before after : List PlainStatement) (s : PlainStatement) → statements ≡ before ++ s ∷ after → Obeys (sentences before) s
+
+-- The fault of a statement: the first rule of meaning that it breaks, else the first fault of its proof, if that is complete.
+abbrev pub HasFault : List Sentence → PlainStatement → Rule → ℕ → Type 0
+HasFault before s rule step =
+    ((broken : MeaningRule) × FirstBroken broken before (said s) × (rule ≡ meaning_rule broken) × (step ≡ 0))
+    ⊎ (IsMeant before (said s) × (is_proof s ≡ true)
+    × (broken : ProofRule) × IsFault (IsWithin expression_limit) before (said s) (proof_of s) broken step × (rule ≡ proof_rule broken))
 
 -- The first statement at fault, after statements that obey the rules.
 pub record RefusesStatement (files : List PlainFile) (statements : List PlainStatement) (refusal : PlainRefusal) : Type 0 where
@@ -154,50 +171,65 @@ pub record RefusesStatement (files : List PlainFile) (statements : List PlainSta
   pub s : PlainStatement
   pub after : List PlainStatement
   pub split : statements ≡ before ++ s ∷ after
-  pub obeyed : AllObey (sentences before)
+  pub obeyed : AllObey before
   pub rule : Rule
   pub step : ℕ
-  pub fault : HasFault (sentences before) (said s) rule step
+  pub fault : HasFault (sentences before) s rule step
   pub refused : refusal ≡ refusal_of files (length before) s rule step
 
 -- The fault of the text, after statements that obey the rules.
 pub record RefusesText (files : List PlainFile) (statements : List PlainStatement) (ending : Option PlainFault) (refusal : PlainRefusal) : Type 0 where
-  pub obeyed : AllObey (sentences statements)
+  pub obeyed : AllObey statements
   pub fault : PlainFault
   pub ended : ending ≡ Some fault
-  pub refused : refusal ≡ text_refusal files (length statements) fault
+  pub refused : refusal ≡ text_refusal files fault
 
 -- the files break none of the rules that are judged over them as a whole
 abbrev pub CanBeRead : List PlainFile → Type 0
 CanBeRead files = (rule : LoadRule) → ¬ (BreaksLoad files rule)
 
+-- a statement's label, if it has one
+abbrev pub label_of : PlainStatement → List (List ℕ)
+label_of s = option_to_list (option_map (λ t. t.text) s.label)
+
 -- the labels of the labelled statements, in their order
 abbrev pub labels_of : List PlainStatement → List (List ℕ)
-labels_of statements = flat_map (λ s. option_to_list (option_map (λ t. t.text) s.label)) statements
+labels_of statements = flat_map label_of statements
 
--- how many of the statements are `$p`
+-- the labels of the incomplete proofs, in their order
+abbrev pub unproved_of : List PlainStatement → List (List ℕ)
+unproved_of statements = flat_map label_of (filter is_unproved statements)
+
+-- how many of the statements are `$p` with a complete proof
 abbrev pub proofs_of : List PlainStatement → ℕ
-proofs_of statements = count_by (λ s. is_provable s.kind) statements
+proofs_of statements = count_by is_proof statements
 
--- The verdict over the files. Incomplete proofs aren't told from others yet.
+-- Each statement of the files obeys the rules, and the text has no fault.
+pub record AreAccepted (files : List PlainFile) (statements : List PlainStatement) : Type 0 where
+  pub readable : CanBeRead files
+  pub reads : Reads files statements None
+  pub obeyed : AllObey statements
+
+-- The verdict over the files.
 abbrev pub HasVerdict : List PlainFile → Verdict → Type 0
 HasVerdict files (Load rule) = (broken : LoadRule) × BreaksLoad files broken × (rule ≡ load_rule broken)
 HasVerdict files (Refused refusal) =
     CanBeRead files
     × (statements : List PlainStatement) × (ending : Option PlainFault) × Reads files statements ending
     × (RefusesStatement files statements refusal ⊎ RefusesText files statements ending refusal)
-HasVerdict files (Incomplete labels) = ⊥
+HasVerdict files (Incomplete labels) =
+    (statements : List PlainStatement) × AreAccepted files statements × (labels ≡ unproved_of statements) × (labels ≢ [])
 HasVerdict files (Yes count proofs) =
-    CanBeRead files
-    × (statements : List PlainStatement) × Reads files statements None × AllObey (sentences statements)
+    (statements : List PlainStatement) × AreAccepted files statements × (unproved_of statements ≡ [])
     × (count ≡ length statements) × (proofs ≡ proofs_of statements)
 
--- The files obey every rule of the profile, as far as it is read so far, and each proof spells a derivation tree of its assertion from active hypotheses
+-- The files obey every rule of the profile, and each proof spells a derivation tree of its assertion from active hypotheses
 -- and earlier assertions, respecting all distinct variables.
 pub record ObeyTheProfile (files : List PlainFile) : Type 0 where
   pub handed : CanBeRead files
   pub statements : List PlainStatement
   pub reading : Reads files statements None
-  pub meant : (before after : List Sentence) (s : Sentence) → sentences statements ≡ before ++ s ∷ after → IsMeant before s
-  pub proved : (before after : List Sentence) (s : Sentence) → sentences statements ≡ before ++ s ∷ after → s.kind ≡ Provable
-      → IsProved before s
+  pub meant : (before after : List PlainStatement) (s : PlainStatement) → statements ≡ before ++ s ∷ after
+      → IsMeant (sentences before) (said s)
+  pub proved : (before after : List PlainStatement) (s : PlainStatement) → statements ≡ before ++ s ∷ after → s.kind ≡ Provable
+      → (is_incomplete (proof_of s) ≡ false) × IsProved (sentences before) (said s) (proof_of s)

@@ -3,26 +3,24 @@
 ghost use Rattle.std.specs.Prelude.{◌≡◌, ◌<◌, ◌↔◌, [], map, length, slice_get, Some, IsTrue};
 ghost use Rattle.std.specs.List.{AllByRecursion};
 
+use crate::progress::Progress;
+use mm_frame::{Book, LabelId};
 use std::marker::Model;
-
-/// The number of a labelled statement: its place, from 0, among those of the database.
-#[derive(Clone, Copy, PartialEq, Eq, Debug)]
-pub struct LabelId(pub u32);
 
 /// A database in which nothing is at fault: each statement obeys the rules, and each proof that
 /// isn't incomplete is accepted.
 #[derive(Drop)]
 pub struct Checked<'a> {
+    book: Book<'a>,
     statements: usize,
     proofs: usize,
     incomplete: Vec<LabelId>,
-    labels: Vec<&'a [u8]>,
 }
 
 impl<'a> Model for Checked<'a> {
     ghost use Rattle.std.specs.Prelude.{map, length, ◌<◌};
     ghost use Rattle.std.specs.List.{AllByRecursion};
-    ghost use Rattle.mm_check.specs.Conclusion.{Conclusion};
+    ghost use Rattle.mm_check.specs.Conclusion.{Conclusion, labels_in};
 
     ghost Value = { Conclusion };
 
@@ -30,32 +28,31 @@ impl<'a> Model for Checked<'a> {
       statements = c.statements;
       proofs = c.proofs;
       incomplete = map (λ id. id.0) c.incomplete.items;
-      labels = map (λ label. label.now) c.labels.items;
+      labels = labels_in c.book.statements;
     } };
 
     // Each number is that of a label.
-    ghost invariant = { λ c. AllByRecursion (λ n. n < length (map (λ label. label.now) c.labels.items))
+    ghost invariant = { λ c. AllByRecursion (λ n. n < length (labels_in c.book.statements))
         (map (λ id. id.0) c.incomplete.items) };
 }
 
 impl<'a> Checked<'a> {
-    pub(crate) fn new(
-        statements: usize,
-        proofs: usize,
-        incomplete: Vec<LabelId>,
-        labels: Vec<&'a [u8]>,
-    ) -> Checked<'a>
-        requires { AllByRecursion (λ n. n < length labels.items) (map (λ id. id.0) incomplete.items) }
-        ensures statements { result.statements ≡ statements }
-        ensures proofs { result.proofs ≡ proofs }
-        ensures incomplete { result.incomplete ≡ map (λ id. id.0) incomplete.items }
-        ensures labels { result.labels ≡ map (λ label. label.now) labels.entry.items }
+    ghost use Rattle.mm_check.specs.Conclusion.{labels_in};
+
+    /// What the progress has come to, once nothing is left.
+    pub(crate) fn new(progress: Progress<'a>) -> Checked<'a>
+        requires { AllByRecursion (λ n. n < length (labels_in progress.book.statements))
+            (map (λ id. id.0) progress.incomplete.items) }
+        ensures statements { result.statements ≡ progress.entry.count }
+        ensures proofs { result.proofs ≡ progress.entry.proofs }
+        ensures incomplete { result.incomplete ≡ map (λ id. id.0) progress.entry.incomplete.items }
+        ensures labels { result.labels ≡ labels_in progress.entry.book.statements }
     {
         Checked {
-            statements,
-            proofs,
-            incomplete,
-            labels,
+            book: progress.book,
+            statements: progress.count,
+            proofs: progress.proofs,
+            incomplete: progress.incomplete,
         }
     }
 
@@ -88,18 +85,11 @@ impl<'a> Checked<'a> {
         self.proofs
     }
 
-    /// The labels of all labelled statements, in database order.
-    pub(crate) fn labels(&self) -> &[&'a [u8]]
-        ensures { map (λ label. label.now) result.now ≡ self.now.labels }
-    {
-        &self.labels
-    }
-
     /// The label of a labelled statement, for a number that this value gave.
     pub fn name(&self, id: LabelId) -> &'a [u8]
         requires { id.0 < length self.now.labels }
         ensures { slice_get self.now.labels id.0 ≡ Some result.now }
     {
-        self.labels[id.0 as usize]
+        self.book.label(id)
     }
 }

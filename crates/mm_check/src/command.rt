@@ -1,7 +1,7 @@
 //! The commands, and their replies to a writer.
 
 ghost use Rattle.std.specs.Prelude.{◌≡◌, ◌+◌, ◌<◌, ◌↔◌, map, IfOk, OnErr, IsErrOf};
-ghost use Rattle.mm_text.specs.Reading.{plain_file};
+ghost use Rattle.mm_text.specs.Files.{plain_file};
 ghost use Rattle.mm_text.specs.Device.{faults_of, inner_of};
 ghost use Rattle.mm_check.specs.Status.{number_of};
 ghost use Rattle.mm_check.specs.Reply.{Writes, WritesBeginning};

@@ -1,21 +1,25 @@
 //! The verdict over one statement.
 
-ghost use Rattle.std.specs.Prelude.{◌≡◌, ◌<◌, ◌^◌, map, length, All, OnOk, IfErr, option_map};
-ghost use Rattle.mm_text.specs.Statement.{plain_statement, IsFormed};
-ghost use Rattle.mm_text.specs.Reading.{plain_file};
-ghost use Rattle.mm_frame.specs.Sentence.{said_by};
-ghost use Rattle.mm_frame.specs.Rules.{AllMeant};
-ghost use Rattle.mm_check.specs.Verdict.{Obeys, refusal_of};
-ghost use Rattle.mm_check.specs.Judged.{RefusesAfter};
+ghost use Rattle.std.specs.Prelude.{◌≡◌, ◌+◌, ◌<◌, ◌≤◌, ◌^◌, ℕ, true, false, map, length, take, OnOk, IfOk, IfErr, Some, option_map};
+ghost use Rattle.mm_text.specs.declared.statement.Kind.TheVariants.{Closing};
+ghost use Rattle.mm_text.specs.Statement.{plain_statement, HasForm, bytes_in};
+ghost use Rattle.mm_text.specs.Files.{plain_file};
+ghost use Rattle.mm_frame.specs.Sentence.{Sentence, said, said_by};
+ghost use Rattle.mm_frame.specs.Active.{openings, closings};
+ghost use Rattle.mm_frame.specs.Rules.{IsMeant};
+ghost use Rattle.mm_proof.specs.Steps.{IsProofNumber};
+ghost use Rattle.mm_check.specs.Verdict.{refusal_of, proof_of, is_incomplete};
+ghost use Rattle.mm_check.specs.Judged.{Takes, RefusesAfter, IsLastProof, JudgesProof, CountsProof, RefusesProof};
 ghost use Rattle.mm_check.specs.Answer.{plain_refusal};
 
 use crate::fault::{CheckFault, Refusal};
 use crate::place::line_of;
+use crate::progress::Progress;
 use crate::rule::Rule;
-use mm_frame::first_broken;
-use mm_proof::{ProofFault, verify};
+use mm_frame::{Book, LabelId, RuleFault, Taken};
+use mm_proof::{Flat, Parsed, ProofFault, Steps, verify};
 use mm_text::{File, Kind, Statement};
-use std::alloc::Global;
+use std::alloc::{AllocError, Global};
 
 /// The text of the statement's label, if it has one.
 fn label_of<'a>(statement: &Statement<'a>) -> Option<&'a [u8]>
@@ -36,7 +40,8 @@ fn refusal<'a>(
     step: usize,
 ) -> Refusal<'a>
     requires { count < 2 ^ 63 }
-    ensures { plain_refusal result ≡ refusal_of (map plain_file files.now) count (plain_statement statement.now) rule step }
+    ensures { plain_refusal result
+        ≡ refusal_of (map plain_file files.now) count (plain_statement statement.now) rule step }
 {
     Refusal {
         file: statement.first.file,
@@ -48,33 +53,97 @@ fn refusal<'a>(
     }
 }
 
-/// Judges a statement after those before it, which obey the rules: its meaning, and then its
-/// proof.
+/// The texts of the tokens of a statement's proof.
+fn proof_of<'a>(alloc: Global, statement: &Statement<'a>) -> Result<Vec<&'a [u8]>, AllocError>
+    ensures { IfOk result (λ v. map (λ t. t.now) v.items ≡ proof_of (plain_statement statement.now)) }
+{
+    let mut tokens = Vec::with_capacity(alloc, statement.proof.len())?;
+    for token in &statement.proof {
+        tokens.push(token.text)?;
+    }
+    Ok(tokens)
+}
+
+/// Whether the proof of a `$p`, which the book took last, is complete, and then proved.
+fn is_proved<'a>(
+    alloc: Global,
+    book: &Book<'a>,
+    id: LabelId,
+    statement: &Statement<'a>,
+) -> Result<bool, ProofFault>
+    requires formed { HasForm (plain_statement statement.now) }
+    requires last { IsLastProof book.now.statements id.0 (plain_statement statement.now) }
+    requires room { bytes_in (plain_statement statement.now) ≤ 1073741824 }
+    ensures { JudgesProof book.now.statements (plain_statement statement.now) result }
+{
+    let tokens = proof_of(alloc, statement)?;
+    match Steps::parse(alloc, book, id, &tokens)? {
+        Parsed::Incomplete => Ok(false),
+        Parsed::Steps(steps) => {
+            let _used = verify(alloc, Flat::new(alloc), book, id, &steps)?;
+            Ok(true)
+        }
+    }
+}
+
+/// Judges the proof of a `$p`, which the book took last, and counts it, or notes that it is
+/// incomplete.
+fn prove<'a>(
+    alloc: Global,
+    files: &[File<'a>],
+    progress: &mut Progress<'a>,
+    id: LabelId,
+    statement: &Statement<'a>,
+) -> Result<(), CheckFault<'a>>
+    requires formed { HasForm (plain_statement statement.now) }
+    requires last { IsLastProof progress.old.book.statements id.0 (plain_statement statement.now) }
+    requires room { bytes_in (plain_statement statement.now) ≤ 1073741824 }
+    requires count { progress.old.count < 2 ^ 63 }
+    requires proofs { progress.old.proofs < 2 ^ 63 }
+    ensures ok { OnOk result (CountsProof progress.old id.0 (plain_statement statement.now) progress.new) }
+    ensures refused { IfErr result (RefusesProof (map plain_file files.now) progress.old (plain_statement statement.now)) }
+{
+    match is_proved(alloc, &progress.book, id, statement) {
+        Ok(true) => progress.proofs += 1,
+        Ok(false) => progress.incomplete.push(id)?,
+        Err(ProofFault::Rule { rule, step }) => {
+            let refusal = refusal(files, progress.count, statement, Rule::from(rule), step);
+            return Err(CheckFault::Refused(refusal));
+        }
+        Err(ProofFault::Memory) => return Err(CheckFault::Memory),
+    }
+    Ok(())
+}
+
+/// Judges a statement after those that the progress has, which obey the rules: its meaning, and
+/// then its proof. Takes it into the progress where it obeys the rules too.
 pub(crate) fn judge<'a>(
     alloc: Global,
     files: &[File<'a>],
-    earlier: &[Statement<'a>],
+    progress: &mut Progress<'a>,
     statement: &Statement<'a>,
 ) -> Result<(), CheckFault<'a>>
-    requires formed { All (λ s. IsFormed (plain_statement s)) earlier.now }
-    requires meant { AllMeant (map said_by earlier.now) }
-    requires itself { IsFormed (plain_statement statement.now) }
-    ensures obeyed { OnOk result (Obeys (map said_by earlier.now) (said_by statement.now)) }
-    ensures refused { IfErr result (RefusesAfter (map plain_file files.now) (map said_by earlier.now) (length earlier.now) (plain_statement statement.now)) }
+    requires formed { HasForm (plain_statement statement.now) }
+    requires closes { statement.now.kind ≡ Closing
+        → closings progress.old.book.statements < openings progress.old.book.statements }
+    requires room { progress.old.book.bytes + bytes_in (plain_statement statement.now) ≤ 1073741824 }
+    requires count { progress.old.count < 2 ^ 62 }
+    requires proofs { progress.old.proofs < 2 ^ 62 }
+    ensures ok { OnOk result (Takes progress.old (plain_statement statement.now) progress.new) }
+    ensures refused { IfErr result (RefusesAfter (map plain_file files.now) progress.old.book.statements
+        progress.old.count (plain_statement statement.now)) }
 {
-    if let Some(broken) = first_broken(earlier, statement) {
-        let refusal = refusal(files, earlier.len(), statement, Rule::from(broken), 0);
-        return Err(CheckFault::Refused(refusal));
-    }
-    if statement.kind != Kind::Provable {
-        return Ok(());
-    }
-    match verify(alloc, earlier, statement) {
-        Ok(()) => Ok(()),
-        Err(ProofFault::Rule { rule, step }) => {
-            let refusal = refusal(files, earlier.len(), statement, Rule::from(rule), step);
-            Err(CheckFault::Refused(refusal))
+    match progress.book.take(statement) {
+        Ok(Taken::Assertion(id)) if statement.kind == Kind::Provable => {
+            prove(alloc, files, progress, id, statement)?
         }
-        Err(ProofFault::Memory) => Err(CheckFault::Memory),
+        Ok(_) => {}
+        Err(RuleFault::Rule(rule)) => {
+            let refusal = refusal(files, progress.count, statement, Rule::from(rule), 0);
+            return Err(CheckFault::Refused(refusal));
+        }
+        Err(RuleFault::Memory) => return Err(CheckFault::Memory),
     }
+    progress.count += 1;
+    Ok(())
 }

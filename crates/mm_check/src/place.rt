@@ -1,7 +1,7 @@
 //! Places as a person counts them.
 
 ghost use Rattle.std.specs.Prelude.{◌≡◌, map};
-ghost use Rattle.mm_text.specs.Reading.{plain_file};
+ghost use Rattle.mm_text.specs.Files.{plain_file};
 ghost use Rattle.mm_check.specs.Verdict.{line_in, line_of as line_at};
 
 use mm_text::File;

@@ -1,17 +1,19 @@
 //! The text of a reply.
 
-ghost use Rattle.std.specs.Prelude.{◌≡◌, ◌++◌, [], ◌∷◌, map, OnOk, IfOk, IfSome, codes, decimal, length, unwrap_or};
-ghost use Rattle.mm_text.specs.Reading.{plain_file};
+ghost use Rattle.std.specs.Prelude.{◌≡◌, ◌<◌, ◌++◌, [], ◌∷◌, map, OnOk, IfOk, IfSome, codes, decimal, length, unwrap_or};
+ghost use Rattle.std.specs.List.{AllByRecursion};
+ghost use Rattle.mm_text.specs.Files.{plain_file};
 ghost use Rattle.mm_check.specs.Reply.{text_of as text_at, status_of as status_at, refusal_status as refusal_status_at, refusal_word, name_of as name_at, code_of, line_with, lines_of, Tells};
 ghost use Rattle.mm_check.specs.Verdict.{Refused};
 ghost use Rattle.mm_check.specs.Answer.{plain_refusal, labels_at, concluded, answered};
 ghost use Rattle.mm_check.specs.Status.{number_of};
 
-use crate::checked::{Checked, LabelId};
+use crate::checked::Checked;
 use crate::fault::{CheckFault, Refusal};
 use crate::rule::Rule;
 use crate::status::Status;
 use itoa::Buffer;
+use mm_frame::LabelId;
 use mm_text::File;
 use std::alloc::{AllocError, Global};
 
@@ -86,26 +88,30 @@ fn push_yes(out: &mut Vec<u8>, statements: usize, proofs: usize) -> Result<(), A
     Ok(())
 }
 
-/// A line for the label with this number, if there is one.
-fn push_label(out: &mut Vec<u8>, labels: &[&[u8]], number: LabelId) -> Result<(), AllocError>
+/// A line for the label with this number.
+fn push_label(out: &mut Vec<u8>, checked: &Checked, number: LabelId) -> Result<(), AllocError>
+    requires { number.0 < length checked.now.labels }
     ensures { OnOk result (out.new.items ≡ out.old.items
-        ++ lines_of (labels_at (map (λ label. label.now) labels.now) (number.0 ∷ []))) }
+        ++ lines_of (labels_at checked.now.labels (number.0 ∷ []))) }
 {
-    if let Some(label) = labels.get(number.0 as usize) {
-        out.extend_from_slice(label)?;
-        out.push(b'\n')?;
-    }
+    out.extend_from_slice(checked.name(number))?;
+    out.push(b'\n')?;
     Ok(())
 }
 
 /// A line for the label of each of these numbers.
 #[tactic(auto, using(crate::proofs::Lines::one_more_line))]
-fn push_labels(out: &mut Vec<u8>, labels: &[&[u8]], numbers: &[LabelId]) -> Result<(), AllocError>
+fn push_labels(
+    out: &mut Vec<u8>,
+    checked: &Checked,
+    numbers: &[LabelId],
+) -> Result<(), AllocError>
+    requires { AllByRecursion (λ n. n < length checked.now.labels) (map (λ id. id.0) numbers.now) }
     ensures { OnOk result (out.new.items ≡ out.old.items
-        ++ lines_of (labels_at (map (λ label. label.now) labels.now) (map (λ id. id.0) numbers.now))) }
+        ++ lines_of (labels_at checked.now.labels (map (λ id. id.0) numbers.now))) }
 {
     for number in numbers {
-        push_label(out, labels, *number)?;
+        push_label(out, checked, *number)?;
     }
     Ok(())
 }
@@ -114,17 +120,18 @@ fn push_labels(out: &mut Vec<u8>, labels: &[&[u8]], numbers: &[LabelId]) -> Resu
 #[tactic(auto, using(crate::proofs::Lines::incomplete_lines))]
 fn push_incomplete(
     out: &mut Vec<u8>,
-    labels: &[&[u8]],
+    checked: &Checked,
     numbers: &[LabelId],
 ) -> Result<(), AllocError>
+    requires { AllByRecursion (λ n. n < length checked.now.labels) (map (λ id. id.0) numbers.now) }
     ensures { OnOk result (out.new.items ≡ out.old.items
         ++ (line_with (codes "incomplete") (decimal (length numbers.now) ∷ [])
-        ++ lines_of (labels_at (map (λ label. label.now) labels.now) (map (λ id. id.0) numbers.now)))) }
+        ++ lines_of (labels_at checked.now.labels (map (λ id. id.0) numbers.now)))) }
 {
     out.extend_from_slice(b"incomplete")?;
     push_number(out, numbers.len())?;
     out.push(b'\n')?;
-    push_labels(out, labels, numbers)
+    push_labels(out, checked, numbers)
 }
 
 /// The lines of a database in which nothing is at fault.
@@ -134,7 +141,7 @@ fn push_conclusion(out: &mut Vec<u8>, checked: &Checked) -> Result<(), AllocErro
     if checked.is_complete() {
         push_yes(out, checked.statements(), checked.proofs())
     } else {
-        push_incomplete(out, checked.labels(), checked.incomplete())
+        push_incomplete(out, checked, checked.incomplete())
     }
 }
 

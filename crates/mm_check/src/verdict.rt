@@ -1,132 +1,141 @@
 //! The verdict over a database.
 
-ghost use Rattle.std.specs.Prelude.{◌≡◌, ◌<◌, ◌^◌, ◌⊎◌, map, option_map, IfOk, IfErr, OnOk};
+ghost use Rattle.std.specs.Prelude.{◌≡◌, ◌⊎◌, true, map, option_map, [], IfOk, IfErr, OnOk, Ok, IsOkUnless};
 ghost use Rattle.mm_text.specs.Token.{plain_token};
-ghost use Rattle.mm_text.specs.Statement.{plain_statement};
-ghost use Rattle.mm_text.specs.Reading.{plain_file};
+ghost use Rattle.mm_text.specs.Statement.{plain_statement, HasForm};
+ghost use Rattle.mm_text.specs.Files.{plain_file};
 ghost use Rattle.mm_text.specs.Remaining.{IsUnread};
-ghost use Rattle.mm_check.specs.Verdict.{ObeyTheProfile, CanBeRead, labels_of as labels_at, text_refusal as text_refusal_at};
+ghost use Rattle.mm_check.specs.Verdict.{ObeyTheProfile, CanBeRead, text_refusal as text_refusal_at};
 ghost use Rattle.mm_check.specs.Answer.{IsYes, IsOverLimit, IsWantOfMemory, IsVerdict, IsOnlyVerdict, KeepsLabels, plain_refusal};
-ghost use Rattle.mm_check.specs.Judged.{TakesNext, RefusesEnd, RefusesLoad, Concludes};
+ghost use Rattle.mm_check.specs.Judged.{TakesNext, RefusesEnd, RefusesLoad, Knows, IsUnderWay, IsAtEnd, TellsVerdict};
 
 use crate::checked::Checked;
 use crate::fault::{CheckFault, Refusal};
 use crate::judge::judge;
 use crate::place::line_of;
+use crate::progress::Progress;
 use crate::rule::Rule;
-use mm_text::{File, Kind, Statement, Statements, TextFault, TextRule, Token};
-use std::alloc::{AllocError, Global};
+use mm_frame::Book;
+use mm_text::{File, Statement, Statements, TextFault, TextRule, Token};
+use std::alloc::Global;
 
 /// Why the files can't be taken as a whole.
-fn load<'a>(files: &'a [File<'a>]) -> Result<Statements<'a>, CheckFault<'a>>
+fn load<'a>(
+    alloc: Global,
+    files: &'a [File<'a>],
+) -> Result<Statements<'a>, CheckFault<'a>>
     ensures unread { IfOk result (IsUnread (map plain_file files.now)) }
     ensures readable { OnOk result (CanBeRead (map plain_file files.now)) }
     ensures load { IfErr result (RefusesLoad (map plain_file files.now)) }
 {
-    match Statements::new(files) {
+    match Statements::new(alloc, files) {
         Ok(statements) => Ok(statements),
         Err(TextFault::Load(rule)) => Err(CheckFault::Load(Rule::from(rule))),
         Err(_) => Err(CheckFault::Memory),
     }
 }
 
-/// The refusal at a fault of the text, which comes after so many statements.
+/// The refusal at a fault of the text.
 fn text_refusal<'a>(
     files: &[File<'a>],
-    count: usize,
     rule: TextRule,
     file: usize,
     at: u32,
+    statement: usize,
     label: Option<Token<'a>>,
 ) -> Refusal<'a>
-    requires { count < 2 ^ 63 }
-    ensures { plain_refusal result ≡ text_refusal_at (map plain_file files.now) count (record { rule = rule; file = file; at = at; label = option_map plain_token label.entry }) }
+    ensures { plain_refusal result ≡ text_refusal_at (map plain_file files.now)
+        (record { rule = rule; file = file; at = at; statement = statement; label = option_map plain_token label.entry }) }
 {
     Refusal {
         file,
         line: line_of(files, file, at as usize),
-        statement: count + 1,
+        statement,
         label: label.map(|label| label.text),
         rule: Rule::from(rule),
         step: 0,
     }
 }
 
-/// The next statement, if there is one, after so many.
+/// Reads the next statement; `false` where there is none.
 fn next<'a>(
-    alloc: Global,
     files: &[File<'a>],
     statements: &mut Statements<'a>,
-    count: usize,
-) -> Result<Option<Statement<'a>>, CheckFault<'a>>
-    requires { count < 2 ^ 63 }
-    ensures taken { IfOk result (λ next. TakesNext statements.old next statements.new) }
-    ensures refused { IfErr result (RefusesEnd (map plain_file files.now) count statements.old) }
+    into: &mut Statement<'a>,
+) -> Result<bool, CheckFault<'a>>
+    ensures taken { IfOk result (λ more. TakesNext statements.old more (plain_statement into.new) statements.new) }
+    ensures formed { result ≡ Ok true → HasForm (plain_statement into.new) }
+    ensures refused { IfErr result (RefusesEnd (map plain_file files.now) statements.old) }
 {
-    let mut statement = Statement::empty(alloc);
-    match statements.read(&mut statement) {
-        Ok(true) => Ok(Some(statement)),
-        Ok(false) => Ok(None),
+    match statements.read(into) {
+        Ok(more) => Ok(more),
         Err(
             TextFault::Fault {
                 rule,
                 file,
                 at,
+                statement,
                 label,
             },
         ) => {
-            let refusal = text_refusal(files, count, rule, file, at, label);
+            let refusal = text_refusal(files, rule, file, at, statement, label);
             Err(CheckFault::Refused(refusal))
         }
         Err(_) => Err(CheckFault::Memory),
     }
 }
 
-/// What is kept of statements that obey the rules.
-fn conclusion<'a>(alloc: Global, statements: &[Statement<'a>]) -> Result<Checked<'a>, AllocError>
-    ensures { IfOk result (Concludes (map plain_statement statements.now)) }
+/// The progress before any statement.
+fn beginning<'a>(alloc: Global) -> Result<Progress<'a>, CheckFault<'a>>
+    ensures ok { IfOk result (Knows []) }
+    ensures fault { IsOkUnless result CheckFault.Memory }
 {
-    let proofs = statements
-        .iter()
-        .filter(|statement| statement.kind == Kind::Provable)
-        .count();
-    let labels = labels_of(alloc, statements)?;
-    Ok(Checked::new(statements.len(), proofs, Vec::new(alloc), labels))
-}
-
-/// The labels of the labelled statements, in their order.
-fn labels_of<'a>(alloc: Global, statements: &[Statement<'a>]) -> Result<Vec<&'a [u8]>, AllocError>
-    ensures { IfOk result (λ labels. map (λ l. l.now) labels.items ≡ labels_at (map plain_statement statements.now)) }
-{
-    let mut labels = Vec::new(alloc);
-    for statement in statements {
-        if let Some(label) = &statement.label {
-            labels.push(label.text)?;
-        }
+    match Book::new(alloc) {
+        Ok(book) => Ok(Progress {
+            book,
+            count: 0,
+            proofs: 0,
+            incomplete: Vec::new(alloc),
+        }),
+        Err(_) => Err(CheckFault::Memory),
     }
-    Ok(labels)
 }
 
-/// Reads the statements one after the other and judges each, up to the first fault.
+/// Reads the statements that are left, one after the other, and judges each, up to the first fault.
+fn judge_rest<'a>(
+    alloc: Global,
+    files: &[File<'a>],
+    statements: &mut Statements<'a>,
+    progress: &mut Progress<'a>,
+) -> Result<(), CheckFault<'a>>
+    requires { IsUnderWay (map plain_file files.now) progress.old statements.old }
+    ensures done { OnOk result (IsAtEnd (map plain_file files.now) progress.new statements.new) }
+    ensures refused { IfErr result (TellsVerdict (map plain_file files.now)) }
+{
+    let mut statement = Statement::empty(alloc);
+    while next(files, statements, &mut statement)? {
+        judge(alloc, files, progress, &statement)?;
+    }
+    Ok(())
+}
+
+/// Judges all statements of the files.
 fn judge_all<'a>(alloc: Global, files: &'a [File<'a>]) -> Result<Checked<'a>, CheckFault<'a>>
     ensures verdict { IsVerdict (map plain_file files.now) result }
     ensures labels { IfOk result (KeepsLabels (map plain_file files.now)) }
 {
-    let mut statements = load(files)?;
-    let mut earlier = Vec::new(alloc);
-    while let Some(statement) = next(alloc, files, &mut statements, earlier.len())? {
-        judge(alloc, files, &earlier, &statement)?;
-        earlier.push(statement)?;
-    }
-    Ok(conclusion(alloc, &earlier)?)
+    let mut statements = load(alloc, files)?;
+    let mut progress = beginning(alloc)?;
+    judge_rest(alloc, files, &mut statements, &mut progress)?;
+    Ok(Checked::new(progress))
 }
 
 /// Checks the database that the files hold; the first one is the top file.
 ///
 /// Limits and memory aside, the answer is yes exactly if the files obey every rule of the profile
-/// of the language, as far as it is read so far (`docs/LANGUAGE.md`), and each proof spells a
-/// derivation tree of its assertion from active hypotheses and earlier assertions, respecting all
-/// distinct variables (the Metamath book, chapter 4).
+/// of the language (`docs/LANGUAGE.md`), and each proof spells a derivation tree of its assertion
+/// from active hypotheses and earlier assertions, respecting all distinct variables (the Metamath
+/// book, chapter 4).
 ///
 /// # Errors
 ///

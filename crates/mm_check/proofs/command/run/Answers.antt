@@ -1,7 +1,7 @@
 -- What is written is the text of the reply, or a beginning of it.
 use Rattle.std.proofs.Common.{ℕ, List, map, subst}
 use Rattle.std.specs.Io.KnownBytes.{Appends}
-use Rattle.mm_text.specs.Reading.{plain_file}
+use Rattle.mm_text.specs.Files.{plain_file}
 use Rattle.mm_text.specs.Device.{inner_of, AppendsBeginning}
 use Rattle.mm_check.specs.Status.{number_of}
 use Rattle.mm_check.specs.Reply.{IsReply}

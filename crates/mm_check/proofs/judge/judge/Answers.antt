@@ -1,25 +1,30 @@
--- The refusal tells the fault that was found.
-use Rattle.std.proofs.Common.{rules, ◌≡◌, Some, map, subst, inl, inr, refl, ap}
+-- The refusal tells the fault of the statement.
+use Rattle.std.proofs.Common.{rules, ◌≡◌, ◌++◌, ◌∷◌, [], List, Some, Err, inl, inr, map, subst, sym, refl, ap, ◌∙◌}
 use Rattle.mm_text.specs.declared.statement.Kind.TheVariants.{Provable}
-use Rattle.mm_frame.specs.Sentence.{said_by}
-use Rattle.mm_proof.specs.declared.fault.ProofFault.{ProofFault}
-use Rattle.mm_proof.specs.Proof.{IsFault}
-use Rattle.mm_proof.specs.Answer.{OnRule}
-use Rattle.mm_check.specs.Verdict.{Refused}
+use Rattle.mm_text.specs.Statement.{PlainStatement, plain_statement}
+use Rattle.mm_text.specs.Files.{plain_file}
+use Rattle.mm_frame.specs.Database.{Database}
+use Rattle.mm_check.specs.declared.fault.CheckFault.{CheckFault}
+use Rattle.mm_check.specs.Verdict.{Refused, meaning_rule, refusal_of}
+use Rattle.mm_check.specs.Judged.{RefusesAfter}
+use Rattle.mm_check.proofs.Judging.{refuses_after, passed_fault}
 use Rattle.mm_check.proofs.judge.judge.Goals as goal
 
-pub returns-in-Some-clause-refused : goal.returns-in-Some-clause-refused
-returns-in-Some-clause-refused c =
-    inr (c.from.result, 0, inl (c.in-Some.broken, c.in-Some.ensures, c.from.ensures, refl), ap (λ r. Some (Refused r)) c.refusal-refusal.ensures)
+pub returns-in_err-prove-in-Ok-Assertion-clause-refused : goal.returns-in_err-prove-in-Ok-Assertion-clause-refused
+returns-in_err-prove-in-Ok-Assertion-clause-refused c =
+    let s : PlainStatement = plain_statement c.args.statement.now in
+    let files = map plain_file c.args.files.now in
+    let provable : c.args.statement.now.kind ≡ Provable = search rules in
+    let fault : CheckFault = c.in_err-prove-in-Ok-Assertion.field-0.0 in
+    passed_fault c.from_residual.result fault (RefusesAfter files c.args.progress.now.book.statements c.args.progress.now.count s) c.from_residual.ensures.1
+    (refuses_after files c.args.progress.now (record c.args.progress.now { book = c.take.new.self }) s fault c.in-Ok-Assertion.ensures.meant provable (ap (λ (d : Database). d.statements) c.in-Ok-Assertion.ensures.taken) refl
+    c.in_err-prove-in-Ok-Assertion.ensures.refused)
 
 pub returns-in-Err-Rule-clause-refused : goal.returns-in-Err-Rule-clause-refused
 returns-in-Err-Rule-clause-refused c =
-    let fault : IsFault (map said_by c.args.earlier.now) (said_by c.args.statement.now) c.in-Err-Rule.rule c.in-Err-Rule.step =
-    subst (λ (e : ProofFault). OnRule e (IsFault (map said_by c.args.earlier.now) (said_by c.args.statement.now))) c.in-Err-Rule.field-0-is c.in-Err-Rule.ensures.fault in
-    let provable : c.args.statement.now.kind ≡ Provable = search rules in
     inr (
-      c.from-in-Err-Rule.result,
-      c.in-Err-Rule.step,
-      inr (c.in_default.ensures, provable, c.in-Err-Rule.rule, fault, c.from-in-Err-Rule.ensures),
-      ap (λ r. Some (Refused r)) c.refusal-refusal-in-Err-Rule.ensures,
+      c.from.result,
+      0,
+      inl (c.in-Err-Rule.rule, c.take.ensures.rule c.in-Err-Rule.rule (c.in-Err-Rule.is ∙ ap Err c.in-Err-Rule.field-0-is), c.from.ensures ∙ ap meaning_rule c.in-Err-Rule.rule-is, refl),
+      ap (λ r. Some (Refused r)) c.refusal-refusal.ensures,
     )

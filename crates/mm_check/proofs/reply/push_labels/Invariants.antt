@@ -6,4 +6,4 @@ use Rattle.mm_check.proofs.reply.push_labels.Given as goal
 
 abbrev pub invariant-loop-number : goal.invariant-loop-number
 invariant-loop-number l =
-    l.out.items ≡ l.fn.out.items ++ lines_of (labels_at (map (λ label. label.now) l.labels) (map (λ id. id.0) (take l.number-index l.numbers)))
+    l.out.items ≡ l.fn.out.items ++ lines_of (labels_at l.checked.labels (map (λ id. id.0) (take l.number-index l.numbers)))

@@ -1,0 +1,154 @@
+-- Files of every kind have a verdict.
+use Rattle.std.proofs.Common.{◌≡◌, ◌≢◌, ℕ, zero, suc, ◌<◌, ◌≤◌, List, [], ◌∷◌, ◌++◌, map, length, slice_get, Bool, true, false, Option, Some, None, option_map, ◌⊎◌, inl, inr, refl, sym, ap, subst, ◌∙◌, arith, append_assoc, append-nil}
+use Rattle.std.proofs.lemmas.List.{length-map}
+use Rattle.std.specs.List.{AllByRecursion}
+use Rattle.mm_text.specs.declared.fault.LoadRule.{LoadRule}
+use Rattle.mm_text.specs.declared.fault.LoadRule.TheVariants as load
+use Rattle.mm_text.specs.declared.statement.Kind.{Kind}
+use Rattle.mm_text.specs.declared.statement.Kind.TheVariants.{Constants, Variables, Distinct, Floating, Essential, Axiom, Provable, Opening, Closing}
+use Rattle.mm_text.specs.Token.{PlainToken}
+use Rattle.mm_text.specs.Statement.{PlainStatement, HasForm, HasLabel, FitsCount}
+use Rattle.mm_text.specs.Files.{PlainFile, BreaksLoad, HasTwins, total_bytes}
+use Rattle.mm_text.specs.Reading.{PlainFault, Reads}
+use Rattle.mm_text.proofs.ReaderLaws.{each_has_one_reading}
+use Rattle.mm_text.proofs.FormedLaws.{readings_are_formed_in_place}
+use Rattle.mm_frame.specs.Sentence.{Sentence, said}
+use Rattle.mm_frame.specs.Rules.{IsMeant}
+use Rattle.mm_frame.specs.Form.{IsNamed, IsFormedSentence, AllFormed}
+use Rattle.mm_proof.specs.Proof.{expression_limit}
+use Rattle.mm_proof.proofs.Decisions.{dec_both, dec_as, dec_some, dec_le, symbol_dec}
+use Rattle.mm_proof.proofs.Judged.{some_verdict_holds}
+use Rattle.mm_check.specs.declared.rule.Rule.{Rule}
+use Rattle.mm_check.specs.Verdict.{PlainRefusal, Verdict, Load, Refused, Incomplete, Yes, Obeys, AllObey, AreAccepted, CanBeRead, HasFault, HasVerdict, RefusesStatement, RefusesText, sentences, load_rule, meaning_rule, proof_rule, refusal_of, text_refusal, proof_of, proofs_of, unproved_of, is_proof}
+use Rattle.mm_check.proofs.Meanings.{some_meaning}
+use Rattle.mm_check.proofs.Unproved.{all_meant, one_more}
+
+-- ## The files as a whole
+
+twins_dec : (files : List PlainFile) → Dec (HasTwins files)
+twins_dec files = dec_as
+    (λ h. record {
+      i = h.0;
+      j = h.3.0;
+      one = h.1;
+      other = h.3.1;
+      apart = h.3.3.0;
+      at_i = h.2;
+      at_j = h.3.2;
+      same = h.3.3.1;
+    })
+    (λ h. (h.i, h.one, h.at_i, (h.j, h.other, h.at_j, (h.apart, h.same))))
+    (dec_some (λ i f. (j : ℕ) × (g : PlainFile) × (slice_get files j ≡ Some g) × ((i < j) × (f.name ≡ g.name)))
+    (λ i f. dec_some (λ j g. (i < j) × (f.name ≡ g.name)) (λ j g. dec_both (dec_le (suc i) j) (symbol_dec f.name g.name)) files) files)
+
+-- what is known of files that aren't none
+some_load : (files : List PlainFile) → files ≢ [] → Dec (HasTwins files) → Dec (1073741825 ≤ total_bytes files)
+    → ((rule : LoadRule) × BreaksLoad files rule) ⊎ CanBeRead files
+some_load files some (yes twins) large = inl (load.F2, (some, twins))
+some_load files some (no none) (yes large) = inl (load.F3, (some, none, omega arith))
+some_load files some (no none) (no small) = inr (can_be_read files some none (omega arith))
+  where
+    can_be_read : (files : List PlainFile) → files ≢ [] → ¬ (HasTwins files) → total_bytes files ≤ 1073741824 → CanBeRead files
+    can_be_read files some none small load.F1 broken = some broken
+    can_be_read files some none small load.F2 broken = none broken.1
+    can_be_read files some none small load.F3 broken = let large : 1073741824 < total_bytes files = broken.2 in absurd (omega arith)
+
+judged_load : (files : List PlainFile) → ((rule : LoadRule) × BreaksLoad files rule) ⊎ CanBeRead files
+judged_load [] = inl (load.F1, refl)
+judged_load (f ∷ files) = some_load (f ∷ files) (λ e. absurd cc) (twins_dec (f ∷ files)) (dec_le 1073741825 (total_bytes (f ∷ files)))
+
+-- ## The statements, one after the other
+
+named_of : (kind : Kind) (label : Option PlainToken) → HasLabel kind label → IsNamed kind (option_map (λ t. t.text) label)
+named_of Floating label has = (has.0.text, ap (option_map (λ t. t.text)) has.1, has.2)
+named_of Essential label has = (has.0.text, ap (option_map (λ t. t.text)) has.1, has.2)
+named_of Axiom label has = (has.0.text, ap (option_map (λ t. t.text)) has.1, has.2)
+named_of Provable label has = (has.0.text, ap (option_map (λ t. t.text)) has.1, has.2)
+named_of Constants label has = ap (option_map (λ t. t.text)) has
+named_of Variables label has = ap (option_map (λ t. t.text)) has
+named_of Distinct label has = ap (option_map (λ t. t.text)) has
+named_of Opening label has = ap (option_map (λ t. t.text)) has
+named_of Closing label has = ap (option_map (λ t. t.text)) has
+
+formed_said : (s : PlainStatement) → HasForm s → IsFormedSentence (said s)
+formed_said s formed = record {
+  count = subst (λ (n : ℕ). FitsCount s.kind n) (sym (length-map s.symbols (λ (t : PlainToken). t.text))) formed.count;
+  label = named_of s.kind s.label formed.label;
+}
+
+formed_sentences : (statements : List PlainStatement) → AllByRecursion HasForm statements → AllFormed (sentences statements)
+formed_sentences [] all place s e = absurd cc
+formed_sentences (t ∷ statements) all zero s e = let same : said t ≡ s = cc in subst IsFormedSentence same (formed_said t all.0)
+formed_sentences (t ∷ statements) all (suc place) s e = formed_sentences statements all.1 place s e
+
+-- a statement obeys the rules, or has a fault
+obeys_or_fails : (before : List PlainStatement) (s : PlainStatement) → AllObey before → AllFormed (sentences before) → (b : Bool) → is_proof s ≡ b
+    → IsMeant (sentences before) (said s) → Obeys (sentences before) s ⊎ ((rule : Rule) × (step : ℕ) × HasFault (sentences before) s rule step)
+obeys_or_fails before s obeyed formed false e meant = inl (record { meant = meant; proved = λ f. absurd cc })
+obeys_or_fails before s obeyed formed true e meant =
+    elim (some_verdict_holds expression_limit (sentences before) (said s) (proof_of s) (all_meant before obeyed) formed) [
+      | inl proved ↦ inl (record { meant = meant; proved = λ f. proved })
+      | inr fault ↦ inr (proof_rule fault.0, fault.1, inr (meant, e, fault.0, fault.2, refl))
+    ]
+
+judged_statement : (before : List PlainStatement) (s : PlainStatement) → AllObey before → AllFormed (sentences before)
+    → Obeys (sentences before) s ⊎ ((rule : Rule) × (step : ℕ) × HasFault (sentences before) s rule step)
+judged_statement before s obeyed formed = elim (some_meaning (sentences before) (said s)) [
+  | inl meant ↦ obeys_or_fails before s obeyed formed (is_proof s) refl meant
+  | inr broken ↦ inr (meaning_rule broken.0, 0, inl (broken.0, broken.1, refl, refl))
+]
+
+formed_front : (front rest : List PlainStatement) → AllByRecursion HasForm (front ++ rest) → AllByRecursion HasForm front
+formed_front [] rest all = tt
+formed_front (s ∷ front) rest all = (all.0, formed_front front rest all.1)
+
+-- the first statement at fault, or that there is none
+judged_statements : (files : List PlainFile) (before later : List PlainStatement) → AllObey before → AllByRecursion HasForm (before ++ later)
+    → ((refusal : PlainRefusal) × RefusesStatement files (before ++ later) refusal) ⊎ AllObey (before ++ later)
+judged_statements files before [] obeyed formed = inr (subst AllObey (sym (append-nil before)) obeyed)
+judged_statements files before (s ∷ later) obeyed formed =
+    elim (judged_statement before s obeyed (formed_sentences before (formed_front before (s ∷ later) formed))) [
+      | inl obeys ↦
+          let same : (before ++ s ∷ []) ++ later ≡ before ++ s ∷ later = append_assoc before (s ∷ []) later in
+          subst (λ (ss : List PlainStatement). ((refusal : PlainRefusal) × RefusesStatement files ss refusal) ⊎ AllObey ss) same
+          (judged_statements files (before ++ s ∷ []) later (one_more before s obeyed obeys)
+          (subst (λ (ss : List PlainStatement). AllByRecursion HasForm ss) (sym same) formed))
+      | inr fault ↦ inl (
+          refusal_of files (length before) s fault.0 fault.1,
+          record { before = before; s = s; after = later; split = refl; obeyed = obeyed; rule = fault.0; step = fault.1; fault = fault.2; refused = refl },
+        )
+    ]
+
+-- ## The verdict
+
+concluded_verdict : (files : List PlainFile) (statements : List PlainStatement) → AreAccepted files statements
+    → (unproved : List (List ℕ)) → unproved ≡ unproved_of statements → (verdict : Verdict) × HasVerdict files verdict
+concluded_verdict files statements accepted [] e = (Yes (length statements) (proofs_of statements), (statements, accepted, sym e, refl, refl))
+concluded_verdict files statements accepted (l ∷ ls) e = (Incomplete (l ∷ ls), (statements, accepted, e, λ f. absurd cc))
+
+ended_verdict : (files : List PlainFile) (statements : List PlainStatement) (ending : Option PlainFault) → CanBeRead files
+    → Reads files statements ending → AllObey statements → (verdict : Verdict) × HasVerdict files verdict
+ended_verdict files statements None readable reads obeyed =
+    concluded_verdict files statements (record { readable = readable; reads = reads; obeyed = obeyed }) (unproved_of statements) refl
+ended_verdict files statements (Some fault) readable reads obeyed = (
+  Refused (text_refusal files fault),
+  (readable, statements, Some fault, reads, inr (record { obeyed = obeyed; fault = fault; ended = refl; refused = refl })),
+)
+
+no_statement : AllObey []
+no_statement [] after s e = absurd cc
+no_statement (b ∷ before) after s e = absurd cc
+
+read_verdict : (files : List PlainFile) → CanBeRead files → (verdict : Verdict) × HasVerdict files verdict
+read_verdict files readable =
+    let one = each_has_one_reading files in
+    elim (judged_statements files [] one.statements no_statement (readings_are_formed_in_place files one.statements one.ending one.reads).formed) [
+      | inl refused ↦ (Refused refused.0, (readable, one.statements, one.ending, one.reads, inl refused.1))
+      | inr obeyed ↦ ended_verdict files one.statements one.ending readable one.reads obeyed
+    ]
+
+pub some_verdict : (files : List PlainFile) → (verdict : Verdict) × HasVerdict files verdict
+some_verdict files = elim (judged_load files) [
+  | inl broken ↦ (Load (load_rule broken.0), (broken.0, broken.1, refl))
+  | inr readable ↦ read_verdict files readable
+]

@@ -1,0 +1,111 @@
+-- What the progress knows of one statement more, and what it tells in the end.
+use Rattle.std.proofs.Common.{◌≡◌, ℕ, ◌+◌, ◌<◌, List, [], ◌∷◌, ◌++◌, map, filter, length, sum_by, slice_get, is_some, count_by, Bool, true, false, not, ◌&&◌, cond, Option, Some, None, refl, sym, ap, subst, ◌∙◌, arith, append-nil, length-append}
+use Rattle.std.proofs.lemmas.List.{map-append}
+use Rattle.std.proofs.lemmas.List.Sums.{sum_by-append}
+use Rattle.std.proofs.lemmas.List.Elements.{filter-append}
+use Rattle.std.proofs.lemmas.Grind.{flat_map-append}
+use Rattle.std.specs.List.{flat_map, AllByRecursion}
+use Rattle.std.specs.Option.{option_to_list, option_map}
+use Rattle.mm_text.specs.declared.statement.Kind.{Kind}
+use Rattle.mm_text.specs.declared.statement.Kind.TheVariants.{Constants, Variables, Distinct, Floating, Essential, Axiom, Provable, Opening, Closing}
+use Rattle.mm_text.specs.Token.{PlainToken}
+use Rattle.mm_text.specs.Statement.{PlainStatement, HasForm, HasLabel, bytes_in}
+use Rattle.mm_frame.specs.Sentence.{Sentence, said}
+use Rattle.mm_frame.specs.Numbers.{labelled}
+use Rattle.mm_frame.specs.declared.number.LabelId.{LabelId}
+use Rattle.mm_check.specs.declared.progress.Progress.{Progress}
+use Rattle.mm_check.specs.Conclusion.{labels_in}
+use Rattle.mm_check.specs.Verdict.{sentences, labels_of, label_of, unproved_of, proofs_of, is_proof, is_unproved, is_provable, proof_of, is_incomplete}
+use Rattle.mm_check.specs.Judged.{Knows, Takes}
+use Rattle.mm_check.proofs.Numbers.{named_more, last_name, count_by-append, count_by-one, count_labelled, numbers_within}
+
+-- the labels of what statements say are theirs
+pub labels_said : (statements : List PlainStatement) → labels_in (sentences statements) ≡ labels_of statements
+labels_said [] = refl
+labels_said (s ∷ statements) = ap (λ (rest : List (List ℕ)). label_of s ++ rest) (labels_said statements)
+
+labels_of-append : (a b : List PlainStatement) → labels_of (a ++ b) ≡ labels_of a ++ labels_of b
+labels_of-append a b = flat_map-append label_of a b
+
+pub unproved_of-append : (a b : List PlainStatement) → unproved_of (a ++ b) ≡ unproved_of a ++ unproved_of b
+unproved_of-append a b =
+    ap (λ (ss : List PlainStatement). flat_map label_of ss) (filter-append is_unproved a b)
+    ∙ flat_map-append label_of (filter is_unproved a) (filter is_unproved b)
+
+-- the numbers of the list
+abbrev pub ids : List LabelId → List ℕ
+ids list = map (λ id. id.0) list
+
+-- names at the numbers of a list, in one go and in two
+pub names_of_ids : (names : List (List ℕ)) (list : List LabelId) → map (λ (id : LabelId). slice_get names id.0) list ≡ map (slice_get names) (ids list)
+names_of_ids names [] = refl
+names_of_ids names (id ∷ list) = ap (λ (rest : List (Option (List ℕ))). slice_get names id.0 ∷ rest) (names_of_ids names list)
+
+-- a `$p` has a label
+pub provable_label : (kind : Kind) (label : Option PlainToken) → HasLabel kind label → is_provable kind ≡ true
+    → (l : PlainToken) × (label ≡ Some l)
+provable_label Provable label has e = (has.0, has.1)
+provable_label Constants label has e = absurd cc
+provable_label Variables label has e = absurd cc
+provable_label Distinct label has e = absurd cc
+provable_label Floating label has e = absurd cc
+provable_label Essential label has e = absurd cc
+provable_label Axiom label has e = absurd cc
+provable_label Opening label has e = absurd cc
+provable_label Closing label has e = absurd cc
+
+both_true : (a b : Bool) → (a && b) ≡ true → a ≡ true
+both_true true b e = refl
+both_true false b e = e
+
+-- the numbers of the incomplete proofs, and that of one more where it is incomplete
+more_unproved : (names : List (List ℕ)) (numbers : List ℕ) (unproved : List (List ℕ)) (s : PlainStatement) (count : ℕ) → HasForm s
+    → count ≡ length names → map (slice_get names) numbers ≡ map Some unproved
+    → (b : Bool) → is_unproved s ≡ b
+    → map (slice_get (names ++ label_of s)) (numbers ++ cond b (count ∷ []) []) ≡ map Some (unproved ++ flat_map label_of (cond b (s ∷ []) []))
+more_unproved names numbers unproved s count formed counted named false e =
+    ap (λ (ns : List ℕ). map (slice_get (names ++ label_of s)) ns) (append-nil numbers)
+    ∙ named_more names (label_of s) numbers unproved named
+    ∙ sym (ap (λ (ls : List (List ℕ)). map Some ls) (append-nil unproved))
+more_unproved names numbers unproved s count formed counted named true e =
+    let found = provable_label s.kind s.label formed.label (both_true (is_provable s.kind) (is_incomplete (proof_of s)) e) in
+    let text : List ℕ = found.0.text in
+    let label : label_of s ≡ text ∷ [] = ap (λ (o : Option PlainToken). option_to_list (option_map (λ t. t.text) o)) found.1 in
+    let front : map (slice_get (names ++ label_of s)) numbers ≡ map Some unproved = named_more names (label_of s) numbers unproved named in
+    let last : slice_get (names ++ text ∷ []) (length names) ≡ Some text = last_name names text in
+    let here : slice_get (names ++ label_of s) count ≡ Some text = rw (label, counted) last in
+    map-append (slice_get (names ++ label_of s)) numbers (count ∷ [])
+    ∙ ap (λ (os : List (Option (List ℕ))). os ++ slice_get (names ++ label_of s) count ∷ []) front
+    ∙ ap (λ (o : Option (List ℕ)). map Some unproved ++ o ∷ []) here
+    ∙ sym (map-append Some unproved (text ∷ []))
+    ∙ ap (λ (ls : List (List ℕ)). map Some (unproved ++ ls)) (sym (append-nil (label_of s) ∙ label))
+
+incomplete_more : (statements : List PlainStatement) (s : PlainStatement) (p q : Progress) → HasForm s → Knows statements p → Takes p s q
+    → map (λ (id : LabelId). slice_get (labels_of (statements ++ s ∷ [])) id.0) q.incomplete.items ≡ map Some (unproved_of (statements ++ s ∷ []))
+incomplete_more statements s p q formed known takes =
+    let names : List (List ℕ) = labels_of statements in
+    let numbers : List ℕ = ids p.incomplete.items in
+    let count : ℕ = length (labelled p.book.statements) in
+    let counted : count ≡ length names =
+    count_labelled (λ (t : Sentence). t.label) p.book.statements
+    ∙ ap length (ap labels_in known.book ∙ labels_said statements) in
+    let named : map (slice_get names) numbers ≡ map Some (unproved_of statements) =
+    sym (names_of_ids names p.incomplete.items) ∙ known.incomplete in
+    let longer : labels_of (statements ++ s ∷ []) ≡ names ++ label_of s =
+    labels_of-append statements (s ∷ []) ∙ ap (λ (ls : List (List ℕ)). names ++ ls) (append-nil (label_of s)) in
+    names_of_ids (labels_of (statements ++ s ∷ [])) q.incomplete.items
+    ∙ ap (λ (ns : List ℕ). map (slice_get (labels_of (statements ++ s ∷ []))) ns) takes.incomplete
+    ∙ ap (λ (ls : List (List ℕ)). map (slice_get ls) (numbers ++ cond (is_unproved s) (count ∷ []) [])) longer
+    ∙ more_unproved names numbers (unproved_of statements) s count formed counted named (is_unproved s) refl
+    ∙ sym (ap (λ (ls : List (List ℕ)). map Some ls) (unproved_of-append statements (s ∷ [])))
+
+pub knows_more : (statements : List PlainStatement) (s : PlainStatement) (p q : Progress) → HasForm s → Knows statements p → Takes p s q
+    → Knows (statements ++ s ∷ []) q
+knows_more statements s p q formed known takes = record {
+  book = takes.statements ∙ ap (λ (ss : List Sentence). ss ++ said s ∷ []) known.book ∙ sym (map-append said statements (s ∷ []));
+  bytes = omega (arith, takes.bytes, known.bytes, sum_by-append bytes_in statements (s ∷ []));
+  count = omega (arith, takes.count, known.count, length-append statements (s ∷ []));
+  proofs = takes.proofs ∙ ap (λ (n : ℕ). n + cond (is_proof s) 1 0) known.proofs
+      ∙ sym (count_by-append is_proof statements (s ∷ []) ∙ ap (λ (n : ℕ). count_by is_proof statements + n) (count_by-one is_proof s));
+  incomplete = incomplete_more statements s p q formed known takes;
+}

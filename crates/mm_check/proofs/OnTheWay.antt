@@ -1,0 +1,114 @@
+-- What the next statement may ask of the progress: a block to close, and room.
+use Rattle.std.proofs.Common.{◌≡◌, ◌≢◌, ℕ, zero, suc, ◌+◌, ◌<◌, ◌≤◌, List, [], ◌∷◌, ◌++◌, map, take, length, sum_by, count_by, Bool, true, false, cond, inl, inr, refl, sym, ap, subst, ◌∙◌, arith, append_assoc, length-append}
+use Rattle.std.proofs.lemmas.Bool.{cases_lt}
+use Rattle.std.proofs.lemmas.List.Sums.{sum_by-append, sum_by-cons, count_by-le-length}
+use Rattle.std.specs.List.{AllByRecursion}
+use Rattle.mm_text.specs.declared.fault.LoadRule.TheVariants.{F1, F2, F3}
+use Rattle.mm_text.specs.declared.statement.Kind.{Kind}
+use Rattle.mm_text.specs.declared.statement.Kind.TheVariants.{Constants, Variables, Distinct, Floating, Essential, Axiom, Provable, Opening, Closing}
+use Rattle.mm_text.specs.Statement.{PlainStatement, HasForm, bytes_in}
+use Rattle.mm_text.specs.Files.{PlainFile, HasTwins, total_bytes}
+use Rattle.mm_text.specs.Blocks as text
+use Rattle.mm_text.specs.Reading.{PlainFault, Reads}
+use Rattle.mm_text.specs.Remaining.{Remaining}
+use Rattle.mm_text.proofs.FormedLaws.{readings_are_balanced, readings_fit, readings_few}
+use Rattle.mm_frame.specs.Sentence.{Sentence, said}
+use Rattle.mm_frame.specs.Active as frame
+use Rattle.mm_check.specs.declared.progress.Progress.{Progress}
+use Rattle.mm_check.specs.Verdict.{CanBeRead, sentences, proofs_of, is_proof}
+use Rattle.mm_check.specs.Judged.{IsUnderWay, TakesNext}
+use Rattle.mm_check.proofs.Numbers.{count_by-append, count_by-one}
+
+-- ## The limit
+
+within_limit : (files : List PlainFile) → CanBeRead files → total_bytes files ≤ 1073741824
+within_limit files readable = elim (cases_lt 1073741824 (total_bytes files)) [
+  | inl more ↦ absurd (readable F3 (readable F1, (λ twins. readable F2 (readable F1, twins)), more))
+  | inr less ↦ less
+]
+
+-- ## Blocks
+
+same_opening : (k : Kind) → frame.is_opening k ≡ text.is_opening k
+same_opening Opening = refl
+same_opening Closing = refl
+same_opening Constants = refl
+same_opening Variables = refl
+same_opening Distinct = refl
+same_opening Floating = refl
+same_opening Essential = refl
+same_opening Axiom = refl
+same_opening Provable = refl
+
+same_closing : (k : Kind) → frame.is_closing k ≡ text.is_closing k
+same_closing Opening = refl
+same_closing Closing = refl
+same_closing Constants = refl
+same_closing Variables = refl
+same_closing Distinct = refl
+same_closing Floating = refl
+same_closing Essential = refl
+same_closing Axiom = refl
+same_closing Provable = refl
+
+-- equal tests count equally
+counted_alike : (p q : Kind → Bool) → ((k : Kind) → p k ≡ q k) → (statements : List PlainStatement)
+    → count_by (λ (s : Sentence). p s.kind) (sentences statements) ≡ count_by (λ (s : PlainStatement). q s.kind) statements
+counted_alike p q same [] = refl
+counted_alike p q same (s ∷ statements) =
+    let rest = counted_alike p q same statements in
+    let one : ℕ = 1 in
+    let first : cond (p s.kind) one 0 ≡ cond (q s.kind) one 0 = ap (λ (b : Bool). cond b one 0) (same s.kind) in
+    omega (arith, first, rest, sum_by-cons (λ (t : Sentence). cond (p t.kind) 1 0) (said s) (sentences statements), sum_by-cons (λ (t : PlainStatement). cond (q t.kind) 1 0) s statements)
+
+take_next : {X : Type 0} (xs : List X) (x : X) (ys : List X) → take (suc (length xs)) (xs ++ x ∷ ys) ≡ xs ++ x ∷ []
+take_next [] x ys = refl
+take_next {X} (z ∷ xs) x ys = ap (λ (zs : List X). z ∷ zs) (take_next xs x ys)
+
+-- a `$}` that is next has a block to close
+pub closes : (files : List PlainFile) (p : Progress) (old new : Remaining) (s : PlainStatement) → IsUnderWay files p old → TakesNext old true s new
+    → s.kind ≡ Closing → frame.closings p.book.statements < frame.openings p.book.statements
+closes files p old new s way taken closing =
+    let earlier : List PlainStatement = way.earlier in
+    let whole : earlier ++ old.statements ≡ earlier ++ s ∷ new.statements = ap (λ (ss : List PlainStatement). earlier ++ ss) taken.0 in
+    let balanced : text.AreBalanced (earlier ++ s ∷ new.statements) =
+    subst text.AreBalanced whole (readings_are_balanced files (earlier ++ old.statements) old.ending way.reads) in
+    let here : text.closings (earlier ++ s ∷ []) ≤ text.openings (earlier ++ s ∷ []) =
+    subst (λ (ss : List PlainStatement). text.closings ss ≤ text.openings ss) (take_next earlier s new.statements) (balanced (suc (length earlier))) in
+    let one : text.closings (s ∷ []) ≡ 1 =
+    count_by-one (λ (t : PlainStatement). text.is_closing t.kind) s ∙ ap (λ (k : Kind). cond (text.is_closing k) 1 0) closing in
+    let none : text.openings (s ∷ []) ≡ 0 =
+    count_by-one (λ (t : PlainStatement). text.is_opening t.kind) s ∙ ap (λ (k : Kind). cond (text.is_opening k) 1 0) closing in
+    let more : text.closings (earlier ++ s ∷ []) ≡ text.closings earlier + text.closings (s ∷ []) =
+    count_by-append (λ (t : PlainStatement). text.is_closing t.kind) earlier (s ∷ []) in
+    let same : text.openings (earlier ++ s ∷ []) ≡ text.openings earlier + text.openings (s ∷ []) =
+    count_by-append (λ (t : PlainStatement). text.is_opening t.kind) earlier (s ∷ []) in
+    let less : text.closings earlier < text.openings earlier = omega (arith, here, one, none, more, same) in
+    let closed : frame.closings (sentences earlier) ≡ text.closings earlier = counted_alike frame.is_closing text.is_closing same_closing earlier in
+    let opened : frame.openings (sentences earlier) ≡ text.openings earlier = counted_alike frame.is_opening text.is_opening same_opening earlier in
+    let plain : frame.closings (sentences earlier) < frame.openings (sentences earlier) = omega (arith, less, closed, opened) in
+    subst (λ (ss : List Sentence). frame.closings ss < frame.openings ss) (sym way.known.book) plain
+
+-- ## Room
+
+-- the next statement's bytes have room
+pub has_room : (files : List PlainFile) (p : Progress) (old new : Remaining) (s : PlainStatement) → IsUnderWay files p old → TakesNext old true s new
+    → p.book.bytes + bytes_in s ≤ 1073741824
+has_room files p old new s way taken =
+    let earlier : List PlainStatement = way.earlier in
+    let whole : earlier ++ old.statements ≡ earlier ++ s ∷ new.statements = ap (λ (ss : List PlainStatement). earlier ++ ss) taken.0 in
+    let fits : sum_by bytes_in (earlier ++ s ∷ new.statements) ≤ total_bytes files =
+    subst (λ (ss : List PlainStatement). sum_by bytes_in ss ≤ total_bytes files) whole (readings_fit files (earlier ++ old.statements) old.ending way.reads) in
+    omega (arith, fits, way.known.bytes, within_limit files way.readable, sum_by-append bytes_in earlier (s ∷ new.statements), sum_by-cons bytes_in s new.statements)
+
+-- the statements so far are few
+few : (files : List PlainFile) (p : Progress) (left : Remaining) (way : IsUnderWay files p left) → length way.earlier ≤ 1073741824
+few files p left way =
+    omega (arith, readings_few files (way.earlier ++ left.statements) left.ending way.reads, length-append way.earlier left.statements, within_limit files way.readable)
+
+pub count_small : (files : List PlainFile) (p : Progress) (left : Remaining) → IsUnderWay files p left → p.count ≤ 1073741824
+count_small files p left way = omega (arith, few files p left way, way.known.count)
+
+pub proofs_small : (files : List PlainFile) (p : Progress) (left : Remaining) → IsUnderWay files p left → p.proofs ≤ 1073741824
+proofs_small files p left way =
+    omega (arith, few files p left way, way.known.proofs, count_by-le-length is_proof way.earlier)

@@ -1,0 +1,149 @@
+-- Statements one by one: those that are meant, and the `$p` whose proofs are incomplete.
+use Rattle.std.proofs.Common.{◌≡◌, ℕ, List, [], ◌∷◌, ◌++◌, map, filter, length, Bool, true, false, not, ◌&&◌, cond, Option, Some, None, refl, sym, ap, subst, ◌∙◌}
+use Rattle.std.specs.List.{flat_map, AllByRecursion}
+use Rattle.std.specs.Option.{option_to_list, option_map}
+use Rattle.mm_text.specs.declared.statement.Kind.{Kind}
+use Rattle.mm_text.specs.declared.statement.Kind.TheVariants.{Constants, Variables, Distinct, Floating, Essential, Axiom, Provable, Opening, Closing}
+use Rattle.mm_text.specs.Token.{PlainToken}
+use Rattle.mm_text.specs.Statement.{PlainStatement, HasForm}
+use Rattle.mm_frame.specs.Sentence.{Sentence, said}
+use Rattle.mm_frame.specs.Rules.{AllMeant, IsMeant}
+use Rattle.mm_check.specs.Verdict.{AllObey, Obeys, sentences, proof_of, label_of, unproved_of, is_provable, is_incomplete, is_proof, is_unproved}
+use Rattle.mm_check.proofs.Known.{provable_label, unproved_of-append}
+
+-- a split of a list's images is that of a split of the list
+pub record MapSplit {X Y : Type 0} (f : X → Y) (xs : List X) (b : List Y) (y : Y) : Type 0 where
+  pub before : List X
+  pub x : X
+  pub after : List X
+  pub whole : xs ≡ before ++ x ∷ after
+  pub front : map f before ≡ b
+  pub image : f x ≡ y
+
+map_split : {X Y : Type 0} (f : X → Y) (xs : List X) (b : List Y) (y : Y) (a : List Y) → map f xs ≡ b ++ y ∷ a → MapSplit f xs b y
+map_split f [] [] y a e = absurd cc
+map_split f [] (z ∷ b) y a e = absurd cc
+map_split f (x ∷ xs) [] y a e = record { before = []; x = x; after = xs; whole = refl; front = refl; image = cc }
+map_split {X} f (x ∷ xs) (z ∷ b) y a e =
+    let rest = map_split f xs b y a cc in
+    let first : f x ≡ z = cc in
+    record {
+      before = x ∷ rest.before;
+      x = rest.x;
+      after = rest.after;
+      whole = ap (λ (ys : List X). x ∷ ys) rest.whole;
+      front = cc (first, rest.front);
+      image = rest.image;
+    }
+
+-- what obeys the rules breaks no rule of meaning
+pub all_meant : (statements : List PlainStatement) → AllObey statements → AllMeant (sentences statements)
+all_meant statements obeyed before after s e =
+    let split = map_split said statements before s after e in
+    subst (λ (t : Sentence). IsMeant before t) split.image
+    (subst (λ (b : List Sentence). IsMeant b (said split.x)) split.front (obeyed split.before split.after split.x split.whole).meant)
+
+-- a kind that is that of a `$p`
+pub provable_kind : (kind : Kind) → is_provable kind ≡ true → kind ≡ Provable
+provable_kind Provable e = refl
+provable_kind Constants e = absurd cc
+provable_kind Variables e = absurd cc
+provable_kind Distinct e = absurd cc
+provable_kind Floating e = absurd cc
+provable_kind Essential e = absurd cc
+provable_kind Axiom e = absurd cc
+provable_kind Opening e = absurd cc
+provable_kind Closing e = absurd cc
+
+first_true : (a b : Bool) → (a && b) ≡ true → a ≡ true
+first_true true b e = refl
+first_true false b e = e
+
+-- a complete proof is that of a `$p`
+pub provable_proof : (kind : Kind) (incomplete : Bool) → (is_provable kind && not incomplete) ≡ true → kind ≡ Provable
+provable_proof kind incomplete e = provable_kind kind (first_true (is_provable kind) (not incomplete) e)
+
+-- a `$p` whose proof isn't incomplete has a complete one
+pub proof_there : (s : PlainStatement) → s.kind ≡ Provable → is_incomplete (proof_of s) ≡ false → is_proof s ≡ true
+proof_there s provable complete = rw (provable, complete) refl
+
+-- ## One more statement
+
+-- a list with one more element, split in two ways
+pub data EndSplit {X : Type 0} (xs : List X) (x : X) (b : List X) (y : X) : Type 0 where
+  within : (after : List X) → xs ≡ b ++ y ∷ after → EndSplit xs x b y
+  last : xs ≡ b → x ≡ y → EndSplit xs x b y
+
+end_split : {X : Type 0} (xs : List X) (x : X) (b : List X) (y : X) (after : List X) → xs ++ x ∷ [] ≡ b ++ y ∷ after → EndSplit xs x b y
+end_split [] x [] y after e = last refl cc
+end_split [] x (z ∷ []) y after e = absurd cc
+end_split [] x (z ∷ w ∷ b) y after e = absurd cc
+end_split (z ∷ xs) x [] y after e = within xs cc
+end_split (z ∷ xs) x (w ∷ b) y after e =
+    let rest : xs ++ x ∷ [] ≡ b ++ y ∷ after = cc in
+    let first : z ≡ w = cc in
+    elim (end_split xs x b y after rest) [
+      | within others h ↦ within others (cc (h, first))
+      | last h k ↦ last (cc (h, first)) k
+    ]
+
+-- one more statement that obeys the rules
+pub one_more : (statements : List PlainStatement) (x : PlainStatement) → AllObey statements → Obeys (sentences statements) x → AllObey (statements ++ x ∷ [])
+one_more statements x obeyed new before after s split = elim (end_split statements x before s after split) [
+  | within others e ↦ obeyed before others s e
+  | last e f ↦ subst (λ (b : List PlainStatement). Obeys (sentences b) s) e (subst (λ (t : PlainStatement). Obeys (sentences statements) t) f new)
+]
+
+-- ## No proof is incomplete
+
+first_formed : (before : List PlainStatement) (s : PlainStatement) (after : List PlainStatement) → AllByRecursion HasForm (before ++ s ∷ after) → HasForm s
+first_formed [] s after all = all.0
+first_formed (t ∷ before) s after all = first_formed before s after all.1
+
+-- a list with a first part has none of it where the whole is empty
+no_part : {X : Type 0} (a b : List X) → a ++ b ≡ [] → (a ≡ []) × (b ≡ [])
+no_part [] [] e = (refl, refl)
+no_part [] (y ∷ b) e = absurd cc
+no_part (x ∷ a) b e = absurd cc
+
+-- where no proof is listed, the proof of each `$p` is complete
+not_listed : (s : PlainStatement) (after : List PlainStatement) → HasForm s → s.kind ≡ Provable → unproved_of (s ∷ after) ≡ []
+    → (b : Bool) → is_incomplete (proof_of s) ≡ b → b ≡ false
+not_listed s after formed provable none false e = refl
+not_listed s after formed provable none true e =
+    let unproved : is_unproved s ≡ true = rw (provable, e) refl in
+    let listed : flat_map label_of (cond true (s ∷ filter is_unproved after) (filter is_unproved after)) ≡ [] =
+    subst (λ (b : Bool). flat_map label_of (cond b (s ∷ filter is_unproved after) (filter is_unproved after)) ≡ []) unproved none in
+    let found = provable_label s.kind s.label formed.label (rw provable refl) in
+    let label : label_of s ≡ found.0.text ∷ [] = ap (λ (o : Option PlainToken). option_to_list (option_map (λ t. t.text) o)) found.1 in
+    let nothing : label_of s ≡ [] = (no_part (label_of s) (flat_map label_of (filter is_unproved after)) listed).0 in
+    absurd cc
+
+pub complete_where_none : (before after : List PlainStatement) (s : PlainStatement) → AllByRecursion HasForm (before ++ s ∷ after)
+    → unproved_of (before ++ s ∷ after) ≡ [] → s.kind ≡ Provable → is_incomplete (proof_of s) ≡ false
+complete_where_none before after s formed none provable =
+    let rest : unproved_of (s ∷ after) ≡ [] =
+    (no_part (unproved_of before) (unproved_of (s ∷ after)) (sym (unproved_of-append before (s ∷ after)) ∙ none)).1 in
+    not_listed s after (first_formed before s after formed) provable rest (is_incomplete (proof_of s)) refl
+
+-- a statement that isn't an incomplete `$p` isn't listed
+not_unproved : (kind : Kind) (incomplete : Bool) → (kind ≡ Provable → incomplete ≡ false) → (is_provable kind && incomplete) ≡ false
+not_unproved Provable incomplete h = h refl
+not_unproved Constants incomplete h = refl
+not_unproved Variables incomplete h = refl
+not_unproved Distinct incomplete h = refl
+not_unproved Floating incomplete h = refl
+not_unproved Essential incomplete h = refl
+not_unproved Axiom incomplete h = refl
+not_unproved Opening incomplete h = refl
+not_unproved Closing incomplete h = refl
+
+pub none_unproved : (statements : List PlainStatement)
+    → ((before after : List PlainStatement) (s : PlainStatement) → statements ≡ before ++ s ∷ after → s.kind ≡ Provable → is_incomplete (proof_of s) ≡ false)
+    → unproved_of statements ≡ []
+none_unproved [] h = refl
+none_unproved (s ∷ statements) h =
+    let here : is_unproved s ≡ false = not_unproved s.kind (is_incomplete (proof_of s)) (λ provable. h [] statements s refl provable) in
+    let rest : unproved_of statements ≡ [] =
+    none_unproved statements (λ before after t e provable. h (s ∷ before) after t (ap (λ (ss : List PlainStatement). s ∷ ss) e) provable) in
+    rw here rest

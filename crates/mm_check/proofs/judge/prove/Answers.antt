@@ -1,0 +1,27 @@
+-- The refusal tells the fault of the proof.
+use Rattle.std.proofs.Common.{rules, ◌≡◌, ◌++◌, ◌∷◌, [], List, Some, Err, inr, map, subst, sym, refl, ap, ◌∙◌}
+use Rattle.mm_text.specs.Statement.{PlainStatement, plain_statement}
+use Rattle.mm_frame.specs.Sentence.{Sentence, said}
+use Rattle.mm_proof.specs.declared.fault.ProofFault.{ProofFault}
+use Rattle.mm_proof.specs.declared.fault.ProofFault.TheVariants.{Rule}
+use Rattle.mm_text.specs.Files.{plain_file}
+use Rattle.mm_check.specs.Verdict.{Refused, proof_rule}
+use Rattle.mm_check.proofs.Judging.{same_refusal}
+use Rattle.mm_check.specs.Judged.{Fails}
+use Rattle.mm_check.proofs.judge.prove.Goals as goal
+
+pub returns-in-Err-Rule-clause-refused : goal.returns-in-Err-Rule-clause-refused
+returns-in-Err-Rule-clause-refused c =
+    let s : PlainStatement = plain_statement c.args.statement.now in
+    let fails : (before : List Sentence) → c.args.progress.now.book.statements ≡ before ++ said s ∷ [] → Fails before s (Rule c.in-Err-Rule.rule c.in-Err-Rule.step) =
+    λ before e. subst (Fails before s) c.in-Err-Rule.field-0-is (c.in-Err-Rule.ensures before e) in
+    let rule : c.from.result ≡ proof_rule c.in-Err-Rule.rule = c.from.ensures ∙ ap proof_rule c.in-Err-Rule.rule-is in
+    let first = fails c.requires.last.before c.requires.last.whole in
+    inr (
+      c.in-Err-Rule.rule,
+      c.in-Err-Rule.step,
+      first.0,
+      λ before e. (fails before e).1,
+      ap (λ r. Some (Refused r)) c.refusal-refusal.ensures
+      ∙ same_refusal (map plain_file c.args.files.now) c.args.progress.now.count s rule c.in-Err-Rule.step-is,
+    )
