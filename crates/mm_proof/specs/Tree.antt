@@ -1,5 +1,5 @@
 -- Proof trees, what they derive and how they are spelled (the Metamath book, section 4.2.6 and 4.3).
-use Rattle.std.specs.Prelude.{◌≡◌, ℕ, List, [], ◌∷◌, ◌++◌, map, take, slice_get, Contains, Option, Some, ◌⊎◌}
+use Rattle.std.specs.Prelude.{◌≡◌, ℕ, suc, List, [], ◌∷◌, ◌++◌, length, map, take, slice_get, Contains, Option, Some, ◌⊎◌}
 use Rattle.mm_frame.specs.Sentence.{Sentence, IsHypothesis, IsAssertion, IsLabelled}
 use Rattle.mm_frame.specs.Active.{SomeActive, IsVariable}
 use Rattle.mm_frame.specs.Frame.{IsMandatory, AreMandatory, IsDistinct, IsMandatoryPair}
@@ -16,12 +16,36 @@ abbrev pub spelling : Trees → List (List ℕ)
 spelling none = []
 spelling (tree label below right) = spelling below ++ label ∷ spelling right
 
+-- trees side by side, and others to their right
+abbrev pub beside : Trees → Trees → Trees
+beside none others = others
+beside (tree label below right) others = tree label below (beside right others)
+
+-- how many stand side by side
+abbrev pub roots : Trees → ℕ
+roots none = 0
+roots (tree label below right) = suc (roots right)
+
 -- The label is that of the assertion at an earlier place, which has these mandatory hypotheses there.
 pub record Names (before : List Sentence) (label : List ℕ) (place : ℕ) (assertion : Sentence) (hypotheses : List Sentence) : Type 0 where
   pub there : slice_get before place ≡ Some assertion
   pub named : IsLabelled label assertion
   pub kind : IsAssertion assertion.kind
   pub mandatory : AreMandatory (take place before) assertion hypotheses
+
+-- The label may stand over these trees: it is that of an active hypothesis, and they are none; or it is that of an earlier
+-- assertion, and they are as many as its mandatory hypotheses.
+abbrev pub MayStandOver : List Sentence → List ℕ → Trees → Type 0
+MayStandOver before label below =
+    ((below ≡ none) × SomeActive before (λ h. IsLabelled label h × IsHypothesis h.kind))
+    ⊎ ((place : ℕ) × (assertion : Sentence) × (hypotheses : List Sentence)
+    × Names before label place assertion hypotheses
+    × (roots below ≡ length hypotheses))
+
+-- the trees fit after the statements before: each label may stand over the trees below it
+abbrev pub Fit : List Sentence → Trees → Type 0
+Fit before none = Unit {0}
+Fit before (tree label below right) = MayStandOver before label below × Fit before below × Fit before right
 
 -- no variable stands in both expressions
 abbrev pub ShareNoVariable : List Sentence → List (List ℕ) → List (List ℕ) → Type 0
