@@ -1,0 +1,6 @@
+pub mod Places
+pub mod Meaning
+pub mod Frames
+pub mod Steps
+pub mod Runs
+pub mod Making
