@@ -4,3 +4,5 @@ pub mod Frames
 pub mod Steps
 pub mod Runs
 pub mod Making
+pub mod Rows
+pub mod Forward
