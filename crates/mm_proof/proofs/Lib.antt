@@ -6,3 +6,4 @@ pub mod Runs
 pub mod Making
 pub mod Rows
 pub mod Forward
+pub mod Fronts
