@@ -7,3 +7,7 @@ pub mod Making
 pub mod Rows
 pub mod Forward
 pub mod Fronts
+pub mod Decisions
+pub mod Searches
+pub mod Replacements
+pub mod Letters

@@ -1,0 +1,159 @@
+-- What can be decided of frames, and of what replaces the members of their pairs.
+use Rattle.std.proofs.Common.{◌≡◌, ◌≢◌, ℕ, zero, suc, ◌+◌, ◌<◌, List, [], ◌∷◌, length, get_or, Contains, Option, Some, None, ◌⊎◌, inl, inr, refl, sym, ap, subst, ◌∙◌, arith}
+use Rattle.std.proofs.lemmas.Option.{same_Some, none-some}
+use Rattle.mm_text.specs.declared.statement.Kind.TheVariants.{Variables, Distinct, Floating, Essential}
+use Rattle.mm_frame.specs.Sentence.{Sentence, SomeSentence, IsLabelled, Declares, Types}
+use Rattle.mm_frame.specs.Active.{IsActive, SomeActive, IsVariable}
+use Rattle.mm_frame.specs.Frame.{IsMandatory, IsMandatoryAt, AreThose, IsDistinct, IsMandatoryPair}
+use Rattle.mm_proof.specs.Tree.{ShareNoVariable, AreDistinct}
+use Rattle.mm_proof.proofs.Decisions.{dec_both, dec_if, dec_as, dec_some, kind_dec, symbol_dec, contains_dec, active_dec}
+
+-- ---- over the elements of a list
+
+pub dec_or : {A B : Type 0} → Dec A → Dec B → Dec (A ⊎ B)
+dec_or (yes a) b = yes (inl a)
+dec_or (no a) (yes b) = yes (inr b)
+dec_or (no a) (no b) = no (λ h. elim h [ inl x ↦ a x | inr y ↦ b y ])
+
+pub dec_not : {A : Type 0} → Dec A → Dec (¬ A)
+dec_not (yes a) = no (λ h. h a)
+dec_not (no a) = yes a
+
+contains_later : (y : List ℕ) (xs : List (List ℕ)) (x : List ℕ) → Contains xs x → Contains (y ∷ xs) x
+contains_later y xs x h = (suc h.0, let less : h.0 < length xs = h.1 in omega arith, h.2)
+
+contains_first : (y : List ℕ) (xs : List (List ℕ)) → Contains (y ∷ xs) y
+contains_first y xs = (0, omega arith, refl)
+
+contains_cases : (y : List ℕ) (xs : List (List ℕ)) (x : List ℕ) → Contains (y ∷ xs) x → (y ≡ x) ⊎ Contains xs x
+contains_cases y xs x h = go h.0 h.1 h.2
+  where
+    go : (k : ℕ) → k < length (y ∷ xs) → get_or (y ∷ xs) k x ≡ x → (y ≡ x) ⊎ Contains xs x
+    go zero less e = inl e
+    go (suc k) less e = inr (k, omega arith, e)
+
+pub dec_member : (P : List ℕ → Type 0) → ((x : List ℕ) → Dec (P x)) → (xs : List (List ℕ)) → Dec ((x : List ℕ) × Contains xs x × P x)
+dec_member P each [] = no (λ h. absurd (let less : h.1.0 < 0 = h.1.1 in omega arith))
+dec_member P each (y ∷ xs) = go (each y) (dec_member P each xs)
+  where
+    other : (x : List ℕ) → (y ≡ x) ⊎ Contains xs x → P x → ¬ (P y) → Contains xs x
+    other x (inl e) p n = absurd (n (subst P (sym e) p))
+    other x (inr c) p n = c
+
+    go : Dec (P y) → Dec ((x : List ℕ) × Contains xs x × P x) → Dec ((x : List ℕ) × Contains (y ∷ xs) x × P x)
+    go (yes p) b = yes (y, contains_first y xs, p)
+    go (no n) (yes b) = yes (b.0, contains_later y xs b.0 b.1, b.2)
+    go (no n) (no b) = no (λ h. b (h.0, other h.0 (contains_cases y xs h.0 h.1) h.2 n, h.2))
+
+pub dec_each : (P : List ℕ → Type 0) → ((x : List ℕ) → Dec (P x)) → (xs : List (List ℕ)) → Dec ((x : List ℕ) → Contains xs x → P x)
+dec_each P each [] = yes (λ x h. absurd (let less : h.0 < 0 = h.1 in omega arith))
+dec_each P each (y ∷ xs) = go (each y) (dec_each P each xs)
+  where
+    of_cases : P y → ((x : List ℕ) → Contains xs x → P x) → (x : List ℕ) → (y ≡ x) ⊎ Contains xs x → P x
+    of_cases p f x (inl e) = subst P e p
+    of_cases p f x (inr c) = f x c
+
+    go : Dec (P y) → Dec ((x : List ℕ) → Contains xs x → P x) → Dec ((x : List ℕ) → Contains (y ∷ xs) x → P x)
+    go (yes p) (yes f) = yes (λ x h. of_cases p f x (contains_cases y xs x h))
+    go (yes p) (no n) = no (λ h. n (λ x c. h x (contains_later y xs x c)))
+    go (no n) b = no (λ h. n (h y (contains_first y xs)))
+
+-- the elements that a property picks
+pub those_of : {X : Type 0} (P : ℕ → X → Type 0) → ((k : ℕ) (x : X) → Dec (P k x)) → (place : ℕ) (xs : List X) → (those : List X) × AreThose P place xs those
+those_of P each place [] = ([], refl)
+those_of P each place (x ∷ xs) = go (each place x) (those_of P each (place + 1) xs)
+  where
+    go : Dec (P place x) → (those : List _) × AreThose P (place + 1) xs those → (those : List _) × AreThose P place (x ∷ xs) those
+    go (yes p) r = (x ∷ r.0, inl (p, r.0, refl, r.1))
+    go (no n) r = (r.0, inr (n, r.1))
+
+-- ---- statements
+
+pub label_dec : (label : List ℕ) (s : Sentence) → Dec (IsLabelled label s)
+label_dec label s = go s.label
+  where
+    go : (o : Option (List ℕ)) → Dec (o ≡ Some label)
+    go None = no (λ e. none-some label e)
+    go (Some l) = dec_as (λ e. ap Some e) (λ e. same_Some l label e) (symbol_dec l label)
+
+pub sentence_dec : (before : List Sentence) (P : Sentence → Type 0) → ((s : Sentence) → Dec (P s)) → Dec (SomeSentence before P)
+sentence_dec before P each = dec_some (λ k s. P s) (λ k s. each s) before
+
+pub some_active_dec : (before : List Sentence) (P : Sentence → Type 0) → ((s : Sentence) → Dec (P s)) → Dec (SomeActive before P)
+some_active_dec before P each = dec_as (λ h. (h.0, h.1, h.2, h.3.0, h.3.1)) (λ h. (h.0, h.1, h.2, (h.3, h.4)))
+    (dec_some (λ k s. IsActive before k × P s) (λ k s. dec_both (active_dec before k) (each s)) before)
+
+pub variable_dec : (before : List Sentence) (x : List ℕ) → Dec (IsVariable before x)
+variable_dec before x = sentence_dec before (Declares Variables x) (λ s. dec_both (kind_dec s.kind Variables) (contains_dec s.symbols x))
+
+pub mandatory_dec : (before : List Sentence) (s : Sentence) (x : List ℕ) → Dec (IsMandatory before s x)
+mandatory_dec before s x = dec_both (variable_dec before x)
+    (dec_or (contains_dec s.symbols x) (some_active_dec before (λ e. (e.kind ≡ Essential) × Contains e.symbols x) (λ e. dec_both (kind_dec e.kind Essential) (contains_dec e.symbols x))))
+
+two_heads : (a b c d : List ℕ) → a ∷ b ∷ [] ≡ c ∷ d ∷ [] → b ≡ d
+two_heads a b c d e = cc
+
+-- a `$f` whose variable is so
+pub typing_so_dec : (h : Sentence) (P : List ℕ → Type 0) → ((x : List ℕ) → Dec (P x)) → Dec ((code : List ℕ) × (x : List ℕ) × Types code x h × P x)
+typing_so_dec h P each = go (kind_dec h.kind Floating) h.symbols refl
+  where
+    go : Dec (h.kind ≡ Floating) → (symbols : List (List ℕ)) → h.symbols ≡ symbols → Dec ((code : List ℕ) × (x : List ℕ) × Types code x h × P x)
+    go (no n) symbols e = no (λ t. n t.2.0)
+    go (yes k) [] e = no (λ t. let p : [] ≡ t.0 ∷ t.1 ∷ [] = sym e ∙ t.2.1 in absurd cc)
+    go (yes k) (a ∷ []) e = no (λ t. let p : a ∷ [] ≡ t.0 ∷ t.1 ∷ [] = sym e ∙ t.2.1 in absurd cc)
+    go (yes k) (a ∷ b ∷ c ∷ more) e = no (λ t. let p : a ∷ b ∷ c ∷ more ≡ t.0 ∷ t.1 ∷ [] = sym e ∙ t.2.1 in absurd cc)
+    go (yes k) (a ∷ b ∷ []) e = elim (each b) [
+      | yes s ↦ yes (a, b, (k, e), s)
+      | no n ↦ no (λ t. n (subst P (sym (two_heads a b t.0 t.1 (sym e ∙ t.2.1))) t.3))
+    ]
+
+pub mandatory_at_dec : (before : List Sentence) (s : Sentence) (place : ℕ) (h : Sentence) → Dec (IsMandatoryAt before s place h)
+mandatory_at_dec before s place h = dec_both (active_dec before place)
+    (dec_or (kind_dec h.kind Essential) (typing_so_dec h (IsMandatory before s) (mandatory_dec before s)))
+
+-- ---- pairs
+
+pub distinct_dec : (before : List Sentence) (x y : List ℕ) → Dec (IsDistinct before x y)
+distinct_dec before x y = dec_both (dec_not (symbol_dec x y))
+    (some_active_dec before (λ d. (d.kind ≡ Distinct) × Contains d.symbols x × Contains d.symbols y)
+    (λ d. dec_as (λ c. (c.0, c.1.0, c.1.1)) (λ c. (c.0, (c.1, c.2))) (dec_both (kind_dec d.kind Distinct) (dec_both (contains_dec d.symbols x) (contains_dec d.symbols y)))))
+
+pub share_dec : (before : List Sentence) (e f : List (List ℕ)) → Dec (ShareNoVariable before e f)
+share_dec before e f = dec_as (λ h u v c d. h u c v d) (λ h u c v d. h u v c d)
+    (dec_each (λ u. IsVariable before u → ¬ (Contains f u)) (λ u. dec_if (variable_dec before u) (dec_not (contains_dec f u))) e)
+
+pub apart_dec : (before : List Sentence) (e f : List (List ℕ)) → Dec (AreDistinct before e f)
+apart_dec before e f = dec_as (λ h u v p q c d. h u c p v d q) (λ h u c p v d q. h u v p q c d)
+    (dec_each (λ u. IsVariable before u → (v : List ℕ) → Contains f v → IsVariable before v → IsDistinct before u v)
+    (λ u. dec_if (variable_dec before u)
+    (dec_each (λ v. IsVariable before v → IsDistinct before u v) (λ v. dec_if (variable_dec before v) (distinct_dec before u v)) f)) e)
+
+-- what replaces two symbols is so
+abbrev pub BothReplaced : (List ℕ → Option (List (List ℕ))) → (List (List ℕ) → List (List ℕ) → Type 0) → List ℕ → List ℕ → Type 0
+BothReplaced σ P x y = (e : List (List ℕ)) × (f : List (List ℕ)) × (σ x ≡ Some e) × (σ y ≡ Some f) × P e f
+
+both_replaced_dec : (σ : List ℕ → Option (List (List ℕ))) (P : List (List ℕ) → List (List ℕ) → Type 0) → ((e f : List (List ℕ)) → Dec (P e f)) → (x y : List ℕ) → Dec (BothReplaced σ P x y)
+both_replaced_dec σ P each x y = go (σ x) (σ y) refl refl
+  where
+    go : (a b : Option (List (List ℕ))) → σ x ≡ a → σ y ≡ b → Dec (BothReplaced σ P x y)
+    go None b p q = no (λ h. none-some h.0 (sym p ∙ h.2))
+    go (Some a) None p q = no (λ h. none-some h.1 (sym q ∙ h.3))
+    go (Some a) (Some b) p q = elim (each a b) [
+      | yes h ↦ yes (a, b, p, q, h)
+      | no n ↦ no (λ h. n (subst (λ f. P a f) (same_Some h.1 b (sym h.3 ∙ q)) (subst (λ e. P e h.1) (same_Some h.0 a (sym h.2 ∙ p)) h.4)))
+    ]
+
+-- some mandatory pair of the assertion is replaced so
+pub some_pair_dec : (before : List Sentence) (s : Sentence) (σ : List ℕ → Option (List (List ℕ))) (P : List (List ℕ) → List (List ℕ) → Type 0)
+    → ((e f : List (List ℕ)) → Dec (P e f)) → Dec ((x : List ℕ) × (y : List ℕ) × IsMandatoryPair before s x y × BothReplaced σ P x y)
+some_pair_dec before s σ P each = dec_as
+    (λ h. (h.3.1.0, h.3.1.2.0, (((h.3.1.2.2.0, (h.0, h.1, h.2, h.3.0.0, (h.3.0.1, h.3.1.1, h.3.1.2.1))), h.3.1.2.2.1, h.3.1.2.2.2)), h.3.1.2.2.3))
+    (λ h. (h.2.0.1.0, h.2.0.1.1, h.2.0.1.2, ((h.2.0.1.3, h.2.0.1.4.0), (h.0, h.2.0.1.4.1, (h.1, h.2.0.1.4.2, (h.2.0.0, h.2.1, h.2.2, h.3))))))
+    (dec_some (λ place (d : Sentence). (IsActive before place × (d.kind ≡ Distinct)) × ((x : List ℕ) × Contains d.symbols x × ((y : List ℕ) × Contains d.symbols y
+    × ((x ≢ y) × IsMandatory before s x × IsMandatory before s y × BothReplaced σ P x y))))
+    (λ place d. dec_both (dec_both (active_dec before place) (kind_dec d.kind Distinct))
+    (dec_member (λ x. (y : List ℕ) × Contains d.symbols y × ((x ≢ y) × IsMandatory before s x × IsMandatory before s y × BothReplaced σ P x y))
+    (λ x. dec_member (λ y. (x ≢ y) × IsMandatory before s x × IsMandatory before s y × BothReplaced σ P x y)
+    (λ y. dec_as (λ c. (c.0.0, c.0.1, c.1.0, c.1.1)) (λ c. ((c.0, c.1), (c.2, c.3)))
+    (dec_both (dec_both (dec_not (symbol_dec x y)) (mandatory_dec before s x)) (dec_both (mandatory_dec before s y) (both_replaced_dec σ P each x y))))
+    d.symbols) d.symbols)) before)
