@@ -11,3 +11,4 @@ pub mod Decisions
 pub mod Searches
 pub mod Replacements
 pub mod Letters
+pub mod Readings
