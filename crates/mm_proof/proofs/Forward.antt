@@ -12,7 +12,7 @@ use Rattle.mm_proof.specs.Proof.{Prove, Passed}
 use Rattle.mm_proof.proofs.Places.{get_beside}
 use Rattle.mm_proof.proofs.Meaning.{meant_front, code_is_constant}
 use Rattle.mm_proof.proofs.Frames.{those_hold}
-use Rattle.mm_proof.proofs.Steps.{Applies, StepTo}
+use Rattle.mm_proof.proofs.OneStep.{Applies, StepTo}
 use Rattle.mm_proof.proofs.Runs.{typing_entry, absent}
 use Rattle.mm_proof.proofs.Making.{beside-none, makes_more, roots_derive}
 use Rattle.mm_proof.proofs.Rows.{zip_push, zip_right, derive_beside, derive_halves, single_derives}

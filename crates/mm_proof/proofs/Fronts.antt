@@ -11,7 +11,7 @@ use Rattle.mm_proof.specs.Substitution.{substituted}
 use Rattle.mm_proof.specs.Tree.{Trees, none, tree, beside, DeriveAll}
 use Rattle.mm_proof.specs.Moves.{Move, name, again, mark, MakesOne, Makes}
 use Rattle.mm_proof.specs.Proof.{BreaksMove, FirstAtMove, Passed}
-use Rattle.mm_proof.proofs.Steps.{StepTo, step_breaks_none}
+use Rattle.mm_proof.proofs.OneStep.{StepTo, step_breaks_none}
 use Rattle.mm_proof.proofs.Runs.{tree_step, derived_once}
 use Rattle.mm_proof.proofs.Making.{makes_split, makes_once}
 use Rattle.mm_proof.proofs.Rows.{zip_left, zip_front, zip_once, derive_beside, derive_apart}

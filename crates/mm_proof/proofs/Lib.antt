@@ -1,7 +1,7 @@
 pub mod Places
 pub mod Meaning
 pub mod Frames
-pub mod Steps
+pub mod OneStep
 pub mod Runs
 pub mod Making
 pub mod Rows

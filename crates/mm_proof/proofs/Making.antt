@@ -8,7 +8,7 @@ use Rattle.mm_proof.specs.Substitution.{substituted}
 use Rattle.mm_proof.specs.Tree.{Trees, none, tree, spelling, beside, roots, MayStandOver, Fit, DeriveAll}
 use Rattle.mm_proof.specs.Moves.{Move, name, again, mark, MakesOne, Makes}
 use Rattle.mm_proof.proofs.Meaning.{one_label, one_labelled}
-use Rattle.mm_proof.proofs.Steps.{hypothesis_or_assertion, one_frame}
+use Rattle.mm_proof.proofs.OneStep.{hypothesis_or_assertion, one_frame}
 
 -- ---- rows of trees
 

@@ -1,7 +1,7 @@
 -- Tokens say one row of moves; and where they break no rule over the whole proof, they say one, of labels that may be used.
 use Rattle.std.proofs.Common.{◌≡◌, ◌≢◌, ℕ, zero, suc, ◌+◌, ◌-◌, ◌<◌, ◌≤◌, List, [], ◌∷◌, ◌++◌, length, take, drop, map, slice_get, get_or, Contains, Option, Some, None, ◌⊎◌, inl, inr, ⊎_elim, refl, sym, ap, subst, ◌∙◌, arith}
 use Rattle.std.specs.List.{flat_map, AllZip, AllByRecursion}
-use Rattle.std.proofs.lemmas.Option.{same_Some, none-some, slice_get-map, slice_get_within}
+use Rattle.std.proofs.lemmas.Option.{same_Some, none-some, slice_get-map, slice_get_within, slice_get-get_or, get_or_from_slice_get}
 use Rattle.std.proofs.lemmas.Bool.{cases_lt}
 use Rattle.mm_text.specs.declared.statement.Kind.{Kind}
 use Rattle.mm_text.specs.declared.statement.Kind.TheVariants.{Floating, Essential, Axiom, Provable}
@@ -230,3 +230,135 @@ mandatory_active before s hypotheses i h are there =
     let t = those_hold (IsMandatoryAt before s) 0 before hypotheses i h are there in
     let at : 0 + t.0 ≡ t.0 = omega arith in
     (t.0, t.1, subst (IsActive before) at t.2.0, ⊎_elim (λ e. inr e) (λ f. inl f.2.0) t.2.1)
+
+-- a number from 1 on says a move
+number_says : (labels : List (List ℕ)) (number : ℕ) → 1 ≤ number → (move : Move (List ℕ)) × Says labels (Number number) move
+number_says labels number from_one = elim (cases_lt (number - 1) (length labels)) [
+  | inl less ↦
+      let label : List ℕ = get_or labels (number - 1) [] in
+      (name label, (number - 1, omega arith, inl (label, slice_get-get_or labels (number - 1) [] less, refl)))
+  | inr more ↦ (again (number - 1 - length labels), (number - 1, omega arith, inr (number - 1 - length labels, omega arith, refl)))
+]
+
+code_says : (labels : List (List ℕ)) (c : Code) → HasSpelling c → (move : Move (List ℕ)) × Says labels c move
+code_says labels (Number number) h = number_says labels number h
+code_says labels Tag h = (mark, refl)
+
+codes_say : (labels : List (List ℕ)) (codes : List Code) → AllByRecursion HasSpelling codes → (moves : List (Move (List ℕ))) × AllZip (Says labels) codes moves
+codes_say labels [] h = ([], tt)
+codes_say labels (c ∷ codes) h =
+    let m = code_says labels c h.0 in
+    let others = codes_say labels codes h.1 in
+    (m.0 ∷ others.0, (m.1, others.1))
+
+abbrev broken_rule : CodeRule → ProofRule
+broken_rule code.P4 = P4
+broken_rule code.P5 = P5
+
+letters_break : (before : List Sentence) (tokens : List (List ℕ)) (text : List ℕ) (rule : CodeRule) → AreLetters tokens text → Breaks rule text → BreaksWhole (broken_rule rule) before tokens
+letters_break before tokens text code.P4 are broken = (text, are, broken)
+letters_break before tokens text code.P5 are broken = (text, are, broken)
+
+pub some_moves : (before : List Sentence) (s : Sentence) (tokens : List (List ℕ)) → AllFormed before → IsWhole before tokens → (moves : List (Move (List ℕ))) × SayMoves before s tokens moves
+some_moves before s tokens formed whole = go (form_of before tokens)
+  where
+    of_codes : (labels letters : List (List ℕ)) → IsCompressed tokens labels letters → (codes : List Code) → Letters (flat_map (λ piece. piece) letters) codes
+        → (moves : List (Move (List ℕ))) × SayMoves before s tokens moves
+    of_codes labels letters c codes coded =
+        let frame : (hypotheses : List Sentence) × AreMandatory before s hypotheses = those_of (IsMandatoryAt before s) (mandatory_at_dec before s) 0 before in
+        let named = labels_of before s frame.0 formed (λ i h e. let a = mandatory_active before s frame.0 i h frame.1 e in (a.0, a.1, a.3)) in
+        let said = codes_say (named.0 ++ labels) codes (from_one (flat_map (λ piece. piece) letters) codes coded) in
+        (said.0, inr (record {
+          listed = labels;
+          letters = letters;
+          parts = c;
+          codes = codes;
+          coded = coded;
+          hypotheses = frame.0;
+          mandatory = frame.1;
+          labels = named.0;
+          labelled = named.1;
+          each = said.1;
+        }))
+
+    go : Form before tokens → (moves : List (Move (List ℕ))) × SayMoves before s tokens moves
+    go (normal n) = (map name tokens, inl (n, refl))
+    go (compressed labels letters c) = ⊎_elim
+        (λ coded. of_codes labels letters c coded.0 coded.1)
+        (λ broken. absurd (whole (broken_rule broken.0) (letters_break before tokens (flat_map (λ piece. piece) letters) broken.0 (labels, letters, c, refl) broken.1)))
+        (coded_or_broken (flat_map (λ piece. piece) letters))
+    go (endless b) = absurd (whole P1 b)
+
+-- ---- and their labels may be used
+
+-- what has a label is a hypothesis or an assertion
+labelled_kind : (k : Kind) (o : Option (List ℕ)) (label : List ℕ) → IsNamed k o → o ≡ Some label → IsHypothesis k ⊎ IsAssertion k
+labelled_kind Floating o label n e = inl (inl refl)
+labelled_kind Essential o label n e = inl (inr refl)
+labelled_kind Axiom o label n e = inr (inl refl)
+labelled_kind Provable o label n e = inr (inr refl)
+labelled_kind k o label n e = absurd (none-some label (sym n ∙ e))
+
+-- a label that breaks neither P2 nor P3
+pub label_usable : (before : List Sentence) (tokens labels : List (List ℕ)) (label : List ℕ) → AllFormed before → IsWhole before tokens → AreLabels tokens labels → Contains labels label
+    → IsUsable before label
+label_usable before tokens labels label formed whole are used = go (sentence_dec before (IsLabelled label) (label_dec label))
+  where
+    of_hypothesis : (place : ℕ) (h : Sentence) → slice_get before place ≡ Some h → IsLabelled label h → IsHypothesis h.kind → Dec (IsActive before place) → IsUsable before label
+    of_hypothesis place h there named kind (yes active) = inl (place, h, there, active, (named, kind))
+    of_hypothesis place h there named kind (no closed) = absurd (whole P3 (labels, are, label, used, place, h, there, named, kind, closed))
+
+    go : Dec (SomeSentence before (IsLabelled label)) → IsUsable before label
+    go (no n) = absurd (whole P2 (labels, are, label, used, n))
+    go (yes t) = ⊎_elim (λ h. of_hypothesis t.0 t.1 t.2 t.3 h (active_dec before t.0)) (λ a. inr (t.0, t.1, t.2, (t.3, a)))
+        (labelled_kind t.1.kind t.1.label label (formed t.0 t.1 t.2).label t.3)
+
+usable_names : (before : List Sentence) (labels : List (List ℕ)) → ((label : List ℕ) → Contains labels label → IsUsable before label) → AllByRecursion (IsUsableMove before) (map name labels)
+usable_names before [] each = tt
+usable_names before (label ∷ labels) each =
+    (each label (contains_first label labels), usable_names before labels (λ l c. each l (contains_later label labels l c)))
+
+usable_codes : (before : List Sentence) (labels : List (List ℕ)) (codes : List Code) (moves : List (Move (List ℕ))) → ((i : ℕ) (label : List ℕ) → slice_get labels i ≡ Some label → IsUsable before label)
+    → AllZip (Says labels) codes moves → AllByRecursion (IsUsableMove before) moves
+usable_codes before labels [] [] each z = tt
+usable_codes before labels [] (m ∷ moves) each z = absurd z
+usable_codes before labels (c ∷ codes) [] each z = absurd z
+usable_codes before labels (c ∷ codes) (m ∷ moves) each z = (one c m z.0, usable_codes before labels codes moves each z.1)
+  where
+    one : (c : Code) (m : Move (List ℕ)) → Says labels c m → IsUsableMove before m
+    one Tag m says = subst (IsUsableMove before) (sym says) tt
+    one (Number number) m says = ⊎_elim
+        (λ l. subst (IsUsableMove before) (sym l.2) (each says.0 l.0 l.1))
+        (λ t. subst (IsUsableMove before) (sym t.2) tt) says.2
+
+contained : (xs : List (List ℕ)) (i : ℕ) (x : List ℕ) → slice_get xs i ≡ Some x → Contains xs x
+contained xs i x e = (i, slice_get_within xs i x e, get_or_from_slice_get xs i x x e)
+
+-- the labels of the mandatory hypotheses, and then those of the list
+either_label : (a b : List (List ℕ)) (i : ℕ) (x : List ℕ) → slice_get (a ++ b) i ≡ Some x → ((j : ℕ) × (slice_get a j ≡ Some x)) ⊎ ((j : ℕ) × (slice_get b j ≡ Some x))
+either_label [] b i x e = inr (i, e)
+either_label (y ∷ a) b zero x e = inl (0, e)
+either_label (y ∷ a) b (suc i) x e = ⊎_elim (λ h. inl (suc h.0, h.1)) (λ h. inr h) (either_label a b i x e)
+
+labelled_at : (hypotheses : List Sentence) (labels : List (List ℕ)) (i : ℕ) (label : List ℕ) → map (λ (h : Sentence). h.label) hypotheses ≡ map Some labels → slice_get labels i ≡ Some label
+    → (h : Sentence) × (slice_get hypotheses i ≡ Some h) × IsLabelled label h
+labelled_at hypotheses labels i label e there = go (slice_get hypotheses i) refl
+  where
+    at : slice_get (map (λ (h : Sentence). h.label) hypotheses) i ≡ Some (Some label)
+    at = ap (λ l. slice_get l i) e ∙ slice_get-map Some labels i ∙ rw there refl
+
+    go : (o : Option Sentence) → slice_get hypotheses i ≡ o → (h : Sentence) × (slice_get hypotheses i ≡ Some h) × IsLabelled label h
+    go None n = absurd (none-some (Some label) (sym (slice_get-map (λ (h : Sentence). h.label) hypotheses i ∙ rw n refl) ∙ at))
+    go (Some h) n = (h, n, same_Some h.label (Some label) (sym (slice_get-map (λ (h : Sentence). h.label) hypotheses i ∙ rw n refl) ∙ at))
+
+pub moves_usable : (before : List Sentence) (s : Sentence) (tokens : List (List ℕ)) (moves : List (Move (List ℕ))) → AllFormed before → IsWhole before tokens → SayMoves before s tokens moves
+    → AllByRecursion (IsUsableMove before) moves
+moves_usable before s tokens moves formed whole (inl p) =
+    subst (AllByRecursion (IsUsableMove before)) (sym p.1) (usable_names before tokens (λ label used. label_usable before tokens tokens label formed whole (inl (p.0, refl)) used))
+moves_usable before s tokens moves formed whole (inr p) =
+    usable_codes before (p.labels ++ p.listed) p.codes moves (λ i label e. ⊎_elim
+    (λ h. let t = labelled_at p.hypotheses p.labels h.0 label p.labelled h.1 in
+    let a = mandatory_active before s p.hypotheses h.0 t.0 p.mandatory t.1 in
+    inl (a.0, t.0, a.1, a.2, (t.2, a.3)))
+    (λ h. label_usable before tokens p.listed label formed whole (inr (p.letters, p.parts)) (contained p.listed h.0 label h.1))
+    (either_label p.labels p.listed i label e)) p.each
