@@ -15,7 +15,7 @@ use Rattle.mm_proof.proofs.Frames.{those_hold}
 use Rattle.mm_proof.proofs.OneStep.{Applies, StepTo}
 use Rattle.mm_proof.proofs.Runs.{typing_entry, absent}
 use Rattle.mm_proof.proofs.Making.{beside-none, makes_more, roots_derive}
-use Rattle.mm_proof.proofs.Rows.{zip_push, zip_right, derive_beside, derive_halves, single_derives}
+use Rattle.mm_proof.proofs.Derived.{zip_push, zip_right, derive_beside, derive_halves, single_derives}
 
 -- ---- the entries are the substituted hypotheses
 

@@ -14,7 +14,7 @@ use Rattle.mm_proof.specs.Proof.{BreaksMove, FirstAtMove, Passed}
 use Rattle.mm_proof.proofs.OneStep.{StepTo, step_breaks_none}
 use Rattle.mm_proof.proofs.Runs.{tree_step, derived_once}
 use Rattle.mm_proof.proofs.Making.{makes_split, makes_once}
-use Rattle.mm_proof.proofs.Rows.{zip_left, zip_front, zip_once, derive_beside, derive_apart}
+use Rattle.mm_proof.proofs.Derived.{zip_left, zip_front, zip_once, derive_beside, derive_apart}
 
 -- trees that keep expressions derive them
 abbrev pub KeepAll : (List (List ℕ) → Type 0) → List Sentence → List Trees → List (List (List ℕ)) → Type 0

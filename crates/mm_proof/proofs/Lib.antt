@@ -4,7 +4,7 @@ pub mod Frames
 pub mod OneStep
 pub mod Runs
 pub mod Making
-pub mod Rows
+pub mod Derived
 pub mod Forward
 pub mod Fronts
 pub mod Decisions

@@ -22,7 +22,7 @@ use Rattle.mm_proof.specs.Tokens.{opening_token, closing_token, IsNormal, IsComp
 use Rattle.mm_proof.specs.Steps.{IsUsable, IsUsableMove}
 use Rattle.mm_proof.specs.Proof.{BreaksWhole, IsWhole}
 use Rattle.mm_proof.proofs.Frames.{those_once, those_hold}
-use Rattle.mm_proof.proofs.Rows.{zip_once}
+use Rattle.mm_proof.proofs.Derived.{zip_once}
 use Rattle.mm_proof.proofs.Decisions.{dec_both, dec_as, dec_some, kind_dec, symbol_dec, contains_dec, active_dec}
 use Rattle.mm_proof.proofs.Searches.{dec_or, dec_not, dec_member, label_dec, sentence_dec, mandatory_at_dec, those_of}
 use Rattle.mm_proof.proofs.Letters.{coded_not_broken, coded_or_broken, breaks_dec, from_one}
