@@ -10,11 +10,11 @@ use Rattle.mm_proof.specs.declared.fault.ProofRule.TheVariants.{L1}
 use Rattle.mm_proof.specs.Substitution.{substituted}
 use Rattle.mm_proof.specs.Tree.{Trees, none, tree, beside, DeriveAll}
 use Rattle.mm_proof.specs.Moves.{Move, name, again, mark, MakesOne, Makes}
-use Rattle.mm_proof.specs.Proof.{BreaksMove, FirstAtMove, Passed}
+use Rattle.mm_proof.specs.Proof.{Prove, BreaksMove, FirstAtMove, Passed}
 use Rattle.mm_proof.proofs.OneStep.{StepTo, step_breaks_none}
 use Rattle.mm_proof.proofs.Runs.{tree_step, derived_once}
 use Rattle.mm_proof.proofs.Making.{makes_split, makes_once}
-use Rattle.mm_proof.proofs.Derived.{zip_left, zip_front, zip_once, derive_beside, derive_apart}
+use Rattle.mm_proof.proofs.Derived.{zip_push, zip_left, zip_front, zip_once, derive_beside, derive_apart, derive_single}
 
 -- trees that keep expressions derive them
 abbrev pub KeepAll : (List (List ℕ) → Type 0) → List Sentence → List Trees → List (List (List ℕ)) → Type 0
@@ -178,3 +178,63 @@ went_well Fits Gits rule before stack kept (again tag) all weaker w b =
     absurd (omega arith)
 went_well Fits Gits rule before stack kept mark all weaker w b =
     nothing_left Fits before w.made.0 w.made.1 w.made.2 (subst (λ x. DeriveAll Fits before x []) w.made.3 (subst (DeriveAll Fits before w.row) b.1 w.derived))
+
+-- ---- what is kept derives
+
+-- the row before a move derives what stood on the stack
+row_back : (Fits : List (List ℕ) → Type 0) (before : List Sentence) (move : Move (List ℕ)) (a b : Trees) (k l : List Trees) (es : List (List (List ℕ))) → AllMeant before
+    → MakesOne before move a k b l → DeriveAll Fits before b es → (ds : List (List (List ℕ))) × DeriveAll Fits before a ds
+row_back Fits before (name label) a b k l es all m d =
+    let t = step_of_tree Fits before m.0 label m.1 es all (subst (λ x. DeriveAll Fits before x es) m.4 d) in
+    (t.stack, subst (λ x. DeriveAll Fits before x t.stack) (sym m.2) t.derived)
+row_back Fits before (again tag) a b k l es all m d =
+    let parts = derive_apart Fits before a m.0 es (subst (λ x. DeriveAll Fits before x es) m.2 d) in (parts.0, parts.3)
+row_back Fits before mark a b k l es all m d = (es, subst (λ x. DeriveAll Fits before x es) m.4 d)
+
+rows_back : (Fits : List (List ℕ) → Type 0) (before : List Sentence) (moves : List (Move (List ℕ))) (a b : Trees) (k l : List Trees) (es : List (List (List ℕ))) → AllMeant before
+    → Makes before moves a k b l → DeriveAll Fits before b es → (ds : List (List (List ℕ))) × DeriveAll Fits before a ds
+rows_back Fits before [] a b k l es all m d = (es, subst (λ x. DeriveAll Fits before x es) m.0 d)
+rows_back Fits before (move ∷ moves) a b k l es all m d =
+    let next = rows_back Fits before moves m.0 b m.1 l es all m.3 d in
+    row_back Fits before move a m.0 k m.1 next.0 all m.2 next.1
+
+-- what a move keeps derives, if the row after it does
+kept_next : (Fits : List (List ℕ) → Type 0) (before : List Sentence) (move : Move (List ℕ)) (a b : Trees) (k l : List Trees) (es ks : List (List (List ℕ)))
+    → MakesOne before move a k b l → DeriveAll Fits before b es → KeepAll Fits before k ks → (ls : List (List (List ℕ))) × KeepAll Fits before l ls
+kept_next Fits before (name label) a b k l es ks m d h = (ks, subst (λ x. KeepAll Fits before x ks) (sym m.5) h)
+kept_next Fits before (again tag) a b k l es ks m d h = (ks, subst (λ x. KeepAll Fits before x ks) (sym m.3) h)
+kept_next Fits before mark a b k l es ks m d h =
+    let parts = derive_apart Fits before m.0 (tree m.1 m.2 none) es (subst (λ x. DeriveAll Fits before x es) (m.4 ∙ m.3) d) in
+    let one = derive_single Fits before m.1 m.2 parts.1 parts.4 in (
+      ks ++ one.0 ∷ [],
+      subst (λ x. KeepAll Fits before x (ks ++ one.0 ∷ [])) (sym m.5)
+          (zip_push (λ t e. DeriveAll Fits before t (e ∷ [])) k ks (tree m.1 m.2 none) one.0 h one.2),
+    )
+
+kept_on : (Fits : List (List ℕ) → Type 0) (before : List Sentence) (moves : List (Move (List ℕ))) (a b : Trees) (k l : List Trees) (es ks : List (List (List ℕ))) → AllMeant before
+    → Makes before moves a k b l → DeriveAll Fits before b es → KeepAll Fits before k ks → (ls : List (List (List ℕ))) × KeepAll Fits before l ls
+kept_on Fits before [] a b k l es ks all m d h = (ks, subst (λ x. KeepAll Fits before x ks) (sym m.1) h)
+kept_on Fits before (move ∷ moves) a b k l es ks all m d h =
+    let row = rows_back Fits before moves m.0 b m.1 l es all m.3 d in
+    let next = kept_next Fits before move a m.0 k m.1 row.0 ks m.2 row.1 h in
+    kept_on Fits before moves m.0 b m.1 l es next.0 all m.3 d next.1
+
+-- moves whose row derives have passed
+pub made_passed : (Fits : List (List ℕ) → Type 0) (before : List Sentence) (moves : List (Move (List ℕ))) (row : Trees) (shelf : List Trees) (es : List (List (List ℕ))) → AllMeant before
+    → Makes before moves none [] row shelf → DeriveAll Fits before row es → (kept : List (List (List ℕ))) × Passed Fits before moves es kept
+made_passed Fits before moves row shelf es all made derived =
+    let k = kept_on Fits before moves none row [] shelf es [] all made derived tt in
+    (k.0, record { trees = row; shelf = shelf; made = made; derived = derived; kept_derived = k.1 })
+
+pub proof_passed : (Fits : List (List ℕ) → Type 0) (before : List Sentence) (s : Sentence) (moves : List (Move (List ℕ))) → AllMeant before → Prove Fits before s moves
+    → (kept : List (List (List ℕ))) × Passed Fits before moves (s.symbols ∷ []) kept
+proof_passed Fits before s moves all p = made_passed Fits before moves (tree p.label p.below none) p.kept (s.symbols ∷ []) all p.made p.derived
+
+-- no move of moves that passed breaks a rule
+pub no_fault_within : (Fits : List (List ℕ) → Type 0) (before : List Sentence) (earlier : List (Move (List ℕ))) (move : Move (List ℕ)) (later : List (Move (List ℕ)))
+    (stack kept last end : List (List (List ℕ))) (rule : ProofRule) → AllMeant before
+    → Passed Fits before (earlier ++ move ∷ later) last end → Passed Fits before earlier stack kept → FirstAtMove Fits rule before stack kept move → ⊥
+no_fault_within Fits before earlier move later stack kept last end rule all whole passed fault =
+    went_well Fits Fits rule before stack kept move all (λ e limit fits. fits)
+    (went_on Fits Fits before earlier move later whole.trees whole.shelf stack kept all whole.made
+    (record { stack = last; kept = end; derived = whole.derived; kept_derived = whole.kept_derived }) passed) fault.broken

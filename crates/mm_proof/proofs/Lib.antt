@@ -12,3 +12,4 @@ pub mod Searches
 pub mod Replacements
 pub mod Letters
 pub mod Readings
+pub mod Verdicts

@@ -1,0 +1,180 @@
+-- The verdict on a proof is one: it is proved, or it has one first fault.
+use Rattle.std.proofs.Common.{◌≡◌, ◌≢◌, ℕ, ◌+◌, ◌<◌, List, [], ◌∷◌, ◌++◌, length, slice_get, Some, ◌⊎◌, inl, inr, ⊎_elim, refl, sym, ap, subst, ◌∙◌}
+use Rattle.std.proofs.lemmas.Option.{same_Some}
+use Rattle.std.proofs.lemmas.Bool.{cases_order}
+use Rattle.mm_frame.specs.Sentence.{Sentence}
+use Rattle.mm_frame.specs.Rules.{AllMeant}
+use Rattle.mm_proof.specs.declared.fault.ProofRule.{ProofRule}
+use Rattle.mm_proof.specs.declared.fault.ProofRule.TheVariants.{P1, P2, P3, P4, P5, P6, P7, P8, P9, P10, P11, P12, P13, P14, L1}
+use Rattle.mm_proof.specs.Tree.{AnyExpression}
+use Rattle.mm_proof.specs.Moves.{Move, steps_in}
+use Rattle.mm_proof.specs.Tokens.{SayMoves}
+use Rattle.mm_proof.specs.Proof.{IsWithin, rank, BreaksWhole, IsWhole, Prove, IsProvedWithin, BreaksMove, FirstAtMove, Passed, IsMoveFault, BreaksEnd, IsEndFault, IsMovesFault, IsFault}
+use Rattle.mm_proof.specs.Laws.{OneTree, OneFit, OneVerdict}
+use Rattle.mm_proof.proofs.Runs.{derived_once}
+use Rattle.mm_proof.proofs.Making.{one_fit_holds, one_row}
+use Rattle.mm_proof.proofs.Fronts.{passed_once, proof_passed, no_fault_within}
+use Rattle.mm_proof.proofs.Readings.{moves_once}
+
+-- ---- the first of the rules is one
+
+abbrev pub ranked : List ProofRule
+ranked = P1 ∷ P1 ∷ P2 ∷ P3 ∷ P4 ∷ P5 ∷ P6 ∷ P7 ∷ P8 ∷ P9 ∷ P10 ∷ P11 ∷ P12 ∷ L1 ∷ P13 ∷ P14 ∷ []
+
+pub at_rank : (rule : ProofRule) → slice_get ranked (rank rule) ≡ Some rule
+at_rank P1 = refl
+at_rank P2 = refl
+at_rank P3 = refl
+at_rank P4 = refl
+at_rank P5 = refl
+at_rank P6 = refl
+at_rank P7 = refl
+at_rank P8 = refl
+at_rank P9 = refl
+at_rank P10 = refl
+at_rank P11 = refl
+at_rank P12 = refl
+at_rank P13 = refl
+at_rank P14 = refl
+at_rank L1 = refl
+
+-- two rules that are the first broken are one
+first_once : (Broken : ProofRule → Type 0) (r q : ProofRule) → Broken r → Broken q → ((other : ProofRule) → rank other < rank r → ¬ (Broken other))
+    → ((other : ProofRule) → rank other < rank q → ¬ (Broken other)) → r ≡ q
+first_once Broken r q br bq fr fq = elim (cases_order (rank r) (rank q)) [
+  | inl same ↦ same_Some r q (sym (at_rank r) ∙ ap (slice_get ranked) same ∙ at_rank q)
+  | inr (inl less) ↦ absurd (fq r less br)
+  | inr (inr more) ↦ absurd (fr q more bq)
+]
+
+-- ---- two splits of one list, by which is longer
+
+abbrev OneOfSplits : {X : Type 0} → List X → X → List X → X → Type 0
+OneOfSplits {X} a x b y = ((a ≡ b) × (x ≡ y)) ⊎ ((more : List X) × (b ≡ a ++ x ∷ more)) ⊎ ((more : List X) × (a ≡ b ++ y ∷ more))
+
+heads : {X : Type 0} (x y : X) (xs ys : List X) → x ∷ xs ≡ y ∷ ys → (x ≡ y) × (xs ≡ ys)
+heads x y xs ys e = (cc, cc)
+
+compare_splits : {X : Type 0} (a : List X) (x : X) (c b : List X) (y : X) (d : List X) → a ++ x ∷ c ≡ b ++ y ∷ d → OneOfSplits a x b y
+compare_splits [] x c [] y d e = inl (refl, (heads x y c d e).0)
+compare_splits [] x c (z ∷ b) y d e = inr (inl (b, ap (λ w. w ∷ b) (sym (heads x z c (b ++ y ∷ d) e).0)))
+compare_splits (z ∷ a) x c [] y d e = inr (inr (a, ap (λ w. w ∷ a) (heads z y (a ++ x ∷ c) d e).0))
+compare_splits (z ∷ a) x c (w ∷ b) y d e =
+    let h = heads z w (a ++ x ∷ c) (b ++ y ∷ d) e in
+    elim (compare_splits a x c b y d h.1) [
+      | inl same ↦ inl (ap (λ l. z ∷ l) same.0 ∙ ap (λ v. v ∷ b) h.0, same.1)
+      | inr (inl more) ↦ inr (inl (more.0, ap (λ l. w ∷ l) more.1 ∙ ap (λ v. v ∷ (a ++ x ∷ more.0)) (sym h.0)))
+      | inr (inr more) ↦ inr (inr (more.0, ap (λ l. z ∷ l) more.1 ∙ ap (λ v. v ∷ (b ++ y ∷ more.0)) h.0))
+    ]
+
+-- ---- what is proved has no fault
+
+abbrev pub Same : ProofRule → ℕ → ProofRule → ℕ → Type 0
+Same rule step rule' step' = (rule ≡ rule') × (step ≡ step')
+
+end_rule : (rule : ProofRule) (stack : List (List (List ℕ))) (e : List (List ℕ)) → BreaksEnd rule stack e
+    → ((rule ≡ P13) × (length stack ≢ 1)) ⊎ ((rule ≡ P14) × (length stack ≡ 1) × (stack ≢ e ∷ []))
+end_rule P13 stack e b = inl (refl, b)
+end_rule P14 stack e b = inr (refl, ap length b.1, λ same. b.2 (let p : b.0 ∷ [] ≡ e ∷ [] = sym b.1 ∙ same in cc))
+end_rule rule stack e b = absurd b
+
+no_end_fault : (rule : ProofRule) (stack : List (List (List ℕ))) (e : List (List ℕ)) → stack ≡ e ∷ [] → ¬ (BreaksEnd rule stack e)
+no_end_fault rule stack e one b = ⊎_elim (λ p. p.1 (ap length one)) (λ q. q.2 one) (end_rule rule stack e b)
+
+pub proof_no_fault : (Fits : List (List ℕ) → Type 0) (before : List Sentence) (s : Sentence) (moves : List (Move (List ℕ))) (rule : ProofRule) (step : ℕ) → AllMeant before
+    → Prove Fits before s moves → ¬ (IsMovesFault Fits before s moves rule step)
+proof_no_fault Fits before s moves rule step all p (inl f) =
+    let whole = proof_passed Fits before s moves all p in
+    no_fault_within Fits before f.earlier f.move f.later f.stack f.kept (s.symbols ∷ []) whole.0 rule all
+    (subst (λ l. Passed Fits before l (s.symbols ∷ []) whole.0) f.parts whole.1) f.passed f.fault
+proof_no_fault Fits before s moves rule step all p (inr f) =
+    let whole = proof_passed Fits before s moves all p in
+    no_end_fault rule f.stack s.symbols (passed_once Fits Fits before moves f.stack (s.symbols ∷ []) f.kept whole.0 all f.passed whole.1).0 f.broken
+
+pub proved_no_fault : (Fits : List (List ℕ) → Type 0) (before : List Sentence) (s : Sentence) (tokens : List (List ℕ)) (rule : ProofRule) (step : ℕ) → AllMeant before
+    → IsProvedWithin Fits before s tokens → ¬ (IsFault Fits before s tokens rule step)
+proved_no_fault Fits before s tokens rule step all p (inl w) = p.whole rule w.1.broken
+proved_no_fault Fits before s tokens rule step all p (inr f) =
+    proof_no_fault Fits before s f.1 rule step all
+    (subst (Prove Fits before s) (moves_once before s tokens p.moves f.1 p.said f.2) p.proves) f.3
+
+-- ---- two faults are one
+
+longer_passed : (Fits : List (List ℕ) → Type 0) (before : List Sentence) (earlier : List (Move (List ℕ))) (move : Move (List ℕ)) (more longer : List (Move (List ℕ)))
+    (stack kept last end : List (List (List ℕ))) (rule : ProofRule) → AllMeant before
+    → longer ≡ earlier ++ move ∷ more → Passed Fits before longer last end → Passed Fits before earlier stack kept → FirstAtMove Fits rule before stack kept move → ⊥
+longer_passed Fits before earlier move more longer stack kept last end rule all parts whole passed fault =
+    no_fault_within Fits before earlier move more stack kept last end rule all (subst (λ l. Passed Fits before l last end) parts whole) passed fault
+
+same_move : (Fits : List (List ℕ) → Type 0) (before : List Sentence) (moves : List (Move (List ℕ))) (rule rule' : ProofRule) (step step' : ℕ) → AllMeant before
+    → (f : IsMoveFault Fits before moves rule step) (g : IsMoveFault Fits before moves rule' step') → f.earlier ≡ g.earlier → f.move ≡ g.move → Same rule step rule' step'
+same_move Fits before moves rule rule' step step' all f g a x =
+    let one = passed_once Fits Fits before g.earlier f.stack g.stack f.kept g.kept all (subst (λ l. Passed Fits before l f.stack f.kept) a f.passed) g.passed in
+    let fault : FirstAtMove Fits rule before g.stack g.kept g.move =
+    subst (λ m. FirstAtMove Fits rule before g.stack g.kept m) x
+    (subst (λ k. FirstAtMove Fits rule before g.stack k f.move) one.1 (subst (λ k. FirstAtMove Fits rule before k f.kept f.move) one.0 f.fault)) in (
+      first_once (λ r. BreaksMove Fits r before g.stack g.kept g.move) rule rule' fault.broken g.fault.broken fault.first g.fault.first,
+      f.number ∙ ap (λ l. steps_in l + 1) a ∙ sym g.number,
+    )
+
+two_moves : (Fits : List (List ℕ) → Type 0) (before : List Sentence) (moves : List (Move (List ℕ))) (rule rule' : ProofRule) (step step' : ℕ) → AllMeant before
+    → IsMoveFault Fits before moves rule step → IsMoveFault Fits before moves rule' step' → Same rule step rule' step'
+two_moves Fits before moves rule rule' step step' all f g = elim (compare_splits f.earlier f.move f.later g.earlier g.move g.later (sym f.parts ∙ g.parts)) [
+  | inl same ↦ same_move Fits before moves rule rule' step step' all f g same.0 same.1
+  | inr (inl more) ↦ absurd (longer_passed Fits before f.earlier f.move more.0 g.earlier f.stack f.kept g.stack g.kept rule all more.1 g.passed f.passed f.fault)
+  | inr (inr more) ↦ absurd (longer_passed Fits before g.earlier g.move more.0 f.earlier g.stack g.kept f.stack f.kept rule' all more.1 f.passed g.passed g.fault)
+]
+
+move_and_end : (Fits : List (List ℕ) → Type 0) (before : List Sentence) (s : Sentence) (moves : List (Move (List ℕ))) (rule rule' : ProofRule) (step step' : ℕ) → AllMeant before
+    → IsMoveFault Fits before moves rule step → IsEndFault Fits before s moves rule' step' → ⊥
+move_and_end Fits before s moves rule rule' step step' all f g =
+    longer_passed Fits before f.earlier f.move f.later moves f.stack f.kept g.stack g.kept rule all f.parts g.passed f.passed f.fault
+
+two_ends : (Fits : List (List ℕ) → Type 0) (before : List Sentence) (s : Sentence) (moves : List (Move (List ℕ))) (rule rule' : ProofRule) (step step' : ℕ) → AllMeant before
+    → IsEndFault Fits before s moves rule step → IsEndFault Fits before s moves rule' step' → Same rule step rule' step'
+two_ends Fits before s moves rule rule' step step' all f g =
+    let stacks : f.stack ≡ g.stack = (passed_once Fits Fits before moves f.stack g.stack f.kept g.kept all f.passed g.passed).0 in
+    let lengths : length f.stack ≡ length g.stack = ap length stacks in (
+      one_end rule rule' (length f.stack) (length g.stack) lengths
+          (⊎_elim (λ p. inl (p.0, p.1)) (λ p. inr (p.0, p.1)) (end_rule rule f.stack s.symbols f.broken))
+          (⊎_elim (λ p. inl (p.0, p.1)) (λ p. inr (p.0, p.1)) (end_rule rule' g.stack s.symbols g.broken)),
+      f.number ∙ sym g.number,
+    )
+  where
+    one_end : (r q : ProofRule) (n m : ℕ) → n ≡ m → ((r ≡ P13) × (n ≢ 1)) ⊎ ((r ≡ P14) × (n ≡ 1)) → ((q ≡ P13) × (m ≢ 1)) ⊎ ((q ≡ P14) × (m ≡ 1)) → r ≡ q
+    one_end r q n m e (inl a) (inl b) = a.0 ∙ sym b.0
+    one_end r q n m e (inl a) (inr b) = absurd (a.1 (e ∙ b.1))
+    one_end r q n m e (inr a) (inl b) = absurd (b.1 (sym e ∙ a.1))
+    one_end r q n m e (inr a) (inr b) = a.0 ∙ sym b.0
+
+-- of the moves
+pub one_moves_fault : (Fits : List (List ℕ) → Type 0) (before : List Sentence) (s : Sentence) (moves : List (Move (List ℕ))) (rule rule' : ProofRule) (step step' : ℕ) → AllMeant before
+    → IsMovesFault Fits before s moves rule step → IsMovesFault Fits before s moves rule' step' → Same rule step rule' step'
+one_moves_fault Fits before s moves rule rule' step step' all (inl f) (inl g) = two_moves Fits before moves rule rule' step step' all f g
+one_moves_fault Fits before s moves rule rule' step step' all (inl f) (inr g) = absurd (move_and_end Fits before s moves rule rule' step step' all f g)
+one_moves_fault Fits before s moves rule rule' step step' all (inr f) (inl g) = absurd (move_and_end Fits before s moves rule' rule step' step all g f)
+one_moves_fault Fits before s moves rule rule' step step' all (inr f) (inr g) = two_ends Fits before s moves rule rule' step step' all f g
+
+-- of the tokens
+pub one_fault : (Fits : List (List ℕ) → Type 0) (before : List Sentence) (s : Sentence) (tokens : List (List ℕ)) (rule rule' : ProofRule) (step step' : ℕ) → AllMeant before
+    → IsFault Fits before s tokens rule step → IsFault Fits before s tokens rule' step' → Same rule step rule' step'
+one_fault Fits before s tokens rule rule' step step' all (inl f) (inl g) =
+    (first_once (λ r. BreaksWhole r before tokens) rule rule' f.1.broken g.1.broken f.1.first g.1.first, f.0 ∙ sym g.0)
+one_fault Fits before s tokens rule rule' step step' all (inl f) (inr g) = absurd (g.0 rule f.1.broken)
+one_fault Fits before s tokens rule rule' step step' all (inr f) (inl g) = absurd (f.0 rule' g.1.broken)
+one_fault Fits before s tokens rule rule' step step' all (inr f) (inr g) =
+    one_moves_fault Fits before s g.1 rule rule' step step' all
+    (subst (λ m. IsMovesFault Fits before s m rule step) (moves_once before s tokens f.1 g.1 f.2 g.2) f.3) g.3
+
+-- ---- the laws
+
+pub one_tree_holds : OneTree
+one_tree_holds before t u es fs all d g same =
+    (one_row AnyExpression AnyExpression before t u es fs all d g same, derived_once AnyExpression AnyExpression before t u es fs all d g same)
+
+pub one_fit_law : OneFit
+one_fit_law before t u all f g same = one_fit_holds before t u all f g same
+
+pub one_verdict_holds : OneVerdict
+one_verdict_holds limit before s tokens all =
+    (λ p rule step. proved_no_fault (IsWithin limit) before s tokens rule step all p, λ rule rule' step step'. one_fault (IsWithin limit) before s tokens rule rule' step step' all)
