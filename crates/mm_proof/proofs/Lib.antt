@@ -13,3 +13,4 @@ pub mod Replacements
 pub mod Letters
 pub mod Readings
 pub mod Verdicts
+pub mod Judged
