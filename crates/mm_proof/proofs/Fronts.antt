@@ -162,7 +162,7 @@ went_step Fits before stack kept label all w =
     let same : t.stack ≡ stack = derived_once Fits Fits before w.row w.row t.stack stack all (subst (λ x. DeriveAll Fits before x t.stack) (sym m.2) t.derived) w.derived refl in
     (t.rest, t.e, subst (λ k. StepTo before k label t.rest t.e) same t.step, t.fits)
 
-nothing_left : (Fits : List (List ℕ) → Type 0) (before : List Sentence) (rest : Trees) (label : List ℕ) (below : Trees) → DeriveAll Fits before (beside rest (tree label below none)) [] → ⊥
+pub nothing_left : (Fits : List (List ℕ) → Type 0) (before : List Sentence) (rest : Trees) (label : List ℕ) (below : Trees) → DeriveAll Fits before (beside rest (tree label below none)) [] → ⊥
 nothing_left Fits before none label below d = let p : [] ≡ d.0 ∷ d.1 = d.2 in absurd cc
 nothing_left Fits before (tree l b r) label below d = let p : [] ≡ d.0 ∷ d.1 = d.2 in absurd cc
 

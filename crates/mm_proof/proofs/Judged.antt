@@ -242,7 +242,7 @@ Passes Fits before earlier stack kept move =
     ⊎ ((rule : ProofRule) × FirstAtMove Fits rule before stack kept move)
 
 -- the last entry of a stack
-last_entry : (stack : List (List (List ℕ))) → (stack ≡ []) ⊎ ((rest : List (List (List ℕ))) × (e : List (List ℕ)) × (stack ≡ rest ++ e ∷ []))
+pub last_entry : (stack : List (List (List ℕ))) → (stack ≡ []) ⊎ ((rest : List (List (List ℕ))) × (e : List (List ℕ)) × (stack ≡ rest ++ e ∷ []))
 last_entry [] = inl refl
 last_entry (x ∷ []) = inr ([], x, refl)
 last_entry (x ∷ y ∷ stack) = ⊎_elim (λ e. absurd (let p : y ∷ stack ≡ [] = e in cc)) (λ l. inr (x ∷ l.0, l.1, ap (λ s. x ∷ s) l.2)) (last_entry (y ∷ stack))

@@ -14,3 +14,4 @@ pub mod Letters
 pub mod Readings
 pub mod Verdicts
 pub mod Judged
+pub mod Limits

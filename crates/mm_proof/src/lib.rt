@@ -2,5 +2,7 @@
 #![tactic(auto)]
 
 mod fault;
+mod laws;
 
 pub use fault::{ProofFault, ProofRule};
+pub use laws::{limits_aside, one_fit, one_tree, one_verdict, some_verdict};

@@ -1,0 +1,119 @@
+-- What the limit on expressions changes, and that it changes nothing else.
+use Rattle.std.proofs.Common.{◌≡◌, ℕ, ◌+◌, List, [], ◌∷◌, ◌++◌, take, map, Option, ◌⊎◌, inl, inr, ⊎_elim, refl, sym, ap, subst, ◌∙◌, append_assoc, append-nil}
+use Rattle.mm_frame.specs.Sentence.{Sentence, IsHypothesis, IsLabelled}
+use Rattle.mm_frame.specs.Active.{SomeActive}
+use Rattle.mm_frame.specs.Frame.{IsMandatory}
+use Rattle.mm_frame.specs.Rules.{AllMeant}
+use Rattle.mm_proof.specs.declared.fault.ProofRule.{ProofRule}
+use Rattle.mm_proof.specs.declared.fault.ProofRule.TheVariants.{L1}
+use Rattle.mm_proof.specs.Substitution.{IsOn, substituted}
+use Rattle.mm_proof.specs.Tree.{Trees, none, tree, Names, KeepsApart, DeriveAll, AnyExpression}
+use Rattle.mm_proof.specs.Moves.{Move, name, again, mark, steps_in, Makes}
+use Rattle.mm_proof.specs.Proof.{IsWithin, Prove, IsProvedWithin, IsProved, FirstAtMove, Passed, IsMovesFault, IsFault}
+use Rattle.mm_proof.specs.Laws.{LimitsAside}
+use Rattle.mm_proof.proofs.Forward.{passed_none, passed_name, passed_again, passed_mark, prove_at_end}
+use Rattle.mm_proof.proofs.Derived.{zip_left}
+use Rattle.mm_proof.proofs.Fronts.{Went, went_on, went_step, nothing_left, passed_once, proof_passed}
+use Rattle.mm_proof.proofs.Verdicts.{proved_no_fault, one_fault}
+use Rattle.mm_proof.proofs.Judged.{limit_first, last_entry, within_dec}
+
+-- What is said of one tree where trees derive expressions: it is a leaf or an assertion's.
+abbrev DeriveOne : (List (List ℕ) → Type 0) → List Sentence → List ℕ → Trees → List (List ℕ) → Type 0
+DeriveOne Fits before label below e =
+    ((below ≡ none) × SomeActive before (λ h. IsLabelled label h × IsHypothesis h.kind × (e ≡ h.symbols)))
+    ⊎ ((place : ℕ) × (assertion : Sentence) × (hypotheses : List Sentence) × (σ : List ℕ → Option (List (List ℕ)))
+    × Names before label place assertion hypotheses
+    × IsOn (IsMandatory (take place before) assertion) σ
+    × DeriveAll Fits before below (map (λ h. substituted σ h.symbols) hypotheses)
+    × KeepsApart before place assertion σ
+    × (e ≡ substituted σ assertion.symbols))
+
+-- what trees derive within the limit they derive
+pub derive_any : (Fits : List (List ℕ) → Type 0) (before : List Sentence) (trees : Trees) (es : List (List (List ℕ))) → DeriveAll Fits before trees es → DeriveAll AnyExpression before trees es
+derive_any Fits before none es d = d
+derive_any Fits before (tree label below right) es d =
+    let one : DeriveOne AnyExpression before label below d.0 = ⊎_elim (λ leaf. inl leaf)
+    (λ n. inr (n.0, n.1, n.2, n.3, n.4, n.5, derive_any Fits before below (map (λ (h : Sentence). substituted n.3 h.symbols) n.2) n.6, n.7, n.8)) d.4 in
+    (d.0, d.1, d.2, tt, one, derive_any Fits before right d.1 d.5)
+
+prove_any : (Fits : List (List ℕ) → Type 0) (before : List Sentence) (s : Sentence) (moves : List (Move (List ℕ))) → Prove Fits before s moves → Prove AnyExpression before s moves
+prove_any Fits before s moves p = record {
+  label = p.label;
+  below = p.below;
+  kept = p.kept;
+  made = p.made;
+  derived = derive_any Fits before (tree p.label p.below none) (s.symbols ∷ []) p.derived;
+}
+
+-- ---- the first step over the limit
+
+-- a move of moves that pass without a limit passes within it, or passes it
+abbrev PassesOr : (List (List ℕ) → Type 0) → List Sentence → List (Move (List ℕ)) → List (List (List ℕ)) → List (List (List ℕ)) → Move (List ℕ) → Type 0
+PassesOr Fits before earlier stack kept move =
+    ((stack' : List (List (List ℕ))) × (kept' : List (List (List ℕ))) × Passed Fits before (earlier ++ move ∷ []) stack' kept')
+    ⊎ FirstAtMove Fits L1 before stack kept move
+
+went_or_over : (Fits : List (List ℕ) → Type 0) (each : (e : List (List ℕ)) → Dec (Fits e)) (before : List Sentence) (earlier : List (Move (List ℕ))) (stack kept : List (List (List ℕ))) (move : Move (List ℕ))
+    → AllMeant before → Went AnyExpression before stack kept move → Passed Fits before earlier stack kept → PassesOr Fits before earlier stack kept move
+went_or_over Fits each before earlier stack kept (name label) all w passed =
+    let s = went_step AnyExpression before stack kept label all w in
+    elim (each s.1) [
+      | yes fits ↦ inl (s.0 ++ s.1 ∷ [], kept, passed_name Fits before earlier stack kept label s.0 s.1 all passed s.2 fits)
+      | no over ↦ let f = limit_first Fits before stack label s.0 s.1 all over s.2 in inr (record { broken = f.0; first = f.1 })
+    ]
+went_or_over Fits each before earlier stack kept (again tag) all w passed =
+    let e = zip_left (λ t f. DeriveAll AnyExpression before t (f ∷ [])) w.shelf kept tag w.made.0 w.kept_derived w.made.1 in
+    inl (stack ++ e.0 ∷ [], kept, passed_again Fits before earlier stack kept tag e.0 passed e.1)
+went_or_over Fits each before earlier stack kept mark all w passed = ⊎_elim
+    (λ bare. absurd (nothing_left AnyExpression before w.made.0 w.made.1 w.made.2
+    (subst (λ x. DeriveAll AnyExpression before x []) w.made.3 (subst (DeriveAll AnyExpression before w.row) bare w.derived))))
+    (λ l. inl (l.0 ++ l.1 ∷ [], kept ++ l.1 ∷ [], passed_mark Fits before earlier l.0 kept l.1 (subst (λ s. Passed Fits before earlier s kept) l.2 passed))) (last_entry stack)
+
+within_or_over : (Fits : List (List ℕ) → Type 0) (each : (e : List (List ℕ)) → Dec (Fits e)) (before : List Sentence) (s : Sentence) (moves later earlier : List (Move (List ℕ))) (stack kept last end : List (List (List ℕ)))
+    → AllMeant before → Passed AnyExpression before moves last end → moves ≡ earlier ++ later → Passed Fits before earlier stack kept
+    → ((kept' : List (List (List ℕ))) × Passed Fits before moves last kept') ⊎ ((step : ℕ) × IsMovesFault Fits before s moves L1 step)
+within_or_over Fits each before s moves [] earlier stack kept last end all whole parts passed =
+    let here : Passed Fits before moves stack kept = subst (λ l. Passed Fits before l stack kept) (sym (parts ∙ append-nil earlier)) passed in
+    let same = passed_once Fits AnyExpression before moves stack last kept end all here whole in
+    inl (kept, subst (λ l. Passed Fits before moves l kept) same.0 here)
+within_or_over Fits each before s moves (move ∷ later) earlier stack kept last end all whole parts passed =
+    let w = went_on AnyExpression Fits before earlier move later whole.trees whole.shelf stack kept all
+    (subst (λ l. Makes before l none [] whole.trees whole.shelf) parts whole.made)
+    (record { stack = last; kept = end; derived = whole.derived; kept_derived = whole.kept_derived }) passed in
+    ⊎_elim
+    (λ o. within_or_over Fits each before s moves later (earlier ++ move ∷ []) o.0 o.1 last end all whole (parts ∙ sym (append_assoc earlier (move ∷ []) later)) o.2)
+    (λ f. inr (
+      steps_in earlier + 1,
+      inl (record { earlier = earlier; move = move; later = later; parts = parts; number = refl; stack = stack; kept = kept; passed = passed; fault = f }),
+    ))
+    (went_or_over Fits each before earlier stack kept move all w passed)
+
+-- moves that prove a statement without a limit do within it, or a step of theirs is the first over it
+pub prove_or_over : (Fits : List (List ℕ) → Type 0) (each : (e : List (List ℕ)) → Dec (Fits e)) (before : List Sentence) (s : Sentence) (moves : List (Move (List ℕ))) → AllMeant before
+    → Prove AnyExpression before s moves → Prove Fits before s moves ⊎ ((step : ℕ) × IsMovesFault Fits before s moves L1 step)
+prove_or_over Fits each before s moves all p =
+    let whole = proof_passed AnyExpression before s moves all p in
+    ⊎_elim (λ w. inl (prove_at_end Fits before s moves w.0 w.1)) (λ o. inr o)
+    (within_or_over Fits each before s moves moves [] [] [] (s.symbols ∷ []) whole.0 all whole.1 refl (passed_none Fits before))
+
+-- ---- the law
+
+within_proved : (limit : ℕ) (before : List Sentence) (s : Sentence) (tokens : List (List ℕ)) → IsProvedWithin (IsWithin limit) before s tokens → IsProved before s tokens
+within_proved limit before s tokens p = record { whole = p.whole; moves = p.moves; said = p.said; proves = prove_any (IsWithin limit) before s p.moves p.proves }
+
+proved_or_over : (limit : ℕ) (before : List Sentence) (s : Sentence) (tokens : List (List ℕ)) → AllMeant before → IsProved before s tokens
+    → IsProvedWithin (IsWithin limit) before s tokens ⊎ ((step : ℕ) × IsFault (IsWithin limit) before s tokens L1 step)
+proved_or_over limit before s tokens all p = ⊎_elim
+    (λ w. inl (record { whole = p.whole; moves = p.moves; said = p.said; proves = w }))
+    (λ o. inr (o.0, inr (p.whole, p.moves, p.said, o.1)))
+    (prove_or_over (IsWithin limit) (within_dec limit) before s p.moves all p.proves)
+
+only_limit : (limit : ℕ) (before : List Sentence) (s : Sentence) (tokens : List (List ℕ)) (rule : ProofRule) (step : ℕ) → AllMeant before → IsProved before s tokens
+    → IsFault (IsWithin limit) before s tokens rule step → rule ≡ L1
+only_limit limit before s tokens rule step all p f = ⊎_elim
+    (λ within. absurd (proved_no_fault (IsWithin limit) before s tokens rule step all within f))
+    (λ over. (one_fault (IsWithin limit) before s tokens rule L1 step over.0 all f over.1).0) (proved_or_over limit before s tokens all p)
+
+pub limits_aside_holds : LimitsAside
+limits_aside_holds limit before s tokens all =
+    (within_proved limit before s tokens, proved_or_over limit before s tokens all, λ p rule step. only_limit limit before s tokens rule step all p)
