@@ -247,10 +247,10 @@ last_entry [] = inl refl
 last_entry (x ∷ []) = inr ([], x, refl)
 last_entry (x ∷ y ∷ stack) = ⊎_elim (λ e. absurd (let p : y ∷ stack ≡ [] = e in cc)) (λ l. inr (x ∷ l.0, l.1, ap (λ s. x ∷ s) l.2)) (last_entry (y ∷ stack))
 
-only_P6 : (Fits : List (List ℕ) → Type 0) (before : List Sentence) (stack kept : List (List (List ℕ))) (tag : ℕ) (other : ProofRule) → rank other < rank P6 → ¬ (BreaksMove Fits other before stack kept (again tag))
+pub only_P6 : (Fits : List (List ℕ) → Type 0) (before : List Sentence) (stack kept : List (List (List ℕ))) (tag : ℕ) (other : ProofRule) → rank other < rank P6 → ¬ (BreaksMove Fits other before stack kept (again tag))
 only_P6 Fits before stack kept tag other less b = absurd (lt_irrefl (rank P6) (subst (λ r. rank r < rank P6) b.0 less))
 
-only_P7 : (Fits : List (List ℕ) → Type 0) (before : List Sentence) (stack kept : List (List (List ℕ))) (other : ProofRule) → rank other < rank P7 → ¬ (BreaksMove Fits other before stack kept mark)
+pub only_P7 : (Fits : List (List ℕ) → Type 0) (before : List Sentence) (stack kept : List (List (List ℕ))) (other : ProofRule) → rank other < rank P7 → ¬ (BreaksMove Fits other before stack kept mark)
 only_P7 Fits before stack kept other less b = absurd (lt_irrefl (rank P7) (subst (λ r. rank r < rank P7) b.0 less))
 
 pub move_outcome : (Fits : List (List ℕ) → Type 0) (each : (e : List (List ℕ)) → Dec (Fits e)) (before : List Sentence) (earlier : List (Move (List ℕ))) (stack kept : List (List (List ℕ))) (move : Move (List ℕ))

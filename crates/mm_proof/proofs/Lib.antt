@@ -15,3 +15,4 @@ pub mod Readings
 pub mod Verdicts
 pub mod Judged
 pub mod Limits
+pub mod Firsts
