@@ -16,3 +16,6 @@ pub mod Verdicts
 pub mod Judged
 pub mod Limits
 pub mod Firsts
+pub mod Exact
+pub mod Grown
+pub mod Expanded

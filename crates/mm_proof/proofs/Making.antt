@@ -20,7 +20,7 @@ pub beside_assoc : (a b c : Trees) → beside (beside a b) c ≡ beside a (besid
 beside_assoc none b c = refl
 beside_assoc (tree label below right) b c = ap (tree label below) (beside_assoc right b c)
 
-roots-beside : (a b : Trees) → roots (beside a b) ≡ roots a + roots b
+pub roots-beside : (a b : Trees) → roots (beside a b) ≡ roots a + roots b
 roots-beside none b = omega arith
 roots-beside (tree label below right) b = let h = roots-beside right b in omega (arith, h)
 

@@ -5,5 +5,6 @@ pub mod Tokens
 pub mod Proof
 pub mod Steps
 pub mod Used
+pub mod Expansion
 pub mod Laws
 pub mod Answer

@@ -1,0 +1,153 @@
+-- The word of moves spells what they make.
+use Rattle.std.proofs.Common.{◌≡◌, ℕ, zero, suc, ◌+◌, List, [], ◌∷◌, ◌++◌, length, map, slice_get, Option, Some, None, option_map, ◌⊎◌, inl, inr, ⊎_elim, ◌↔◌, refl, sym, ap, subst, ◌∙◌, append_assoc, append-nil, arith}
+use Rattle.std.specs.List.{AllByRecursion}
+use Rattle.std.proofs.lemmas.Option.{same_Some, none-some, slice_get-map}
+use Rattle.std.proofs.lemmas.List.{map-append, length-append}
+use Rattle.mm_frame.specs.Sentence.{Sentence}
+use Rattle.mm_frame.specs.Rules.{AllMeant}
+use Rattle.mm_proof.specs.Tree.{Trees, none, tree, spelling, beside, roots, MayStandOver, Fit, DeriveAll, AnyExpression}
+use Rattle.mm_proof.specs.Moves.{Move, name, again, mark, MakesOne, Makes}
+use Rattle.mm_proof.specs.Expansion.{ExpandsOne, Expands, IsWord}
+use Rattle.mm_proof.proofs.Making.{beside-none, roots-beside, spelling-beside, makes_join, makes_more, makes_split, makes_once, fit_makes, derive_fits}
+
+-- ---- what labels make spells them
+
+pub names_spell : (before : List Sentence) (labels : List (List ℕ)) (a b : Trees) (k l : List Trees) → Makes before (map name labels) a k b l → spelling b ≡ spelling a ++ labels
+names_spell before [] a b k l m = ap spelling m.0 ∙ sym (append-nil (spelling a))
+names_spell before (label ∷ labels) a b k l m =
+    let step = m.2 in
+    let next : spelling m.0 ≡ spelling a ++ label ∷ [] =
+    ap spelling step.4 ∙ spelling-beside step.0 (tree label step.1 none) ∙ sym (append_assoc (spelling step.0) (spelling step.1) (label ∷ []))
+    ∙ ap (λ x. x ++ label ∷ []) (sym (spelling-beside step.0 step.1) ∙ ap spelling (sym step.2)) in
+    names_spell before labels m.0 b m.1 l m.3 ∙ ap (λ x. x ++ labels) next ∙ append_assoc (spelling a) (label ∷ []) labels
+
+-- and keeps nothing more
+names_keep : (before : List Sentence) (labels : List (List ℕ)) (a b : Trees) (k l : List Trees) → Makes before (map name labels) a k b l → l ≡ k
+names_keep before [] a b k l m = m.1
+names_keep before (label ∷ labels) a b k l m = names_keep before labels m.0 b m.1 l m.3 ∙ m.2.5
+
+-- ---- fit rows
+
+pub fit_beside : (before : List Sentence) (a b : Trees) → Fit before a → Fit before b → Fit before (beside a b)
+fit_beside before none b f g = g
+fit_beside before (tree label below right) b f g = (f.0, f.1, fit_beside before right b f.2 g)
+
+pub fit_apart : (before : List Sentence) (a b : Trees) → Fit before (beside a b) → Fit before a × Fit before b
+fit_apart before none b f = (tt, f)
+fit_apart before (tree label below right) b f = let h = fit_apart before right b f.2 in ((f.0, f.1, h.0), h.1)
+
+-- a tree that fits by itself
+abbrev pub IsFitTree : List Sentence → Trees → Type 0
+IsFitTree before t = (label : List ℕ) × (below : Trees) × (t ≡ tree label below none) × Fit before t
+
+all_push : {X : Type 0} (P : X → Type 0) (xs : List X) (x : X) → AllByRecursion P xs → P x → AllByRecursion P (xs ++ x ∷ [])
+all_push P [] x a p = (p, tt)
+all_push P (y ∷ xs) x a p = (a.0, all_push P xs x a.1 p)
+
+all_at : {X : Type 0} (P : X → Type 0) (xs : List X) (i : ℕ) (x : X) → AllByRecursion P xs → slice_get xs i ≡ Some x → P x
+all_at P [] i x a e = absurd (none-some x e)
+all_at P (y ∷ xs) zero x a e = subst P (same_Some y x e) a.0
+all_at P (y ∷ xs) (suc i) x a e = all_at P xs i x a.1 e
+
+-- ---- what moves make has their word
+
+-- a row that fits, kept trees that do, and their words
+pub record HasWords (before : List Sentence) (moves : List (Move (List ℕ))) (a b : Trees) (k l : List Trees) : Type 0 where
+  pub expands : Expands before moves (spelling a) (map spelling k) (spelling b) (map spelling l)
+  pub fit : Fit before b
+
+made_words : (before : List Sentence) (moves : List (Move (List ℕ))) (a b : Trees) (k l : List Trees) → Fit before a → AllByRecursion (IsFitTree before) k → Makes before moves a k b l
+    → HasWords before moves a b k l
+made_words before [] a b k l f g m =
+    record { expands = (ap spelling m.0, ap (λ (x : List Trees). map spelling x) m.1); fit = subst (Fit before) (sym m.0) f }
+made_words before (name label ∷ moves) a b k l f g m =
+    let step = m.2 in
+    let parts = fit_apart before step.0 step.1 (subst (Fit before) step.2 f) in
+    let next : Fit before m.0 = subst (Fit before) (sym step.4) (fit_beside before step.0 (tree label step.1 none) parts.0 (step.3, parts.1, tt)) in
+    let word : spelling m.0 ≡ spelling a ++ label ∷ [] = names_spell before (label ∷ []) a m.0 k m.1 (m.0, m.1, step, (refl, refl)) in
+    let rest = made_words before moves m.0 b m.1 l next (subst (AllByRecursion (IsFitTree before)) (sym step.5) g) m.3 in
+    record { expands = (spelling m.0, map spelling m.1, (word, ap (λ (x : List Trees). map spelling x) step.5), rest.expands); fit = rest.fit }
+made_words before (again tag ∷ moves) a b k l f g m =
+    let step = m.2 in
+    let one = all_at (IsFitTree before) k tag step.0 g step.1 in
+    let next : Fit before m.0 = subst (Fit before) (sym step.2) (fit_beside before a step.0 f one.3) in
+    let there : slice_get (map spelling k) tag ≡ Some (spelling step.0) = slice_get-map spelling k tag ∙ ap (λ o. option_map spelling o) step.1 in
+    let rest = made_words before moves m.0 b m.1 l next (subst (AllByRecursion (IsFitTree before)) (sym step.3) g) m.3 in
+    record {
+      expands = (spelling m.0, map spelling m.1, (spelling step.0, there, ap spelling step.2 ∙ spelling-beside a step.0, ap (λ (x : List Trees). map spelling x) step.3), rest.expands);
+      fit = rest.fit;
+    }
+made_words before (mark ∷ moves) a b k l f g m =
+    let step = m.2 in
+    let t : Trees = tree step.1 step.2 none in
+    let parts = fit_apart before step.0 t (subst (Fit before) step.3 f) in
+    let words : map spelling m.1 ≡ map spelling k ++ spelling t ∷ [] = ap (λ (x : List Trees). map spelling x) step.5 ∙ map-append spelling k (t ∷ []) in
+    let next : Fit before m.0 = subst (Fit before) (sym step.4) f in
+    let kept : AllByRecursion (IsFitTree before) m.1 =
+    subst (AllByRecursion (IsFitTree before)) (sym step.5) (all_push (IsFitTree before) k t g (step.1, step.2, refl, parts.1)) in
+    let rest = made_words before moves m.0 b m.1 l next kept m.3 in
+    record {
+      expands = (spelling m.0, map spelling m.1, (spelling step.0, step.1, step.2, parts.1, ap spelling step.3 ∙ spelling-beside step.0 t, ap spelling step.4, words), rest.expands);
+      fit = rest.fit;
+    }
+
+-- moves that make a row have its spelling as their word
+pub made_word : (before : List Sentence) (moves : List (Move (List ℕ))) (row : Trees) (kept : List Trees) → Makes before moves none [] row kept → IsWord before moves (spelling row) × Fit before row
+made_word before moves row kept m =
+    let w = made_words before moves none row [] kept tt tt m in
+    ((map spelling kept, w.expands), w.fit)
+
+-- ---- the word is one
+
+-- two splits of one list, by which front is longer
+splits : {X : Type 0} (a b c d : List X) → a ++ b ≡ c ++ d → ((g : List X) × (c ≡ a ++ g) × (b ≡ g ++ d)) ⊎ ((g : List X) × (a ≡ c ++ g) × (d ≡ g ++ b))
+splits [] b c d e = inl (c, refl, e)
+splits (x ∷ a) b [] d e = inr (x ∷ a, refl, sym e)
+splits (x ∷ a) b (y ∷ c) d e =
+    let h = heads x y (a ++ b) (c ++ d) e in
+    ⊎_elim (λ p. inl (p.0, ap (λ z. z ∷ c) (sym h.0) ∙ ap (λ l. x ∷ l) p.1, p.2)) (λ p. inr (p.0, ap (λ z. z ∷ a) h.0 ∙ ap (λ l. y ∷ l) p.1, p.2)) (splits a b c d h.1)
+  where
+    heads : {X : Type 0} (x y : X) (xs ys : List X) → x ∷ xs ≡ y ∷ ys → (x ≡ y) × (xs ≡ ys)
+    heads x y xs ys e = (cc, cc)
+
+no_roots : (t : Trees) → roots t ≡ 0 → t ≡ none
+no_roots none e = refl
+no_roots (tree label below right) e = absurd (omega arith)
+
+-- one tree's spelling has no other tree's as a proper ending
+no_front : (before : List Sentence) (g : List (List ℕ)) (t u : Trees) → AllMeant before → Fit before t → Fit before u → roots t ≡ roots u → spelling t ≡ g ++ spelling u → g ≡ []
+no_front before g t u all f h width e =
+    let whole : Makes before (map name g ++ map name (spelling u)) none [] t [] =
+    subst (λ l. Makes before l none [] t []) (ap (map name) e ∙ map-append name g (spelling u)) (fit_makes before t none [] f) in
+    let s = makes_split before (map name g) (map name (spelling u)) none t [] [] whole in
+    let one = makes_once before (map name (spelling u)) s.0 t (beside s.0 u) s.1 [] s.1 all s.3 (fit_makes before u s.0 s.1 h) in
+    let n : roots t ≡ roots s.0 + roots u = ap roots one.0 ∙ roots-beside s.0 u in
+    let bare : s.0 ≡ none = no_roots s.0 (omega arith) in
+    sym (names_spell before g none s.0 [] s.1 s.2) ∙ ap spelling bare
+
+-- so an ending of labels spells one tree
+one_ending : (before : List Sentence) (a c : List (List ℕ)) (t u : Trees) → AllMeant before → Fit before t → Fit before u → roots t ≡ roots u → a ++ spelling t ≡ c ++ spelling u → spelling t ≡ spelling u
+one_ending before a c t u all f h width e = elim (splits a (spelling t) c (spelling u) e) [
+  | inl p ↦ p.2 ∙ ap (λ l. l ++ spelling u) (no_front before p.0 t u all f h width p.2)
+  | inr p ↦ sym (p.2 ∙ ap (λ l. l ++ spelling t) (no_front before p.0 u t all h f (sym width) p.2))
+]
+
+expands_one : (before : List Sentence) (move : Move (List ℕ)) (labels a b : List (List ℕ)) (words v w : List (List (List ℕ))) → AllMeant before
+    → ExpandsOne before move labels words a v → ExpandsOne before move labels words b w → (a ≡ b) × (v ≡ w)
+expands_one before (name label) labels a b words v w all p q = (p.0 ∙ sym q.0, p.1 ∙ sym q.1)
+expands_one before (again tag) labels a b words v w all p q =
+    (p.2 ∙ ap (λ x. labels ++ x) (same_Some p.0 q.0 (sym p.1 ∙ q.1)) ∙ sym q.2, p.3 ∙ sym q.3)
+expands_one before mark labels a b words v w all p q =
+    let same = one_ending before p.0 q.0 (tree p.1 p.2 none) (tree q.1 q.2 none) all p.3 q.3 refl (sym p.4 ∙ q.4) in
+    (p.5 ∙ sym q.5, p.6 ∙ ap (λ x. words ++ x ∷ []) same ∙ sym q.6)
+
+expands_once : (before : List Sentence) (moves : List (Move (List ℕ))) (labels a b : List (List ℕ)) (words v w : List (List (List ℕ))) → AllMeant before
+    → Expands before moves labels words a v → Expands before moves labels words b w → (a ≡ b) × (v ≡ w)
+expands_once before [] labels a b words v w all p q = (p.0 ∙ sym q.0, p.1 ∙ sym q.1)
+expands_once before (move ∷ moves) labels a b words v w all p q =
+    let one = expands_one before move labels p.0 q.0 words p.1 q.1 all p.2 q.2 in
+    expands_once before moves q.0 a b q.1 v w all
+    (subst (λ x. Expands before moves q.0 x a v) one.1 (subst (λ x. Expands before moves x p.1 a v) one.0 p.3)) q.3
+
+pub one_word : (before : List Sentence) (moves : List (Move (List ℕ))) (v w : List (List ℕ)) → AllMeant before → IsWord before moves v → IsWord before moves w → v ≡ w
+one_word before moves v w all p q = (expands_once before moves [] v w [] p.0 q.0 all p.1 q.1).0
