@@ -151,3 +151,99 @@ expands_once before (move ∷ moves) labels a b words v w all p q =
 
 pub one_word : (before : List Sentence) (moves : List (Move (List ℕ))) (v w : List (List ℕ)) → AllMeant before → IsWord before moves v → IsWord before moves w → v ≡ w
 one_word before moves v w all p q = (expands_once before moves [] v w [] p.0 q.0 all p.1 q.1).0
+
+-- ---- what a word spells is made
+
+-- the labels make the row
+abbrev Spelled : List Sentence → List (List ℕ) → Trees → Type 0
+Spelled before labels row = Makes before (map name labels) none [] row []
+
+spelled_once : (before : List Sentence) (labels : List (List ℕ)) (a b : Trees) → AllMeant before → Spelled before labels a → Spelled before labels b → a ≡ b
+spelled_once before labels a b all p q = (makes_once before (map name labels) none a b [] [] [] all p q).0
+
+spelled_more : (before : List Sentence) (labels : List (List ℕ)) (row t : Trees) → Spelled before labels row → Fit before t → Spelled before (labels ++ spelling t) (beside row t)
+spelled_more before labels row t p f =
+    subst (λ l. Makes before l none [] (beside row t) []) (sym (map-append name labels (spelling t)))
+    (makes_join before (map name labels) (map name (spelling t)) none row (beside row t) [] [] [] p (fit_makes before t row [] f))
+
+-- what is made after a front, and what the rest makes of it
+spelled_front : (before : List Sentence) (a b : List (List ℕ)) (last : Trees) → Spelled before (a ++ b) last → (row : Trees) × Spelled before a row × Makes before (map name b) row [] last []
+spelled_front before a b last p =
+    let s = makes_split before (map name a) (map name b) none last [] [] (subst (λ l. Makes before l none [] last []) (map-append name a b) p) in
+    let bare : s.1 ≡ [] = names_keep before a none s.0 [] s.1 s.2 in
+    (s.0, subst (λ k. Makes before (map name a) none [] s.0 k) bare s.2, subst (λ k. Makes before (map name b) s.0 k last []) bare s.3)
+
+expands_grow : (before : List Sentence) (moves : List (Move (List ℕ))) (labels labels' : List (List ℕ)) (words words' : List (List (List ℕ)))
+    → Expands before moves labels words labels' words' → (rest : List (List ℕ)) × (labels' ≡ labels ++ rest)
+expands_grow before [] labels labels' words words' p = ([], p.0 ∙ sym (append-nil labels))
+expands_grow before (move ∷ moves) labels labels' words words' p =
+    let first = grow_one move p.2 in
+    let others = expands_grow before moves p.0 labels' p.1 words' p.3 in
+    (first.0 ++ others.0, others.1 ∙ ap (λ l. l ++ others.0) first.1 ∙ append_assoc labels first.0 others.0)
+  where
+    grow_one : (move : Move (List ℕ)) → ExpandsOne before move labels words p.0 p.1 → (rest : List (List ℕ)) × (p.0 ≡ labels ++ rest)
+    grow_one (name label) q = (label ∷ [], q.0)
+    grow_one (again tag) q = (q.0, q.2)
+    grow_one mark q = ([], q.5 ∙ sym (append-nil labels))
+
+-- a word that is kept is a kept tree's
+kept_tree : (kept : List Trees) (tag : ℕ) (word : List (List ℕ)) → slice_get (map spelling kept) tag ≡ Some word → (t : Trees) × (slice_get kept tag ≡ Some t) × (spelling t ≡ word)
+kept_tree [] tag word e = absurd (none-some word e)
+kept_tree (t ∷ kept) zero word e = (t, refl, same_Some (spelling t) word e)
+kept_tree (t ∷ kept) (suc tag) word e = kept_tree kept tag word e
+
+-- what one move makes on the row that the labels make
+pub record NextRow (before : List Sentence) (move : Move (List ℕ)) (row next : Trees) (kept : List Trees) (more : List (List (List ℕ))) : Type 0 where
+  pub kept' : List Trees
+  pub made : MakesOne before move row kept next kept'
+  pub words : more ≡ map spelling kept'
+  pub fit : AllByRecursion (IsFitTree before) kept'
+
+next_row : (before : List Sentence) (move : Move (List ℕ)) (labels labels' : List (List ℕ)) (words words' : List (List (List ℕ))) (row next : Trees) (kept : List Trees) → AllMeant before
+    → ExpandsOne before move labels words labels' words' → words ≡ map spelling kept → AllByRecursion (IsFitTree before) kept
+    → Spelled before labels row → Spelled before labels' next → NextRow before move row next kept words'
+next_row before (name label) labels labels' words words' row next kept all p is fit here there =
+    let s = spelled_front before labels (label ∷ []) next (subst (λ l. Spelled before l next) p.0 there) in
+    let same : s.0 ≡ row = spelled_once before labels s.0 row all s.1 here in
+    let step = s.2.2 in
+    record {
+      kept' = kept;
+      made = (step.0, step.1, sym same ∙ step.2, step.3, s.2.3.0 ∙ step.4, refl);
+      words = p.1 ∙ is;
+      fit = fit;
+    }
+next_row before (again tag) labels labels' words words' row next kept all p is fit here there =
+    let t = kept_tree kept tag p.0 (subst (λ w. slice_get w tag ≡ Some p.0) is p.1) in
+    let one = all_at (IsFitTree before) kept tag t.0 fit t.1 in
+    let word : labels' ≡ labels ++ spelling t.0 = p.2 ∙ ap (λ w. labels ++ w) (sym t.2) in
+    let row_is : next ≡ beside row t.0 = spelled_once before labels' next (beside row t.0) all there (subst (λ l. Spelled before l (beside row t.0)) (sym word) (spelled_more before labels row t.0 here one.3)) in
+    record { kept' = kept; made = (t.0, t.1, row_is, refl); words = p.3 ∙ is; fit = fit }
+next_row before mark labels labels' words words' row next kept all p is fit here there =
+    let t : Trees = tree p.1 p.2 none in
+    let s = spelled_front before p.0 (spelling t) row (subst (λ l. Spelled before l row) p.4 here) in
+    let row_is : row ≡ beside s.0 t = spelled_once before labels row (beside s.0 t) all here (subst (λ l. Spelled before l (beside s.0 t)) (sym p.4) (spelled_more before p.0 s.0 t s.1 p.3)) in
+    let same : next ≡ row = spelled_once before labels next row all (subst (λ l. Spelled before l next) p.5 there) here in
+    record {
+      kept' = kept ++ t ∷ [];
+      made = (s.0, p.1, p.2, row_is, same, refl);
+      words = p.6 ∙ ap (λ w. w ++ spelling t ∷ []) is ∙ sym (map-append spelling kept (t ∷ []));
+      fit = all_push (IsFitTree before) kept t fit (p.1, p.2, refl, p.3);
+    }
+
+word_makes : (before : List Sentence) (moves : List (Move (List ℕ))) (labels labels' : List (List ℕ)) (words words' : List (List (List ℕ))) (row last : Trees) (kept : List Trees) → AllMeant before
+    → Expands before moves labels words labels' words' → words ≡ map spelling kept → AllByRecursion (IsFitTree before) kept
+    → Spelled before labels row → Spelled before labels' last → (end : List Trees) × Makes before moves row kept last end
+word_makes before [] labels labels' words words' row last kept all p is fit here there =
+    (kept, (spelled_once before labels last row all (subst (λ l. Spelled before l last) p.0 there) here, refl))
+word_makes before (move ∷ moves) labels labels' words words' row last kept all p is fit here there =
+    let grown = expands_grow before moves p.0 labels' p.1 words' p.3 in
+    let front = spelled_front before p.0 grown.0 last (subst (λ l. Spelled before l last) grown.1 there) in
+    let next = next_row before move labels p.0 words p.1 row front.0 kept all p.2 is fit here front.1 in
+    let rest = word_makes before moves p.0 labels' p.1 words' front.0 last next.kept' all p.3 next.words next.fit front.1 there in
+    (rest.0, (front.0, next.kept', next.made, rest.1))
+
+-- moves whose word trees that fit spell make these trees
+pub made_of_word : (before : List Sentence) (moves : List (Move (List ℕ))) (trees : Trees) → AllMeant before → Fit before trees → IsWord before moves (spelling trees)
+    → (kept : List Trees) × Makes before moves none [] trees kept
+made_of_word before moves trees all fit w =
+    word_makes before moves [] (spelling trees) [] w.0 none trees [] all w.1 refl tt (refl, refl) (fit_makes before trees none [] fit)

@@ -19,3 +19,4 @@ pub mod Firsts
 pub mod Exact
 pub mod Grown
 pub mod Expanded
+pub mod ByWord
