@@ -1,6 +1,6 @@
 //! Laws of verdicts on proofs. The functions do nothing: their contracts are the laws.
 
-ghost use Rattle.mm_proof.specs.Laws.{OneFit, OneTree, SomeVerdict, OneVerdict, LimitsAside};
+ghost use Rattle.mm_proof.specs.Laws.{OneFit, OneTree, OneWord, ByWord, BySpelling, SomeVerdict, OneVerdict, LimitsAside};
 
 /// A spelling spells one tree.
 ///
@@ -18,6 +18,33 @@ pub fn one_fit()
 /// one, and what each of its steps makes is determined.
 pub fn one_tree()
     ensures { OneTree }
+{}
+
+/// A proof has one word at most.
+///
+/// After statements that break no rule of meaning, the labels of a proof, with the word of a tagged
+/// step in place of each tag, are determined: no labels have two endings that each spell one tree
+/// that fits.
+pub fn one_word()
+    ensures { OneWord }
+{}
+
+/// What is proved is told by a word.
+///
+/// After statements that break no rule of meaning, the moves of a proof make a tree that derives
+/// the statement's expression exactly if their word spells a tree that does. So sharing steps by
+/// tags proves what the proof with each tag written out proves, and nothing else.
+pub fn by_word()
+    ensures { ByWord }
+{}
+
+/// A normal proof is told by its labels.
+///
+/// After statements that break no rule of meaning, a normal proof that breaks no rule over the
+/// whole of it proves its statement exactly if its labels spell a tree that derives the statement's
+/// expression (the Metamath book, section 4.3).
+pub fn by_spelling()
+    ensures { BySpelling }
 {}
 
 /// Each proof has a verdict.

@@ -5,4 +5,6 @@ mod fault;
 mod laws;
 
 pub use fault::{ProofFault, ProofRule};
-pub use laws::{limits_aside, one_fit, one_tree, one_verdict, some_verdict};
+pub use laws::{
+    by_spelling, by_word, limits_aside, one_fit, one_tree, one_verdict, one_word, some_verdict,
+};
