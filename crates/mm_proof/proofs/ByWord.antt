@@ -8,7 +8,7 @@ use Rattle.mm_proof.specs.Tokens.{IsNormal, SayMoves}
 use Rattle.mm_proof.specs.Proof.{IsWithin, IsWhole, Prove, IsProvedWithin}
 use Rattle.mm_proof.specs.Laws.{OneWord, ProveByWord, ByWordFor, ByWord, IsSpelledWithin, BySpellingFor, BySpelling}
 use Rattle.mm_proof.proofs.Making.{derive_fits, fit_makes}
-use Rattle.mm_proof.proofs.Readings.{normal_or_compressed}
+use Rattle.mm_proof.proofs.SaidMoves.{normal_or_compressed}
 use Rattle.mm_proof.proofs.Expanded.{names_spell, made_word, made_of_word, one_word}
 
 pub by_word_for : (Fits : List (List ℕ) → Type 0) (before : List Sentence) (s : Sentence) (moves : List (Move (List ℕ))) → AllMeant before → Prove Fits before s moves ↔ ProveByWord Fits before s moves

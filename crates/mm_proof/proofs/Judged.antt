@@ -23,7 +23,7 @@ use Rattle.mm_proof.proofs.Decisions.{dec_both, dec_as, dec_some, kind_dec, symb
 use Rattle.mm_proof.proofs.Searches.{dec_not, mandatory_at_dec, those_of, share_dec, apart_dec, BothReplaced, some_pair_dec}
 use Rattle.mm_proof.proofs.Replacements.{meets_of}
 use Rattle.mm_proof.proofs.Forward.{passed_none, passed_name, passed_again, passed_mark, prove_at_end}
-use Rattle.mm_proof.proofs.Readings.{whole_dec, some_moves, moves_usable}
+use Rattle.mm_proof.proofs.SaidMoves.{whole_dec, some_moves, moves_usable}
 use Rattle.mm_proof.proofs.Verdicts.{ranked, at_rank}
 
 -- ---- the first of the rules that are broken

@@ -11,7 +11,7 @@ pub mod Decisions
 pub mod Searches
 pub mod Replacements
 pub mod Letters
-pub mod Readings
+pub mod SaidMoves
 pub mod Verdicts
 pub mod Judged
 pub mod Limits

@@ -14,7 +14,7 @@ use Rattle.mm_proof.specs.Laws.{OneTree, OneFit, OneVerdict}
 use Rattle.mm_proof.proofs.Runs.{derived_once}
 use Rattle.mm_proof.proofs.Making.{one_fit_holds, one_row}
 use Rattle.mm_proof.proofs.Fronts.{passed_once, proof_passed, no_fault_within}
-use Rattle.mm_proof.proofs.Readings.{moves_once}
+use Rattle.mm_proof.proofs.SaidMoves.{moves_once}
 
 -- ---- the first of the rules is one
 
