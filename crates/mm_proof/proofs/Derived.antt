@@ -1,6 +1,6 @@
 -- What rows of trees derive, and lists that are paired place by place.
 use Rattle.std.proofs.Common.{◌≡◌, ℕ, zero, suc, List, [], ◌∷◌, ◌++◌, slice_get, Some, refl, sym, ap, subst, ◌∙◌}
-use Rattle.std.specs.List.{AllZip}
+use Rattle.std.specs.List.{AllZip, AllByRecursion}
 use Rattle.std.proofs.lemmas.Option.{same_Some, none-some}
 use Rattle.mm_frame.specs.Sentence.{Sentence}
 use Rattle.mm_proof.specs.Tree.{Trees, none, tree, beside, DeriveAll}
@@ -50,6 +50,21 @@ zip_once R S (x ∷ xs) [] zs one r s = absurd r
 zip_once R S (x ∷ xs) (y ∷ ys) [] one r s = absurd s
 zip_once R S (x ∷ xs) (y ∷ ys) (z ∷ zs) one r s =
     ap (λ w. w ∷ ys) (one x y z r.0 s.0) ∙ ap (λ l. z ∷ l) (zip_once R S xs ys zs one r.1 s.1)
+
+-- ---- lists of which all are so
+
+pub all_mapped : {X : Type 0} (P Q : X → Type 0) (xs : List X) → ((x : X) → P x → Q x) → AllByRecursion P xs → AllByRecursion Q xs
+all_mapped P Q [] f a = tt
+all_mapped P Q (x ∷ xs) f a = (f x a.0, all_mapped P Q xs f a.1)
+
+pub all_push : {X : Type 0} (P : X → Type 0) (xs : List X) (x : X) → AllByRecursion P xs → P x → AllByRecursion P (xs ++ x ∷ [])
+all_push P [] x a p = (p, tt)
+all_push P (y ∷ xs) x a p = (a.0, all_push P xs x a.1 p)
+
+pub all_at : {X : Type 0} (P : X → Type 0) (xs : List X) (i : ℕ) (x : X) → AllByRecursion P xs → slice_get xs i ≡ Some x → P x
+all_at P [] i x a e = absurd (none-some x e)
+all_at P (y ∷ xs) zero x a e = subst P (same_Some y x e) a.0
+all_at P (y ∷ xs) (suc i) x a e = all_at P xs i x a.1 e
 
 -- ---- rows
 

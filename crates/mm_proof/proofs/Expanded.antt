@@ -9,6 +9,7 @@ use Rattle.mm_proof.specs.Tree.{Trees, none, tree, spelling, beside, roots, MayS
 use Rattle.mm_proof.specs.Moves.{Move, name, again, mark, MakesOne, Makes}
 use Rattle.mm_proof.specs.Expansion.{ExpandsOne, Expands, IsWord}
 use Rattle.mm_proof.proofs.Making.{beside-none, roots-beside, spelling-beside, makes_join, makes_more, makes_split, makes_once, fit_makes, derive_fits}
+use Rattle.mm_proof.proofs.Derived.{all_push, all_at}
 
 -- ---- what labels make spells them
 
@@ -39,15 +40,6 @@ fit_apart before (tree label below right) b f = let h = fit_apart before right b
 -- a tree that fits by itself
 abbrev pub IsFitTree : List Sentence → Trees → Type 0
 IsFitTree before t = (label : List ℕ) × (below : Trees) × (t ≡ tree label below none) × Fit before t
-
-all_push : {X : Type 0} (P : X → Type 0) (xs : List X) (x : X) → AllByRecursion P xs → P x → AllByRecursion P (xs ++ x ∷ [])
-all_push P [] x a p = (p, tt)
-all_push P (y ∷ xs) x a p = (a.0, all_push P xs x a.1 p)
-
-all_at : {X : Type 0} (P : X → Type 0) (xs : List X) (i : ℕ) (x : X) → AllByRecursion P xs → slice_get xs i ≡ Some x → P x
-all_at P [] i x a e = absurd (none-some x e)
-all_at P (y ∷ xs) zero x a e = subst P (same_Some y x e) a.0
-all_at P (y ∷ xs) (suc i) x a e = all_at P xs i x a.1 e
 
 -- ---- what moves make has their word
 

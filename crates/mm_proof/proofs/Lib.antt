@@ -20,3 +20,4 @@ pub mod Exact
 pub mod Grown
 pub mod Expanded
 pub mod ByWord
+pub mod Uses
