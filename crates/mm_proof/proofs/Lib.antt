@@ -21,3 +21,4 @@ pub mod Grown
 pub mod Expanded
 pub mod ByWord
 pub mod Uses
+pub mod UsedNumbers
