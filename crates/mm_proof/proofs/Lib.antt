@@ -22,3 +22,4 @@ pub mod Expanded
 pub mod ByWord
 pub mod Uses
 pub mod UsedNumbers
+pub mod Renamed
