@@ -23,3 +23,4 @@ pub mod ByWord
 pub mod Uses
 pub mod UsedNumbers
 pub mod Renamed
+pub mod Lookups
