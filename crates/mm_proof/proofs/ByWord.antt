@@ -1,12 +1,12 @@
 -- What is proved, said by the word of its moves, and of a normal proof by its labels.
-use Rattle.std.proofs.Common.{◌≡◌, ℕ, List, [], ◌∷◌, map, inl, inr, ◌↔◌, refl, sym, ap, subst, ◌∙◌}
+use Rattle.std.proofs.Common.{◌≡◌, ℕ, List, [], ◌∷◌, map, inl, inr, ◌↔◌, refl, subst}
 use Rattle.mm_frame.specs.Sentence.{Sentence}
 use Rattle.mm_frame.specs.Rules.{AllMeant}
-use Rattle.mm_proof.specs.Tree.{Trees, none, tree, spelling, DeriveAll, AnyExpression}
+use Rattle.mm_proof.specs.Tree.{Trees, none, tree, AnyExpression}
 use Rattle.mm_proof.specs.Moves.{Move, name, Makes}
 use Rattle.mm_proof.specs.Tokens.{IsNormal, SayMoves}
 use Rattle.mm_proof.specs.Proof.{IsWithin, IsWhole, Prove, IsProvedWithin}
-use Rattle.mm_proof.specs.Laws.{OneWord, ProveByWord, ByWordFor, ByWord, IsSpelledWithin, BySpellingFor, BySpelling}
+use Rattle.mm_proof.specs.Laws.{OneWord, ProveByWord, ByWord, IsSpelledWithin, BySpelling}
 use Rattle.mm_proof.proofs.Making.{derive_fits, fit_makes}
 use Rattle.mm_proof.proofs.SaidMoves.{normal_or_compressed}
 use Rattle.mm_proof.proofs.Expanded.{names_spell, made_word, made_of_word, one_word}
@@ -15,7 +15,7 @@ pub by_word_for : (Fits : List (List ℕ) → Type 0) (before : List Sentence) (
 by_word_for Fits before s moves all = (
   λ p. record { label = p.label; below = p.below; word = (made_word before moves (tree p.label p.below none) p.kept p.made).0; derived = p.derived },
   λ w. let m = made_of_word before moves (tree w.label w.below none) all (derive_fits Fits before (tree w.label w.below none) (s.symbols ∷ []) w.derived) w.word in
-  record { label = w.label; below = w.below; kept = m.0; made = m.1; derived = w.derived },
+      record { label = w.label; below = w.below; kept = m.0; made = m.1; derived = w.derived },
 )
 
 pub one_word_holds : OneWord

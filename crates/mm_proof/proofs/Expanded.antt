@@ -1,14 +1,14 @@
 -- The word of moves spells what they make.
-use Rattle.std.proofs.Common.{◌≡◌, ℕ, zero, suc, ◌+◌, List, [], ◌∷◌, ◌++◌, length, map, slice_get, Option, Some, None, option_map, ◌⊎◌, inl, inr, ⊎_elim, ◌↔◌, refl, sym, ap, subst, ◌∙◌, append_assoc, append-nil, arith}
+use Rattle.std.proofs.Common.{◌≡◌, ℕ, zero, suc, ◌+◌, List, [], ◌∷◌, ◌++◌, map, slice_get, Some, option_map, ◌⊎◌, inl, inr, ⊎_elim, refl, sym, ap, subst, ◌∙◌, append_assoc, append-nil, arith}
 use Rattle.std.specs.List.{AllByRecursion}
 use Rattle.std.proofs.lemmas.Option.{same_Some, none-some, slice_get-map}
-use Rattle.std.proofs.lemmas.List.{map-append, length-append}
+use Rattle.std.proofs.lemmas.List.{map-append}
 use Rattle.mm_frame.specs.Sentence.{Sentence}
 use Rattle.mm_frame.specs.Rules.{AllMeant}
-use Rattle.mm_proof.specs.Tree.{Trees, none, tree, spelling, beside, roots, MayStandOver, Fit, DeriveAll, AnyExpression}
+use Rattle.mm_proof.specs.Tree.{Trees, none, tree, spelling, beside, roots, Fit}
 use Rattle.mm_proof.specs.Moves.{Move, name, again, mark, MakesOne, Makes}
 use Rattle.mm_proof.specs.Expansion.{ExpandsOne, Expands, IsWord}
-use Rattle.mm_proof.proofs.Making.{beside-none, roots-beside, spelling-beside, makes_join, makes_more, makes_split, makes_once, fit_makes, derive_fits}
+use Rattle.mm_proof.proofs.Making.{roots-beside, spelling-beside, makes_join, makes_split, makes_once, fit_makes}
 use Rattle.mm_proof.proofs.Derived.{all_push, all_at}
 
 -- ---- what labels make spells them

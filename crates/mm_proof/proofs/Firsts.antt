@@ -1,5 +1,5 @@
 -- The first rule that a move breaks, from what a judge of it finds one after the other.
-use Rattle.std.proofs.Common.{◌≡◌, ◌≢◌, ℕ, ◌+◌, ◌<◌, ◌≤◌, List, [], ◌∷◌, ◌++◌, length, take, slice_get, Option, Some, inl, inr, refl, sym, ap, subst, ◌∙◌, lt_irrefl, count_by, arith}
+use Rattle.std.proofs.Common.{◌≡◌, ◌≢◌, ℕ, ◌+◌, ◌<◌, ◌≤◌, List, [], ◌∷◌, ◌++◌, length, take, slice_get, Some, inl, inr, refl, sym, ap, subst, ◌∙◌, arith}
 use Rattle.std.proofs.lemmas.Option.{same_Some}
 use Rattle.std.proofs.lemmas.Bool.{cases_lt}
 use Rattle.std.proofs.lemmas.List.Sums.{sum_by-append}
@@ -10,12 +10,12 @@ use Rattle.mm_frame.specs.Active.{IsActive}
 use Rattle.mm_frame.specs.Frame.{IsMandatoryPair}
 use Rattle.mm_frame.specs.Rules.{AllMeant}
 use Rattle.mm_proof.specs.declared.fault.ProofRule.{ProofRule}
-use Rattle.mm_proof.specs.declared.fault.ProofRule.TheVariants.{P1, P2, P3, P4, P5, P6, P7, P8, P9, P10, P11, P12, P13, P14, L1}
+use Rattle.mm_proof.specs.declared.fault.ProofRule.TheVariants.{P6, P7, P8, P9, P10, P11, P12, L1}
 use Rattle.mm_proof.specs.Substitution.{substituted}
 use Rattle.mm_proof.specs.Tree.{Names, ShareNoVariable, AreDistinct}
 use Rattle.mm_proof.specs.Moves.{Move, name, again, mark, is_step, steps_in}
-use Rattle.mm_proof.specs.Proof.{rank, Meets, SomePair, SomeReplacedPair, BreaksStep, BreaksMove, FirstAtMove, Passed, BreaksEnd, IsMovesFault}
-use Rattle.mm_proof.proofs.OneStep.{StepTo, Agree, agree, meets_enough, same_substituted}
+use Rattle.mm_proof.specs.Proof.{rank, Meets, SomePair, SomeReplacedPair, BreaksStep, FirstAtMove, Passed, BreaksEnd, IsMovesFault}
+use Rattle.mm_proof.proofs.OneStep.{StepTo, agree, meets_enough, same_substituted}
 use Rattle.mm_proof.proofs.Verdicts.{ranked, at_rank}
 use Rattle.mm_proof.proofs.Judged.{limit_first, only_P6, only_P7}
 

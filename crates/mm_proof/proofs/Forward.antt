@@ -1,5 +1,5 @@
 -- A move that breaks no rule carries passed moves on: its tree stands for the trees of its hypotheses.
-use Rattle.std.proofs.Common.{◌≡◌, ℕ, suc, List, [], ◌∷◌, ◌++◌, length, take, drop, map, slice_get, Some, None, inl, inr, ⊎_elim, refl, sym, ap, subst, ◌∙◌, append-nil, option_map, arith}
+use Rattle.std.proofs.Common.{◌≡◌, ℕ, suc, List, [], ◌∷◌, ◌++◌, length, take, drop, map, slice_get, Some, None, inl, inr, ⊎_elim, refl, sym, ap, subst, ◌∙◌, option_map, arith}
 use Rattle.std.proofs.lemmas.Option.{same_Some, none-some, slice_get-map}
 use Rattle.std.proofs.lemmas.List.{length-map}
 use Rattle.mm_frame.specs.Sentence.{Sentence}

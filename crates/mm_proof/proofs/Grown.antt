@@ -1,13 +1,13 @@
 -- Steps stay steps as a book takes more statements.
-use Rattle.std.proofs.Common.{◌≡◌, ℕ, ◌<◌, ◌≤◌, List, [], ◌∷◌, ◌++◌, length, take, slice_get, is_some, Some, refl, sym, ap, subst, ◌∙◌, arith}
-use Rattle.std.specs.List.{AllZip, AllByRecursion}
+use Rattle.std.proofs.Common.{◌≡◌, ℕ, ◌<◌, List, [], ◌∷◌, ◌++◌, length, take, slice_get, is_some, Some, sym, ap, subst, ◌∙◌, arith}
+use Rattle.std.specs.List.{AllByRecursion}
 use Rattle.std.proofs.lemmas.Option.{slice_get_within}
 use Rattle.std.proofs.lemmas.List.{take-append-le}
 use Rattle.std.proofs.lemmas.List.Elements.{filter-append}
 use Rattle.mm_frame.specs.Sentence.{Sentence}
 use Rattle.mm_frame.specs.Numbers.{labelled, IsNumbered}
 use Rattle.mm_proof.specs.Moves.{Move, name, again, mark}
-use Rattle.mm_proof.specs.Steps.{IsNumberedMove, AreNumberedMoves, IsUsableMove, IsProofNumber, AreSteps}
+use Rattle.mm_proof.specs.Steps.{IsNumberedMove, AreNumberedMoves, IsUsableMove, AreSteps}
 use Rattle.mm_proof.proofs.Places.{get_append}
 
 -- the labelled statements of more statements go on

@@ -1,5 +1,5 @@
 -- Each proof has a verdict: the rules that it breaks can be found, and where it breaks none it is proved.
-use Rattle.std.proofs.Common.{◌≡◌, ◌≢◌, ℕ, zero, suc, ◌+◌, ◌-◌, ◌<◌, ◌≤◌, List, [], ◌∷◌, ◌++◌, length, take, drop, slice_get, get_or, Option, Some, None, ◌⊎◌, inl, inr, ⊎_elim, refl, sym, ap, subst, ◌∙◌, append_assoc, append-nil, lt_irrefl, arith}
+use Rattle.std.proofs.Common.{◌≡◌, ◌≢◌, ℕ, zero, suc, ◌+◌, ◌-◌, ◌<◌, List, [], ◌∷◌, ◌++◌, length, take, drop, slice_get, get_or, Option, Some, None, ◌⊎◌, inl, inr, ⊎_elim, refl, sym, ap, subst, ◌∙◌, append_assoc, append-nil, lt_irrefl, arith}
 use Rattle.std.specs.List.{AllByRecursion}
 use Rattle.std.proofs.lemmas.Option.{same_Some, none-some, slice_get-get_or}
 use Rattle.std.proofs.lemmas.Bool.{cases_lt}
@@ -16,7 +16,7 @@ use Rattle.mm_proof.specs.Substitution.{substituted}
 use Rattle.mm_proof.specs.Tree.{Names, ShareNoVariable, AreDistinct}
 use Rattle.mm_proof.specs.Moves.{Move, name, again, mark, steps_in}
 use Rattle.mm_proof.specs.Steps.{IsUsable, IsUsableMove}
-use Rattle.mm_proof.specs.Proof.{IsWithin, rank, BreaksWhole, Prove, IsProvedWithin, Meets, SomePair, SomeReplacedPair, BreaksStep, BreaksMove, FirstAtMove, Passed, BreaksEnd, IsMovesFault, IsFault}
+use Rattle.mm_proof.specs.Proof.{IsWithin, rank, BreaksWhole, Prove, Meets, SomePair, SomeReplacedPair, BreaksStep, BreaksMove, FirstAtMove, Passed, IsMovesFault}
 use Rattle.mm_proof.specs.Laws.{SomeVerdict}
 use Rattle.mm_proof.proofs.OneStep.{StepTo, hypothesis_or_assertion, meets_enough, Agree, agree, same_substituted, step_breaks_none, step_breaks_limit}
 use Rattle.mm_proof.proofs.Decisions.{dec_both, dec_as, dec_some, kind_dec, symbol_dec, expression_dec}

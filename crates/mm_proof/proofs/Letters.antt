@@ -1,11 +1,11 @@
 -- The codes of letters: letters say one list of codes, or break one rule.
-use Rattle.std.proofs.Common.{◌≡◌, ℕ, ◌+◌, ◌*◌, ◌≤◌, min, List, [], ◌∷◌, map, Result, Ok, Err, ◌⊎◌, inl, inr, refl, sym, ap, subst, ◌∙◌, arith}
+use Rattle.std.proofs.Common.{◌≡◌, ℕ, List, [], ◌∷◌, map, Result, Ok, Err, ◌⊎◌, inl, inr, refl, sym, subst, ◌∙◌, arith}
 use Rattle.std.specs.List.{AllByRecursion, AllZip}
 use Rattle.mm_code.specs.declared.code.Code.{Code}
 use Rattle.mm_code.specs.declared.code.Code.TheVariants.{Number, Tag}
 use Rattle.mm_code.specs.declared.code.CodeRule.{CodeRule}
 use Rattle.mm_code.specs.declared.code.CodeRule.TheVariants.{P4, P5}
-use Rattle.mm_code.specs.Letters.{Letters, Says, Breaks, HasSpelling, held, largest}
+use Rattle.mm_code.specs.Letters.{Letters, Says, Breaks, HasSpelling, held}
 use Rattle.mm_code.specs.Reading.{reading}
 use Rattle.mm_code.proofs.Found.{is_read}
 use Rattle.mm_code.proofs.Again.{is_read_again}

@@ -1,5 +1,5 @@
 -- What the limit on expressions changes, and that it changes nothing else.
-use Rattle.std.proofs.Common.{◌≡◌, ℕ, ◌+◌, List, [], ◌∷◌, ◌++◌, take, map, Option, ◌⊎◌, inl, inr, ⊎_elim, refl, sym, ap, subst, ◌∙◌, append_assoc, append-nil}
+use Rattle.std.proofs.Common.{◌≡◌, ℕ, ◌+◌, List, [], ◌∷◌, ◌++◌, take, map, Option, ◌⊎◌, inl, inr, ⊎_elim, refl, sym, subst, ◌∙◌, append_assoc, append-nil}
 use Rattle.mm_frame.specs.Sentence.{Sentence, IsHypothesis, IsLabelled}
 use Rattle.mm_frame.specs.Active.{SomeActive}
 use Rattle.mm_frame.specs.Frame.{IsMandatory}

@@ -1,5 +1,5 @@
 -- What replaces a symbol at a step: what follows the first symbol of the entry of its `$f`, and nothing where it has none.
-use Rattle.std.proofs.Common.{◌≡◌, ℕ, List, length, take, drop, slice_get, Option, Some, None, ◌⊎◌, inl, inr, refl, sym, ap, subst, ◌∙◌}
+use Rattle.std.proofs.Common.{◌≡◌, ℕ, List, drop, slice_get, Some, None, ◌⊎◌, inl, inr}
 use Rattle.mm_frame.specs.Sentence.{Sentence, Types}
 use Rattle.mm_frame.specs.Rules.{AllMeant}
 use Rattle.mm_proof.specs.Proof.{Meets}

@@ -1,5 +1,5 @@
 -- What moves make is one thing: so a spelling spells one row of trees that fit.
-use Rattle.std.proofs.Common.{◌≡◌, ℕ, suc, ◌+◌, List, [], ◌∷◌, ◌++◌, length, map, slice_get, Some, inl, inr, ⊎_elim, refl, sym, ap, subst, ◌∙◌, append_assoc, append-nil, arith}
+use Rattle.std.proofs.Common.{◌≡◌, ℕ, suc, ◌+◌, List, [], ◌∷◌, ◌++◌, length, map, inl, inr, ⊎_elim, refl, sym, ap, subst, ◌∙◌, append_assoc, arith}
 use Rattle.std.proofs.lemmas.Option.{same_Some}
 use Rattle.std.proofs.lemmas.List.{length-map, map-append}
 use Rattle.mm_frame.specs.Sentence.{Sentence}
@@ -108,7 +108,6 @@ makes_once before (move ∷ moves) a b c k l m all r q =
     (subst (λ x. Makes before moves q.0 x b l) one.1 (subst (λ x. Makes before moves x r.1 b l) one.0 r.3)) q.3
 
 -- ---- trees that fit are made by the labels of their spelling
-
 
 -- on any row, keeping nothing
 pub fit_makes : (before : List Sentence) (trees row : Trees) (kept : List Trees) → Fit before trees

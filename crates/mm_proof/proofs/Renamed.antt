@@ -1,8 +1,8 @@
 -- Expressions by the numbers of their symbols: what holds of numbers holds of names, where a number names one symbol and a
 -- symbol has one number.
-use Rattle.std.proofs.Common.{◌≡◌, ℕ, zero, suc, ◌<◌, List, [], ◌∷◌, ◌++◌, length, map, take, drop, slice_get, get_or, Contains, Option, Some, None, unwrap_or, option_map, ◌⊎◌, inl, inr, ⊎_elim, ◌↔◌, refl, sym, ap, subst, ◌∙◌, arith}
+use Rattle.std.proofs.Common.{◌≡◌, ℕ, zero, suc, List, [], ◌∷◌, ◌++◌, length, map, drop, slice_get, Contains, Option, Some, None, unwrap_or, ◌↔◌, refl, sym, ap, subst, ◌∙◌}
 use Rattle.std.specs.List.{flat_map}
-use Rattle.std.proofs.lemmas.Option.{same_Some, none-some, slice_get-map, slice_get_within, get_or_from_slice_get, slice_get-get_or}
+use Rattle.std.proofs.lemmas.Option.{same_Some, none-some, slice_get_within, get_or_from_slice_get, slice_get-get_or}
 use Rattle.std.proofs.lemmas.List.{map-append, length-map}
 use Rattle.mm_proof.specs.Substitution.{substituted}
 
@@ -107,9 +107,9 @@ pub stands_by_number : (naming : ℕ → Option (List ℕ)) (numbers : List ℕ)
     → Contains numbers n ↔ Contains symbols x
 stands_by_number naming numbers symbols n x one named is = (
   λ c. let s = symbol_at naming numbers symbols c.0 n named (slice_get-get_or numbers c.0 n c.1 ∙ ap Some c.2) in
-  (c.0, slice_get_within symbols c.0 s.0 s.1, get_or_from_slice_get symbols c.0 s.0 x s.1 ∙ same_Some s.0 x (sym s.2 ∙ is)),
+      (c.0, slice_get_within symbols c.0 s.0 s.1, get_or_from_slice_get symbols c.0 s.0 x s.1 ∙ same_Some s.0 x (sym s.2 ∙ is)),
   λ c. let s = number_at naming numbers symbols c.0 x named (slice_get-get_or symbols c.0 x c.1 ∙ ap Some c.2) in
-  (c.0, slice_get_within numbers c.0 s.0 s.1, get_or_from_slice_get numbers c.0 s.0 n s.1 ∙ one s.0 n x s.2 is),
+      (c.0, slice_get_within numbers c.0 s.0 s.1, get_or_from_slice_get numbers c.0 s.0 n s.1 ∙ one s.0 n x s.2 is),
 )
 
 -- ---- substitution

@@ -1,5 +1,5 @@
 -- Tokens say one row of moves; and where they break no rule over the whole proof, they say one, of labels that may be used.
-use Rattle.std.proofs.Common.{◌≡◌, ◌≢◌, ℕ, zero, suc, ◌+◌, ◌-◌, ◌<◌, ◌≤◌, List, [], ◌∷◌, ◌++◌, length, take, drop, map, slice_get, get_or, Contains, Option, Some, None, ◌⊎◌, inl, inr, ⊎_elim, refl, sym, ap, subst, ◌∙◌, arith}
+use Rattle.std.proofs.Common.{◌≡◌, ℕ, zero, suc, ◌+◌, ◌-◌, ◌<◌, ◌≤◌, List, [], ◌∷◌, ◌++◌, length, drop, map, slice_get, get_or, Contains, Option, Some, None, ◌⊎◌, inl, inr, ⊎_elim, refl, sym, ap, subst, ◌∙◌, arith}
 use Rattle.std.specs.List.{flat_map, AllZip, AllByRecursion}
 use Rattle.std.proofs.lemmas.Option.{same_Some, none-some, slice_get-map, slice_get_within, slice_get-get_or, get_or_from_slice_get}
 use Rattle.std.proofs.lemmas.Bool.{cases_lt}
@@ -11,21 +11,21 @@ use Rattle.mm_code.specs.declared.code.CodeRule.{CodeRule}
 use Rattle.mm_code.specs.declared.code.CodeRule.TheVariants as code
 use Rattle.mm_code.specs.Letters.{Letters, Breaks, HasSpelling}
 use Rattle.mm_code.proofs.Unique.{one_reading_only}
-use Rattle.mm_frame.specs.Sentence.{Sentence, SomeSentence, IsHypothesis, IsAssertion, IsLabelled, Types}
-use Rattle.mm_frame.specs.Active.{IsActive, SomeActive}
+use Rattle.mm_frame.specs.Sentence.{Sentence, SomeSentence, IsHypothesis, IsAssertion, IsLabelled}
+use Rattle.mm_frame.specs.Active.{IsActive}
 use Rattle.mm_frame.specs.Frame.{IsMandatoryAt, AreMandatory}
 use Rattle.mm_frame.specs.Form.{IsNamed, AllFormed}
 use Rattle.mm_proof.specs.declared.fault.ProofRule.{ProofRule}
 use Rattle.mm_proof.specs.declared.fault.ProofRule.TheVariants.{P1, P2, P3, P4, P5}
 use Rattle.mm_proof.specs.Moves.{Move, name, again, mark}
-use Rattle.mm_proof.specs.Tokens.{opening_token, closing_token, IsNormal, IsCompressed, AreLabels, AreLetters, Says, SaysCompressed, SayMoves}
+use Rattle.mm_proof.specs.Tokens.{opening_token, closing_token, IsNormal, IsCompressed, AreLabels, AreLetters, Says, SayMoves}
 use Rattle.mm_proof.specs.Steps.{IsUsable, IsUsableMove}
 use Rattle.mm_proof.specs.Proof.{BreaksWhole, IsWhole}
 use Rattle.mm_proof.proofs.Frames.{those_once, those_hold}
 use Rattle.mm_proof.proofs.Derived.{zip_once}
 use Rattle.mm_proof.proofs.Decisions.{dec_both, dec_as, dec_some, kind_dec, symbol_dec, contains_dec, active_dec}
 use Rattle.mm_proof.proofs.Searches.{dec_or, dec_not, dec_member, label_dec, sentence_dec, mandatory_at_dec, those_of}
-use Rattle.mm_proof.proofs.Letters.{coded_not_broken, coded_or_broken, breaks_dec, from_one}
+use Rattle.mm_proof.proofs.Letters.{coded_or_broken, breaks_dec, from_one}
 
 -- ---- the parts of a compressed proof
 
@@ -267,19 +267,21 @@ some_moves before s tokens formed whole = go (form_of before tokens)
     of_codes labels letters c codes coded =
         let frame : (hypotheses : List Sentence) × AreMandatory before s hypotheses = those_of (IsMandatoryAt before s) (mandatory_at_dec before s) 0 before in
         let named = labels_of before s frame.0 formed (λ i h e. let a = mandatory_active before s frame.0 i h frame.1 e in (a.0, a.1, a.3)) in
-        let said = codes_say (named.0 ++ labels) codes (from_one (flat_map (λ piece. piece) letters) codes coded) in
-        (said.0, inr (record {
-          listed = labels;
-          letters = letters;
-          parts = c;
-          codes = codes;
-          coded = coded;
-          hypotheses = frame.0;
-          mandatory = frame.1;
-          labels = named.0;
-          labelled = named.1;
-          each = said.1;
-        }))
+        let said = codes_say (named.0 ++ labels) codes (from_one (flat_map (λ piece. piece) letters) codes coded) in (
+          said.0,
+          inr (record {
+            listed = labels;
+            letters = letters;
+            parts = c;
+            codes = codes;
+            coded = coded;
+            hypotheses = frame.0;
+            mandatory = frame.1;
+            labels = named.0;
+            labelled = named.1;
+            each = said.1;
+          }),
+        )
 
     go : Form before tokens → (moves : List (Move (List ℕ))) × SayMoves before s tokens moves
     go (normal n) = (map name tokens, inl (n, refl))

@@ -1,13 +1,12 @@
 -- The numbers of the assertions that a tree uses are those of the moves that make it.
-use Rattle.std.proofs.Common.{◌≡◌, ℕ, zero, suc, ◌<◌, ◌≤◌, List, [], ◌∷◌, length, take, slice_get, is_some, true, false, Bool, cond, Option, Some, None, inl, inr, ⊎_elim, ◌↔◌, refl, sym, ap, subst, ◌∙◌, arith}
-use Rattle.std.specs.List.{AllZip, AllByRecursion}
-use Rattle.std.proofs.lemmas.Option.{same_Some, none-some, slice_get_within}
-use Rattle.std.proofs.lemmas.List.{take-take, length-take}
-use Rattle.mm_frame.specs.Sentence.{Sentence, SomeSentence, IsHypothesis, IsAssertion, IsLabelled}
-use Rattle.mm_frame.specs.Active.{SomeActive}
+use Rattle.std.proofs.Common.{◌≡◌, ℕ, zero, suc, ◌<◌, List, [], ◌∷◌, length, take, slice_get, is_some, true, false, Bool, cond, Some, inl, inr, ◌↔◌, refl, sym, ap, subst, ◌∙◌, arith}
+use Rattle.std.specs.List.{AllByRecursion}
+use Rattle.std.proofs.lemmas.Option.{same_Some, none-some}
+use Rattle.std.proofs.lemmas.List.{take-take}
+use Rattle.mm_frame.specs.Sentence.{Sentence, IsAssertion, IsLabelled}
 use Rattle.mm_frame.specs.Rules.{AllMeant}
 use Rattle.mm_frame.specs.Numbers.{labelled, IsNumbered, IsAssertionNumber}
-use Rattle.mm_proof.specs.Tree.{Trees, none, spelling}
+use Rattle.mm_proof.specs.Tree.{Trees, none}
 use Rattle.mm_proof.specs.Moves.{Move, name, again, mark, Makes}
 use Rattle.mm_proof.specs.Steps.{IsNumberedMove, AreNumberedMoves, IsUsable, IsUsableMove}
 use Rattle.mm_proof.specs.Used.{IsUsedNumber}
@@ -24,26 +23,29 @@ pub placed : (statements : List Sentence) (id : ℕ) (s : Sentence) → slice_ge
 placed [] id s e = absurd (none-some s e)
 placed (t ∷ statements) id s e = go (is_some t.label) refl id e (placed statements)
   where
-
     go : (b : Bool) → is_some t.label ≡ b → (i : ℕ) → slice_get (cond b (t ∷ labelled statements) (labelled statements)) i ≡ Some s
         → ((j : ℕ) (u : Sentence) → slice_get (labelled statements) j ≡ Some u → (place : ℕ) × IsNumbered statements j place u)
         → (place : ℕ) × IsNumbered (t ∷ statements) i place s
     go true is zero h rest =
         (0, record { there = h; named = ap (λ (x : Sentence). is_some x.label) (sym (same_Some t s h)) ∙ is; number = refl })
     go true is (suc i) h rest =
-        let p = rest i s h in
-        (suc p.0, record {
-          there = p.1.there;
-          named = p.1.named;
-          number = ap (λ b. length (cond b (t ∷ labelled (take p.0 statements)) (labelled (take p.0 statements)))) is ∙ ap suc p.1.number;
-        })
+        let p = rest i s h in (
+          suc p.0,
+          record {
+            there = p.1.there;
+            named = p.1.named;
+            number = ap (λ b. length (cond b (t ∷ labelled (take p.0 statements)) (labelled (take p.0 statements)))) is ∙ ap suc p.1.number;
+          },
+        )
     go false is i h rest =
-        let p = rest i s h in
-        (suc p.0, record {
-          there = p.1.there;
-          named = p.1.named;
-          number = ap (λ b. length (cond b (t ∷ labelled (take p.0 statements)) (labelled (take p.0 statements)))) is ∙ p.1.number;
-        })
+        let p = rest i s h in (
+          suc p.0,
+          record {
+            there = p.1.there;
+            named = p.1.named;
+            number = ap (λ b. length (cond b (t ∷ labelled (take p.0 statements)) (labelled (take p.0 statements)))) is ∙ p.1.number;
+          },
+        )
 
 -- a number is that of one statement
 numbered_reads : (statements : List Sentence) (id place : ℕ) (s : Sentence) → IsNumbered statements id place s → slice_get (labelled statements) id ≡ Some s

@@ -8,8 +8,7 @@ use Rattle.mm_proof.specs.declared.fault.ProofRule.{ProofRule}
 use Rattle.mm_proof.specs.declared.fault.ProofRule.TheVariants.{P1, P2, P3, P4, P5, P6, P7, P8, P9, P10, P11, P12, P13, P14, L1}
 use Rattle.mm_proof.specs.Tree.{AnyExpression}
 use Rattle.mm_proof.specs.Moves.{Move, steps_in}
-use Rattle.mm_proof.specs.Tokens.{SayMoves}
-use Rattle.mm_proof.specs.Proof.{IsWithin, rank, BreaksWhole, IsWhole, Prove, IsProvedWithin, BreaksMove, FirstAtMove, Passed, IsMoveFault, BreaksEnd, IsEndFault, IsMovesFault, IsFault}
+use Rattle.mm_proof.specs.Proof.{IsWithin, rank, BreaksWhole, Prove, IsProvedWithin, BreaksMove, FirstAtMove, Passed, IsMoveFault, BreaksEnd, IsEndFault, IsMovesFault, IsFault}
 use Rattle.mm_proof.specs.Laws.{OneTree, OneFit, OneVerdict}
 use Rattle.mm_proof.proofs.Runs.{derived_once}
 use Rattle.mm_proof.proofs.Making.{one_fit_holds, one_row}

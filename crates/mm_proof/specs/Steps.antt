@@ -10,7 +10,8 @@ use Rattle.mm_proof.specs.Moves.{Move, name, again, mark}
 -- the first move is the second, with its label's number
 abbrev pub IsNumberedMove : List Sentence → Move ℕ → Move (List ℕ) → Type 0
 IsNumberedMove statements (name id) move =
-    (s : Sentence) × (label : List ℕ) × (slice_get (labelled statements) id ≡ Some s) × IsLabelled label s × (move ≡ name label)
+    (s : Sentence) × (label : List ℕ) × (slice_get (labelled statements) id ≡ Some s)
+    × IsLabelled label s × (move ≡ name label)
 IsNumberedMove statements (again tag) move = move ≡ again tag
 IsNumberedMove statements mark move = move ≡ mark
 
@@ -18,7 +19,8 @@ IsNumberedMove statements mark move = move ≡ mark
 abbrev pub AreNumberedMoves : List Sentence → List (Move ℕ) → List (Move (List ℕ)) → Type 0
 AreNumberedMoves statements numbered moves = AllZip (IsNumberedMove statements) numbered moves
 
--- the label may be used after the statements before: it is that of an active hypothesis, or of an assertion
+-- the label may be used after the statements before: it is that of an active hypothesis, or of an
+-- assertion
 abbrev pub IsUsable : List Sentence → List ℕ → Type 0
 IsUsable before label =
     SomeActive before (λ h. IsLabelled label h × IsHypothesis h.kind)
@@ -34,7 +36,8 @@ pub record IsProofNumber (statements : List Sentence) (id place : ℕ) (s : Sent
   pub numbered : IsNumbered statements id place s
   pub provable : s.kind ≡ Provable
 
--- These are moves, by numbers, of a proof of the `$p` with this number: each label may be used at its place.
+-- These are moves, by numbers, of a proof of the `$p` with this number: each label may be used at
+-- its place.
 pub record AreSteps (statements : List Sentence) (id : ℕ) (steps : List (Move ℕ)) : Type 0 where
   pub place : ℕ
   pub s : Sentence

@@ -1,5 +1,6 @@
 -- The moves that the tokens of a proof say (the Metamath book, section 4.3 and appendix B).
-use Rattle.std.specs.Prelude.{◌≡◌, ◌≢◌, ℕ, ◌+◌, List, [], ◌∷◌, ◌++◌, length, map, slice_get, Contains, Option, Some, ◌⊎◌}
+use Rattle.std.specs.Prelude.{◌≡◌, ◌≢◌, ℕ, ◌+◌, List, [], ◌∷◌, ◌++◌, length, map, slice_get}
+use Rattle.std.specs.Prelude.{Contains, Some, ◌⊎◌}
 use Rattle.std.specs.List.{flat_map, AllZip}
 use Rattle.mm_code.specs.declared.code.Code.{Code}
 use Rattle.mm_code.specs.declared.code.Code.TheVariants.{Number, Tag}
@@ -31,7 +32,8 @@ pub record IsCompressed (tokens labels letters : List (List ℕ)) : Type 0 where
 -- the labels of a proof: all tokens of a normal one, the list of a compressed one
 abbrev pub AreLabels : List (List ℕ) → List (List ℕ) → Type 0
 AreLabels tokens labels =
-    (IsNormal tokens × (labels ≡ tokens)) ⊎ ((letters : List (List ℕ)) × IsCompressed tokens labels letters)
+    (IsNormal tokens × (labels ≡ tokens))
+    ⊎ ((letters : List (List ℕ)) × IsCompressed tokens labels letters)
 
 -- the letters of a compressed proof, joined
 abbrev pub AreLetters : List (List ℕ) → List ℕ → Type 0
@@ -39,7 +41,8 @@ AreLetters tokens text =
     (labels : List (List ℕ)) × (letters : List (List ℕ)) × IsCompressed tokens labels letters
     × (text ≡ flat_map (λ piece. piece) letters)
 
--- The code says the move, where numbers from 1 on stand for these labels in order, and those above for tags.
+-- The code says the move, where numbers from 1 on stand for these labels in order, and those above
+-- for tags.
 abbrev pub Says : List (List ℕ) → Code → Move (List ℕ) → Type 0
 Says labels (Number number) move =
     (place : ℕ) × (number ≡ place + 1)
@@ -47,9 +50,10 @@ Says labels (Number number) move =
     ⊎ ((tag : ℕ) × (place ≡ length labels + tag) × (move ≡ again tag)))
 Says labels Tag move = move ≡ mark
 
--- The codes of a compressed proof of the statement say the moves: its mandatory hypotheses come first, then the labels of
--- the list.
-pub record SaysCompressed (before : List Sentence) (s : Sentence) (tokens : List (List ℕ)) (moves : List (Move (List ℕ))) : Type 0 where
+-- The codes of a compressed proof of the statement say the moves: its mandatory hypotheses come
+-- first, then the labels of the list.
+pub record SaysCompressed (before : List Sentence) (s : Sentence) (tokens : List (List ℕ))
+    (moves : List (Move (List ℕ))) : Type 0 where
   pub listed : List (List ℕ)
   pub letters : List (List ℕ)
   pub parts : IsCompressed tokens listed letters
@@ -63,4 +67,5 @@ pub record SaysCompressed (before : List Sentence) (s : Sentence) (tokens : List
 
 -- the tokens of a proof of the statement say the moves
 abbrev pub SayMoves : List Sentence → Sentence → List (List ℕ) → List (Move (List ℕ)) → Type 0
-SayMoves before s tokens moves = (IsNormal tokens × (moves ≡ map name tokens)) ⊎ SaysCompressed before s tokens moves
+SayMoves before s tokens moves =
+    (IsNormal tokens × (moves ≡ map name tokens)) ⊎ SaysCompressed before s tokens moves

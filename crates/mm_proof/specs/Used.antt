@@ -7,7 +7,8 @@ use Rattle.mm_proof.specs.Tree.{Trees, spelling}
 -- the number is that of an assertion whose label stands in the trees
 abbrev pub IsUsedNumber : List Sentence → Trees → ℕ → Type 0
 IsUsedNumber statements trees id =
-    (place : ℕ) × (a : Sentence) × (label : List ℕ) × IsNumbered statements id place a × IsAssertion a.kind
+    (place : ℕ) × (a : Sentence) × (label : List ℕ) × IsNumbered statements id place a
+    × IsAssertion a.kind
     × IsLabelled label a × Contains (spelling trees) label
 
 -- these are the numbers of the assertions in the trees, each once, in database order

@@ -1,6 +1,7 @@
 //! Laws of verdicts on proofs. The functions do nothing: their contracts are the laws.
 
-ghost use Rattle.mm_proof.specs.Laws.{OneFit, OneTree, OneWord, ByWord, BySpelling, SomeVerdict, OneVerdict, LimitsAside};
+ghost use Rattle.mm_proof.specs.Laws.{OneFit, OneTree, OneWord, ByWord, BySpelling};
+ghost use Rattle.mm_proof.specs.Laws.{SomeVerdict, OneVerdict, LimitsAside};
 
 /// A spelling spells one tree.
 ///
