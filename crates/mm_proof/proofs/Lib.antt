@@ -24,3 +24,4 @@ pub mod Uses
 pub mod UsedNumbers
 pub mod Renamed
 pub mod Lookups
+pub mod Ties
