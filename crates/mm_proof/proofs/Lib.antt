@@ -25,3 +25,4 @@ pub mod UsedNumbers
 pub mod Renamed
 pub mod Lookups
 pub mod Ties
+pub mod ByNumber

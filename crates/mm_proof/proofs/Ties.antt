@@ -1,18 +1,18 @@
 -- What a step replaces, by the numbers of symbols and by their names, where nm gives the name of a number, and no two numbers
 -- of which P holds have one name.
-use Rattle.std.proofs.Common.{◌≡◌, ℕ, zero, suc, ◌<◌, List, [], ◌∷◌, ◌++◌, length, map, drop, slice_get, get_or, Contains, Option, Some, None, unwrap_or, option_map, ◌⊎◌, inl, inr, ⊎_elim, ◌↔◌, refl, sym, ap, subst, ◌∙◌, arith}
-use Rattle.std.specs.List.{flat_map, AllZip, AllByRecursion}
+use Rattle.std.proofs.Common.{◌≡◌, ℕ, List, [], ◌∷◌, ◌++◌, length, map, drop, slice_get, Contains, Option, Some, None, unwrap_or, option_map, ◌⊎◌, ⊎_elim, ◌↔◌, refl, sym, ap, ◌∙◌}
+use Rattle.std.specs.List.{AllZip, AllByRecursion}
 use Rattle.std.proofs.lemmas.Option.{same_Some, none-some, slice_get-map, slice_get_within, get_or_from_slice_get, slice_get-get_or}
 use Rattle.std.proofs.lemmas.List.{map-append, length-map, drop-map}
-use Rattle.mm_text.specs.declared.statement.Kind.TheVariants.{Floating, Essential}
+use Rattle.mm_text.specs.declared.statement.Kind.TheVariants.{Essential}
 use Rattle.mm_frame.specs.Sentence.{Sentence, Types}
 use Rattle.mm_frame.specs.Rules.{AllMeant}
 use Rattle.mm_proof.specs.Substitution.{substituted}
 use Rattle.mm_proof.specs.Proof.{Meets}
 use Rattle.mm_proof.proofs.Runs.{same_typing, not_essential}
-use Rattle.mm_proof.proofs.Derived.{zip_left, zip_right, all_at}
+use Rattle.mm_proof.proofs.Derived.{zip_left, zip_right}
 use Rattle.mm_proof.proofs.Renamed.{replaced_in}
-use Rattle.mm_proof.proofs.Lookups.{IsReplaced, IsKept, replaced_or_kept}
+use Rattle.mm_proof.proofs.Lookups.{replaced_or_kept}
 
 -- no two numbers of which P holds have one name
 abbrev pub IsOneToOneOn : (ℕ → Type 0) → (ℕ → List ℕ) → Type 0
