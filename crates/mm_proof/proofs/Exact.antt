@@ -1,30 +1,30 @@
--- A verdict is one, so each proof has one answer, unless memory is refused.
-use Rattle.std.proofs.Common.{ℕ, List, Result, Ok, Err, inl, inr, refl, ap, ◌∙◌}
-use Rattle.std.specs.Result.{OnOk, IfErr}
+-- A verdict is one, so each row of moves has one answer, unless memory is refused.
+use Rattle.std.proofs.Common.{◌≡◌, ℕ, List, Result, Ok, Err, inl, inr, refl, ap, ◌∙◌}
+use Rattle.std.specs.Result.{IfErr, IsOkUnless}
 use Rattle.mm_frame.specs.Sentence.{Sentence}
 use Rattle.mm_frame.specs.Rules.{AllMeant}
 use Rattle.mm_proof.specs.declared.fault.ProofRule.{ProofRule}
 use Rattle.mm_proof.specs.declared.fault.ProofFault.{ProofFault}
 use Rattle.mm_proof.specs.declared.fault.ProofFault.TheVariants.{Rule, Memory}
-use Rattle.mm_proof.specs.Proof.{IsWithinLimit, IsProvedWithin, IsFault}
 use Rattle.mm_proof.specs.Answer.{OnRule, IsUnlessMemory}
-use Rattle.mm_proof.proofs.Verdicts.{one_verdict_holds}
+use Rattle.mm_proof.specs.Moves.{Move}
+use Rattle.mm_proof.specs.Proof.{Prove, IsMovesFault}
+use Rattle.mm_proof.proofs.Verdicts.{proof_no_fault, one_moves_fault}
 
-abbrev done : Result (Unit {0}) ProofFault
-done = Ok tt
+-- what proves the statement is accepted
+pub accepts : {X : Type 0} (Fits : List (List ℕ) → Type 0) (before : List Sentence) (s : Sentence) (moves : List (Move (List ℕ))) (r : Result X ProofFault) → AllMeant before
+    → IfErr r (λ e. OnRule e (IsMovesFault Fits before s moves)) → Prove Fits before s moves → IsOkUnless r Memory
+accepts Fits before s moves (Ok x) meant f p = tt
+accepts Fits before s moves (Err Memory) meant f p = refl
+accepts Fits before s moves (Err (Rule rule step)) meant f p = absurd (proof_no_fault Fits before s moves rule step meant p f)
 
-abbrev refusal : ProofRule → ℕ → Result (Unit {0}) ProofFault
-refusal rule step = Err (Rule rule step)
-
-pub accepts : (before : List Sentence) (s : Sentence) (r : Result (Unit {0}) ProofFault) → AllMeant before → IfErr r (λ e. OnRule e (IsFault before s)) → IsProvedWithin IsWithinLimit before s → IsUnlessMemory r (Ok tt)
-accepts before s (Ok u) meant f p = inl refl
-accepts before s (Err Memory) meant f p = inr refl
-accepts before s (Err (Rule rule step)) meant f p = absurd ((one_verdict_holds before s meant).0 p rule step f)
-
-pub refuses : (before : List Sentence) (s : Sentence) (r : Result (Unit {0}) ProofFault) → AllMeant before → OnOk r (IsProvedWithin IsWithinLimit before s) → IfErr r (λ e. OnRule e (IsFault before s))
-    → (rule : ProofRule) (step : ℕ) → IsFault before s rule step → IsUnlessMemory r (Err (Rule rule step))
-refuses before s (Ok u) meant p f rule step fault = absurd ((one_verdict_holds before s meant).0 p rule step fault)
-refuses before s (Err Memory) meant p f rule step fault = inr refl
-refuses before s (Err (Rule other at)) meant p f rule step fault =
-    let same = (one_verdict_holds before s meant).1 other rule at step f fault in
-    inl (ap (λ (x : ProofRule). refusal x at) same.0 ∙ ap (λ (n : ℕ). refusal rule n) same.1)
+-- what has a fault is refused with it
+pub refuses : {X : Type 0} (Fits : List (List ℕ) → Type 0) (before : List Sentence) (s : Sentence) (moves : List (Move (List ℕ))) (r : Result X ProofFault) → AllMeant before
+    → ((x : X) → r ≡ Ok x → Prove Fits before s moves) → IfErr r (λ e. OnRule e (IsMovesFault Fits before s moves))
+    → (rule : ProofRule) (step : ℕ) → IsMovesFault Fits before s moves rule step → IsUnlessMemory r (Err (Rule rule step))
+refuses Fits before s moves (Ok x) meant p f rule step fault = absurd (proof_no_fault Fits before s moves rule step meant (p x refl) fault)
+refuses Fits before s moves (Err Memory) meant p f rule step fault = inr refl
+refuses {X} Fits before s moves (Err (Rule other at)) meant p f rule step fault =
+    let same = one_moves_fault Fits before s moves other rule at step meant f fault in
+    let refusal : ProofRule → ℕ → Result X ProofFault = λ r n. Err (Rule r n) in
+    inl (ap (λ (r : ProofRule). refusal r at) same.0 ∙ ap (λ (n : ℕ). refusal rule n) same.1)

@@ -1,58 +1,21 @@
--- A step that breaks no rule carries passed steps on: its tree stands for the trees of its hypotheses.
-use Rattle.std.proofs.Common.{◌≡◌, ℕ, suc, List, [], ◌∷◌, ◌++◌, length, take, drop, map, slice_get, Some, None, inl, inr, ⊎_elim, refl, sym, ap, subst, ◌∙◌, append_assoc, append-nil, option_map, arith}
+-- A move that breaks no rule carries passed moves on: its tree stands for the trees of its hypotheses.
+use Rattle.std.proofs.Common.{◌≡◌, ℕ, suc, List, [], ◌∷◌, ◌++◌, length, take, drop, map, slice_get, Some, None, inl, inr, ⊎_elim, refl, sym, ap, subst, ◌∙◌, option_map, arith}
 use Rattle.std.proofs.lemmas.Option.{same_Some, none-some, slice_get-map}
 use Rattle.std.proofs.lemmas.List.{length-map}
 use Rattle.mm_frame.specs.Sentence.{Sentence}
 use Rattle.mm_frame.specs.Frame.{IsMandatoryAt}
 use Rattle.mm_frame.specs.Rules.{AllMeant}
 use Rattle.mm_proof.specs.Substitution.{substituted}
-use Rattle.mm_proof.specs.Tree.{Trees, none, tree, spelling, DeriveAll}
-use Rattle.mm_proof.specs.Proof.{IsWithinLimit, IsWhole, IsProvedWithin, Passed}
+use Rattle.mm_proof.specs.Tree.{Trees, none, tree, beside, MayStandOver, DeriveAll}
+use Rattle.mm_proof.specs.Moves.{Move, name, again, mark, Makes}
+use Rattle.mm_proof.specs.Proof.{Prove, Passed}
 use Rattle.mm_proof.proofs.Places.{get_beside}
 use Rattle.mm_proof.proofs.Meaning.{meant_front, code_is_constant}
 use Rattle.mm_proof.proofs.Frames.{those_hold}
-use Rattle.mm_proof.proofs.Steps.{Applies, StepTo}
+use Rattle.mm_proof.proofs.OneStep.{Applies, StepTo}
 use Rattle.mm_proof.proofs.Runs.{typing_entry, absent}
-use Rattle.mm_proof.proofs.Growth.{beside}
-
--- ---- trees side by side
-
-spelling-beside : (a b : Trees) → spelling (beside a b) ≡ spelling a ++ spelling b
-spelling-beside none b = refl
-spelling-beside (tree label below right) b =
-    ap (λ l. spelling below ++ label ∷ l) (spelling-beside right b) ∙ sym (append_assoc (spelling below) (label ∷ spelling right) (spelling b))
-
-derive_beside : (Fits : List (List ℕ) → Type 0) (before : List Sentence) (a b : Trees) (es fs : List (List (List ℕ))) → DeriveAll Fits before a es → DeriveAll Fits before b fs
-    → DeriveAll Fits before (beside a b) (es ++ fs)
-derive_beside Fits before none b es fs d g = subst (λ l. DeriveAll Fits before b (l ++ fs)) (sym d) g
-derive_beside Fits before (tree label below right) b es fs d g =
-    (d.0, d.1 ++ fs, ap (λ l. l ++ fs) d.2, d.3, d.4, derive_beside Fits before right b d.1 fs d.5 g)
-
--- trees that derive a front and an end are trees that derive the front beside trees that derive the end
-pub record Halves (Fits : List (List ℕ) → Type 0) (before : List Sentence) (trees : Trees) (es fs : List (List (List ℕ))) : Type 0 where
-  pub left : Trees
-  pub right : Trees
-  pub parts : trees ≡ beside left right
-  pub derive_left : DeriveAll Fits before left es
-  pub derive_right : DeriveAll Fits before right fs
-
-same_lists : (x y : List (List ℕ)) (xs ys : List (List (List ℕ))) → x ∷ xs ≡ y ∷ ys → (x ≡ y) × (xs ≡ ys)
-same_lists x y xs ys e = (cc, cc)
-
-derive_halves : (Fits : List (List ℕ) → Type 0) (before : List Sentence) (trees : Trees) (es fs : List (List (List ℕ))) → DeriveAll Fits before trees (es ++ fs) → Halves Fits before trees es fs
-derive_halves Fits before none [] fs d = record { left = none; right = none; parts = refl; derive_left = refl; derive_right = d }
-derive_halves Fits before none (e ∷ es) fs d = absurd (let p : e ∷ (es ++ fs) ≡ [] = d in cc)
-derive_halves Fits before (tree label below right) [] fs d = record { left = none; right = tree label below right; parts = refl; derive_left = refl; derive_right = d }
-derive_halves Fits before (tree label below right) (e ∷ es) fs d =
-    let same = same_lists e d.0 (es ++ fs) d.1 d.2 in
-    let h = derive_halves Fits before right es fs (subst (DeriveAll Fits before right) (sym same.1) d.5) in
-    record {
-      left = tree label below h.left;
-      right = h.right;
-      parts = ap (tree label below) h.parts;
-      derive_left = (d.0, es, ap (λ x. x ∷ es) same.0, d.3, d.4, h.derive_left);
-      derive_right = h.derive_right;
-    }
+use Rattle.mm_proof.proofs.Making.{beside-none, makes_more, roots_derive}
+use Rattle.mm_proof.proofs.Derived.{zip_push, zip_right, derive_beside, derive_halves, single_derives}
 
 -- ---- the entries are the substituted hypotheses
 
@@ -91,55 +54,101 @@ entries_are before stack label rest e all p =
     entry_is before stack label rest e all p i h.0 entry h.1 at
     ∙ same_Some (f h.0) made (sym (slice_get-map f p.meets.hypotheses i ∙ ap (λ o. option_map f o) h.1) ∙ there))
 
--- ---- one step more
+-- ---- one move more
 
-pub passed_none : (before : List Sentence) → Passed before [] []
-passed_none before = record { trees = none; spelled = refl; derived = refl }
+-- no moves
+pub passed_none : (Fits : List (List ℕ) → Type 0) (before : List Sentence) → Passed Fits before [] [] []
+passed_none Fits before = record { trees = none; shelf = []; made = (refl, refl); derived = refl; kept_derived = tt }
 
-more_trees : (before : List Sentence) (labels : List (List ℕ)) (label : List ℕ) (left below : Trees) (rest : List (List (List ℕ))) (e : List (List ℕ))
-    → spelling left ++ spelling below ≡ labels → DeriveAll IsWithinLimit before left rest → DeriveAll IsWithinLimit before (tree label below none) (e ∷ [])
-    → Passed before (labels ++ label ∷ []) (rest ++ e ∷ [])
-more_trees before labels label left below rest e spelled d g = record {
-  trees = beside left (tree label below none);
-  spelled = spelling-beside left (tree label below none) ∙ sym (append_assoc (spelling left) (spelling below) (label ∷ [])) ∙ ap (λ l. l ++ label ∷ []) spelled;
-  derived = derive_beside IsWithinLimit before left (tree label below none) rest (e ∷ []) d g;
+-- what the tree of a step stands over, and that it derives what the step makes
+pub record Stands (Fits : List (List ℕ) → Type 0) (before : List Sentence) (trees : Trees) (label : List ℕ) (rest : List (List (List ℕ))) (e : List (List ℕ)) : Type 0 where
+  pub left : Trees
+  pub below : Trees
+  pub parts : trees ≡ beside left below
+  pub may : MayStandOver before label below
+  pub derive_left : DeriveAll Fits before left rest
+  pub derive_tree : DeriveAll Fits before (tree label below none) (e ∷ [])
+
+pub step_stands : (Fits : List (List ℕ) → Type 0) (before : List Sentence) (trees : Trees) (stack : List (List (List ℕ))) (label : List ℕ) (rest : List (List (List ℕ))) (e : List (List ℕ)) → AllMeant before
+    → DeriveAll Fits before trees stack → StepTo before stack label rest e → Fits e → Stands Fits before trees label rest e
+step_stands Fits before trees stack label rest e all derived (inl p) fits = record {
+  left = trees;
+  below = none;
+  parts = sym (beside-none trees);
+  may = inl (refl, (p.place, p.hypothesis, p.there, p.active, (p.named, p.kind)));
+  derive_left = subst (DeriveAll Fits before trees) (sym p.kept) derived;
+  derive_tree = (e, [], refl, fits, inl (refl, (p.place, p.hypothesis, p.there, p.active, (p.named, p.kind, p.made))), refl);
 }
-
-pub passed_step : (before : List Sentence) (labels : List (List ℕ)) (stack : List (List (List ℕ))) (label : List ℕ) (rest : List (List (List ℕ))) (e : List (List ℕ)) → AllMeant before
-    → Passed before labels stack → StepTo before stack label rest e → IsWithinLimit e → Passed before (labels ++ label ∷ []) (rest ++ e ∷ [])
-passed_step before labels stack label rest e all passed (inl p) within =
-    more_trees before labels label passed.trees none rest e (append-nil (spelling passed.trees) ∙ passed.spelled)
-    (subst (DeriveAll IsWithinLimit before passed.trees) (sym p.kept) passed.derived)
-    (e, [], refl, within, inl (refl, (p.place, p.hypothesis, p.there, p.active, (p.named, p.kind, p.made))), refl)
-passed_step before labels stack label rest e all passed (inr p) within =
+step_stands Fits before trees stack label rest e all derived (inr p) fits =
     let m = p.meets in
-    let h = derive_halves IsWithinLimit before passed.trees m.rest m.entries (subst (DeriveAll IsWithinLimit before passed.trees) m.split passed.derived) in
-    let children : DeriveAll IsWithinLimit before h.right (map (λ (t : Sentence). substituted m.σ t.symbols) m.hypotheses) =
-    subst (DeriveAll IsWithinLimit before h.right) (entries_are before stack label rest e all p) h.derive_right in
-    more_trees before labels label h.left h.right rest e (sym (spelling-beside h.left h.right) ∙ ap spelling (sym h.parts) ∙ passed.spelled)
-    (subst (DeriveAll IsWithinLimit before h.left) (sym p.kept) h.derive_left)
-    (e, [], refl, within, inr (m.place, m.assertion, m.hypotheses, m.σ, m.names, m.on, children, p.apart, p.made), refl)
+    let h = derive_halves Fits before trees m.rest m.entries (subst (DeriveAll Fits before trees) m.split derived) in
+    let f : Sentence → List (List ℕ) = λ t. substituted m.σ t.symbols in
+    let children : DeriveAll Fits before h.right (map f m.hypotheses) =
+    subst (DeriveAll Fits before h.right) (entries_are before stack label rest e all p) h.derive_right in
+    record {
+      left = h.left;
+      below = h.right;
+      parts = h.parts;
+      may = inr (m.place, m.assertion, m.hypotheses, m.names, roots_derive Fits before h.right (map f m.hypotheses) children ∙ length-map m.hypotheses f);
+      derive_left = subst (DeriveAll Fits before h.left) (sym p.kept) h.derive_left;
+      derive_tree = (e, [], refl, fits, inr (m.place, m.assertion, m.hypotheses, m.σ, m.names, m.on, children, p.apart, p.made), refl);
+    }
+
+-- a step by a label
+pub passed_name : (Fits : List (List ℕ) → Type 0) (before : List Sentence) (moves : List (Move (List ℕ))) (stack kept : List (List (List ℕ))) (label : List ℕ) (rest : List (List (List ℕ))) (e : List (List ℕ)) → AllMeant before
+    → Passed Fits before moves stack kept → StepTo before stack label rest e → Fits e → Passed Fits before (moves ++ name label ∷ []) (rest ++ e ∷ []) kept
+passed_name Fits before moves stack kept label rest e all passed step fits =
+    let s = step_stands Fits before passed.trees stack label rest e all passed.derived step fits in
+    record {
+      trees = beside s.left (tree label s.below none);
+      shelf = passed.shelf;
+      made = makes_more before moves (name label) none passed.trees (beside s.left (tree label s.below none)) [] passed.shelf passed.shelf passed.made
+          (s.left, s.below, s.parts, s.may, refl, refl);
+      derived = derive_beside Fits before s.left (tree label s.below none) rest (e ∷ []) s.derive_left s.derive_tree;
+      kept_derived = passed.kept_derived;
+    }
+
+-- a step by a tag
+pub passed_again : (Fits : List (List ℕ) → Type 0) (before : List Sentence) (moves : List (Move (List ℕ))) (stack kept : List (List (List ℕ))) (tag : ℕ) (e : List (List ℕ))
+    → Passed Fits before moves stack kept → slice_get kept tag ≡ Some e → Passed Fits before (moves ++ again tag ∷ []) (stack ++ e ∷ []) kept
+passed_again Fits before moves stack kept tag e passed there =
+    let t = zip_right (λ u f. DeriveAll Fits before u (f ∷ [])) passed.shelf kept tag e passed.kept_derived there in
+    record {
+      trees = beside passed.trees t.0;
+      shelf = passed.shelf;
+      made = makes_more before moves (again tag) none passed.trees (beside passed.trees t.0) [] passed.shelf passed.shelf passed.made (t.0, t.1, refl, refl);
+      derived = derive_beside Fits before passed.trees t.0 stack (e ∷ []) passed.derived t.2;
+      kept_derived = passed.kept_derived;
+    }
+
+-- a mark
+pub passed_mark : (Fits : List (List ℕ) → Type 0) (before : List Sentence) (moves : List (Move (List ℕ))) (rest kept : List (List (List ℕ))) (e : List (List ℕ))
+    → Passed Fits before moves (rest ++ e ∷ []) kept → Passed Fits before (moves ++ mark ∷ []) (rest ++ e ∷ []) (kept ++ e ∷ [])
+passed_mark Fits before moves rest kept e passed =
+    let h = derive_halves Fits before passed.trees rest (e ∷ []) passed.derived in
+    let one = single_derives Fits before h.right e h.derive_right in
+    let t : Trees = tree one.0 one.1 none in
+    record {
+      trees = passed.trees;
+      shelf = passed.shelf ++ t ∷ [];
+      made = makes_more before moves mark none passed.trees passed.trees [] passed.shelf (passed.shelf ++ t ∷ []) passed.made
+          (h.left, one.0, one.1, h.parts ∙ ap (beside h.left) one.2, refl, refl);
+      derived = passed.derived;
+      kept_derived = zip_push (λ u f. DeriveAll Fits before u (f ∷ [])) passed.shelf kept t e passed.kept_derived
+          (subst (λ u. DeriveAll Fits before u (e ∷ [])) one.2 h.derive_right);
+    }
 
 -- ---- the end
 
-nothing_derives : (before : List Sentence) (trees : Trees) → DeriveAll IsWithinLimit before trees [] → trees ≡ none
-nothing_derives before none d = refl
-nothing_derives before (tree label below right) d = absurd (let p : [] ≡ d.0 ∷ d.1 = d.2 in cc)
-
-one_tree_of : (before : List Sentence) (s : Sentence) (trees : Trees) → IsWhole before s → spelling trees ≡ s.proof → DeriveAll IsWithinLimit before trees (s.symbols ∷ [])
-    → IsProvedWithin IsWithinLimit before s
-one_tree_of before s none whole spelled d = absurd (let p : s.symbols ∷ [] ≡ [] = d in cc)
-one_tree_of before s (tree label below right) whole spelled d =
-    let same = same_lists s.symbols d.0 [] d.1 d.2 in
-    let bare : right ≡ none = nothing_derives before right (subst (DeriveAll IsWithinLimit before right) (sym same.1) d.5) in
+-- all moves passed and left the statement's expression
+pub prove_at_end : (Fits : List (List ℕ) → Type 0) (before : List Sentence) (s : Sentence) (moves : List (Move (List ℕ))) (kept : List (List (List ℕ)))
+    → Passed Fits before moves (s.symbols ∷ []) kept → Prove Fits before s moves
+prove_at_end Fits before s moves kept passed =
+    let one = single_derives Fits before passed.trees s.symbols passed.derived in
     record {
-      whole = whole;
-      label = label;
-      below = below;
-      spelled = subst (λ r. spelling (tree label below r) ≡ s.proof) bare spelled;
-      derived = subst (λ r. DeriveAll IsWithinLimit before (tree label below r) (s.symbols ∷ [])) bare d;
+      label = one.0;
+      below = one.1;
+      kept = passed.shelf;
+      made = subst (λ t. Makes before moves none [] t passed.shelf) one.2 passed.made;
+      derived = subst (λ t. DeriveAll Fits before t (s.symbols ∷ [])) one.2 passed.derived;
     }
-
--- all steps passed and left the statement's expression
-pub proved_at_end : (before : List Sentence) (s : Sentence) → IsWhole before s → Passed before s.proof (s.symbols ∷ []) → IsProvedWithin IsWithinLimit before s
-proved_at_end before s whole p = one_tree_of before s p.trees whole p.spelled p.derived

@@ -1,30 +1,30 @@
 -- Each proof has a verdict: the rules that it breaks can be found, and where it breaks none it is proved.
-use Rattle.std.proofs.Common.{◌≡◌, ◌≢◌, ℕ, zero, suc, ◌+◌, ◌-◌, ◌<◌, List, [], ◌∷◌, ◌++◌, length, take, drop, slice_get, Contains, Option, Some, None, ◌⊎◌, inl, inr, ⊎_elim, refl, sym, ap, subst, ◌∙◌, append_assoc, append-nil, arith}
-use Rattle.std.proofs.lemmas.Option.{same_Some, none-some}
+use Rattle.std.proofs.Common.{◌≡◌, ◌≢◌, ℕ, zero, suc, ◌+◌, ◌-◌, ◌<◌, List, [], ◌∷◌, ◌++◌, length, take, drop, slice_get, get_or, Option, Some, None, ◌⊎◌, inl, inr, ⊎_elim, refl, sym, ap, subst, ◌∙◌, append_assoc, append-nil, lt_irrefl, arith}
+use Rattle.std.specs.List.{AllByRecursion}
+use Rattle.std.proofs.lemmas.Option.{same_Some, none-some, slice_get-get_or}
 use Rattle.std.proofs.lemmas.Bool.{cases_lt}
 use Rattle.std.proofs.lemmas.List.{length-drop, take-append-drop}
-use Rattle.std.proofs.lemmas.List.Elements.{Contains-append_right}
 use Rattle.std.proofs.Math.Decide.{ℕ_discrete}
-use Rattle.mm_text.specs.declared.statement.Kind.{Kind}
-use Rattle.mm_text.specs.declared.statement.Kind.TheVariants.{Floating, Essential, Axiom, Provable}
-use Rattle.mm_frame.specs.Sentence.{Sentence, SomeSentence, IsHypothesis, IsAssertion, IsLabelled}
+use Rattle.mm_text.specs.declared.statement.Kind.TheVariants.{Floating, Essential}
+use Rattle.mm_frame.specs.Sentence.{Sentence, IsHypothesis, IsAssertion, IsLabelled}
 use Rattle.mm_frame.specs.Active.{IsActive}
 use Rattle.mm_frame.specs.Frame.{IsMandatoryAt, AreMandatory, IsMandatoryPair}
 use Rattle.mm_frame.specs.Rules.{AllMeant}
 use Rattle.mm_proof.specs.declared.fault.ProofRule.{ProofRule}
 use Rattle.mm_proof.specs.declared.fault.ProofRule.TheVariants.{P1, P2, P3, P4, P5, P6, P7, P8, P9, P10, P11, P12, P13, P14, L1}
-use Rattle.mm_proof.specs.Formed.{IsNamed, AllFormed}
-use Rattle.mm_proof.specs.Laws.{SomeVerdict}
 use Rattle.mm_proof.specs.Substitution.{substituted}
 use Rattle.mm_proof.specs.Tree.{Names, ShareNoVariable, AreDistinct}
-use Rattle.mm_proof.specs.Proof.{IsWithinLimit, rank, BreaksWhole, IsWhole, IsProvedWithin, Meets, SomePair, SomeReplacedPair, BreaksStep, FirstAtStep, Passed, IsFault}
-use Rattle.mm_proof.proofs.Steps.{StepTo, hypothesis_or_assertion, meets_enough, Agree, agree, same_substituted}
-use Rattle.mm_proof.proofs.Limits.{within_or_over}
-use Rattle.mm_proof.proofs.Decisions.{dec_both, dec_as, dec_some, kind_dec, symbol_dec, expression_dec, active_dec}
-use Rattle.mm_proof.proofs.Searches.{dec_or, dec_not, dec_member, label_dec, sentence_dec, mandatory_at_dec, those_of, share_dec, apart_dec, BothReplaced, some_pair_dec}
+use Rattle.mm_proof.specs.Moves.{Move, name, again, mark, steps_in}
+use Rattle.mm_proof.specs.Steps.{IsUsable, IsUsableMove}
+use Rattle.mm_proof.specs.Proof.{IsWithin, rank, BreaksWhole, Prove, Meets, SomePair, SomeReplacedPair, BreaksStep, BreaksMove, FirstAtMove, Passed, IsMovesFault}
+use Rattle.mm_proof.specs.Laws.{SomeVerdict}
+use Rattle.mm_proof.proofs.OneStep.{StepTo, hypothesis_or_assertion, meets_enough, Agree, agree, same_substituted, step_breaks_none, step_breaks_limit}
+use Rattle.mm_proof.proofs.Decisions.{dec_both, dec_as, dec_some, kind_dec, symbol_dec, expression_dec}
+use Rattle.mm_proof.proofs.Searches.{dec_not, mandatory_at_dec, those_of, share_dec, apart_dec, BothReplaced, some_pair_dec}
 use Rattle.mm_proof.proofs.Replacements.{meets_of}
-use Rattle.mm_proof.proofs.Forward.{passed_none, passed_step, proved_at_end}
-use Rattle.mm_proof.proofs.Verdicts.{ranked, at_rank, limit_first}
+use Rattle.mm_proof.proofs.Forward.{passed_none, passed_name, passed_again, passed_mark, prove_at_end}
+use Rattle.mm_proof.proofs.SaidMoves.{whole_dec, some_moves, moves_usable}
+use Rattle.mm_proof.proofs.Verdicts.{ranked, at_rank}
 
 -- ---- the first of the rules that are broken
 
@@ -76,21 +76,23 @@ first_below Broken each (suc n) = go (first_below Broken each n) (slice_get rank
 first_or_none : (Broken : ProofRule → Type 0) → ((rule : ProofRule) → Dec (Broken rule)) → First Broken ⊎ ((rule : ProofRule) → ¬ (Broken rule))
 first_or_none Broken each = ⊎_elim (λ f. inl f) (λ none. inr (λ rule. none rule (rank_below rule))) (first_below Broken each 16)
 
--- ---- the rules over the whole proof
+-- ---- the rules at a step by a label
 
-whole_dec : (before : List Sentence) (s : Sentence) (rule : ProofRule) → Dec (BreaksWhole rule before s)
-whole_dec before s P2 = dec_member (λ label. ¬ (SomeSentence before (IsLabelled label))) (λ label. dec_not (sentence_dec before (IsLabelled label) (label_dec label))) s.proof
-whole_dec before s P3 = dec_as
-    (λ h. (h.0, h.1, h.2.0, h.2.1, h.2.2, h.2.3.0.0, h.2.3.0.1, h.2.3.1)) (λ h. (h.0, h.1, (h.2, h.3, h.4, ((h.5, h.6), h.7))))
-    (dec_member (λ label. (place : ℕ) × (h : Sentence) × (slice_get before place ≡ Some h) × ((IsLabelled label h × IsHypothesis h.kind) × ¬ (IsActive before place)))
-    (λ label. dec_some (λ place (h : Sentence). (IsLabelled label h × IsHypothesis h.kind) × ¬ (IsActive before place))
-    (λ place h. dec_both (dec_both (label_dec label h) (dec_or (kind_dec h.kind Floating) (kind_dec h.kind Essential))) (dec_not (active_dec before place))) before) s.proof)
-whole_dec before s rule = no (λ b. b)
+-- the first rule that the step breaks
+abbrev pub FirstAtStep : (List (List ℕ) → Type 0) → ProofRule → List Sentence → List (List (List ℕ)) → List ℕ → Type 0
+FirstAtStep Fits rule before stack label =
+    BreaksStep Fits rule before stack label × ((other : ProofRule) → rank other < rank rule → ¬ (BreaksStep Fits other before stack label))
 
--- ---- the rules at a step
+-- a step over the limit that breaks no rule breaks the limit first
+pub limit_first : (Fits : List (List ℕ) → Type 0) (before : List Sentence) (stack : List (List (List ℕ))) (label : List ℕ) (rest : List (List (List ℕ))) (e : List (List ℕ)) → AllMeant before
+    → ¬ (Fits e) → StepTo before stack label rest e → FirstAtStep Fits L1 before stack label
+limit_first Fits before stack label rest e all over step = (
+  step_breaks_limit Fits before stack label rest e over step,
+  λ other less. step_breaks_none Fits other before stack label rest e all (λ same. absurd (lt_irrefl (rank L1) (subst (λ r. rank r < rank L1) same less))) step,
+)
 
-within_dec : (e : List (List ℕ)) → Dec (IsWithinLimit e)
-within_dec e = elim (within_or_over e) [ inl w ↦ yes w | inr o ↦ no o ]
+within_or_over : (Fits : List (List ℕ) → Type 0) (each : (e : List (List ℕ)) → Dec (Fits e)) (e : List (List ℕ)) → Fits e ⊎ (¬ (Fits e))
+within_or_over Fits each e = elim (each e) [ yes w ↦ inl w | no n ↦ inr n ]
 
 first_symbol_dec : (a b : Option (List ℕ)) → Dec (a ≡ b)
 first_symbol_dec None None = yes refl
@@ -127,39 +129,39 @@ replaced_dec : (before : List Sentence) (stack : List (List (List ℕ))) (label 
 replaced_dec before stack label m P all each = dec_as (λ h. (m, h.0, h.1, h.3.0, h.3.1, h.2, h.3.2, h.3.3, h.3.4)) (replaced_moved before stack label m P all)
     (some_pair_dec (take m.place before) m.assertion m.σ P each)
 
-over_of : (before : List Sentence) (stack : List (List (List ℕ))) (label : List ℕ) → AllMeant before → (m : Meets before stack label) → BreaksStep L1 before stack label
-    → ¬ (IsWithinLimit (substituted m.σ m.assertion.symbols))
-over_of before stack label all m (inl b) within =
+over_of : (Fits : List (List ℕ) → Type 0) (before : List Sentence) (stack : List (List (List ℕ))) (label : List ℕ) → AllMeant before → (m : Meets before stack label) → BreaksStep Fits L1 before stack label
+    → ¬ (Fits (substituted m.σ m.assertion.symbols))
+over_of Fits before stack label all m (inl b) within =
     absurd (hypothesis_or_assertion before b.0 m.place b.1 m.assertion label all b.2 m.names.there b.4.0 m.names.named b.4.1 m.names.kind)
-over_of before stack label all m (inr b) within =
+over_of Fits before stack label all m (inr b) within =
     let a = agree before stack label all m b.0 in
     let same : substituted m.σ m.assertion.symbols ≡ substituted b.0.σ b.0.assertion.symbols =
     same_substituted m.σ b.0.σ m.assertion.symbols a.replacement ∙ ap (λ (t : Sentence). substituted b.0.σ t.symbols) a.assertion in
-    b.1 (subst (λ l. IsWithinLimit l) same within)
+    b.1 (subst (λ l. Fits l) same within)
 
 -- at a step that meets its hypotheses
-meets_dec : (before : List Sentence) (stack : List (List (List ℕ))) (label : List ℕ) → AllMeant before → Meets before stack label → (rule : ProofRule) → Dec (BreaksStep rule before stack label)
-meets_dec before stack label all m P8 = no (meets_enough before stack label all m)
-meets_dec before stack label all m P9 = dec_as (λ x. (m, x)) (λ b. pair_moved before stack label m b.0 (λ h entry. (h.kind ≡ Floating) × (slice_get entry 0 ≢ slice_get h.symbols 0)) (agree before stack label all m b.0) b.1)
+meets_dec : (Fits : List (List ℕ) → Type 0) (each : (e : List (List ℕ)) → Dec (Fits e)) (before : List Sentence) (stack : List (List (List ℕ))) (label : List ℕ) → AllMeant before → Meets before stack label → (rule : ProofRule) → Dec (BreaksStep Fits rule before stack label)
+meets_dec Fits each before stack label all m P8 = no (meets_enough Fits before stack label all m)
+meets_dec Fits each before stack label all m P9 = dec_as (λ x. (m, x)) (λ b. pair_moved before stack label m b.0 (λ h entry. (h.kind ≡ Floating) × (slice_get entry 0 ≢ slice_get h.symbols 0)) (agree before stack label all m b.0) b.1)
     (pair_dec m.hypotheses m.entries (λ h entry. (h.kind ≡ Floating) × (slice_get entry 0 ≢ slice_get h.symbols 0))
     (λ h entry. dec_both (kind_dec h.kind Floating) (dec_not (first_symbol_dec (slice_get entry 0) (slice_get h.symbols 0)))))
-meets_dec before stack label all m P10 = dec_as (λ x. (m, x))
+meets_dec Fits each before stack label all m P10 = dec_as (λ x. (m, x))
     (λ b. let a = agree before stack label all m b.0 in
     let x = pair_moved before stack label m b.0 (λ h entry. (h.kind ≡ Essential) × (entry ≢ substituted b.0.σ h.symbols)) a b.1 in
     (x.0, x.1, x.2, x.3, x.4, (x.5.0, λ e. x.5.1 (e ∙ same_substituted m.σ b.0.σ x.1.symbols a.replacement))))
     (pair_dec m.hypotheses m.entries (λ h entry. (h.kind ≡ Essential) × (entry ≢ substituted m.σ h.symbols))
     (λ h entry. dec_both (kind_dec h.kind Essential) (dec_not (expression_dec entry (substituted m.σ h.symbols)))))
-meets_dec before stack label all m P11 = replaced_dec before stack label m (λ e f. ¬ (ShareNoVariable before e f)) all (λ e f. dec_not (share_dec before e f))
-meets_dec before stack label all m P12 = replaced_dec before stack label m (λ e f. ¬ (AreDistinct before e f)) all (λ e f. dec_not (apart_dec before e f))
-meets_dec before stack label all m L1 = dec_as (λ over. inr (m, over)) (over_of before stack label all m) (dec_not (within_dec (substituted m.σ m.assertion.symbols)))
-meets_dec before stack label all m rule = no (λ b. b)
+meets_dec Fits each before stack label all m P11 = replaced_dec before stack label m (λ e f. ¬ (ShareNoVariable before e f)) all (λ e f. dec_not (share_dec before e f))
+meets_dec Fits each before stack label all m P12 = replaced_dec before stack label m (λ e f. ¬ (AreDistinct before e f)) all (λ e f. dec_not (apart_dec before e f))
+meets_dec Fits each before stack label all m L1 = dec_as (λ over. inr (m, over)) (over_of Fits before stack label all m) (dec_not (each (substituted m.σ m.assertion.symbols)))
+meets_dec Fits each before stack label all m rule = no (λ b. b)
 
 -- ---- a step that breaks no rule
 
 -- the step that meets its hypotheses and breaks no rule
-step_of : (before : List Sentence) (stack : List (List (List ℕ))) (label : List ℕ) (m : Meets before stack label) → ((rule : ProofRule) → ¬ (BreaksStep rule before stack label))
+step_of : (Fits : List (List ℕ) → Type 0) (before : List Sentence) (stack : List (List (List ℕ))) (label : List ℕ) (m : Meets before stack label) → ((rule : ProofRule) → ¬ (BreaksStep Fits rule before stack label))
     → StepTo before stack label m.rest (substituted m.σ m.assertion.symbols)
-step_of before stack label m none = inr (record {
+step_of Fits before stack label m none = inr (record {
   meets = m;
   kept = refl;
   typed = λ i h entry there at floating.
@@ -178,124 +180,137 @@ step_of before stack label m none = inr (record {
     unless (no n) h = absurd (h n)
 
 -- what a step does: it goes on within the limit, or it breaks a rule first
-abbrev Outcome : List Sentence → List (List (List ℕ)) → List ℕ → Type 0
-Outcome before stack label = ((rest : List (List (List ℕ))) × (e : List (List ℕ)) × StepTo before stack label rest e × IsWithinLimit e) ⊎ ((rule : ProofRule) × FirstAtStep rule before stack label)
+abbrev Outcome : (List (List ℕ) → Type 0) → List Sentence → List (List (List ℕ)) → List ℕ → Type 0
+Outcome Fits before stack label = ((rest : List (List (List ℕ))) × (e : List (List ℕ)) × StepTo before stack label rest e × Fits e) ⊎ ((rule : ProofRule) × FirstAtStep Fits rule before stack label)
 
-made_outcome : (before : List Sentence) (stack : List (List (List ℕ))) (label : List ℕ) (rest : List (List (List ℕ))) (e : List (List ℕ)) → AllMeant before
-    → StepTo before stack label rest e → Outcome before stack label
-made_outcome before stack label rest e all step = elim (within_or_over e) [
+made_outcome : (Fits : List (List ℕ) → Type 0) (each : (e : List (List ℕ)) → Dec (Fits e)) (before : List Sentence) (stack : List (List (List ℕ))) (label : List ℕ) (rest : List (List (List ℕ))) (e : List (List ℕ)) → AllMeant before
+    → StepTo before stack label rest e → Outcome Fits before stack label
+made_outcome Fits each before stack label rest e all step = elim (within_or_over Fits each e) [
   | inl within ↦ inl (rest, e, step, within)
-  | inr over ↦ inr (L1, limit_first before stack label rest e all over step)
+  | inr over ↦ inr (L1, limit_first Fits before stack label rest e all over step)
 ]
 
 -- an assertion's step with entries for all its hypotheses
-meets_outcome : (before : List Sentence) (stack : List (List (List ℕ))) (label : List ℕ) → AllMeant before → Meets before stack label → Outcome before stack label
-meets_outcome before stack label all m = ⊎_elim (λ f. inr (f.rule, record { broken = f.broken; first = f.first }))
-    (λ none. made_outcome before stack label m.rest (substituted m.σ m.assertion.symbols) all (step_of before stack label m none))
-    (first_or_none (λ rule. BreaksStep rule before stack label) (meets_dec before stack label all m))
+meets_outcome : (Fits : List (List ℕ) → Type 0) (each : (e : List (List ℕ)) → Dec (Fits e)) (before : List Sentence) (stack : List (List (List ℕ))) (label : List ℕ) → AllMeant before → Meets before stack label → Outcome Fits before stack label
+meets_outcome Fits each before stack label all m = ⊎_elim (λ f. inr (f.rule, (f.broken, f.first)))
+    (λ none. made_outcome Fits each before stack label m.rest (substituted m.σ m.assertion.symbols) all (step_of Fits before stack label m none))
+    (first_or_none (λ rule. BreaksStep Fits rule before stack label) (meets_dec Fits each before stack label all m))
 
 -- below the entries that an assertion wants, P8 is the first rule broken
-below_P8 : (before : List Sentence) (stack : List (List (List ℕ))) (label : List ℕ) (other : ProofRule) → rank other < rank P8 → ¬ (BreaksStep other before stack label)
-below_P8 before stack label P8 less = absurd (omega arith)
-below_P8 before stack label P9 less = absurd (omega arith)
-below_P8 before stack label P10 less = absurd (omega arith)
-below_P8 before stack label P11 less = absurd (omega arith)
-below_P8 before stack label P12 less = absurd (omega arith)
-below_P8 before stack label L1 less = absurd (omega arith)
-below_P8 before stack label rule less = λ b. b
+below_P8 : (Fits : List (List ℕ) → Type 0) (before : List Sentence) (stack : List (List (List ℕ))) (label : List ℕ) (other : ProofRule) → rank other < rank P8 → ¬ (BreaksStep Fits other before stack label)
+below_P8 Fits before stack label P8 less = absurd (omega arith)
+below_P8 Fits before stack label P9 less = absurd (omega arith)
+below_P8 Fits before stack label P10 less = absurd (omega arith)
+below_P8 Fits before stack label P11 less = absurd (omega arith)
+below_P8 Fits before stack label P12 less = absurd (omega arith)
+below_P8 Fits before stack label L1 less = absurd (omega arith)
+below_P8 Fits before stack label rule less = λ b. b
 
-named_outcome : (before : List Sentence) (stack : List (List (List ℕ))) (label : List ℕ) (place : ℕ) (assertion : Sentence) (hypotheses : List Sentence) → AllMeant before
-    → Names before label place assertion hypotheses → Outcome before stack label
-named_outcome before stack label place assertion hypotheses all names = elim (cases_lt (length stack) (length hypotheses)) [
-  | inl short ↦ inr (P8, record { broken = (place, assertion, hypotheses, names, short); first = below_P8 before stack label })
+named_outcome : (Fits : List (List ℕ) → Type 0) (each : (e : List (List ℕ)) → Dec (Fits e)) (before : List Sentence) (stack : List (List (List ℕ))) (label : List ℕ) (place : ℕ) (assertion : Sentence) (hypotheses : List Sentence) → AllMeant before
+    → Names before label place assertion hypotheses → Outcome Fits before stack label
+named_outcome Fits each before stack label place assertion hypotheses all names = elim (cases_lt (length stack) (length hypotheses)) [
+  | inl short ↦ inr (P8, ((place, assertion, hypotheses, names, short), below_P8 Fits before stack label))
   | inr enough ↦
       let n : ℕ = length stack - length hypotheses in
-      meets_outcome before stack label all (meets_of before stack label place assertion hypotheses (take n stack) (drop n stack) all names (sym (take-append-drop n stack))
+      meets_outcome Fits each before stack label all (meets_of before stack label place assertion hypotheses (take n stack) (drop n stack) all names (sym (take-append-drop n stack))
       (omega (arith, length-drop n stack)))
 ]
 
-assertion_outcome : (before : List Sentence) (stack : List (List (List ℕ))) (label : List ℕ) (place : ℕ) (a : Sentence) → AllMeant before → slice_get before place ≡ Some a
-    → IsLabelled label a → IsAssertion a.kind → Outcome before stack label
-assertion_outcome before stack label place a all there named kind =
+assertion_outcome : (Fits : List (List ℕ) → Type 0) (each : (e : List (List ℕ)) → Dec (Fits e)) (before : List Sentence) (stack : List (List (List ℕ))) (label : List ℕ) (place : ℕ) (a : Sentence) → AllMeant before → slice_get before place ≡ Some a
+    → IsLabelled label a → IsAssertion a.kind → Outcome Fits before stack label
+assertion_outcome Fits each before stack label place a all there named kind =
     let frame : (hypotheses : List Sentence) × AreMandatory (take place before) a hypotheses =
     those_of (IsMandatoryAt (take place before) a) (mandatory_at_dec (take place before) a) 0 (take place before) in
-    named_outcome before stack label place a frame.0 all (record { there = there; named = named; kind = kind; mandatory = frame.1 })
+    named_outcome Fits each before stack label place a frame.0 all (record { there = there; named = named; kind = kind; mandatory = frame.1 })
 
-hypothesis_outcome : (before : List Sentence) (stack : List (List (List ℕ))) (label : List ℕ) (place : ℕ) (h : Sentence) → AllMeant before → slice_get before place ≡ Some h
-    → IsActive before place → IsLabelled label h → IsHypothesis h.kind → Outcome before stack label
-hypothesis_outcome before stack label place h all there active named kind =
-    made_outcome before stack label stack h.symbols all (inl (record { kept = refl; place = place; hypothesis = h; there = there; active = active; named = named; kind = kind; made = refl }))
+hypothesis_outcome : (Fits : List (List ℕ) → Type 0) (each : (e : List (List ℕ)) → Dec (Fits e)) (before : List Sentence) (stack : List (List (List ℕ))) (label : List ℕ) (place : ℕ) (h : Sentence) → AllMeant before → slice_get before place ≡ Some h
+    → IsActive before place → IsLabelled label h → IsHypothesis h.kind → Outcome Fits before stack label
+hypothesis_outcome Fits each before stack label place h all there active named kind =
+    made_outcome Fits each before stack label stack h.symbols all (inl (record { kept = refl; place = place; hypothesis = h; there = there; active = active; named = named; kind = kind; made = refl }))
 
--- what has a label is a hypothesis or an assertion
-labelled_kind : (k : Kind) (o : Option (List ℕ)) (label : List ℕ) → IsNamed k o → o ≡ Some label → IsHypothesis k ⊎ IsAssertion k
-labelled_kind Floating o label n e = inl (inl refl)
-labelled_kind Essential o label n e = inl (inr refl)
-labelled_kind Axiom o label n e = inr (inl refl)
-labelled_kind Provable o label n e = inr (inr refl)
-labelled_kind k o label n e = absurd (none-some label (sym n ∙ e))
+label_outcome : (Fits : List (List ℕ) → Type 0) (each : (e : List (List ℕ)) → Dec (Fits e)) (before : List Sentence) (stack : List (List (List ℕ))) (label : List ℕ) → AllMeant before
+    → IsUsable before label → Outcome Fits before stack label
+label_outcome Fits each before stack label all (inl h) = hypothesis_outcome Fits each before stack label h.0 h.1 all h.2 h.3 h.4.0 h.4.1
+label_outcome Fits each before stack label all (inr a) = assertion_outcome Fits each before stack label a.0 a.1 all a.2 a.3.0 a.3.1
 
-step_outcome : (before : List Sentence) (s : Sentence) (stack : List (List (List ℕ))) (label : List ℕ) → AllMeant before → AllFormed before → IsWhole before s → Contains s.proof label
-    → Outcome before stack label
-step_outcome before s stack label all formed whole used = go (sentence_dec before (IsLabelled label) (label_dec label))
-  where
-    of_hypothesis : (place : ℕ) (h : Sentence) → slice_get before place ≡ Some h → IsLabelled label h → IsHypothesis h.kind → Dec (IsActive before place) → Outcome before stack label
-    of_hypothesis place h there named kind (yes active) = hypothesis_outcome before stack label place h all there active named kind
-    of_hypothesis place h there named kind (no closed) = absurd (whole P3 (label, used, place, h, there, named, kind, closed))
+-- ---- the moves
 
-    go : Dec (SomeSentence before (IsLabelled label)) → Outcome before stack label
-    go (no n) = absurd (whole P2 (label, used, n))
-    go (yes t) = ⊎_elim (λ h. of_hypothesis t.0 t.1 t.2 t.3 h (active_dec before t.0)) (λ a. assertion_outcome before stack label t.0 t.1 all t.2 t.3 a)
-        (labelled_kind t.1.kind t.1.label label (formed t.0 t.1 t.2).label t.3)
+-- what a move does: it passes, or it breaks a rule first
+abbrev Passes : (List (List ℕ) → Type 0) → List Sentence → List (Move (List ℕ)) → List (List (List ℕ)) → List (List (List ℕ)) → Move (List ℕ) → Type 0
+Passes Fits before earlier stack kept move =
+    ((stack' : List (List (List ℕ))) × (kept' : List (List (List ℕ))) × Passed Fits before (earlier ++ move ∷ []) stack' kept')
+    ⊎ ((rule : ProofRule) × FirstAtMove Fits rule before stack kept move)
 
--- ---- the proof
+-- the last entry of a stack
+pub last_entry : (stack : List (List (List ℕ))) → (stack ≡ []) ⊎ ((rest : List (List (List ℕ))) × (e : List (List ℕ)) × (stack ≡ rest ++ e ∷ []))
+last_entry [] = inl refl
+last_entry (x ∷ []) = inr ([], x, refl)
+last_entry (x ∷ y ∷ stack) = ⊎_elim (λ e. absurd (let p : y ∷ stack ≡ [] = e in cc)) (λ l. inr (x ∷ l.0, l.1, ap (λ s. x ∷ s) l.2)) (last_entry (y ∷ stack))
 
-abbrev pub Verdict : List Sentence → Sentence → Type 0
-Verdict before s = IsProvedWithin IsWithinLimit before s ⊎ ((rule : ProofRule) × (step : ℕ) × IsFault before s rule step)
+pub only_P6 : (Fits : List (List ℕ) → Type 0) (before : List Sentence) (stack kept : List (List (List ℕ))) (tag : ℕ) (other : ProofRule) → rank other < rank P6 → ¬ (BreaksMove Fits other before stack kept (again tag))
+only_P6 Fits before stack kept tag other less b = absurd (lt_irrefl (rank P6) (subst (λ r. rank r < rank P6) b.0 less))
+
+pub only_P7 : (Fits : List (List ℕ) → Type 0) (before : List Sentence) (stack kept : List (List (List ℕ))) (other : ProofRule) → rank other < rank P7 → ¬ (BreaksMove Fits other before stack kept mark)
+only_P7 Fits before stack kept other less b = absurd (lt_irrefl (rank P7) (subst (λ r. rank r < rank P7) b.0 less))
+
+pub move_outcome : (Fits : List (List ℕ) → Type 0) (each : (e : List (List ℕ)) → Dec (Fits e)) (before : List Sentence) (earlier : List (Move (List ℕ))) (stack kept : List (List (List ℕ))) (move : Move (List ℕ))
+    → AllMeant before → IsUsableMove before move → Passed Fits before earlier stack kept → Passes Fits before earlier stack kept move
+move_outcome Fits each before earlier stack kept (name label) all usable passed = ⊎_elim
+    (λ o. inl (o.0 ++ o.1 ∷ [], kept, passed_name Fits before earlier stack kept label o.0 o.1 all passed o.2 o.3))
+    (λ f. inr (f.0, record { broken = f.1.0; first = f.1.1 })) (label_outcome Fits each before stack label all usable)
+move_outcome Fits each before earlier stack kept (again tag) all usable passed = elim (cases_lt tag (length kept)) [
+  | inl less ↦ inl (stack ++ get_or kept tag [] ∷ [], kept, passed_again Fits before earlier stack kept tag (get_or kept tag []) passed (slice_get-get_or kept tag [] less))
+  | inr over ↦ inr (P6, record { broken = (refl, over); first = only_P6 Fits before stack kept tag })
+]
+move_outcome Fits each before earlier stack kept mark all usable passed = ⊎_elim
+    (λ none. inr (P7, record { broken = (refl, none); first = only_P7 Fits before stack kept }))
+    (λ l. inl (l.0 ++ l.1 ∷ [], kept ++ l.1 ∷ [], passed_mark Fits before earlier l.0 kept l.1 (subst (λ s. Passed Fits before earlier s kept) l.2 passed))) (last_entry stack)
+
+abbrev pub MovesVerdict : (List (List ℕ) → Type 0) → List Sentence → Sentence → List (Move (List ℕ)) → Type 0
+MovesVerdict Fits before s moves = Prove Fits before s moves ⊎ ((rule : ProofRule) × (step : ℕ) × IsMovesFault Fits before s moves rule step)
 
 not_one : (stack : List (List (List ℕ))) → length stack ≢ 1 ⊎ ((entry : List (List ℕ)) × (stack ≡ entry ∷ []))
 not_one [] = inl (λ e. absurd (omega arith))
 not_one (entry ∷ []) = inr (entry, refl)
 not_one (entry ∷ other ∷ more) = inl (λ e. absurd (omega arith))
 
-end_verdict : (before : List Sentence) (s : Sentence) (stack : List (List (List ℕ))) → IsWhole before s → Passed before s.proof stack → Verdict before s
-end_verdict before s stack whole passed = ⊎_elim
-    (λ n. inr (P13, length s.proof + 1, inr (inr (record { whole = whole; stack = stack; passed = passed; number = refl; broken = n }))))
+end_verdict : (Fits : List (List ℕ) → Type 0) (before : List Sentence) (s : Sentence) (moves : List (Move (List ℕ))) (stack kept : List (List (List ℕ)))
+    → Passed Fits before moves stack kept → MovesVerdict Fits before s moves
+end_verdict Fits before s moves stack kept passed = ⊎_elim
+    (λ n. inr (P13, steps_in moves + 1, inr (record { stack = stack; kept = kept; passed = passed; number = refl; broken = n })))
     (λ one. last one.0 one.1 (expression_dec one.0 s.symbols)) (not_one stack)
   where
-    last : (entry : List (List ℕ)) → stack ≡ entry ∷ [] → Dec (entry ≡ s.symbols) → Verdict before s
-    last entry e (yes same) = inl (proved_at_end before s whole (subst (Passed before s.proof) (e ∙ ap (λ x. x ∷ []) same) passed))
-    last entry e (no differ) = inr (P14, length s.proof + 1, inr (inr (record { whole = whole; stack = stack; passed = passed; number = refl; broken = (entry, e, differ) })))
+    last : (entry : List (List ℕ)) → stack ≡ entry ∷ [] → Dec (entry ≡ s.symbols) → MovesVerdict Fits before s moves
+    last entry e (yes same) = inl (prove_at_end Fits before s moves kept (subst (λ l. Passed Fits before moves l kept) (e ∙ ap (λ x. x ∷ []) same) passed))
+    last entry e (no differ) = inr (P14, steps_in moves + 1, inr (record { stack = stack; kept = kept; passed = passed; number = refl; broken = (entry, e, differ) }))
 
-uses : (proof earlier later : List (List ℕ)) (label : List ℕ) → proof ≡ earlier ++ label ∷ later → Contains proof label
-uses proof earlier later label e = subst (λ l. Contains l label) (sym e) (Contains-append_right earlier (label ∷ later) label (0, omega arith, refl))
-
-steps_verdict : (before : List Sentence) (s : Sentence) (later earlier : List (List ℕ)) (stack : List (List (List ℕ))) → AllMeant before → AllFormed before → IsWhole before s
-    → s.proof ≡ earlier ++ later → Passed before earlier stack → Verdict before s
-steps_verdict before s [] earlier stack all formed whole parts passed =
-    end_verdict before s stack whole (subst (λ l. Passed before l stack) (sym (parts ∙ append-nil earlier)) passed)
-steps_verdict before s (label ∷ later) earlier stack all formed whole parts passed = ⊎_elim
-    (λ o. steps_verdict before s later (earlier ++ label ∷ []) (o.0 ++ o.1 ∷ []) all formed whole (parts ∙ sym (append_assoc earlier (label ∷ []) later))
-    (passed_step before earlier stack label o.0 o.1 all passed o.2 o.3))
+later_verdict : (Fits : List (List ℕ) → Type 0) (each : (e : List (List ℕ)) → Dec (Fits e)) (before : List Sentence) (s : Sentence) (moves later earlier : List (Move (List ℕ))) (stack kept : List (List (List ℕ)))
+    → AllMeant before → AllByRecursion (IsUsableMove before) later → moves ≡ earlier ++ later → Passed Fits before earlier stack kept → MovesVerdict Fits before s moves
+later_verdict Fits each before s moves [] earlier stack kept all usable parts passed =
+    end_verdict Fits before s moves stack kept (subst (λ l. Passed Fits before l stack kept) (sym (parts ∙ append-nil earlier)) passed)
+later_verdict Fits each before s moves (move ∷ later) earlier stack kept all usable parts passed = ⊎_elim
+    (λ o. later_verdict Fits each before s moves later (earlier ++ move ∷ []) o.0 o.1 all usable.1 (parts ∙ sym (append_assoc earlier (move ∷ []) later)) o.2)
     (λ f. inr (
       f.0,
-      length earlier + 1,
-      inr (inl (record {
-        whole = whole;
-        earlier = earlier;
-        label = label;
-        later = later;
-        proof = parts;
-        number = refl;
-        stack = stack;
-        passed = passed;
-        fault = f.1;
-      })),
+      steps_in earlier + 1,
+      inl (record { earlier = earlier; move = move; later = later; parts = parts; number = refl; stack = stack; kept = kept; passed = passed; fault = f.1 }),
     ))
-    (step_outcome before s stack label all formed whole (uses s.proof earlier later label parts))
+    (move_outcome Fits each before earlier stack kept move all usable.0 passed)
+
+-- moves by labels that may be used prove the statement, or have a fault
+pub moves_verdict : (Fits : List (List ℕ) → Type 0) (each : (e : List (List ℕ)) → Dec (Fits e)) (before : List Sentence) (s : Sentence) (moves : List (Move (List ℕ)))
+    → AllMeant before → AllByRecursion (IsUsableMove before) moves → MovesVerdict Fits before s moves
+moves_verdict Fits each before s moves all usable = later_verdict Fits each before s moves moves [] [] [] all usable refl (passed_none Fits before)
+
+pub within_dec : (limit : ℕ) (e : List (List ℕ)) → Dec (IsWithin limit e)
+within_dec limit e = elim (cases_lt limit (length e)) [ inl over ↦ no (λ within. absurd (omega arith)) | inr within ↦ yes within ]
 
 -- each proof is proved within the limit or has a fault
 pub some_verdict_holds : SomeVerdict
-some_verdict_holds before s all formed = ⊎_elim
+some_verdict_holds limit before s tokens all formed = ⊎_elim
     (λ f. inr (f.rule, 0, inl (refl, record { broken = f.broken; first = f.first })))
-    (λ whole. steps_verdict before s s.proof [] [] all formed whole refl (passed_none before))
-    (first_or_none (λ rule. BreaksWhole rule before s) (whole_dec before s))
+    (λ whole.
+    let said = some_moves before s tokens formed whole in
+    ⊎_elim (λ p. inl (record { whole = whole; moves = said.0; said = said.1; proves = p })) (λ f. inr (f.0, f.1, inr (whole, said.0, said.1, f.2)))
+    (moves_verdict (IsWithin limit) (within_dec limit) before s said.0 all (moves_usable before s tokens said.0 formed whole said.1)))
+    (first_or_none (λ rule. BreaksWhole rule before tokens) (whole_dec before tokens))

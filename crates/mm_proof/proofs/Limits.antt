@@ -1,18 +1,24 @@
--- The first step of a tree's spelling that makes an expression over the limit.
-use Rattle.std.proofs.Common.{◌≡◌, ℕ, List, [], ◌∷◌, ◌++◌, length, take, map, Option, ◌⊎◌, inl, inr, ⊎_elim, refl, sym, ap, ◌∙◌, append_assoc, arith}
-use Rattle.std.proofs.lemmas.Bool.{cases_lt}
+-- What the limit on expressions changes, and that it changes nothing else.
+use Rattle.std.proofs.Common.{◌≡◌, ℕ, ◌+◌, List, [], ◌∷◌, ◌++◌, take, map, Option, ◌⊎◌, inl, inr, ⊎_elim, refl, sym, subst, ◌∙◌, append_assoc, append-nil}
 use Rattle.mm_frame.specs.Sentence.{Sentence, IsHypothesis, IsLabelled}
 use Rattle.mm_frame.specs.Active.{SomeActive}
 use Rattle.mm_frame.specs.Frame.{IsMandatory}
 use Rattle.mm_frame.specs.Rules.{AllMeant}
+use Rattle.mm_proof.specs.declared.fault.ProofRule.{ProofRule}
+use Rattle.mm_proof.specs.declared.fault.ProofRule.TheVariants.{L1}
 use Rattle.mm_proof.specs.Substitution.{IsOn, substituted}
-use Rattle.mm_proof.specs.Tree.{Trees, none, tree, spelling, Names, KeepsApart, DeriveAll, AnyExpression}
-use Rattle.mm_proof.specs.Proof.{expression_limit, IsWithinLimit, Passed}
-use Rattle.mm_proof.proofs.Steps.{StepTo}
-use Rattle.mm_proof.proofs.Runs.{tree_step}
+use Rattle.mm_proof.specs.Tree.{Trees, none, tree, Names, KeepsApart, DeriveAll, AnyExpression}
+use Rattle.mm_proof.specs.Moves.{Move, name, again, mark, steps_in, Makes}
+use Rattle.mm_proof.specs.Proof.{IsWithin, Prove, IsProvedWithin, IsProved, FirstAtMove, Passed, IsMovesFault, IsFault}
+use Rattle.mm_proof.specs.Laws.{LimitsAside}
+use Rattle.mm_proof.proofs.Forward.{passed_none, passed_name, passed_again, passed_mark, prove_at_end}
+use Rattle.mm_proof.proofs.Derived.{zip_left}
+use Rattle.mm_proof.proofs.Fronts.{Went, went_on, went_step, nothing_left, passed_once, proof_passed}
+use Rattle.mm_proof.proofs.Verdicts.{proved_no_fault, one_fault}
+use Rattle.mm_proof.proofs.Judged.{limit_first, last_entry, within_dec}
 
 -- What is said of one tree where trees derive expressions: it is a leaf or an assertion's.
-abbrev pub DeriveOne : (List (List ℕ) → Type 0) → List Sentence → List ℕ → Trees → List (List ℕ) → Type 0
+abbrev DeriveOne : (List (List ℕ) → Type 0) → List Sentence → List ℕ → Trees → List (List ℕ) → Type 0
 DeriveOne Fits before label below e =
     ((below ≡ none) × SomeActive before (λ h. IsLabelled label h × IsHypothesis h.kind × (e ≡ h.symbols)))
     ⊎ ((place : ℕ) × (assertion : Sentence) × (hypotheses : List Sentence) × (σ : List ℕ → Option (List (List ℕ)))
@@ -23,135 +29,91 @@ DeriveOne Fits before label below e =
     × (e ≡ substituted σ assertion.symbols))
 
 -- what trees derive within the limit they derive
-pub derive_any : (before : List Sentence) (trees : Trees) (es : List (List (List ℕ))) → DeriveAll IsWithinLimit before trees es → DeriveAll AnyExpression before trees es
-derive_any before none es d = d
-derive_any before (tree label below right) es d =
+pub derive_any : (Fits : List (List ℕ) → Type 0) (before : List Sentence) (trees : Trees) (es : List (List (List ℕ))) → DeriveAll Fits before trees es → DeriveAll AnyExpression before trees es
+derive_any Fits before none es d = d
+derive_any Fits before (tree label below right) es d =
     let one : DeriveOne AnyExpression before label below d.0 = ⊎_elim (λ leaf. inl leaf)
-    (λ n. inr (n.0, n.1, n.2, n.3, n.4, n.5, derive_any before below (map (λ (h : Sentence). substituted n.3 h.symbols) n.2) n.6, n.7, n.8)) d.4 in
-    (d.0, d.1, d.2, tt, one, derive_any before right d.1 d.5)
+    (λ n. inr (n.0, n.1, n.2, n.3, n.4, n.5, derive_any Fits before below (map (λ (h : Sentence). substituted n.3 h.symbols) n.2) n.6, n.7, n.8)) d.4 in
+    (d.0, d.1, d.2, tt, one, derive_any Fits before right d.1 d.5)
 
--- The first of these labels' steps that makes an expression over the limit: those before it passed, and it breaks no rule else.
-pub record FirstOver (before : List Sentence) (labels : List (List ℕ)) : Type 0 where
-  pub earlier : List (List ℕ)
-  pub label : List ℕ
-  pub later : List (List ℕ)
-  pub parts : labels ≡ earlier ++ label ∷ later
-  pub stack : List (List (List ℕ))
-  pub passed : Passed before earlier stack
-  pub rest : List (List (List ℕ))
-  pub e : List (List ℕ)
-  pub step : StepTo before stack label rest e
-  pub over : ¬ (IsWithinLimit e)
-
--- a step does the same above one more entry
-step_above : (before : List Sentence) (stack : List (List (List ℕ))) (label : List ℕ) (rest : List (List (List ℕ))) (e x : List (List ℕ))
-    → StepTo before stack label rest e → StepTo before (x ∷ stack) label (x ∷ rest) e
-step_above before stack label rest e x (inl p) =
-    inl (record { kept = ap (λ l. x ∷ l) p.kept; place = p.place; hypothesis = p.hypothesis; there = p.there; active = p.active; named = p.named; kind = p.kind; made = p.made })
-step_above before stack label rest e x (inr p) = inr (record {
-  meets = record {
-    place = p.meets.place;
-    assertion = p.meets.assertion;
-    hypotheses = p.meets.hypotheses;
-    names = p.meets.names;
-    rest = x ∷ p.meets.rest;
-    entries = p.meets.entries;
-    split = ap (λ l. x ∷ l) p.meets.split;
-    paired = p.meets.paired;
-    σ = p.meets.σ;
-    on = p.meets.on;
-    replaced = p.meets.replaced;
-  };
-  kept = ap (λ l. x ∷ l) p.kept;
-  typed = p.typed;
-  equal = p.equal;
-  apart = p.apart;
+prove_any : (Fits : List (List ℕ) → Type 0) (before : List Sentence) (s : Sentence) (moves : List (Move (List ℕ))) → Prove Fits before s moves → Prove AnyExpression before s moves
+prove_any Fits before s moves p = record {
+  label = p.label;
+  below = p.below;
+  kept = p.kept;
   made = p.made;
-})
-
--- it is the first also with more steps after it
-over_below : (before : List Sentence) (labels more : List (List ℕ)) → FirstOver before labels → FirstOver before (labels ++ more)
-over_below before labels more o = record {
-  earlier = o.earlier;
-  label = o.label;
-  later = o.later ++ more;
-  parts = ap (λ l. l ++ more) o.parts ∙ append_assoc o.earlier (o.label ∷ o.later) more;
-  stack = o.stack;
-  passed = o.passed;
-  rest = o.rest;
-  e = o.e;
-  step = o.step;
-  over = o.over;
+  derived = derive_any Fits before (tree p.label p.below none) (s.symbols ∷ []) p.derived;
 }
 
--- and with a tree before it
-over_right : (before : List Sentence) (label : List ℕ) (below : Trees) (e : List (List ℕ)) (labels : List (List ℕ)) → IsWithinLimit e
-    → DeriveOne IsWithinLimit before label below e → FirstOver before labels → FirstOver before (spelling below ++ label ∷ labels)
-over_right before label below e labels fits one o = record {
-  earlier = spelling below ++ label ∷ o.earlier;
-  label = o.label;
-  later = o.later;
-  parts = ap (λ l. spelling below ++ label ∷ l) o.parts ∙ sym (append_assoc (spelling below) (label ∷ o.earlier) (o.label ∷ o.later));
-  stack = e ∷ o.stack;
-  passed = record {
-    trees = tree label below o.passed.trees;
-    spelled = ap (λ l. spelling below ++ label ∷ l) o.passed.spelled;
-    derived = (e, o.stack, refl, fits, one, o.passed.derived);
-  };
-  rest = e ∷ o.rest;
-  e = o.e;
-  step = step_above before o.stack o.label o.rest o.e e o.step;
-  over = o.over;
-}
+-- ---- the first step over the limit
 
--- a tree whose own step is the first over the limit
-over_here : (before : List Sentence) (label : List ℕ) (below : Trees) (e : List (List ℕ)) (more : List (List ℕ)) → AllMeant before → ¬ (IsWithinLimit e)
-    → DeriveOne IsWithinLimit before label below e → FirstOver before (spelling below ++ label ∷ more)
-over_here before label below e more all over (inl leaf) = record {
-  earlier = spelling below;
-  label = label;
-  later = more;
-  parts = refl;
-  stack = [];
-  passed = record { trees = none; spelled = ap spelling (sym leaf.0); derived = refl };
-  rest = [];
-  e = e;
-  step = inl (record { kept = refl; place = leaf.1.0; hypothesis = leaf.1.1; there = leaf.1.2; active = leaf.1.3; named = leaf.1.4.0; kind = leaf.1.4.1; made = leaf.1.4.2 });
-  over = over;
-}
-over_here before label below e more all over (inr n) = record {
-  earlier = spelling below;
-  label = label;
-  later = more;
-  parts = refl;
-  stack = map (λ (h : Sentence). substituted n.3 h.symbols) n.2;
-  passed = record { trees = below; spelled = refl; derived = n.6 };
-  rest = [];
-  e = e;
-  step = tree_step before label n.0 n.1 n.2 n.3 [] e all n.4 n.5 n.7 n.8;
-  over = over;
-}
+-- a move of moves that pass without a limit passes within it, or passes it
+abbrev PassesOr : (List (List ℕ) → Type 0) → List Sentence → List (Move (List ℕ)) → List (List (List ℕ)) → List (List (List ℕ)) → Move (List ℕ) → Type 0
+PassesOr Fits before earlier stack kept move =
+    ((stack' : List (List (List ℕ))) × (kept' : List (List (List ℕ))) × Passed Fits before (earlier ++ move ∷ []) stack' kept')
+    ⊎ FirstAtMove Fits L1 before stack kept move
 
-pub within_or_over : (e : List (List ℕ)) → IsWithinLimit e ⊎ (¬ (IsWithinLimit e))
-within_or_over e = elim (cases_lt expression_limit (length e)) [ inl over ↦ inr (λ within. absurd (omega arith)) | inr within ↦ inl within ]
-
--- what trees derive they derive within the limit, or a step is the first over it
-pub first_over : (before : List Sentence) (trees : Trees) (es : List (List (List ℕ))) → AllMeant before → DeriveAll AnyExpression before trees es
-    → DeriveAll IsWithinLimit before trees es ⊎ FirstOver before (spelling trees)
-first_over before none es all d = inl d
-first_over before (tree label below right) es all d =
-    let one : DeriveOne IsWithinLimit before label below d.0 ⊎ FirstOver before (spelling below) = ⊎_elim (λ leaf. inl (inl leaf))
-    (λ n. ⊎_elim (λ w. inl (inr (n.0, n.1, n.2, n.3, n.4, n.5, w, n.7, n.8))) (λ o. inr o)
-    (first_over before below (map (λ (h : Sentence). substituted n.3 h.symbols) n.2) all n.6)) d.4 in
-    let others : DeriveAll IsWithinLimit before right d.1 ⊎ FirstOver before (spelling right) = first_over before right d.1 all d.5 in
-    joined before label below right es d.0 d.1 all d.2 one others
-  where
-    joined : (before : List Sentence) (label : List ℕ) (below right : Trees) (es : List (List (List ℕ))) (e : List (List ℕ)) (rest : List (List (List ℕ))) → AllMeant before
-        → es ≡ e ∷ rest → DeriveOne IsWithinLimit before label below e ⊎ FirstOver before (spelling below)
-        → DeriveAll IsWithinLimit before right rest ⊎ FirstOver before (spelling right)
-        → DeriveAll IsWithinLimit before (tree label below right) es ⊎ FirstOver before (spelling below ++ label ∷ spelling right)
-    joined before label below right es e rest all parts (inr o) others = inr (over_below before (spelling below) (label ∷ spelling right) o)
-    joined before label below right es e rest all parts (inl one) others = elim (within_or_over e) [
-      | inr over ↦ inr (over_here before label below e (spelling right) all over one)
-      | inl fits ↦ ⊎_elim (λ w. inl (e, rest, parts, fits, one, w)) (λ o. inr (over_right before label below e (spelling right) fits one o)) others
+went_or_over : (Fits : List (List ℕ) → Type 0) (each : (e : List (List ℕ)) → Dec (Fits e)) (before : List Sentence) (earlier : List (Move (List ℕ))) (stack kept : List (List (List ℕ))) (move : Move (List ℕ))
+    → AllMeant before → Went AnyExpression before stack kept move → Passed Fits before earlier stack kept → PassesOr Fits before earlier stack kept move
+went_or_over Fits each before earlier stack kept (name label) all w passed =
+    let s = went_step AnyExpression before stack kept label all w in
+    elim (each s.1) [
+      | yes fits ↦ inl (s.0 ++ s.1 ∷ [], kept, passed_name Fits before earlier stack kept label s.0 s.1 all passed s.2 fits)
+      | no over ↦ let f = limit_first Fits before stack label s.0 s.1 all over s.2 in inr (record { broken = f.0; first = f.1 })
     ]
+went_or_over Fits each before earlier stack kept (again tag) all w passed =
+    let e = zip_left (λ t f. DeriveAll AnyExpression before t (f ∷ [])) w.shelf kept tag w.made.0 w.kept_derived w.made.1 in
+    inl (stack ++ e.0 ∷ [], kept, passed_again Fits before earlier stack kept tag e.0 passed e.1)
+went_or_over Fits each before earlier stack kept mark all w passed = ⊎_elim
+    (λ bare. absurd (nothing_left AnyExpression before w.made.0 w.made.1 w.made.2
+    (subst (λ x. DeriveAll AnyExpression before x []) w.made.3 (subst (DeriveAll AnyExpression before w.row) bare w.derived))))
+    (λ l. inl (l.0 ++ l.1 ∷ [], kept ++ l.1 ∷ [], passed_mark Fits before earlier l.0 kept l.1 (subst (λ s. Passed Fits before earlier s kept) l.2 passed))) (last_entry stack)
+
+within_or_over : (Fits : List (List ℕ) → Type 0) (each : (e : List (List ℕ)) → Dec (Fits e)) (before : List Sentence) (s : Sentence) (moves later earlier : List (Move (List ℕ))) (stack kept last end : List (List (List ℕ)))
+    → AllMeant before → Passed AnyExpression before moves last end → moves ≡ earlier ++ later → Passed Fits before earlier stack kept
+    → ((kept' : List (List (List ℕ))) × Passed Fits before moves last kept') ⊎ ((step : ℕ) × IsMovesFault Fits before s moves L1 step)
+within_or_over Fits each before s moves [] earlier stack kept last end all whole parts passed =
+    let here : Passed Fits before moves stack kept = subst (λ l. Passed Fits before l stack kept) (sym (parts ∙ append-nil earlier)) passed in
+    let same = passed_once Fits AnyExpression before moves stack last kept end all here whole in
+    inl (kept, subst (λ l. Passed Fits before moves l kept) same.0 here)
+within_or_over Fits each before s moves (move ∷ later) earlier stack kept last end all whole parts passed =
+    let w = went_on AnyExpression Fits before earlier move later whole.trees whole.shelf stack kept all
+    (subst (λ l. Makes before l none [] whole.trees whole.shelf) parts whole.made)
+    (record { stack = last; kept = end; derived = whole.derived; kept_derived = whole.kept_derived }) passed in
+    ⊎_elim
+    (λ o. within_or_over Fits each before s moves later (earlier ++ move ∷ []) o.0 o.1 last end all whole (parts ∙ sym (append_assoc earlier (move ∷ []) later)) o.2)
+    (λ f. inr (
+      steps_in earlier + 1,
+      inl (record { earlier = earlier; move = move; later = later; parts = parts; number = refl; stack = stack; kept = kept; passed = passed; fault = f }),
+    ))
+    (went_or_over Fits each before earlier stack kept move all w passed)
+
+-- moves that prove a statement without a limit do within it, or a step of theirs is the first over it
+pub prove_or_over : (Fits : List (List ℕ) → Type 0) (each : (e : List (List ℕ)) → Dec (Fits e)) (before : List Sentence) (s : Sentence) (moves : List (Move (List ℕ))) → AllMeant before
+    → Prove AnyExpression before s moves → Prove Fits before s moves ⊎ ((step : ℕ) × IsMovesFault Fits before s moves L1 step)
+prove_or_over Fits each before s moves all p =
+    let whole = proof_passed AnyExpression before s moves all p in
+    ⊎_elim (λ w. inl (prove_at_end Fits before s moves w.0 w.1)) (λ o. inr o)
+    (within_or_over Fits each before s moves moves [] [] [] (s.symbols ∷ []) whole.0 all whole.1 refl (passed_none Fits before))
+
+-- ---- the law
+
+within_proved : (limit : ℕ) (before : List Sentence) (s : Sentence) (tokens : List (List ℕ)) → IsProvedWithin (IsWithin limit) before s tokens → IsProved before s tokens
+within_proved limit before s tokens p = record { whole = p.whole; moves = p.moves; said = p.said; proves = prove_any (IsWithin limit) before s p.moves p.proves }
+
+proved_or_over : (limit : ℕ) (before : List Sentence) (s : Sentence) (tokens : List (List ℕ)) → AllMeant before → IsProved before s tokens
+    → IsProvedWithin (IsWithin limit) before s tokens ⊎ ((step : ℕ) × IsFault (IsWithin limit) before s tokens L1 step)
+proved_or_over limit before s tokens all p = ⊎_elim
+    (λ w. inl (record { whole = p.whole; moves = p.moves; said = p.said; proves = w }))
+    (λ o. inr (o.0, inr (p.whole, p.moves, p.said, o.1)))
+    (prove_or_over (IsWithin limit) (within_dec limit) before s p.moves all p.proves)
+
+only_limit : (limit : ℕ) (before : List Sentence) (s : Sentence) (tokens : List (List ℕ)) (rule : ProofRule) (step : ℕ) → AllMeant before → IsProved before s tokens
+    → IsFault (IsWithin limit) before s tokens rule step → rule ≡ L1
+only_limit limit before s tokens rule step all p f = ⊎_elim
+    (λ within. absurd (proved_no_fault (IsWithin limit) before s tokens rule step all within f))
+    (λ over. (one_fault (IsWithin limit) before s tokens rule L1 step over.0 all f over.1).0) (proved_or_over limit before s tokens all p)
+
+pub limits_aside_holds : LimitsAside
+limits_aside_holds limit before s tokens all =
+    (within_proved limit before s tokens, proved_or_over limit before s tokens all, λ p rule step. only_limit limit before s tokens rule step all p)

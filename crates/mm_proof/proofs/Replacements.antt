@@ -11,7 +11,7 @@ use Rattle.mm_proof.specs.Proof.{Meets}
 use Rattle.mm_proof.proofs.Places.{get_take, get_beside}
 use Rattle.mm_proof.proofs.Meaning.{meant_at, meant_front, mandatory_typed}
 use Rattle.mm_proof.proofs.Frames.{those_hold}
-use Rattle.mm_proof.proofs.Steps.{typing_among}
+use Rattle.mm_proof.proofs.OneStep.{typing_among}
 use Rattle.mm_proof.proofs.Runs.{typing_of, same_typing}
 use Rattle.mm_proof.proofs.Decisions.{dec_as, symbol_dec, active_earlier}
 use Rattle.mm_proof.proofs.Searches.{typing_so_dec}

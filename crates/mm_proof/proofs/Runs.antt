@@ -12,7 +12,7 @@ use Rattle.mm_proof.specs.Substitution.{IsOn, substituted}
 use Rattle.mm_proof.specs.Tree.{Trees, none, tree, spelling, Names, KeepsApart, DeriveAll}
 use Rattle.mm_proof.proofs.Meaning.{meant_front, code_is_constant}
 use Rattle.mm_proof.proofs.Frames.{those_hold}
-use Rattle.mm_proof.proofs.Steps.{StepTo, step_once}
+use Rattle.mm_proof.proofs.OneStep.{StepTo, step_once}
 
 -- The steps by these labels break no rule and lead from one stack to the other; of each expression that one makes, Fits holds.
 abbrev pub Runs : (List (List ℕ) → Type 0) → List Sentence → List (List ℕ) → List (List (List ℕ)) → List (List (List ℕ)) → Type 0

@@ -1,18 +1,19 @@
 -- The verdict on a proof is one: it is proved, or it has one first fault.
-use Rattle.std.proofs.Common.{◌≡◌, ◌≢◌, ℕ, ◌+◌, ◌<◌, List, [], ◌∷◌, ◌++◌, length, slice_get, Some, ◌⊎◌, inl, inr, ⊎_elim, refl, sym, ap, subst, ◌∙◌, lt_irrefl}
+use Rattle.std.proofs.Common.{◌≡◌, ◌≢◌, ℕ, ◌+◌, ◌<◌, List, [], ◌∷◌, ◌++◌, length, slice_get, Some, ◌⊎◌, inl, inr, ⊎_elim, refl, sym, ap, subst, ◌∙◌}
 use Rattle.std.proofs.lemmas.Option.{same_Some}
 use Rattle.std.proofs.lemmas.Bool.{cases_order}
 use Rattle.mm_frame.specs.Sentence.{Sentence}
 use Rattle.mm_frame.specs.Rules.{AllMeant}
 use Rattle.mm_proof.specs.declared.fault.ProofRule.{ProofRule}
 use Rattle.mm_proof.specs.declared.fault.ProofRule.TheVariants.{P1, P2, P3, P4, P5, P6, P7, P8, P9, P10, P11, P12, P13, P14, L1}
-use Rattle.mm_proof.specs.Tree.{none, tree, AnyExpression}
-use Rattle.mm_proof.specs.Proof.{IsWithinLimit, rank, BreaksWhole, IsWhole, IsProvedWithin, IsProved, BreaksStep, FirstAtStep, Passed, IsStepFault, BreaksEnd, IsEndFault, IsFault}
-use Rattle.mm_proof.specs.Laws.{OneTree, OneVerdict, LimitsAside}
-use Rattle.mm_proof.proofs.Steps.{StepTo, step_breaks_none, step_breaks_limit}
-use Rattle.mm_proof.proofs.Runs.{Runs, derive_runs, derived_once, runs_split, runs_once}
-use Rattle.mm_proof.proofs.Growth.{one_row}
-use Rattle.mm_proof.proofs.Limits.{derive_any, FirstOver, first_over}
+use Rattle.mm_proof.specs.Tree.{AnyExpression}
+use Rattle.mm_proof.specs.Moves.{Move, steps_in}
+use Rattle.mm_proof.specs.Proof.{IsWithin, rank, BreaksWhole, Prove, IsProvedWithin, BreaksMove, FirstAtMove, Passed, IsMoveFault, BreaksEnd, IsEndFault, IsMovesFault, IsFault}
+use Rattle.mm_proof.specs.Laws.{OneTree, OneFit, OneVerdict}
+use Rattle.mm_proof.proofs.Runs.{derived_once}
+use Rattle.mm_proof.proofs.Making.{one_fit_holds, one_row}
+use Rattle.mm_proof.proofs.Fronts.{passed_once, proof_passed, no_fault_within}
+use Rattle.mm_proof.proofs.SaidMoves.{moves_once}
 
 -- ---- the first of the rules is one
 
@@ -45,32 +46,15 @@ first_once Broken r q br bq fr fq = elim (cases_order (rank r) (rank q)) [
   | inr (inr more) ↦ absurd (fr q more bq)
 ]
 
--- ---- passed steps
+-- ---- two splits of one list, by which is longer
 
-passed_runs : (before : List Sentence) (labels : List (List ℕ)) (stack : List (List (List ℕ))) → AllMeant before → Passed before labels stack
-    → Runs IsWithinLimit before labels [] stack
-passed_runs before labels stack all p = subst (λ l. Runs IsWithinLimit before l [] stack) p.spelled (derive_runs IsWithinLimit before p.trees stack [] all p.derived)
+abbrev OneOfSplits : {X : Type 0} → List X → X → List X → X → Type 0
+OneOfSplits {X} a x b y = ((a ≡ b) × (x ≡ y)) ⊎ ((more : List X) × (b ≡ a ++ x ∷ more)) ⊎ ((more : List X) × (a ≡ b ++ y ∷ more))
 
-proved_runs : (before : List Sentence) (s : Sentence) → AllMeant before → IsProvedWithin IsWithinLimit before s → Runs IsWithinLimit before s.proof [] (s.symbols ∷ [])
-proved_runs before s all p = passed_runs before s.proof (s.symbols ∷ []) all (record { trees = tree p.label p.below none; spelled = p.spelled; derived = p.derived })
-
--- a step that goes on breaks no rule
-no_fault_within : (before : List Sentence) (earlier : List (List ℕ)) (label : List ℕ) (later : List (List ℕ)) (stack last : List (List (List ℕ))) (rule : ProofRule) → AllMeant before
-    → Runs IsWithinLimit before (earlier ++ label ∷ later) [] last → Passed before earlier stack → FirstAtStep rule before stack label → ⊥
-no_fault_within before earlier label later stack last rule all runs passed fault =
-    let s = runs_split IsWithinLimit before earlier (label ∷ later) [] last runs in
-    let same : s.0 ≡ stack = runs_once IsWithinLimit IsWithinLimit before earlier [] s.0 stack all s.1 (passed_runs before earlier stack all passed) in
-    let step : StepTo before stack label s.2.0 s.2.1 = subst (λ k. StepTo before k label s.2.0 s.2.1) same s.2.2 in
-    step_breaks_none rule before stack label s.2.0 s.2.1 all (λ limit. s.2.3) step fault.broken
-
--- two splits of one list, by which is longer
-abbrev OneOfSplits : List (List ℕ) → List ℕ → List (List ℕ) → List ℕ → Type 0
-OneOfSplits a x b y = ((a ≡ b) × (x ≡ y)) ⊎ ((more : List (List ℕ)) × (b ≡ a ++ x ∷ more)) ⊎ ((more : List (List ℕ)) × (a ≡ b ++ y ∷ more))
-
-heads : (x y : List ℕ) (xs ys : List (List ℕ)) → x ∷ xs ≡ y ∷ ys → (x ≡ y) × (xs ≡ ys)
+heads : {X : Type 0} (x y : X) (xs ys : List X) → x ∷ xs ≡ y ∷ ys → (x ≡ y) × (xs ≡ ys)
 heads x y xs ys e = (cc, cc)
 
-compare_splits : (a : List (List ℕ)) (x : List ℕ) (c b : List (List ℕ)) (y : List ℕ) (d : List (List ℕ)) → a ++ x ∷ c ≡ b ++ y ∷ d → OneOfSplits a x b y
+compare_splits : {X : Type 0} (a : List X) (x : X) (c b : List X) (y : X) (d : List X) → a ++ x ∷ c ≡ b ++ y ∷ d → OneOfSplits a x b y
 compare_splits [] x c [] y d e = inl (refl, (heads x y c d e).0)
 compare_splits [] x c (z ∷ b) y d e = inr (inl (b, ap (λ w. w ∷ b) (sym (heads x z c (b ++ y ∷ d) e).0)))
 compare_splits (z ∷ a) x c [] y d e = inr (inr (a, ap (λ w. w ∷ a) (heads z y (a ++ x ∷ c) d e).0))
@@ -82,9 +66,9 @@ compare_splits (z ∷ a) x c (w ∷ b) y d e =
       | inr (inr more) ↦ inr (inr (more.0, ap (λ l. z ∷ l) more.1 ∙ ap (λ v. v ∷ (b ++ y ∷ more.0)) h.0))
     ]
 
--- ---- a proved proof has no fault
+-- ---- what is proved has no fault
 
-abbrev Same : ProofRule → ℕ → ProofRule → ℕ → Type 0
+abbrev pub Same : ProofRule → ℕ → ProofRule → ℕ → Type 0
 Same rule step rule' step' = (rule ≡ rule') × (step ≡ step')
 
 end_rule : (rule : ProofRule) (stack : List (List (List ℕ))) (e : List (List ℕ)) → BreaksEnd rule stack e
@@ -96,47 +80,59 @@ end_rule rule stack e b = absurd b
 no_end_fault : (rule : ProofRule) (stack : List (List (List ℕ))) (e : List (List ℕ)) → stack ≡ e ∷ [] → ¬ (BreaksEnd rule stack e)
 no_end_fault rule stack e one b = ⊎_elim (λ p. p.1 (ap length one)) (λ q. q.2 one) (end_rule rule stack e b)
 
-pub proved_no_fault : (before : List Sentence) (s : Sentence) (rule : ProofRule) (step : ℕ) → AllMeant before → IsProvedWithin IsWithinLimit before s → ¬ (IsFault before s rule step)
-proved_no_fault before s rule step all p (inl w) = p.whole rule w.1.broken
-proved_no_fault before s rule step all p (inr (inl f)) =
-    no_fault_within before f.earlier f.label f.later f.stack (s.symbols ∷ []) rule all
-    (subst (λ l. Runs IsWithinLimit before l [] (s.symbols ∷ [])) f.proof (proved_runs before s all p)) f.passed f.fault
-proved_no_fault before s rule step all p (inr (inr f)) =
-    no_end_fault rule f.stack s.symbols
-    (runs_once IsWithinLimit IsWithinLimit before s.proof [] f.stack (s.symbols ∷ []) all (passed_runs before s.proof f.stack all f.passed) (proved_runs before s all p)) f.broken
+pub proof_no_fault : (Fits : List (List ℕ) → Type 0) (before : List Sentence) (s : Sentence) (moves : List (Move (List ℕ))) (rule : ProofRule) (step : ℕ) → AllMeant before
+    → Prove Fits before s moves → ¬ (IsMovesFault Fits before s moves rule step)
+proof_no_fault Fits before s moves rule step all p (inl f) =
+    let whole = proof_passed Fits before s moves all p in
+    no_fault_within Fits before f.earlier f.move f.later f.stack f.kept (s.symbols ∷ []) whole.0 rule all
+    (subst (λ l. Passed Fits before l (s.symbols ∷ []) whole.0) f.parts whole.1) f.passed f.fault
+proof_no_fault Fits before s moves rule step all p (inr f) =
+    let whole = proof_passed Fits before s moves all p in
+    no_end_fault rule f.stack s.symbols (passed_once Fits Fits before moves f.stack (s.symbols ∷ []) f.kept whole.0 all f.passed whole.1).0 f.broken
+
+pub proved_no_fault : (Fits : List (List ℕ) → Type 0) (before : List Sentence) (s : Sentence) (tokens : List (List ℕ)) (rule : ProofRule) (step : ℕ) → AllMeant before
+    → IsProvedWithin Fits before s tokens → ¬ (IsFault Fits before s tokens rule step)
+proved_no_fault Fits before s tokens rule step all p (inl w) = p.whole rule w.1.broken
+proved_no_fault Fits before s tokens rule step all p (inr f) =
+    proof_no_fault Fits before s f.1 rule step all
+    (subst (Prove Fits before s) (moves_once before s tokens p.moves f.1 p.said f.2) p.proves) f.3
 
 -- ---- two faults are one
 
-longer_passed : (before : List Sentence) (earlier : List (List ℕ)) (label : List ℕ) (more longer : List (List ℕ)) (stack last : List (List (List ℕ))) (rule : ProofRule) → AllMeant before
-    → longer ≡ earlier ++ label ∷ more → Passed before longer last → Passed before earlier stack → FirstAtStep rule before stack label → ⊥
-longer_passed before earlier label more longer stack last rule all parts whole passed fault =
-    no_fault_within before earlier label more stack last rule all (subst (λ l. Runs IsWithinLimit before l [] last) parts (passed_runs before longer last all whole)) passed fault
+longer_passed : (Fits : List (List ℕ) → Type 0) (before : List Sentence) (earlier : List (Move (List ℕ))) (move : Move (List ℕ)) (more longer : List (Move (List ℕ)))
+    (stack kept last end : List (List (List ℕ))) (rule : ProofRule) → AllMeant before
+    → longer ≡ earlier ++ move ∷ more → Passed Fits before longer last end → Passed Fits before earlier stack kept → FirstAtMove Fits rule before stack kept move → ⊥
+longer_passed Fits before earlier move more longer stack kept last end rule all parts whole passed fault =
+    no_fault_within Fits before earlier move more stack kept last end rule all (subst (λ l. Passed Fits before l last end) parts whole) passed fault
 
-same_step : (before : List Sentence) (s : Sentence) (rule rule' : ProofRule) (step step' : ℕ) → AllMeant before → (f : IsStepFault before s rule step) (g : IsStepFault before s rule' step')
-    → f.earlier ≡ g.earlier → f.label ≡ g.label → Same rule step rule' step'
-same_step before s rule rule' step step' all f g a x =
-    let stacks : f.stack ≡ g.stack = runs_once IsWithinLimit IsWithinLimit before g.earlier [] f.stack g.stack all
-    (subst (λ l. Runs IsWithinLimit before l [] f.stack) a (passed_runs before f.earlier f.stack all f.passed)) (passed_runs before g.earlier g.stack all g.passed) in
-    let fault : FirstAtStep rule before g.stack g.label = subst (λ l. FirstAtStep rule before g.stack l) x (subst (λ k. FirstAtStep rule before k f.label) stacks f.fault) in (
-      first_once (λ r. BreaksStep r before g.stack g.label) rule rule' fault.broken g.fault.broken fault.first g.fault.first,
-      f.number ∙ ap (λ l. length l + 1) a ∙ sym g.number,
+same_move : (Fits : List (List ℕ) → Type 0) (before : List Sentence) (moves : List (Move (List ℕ))) (rule rule' : ProofRule) (step step' : ℕ) → AllMeant before
+    → (f : IsMoveFault Fits before moves rule step) (g : IsMoveFault Fits before moves rule' step') → f.earlier ≡ g.earlier → f.move ≡ g.move → Same rule step rule' step'
+same_move Fits before moves rule rule' step step' all f g a x =
+    let one = passed_once Fits Fits before g.earlier f.stack g.stack f.kept g.kept all (subst (λ l. Passed Fits before l f.stack f.kept) a f.passed) g.passed in
+    let fault : FirstAtMove Fits rule before g.stack g.kept g.move =
+    subst (λ m. FirstAtMove Fits rule before g.stack g.kept m) x
+    (subst (λ k. FirstAtMove Fits rule before g.stack k f.move) one.1 (subst (λ k. FirstAtMove Fits rule before k f.kept f.move) one.0 f.fault)) in (
+      first_once (λ r. BreaksMove Fits r before g.stack g.kept g.move) rule rule' fault.broken g.fault.broken fault.first g.fault.first,
+      f.number ∙ ap (λ l. steps_in l + 1) a ∙ sym g.number,
     )
 
-two_steps : (before : List Sentence) (s : Sentence) (rule rule' : ProofRule) (step step' : ℕ) → AllMeant before → IsStepFault before s rule step → IsStepFault before s rule' step'
-    → Same rule step rule' step'
-two_steps before s rule rule' step step' all f g = elim (compare_splits f.earlier f.label f.later g.earlier g.label g.later (sym f.proof ∙ g.proof)) [
-  | inl same ↦ same_step before s rule rule' step step' all f g same.0 same.1
-  | inr (inl more) ↦ absurd (longer_passed before f.earlier f.label more.0 g.earlier f.stack g.stack rule all more.1 g.passed f.passed f.fault)
-  | inr (inr more) ↦ absurd (longer_passed before g.earlier g.label more.0 f.earlier g.stack f.stack rule' all more.1 f.passed g.passed g.fault)
+two_moves : (Fits : List (List ℕ) → Type 0) (before : List Sentence) (moves : List (Move (List ℕ))) (rule rule' : ProofRule) (step step' : ℕ) → AllMeant before
+    → IsMoveFault Fits before moves rule step → IsMoveFault Fits before moves rule' step' → Same rule step rule' step'
+two_moves Fits before moves rule rule' step step' all f g = elim (compare_splits f.earlier f.move f.later g.earlier g.move g.later (sym f.parts ∙ g.parts)) [
+  | inl same ↦ same_move Fits before moves rule rule' step step' all f g same.0 same.1
+  | inr (inl more) ↦ absurd (longer_passed Fits before f.earlier f.move more.0 g.earlier f.stack f.kept g.stack g.kept rule all more.1 g.passed f.passed f.fault)
+  | inr (inr more) ↦ absurd (longer_passed Fits before g.earlier g.move more.0 f.earlier g.stack g.kept f.stack f.kept rule' all more.1 f.passed g.passed g.fault)
 ]
 
-step_and_end : (before : List Sentence) (s : Sentence) (rule rule' : ProofRule) (step step' : ℕ) → AllMeant before → IsStepFault before s rule step → IsEndFault before s rule' step' → ⊥
-step_and_end before s rule rule' step step' all f g = longer_passed before f.earlier f.label f.later s.proof f.stack g.stack rule all f.proof g.passed f.passed f.fault
+move_and_end : (Fits : List (List ℕ) → Type 0) (before : List Sentence) (s : Sentence) (moves : List (Move (List ℕ))) (rule rule' : ProofRule) (step step' : ℕ) → AllMeant before
+    → IsMoveFault Fits before moves rule step → IsEndFault Fits before s moves rule' step' → ⊥
+move_and_end Fits before s moves rule rule' step step' all f g =
+    longer_passed Fits before f.earlier f.move f.later moves f.stack f.kept g.stack g.kept rule all f.parts g.passed f.passed f.fault
 
-two_ends : (before : List Sentence) (s : Sentence) (rule rule' : ProofRule) (step step' : ℕ) → AllMeant before → IsEndFault before s rule step → IsEndFault before s rule' step'
-    → Same rule step rule' step'
-two_ends before s rule rule' step step' all f g =
-    let stacks : f.stack ≡ g.stack = runs_once IsWithinLimit IsWithinLimit before s.proof [] f.stack g.stack all (passed_runs before s.proof f.stack all f.passed) (passed_runs before s.proof g.stack all g.passed) in
+two_ends : (Fits : List (List ℕ) → Type 0) (before : List Sentence) (s : Sentence) (moves : List (Move (List ℕ))) (rule rule' : ProofRule) (step step' : ℕ) → AllMeant before
+    → IsEndFault Fits before s moves rule step → IsEndFault Fits before s moves rule' step' → Same rule step rule' step'
+two_ends Fits before s moves rule rule' step step' all f g =
+    let stacks : f.stack ≡ g.stack = (passed_once Fits Fits before moves f.stack g.stack f.kept g.kept all f.passed g.passed).0 in
     let lengths : length f.stack ≡ length g.stack = ap length stacks in (
       one_end rule rule' (length f.stack) (length g.stack) lengths
           (⊎_elim (λ p. inl (p.0, p.1)) (λ p. inr (p.0, p.1)) (end_rule rule f.stack s.symbols f.broken))
@@ -150,58 +146,24 @@ two_ends before s rule rule' step step' all f g =
     one_end r q n m e (inr a) (inl b) = absurd (b.1 (sym e ∙ a.1))
     one_end r q n m e (inr a) (inr b) = a.0 ∙ sym b.0
 
-pub one_fault : (before : List Sentence) (s : Sentence) (rule rule' : ProofRule) (step step' : ℕ) → AllMeant before → IsFault before s rule step → IsFault before s rule' step'
-    → Same rule step rule' step'
-one_fault before s rule rule' step step' all (inl f) (inl g) =
-    (first_once (λ r. BreaksWhole r before s) rule rule' f.1.broken g.1.broken f.1.first g.1.first, f.0 ∙ sym g.0)
-one_fault before s rule rule' step step' all (inl f) (inr (inl g)) = absurd (g.whole rule f.1.broken)
-one_fault before s rule rule' step step' all (inl f) (inr (inr g)) = absurd (g.whole rule f.1.broken)
-one_fault before s rule rule' step step' all (inr (inl f)) (inl g) = absurd (f.whole rule' g.1.broken)
-one_fault before s rule rule' step step' all (inr (inr f)) (inl g) = absurd (f.whole rule' g.1.broken)
-one_fault before s rule rule' step step' all (inr (inl f)) (inr (inl g)) = two_steps before s rule rule' step step' all f g
-one_fault before s rule rule' step step' all (inr (inl f)) (inr (inr g)) = absurd (step_and_end before s rule rule' step step' all f g)
-one_fault before s rule rule' step step' all (inr (inr f)) (inr (inl g)) = absurd (step_and_end before s rule' rule step' step all g f)
-one_fault before s rule rule' step step' all (inr (inr f)) (inr (inr g)) = two_ends before s rule rule' step step' all f g
+-- of the moves
+pub one_moves_fault : (Fits : List (List ℕ) → Type 0) (before : List Sentence) (s : Sentence) (moves : List (Move (List ℕ))) (rule rule' : ProofRule) (step step' : ℕ) → AllMeant before
+    → IsMovesFault Fits before s moves rule step → IsMovesFault Fits before s moves rule' step' → Same rule step rule' step'
+one_moves_fault Fits before s moves rule rule' step step' all (inl f) (inl g) = two_moves Fits before moves rule rule' step step' all f g
+one_moves_fault Fits before s moves rule rule' step step' all (inl f) (inr g) = absurd (move_and_end Fits before s moves rule rule' step step' all f g)
+one_moves_fault Fits before s moves rule rule' step step' all (inr f) (inl g) = absurd (move_and_end Fits before s moves rule' rule step' step all g f)
+one_moves_fault Fits before s moves rule rule' step step' all (inr f) (inr g) = two_ends Fits before s moves rule rule' step step' all f g
 
--- ---- limits
-
--- a step over the limit that breaks no rule breaks the limit first
-pub limit_first : (before : List Sentence) (stack : List (List (List ℕ))) (label : List ℕ) (rest : List (List (List ℕ))) (e : List (List ℕ)) → AllMeant before
-    → ¬ (IsWithinLimit e) → StepTo before stack label rest e → FirstAtStep L1 before stack label
-limit_first before stack label rest e all over step = record {
-  broken = step_breaks_limit before stack label rest e over step;
-  first = λ other less. step_breaks_none other before stack label rest e all (λ same. absurd (lt_irrefl (rank L1) (subst (λ r. rank r < rank L1) same less))) step;
-}
-
-over_fault : (before : List Sentence) (s : Sentence) → AllMeant before → IsWhole before s → FirstOver before s.proof → (step : ℕ) × IsFault before s L1 step
-over_fault before s all whole o = (
-  length o.earlier + 1,
-  inr (inl (record {
-    whole = whole;
-    earlier = o.earlier;
-    label = o.label;
-    later = o.later;
-    proof = o.parts;
-    number = refl;
-    stack = o.stack;
-    passed = o.passed;
-    fault = limit_first before o.stack o.label o.rest o.e all o.over o.step;
-  })),
-)
-
-pub proved_or_over : (before : List Sentence) (s : Sentence) → AllMeant before → IsProved before s → IsProvedWithin IsWithinLimit before s ⊎ ((step : ℕ) × IsFault before s L1 step)
-proved_or_over before s all p = elim (first_over before (tree p.label p.below none) (s.symbols ∷ []) all p.derived) [
-  | inl within ↦ inl (record { whole = p.whole; label = p.label; below = p.below; spelled = p.spelled; derived = within })
-  | inr over ↦ inr (over_fault before s all p.whole (subst (FirstOver before) p.spelled over))
-]
-
-within_proved : (before : List Sentence) (s : Sentence) → IsProvedWithin IsWithinLimit before s → IsProved before s
-within_proved before s p =
-    record { whole = p.whole; label = p.label; below = p.below; spelled = p.spelled; derived = derive_any before (tree p.label p.below none) (s.symbols ∷ []) p.derived }
-
-only_limit : (before : List Sentence) (s : Sentence) (rule : ProofRule) (step : ℕ) → AllMeant before → IsProved before s → IsFault before s rule step → rule ≡ L1
-only_limit before s rule step all p f = ⊎_elim (λ within. absurd (proved_no_fault before s rule step all within f))
-    (λ over. (one_fault before s rule L1 step over.0 all f over.1).0) (proved_or_over before s all p)
+-- of the tokens
+pub one_fault : (Fits : List (List ℕ) → Type 0) (before : List Sentence) (s : Sentence) (tokens : List (List ℕ)) (rule rule' : ProofRule) (step step' : ℕ) → AllMeant before
+    → IsFault Fits before s tokens rule step → IsFault Fits before s tokens rule' step' → Same rule step rule' step'
+one_fault Fits before s tokens rule rule' step step' all (inl f) (inl g) =
+    (first_once (λ r. BreaksWhole r before tokens) rule rule' f.1.broken g.1.broken f.1.first g.1.first, f.0 ∙ sym g.0)
+one_fault Fits before s tokens rule rule' step step' all (inl f) (inr g) = absurd (g.0 rule f.1.broken)
+one_fault Fits before s tokens rule rule' step step' all (inr f) (inl g) = absurd (f.0 rule' g.1.broken)
+one_fault Fits before s tokens rule rule' step step' all (inr f) (inr g) =
+    one_moves_fault Fits before s g.1 rule rule' step step' all
+    (subst (λ m. IsMovesFault Fits before s m rule step) (moves_once before s tokens f.1 g.1 f.2 g.2) f.3) g.3
 
 -- ---- the laws
 
@@ -209,8 +171,9 @@ pub one_tree_holds : OneTree
 one_tree_holds before t u es fs all d g same =
     (one_row AnyExpression AnyExpression before t u es fs all d g same, derived_once AnyExpression AnyExpression before t u es fs all d g same)
 
-pub one_verdict_holds : OneVerdict
-one_verdict_holds before s all = (λ p rule step. proved_no_fault before s rule step all p, λ rule rule' step step'. one_fault before s rule rule' step step' all)
+pub one_fit_law : OneFit
+one_fit_law before t u all f g same = one_fit_holds before t u all f g same
 
-pub limits_aside_holds : LimitsAside
-limits_aside_holds before s all = (within_proved before s, proved_or_over before s all, λ p rule step. only_limit before s rule step all p)
+pub one_verdict_holds : OneVerdict
+one_verdict_holds limit before s tokens all =
+    (λ p rule step. proved_no_fault (IsWithin limit) before s tokens rule step all p, λ rule rule' step step'. one_fault (IsWithin limit) before s tokens rule rule' step step' all)

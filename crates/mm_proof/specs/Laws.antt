@@ -1,37 +1,96 @@
 -- Laws of verdicts on proofs, after statements that break no rule of meaning.
-use Rattle.std.specs.Prelude.{◌≡◌, ℕ, List, ◌⊎◌}
+use Rattle.std.specs.Prelude.{◌≡◌, ℕ, List, [], ◌∷◌, ◌⊎◌, ◌↔◌}
 use Rattle.mm_frame.specs.Sentence.{Sentence}
 use Rattle.mm_frame.specs.Rules.{AllMeant}
+use Rattle.mm_frame.specs.Form.{AllFormed}
 use Rattle.mm_proof.specs.declared.fault.ProofRule.{ProofRule}
 use Rattle.mm_proof.specs.declared.fault.ProofRule.TheVariants.{L1}
-use Rattle.mm_proof.specs.Formed.{AllFormed}
-use Rattle.mm_proof.specs.Tree.{Trees, spelling, DeriveAll, AnyExpression}
-use Rattle.mm_proof.specs.Proof.{IsWithinLimit, IsProvedWithin, IsProved, IsFault}
+use Rattle.mm_proof.specs.Tree.{Trees, none, tree, spelling, Fit, DeriveAll, AnyExpression}
+use Rattle.mm_proof.specs.Moves.{Move}
+use Rattle.mm_proof.specs.Tokens.{IsNormal}
+use Rattle.mm_proof.specs.Expansion.{IsWord}
+use Rattle.mm_proof.specs.Proof.{IsWithin, IsWhole, Prove, IsProvedWithin, IsProved, IsFault}
 
--- Trees that derive expressions are told by their spelling: no other trees that derive any have it.
+-- Trees that fit are told by their spelling: no other trees that fit have it.
+abbrev pub OneFit : Type 0
+OneFit = (before : List Sentence) (t u : Trees) → AllMeant before → Fit before t → Fit before u
+    → spelling t ≡ spelling u → t ≡ u
+
+-- Trees that derive expressions fit, and so are told by their spelling; and they derive the same.
 abbrev pub OneTree : Type 0
 OneTree =
     (before : List Sentence) (t u : Trees) (es fs : List (List (List ℕ))) → AllMeant before
-    → DeriveAll AnyExpression before t es → DeriveAll AnyExpression before u fs → spelling t ≡ spelling u → (t ≡ u) × (es ≡ fs)
+    → DeriveAll AnyExpression before t es → DeriveAll AnyExpression before u fs
+    → spelling t ≡ spelling u → (t ≡ u) × (es ≡ fs)
 
--- After statements in form each proof is proved within the limit, or has a fault.
+-- After statements in form the tokens of each proof are a proof within the limit, or have a fault.
 abbrev pub SomeVerdict : Type 0
 SomeVerdict =
-    (before : List Sentence) (s : Sentence) → AllMeant before → AllFormed before
-    → IsProvedWithin IsWithinLimit before s ⊎ ((rule : ProofRule) × (step : ℕ) × IsFault before s rule step)
+    (limit : ℕ) (before : List Sentence) (s : Sentence) (tokens : List (List ℕ)) → AllMeant before
+    → AllFormed before
+    → IsProvedWithin (IsWithin limit) before s tokens
+    ⊎ ((rule : ProofRule) × (step : ℕ) × IsFault (IsWithin limit) before s tokens rule step)
 
 -- What is proved within the limit has no fault; and what has a fault has one rule and one step.
 abbrev pub OneVerdict : Type 0
 OneVerdict =
-    (before : List Sentence) (s : Sentence) → AllMeant before
-    → (IsProvedWithin IsWithinLimit before s → (rule : ProofRule) (step : ℕ) → ¬ (IsFault before s rule step))
-    × ((rule rule' : ProofRule) (step step' : ℕ) → IsFault before s rule step → IsFault before s rule' step' → (rule ≡ rule') × (step ≡ step'))
+    (limit : ℕ) (before : List Sentence) (s : Sentence) (tokens : List (List ℕ)) → AllMeant before
+    → (IsProvedWithin (IsWithin limit) before s tokens → (rule : ProofRule) (step : ℕ)
+    → ¬ (IsFault (IsWithin limit) before s tokens rule step))
+    × ((rule rule' : ProofRule) (step step' : ℕ)
+    → IsFault (IsWithin limit) before s tokens rule step
+    → IsFault (IsWithin limit) before s tokens rule' step' → (rule ≡ rule') × (step ≡ step'))
 
--- What is proved within the limit is proved; what is proved is so within the limit, or its fault is that a step passes the
--- limit; and no other fault is one of what is proved.
+-- What is proved within the limit is proved; what is proved is so within the limit, or its fault is
+-- that a step passes the limit; and no other fault is one of what is proved.
 abbrev pub LimitsAside : Type 0
 LimitsAside =
-    (before : List Sentence) (s : Sentence) → AllMeant before
-    → (IsProvedWithin IsWithinLimit before s → IsProved before s)
-    × (IsProved before s → IsProvedWithin IsWithinLimit before s ⊎ ((step : ℕ) × IsFault before s L1 step))
-    × (IsProved before s → (rule : ProofRule) (step : ℕ) → IsFault before s rule step → rule ≡ L1)
+    (limit : ℕ) (before : List Sentence) (s : Sentence) (tokens : List (List ℕ)) → AllMeant before
+    → (IsProvedWithin (IsWithin limit) before s tokens → IsProved before s tokens)
+    × (IsProved before s tokens → IsProvedWithin (IsWithin limit) before s tokens
+    ⊎ ((step : ℕ) × IsFault (IsWithin limit) before s tokens L1 step))
+    × (IsProved before s tokens → (rule : ProofRule) (step : ℕ)
+    → IsFault (IsWithin limit) before s tokens rule step → rule ≡ L1)
+
+-- Moves have one word at most.
+abbrev pub OneWord : Type 0
+OneWord =
+    (before : List Sentence) (moves : List (Move (List ℕ))) (v w : List (List ℕ)) → AllMeant before
+    → IsWord before moves v → IsWord before moves w → v ≡ w
+
+-- the moves have a word, which spells one tree; and this tree derives the statement's expression
+pub record ProveByWord (Fits : List (List ℕ) → Type 0) (before : List Sentence) (s : Sentence)
+    (moves : List (Move (List ℕ))) : Type 0 where
+  pub label : List ℕ
+  pub below : Trees
+  pub word : IsWord before moves (spelling (tree label below none))
+  pub derived : DeriveAll Fits before (tree label below none) (s.symbols ∷ [])
+
+-- Moves prove a statement exactly if their word spells a tree that derives its expression.
+abbrev pub ByWordFor : (List (List ℕ) → Type 0) → Type 0
+ByWordFor Fits =
+    (before : List Sentence) (s : Sentence) (moves : List (Move (List ℕ))) → AllMeant before
+    → Prove Fits before s moves ↔ ProveByWord Fits before s moves
+
+abbrev pub ByWord : Type 0
+ByWord = ByWordFor AnyExpression × ((limit : ℕ) → ByWordFor (IsWithin limit))
+
+-- the labels spell one tree, which derives the statement's expression
+pub record IsSpelledWithin (Fits : List (List ℕ) → Type 0) (before : List Sentence) (s : Sentence)
+    (labels : List (List ℕ)) : Type 0 where
+  pub label : List ℕ
+  pub below : Trees
+  pub spelled : spelling (tree label below none) ≡ labels
+  pub derived : DeriveAll Fits before (tree label below none) (s.symbols ∷ [])
+
+-- A normal proof that breaks no rule over the whole of it is one exactly if its labels spell a tree
+-- that derives the expression.
+abbrev pub BySpellingFor : (List (List ℕ) → Type 0) → Type 0
+BySpellingFor Fits =
+    (before : List Sentence) (s : Sentence) (tokens : List (List ℕ)) → AllMeant before
+    → IsNormal tokens
+    → IsProvedWithin Fits before s tokens
+    ↔ (IsWhole before tokens × IsSpelledWithin Fits before s tokens)
+
+abbrev pub BySpelling : Type 0
+BySpelling = BySpellingFor AnyExpression × ((limit : ℕ) → BySpellingFor (IsWithin limit))

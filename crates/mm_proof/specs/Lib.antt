@@ -1,10 +1,10 @@
 pub mod Substitution
 pub mod Tree
+pub mod Moves
+pub mod Tokens
 pub mod Proof
-pub mod Formed
+pub mod Steps
+pub mod Used
+pub mod Expansion
 pub mod Laws
 pub mod Answer
-pub mod Step
-pub mod Replaced
-pub mod Applied
-pub mod View

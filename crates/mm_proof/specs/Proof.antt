@@ -1,28 +1,46 @@
--- When a `$p` is proved, and the first fault of a proof (the Metamath book, section 4.3 and appendix B).
-use Rattle.std.specs.Prelude.{◌≡◌, ◌≢◌, ℕ, ◌+◌, ◌<◌, ◌≤◌, List, [], ◌∷◌, ◌++◌, take, drop, length, slice_get, Contains, Option, Some, ◌⊎◌}
+-- When a `$p` is proved, and the first fault of a proof (the Metamath book, section 4.3 and
+-- appendix B).
+use Rattle.std.specs.Prelude.{◌≡◌, ◌≢◌, ℕ, ◌+◌, ◌<◌, ◌≤◌, List, [], ◌∷◌, ◌++◌, take, drop, length}
+use Rattle.std.specs.Prelude.{slice_get, Contains, Option, Some, ◌⊎◌}
+use Rattle.std.specs.List.{AllZip}
 use Rattle.mm_text.specs.declared.statement.Kind.TheVariants.{Floating, Essential}
+use Rattle.mm_code.specs.declared.code.CodeRule.TheVariants as code
+use Rattle.mm_code.specs.Letters.{Breaks}
 use Rattle.mm_frame.specs.Sentence.{Sentence, SomeSentence, IsHypothesis, IsLabelled, Types}
 use Rattle.mm_frame.specs.Active.{IsActive, SomeActive}
 use Rattle.mm_frame.specs.Frame.{IsMandatory, IsMandatoryPair}
 use Rattle.mm_proof.specs.declared.fault.ProofRule.{ProofRule}
-use Rattle.mm_proof.specs.declared.fault.ProofRule.TheVariants.{P1, P2, P3, P4, P5, P6, P7, P8, P9, P10, P11, P12, P13, P14, L1}
-use Rattle.mm_proof.specs.Substitution.{IsOn, substituted}
-use Rattle.mm_proof.specs.Tree.{Trees, none, tree, spelling, Names, ShareNoVariable, AreDistinct, DeriveAll, AnyExpression}
+use Rattle.mm_proof.specs.declared.fault.ProofRule.TheVariants.{P1, P2, P3, P4, P5, P6, P7, P8, P9}
+use Rattle.mm_proof.specs.declared.fault.ProofRule.TheVariants.{P10, P11, P12, P13, P14, L1}
+use Rattle.mm_proof.specs.Substitution.{Expression, IsOn, substituted}
+use Rattle.mm_proof.specs.Tree.{Trees, none, tree, Names, ShareNoVariable, AreDistinct, DeriveAll}
+use Rattle.mm_proof.specs.Tree.{AnyExpression}
+use Rattle.mm_proof.specs.Moves.{Move, name, again, mark, steps_in, Makes}
+use Rattle.mm_proof.specs.Tokens.{opening_token, closing_token, AreLabels, AreLetters, SayMoves}
 
--- The most symbols of an expression that a step may make, its type code counted.
+-- the expression has at most so many symbols, its type code counted
+abbrev pub IsWithin : ℕ → List (List ℕ) → Type 0
+IsWithin limit e = length e ≤ limit
+
+-- the most symbols of an expression that a step may make
 abbrev pub expression_limit : ℕ
 expression_limit = 1048576
 
-abbrev pub IsWithinLimit : List (List ℕ) → Type 0
-IsWithinLimit e = length e ≤ expression_limit
-
--- The rules that are judged over the whole proof. No proof is read as a compressed one yet.
-abbrev pub BreaksWhole : ProofRule → List Sentence → Sentence → Type 0
-BreaksWhole P2 before s = (label : List ℕ) × Contains s.proof label × ¬ (SomeSentence before (IsLabelled label))
-BreaksWhole P3 before s =
-    (label : List ℕ) × Contains s.proof label
-    × (place : ℕ) × (h : Sentence) × (slice_get before place ≡ Some h) × IsLabelled label h × IsHypothesis h.kind × ¬ (IsActive before place)
-BreaksWhole rule before s = ⊥
+-- the rules that are judged over the whole proof
+abbrev pub BreaksWhole : ProofRule → List Sentence → List (List ℕ) → Type 0
+BreaksWhole P1 before tokens =
+    (slice_get tokens 0 ≡ Some opening_token) × ¬ (Contains (drop 1 tokens) closing_token)
+BreaksWhole P2 before tokens =
+    (labels : List (List ℕ)) × AreLabels tokens labels
+    × (label : List ℕ) × Contains labels label × ¬ (SomeSentence before (IsLabelled label))
+BreaksWhole P3 before tokens =
+    (labels : List (List ℕ)) × AreLabels tokens labels
+    × (label : List ℕ) × Contains labels label
+    × (place : ℕ) × (h : Sentence) × (slice_get before place ≡ Some h) × IsLabelled label h
+    × IsHypothesis h.kind × ¬ (IsActive before place)
+BreaksWhole P4 before tokens = (text : List ℕ) × AreLetters tokens text × Breaks code.P4 text
+BreaksWhole P5 before tokens = (text : List ℕ) × AreLetters tokens text × Breaks code.P5 text
+BreaksWhole rule before tokens = ⊥
 
 -- the place of a rule among those that are judged together
 abbrev pub rank : ProofRule → ℕ
@@ -43,111 +61,160 @@ rank P13 = 14
 rank P14 = 15
 
 -- the proof breaks none of the rules that are judged over the whole of it
-abbrev pub IsWhole : List Sentence → Sentence → Type 0
-IsWhole before s = (rule : ProofRule) → ¬ (BreaksWhole rule before s)
+abbrev pub IsWhole : List Sentence → List (List ℕ) → Type 0
+IsWhole before tokens = (rule : ProofRule) → ¬ (BreaksWhole rule before tokens)
 
--- The `$p` is proved after the statements before it, each step making an expression that fits: its proof breaks no rule that
--- is judged over the whole of it, and spells one tree, which derives the statement's expression.
-pub record IsProvedWithin (Fits : List (List ℕ) → Type 0) (before : List Sentence) (s : Sentence) : Type 0 where
-  pub whole : IsWhole before s
+-- The moves prove the statement, each step making an expression that fits: they make one tree,
+-- which derives the statement's expression.
+pub record Prove (Fits : Expression → Type 0) (before : List Sentence) (s : Sentence)
+    (moves : List (Move (List ℕ))) : Type 0 where
   pub label : List ℕ
   pub below : Trees
-  pub spelled : spelling (tree label below none) ≡ s.proof
+  pub kept : List Trees
+  pub made : Makes before moves none [] (tree label below none) kept
   pub derived : DeriveAll Fits before (tree label below none) (s.symbols ∷ [])
 
--- the `$p` is proved
-abbrev pub IsProved : List Sentence → Sentence → Type 0
-IsProved before s = IsProvedWithin AnyExpression before s
+-- The tokens are a proof of the `$p` after the statements before it, each step making an expression
+-- that fits: they break no rule that is judged over the whole proof, and the moves that they say
+-- prove it.
+pub record IsProvedWithin (Fits : Expression → Type 0) (before : List Sentence) (s : Sentence)
+    (tokens : List (List ℕ)) : Type 0 where
+  pub whole : IsWhole before tokens
+  pub moves : List (Move (List ℕ))
+  pub said : SayMoves before s tokens moves
+  pub proves : Prove Fits before s moves
 
--- The step by the assertion at a place meets this on a stack: there are enough entries, the topmost of which stand for the
--- mandatory hypotheses, the last for the topmost; σ replaces each mandatory variable by what follows the first symbol of the
--- entry of its `$f`.
-pub record Meets (before : List Sentence) (stack : List (List (List ℕ))) (label : List ℕ) : Type 0 where
+-- the tokens are a proof of the `$p`
+abbrev pub IsProved : List Sentence → Sentence → List (List ℕ) → Type 0
+IsProved before s tokens = IsProvedWithin AnyExpression before s tokens
+
+-- The step by the assertion at a place meets this on a stack: there are enough entries, the topmost
+-- of which stand for the mandatory hypotheses, the last for the topmost; σ replaces each mandatory
+-- variable by what follows the first symbol of the entry of its `$f`.
+pub record Meets (before : List Sentence) (stack : List Expression) (label : List ℕ) : Type 0 where
   pub place : ℕ
   pub assertion : Sentence
   pub hypotheses : List Sentence
   pub names : Names before label place assertion hypotheses
-  pub rest : List (List (List ℕ))
-  pub entries : List (List (List ℕ))
+  pub rest : List Expression
+  pub entries : List Expression
   pub split : stack ≡ rest ++ entries
   pub paired : length entries ≡ length hypotheses
   pub σ : List ℕ → Option (List (List ℕ))
   pub on : IsOn (IsMandatory (take place before) assertion) σ
-  pub replaced : (i : ℕ) (h : Sentence) (entry : List (List ℕ)) (code x : List ℕ) → slice_get hypotheses i ≡ Some h
-      → slice_get entries i ≡ Some entry → Types code x h → σ x ≡ Some (drop 1 entry)
+  pub replaced : (i : ℕ) (h : Sentence) (entry : List (List ℕ)) (code x : List ℕ)
+      → slice_get hypotheses i ≡ Some h → slice_get entries i ≡ Some entry
+      → Types code x h → σ x ≡ Some (drop 1 entry)
 
 -- the hypothesis at a number and its entry are so
-abbrev pub SomePair : List Sentence → List (List (List ℕ)) → (Sentence → List (List ℕ) → Type 0) → Type 0
+abbrev pub SomePair : List Sentence → List Expression → (Sentence → Expression → Type 0) → Type 0
 SomePair hypotheses entries P =
-    (i : ℕ) × (h : Sentence) × (entry : List (List ℕ)) × (slice_get hypotheses i ≡ Some h) × (slice_get entries i ≡ Some entry) × P h entry
+    (i : ℕ) × (h : Sentence) × (entry : List (List ℕ)) × (slice_get hypotheses i ≡ Some h)
+    × (slice_get entries i ≡ Some entry) × P h entry
 
 -- some mandatory pair of the assertion, with what replaces its members, is so
-abbrev pub SomeReplacedPair : List Sentence → (stack : List (List (List ℕ))) → (label : List ℕ) → (List (List ℕ) → List (List ℕ) → Type 0) → Type 0
+abbrev pub SomeReplacedPair : List Sentence → (stack : List Expression) → (label : List ℕ)
+    → (Expression → Expression → Type 0) → Type 0
 SomeReplacedPair before stack label P =
-    (m : Meets before stack label) × (x : List ℕ) × (y : List ℕ) × (e : List (List ℕ)) × (f : List (List ℕ))
-    × IsMandatoryPair (take m.place before) m.assertion x y × (m.σ x ≡ Some e) × (m.σ y ≡ Some f) × P e f
+    (m : Meets before stack label) × (x : List ℕ) × (y : List ℕ) × (e : List (List ℕ))
+    × (f : List (List ℕ))
+    × IsMandatoryPair (take m.place before) m.assertion x y × (m.σ x ≡ Some e) × (m.σ y ≡ Some f)
+    × P e f
 
 -- The step by this label on a stack of expressions breaks the rule.
-abbrev pub BreaksStep : ProofRule → List Sentence → List (List (List ℕ)) → List ℕ → Type 0
-BreaksStep P8 before stack label =
-    (place : ℕ) × (assertion : Sentence) × (hypotheses : List Sentence) × Names before label place assertion hypotheses
+abbrev pub BreaksStep : (Expression → Type 0) → ProofRule → List Sentence → List Expression
+    → List ℕ → Type 0
+BreaksStep Fits P8 before stack label =
+    (place : ℕ) × (assertion : Sentence) × (hypotheses : List Sentence)
+    × Names before label place assertion hypotheses
     × (length stack < length hypotheses)
-BreaksStep P9 before stack label =
+BreaksStep Fits P9 before stack label =
     (m : Meets before stack label)
-    × SomePair m.hypotheses m.entries (λ h entry. (h.kind ≡ Floating) × (slice_get entry 0 ≢ slice_get h.symbols 0))
-BreaksStep P10 before stack label =
+    × SomePair m.hypotheses m.entries
+    (λ h entry. (h.kind ≡ Floating) × (slice_get entry 0 ≢ slice_get h.symbols 0))
+BreaksStep Fits P10 before stack label =
     (m : Meets before stack label)
-    × SomePair m.hypotheses m.entries (λ h entry. (h.kind ≡ Essential) × (entry ≢ substituted m.σ h.symbols))
-BreaksStep P11 before stack label = SomeReplacedPair before stack label (λ e f. ¬ (ShareNoVariable before e f))
-BreaksStep P12 before stack label = SomeReplacedPair before stack label (λ e f. ¬ (AreDistinct before e f))
-BreaksStep L1 before stack label =
-    SomeActive before (λ h. IsLabelled label h × IsHypothesis h.kind × ¬ (IsWithinLimit h.symbols))
-    ⊎ ((m : Meets before stack label) × ¬ (IsWithinLimit (substituted m.σ m.assertion.symbols)))
-BreaksStep rule before stack label = ⊥
+    × SomePair m.hypotheses m.entries
+    (λ h entry. (h.kind ≡ Essential) × (entry ≢ substituted m.σ h.symbols))
+BreaksStep Fits P11 before stack label =
+    SomeReplacedPair before stack label (λ e f. ¬ (ShareNoVariable before e f))
+BreaksStep Fits P12 before stack label =
+    SomeReplacedPair before stack label (λ e f. ¬ (AreDistinct before e f))
+BreaksStep Fits L1 before stack label =
+    SomeActive before (λ h. IsLabelled label h × IsHypothesis h.kind × ¬ (Fits h.symbols))
+    ⊎ ((m : Meets before stack label) × ¬ (Fits (substituted m.σ m.assertion.symbols)))
+BreaksStep Fits rule before stack label = ⊥
 
--- the first rule that the step breaks
-pub record FirstAtStep (rule : ProofRule) (before : List Sentence) (stack : List (List (List ℕ))) (label : List ℕ) : Type 0 where
-  pub broken : BreaksStep rule before stack label
-  pub first : (other : ProofRule) → rank other < rank rule → ¬ (BreaksStep other before stack label)
+-- The move breaks the rule where this is on the stack and this is kept. A mark does before any
+-- step, when nothing is there to keep.
+abbrev pub BreaksMove : (Expression → Type 0) → ProofRule → List Sentence
+    → (stack : List Expression) → (kept : List Expression) → Move (List ℕ) → Type 0
+BreaksMove Fits rule before stack kept (name label) = BreaksStep Fits rule before stack label
+BreaksMove Fits rule before stack kept (again tag) = (rule ≡ P6) × (length kept ≤ tag)
+BreaksMove Fits rule before stack kept mark = (rule ≡ P7) × (stack ≡ [])
 
--- A front of the steps passed: it spells these trees, which derive the expressions on the stack, each step within the limit.
-pub record Passed (before : List Sentence) (labels : List (List ℕ)) (stack : List (List (List ℕ))) : Type 0 where
+-- the first rule that the move breaks
+pub record FirstAtMove (Fits : Expression → Type 0) (rule : ProofRule) (before : List Sentence)
+    (stack kept : List Expression) (move : Move (List ℕ)) : Type 0 where
+  pub broken : BreaksMove Fits rule before stack kept move
+  pub first : (other : ProofRule) → rank other < rank rule
+      → ¬ (BreaksMove Fits other before stack kept move)
+
+-- A front of the moves passed: it makes trees that derive the expressions on the stack, each step
+-- one that fits, and keeps trees that derive the kept ones.
+pub record Passed (Fits : Expression → Type 0) (before : List Sentence)
+    (moves : List (Move (List ℕ))) (stack kept : List Expression) : Type 0 where
   pub trees : Trees
-  pub spelled : spelling trees ≡ labels
-  pub derived : DeriveAll IsWithinLimit before trees stack
+  pub shelf : List Trees
+  pub made : Makes before moves none [] trees shelf
+  pub derived : DeriveAll Fits before trees stack
+  pub kept_derived : AllZip (λ t e. DeriveAll Fits before t (e ∷ [])) shelf kept
 
 -- a rule over the whole proof is broken: the first one, at step 0
-pub record IsWholeFault (before : List Sentence) (s : Sentence) (rule : ProofRule) : Type 0 where
-  pub broken : BreaksWhole rule before s
-  pub first : (other : ProofRule) → rank other < rank rule → ¬ (BreaksWhole other before s)
+pub record IsWholeFault (before : List Sentence) (tokens : List (List ℕ))
+    (rule : ProofRule) : Type 0 where
+  pub broken : BreaksWhole rule before tokens
+  pub first : (other : ProofRule) → rank other < rank rule → ¬ (BreaksWhole other before tokens)
 
--- all steps before this one passed, and it breaks this rule first
-pub record IsStepFault (before : List Sentence) (s : Sentence) (rule : ProofRule) (step : ℕ) : Type 0 where
-  pub whole : IsWhole before s
-  pub earlier : List (List ℕ)
-  pub label : List ℕ
-  pub later : List (List ℕ)
-  pub proof : s.proof ≡ earlier ++ label ∷ later
-  pub number : step ≡ length earlier + 1
-  pub stack : List (List (List ℕ))
-  pub passed : Passed before earlier stack
-  pub fault : FirstAtStep rule before stack label
+-- all moves before this one passed, and it breaks this rule first
+pub record IsMoveFault (Fits : Expression → Type 0) (before : List Sentence)
+    (moves : List (Move (List ℕ))) (rule : ProofRule) (step : ℕ) : Type 0 where
+  pub earlier : List (Move (List ℕ))
+  pub move : Move (List ℕ)
+  pub later : List (Move (List ℕ))
+  pub parts : moves ≡ earlier ++ move ∷ later
+  pub number : step ≡ steps_in earlier + 1
+  pub stack : List Expression
+  pub kept : List Expression
+  pub passed : Passed Fits before earlier stack kept
+  pub fault : FirstAtMove Fits rule before stack kept move
 
 -- P13: there isn't exactly one entry at the end; P14: it differs from the statement's expression
-abbrev pub BreaksEnd : ProofRule → List (List (List ℕ)) → List (List ℕ) → Type 0
+abbrev pub BreaksEnd : ProofRule → List Expression → List (List ℕ) → Type 0
 BreaksEnd P13 stack expression = length stack ≢ 1
-BreaksEnd P14 stack expression = (entry : List (List ℕ)) × (stack ≡ entry ∷ []) × (entry ≢ expression)
+BreaksEnd P14 stack expression =
+    (entry : List (List ℕ)) × (stack ≡ entry ∷ []) × (entry ≢ expression)
 BreaksEnd rule stack expression = ⊥
 
--- all steps passed, and what they leave breaks this rule
-pub record IsEndFault (before : List Sentence) (s : Sentence) (rule : ProofRule) (step : ℕ) : Type 0 where
-  pub whole : IsWhole before s
-  pub stack : List (List (List ℕ))
-  pub passed : Passed before s.proof stack
-  pub number : step ≡ length s.proof + 1
+-- all moves passed, and what they leave breaks this rule
+pub record IsEndFault (Fits : Expression → Type 0) (before : List Sentence) (s : Sentence)
+    (moves : List (Move (List ℕ))) (rule : ProofRule) (step : ℕ) : Type 0 where
+  pub stack : List Expression
+  pub kept : List Expression
+  pub passed : Passed Fits before moves stack kept
+  pub number : step ≡ steps_in moves + 1
   pub broken : BreaksEnd rule stack s.symbols
 
--- the first fault of the proof: its rule and the number of its step
-abbrev pub IsFault : List Sentence → Sentence → ProofRule → ℕ → Type 0
-IsFault before s rule step =
-    ((step ≡ 0) × IsWholeFault before s rule) ⊎ IsStepFault before s rule step ⊎ IsEndFault before s rule step
+-- the first fault of the moves: its rule and the number of its step
+abbrev pub IsMovesFault : (Expression → Type 0) → List Sentence → Sentence
+    → List (Move (List ℕ)) → ProofRule → ℕ → Type 0
+IsMovesFault Fits before s moves rule step =
+    IsMoveFault Fits before moves rule step ⊎ IsEndFault Fits before s moves rule step
+
+-- the first fault of the tokens as a proof of the `$p`
+abbrev pub IsFault : (Expression → Type 0) → List Sentence → Sentence → List (List ℕ)
+    → ProofRule → ℕ → Type 0
+IsFault Fits before s tokens rule step =
+    ((step ≡ 0) × IsWholeFault before tokens rule)
+    ⊎ (IsWhole before tokens × (moves : List (Move (List ℕ))) × SayMoves before s tokens moves
+    × IsMovesFault Fits before s moves rule step)

@@ -2,7 +2,8 @@
 use Rattle.std.specs.Prelude.{ℕ, List, [], ◌∷◌, Option, unwrap_or, IsSome, ◌↔◌}
 use Rattle.std.specs.List.{flat_map}
 
--- Symbols are told apart by their names. An expression is a list of symbols; the first is its type code.
+-- Symbols are told apart by their names. An expression is a list of symbols; the first is its type
+-- code.
 abbrev pub Symbol : Type 0
 Symbol = List ℕ
 

@@ -1,12 +1,13 @@
--- Proof trees, what they derive and how they are spelled (the Metamath book, section 4.2.6 and 4.3).
-use Rattle.std.specs.Prelude.{◌≡◌, ℕ, List, [], ◌∷◌, ◌++◌, map, take, slice_get, Contains, Option, Some, ◌⊎◌}
+-- Proof trees, what they derive and how they are spelled (the Metamath book, sections 4.2.6, 4.3).
+use Rattle.std.specs.Prelude.{◌≡◌, ℕ, suc, List, [], ◌∷◌, ◌++◌, length, map, take, slice_get}
+use Rattle.std.specs.Prelude.{Contains, Option, Some, ◌⊎◌}
 use Rattle.mm_frame.specs.Sentence.{Sentence, IsHypothesis, IsAssertion, IsLabelled}
 use Rattle.mm_frame.specs.Active.{SomeActive, IsVariable}
 use Rattle.mm_frame.specs.Frame.{IsMandatory, AreMandatory, IsDistinct, IsMandatoryPair}
 use Rattle.mm_proof.specs.Substitution.{IsOn, substituted}
 
--- Trees side by side. A tree is a label with the trees below it; a tree with none below is a leaf, or an assertion that has
--- no hypotheses: its label tells.
+-- Trees side by side. A tree is a label with the trees below it; a tree with none below is a leaf,
+-- or an assertion that has no hypotheses: its label tells.
 pub data Trees : Type 0 where
   none : Trees
   tree : (label : List ℕ) (below right : Trees) → Trees
@@ -16,12 +17,38 @@ abbrev pub spelling : Trees → List (List ℕ)
 spelling none = []
 spelling (tree label below right) = spelling below ++ label ∷ spelling right
 
--- The label is that of the assertion at an earlier place, which has these mandatory hypotheses there.
-pub record Names (before : List Sentence) (label : List ℕ) (place : ℕ) (assertion : Sentence) (hypotheses : List Sentence) : Type 0 where
+-- trees side by side, and others to their right
+abbrev pub beside : Trees → Trees → Trees
+beside none others = others
+beside (tree label below right) others = tree label below (beside right others)
+
+-- how many stand side by side
+abbrev pub roots : Trees → ℕ
+roots none = 0
+roots (tree label below right) = suc (roots right)
+
+-- The label is that of the assertion at an earlier place, with these mandatory hypotheses there.
+pub record Names (before : List Sentence) (label : List ℕ) (place : ℕ) (assertion : Sentence)
+    (hypotheses : List Sentence) : Type 0 where
   pub there : slice_get before place ≡ Some assertion
   pub named : IsLabelled label assertion
   pub kind : IsAssertion assertion.kind
   pub mandatory : AreMandatory (take place before) assertion hypotheses
+
+-- The label may stand over these trees: it is that of an active hypothesis, and they are none; or
+-- it is that of an earlier assertion, and they are as many as its mandatory hypotheses.
+abbrev pub MayStandOver : List Sentence → List ℕ → Trees → Type 0
+MayStandOver before label below =
+    ((below ≡ none) × SomeActive before (λ h. IsLabelled label h × IsHypothesis h.kind))
+    ⊎ ((place : ℕ) × (assertion : Sentence) × (hypotheses : List Sentence)
+    × Names before label place assertion hypotheses
+    × (roots below ≡ length hypotheses))
+
+-- the trees fit after the statements before: each label may stand over the trees below it
+abbrev pub Fit : List Sentence → Trees → Type 0
+Fit before none = Unit {0}
+Fit before (tree label below right) =
+    MayStandOver before label below × Fit before below × Fit before right
 
 -- no variable stands in both expressions
 abbrev pub ShareNoVariable : List Sentence → List (List ℕ) → List (List ℕ) → Type 0
@@ -30,25 +57,31 @@ ShareNoVariable before e f = (u : List ℕ) → IsVariable before u → Contains
 -- each variable of the one and each of the other are an active pair
 abbrev pub AreDistinct : List Sentence → List (List ℕ) → List (List ℕ) → Type 0
 AreDistinct before e f =
-    (u v : List ℕ) → IsVariable before u → IsVariable before v → Contains e u → Contains f v → IsDistinct before u v
+    (u v : List ℕ) → IsVariable before u → IsVariable before v → Contains e u → Contains f v
+    → IsDistinct before u v
 
--- What replaces the members of each mandatory pair of the assertion at a place shares no variable, and its variables are
--- active pairs after all the statements.
+-- What replaces the members of each mandatory pair of the assertion at a place shares no variable,
+-- and its variables are active pairs after all the statements.
 abbrev pub KeepsApart : List Sentence → ℕ → Sentence → (List ℕ → Option (List (List ℕ))) → Type 0
 KeepsApart before place assertion σ =
-    (x y : List ℕ) (e f : List (List ℕ)) → IsMandatoryPair (take place before) assertion x y → σ x ≡ Some e → σ y ≡ Some f
+    (x y : List ℕ) (e f : List (List ℕ)) → IsMandatoryPair (take place before) assertion x y
+    → σ x ≡ Some e → σ y ≡ Some f
     → ShareNoVariable before e f × AreDistinct before e f
 
--- The trees derive these expressions, in order, after the statements before; and of each expression that one of their steps
--- makes, Fits holds. A leaf derives the expression of the active hypothesis that it names. An assertion's tree derives its
--- expression under a substitution of its mandatory variables, if the trees below derive its mandatory hypotheses under it,
--- and its distinct variables stay apart.
-abbrev pub DeriveAll : (List (List ℕ) → Type 0) → List Sentence → Trees → List (List (List ℕ)) → Type 0
+-- The trees derive these expressions, in order, after the statements before; and of each expression
+-- that one of their steps makes, Fits holds. A leaf derives the expression of the active hypothesis
+-- that it names. An assertion's tree derives its expression under a substitution of its mandatory
+-- variables, if the trees below derive its mandatory hypotheses under it, and its distinct
+-- variables stay apart.
+abbrev pub DeriveAll : (List (List ℕ) → Type 0) → List Sentence → Trees → List (List (List ℕ))
+    → Type 0
 DeriveAll Fits before none expressions = expressions ≡ []
 DeriveAll Fits before (tree label below right) expressions =
     (e : List (List ℕ)) × (others : List (List (List ℕ))) × (expressions ≡ e ∷ others) × Fits e
-    × (((below ≡ none) × SomeActive before (λ h. IsLabelled label h × IsHypothesis h.kind × (e ≡ h.symbols)))
-    ⊎ ((place : ℕ) × (assertion : Sentence) × (hypotheses : List Sentence) × (σ : List ℕ → Option (List (List ℕ)))
+    × (((below ≡ none)
+    × SomeActive before (λ h. IsLabelled label h × IsHypothesis h.kind × (e ≡ h.symbols)))
+    ⊎ ((place : ℕ) × (assertion : Sentence) × (hypotheses : List Sentence)
+    × (σ : List ℕ → Option (List (List ℕ)))
     × Names before label place assertion hypotheses
     × IsOn (IsMandatory (take place before) assertion) σ
     × DeriveAll Fits before below (map (λ h. substituted σ h.symbols) hypotheses)

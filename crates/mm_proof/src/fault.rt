@@ -44,8 +44,8 @@ pub enum ProofRule {
 /// Why a proof isn't accepted.
 #[derive(Clone, Copy, PartialEq, Eq, Debug)]
 pub enum ProofFault {
-    /// The first rule that the proof breaks, and the number of its step: 0 for P1 to P5, else from 1
-    /// on; for P13 and P14 one more than the number of steps.
+    /// The first rule that the proof breaks, and the number of its step: 0 for P1 to P5, else from
+    /// 1 on; for P13 and P14 one more than the number of steps.
     Rule { rule: ProofRule, step: usize },
     /// A growth was refused.
     Memory,

@@ -1,6 +1,16 @@
 //! Laws of verdicts on proofs. The functions do nothing: their contracts are the laws.
 
-ghost use Rattle.mm_proof.specs.Laws.{OneTree, SomeVerdict, OneVerdict, LimitsAside};
+ghost use Rattle.mm_proof.specs.Laws.{OneFit, OneTree, OneWord, ByWord, BySpelling};
+ghost use Rattle.mm_proof.specs.Laws.{SomeVerdict, OneVerdict, LimitsAside};
+
+/// A spelling spells one tree.
+///
+/// After statements that break no rule of meaning, trees that fit (each leaf names an active
+/// hypothesis, each node an earlier assertion, with as many trees below as it has mandatory
+/// hypotheses) and have equal spellings are equal, whether they derive anything or not.
+pub fn one_fit()
+    ensures { OneFit }
+{}
 
 /// A proof spells one tree.
 ///
@@ -11,31 +21,59 @@ pub fn one_tree()
     ensures { OneTree }
 {}
 
+/// A proof has one word at most.
+///
+/// After statements that break no rule of meaning, the labels of a proof, with the word of a tagged
+/// step in place of each tag, are determined: no labels have two endings that each spell one tree
+/// that fits.
+pub fn one_word()
+    ensures { OneWord }
+{}
+
+/// What is proved is told by a word.
+///
+/// After statements that break no rule of meaning, the moves of a proof make a tree that derives
+/// the statement's expression exactly if their word spells a tree that does. So sharing steps by
+/// tags proves what the proof with each tag written out proves, and nothing else.
+pub fn by_word()
+    ensures { ByWord }
+{}
+
+/// A normal proof is told by its labels.
+///
+/// After statements that break no rule of meaning, a normal proof that breaks no rule over the
+/// whole of it proves its statement exactly if its labels spell a tree that derives the statement's
+/// expression (the Metamath book, section 4.3).
+pub fn by_spelling()
+    ensures { BySpelling }
+{}
+
 /// Each proof has a verdict.
 ///
-/// After statements that are in form and break no rule of meaning, a proof spells a derivation of
-/// its statement's expression with each step's expression within the limit, or it has a fault: the
-/// rules leave no case out. So where the verdict isn't that it's proved, a rule and a step tell why.
+/// After statements that are in form and break no rule of meaning, the tokens of a proof, normal or
+/// compressed, make a derivation of its statement's expression with each step's expression within
+/// the limit, or they have a fault: the rules leave no case out. So where the verdict isn't that
+/// it's proved, a rule and a step tell why. This holds for each limit.
 pub fn some_verdict()
     ensures { SomeVerdict }
 {}
 
 /// The verdict on a proof is one.
 ///
-/// After statements that break no rule of meaning, a proof that spells a derivation of its
-/// statement's expression, with each step's expression within the limit, has no fault; and a proof
-/// that has a fault has one rule and one step. So it can't be told to be proved and at fault, nor
-/// to be at fault in two ways.
+/// After statements that break no rule of meaning, tokens that make a derivation of the statement's
+/// expression, with each step's expression within the limit, have no fault; and a proof that has a
+/// fault has one rule and one step. So it can't be told to be proved and at fault, nor to be at
+/// fault in two ways. This holds for each limit.
 pub fn one_verdict()
     ensures { OneVerdict }
 {}
 
 /// What the limit on an expression's length changes, and that it changes nothing else.
 ///
-/// After statements that break no rule of meaning, a proof that spells a derivation of its
+/// After statements that break no rule of meaning, a proof that makes a derivation of its
 /// statement's expression (the Metamath book, section 4.3) either does so within the limit, or its
 /// fault is `L1`, at the first step that passes the limit. No other fault is one of such a proof:
-/// where another rule is named, no derivation is spelled, however long expressions may be.
+/// where another rule is named, no derivation is made, however long expressions may be.
 pub fn limits_aside()
     ensures { LimitsAside }
 {}

@@ -3,14 +3,8 @@
 
 mod fault;
 mod laws;
-mod step;
-mod substitution;
-mod typing;
-mod verdict;
 
 pub use fault::{ProofFault, ProofRule};
-pub use laws::{limits_aside, one_tree, one_verdict, some_verdict};
-pub use verdict::verify;
-
-#[cfg(test)]
-mod tests;
+pub use laws::{
+    by_spelling, by_word, limits_aside, one_fit, one_tree, one_verdict, one_word, some_verdict,
+};

@@ -1,0 +1,241 @@
+-- The word of moves spells what they make.
+use Rattle.std.proofs.Common.{◌≡◌, ℕ, zero, suc, ◌+◌, List, [], ◌∷◌, ◌++◌, map, slice_get, Some, option_map, ◌⊎◌, inl, inr, ⊎_elim, refl, sym, ap, subst, ◌∙◌, append_assoc, append-nil, arith}
+use Rattle.std.specs.List.{AllByRecursion}
+use Rattle.std.proofs.lemmas.Option.{same_Some, none-some, slice_get-map}
+use Rattle.std.proofs.lemmas.List.{map-append}
+use Rattle.mm_frame.specs.Sentence.{Sentence}
+use Rattle.mm_frame.specs.Rules.{AllMeant}
+use Rattle.mm_proof.specs.Tree.{Trees, none, tree, spelling, beside, roots, Fit}
+use Rattle.mm_proof.specs.Moves.{Move, name, again, mark, MakesOne, Makes}
+use Rattle.mm_proof.specs.Expansion.{ExpandsOne, Expands, IsWord}
+use Rattle.mm_proof.proofs.Making.{roots-beside, spelling-beside, makes_join, makes_split, makes_once, fit_makes}
+use Rattle.mm_proof.proofs.Derived.{all_push, all_at}
+
+-- ---- what labels make spells them
+
+pub names_spell : (before : List Sentence) (labels : List (List ℕ)) (a b : Trees) (k l : List Trees) → Makes before (map name labels) a k b l → spelling b ≡ spelling a ++ labels
+names_spell before [] a b k l m = ap spelling m.0 ∙ sym (append-nil (spelling a))
+names_spell before (label ∷ labels) a b k l m =
+    let step = m.2 in
+    let next : spelling m.0 ≡ spelling a ++ label ∷ [] =
+    ap spelling step.4 ∙ spelling-beside step.0 (tree label step.1 none) ∙ sym (append_assoc (spelling step.0) (spelling step.1) (label ∷ []))
+    ∙ ap (λ x. x ++ label ∷ []) (sym (spelling-beside step.0 step.1) ∙ ap spelling (sym step.2)) in
+    names_spell before labels m.0 b m.1 l m.3 ∙ ap (λ x. x ++ labels) next ∙ append_assoc (spelling a) (label ∷ []) labels
+
+-- and keeps nothing more
+names_keep : (before : List Sentence) (labels : List (List ℕ)) (a b : Trees) (k l : List Trees) → Makes before (map name labels) a k b l → l ≡ k
+names_keep before [] a b k l m = m.1
+names_keep before (label ∷ labels) a b k l m = names_keep before labels m.0 b m.1 l m.3 ∙ m.2.5
+
+-- ---- fit rows
+
+pub fit_beside : (before : List Sentence) (a b : Trees) → Fit before a → Fit before b → Fit before (beside a b)
+fit_beside before none b f g = g
+fit_beside before (tree label below right) b f g = (f.0, f.1, fit_beside before right b f.2 g)
+
+pub fit_apart : (before : List Sentence) (a b : Trees) → Fit before (beside a b) → Fit before a × Fit before b
+fit_apart before none b f = (tt, f)
+fit_apart before (tree label below right) b f = let h = fit_apart before right b f.2 in ((f.0, f.1, h.0), h.1)
+
+-- a tree that fits by itself
+abbrev pub IsFitTree : List Sentence → Trees → Type 0
+IsFitTree before t = (label : List ℕ) × (below : Trees) × (t ≡ tree label below none) × Fit before t
+
+-- ---- what moves make has their word
+
+-- a row that fits, kept trees that do, and their words
+pub record HasWords (before : List Sentence) (moves : List (Move (List ℕ))) (a b : Trees) (k l : List Trees) : Type 0 where
+  pub expands : Expands before moves (spelling a) (map spelling k) (spelling b) (map spelling l)
+  pub fit : Fit before b
+
+made_words : (before : List Sentence) (moves : List (Move (List ℕ))) (a b : Trees) (k l : List Trees) → Fit before a → AllByRecursion (IsFitTree before) k → Makes before moves a k b l
+    → HasWords before moves a b k l
+made_words before [] a b k l f g m =
+    record { expands = (ap spelling m.0, ap (λ (x : List Trees). map spelling x) m.1); fit = subst (Fit before) (sym m.0) f }
+made_words before (name label ∷ moves) a b k l f g m =
+    let step = m.2 in
+    let parts = fit_apart before step.0 step.1 (subst (Fit before) step.2 f) in
+    let next : Fit before m.0 = subst (Fit before) (sym step.4) (fit_beside before step.0 (tree label step.1 none) parts.0 (step.3, parts.1, tt)) in
+    let word : spelling m.0 ≡ spelling a ++ label ∷ [] = names_spell before (label ∷ []) a m.0 k m.1 (m.0, m.1, step, (refl, refl)) in
+    let rest = made_words before moves m.0 b m.1 l next (subst (AllByRecursion (IsFitTree before)) (sym step.5) g) m.3 in
+    record { expands = (spelling m.0, map spelling m.1, (word, ap (λ (x : List Trees). map spelling x) step.5), rest.expands); fit = rest.fit }
+made_words before (again tag ∷ moves) a b k l f g m =
+    let step = m.2 in
+    let one = all_at (IsFitTree before) k tag step.0 g step.1 in
+    let next : Fit before m.0 = subst (Fit before) (sym step.2) (fit_beside before a step.0 f one.3) in
+    let there : slice_get (map spelling k) tag ≡ Some (spelling step.0) = slice_get-map spelling k tag ∙ ap (λ o. option_map spelling o) step.1 in
+    let rest = made_words before moves m.0 b m.1 l next (subst (AllByRecursion (IsFitTree before)) (sym step.3) g) m.3 in
+    record {
+      expands = (spelling m.0, map spelling m.1, (spelling step.0, there, ap spelling step.2 ∙ spelling-beside a step.0, ap (λ (x : List Trees). map spelling x) step.3), rest.expands);
+      fit = rest.fit;
+    }
+made_words before (mark ∷ moves) a b k l f g m =
+    let step = m.2 in
+    let t : Trees = tree step.1 step.2 none in
+    let parts = fit_apart before step.0 t (subst (Fit before) step.3 f) in
+    let words : map spelling m.1 ≡ map spelling k ++ spelling t ∷ [] = ap (λ (x : List Trees). map spelling x) step.5 ∙ map-append spelling k (t ∷ []) in
+    let next : Fit before m.0 = subst (Fit before) (sym step.4) f in
+    let kept : AllByRecursion (IsFitTree before) m.1 =
+    subst (AllByRecursion (IsFitTree before)) (sym step.5) (all_push (IsFitTree before) k t g (step.1, step.2, refl, parts.1)) in
+    let rest = made_words before moves m.0 b m.1 l next kept m.3 in
+    record {
+      expands = (spelling m.0, map spelling m.1, (spelling step.0, step.1, step.2, parts.1, ap spelling step.3 ∙ spelling-beside step.0 t, ap spelling step.4, words), rest.expands);
+      fit = rest.fit;
+    }
+
+-- moves that make a row have its spelling as their word
+pub made_word : (before : List Sentence) (moves : List (Move (List ℕ))) (row : Trees) (kept : List Trees) → Makes before moves none [] row kept → IsWord before moves (spelling row) × Fit before row
+made_word before moves row kept m =
+    let w = made_words before moves none row [] kept tt tt m in
+    ((map spelling kept, w.expands), w.fit)
+
+-- ---- the word is one
+
+-- two splits of one list, by which front is longer
+splits : {X : Type 0} (a b c d : List X) → a ++ b ≡ c ++ d → ((g : List X) × (c ≡ a ++ g) × (b ≡ g ++ d)) ⊎ ((g : List X) × (a ≡ c ++ g) × (d ≡ g ++ b))
+splits [] b c d e = inl (c, refl, e)
+splits (x ∷ a) b [] d e = inr (x ∷ a, refl, sym e)
+splits (x ∷ a) b (y ∷ c) d e =
+    let h = heads x y (a ++ b) (c ++ d) e in
+    ⊎_elim (λ p. inl (p.0, ap (λ z. z ∷ c) (sym h.0) ∙ ap (λ l. x ∷ l) p.1, p.2)) (λ p. inr (p.0, ap (λ z. z ∷ a) h.0 ∙ ap (λ l. y ∷ l) p.1, p.2)) (splits a b c d h.1)
+  where
+    heads : {X : Type 0} (x y : X) (xs ys : List X) → x ∷ xs ≡ y ∷ ys → (x ≡ y) × (xs ≡ ys)
+    heads x y xs ys e = (cc, cc)
+
+no_roots : (t : Trees) → roots t ≡ 0 → t ≡ none
+no_roots none e = refl
+no_roots (tree label below right) e = absurd (omega arith)
+
+-- one tree's spelling has no other tree's as a proper ending
+no_front : (before : List Sentence) (g : List (List ℕ)) (t u : Trees) → AllMeant before → Fit before t → Fit before u → roots t ≡ roots u → spelling t ≡ g ++ spelling u → g ≡ []
+no_front before g t u all f h width e =
+    let whole : Makes before (map name g ++ map name (spelling u)) none [] t [] =
+    subst (λ l. Makes before l none [] t []) (ap (map name) e ∙ map-append name g (spelling u)) (fit_makes before t none [] f) in
+    let s = makes_split before (map name g) (map name (spelling u)) none t [] [] whole in
+    let one = makes_once before (map name (spelling u)) s.0 t (beside s.0 u) s.1 [] s.1 all s.3 (fit_makes before u s.0 s.1 h) in
+    let n : roots t ≡ roots s.0 + roots u = ap roots one.0 ∙ roots-beside s.0 u in
+    let bare : s.0 ≡ none = no_roots s.0 (omega arith) in
+    sym (names_spell before g none s.0 [] s.1 s.2) ∙ ap spelling bare
+
+-- so an ending of labels spells one tree
+one_ending : (before : List Sentence) (a c : List (List ℕ)) (t u : Trees) → AllMeant before → Fit before t → Fit before u → roots t ≡ roots u → a ++ spelling t ≡ c ++ spelling u → spelling t ≡ spelling u
+one_ending before a c t u all f h width e = elim (splits a (spelling t) c (spelling u) e) [
+  | inl p ↦ p.2 ∙ ap (λ l. l ++ spelling u) (no_front before p.0 t u all f h width p.2)
+  | inr p ↦ sym (p.2 ∙ ap (λ l. l ++ spelling t) (no_front before p.0 u t all h f (sym width) p.2))
+]
+
+expands_one : (before : List Sentence) (move : Move (List ℕ)) (labels a b : List (List ℕ)) (words v w : List (List (List ℕ))) → AllMeant before
+    → ExpandsOne before move labels words a v → ExpandsOne before move labels words b w → (a ≡ b) × (v ≡ w)
+expands_one before (name label) labels a b words v w all p q = (p.0 ∙ sym q.0, p.1 ∙ sym q.1)
+expands_one before (again tag) labels a b words v w all p q =
+    (p.2 ∙ ap (λ x. labels ++ x) (same_Some p.0 q.0 (sym p.1 ∙ q.1)) ∙ sym q.2, p.3 ∙ sym q.3)
+expands_one before mark labels a b words v w all p q =
+    let same = one_ending before p.0 q.0 (tree p.1 p.2 none) (tree q.1 q.2 none) all p.3 q.3 refl (sym p.4 ∙ q.4) in
+    (p.5 ∙ sym q.5, p.6 ∙ ap (λ x. words ++ x ∷ []) same ∙ sym q.6)
+
+expands_once : (before : List Sentence) (moves : List (Move (List ℕ))) (labels a b : List (List ℕ)) (words v w : List (List (List ℕ))) → AllMeant before
+    → Expands before moves labels words a v → Expands before moves labels words b w → (a ≡ b) × (v ≡ w)
+expands_once before [] labels a b words v w all p q = (p.0 ∙ sym q.0, p.1 ∙ sym q.1)
+expands_once before (move ∷ moves) labels a b words v w all p q =
+    let one = expands_one before move labels p.0 q.0 words p.1 q.1 all p.2 q.2 in
+    expands_once before moves q.0 a b q.1 v w all
+    (subst (λ x. Expands before moves q.0 x a v) one.1 (subst (λ x. Expands before moves x p.1 a v) one.0 p.3)) q.3
+
+pub one_word : (before : List Sentence) (moves : List (Move (List ℕ))) (v w : List (List ℕ)) → AllMeant before → IsWord before moves v → IsWord before moves w → v ≡ w
+one_word before moves v w all p q = (expands_once before moves [] v w [] p.0 q.0 all p.1 q.1).0
+
+-- ---- what a word spells is made
+
+-- the labels make the row
+abbrev Spelled : List Sentence → List (List ℕ) → Trees → Type 0
+Spelled before labels row = Makes before (map name labels) none [] row []
+
+spelled_once : (before : List Sentence) (labels : List (List ℕ)) (a b : Trees) → AllMeant before → Spelled before labels a → Spelled before labels b → a ≡ b
+spelled_once before labels a b all p q = (makes_once before (map name labels) none a b [] [] [] all p q).0
+
+spelled_more : (before : List Sentence) (labels : List (List ℕ)) (row t : Trees) → Spelled before labels row → Fit before t → Spelled before (labels ++ spelling t) (beside row t)
+spelled_more before labels row t p f =
+    subst (λ l. Makes before l none [] (beside row t) []) (sym (map-append name labels (spelling t)))
+    (makes_join before (map name labels) (map name (spelling t)) none row (beside row t) [] [] [] p (fit_makes before t row [] f))
+
+-- what is made after a front, and what the rest makes of it
+spelled_front : (before : List Sentence) (a b : List (List ℕ)) (last : Trees) → Spelled before (a ++ b) last → (row : Trees) × Spelled before a row × Makes before (map name b) row [] last []
+spelled_front before a b last p =
+    let s = makes_split before (map name a) (map name b) none last [] [] (subst (λ l. Makes before l none [] last []) (map-append name a b) p) in
+    let bare : s.1 ≡ [] = names_keep before a none s.0 [] s.1 s.2 in
+    (s.0, subst (λ k. Makes before (map name a) none [] s.0 k) bare s.2, subst (λ k. Makes before (map name b) s.0 k last []) bare s.3)
+
+expands_grow : (before : List Sentence) (moves : List (Move (List ℕ))) (labels labels' : List (List ℕ)) (words words' : List (List (List ℕ)))
+    → Expands before moves labels words labels' words' → (rest : List (List ℕ)) × (labels' ≡ labels ++ rest)
+expands_grow before [] labels labels' words words' p = ([], p.0 ∙ sym (append-nil labels))
+expands_grow before (move ∷ moves) labels labels' words words' p =
+    let first = grow_one move p.2 in
+    let others = expands_grow before moves p.0 labels' p.1 words' p.3 in
+    (first.0 ++ others.0, others.1 ∙ ap (λ l. l ++ others.0) first.1 ∙ append_assoc labels first.0 others.0)
+  where
+    grow_one : (move : Move (List ℕ)) → ExpandsOne before move labels words p.0 p.1 → (rest : List (List ℕ)) × (p.0 ≡ labels ++ rest)
+    grow_one (name label) q = (label ∷ [], q.0)
+    grow_one (again tag) q = (q.0, q.2)
+    grow_one mark q = ([], q.5 ∙ sym (append-nil labels))
+
+-- a word that is kept is a kept tree's
+kept_tree : (kept : List Trees) (tag : ℕ) (word : List (List ℕ)) → slice_get (map spelling kept) tag ≡ Some word → (t : Trees) × (slice_get kept tag ≡ Some t) × (spelling t ≡ word)
+kept_tree [] tag word e = absurd (none-some word e)
+kept_tree (t ∷ kept) zero word e = (t, refl, same_Some (spelling t) word e)
+kept_tree (t ∷ kept) (suc tag) word e = kept_tree kept tag word e
+
+-- what one move makes on the row that the labels make
+pub record NextRow (before : List Sentence) (move : Move (List ℕ)) (row next : Trees) (kept : List Trees) (more : List (List (List ℕ))) : Type 0 where
+  pub kept' : List Trees
+  pub made : MakesOne before move row kept next kept'
+  pub words : more ≡ map spelling kept'
+  pub fit : AllByRecursion (IsFitTree before) kept'
+
+next_row : (before : List Sentence) (move : Move (List ℕ)) (labels labels' : List (List ℕ)) (words words' : List (List (List ℕ))) (row next : Trees) (kept : List Trees) → AllMeant before
+    → ExpandsOne before move labels words labels' words' → words ≡ map spelling kept → AllByRecursion (IsFitTree before) kept
+    → Spelled before labels row → Spelled before labels' next → NextRow before move row next kept words'
+next_row before (name label) labels labels' words words' row next kept all p is fit here there =
+    let s = spelled_front before labels (label ∷ []) next (subst (λ l. Spelled before l next) p.0 there) in
+    let same : s.0 ≡ row = spelled_once before labels s.0 row all s.1 here in
+    let step = s.2.2 in
+    record {
+      kept' = kept;
+      made = (step.0, step.1, sym same ∙ step.2, step.3, s.2.3.0 ∙ step.4, refl);
+      words = p.1 ∙ is;
+      fit = fit;
+    }
+next_row before (again tag) labels labels' words words' row next kept all p is fit here there =
+    let t = kept_tree kept tag p.0 (subst (λ w. slice_get w tag ≡ Some p.0) is p.1) in
+    let one = all_at (IsFitTree before) kept tag t.0 fit t.1 in
+    let word : labels' ≡ labels ++ spelling t.0 = p.2 ∙ ap (λ w. labels ++ w) (sym t.2) in
+    let row_is : next ≡ beside row t.0 = spelled_once before labels' next (beside row t.0) all there (subst (λ l. Spelled before l (beside row t.0)) (sym word) (spelled_more before labels row t.0 here one.3)) in
+    record { kept' = kept; made = (t.0, t.1, row_is, refl); words = p.3 ∙ is; fit = fit }
+next_row before mark labels labels' words words' row next kept all p is fit here there =
+    let t : Trees = tree p.1 p.2 none in
+    let s = spelled_front before p.0 (spelling t) row (subst (λ l. Spelled before l row) p.4 here) in
+    let row_is : row ≡ beside s.0 t = spelled_once before labels row (beside s.0 t) all here (subst (λ l. Spelled before l (beside s.0 t)) (sym p.4) (spelled_more before p.0 s.0 t s.1 p.3)) in
+    let same : next ≡ row = spelled_once before labels next row all (subst (λ l. Spelled before l next) p.5 there) here in
+    record {
+      kept' = kept ++ t ∷ [];
+      made = (s.0, p.1, p.2, row_is, same, refl);
+      words = p.6 ∙ ap (λ w. w ++ spelling t ∷ []) is ∙ sym (map-append spelling kept (t ∷ []));
+      fit = all_push (IsFitTree before) kept t fit (p.1, p.2, refl, p.3);
+    }
+
+word_makes : (before : List Sentence) (moves : List (Move (List ℕ))) (labels labels' : List (List ℕ)) (words words' : List (List (List ℕ))) (row last : Trees) (kept : List Trees) → AllMeant before
+    → Expands before moves labels words labels' words' → words ≡ map spelling kept → AllByRecursion (IsFitTree before) kept
+    → Spelled before labels row → Spelled before labels' last → (end : List Trees) × Makes before moves row kept last end
+word_makes before [] labels labels' words words' row last kept all p is fit here there =
+    (kept, (spelled_once before labels last row all (subst (λ l. Spelled before l last) p.0 there) here, refl))
+word_makes before (move ∷ moves) labels labels' words words' row last kept all p is fit here there =
+    let grown = expands_grow before moves p.0 labels' p.1 words' p.3 in
+    let front = spelled_front before p.0 grown.0 last (subst (λ l. Spelled before l last) grown.1 there) in
+    let next = next_row before move labels p.0 words p.1 row front.0 kept all p.2 is fit here front.1 in
+    let rest = word_makes before moves p.0 labels' p.1 words' front.0 last next.kept' all p.3 next.words next.fit front.1 there in
+    (rest.0, (front.0, next.kept', next.made, rest.1))
+
+-- moves whose word trees that fit spell make these trees
+pub made_of_word : (before : List Sentence) (moves : List (Move (List ℕ))) (trees : Trees) → AllMeant before → Fit before trees → IsWord before moves (spelling trees)
+    → (kept : List Trees) × Makes before moves none [] trees kept
+made_of_word before moves trees all fit w =
+    word_makes before moves [] (spelling trees) [] w.0 none trees [] all w.1 refl tt (refl, refl) (fit_makes before trees none [] fit)

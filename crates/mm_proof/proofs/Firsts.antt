@@ -1,0 +1,187 @@
+-- The first rule that a move breaks, from what a judge of it finds one after the other.
+use Rattle.std.proofs.Common.{◌≡◌, ◌≢◌, ℕ, ◌+◌, ◌<◌, ◌≤◌, List, [], ◌∷◌, ◌++◌, length, take, slice_get, Some, inl, inr, refl, sym, ap, subst, ◌∙◌, arith}
+use Rattle.std.proofs.lemmas.Option.{same_Some}
+use Rattle.std.proofs.lemmas.Bool.{cases_lt}
+use Rattle.std.proofs.lemmas.List.Sums.{sum_by-append}
+use Rattle.std.specs.Prelude.{cond}
+use Rattle.mm_text.specs.declared.statement.Kind.TheVariants.{Floating, Essential}
+use Rattle.mm_frame.specs.Sentence.{Sentence, IsHypothesis, IsLabelled}
+use Rattle.mm_frame.specs.Active.{IsActive}
+use Rattle.mm_frame.specs.Frame.{IsMandatoryPair}
+use Rattle.mm_frame.specs.Rules.{AllMeant}
+use Rattle.mm_proof.specs.declared.fault.ProofRule.{ProofRule}
+use Rattle.mm_proof.specs.declared.fault.ProofRule.TheVariants.{P6, P7, P8, P9, P10, P11, P12, L1}
+use Rattle.mm_proof.specs.Substitution.{substituted}
+use Rattle.mm_proof.specs.Tree.{Names, ShareNoVariable, AreDistinct}
+use Rattle.mm_proof.specs.Moves.{Move, name, again, mark, is_step, steps_in}
+use Rattle.mm_proof.specs.Proof.{rank, Meets, SomePair, SomeReplacedPair, BreaksStep, FirstAtMove, Passed, BreaksEnd, IsMovesFault}
+use Rattle.mm_proof.proofs.OneStep.{StepTo, agree, meets_enough, same_substituted}
+use Rattle.mm_proof.proofs.Verdicts.{ranked, at_rank}
+use Rattle.mm_proof.proofs.Judged.{limit_first, only_P6, only_P7}
+
+-- ---- what a step meets is in order
+
+-- each `$f` has its type code
+abbrev pub HasCodes : (before : List Sentence) → (stack : List (List (List ℕ))) → (label : List ℕ) → Meets before stack label → Type 0
+HasCodes before stack label m =
+    (i : ℕ) (h : Sentence) (entry : List (List ℕ)) → slice_get m.hypotheses i ≡ Some h → slice_get m.entries i ≡ Some entry
+    → h.kind ≡ Floating → slice_get entry 0 ≡ slice_get h.symbols 0
+
+-- each `$e` is its entry
+abbrev pub HasEqual : (before : List Sentence) → (stack : List (List (List ℕ))) → (label : List ℕ) → Meets before stack label → Type 0
+HasEqual before stack label m =
+    (i : ℕ) (h : Sentence) (entry : List (List ℕ)) → slice_get m.hypotheses i ≡ Some h → slice_get m.entries i ≡ Some entry
+    → h.kind ≡ Essential → entry ≡ substituted m.σ h.symbols
+
+-- what replaces the members of each mandatory pair is so
+abbrev pub EachPair : (before : List Sentence) → (stack : List (List (List ℕ))) → (label : List ℕ) → Meets before stack label → (List (List ℕ) → List (List ℕ) → Type 0) → Type 0
+EachPair before stack label m P =
+    (x y : List ℕ) (e f : List (List ℕ)) → IsMandatoryPair (take m.place before) m.assertion x y → m.σ x ≡ Some e → m.σ y ≡ Some f → P e f
+
+no_P9 : (Fits : List (List ℕ) → Type 0) (before : List Sentence) (stack : List (List (List ℕ))) (label : List ℕ) (m : Meets before stack label) → AllMeant before
+    → HasCodes before stack label m → ¬ (BreaksStep Fits P9 before stack label)
+no_P9 Fits before stack label m all codes b =
+    let a = agree before stack label all m b.0 in
+    let x = b.1 in
+    x.5.1 (codes x.0 x.1 x.2 (rw a.hypotheses x.3) (rw a.entries x.4) x.5.0)
+
+no_P10 : (Fits : List (List ℕ) → Type 0) (before : List Sentence) (stack : List (List (List ℕ))) (label : List ℕ) (m : Meets before stack label) → AllMeant before
+    → HasEqual before stack label m → ¬ (BreaksStep Fits P10 before stack label)
+no_P10 Fits before stack label m all equal b =
+    let a = agree before stack label all m b.0 in
+    let x = b.1 in
+    x.5.1 (equal x.0 x.1 x.2 (rw a.hypotheses x.3) (rw a.entries x.4) x.5.0 ∙ same_substituted m.σ b.0.σ x.1.symbols a.replacement)
+
+no_pair : (before : List Sentence) (stack : List (List (List ℕ))) (label : List ℕ) (m : Meets before stack label) (P : List (List ℕ) → List (List ℕ) → Type 0) → AllMeant before
+    → EachPair before stack label m P → ¬ (SomeReplacedPair before stack label (λ e f. ¬ (P e f)))
+no_pair before stack label m P all each b =
+    let a = agree before stack label all m b.0 in
+    let pair : IsMandatoryPair (take m.place before) m.assertion b.1 b.2 =
+    subst (λ s. IsMandatoryPair (take m.place before) s b.1 b.2) (sym a.assertion) (subst (λ k. IsMandatoryPair (take k before) b.0.assertion b.1 b.2) (sym a.place) b.5) in
+    b.8 (each b.1 b.2 b.3 b.4 pair (a.replacement b.1 ∙ b.6) (a.replacement b.2 ∙ b.7))
+
+-- ---- the first rule, by the rank below which none is broken
+
+below_8 : (Fits : List (List ℕ) → Type 0) (before : List Sentence) (stack : List (List (List ℕ))) (label : List ℕ) (other : ProofRule) → rank other < 8 → ¬ (BreaksStep Fits other before stack label)
+below_8 Fits before stack label P8 less = absurd (omega arith)
+below_8 Fits before stack label P9 less = absurd (omega arith)
+below_8 Fits before stack label P10 less = absurd (omega arith)
+below_8 Fits before stack label P11 less = absurd (omega arith)
+below_8 Fits before stack label P12 less = absurd (omega arith)
+below_8 Fits before stack label L1 less = absurd (omega arith)
+below_8 Fits before stack label rule less = λ b. b
+
+one_more : (Fits : List (List ℕ) → Type 0) (before : List Sentence) (stack : List (List (List ℕ))) (label : List ℕ) (rule : ProofRule) (n : ℕ) → ((other : ProofRule) → rank other ≡ n → other ≡ rule)
+    → ¬ (BreaksStep Fits rule before stack label) → ((other : ProofRule) → rank other < n → ¬ (BreaksStep Fits other before stack label))
+    → (other : ProofRule) → rank other < n + 1 → ¬ (BreaksStep Fits other before stack label)
+one_more Fits before stack label rule n one none below other less b = elim (cases_lt (rank other) n) [
+  | inl l ↦ below other l b
+  | inr m ↦ none (subst (λ r. BreaksStep Fits r before stack label) (one other (omega arith)) b)
+]
+
+of_rank : (rule other : ProofRule) → rank other ≡ rank rule → other ≡ rule
+of_rank rule other same = same_Some other rule (sym (at_rank other) ∙ ap (slice_get ranked) same ∙ at_rank rule)
+
+below_9 : (Fits : List (List ℕ) → Type 0) (before : List Sentence) (stack : List (List (List ℕ))) (label : List ℕ) (m : Meets before stack label) → AllMeant before
+    → (other : ProofRule) → rank other < 9 → ¬ (BreaksStep Fits other before stack label)
+below_9 Fits before stack label m all = one_more Fits before stack label P8 8 (of_rank P8) (meets_enough Fits before stack label all m) (below_8 Fits before stack label)
+
+below_10 : (Fits : List (List ℕ) → Type 0) (before : List Sentence) (stack : List (List (List ℕ))) (label : List ℕ) (m : Meets before stack label) → AllMeant before → HasCodes before stack label m
+    → (other : ProofRule) → rank other < 10 → ¬ (BreaksStep Fits other before stack label)
+below_10 Fits before stack label m all codes =
+    one_more Fits before stack label P9 9 (of_rank P9) (no_P9 Fits before stack label m all codes) (below_9 Fits before stack label m all)
+
+below_11 : (Fits : List (List ℕ) → Type 0) (before : List Sentence) (stack : List (List (List ℕ))) (label : List ℕ) (m : Meets before stack label) → AllMeant before → HasCodes before stack label m
+    → HasEqual before stack label m → (other : ProofRule) → rank other < 11 → ¬ (BreaksStep Fits other before stack label)
+below_11 Fits before stack label m all codes equal =
+    one_more Fits before stack label P10 10 (of_rank P10) (no_P10 Fits before stack label m all equal) (below_10 Fits before stack label m all codes)
+
+below_12 : (Fits : List (List ℕ) → Type 0) (before : List Sentence) (stack : List (List (List ℕ))) (label : List ℕ) (m : Meets before stack label) → AllMeant before → HasCodes before stack label m
+    → HasEqual before stack label m → EachPair before stack label m (ShareNoVariable before) → (other : ProofRule) → rank other < 12 → ¬ (BreaksStep Fits other before stack label)
+below_12 Fits before stack label m all codes equal share =
+    one_more Fits before stack label P11 11 (of_rank P11) (no_pair before stack label m (ShareNoVariable before) all share) (below_11 Fits before stack label m all codes equal)
+
+-- ---- the rules, in their order
+
+-- fewer entries than hypotheses
+pub first_P8 : (Fits : List (List ℕ) → Type 0) (before : List Sentence) (stack kept : List (List (List ℕ))) (label : List ℕ) (place : ℕ) (assertion : Sentence) (hypotheses : List Sentence)
+    → Names before label place assertion hypotheses → length stack < length hypotheses → FirstAtMove Fits P8 before stack kept (name label)
+first_P8 Fits before stack kept label place assertion hypotheses names short =
+    record { broken = (place, assertion, hypotheses, names, short); first = below_8 Fits before stack label }
+
+-- a type code differs
+pub first_P9 : (Fits : List (List ℕ) → Type 0) (before : List Sentence) (stack kept : List (List (List ℕ))) (label : List ℕ) (m : Meets before stack label) → AllMeant before
+    → SomePair m.hypotheses m.entries (λ h entry. (h.kind ≡ Floating) × (slice_get entry 0 ≢ slice_get h.symbols 0)) → FirstAtMove Fits P9 before stack kept (name label)
+first_P9 Fits before stack kept label m all pair = record { broken = (m, pair); first = below_9 Fits before stack label m all }
+
+-- the type codes don't, but a `$e` does
+pub first_P10 : (Fits : List (List ℕ) → Type 0) (before : List Sentence) (stack kept : List (List (List ℕ))) (label : List ℕ) (m : Meets before stack label) → AllMeant before
+    → HasCodes before stack label m
+    → SomePair m.hypotheses m.entries (λ h entry. (h.kind ≡ Essential) × (entry ≢ substituted m.σ h.symbols)) → FirstAtMove Fits P10 before stack kept (name label)
+first_P10 Fits before stack kept label m all codes pair = record { broken = (m, pair); first = below_10 Fits before stack label m all codes }
+
+-- the hypotheses match, but what replaces a pair shares a variable
+pub first_P11 : (Fits : List (List ℕ) → Type 0) (before : List Sentence) (stack kept : List (List (List ℕ))) (label : List ℕ) (m : Meets before stack label) → AllMeant before
+    → HasCodes before stack label m → HasEqual before stack label m
+    → (x y : List ℕ) (e f : List (List ℕ)) → IsMandatoryPair (take m.place before) m.assertion x y → m.σ x ≡ Some e → m.σ y ≡ Some f → ¬ (ShareNoVariable before e f)
+    → FirstAtMove Fits P11 before stack kept (name label)
+first_P11 Fits before stack kept label m all codes equal x y e f pair at_x at_y shared =
+    record { broken = (m, x, y, e, f, pair, at_x, at_y, shared); first = below_11 Fits before stack label m all codes equal }
+
+-- it never does, but variables of it are no active pair
+pub first_P12 : (Fits : List (List ℕ) → Type 0) (before : List Sentence) (stack kept : List (List (List ℕ))) (label : List ℕ) (m : Meets before stack label) → AllMeant before
+    → HasCodes before stack label m → HasEqual before stack label m → EachPair before stack label m (ShareNoVariable before)
+    → (x y : List ℕ) (e f : List (List ℕ)) → IsMandatoryPair (take m.place before) m.assertion x y → m.σ x ≡ Some e → m.σ y ≡ Some f → ¬ (AreDistinct before e f)
+    → FirstAtMove Fits P12 before stack kept (name label)
+first_P12 Fits before stack kept label m all codes equal share x y e f pair at_x at_y near =
+    record { broken = (m, x, y, e, f, pair, at_x, at_y, near); first = below_12 Fits before stack label m all codes equal share }
+
+-- the step by the assertion breaks no rule but the limit
+pub step_of_meets : (before : List Sentence) (stack : List (List (List ℕ))) (label : List ℕ) (m : Meets before stack label) → HasCodes before stack label m → HasEqual before stack label m
+    → EachPair before stack label m (ShareNoVariable before) → EachPair before stack label m (AreDistinct before)
+    → StepTo before stack label m.rest (substituted m.σ m.assertion.symbols)
+step_of_meets before stack label m codes equal share near = inr (record {
+  meets = m;
+  kept = refl;
+  typed = codes;
+  equal = equal;
+  apart = λ x y e f pair at_x at_y. (share x y e f pair at_x at_y, near x y e f pair at_x at_y);
+  made = refl;
+})
+
+-- the step by an active hypothesis breaks none but the limit
+pub step_of_hypothesis : (before : List Sentence) (stack : List (List (List ℕ))) (label : List ℕ) (place : ℕ) (h : Sentence) → slice_get before place ≡ Some h → IsActive before place
+    → IsLabelled label h → IsHypothesis h.kind → StepTo before stack label stack h.symbols
+step_of_hypothesis before stack label place h there active named kind =
+    inl (record { kept = refl; place = place; hypothesis = h; there = there; active = active; named = named; kind = kind; made = refl })
+
+-- what such a step makes is over the limit
+pub first_L1 : (Fits : List (List ℕ) → Type 0) (before : List Sentence) (stack kept : List (List (List ℕ))) (label : List ℕ) (rest : List (List (List ℕ))) (e : List (List ℕ)) → AllMeant before
+    → ¬ (Fits e) → StepTo before stack label rest e → FirstAtMove Fits L1 before stack kept (name label)
+first_L1 Fits before stack kept label rest e all over step = let f = limit_first Fits before stack label rest e all over step in record { broken = f.0; first = f.1 }
+
+-- a tag of nothing that is kept
+pub first_P6 : (Fits : List (List ℕ) → Type 0) (before : List Sentence) (stack kept : List (List (List ℕ))) (tag : ℕ) → length kept ≤ tag → FirstAtMove Fits P6 before stack kept (again tag)
+first_P6 Fits before stack kept tag over = record { broken = (refl, over); first = only_P6 Fits before stack kept tag }
+
+-- a mark on an empty stack
+pub first_P7 : (Fits : List (List ℕ) → Type 0) (before : List Sentence) (kept : List (List (List ℕ))) → FirstAtMove Fits P7 before [] kept mark
+first_P7 Fits before kept = record { broken = (refl, refl); first = only_P7 Fits before [] kept }
+
+-- ---- the faults
+
+pub move_fault : (Fits : List (List ℕ) → Type 0) (before : List Sentence) (s : Sentence) (moves earlier : List (Move (List ℕ))) (move : Move (List ℕ)) (later : List (Move (List ℕ)))
+    (stack kept : List (List (List ℕ))) (rule : ProofRule) (step : ℕ) → moves ≡ earlier ++ move ∷ later → Passed Fits before earlier stack kept → FirstAtMove Fits rule before stack kept move
+    → step ≡ steps_in earlier + 1 → IsMovesFault Fits before s moves rule step
+move_fault Fits before s moves earlier move later stack kept rule step parts passed fault number =
+    inl (record { earlier = earlier; move = move; later = later; parts = parts; number = number; stack = stack; kept = kept; passed = passed; fault = fault })
+
+pub end_fault : (Fits : List (List ℕ) → Type 0) (before : List Sentence) (s : Sentence) (moves : List (Move (List ℕ))) (stack kept : List (List (List ℕ))) (rule : ProofRule) (step : ℕ)
+    → Passed Fits before moves stack kept → BreaksEnd rule stack s.symbols → step ≡ steps_in moves + 1 → IsMovesFault Fits before s moves rule step
+end_fault Fits before s moves stack kept rule step passed broken number =
+    inr (record { stack = stack; kept = kept; passed = passed; number = number; broken = broken })
+
+-- ---- counting steps
+
+pub steps_in-append : {X : Type 0} (moves more : List (Move X)) → steps_in (moves ++ more) ≡ steps_in moves + steps_in more
+steps_in-append moves more = sum_by-append (λ m. cond (is_step m) 1 0) moves more

@@ -1,0 +1,239 @@
+-- Each front of moves that passed has passed, and no move of it breaks a rule.
+use Rattle.std.proofs.Common.{◌≡◌, ℕ, ◌<◌, ◌≤◌, List, [], ◌∷◌, ◌++◌, length, map, inl, ⊎_elim, refl, sym, ap, subst, ◌∙◌, append-nil, arith}
+use Rattle.std.specs.List.{AllZip}
+use Rattle.std.proofs.lemmas.Option.{slice_get_within}
+use Rattle.mm_frame.specs.Sentence.{Sentence}
+use Rattle.mm_frame.specs.Rules.{AllMeant}
+use Rattle.mm_proof.specs.declared.fault.ProofRule.{ProofRule}
+use Rattle.mm_proof.specs.declared.fault.ProofRule.TheVariants.{L1}
+use Rattle.mm_proof.specs.Substitution.{substituted}
+use Rattle.mm_proof.specs.Tree.{Trees, none, tree, beside, DeriveAll}
+use Rattle.mm_proof.specs.Moves.{Move, name, again, mark, MakesOne, Makes}
+use Rattle.mm_proof.specs.Proof.{Prove, BreaksMove, FirstAtMove, Passed}
+use Rattle.mm_proof.proofs.OneStep.{StepTo, step_breaks_none}
+use Rattle.mm_proof.proofs.Runs.{tree_step, derived_once}
+use Rattle.mm_proof.proofs.Making.{makes_split, makes_once}
+use Rattle.mm_proof.proofs.Derived.{zip_push, zip_left, zip_front, zip_once, derive_beside, derive_apart, derive_single}
+
+-- trees that keep expressions derive them
+abbrev pub KeepAll : (List (List ℕ) → Type 0) → List Sentence → List Trees → List (List (List ℕ)) → Type 0
+KeepAll Fits before shelf kept = AllZip (λ t e. DeriveAll Fits before t (e ∷ [])) shelf kept
+
+-- ---- what moves left stood in what they make
+
+-- what the last tree of a row stands over derives its hypotheses, and the step by its label makes what it derives
+pub record Step (Fits : List (List ℕ) → Type 0) (before : List Sentence) (row : Trees) (label : List ℕ) (es : List (List (List ℕ))) : Type 0 where
+  pub stack : List (List (List ℕ))
+  pub rest : List (List (List ℕ))
+  pub e : List (List ℕ)
+  pub derived : DeriveAll Fits before row stack
+  pub step : StepTo before stack label rest e
+  pub fits : Fits e
+  pub after : es ≡ rest ++ e ∷ []
+
+pub step_of_tree : (Fits : List (List ℕ) → Type 0) (before : List Sentence) (rest : Trees) (label : List ℕ) (below : Trees) (es : List (List (List ℕ))) → AllMeant before
+    → DeriveAll Fits before (beside rest (tree label below none)) es → Step Fits before (beside rest below) label es
+step_of_tree Fits before rest label below es all derived =
+    let parts = derive_apart Fits before rest (tree label below none) es derived in
+    let d = parts.4 in
+    let after : es ≡ parts.0 ++ d.0 ∷ [] = parts.2 ∙ ap (λ l. parts.0 ++ l) (d.2 ∙ ap (λ l. d.0 ∷ l) d.5) in
+    ⊎_elim
+    (λ leaf. record {
+      stack = parts.0 ++ [];
+      rest = parts.0;
+      e = d.0;
+      derived = derive_beside Fits before rest below parts.0 [] parts.3 (subst (λ b. DeriveAll Fits before b []) (sym leaf.0) refl);
+      step = inl (record {
+        kept = sym (append-nil parts.0);
+        place = leaf.1.0;
+        hypothesis = leaf.1.1;
+        there = leaf.1.2;
+        active = leaf.1.3;
+        named = leaf.1.4.0;
+        kind = leaf.1.4.1;
+        made = leaf.1.4.2;
+      });
+      fits = d.3;
+      after = after;
+    })
+    (λ n. record {
+      stack = parts.0 ++ map (λ (h : Sentence). substituted n.3 h.symbols) n.2;
+      rest = parts.0;
+      e = d.0;
+      derived = derive_beside Fits before rest below parts.0 (map (λ (h : Sentence). substituted n.3 h.symbols) n.2) parts.3 n.6;
+      step = tree_step before label n.0 n.1 n.2 n.3 parts.0 d.0 all n.4 n.5 n.7 n.8;
+      fits = d.3;
+      after = after;
+    }) d.4
+
+-- the row that a move is made on derives what stands on the stack, and the kept trees what is kept
+pub record Stood (Fits : List (List ℕ) → Type 0) (before : List Sentence) (row : Trees) (shelf : List Trees) : Type 0 where
+  pub stack : List (List (List ℕ))
+  pub kept : List (List (List ℕ))
+  pub derived : DeriveAll Fits before row stack
+  pub kept_derived : KeepAll Fits before shelf kept
+
+pub one_stood : (Fits : List (List ℕ) → Type 0) (before : List Sentence) (move : Move (List ℕ)) (a b : Trees) (k l : List Trees) → AllMeant before
+    → MakesOne before move a k b l → Stood Fits before b l → Stood Fits before a k
+one_stood Fits before (name label) a b k l all m s =
+    let t = step_of_tree Fits before m.0 label m.1 s.stack all (subst (λ x. DeriveAll Fits before x s.stack) m.4 s.derived) in
+    record {
+      stack = t.stack;
+      kept = s.kept;
+      derived = subst (λ x. DeriveAll Fits before x t.stack) (sym m.2) t.derived;
+      kept_derived = subst (λ x. KeepAll Fits before x s.kept) m.5 s.kept_derived;
+    }
+one_stood Fits before (again tag) a b k l all m s =
+    let parts = derive_apart Fits before a m.0 s.stack (subst (λ x. DeriveAll Fits before x s.stack) m.2 s.derived) in
+    record { stack = parts.0; kept = s.kept; derived = parts.3; kept_derived = subst (λ x. KeepAll Fits before x s.kept) m.3 s.kept_derived }
+one_stood Fits before mark a b k l all m s =
+    let front = zip_front (λ t e. DeriveAll Fits before t (e ∷ [])) k (tree m.1 m.2 none) s.kept (subst (λ x. KeepAll Fits before x s.kept) m.5 s.kept_derived) in
+    record { stack = s.stack; kept = front.0; derived = subst (λ x. DeriveAll Fits before x s.stack) m.4 s.derived; kept_derived = front.3 }
+
+pub all_stood : (Fits : List (List ℕ) → Type 0) (before : List Sentence) (moves : List (Move (List ℕ))) (a b : Trees) (k l : List Trees) → AllMeant before
+    → Makes before moves a k b l → Stood Fits before b l → Stood Fits before a k
+all_stood Fits before [] a b k l all m s = record {
+  stack = s.stack;
+  kept = s.kept;
+  derived = subst (λ x. DeriveAll Fits before x s.stack) m.0 s.derived;
+  kept_derived = subst (λ x. KeepAll Fits before x s.kept) m.1 s.kept_derived;
+}
+all_stood Fits before (move ∷ moves) a b k l all m s = one_stood Fits before move a m.0 k m.1 all m.2 (all_stood Fits before moves m.0 b m.1 l all m.3 s)
+
+-- ---- the stack is one
+
+pub kept_once : (Fits Gits : List (List ℕ) → Type 0) (before : List Sentence) (shelf : List Trees) (es fs : List (List (List ℕ))) → AllMeant before
+    → KeepAll Fits before shelf es → KeepAll Gits before shelf fs → es ≡ fs
+kept_once Fits Gits before shelf es fs all p q =
+    zip_once (λ t e. DeriveAll Fits before t (e ∷ [])) (λ t e. DeriveAll Gits before t (e ∷ [])) shelf es fs
+    (λ t e f d g. let one : e ∷ [] ≡ f ∷ [] = derived_once Fits Gits before t t (e ∷ []) (f ∷ []) all d g refl in cc) p q
+
+-- what the same moves leave is the same
+pub passed_once : (Fits Gits : List (List ℕ) → Type 0) (before : List Sentence) (moves : List (Move (List ℕ))) (stack stack' kept kept' : List (List (List ℕ))) → AllMeant before
+    → Passed Fits before moves stack kept → Passed Gits before moves stack' kept' → (stack ≡ stack') × (kept ≡ kept')
+passed_once Fits Gits before moves stack stack' kept kept' all p q =
+    let one = makes_once before moves none p.trees q.trees [] p.shelf q.shelf all p.made q.made in (
+      derived_once Fits Gits before q.trees q.trees stack stack' all (subst (λ x. DeriveAll Fits before x stack) one.0 p.derived) q.derived refl,
+      kept_once Fits Gits before q.shelf kept kept' all (subst (λ x. KeepAll Fits before x kept) one.1 p.kept_derived) q.kept_derived,
+    )
+
+-- ---- a move that goes on breaks no rule
+
+-- of moves that passed, a front has passed with what it left, and the move after it is made on that
+pub record Went (Fits : List (List ℕ) → Type 0) (before : List Sentence) (stack kept : List (List (List ℕ))) (move : Move (List ℕ)) : Type 0 where
+  pub row : Trees
+  pub shelf : List Trees
+  pub derived : DeriveAll Fits before row stack
+  pub kept_derived : KeepAll Fits before shelf kept
+  pub row' : Trees
+  pub shelf' : List Trees
+  pub made : MakesOne before move row shelf row' shelf'
+  pub stood : Stood Fits before row' shelf'
+
+pub went_on : (Fits Gits : List (List ℕ) → Type 0) (before : List Sentence) (earlier : List (Move (List ℕ))) (move : Move (List ℕ)) (later : List (Move (List ℕ)))
+    (last : Trees) (end : List Trees) (stack kept : List (List (List ℕ))) → AllMeant before
+    → Makes before (earlier ++ move ∷ later) none [] last end → Stood Fits before last end → Passed Gits before earlier stack kept → Went Fits before stack kept move
+went_on Fits Gits before earlier move later last end stack kept all made stood passed =
+    let s = makes_split before earlier (move ∷ later) none last [] end made in
+    let m = s.3 in
+    let after : Stood Fits before m.0 m.1 = all_stood Fits before later m.0 last m.1 end all m.3 stood in
+    let here : Stood Fits before s.0 s.1 = one_stood Fits before move s.0 m.0 s.1 m.1 all m.2 after in
+    let front : Passed Fits before earlier here.stack here.kept =
+    record { trees = s.0; shelf = s.1; made = s.2; derived = here.derived; kept_derived = here.kept_derived } in
+    let one = passed_once Fits Gits before earlier here.stack stack here.kept kept all front passed in
+    record {
+      row = s.0;
+      shelf = s.1;
+      derived = subst (DeriveAll Fits before s.0) one.0 here.derived;
+      kept_derived = subst (KeepAll Fits before s.1) one.1 here.kept_derived;
+      row' = m.0;
+      shelf' = m.1;
+      made = m.2;
+      stood = after;
+    }
+
+-- the step by a label
+pub went_step : (Fits : List (List ℕ) → Type 0) (before : List Sentence) (stack kept : List (List (List ℕ))) (label : List ℕ) → AllMeant before
+    → Went Fits before stack kept (name label) → (rest : List (List (List ℕ))) × (e : List (List ℕ)) × StepTo before stack label rest e × Fits e
+went_step Fits before stack kept label all w =
+    let m = w.made in
+    let t = step_of_tree Fits before m.0 label m.1 w.stood.stack all (subst (λ x. DeriveAll Fits before x w.stood.stack) m.4 w.stood.derived) in
+    let same : t.stack ≡ stack = derived_once Fits Fits before w.row w.row t.stack stack all (subst (λ x. DeriveAll Fits before x t.stack) (sym m.2) t.derived) w.derived refl in
+    (t.rest, t.e, subst (λ k. StepTo before k label t.rest t.e) same t.step, t.fits)
+
+pub nothing_left : (Fits : List (List ℕ) → Type 0) (before : List Sentence) (rest : Trees) (label : List ℕ) (below : Trees) → DeriveAll Fits before (beside rest (tree label below none)) [] → ⊥
+nothing_left Fits before none label below d = let p : [] ≡ d.0 ∷ d.1 = d.2 in absurd cc
+nothing_left Fits before (tree l b r) label below d = let p : [] ≡ d.0 ∷ d.1 = d.2 in absurd cc
+
+pub went_well : (Fits Gits : List (List ℕ) → Type 0) (rule : ProofRule) (before : List Sentence) (stack kept : List (List (List ℕ))) (move : Move (List ℕ)) → AllMeant before
+    → ((e : List (List ℕ)) → rule ≡ L1 → Fits e → Gits e) → Went Fits before stack kept move → ¬ (BreaksMove Gits rule before stack kept move)
+went_well Fits Gits rule before stack kept (name label) all weaker w b =
+    let s = went_step Fits before stack kept label all w in
+    step_breaks_none Gits rule before stack label s.0 s.1 all (λ limit. weaker s.1 limit s.3) s.2 b
+went_well Fits Gits rule before stack kept (again tag) all weaker w b =
+    let e = zip_left (λ t f. DeriveAll Fits before t (f ∷ [])) w.shelf kept tag w.made.0 w.kept_derived w.made.1 in
+    let within : tag < length kept = slice_get_within kept tag e.0 e.1 in
+    let over : length kept ≤ tag = b.1 in
+    absurd (omega arith)
+went_well Fits Gits rule before stack kept mark all weaker w b =
+    nothing_left Fits before w.made.0 w.made.1 w.made.2 (subst (λ x. DeriveAll Fits before x []) w.made.3 (subst (DeriveAll Fits before w.row) b.1 w.derived))
+
+-- ---- what is kept derives
+
+-- the row before a move derives what stood on the stack
+row_back : (Fits : List (List ℕ) → Type 0) (before : List Sentence) (move : Move (List ℕ)) (a b : Trees) (k l : List Trees) (es : List (List (List ℕ))) → AllMeant before
+    → MakesOne before move a k b l → DeriveAll Fits before b es → (ds : List (List (List ℕ))) × DeriveAll Fits before a ds
+row_back Fits before (name label) a b k l es all m d =
+    let t = step_of_tree Fits before m.0 label m.1 es all (subst (λ x. DeriveAll Fits before x es) m.4 d) in
+    (t.stack, subst (λ x. DeriveAll Fits before x t.stack) (sym m.2) t.derived)
+row_back Fits before (again tag) a b k l es all m d =
+    let parts = derive_apart Fits before a m.0 es (subst (λ x. DeriveAll Fits before x es) m.2 d) in (parts.0, parts.3)
+row_back Fits before mark a b k l es all m d = (es, subst (λ x. DeriveAll Fits before x es) m.4 d)
+
+rows_back : (Fits : List (List ℕ) → Type 0) (before : List Sentence) (moves : List (Move (List ℕ))) (a b : Trees) (k l : List Trees) (es : List (List (List ℕ))) → AllMeant before
+    → Makes before moves a k b l → DeriveAll Fits before b es → (ds : List (List (List ℕ))) × DeriveAll Fits before a ds
+rows_back Fits before [] a b k l es all m d = (es, subst (λ x. DeriveAll Fits before x es) m.0 d)
+rows_back Fits before (move ∷ moves) a b k l es all m d =
+    let next = rows_back Fits before moves m.0 b m.1 l es all m.3 d in
+    row_back Fits before move a m.0 k m.1 next.0 all m.2 next.1
+
+-- what a move keeps derives, if the row after it does
+kept_next : (Fits : List (List ℕ) → Type 0) (before : List Sentence) (move : Move (List ℕ)) (a b : Trees) (k l : List Trees) (es ks : List (List (List ℕ)))
+    → MakesOne before move a k b l → DeriveAll Fits before b es → KeepAll Fits before k ks → (ls : List (List (List ℕ))) × KeepAll Fits before l ls
+kept_next Fits before (name label) a b k l es ks m d h = (ks, subst (λ x. KeepAll Fits before x ks) (sym m.5) h)
+kept_next Fits before (again tag) a b k l es ks m d h = (ks, subst (λ x. KeepAll Fits before x ks) (sym m.3) h)
+kept_next Fits before mark a b k l es ks m d h =
+    let parts = derive_apart Fits before m.0 (tree m.1 m.2 none) es (subst (λ x. DeriveAll Fits before x es) (m.4 ∙ m.3) d) in
+    let one = derive_single Fits before m.1 m.2 parts.1 parts.4 in (
+      ks ++ one.0 ∷ [],
+      subst (λ x. KeepAll Fits before x (ks ++ one.0 ∷ [])) (sym m.5)
+          (zip_push (λ t e. DeriveAll Fits before t (e ∷ [])) k ks (tree m.1 m.2 none) one.0 h one.2),
+    )
+
+kept_on : (Fits : List (List ℕ) → Type 0) (before : List Sentence) (moves : List (Move (List ℕ))) (a b : Trees) (k l : List Trees) (es ks : List (List (List ℕ))) → AllMeant before
+    → Makes before moves a k b l → DeriveAll Fits before b es → KeepAll Fits before k ks → (ls : List (List (List ℕ))) × KeepAll Fits before l ls
+kept_on Fits before [] a b k l es ks all m d h = (ks, subst (λ x. KeepAll Fits before x ks) (sym m.1) h)
+kept_on Fits before (move ∷ moves) a b k l es ks all m d h =
+    let row = rows_back Fits before moves m.0 b m.1 l es all m.3 d in
+    let next = kept_next Fits before move a m.0 k m.1 row.0 ks m.2 row.1 h in
+    kept_on Fits before moves m.0 b m.1 l es next.0 all m.3 d next.1
+
+-- moves whose row derives have passed
+pub made_passed : (Fits : List (List ℕ) → Type 0) (before : List Sentence) (moves : List (Move (List ℕ))) (row : Trees) (shelf : List Trees) (es : List (List (List ℕ))) → AllMeant before
+    → Makes before moves none [] row shelf → DeriveAll Fits before row es → (kept : List (List (List ℕ))) × Passed Fits before moves es kept
+made_passed Fits before moves row shelf es all made derived =
+    let k = kept_on Fits before moves none row [] shelf es [] all made derived tt in
+    (k.0, record { trees = row; shelf = shelf; made = made; derived = derived; kept_derived = k.1 })
+
+pub proof_passed : (Fits : List (List ℕ) → Type 0) (before : List Sentence) (s : Sentence) (moves : List (Move (List ℕ))) → AllMeant before → Prove Fits before s moves
+    → (kept : List (List (List ℕ))) × Passed Fits before moves (s.symbols ∷ []) kept
+proof_passed Fits before s moves all p = made_passed Fits before moves (tree p.label p.below none) p.kept (s.symbols ∷ []) all p.made p.derived
+
+-- no move of moves that passed breaks a rule
+pub no_fault_within : (Fits : List (List ℕ) → Type 0) (before : List Sentence) (earlier : List (Move (List ℕ))) (move : Move (List ℕ)) (later : List (Move (List ℕ)))
+    (stack kept last end : List (List (List ℕ))) (rule : ProofRule) → AllMeant before
+    → Passed Fits before (earlier ++ move ∷ later) last end → Passed Fits before earlier stack kept → FirstAtMove Fits rule before stack kept move → ⊥
+no_fault_within Fits before earlier move later stack kept last end rule all whole passed fault =
+    went_well Fits Fits rule before stack kept move all (λ e limit fits. fits)
+    (went_on Fits Fits before earlier move later whole.trees whole.shelf stack kept all whole.made
+    (record { stack = last; kept = end; derived = whole.derived; kept_derived = whole.kept_derived }) passed) fault.broken

@@ -1,0 +1,72 @@
+-- The codes of letters: letters say one list of codes, or break one rule.
+use Rattle.std.proofs.Common.{◌≡◌, ℕ, List, [], ◌∷◌, map, Result, Ok, Err, ◌⊎◌, inl, inr, refl, sym, subst, ◌∙◌, arith}
+use Rattle.std.specs.List.{AllByRecursion, AllZip}
+use Rattle.mm_code.specs.declared.code.Code.{Code}
+use Rattle.mm_code.specs.declared.code.Code.TheVariants.{Number, Tag}
+use Rattle.mm_code.specs.declared.code.CodeRule.{CodeRule}
+use Rattle.mm_code.specs.declared.code.CodeRule.TheVariants.{P4, P5}
+use Rattle.mm_code.specs.Letters.{Letters, Says, Breaks, HasSpelling, held}
+use Rattle.mm_code.specs.Reading.{reading}
+use Rattle.mm_code.proofs.Found.{is_read}
+use Rattle.mm_code.proofs.Again.{is_read_again}
+use Rattle.mm_code.proofs.Faults.{breaks_read, read_breaks}
+
+abbrev coded : List Code → Result (List Code) CodeRule
+coded codes = Ok codes
+
+abbrev refused : CodeRule → Result (List Code) CodeRule
+refused rule = Err rule
+
+not_both_answers : (codes : List Code) (rule : CodeRule) → coded codes ≡ refused rule → ⊥
+not_both_answers codes rule e = cc
+
+same_rule : (a b : CodeRule) → refused a ≡ refused b → a ≡ b
+same_rule a b e = cc
+
+-- letters that say codes break no rule
+pub coded_not_broken : (text : List ℕ) (codes : List Code) (rule : CodeRule) → Letters text codes → ¬ (Breaks rule text)
+coded_not_broken text codes rule letters broken = not_both_answers codes rule (sym (is_read_again text codes letters) ∙ breaks_read rule text broken)
+
+-- letters say codes or break a rule
+pub coded_or_broken : (text : List ℕ) → ((codes : List Code) × Letters text codes) ⊎ ((rule : CodeRule) × Breaks rule text)
+coded_or_broken text = go (reading 0 text) refl
+  where
+    go : (answer : Result (List Code) CodeRule) → reading 0 text ≡ answer → ((codes : List Code) × Letters text codes) ⊎ ((rule : CodeRule) × Breaks rule text)
+    go (Ok codes) e = inl (codes, is_read text [] codes tt e)
+    go (Err rule) e = inr (rule, read_breaks rule text e)
+
+rule_dec : (a b : CodeRule) → Dec (a ≡ b)
+rule_dec P4 P4 = yes refl
+rule_dec P4 P5 = no (λ e. absurd cc)
+rule_dec P5 P4 = no (λ e. absurd cc)
+rule_dec P5 P5 = yes refl
+
+-- letters break one rule at most
+pub one_rule : (text : List ℕ) (a b : CodeRule) → Breaks a text → Breaks b text → a ≡ b
+one_rule text a b p q = same_rule a b (sym (breaks_read a text p) ∙ breaks_read b text q)
+
+pub breaks_dec : (rule : CodeRule) (text : List ℕ) → Dec (Breaks rule text)
+breaks_dec rule text = go (coded_or_broken text)
+  where
+    of_rule : (other : CodeRule) → Breaks other text → Dec (other ≡ rule) → Dec (Breaks rule text)
+    of_rule other broken (yes e) = yes (subst (λ r. Breaks r text) e broken)
+    of_rule other broken (no n) = no (λ b. n (one_rule text other rule broken b))
+
+    go : ((codes : List Code) × Letters text codes) ⊎ ((other : CodeRule) × Breaks other text) → Dec (Breaks rule text)
+    go (inl c) = no (coded_not_broken text c.0 rule c.1)
+    go (inr b) = of_rule b.0 b.1 (rule_dec b.0 rule)
+
+-- ---- a number that letters say is at least 1
+
+held_from_one : (code : Code) (piece : List ℕ) → Says piece code → HasSpelling (held code)
+held_from_one (Number number) piece says = omega (arith, says.value, says.is_last.0)
+held_from_one Tag piece says = tt
+
+all_from_one : (pieces : List (List ℕ)) (codes : List Code) → AllZip Says pieces codes → AllByRecursion HasSpelling (map held codes)
+all_from_one [] [] each = tt
+all_from_one [] (code ∷ codes) each = absurd each
+all_from_one (piece ∷ pieces) [] each = absurd each
+all_from_one (piece ∷ pieces) (code ∷ codes) each = (held_from_one code piece each.0, all_from_one pieces codes each.1)
+
+pub from_one : (text : List ℕ) (codes : List Code) → Letters text codes → AllByRecursion HasSpelling codes
+from_one text codes letters = subst (AllByRecursion HasSpelling) (sym letters.are_held) (all_from_one letters.spells.pieces letters.spelled letters.spells.each)

@@ -1,0 +1,123 @@
+-- The labels in the trees that moves make are those of the moves; so the assertions that are used are those of the moves.
+use Rattle.std.proofs.Common.{◌≡◌, ℕ, zero, suc, List, [], ◌∷◌, ◌++◌, get_or, slice_get, Contains, Some, ◌⊎◌, inl, inr, ⊎_elim, ◌↔◌, refl, sym, ap, subst, ◌∙◌, append_assoc, ◌≤◌, arith}
+use Rattle.std.specs.List.{AllByRecursion}
+use Rattle.std.proofs.lemmas.Option.{same_Some, none-some}
+use Rattle.std.proofs.lemmas.List.Elements.{Contains-append_left, Contains-append_right, Contains-append_cases}
+use Rattle.mm_frame.specs.Sentence.{Sentence}
+use Rattle.mm_proof.specs.Tree.{Trees, none, tree, spelling, beside}
+use Rattle.mm_proof.specs.Moves.{Move, name, again, mark, MakesOne, Makes}
+use Rattle.mm_proof.proofs.Making.{spelling-beside}
+use Rattle.mm_proof.proofs.Derived.{all_mapped, all_push, all_at}
+
+-- some move is a step by the label
+abbrev pub IsStepOf : List (Move (List ℕ)) → List ℕ → Type 0
+IsStepOf moves label = (i : ℕ) × (slice_get moves i ≡ Some (name label))
+
+one_of : (y x : List ℕ) → Contains (y ∷ []) x → y ≡ x
+one_of y x h = go h.0 h.1 h.2
+  where
+    go : (k : ℕ) → suc k ≤ 1 → get_or (y ∷ []) k x ≡ x → y ≡ x
+    go zero less e = e
+    go (suc k) less e = absurd (omega arith)
+
+itself : (x : List ℕ) → Contains (x ∷ []) x
+itself x = (0, omega arith, refl)
+
+-- ---- rows
+
+-- the labels of the row that a step by a label makes: those before it, and its own
+named_row : (rest below : Trees) (label : List ℕ) → spelling (beside rest (tree label below none)) ≡ spelling (beside rest below) ++ label ∷ []
+named_row rest below label =
+    spelling-beside rest (tree label below none) ∙ sym (append_assoc (spelling rest) (spelling below) (label ∷ []))
+    ∙ ap (λ l. l ++ label ∷ []) (sym (spelling-beside rest below))
+
+-- what is kept stands in the row
+abbrev KeptInRow : Trees → Trees → Type 0
+KeptInRow row t = (x : List ℕ) → Contains (spelling t) x → Contains (spelling row) x
+
+-- what one move makes: the row keeps its labels, gets that of the move, and no others
+pub record RowGrows (move : Move (List ℕ)) (row row' : Trees) (kept' : List Trees) : Type 0 where
+  pub keeps : (x : List ℕ) → Contains (spelling row) x → Contains (spelling row') x
+  pub gets : (x : List ℕ) → move ≡ name x → Contains (spelling row') x
+  pub no_more : (x : List ℕ) → Contains (spelling row') x → Contains (spelling row) x ⊎ (move ≡ name x)
+  pub kept_in : AllByRecursion (KeptInRow row') kept'
+
+same_name : (a b : List ℕ) (m : Move (List ℕ)) → m ≡ name a → m ≡ name b → a ≡ b
+same_name a b m p q = let e : name a ≡ name b = sym p ∙ q in cc
+
+not_again : (tag : ℕ) (x : List ℕ) (m : Move (List ℕ)) → m ≡ again tag → m ≡ name x → ⊥
+not_again tag x m p q = let e : again tag ≡ name x = sym p ∙ q in absurd cc
+
+not_mark : (x : List ℕ) (m : Move (List ℕ)) → m ≡ mark → m ≡ name x → ⊥
+not_mark x m p q = let e : mark ≡ name x = sym p ∙ q in absurd cc
+
+row_grows : (before : List Sentence) (move : Move (List ℕ)) (a b : Trees) (k l : List Trees) → AllByRecursion (KeptInRow a) k → MakesOne before move a k b l → RowGrows move a b l
+row_grows before (name label) a b k l inside m =
+    let word : spelling b ≡ spelling a ++ label ∷ [] = ap spelling m.4 ∙ named_row m.0 m.1 label ∙ ap (λ t. spelling t ++ label ∷ []) (sym m.2) in
+    let keeps : (x : List ℕ) → Contains (spelling a) x → Contains (spelling b) x =
+    λ x h. subst (λ w. Contains w x) (sym word) (Contains-append_left (spelling a) (label ∷ []) x h) in
+    record {
+      keeps = keeps;
+      gets = λ x e. subst (λ w. Contains w x) (sym word)
+          (Contains-append_right (spelling a) (label ∷ []) x (subst (λ y. Contains (y ∷ []) x) (sym (same_name label x (name label) refl e)) (itself x)));
+      no_more = λ x h. ⊎_elim (λ c. inl c) (λ c. inr (ap name (one_of label x c))) (Contains-append_cases (spelling a) (label ∷ []) x (subst (λ w. Contains w x) word h));
+      kept_in = subst (AllByRecursion (KeptInRow b)) (sym m.5) (all_mapped (KeptInRow a) (KeptInRow b) k (λ t p x h. keeps x (p x h)) inside);
+    }
+row_grows before (again tag) a b k l inside m =
+    let word : spelling b ≡ spelling a ++ spelling m.0 = ap spelling m.2 ∙ spelling-beside a m.0 in
+    let keeps : (x : List ℕ) → Contains (spelling a) x → Contains (spelling b) x =
+    λ x h. subst (λ w. Contains w x) (sym word) (Contains-append_left (spelling a) (spelling m.0) x h) in
+    let inner : KeptInRow a m.0 = all_at (KeptInRow a) k tag m.0 inside m.1 in
+    record {
+      keeps = keeps;
+      gets = λ x e. absurd (not_again tag x (again tag) refl e);
+      no_more = λ x h. inl (⊎_elim (λ c. c) (λ c. inner x c) (Contains-append_cases (spelling a) (spelling m.0) x (subst (λ w. Contains w x) word h)));
+      kept_in = subst (AllByRecursion (KeptInRow b)) (sym m.3) (all_mapped (KeptInRow a) (KeptInRow b) k (λ t p x h. keeps x (p x h)) inside);
+    }
+row_grows before mark a b k l inside m =
+    let t : Trees = tree m.1 m.2 none in
+    let keeps : (x : List ℕ) → Contains (spelling a) x → Contains (spelling b) x = λ x h. subst (λ r. Contains (spelling r) x) (sym m.4) h in
+    let last : KeptInRow b t =
+    λ x h. keeps x (subst (λ w. Contains w x) (sym (ap spelling m.3 ∙ spelling-beside m.0 t)) (Contains-append_right (spelling m.0) (spelling t) x h)) in
+    record {
+      keeps = keeps;
+      gets = λ x e. absurd (not_mark x mark refl e);
+      no_more = λ x h. inl (subst (λ r. Contains (spelling r) x) m.4 h);
+      kept_in = subst (AllByRecursion (KeptInRow b)) (sym m.5)
+          (all_push (KeptInRow b) k t (all_mapped (KeptInRow a) (KeptInRow b) k (λ u p x h. keeps x (p x h)) inside) last);
+    }
+
+-- ---- the labels of what moves make
+
+labels_kept : (before : List Sentence) (moves : List (Move (List ℕ))) (a b : Trees) (k l : List Trees) → AllByRecursion (KeptInRow a) k → Makes before moves a k b l
+    → (x : List ℕ) → Contains (spelling a) x ⊎ IsStepOf moves x → Contains (spelling b) x
+labels_kept before [] a b k l inside m x (inl h) = subst (λ r. Contains (spelling r) x) (sym m.0) h
+labels_kept before [] a b k l inside m x (inr h) = absurd (none-some (name x) h.1)
+labels_kept before (move ∷ moves) a b k l inside m x (inl h) =
+    let g = row_grows before move a m.0 k m.1 inside m.2 in
+    labels_kept before moves m.0 b m.1 l g.kept_in m.3 x (inl (g.keeps x h))
+labels_kept before (move ∷ moves) a b k l inside m x (inr h) =
+    let g = row_grows before move a m.0 k m.1 inside m.2 in
+    labels_kept before moves m.0 b m.1 l g.kept_in m.3 x (go h.0 h.1)
+  where
+    go : (i : ℕ) → slice_get (move ∷ moves) i ≡ Some (name x) → Contains (spelling m.0) x ⊎ IsStepOf moves x
+    go zero e = inl ((row_grows before move a m.0 k m.1 inside m.2).gets x (same_Some move (name x) e))
+    go (suc i) e = inr (i, e)
+
+labels_from : (before : List Sentence) (moves : List (Move (List ℕ))) (a b : Trees) (k l : List Trees) → AllByRecursion (KeptInRow a) k → Makes before moves a k b l
+    → (x : List ℕ) → Contains (spelling b) x → Contains (spelling a) x ⊎ IsStepOf moves x
+labels_from before [] a b k l inside m x h = inl (subst (λ r. Contains (spelling r) x) m.0 h)
+labels_from before (move ∷ moves) a b k l inside m x h =
+    let g = row_grows before move a m.0 k m.1 inside m.2 in
+    ⊎_elim
+    (λ c. ⊎_elim (λ d. inl d) (λ e. inr (0, ap Some e)) (g.no_more x c))
+    (λ s. inr (suc s.0, s.1))
+    (labels_from before moves m.0 b m.1 l g.kept_in m.3 x h)
+
+-- the labels in the trees are those of the moves
+pub labels_of_moves : (before : List Sentence) (moves : List (Move (List ℕ))) (row : Trees) (kept : List Trees) → Makes before moves none [] row kept
+    → (label : List ℕ) → Contains (spelling row) label ↔ IsStepOf moves label
+labels_of_moves before moves row kept m label = (
+  λ h. ⊎_elim (λ c. absurd (let less : suc c.0 ≤ 0 = c.1 in omega arith)) (λ s. s) (labels_from before moves none row [] kept tt m label h),
+  λ s. labels_kept before moves none row [] kept tt m label (inr s),
+)

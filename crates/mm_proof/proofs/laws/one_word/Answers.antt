@@ -1,0 +1,5 @@
+use Rattle.mm_proof.proofs.ByWord.{one_word_holds}
+use Rattle.mm_proof.proofs.laws.one_word.Goals as goal
+
+pub returns : goal.returns
+returns c = one_word_holds
