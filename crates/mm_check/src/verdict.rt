@@ -26,7 +26,8 @@ fn load<'a>(files: &'a [File<'a>]) -> Result<Statements<'a>, CheckFault<'a>>
     match Statements::new(files) {
         Ok(statements) => Ok(statements),
         Err(TextFault::Load(rule)) => Err(CheckFault::Load(Rule::from(rule))),
-        Err(_) => Err(CheckFault::Memory),
+        // No fault of the text comes before a token is read.
+        Err(TextFault::Memory | TextFault::Fault { .. }) => Err(CheckFault::Memory),
     }
 }
 
@@ -78,7 +79,8 @@ fn next<'a>(
             let refusal = text_refusal(files, count, rule, file, at, label);
             Err(CheckFault::Refused(refusal))
         }
-        Err(_) => Err(CheckFault::Memory),
+        // A rule of the files as a whole is told by `load`.
+        Err(TextFault::Memory | TextFault::Load(_)) => Err(CheckFault::Memory),
     }
 }
 
