@@ -27,6 +27,8 @@ pub fn one_text()
 /// cut in one way only.
 pub fn one_layout()
     ensures some { (labels : List (List ℕ)) → (text : List ℕ) × LaidOut labels text }
+    ensures some_compressed { (labels : List (List ℕ)) (letters : List ℕ) →
+        (text : List ℕ) × CompressedLaidOut labels letters text }
     ensures normal { (labels : List (List ℕ)) (a b : List ℕ) → LaidOut labels a → LaidOut labels b → a ≡ b }
     ensures compressed { (labels : List (List ℕ)) (letters a b : List ℕ) →
         CompressedLaidOut labels letters a → CompressedLaidOut labels letters b → a ≡ b }
