@@ -1,5 +1,5 @@
 -- Tokens have a layout: a line takes tokens as long as they fit, and then the next one begins. Letters have lines of 73.
-use Rattle.std.proofs.Common.{◌≡◌, ℕ, zero, suc, take, drop, take-append-drop, length-drop, ◌+◌, ◌<◌, ◌≤◌, inl, inr, List, [], ◌∷◌, ◌++◌, ◌⊎◌, length, refl, sym, ap, subst, ◌∙◌, append_assoc, append-nil, arith}
+use Rattle.std.proofs.Common.{◌≡◌, ℕ, zero, suc, take, drop, take-append-drop, length-drop, ◌<◌, ◌≤◌, inl, inr, List, [], ◌∷◌, ◌++◌, length, refl, sym, ap, subst, ◌∙◌, append_assoc, append-nil, arith}
 use Rattle.std.specs.List.{flat_map, AllByRecursion}
 use Rattle.std.proofs.Math.Nat.{le_of_lt, le_refl}
 use Rattle.std.proofs.lemmas.Bool.{cases_lt}

@@ -125,8 +125,8 @@ fn room_for_compressed(
     letters: &[u8],
 ) -> Result<Vec<u8>, CodeFault>
     ensures empty { IfOk result (λ text. text.items ≡ []) }
-    ensures exact { IfOk result (λ text. vec_capacity text
-        ≡ min (lines_bound (size_of (texts labels.now) + 4) + letters_bound (length letters.now)) usize.MAX) }
+    ensures exact { IfOk result (λ text. vec_capacity text ≡ min usize.MAX
+        (lines_bound (size_of (texts labels.now) + 4) + letters_bound (length letters.now))) }
     ensures memory { IsOkUnless result CodeFault.Memory }
 {
     let list = size_of_lines(size_of_tokens(labels).saturating_add(4));

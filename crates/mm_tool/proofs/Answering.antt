@@ -1,10 +1,10 @@
 -- How the words are answered, from how the parts of the program answer.
-use Rattle.std.proofs.Common.{◌≡◌, ℕ, List, map, codes, Option, Result, Ok, Err, IfOk, IfErr, OnErr, inl, inr, refl, sym, subst}
+use Rattle.std.proofs.Common.{◌≡◌, ℕ, List, Option, Result, Ok, Err, IfOk, IfErr, OnErr, inl, inr, refl, sym, subst}
 use Rattle.mm_text.specs.declared.counted.Counted.{Counted}
 use Rattle.mm_check.specs.Status.{number_of}
 use Rattle.mm_check.specs.declared.status.Status.{Status}
 use Rattle.mm_tool.specs.Words.{AsksCheck}
-use Rattle.mm_tool.specs.Ending.{BreaksOff, Ends, IsAnswer, IsCheckReply, IsUntouched, Stops, StopsCheck, Takes}
+use Rattle.mm_tool.specs.Ending.{BreaksOff, Ends, IsAnswer, IsCheckReply, Stops, StopsCheck, Takes}
 use Rattle.mm_tool.specs.declared.texts.Texts.{Texts}
 use Rattle.mm_tool.specs.declared.stop.Stop.{Stop}
 use Rattle.mm_tool.specs.declared.stop.Stop.TheVariants.{Usage, NotText, CannotRead, CannotWrite, Memory}

@@ -1,6 +1,6 @@
 -- From what `clap` ensures of a parse to what the words ask for.
-use Rattle.std.proofs.Common.{◌≡◌, ◌≢◌, List, [], Option, Some, None, option_map, Result, Ok, Err, IfOk, IfErr, IsSome, IfSome, inl, inr, refl, ap, subst, sym, ◌∙◌, true, codes, unwrap_or}
-use Rattle.clap.specs.Words.{App, FailsBy, HasKind, HasMatchesOf, IsAmong, Kinds, Row, Text, all_of, fault_of, is_simple, is_simple_and_free, kind_of, matched_of, raw_values, rows_of, subcommand_name_of, subcommand_of, subcommand_rows_of}
+use Rattle.std.proofs.Common.{◌≡◌, ◌≢◌, List, [], Option, Some, None, option_map, Result, Ok, Err, IfOk, IfErr, IsSome, IfSome, inl, inr, refl, ap, subst, sym, ◌∙◌, true, unwrap_or}
+use Rattle.clap.specs.Words.{App, HasKind, HasMatchesOf, IsAmong, Row, Text, all_of, fault_of, is_simple, is_simple_and_free, kind_of, matched_of, raw_values, rows_of, subcommand_name_of, subcommand_of, subcommand_rows_of}
 use Rattle.clap.specs.declared.error.Error.{Error}
 use Rattle.clap.specs.declared.error.kind.ErrorKind.{ErrorKind}
 use Rattle.clap.specs.declared.error.kind.ErrorKind.TheVariants.{DisplayHelp, DisplayVersion, OutOfMemory}

@@ -1,5 +1,5 @@
 -- How a check ends, from how its parts end.
-use Rattle.std.proofs.Common.{◌≡◌, ℕ, List, map, codes, Option, Result, Ok, Err, IfErr, IsErrAnd, IsErrOf, OnErr, ◌+◌, ◌≤◌, inl, inr, refl, sym, subst}
+use Rattle.std.proofs.Common.{◌≡◌, ℕ, List, codes, Option, Result, Ok, Err, IfErr, IsErrAnd, IsErrOf, OnErr, ◌+◌, ◌≤◌, inl, inr, refl, sym, subst}
 use Rattle.mm_text.specs.declared.counted.Counted.{Counted}
 use Rattle.mm_text.specs.Device.{faults_of, inner_of}
 use Rattle.mm_text.specs.Reading.{PlainFile, total_bytes}

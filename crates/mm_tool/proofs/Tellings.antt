@@ -1,5 +1,5 @@
 -- What is written in several parts, and what is found in a list.
-use Rattle.std.proofs.Common.{◌≡◌, ◌≢◌, false, ℕ, ◌+◌, ◌<◌, ◌≤◌, List, [], ◌∷◌, ◌++◌, length, length-append, take, get_or, slice_get, map, Bor, Option, Some, inl, inr, refl, sym, ap, ◌∙◌, subst, arith}
+use Rattle.std.proofs.Common.{◌≡◌, ◌≢◌, false, ℕ, ◌+◌, ◌<◌, List, [], ◌∷◌, ◌++◌, length, length-append, take, get_or, slice_get, map, Bor, Option, Some, inl, inr, sym, ap, ◌∙◌, subst, arith}
 use Rattle.std.proofs.lemmas.Slice.Eq.{bytes_eq-Decides}
 use Rattle.std.proofs.lemmas.Bool.Decides.{not_from_Decides}
 use Rattle.std.specs.Str.{bytes_eq}
@@ -8,7 +8,7 @@ use Rattle.std.proofs.Math.Seq.{take-append-add}
 use Rattle.std.proofs.KnownBytes.{Appends-trans}
 use Rattle.std.specs.List.{AllByRecursion}
 use Rattle.std.specs.Io.KnownBytes.{Appends}
-use Rattle.mm_text.specs.Device.{AppendsBeginning, inner_of}
+use Rattle.mm_text.specs.Device.{inner_of}
 use Rattle.mm_text.specs.declared.counted.Counted.{Counted}
 use Rattle.mm_tool.specs.Ending.{BreaksOff, Takes, Tells, IsUnknown, line_of}
 use Rattle.mm_tool.specs.declared.texts.RuleText.{RuleText}

@@ -1,6 +1,6 @@
 -- What the files of a folder hold, as far as that is known: `holds` gives the bytes of the file with a name, and `may_fail`
 -- is said of the names of files that can't be opened, or of which a read may fail.
-use Rattle.std.specs.Prelude.{◌≡◌, ℕ, ◌+◌, ◌<◌, ◌≤◌, List, [], ◌∷◌, ◌++◌, length, map, Option, IfSome}
+use Rattle.std.specs.Prelude.{◌≡◌, ℕ, ◌+◌, ◌<◌, ◌≤◌, List, ◌∷◌, ◌++◌, length, map, Option, IfSome}
 use Rattle.std.specs.List.{AllByRecursion}
 use Rattle.mm_text.specs.Reading.{PlainFile, total_bytes}
 use Rattle.mm_tool.specs.declared.files.ReadFile.{ReadFile}

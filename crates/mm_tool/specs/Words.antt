@@ -1,7 +1,6 @@
 -- What the words ask for, as `clap` defines which words a command line takes and what it finds in them. The first word is
 -- the program's name.
-use Rattle.std.specs.Prelude.{◌≡◌, ◌≢◌, List, [], ◌∷◌, map, Option, Some, None, true, codes, unwrap_or, ◌⊎◌}
-use Rattle.std.specs.List.{AllByRecursion}
+use Rattle.std.specs.Prelude.{◌≡◌, ◌≢◌, List, [], map, Some, true, codes, unwrap_or, ◌⊎◌}
 use Rattle.clap.specs.Lexer.{usize_max}
 use Rattle.clap.specs.Words.{App, Row, Rule, Text, IsAmong, all_of, fault_of, new_app, new_rule, subcommand_of, with_rule, with_subcommand}
 use Rattle.clap.specs.declared.builder.action.ArgAction.TheVariants.{Append}

@@ -114,7 +114,7 @@ fn unknown_code(alloc: Global, rules: &[RuleText<'_>], code: &str) -> Result<Str
         }
     }
     format!(in alloc;
-        "mm: no rule has the code {code}; the nearest is {nearest}\n\n`mm explain` lists all codes.\n"
+        "mm: no rule has the code {code}; the nearest is {nearest}\n`mm explain` lists all codes\n"
     )
 }
 
@@ -257,7 +257,8 @@ pub(crate) fn serve<F: Folder, O: Write, E: Write>(
 
 /// The texts of the words.
 fn texts_of(alloc: Global, words: &[String]) -> Result<Vec<&str>, AllocError>
-    ensures { IfOk result (λ texts. map (λ text. text.now) texts.items ≡ map string_bytes words.now) }
+    ensures { IfOk result (λ texts.
+        map (λ text. text.now) texts.items ≡ map string_bytes words.now) }
 {
     let mut texts = Vec::new(alloc);
     for word in words {

@@ -1,6 +1,7 @@
 //! A folder in memory, and devices that fail.
 
-ghost use Rattle.std.specs.Prelude.{◌≡◌, ⊤, None, Some, true};
+ghost use Rattle.std.specs.Prelude.{◌≡◌, ⊤, List, ℕ, Some, MatchOption, IfSome, find, option_map, true};
+ghost use Rattle.std.specs.Str.{bytes_eq};
 
 use crate::folder::Folder;
 use mm_text::Source;
@@ -40,23 +41,35 @@ impl Source for OpenEntry {
     }
 }
 
+/// The first of the entries with this name.
+fn entry_with(entries: &[Entry], name: &str) -> Option<Entry>
+    ensures { result ≡ find (λ entry. bytes_eq entry.name.now name.now) entries.now }
+{
+    for entry in entries {
+        if entry.name == name {
+            return Some(*entry);
+        }
+    }
+    None
+}
+
 impl Folder for Shelf<'_> {
     type File = OpenEntry;
 
-    ghost holds = { λ _ _. None };
+    ghost holds = { λ shelf name. option_map (λ entry. entry.bytes.now)
+        (find (λ entry. bytes_eq entry.name.now name) shelf.0.now) };
 
-    ghost may_fail = { λ _ _. ⊤ };
+    ghost may_fail = { λ shelf name. MatchOption
+        (find (λ entry. bytes_eq entry.name.now name) shelf.0.now) ⊤ (λ entry. entry.breaks ≡ true) };
 
     fn open(&self, name: &str) -> io::Result<OpenEntry> {
-        for entry in self.0 {
-            if entry.name == name {
-                return Ok(OpenEntry {
-                    left: entry.bytes,
-                    breaks: entry.breaks,
-                });
-            }
+        match entry_with(self.0, name) {
+            Some(entry) => Ok(OpenEntry {
+                left: entry.bytes,
+                breaks: entry.breaks,
+            }),
+            None => Err(io::Error::from(ErrorKind::NotFound)),
         }
-        Err(io::Error::from(ErrorKind::NotFound))
     }
 }
 

@@ -1,4 +1,4 @@
-use Rattle.std.proofs.Common.{ℕ, List, Bor, map, arith}
+use Rattle.std.proofs.Common.{map, arith}
 use Rattle.mm_tool.specs.Folder.{plain_read}
 use Rattle.mm_tool.proofs.FilesRead.{comes_next, fault_at, handed_on}
 use Rattle.mm_tool.proofs.files.read_files.Goals as goal

@@ -1,5 +1,5 @@
 -- One more rule has another code.
-use Rattle.std.proofs.Common.{◌≡◌, ◌≢◌, ℕ, List, false, ap, rules, sym, ◌∙◌}
+use Rattle.std.proofs.Common.{◌≢◌, sym, ◌∙◌}
 use Rattle.mm_tool.specs.declared.texts.RuleText.{RuleText}
 use Rattle.mm_tool.proofs.Tellings.{all_more, different}
 use Rattle.mm_tool.proofs.serve.rule_with.Goals as goal

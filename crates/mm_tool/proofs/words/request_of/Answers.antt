@@ -1,5 +1,5 @@
 -- The words ask for what the parse found.
-use Rattle.std.proofs.Common.{◌≡◌, List, Bor, IsSome, inr, refl, rules, sym}
+use Rattle.std.proofs.Common.{Bor, IsSome, inr, refl, rules, sym}
 use Rattle.clap.specs.Words.{app_of, found_of, rows_of}
 use Rattle.clap.specs.declared.parser.matches.ArgMatches.{ArgMatches}
 use Rattle.mm_tool.proofs.Asked.{commands_met, fault_met, not_commanded, request_asked, rows_there}
