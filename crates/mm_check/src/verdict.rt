@@ -31,7 +31,8 @@ fn load<'a>(
     match Statements::new(alloc, files) {
         Ok(statements) => Ok(statements),
         Err(TextFault::Load(rule)) => Err(CheckFault::Load(Rule::from(rule))),
-        Err(_) => Err(CheckFault::Memory),
+        // No fault of the text comes before a token is read.
+        Err(TextFault::Memory | TextFault::Fault { .. }) => Err(CheckFault::Memory),
     }
 }
 
@@ -81,7 +82,8 @@ fn next<'a>(
             let refusal = text_refusal(files, rule, file, at, statement, label);
             Err(CheckFault::Refused(refusal))
         }
-        Err(_) => Err(CheckFault::Memory),
+        // A rule of the files as a whole is told by `load`.
+        Err(TextFault::Memory | TextFault::Load(_)) => Err(CheckFault::Memory),
     }
 }
 

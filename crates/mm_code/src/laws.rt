@@ -26,6 +26,9 @@ pub fn one_text()
 /// Labels have exactly one layout, and so do labels with letters: where no line can take a token more, the lines can be
 /// cut in one way only.
 pub fn one_layout()
+    ensures some { (labels : List (List ℕ)) → (text : List ℕ) × LaidOut labels text }
+    ensures some_compressed { (labels : List (List ℕ)) (letters : List ℕ) →
+        (text : List ℕ) × CompressedLaidOut labels letters text }
     ensures normal { (labels : List (List ℕ)) (a b : List ℕ) → LaidOut labels a → LaidOut labels b → a ≡ b }
     ensures compressed { (labels : List (List ℕ)) (letters a b : List ℕ) →
         CompressedLaidOut labels letters a → CompressedLaidOut labels letters b → a ≡ b }

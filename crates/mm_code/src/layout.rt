@@ -1,6 +1,6 @@
 //! The lines in which proofs are printed and saved.
 
-ghost use Rattle.std.specs.Prelude.{◌≡◌, ℕ, List, [], ◌∷◌, ◌++◌, ◌-◌, min, length, IfOk, OnOk, IsOkUnless};
+ghost use Rattle.std.specs.Prelude.{◌≡◌, ℕ, List, [], ◌∷◌, ◌++◌, ◌+◌, ◌-◌, min, vec_capacity, length, IfOk, OnOk, IsOkUnless};
 ghost use Rattle.mm_code.specs.Layout.{indent, LaidOut, LettersLaidOut, CompressedLaidOut, texts, size_of, lines_bound, letters_bound};
 ghost use Rattle.mm_code.specs.Lines.{rest_of, room_after, AppendsLetters};
 
@@ -108,6 +108,31 @@ fn add_letters(text: &mut Vec<u8>, letters: &[u8]) -> Result<(), CodeFault>
     Ok(())
 }
 
+/// Empty, with room reserved for the lines of tokens: the most that they can need.
+fn room_for_lines(alloc: Global, tokens: &[&[u8]]) -> Result<Vec<u8>, CodeFault>
+    ensures empty { IfOk result (λ text. text.items ≡ []) }
+    ensures exact { IfOk result (λ text.
+        vec_capacity text ≡ min (lines_bound (size_of (texts tokens.now))) usize.MAX) }
+    ensures memory { IsOkUnless result CodeFault.Memory }
+{
+    Ok(Vec::with_capacity(alloc, size_of_lines(size_of_tokens(tokens)))?)
+}
+
+/// Empty, with room reserved for the lines of a compressed proof: the most that they can need.
+fn room_for_compressed(
+    alloc: Global,
+    labels: &[&[u8]],
+    letters: &[u8],
+) -> Result<Vec<u8>, CodeFault>
+    ensures empty { IfOk result (λ text. text.items ≡ []) }
+    ensures exact { IfOk result (λ text. vec_capacity text ≡ min usize.MAX
+        (lines_bound (size_of (texts labels.now) + 4) + letters_bound (length letters.now))) }
+    ensures memory { IsOkUnless result CodeFault.Memory }
+{
+    let list = size_of_lines(size_of_tokens(labels).saturating_add(4));
+    Ok(Vec::with_capacity(alloc, list.saturating_add(size_of_letters(letters)))?)
+}
+
 /// The lines of a normal proof: its labels in their order, greedily. A line begins with six spaces and has at most 79
 /// bytes before its 0x0A, unless its one label is longer. No labels are no line.
 ///
@@ -119,7 +144,7 @@ pub fn lay_out_normal(alloc: Global, labels: &[&[u8]]) -> Result<Vec<u8>, CodeFa
     let Some((first, others)) = labels.split_first() else {
         return Ok(Vec::new(alloc));
     };
-    let mut text = Vec::with_capacity(alloc, size_of_lines(size_of_tokens(labels)))?;
+    let mut text = room_for_lines(alloc, labels)?;
     let room = begin_line(&mut text, first)?;
     add_tokens(&mut text, room, others)?;
     text.push(b'\n')?;
@@ -138,8 +163,7 @@ pub fn lay_out_compressed(
     ensures laid_out { IfOk result (λ text. CompressedLaidOut (texts labels.now) letters.now text.items) }
     ensures memory { IsOkUnless result CodeFault.Memory }
 {
-    let list = size_of_lines(size_of_tokens(labels).saturating_add(4));
-    let mut text = Vec::with_capacity(alloc, list.saturating_add(size_of_letters(letters)))?;
+    let mut text = room_for_compressed(alloc, labels, letters)?;
     let opened = begin_line(&mut text, b"(")?;
     let listed = add_tokens(&mut text, opened, labels)?;
     add_token(&mut text, listed, b")")?;

@@ -1,5 +1,5 @@
 //! A reader or writer that counts its failed calls.
-ghost use Rattle.std.specs.Prelude.{◌≡◌, ◌+◌, ◌<◌, OnOk, OnErr};
+ghost use Rattle.std.specs.Prelude.{◌≡◌, ℕ, ◌+◌, ◌<◌, List, Option, ⊤, OnOk, OnErr};
 ghost use Rattle.std.specs.Io.{ReadsAtMost, WritesAtMost};
 ghost use Rattle.std.specs.Io.KnownBytes.{Appends, ReadConsumes, WriteAppends};
 ghost use Rattle.mm_text.specs.Device.{faults_of, inner_of, IsFailedWrite, AppendsBeginning};
@@ -10,6 +10,38 @@ use std::io::{Read, Write};
 /// A device failed in a write: it answered an error, or took none of a piece that has bytes.
 #[derive(Clone, Copy, Debug, PartialEq, Eq)]
 pub struct WriteFault;
+
+/// What gives bytes, in calls that may fail.
+pub trait Source {
+    /// The bytes that are left to give, where they are known.
+    ghost left: { Self → Option (List ℕ) };
+
+    /// A call may fail.
+    ghost may_fail: { Self → Type 0 };
+
+    /// Puts the next bytes at the beginning of `piece`, and answers how many. None come only at the
+    /// end, or where `piece` has no room.
+    ///
+    /// # Errors
+    ///
+    /// Only where a call may fail.
+    fn give(&mut self, piece: &mut [u8]) -> io::Result<usize>
+        ensures bound { ReadsAtMost result piece.new }
+        ensures bytes { ReadConsumes (left self.old) (left self.new) result piece.new }
+        ensures cause { OnErr result (may_fail self.old) }
+        ensures later { may_fail self.new → may_fail self.old };
+}
+
+/// Of a reader it isn't known when a call fails.
+impl<R: Read> Source for R {
+    ghost left = { R.remaining };
+
+    ghost may_fail = { λ _. ⊤ };
+
+    fn give(&mut self, piece: &mut [u8]) -> io::Result<usize> {
+        self.read(piece)
+    }
+}
 
 /// A reader or writer, with the number of its calls that failed.
 ///
@@ -45,18 +77,20 @@ impl<T> Counted<T> {
     }
 }
 
-impl<R: Read> Counted<R> {
-    /// Reads once, and answers what the reader answers. The count rises by one exactly where that
-    /// is an error. No clause says which error came, since the reader's own contract does not.
+impl<S: Source> Counted<S> {
+    /// Reads once, and answers what the source answers. The count rises by one exactly where that
+    /// is an error. No clause says which error came, since the source's own contract does not.
     pub fn read(&mut self, buf: &mut [u8]) -> io::Result<usize>
         requires { faults_of self.old < u64.MAX }
         ensures bound { ReadsAtMost result buf.new }
-        ensures bytes { ReadConsumes (R.remaining (inner_of self.old))
-            (R.remaining (inner_of self.new)) result buf.new }
+        ensures bytes { ReadConsumes (S.left (inner_of self.old))
+            (S.left (inner_of self.new)) result buf.new }
+        ensures cause { OnErr result (S.may_fail (inner_of self.old)) }
+        ensures later { S.may_fail (inner_of self.new) → S.may_fail (inner_of self.old) }
         ensures counted { OnErr result (faults_of self.new ≡ faults_of self.old + 1) }
         ensures uncounted { OnOk result (faults_of self.new ≡ faults_of self.old) }
     {
-        let result = self.inner.read(buf);
+        let result = self.inner.give(buf);
         if result.is_err() {
             self.faults += 1;
         }

@@ -22,7 +22,7 @@ mod statements;
 mod tests;
 mod token;
 
-pub use counted::{Counted, WriteFault};
+pub use counted::{Counted, Source, WriteFault};
 pub use fault::{LoadRule, TextFault, TextRule};
 pub use file::File;
 pub use handed::BYTE_LIMIT;

@@ -2,10 +2,10 @@
 ghost use Rattle.std.specs.Prelude.{◌≡◌, ◌+◌, ◌<◌, ◌≤◌, ◌↔◌, length, OnOk, IfOk, IfSome, IsErrOf, vec_len};
 ghost use Rattle.std.specs.Io.KnownBytes.{IsAtEnd};
 ghost use Rattle.mm_text.specs.Device.{faults_of, inner_of, CameWithin, CameOver};
+ghost use Rattle.mm_text.specs.declared.load.LoadFault.TheVariants.{Memory};
 
-use crate::counted::Counted;
-use std::alloc::Global;
-use std::io::Read;
+use crate::counted::{Counted, Source};
+use std::alloc::{AllocError, Global};
 
 #[cfg(test)]
 mod tests;
@@ -13,7 +13,7 @@ mod tests;
 /// Why a device was not read to its end.
 #[derive(Clone, Copy, Debug, PartialEq, Eq)]
 pub enum LoadFault {
-    /// The reader failed in a call.
+    /// The source failed in a call.
     Device,
     /// More bytes came than may be taken.
     TooLong,
@@ -21,39 +21,48 @@ pub enum LoadFault {
     Memory,
 }
 
-/// How many bytes one call of the reader may give.
+impl From<AllocError> for LoadFault {
+    ghost from_gives = { λ _ e. e ≡ Memory };
+
+    fn from(_e: AllocError) -> LoadFault {
+        LoadFault::Memory
+    }
+}
+
+/// How many bytes one call of the source may give.
 const PIECE: usize = 64 * 1024;
 
-/// All bytes that the reader gives up to its end, at most `max` of them. Stops at the first
+/// All bytes that the source gives up to its end, at most `max` of them. Stops at the first
 /// failed call.
 ///
 /// # Errors
 ///
-/// - `Device` exactly where a call of the reader failed; the count then rose by one. Where `max`
+/// - `Device` exactly where a call of the source failed; the count then rose by one. Where `max`
 ///   bytes came, the call that looks for the end can still fail.
 /// - `TooLong` exactly where more than `max` bytes came.
 /// - `Memory` where a growth was refused, and nowhere else.
-pub fn read_all<R: Read>(
+pub fn read_all<S: Source>(
     alloc: Global,
-    reader: &mut Counted<R>,
+    reader: &mut Counted<S>,
     max: usize,
 ) -> Result<Vec<u8>, LoadFault>
     requires { faults_of reader.old < u64.MAX }
     ensures within { IfOk result (λ bytes. vec_len bytes ≤ max) }
     ensures all { IfOk result (λ bytes.
-        IfSome (R.remaining (inner_of reader.old)) (λ all. bytes.items ≡ all)) }
-    ensures end { OnOk result (IsAtEnd (R.remaining (inner_of reader.new))) }
+        IfSome (S.left (inner_of reader.old)) (λ all. bytes.items ≡ all)) }
+    ensures end { OnOk result (IsAtEnd (S.left (inner_of reader.new))) }
     ensures too_long { IsErrOf result LoadFault.TooLong →
-        IfSome (R.remaining (inner_of reader.old)) (λ all. max < length all) }
+        IfSome (S.left (inner_of reader.old)) (λ all. max < length all) }
     // So many bytes came: over `max` exactly where that is answered.
     ensures over { IsErrOf result LoadFault.TooLong →
-        CameOver (R.remaining (inner_of reader.old)) (R.remaining (inner_of reader.new)) max }
+        CameOver (S.left (inner_of reader.old)) (S.left (inner_of reader.new)) max }
     ensures under { IsErrOf result LoadFault.Device →
-        CameWithin (R.remaining (inner_of reader.old)) (R.remaining (inner_of reader.new)) max }
+        CameWithin (S.left (inner_of reader.old)) (S.left (inner_of reader.new)) max }
     ensures memory { IsErrOf result LoadFault.Memory →
-        IfSome (R.remaining (inner_of reader.old)) (λ all. 0 < length all) }
+        IfSome (S.left (inner_of reader.old)) (λ all. 0 < length all) }
     ensures device { IsErrOf result LoadFault.Device ↔
         (faults_of reader.new ≡ faults_of reader.old + 1) }
+    ensures cause { IsErrOf result LoadFault.Device → S.may_fail (inner_of reader.old) }
     ensures uncounted { ¬ IsErrOf result LoadFault.Device →
         faults_of reader.new ≡ faults_of reader.old }
 {
@@ -68,8 +77,6 @@ pub fn read_all<R: Read>(
         if count > max - bytes.len() {
             return Err(LoadFault::TooLong);
         }
-        if bytes.extend_from_slice(&piece[..count]).is_err() {
-            return Err(LoadFault::Memory);
-        }
+        bytes.extend_from_slice(&piece[..count])?;
     }
 }

@@ -1,2 +1,5 @@
+pub mod Answering
 pub mod Asked
-pub mod Endings
+pub mod Checks
+pub mod FilesRead
+pub mod Tellings

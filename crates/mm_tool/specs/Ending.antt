@@ -1,25 +1,88 @@
--- How the program ends: with a reply and its status, or with a line on standard error.
-use Rattle.std.specs.Prelude.{◌≡◌, ℕ, List, ◌+◌, ◌++◌, map, Option, codes, string_bytes, ◌⊎◌}
+-- How the program ends: with an answer on standard output and its status, or with a line on standard error.
+use Rattle.std.specs.Prelude.{◌≡◌, ◌≢◌, ℕ, ◌+◌, ◌≤◌, List, [], ◌∷◌, ◌++◌, Option, Contains, codes, string_bytes, ◌⊎◌}
+use Rattle.std.specs.List.{AllByRecursion}
 use Rattle.std.specs.Io.KnownBytes.{Appends}
-use Rattle.mm_text.specs.Reading.{PlainFile}
-use Rattle.mm_text.specs.Device.{faults_of, inner_of}
+use Rattle.mm_text.specs.Reading.{PlainFile, total_bytes}
+use Rattle.mm_text.specs.Device.{faults_of, inner_of, AppendsBeginning}
 use Rattle.mm_text.specs.declared.counted.Counted.{Counted}
-use Rattle.mm_check.specs.Reply.{Writes}
+use Rattle.mm_check.specs.Reply.{IsReply}
+use Rattle.mm_check.specs.Status.{number_of}
 use Rattle.mm_check.specs.declared.command.RunFault.{RunFault}
 use Rattle.mm_check.specs.declared.command.RunFault.TheVariants as run
 use Rattle.mm_check.specs.declared.status.Status.{Status}
 use Rattle.mm_check.specs.declared.status.Status.TheVariants as status
 use Rattle.clap.specs.Words.{Text}
-use Rattle.mm_tool.specs.Words.{AsksHelp, AsksCheck}
+use Rattle.mm_tool.specs.Folder.{AreHeld, AreTooLong, IsUnreadable}
+use Rattle.mm_tool.specs.Words.{AsksHelp, AsksVersion, AsksExplain, AsksCheck, IsRefused}
+use Rattle.mm_tool.specs.declared.folder.ArgumentFault.{ArgumentFault}
+use Rattle.mm_tool.specs.declared.folder.ArgumentFault.TheVariants as argument
+use Rattle.mm_tool.specs.declared.texts.RuleText.{RuleText}
+use Rattle.mm_tool.specs.declared.texts.Texts.{Texts}
 use Rattle.mm_tool.specs.declared.stop.Stop.{Stop}
 use Rattle.mm_tool.specs.declared.stop.Stop.TheVariants.{Usage, NotText, CannotRead, CannotWrite, Memory}
+
+-- ---- devices
+
+-- The device took these bytes, and none of its calls failed.
+abbrev pub Takes : {W : Type 0} → (W → Option (List ℕ)) → List ℕ → Counted W → Counted W → Type 0
+Takes contents text old new =
+    Appends (contents (inner_of old)) (contents (inner_of new)) text × (faults_of new ≡ faults_of old)
+
+-- It took a proper beginning of these bytes, and one of its calls failed.
+abbrev pub BreaksOff : {W : Type 0} → (W → Option (List ℕ)) → List ℕ → Counted W → Counted W → Type 0
+BreaksOff contents text old new =
+    AppendsBeginning (contents (inner_of old)) (contents (inner_of new)) text × (faults_of new ≡ faults_of old + 1)
+
+-- It was not called.
+abbrev pub IsUntouched : {W : Type 0} → Counted W → Counted W → Type 0
+IsUntouched old new = (inner_of new ≡ inner_of old) × (faults_of new ≡ faults_of old)
+
+-- ---- answers
+
+-- This is the reply to `check` over the files with these names, or the one that says that they hold too many bytes.
+abbrev pub IsCheckReply : (List ℕ → Option (List ℕ)) → List Text → ℕ → List ℕ → ℕ → Type 0
+IsCheckReply holds names max text status =
+    ((files : List PlainFile) × AreHeld holds names files × (total_bytes files ≤ max) × IsReply files text status)
+    ⊎ (AreTooLong holds names max × (text ≡ codes "load F3\n") × (status ≡ 4))
+
+-- This is the text of the rule with the asked code; where none is asked for, the list of the codes.
+abbrev pub IsExplanation : Texts → List Text → List ℕ → Type 0
+IsExplanation texts [] text = text ≡ texts.codes.now
+IsExplanation texts (code ∷ others) text =
+    (rule : RuleText) × Contains texts.rules.now rule × (rule.code.now ≡ code) × (text ≡ rule.text.now)
+
+-- No rule has the asked code.
+abbrev pub IsUnknown : Texts → List Text → Type 0
+IsUnknown texts [] = ⊥
+IsUnknown texts (code ∷ others) = AllByRecursion (λ rule. rule.code.now ≢ code) texts.rules.now
+
+-- why there is no explanation
+abbrev pub IsUnknownStop : Texts → List Text → Stop → Type 0
+IsUnknownStop texts asked (Usage text) = IsUnknown texts asked
+IsUnknownStop texts asked Memory = Unit {0}
+IsUnknownStop texts asked other = ⊥
+
+-- This text, with this status, answers the words.
+abbrev pub IsAnswer : (List ℕ → Option (List ℕ)) → Texts → ℕ → List Text → List ℕ → ℕ → Type 0
+IsAnswer holds texts max words text status =
+    (AsksHelp words × (text ≡ texts.help.now) × (status ≡ 0))
+    ⊎ ((AsksVersion words × (text ≡ texts.version.now) × (status ≡ 0))
+    ⊎ (((asked : List Text) × AsksExplain words asked × IsExplanation texts asked text × (status ≡ 0))
+    ⊎ ((names : List Text) × AsksCheck words names × IsCheckReply holds names max text status)))
+
+-- ---- ends without an answer
 
 -- the end of the program where `run` didn't write the whole reply
 abbrev pub stop_of : RunFault → Stop
 stop_of run.Device = CannotWrite
 stop_of run.Memory = Memory
 
--- the status of an end without a reply: 2 where the words aren't understood, else 4
+-- the end of the program where the words weren't read
+abbrev pub unread_stop : ArgumentFault → Stop
+unread_stop argument.NotText = NotText
+unread_stop argument.Memory = Memory
+
+-- the status of an end without an answer: 2 where the words aren't understood, else 4
 abbrev pub stop_status : Stop → Status
 stop_status (Usage text) = status.Usage
 stop_status NotText = status.Usage
@@ -27,49 +90,72 @@ stop_status (CannotRead name) = status.Stopped
 stop_status CannotWrite = status.Stopped
 stop_status Memory = status.Stopped
 
--- what is said on standard error
+-- what is said of it on standard error
 abbrev pub line_of : Stop → List ℕ
 line_of (Usage text) = string_bytes text
 line_of NotText = codes "mm: a word is not UTF-8\n"
-line_of (CannotRead name) = codes "mm: cannot read " ++ name.now ++ codes "\n"
+line_of (CannotRead name) = codes "mm: cannot read " ++ (name.now ++ codes "\n")
 line_of CannotWrite = codes "mm: cannot write\n"
 line_of Memory = codes "mm: out of memory\n"
 
--- The line was put after what the writer held; or the one that says that memory for it was refused.
-abbrev pub Says : List ℕ → Option (List ℕ) → Option (List ℕ) → Type 0
-Says line old new = Appends old new line ⊎ Appends old new (codes "mm: out of memory\n")
+-- The check of the files with these names ended so, and that is what standard output shows of it.
+abbrev pub StopsCheck : {O : Type 0} → (O → Option (List ℕ)) → (List ℕ → Option (List ℕ)) → (List ℕ → Type 0) → List Text → ℕ
+    → Stop → Counted O → Counted O → Type 0
+StopsCheck contents holds may_fail names max (CannotRead name) old new = IsUnreadable holds may_fail names max name.now × IsUntouched old new
+StopsCheck contents holds may_fail names max CannotWrite old new =
+    (text : List ℕ) × (status : ℕ) × IsCheckReply holds names max text status × BreaksOff contents text old new
+StopsCheck contents holds may_fail names max Memory old new = IsUntouched old new
+StopsCheck contents holds may_fail names max other old new = ⊥
 
--- Standard output is as it was; or it is what failed, in one call.
-abbrev pub Leaves : {O : Type 0} → Stop → Counted O → Counted O → Type 0
-Leaves CannotWrite old new = faults_of new ≡ faults_of old + 1
-Leaves (Usage text) old new = (inner_of new ≡ inner_of old) × (faults_of new ≡ faults_of old)
-Leaves NotText old new = (inner_of new ≡ inner_of old) × (faults_of new ≡ faults_of old)
-Leaves (CannotRead name) old new = (inner_of new ≡ inner_of old) × (faults_of new ≡ faults_of old)
-Leaves Memory old new = (inner_of new ≡ inner_of old) × (faults_of new ≡ faults_of old)
+-- The words have no answer, and that is what standard output shows of it.
+abbrev pub Stops : {O : Type 0} → (O → Option (List ℕ)) → (List ℕ → Option (List ℕ)) → (List ℕ → Type 0) → Texts → ℕ → List Text
+    → Stop → Counted O → Counted O → Type 0
+Stops contents holds may_fail texts max words (Usage text) old new =
+    (IsRefused words ⊎ ((asked : List Text) × AsksExplain words asked × IsUnknown texts asked)) × IsUntouched old new
+Stops contents holds may_fail texts max words NotText old new = ⊥
+Stops contents holds may_fail texts max words (CannotRead name) old new =
+    (names : List Text) × AsksCheck words names × IsUnreadable holds may_fail names max name.now × IsUntouched old new
+Stops contents holds may_fail texts max words CannotWrite old new =
+    (text : List ℕ) × (status : ℕ) × IsAnswer holds texts max words text status × BreaksOff contents text old new
+Stops contents holds may_fail texts max words Memory old new = IsUntouched old new
 
--- The reply to `check` over files with these names, in this order, with this status, was put after what the writer held.
-abbrev pub RepliesTo : List Text → ℕ → Option (List ℕ) → Option (List ℕ) → Type 0
-RepliesTo names status old new =
-    (files : List PlainFile) × (map (λ file. file.name) files ≡ names) × Writes files status old new
+-- ---- ends
 
--- That reply, or, with status 4, the line that says that the files hold more bytes than they may.
-abbrev pub RepliesOrIsTooLong : List Text → ℕ → Option (List ℕ) → Option (List ℕ) → Type 0
-RepliesOrIsTooLong names status old new =
-    RepliesTo names status old new ⊎ ((status ≡ 4) × Appends old new (codes "load F3\n"))
+-- The line was written, or a beginning of it, where a call failed.
+abbrev pub Tells : {E : Type 0} → (E → Option (List ℕ)) → List ℕ → Counted E → Counted E → Type 0
+Tells contents line old new = Takes contents line old new ⊎ BreaksOff contents line old new
 
--- The reply to `check` over the files that the words ask to check was, with this status.
-abbrev pub Replies : List Text → ℕ → Option (List ℕ) → Option (List ℕ) → Type 0
-Replies words status old new = (names : List Text) × AsksCheck words names × RepliesTo names status old new
+-- The words were answered, with this status, and standard error is as it was.
+pub record EndsAnswered {O E : Type 0} (contents : O → Option (List ℕ)) (holds : List ℕ → Option (List ℕ)) (texts : Texts) (max : ℕ)
+    (words : List Text) (status : ℕ) (out out' : Counted O) (err err' : Counted E) : Type 0 where
+  pub text : List ℕ
+  pub answers : IsAnswer holds texts max words text status
+  pub written : Takes contents text out out'
+  pub quiet : IsUntouched err err'
 
--- The words ask for help, and some text was.
-abbrev pub PrintsHelp : List Text → Option (List ℕ) → Option (List ℕ) → Type 0
-PrintsHelp words old new = (text : List ℕ) × AsksHelp words × Appends old new text
+-- They weren't, for this reason, and standard error was told.
+pub record EndsStopped {O E : Type 0} (contents : O → Option (List ℕ)) (said : E → Option (List ℕ)) (holds : List ℕ → Option (List ℕ))
+    (may_fail : List ℕ → Type 0) (texts : Texts) (max : ℕ) (words : List Text) (status : ℕ) (out out' : Counted O) (err err' : Counted E)
+    : Type 0 where
+  pub stop : Stop
+  pub stops : Stops contents holds may_fail texts max words stop out out'
+  pub ends : number_of (stop_status stop) ≡ status
+  pub told : Tells said (line_of stop) err err'
 
--- What a status says of standard output: the reply has this status; with 0 it may be the help, and with 4 that the files
--- hold more bytes than they may.
-abbrev pub Ends : List Text → Status → Option (List ℕ) → Option (List ℕ) → Type 0
-Ends words status.Done old new = Replies words 0 old new ⊎ PrintsHelp words old new
-Ends words status.Refused old new = Replies words 1 old new
-Ends words status.Usage old new = ⊥
-Ends words status.Incomplete old new = Replies words 3 old new
-Ends words status.Stopped old new = Replies words 4 old new ⊎ Appends old new (codes "load F3\n")
+-- How the program ends with these words.
+abbrev pub Ends : {O E : Type 0} → (O → Option (List ℕ)) → (E → Option (List ℕ)) → (List ℕ → Option (List ℕ)) → (List ℕ → Type 0) → Texts
+    → ℕ → List Text → ℕ → Counted O → Counted O → Counted E → Counted E → Type 0
+Ends contents said holds may_fail texts max words status out out' err err' =
+    EndsAnswered contents holds texts max words status out out' err err'
+    ⊎ EndsStopped contents said holds may_fail texts max words status out out' err err'
+
+-- The words weren't all read: one may not be UTF-8, or memory was wanting.
+pub record EndsUnread {O E : Type 0} (said : E → Option (List ℕ)) (may_fail : Type 0) (status : ℕ) (out out' : Counted O)
+    (err err' : Counted E) : Type 0 where
+  pub stop : Stop
+  pub fault : ArgumentFault
+  pub cause : fault ≡ argument.NotText → may_fail
+  pub reason : stop ≡ unread_stop fault
+  pub silent : IsUntouched out out'
+  pub ends : number_of (stop_status stop) ≡ status
+  pub told : Tells said (line_of stop) err err'

@@ -1,13 +1,17 @@
--- What the words ask for, as `clap` defines the matches of a command line.
-use Rattle.std.specs.Prelude.{◌≡◌, List, [], map, Some, true, codes, unwrap_or, ⊤}
+-- What the words ask for, as `clap` defines which words a command line takes and what it finds in them. The first word is
+-- the program's name.
+use Rattle.std.specs.Prelude.{◌≡◌, ◌≢◌, List, [], map, Some, true, codes, unwrap_or, ◌⊎◌}
 use Rattle.clap.specs.Lexer.{usize_max}
 use Rattle.clap.specs.Words.{App, Row, Rule, Text, IsAmong, all_of, fault_of, new_app, new_rule, subcommand_of, with_rule, with_subcommand}
 use Rattle.clap.specs.declared.builder.action.ArgAction.TheVariants.{Append}
-use Rattle.clap.specs.declared.error.kind.ErrorKind.TheVariants.{DisplayHelp}
+use Rattle.clap.specs.declared.error.kind.ErrorKind.{ErrorKind}
+use Rattle.clap.specs.declared.error.kind.ErrorKind.TheVariants.{DisplayHelp, DisplayVersion, OutOfMemory}
 use Rattle.mm_tool.specs.declared.words.Request.{Request}
-use Rattle.mm_tool.specs.declared.words.Request.TheVariants.{Help, Check}
+use Rattle.mm_tool.specs.declared.words.Request.TheVariants.{Help, Version, Explain, Check}
+use Rattle.mm_tool.specs.declared.stop.Stop.{Stop}
+use Rattle.mm_tool.specs.declared.stop.Stop.TheVariants as stop
 
--- the names of the files: at least one
+-- `FILES..`: at least one
 abbrev pub files_rule : Rule
 files_rule = record (new_rule (codes "FILES")) {
   required = true;
@@ -15,34 +19,100 @@ files_rule = record (new_rule (codes "FILES")) {
   action = Some Append;
 }
 
+-- `[CODE]`: at most one
+abbrev pub code_rule : Rule
+code_rule = record (new_rule (codes "CODE")) {
+  range = Some (record { start_inclusive = 0; end_inclusive = 1 });
+  action = Some Append;
+}
+
 -- `check FILES..`
 abbrev pub check_line : App
 check_line = with_rule (new_app (codes "check")) files_rule
 
+-- `explain [CODE]`
+abbrev pub explain_line : App
+explain_line = with_rule (new_app (codes "explain")) code_rule
+
+-- `help`
+abbrev pub help_line : App
+help_line = new_app (codes "help")
+
 abbrev pub bare_line : App
 bare_line = record (new_app (codes "mm")) {
-  top = record (new_app (codes "mm")).top { subcommand_required = true; arg_required_else_help = true };
+  top = record (new_app (codes "mm")).top {
+    has_version = true;
+    disable_help_subcommand = true;
+    subcommand_required = true;
+    arg_required_else_help = true;
+  };
 }
 
--- `mm check FILES..`
+-- `mm check FILES..`, `mm explain [CODE]`, `mm help`, `mm --version`, and everywhere `--help`
 abbrev pub command_line : App
-command_line = with_subcommand bare_line check_line.top
+command_line = with_subcommand (with_subcommand (with_subcommand bare_line check_line.top) explain_line.top) help_line.top
 
-abbrev pub IsHelp : Request → Type 0
-IsHelp (Help text) = ⊤
-IsHelp (Check names) = ⊥
+-- The words are accepted.
+abbrev pub IsAccepted : List Text → Type 0
+IsAccepted words = fault_of command_line words ≡ []
 
--- The words, of which the first is the program's name, ask for help.
+-- They are accepted, and their command has this name and these values.
+abbrev pub Commands : List Text → Text → List Row → Type 0
+Commands words name rows = IsAccepted words × (subcommand_of command_line words ≡ Some (name, rows))
+
+-- They ask for help.
 abbrev pub AsksHelp : List Text → Type 0
-AsksHelp words = IsAmong DisplayHelp (fault_of command_line words)
+AsksHelp words = IsAmong DisplayHelp (fault_of command_line words) ⊎ ((rows : List Row) × Commands words (codes "help") rows)
+
+-- They ask for the version.
+abbrev pub AsksVersion : List Text → Type 0
+AsksVersion words = IsAmong DisplayVersion (fault_of command_line words)
+
+-- They ask to explain these codes: none, or one.
+abbrev pub AsksExplain : List Text → List Text → Type 0
+AsksExplain words asked =
+    (rows : List Row) × Commands words (codes "explain") rows × (unwrap_or (all_of (codes "CODE") rows) [] ≡ asked)
 
 -- They ask to check the files with these names.
 abbrev pub AsksCheck : List Text → List Text → Type 0
 AsksCheck words names =
-    (rows : List Row) × (subcommand_of command_line words ≡ Some (codes "check", rows))
-    × (unwrap_or (all_of (codes "FILES") rows) [] ≡ names)
+    (rows : List Row) × Commands words (codes "check") rows × (unwrap_or (all_of (codes "FILES") rows) [] ≡ names)
 
 -- They ask for what the request says.
 abbrev pub Asks : List Text → Request → Type 0
-Asks words (Help text) = AsksHelp words
+Asks words Help = AsksHelp words
+Asks words Version = AsksVersion words
+Asks words (Explain asked) = AsksExplain words (map (λ code. code.now) asked.items)
 Asks words (Check names) = AsksCheck words (map (λ name. name.now) names.items)
+
+-- The words are refused, by a fault that is no wish for help or for the version.
+abbrev pub IsFaulty : List Text → Type 0
+IsFaulty words =
+    (kind : ErrorKind) × IsAmong kind (fault_of command_line words) × (kind ≢ DisplayHelp) × (kind ≢ DisplayVersion)
+
+-- They are accepted, but name no command.
+abbrev pub NamesNoCommand : List Text → Type 0
+NamesNoCommand words =
+    (rows : List Row) → ¬ Commands words (codes "check") rows × ¬ Commands words (codes "explain") rows × ¬ Commands words (codes "help") rows
+
+-- The words aren't understood.
+abbrev pub IsRefused : List Text → Type 0
+IsRefused words = IsFaulty words ⊎ NamesNoCommand words
+
+-- why there is no request
+abbrev pub IsWordFault : List Text → Stop → Type 0
+IsWordFault words (stop.Usage text) = IsRefused words
+IsWordFault words stop.Memory = Unit {0}
+IsWordFault words other = ⊥
+
+-- a request that stands in place of matches is one for help or for the version, which clap's answer says by its kind
+abbrev pub IsOfKind : ErrorKind → Request → Type 0
+IsOfKind kind Help = kind ≡ DisplayHelp
+IsOfKind kind Version = kind ≡ DisplayVersion
+IsOfKind kind other = ⊥
+
+-- what clap's answer is where it is no such request
+abbrev pub IsFaultOfKind : ErrorKind → Stop → Type 0
+IsFaultOfKind kind (stop.Usage text) = (kind ≢ OutOfMemory) × (kind ≢ DisplayHelp) × (kind ≢ DisplayVersion)
+IsFaultOfKind kind stop.Memory = Unit {0}
+IsFaultOfKind kind other = ⊥

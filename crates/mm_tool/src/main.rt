@@ -2,17 +2,23 @@
 #![tactic(auto)]
 
 mod files;
+mod folder;
+mod rules;
 mod serve;
 mod stop;
 #[cfg(test)]
 mod tests;
+mod texts;
 mod words;
 
+use folder::Host;
 use mm_text::Counted;
 use std::process::ExitCode;
+use texts::TEXTS;
 
 fn main(rt: HostRuntime) -> ExitCode {
     let mut out = Counted::new(rt.stdout());
     let mut err = Counted::new(rt.stderr());
-    ExitCode::from(serve::start(&rt, &mut out, &mut err))
+    let host = Host(&rt);
+    ExitCode::from(serve::start(rt.alloc(), &host, &host, &TEXTS, &mut out, &mut err))
 }

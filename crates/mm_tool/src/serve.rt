@@ -1,26 +1,28 @@
 //! The program over its words and devices.
 
-ghost use Rattle.std.specs.Prelude.{◌≡◌, ◌≢◌, ◌+◌, ◌<◌, ◌≤◌, ◌⊎◌, map, IfOk, IfErr, OnOk, OnErr};
-ghost use Rattle.std.specs.Io.KnownBytes.{Appends};
+ghost use Rattle.std.specs.Prelude.{◌≡◌, ◌≢◌, ◌+◌, ◌<◌, ◌≤◌, ◌++◌, ◌⊎◌, map, codes, string_bytes, Contains, IfOk, IfErr, IfSome, IfNone, OnOk, OnErr};
+ghost use Rattle.std.specs.List.{AllByRecursion};
 ghost use Rattle.mm_text.specs.Device.{faults_of, inner_of};
 ghost use Rattle.mm_text.specs.Reading.{plain_file};
 ghost use Rattle.mm_check.specs.Status.{number_of};
-ghost use Rattle.mm_check.specs.declared.status.Status.TheVariants.{Done};
-ghost use Rattle.mm_tool.specs.Ending.{stop_status, line_of, Says, Leaves, RepliesOrIsTooLong, Replies, Ends};
+ghost use Rattle.mm_tool.specs.Ending.{BreaksOff, Ends, EndsUnread, IsAnswer, IsCheckReply, IsExplanation, IsUnknown, IsUnknownStop, Stops, StopsCheck, Takes, Tells, line_of, stop_status};
+ghost use Rattle.mm_tool.specs.Folder.{plain_read};
 ghost use Rattle.mm_tool.specs.declared.stop.Stop.TheVariants.{CannotWrite};
 
 use crate::files::{FileFault, ReadFile, read_files};
+use crate::folder::{Arguments, Folder};
 use crate::stop::Stop;
-use crate::words::{Request, WordFault, request_of};
+use crate::texts::{RuleText, Texts};
+use crate::words::{Request, request_of};
 use mm_check::{Command, Status, run};
 use mm_text::{BYTE_LIMIT, Counted, File};
-use std::alloc::{AllocError, AllocGlobal, Global};
-use std::env::Env;
+use std::alloc::{AllocError, Global};
 use std::io::Write;
-use std::rt::Files;
-use std::{env, io};
+use strsim::damerau_levenshtein;
 
 const TOO_LONG: &[u8] = b"load F3\n";
+
+const CANNOT_READ: &[u8] = b"mm: cannot read ";
 
 const CANNOT_WRITE: &[u8] = b"mm: cannot write\n";
 
@@ -28,7 +30,7 @@ const OUT_OF_MEMORY: &[u8] = b"mm: out of memory\n";
 
 const NOT_TEXT: &[u8] = b"mm: a word is not UTF-8\n";
 
-/// Writes a reply, and answers the status that goes with it.
+/// Writes an answer, and gives back the status that goes with it.
 fn reply<'a, O: Write>(
     out: &mut Counted<O>,
     text: &[u8],
@@ -36,11 +38,9 @@ fn reply<'a, O: Write>(
 ) -> Result<Status, Stop<'a>>
     requires { faults_of out.old < u64.MAX }
     ensures status { IfOk result (λ given. given ≡ status) }
-    ensures all { OnOk result (Appends (O.contents (inner_of out.old))
-        (O.contents (inner_of out.new)) text.now) }
+    ensures all { OnOk result (Takes O.contents text.now out.old out.new) }
     ensures stop { IfErr result (λ stop. stop ≡ CannotWrite) }
-    ensures counted { OnErr result (faults_of out.new ≡ faults_of out.old + 1) }
-    ensures uncounted { OnOk result (faults_of out.new ≡ faults_of out.old) }
+    ensures beginning { OnErr result (BreaksOff O.contents text.now out.old out.new) }
 {
     match out.write_all(text) {
         Ok(()) => Ok(status),
@@ -49,83 +49,155 @@ fn reply<'a, O: Write>(
 }
 
 /// The files as the verdict takes them.
-fn handed<'f>(alloc: Global, files: &'f [ReadFile<'_>]) -> Result<Vec<File<'f>>, AllocError>
-    ensures { IfOk result (λ handed. map (λ file. file.name.now) handed.items
-        ≡ map (λ file. file.name.now) files.now) }
+fn plain_files<'f>(alloc: Global, files: &'f [ReadFile<'_>]) -> Result<Vec<File<'f>>, AllocError>
+    ensures { IfOk result (λ plain. map plain_file plain.items ≡ map plain_read files.now) }
 {
-    let mut handed = Vec::new(alloc);
+    let mut plain = Vec::new(alloc);
     for file in files {
-        handed.push(File {
+        plain.push(File {
             name: file.name.as_bytes(),
             bytes: &file.bytes,
         })?;
     }
-    Ok(handed)
+    Ok(plain)
 }
 
 /// Checks the database in the files with these names, which may hold at most `max` bytes in all,
 /// and writes the reply.
-pub(crate) fn check<'a, R: Files + AllocGlobal, O: Write>(
-    rt: &R,
+pub(crate) fn check<'a, F: Folder, O: Write>(
+    alloc: Global,
+    folder: &F,
     names: &[&'a str],
     max: usize,
     out: &mut Counted<O>,
 ) -> Result<Status, Stop<'a>>
     requires { faults_of out.old < u64.MAX }
-    ensures replied { IfOk result (λ status. RepliesOrIsTooLong (map (λ name. name.now) names.now)
-        (number_of status) (O.contents (inner_of out.old)) (O.contents (inner_of out.new))) }
-    ensures left { IfErr result (λ stop. Leaves stop out.old out.new) }
-    ensures uncounted { OnOk result (faults_of out.new ≡ faults_of out.old) }
+    ensures replied { IfOk result (λ status. (text : _) × IsCheckReply (F.holds folder.now)
+        (map (λ name. name.now) names.now) max text (number_of status)
+        × Takes O.contents text out.old out.new) }
+    ensures stopped { IfErr result (λ stop. StopsCheck O.contents (F.holds folder.now)
+        (F.may_fail folder.now) (map (λ name. name.now) names.now) max stop out.old out.new) }
 {
-    let files = match read_files(rt, names, max) {
+    let files = match read_files(alloc, folder, names, max) {
         Ok(files) => files,
         Err(FileFault::CannotRead(name)) => return Err(Stop::CannotRead(name)),
         Err(FileFault::TooLong) => return reply(out, TOO_LONG, Status::Stopped),
         Err(FileFault::Memory) => return Err(Stop::Memory),
     };
-    let handed = handed(rt.alloc(), &files)?;
-    Ok(run(rt.alloc(), &Command::Check, &handed, out)?)
+    let files = plain_files(alloc, &files)?;
+    Ok(run(alloc, &Command::Check, &files, out)?)
 }
 
-/// Does what the words ask for, and answers the status that goes with the reply.
-fn answer<'a, R: Files + AllocGlobal, O: Write>(
-    rt: &R,
+/// The rule with this code.
+fn rule_with<'t>(rules: &[RuleText<'t>], code: &str) -> Option<RuleText<'t>>
+    ensures found { IfSome result (λ rule. Contains rules.now rule × (rule.code.now ≡ code.now)) }
+    ensures unknown { IfNone result
+        (AllByRecursion (λ rule. rule.code.now ≢ code.now) rules.now) }
+{
+    for rule in rules {
+        if rule.code == code {
+            return Some(*rule);
+        }
+    }
+    None
+}
+
+/// What is said of a code that no rule has.
+fn unknown_code(alloc: Global, rules: &[RuleText<'_>], code: &str) -> Result<String, AllocError> {
+    let mut nearest = "X1";
+    let mut least = usize::MAX;
+    for rule in rules {
+        let distance = damerau_levenshtein(alloc, rule.code, code)?;
+        if distance < least {
+            nearest = rule.code;
+            least = distance;
+        }
+    }
+    format!(in alloc;
+        "mm: no rule has the code {code}; the nearest is {nearest}\n`mm explain` lists all codes\n"
+    )
+}
+
+/// The text of the rule with the asked code; where none is asked for, the list of the codes.
+fn explanation<'t, 'a>(
+    alloc: Global,
+    texts: &Texts<'t>,
+    asked: &[&str],
+) -> Result<&'t str, Stop<'a>>
+    ensures text { IfOk result (λ text. IsExplanation texts.now (map (λ code. code.now) asked.now)
+        text.now) }
+    ensures unknown { IfErr result (IsUnknownStop texts.now (map (λ code. code.now) asked.now)) }
+{
+    let Some(code) = asked.first() else {
+        return Ok(texts.codes);
+    };
+    match rule_with(texts.rules, code) {
+        Some(rule) => Ok(rule.text),
+        None => Err(Stop::Usage(unknown_code(alloc, texts.rules, code)?)),
+    }
+}
+
+/// Does what the words ask for, and gives back the status that goes with the answer.
+fn answer<'a, F: Folder, O: Write>(
+    alloc: Global,
+    folder: &F,
+    texts: &Texts<'_>,
     words: &'a [&'a str],
     out: &mut Counted<O>,
 ) -> Result<Status, Stop<'a>>
     requires { faults_of out.old < u64.MAX }
-    ensures ended { IfOk result (λ status. Ends (map (λ word. word.now) words.entry.now) status (O.contents (inner_of out.old))
-        (O.contents (inner_of out.new))) }
-    ensures left { IfErr result (λ stop. Leaves stop out.old out.new) }
-    ensures uncounted { OnOk result (faults_of out.new ≡ faults_of out.old) }
+    ensures answered { IfOk result (λ status. (text : _) × IsAnswer (F.holds folder.now) texts.now
+        BYTE_LIMIT (map (λ word. word.now) words.entry.now) text (number_of status)
+        × Takes O.contents text out.old out.new) }
+    ensures stopped { IfErr result (λ stop. Stops O.contents (F.holds folder.now)
+        (F.may_fail folder.now) texts.now BYTE_LIMIT (map (λ word. word.now) words.entry.now)
+        stop out.old out.new) }
 {
-    match request_of(rt.alloc(), words) {
-        Ok(Request::Help(text)) => reply(out, text.as_bytes(), Status::Done),
-        Ok(Request::Check(names)) => check(rt, &names, BYTE_LIMIT, out),
-        Err(WordFault::Usage(text)) => Err(Stop::Usage(text)),
-        Err(WordFault::Memory) => Err(Stop::Memory),
+    match request_of(alloc, words)? {
+        Request::Help => reply(out, texts.help.as_bytes(), Status::Done),
+        Request::Version => reply(out, texts.version.as_bytes(), Status::Done),
+        Request::Explain(asked) => {
+            let text = explanation(alloc, texts, &asked)?;
+            reply(out, text.as_bytes(), Status::Done)
+        }
+        Request::Check(names) => check(alloc, folder, &names, BYTE_LIMIT, out),
     }
 }
 
 /// Writes a line to standard error. What becomes of it changes nothing.
 fn say<E: Write>(err: &mut Counted<E>, line: &[u8])
     requires { faults_of err.old < u64.MAX }
-    ensures said { faults_of err.new ≡ faults_of err.old → Appends (E.contents (inner_of err.old))
-        (E.contents (inner_of err.new)) line.now }
-    ensures least { faults_of err.old ≤ faults_of err.new }
-    ensures most { faults_of err.new ≤ faults_of err.old + 1 }
+    ensures { Tells E.contents line.now err.old err.new }
 {
     let _ = err.write_all(line);
 }
 
-/// Says on standard error why there is no reply, and answers the status that goes with that.
-fn tell<E: Write>(alloc: Global, stop: &Stop<'_>, err: &mut Counted<E>) -> Status
+/// Writes a line in two parts, the second only where the first was written.
+fn say_both<E: Write>(err: &mut Counted<E>, first: &[u8], second: &[u8])
+    requires { faults_of err.old < u64.MAX }
+    ensures { Tells E.contents (first.now ++ second.now) err.old err.new }
+{
+    if err.write_all(first).is_ok() {
+        say(err, second);
+    }
+}
+
+/// Writes a line in three parts, each only where those before it were written.
+fn say_all<E: Write>(err: &mut Counted<E>, first: &[u8], second: &[u8], third: &[u8])
+    requires { faults_of err.old < u64.MAX }
+    ensures { Tells E.contents (first.now ++ (second.now ++ third.now)) err.old err.new }
+{
+    if err.write_all(first).is_ok() {
+        say_both(err, second, third);
+    }
+}
+
+/// Says on standard error why there is no answer, and gives back the status that goes with that.
+/// It takes no memory.
+fn tell<E: Write>(stop: &Stop<'_>, err: &mut Counted<E>) -> Status
     requires { faults_of err.old < u64.MAX }
     ensures status { result ≡ stop_status stop.now }
-    ensures said { faults_of err.new ≡ faults_of err.old → Says (line_of stop.now)
-        (E.contents (inner_of err.old)) (E.contents (inner_of err.new)) }
-    ensures least { faults_of err.old ≤ faults_of err.new }
-    ensures most { faults_of err.new ≤ faults_of err.old + 1 }
+    ensures told { Tells E.contents (line_of stop.now) err.old err.new }
 {
     match stop {
         Stop::Usage(text) => {
@@ -137,10 +209,7 @@ fn tell<E: Write>(alloc: Global, stop: &Stop<'_>, err: &mut Counted<E>) -> Statu
             Status::Usage
         }
         Stop::CannotRead(name) => {
-            match format!(in alloc; "mm: cannot read {name}\n") {
-                Ok(line) => say(err, line.as_bytes()),
-                Err(_) => say(err, OUT_OF_MEMORY),
-            }
+            say_all(err, CANNOT_READ, name.as_bytes(), b"\n");
             Status::Stopped
         }
         Stop::CannotWrite => {
@@ -154,11 +223,11 @@ fn tell<E: Write>(alloc: Global, stop: &Stop<'_>, err: &mut Counted<E>) -> Statu
     }
 }
 
-/// Runs the program: reads the words (the program's name first) and the files that they name,
-/// writes the reply to standard output, or why there is none to standard error, and answers the
-/// status with which the program ends:
+/// Runs the program over these words, the program's name first: reads the files that they name in
+/// the folder, writes the answer to standard output, or why there is none to standard error, and
+/// gives back the status with which the program ends:
 ///
-/// - 0: the reply is yes, or help was asked for;
+/// - 0: the reply is yes, or help, the version or an explanation was asked for;
 /// - 1: the reply is no;
 /// - 2: the words aren't understood;
 /// - 3: a proof is incomplete;
@@ -166,8 +235,10 @@ fn tell<E: Write>(alloc: Global, stop: &Stop<'_>, err: &mut Counted<E>) -> Statu
 ///
 /// It stops writing to either device at that one's first failed call. A failing standard error
 /// changes no status.
-pub fn serve<R: Files + AllocGlobal, O: Write, E: Write>(
-    rt: &R,
+pub(crate) fn serve<F: Folder, O: Write, E: Write>(
+    alloc: Global,
+    folder: &F,
+    texts: &Texts<'_>,
     words: &[&str],
     out: &mut Counted<O>,
     err: &mut Counted<E>,
@@ -175,41 +246,20 @@ pub fn serve<R: Files + AllocGlobal, O: Write, E: Write>(
     requires out_faults { faults_of out.old < u64.MAX }
     requires err_faults { faults_of err.old < u64.MAX }
     ensures status { result ≤ 4 }
-
-    // What each status says of standard output: 0 that the reply is yes, or that help was asked for
-    // and printed; 1 and 3 that the reply is no, or that proofs are incomplete; 2 that nothing was
-    // written.
-    ensures done { result ≡ 0 → Ends (map (λ word. word.now) words.entry.now) Done
-        (O.contents (inner_of out.old)) (O.contents (inner_of out.new)) }
-    ensures refused { result ≡ 1 → Replies (map (λ word. word.now) words.entry.now) 1
-        (O.contents (inner_of out.old)) (O.contents (inner_of out.new)) }
-    ensures usage { result ≡ 2 → inner_of out.new ≡ inner_of out.old }
-    ensures incomplete { result ≡ 3 → Replies (map (λ word. word.now) words.entry.now) 3
-        (O.contents (inner_of out.old)) (O.contents (inner_of out.new)) }
-
-    // Standard error stays as it is, unless the words are not understood or something stood in the way.
-    ensures quiet { result ≢ 2 → result ≢ 4 → inner_of err.new ≡ inner_of err.old }
-
-    // A failing device is counted once, and a failing standard output ends with 4.
-    ensures written { result < 4 → faults_of out.new ≡ faults_of out.old }
-    ensures out_least { faults_of out.old ≤ faults_of out.new }
-    ensures out_most { faults_of out.new ≤ faults_of out.old + 1 }
-    ensures err_least { faults_of err.old ≤ faults_of err.new }
-    ensures err_most { faults_of err.new ≤ faults_of err.old + 1 }
+    ensures ends { Ends O.contents E.contents (F.holds folder.now) (F.may_fail folder.now) texts.now
+        BYTE_LIMIT (map (λ word. word.now) words.entry.now) result out.old out.new err.old err.new }
 {
-    match answer(rt, words, out) {
+    match answer(alloc, folder, texts, words, out) {
         Ok(status) => status.number(),
-        Err(stop) => tell(rt.alloc(), &stop, err).number(),
+        Err(stop) => tell(&stop, err).number(),
     }
 }
 
-/// The words with which the program was started.
-fn words_of<R: Env + AllocGlobal>(rt: &R) -> io::Result<Vec<String>> {
-    Ok(env::args(rt)?.collect(rt.alloc())?)
-}
-
 /// The texts of the words.
-fn texts_of(alloc: Global, words: &[String]) -> Result<Vec<&str>, AllocError> {
+fn texts_of(alloc: Global, words: &[String]) -> Result<Vec<&str>, AllocError>
+    ensures { IfOk result (λ texts.
+        map (λ text. text.now) texts.items ≡ map string_bytes words.now) }
+{
     let mut texts = Vec::new(alloc);
     for word in words {
         texts.push(word.as_str())?;
@@ -217,25 +267,29 @@ fn texts_of(alloc: Global, words: &[String]) -> Result<Vec<&str>, AllocError> {
     Ok(texts)
 }
 
-/// Serves the words with which the program was started, which are UTF-8.
-pub(crate) fn start<R: Env + Files + AllocGlobal, O: Write, E: Write>(
-    rt: &R,
+/// Serves the words with which the program was started.
+pub(crate) fn start<A: Arguments, F: Folder, O: Write, E: Write>(
+    alloc: Global,
+    arguments: &A,
+    folder: &F,
+    texts: &Texts<'_>,
     out: &mut Counted<O>,
     err: &mut Counted<E>,
 ) -> u8
     requires out_faults { faults_of out.old < u64.MAX }
     requires err_faults { faults_of err.old < u64.MAX }
-    ensures { result ≤ 4 }
+    ensures status { result ≤ 4 }
+    ensures ends { ((words : _) × IfSome (A.words arguments.now) (λ all. words ≡ all)
+        × Ends O.contents E.contents (F.holds folder.now) (F.may_fail folder.now) texts.now
+        BYTE_LIMIT words result out.old out.new err.old err.new)
+        ⊎ EndsUnread E.contents (A.may_fail arguments.now) result out.old out.new err.old err.new }
 {
-    let words = match words_of(rt) {
+    let words = match arguments.words(alloc) {
         Ok(words) => words,
-        Err(error) if error.kind() == io::ErrorKind::OutOfMemory => {
-            return tell(rt.alloc(), &Stop::Memory, err).number();
-        }
-        Err(_) => return tell(rt.alloc(), &Stop::NotText, err).number(),
+        Err(fault) => return tell(&Stop::from(fault), err).number(),
     };
-    match texts_of(rt.alloc(), &words) {
-        Ok(texts) => serve(rt, &texts, out, err),
-        Err(_) => tell(rt.alloc(), &Stop::Memory, err).number(),
+    match texts_of(alloc, &words) {
+        Ok(words) => serve(alloc, folder, texts, &words, out, err),
+        Err(fault) => tell(&Stop::from(fault), err).number(),
     }
 }

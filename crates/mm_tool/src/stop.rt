@@ -1,13 +1,14 @@
-//! Why the program ends without a reply.
+//! Why the program ends without an answer.
 
 ghost use Rattle.std.specs.Prelude.{◌≡◌};
-ghost use Rattle.mm_tool.specs.Ending.{stop_of};
+ghost use Rattle.mm_tool.specs.Ending.{stop_of, unread_stop};
 ghost use Rattle.mm_tool.specs.declared.stop.Stop.TheVariants.{Memory};
 
+use crate::folder::ArgumentFault;
 use mm_check::RunFault;
 use std::alloc::AllocError;
 
-/// Why the program ends without a reply, which is told on standard error.
+/// Why the program ends without an answer, which is told on standard error.
 #[derive(Drop)]
 pub(crate) enum Stop<'a> {
     /// The words aren't understood; the text says which words are.
@@ -16,7 +17,7 @@ pub(crate) enum Stop<'a> {
     NotText,
     /// The file with this name can't be opened or read.
     CannotRead(&'a str),
-    /// Standard output didn't take the whole reply.
+    /// Standard output didn't take the whole answer.
     CannotWrite,
     /// A growth was refused.
     Memory,
@@ -37,6 +38,17 @@ impl<'a> From<RunFault> for Stop<'a> {
         match fault {
             RunFault::Device => Stop::CannotWrite,
             RunFault::Memory => Stop::Memory,
+        }
+    }
+}
+
+impl<'a> From<ArgumentFault> for Stop<'a> {
+    ghost from_gives = { λ fault e. e ≡ unread_stop fault };
+
+    fn from(fault: ArgumentFault) -> Stop<'a> {
+        match fault {
+            ArgumentFault::NotText => Stop::NotText,
+            ArgumentFault::Memory => Stop::Memory,
         }
     }
 }

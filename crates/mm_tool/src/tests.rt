@@ -3,7 +3,8 @@
 mod folder;
 
 use crate::serve::{check, serve};
-use folder::{Entry, Folder, Full};
+use crate::texts::TEXTS;
+use folder::{Entry, Full, Shelf};
 use mm_check::Status;
 use mm_text::Counted;
 use std::alloc::Global;
@@ -41,7 +42,7 @@ fn served(alloc: Global, words: &[&str]) -> (u8, Vec<u8>, Vec<u8>) {
     let entries = ENTRIES;
     let mut out = Counted::new(Vec::new(alloc));
     let mut err = Counted::new(Vec::new(alloc));
-    let status = serve(&(Folder(&entries), alloc), words, &mut out, &mut err);
+    let status = serve(alloc, &Shelf(&entries), &TEXTS, words, &mut out, &mut err);
     (status, out.into_inner(), err.into_inner())
 }
 
@@ -51,12 +52,16 @@ fn tells_the_usage(rt: HostRuntime) -> Result<(), Fail> {
     let unknown = ["mm", "prove", "first.mm"];
     let no_file = ["mm", "check"];
     let unknown_option = ["mm", "check", "--strict", "first.mm"];
+    let unknown_topic = ["mm", "help", "nonsense"];
+    let two_codes = ["mm", "explain", "P8", "P9"];
     for words in [
         [].as_slice(),
         no_command.as_slice(),
         unknown.as_slice(),
         no_file.as_slice(),
         unknown_option.as_slice(),
+        unknown_topic.as_slice(),
+        two_codes.as_slice(),
     ] {
         let (status, out, err) = served(rt.alloc(), words);
         assert_eq!(rt; status, 2, "at {words:?}");
@@ -69,26 +74,48 @@ fn tells_the_usage(rt: HostRuntime) -> Result<(), Fail> {
 }
 
 #[test]
-fn prints_help(rt: HostRuntime) -> Result<(), Fail> {
-    let (_, expected, _) = served(rt.alloc(), &["mm", "--help"]);
-    for word in ["--help", "-h", "help"] {
+fn prints_help_and_the_version(rt: HostRuntime) {
+    for words in [
+        ["mm", "--help"].as_slice(),
+        ["mm", "-h"].as_slice(),
+        ["mm", "help"].as_slice(),
+        ["mm", "check", "--help"].as_slice(),
+        ["mm", "explain", "-h"].as_slice(),
+    ] {
+        let (status, out, err) = served(rt.alloc(), words);
+        assert_eq!(rt; status, 0, "at {words:?}");
+        assert!(rt; err.is_empty(), "at {words:?}");
+        assert!(rt; out.as_slice() == TEXTS.help.as_bytes(), "at {words:?}");
+    }
+    for word in ["--version", "-V"] {
         let (status, out, err) = served(rt.alloc(), &["mm", word]);
         assert_eq!(rt; status, 0, "at {word}");
         assert!(rt; err.is_empty(), "at {word}");
-        assert!(rt; out.as_slice() == expected.as_slice(), "at {word}");
-        let text = String::from_utf8(out)?;
-        for part in ["Usage: mm", "check", "Statuses:"] {
-            assert!(rt; text.as_str().contains(part), "{part} at {word}: {text}");
-        }
+        assert!(rt; out.as_slice() == TEXTS.version.as_bytes(), "at {word}");
     }
-    for words in [["mm", "check", "--help"], ["mm", "help", "check"]] {
-        let (status, out, _) = served(rt.alloc(), words.as_slice());
-        assert_eq!(rt; status, 0);
-        let text = String::from_utf8(out)?;
-        for part in ["Usage: mm check <FILES>...", "Replies", "load F3"] {
-            assert!(rt; text.as_str().contains(part), "{part}: {text}");
-        }
+}
+
+#[test]
+fn explains_each_rule(rt: HostRuntime) -> Result<(), Fail> {
+    for rule in TEXTS.rules {
+        let (status, out, err) = served(rt.alloc(), &["mm", "explain", rule.code]);
+        assert_eq!(rt; status, 0, "at {}", rule.code);
+        assert!(rt; err.is_empty(), "at {}", rule.code);
+        assert!(rt; out.as_slice() == rule.text.as_bytes(), "at {}", rule.code);
     }
+    let (status, out, _) = served(rt.alloc(), &["mm", "explain"]);
+    assert_eq!(rt; status, 0);
+    assert!(rt; out.as_slice() == TEXTS.codes.as_bytes());
+
+    let (status, out, err) = served(rt.alloc(), &["mm", "explain", "P88"]);
+    assert_eq!(rt; status, 2);
+    assert!(rt; out.is_empty());
+    let text = String::from_utf8(err)?;
+    assert!(rt;
+        text.as_str()
+            .starts_with("mm: no rule has the code P88; the nearest is P8\n"),
+        "{text}"
+    );
     Ok(())
 }
 
@@ -134,15 +161,15 @@ fn replies(rt: HostRuntime) {
 #[test]
 fn refuses_files_that_are_too_long(rt: HostRuntime) {
     let entries = ENTRIES;
-    let folder = (Folder(&entries), rt.alloc());
+    let folder = Shelf(&entries);
     let names = ["four.mm", "four.mm", "none.mm"];
     let mut out = Counted::new(Vec::new(rt.alloc()));
-    let answer = check(&folder, &names, 7, &mut out);
+    let answer = check(rt.alloc(), &folder, &names, 7, &mut out);
     assert_eq!(rt; answer.ok(), Some(Status::Stopped));
     assert!(rt; out.into_inner().as_slice() == b"load F3\n".as_slice());
 
     let mut out = Counted::new(Vec::new(rt.alloc()));
-    let answer = check(&folder, &names, 8, &mut out);
+    let answer = check(rt.alloc(), &folder, &names, 8, &mut out);
     assert!(rt; answer.is_err());
     assert!(rt; out.into_inner().is_empty());
 }
@@ -150,13 +177,13 @@ fn refuses_files_that_are_too_long(rt: HostRuntime) {
 #[test]
 fn fails_with_standard_output(rt: HostRuntime) {
     let entries = ENTRIES;
-    let folder = (Folder(&entries), rt.alloc());
+    let folder = Shelf(&entries);
     let help = ["mm", "--help"];
     let first = ["mm", "check", "first.mm"];
     for words in [help.as_slice(), first.as_slice()] {
         let mut out = Counted::new(Full);
         let mut err = Counted::new(Vec::new(rt.alloc()));
-        let status = serve(&folder, words, &mut out, &mut err);
+        let status = serve(rt.alloc(), &folder, &TEXTS, words, &mut out, &mut err);
         assert_eq!(rt; status, 4, "at {words:?}");
         assert_eq!(rt; out.faults(), 1, "at {words:?}");
         assert!(rt;
@@ -165,19 +192,19 @@ fn fails_with_standard_output(rt: HostRuntime) {
         );
     }
     let mut out = Counted::new(Full);
-    assert!(rt; check(&folder, &["four.mm"], 3, &mut out).is_err());
+    assert!(rt; check(rt.alloc(), &folder, &["four.mm"], 3, &mut out).is_err());
 }
 
 #[test]
 fn ends_the_same_where_standard_error_fails(rt: HostRuntime) {
     let entries = ENTRIES;
-    let folder = (Folder(&entries), rt.alloc());
+    let folder = Shelf(&entries);
     let no_file = ["mm", "check"];
     let unreadable = ["mm", "check", "none.mm"];
     for (words, wanted) in [(no_file.as_slice(), 2), (unreadable.as_slice(), 4)] {
         let mut out = Counted::new(Vec::new(rt.alloc()));
         let mut err = Counted::new(Full);
-        let status = serve(&folder, words, &mut out, &mut err);
+        let status = serve(rt.alloc(), &folder, &TEXTS, words, &mut out, &mut err);
         assert_eq!(rt; status, wanted, "at {words:?}");
         assert_eq!(rt; err.faults(), 1, "at {words:?}");
         assert!(rt; out.into_inner().is_empty(), "at {words:?}");

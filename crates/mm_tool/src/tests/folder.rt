@@ -1,10 +1,12 @@
 //! A folder in memory, and devices that fail.
 
-use std::alloc::Allocator;
-use std::fs::{Metadata, OpenFile, OpenOptions};
+ghost use Rattle.std.specs.Prelude.{◌≡◌, ⊤, List, ℕ, Some, MatchOption, IfSome, find, option_map, true};
+ghost use Rattle.std.specs.Str.{bytes_eq};
+
+use crate::folder::Folder;
+use mm_text::Source;
 use std::io;
-use std::io::{ErrorKind, Read, Seek, SeekFrom, Write};
-use std::rt::Files;
+use std::io::{ErrorKind, Read, Write};
 
 /// A file of the folder.
 #[derive(Clone, Copy)]
@@ -15,9 +17,9 @@ pub(crate) struct Entry {
     pub(crate) breaks: bool,
 }
 
-/// Files that lie in memory. Nothing but reading them is supported.
+/// Files that lie in memory.
 #[derive(Clone, Copy)]
-pub(crate) struct Folder<'a>(pub(crate) &'a [Entry]);
+pub(crate) struct Shelf<'a>(pub(crate) &'a [Entry]);
 
 /// What is left of an open file.
 #[derive(Drop)]
@@ -26,103 +28,48 @@ pub(crate) struct OpenEntry {
     breaks: bool,
 }
 
-/// The one answer of what isn't supported.
-fn refused<T>() -> io::Result<T> {
-    Err(io::Error::from(ErrorKind::Unsupported))
-}
+impl Source for OpenEntry {
+    ghost left = { λ file. Some file.left.now };
 
-impl Read for OpenEntry {
-    fn read(&mut self, buf: &mut [u8]) -> io::Result<usize> {
+    ghost may_fail = { λ file. file.breaks ≡ true };
+
+    fn give(&mut self, piece: &mut [u8]) -> io::Result<usize> {
         if self.breaks && self.left.is_empty() {
             return Err(io::Error::from(ErrorKind::Other));
         }
-        self.left.read(buf)
+        self.left.read(piece)
     }
 }
 
-impl Write for OpenEntry {
-    fn write(&mut self, _buf: &[u8]) -> io::Result<usize> {
-        Err(io::Error::from(ErrorKind::Unsupported))
+/// The first of the entries with this name.
+fn entry_with(entries: &[Entry], name: &str) -> Option<Entry>
+    ensures { result ≡ find (λ entry. bytes_eq entry.name.now name.now) entries.now }
+{
+    for entry in entries {
+        if entry.name == name {
+            return Some(*entry);
+        }
     }
-
-    fn flush(&mut self) -> io::Result<()> {
-        refused()
-    }
+    None
 }
 
-impl Seek for OpenEntry {
-    fn seek(&mut self, _to: SeekFrom) -> io::Result<u64> {
-        refused()
-    }
-}
-
-impl OpenFile for OpenEntry {
-    fn metadata(&self) -> io::Result<Metadata> {
-        refused()
-    }
-
-    fn set_len(&self, _size: u64) -> io::Result<()> {
-        refused()
-    }
-
-    fn sync_all(&self) -> io::Result<()> {
-        refused()
-    }
-
-    fn sync_data(&self) -> io::Result<()> {
-        refused()
-    }
-}
-
-impl Files for Folder<'_> {
+impl Folder for Shelf<'_> {
     type File = OpenEntry;
 
-    type Dir = OpenEntry;
+    ghost holds = { λ shelf name. option_map (λ entry. entry.bytes.now)
+        (find (λ entry. bytes_eq entry.name.now name) shelf.0.now) };
 
-    fn open_file(&self, _how: &OpenOptions, path: &str) -> io::Result<OpenEntry> {
-        match self.0.iter().find(|entry| entry.name == path) {
+    ghost may_fail = { λ shelf name. MatchOption
+        (find (λ entry. bytes_eq entry.name.now name) shelf.0.now) ⊤ (λ entry. entry.breaks ≡ true) };
+
+    fn open(&self, name: &str) -> io::Result<OpenEntry> {
+        match entry_with(self.0, name) {
             Some(entry) => Ok(OpenEntry {
                 left: entry.bytes,
                 breaks: entry.breaks,
             }),
             None => Err(io::Error::from(ErrorKind::NotFound)),
         }
-    }
-
-    fn open_dir(&self, _path: &str) -> io::Result<OpenEntry> {
-        refused()
-    }
-
-    fn metadata(&self, _path: &str) -> io::Result<Metadata> {
-        refused()
-    }
-
-    fn symlink_metadata(&self, _path: &str) -> io::Result<Metadata> {
-        refused()
-    }
-
-    fn copy(&self, _from: &str, _to: &str) -> io::Result<u64> {
-        refused()
-    }
-
-    fn rename(&self, _from: &str, _to: &str) -> io::Result<()> {
-        refused()
-    }
-
-    fn remove_file(&self, _path: &str) -> io::Result<()> {
-        refused()
-    }
-
-    fn create_dir(&self, _path: &str) -> io::Result<()> {
-        refused()
-    }
-
-    fn remove_dir(&self, _path: &str) -> io::Result<()> {
-        refused()
-    }
-
-    fn remove_dir_all<B: Allocator>(&self, _alloc: B, _path: &str) -> io::Result<()> {
-        refused()
     }
 }
 

@@ -1,5 +1,6 @@
 use Rattle.mm_code.proofs.OneLayout.{one_text_of_tokens, one_text_of_compressed}
+use Rattle.mm_code.proofs.SomeLayout.{some_compressed_layout, some_layout}
 use Rattle.mm_code.proofs.laws.one_layout.Goals as goal
 
 pub returns : goal.returns
-returns c = record { normal = one_text_of_tokens; compressed = one_text_of_compressed }
+returns c = record { some = some_layout; some_compressed = some_compressed_layout; normal = one_text_of_tokens; compressed = one_text_of_compressed }

@@ -13,5 +13,5 @@ returns-clause-laid_out c =
     let listed = closed begun added ended (41 ∷ []) c.in_ok-opened.opened c.in_ok-listed.listed c.in_ok-add_token.field-0 labels c.in_ok-listed.ensures.added c.in_ok-add_token.ensures.added in
     compressed_laid_out labels c.args.letters.now c.push.new.self.items c.add_letters.new.text.items
     (tokens_laid_out c.in_ok-text.text.items begun ended c.push.new.self.items (40 ∷ []) c.in_ok-opened.opened c.in_ok-add_token.field-0 (labels ++ (41 ∷ []) ∷ [])
-    c.in_ok-text.ensures.items c.in_ok-opened.ensures.text c.in_ok-opened.ensures.room listed c.in_ok-push.ensures.items)
+    c.in_ok-text.ensures.empty c.in_ok-opened.ensures.text c.in_ok-opened.ensures.room listed c.in_ok-push.ensures.items)
     c.in_ok-add_letters.ensures.added

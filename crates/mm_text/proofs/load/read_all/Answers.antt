@@ -7,7 +7,7 @@ use Rattle.mm_text.proofs.load.read_all.Goals as goal
 
 pub returns-then-count-max-clause-over : goal.returns-then-count-max-clause-over
 returns-then-count-max-clause-over g c = λ answered.
-    let (within, before, kept) = c.loop-bytes.invariant in
+    let (within, before, kept, later) = c.loop-bytes.invariant in
     let piece = take c.in-Ok.count c.read.new.buf in
     let fits : c.in-Ok.count ≤ length c.read.new.buf = search rules in
     let long : length piece ≡ c.in-Ok.count = length-take-le c.in-Ok.count c.read.new.buf fits in

@@ -6,8 +6,9 @@ use Rattle.mm_text.proofs.load.read_all.Given as goal
 
 abbrev pub invariant-loop-bytes : goal.invariant-loop-bytes
 invariant-loop-bytes g l = (vec_len l.bytes ≤ l.max)
-    × Consumes (g.R.Read.remaining (inner_of l.initial.reader)) (g.R.Read.remaining (inner_of l.reader)) l.bytes.items
+    × Consumes (g.S.Source.left (inner_of l.initial.reader)) (g.S.Source.left (inner_of l.reader)) l.bytes.items
     × (faults_of l.reader ≡ faults_of l.initial.reader)
+    × (g.S.Source.may_fail (inner_of l.reader) → g.S.Source.may_fail (inner_of l.initial.reader))
 
 -- each piece brings a byte at least
 abbrev pub decreases-loop-bytes : goal.decreases-loop-bytes

@@ -1,12 +1,35 @@
--- The reply over the files that the words name is the end that they ask for.
-use Rattle.std.proofs.Common.{ℕ, List, map, subst, sym, Bor}
-use Rattle.mm_tool.specs.Words.{AsksCheck}
-use Rattle.mm_tool.proofs.Endings.{ends_where_ok}
+-- The words are answered by the request that they make.
+use Rattle.std.proofs.Common.{ℕ, List, Bor, map, inl, inr, refl, subst, sym}
+use Rattle.mm_tool.specs.Ending.{IsExplanation}
+use Rattle.mm_tool.specs.Words.{Asks, AsksCheck, AsksExplain}
+use Rattle.mm_tool.proofs.Answering.{answers_check, stops_answer, stops_check}
 use Rattle.mm_tool.proofs.serve.answer.Goals as goal
 
-pub returns-in-Ok-Check-clause-ended : goal.returns-in-Ok-Check-clause-ended
-returns-in-Ok-Check-clause-ended g c =
+pub returns-in_ok-text-in-Explain-clause-stopped : goal.returns-in_ok-text-in-Explain-clause-stopped
+returns-in_ok-text-in-Explain-clause-stopped g c =
+    let words : List (List ℕ) = map (λ word. word.now) c.args.words.now in
+    let Named : List (Bor (List ℕ)) → Type 0 = λ codes. AsksExplain words (map (λ code. code.now) codes) in
+    let asked : Named c.in-Explain.asked.items = subst (Asks words) c.in-Explain.is c.in_ok-request_of.ensures.request in
+    let here : Named c.deref.result.now = subst Named (sym c.deref.ensures.value) asked in
+    let Explains : List ℕ → Type 0 = λ text. IsExplanation c.args.texts.now (map (λ code. code.now) c.deref.result.now) text in
+    let explains : Explains c.as_bytes-in-Explain.result.now =
+    subst Explains (sym c.as_bytes-in-Explain.ensures.value) c.in_ok-text-in-Explain.ensures.text in
+    stops_answer g.O.Write.contents (g.F.Folder.holds c.args.folder.now) (g.F.Folder.may_fail c.args.folder.now) c.args.texts.now _ words
+    c.reply-in-Explain.result c.as_bytes-in-Explain.result.now 0 _ _ c.reply-in-Explain.ensures.stop c.reply-in-Explain.ensures.beginning
+    (inr (inr (inl (_, here, explains, refl))))
+
+pub returns-in-Check-clause-answered : goal.returns-in-Check-clause-answered
+returns-in-Check-clause-answered g c =
     let words : List (List ℕ) = map (λ word. word.now) c.args.words.now in
     let Named : List (Bor (List ℕ)) → Type 0 = λ names. AsksCheck words (map (λ name. name.now) names) in
-    let asked : Named c.in-Ok-Check.names.items = rw c.in-Ok-Check.field-0-is at c.in-Ok-Check.ensures in
-    ends_where_ok _ words _ _ _ (subst Named (sym c.deref.ensures.value) asked) c.check.ensures.replied
+    let asked : Named c.in-Check.names.items = subst (Asks words) c.in-Check.is c.in_ok-request_of.ensures.request in
+    answers_check g.O.Write.contents (g.F.Folder.holds c.args.folder.now) c.args.texts.now _ words _ c.check.result _ _
+    (subst Named (sym c.deref-in-Check.ensures.value) asked) c.check.ensures.replied
+
+pub returns-in-Check-clause-stopped : goal.returns-in-Check-clause-stopped
+returns-in-Check-clause-stopped g c =
+    let words : List (List ℕ) = map (λ word. word.now) c.args.words.now in
+    let Named : List (Bor (List ℕ)) → Type 0 = λ names. AsksCheck words (map (λ name. name.now) names) in
+    let asked : Named c.in-Check.names.items = subst (Asks words) c.in-Check.is c.in_ok-request_of.ensures.request in
+    stops_check g.O.Write.contents (g.F.Folder.holds c.args.folder.now) (g.F.Folder.may_fail c.args.folder.now) c.args.texts.now _ words _
+    c.check.result _ _ (subst Named (sym c.deref-in-Check.ensures.value) asked) c.check.ensures.stopped

@@ -1,17 +1,23 @@
--- The reply of `run` is over the files that were read, which have the names.
-use Rattle.std.proofs.Common.{List, map, ap, ◌∙◌, subst}
+-- What `read_files`, `reply` and `run` say of their failing is what is said of the check.
+use Rattle.std.proofs.Common.{map, ap, ◌∙◌, subst}
 use Rattle.mm_text.specs.Reading.{plain_file}
-use Rattle.mm_text.specs.Device.{inner_of}
-use Rattle.mm_text.specs.declared.file.File.{File}
-use Rattle.mm_check.specs.Reply.{Writes}
-use Rattle.mm_check.specs.Status.{number_of}
-use Rattle.mm_tool.proofs.Endings.{replied}
+use Rattle.mm_tool.specs.Folder.{IsFileFault, plain_read}
+use Rattle.mm_tool.specs.declared.files.FileFault.{FileFault}
+use Rattle.mm_tool.proofs.Checks.{stops_at_run, stops_too_long}
 use Rattle.mm_tool.proofs.serve.check.Goals as goal
 
-pub returns-clause-replied : goal.returns-clause-replied
-returns-clause-replied g c =
-    let Written : List File → Type 0 = λ files. Writes (map plain_file files) (number_of c.in_ok-run.field-0)
-    (g.O.Write.contents (inner_of c.args.out.now)) (g.O.Write.contents (inner_of c.run.new.out)) in
-    replied c.in_ok-handed.handed.items _ _ _ _
-    (c.in_ok-handed.ensures ∙ ap (λ files. map (λ file. file.name.now) files) c.deref.ensures.value ∙ c.in-Ok.ensures.names)
-    (subst Written c.deref-2.ensures.value c.in_ok-run.ensures.reply)
+pub returns-in-Err-TooLong-clause-stopped : goal.returns-in-Err-TooLong-clause-stopped
+returns-in-Err-TooLong-clause-stopped g c =
+    let Fault : FileFault → Type 0 = λ fault. IsFileFault (g.F.Folder.holds c.args.folder.now) (g.F.Folder.may_fail c.args.folder.now)
+    (map (λ n. n.now) c.args.names.now) c.args.max fault in
+    stops_too_long g.O.Write.contents (g.F.Folder.holds c.args.folder.now) (g.F.Folder.may_fail c.args.folder.now) _ c.args.max c.reply.result
+    _ _ c.reply.ensures.stop c.reply.ensures.beginning (subst Fault c.in-Err-TooLong.field-0-is c.in-Err-TooLong.ensures.fault)
+
+pub returns-in_err-run-clause-stopped : goal.returns-in_err-run-clause-stopped
+returns-in_err-run-clause-stopped g c =
+    stops_at_run g.O.Write.contents (g.F.Folder.holds c.args.folder.now) (g.F.Folder.may_fail c.args.folder.now) _ c.args.max
+    c.from_residual-in_err-run.result c.in_err-run.field-0.0 (map plain_file c.deref-2.result.now) (map plain_read c.in-Ok.files.items) _ _
+    c.from_residual-in_err-run.ensures.1
+    (ap (map plain_file) c.deref-2.ensures.value ∙ c.in_ok-files.ensures ∙ ap (map plain_read) c.deref.ensures.value)
+    c.in-Ok.ensures.held c.in-Ok.ensures.within
+    c.in_err-run.ensures.device c.in_err-run.ensures.memory c.in_err-run.ensures.counted.0 c.in_err-run.ensures.uncounted

@@ -1,0 +1,58 @@
+-- From the reading of one file to that of all.
+use Rattle.std.proofs.Common.{◌≡◌, ℕ, suc, ◌+◌, ◌<◌, List, ◌∷◌, ◌++◌, length, map, take, drop, get_or, Option, Some, None, Result, Ok, Err, IfErr, IfSome, IsErrOf, IsErrAnd, refl, sym, ap, ◌∙◌, subst, arith, Bor}
+use Rattle.std.proofs.Math.Seq.{drop-cons}
+use Rattle.std.proofs.lemmas.List.{map-append}
+use Rattle.std.proofs.Common.{take-append-drop}
+use Rattle.std.specs.List.{AllByRecursion}
+use Rattle.mm_text.specs.Reading.{PlainFile, total_bytes}
+use Rattle.mm_tool.specs.Folder.{ComesNext, IsFileFault, IsHeld}
+use Rattle.mm_tool.specs.declared.files.FileFault.{FileFault}
+use Rattle.mm_tool.specs.declared.files.FileFault.TheVariants.{CannotRead, TooLong, Memory}
+use Rattle.mm_tool.specs.declared.files.ReadFile.{ReadFile}
+
+abbrev words : List (Bor (List ℕ)) → List (List ℕ)
+words names = map (λ n. n.now) names
+
+-- An error that is handed on keeps what is known of it.
+pub handed_on : {T E : Type 0} (r : Result T E) (e : E) (P : E → Type 0) → IsErrAnd r (λ x. x ≡ e) → P e → IfErr r P
+handed_on (Ok v) e P h p = tt
+handed_on (Err x) e P h p = subst P (sym h) p
+
+-- the names are those before a place, the one there, and those after it
+pub words_at : (names : List (Bor (List ℕ))) (i : ℕ) (d : Bor (List ℕ)) → i < length names
+    → words names ≡ words (take i names) ++ (get_or names i d).now ∷ words (drop (suc i) names)
+words_at names i d h =
+    ap words (sym (take-append-drop i names) ∙ ap (λ l. take i names ++ l) (drop-cons names i d h))
+    ∙ map-append (λ (n : Bor (List ℕ)). n.now) (take i names) (get_or names i d ∷ drop (suc i) names)
+
+abbrev pub comes_next : (holds : List ℕ → Option (List ℕ)) (names : List (Bor (List ℕ))) (max i : ℕ) (d : Bor (List ℕ)) (before : List PlainFile) (left : ℕ)
+    → i < length names → map (λ f. f.name) before ≡ words (take i names) → AllByRecursion (IsHeld holds) before → total_bytes before + left ≡ max
+    → ComesNext holds (words names) max (get_or names i d).now
+comes_next holds names max i d before left h named held whole = record {
+  before = before;
+  after = words (drop (suc i) names);
+  whole = words_at names i d h ∙ ap (λ l. l ++ (get_or names i d).now ∷ words (drop (suc i) names)) (sym named);
+  held = held;
+  within = omega arith;
+}
+
+abbrev failed : FileFault → Result ReadFile FileFault
+failed f = Err f
+
+-- Where one file wasn't read, not all were.
+pub fault_at : (holds : List ℕ → Option (List ℕ)) (may_fail : List ℕ → Type 0) (names : List (Bor (List ℕ))) (max : ℕ) (name : Bor (List ℕ)) (left : ℕ)
+    (next : ComesNext holds (words names) max name.now) → total_bytes next.before + left ≡ max → (f : FileFault)
+    → ((word : Bor (List ℕ)) → failed f ≡ failed (CannotRead word) → word ≡ name)
+    → ((word : Bor (List ℕ)) → failed f ≡ failed (CannotRead word) → may_fail name.now)
+    → (IsErrOf (failed f) TooLong → IfSome (holds name.now) (λ all. left < length all))
+    → IsFileFault holds may_fail (words names) max f
+fault_at holds may_fail names max name left next whole (CannotRead word) named fails over =
+    let Unreadable : Bor (List ℕ) → Type 0 = λ w. ComesNext holds (words names) max w.now × may_fail w.now in
+    subst Unreadable (sym (named word refl)) (next, fails word refl)
+fault_at holds may_fail names max name left next whole TooLong named fails over =
+    (name.now, next, more (holds name.now) (over refl))
+  where
+    more : (o : Option (List ℕ)) → IfSome o (λ all. left < length all) → IfSome o (λ all. max < total_bytes next.before + length all)
+    more None h = tt
+    more (Some all) h = omega arith
+fault_at holds may_fail names max name left next whole Memory named fails over = tt

@@ -1,0 +1,98 @@
+//! What the program needs of its host: files by their names, and the words that it was started with.
+
+ghost use Rattle.std.specs.Prelude.{◌≡◌, ℕ, ⊤, List, Option, None, map, IfOk, IfSome, OnErr, IsErrOf, string_bytes};
+
+use mm_text::Source;
+use std::alloc::{AllocError, AllocGlobal, Global};
+use std::env::Env;
+use std::rt::Files;
+use std::{env, fs, io};
+
+/// Where files are opened by their names.
+pub(crate) trait Folder {
+    /// An open file.
+    type File: Source + Drop;
+
+    /// What the file with a name holds, where that is known.
+    ghost holds: { Self → List ℕ → Option (List ℕ) };
+
+    /// The file with a name can't be opened, or a read of it may fail.
+    ghost may_fail: { Self → List ℕ → Type 0 };
+
+    /// Opens the file with this name, to be read from its beginning.
+    ///
+    /// # Errors
+    ///
+    /// Only where the file may fail.
+    fn open(&self, name: &str) -> io::Result<Self::File>
+        ensures bytes { IfOk result (λ file. IfSome (holds self.now name.now)
+            (λ all. Self.File.left file ≡ Some all)) }
+        ensures later { IfOk result (λ file. Self.File.may_fail file → may_fail self.now name.now) }
+        ensures cause { OnErr result (may_fail self.now name.now) };
+}
+
+/// Why the words weren't read.
+#[derive(Clone, Copy, PartialEq, Eq, Debug)]
+pub(crate) enum ArgumentFault {
+    /// A word isn't UTF-8, or the host failed.
+    NotText,
+    /// A growth was refused.
+    Memory,
+}
+
+impl From<AllocError> for ArgumentFault {
+    fn from(_e: AllocError) -> ArgumentFault {
+        ArgumentFault::Memory
+    }
+}
+
+impl From<io::Error> for ArgumentFault {
+    fn from(error: io::Error) -> ArgumentFault {
+        match error.kind() {
+            io::ErrorKind::OutOfMemory => ArgumentFault::Memory,
+            _ => ArgumentFault::NotText,
+        }
+    }
+}
+
+/// What has the words that the program was started with.
+pub(crate) trait Arguments {
+    /// The words, where they are known.
+    ghost words: { Self → Option (List (List ℕ)) };
+
+    /// A word may not be UTF-8, or the host may fail.
+    ghost may_fail: { Self → Type 0 };
+
+    /// The words, the program's name first.
+    fn words(&self, alloc: Global) -> Result<Vec<String>, ArgumentFault>
+        ensures all { IfOk result (λ list. IfSome (words self.now)
+            (λ all. map string_bytes list.items ≡ all)) }
+        ensures cause { IsErrOf result ArgumentFault.NotText → may_fail self.now };
+}
+
+/// The host that the program runs on. Nothing is known of what its files hold, nor of its words, nor
+/// of when it fails.
+#[derive(Drop)]
+pub(crate) struct Host<'r, R>(pub(crate) &'r R);
+
+impl<R: Files> Folder for Host<'_, R> {
+    type File = R::File;
+
+    ghost holds = { λ _ _. None };
+
+    ghost may_fail = { λ _ _. ⊤ };
+
+    fn open(&self, name: &str) -> io::Result<R::File> {
+        fs::open(self.0, name)
+    }
+}
+
+impl<R: Env + AllocGlobal> Arguments for Host<'_, R> {
+    ghost words = { λ _. None };
+
+    ghost may_fail = { λ _. ⊤ };
+
+    fn words(&self, alloc: Global) -> Result<Vec<String>, ArgumentFault> {
+        Ok(env::args(self.0)?.collect(alloc)?)
+    }
+}

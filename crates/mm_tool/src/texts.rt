@@ -1,0 +1,73 @@
+//! The texts that the program prints as they stand.
+
+use crate::rules::{CODES, RULES};
+
+/// A rule, as `mm explain` tells it.
+#[derive(Clone, Copy)]
+pub(crate) struct RuleText<'t> {
+    pub(crate) code: &'t str,
+    /// The rule, where its place is, and a file that breaks it with the reply.
+    pub(crate) text: &'t str,
+}
+
+/// The texts, each of which ends with a line feed.
+#[derive(Clone, Copy)]
+pub(crate) struct Texts<'t> {
+    pub(crate) help: &'t str,
+    pub(crate) version: &'t str,
+    /// A line for each code.
+    pub(crate) codes: &'t str,
+    pub(crate) rules: &'t [RuleText<'t>],
+}
+
+const HELP: &str = "Verifies databases of the Metamath language.
+
+Usage: mm <COMMAND>
+
+Commands:
+  check FILES..    checks each statement and each proof of a database; the top file comes first,
+                   then the files that are included, each under the very name that stands in its
+                   `$[ NAME $]`
+  explain [CODE]   says what the rule with this code is; without a code, lists all codes
+  help             prints this help, as does --help
+
+Options:
+  -V, --version    prints the version, and the kit that the program is proved with
+
+Replies of check, on standard output:
+  yes N statements M proofs
+      Each statement obeys the rules of the language, and each proof derives what its statement
+      says. N counts all statements, `${` and `$}` too, and M the proofs. Status 0.
+  no FILE LINE LABEL RULE STEP
+      The first statement at fault: where it stands; its label, or - where it has none; the code of
+      the rule that it breaks, which `mm explain RULE` explains; and the step of its proof, from 1,
+      or 0 where no step is at fault. Status 1.
+  limit FILE LINE LABEL L1 STEP
+      A step of a proof made an expression of more than 1048576 symbols. Status 4.
+  load F2
+      Two of the files have the same name. Status 4.
+  load F3
+      The files hold more than 1073741824 bytes in all. Status 4.
+
+Statuses:
+  0  yes; or help, the version or an explanation was asked for
+  1  no: a statement is at fault
+  2  the words are not understood
+  4  a file, a device, a limit or memory stood in the way
+
+Where there is no reply, a line on standard error says why.
+
+Examples:
+  mm check set.mm
+  mm explain P8
+";
+
+const VERSION: &str = "mm 0.1.0, proved with rattle-kit-13b logic dac8208d650f15bf\n";
+
+/// The texts of the program.
+pub(crate) const TEXTS: Texts<'static> = Texts {
+    help: HELP,
+    version: VERSION,
+    codes: CODES,
+    rules: RULES,
+};

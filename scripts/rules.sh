@@ -1,0 +1,76 @@
+#!/bin/sh
+# Writes crates/mm_tool/src/rules.rt, the texts of `mm explain`, from docs/RULES.md: a rule that is built has a paragraph
+# there that begins with its code in bold, or a row in the table of the files. `scripts/rules.sh --check` compares the two.
+set -eu
+top=$(CDPATH='' cd -- "$(dirname -- "$0")/.." && pwd)
+source=$top/docs/RULES.md
+target=$top/crates/mm_tool/src/rules.rt
+
+made() {
+    awk '
+    function quoted(text) {
+        gsub(/\\/, "\\\\", text)
+        gsub(/"/, "\\\"", text)
+        return text
+    }
+    function finish() {
+        if (code != "") {
+            codes = codes summary(body) "\n"
+            rules = rules "    RuleText {\n        code: \"" code "\",\n        text: \"" quoted(body) "\",\n    },\n"
+        }
+        code = ""
+        body = ""
+    }
+    # the first sentence of a text
+    function summary(text) {
+        sub(/\n.*/, "", text)
+        sub(/\. .*/, ".", text)
+        return text
+    }
+    function place(code) {
+        if (code ~ /^[MPL]/) { return "Place: the statement'"'"'s first token.\n" }
+        return ""
+    }
+    /^## Planned/ || /^## Until/ { finish(); exit }
+    /^\| F[0-9] \|/ {
+        finish()
+        split($0, cells, / *\| */)
+        code = cells[2]
+        body = code ": " cells[3] ".\nIt has no place. Reply: " cells[4] "\n"
+        finish()
+        next
+    }
+    /^## / { finish(); next }
+    /^\*\*[A-Z][0-9]+\*\*: / {
+        finish()
+        code = $0
+        sub(/^\*\*/, "", code)
+        sub(/\*\*.*/, "", code)
+        text = $0
+        sub(/^\*\*[A-Z][0-9]+\*\*: /, "", text)
+        body = code ": " text "\n" place(code)
+        next
+    }
+    code == "" { next }
+    /^```mm$/ { body = body "\nThis file breaks it:\n"; fenced = 1; next }
+    /^```reply$/ { body = body "\nThe reply:\n"; fenced = 1; next }
+    /^```$/ { fenced = 0; next }
+    fenced { body = body "    " $0 "\n"; next }
+    /^$/ { finish() }
+    END {
+        finish()
+        printf "//! The rules, as `mm explain` tells them. Made by scripts/rules.sh from docs/RULES.md: edit that.\n\n"
+        printf "use crate::texts::RuleText;\n\n"
+        printf "/// A line for each code.\npub(crate) const CODES: &str =\n    \"%s\";\n\n", quoted(codes)
+        printf "pub(crate) const RULES: &[RuleText<'"'"'static>] = &[\n%s];\n", rules
+    }' "$source"
+}
+
+if [ "${1-}" = --check ]; then
+    if ! made | cmp -s - "$target"; then
+        echo "scripts/rules.sh: docs/RULES.md and $target differ; run scripts/rules.sh" >&2
+        exit 1
+    fi
+else
+    made >"$target"
+fi

@@ -1,0 +1,87 @@
+#!/bin/sh
+# Drives the built program, through the launcher: each status that it can end with, with the bytes of standard output and
+# of standard error. No contract reaches `main`, so this is what tests it.
+set -eu
+top=$(CDPATH='' cd -- "$(dirname -- "$0")/.." && pwd)
+folder=$(mktemp -d)
+trap 'rm -rf "$folder"' EXIT
+trap 'exit 1' HUP INT TERM
+cd "$folder"
+failures=0
+
+# The program is built first, so that no message of the launcher is among the bytes that are compared.
+"$top/mm" help >/dev/null
+
+# ends STATUS OUT ERR WORDS..: the program, run with these words, ends so. The two texts are written by printf's rules.
+ends() {
+    wanted=$1
+    printf "$2" >wanted.out
+    printf "$3" >wanted.err
+    shift 3
+    status=0
+    "$top/mm" "$@" >got.out 2>got.err || status=$?
+    if [ "$status" != "$wanted" ] || ! cmp -s got.out wanted.out || ! cmp -s got.err wanted.err; then
+        echo "statuses.sh: mm $*: status $status, wanted $wanted" >&2
+        diff wanted.out got.out >&2 || :
+        diff wanted.err got.err >&2 || :
+        failures=$((failures + 1))
+    fi
+}
+
+# begins STATUS OUT ERR WORDS..: likewise, of the first lines alone.
+begins() {
+    wanted=$1
+    out=$2
+    err=$3
+    shift 3
+    status=0
+    "$top/mm" "$@" >got.out 2>got.err || status=$?
+    if [ "$status" != "$wanted" ] || [ "$(sed q got.out)" != "$out" ] || [ "$(sed q got.err)" != "$err" ]; then
+        echo "statuses.sh: mm $*: status $status, wanted $wanted" >&2
+        cat got.out got.err >&2
+        failures=$((failures + 1))
+    fi
+}
+
+cp "$top/examples/first.mm" first.mm
+cp "$top/examples/first.mm" -- -first.mm
+printf '$c a $.\n$c a $.\n' >twice.mm
+printf '$c a $.\np $a a $.\nq $p a $= ? $.\n' >open.mm
+: >empty.mm
+
+ends 0 'yes 7 statements 1 proofs\n' '' check first.mm
+ends 0 'yes 7 statements 1 proofs\n' '' check -- -first.mm
+ends 0 'yes 0 statements 0 proofs\n' '' check empty.mm
+begins 0 'Verifies databases of the Metamath language.' '' help
+begins 0 'Verifies databases of the Metamath language.' '' --help
+begins 0 'M2: a symbol of a `$c` was declared before, as constant or variable, or stands twice in it.' '' explain M2
+if command -v rt >/dev/null 2>&1; then
+    begins 0 "mm 0.1.0, proved with $(rt version)" '' --version
+fi
+ends 1 'no twice.mm 2 - M2 0\n' '' check twice.mm
+begins 2 '' 'error: unexpected argument '"'--strict'"' found' check --strict first.mm
+begins 2 '' 'mm: no rule has the code M222; the nearest is M2' explain M222
+ends 2 '' 'mm: a word is not UTF-8\n' check "$(printf '\377')"
+if grep -q '^| 3 | incomplete |' "$top/docs/FORMATS.md"; then
+    ends 3 'incomplete 1\nq\n' '' check open.mm
+fi
+ends 4 'load F2\n' '' check first.mm first.mm
+ends 4 '' 'mm: cannot read none.mm\n' check none.mm
+ends 4 '' 'mm: cannot read .\n' check .
+ends 4 '' 'mm: cannot read none.mm\n' check first.mm none.mm other.mm
+
+if [ -w /dev/full ]; then
+    status=0
+    "$top/mm" check first.mm >/dev/full 2>got.err || status=$?
+    printf 'mm: cannot write\n' >wanted.err
+    if [ "$status" != 4 ] || ! cmp -s got.err wanted.err; then
+        echo "statuses.sh: mm check first.mm, with a full device: status $status, wanted 4" >&2
+        failures=$((failures + 1))
+    fi
+fi
+
+if [ "$failures" != 0 ]; then
+    echo "statuses.sh: $failures failed" >&2
+    exit 1
+fi
+echo "statuses.sh: the program ends as it should"
