@@ -2,7 +2,7 @@
 use Rattle.std.proofs.Common.{◌≡◌, ℕ, List, codes, Option, Result, Ok, Err, IfErr, IsErrAnd, IsErrOf, OnErr, ◌+◌, ◌≤◌, inl, inr, refl, sym, subst}
 use Rattle.mm_text.specs.declared.counted.Counted.{Counted}
 use Rattle.mm_text.specs.Device.{faults_of, inner_of}
-use Rattle.mm_text.specs.Reading.{PlainFile, total_bytes}
+use Rattle.mm_text.specs.Files.{PlainFile, total_bytes}
 use Rattle.mm_check.specs.Reply.{WritesBeginning}
 use Rattle.mm_check.specs.declared.command.RunFault.{RunFault}
 use Rattle.mm_check.specs.declared.command.RunFault.TheVariants as run

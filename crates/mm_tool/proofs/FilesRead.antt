@@ -4,7 +4,7 @@ use Rattle.std.proofs.Math.Seq.{drop-cons}
 use Rattle.std.proofs.lemmas.List.{map-append}
 use Rattle.std.proofs.Common.{take-append-drop}
 use Rattle.std.specs.List.{AllByRecursion}
-use Rattle.mm_text.specs.Reading.{PlainFile, total_bytes}
+use Rattle.mm_text.specs.Files.{PlainFile, total_bytes}
 use Rattle.mm_tool.specs.Folder.{ComesNext, IsFileFault, IsHeld}
 use Rattle.mm_tool.specs.declared.files.FileFault.{FileFault}
 use Rattle.mm_tool.specs.declared.files.FileFault.TheVariants.{CannotRead, TooLong, Memory}

@@ -2,7 +2,7 @@
 -- is said of the names of files that can't be opened, or of which a read may fail.
 use Rattle.std.specs.Prelude.{◌≡◌, ℕ, ◌+◌, ◌<◌, ◌≤◌, List, ◌∷◌, ◌++◌, length, map, Option, IfSome}
 use Rattle.std.specs.List.{AllByRecursion}
-use Rattle.mm_text.specs.Reading.{PlainFile, total_bytes}
+use Rattle.mm_text.specs.Files.{PlainFile, total_bytes}
 use Rattle.mm_tool.specs.declared.files.ReadFile.{ReadFile}
 use Rattle.mm_tool.specs.declared.files.FileFault.{FileFault}
 use Rattle.mm_tool.specs.declared.files.FileFault.TheVariants as fault

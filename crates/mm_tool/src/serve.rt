@@ -3,7 +3,7 @@
 ghost use Rattle.std.specs.Prelude.{◌≡◌, ◌≢◌, ◌+◌, ◌<◌, ◌≤◌, ◌++◌, ◌⊎◌, map, codes, string_bytes, Contains, IfOk, IfErr, IfSome, IfNone, OnOk, OnErr};
 ghost use Rattle.std.specs.List.{AllByRecursion};
 ghost use Rattle.mm_text.specs.Device.{faults_of, inner_of};
-ghost use Rattle.mm_text.specs.Reading.{plain_file};
+ghost use Rattle.mm_text.specs.Files.{plain_file};
 ghost use Rattle.mm_check.specs.Status.{number_of};
 ghost use Rattle.mm_tool.specs.Ending.{BreaksOff, Ends, EndsUnread, IsAnswer, IsCheckReply, IsExplanation, IsUnknown, IsUnknownStop, Stops, StopsCheck, Takes, Tells, line_of, stop_status};
 ghost use Rattle.mm_tool.specs.Folder.{plain_read};

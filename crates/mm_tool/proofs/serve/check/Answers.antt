@@ -1,6 +1,6 @@
 -- What `read_files`, `reply` and `run` say of their failing is what is said of the check.
 use Rattle.std.proofs.Common.{map, ap, ◌∙◌, subst}
-use Rattle.mm_text.specs.Reading.{plain_file}
+use Rattle.mm_text.specs.Files.{plain_file}
 use Rattle.mm_tool.specs.Folder.{IsFileFault, plain_read}
 use Rattle.mm_tool.specs.declared.files.FileFault.{FileFault}
 use Rattle.mm_tool.proofs.Checks.{stops_at_run, stops_too_long}

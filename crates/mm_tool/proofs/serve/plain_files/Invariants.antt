@@ -1,5 +1,5 @@
 use Rattle.std.proofs.Common.{◌≡◌, map, take}
-use Rattle.mm_text.specs.Reading.{plain_file}
+use Rattle.mm_text.specs.Files.{plain_file}
 use Rattle.mm_tool.specs.Folder.{plain_read}
 use Rattle.mm_tool.proofs.serve.plain_files.Given as goal
 
