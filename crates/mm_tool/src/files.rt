@@ -1,7 +1,7 @@
 //! Reading the files that the words name.
 
 ghost use Rattle.std.specs.Prelude.{◌≡◌, ◌<◌, ◌≤◌, length, IfOk, IfErr, IfSome, IsErrOf, map, vec_len};
-ghost use Rattle.mm_text.specs.Reading.{total_bytes};
+ghost use Rattle.mm_text.specs.Files.{total_bytes};
 ghost use Rattle.mm_tool.specs.Folder.{AreHeld, IsFileFault, IsHeld, plain_read};
 ghost use Rattle.mm_tool.specs.declared.files.FileFault.TheVariants.{Memory};
 

@@ -1,6 +1,6 @@
 use Rattle.std.proofs.Common.{◌≡◌, map, ◌+◌, take}
 use Rattle.std.specs.List.{AllByRecursion}
-use Rattle.mm_text.specs.Reading.{total_bytes}
+use Rattle.mm_text.specs.Files.{total_bytes}
 use Rattle.mm_tool.specs.Folder.{IsHeld, plain_read}
 use Rattle.mm_tool.proofs.files.read_files.Given as goal
 
