@@ -12,7 +12,7 @@ use Rattle.mm_check.specs.declared.fault.CheckFault.{CheckFault}
 use Rattle.mm_check.specs.declared.progress.Progress.{Progress}
 use Rattle.mm_check.specs.Conclusion.{Conclusion, labels_in}
 use Rattle.mm_check.specs.Verdict.{Verdict, Yes, HasFault, Obeys, AllObey, HasVerdict, AreAccepted, CanBeRead, sentences, labels_of, unproved_of, proofs_of, refusal_of, text_refusal}
-use Rattle.mm_check.specs.Answer.{verdict_of_fault, concluded, concluded_with, labels_at, IsVerdict, KeepsLabels}
+use Rattle.mm_check.specs.Answer.{verdict_of_fault, concluded, concluded_with, labels_at, IsVerdict, KeepsLabels, KeepsCounts}
 use Rattle.mm_check.specs.Judged.{IsUnderWay, IsAtEnd, Knows, Takes, RefusesAfter, RefusesEnd, RefusesLoad, TakesNext}
 use Rattle.mm_check.proofs.Unproved.{one_more}
 use Rattle.mm_check.proofs.Known.{ids, knows_more, labels_said, names_of_ids}
@@ -157,6 +157,14 @@ labels_kept files p left c way none kept statements ending reads =
     let one = each_has_one_reading files in
     kept.labels ∙ ap labels_in way.known.book ∙ labels_said way.earlier
     ∙ ap labels_of ((one.only way.earlier left.ending (none_left files p left way none)).0 ∙ sym (one.only statements ending reads).0)
+
+pub counts_kept : (files : List PlainFile) (p : Progress) (left : Remaining) (c : Conclusion) → IsUnderWay files p left
+    → left.statements ≡ [] → Concludes p c → KeepsCounts files c
+counts_kept files p left c way none kept statements ending reads =
+    let one = each_has_one_reading files in
+    let same : way.earlier ≡ statements =
+    (one.only way.earlier left.ending (none_left files p left way none)).0 ∙ sym (one.only statements ending reads).0 in
+    (kept.statements ∙ way.known.count ∙ ap length same, kept.proofs ∙ way.known.proofs ∙ ap proofs_of same)
 
 -- the numbers of the incomplete proofs are those of labels
 pub incomplete_within : (files : List PlainFile) (p : Progress) (left : Remaining) → IsUnderWay files p left

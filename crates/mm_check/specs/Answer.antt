@@ -1,5 +1,5 @@
 -- What `check` answers, as a verdict.
-use Rattle.std.specs.Prelude.{◌≡◌, ℕ, List, [], ◌∷◌, slice_get, Option, Some, None, option_map, Result, Ok, Err, ◌⊎◌}
+use Rattle.std.specs.Prelude.{◌≡◌, ℕ, List, [], ◌∷◌, slice_get, length, Option, Some, None, option_map, Result, Ok, Err, ◌⊎◌}
 use Rattle.std.specs.List.{flat_map}
 use Rattle.std.specs.Option.{option_to_list}
 use Rattle.mm_check.specs.declared.fault.Refusal.{Refusal}
@@ -10,7 +10,7 @@ use Rattle.mm_text.specs.Statement.{PlainStatement}
 use Rattle.mm_text.specs.Files.{PlainFile}
 use Rattle.mm_text.specs.Reading.{PlainFault, Reads}
 use Rattle.mm_check.specs.declared.rule.Rule.TheVariants.{L1}
-use Rattle.mm_check.specs.Verdict.{PlainRefusal, Verdict, Load, Refused, Incomplete, Yes, HasVerdict, labels_of}
+use Rattle.mm_check.specs.Verdict.{PlainRefusal, Verdict, Load, Refused, Incomplete, Yes, HasVerdict, labels_of, proofs_of}
 
 -- a refusal without where its label lies in memory
 abbrev pub plain_refusal : Refusal → PlainRefusal
@@ -72,3 +72,9 @@ IsOnlyVerdict files answer =
 abbrev pub KeepsLabels : List PlainFile → Conclusion → Type 0
 KeepsLabels files c =
     (statements : List PlainStatement) (ending : Option PlainFault) → Reads files statements ending → c.labels ≡ labels_of statements
+
+-- the counts kept are those of the statements that the files hold, and of their `$p` with a complete proof
+abbrev pub KeepsCounts : List PlainFile → Conclusion → Type 0
+KeepsCounts files c =
+    (statements : List PlainStatement) (ending : Option PlainFault) → Reads files statements ending
+    → (c.statements ≡ length statements) × (c.proofs ≡ proofs_of statements)

@@ -6,7 +6,7 @@ ghost use Rattle.mm_text.specs.Statement.{plain_statement, HasForm};
 ghost use Rattle.mm_text.specs.Files.{plain_file};
 ghost use Rattle.mm_text.specs.Remaining.{IsUnread};
 ghost use Rattle.mm_check.specs.Verdict.{ObeyTheProfile, CanBeRead, text_refusal as text_refusal_at};
-ghost use Rattle.mm_check.specs.Answer.{IsYes, IsOverLimit, IsWantOfMemory, IsVerdict, IsOnlyVerdict, KeepsLabels, plain_refusal};
+ghost use Rattle.mm_check.specs.Answer.{IsYes, IsOverLimit, IsWantOfMemory, IsVerdict, IsOnlyVerdict, KeepsLabels, KeepsCounts, plain_refusal};
 ghost use Rattle.mm_check.specs.Judged.{TakesNext, RefusesEnd, RefusesLoad, Knows, IsUnderWay, IsAtEnd, TellsVerdict};
 
 use crate::checked::Checked;
@@ -125,6 +125,7 @@ fn judge_rest<'a>(
 fn judge_all<'a>(alloc: Global, files: &'a [File<'a>]) -> Result<Checked<'a>, CheckFault<'a>>
     ensures verdict { IsVerdict (map plain_file files.now) result }
     ensures labels { IfOk result (KeepsLabels (map plain_file files.now)) }
+    ensures counts { IfOk result (KeepsCounts (map plain_file files.now)) }
 {
     let mut statements = load(alloc, files)?;
     let mut progress = beginning(alloc)?;
@@ -155,8 +156,10 @@ pub fn check<'a>(alloc: Global, files: &'a [File<'a>]) -> Result<Checked<'a>, Ch
     ensures accepted { ObeyTheProfile (map plain_file files.now)
         → IsYes result ⊎ IsOverLimit result ⊎ IsWantOfMemory result }
 
-    // The labels are those of the database.
+    // The labels are those of the database, and so are the counts of statements and of accepted
+    // proofs, also where proofs are incomplete.
     ensures labels { IfOk result (KeepsLabels (map plain_file files.now)) }
+    ensures counts { IfOk result (KeepsCounts (map plain_file files.now)) }
 {
     judge_all(alloc, files)
 }

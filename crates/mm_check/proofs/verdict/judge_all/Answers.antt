@@ -5,7 +5,7 @@ use Rattle.mm_text.specs.Files.{PlainFile, plain_file}
 use Rattle.mm_check.specs.Verdict.{Verdict, HasVerdict}
 use Rattle.mm_check.specs.Answer.{concluded}
 use Rattle.mm_check.specs.Judged.{IsAtEnd}
-use Rattle.mm_check.proofs.Course.{Concludes, starts, end_concludes, labels_kept, incomplete_within}
+use Rattle.mm_check.proofs.Course.{Concludes, starts, end_concludes, labels_kept, counts_kept, incomplete_within}
 use Rattle.mm_check.proofs.verdict.judge_all.Goals as goal
 
 pub judge_rest-requires : goal.judge_rest-requires
@@ -32,3 +32,10 @@ returns-clause-labels c =
     record { statements = c.new.ensures.statements; proofs = c.new.ensures.proofs; incomplete = c.new.ensures.incomplete; labels = c.new.ensures.labels } in
     let end : IsAtEnd (map plain_file c.args.files.now) c.judge_rest.new.progress c.judge_rest.new.statements = c.in_ok-judge_rest.ensures.done in
     labels_kept (map plain_file c.args.files.now) c.judge_rest.new.progress c.judge_rest.new.statements c.new.result end.way end.none kept
+
+pub returns-clause-counts : goal.returns-clause-counts
+returns-clause-counts c =
+    let kept : Concludes c.judge_rest.new.progress c.new.result =
+    record { statements = c.new.ensures.statements; proofs = c.new.ensures.proofs; incomplete = c.new.ensures.incomplete; labels = c.new.ensures.labels } in
+    let end : IsAtEnd (map plain_file c.args.files.now) c.judge_rest.new.progress c.judge_rest.new.statements = c.in_ok-judge_rest.ensures.done in
+    counts_kept (map plain_file c.args.files.now) c.judge_rest.new.progress c.judge_rest.new.statements c.new.result end.way end.none kept
