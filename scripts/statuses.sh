@@ -54,7 +54,7 @@ ends 0 'yes 7 statements 1 proofs\n' '' check -- -first.mm
 ends 0 'yes 0 statements 0 proofs\n' '' check empty.mm
 begins 0 'Verifies databases of the Metamath language.' '' help
 begins 0 'Verifies databases of the Metamath language.' '' --help
-begins 0 'M2: a symbol of a `$c` was declared before, as constant or variable, or stands twice in it.' '' explain M2
+begins 0 'M2: a symbol of a `$c` was declared before, as a constant or a variable, active or not; or it stands twice in the `$c`.' '' explain M2
 if command -v rt >/dev/null 2>&1; then
     begins 0 "mm 0.1.0, proved with $(rt version)" '' --version
 fi
@@ -62,9 +62,7 @@ ends 1 'no twice.mm 2 - M2 0\n' '' check twice.mm
 begins 2 '' 'error: unexpected argument '"'--strict'"' found' check --strict first.mm
 begins 2 '' 'mm: no rule has the code M222; the nearest is M2' explain M222
 ends 2 '' 'mm: a word is not UTF-8\n' check "$(printf '\377')"
-if grep -q '^| 3 | incomplete |' "$top/docs/FORMATS.md"; then
-    ends 3 'incomplete 1\nq\n' '' check open.mm
-fi
+ends 3 'incomplete 1\nq\n' '' check open.mm
 ends 4 'load F2\n' '' check first.mm first.mm
 ends 4 '' 'mm: cannot read none.mm\n' check none.mm
 ends 4 '' 'mm: cannot read .\n' check .

@@ -1,6 +1,6 @@
 //! One happy path of each public call, and writers that fail in the middle of a reply.
 
-use super::{Checked, Command, LabelId, Rule, RunFault, Status, check, run};
+use super::{Command, Rule, RunFault, Status, check, run};
 use mm_text::{Counted, File};
 use std::io;
 use std::io::{ErrorKind, Write};
@@ -14,6 +14,9 @@ tze $a term 0 $.
 tpl $a term ( t + r ) $.
 th $p term ( 0 + 0 ) $= tze tze tpl $.
 ";
+
+// The proofs of q and s are incomplete.
+const OPEN: &[u8] = b"$c a $. p $a a $. q $p a $= ? $. r $p a $= p $. s $p a $= q ? $.";
 
 const REPLY: &[u8] = b"yes 7 statements 1 proofs\n";
 
@@ -67,12 +70,20 @@ fn accepts_the_first_database(rt: HostRuntime) -> Result<(), Fail> {
 }
 
 #[test]
-fn names_a_labelled_statement(rt: HostRuntime) -> Result<(), Fail> {
-    let mut labels = Vec::new(rt.alloc());
-    labels.push(b"tt".as_slice())?;
-    labels.push(b"th".as_slice())?;
-    let checked = Checked::new(3, 1, Vec::new(rt.alloc()), labels);
-    assert_eq!(rt; checked.name(LabelId(1)), b"th".as_slice());
+fn names_incomplete_proofs(rt: HostRuntime) -> Result<(), Fail> {
+    let files = [File {
+        name: b"open.mm",
+        bytes: OPEN,
+    }];
+    let checked = check(rt.alloc(), &files)?;
+    assert!(rt; !checked.is_complete());
+    assert_eq!(rt; checked.statements(), 5);
+    assert_eq!(rt; checked.proofs(), 1);
+    let mut names = Vec::new(rt.alloc());
+    for id in checked.incomplete() {
+        names.push(checked.name(*id))?;
+    }
+    assert_eq!(rt; names.as_slice(), [b"q".as_slice(), b"s".as_slice()].as_slice());
     Ok(())
 }
 

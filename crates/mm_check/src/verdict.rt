@@ -15,7 +15,7 @@ use crate::judge::judge;
 use crate::place::line_of;
 use crate::progress::Progress;
 use crate::rule::Rule;
-use mm_frame::Book;
+use mm_frame::{Book, RuleFault};
 use mm_text::{File, Statement, Statements, TextFault, TextRule, Token};
 use std::alloc::Global;
 
@@ -99,7 +99,8 @@ fn beginning<'a>(alloc: Global) -> Result<Progress<'a>, CheckFault<'a>>
             proofs: 0,
             incomplete: Vec::new(alloc),
         }),
-        Err(_) => Err(CheckFault::Memory),
+        // No statement was taken, so that no rule is broken.
+        Err(RuleFault::Memory | RuleFault::Rule(_)) => Err(CheckFault::Memory),
     }
 }
 

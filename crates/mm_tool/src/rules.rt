@@ -6,31 +6,51 @@ use crate::texts::RuleText;
 pub(crate) const CODES: &str =
     "F1: no file was handed in (by the library alone: the program asks for one).
 F2: two handed names are equal, as in `mm check f.mm f.mm`.
-F3: the files hold over 1,073,741,824 bytes in all.
-X1: a token holds a byte outside 0x21 to 0x7E.
-X4: `$)` outside a comment, or `$]` outside an inclusion.
-X8: the file ends in a statement.
-X9: a token holds `$` and is no keyword.
-S1: a keyword stands where a statement should begin, and begins none: any but `$c` and `$v` (`$)` and `$]` are X4).
-S2: a token that is no keyword stands where a statement should begin, and holds another byte than a label may.
-S3: after a label comes no `$f`, `$a` or `$p`.
-S4: in a statement stands a keyword that can't stand there: `$.` before the `$=` of a `$p`, `$=` elsewhere, or any other.
+F3: the files hold more than 1,073,741,824 bytes in all.
+X1: a token, in a comment too, holds a byte outside 0x21 to 0x7E.
+X2: a file ends in a comment.
+X3: in a comment, a token other than `$)` holds `$(` or `$)`.
+X4: `$)` stands outside a comment, or `$]` outside an inclusion.
+X5: after `$[` comes a token with `$` where the name should stand, or after the name a token other than `$]`.
+X6: `$[` stands in a block or in a statement.
+X7: the name of a whole inclusion was not handed in.
+X8: a file ends in a statement.
+X9: a token outside comments and inclusions holds `$` and is no keyword.
+S1: `$f`, `$e`, `$a`, `$p`, `$.` or `$=` stands where a statement should begin.
+S2: a token that is no keyword stands where a statement should begin, and holds a byte that a label may not hold.
+S3: a label isn't followed by `$f`, `$e`, `$a` or `$p`.
+S4: a statement holds a keyword that can't stand in that place: `$.` before the `$=` of a `$p`, `$=` in any other place, or any other keyword.
 S5: `$.` or `$=` ends the symbols after too few of them, or a `$f` has a third symbol.
-M2: a symbol of a `$c` was declared before, as constant or variable, or stands twice in it.
-M3: a symbol of a `$v` is an active variable, was declared a constant, or stands twice in it.
+S6: `$}` stands where a statement may begin, and no block is open.
+S7: the top file ends and a block is open.
+M1: a `$c` stands in a block.
+M2: a symbol of a `$c` was declared before, as a constant or a variable, active or not; or it stands twice in the `$c`.
+M3: a symbol of a `$v` is an active variable, was declared a constant, or stands twice in the `$v`.
 M4: a symbol of a `$c` or `$v` equals an earlier label.
-M5: the label equals an earlier label.
-M6: the label equals a symbol declared before.
-M7: a symbol of a `$f`, `$a` or `$p` isn't active: so far, it was never declared.
+M5: the label equals an earlier label, also one in a closed block.
+M6: the label equals a symbol that was declared before, active or not.
+M7: a symbol of a `$d`, `$f`, `$e`, `$a` or `$p` isn't active: it was never declared, or only in a block that is closed.
+M8: a member of a `$d` is a constant.
+M9: a member stands twice in a `$d`.
 M10: the type code of a `$f` is a variable.
 M11: the second symbol of a `$f` is a constant.
 M12: the variable of a `$f` has an active `$f`.
-M14: the first symbol of an `$a` or `$p` is a variable.
-M15: a variable in an `$a` or `$p` has no active `$f`.
-P2: a label of the proof isn't that of an earlier statement; that of the `$p` itself isn't either.
+M13: an earlier `$f`, active or not, gave the variable of that name another type code.
+M14: the first symbol of an `$e`, `$a` or `$p` is a variable.
+M15: a variable in an `$e`, `$a` or `$p` has no active `$f`.
+P1: the first token of the proof is `(`, and there is no `)` among the others.
+P2: a label, in a normal proof or in the list of a compressed one, isn't that of an earlier statement; the `$p` itself isn't earlier.
+P3: a label is that of a hypothesis that isn't active.
+P4: a byte of the letters isn't one of `A` to `Z`.
+P5: leading digits are followed by `Z`, or by the end of the letters.
+P6: a number exceeds *m* + *n* + *t*, with *m* mandatory hypotheses, *n* listed labels and *t* tags so far.
+P7: a `Z` comes before any step.
 P8: the stack holds fewer entries than the assertion has mandatory hypotheses.
-P9: the type code of a `$f` differs from its entry's first symbol.
-L1: a step pushes an expression of over 1,048,576 symbols, its type code counted.
+P9: the type code of a `$f` differs from the first symbol of its entry.
+P10: an `$e`, substituted, differs from its entry.
+P11: the replacements of a mandatory distinct pair share a variable.
+P12: a pair of variables, one from each of these replacements, isn't an active pair where the `$p` stands.
+L1: a step pushes an expression of more than 1,048,576 symbols, its type code counted.
 P13: at the end the stack doesn't hold exactly one entry.
 P14: that entry differs from the expression of the `$p`.
 ";
@@ -50,35 +70,131 @@ It has no place. Reply: `load F2`
     },
     RuleText {
         code: "F3",
-        text: "F3: the files hold over 1,073,741,824 bytes in all.
+        text: "F3: the files hold more than 1,073,741,824 bytes in all.
 It has no place. Reply: `load F3`
 ",
     },
     RuleText {
         code: "X1",
-        text: "X1: a token holds a byte outside 0x21 to 0x7E. Place: that token. Here two bytes, 0xC3 and 0xA9.
+        text: "X1: a token, in a comment too, holds a byte outside 0x21 to 0x7E. Place: that token. Here it holds the two bytes 0xC3 and 0xA9.
 
 This file breaks it:
     $c é $.
 
 The reply:
     no f.mm 1 - X1 0
+
+This file breaks it:
+    $c a $.
+    $( é $)
+
+The reply:
+    no f.mm 2 - X1 0
+",
+    },
+    RuleText {
+        code: "X2",
+        text: "X2: a file ends in a comment. Place: the `$(`.
+
+This file breaks it:
+    $c a $.
+    $( open
+
+The reply:
+    no f.mm 2 - X2 0
+",
+    },
+    RuleText {
+        code: "X3",
+        text: "X3: in a comment, a token other than `$)` holds `$(` or `$)`. Place: that token.
+
+This file breaks it:
+    $( a$) $)
+
+The reply:
+    no f.mm 1 - X3 0
+
+This file breaks it:
+    $( one $( two $)
+
+The reply:
+    no f.mm 1 - X3 0
 ",
     },
     RuleText {
         code: "X4",
-        text: "X4: `$)` outside a comment, or `$]` outside an inclusion. Place: that token. As there are no comments and inclusions yet, it is broken wherever one of them stands.
+        text: "X4: `$)` stands outside a comment, or `$]` outside an inclusion. Place: that token. So `$)` is X4 between `$[` and `$]` too.
 
 This file breaks it:
     p $a $) $.
 
 The reply:
     no f.mm 1 p X4 0
+
+This file breaks it:
+    $]
+
+The reply:
+    no f.mm 1 - X4 0
+
+This file breaks it:
+    $[ a.mm $)
+
+The reply:
+    no f.mm 1 - X4 0
+",
+    },
+    RuleText {
+        code: "X5",
+        text: "X5: after `$[` comes a token with `$` where the name should stand, or after the name a token other than `$]`. Place: that token.
+
+This file breaks it:
+    $[ $]
+
+The reply:
+    no f.mm 1 - X5 0
+
+This file breaks it:
+    $[ a.mm
+    b.mm $]
+
+The reply:
+    no f.mm 2 - X5 0
+",
+    },
+    RuleText {
+        code: "X6",
+        text: "X6: `$[` stands in a block or in a statement. Place: the `$[`. It is reported at once: the inclusion need not be whole, nor its file be handed in.
+
+This file breaks it:
+    ${ $[ a.mm $] $}
+
+The reply:
+    no f.mm 1 - X6 0
+
+This file breaks it:
+    p $a
+    $[ $x
+
+The reply:
+    no f.mm 2 p X6 0
+",
+    },
+    RuleText {
+        code: "X7",
+        text: "X7: the name of a whole inclusion was not handed in. Place: the name.
+
+This file breaks it:
+    $[
+    a.mm $]
+
+The reply:
+    no f.mm 2 - X7 0
 ",
     },
     RuleText {
         code: "X8",
-        text: "X8: the file ends in a statement. Place: the statement's first token, here the label in line 1.
+        text: "X8: a file ends in a statement. Place: the statement's first token, here the label in line 1.
 
 This file breaks it:
     p $a
@@ -90,7 +206,7 @@ The reply:
     },
     RuleText {
         code: "X9",
-        text: "X9: a token holds `$` and is no keyword. Place: that token.
+        text: "X9: a token outside comments and inclusions holds `$` and is no keyword. Place: that token.
 
 This file breaks it:
     $c a $.
@@ -102,7 +218,7 @@ The reply:
     },
     RuleText {
         code: "S1",
-        text: "S1: a keyword stands where a statement should begin, and begins none: any but `$c` and `$v` (`$)` and `$]` are X4). Place: that token.
+        text: "S1: `$f`, `$e`, `$a`, `$p`, `$.` or `$=` stands where a statement should begin. Place: that token.
 
 This file breaks it:
     $a x $.
@@ -113,7 +229,7 @@ The reply:
     },
     RuleText {
         code: "S2",
-        text: "S2: a token that is no keyword stands where a statement should begin, and holds another byte than a label may. Place: that token.
+        text: "S2: a token that is no keyword stands where a statement should begin, and holds a byte that a label may not hold. Place: that token.
 
 This file breaks it:
     a+ $a x $.
@@ -124,7 +240,7 @@ The reply:
     },
     RuleText {
         code: "S3",
-        text: "S3: after a label comes no `$f`, `$a` or `$p`. Place: the token that comes.
+        text: "S3: a label isn't followed by `$f`, `$e`, `$a` or `$p`. Place: the token that follows it.
 
 This file breaks it:
     p
@@ -136,21 +252,33 @@ The reply:
     },
     RuleText {
         code: "S4",
-        text: "S4: in a statement stands a keyword that can't stand there: `$.` before the `$=` of a `$p`, `$=` elsewhere, or any other. Place: that token.
+        text: "S4: a statement holds a keyword that can't stand in that place: `$.` before the `$=` of a `$p`, `$=` in any other place, or any other keyword. Place: that token.
 
 This file breaks it:
     p $p x $.
 
 The reply:
     no f.mm 1 p S4 0
+
+This file breaks it:
+    $c a ${ $.
+
+The reply:
+    no f.mm 1 - S4 0
 ",
     },
     RuleText {
         code: "S5",
-        text: "S5: `$.` or `$=` ends the symbols after too few of them, or a `$f` has a third symbol. Place: that token.
+        text: "S5: `$.` or `$=` ends the symbols after too few of them, or a `$f` has a third symbol. Place: that token. A `$d` needs two symbols, a `$f` exactly two, the others one.
 
 This file breaks it:
     $c $.
+
+The reply:
+    no f.mm 1 - S5 0
+
+This file breaks it:
+    $d x $.
 
 The reply:
     no f.mm 1 - S5 0
@@ -163,8 +291,47 @@ The reply:
 ",
     },
     RuleText {
+        code: "S6",
+        text: "S6: `$}` stands where a statement may begin, and no block is open. Place: that token.
+
+This file breaks it:
+    $}
+
+The reply:
+    no f.mm 1 - S6 0
+",
+    },
+    RuleText {
+        code: "S7",
+        text: "S7: the top file ends and a block is open. Place: the innermost open `${`, here the one in line 2. It may stand in an included file.
+
+This file breaks it:
+    $c a $.
+    ${
+    ${
+    $}
+
+The reply:
+    no f.mm 2 - S7 0
+",
+    },
+    RuleText {
+        code: "M1",
+        text: "M1: a `$c` stands in a block.
+Place: the statement's first token.
+
+This file breaks it:
+    ${
+    $c a $.
+    $}
+
+The reply:
+    no f.mm 2 - M1 0
+",
+    },
+    RuleText {
         code: "M2",
-        text: "M2: a symbol of a `$c` was declared before, as constant or variable, or stands twice in it.
+        text: "M2: a symbol of a `$c` was declared before, as a constant or a variable, active or not; or it stands twice in the `$c`.
 Place: the statement's first token.
 
 This file breaks it:
@@ -173,11 +340,18 @@ This file breaks it:
 
 The reply:
     no f.mm 2 - M2 0
+
+This file breaks it:
+    ${ $v x $. $}
+    $c x $.
+
+The reply:
+    no f.mm 2 - M2 0
 ",
     },
     RuleText {
         code: "M3",
-        text: "M3: a symbol of a `$v` is an active variable, was declared a constant, or stands twice in it.
+        text: "M3: a symbol of a `$v` is an active variable, was declared a constant, or stands twice in the `$v`.
 Place: the statement's first token.
 
 This file breaks it:
@@ -202,11 +376,11 @@ The reply:
     },
     RuleText {
         code: "M5",
-        text: "M5: the label equals an earlier label.
+        text: "M5: the label equals an earlier label, also one in a closed block.
 Place: the statement's first token.
 
 This file breaks it:
-    $c a $. p $a a $.
+    $c a $. ${ p $e a $. $}
     p $a a a $.
 
 The reply:
@@ -215,7 +389,7 @@ The reply:
     },
     RuleText {
         code: "M6",
-        text: "M6: the label equals a symbol declared before.
+        text: "M6: the label equals a symbol that was declared before, active or not.
 Place: the statement's first token.
 
 This file breaks it:
@@ -227,7 +401,7 @@ The reply:
     },
     RuleText {
         code: "M7",
-        text: "M7: a symbol of a `$f`, `$a` or `$p` isn't active: so far, it was never declared.
+        text: "M7: a symbol of a `$d`, `$f`, `$e`, `$a` or `$p` isn't active: it was never declared, or only in a block that is closed.
 Place: the statement's first token.
 
 This file breaks it:
@@ -235,6 +409,40 @@ This file breaks it:
 
 The reply:
     no f.mm 1 p M7 0
+
+This file breaks it:
+    $c a $.
+    ${ $v x $. $}
+    p $a a x $.
+
+The reply:
+    no f.mm 3 p M7 0
+",
+    },
+    RuleText {
+        code: "M8",
+        text: "M8: a member of a `$d` is a constant.
+Place: the statement's first token.
+
+This file breaks it:
+    $c a $. $v x $.
+    $d a x $.
+
+The reply:
+    no f.mm 2 - M8 0
+",
+    },
+    RuleText {
+        code: "M9",
+        text: "M9: a member stands twice in a `$d`.
+Place: the statement's first token.
+
+This file breaks it:
+    $v x $.
+    $d x x $.
+
+The reply:
+    no f.mm 2 - M9 0
 ",
     },
     RuleText {
@@ -275,8 +483,22 @@ The reply:
 ",
     },
     RuleText {
+        code: "M13",
+        text: "M13: an earlier `$f`, active or not, gave the variable of that name another type code.
+Place: the statement's first token.
+
+This file breaks it:
+    $c a b $.
+    ${ $v x $. fx $f a x $. $}
+    ${ $v x $. gx $f b x $. $}
+
+The reply:
+    no f.mm 3 gx M13 0
+",
+    },
+    RuleText {
         code: "M14",
-        text: "M14: the first symbol of an `$a` or `$p` is a variable.
+        text: "M14: the first symbol of an `$e`, `$a` or `$p` is a variable.
 Place: the statement's first token.
 
 This file breaks it:
@@ -288,7 +510,7 @@ The reply:
     },
     RuleText {
         code: "M15",
-        text: "M15: a variable in an `$a` or `$p` has no active `$f`.
+        text: "M15: a variable in an `$e`, `$a` or `$p` has no active `$f`.
 Place: the statement's first token.
 
 This file breaks it:
@@ -299,8 +521,21 @@ The reply:
 ",
     },
     RuleText {
+        code: "P1",
+        text: "P1: the first token of the proof is `(`, and there is no `)` among the others. Step 0.
+Place: the statement's first token.
+
+This file breaks it:
+    $c a $. one $a a $.
+    p $p a $= ( one A $.
+
+The reply:
+    no f.mm 2 p P1 0
+",
+    },
+    RuleText {
         code: "P2",
-        text: "P2: a label of the proof isn't that of an earlier statement; that of the `$p` itself isn't either. Step 0, whatever the steps before it do.
+        text: "P2: a label, in a normal proof or in the list of a compressed one, isn't that of an earlier statement; the `$p` itself isn't earlier. Step 0, whatever the steps before it do, and whether or not a listed label is used.
 Place: the statement's first token.
 
 This file breaks it:
@@ -308,6 +543,86 @@ This file breaks it:
 
 The reply:
     no f.mm 1 p P2 0
+
+This file breaks it:
+    $c a $. one $a a $.
+    p $p a $= ( one two ) A $.
+
+The reply:
+    no f.mm 2 p P2 0
+",
+    },
+    RuleText {
+        code: "P3",
+        text: "P3: a label is that of a hypothesis that isn't active. Step 0.
+Place: the statement's first token.
+
+This file breaks it:
+    $c a $.
+    ${ h $e a $. $}
+    p $p a $= h $.
+
+The reply:
+    no f.mm 3 p P3 0
+",
+    },
+    RuleText {
+        code: "P4",
+        text: "P4: a byte of the letters isn't one of `A` to `Z`. Step 0.
+Place: the statement's first token.
+
+This file breaks it:
+    $c a $. one $a a $.
+    p $p a $= ( one ) Aa $.
+
+The reply:
+    no f.mm 2 p P4 0
+",
+    },
+    RuleText {
+        code: "P5",
+        text: "P5: leading digits are followed by `Z`, or by the end of the letters. Step 0.
+Place: the statement's first token.
+
+This file breaks it:
+    $c a $. one $a a $.
+    p $p a $= ( one ) UZ $.
+
+The reply:
+    no f.mm 2 p P5 0
+
+This file breaks it:
+    $c a $. one $a a $.
+    p $p a $= ( one ) AU $.
+
+The reply:
+    no f.mm 2 p P5 0
+",
+    },
+    RuleText {
+        code: "P6",
+        text: "P6: a number exceeds *m* + *n* + *t*, with *m* mandatory hypotheses, *n* listed labels and *t* tags so far. Here *m* and *t* are 0, *n* is 1, and the number is 2.
+Place: the statement's first token.
+
+This file breaks it:
+    $c a $. one $a a $.
+    p $p a $= ( one ) B $.
+
+The reply:
+    no f.mm 2 p P6 1
+",
+    },
+    RuleText {
+        code: "P7",
+        text: "P7: a `Z` comes before any step. Step 1, and it comes before P6 there.
+Place: the statement's first token.
+
+This file breaks it:
+    $c a $. one $a a $.
+    p $p a $= ( one ) ZT $.
+
+The reply:
+    no f.mm 2 p P7 1
 ",
     },
     RuleText {
@@ -325,7 +640,7 @@ The reply:
     },
     RuleText {
         code: "P9",
-        text: "P9: the type code of a `$f` differs from its entry's first symbol. Here `a` is asked for, and the entry is `b`.
+        text: "P9: the type code of a `$f` differs from the first symbol of its entry. Here `a` is asked for, and the entry is `b`.
 Place: the statement's first token.
 
 This file breaks it:
@@ -337,8 +652,51 @@ The reply:
 ",
     },
     RuleText {
+        code: "P10",
+        text: "P10: an `$e`, substituted, differs from its entry. Here the entry of `fx` replaces `x` by `b`, so that `h` becomes `|- b`, and its entry is `|- b b`.
+Place: the statement's first token.
+
+This file breaks it:
+    $c a b |- $. $v x $. fx $f a x $.
+    one $a a b $. bb $a |- b b $.
+    ${ h $e |- x $. two $a |- x x $. $}
+    p $p |- b b $= one bb two $.
+
+The reply:
+    no f.mm 4 p P10 3
+",
+    },
+    RuleText {
+        code: "P11",
+        text: "P11: the replacements of a mandatory distinct pair share a variable. Here both are `x`.
+Place: the statement's first token.
+
+This file breaks it:
+    $c a |- $. $v x y $. fx $f a x $. fy $f a y $.
+    ${ $d x y $. ax $a |- x y $. $}
+    p $p |- x x $= fx fx ax $.
+
+The reply:
+    no f.mm 3 p P11 3
+",
+    },
+    RuleText {
+        code: "P12",
+        text: "P12: a pair of variables, one from each of these replacements, isn't an active pair where the `$p` stands. Here the pair is `y`, `x`, and the `$d` of line 2 is no longer active.
+Place: the statement's first token.
+
+This file breaks it:
+    $c a |- $. $v x y $. fx $f a x $. fy $f a y $.
+    ${ $d x y $. ax $a |- x y $. $}
+    p $p |- y x $= fy fx ax $.
+
+The reply:
+    no f.mm 3 p P12 3
+",
+    },
+    RuleText {
         code: "L1",
-        text: "L1: a step pushes an expression of over 1,048,576 symbols, its type code counted. Here step 1 pushes 2 symbols and each further step twice as many as the one before: step 20 pushes 1,048,576.
+        text: "L1: a step pushes an expression of more than 1,048,576 symbols, its type code counted. Here step 1 pushes 2 symbols, and each further step twice as many as the one before: step 20 pushes 1,048,576.
 Place: the statement's first token.
 
 This file breaks it:

@@ -38,6 +38,8 @@ Replies of check, on standard output:
   yes N statements M proofs
       Each statement obeys the rules of the language, and each proof derives what its statement
       says. N counts all statements, `${` and `$}` too, and M the proofs. Status 0.
+  incomplete N, and then a label on each of N lines
+      Nothing is at fault, but the proofs of these statements hold a `?`. Status 3.
   no FILE LINE LABEL RULE STEP
       The first statement at fault: where it stands; its label, or - where it has none; the code of
       the rule that it breaks, which `mm explain RULE` explains; and the step of its proof, from 1,
@@ -53,6 +55,7 @@ Statuses:
   0  yes; or help, the version or an explanation was asked for
   1  no: a statement is at fault
   2  the words are not understood
+  3  incomplete: a proof is unfinished
   4  a file, a device, a limit or memory stood in the way
 
 Where there is no reply, a line on standard error says why.
