@@ -8,3 +8,4 @@ pub mod Numbers
 pub mod Found
 pub mod Taken
 pub mod FramePlace
+pub mod Layout
