@@ -4,3 +4,6 @@ pub mod Flat
 pub mod Frames
 pub mod Twice
 pub mod Order
+pub mod Pushed
+pub mod Counts
+pub mod Scopes

@@ -2,3 +2,4 @@ pub mod Sentence
 pub mod Active
 pub mod Rules
 pub mod Frame
+pub mod Scopes
