@@ -1,8 +1,7 @@
 -- How many blocks the parts of a list of statements open and close, and which blocks stay open as statements are appended.
-use Rattle.std.proofs.Common.{◌≡◌, ℕ, zero, suc, ◌+◌, ◌-◌, ◌<◌, ◌≤◌, ◌⊎◌, inl, inr, Bool, true, false, cond, length, take, drop, count_by, List, [], ◌∷◌, ◌++◌, Some, refl, sym, ap, ◌∙◌, subst, drop_of_length-le, arith}
-use Rattle.std.specs.List.{slice_get}
-use Rattle.std.proofs.lemmas.List.{drop-append-le, take-append-le, length-drop, length-take-le, take-append-drop, take-take, drop-drop, drop-take}
-use Rattle.std.proofs.Math.Seq.{take-append-add, take-append_seam, take-add, take-length}
+use Rattle.std.proofs.Common.{◌≡◌, ℕ, zero, suc, ◌+◌, ◌-◌, ◌≤◌, ◌⊎◌, inl, inr, Bool, cond, length, take, drop, count_by, List, [], ◌∷◌, ◌++◌, refl, sym, ap, ◌∙◌, subst, drop_of_length-le, arith}
+use Rattle.std.proofs.lemmas.List.{drop-append-le, take-take, drop-drop, drop-take}
+use Rattle.std.proofs.Math.Seq.{take-append_seam, take-add, take-length}
 use Rattle.std.proofs.lemmas.List.Sums.{sum_by-append}
 use Rattle.std.proofs.lemmas.Bool.{cases_lt}
 use Rattle.mm_frame.specs.Sentence.{Sentence}

@@ -1,9 +1,3 @@
-pub mod Places
-pub mod Symbols
-pub mod Flat
-pub mod Frames
-pub mod Twice
-pub mod Order
 pub mod Pushed
 pub mod Counts
 pub mod Scopes

@@ -1,5 +1,5 @@
 -- Blocks by number, as statements are added one by one.
-use Rattle.std.proofs.Common.{◌≡◌, ◌↔◌, ℕ, zero, suc, ◌+◌, ◌<◌, ◌≤◌, ◌⊎◌, inl, inr, Bool, true, false, cond, length, take, drop, set, List, [], ◌∷◌, ◌++◌, Some, refl, sym, ap, ◌∙◌, subst, drop_of_length-le, length-append, length-set, arith}
+use Rattle.std.proofs.Common.{◌≡◌, ℕ, zero, suc, ◌+◌, ◌<◌, ◌≤◌, ◌⊎◌, inl, inr, Bool, true, false, cond, length, take, drop, set, List, [], ◌∷◌, ◌++◌, Some, refl, sym, ap, ◌∙◌, subst, drop_of_length-le, length-append, length-set, arith}
 use Rattle.std.specs.List.{slice_get}
 use Rattle.std.proofs.lemmas.Option.{slice_get_within}
 use Rattle.std.proofs.lemmas.Bool.{cases_lt, cases_order}
@@ -7,10 +7,10 @@ use Rattle.std.proofs.lemmas.List.{drop-append-le, take-append-le, take_all}
 use Rattle.std.proofs.Math.Seq.{take-append_seam}
 use Rattle.mm_text.specs.declared.statement.Kind.TheVariants.{Opening, Closing}
 use Rattle.mm_frame.specs.Sentence.{Sentence}
-use Rattle.mm_frame.specs.Active.{is_opening, is_closing, openings, closings, IsOpen, Holds, IsActive}
+use Rattle.mm_frame.specs.Active.{is_opening, is_closing, openings, closings, IsOpen}
 use Rattle.mm_frame.specs.Scopes.{IsUnclosed, IsBegun, IsEnd, IsOnStack, DirectlyHolds, AreScopes}
-use Rattle.mm_frame.proofs.Pushed.{get_kept, get_pushed, pushed_cases, get_before, get_within, get_from_front, get_in_front, get_set_same, get_set_cases}
-use Rattle.mm_frame.proofs.Counts.{openings-append, closings-append, unclosed_front, unclosed_pushed, unclosed_before, unclosed_all, unclosed_new, unclosed_outer}
+use Rattle.mm_frame.proofs.Pushed.{get_kept, get_pushed, pushed_cases, get_before, get_set_cases}
+use Rattle.mm_frame.proofs.Counts.{openings-append, closings-append, unclosed_pushed, unclosed_before, unclosed_all, unclosed_new}
 
 -- what one statement opens and closes
 pub openings_one : (e : Sentence) (b : Bool) → is_opening e.kind ≡ b → openings (e ∷ []) ≡ cond b 1 0

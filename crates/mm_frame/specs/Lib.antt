@@ -2,4 +2,10 @@ pub mod Sentence
 pub mod Active
 pub mod Rules
 pub mod Frame
+pub mod Form
+pub mod Database
+pub mod Numbers
+pub mod Found
+pub mod Taken
+pub mod FramePlace
 pub mod Scopes

@@ -5,19 +5,17 @@ use Rattle.mm_text.specs.declared.statement.Kind.TheVariants.{Distinct, Floating
 use Rattle.mm_text.specs.declared.statement.Statement.{Statement}
 use Rattle.mm_text.specs.Statement.{PlainStatement, plain_statement}
 
--- a statement's kind, its label, its symbols and the labels of its proof
+-- a statement's kind, its label and its symbols
 pub record Sentence : Type 0 where
   pub kind : Kind
   pub label : Option (List ℕ)
   pub symbols : List (List ℕ)
-  pub proof : List (List ℕ)
 
 abbrev pub said : PlainStatement → Sentence
 said s = record {
   kind = s.kind;
   label = option_map (λ t. t.text) s.label;
   symbols = map (λ t. t.text) s.symbols;
-  proof = map (λ t. t.text) s.proof;
 }
 
 abbrev pub said_by : Statement → Sentence

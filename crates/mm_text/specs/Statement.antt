@@ -1,5 +1,5 @@
 -- The forms of statements, as a grammar over tokens (the Metamath book, sections 4.1.3 and 4.2).
-use Rattle.std.specs.Prelude.{◌≡◌, ℕ, ◌+◌, ◌≤◌, List, [], ◌∷◌, ◌++◌, length, map, if◌then◌else◌, codes, Option, Some, None, Contains, option_map}
+use Rattle.std.specs.Prelude.{◌≡◌, ℕ, ◌+◌, ◌≤◌, List, [], ◌∷◌, ◌++◌, length, map, sum_by, if◌then◌else◌, codes, Option, Some, None, Contains, option_map}
 use Rattle.std.specs.List.{AllByRecursion, list_all}
 use Rattle.mm_text.specs.declared.statement.Kind.{Kind}
 use Rattle.mm_text.specs.declared.statement.Kind.TheVariants.{Constants, Variables, Distinct, Floating, Essential, Axiom, Provable, Opening, Closing}
@@ -166,3 +166,16 @@ pub record IsFormed (s : PlainStatement) : Type 0 where
   pub read : IsRead s.kind
   pub count : FitsCount s.kind (length s.symbols)
   pub label : HasLabel s.kind s.label
+
+-- what the grammar says of a statement by itself, and that each of its tokens holds a byte
+pub record HasForm (s : PlainStatement) : Type 0 where
+  pub count : FitsCount s.kind (length s.symbols)
+  pub label : HasLabel s.kind s.label
+  pub first : 1 ≤ length s.first.text
+  pub symbols : AllByRecursion (λ t. 1 ≤ length t.text) s.symbols
+  pub proof : AllByRecursion (λ t. 1 ≤ length t.text) s.proof
+
+-- how many bytes a statement's tokens have: the first one, the symbols, the proof
+abbrev pub bytes_in : PlainStatement → ℕ
+bytes_in s =
+    length s.first.text + sum_by (λ t. length t.text) s.symbols + sum_by (λ t. length t.text) s.proof

@@ -1,0 +1,47 @@
+-- What a frame answers, of the assertion at a place in its book (the Metamath book, section 4.2.7).
+use Rattle.std.specs.Prelude.{◌≡◌, ℕ, List, map, take, slice_get, Some, Contains, ◌⊎◌}
+use Rattle.mm_frame.specs.Sentence.{Sentence}
+use Rattle.mm_frame.specs.Frame.{AreMandatory, IsMandatoryPair}
+use Rattle.mm_frame.specs.Numbers.{labelled, IsNumberOf, AreNumbers}
+
+-- the statements of a book, and the place of the assertion
+pub record FramePlace : Type 0 where
+  pub statements : List Sentence
+  pub place : ℕ
+
+-- the statements before the assertion
+abbrev pub before_it : FramePlace → List Sentence
+before_it frame = take frame.place frame.statements
+
+-- these are the numbers of the mandatory hypotheses, in database order
+pub record AreHypotheses (frame : FramePlace) (numbers : List ℕ) : Type 0 where
+  pub assertion : Sentence
+  pub there : slice_get frame.statements frame.place ≡ Some assertion
+  pub hypotheses : List Sentence
+  pub mandatory : AreMandatory (before_it frame) assertion hypotheses
+  pub numbered : map (slice_get (labelled frame.statements)) numbers ≡ map Some hypotheses
+
+-- the same pair in one order or the other
+abbrev pub IsSamePair : ℕ × ℕ → ℕ × ℕ → Type 0
+IsSamePair p q = (p ≡ q) ⊎ (p ≡ (q.1, q.0))
+
+-- these are the mandatory distinct pairs, by the numbers of their variables, each in one order and once
+pub record ArePairs (frame : FramePlace) (pairs : List (ℕ × ℕ)) : Type 0 where
+  pub assertion : Sentence
+  pub there : slice_get frame.statements frame.place ≡ Some assertion
+  pub only :
+    (pair : ℕ × ℕ) → Contains pairs pair
+    → (x : List ℕ) × (y : List ℕ) × IsNumberOf frame.statements x pair.0 × IsNumberOf frame.statements y pair.1
+      × IsMandatoryPair (before_it frame) assertion x y
+  pub each :
+    (x y : List ℕ) → IsMandatoryPair (before_it frame) assertion x y
+    → (pair : ℕ × ℕ) × IsNumberOf frame.statements x pair.0 × IsNumberOf frame.statements y pair.1
+      × (Contains pairs pair ⊎ Contains pairs (pair.1, pair.0))
+  pub once :
+    (i j : ℕ) (p q : ℕ × ℕ) → slice_get pairs i ≡ Some p → slice_get pairs j ≡ Some q → IsSamePair p q → i ≡ j
+
+-- these are the numbers of the assertion's symbols
+pub record AreItsSymbols (frame : FramePlace) (numbers : List ℕ) : Type 0 where
+  pub assertion : Sentence
+  pub there : slice_get frame.statements frame.place ≡ Some assertion
+  pub numbered : AreNumbers frame.statements numbers assertion.symbols

@@ -1,0 +1,39 @@
+//! What a book answers.
+
+use crate::number::LabelId;
+use crate::rule::MeaningRule;
+
+/// What a statement was taken as.
+#[derive(Clone, Copy, PartialEq, Eq, Debug)]
+pub enum Taken {
+    /// A `${`.
+    Opened,
+    /// A `$}`.
+    Closed,
+    /// A `$c`, `$v` or `$d`.
+    Declared,
+    /// A `$f` or `$e`, and its number.
+    Hypothesis(LabelId),
+    /// A `$a` or `$p`, and its number.
+    Assertion(LabelId),
+}
+
+/// What stands under a label.
+#[derive(Clone, Copy, PartialEq, Eq, Debug)]
+pub enum Found {
+    /// No statement has the label.
+    None,
+    /// A `$f` or `$e`, and whether it is active now.
+    Hypothesis { id: LabelId, active: bool },
+    /// A `$a` or `$p`.
+    Assertion(LabelId),
+}
+
+/// Why a statement wasn't taken.
+#[derive(Clone, Copy, PartialEq, Eq, Debug)]
+pub enum RuleFault {
+    /// The first rule of meaning that it breaks.
+    Rule(MeaningRule),
+    /// Memory ran out.
+    Memory,
+}
