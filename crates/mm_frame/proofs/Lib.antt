@@ -1,3 +1,4 @@
 pub mod Pushed
 pub mod Counts
 pub mod Scopes
+pub mod Actives

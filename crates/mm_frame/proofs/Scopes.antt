@@ -97,7 +97,7 @@ on_stack_grown xs e starts others stack next k b h le kept balance lt =
     }
 
 -- each start lies within
-start_within : (never : ℕ) (xs : List Sentence) (blocks ends stack : List ℕ) (a : AreScopes never xs blocks ends stack) (b x : ℕ) → slice_get a.starts b ≡ Some x → x ≤ length xs
+pub start_within : (never : ℕ) (xs : List Sentence) (blocks ends stack : List ℕ) (a : AreScopes never xs blocks ends stack) (b x : ℕ) → slice_get a.starts b ≡ Some x → x ≤ length xs
 start_within never xs blocks ends stack a zero x there = let first = a.outermost in let e : x ≡ 0 = cc in omega arith
 start_within never xs blocks ends stack a (suc b) x there =
     let begun = a.begun b x there in
