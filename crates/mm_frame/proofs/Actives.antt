@@ -11,7 +11,7 @@ use Rattle.mm_frame.proofs.Pushed.{get_from_front, get_in_front}
 use Rattle.mm_frame.proofs.Counts.{unclosed_front, unclosed_outer}
 
 -- a front's front
-fronts : {X : Type 0} (xs : List X) (n m : ℕ) → n ≤ m → take n (take m xs) ≡ take n xs
+pub fronts : {X : Type 0} (xs : List X) (n m : ℕ) → n ≤ m → take n (take m xs) ≡ take n xs
 fronts xs n m le = take-take n m xs le
 
 -- a block is open after a front, if it is after a longer one
@@ -43,10 +43,10 @@ until_unclosed never st blocks ends stack a b x c q begins ends_at le room still
     ]
 
 -- what a block holds in a front, where the front holds the statement
-holds_kept : (st : List Sentence) (q p outer : ℕ) → p < q → Holds (take q st) outer p → Holds st outer p
+pub holds_kept : (st : List Sentence) (q p outer : ℕ) → p < q → Holds (take q st) outer p → Holds st outer p
 holds_kept st q p outer lt (before, still) = (before, subst (λ ys. IsOpen ys outer) (fronts st (suc p) q (omega arith)) still)
 
-holds_back : (st : List Sentence) (q p outer : ℕ) → p < q → Holds st outer p → Holds (take q st) outer p
+pub holds_back : (st : List Sentence) (q p outer : ℕ) → p < q → Holds st outer p → Holds (take q st) outer p
 holds_back st q p outer lt (before, still) = (before, subst (λ ys. IsOpen ys outer) (sym (fronts st (suc p) q (omega arith))) still)
 
 within_front : (st : List Sentence) (q p : ℕ) → p < q → q ≤ length st → p < length (take q st)

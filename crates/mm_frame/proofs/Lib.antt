@@ -2,3 +2,5 @@ pub mod Pushed
 pub mod Counts
 pub mod Scopes
 pub mod Actives
+pub mod Depth
+pub mod Stays

@@ -48,7 +48,7 @@ opened_last xs e p o past =
 front_kept : (xs : List Sentence) (e : Sentence) (n : ℕ) → n ≤ length xs → take n (xs ++ e ∷ []) ≡ take n xs
 front_kept xs e n le = take-append-le n xs (e ∷ []) le
 
-all_taken : (xs : List Sentence) (e : Sentence) → take (suc (length xs)) (xs ++ e ∷ []) ≡ xs ++ e ∷ []
+pub all_taken : (xs : List Sentence) (e : Sentence) → take (suc (length xs)) (xs ++ e ∷ []) ≡ xs ++ e ∷ []
 all_taken xs e = take_all (suc (length xs)) (xs ++ e ∷ []) (let h = length_pushed xs e in omega arith)
 
 begun_grown : (xs : List Sentence) (e : Sentence) (x : ℕ) → IsBegun xs x → IsBegun (xs ++ e ∷ []) x
