@@ -15,7 +15,7 @@ pub fronts : {X : Type 0} (xs : List X) (n m : ℕ) → n ≤ m → take n (take
 fronts xs n m le = take-take n m xs le
 
 -- a block is open after a front, if it is after a longer one
-unclosed_shorter : (xs : List Sentence) (n m x : ℕ) → n ≤ m → IsUnclosed (take m xs) x → IsUnclosed (take n xs) x
+pub unclosed_shorter : (xs : List Sentence) (n m x : ℕ) → n ≤ m → IsUnclosed (take m xs) x → IsUnclosed (take n xs) x
 unclosed_shorter xs n m x le still = subst (λ ys. IsUnclosed ys x) (fronts xs n m le) (unclosed_front (take m xs) n x still)
 
 -- a block is open after the front that ends with its `$}` or earlier

@@ -4,3 +4,4 @@ pub mod Scopes
 pub mod Actives
 pub mod Depth
 pub mod Stays
+pub mod Meant

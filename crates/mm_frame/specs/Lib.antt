@@ -9,3 +9,4 @@ pub mod Found
 pub mod Taken
 pub mod FramePlace
 pub mod Scopes
+pub mod Latest
