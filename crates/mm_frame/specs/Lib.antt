@@ -8,4 +8,7 @@ pub mod Numbers
 pub mod Found
 pub mod Taken
 pub mod FramePlace
+pub mod Scopes
+pub mod Latest
+pub mod Stated
 pub mod Layout

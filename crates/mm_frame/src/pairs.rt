@@ -2,6 +2,7 @@
 
 use indexmap::IndexMap;
 use std::alloc::{AllocError, Global};
+use std::marker::Model;
 
 /// That a `$d` states a pair, and which one stated it before.
 #[derive(Clone, Copy)]
@@ -25,6 +26,17 @@ pub struct Pairs {
 /// The pair of two numbers, the lesser one first.
 pub(crate) fn in_order(a: u32, b: u32) -> (u32, u32) {
     if a < b { (a, b) } else { (b, a) }
+}
+
+impl Model for Pairs {
+    ghost use Rattle.std.specs.Prelude.{List, map};
+    ghost use Rattle.mm_frame.specs.Stated.{Stated, stated_by, AreLinked};
+
+    ghost Value = { List Stated };
+
+    ghost view = { λ p. map stated_by p.spans.items };
+
+    ghost invariant = { λ p. AreLinked p.spans.items p.newest };
 }
 
 impl Pairs {

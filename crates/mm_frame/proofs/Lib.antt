@@ -1,0 +1,7 @@
+pub mod Pushed
+pub mod Counts
+pub mod ScopeLaws
+pub mod Actives
+pub mod Depth
+pub mod Stays
+pub mod Meant
