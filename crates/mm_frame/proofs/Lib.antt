@@ -5,3 +5,4 @@ pub mod Actives
 pub mod Depth
 pub mod Stays
 pub mod Meant
+pub mod Numbered
