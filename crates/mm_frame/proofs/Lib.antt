@@ -6,3 +6,5 @@ pub mod Depth
 pub mod Stays
 pub mod Meant
 pub mod Numbered
+pub mod Labelled
+pub mod Those
