@@ -8,3 +8,5 @@ pub mod Meant
 pub mod Numbered
 pub mod Labelled
 pub mod Those
+pub mod Decided
+pub mod Needed
