@@ -7,7 +7,7 @@ use Rattle.mm_frame.specs.Active.{openings, closings, IsOpen, IsActive}
 use Rattle.mm_frame.specs.Scopes.{IsUnclosed, AreScopes}
 use Rattle.mm_frame.proofs.Pushed.{get_within}
 use Rattle.mm_frame.proofs.Counts.{unclosed_front}
-use Rattle.mm_frame.proofs.Scopes.{start_within}
+use Rattle.mm_frame.proofs.ScopeLaws.{start_within}
 use Rattle.mm_frame.proofs.Actives.{scope_active_now}
 
 -- the open blocks are one more than the `${` that no `$}` has closed

@@ -1,6 +1,6 @@
 pub mod Pushed
 pub mod Counts
-pub mod Scopes
+pub mod ScopeLaws
 pub mod Actives
 pub mod Depth
 pub mod Stays

@@ -8,7 +8,7 @@ use Rattle.mm_frame.specs.Sentence.{Sentence}
 use Rattle.mm_frame.specs.Active.{is_closing, IsOpen, Holds, IsActive}
 use Rattle.mm_frame.proofs.Pushed.{get_kept, get_before}
 use Rattle.mm_frame.proofs.Counts.{openings-append, closings-append, unclosed_pushed, unclosed_before, unclosed_all}
-use Rattle.mm_frame.proofs.Scopes.{closings_one, length_pushed, all_taken}
+use Rattle.mm_frame.proofs.ScopeLaws.{closings_one, length_pushed, all_taken}
 use Rattle.mm_frame.proofs.Actives.{holds_kept, holds_back}
 
 pub not_closing : (kind : Kind) → ¬ (kind ≡ Closing) → is_closing kind ≡ false

@@ -10,3 +10,5 @@ pub mod Taken
 pub mod FramePlace
 pub mod Scopes
 pub mod Latest
+pub mod Stated
+pub mod Layout

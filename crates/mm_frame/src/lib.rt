@@ -2,9 +2,25 @@
 #![tactic(auto)]
 
 mod answer;
+mod book;
+mod frame;
+mod framing;
+mod growth;
+mod lookups;
+mod names;
 mod number;
+mod pairs;
 mod rule;
+mod rules;
+mod said;
+mod scopes;
+mod tables;
 
 pub use answer::{Found, RuleFault, Taken};
+pub use book::Book;
+pub use frame::Frame;
 pub use number::{LabelId, LabelKind, Sym};
 pub use rule::MeaningRule;
+
+#[cfg(test)]
+mod tests;

@@ -1,0 +1,107 @@
+//! The frame of an assertion, from the lists as they are before it.
+
+use crate::number::{LabelId, Sym};
+use crate::tables::Tables;
+use std::alloc::AllocError;
+
+// Notes the places of the `$f` of the variables in an expression.
+fn add_floating(
+    tables: &Tables,
+    expression: &[Sym],
+    places: &mut Vec<usize>,
+) -> Result<(), AllocError> {
+    for symbol in expression {
+        match tables.info(*symbol) {
+            Some(info) => match info.floating {
+                Some(place) => places.push(place)?,
+                None => {}
+            },
+            None => {}
+        }
+    }
+    Ok(())
+}
+
+// The places of the mandatory hypotheses, in no order and with repetitions.
+fn mandatory_unsorted(tables: &Tables, expression: &[Sym]) -> Result<Vec<usize>, AllocError> {
+    let mut places = Vec::new(tables.alloc);
+    add_floating(tables, expression, &mut places)?;
+    for place in &tables.essentials {
+        places.push(*place)?;
+        add_floating(tables, tables.symbols_at(*place), &mut places)?;
+    }
+    Ok(places)
+}
+
+// A list in order, without the repetitions that stand side by side.
+fn without_repetitions(tables: &Tables, sorted: &[usize]) -> Result<Vec<usize>, AllocError> {
+    let mut once = Vec::new(tables.alloc);
+    for place in sorted {
+        if once.last() != Some(place) {
+            once.push(*place)?;
+        }
+    }
+    Ok(once)
+}
+
+/// The places of the mandatory hypotheses of an assertion, in order.
+pub(crate) fn mandatory(tables: &Tables, expression: &[Sym]) -> Result<Vec<usize>, AllocError> {
+    let mut places = mandatory_unsorted(tables, expression)?;
+    places.sort_unstable();
+    without_repetitions(tables, &places)
+}
+
+/// The labels' numbers of the statements at some places.
+pub(crate) fn label_ids(tables: &Tables, places: &[usize]) -> Result<Vec<LabelId>, AllocError> {
+    let mut ids = Vec::new(tables.alloc);
+    for place in places {
+        match tables.log.get(*place) {
+            Some(entry) => match entry.label {
+                Some(id) => ids.push(id)?,
+                None => {}
+            },
+            None => {}
+        }
+    }
+    Ok(ids)
+}
+
+// The variables of the `$f` at some places, and nothing of a `$e`.
+fn typed_by(tables: &Tables, places: &[usize]) -> Result<Vec<Sym>, AllocError> {
+    let mut variables = Vec::new(tables.alloc);
+    for place in places {
+        match tables.floating_variable(*place) {
+            Some(variable) => variables.push(variable)?,
+            None => {}
+        }
+    }
+    Ok(variables)
+}
+
+// The distinct pairs of one variable with some others.
+fn add_pairs(
+    tables: &Tables,
+    variable: Sym,
+    others: &[Sym],
+    pairs: &mut Vec<(Sym, Sym)>,
+) -> Result<(), AllocError> {
+    for other in others {
+        if tables.is_distinct(*other, variable, tables.log.len()) {
+            pairs.push((*other, variable))?;
+        }
+    }
+    Ok(())
+}
+
+/// The mandatory distinct pairs of an assertion whose mandatory hypotheses stand at these places.
+pub(crate) fn mandatory_pairs(
+    tables: &Tables,
+    places: &[usize],
+) -> Result<Vec<(Sym, Sym)>, AllocError> {
+    let variables = typed_by(tables, places)?;
+    let mut pairs = Vec::new(tables.alloc);
+    for i in 0..variables.len() {
+        add_pairs(tables, variables[i], &variables[..i], &mut pairs)?;
+    }
+    Ok(pairs)
+}

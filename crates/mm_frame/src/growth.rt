@@ -1,0 +1,251 @@
+//! Taking a statement that breaks no rule into the lists: room is made first, so that nothing can
+//! fail once something is written.
+
+use crate::answer::Taken;
+use crate::framing::{label_ids, mandatory, mandatory_pairs};
+use crate::number::{LabelId, Sym};
+use crate::pairs::in_order;
+use crate::tables::{Entry, LabelInfo, Part, SymbolInfo, Tables};
+use mm_text::{Kind, Statement, Token};
+use std::alloc::AllocError;
+
+// Adds an element to a list that has room.
+fn put<T: Drop>(list: &mut Vec<T>, value: T) {
+    let _ = list.push(value);
+}
+
+// Nothing of a list.
+const NO_PART: Part = Part { start: 0, end: 0 };
+
+impl<'a> Tables<'a> {
+    // The numbers of declared symbols.
+    fn numbers_of(&self, symbols: &[Token]) -> Result<Vec<Sym>, AllocError> {
+        let mut numbers = Vec::new(self.alloc);
+        for token in symbols {
+            match self.symbols.find(token.text) {
+                Some(number) => numbers.push(Sym(number))?,
+                None => {}
+            }
+        }
+        Ok(numbers)
+    }
+
+    // Makes room for a statement of so many symbols, and for its label.
+    fn reserve(&mut self, symbols: usize) -> Result<(), AllocError> {
+        self.log.reserve(1)?;
+        self.flat.reserve(symbols)?;
+        self.essentials.reserve(1)?;
+        self.named.reserve(1)?;
+        self.labels.reserve(1)?;
+        self.scopes.reserve()
+    }
+
+    // Writes the entry of a statement whose symbols stand at the end of the list of symbols.
+    fn enter(&mut self, kind: Kind, label: Option<LabelId>, start: usize) {
+        let symbols = Part {
+            start,
+            end: self.flat.len(),
+        };
+        self.scopes.push(kind);
+        put(&mut self.log, Entry {
+            kind,
+            label,
+            symbols,
+        });
+    }
+
+    // Takes a `${` in.
+    fn open(&mut self) -> Result<Taken, AllocError> {
+        self.reserve(0)?;
+        self.enter(Kind::Opening, None, self.flat.len());
+        Ok(Taken::Opened)
+    }
+
+    // Takes a `$}` in: the active `$e` of its block aren't active any more.
+    fn close(&mut self) -> Result<Taken, AllocError> {
+        self.reserve(0)?;
+        self.enter(Kind::Closing, None, self.flat.len());
+        self.forget_inactive();
+        Ok(Taken::Closed)
+    }
+
+    // Drops the `$e` at the end of their list that aren't active.
+    fn forget_inactive(&mut self) {
+        for _ in 0..self.essentials.len() {
+            match self.essentials.last() {
+                Some(place) if self.is_active_now(*place) => return,
+                _ => {
+                    let _ = self.essentials.pop();
+                }
+            }
+        }
+    }
+
+    // Takes a declared symbol in, where it is new.
+    fn declare(&mut self, symbol: &'a [u8], variable: Option<usize>) {
+        match self.symbols.find(symbol) {
+            Some(number) => {
+                if let Some(info) = self.infos.get_mut(number as usize) {
+                    info.variable = variable;
+                }
+                put(&mut self.flat, Sym(number));
+            }
+            None => {
+                put(&mut self.flat, Sym(self.symbols.len() as u32));
+                let _ = self.symbols.add(symbol);
+                put(&mut self.infos, SymbolInfo {
+                    variable,
+                    floating: None,
+                });
+            }
+        }
+    }
+
+    // Takes a `$c` or `$v` in.
+    fn declare_all(&mut self, statement: &Statement<'a>) -> Result<Taken, AllocError> {
+        let place = self.log.len();
+        let start = self.flat.len();
+        self.symbols.reserve(statement.symbols.len())?;
+        self.infos.reserve(statement.symbols.len())?;
+        self.reserve(statement.symbols.len())?;
+        let variable = if statement.kind == Kind::Variables {
+            Some(place)
+        } else {
+            None
+        };
+        for token in &statement.symbols {
+            self.declare(token.text, variable);
+        }
+        self.enter(statement.kind, None, start);
+        Ok(Taken::Declared)
+    }
+
+    // Takes the pairs of one member of a `$d` with the members before it in.
+    fn separate(&mut self, member: Sym, others: &[Sym], place: usize) {
+        for other in others {
+            if !self.is_distinct(member, *other, place) {
+                self.distinct.add(in_order(member.0, other.0), place);
+            }
+        }
+    }
+
+    // Takes a `$d` in.
+    fn separate_all(&mut self, numbers: &[Sym]) -> Result<Taken, AllocError> {
+        let place = self.log.len();
+        let start = self.flat.len();
+        self.distinct.reserve(numbers.len().saturating_mul(numbers.len()))?;
+        self.reserve(numbers.len())?;
+        let _ = self.flat.extend_from_slice(numbers);
+        for i in 0..numbers.len() {
+            self.separate(numbers[i], &numbers[..i], place);
+        }
+        self.enter(Kind::Distinct, None, start);
+        Ok(Taken::Declared)
+    }
+
+    // Writes a label's entry, and the entry of its statement.
+    fn name(
+        &mut self,
+        kind: Kind,
+        label: &'a [u8],
+        numbers: &[Sym],
+        hypotheses: Part,
+        pairs: Part,
+    ) -> LabelId {
+        let id = LabelId(self.labels.len() as u32);
+        let place = self.log.len();
+        let start = self.flat.len();
+        let _ = self.flat.extend_from_slice(numbers);
+        let _ = self.labels.add(label);
+        put(&mut self.named, LabelInfo {
+            place,
+            hypotheses,
+            pairs,
+        });
+        self.enter(kind, Some(id), start);
+        id
+    }
+
+    // Takes a `$f` in.
+    fn give_type(&mut self, label: &'a [u8], numbers: &[Sym]) -> Result<Taken, AllocError> {
+        self.reserve(numbers.len())?;
+        let place = self.log.len();
+        if let [_, variable] = numbers {
+            if let Some(info) = self.infos.get_mut(variable.0 as usize) {
+                info.floating = Some(place);
+            }
+        }
+        let id = self.name(Kind::Floating, label, numbers, NO_PART, NO_PART);
+        Ok(Taken::Hypothesis(id))
+    }
+
+    // Takes a `$e` in.
+    fn suppose(&mut self, label: &'a [u8], numbers: &[Sym]) -> Result<Taken, AllocError> {
+        self.reserve(numbers.len())?;
+        put(&mut self.essentials, self.log.len());
+        let id = self.name(Kind::Essential, label, numbers, NO_PART, NO_PART);
+        Ok(Taken::Hypothesis(id))
+    }
+
+    // Takes a `$a` or `$p` in, with its frame.
+    fn assert(
+        &mut self,
+        kind: Kind,
+        label: &'a [u8],
+        numbers: &[Sym],
+    ) -> Result<Taken, AllocError> {
+        let places = mandatory(self, numbers)?;
+        let hypotheses = label_ids(self, &places)?;
+        let pairs = mandatory_pairs(self, &places)?;
+        self.hypotheses.reserve(hypotheses.len())?;
+        self.pairs.reserve(pairs.len())?;
+        self.reserve(numbers.len())?;
+        let hypotheses = add_part(&mut self.hypotheses, &hypotheses);
+        let pairs = add_part(&mut self.pairs, &pairs);
+        let id = self.name(kind, label, numbers, hypotheses, pairs);
+        Ok(Taken::Assertion(id))
+    }
+
+    // Takes a labelled statement in.
+    fn take_labelled(
+        &mut self,
+        kind: Kind,
+        label: &'a [u8],
+        numbers: &[Sym],
+    ) -> Result<Taken, AllocError> {
+        match kind {
+            Kind::Floating => self.give_type(label, numbers),
+            Kind::Essential => self.suppose(label, numbers),
+            _ => self.assert(kind, label, numbers),
+        }
+    }
+
+    // Takes a statement in that uses symbols.
+    fn take_use(&mut self, statement: &Statement<'a>) -> Result<Taken, AllocError> {
+        let numbers = self.numbers_of(&statement.symbols)?;
+        match &statement.label {
+            Some(label) => self.take_labelled(statement.kind, label.text, &numbers),
+            None => self.separate_all(&numbers),
+        }
+    }
+
+    /// Takes a statement in that breaks no rule.
+    pub(crate) fn grow(&mut self, statement: &Statement<'a>) -> Result<Taken, AllocError> {
+        match statement.kind {
+            Kind::Opening => self.open(),
+            Kind::Closing => self.close(),
+            Kind::Constants | Kind::Variables => self.declare_all(statement),
+            _ => self.take_use(statement),
+        }
+    }
+}
+
+// Adds elements to the end of a list that has room, and says where they stand.
+fn add_part<T: Copy + Drop>(list: &mut Vec<T>, more: &[T]) -> Part {
+    let start = list.len();
+    let _ = list.extend_from_slice(more);
+    Part {
+        start,
+        end: list.len(),
+    }
+}

@@ -1,0 +1,144 @@
+//! The lists in which a book keeps its statements by numbers.
+
+use crate::names::Names;
+use crate::number::{LabelId, Sym};
+use crate::pairs::Pairs;
+use crate::scopes::Scopes;
+use mm_text::Kind;
+use std::alloc::{AllocError, Global};
+
+/// A part of a list: the places from `start` up to and without `end`.
+#[derive(Clone, Copy)]
+pub(crate) struct Part {
+    pub(crate) start: usize,
+    pub(crate) end: usize,
+}
+
+/// The elements of a part of a list.
+pub(crate) fn part_of<T>(list: &[T], part: Part) -> &[T] {
+    list.get(part.start..part.end).unwrap_or(&[])
+}
+
+/// A statement.
+#[derive(Clone, Copy)]
+pub(crate) struct Entry {
+    pub(crate) kind: Kind,
+    pub(crate) label: Option<LabelId>,
+    /// Where its symbols stand in the list of all symbols.
+    pub(crate) symbols: Part,
+}
+
+/// A declared symbol.
+#[derive(Clone, Copy)]
+pub(crate) struct SymbolInfo {
+    /// The place of the latest `$v` that declares it; a constant has none.
+    pub(crate) variable: Option<usize>,
+    /// The place of its latest `$f`.
+    pub(crate) floating: Option<usize>,
+}
+
+/// A labelled statement.
+#[derive(Clone, Copy)]
+pub(crate) struct LabelInfo {
+    pub(crate) place: usize,
+    /// Of an assertion: where its mandatory hypotheses stand in their list.
+    pub(crate) hypotheses: Part,
+    /// Of an assertion: where its distinct pairs stand in their list.
+    pub(crate) pairs: Part,
+}
+
+/// All lists of a book.
+#[derive(Drop)]
+pub struct Tables<'a> {
+    pub(crate) alloc: Global,
+    /// The declared symbols and the labels, and what is known of each.
+    pub(crate) symbols: Names<'a>,
+    pub(crate) infos: Vec<SymbolInfo>,
+    pub(crate) labels: Names<'a>,
+    pub(crate) named: Vec<LabelInfo>,
+    /// The statements, and the symbols of all of them, one after the other.
+    pub(crate) log: Vec<Entry>,
+    pub(crate) flat: Vec<Sym>,
+    pub(crate) scopes: Scopes,
+    /// The places of the active `$e`, in order.
+    pub(crate) essentials: Vec<usize>,
+    /// The mandatory hypotheses of all assertions, one after the other, and their distinct pairs.
+    pub(crate) hypotheses: Vec<LabelId>,
+    pub(crate) pairs: Vec<(Sym, Sym)>,
+    /// The pairs that `$d` state.
+    pub(crate) distinct: Pairs,
+    /// How many bytes the statements' tokens have.
+    pub(crate) bytes: u64,
+}
+
+impl<'a> Tables<'a> {
+    /// No statements.
+    pub(crate) fn new(alloc: Global) -> Result<Tables<'a>, AllocError> {
+        let scopes = Scopes::new(alloc)?;
+        Ok(Tables {
+            alloc,
+            symbols: Names::new(alloc),
+            infos: Vec::new(alloc),
+            labels: Names::new(alloc),
+            named: Vec::new(alloc),
+            log: Vec::new(alloc),
+            flat: Vec::new(alloc),
+            scopes,
+            essentials: Vec::new(alloc),
+            hypotheses: Vec::new(alloc),
+            pairs: Vec::new(alloc),
+            distinct: Pairs::new(alloc),
+            bytes: 0,
+        })
+    }
+
+    /// What is known of the symbol with a number.
+    pub(crate) fn info(&self, symbol: Sym) -> Option<SymbolInfo> {
+        self.infos.get(symbol.0 as usize).copied()
+    }
+
+    /// What is known of a symbol by its name.
+    pub(crate) fn known(&self, symbol: &[u8]) -> Option<SymbolInfo> {
+        match self.symbols.find(symbol) {
+            Some(number) => self.info(Sym(number)),
+            None => None,
+        }
+    }
+
+    /// What is known of a label.
+    pub(crate) fn label_info(&self, id: LabelId) -> Option<LabelInfo> {
+        self.named.get(id.0 as usize).copied()
+    }
+
+    /// The symbols of the statement at a place.
+    pub(crate) fn symbols_at(&self, place: usize) -> &[Sym] {
+        match self.log.get(place) {
+            Some(entry) => part_of(&self.flat, entry.symbols),
+            None => &[],
+        }
+    }
+
+    /// The variable of the `$f` at a place.
+    pub(crate) fn floating_variable(&self, place: usize) -> Option<Sym> {
+        match self.log.get(place) {
+            Some(entry) => match part_of(&self.flat, entry.symbols) {
+                [_, variable] if entry.kind == Kind::Floating => Some(*variable),
+                _ => None,
+            },
+            None => None,
+        }
+    }
+
+    /// Whether the statement at a place is active now.
+    pub(crate) fn is_active_now(&self, place: usize) -> bool {
+        self.scopes.is_active(place, self.log.len())
+    }
+
+    /// Whether two symbols are a distinct pair after the statements before a place.
+    pub(crate) fn is_distinct(&self, a: Sym, b: Sym, at: usize) -> bool {
+        match self.distinct.latest(crate::pairs::in_order(a.0, b.0), at) {
+            Some(place) => a != b && self.scopes.is_active(place, at),
+            None => false,
+        }
+    }
+}
