@@ -6,3 +6,9 @@ pub mod Depth
 pub mod Stays
 pub mod Meant
 pub mod NameLists
+pub mod ScopeCode
+pub mod Numbered
+pub mod Labelled
+pub mod Those
+pub mod Decided
+pub mod Needed

@@ -6,6 +6,7 @@ mod book;
 mod frame;
 mod framing;
 mod growth;
+mod lists;
 mod lookups;
 mod names;
 mod number;
