@@ -10,3 +10,5 @@ pub mod Labelled
 pub mod Those
 pub mod Decided
 pub mod Needed
+pub mod Entries
+pub mod Lawful

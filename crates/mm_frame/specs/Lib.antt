@@ -12,3 +12,4 @@ pub mod Scopes
 pub mod Latest
 pub mod Stated
 pub mod Layout
+pub mod Laws
