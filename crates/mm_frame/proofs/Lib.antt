@@ -11,4 +11,5 @@ pub mod Those
 pub mod Decided
 pub mod Needed
 pub mod Entries
+pub mod Infos
 pub mod Lawful
