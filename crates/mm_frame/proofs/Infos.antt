@@ -1,5 +1,5 @@
 -- What is known of each symbol, as a statement is added.
-use Rattle.std.proofs.Common.{◌≡◌, ◌≢◌, ℕ, zero, suc, ◌<◌, ◌≤◌, ◌⊎◌, inl, inr, length, set, List, [], ◌∷◌, ◌++◌, Contains, Option, Some, None, refl, sym, ap, ◌∙◌, subst, length-set, arith}
+use Rattle.std.proofs.Common.{◌≡◌, ◌≢◌, ℕ, zero, suc, ◌<◌, ◌≤◌, ◌⊎◌, inl, inr, length, take, set, List, [], ◌∷◌, ◌++◌, Contains, Option, Some, None, refl, sym, ap, ◌∙◌, subst, length-set, arith}
 use Rattle.std.specs.List.{slice_get, fold}
 use Rattle.std.proofs.lemmas.Option.{slice_get_within}
 use Rattle.std.proofs.lemmas.Bool.{cases_eq}
@@ -200,3 +200,81 @@ infos_known_constant st symbols xs infos x n are named =
         floating = latest_replaced (GivesType y) st e d info.floating (λ h. absurd (no_type_first Constants xs y (inl refl) h)) (λ h. absurd (no_type_first Constants (xs ++ x ∷ []) y (inl refl) h)) old.floating;
       };
     }
+
+-- a symbol that isn't known yet: no `$v` and no `$f` names it
+unknown_untyped : (st : List Sentence) (e : Sentence) (x : List ℕ) → AllMeant st → ¬ (e.kind ≡ Floating) → ¬ (At (symbols_of (st ++ e ∷ [])) x) → ¬ (SomeSentence (st ++ e ∷ []) (GivesType x))
+unknown_untyped st e x meant other unknown (p, f, there, (code, types)) = elim (pushed_cases st e p f there) [
+  | inl before ↦
+      let variable = some_later st p (Declares Variables x) (typed_variable (take p st) f code x (meant_at st p f meant before) types) in
+      let (k, s, at, declares) = variable in
+      unknown (number_from_declared (st ++ e ∷ []) x (inr (k, s, get_kept st (e ∷ []) k s at, declares)))
+  | inr (last, same) ↦ other (ap (λ (s : Sentence). s.kind) same ∙ types.0)
+]
+
+pub infos_fresh : (st : List Sentence) (kind : Kind) (symbols xs : List (List ℕ)) (infos : List SymbolInfo) (x : List ℕ) (v : Option ℕ) → AllMeant st → (kind ≡ Constants) ⊎ (kind ≡ Variables)
+    → AreInfos (st ++ of_kind kind xs ∷ []) symbols infos → ¬ (Contains symbols x) → IsLatestIn (Declares Variables x) (st ++ of_kind kind (xs ++ x ∷ []) ∷ []) v
+    → AreInfos (st ++ of_kind kind (xs ++ x ∷ []) ∷ []) (symbols ++ x ∷ []) (infos ++ record { variable = v; floating = None } ∷ [])
+infos_fresh st kind symbols xs infos x v meant which are unknown latest =
+    let e = of_kind kind xs in
+    let d = of_kind kind (xs ++ x ∷ []) in
+    let new : SymbolInfo = record { variable = v; floating = None } in
+    let informed = are.informed in
+    let absent : ¬ (At symbols x) = λ at. unknown (contains_from_at symbols x at) in
+    let absent_before : ¬ (At (symbols_of (st ++ e ∷ [])) x) = λ (i, at). absent (i, subst (λ names. slice_get names i ≡ Some x) (sym are.all) at) in
+    let all : symbols ++ x ∷ [] ≡ symbols_of (st ++ d ∷ []) =
+          ap (λ names. names ++ x ∷ []) are.all ∙ sym (names_more st kind xs x which ∙ fresh_name (symbols_of (st ++ e ∷ [])) x absent_before) in
+    record {
+      all = all;
+      informed = length_pushed infos new ∙ ap suc informed ∙ sym (length_pushed symbols x);
+      each = λ m y info at found. elim (pushed_cases symbols x m y at) [
+        | inl before ↦
+            let lt = slice_get_within symbols m y before in
+            let old = are.each m y info before (get_before infos (new ∷ []) m info (omega arith) found) in
+            let differs : x ≢ y = λ same. absent (m, before ∙ ap (λ z. Some z) (sym same)) in
+            record {
+              variable = latest_replaced (Declares Variables y) st e d info.variable (λ h. (h.0, contains_push xs x y h.1)) (λ h. (h.0, contains_unpush xs x y differs h.1)) old.variable;
+              floating = latest_replaced (GivesType y) st e d info.floating (λ h. absurd (no_type_first kind xs y which h)) (λ h. absurd (no_type_first kind (xs ++ x ∷ []) y which h)) old.floating;
+            }
+        | inr (last, same) ↦ elim (pushed_cases infos new m info found) [
+          | inl before ↦ absurd (let lt = slice_get_within infos m info before in omega arith)
+          | inr (at_end, is) ↦
+              subst (λ i. IsInfo (st ++ d ∷ []) y i) is (subst (λ z. IsInfo (st ++ d ∷ []) z new) same (record {
+                variable = latest;
+                floating = untyped st e d x meant which absent_before refl;
+              }))
+        ]
+      ];
+    }
+  where
+    untyped : (st : List Sentence) (e d : Sentence) (x : List ℕ) → AllMeant st → (kind ≡ Constants) ⊎ (kind ≡ Variables) → ¬ (At (symbols_of (st ++ of_kind kind xs ∷ [])) x) → d ≡ of_kind kind (xs ++ x ∷ [])
+        → ¬ (SomeSentence (st ++ d ∷ []) (GivesType x))
+    untyped st e d x meant which absent is (p, f, there, types) = elim (pushed_cases st d p f there) [
+      | inl before ↦ unknown_untyped st (of_kind kind xs) x meant (λ floats. elim which [ inl c ↦ absurd (cc) | inr w ↦ absurd (cc) ]) absent (p, f, get_kept st (of_kind kind xs ∷ []) p f before, types)
+      | inr (last, same) ↦ no_type_first kind (xs ++ x ∷ []) x which (subst (GivesType x) (sym same ∙ is) types)
+    ]
+
+pub infos_fresh_variable : (st : List Sentence) (symbols xs : List (List ℕ)) (infos : List SymbolInfo) (x : List ℕ) → AllMeant st
+    → AreInfos (st ++ of_kind Variables xs ∷ []) symbols infos → ¬ (Contains symbols x)
+    → AreInfos (st ++ of_kind Variables (xs ++ x ∷ []) ∷ []) (symbols ++ x ∷ []) (infos ++ record { variable = Some (length st); floating = None } ∷ [])
+infos_fresh_variable st symbols xs infos x meant are unknown =
+    infos_fresh st Variables symbols xs infos x (Some (length st)) meant (inr refl) are unknown (latest_new (Declares Variables x) st (of_kind Variables (xs ++ x ∷ [])) (refl, contains_last xs x))
+
+pub infos_fresh_constant : (st : List Sentence) (symbols xs : List (List ℕ)) (infos : List SymbolInfo) (x : List ℕ) → AllMeant st
+    → AreInfos (st ++ of_kind Constants xs ∷ []) symbols infos → ¬ (Contains symbols x)
+    → AreInfos (st ++ of_kind Constants (xs ++ x ∷ []) ∷ []) (symbols ++ x ∷ []) (infos ++ record { variable = None; floating = None } ∷ [])
+infos_fresh_constant st symbols xs infos x meant are unknown =
+    infos_fresh st Constants symbols xs infos x None meant (inl refl) are unknown (λ (p, s, there, declares). elim (pushed_cases st (of_kind Constants (xs ++ x ∷ [])) p s there) [
+      | inl before ↦
+          let e = of_kind Constants xs in
+          let (n, at) = number_from_declared (st ++ e ∷ []) x (inr (p, s, get_kept st (e ∷ []) p s before, declares)) in
+          unknown (contains_from_at symbols x (n, subst (λ names. slice_get names n ≡ Some x) (sym are.all) at))
+      | inr (last, same) ↦ no_variable (xs ++ x ∷ []) x (subst (Declares Variables x) (sym same) declares)
+    ])
+
+-- before its symbols are taken, a `$c` or `$v` says nothing of them
+pub infos_begin : (st : List Sentence) (symbols : List (List ℕ)) (infos : List SymbolInfo) (kind : Kind) → AreInfos st symbols infos → (kind ≡ Constants) ⊎ (kind ≡ Variables) → AreInfos (st ++ of_kind kind [] ∷ []) symbols infos
+infos_begin st symbols infos kind are which =
+    infos_other st symbols infos (of_kind kind []) are (declaring_all kind [] which) (λ floats. elim which [ inl c ↦ absurd (cc) | inr w ↦ absurd (cc) ])
+
+pub infos_none : AreInfos [] [] []
+infos_none = record { all = sym symbols_none; informed = refl; each = λ n x info at found. absurd (cc) }

@@ -12,4 +12,5 @@ pub mod Decided
 pub mod Needed
 pub mod Entries
 pub mod Infos
+pub mod Labels
 pub mod Lawful
