@@ -7,6 +7,8 @@ pub mod Stays
 pub mod Meant
 pub mod NameLists
 pub mod ScopeCode
+pub mod LookupLaws
+pub mod SymbolsAt
 pub mod Numbered
 pub mod Labelled
 pub mod Those
