@@ -13,4 +13,5 @@ pub mod Needed
 pub mod Entries
 pub mod Infos
 pub mod Labels
+pub mod FrameLaws
 pub mod Lawful

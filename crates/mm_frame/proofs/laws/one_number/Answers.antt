@@ -1,3 +1,4 @@
+use Rattle.mm_frame.proofs.FrameLaws.{placed}
 use Rattle.mm_frame.proofs.Labels.{labels_none}
 use Rattle.mm_frame.proofs.Infos.{infos_other}
 use Rattle.mm_frame.proofs.Entries.{sentences_push}
