@@ -5,6 +5,8 @@ pub mod Actives
 pub mod Depth
 pub mod Stays
 pub mod Meant
+pub mod NameLists
+pub mod ScopeCode
 pub mod Numbered
 pub mod Labelled
 pub mod Those

@@ -10,6 +10,8 @@ pub mod Taken
 pub mod FramePlace
 pub mod Scopes
 pub mod Latest
+pub mod NameTable
 pub mod Stated
+pub mod ScopesOf
 pub mod Layout
 pub mod Laws
