@@ -16,4 +16,5 @@ pub mod Entries
 pub mod Infos
 pub mod Labels
 pub mod FrameLaws
+pub mod FrameOf
 pub mod Lawful
