@@ -1,5 +1,6 @@
 //! The lists in which a book keeps its statements by numbers.
 
+use crate::lists::at;
 use crate::names::Names;
 use crate::number::{LabelId, Sym};
 use crate::pairs::Pairs;
@@ -72,6 +73,10 @@ pub struct Tables<'a> {
 }
 
 impl<'a> Tables<'a> {
+    ghost use Rattle.std.specs.Prelude.{◌≡◌, ◌↔◌, ◌<◌, IsTrue, MatchOption, length, slice_get};
+    ghost use Rattle.mm_frame.specs.Active.{IsActive};
+    ghost use Rattle.mm_frame.specs.Layout.{AreTables, statements_of, IsDeclared, IsKnown};
+
     /// No statements.
     pub(crate) fn new(alloc: Global) -> Result<Tables<'a>, AllocError> {
         let scopes = Scopes::new(alloc)?;
@@ -93,12 +98,20 @@ impl<'a> Tables<'a> {
     }
 
     /// What is known of the symbol with a number.
-    pub(crate) fn info(&self, symbol: Sym) -> Option<SymbolInfo> {
-        self.infos.get(symbol.0 as usize).copied()
+    pub(crate) fn info(&self, symbol: Sym) -> Option<SymbolInfo>
+        ensures { result ≡ slice_get self.now.infos.items symbol.0 }
+    {
+        at(&self.infos, symbol.0 as usize)
     }
 
     /// What is known of a symbol by its name.
-    pub(crate) fn known(&self, symbol: &[u8]) -> Option<SymbolInfo> {
+    pub(crate) fn known(&self, symbol: &[u8]) -> Option<SymbolInfo>
+        requires { AreTables self.now }
+        ensures { MatchOption
+            result
+            (¬ (IsDeclared (statements_of self.now) symbol.now))
+            (λ info. IsKnown (statements_of self.now) symbol.now info) }
+    {
         match self.symbols.find(symbol) {
             Some(number) => self.info(Sym(number)),
             None => None,
@@ -106,8 +119,10 @@ impl<'a> Tables<'a> {
     }
 
     /// What is known of a label.
-    pub(crate) fn label_info(&self, id: LabelId) -> Option<LabelInfo> {
-        self.named.get(id.0 as usize).copied()
+    pub(crate) fn label_info(&self, id: LabelId) -> Option<LabelInfo>
+        ensures { result ≡ slice_get self.now.named.items id.0 }
+    {
+        at(&self.named, id.0 as usize)
     }
 
     /// The symbols of the statement at a place.
@@ -130,7 +145,11 @@ impl<'a> Tables<'a> {
     }
 
     /// Whether the statement at a place is active now.
-    pub(crate) fn is_active_now(&self, place: usize) -> bool {
+    pub(crate) fn is_active_now(&self, place: usize) -> bool
+        requires { AreTables self.now }
+        ensures { place < length (statements_of self.now)
+            → (IsTrue result ↔ IsActive (statements_of self.now) place) }
+    {
         self.scopes.is_active(place, self.log.len())
     }
 
