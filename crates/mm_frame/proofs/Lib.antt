@@ -17,4 +17,5 @@ pub mod Infos
 pub mod Labels
 pub mod FrameLaws
 pub mod FrameOf
+pub mod DistinctAt
 pub mod Lawful

@@ -1,3 +1,4 @@
+use Rattle.mm_frame.proofs.DistinctAt.{stated_push}
 use Rattle.mm_frame.proofs.FrameOf.{mandatory_gathered}
 use Rattle.mm_frame.proofs.FrameLaws.{placed}
 use Rattle.mm_frame.proofs.Labels.{labels_none}
