@@ -18,4 +18,6 @@ pub mod Labels
 pub mod FrameLaws
 pub mod FrameOf
 pub mod DistinctAt
+pub mod Order
+pub mod Repeats
 pub mod Lawful
