@@ -17,4 +17,9 @@ pub mod Needed
 pub mod Entries
 pub mod Infos
 pub mod Labels
+pub mod FrameLaws
+pub mod FrameOf
+pub mod DistinctAt
+pub mod Order
+pub mod Repeats
 pub mod Lawful
