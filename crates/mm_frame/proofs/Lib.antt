@@ -9,6 +9,8 @@ pub mod NameLists
 pub mod ScopeCode
 pub mod LookupLaws
 pub mod SymbolsAt
+pub mod Places
+pub mod Symbols
 pub mod Numbered
 pub mod Labelled
 pub mod Those
