@@ -1,5 +1,5 @@
 -- The symbols of a statement, as its tokens spell them.
-use Rattle.std.proofs.Common.{◌≡◌, ◌≤◌, get_or, arith, ◌↔◌, IsTrue, Contains, ℕ, length, Bool, true, false, List, [], ◌∷◌, map, Option, refl, sym, ap, subst}
+use Rattle.std.proofs.Common.{◌≡◌, ◌≤◌, ◌⊎◌, inl, inr, get_or, arith, ◌↔◌, IsTrue, Contains, ℕ, length, Bool, true, false, List, [], ◌∷◌, map, Option, refl, sym, ap, subst}
 use Rattle.std.specs.List.{FoldsTo}
 use Rattle.std.specs.Option.{MatchOption}
 use Rattle.std.specs.Iterator.{YieldsThen}
@@ -49,3 +49,21 @@ first_symbol tokens (t ∷ items) d same some =
 -- a test that holds, and then another
 pub with_test : {K Q : Type 0} (r : Bool) → K → (IsTrue r ↔ Q) → IsTrue r ↔ (K × Q)
 with_test r k h = ((λ t. (k, h.0 t)), (λ q. h.1 q.1))
+
+-- where no symbol stands twice, that alternative adds nothing
+pub none_twice : (symbols : List (List ℕ)) (A B Twice : List ℕ → Type 0) (r : Bool) → ¬ ((x : List ℕ) × Contains symbols x × Twice x)
+    → (IsTrue r ↔ ((x : List ℕ) × Contains symbols x × (A x ⊎ B x))) → IsTrue r ↔ ((x : List ℕ) × Contains symbols x × (A x ⊎ B x ⊎ Twice x))
+none_twice symbols A B Twice r once h = ((λ t. more (h.0 t)), (λ q. h.1 (fewer q)))
+  where
+    more : (x : List ℕ) × Contains symbols x × (A x ⊎ B x) → (x : List ℕ) × Contains symbols x × (A x ⊎ B x ⊎ Twice x)
+    more (x, there, inl a) = (x, there, inl a)
+    more (x, there, inr b) = (x, there, inr (inl b))
+    fewer : (x : List ℕ) × Contains symbols x × (A x ⊎ B x ⊎ Twice x) → (x : List ℕ) × Contains symbols x × (A x ⊎ B x)
+    fewer (x, there, inl a) = (x, there, inl a)
+    fewer (x, there, inr (inl b)) = (x, there, inr b)
+    fewer (x, there, inr (inr t)) = absurd (once (x, there, t))
+
+-- what a test that failed tells of isn't so
+pub not_so : {P : Type 0} (r : Bool) → r ≡ false → (IsTrue r ↔ P) → ¬ P
+not_so true e h p = absurd (cc)
+not_so false e h p = absurd (cc (h.1 p))
