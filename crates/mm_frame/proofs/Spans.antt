@@ -1,9 +1,11 @@
 -- The spans of pairs, one after the other and linked.
-use Rattle.std.proofs.Common.{◌≡◌, ◌≢◌, ℕ, zero, suc, ◌+◌, ◌<◌, ◌≤◌, ◌⊎◌, inl, inr, Bool, true, false, ◌&&◌, ◌==◌, length, List, [], ◌∷◌, ◌++◌, map, Option, Some, None, refl, sym, ap, ◌∙◌, subst, arith}
+use Rattle.std.proofs.Common.{◌≡◌, ◌≢◌, ℕ, zero, suc, ◌+◌, ◌<◌, ◌≤◌, ◌⊎◌, inl, inr, Bool, true, false, cond, ◌&&◌, ◌==◌, length, length-append, List, [], ◌∷◌, ◌++◌, map, Option, Some, None, refl, sym, ap, ◌∙◌, subst, arith}
 use Rattle.std.specs.List.{slice_get}
 use Rattle.std.specs.Option.{option_and_then, option_map}
 use Rattle.std.proofs.lemmas.Option.{slice_get_within, slice_get-map}
-use Rattle.std.proofs.lemmas.Bool.{cases_lt, cases_order}
+use Rattle.std.proofs.lemmas.Bool.{cases_lt, cases_order, cases_Bool, and_parts, and_from, eqb-true, eq-eqb}
+use Rattle.std.specs.Map.{update}
+use Rattle.indexmap.specs.IndexMap.{IndexMap, get}
 use Rattle.mm_frame.specs.declared.pairs.Span.{Span}
 use Rattle.mm_frame.specs.Stated.{Stated, stated_by, IsLastSpan, IsLatestStated, AreOlder, AreLinked, is_same_key}
 use Rattle.mm_frame.proofs.Pushed.{get_kept, get_pushed, pushed_cases, get_before, get_within}
@@ -116,3 +118,68 @@ step_none spans newest None before steps is found pair last = left_none spans ne
 step_none spans newest (Some k) before steps is found pair last =
     let (n, within, (lt, (s, at, same), after), done) = is.left pair last in
     absurd (cc)
+
+-- ---- one span more
+
+last_grow : (spans more : List Span) (n : ℕ) (pair : ℕ × ℕ) (o : Option ℕ) → n ≤ length spans → IsLastSpan spans n pair o → IsLastSpan (spans ++ more) n pair o
+last_grow spans more n pair None le none = λ j span lt there. none j span lt (get_before spans more j span (omega arith) there)
+last_grow spans more n pair (Some k) le (lt, (s, at, same), after) =
+    (lt, (s, get_kept spans more k s at, same), λ j span above below there. after j span above below (get_before spans more j span (omega arith) there))
+
+last_passed : (spans : List Span) (n : ℕ) (pair : ℕ × ℕ) (o : Option ℕ) (s : Span) → slice_get spans n ≡ Some s → s.pair ≢ pair → IsLastSpan spans n pair o → IsLastSpan spans (suc n) pair o
+last_passed spans n pair None s there other none = λ j span lt at. elim (cases_lt j n) [
+  | inl less ↦ none j span less at
+  | inr more ↦
+      let here : j ≡ n = omega arith in
+      let same : s ≡ span = let f = subst (λ m. slice_get spans m ≡ Some span) here at in cc in
+      λ e. other (ap (λ (t : Span). t.pair) same ∙ e)
+]
+last_passed spans n pair (Some k) s there other (lt, found, after) = (omega arith, found, λ j span above below at. elim (cases_lt j n) [
+  | inl less ↦ after j span above less at
+  | inr more ↦
+      let here : j ≡ n = omega arith in
+      let same : s ≡ span = let f = subst (λ m. slice_get spans m ≡ Some span) here at in cc in
+      λ e. other (ap (λ (t : Span). t.pair) same ∙ e)
+])
+
+last_here : (spans : List Span) (n : ℕ) (pair : ℕ × ℕ) (s : Span) → slice_get spans n ≡ Some s → s.pair ≡ pair → IsLastSpan spans (suc n) pair (Some n)
+last_here spans n pair s there same = (omega arith, (s, there, same), λ j span above below at. absurd (omega arith))
+
+same_key : (p q : ℕ × ℕ) → is_same_key p q ≡ true → p ≡ q
+same_key p q is =
+    let (first, second) = and_parts (p.0 == q.0) (p.1 == q.1) is in
+    let e : p.0 ≡ q.0 = eqb-true p.0 q.0 first in
+    let f : p.1 ≡ q.1 = eqb-true p.1 q.1 second in
+    ap (λ a. (a, p.1)) e ∙ ap (λ b. (q.0, b)) f
+
+key_same : (p q : ℕ × ℕ) → p ≡ q → is_same_key p q ≡ true
+key_same p q same = and_from (p.0 == q.0) (p.1 == q.1) (eq-eqb p.0 q.0 (ap (λ r. r.0) same)) (eq-eqb p.1 q.1 (ap (λ r. r.1) same))
+
+pub linked_push : {S : Type 0} (spans : List Span) (old new : IndexMap (ℕ × ℕ) ℕ S) (pair : ℕ × ℕ) (place : ℕ) → AreLinked spans old
+    → ((q : ℕ × ℕ) → get is_same_key new q ≡ update is_same_key (get is_same_key old) pair (Some (length spans)) q)
+    → AreLinked (spans ++ record { pair = pair; place = place; older = get is_same_key old pair } ∷ []) new
+linked_push spans old new pair place linked updates =
+    let s : Span = record { pair = pair; place = place; older = get is_same_key old pair } in
+    let here = get_pushed spans s in
+    let size = length-append spans (s ∷ []) in
+    let next : suc (length spans) ≡ length (spans ++ s ∷ []) = omega arith in
+    record {
+      last = λ p. subst (λ n. IsLastSpan (spans ++ s ∷ []) n p (get is_same_key new p)) next (elim (cases_Bool (is_same_key pair p)) [
+        | inl is ↦
+            let value : get is_same_key new p ≡ Some (length spans) = updates p ∙ ap (λ b. cond b (Some (length spans)) (get is_same_key old p)) is in
+            subst (λ o. IsLastSpan (spans ++ s ∷ []) (suc (length spans)) p o) (sym value) (last_here (spans ++ s ∷ []) (length spans) p s here (same_key pair p is))
+        | inr is_not ↦
+            let value : get is_same_key new p ≡ get is_same_key old p = updates p ∙ ap (λ b. cond b (Some (length spans)) (get is_same_key old p)) is_not in
+            let other : pair ≢ p = λ same. let t = key_same pair p same in absurd (cc) in
+            subst (λ o. IsLastSpan (spans ++ s ∷ []) (suc (length spans)) p o) (sym value)
+            (last_passed (spans ++ s ∷ []) (length spans) p (get is_same_key old p) s here other (last_grow spans (s ∷ []) (length spans) p (get is_same_key old p) (omega arith) (linked.last p)))
+      ]);
+      older = λ i span there. elim (pushed_cases spans s i span there) [
+        | inl before ↦
+            let lt = slice_get_within spans i span before in
+            last_grow spans (s ∷ []) i span.pair span.older (omega arith) (linked.older i span before)
+        | inr (at_end, same) ↦
+            subst (λ (t : Span). IsLastSpan (spans ++ s ∷ []) i t.pair t.older) same
+            (subst (λ n. IsLastSpan (spans ++ s ∷ []) n pair (get is_same_key old pair)) (sym at_end) (last_grow spans (s ∷ []) (length spans) pair (get is_same_key old pair) (omega arith) (linked.last pair)))
+      ];
+    }
