@@ -7,6 +7,10 @@ pub mod Stays
 pub mod Meant
 pub mod NameLists
 pub mod ScopeCode
+pub mod LookupLaws
+pub mod SymbolsAt
+pub mod Places
+pub mod Symbols
 pub mod Numbered
 pub mod Labelled
 pub mod Those

@@ -6,6 +6,7 @@ ghost use Rattle.mm_frame.specs.Sentence.{SomeSentence, IsLabelled, Declares, Ty
 ghost use Rattle.mm_frame.specs.Active.{SomeActive, IsConstant, IsVariable, IsActiveSymbol, IsTyped};
 ghost use Rattle.mm_frame.specs.Layout.{AreTables, statements_of, GivesType};
 
+use crate::lists::at;
 use crate::tables::Tables;
 
 // Whether some statement has this label.
@@ -86,9 +87,9 @@ fn latest_code<'a>(tables: &Tables<'a>, variable: &[u8]) -> Option<&'a [u8]>
 {
     match tables.known(variable) {
         Some(info) => match info.floating {
-            Some(place) => match tables.symbols_at(place) {
-                [code, _] => tables.symbols.name(code.0),
-                _ => None,
+            Some(place) => match at(tables.symbols_at(place), 0) {
+                Some(code) => tables.symbols.name(code.0),
+                None => None,
             },
             None => None,
         },

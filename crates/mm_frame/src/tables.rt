@@ -1,5 +1,7 @@
 //! The lists in which a book keeps its statements by numbers.
 
+ghost use Rattle.std.specs.Prelude.{◌≡◌, ◌≤◌, length, slice_range};
+
 use crate::lists::at;
 use crate::names::Names;
 use crate::number::{LabelId, Sym};
@@ -16,7 +18,10 @@ pub(crate) struct Part {
 }
 
 /// The elements of a part of a list.
-pub(crate) fn part_of<T>(list: &[T], part: Part) -> &[T] {
+pub(crate) fn part_of<T>(list: &[T], part: Part) -> &[T]
+    ensures { part.start ≤ part.end → part.end ≤ length list.now
+        → result.now ≡ slice_range list.now part.start part.end }
+{
     list.get(part.start..part.end).unwrap_or(&[])
 }
 
@@ -73,7 +78,9 @@ pub struct Tables<'a> {
 }
 
 impl<'a> Tables<'a> {
-    ghost use Rattle.std.specs.Prelude.{◌≡◌, ◌↔◌, ◌<◌, IsTrue, MatchOption, length, slice_get};
+    ghost use Rattle.std.specs.Prelude.{◌≡◌, ◌↔◌, ◌<◌, IsTrue, MatchOption, Some, length, map, slice_get};
+    ghost use Rattle.mm_frame.specs.Sentence.{Sentence};
+    ghost use Rattle.mm_frame.specs.Numbers.{AreNumbers};
     ghost use Rattle.mm_frame.specs.Active.{IsActive};
     ghost use Rattle.mm_frame.specs.Layout.{AreTables, statements_of, IsDeclared, IsKnown};
 
@@ -126,8 +133,12 @@ impl<'a> Tables<'a> {
     }
 
     /// The symbols of the statement at a place.
-    pub(crate) fn symbols_at(&self, place: usize) -> &[Sym] {
-        match self.log.get(place) {
+    pub(crate) fn symbols_at(&self, place: usize) -> &[Sym]
+        requires { AreTables self.now }
+        ensures { (s : Sentence) → slice_get (statements_of self.now) place ≡ Some s
+            → AreNumbers (statements_of self.now) (map (λ n. n.0) result.now) s.symbols }
+    {
+        match at(&self.log, place) {
             Some(entry) => part_of(&self.flat, entry.symbols),
             None => &[],
         }
@@ -135,7 +146,7 @@ impl<'a> Tables<'a> {
 
     /// The variable of the `$f` at a place.
     pub(crate) fn floating_variable(&self, place: usize) -> Option<Sym> {
-        match self.log.get(place) {
+        match at(&self.log, place) {
             Some(entry) => match part_of(&self.flat, entry.symbols) {
                 [_, variable] if entry.kind == Kind::Floating => Some(*variable),
                 _ => None,
