@@ -16,9 +16,8 @@ use Rattle.mm_frame.specs.Numbers.{symbols_of, labelled, IsNumbered}
 use Rattle.mm_frame.specs.FramePlace.{FramePlace, AreHypotheses, ArePairs}
 use Rattle.mm_frame.specs.Database.{Database}
 use Rattle.mm_frame.specs.Latest.{IsLatest}
-use Rattle.mm_frame.specs.Scopes.{AreScopes}
+use Rattle.mm_frame.specs.ScopesOf.{HaveScopes}
 use Rattle.mm_frame.specs.Stated.{Stated}
-use Rattle.mm_frame.specs.declared.scopes.TheConstants.{NEVER}
 
 -- the names of some numbers
 abbrev pub names_by : List (List ℕ) → List Sym → List (List ℕ)
@@ -42,7 +41,7 @@ unfoldable pub sentences : List (List ℕ) → List (List ℕ) → List Sym → 
 sentences symbols labels flat log = map (sentence_by symbols labels flat) log
 
 abbrev pub statements_of : Tables → List Sentence
-statements_of t = sentences t.symbols t.labels t.flat.items t.log.items
+statements_of t = sentences t.symbols.names t.labels.names t.flat.items t.log.items
 
 abbrev pub database_of : Tables → Database
 database_of t = record { statements = statements_of t; bytes = t.bytes; }
@@ -129,10 +128,10 @@ pub record AreTables (t : Tables) : Type 0 where
   pub sound : IsSound (statements_of t)
   pub counted : length t.log.items + length t.flat.items ≤ 2 * t.bytes
   pub small : t.bytes ≤ 1073741824
-  pub infos : AreInfos (statements_of t) t.symbols t.infos.items
-  pub labels : AreLabels (statements_of t) t.labels t.named.items t.log.items
-  pub entries : AreEntries t.symbols t.labels t.flat.items t.log.items
-  pub scopes : AreScopes NEVER (statements_of t) t.scopes.blocks.items t.scopes.ends.items t.scopes.open.items
+  pub infos : AreInfos (statements_of t) t.symbols.names t.infos.items
+  pub labels : AreLabels (statements_of t) t.labels.names t.named.items t.log.items
+  pub entries : AreEntries t.symbols.names t.labels.names t.flat.items t.log.items
+  pub scopes : HaveScopes (statements_of t) t.scopes
   pub essentials : AreEssentials (statements_of t) t.essentials.items
   pub frames : AreFrames (statements_of t) t.hypotheses.items t.pairs.items t.named.items
-  pub stated : AreStated (statements_of t) t.symbols t.distinct
+  pub stated : AreStated (statements_of t) t.symbols.names t.distinct

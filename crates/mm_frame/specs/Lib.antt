@@ -10,5 +10,7 @@ pub mod Taken
 pub mod FramePlace
 pub mod Scopes
 pub mod Latest
+pub mod NameTable
 pub mod Stated
+pub mod ScopesOf
 pub mod Layout

@@ -57,14 +57,16 @@ impl<'a> Tables<'a> {
     // Takes a `${` in.
     fn open(&mut self) -> Result<Taken, AllocError> {
         self.reserve(0)?;
-        self.enter(Kind::Opening, None, self.flat.len());
+        let start = self.flat.len();
+        self.enter(Kind::Opening, None, start);
         Ok(Taken::Opened)
     }
 
     // Takes a `$}` in: the active `$e` of its block aren't active any more.
     fn close(&mut self) -> Result<Taken, AllocError> {
         self.reserve(0)?;
-        self.enter(Kind::Closing, None, self.flat.len());
+        let start = self.flat.len();
+        self.enter(Kind::Closing, None, start);
         self.forget_inactive();
         Ok(Taken::Closed)
     }
@@ -81,18 +83,25 @@ impl<'a> Tables<'a> {
         }
     }
 
+    // Notes the place of the latest `$v` that declares a symbol.
+    fn note_variable(&mut self, number: u32, variable: Option<usize>) {
+        if let Some(info) = self.infos.get_mut(number as usize) {
+            info.variable = variable;
+        }
+    }
+
     // Takes a declared symbol in, where it is new.
     fn declare(&mut self, symbol: &'a [u8], variable: Option<usize>) {
         match self.symbols.find(symbol) {
             Some(number) => {
-                if let Some(info) = self.infos.get_mut(number as usize) {
-                    info.variable = variable;
+                if variable.is_some() {
+                    self.note_variable(number, variable);
                 }
                 put(&mut self.flat, Sym(number));
             }
             None => {
                 put(&mut self.flat, Sym(self.symbols.len() as u32));
-                let _ = self.symbols.add(symbol);
+                self.symbols.add(symbol);
                 put(&mut self.infos, SymbolInfo {
                     variable,
                     floating: None,
@@ -156,7 +165,7 @@ impl<'a> Tables<'a> {
         let place = self.log.len();
         let start = self.flat.len();
         let _ = self.flat.extend_from_slice(numbers);
-        let _ = self.labels.add(label);
+        self.labels.add(label);
         put(&mut self.named, LabelInfo {
             place,
             hypotheses,
@@ -166,14 +175,19 @@ impl<'a> Tables<'a> {
         id
     }
 
+    // Notes the place of a variable's latest `$f`.
+    fn note_floating(&mut self, variable: Sym) {
+        let place = self.log.len();
+        if let Some(info) = self.infos.get_mut(variable.0 as usize) {
+            info.floating = Some(place);
+        }
+    }
+
     // Takes a `$f` in.
     fn give_type(&mut self, label: &'a [u8], numbers: &[Sym]) -> Result<Taken, AllocError> {
         self.reserve(numbers.len())?;
-        let place = self.log.len();
         if let [_, variable] = numbers {
-            if let Some(info) = self.infos.get_mut(variable.0 as usize) {
-                info.floating = Some(place);
-            }
+            self.note_floating(*variable);
         }
         let id = self.name(Kind::Floating, label, numbers, NO_PART, NO_PART);
         Ok(Taken::Hypothesis(id))

@@ -1,7 +1,6 @@
 //! Names by number: lists of names without repetition, in which a name is found at once.
 
-ghost use Rattle.std.specs.Prelude.{◌≡◌, ℕ, ◌+◌, ◌<◌, List, [], length, take, slice_get, position, option_map, Some, OnOk, OnErr, map};
-ghost use Rattle.std.specs.Str.{bytes_eq};
+ghost use Rattle.std.specs.Prelude.{◌≡◌, ◌+◌, ◌<◌, ◌≤◌, [], length, slice_get, option_map, Some, MatchOption, Contains, OnOk};
 ghost use Rattle.mm_frame.specs.Numbers.{with_name};
 
 use indexmap::IndexSet;
@@ -55,9 +54,13 @@ pub struct Names<'a> {
 }
 
 impl<'a> Model for Names<'a> {
-    ghost Value = { List (List ℕ) };
+    ghost use Rattle.std.specs.Prelude.{ℕ, ◌<◌, length, map};
+    ghost use Rattle.indexmap.specs.IndexSet.{spare};
+    ghost use Rattle.mm_frame.specs.NameTable.{NameTable};
 
-    ghost view = { λ n. map (λ k. k.0.now) n.table.keys };
+    ghost Value = { NameTable };
+
+    ghost view = { λ n. record { names = map (λ k. k.0.now) n.table.keys; room = spare n.table } };
 
     ghost invariant = { λ n. length n.table.keys < 4294967296 };
 }
@@ -65,7 +68,7 @@ impl<'a> Model for Names<'a> {
 impl<'a> Names<'a> {
     /// No names. It takes no memory.
     pub(crate) fn new(alloc: Global) -> Names<'a>
-        ensures { result ≡ [] }
+        ensures { result.names ≡ [] }
     {
         Names {
             table: IndexSet::new(alloc),
@@ -74,14 +77,18 @@ impl<'a> Names<'a> {
 
     /// How many names there are.
     pub(crate) fn len(&self) -> usize
-        ensures { result ≡ length self.now }
+        ensures len { result ≡ length self.now.names }
+        ensures small { result < 4294967296 }
     {
         self.table.len()
     }
 
     /// The number of a name, if it is one of them.
     pub(crate) fn find(&self, name: &[u8]) -> Option<u32>
-        ensures { result ≡ position (bytes_eq name.now) self.now }
+        ensures { MatchOption
+            result
+            (¬ (Contains self.now.names name.now))
+            (λ number. slice_get self.now.names number ≡ Some name.now) }
     {
         match self.table.get_index_of(&Name(name)) {
             Some(number) => Some(number as u32),
@@ -91,7 +98,7 @@ impl<'a> Names<'a> {
 
     /// The name with a number.
     pub(crate) fn name(&self, number: u32) -> Option<&'a [u8]>
-        ensures { option_map (λ name. name.now) result ≡ slice_get self.now number }
+        ensures { option_map (λ name. name.now) result ≡ slice_get self.now.names number }
     {
         match self.table.get_index(number as usize) {
             Some(name) => Some(name.0),
@@ -99,20 +106,21 @@ impl<'a> Names<'a> {
         }
     }
 
-    /// Takes a name in, at the end where it is new.
-    pub(crate) fn add(&mut self, name: &'a [u8]) -> Result<(), AllocError>
-        requires room { length self.old + 1 < 4294967296 }
-        ensures ok { OnOk result (self.new ≡ with_name self.old name.now) }
-        ensures err { OnErr result (self.new ≡ self.old) }
-    {
-        self.table.insert(Name(name))?;
-        Ok(())
-    }
-
     /// Makes room for more names.
     pub(crate) fn reserve(&mut self, more: usize) -> Result<(), AllocError>
-        ensures { self.new ≡ self.old }
+        ensures names { self.new.names ≡ self.old.names }
+        ensures room { OnOk result (more ≤ self.new.room) }
     {
         self.table.reserve(more)
+    }
+
+    /// Takes a name in, at the end where it is new.
+    pub(crate) fn add(&mut self, name: &'a [u8])
+        requires few { length self.old.names + 1 < 4294967296 }
+        requires room { 0 < self.old.room }
+        ensures names { self.new.names ≡ with_name self.old.names name.now }
+        ensures room { self.old.room ≤ self.new.room + 1 }
+    {
+        let _ = self.table.insert(Name(name));
     }
 }

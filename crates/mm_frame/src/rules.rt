@@ -186,11 +186,12 @@ fn is_list(kind: Kind) -> bool {
 // Whether a symbol stands twice.
 fn has_repeats(alloc: Global, symbols: &[Token]) -> Result<bool, AllocError> {
     let mut seen = Names::new(alloc);
+    seen.reserve(symbols.len())?;
     for token in symbols {
         if seen.find(token.text).is_some() {
             return Ok(true);
         }
-        seen.add(token.text)?;
+        seen.add(token.text);
     }
     Ok(false)
 }

@@ -1,5 +1,11 @@
 //! Blocks by number, and what is active at a place.
 
+ghost use Rattle.std.specs.Prelude.{◌≡◌, ◌↔◌, ℕ, suc, ◌-◌, ◌<◌, ◌≤◌, List, [], ◌∷◌, ◌++◌, length, take, slice_get, Some, IsTrue, IfOk, OnOk};
+ghost use Rattle.mm_text.specs.declared.statement.Kind.TheVariants.{Opening, Closing};
+ghost use Rattle.mm_frame.specs.Sentence.{Sentence};
+ghost use Rattle.mm_frame.specs.Active.{IsActive, openings, closings};
+ghost use Rattle.mm_frame.specs.ScopesOf.{HaveScopes, HasRoom, HaveSameLists};
+
 use mm_text::Kind;
 use std::alloc::{AllocError, Global};
 
@@ -20,7 +26,9 @@ pub struct Scopes {
 
 impl Scopes {
     /// The scopes of no statements.
-    pub(crate) fn new(alloc: Global) -> Result<Scopes, AllocError> {
+    pub(crate) fn new(alloc: Global) -> Result<Scopes, AllocError>
+        ensures { IfOk result (λ scopes. HaveScopes [] scopes) }
+    {
         let mut ends = Vec::new(alloc);
         let mut open = Vec::new(alloc);
         ends.push(NEVER)?;
@@ -33,7 +41,11 @@ impl Scopes {
     }
 
     /// Whether the statement at a place is active after the statements before another.
-    pub(crate) fn is_active(&self, place: usize, at: usize) -> bool {
+    pub(crate) fn is_active(&self, place: usize, at: usize) -> bool
+        ensures { (statements : List Sentence) → HaveScopes statements self.now
+            → place < at → at ≤ length statements
+            → (IsTrue result ↔ IsActive (take at statements) place) }
+    {
         match self.blocks.get(place) {
             Some(block) => match self.ends.get(*block) {
                 Some(end) => at <= *end,
@@ -44,42 +56,86 @@ impl Scopes {
     }
 
     /// How many blocks are open.
-    pub(crate) fn depth(&self) -> usize {
+    pub(crate) fn depth(&self) -> usize
+        ensures { (statements : List Sentence) → HaveScopes statements self.now
+            → result ≡ openings statements - closings statements }
+    {
         self.open.len().saturating_sub(1)
     }
 
     /// Makes room for one statement more.
-    pub(crate) fn reserve(&mut self) -> Result<(), AllocError> {
+    pub(crate) fn reserve(&mut self) -> Result<(), AllocError>
+        ensures same { HaveSameLists self.old self.new }
+        ensures room { OnOk result (HasRoom self.new) }
+    {
         self.blocks.reserve(1)?;
         self.ends.reserve(1)?;
         self.open.reserve(1)
     }
 
     // The innermost open block.
-    fn innermost(&self) -> usize {
+    fn innermost(&self) -> usize
+        ensures { (k : ℕ) → length self.now.open.items ≡ suc k
+            → slice_get self.now.open.items k ≡ Some result }
+    {
         match self.open.last() {
             Some(block) => *block,
             None => 0,
         }
     }
 
-    /// Takes a statement in.
-    pub(crate) fn push(&mut self, kind: Kind) {
+    // Takes a `$}` in.
+    fn close(&mut self)
+        requires { HasRoom self.old }
+        ensures { (statements : List Sentence) (e : Sentence) → HaveScopes statements self.old
+            → e.kind ≡ Closing → closings statements < openings statements
+            → HaveScopes (statements ++ e ∷ []) self.new }
+    {
         let place = self.blocks.len();
         let block = self.innermost();
-        if kind == Kind::Closing {
-            if let Some(end) = self.ends.get_mut(block) {
-                *end = place;
-            }
-            let _ = self.open.pop();
-            let outer = self.innermost();
-            let _ = self.blocks.push(outer);
-        } else {
-            let _ = self.blocks.push(block);
+        if let Some(end) = self.ends.get_mut(block) {
+            *end = place;
         }
+        let _ = self.open.pop();
+        let outer = self.innermost();
+        let _ = self.blocks.push(outer);
+    }
+
+    // Takes a `${` in.
+    fn begin(&mut self)
+        requires { HasRoom self.old }
+        ensures { (statements : List Sentence) (e : Sentence) → HaveScopes statements self.old
+            → e.kind ≡ Opening → HaveScopes (statements ++ e ∷ []) self.new }
+    {
+        let block = self.innermost();
+        let _ = self.blocks.push(block);
+        let _ = self.open.push(self.ends.len());
+        let _ = self.ends.push(NEVER);
+    }
+
+    // Takes another statement in.
+    fn stay(&mut self)
+        requires { HasRoom self.old }
+        ensures { (statements : List Sentence) (e : Sentence) → HaveScopes statements self.old
+            → ¬ (e.kind ≡ Opening) → ¬ (e.kind ≡ Closing) → HaveScopes (statements ++ e ∷ []) self.new }
+    {
+        let block = self.innermost();
+        let _ = self.blocks.push(block);
+    }
+
+    /// Takes a statement in.
+    pub(crate) fn push(&mut self, kind: Kind)
+        requires { HasRoom self.old }
+        ensures { (statements : List Sentence) (e : Sentence) → HaveScopes statements self.old
+            → e.kind ≡ kind → (kind ≡ Closing → closings statements < openings statements)
+            → HaveScopes (statements ++ e ∷ []) self.new }
+    {
         if kind == Kind::Opening {
-            let _ = self.open.push(self.ends.len());
-            let _ = self.ends.push(NEVER);
+            self.begin();
+        } else if kind == Kind::Closing {
+            self.close();
+        } else {
+            self.stay();
         }
     }
 }
