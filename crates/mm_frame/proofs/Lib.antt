@@ -10,3 +10,7 @@ pub mod Labelled
 pub mod Those
 pub mod Decided
 pub mod Needed
+pub mod Entries
+pub mod Infos
+pub mod Labels
+pub mod Lawful

@@ -50,7 +50,7 @@ found_from name (x ∷ names) (suc i) there =
     or_right (bytes_eq name x) (list_any (bytes_eq name) names) (found_from name names i there)
 
 -- a name is among the names already, or is put at their end
-with_name_cases : (names : List (List ℕ)) (name : List ℕ) → (At names name × (with_name names name ≡ names)) ⊎ (¬ (At names name) × (with_name names name ≡ names ++ name ∷ []))
+pub with_name_cases : (names : List (List ℕ)) (name : List ℕ) → (At names name × (with_name names name ≡ names)) ⊎ (¬ (At names name) × (with_name names name ≡ names ++ name ∷ []))
 with_name_cases names name = elim (cases_Bool (list_any (bytes_eq name) names)) [
   | inl found ↦ inl (found_at name names found, ap (λ b. if b then names else (names ++ name ∷ [])) found)
   | inr absent ↦ inr ((λ (i, there). let t = found_from name names i there in cc), ap (λ b. if b then names else (names ++ name ∷ [])) absent)

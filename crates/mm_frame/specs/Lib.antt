@@ -14,3 +14,4 @@ pub mod NameTable
 pub mod Stated
 pub mod ScopesOf
 pub mod Layout
+pub mod Laws

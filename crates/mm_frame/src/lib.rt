@@ -6,6 +6,7 @@ mod book;
 mod frame;
 mod framing;
 mod growth;
+mod laws;
 mod lookups;
 mod names;
 mod number;
@@ -19,6 +20,7 @@ mod tables;
 pub use answer::{Found, RuleFault, Taken};
 pub use book::Book;
 pub use frame::Frame;
+pub use laws::one_number;
 pub use number::{LabelId, LabelKind, Sym};
 pub use rule::MeaningRule;
 

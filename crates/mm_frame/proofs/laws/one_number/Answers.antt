@@ -1,0 +1,8 @@
+use Rattle.mm_frame.proofs.Labels.{labels_none}
+use Rattle.mm_frame.proofs.Infos.{infos_other}
+use Rattle.mm_frame.proofs.Entries.{sentences_push}
+use Rattle.mm_frame.proofs.Lawful.{one_number_holds}
+use Rattle.mm_frame.proofs.laws.one_number.Goals as goal
+
+pub returns : goal.returns
+returns c = one_number_holds

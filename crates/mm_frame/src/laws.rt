@@ -1,0 +1,11 @@
+//! Laws of what a book holds. The functions do nothing: their contracts are the laws.
+
+ghost use Rattle.mm_frame.specs.Laws.{OneNumber};
+
+/// A symbol's number is its own, and stays.
+///
+/// Exactly the symbols that some `$c` or `$v` declares have numbers. No symbol has two numbers, and
+/// no number is that of two symbols. A number stays what it is as statements are added.
+pub fn one_number()
+    ensures { OneNumber }
+{}
