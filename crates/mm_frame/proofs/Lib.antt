@@ -5,6 +5,7 @@ pub mod Actives
 pub mod Depth
 pub mod Stays
 pub mod Meant
+pub mod NameLists
 pub mod Numbered
 pub mod Labelled
 pub mod Those
@@ -14,3 +15,4 @@ pub mod Entries
 pub mod Infos
 pub mod Labels
 pub mod Lawful
+pub mod Known

@@ -15,3 +15,4 @@ pub mod Stated
 pub mod ScopesOf
 pub mod Layout
 pub mod Laws
+pub mod Listed

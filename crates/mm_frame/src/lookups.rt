@@ -1,31 +1,68 @@
 //! What the statements before say of a name.
 
-use crate::tables::Tables;
+ghost use Rattle.std.specs.Prelude.{◌≡◌, ◌≢◌, ◌↔◌, ◌⊎◌, ℕ, List, IsTrue, MatchOption, slice_get, Some};
+ghost use Rattle.mm_text.specs.declared.statement.Kind.TheVariants.{Variables};
+ghost use Rattle.mm_frame.specs.Sentence.{Sentence, SomeSentence, Declares, IsLabelled, Types};
+ghost use Rattle.mm_frame.specs.Active.{SomeActive, IsConstant, IsVariable, IsActiveSymbol, IsTyped};
+ghost use Rattle.mm_frame.specs.Layout.{AreTables, statements_of, GivesType, IsInfo};
+
+use crate::number::Sym;
+use crate::tables::{SymbolInfo, Tables};
 
 // Whether some statement has this label.
-pub(crate) fn is_label(tables: &Tables, label: &[u8]) -> bool {
+pub(crate) fn is_label(tables: &Tables, label: &[u8]) -> bool
+    requires tables { AreTables tables.now }
+    ensures { IsTrue result ↔ SomeSentence (statements_of tables.now) (IsLabelled label.now) }
+{
     tables.labels.find(label).is_some()
 }
 
+// What is known of a declared symbol.
+fn known(tables: &Tables, symbol: &[u8]) -> Option<SymbolInfo>
+    requires tables { AreTables tables.now }
+    ensures { MatchOption
+        result
+        (¬ (IsConstant (statements_of tables.now) symbol.now
+            ⊎ IsVariable (statements_of tables.now) symbol.now))
+        (λ info. (IsConstant (statements_of tables.now) symbol.now
+            ⊎ IsVariable (statements_of tables.now) symbol.now)
+            × IsInfo (statements_of tables.now) symbol.now info) }
+{
+    match tables.symbols.find(symbol) {
+        Some(number) => tables.info(Sym(number)),
+        None => None,
+    }
+}
+
 // Whether some `$c` declares the symbol.
-pub(crate) fn is_constant(tables: &Tables, symbol: &[u8]) -> bool {
-    match tables.known(symbol) {
+pub(crate) fn is_constant(tables: &Tables, symbol: &[u8]) -> bool
+    requires tables { AreTables tables.now }
+    ensures { IsTrue result ↔ IsConstant (statements_of tables.now) symbol.now }
+{
+    match known(tables, symbol) {
         Some(info) => info.variable.is_none(),
         None => false,
     }
 }
 
 // Whether some `$v` declares the symbol.
-pub(crate) fn is_variable(tables: &Tables, symbol: &[u8]) -> bool {
-    match tables.known(symbol) {
+pub(crate) fn is_variable(tables: &Tables, symbol: &[u8]) -> bool
+    requires tables { AreTables tables.now }
+    ensures { IsTrue result ↔ IsVariable (statements_of tables.now) symbol.now }
+{
+    match known(tables, symbol) {
         Some(info) => info.variable.is_some(),
         None => false,
     }
 }
 
-// Whether an active `$v` declares the symbol.
-pub(crate) fn is_active_variable(tables: &Tables, symbol: &[u8]) -> bool {
-    match tables.known(symbol) {
+// Whether an active `$v` declares the symbol. No other than the latest can be active.
+pub(crate) fn is_active_variable(tables: &Tables, symbol: &[u8]) -> bool
+    requires tables { AreTables tables.now }
+    ensures { IsTrue result
+        ↔ SomeActive (statements_of tables.now) (Declares Variables symbol.now) }
+{
+    match known(tables, symbol) {
         Some(info) => match info.variable {
             Some(place) => tables.is_active_now(place),
             None => false,
@@ -36,13 +73,19 @@ pub(crate) fn is_active_variable(tables: &Tables, symbol: &[u8]) -> bool {
 
 // Whether an active `$c` or `$v` declares the symbol. Each `$c` is active, since none stands in a
 // block.
-pub(crate) fn is_active_symbol(tables: &Tables, symbol: &[u8]) -> bool {
+pub(crate) fn is_active_symbol(tables: &Tables, symbol: &[u8]) -> bool
+    requires tables { AreTables tables.now }
+    ensures { IsTrue result ↔ IsActiveSymbol (statements_of tables.now) symbol.now }
+{
     is_constant(tables, symbol) || is_active_variable(tables, symbol)
 }
 
 // Whether the variable has an active `$f`. No other than its latest can be active.
-pub(crate) fn is_typed(tables: &Tables, variable: &[u8]) -> bool {
-    match tables.known(variable) {
+pub(crate) fn is_typed(tables: &Tables, variable: &[u8]) -> bool
+    requires tables { AreTables tables.now }
+    ensures { IsTrue result ↔ IsTyped (statements_of tables.now) variable.now }
+{
+    match known(tables, variable) {
         Some(info) => match info.floating {
             Some(place) => tables.is_active_now(place),
             None => false,
@@ -51,14 +94,29 @@ pub(crate) fn is_typed(tables: &Tables, variable: &[u8]) -> bool {
     }
 }
 
+// The type code that the `$f` at a place gives.
+fn code_at<'a>(tables: &Tables<'a>, place: usize) -> Option<&'a [u8]>
+    requires tables { AreTables tables.now }
+    ensures { (f : Sentence) (code x : List ℕ) → slice_get (statements_of tables.now) place ≡ Some f
+        → Types code x f → MatchOption result ⊥ (λ found. found.now ≡ code) }
+{
+    match tables.symbols_at(place) {
+        [code, _] => tables.symbols.name(code.0),
+        _ => None,
+    }
+}
+
 // The type code that the variable's latest `$f` gives it. Each `$f` before gave the same.
-fn latest_code<'a>(tables: &Tables<'a>, variable: &[u8]) -> Option<&'a [u8]> {
-    match tables.known(variable) {
+fn latest_code<'a>(tables: &Tables<'a>, variable: &[u8]) -> Option<&'a [u8]>
+    requires tables { AreTables tables.now }
+    ensures { MatchOption
+        result
+        (¬ (SomeSentence (statements_of tables.now) (GivesType variable.now)))
+        (λ code. SomeSentence (statements_of tables.now) (Types code.now variable.now)) }
+{
+    match known(tables, variable) {
         Some(info) => match info.floating {
-            Some(place) => match tables.symbols_at(place) {
-                [code, _] => tables.symbols.name(code.0),
-                _ => None,
-            },
+            Some(place) => code_at(tables, place),
             None => None,
         },
         None => None,
@@ -66,7 +124,11 @@ fn latest_code<'a>(tables: &Tables<'a>, variable: &[u8]) -> Option<&'a [u8]> {
 }
 
 // Whether an earlier `$f` gave the variable another type code than this one.
-pub(crate) fn has_other_type(tables: &Tables, code: &[u8], variable: &[u8]) -> bool {
+pub(crate) fn has_other_type(tables: &Tables, code: &[u8], variable: &[u8]) -> bool
+    requires tables { AreTables tables.now }
+    ensures { IsTrue result ↔ SomeSentence (statements_of tables.now)
+        (λ f. (other : List ℕ) × Types other variable.now f × (other ≢ code.now)) }
+{
     match latest_code(tables, variable) {
         Some(other) => other != code,
         None => false,

@@ -1,5 +1,15 @@
 //! The rules of meaning: which a statement breaks after the statements before it.
 
+ghost use Rattle.std.specs.Prelude.{◌≡◌, ◌≤◌, ◌<◌, ◌↔◌, ◌⊎◌, ℕ, List, length, map, Contains, IsTrue, IfOk, MatchOption};
+ghost use Rattle.mm_text.specs.declared.statement.Kind.TheVariants.{Variables};
+ghost use Rattle.mm_text.specs.Statement.{plain_statement, HasForm, bytes_in};
+ghost use Rattle.mm_frame.specs.declared.rule.MeaningRule.TheVariants.{M1, M2, M3, M4, M5, M6, M7, M8, M9, M10, M11, M12, M13, M14, M15};
+ghost use Rattle.mm_frame.specs.Sentence.{Sentence, said_by, Declares, StandsTwice};
+ghost use Rattle.mm_frame.specs.Active.{SomeActive, IsConstant, IsVariable};
+ghost use Rattle.mm_frame.specs.Rules.{SomeSymbol, Breaks, IsMeant, FirstBroken};
+ghost use Rattle.mm_frame.specs.Listed.{IsList, Repeats};
+ghost use Rattle.mm_frame.specs.Layout.{AreTables, statements_of};
+
 use crate::lookups::{
     has_other_type, is_active_symbol, is_active_variable, is_constant, is_label, is_typed,
     is_variable,
@@ -11,28 +21,61 @@ use crate::tables::Tables;
 use mm_text::{Kind, Statement, Token};
 use std::alloc::{AllocError, Global};
 
+// Whether the statement is a `$c` in a block.
+fn breaks_m1(tables: &Tables, statement: &Statement) -> bool
+    requires tables { AreTables tables.now }
+    ensures { IsTrue result ↔ Breaks M1 (statements_of tables.now) (said_by statement.now) }
+{
+    statement.kind == Kind::Constants && tables.scopes.depth() > 0
+}
+
+// Whether a symbol of the statement was declared before.
+fn is_declared(tables: &Tables, statement: &Statement) -> bool
+    requires tables { AreTables tables.now }
+    ensures { IsTrue result ↔ SomeSymbol (said_by statement.now)
+        (λ x. IsConstant (statements_of tables.now) x ⊎ IsVariable (statements_of tables.now) x) }
+{
+    statement
+        .symbols
+        .iter()
+        .any(|token| is_constant(tables, token.text) || is_variable(tables, token.text))
+}
+
+// Whether a symbol of the statement is an active variable, or was declared a constant.
+fn is_declared_now(tables: &Tables, statement: &Statement) -> bool
+    requires tables { AreTables tables.now }
+    ensures { IsTrue result ↔ SomeSymbol (said_by statement.now)
+        (λ x. SomeActive (statements_of tables.now) (Declares Variables x)
+            ⊎ IsConstant (statements_of tables.now) x) }
+{
+    statement
+        .symbols
+        .iter()
+        .any(|token| is_active_variable(tables, token.text) || is_constant(tables, token.text))
+}
+
 // A symbol of a `$c` was declared before, or stands twice in it.
 fn breaks_m2(tables: &Tables, statement: &Statement, repeats: bool) -> bool
+    requires tables { AreTables tables.now }
+    requires repeats { IsTrue repeats ↔ Repeats (said_by statement.now) }
+    ensures { IsTrue result ↔ Breaks M2 (statements_of tables.now) (said_by statement.now) }
 {
-    statement.kind == Kind::Constants
-        && (repeats
-            || statement.symbols.iter().any(|token| {
-                is_constant(tables, token.text) || is_variable(tables, token.text)
-            }))
+    statement.kind == Kind::Constants && (repeats || is_declared(tables, statement))
 }
 
 // A symbol of a `$v` is an active variable, was declared a constant, or stands twice in it.
 fn breaks_m3(tables: &Tables, statement: &Statement, repeats: bool) -> bool
+    requires tables { AreTables tables.now }
+    requires repeats { IsTrue repeats ↔ Repeats (said_by statement.now) }
+    ensures { IsTrue result ↔ Breaks M3 (statements_of tables.now) (said_by statement.now) }
 {
-    statement.kind == Kind::Variables
-        && (repeats
-            || statement.symbols.iter().any(|token| {
-                is_active_variable(tables, token.text) || is_constant(tables, token.text)
-            }))
+    statement.kind == Kind::Variables && (repeats || is_declared_now(tables, statement))
 }
 
 // A symbol of a `$c` or `$v` equals an earlier label.
 fn breaks_m4(tables: &Tables, statement: &Statement) -> bool
+    requires tables { AreTables tables.now }
+    ensures { IsTrue result ↔ Breaks M4 (statements_of tables.now) (said_by statement.now) }
 {
     (statement.kind == Kind::Constants || statement.kind == Kind::Variables)
         && statement
@@ -43,6 +86,8 @@ fn breaks_m4(tables: &Tables, statement: &Statement) -> bool
 
 // The label equals an earlier label.
 fn breaks_m5(tables: &Tables, statement: &Statement) -> bool
+    requires tables { AreTables tables.now }
+    ensures { IsTrue result ↔ Breaks M5 (statements_of tables.now) (said_by statement.now) }
 {
     match label_of(statement) {
         Some(label) => is_label(tables, label),
@@ -52,6 +97,8 @@ fn breaks_m5(tables: &Tables, statement: &Statement) -> bool
 
 // The label equals a symbol declared before.
 fn breaks_m6(tables: &Tables, statement: &Statement) -> bool
+    requires tables { AreTables tables.now }
+    ensures { IsTrue result ↔ Breaks M6 (statements_of tables.now) (said_by statement.now) }
 {
     match label_of(statement) {
         Some(label) => is_constant(tables, label) || is_variable(tables, label),
@@ -61,6 +108,8 @@ fn breaks_m6(tables: &Tables, statement: &Statement) -> bool
 
 // A symbol that is used isn't active.
 fn breaks_m7(tables: &Tables, statement: &Statement) -> bool
+    requires tables { AreTables tables.now }
+    ensures { IsTrue result ↔ Breaks M7 (statements_of tables.now) (said_by statement.now) }
 {
     is_use(statement.kind)
         && statement
@@ -71,6 +120,8 @@ fn breaks_m7(tables: &Tables, statement: &Statement) -> bool
 
 // A member of a `$d` is a constant.
 fn breaks_m8(tables: &Tables, statement: &Statement) -> bool
+    requires tables { AreTables tables.now }
+    ensures { IsTrue result ↔ Breaks M8 (statements_of tables.now) (said_by statement.now) }
 {
     statement.kind == Kind::Distinct
         && statement
@@ -79,8 +130,18 @@ fn breaks_m8(tables: &Tables, statement: &Statement) -> bool
             .any(|token| is_constant(tables, token.text))
 }
 
+// A member stands twice in a `$d`.
+fn breaks_m9(statement: &Statement, repeats: bool) -> bool
+    requires repeats { IsTrue repeats ↔ Repeats (said_by statement.now) }
+    ensures { (before : List Sentence) → IsTrue result ↔ Breaks M9 before (said_by statement.now) }
+{
+    statement.kind == Kind::Distinct && repeats
+}
+
 // The type code of a `$f` is a variable.
 fn breaks_m10(tables: &Tables, statement: &Statement) -> bool
+    requires tables { AreTables tables.now }
+    ensures { IsTrue result ↔ Breaks M10 (statements_of tables.now) (said_by statement.now) }
 {
     match typing(statement) {
         Some((code, _)) => is_variable(tables, code),
@@ -90,6 +151,8 @@ fn breaks_m10(tables: &Tables, statement: &Statement) -> bool
 
 // The second symbol of a `$f` is a constant.
 fn breaks_m11(tables: &Tables, statement: &Statement) -> bool
+    requires tables { AreTables tables.now }
+    ensures { IsTrue result ↔ Breaks M11 (statements_of tables.now) (said_by statement.now) }
 {
     match typing(statement) {
         Some((_, variable)) => is_constant(tables, variable),
@@ -99,6 +162,8 @@ fn breaks_m11(tables: &Tables, statement: &Statement) -> bool
 
 // The variable of a `$f` has an active `$f`.
 fn breaks_m12(tables: &Tables, statement: &Statement) -> bool
+    requires tables { AreTables tables.now }
+    ensures { IsTrue result ↔ Breaks M12 (statements_of tables.now) (said_by statement.now) }
 {
     match typing(statement) {
         Some((_, variable)) => is_typed(tables, variable),
@@ -108,6 +173,8 @@ fn breaks_m12(tables: &Tables, statement: &Statement) -> bool
 
 // An earlier `$f` gave the variable another type code.
 fn breaks_m13(tables: &Tables, statement: &Statement) -> bool
+    requires tables { AreTables tables.now }
+    ensures { IsTrue result ↔ Breaks M13 (statements_of tables.now) (said_by statement.now) }
 {
     match typing(statement) {
         Some((code, variable)) => has_other_type(tables, code, variable),
@@ -117,6 +184,8 @@ fn breaks_m13(tables: &Tables, statement: &Statement) -> bool
 
 // The first symbol of an expression is a variable.
 fn breaks_m14(tables: &Tables, statement: &Statement) -> bool
+    requires tables { AreTables tables.now }
+    ensures { IsTrue result ↔ Breaks M14 (statements_of tables.now) (said_by statement.now) }
 {
     match first_of(statement) {
         Some(first) => is_stated(statement.kind) && is_variable(tables, first),
@@ -126,6 +195,8 @@ fn breaks_m14(tables: &Tables, statement: &Statement) -> bool
 
 // A variable in an expression has no active `$f`.
 fn breaks_m15(tables: &Tables, statement: &Statement) -> bool
+    requires tables { AreTables tables.now }
+    ensures { IsTrue result ↔ Breaks M15 (statements_of tables.now) (said_by statement.now) }
 {
     is_stated(statement.kind)
         && statement.symbols.iter().any(|token| is_variable(tables, token.text)
@@ -139,9 +210,12 @@ fn breaks(
     statement: &Statement,
     repeats: bool,
 ) -> bool
+    requires tables { AreTables tables.now }
+    requires repeats { IsTrue repeats ↔ Repeats (said_by statement.now) }
+    ensures { IsTrue result ↔ Breaks rule (statements_of tables.now) (said_by statement.now) }
 {
     match rule {
-        MeaningRule::M1 => statement.kind == Kind::Constants && tables.scopes.depth() > 0,
+        MeaningRule::M1 => breaks_m1(tables, statement),
         MeaningRule::M2 => breaks_m2(tables, statement, repeats),
         MeaningRule::M3 => breaks_m3(tables, statement, repeats),
         MeaningRule::M4 => breaks_m4(tables, statement),
@@ -149,7 +223,7 @@ fn breaks(
         MeaningRule::M6 => breaks_m6(tables, statement),
         MeaningRule::M7 => breaks_m7(tables, statement),
         MeaningRule::M8 => breaks_m8(tables, statement),
-        MeaningRule::M9 => statement.kind == Kind::Distinct && repeats,
+        MeaningRule::M9 => breaks_m9(statement, repeats),
         MeaningRule::M10 => breaks_m10(tables, statement),
         MeaningRule::M11 => breaks_m11(tables, statement),
         MeaningRule::M12 => breaks_m12(tables, statement),
@@ -178,13 +252,19 @@ const ORDER: [MeaningRule; 15] = [
     MeaningRule::M15,
 ];
 
-// Whether statements of this kind state each symbol once.
-fn is_list(kind: Kind) -> bool {
+// Whether statements of this kind name each symbol once.
+fn is_list(kind: Kind) -> bool
+    ensures { IsTrue result ↔ IsList kind }
+{
     kind == Kind::Constants || kind == Kind::Variables || kind == Kind::Distinct
 }
 
 // Whether a symbol stands twice.
-fn has_repeats(alloc: Global, symbols: &[Token]) -> Result<bool, AllocError> {
+fn has_repeats(alloc: Global, symbols: &[Token]) -> Result<bool, AllocError>
+    requires few { length symbols.now < 4294967296 }
+    ensures { IfOk result (λ twice. IsTrue twice
+        ↔ ((x : List ℕ) × StandsTwice (map (λ t. t.text.now) symbols.now) x)) }
+{
     let mut seen = Names::new(alloc);
     seen.reserve(symbols.len())?;
     for token in symbols {
@@ -196,8 +276,11 @@ fn has_repeats(alloc: Global, symbols: &[Token]) -> Result<bool, AllocError> {
     Ok(false)
 }
 
-// Whether a symbol stands twice in a statement that states each symbol once.
-fn repeats(alloc: Global, statement: &Statement) -> Result<bool, AllocError> {
+// Whether a symbol stands twice in a statement that is to name each symbol once.
+fn repeats(alloc: Global, statement: &Statement) -> Result<bool, AllocError>
+    requires few { length statement.now.symbols.items < 4294967296 }
+    ensures { IfOk result (λ twice. IsTrue twice ↔ Repeats (said_by statement.now)) }
+{
     if is_list(statement.kind) {
         has_repeats(alloc, &statement.symbols)
     } else {
@@ -205,17 +288,38 @@ fn repeats(alloc: Global, statement: &Statement) -> Result<bool, AllocError> {
     }
 }
 
+// The first rule that the statement breaks, where it is known whether it repeats a symbol.
+fn first_of_order(tables: &Tables, statement: &Statement, repeats: bool) -> Option<MeaningRule>
+    requires tables { AreTables tables.now }
+    requires repeats { IsTrue repeats ↔ Repeats (said_by statement.now) }
+    ensures { MatchOption
+        result
+        (IsMeant (statements_of tables.now) (said_by statement.now))
+        (λ rule. FirstBroken rule (statements_of tables.now) (said_by statement.now)) }
+{
+    for rule in ORDER {
+        if breaks(rule, tables, statement, repeats) {
+            return Some(rule);
+        }
+    }
+    None
+}
+
 /// The first rule of meaning that the statement breaks after the statements before it, in the order
-/// M1 to M15 (the Metamath book, sections 4.2.1 to 4.2.8), or `None` where it breaks none.
+/// M1 to M15 (the Metamath book, sections 4.2.1 to 4.2.8), or `None` where it breaks none. It fails
+/// only where memory runs out.
 pub(crate) fn first_broken(
     tables: &Tables,
     statement: &Statement,
-) -> Result<Option<MeaningRule>, AllocError> {
+) -> Result<Option<MeaningRule>, AllocError>
+    requires tables { AreTables tables.now }
+    requires formed { HasForm (plain_statement statement.now) }
+    requires room { bytes_in (plain_statement statement.now) ≤ 1073741824 }
+    ensures { IfOk result (λ broken. MatchOption
+        broken
+        (IsMeant (statements_of tables.now) (said_by statement.now))
+        (λ rule. FirstBroken rule (statements_of tables.now) (said_by statement.now))) }
+{
     let repeats = repeats(tables.alloc, statement)?;
-    for rule in ORDER {
-        if breaks(rule, tables, statement, repeats) {
-            return Ok(Some(rule));
-        }
-    }
-    Ok(None)
+    Ok(first_of_order(tables, statement, repeats))
 }

@@ -1,5 +1,10 @@
 //! The lists in which a book keeps its statements by numbers.
 
+ghost use Rattle.std.specs.Prelude.{◌≡◌, ◌<◌, ◌↔◌, IsTrue, length, slice_get, slice_range, Some};
+ghost use Rattle.mm_frame.specs.declared.tables.Entry.{Entry};
+ghost use Rattle.mm_frame.specs.Active.{IsActive};
+ghost use Rattle.mm_frame.specs.Layout.{AreTables, IsWithin, statements_of};
+
 use crate::names::Names;
 use crate::number::{LabelId, Sym};
 use crate::pairs::Pairs;
@@ -15,7 +20,10 @@ pub(crate) struct Part {
 }
 
 /// The elements of a part of a list.
-pub(crate) fn part_of<T>(list: &[T], part: Part) -> &[T] {
+pub(crate) fn part_of<T>(list: &[T], part: Part) -> &[T]
+    ensures { IsWithin part (length list.now)
+        → result.now ≡ slice_range list.now part.start part.end }
+{
     list.get(part.start..part.end).unwrap_or(&[])
 }
 
@@ -93,16 +101,10 @@ impl<'a> Tables<'a> {
     }
 
     /// What is known of the symbol with a number.
-    pub(crate) fn info(&self, symbol: Sym) -> Option<SymbolInfo> {
+    pub(crate) fn info(&self, symbol: Sym) -> Option<SymbolInfo>
+        ensures { result ≡ slice_get self.now.infos.items symbol.0 }
+    {
         self.infos.get(symbol.0 as usize).copied()
-    }
-
-    /// What is known of a symbol by its name.
-    pub(crate) fn known(&self, symbol: &[u8]) -> Option<SymbolInfo> {
-        match self.symbols.find(symbol) {
-            Some(number) => self.info(Sym(number)),
-            None => None,
-        }
     }
 
     /// What is known of a label.
@@ -111,7 +113,11 @@ impl<'a> Tables<'a> {
     }
 
     /// The symbols of the statement at a place.
-    pub(crate) fn symbols_at(&self, place: usize) -> &[Sym] {
+    pub(crate) fn symbols_at(&self, place: usize) -> &[Sym]
+        requires tables { AreTables self.now }
+        ensures { (e : Entry) → slice_get self.now.log.items place ≡ Some e
+            → result.now ≡ slice_range self.now.flat.items e.symbols.start e.symbols.end }
+    {
         match self.log.get(place) {
             Some(entry) => part_of(&self.flat, entry.symbols),
             None => &[],
@@ -130,7 +136,11 @@ impl<'a> Tables<'a> {
     }
 
     /// Whether the statement at a place is active now.
-    pub(crate) fn is_active_now(&self, place: usize) -> bool {
+    pub(crate) fn is_active_now(&self, place: usize) -> bool
+        requires tables { AreTables self.now }
+        ensures { place < length (statements_of self.now)
+            → (IsTrue result ↔ IsActive (statements_of self.now) place) }
+    {
         self.scopes.is_active(place, self.log.len())
     }
 
