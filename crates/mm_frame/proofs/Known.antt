@@ -20,7 +20,7 @@ use Rattle.mm_frame.specs.Active.{IsActive, SomeActive, IsConstant, IsVariable, 
 use Rattle.mm_frame.specs.Rules.{AllMeant}
 use Rattle.mm_frame.specs.Numbers.{symbols_of, labelled}
 use Rattle.mm_frame.specs.Latest.{IsLatest}
-use Rattle.mm_frame.specs.Layout.{names_by, sentence_by, sentences, statements_of, IsInfo, IsLatestIn, GivesType, AreTables}
+use Rattle.mm_frame.specs.Layout.{IsDeclared, IsKnown, names_by, sentence_by, sentences, statements_of, IsLatestIn, GivesType, AreTables}
 use Rattle.mm_frame.proofs.Entries.{get_sliced}
 use Rattle.mm_frame.proofs.Labelled.{numbered_from_get, numbered_at, numbered_get}
 use Rattle.mm_frame.proofs.Meant.{meant_at, latest_variable, latest_typed, constant_active, one_role, one_code}
@@ -39,25 +39,21 @@ active_of_all t place at is r h =
     let all = take_all at (statements_of t) (omega arith) in
     subst (λ st. IsTrue r ↔ IsActive st place) all h
 
--- a symbol that some `$c` or `$v` declares
-abbrev pub IsDeclared : List Sentence → List ℕ → Type 0
-IsDeclared st x = IsConstant st x ⊎ IsVariable st x
-
 -- the declared symbols are those that have numbers
 pub undeclared : (t : Tables) → AreTables t → (x : List ℕ) → ¬ (Contains t.symbols.names x) → ¬ (IsDeclared (statements_of t) x)
 undeclared t h x absent declared = absent (subst (λ names. Contains names x) (sym h.infos.all) ((symbols_declared (statements_of t) x).1 declared))
 
 pub informed : (t : Tables) → AreTables t → (n : ℕ) (x : List ℕ) (o : Option SymbolInfo) → slice_get t.symbols.names n ≡ Some x → o ≡ slice_get t.infos.items n
-    → MatchOption o (¬ (IsDeclared (statements_of t) x)) (λ info. IsDeclared (statements_of t) x × IsInfo (statements_of t) x info)
+    → MatchOption o (¬ (IsDeclared (statements_of t) x)) (IsKnown (statements_of t) x)
 informed t h n x None there is =
     let lt = slice_get_within t.symbols.names n x there in
     let size = h.infos.informed in
     let (info, at) = get_within t.infos.items n (omega arith) in
     absurd (cc)
-informed t h n x (Some info) there is = (
-  (symbols_declared (statements_of t) x).0 (subst (λ names. Contains names x) h.infos.all (contains_from_at _ x (n, there))),
-  h.infos.each n x info there (sym is),
-)
+informed t h n x (Some info) there is = record {
+  declared = (symbols_declared (statements_of t) x).0 (subst (λ names. Contains names x) h.infos.all (contains_from_at _ x (n, there)));
+  known = h.infos.each n x info there (sym is);
+}
 
 -- what is known of a constant and of a variable
 pub constant_from_info : (st : List Sentence) (x : List ℕ) (o : Option ℕ) (r : Bool) → AllMeant st → IsDeclared st x → IsLatestIn (Declares Variables x) st o → is_some o ≡ not r → IsTrue r ↔ IsConstant st x

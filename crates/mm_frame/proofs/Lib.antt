@@ -6,6 +6,7 @@ pub mod Depth
 pub mod Stays
 pub mod Meant
 pub mod NameLists
+pub mod ScopeCode
 pub mod Numbered
 pub mod Labelled
 pub mod Those
@@ -16,3 +17,6 @@ pub mod Infos
 pub mod Labels
 pub mod Lawful
 pub mod Known
+pub mod Places
+pub mod Symbols
+pub mod Order

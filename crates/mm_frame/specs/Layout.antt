@@ -10,7 +10,7 @@ use Rattle.mm_frame.specs.declared.tables.SymbolInfo.{SymbolInfo}
 use Rattle.mm_frame.specs.declared.tables.LabelInfo.{LabelInfo}
 use Rattle.mm_frame.specs.declared.tables.Tables.{Tables}
 use Rattle.mm_frame.specs.Sentence.{Sentence, SomeSentence, Declares, Types, IsAssertion}
-use Rattle.mm_frame.specs.Active.{IsActive, IsConstant}
+use Rattle.mm_frame.specs.Active.{IsActive, IsConstant, IsVariable}
 use Rattle.mm_frame.specs.Form.{IsSound}
 use Rattle.mm_frame.specs.Numbers.{symbols_of, labelled, IsNumbered}
 use Rattle.mm_frame.specs.FramePlace.{FramePlace, AreHypotheses, ArePairs}
@@ -59,6 +59,15 @@ GivesType x f = (code : List ℕ) × Types code x f
 pub record IsInfo (statements : List Sentence) (x : List ℕ) (info : SymbolInfo) : Type 0 where
   pub variable : IsLatestIn (Declares Variables x) statements info.variable
   pub floating : IsLatestIn (GivesType x) statements info.floating
+
+-- some `$c` or `$v` declares the symbol
+abbrev pub IsDeclared : List Sentence → List ℕ → Type 0
+IsDeclared statements x = IsConstant statements x ⊎ IsVariable statements x
+
+-- this is known of a declared symbol
+pub record IsKnown (statements : List Sentence) (x : List ℕ) (info : SymbolInfo) : Type 0 where
+  pub declared : IsDeclared statements x
+  pub known : IsInfo statements x info
 
 -- the part lies in a list
 pub record IsWithin (part : Part) (len : ℕ) : Type 0 where

@@ -3,16 +3,12 @@
 
 use crate::answer::Taken;
 use crate::framing::{label_ids, mandatory, mandatory_pairs};
+use crate::lists::put;
 use crate::number::{LabelId, Sym};
 use crate::pairs::in_order;
 use crate::tables::{Entry, LabelInfo, Part, SymbolInfo, Tables};
 use mm_text::{Kind, Statement, Token};
 use std::alloc::AllocError;
-
-// Adds an element to a list that has room.
-fn put<T: Drop>(list: &mut Vec<T>, value: T) {
-    let _ = list.push(value);
-}
 
 // Nothing of a list.
 const NO_PART: Part = Part { start: 0, end: 0 };

@@ -7,6 +7,7 @@ mod frame;
 mod framing;
 mod growth;
 mod laws;
+mod lists;
 mod lookups;
 mod names;
 mod number;

@@ -1,45 +1,27 @@
 //! What the statements before say of a name.
 
-ghost use Rattle.std.specs.Prelude.{◌≡◌, ◌≢◌, ◌↔◌, ◌⊎◌, ℕ, List, IsTrue, MatchOption, slice_get, Some};
+ghost use Rattle.std.specs.Prelude.{◌≡◌, ◌≢◌, ◌↔◌, ℕ, List, IsTrue, MatchOption, slice_get, Some};
 ghost use Rattle.mm_text.specs.declared.statement.Kind.TheVariants.{Variables};
 ghost use Rattle.mm_frame.specs.Sentence.{Sentence, SomeSentence, Declares, IsLabelled, Types};
 ghost use Rattle.mm_frame.specs.Active.{SomeActive, IsConstant, IsVariable, IsActiveSymbol, IsTyped};
-ghost use Rattle.mm_frame.specs.Layout.{AreTables, statements_of, GivesType, IsInfo};
+ghost use Rattle.mm_frame.specs.Layout.{AreTables, statements_of, GivesType};
 
-use crate::number::Sym;
-use crate::tables::{SymbolInfo, Tables};
+use crate::tables::Tables;
 
 // Whether some statement has this label.
 pub(crate) fn is_label(tables: &Tables, label: &[u8]) -> bool
-    requires tables { AreTables tables.now }
+    requires { AreTables tables.now }
     ensures { IsTrue result ↔ SomeSentence (statements_of tables.now) (IsLabelled label.now) }
 {
     tables.labels.find(label).is_some()
 }
 
-// What is known of a declared symbol.
-fn known(tables: &Tables, symbol: &[u8]) -> Option<SymbolInfo>
-    requires tables { AreTables tables.now }
-    ensures { MatchOption
-        result
-        (¬ (IsConstant (statements_of tables.now) symbol.now
-            ⊎ IsVariable (statements_of tables.now) symbol.now))
-        (λ info. (IsConstant (statements_of tables.now) symbol.now
-            ⊎ IsVariable (statements_of tables.now) symbol.now)
-            × IsInfo (statements_of tables.now) symbol.now info) }
-{
-    match tables.symbols.find(symbol) {
-        Some(number) => tables.info(Sym(number)),
-        None => None,
-    }
-}
-
 // Whether some `$c` declares the symbol.
 pub(crate) fn is_constant(tables: &Tables, symbol: &[u8]) -> bool
-    requires tables { AreTables tables.now }
+    requires { AreTables tables.now }
     ensures { IsTrue result ↔ IsConstant (statements_of tables.now) symbol.now }
 {
-    match known(tables, symbol) {
+    match tables.known(symbol) {
         Some(info) => info.variable.is_none(),
         None => false,
     }
@@ -47,10 +29,10 @@ pub(crate) fn is_constant(tables: &Tables, symbol: &[u8]) -> bool
 
 // Whether some `$v` declares the symbol.
 pub(crate) fn is_variable(tables: &Tables, symbol: &[u8]) -> bool
-    requires tables { AreTables tables.now }
+    requires { AreTables tables.now }
     ensures { IsTrue result ↔ IsVariable (statements_of tables.now) symbol.now }
 {
-    match known(tables, symbol) {
+    match tables.known(symbol) {
         Some(info) => info.variable.is_some(),
         None => false,
     }
@@ -58,11 +40,11 @@ pub(crate) fn is_variable(tables: &Tables, symbol: &[u8]) -> bool
 
 // Whether an active `$v` declares the symbol. No other than the latest can be active.
 pub(crate) fn is_active_variable(tables: &Tables, symbol: &[u8]) -> bool
-    requires tables { AreTables tables.now }
+    requires { AreTables tables.now }
     ensures { IsTrue result
         ↔ SomeActive (statements_of tables.now) (Declares Variables symbol.now) }
 {
-    match known(tables, symbol) {
+    match tables.known(symbol) {
         Some(info) => match info.variable {
             Some(place) => tables.is_active_now(place),
             None => false,
@@ -74,7 +56,7 @@ pub(crate) fn is_active_variable(tables: &Tables, symbol: &[u8]) -> bool
 // Whether an active `$c` or `$v` declares the symbol. Each `$c` is active, since none stands in a
 // block.
 pub(crate) fn is_active_symbol(tables: &Tables, symbol: &[u8]) -> bool
-    requires tables { AreTables tables.now }
+    requires { AreTables tables.now }
     ensures { IsTrue result ↔ IsActiveSymbol (statements_of tables.now) symbol.now }
 {
     is_constant(tables, symbol) || is_active_variable(tables, symbol)
@@ -82,10 +64,10 @@ pub(crate) fn is_active_symbol(tables: &Tables, symbol: &[u8]) -> bool
 
 // Whether the variable has an active `$f`. No other than its latest can be active.
 pub(crate) fn is_typed(tables: &Tables, variable: &[u8]) -> bool
-    requires tables { AreTables tables.now }
+    requires { AreTables tables.now }
     ensures { IsTrue result ↔ IsTyped (statements_of tables.now) variable.now }
 {
-    match known(tables, variable) {
+    match tables.known(variable) {
         Some(info) => match info.floating {
             Some(place) => tables.is_active_now(place),
             None => false,
@@ -96,25 +78,25 @@ pub(crate) fn is_typed(tables: &Tables, variable: &[u8]) -> bool
 
 // The type code that the `$f` at a place gives.
 fn code_at<'a>(tables: &Tables<'a>, place: usize) -> Option<&'a [u8]>
-    requires tables { AreTables tables.now }
+    requires { AreTables tables.now }
     ensures { (f : Sentence) (code x : List ℕ) → slice_get (statements_of tables.now) place ≡ Some f
         → Types code x f → MatchOption result ⊥ (λ found. found.now ≡ code) }
 {
     match tables.symbols_at(place) {
-        [code, _] => tables.symbols.name(code.0),
-        _ => None,
+        [code, ..] => tables.symbols.name(code.0),
+        [] => None,
     }
 }
 
 // The type code that the variable's latest `$f` gives it. Each `$f` before gave the same.
 fn latest_code<'a>(tables: &Tables<'a>, variable: &[u8]) -> Option<&'a [u8]>
-    requires tables { AreTables tables.now }
+    requires { AreTables tables.now }
     ensures { MatchOption
         result
         (¬ (SomeSentence (statements_of tables.now) (GivesType variable.now)))
         (λ code. SomeSentence (statements_of tables.now) (Types code.now variable.now)) }
 {
-    match known(tables, variable) {
+    match tables.known(variable) {
         Some(info) => match info.floating {
             Some(place) => code_at(tables, place),
             None => None,
@@ -125,7 +107,7 @@ fn latest_code<'a>(tables: &Tables<'a>, variable: &[u8]) -> Option<&'a [u8]>
 
 // Whether an earlier `$f` gave the variable another type code than this one.
 pub(crate) fn has_other_type(tables: &Tables, code: &[u8], variable: &[u8]) -> bool
-    requires tables { AreTables tables.now }
+    requires { AreTables tables.now }
     ensures { IsTrue result ↔ SomeSentence (statements_of tables.now)
         (λ f. (other : List ℕ) × Types other variable.now f × (other ≢ code.now)) }
 {

@@ -6,6 +6,7 @@ ghost use Rattle.mm_frame.specs.Sentence.{Sentence};
 ghost use Rattle.mm_frame.specs.Active.{IsActive, openings, closings};
 ghost use Rattle.mm_frame.specs.ScopesOf.{HaveScopes, HasRoom, HaveSameLists};
 
+use crate::lists::{at as at_place, put, write};
 use mm_text::Kind;
 use std::alloc::{AllocError, Global};
 
@@ -43,12 +44,12 @@ impl Scopes {
     /// Whether the statement at a place is active after the statements before another.
     pub(crate) fn is_active(&self, place: usize, at: usize) -> bool
         ensures { (statements : List Sentence) → HaveScopes statements self.now
-            → place < at → at ≤ length statements
+            → length statements ≤ NEVER → place < at → at ≤ length statements
             → (IsTrue result ↔ IsActive (take at statements) place) }
     {
-        match self.blocks.get(place) {
-            Some(block) => match self.ends.get(*block) {
-                Some(end) => at <= *end,
+        match at_place(&self.blocks, place) {
+            Some(block) => match at_place(&self.ends, block) {
+                Some(end) => at <= end,
                 None => false,
             },
             None => false,
@@ -93,12 +94,10 @@ impl Scopes {
     {
         let place = self.blocks.len();
         let block = self.innermost();
-        if let Some(end) = self.ends.get_mut(block) {
-            *end = place;
-        }
+        write(&mut self.ends, block, place);
         let _ = self.open.pop();
         let outer = self.innermost();
-        let _ = self.blocks.push(outer);
+        put(&mut self.blocks, outer);
     }
 
     // Takes a `${` in.
@@ -108,9 +107,9 @@ impl Scopes {
             → e.kind ≡ Opening → HaveScopes (statements ++ e ∷ []) self.new }
     {
         let block = self.innermost();
-        let _ = self.blocks.push(block);
-        let _ = self.open.push(self.ends.len());
-        let _ = self.ends.push(NEVER);
+        put(&mut self.blocks, block);
+        put(&mut self.open, self.ends.len());
+        put(&mut self.ends, NEVER);
     }
 
     // Takes another statement in.
@@ -120,7 +119,7 @@ impl Scopes {
             → ¬ (e.kind ≡ Opening) → ¬ (e.kind ≡ Closing) → HaveScopes (statements ++ e ∷ []) self.new }
     {
         let block = self.innermost();
-        let _ = self.blocks.push(block);
+        put(&mut self.blocks, block);
     }
 
     /// Takes a statement in.

@@ -1,10 +1,9 @@
 //! The lists in which a book keeps its statements by numbers.
 
-ghost use Rattle.std.specs.Prelude.{◌≡◌, ◌<◌, ◌↔◌, IsTrue, length, slice_get, slice_range, Some};
-ghost use Rattle.mm_frame.specs.declared.tables.Entry.{Entry};
-ghost use Rattle.mm_frame.specs.Active.{IsActive};
-ghost use Rattle.mm_frame.specs.Layout.{AreTables, IsWithin, statements_of};
+ghost use Rattle.std.specs.Prelude.{◌≡◌, length, slice_range};
+ghost use Rattle.mm_frame.specs.Layout.{IsWithin};
 
+use crate::lists::at;
 use crate::names::Names;
 use crate::number::{LabelId, Sym};
 use crate::pairs::Pairs;
@@ -80,6 +79,11 @@ pub struct Tables<'a> {
 }
 
 impl<'a> Tables<'a> {
+    ghost use Rattle.std.specs.Prelude.{◌≡◌, ◌↔◌, ◌<◌, IsTrue, MatchOption, Some, length, slice_get, slice_range};
+    ghost use Rattle.mm_frame.specs.declared.tables.Entry.{Entry};
+    ghost use Rattle.mm_frame.specs.Active.{IsActive};
+    ghost use Rattle.mm_frame.specs.Layout.{AreTables, statements_of, IsDeclared, IsKnown};
+
     /// No statements.
     pub(crate) fn new(alloc: Global) -> Result<Tables<'a>, AllocError> {
         let scopes = Scopes::new(alloc)?;
@@ -104,17 +108,33 @@ impl<'a> Tables<'a> {
     pub(crate) fn info(&self, symbol: Sym) -> Option<SymbolInfo>
         ensures { result ≡ slice_get self.now.infos.items symbol.0 }
     {
-        self.infos.get(symbol.0 as usize).copied()
+        at(&self.infos, symbol.0 as usize)
+    }
+
+    /// What is known of a symbol by its name.
+    pub(crate) fn known(&self, symbol: &[u8]) -> Option<SymbolInfo>
+        requires { AreTables self.now }
+        ensures { MatchOption
+            result
+            (¬ (IsDeclared (statements_of self.now) symbol.now))
+            (λ info. IsKnown (statements_of self.now) symbol.now info) }
+    {
+        match self.symbols.find(symbol) {
+            Some(number) => self.info(Sym(number)),
+            None => None,
+        }
     }
 
     /// What is known of a label.
-    pub(crate) fn label_info(&self, id: LabelId) -> Option<LabelInfo> {
-        self.named.get(id.0 as usize).copied()
+    pub(crate) fn label_info(&self, id: LabelId) -> Option<LabelInfo>
+        ensures { result ≡ slice_get self.now.named.items id.0 }
+    {
+        at(&self.named, id.0 as usize)
     }
 
     /// The symbols of the statement at a place.
     pub(crate) fn symbols_at(&self, place: usize) -> &[Sym]
-        requires tables { AreTables self.now }
+        requires { AreTables self.now }
         ensures { (e : Entry) → slice_get self.now.log.items place ≡ Some e
             → result.now ≡ slice_range self.now.flat.items e.symbols.start e.symbols.end }
     {
@@ -137,7 +157,7 @@ impl<'a> Tables<'a> {
 
     /// Whether the statement at a place is active now.
     pub(crate) fn is_active_now(&self, place: usize) -> bool
-        requires tables { AreTables self.now }
+        requires { AreTables self.now }
         ensures { place < length (statements_of self.now)
             → (IsTrue result ↔ IsActive (statements_of self.now) place) }
     {

@@ -4,7 +4,7 @@ use Rattle.mm_frame.proofs.lookups.is_active_symbol.Goals as goal
 
 pub returns-then-is_constant : goal.returns-then-is_constant
 returns-then-is_constant c = (
-  (λ t. active_constant (statements_of c.args.tables.now) c.args.symbol.now c.requires.tables.sound.0 (c.is_constant.ensures.0 t)),
+  (λ t. active_constant (statements_of c.args.tables.now) c.args.symbol.now c.requires.sound.0 (c.is_constant.ensures.0 t)),
   (λ active. c.if-is_constant.true),
 )
 

@@ -8,6 +8,5 @@ use Rattle.mm_frame.proofs.lookups.is_active_variable.Goals as goal
 pub returns-in-Some-variable : goal.returns-in-Some-variable
 returns-in-Some-variable c =
     let st = statements_of c.args.tables.now in
-    let (declared, info) = c.in-Some.ensures in
-    let latest = subst (λ (o : Option ℕ). IsLatestIn (Declares Variables c.args.symbol.now) st o) c.in-Some-variable.is info.variable in
-    active_from_latest st c.args.symbol.now c.in-Some-variable.place c.is_active_now.result c.requires.tables.sound.0 latest c.is_active_now.ensures
+    let latest = subst (λ (o : Option ℕ). IsLatestIn (Declares Variables c.args.symbol.now) st o) c.in-Some-variable.is c.in-Some.ensures.known.variable in
+    active_from_latest st c.args.symbol.now c.in-Some-variable.place c.is_active_now.result c.requires.sound.0 latest c.is_active_now.ensures

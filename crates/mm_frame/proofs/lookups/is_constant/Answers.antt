@@ -4,6 +4,5 @@ use Rattle.mm_frame.proofs.lookups.is_constant.Goals as goal
 
 pub returns-in-Some : goal.returns-in-Some
 returns-in-Some c =
-    let (declared, info) = c.in-Some.ensures in
-    constant_from_info (statements_of c.args.tables.now) c.args.symbol.now c.in-Some.info.variable c.is_none.result c.requires.tables.sound.0
-    declared info.variable c.is_none.ensures
+    constant_from_info (statements_of c.args.tables.now) c.args.symbol.now c.in-Some.info.variable c.is_none.result c.requires.sound.0
+    c.in-Some.ensures.declared c.in-Some.ensures.known.variable c.is_none.ensures

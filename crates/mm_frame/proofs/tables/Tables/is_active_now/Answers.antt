@@ -9,4 +9,4 @@ returns c within =
     let size = statements_counted t in
     let now : c.len.result ≡ length t.log.items = search rules in
     active_of_all t c.args.place c.len.result now c.is_active.result
-    (c.is_active.ensures (statements_of t) c.requires.tables.scopes (omega arith) (omega arith))
+    (c.is_active.ensures (statements_of t) c.requires.scopes (omega arith) (omega arith) (omega arith))

@@ -13,7 +13,7 @@ returns-in-Some c e there =
     let flat = c.deref-in-Some.ensures.value in
     let within : IsWithin c.in-Some.entry.now.symbols (length c.deref-in-Some.result.now) =
         subst (λ (xs : List Sym). IsWithin c.in-Some.entry.now.symbols (length xs)) (sym flat)
-        (subst (λ (entry : Entry). IsWithin entry.symbols (length c.args.self.now.flat.items)) (sym same) (c.requires.tables.entries.within c.args.place e there)) in
+        (subst (λ (entry : Entry). IsWithin entry.symbols (length c.args.self.now.flat.items)) (sym same) (c.requires.entries.within c.args.place e there)) in
     let part = c.part_of.ensures within in
     cc
 

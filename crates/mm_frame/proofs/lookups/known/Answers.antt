@@ -1,9 +1,0 @@
-use Rattle.mm_frame.proofs.Known.{informed, undeclared}
-use Rattle.mm_frame.proofs.lookups.known.Goals as goal
-
-pub returns-in-Some : goal.returns-in-Some
-returns-in-Some c =
-    informed c.args.tables.now c.requires.tables c.in-Some.number c.args.symbol.now c.info.result c.in-Some.ensures c.info.ensures
-
-pub returns-in-None : goal.returns-in-None
-returns-in-None c = undeclared c.args.tables.now c.requires.tables c.args.symbol.now c.in-None.ensures
