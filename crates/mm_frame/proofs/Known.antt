@@ -1,5 +1,5 @@
 -- What a book's lists know of names, and what is active by their blocks.
-use Rattle.std.proofs.Common.{◌≡◌, ◌≢◌, ◌↔◌, IsTrue, ℕ, ◌<◌, ◌⊎◌, not, inl, inr, length, take, get_or, Bool, true, false, List, [], ◌∷◌, map, Contains, Option, Some, None, refl, sym, ap, ◌∙◌, subst, arith}
+use Rattle.std.proofs.Common.{◌≡◌, ◌≢◌, ◌↔◌, IsTrue, ℕ, suc, ◌-◌, ◌<◌, ◌≤◌, ◌⊎◌, not, inl, inr, length, take, get_or, nat_lt, Bool, true, false, List, [], ◌∷◌, map, Contains, Option, Some, None, refl, sym, ap, ◌∙◌, subst, arith}
 use Rattle.std.specs.Option.{MatchOption, is_some, option_map, unwrap_or}
 use Rattle.std.specs.List.{slice_get, slice_range}
 use Rattle.std.specs.Str.{bytes_eq}
@@ -7,6 +7,7 @@ use denote.Bor.{Bor}
 use Rattle.std.proofs.lemmas.Option.{slice_get-map, slice_get_read, slice_get_within}
 use Rattle.std.proofs.lemmas.List.{length-map, take_all}
 use Rattle.std.proofs.lemmas.Bool.{cases_Bool}
+use Rattle.std.proofs.lemmas.Bool.Decides.{nat_tests}
 use Rattle.std.proofs.lemmas.Slice.Eq.{bytes_eq-Decides}
 use Rattle.mm_text.specs.declared.statement.Kind.TheVariants.{Constants, Variables, Floating}
 use Rattle.mm_frame.specs.declared.rule.MeaningRule.TheVariants.{M7}
@@ -16,11 +17,12 @@ use Rattle.mm_frame.specs.declared.tables.SymbolInfo.{SymbolInfo}
 use Rattle.mm_frame.specs.declared.tables.Tables.{Tables}
 use Rattle.mm_frame.specs.declared.scopes.TheConstants.{NEVER}
 use Rattle.mm_frame.specs.Sentence.{Sentence, SomeSentence, Declares, Types, IsLabelled}
-use Rattle.mm_frame.specs.Active.{IsActive, SomeActive, IsConstant, IsVariable, IsActiveSymbol, IsTyped}
+use Rattle.mm_frame.specs.Active.{openings, closings, IsOpen, IsActive, SomeActive, IsConstant, IsVariable, IsActiveSymbol, IsTyped}
 use Rattle.mm_frame.specs.Rules.{AllMeant}
 use Rattle.mm_frame.specs.Numbers.{symbols_of, labelled}
 use Rattle.mm_frame.specs.Latest.{IsLatest}
 use Rattle.mm_frame.specs.Layout.{IsDeclared, IsKnown, names_by, sentence_by, sentences, statements_of, IsLatestIn, GivesType, AreTables}
+use Rattle.mm_frame.proofs.Depth.{scope_depth, scope_some_open}
 use Rattle.mm_frame.proofs.Entries.{get_sliced}
 use Rattle.mm_frame.proofs.Labelled.{numbered_from_get, numbered_at, numbered_get}
 use Rattle.mm_frame.proofs.Meant.{meant_at, latest_variable, latest_typed, constant_active, one_role, one_code}
@@ -204,3 +206,20 @@ other_code st x code given r meant (p, f, there, types) is = (
         | inr differ ↦ cc (is, differ)
       ]),
 )
+
+positive : (n : ℕ) → IsTrue (nat_lt 0 n) → 0 < n
+positive n told = grind (arith, nat_tests)
+
+is_positive : (n : ℕ) → 0 < n → IsTrue (nat_lt 0 n)
+is_positive n lt = grind (arith, nat_tests)
+
+-- a block is open where the depth is above 0
+pub open_by_depth : (t : Tables) → AreTables t → (n : ℕ) → n ≡ openings (statements_of t) - closings (statements_of t) → IsTrue (nat_lt 0 n) ↔ ((place : ℕ) × IsOpen (statements_of t) place)
+open_by_depth t h n is =
+    let st = statements_of t in
+    let depth = scope_depth NEVER st t.scopes.blocks.items t.scopes.ends.items t.scopes.open.items h.scopes in
+    let some_open = scope_some_open NEVER st t.scopes.blocks.items t.scopes.ends.items t.scopes.open.items h.scopes in
+    let size = depth.0 in (
+      (λ told. let lt = positive n told in some_open.1 (omega arith)),
+      (λ some. let two = some_open.0 some in is_positive n (omega arith)),
+    )

@@ -20,3 +20,4 @@ pub mod Known
 pub mod Places
 pub mod Symbols
 pub mod Order
+pub mod Twice
