@@ -106,7 +106,7 @@ entry_at symbols labels flat log place s there =
     let says = sentence_at symbols labels flat log place e at in
     (e, at, cc)
 
-longer : {X : Type 0} (xs ys : List X) → length xs ≤ length (xs ++ ys)
+pub longer : {X : Type 0} (xs ys : List X) → length xs ≤ length (xs ++ ys)
 longer xs ys = let e = length-append xs ys in omega arith
 
 pub entries_push : (symbols labels : List (List ℕ)) (flat : List Sym) (log : List Entry) (a b : List (List ℕ)) (c : List Sym) (new : Entry) → AreEntries symbols labels flat log

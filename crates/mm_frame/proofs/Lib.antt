@@ -7,6 +7,10 @@ pub mod Stays
 pub mod Meant
 pub mod NameLists
 pub mod ScopeCode
+pub mod LookupLaws
+pub mod SymbolsAt
+pub mod Places
+pub mod Symbols
 pub mod Numbered
 pub mod Labelled
 pub mod Those
@@ -15,9 +19,9 @@ pub mod Needed
 pub mod Entries
 pub mod Infos
 pub mod Labels
-pub mod Lawful
-pub mod Known
-pub mod Places
-pub mod Symbols
+pub mod FrameLaws
+pub mod FrameOf
+pub mod DistinctAt
 pub mod Order
-pub mod Twice
+pub mod Repeats
+pub mod Lawful

@@ -71,3 +71,14 @@ added_name f xs x =
 pub holds_if_ok : {T E : Type 0} (r : Result T E) (P : Type 0) → IsOk r → IfOk r (λ _. P) → P
 holds_if_ok (Ok x) P ok h = h
 holds_if_ok (Err e) P ok h = absurd (cc ok)
+
+-- the element at a place of a mapped list
+pub get_mapped : {X Y : Type 0} (f : X → Y) (xs : List X) (i : ℕ) (x : X) → slice_get xs i ≡ Some x → slice_get (map f xs) i ≡ Some (f x)
+get_mapped f [] i x there = absurd (cc)
+get_mapped f (z ∷ xs) zero x there = let same : z ≡ x = cc in ap (λ y. Some (f y)) same
+get_mapped f (z ∷ xs) (suc i) x there = get_mapped f xs i x there
+
+pub get_unmapped : {X Y : Type 0} (f : X → Y) (xs : List X) (i : ℕ) (y : Y) → slice_get (map f xs) i ≡ Some y → (x : X) × (slice_get xs i ≡ Some x) × (f x ≡ y)
+get_unmapped f [] i y there = absurd (cc)
+get_unmapped f (z ∷ xs) zero y there = (z, refl, cc)
+get_unmapped f (z ∷ xs) (suc i) y there = get_unmapped f xs i y there

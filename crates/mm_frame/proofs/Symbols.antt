@@ -1,5 +1,5 @@
 -- The symbols of a statement, as its tokens spell them.
-use Rattle.std.proofs.Common.{◌≡◌, ◌≤◌, get_or, arith, ◌↔◌, IsTrue, Contains, ℕ, length, Bool, true, false, List, [], ◌∷◌, map, Option, refl, sym, ap, subst}
+use Rattle.std.proofs.Common.{◌≡◌, ◌≤◌, ◌⊎◌, inl, inr, get_or, arith, ◌↔◌, IsTrue, Contains, ℕ, length, Bool, true, false, List, [], ◌∷◌, map, Option, refl, sym, ap, subst}
 use Rattle.std.specs.List.{FoldsTo}
 use Rattle.std.specs.Option.{MatchOption}
 use Rattle.std.specs.Iterator.{YieldsThen}
@@ -34,6 +34,11 @@ symbol_says {all = all} P u f r ran list calls =
     let Q : List (List ℕ) → Type 0 = λ xs. (x : List ℕ) × Contains xs x × P x in
     ((λ t. subst Q (sym (texts all)) (contains_from_at P _ (said.0 t))), (λ q. said.1 (at_from_contains P _ (subst Q (texts all) q))))
 
+pub same_symbol : (tokens : List Token) (symbol : List ℕ) (r : Bool) → (IsTrue r ↔ SomeToken tokens (λ y. y ≡ symbol)) → IsTrue r ↔ Contains (map (λ t. t.text) (map plain_token tokens)) symbol
+same_symbol tokens symbol r h =
+    let there = map (λ t. t.text) (map plain_token tokens) in
+    ((λ t. let (x, in_it, same) = h.0 t in subst (λ y. Contains there y) same in_it), (λ c. h.1 (symbol, c, refl)))
+
 -- the first of some tokens spells the first symbol
 pub first_symbol : (tokens items : List Token) (d : Token) → items ≡ tokens → 1 ≤ length items
     → (others : List (List ℕ)) × (map (λ t. t.text) (map plain_token tokens) ≡ (get_or items 0 d).text.now ∷ others)
@@ -44,3 +49,21 @@ first_symbol tokens (t ∷ items) d same some =
 -- a test that holds, and then another
 pub with_test : {K Q : Type 0} (r : Bool) → K → (IsTrue r ↔ Q) → IsTrue r ↔ (K × Q)
 with_test r k h = ((λ t. (k, h.0 t)), (λ q. h.1 q.1))
+
+-- where no symbol stands twice, that alternative adds nothing
+pub none_twice : (symbols : List (List ℕ)) (A B Twice : List ℕ → Type 0) (r : Bool) → ¬ ((x : List ℕ) × Contains symbols x × Twice x)
+    → (IsTrue r ↔ ((x : List ℕ) × Contains symbols x × (A x ⊎ B x))) → IsTrue r ↔ ((x : List ℕ) × Contains symbols x × (A x ⊎ B x ⊎ Twice x))
+none_twice symbols A B Twice r once h = ((λ t. more (h.0 t)), (λ q. h.1 (fewer q)))
+  where
+    more : (x : List ℕ) × Contains symbols x × (A x ⊎ B x) → (x : List ℕ) × Contains symbols x × (A x ⊎ B x ⊎ Twice x)
+    more (x, there, inl a) = (x, there, inl a)
+    more (x, there, inr b) = (x, there, inr (inl b))
+    fewer : (x : List ℕ) × Contains symbols x × (A x ⊎ B x ⊎ Twice x) → (x : List ℕ) × Contains symbols x × (A x ⊎ B x)
+    fewer (x, there, inl a) = (x, there, inl a)
+    fewer (x, there, inr (inl b)) = (x, there, inr b)
+    fewer (x, there, inr (inr t)) = absurd (once (x, there, t))
+
+-- what a test that failed tells of isn't so
+pub not_so : {P : Type 0} (r : Bool) → r ≡ false → (IsTrue r ↔ P) → ¬ P
+not_so true e h p = absurd (cc)
+not_so false e h p = absurd (cc (h.1 p))

@@ -14,5 +14,5 @@ pub mod NameTable
 pub mod Stated
 pub mod ScopesOf
 pub mod Layout
+pub mod Told
 pub mod Laws
-pub mod Listed

@@ -1,11 +1,12 @@
 //! What the statements before say of a name.
 
-ghost use Rattle.std.specs.Prelude.{◌≡◌, ◌≢◌, ◌↔◌, ℕ, List, IsTrue, MatchOption, slice_get, Some};
+ghost use Rattle.std.specs.Prelude.{◌≢◌, ◌↔◌, ℕ, List, IsTrue, MatchOption};
 ghost use Rattle.mm_text.specs.declared.statement.Kind.TheVariants.{Variables};
-ghost use Rattle.mm_frame.specs.Sentence.{Sentence, SomeSentence, Declares, IsLabelled, Types};
+ghost use Rattle.mm_frame.specs.Sentence.{SomeSentence, IsLabelled, Declares, Types};
 ghost use Rattle.mm_frame.specs.Active.{SomeActive, IsConstant, IsVariable, IsActiveSymbol, IsTyped};
 ghost use Rattle.mm_frame.specs.Layout.{AreTables, statements_of, GivesType};
 
+use crate::lists::at;
 use crate::tables::Tables;
 
 // Whether some statement has this label.
@@ -38,7 +39,7 @@ pub(crate) fn is_variable(tables: &Tables, symbol: &[u8]) -> bool
     }
 }
 
-// Whether an active `$v` declares the symbol. No other than the latest can be active.
+// Whether an active `$v` declares the symbol.
 pub(crate) fn is_active_variable(tables: &Tables, symbol: &[u8]) -> bool
     requires { AreTables tables.now }
     ensures { IsTrue result
@@ -76,18 +77,6 @@ pub(crate) fn is_typed(tables: &Tables, variable: &[u8]) -> bool
     }
 }
 
-// The type code that the `$f` at a place gives.
-fn code_at<'a>(tables: &Tables<'a>, place: usize) -> Option<&'a [u8]>
-    requires { AreTables tables.now }
-    ensures { (f : Sentence) (code x : List ℕ) → slice_get (statements_of tables.now) place ≡ Some f
-        → Types code x f → MatchOption result ⊥ (λ found. found.now ≡ code) }
-{
-    match tables.symbols_at(place) {
-        [code, ..] => tables.symbols.name(code.0),
-        [] => None,
-    }
-}
-
 // The type code that the variable's latest `$f` gives it. Each `$f` before gave the same.
 fn latest_code<'a>(tables: &Tables<'a>, variable: &[u8]) -> Option<&'a [u8]>
     requires { AreTables tables.now }
@@ -98,7 +87,10 @@ fn latest_code<'a>(tables: &Tables<'a>, variable: &[u8]) -> Option<&'a [u8]>
 {
     match tables.known(variable) {
         Some(info) => match info.floating {
-            Some(place) => code_at(tables, place),
+            Some(place) => match at(tables.symbols_at(place), 0) {
+                Some(code) => tables.symbols.name(code.0),
+                None => None,
+            },
             None => None,
         },
         None => None,
@@ -108,8 +100,10 @@ fn latest_code<'a>(tables: &Tables<'a>, variable: &[u8]) -> Option<&'a [u8]>
 // Whether an earlier `$f` gave the variable another type code than this one.
 pub(crate) fn has_other_type(tables: &Tables, code: &[u8], variable: &[u8]) -> bool
     requires { AreTables tables.now }
-    ensures { IsTrue result ↔ SomeSentence (statements_of tables.now)
-        (λ f. (other : List ℕ) × Types other variable.now f × (other ≢ code.now)) }
+    ensures { IsTrue result
+        ↔ SomeSentence
+            (statements_of tables.now)
+            (λ f. (other : List ℕ) × Types other variable.now f × (other ≢ code.now)) }
 {
     match latest_code(tables, variable) {
         Some(other) => other != code,

@@ -1,14 +1,11 @@
 //! The rules of meaning: which a statement breaks after the statements before it.
 
-ghost use Rattle.std.specs.Prelude.{◌≡◌, ◌≤◌, ◌<◌, ◌↔◌, ◌⊎◌, ℕ, List, length, map, Contains, IsTrue, IfOk, MatchOption};
-ghost use Rattle.mm_text.specs.declared.statement.Kind.TheVariants.{Variables};
-ghost use Rattle.mm_text.specs.Statement.{plain_statement, HasForm, bytes_in};
+ghost use Rattle.std.specs.Prelude.{◌↔◌, ◌<◌, ℕ, List, IsTrue, IfOk, MatchOption, length, map, vec_len};
 ghost use Rattle.mm_frame.specs.declared.rule.MeaningRule.TheVariants.{M1, M2, M3, M4, M5, M6, M7, M8, M9, M10, M11, M12, M13, M14, M15};
-ghost use Rattle.mm_frame.specs.Sentence.{Sentence, said_by, Declares, StandsTwice};
-ghost use Rattle.mm_frame.specs.Active.{SomeActive, IsConstant, IsVariable};
-ghost use Rattle.mm_frame.specs.Rules.{SomeSymbol, Breaks, IsMeant, FirstBroken};
-ghost use Rattle.mm_frame.specs.Listed.{IsList, Repeats};
+ghost use Rattle.mm_frame.specs.Sentence.{Sentence, said_by, StandsTwice};
+ghost use Rattle.mm_frame.specs.Rules.{Breaks, IsMeant, FirstBroken};
 ghost use Rattle.mm_frame.specs.Layout.{AreTables, statements_of};
+ghost use Rattle.mm_frame.specs.Told.{IsTold, StatesOnce};
 
 use crate::lookups::{
     has_other_type, is_active_symbol, is_active_variable, is_constant, is_label, is_typed,
@@ -21,60 +18,43 @@ use crate::tables::Tables;
 use mm_text::{Kind, Statement, Token};
 use std::alloc::{AllocError, Global};
 
-// Whether the statement is a `$c` in a block.
+// A `$c` stands in a block.
 fn breaks_m1(tables: &Tables, statement: &Statement) -> bool
-    requires tables { AreTables tables.now }
+    requires { AreTables tables.now }
     ensures { IsTrue result ↔ Breaks M1 (statements_of tables.now) (said_by statement.now) }
 {
-    statement.kind == Kind::Constants && tables.scopes.depth() > 0
-}
-
-// Whether a symbol of the statement was declared before.
-fn is_declared(tables: &Tables, statement: &Statement) -> bool
-    requires tables { AreTables tables.now }
-    ensures { IsTrue result ↔ SomeSymbol (said_by statement.now)
-        (λ x. IsConstant (statements_of tables.now) x ⊎ IsVariable (statements_of tables.now) x) }
-{
-    statement
-        .symbols
-        .iter()
-        .any(|token| is_constant(tables, token.text) || is_variable(tables, token.text))
-}
-
-// Whether a symbol of the statement is an active variable, or was declared a constant.
-fn is_declared_now(tables: &Tables, statement: &Statement) -> bool
-    requires tables { AreTables tables.now }
-    ensures { IsTrue result ↔ SomeSymbol (said_by statement.now)
-        (λ x. SomeActive (statements_of tables.now) (Declares Variables x)
-            ⊎ IsConstant (statements_of tables.now) x) }
-{
-    statement
-        .symbols
-        .iter()
-        .any(|token| is_active_variable(tables, token.text) || is_constant(tables, token.text))
+    statement.kind == Kind::Constants && tables.scopes.has_open()
 }
 
 // A symbol of a `$c` was declared before, or stands twice in it.
 fn breaks_m2(tables: &Tables, statement: &Statement, repeats: bool) -> bool
     requires tables { AreTables tables.now }
-    requires repeats { IsTrue repeats ↔ Repeats (said_by statement.now) }
+    requires told { IsTold repeats (said_by statement.now) }
     ensures { IsTrue result ↔ Breaks M2 (statements_of tables.now) (said_by statement.now) }
 {
-    statement.kind == Kind::Constants && (repeats || is_declared(tables, statement))
+    statement.kind == Kind::Constants
+        && (repeats
+            || statement.symbols.iter().any(|token| {
+                is_constant(tables, token.text) || is_variable(tables, token.text)
+            }))
 }
 
 // A symbol of a `$v` is an active variable, was declared a constant, or stands twice in it.
 fn breaks_m3(tables: &Tables, statement: &Statement, repeats: bool) -> bool
     requires tables { AreTables tables.now }
-    requires repeats { IsTrue repeats ↔ Repeats (said_by statement.now) }
+    requires told { IsTold repeats (said_by statement.now) }
     ensures { IsTrue result ↔ Breaks M3 (statements_of tables.now) (said_by statement.now) }
 {
-    statement.kind == Kind::Variables && (repeats || is_declared_now(tables, statement))
+    statement.kind == Kind::Variables
+        && (repeats
+            || statement.symbols.iter().any(|token| {
+                is_active_variable(tables, token.text) || is_constant(tables, token.text)
+            }))
 }
 
 // A symbol of a `$c` or `$v` equals an earlier label.
 fn breaks_m4(tables: &Tables, statement: &Statement) -> bool
-    requires tables { AreTables tables.now }
+    requires { AreTables tables.now }
     ensures { IsTrue result ↔ Breaks M4 (statements_of tables.now) (said_by statement.now) }
 {
     (statement.kind == Kind::Constants || statement.kind == Kind::Variables)
@@ -86,7 +66,7 @@ fn breaks_m4(tables: &Tables, statement: &Statement) -> bool
 
 // The label equals an earlier label.
 fn breaks_m5(tables: &Tables, statement: &Statement) -> bool
-    requires tables { AreTables tables.now }
+    requires { AreTables tables.now }
     ensures { IsTrue result ↔ Breaks M5 (statements_of tables.now) (said_by statement.now) }
 {
     match label_of(statement) {
@@ -97,7 +77,7 @@ fn breaks_m5(tables: &Tables, statement: &Statement) -> bool
 
 // The label equals a symbol declared before.
 fn breaks_m6(tables: &Tables, statement: &Statement) -> bool
-    requires tables { AreTables tables.now }
+    requires { AreTables tables.now }
     ensures { IsTrue result ↔ Breaks M6 (statements_of tables.now) (said_by statement.now) }
 {
     match label_of(statement) {
@@ -108,7 +88,7 @@ fn breaks_m6(tables: &Tables, statement: &Statement) -> bool
 
 // A symbol that is used isn't active.
 fn breaks_m7(tables: &Tables, statement: &Statement) -> bool
-    requires tables { AreTables tables.now }
+    requires { AreTables tables.now }
     ensures { IsTrue result ↔ Breaks M7 (statements_of tables.now) (said_by statement.now) }
 {
     is_use(statement.kind)
@@ -120,7 +100,7 @@ fn breaks_m7(tables: &Tables, statement: &Statement) -> bool
 
 // A member of a `$d` is a constant.
 fn breaks_m8(tables: &Tables, statement: &Statement) -> bool
-    requires tables { AreTables tables.now }
+    requires { AreTables tables.now }
     ensures { IsTrue result ↔ Breaks M8 (statements_of tables.now) (said_by statement.now) }
 {
     statement.kind == Kind::Distinct
@@ -132,15 +112,15 @@ fn breaks_m8(tables: &Tables, statement: &Statement) -> bool
 
 // A member stands twice in a `$d`.
 fn breaks_m9(statement: &Statement, repeats: bool) -> bool
-    requires repeats { IsTrue repeats ↔ Repeats (said_by statement.now) }
-    ensures { (before : List Sentence) → IsTrue result ↔ Breaks M9 before (said_by statement.now) }
+    requires { IsTold repeats (said_by statement.now) }
+    ensures { (before : List Sentence) → (IsTrue result ↔ Breaks M9 before (said_by statement.now)) }
 {
     statement.kind == Kind::Distinct && repeats
 }
 
 // The type code of a `$f` is a variable.
 fn breaks_m10(tables: &Tables, statement: &Statement) -> bool
-    requires tables { AreTables tables.now }
+    requires { AreTables tables.now }
     ensures { IsTrue result ↔ Breaks M10 (statements_of tables.now) (said_by statement.now) }
 {
     match typing(statement) {
@@ -151,7 +131,7 @@ fn breaks_m10(tables: &Tables, statement: &Statement) -> bool
 
 // The second symbol of a `$f` is a constant.
 fn breaks_m11(tables: &Tables, statement: &Statement) -> bool
-    requires tables { AreTables tables.now }
+    requires { AreTables tables.now }
     ensures { IsTrue result ↔ Breaks M11 (statements_of tables.now) (said_by statement.now) }
 {
     match typing(statement) {
@@ -162,7 +142,7 @@ fn breaks_m11(tables: &Tables, statement: &Statement) -> bool
 
 // The variable of a `$f` has an active `$f`.
 fn breaks_m12(tables: &Tables, statement: &Statement) -> bool
-    requires tables { AreTables tables.now }
+    requires { AreTables tables.now }
     ensures { IsTrue result ↔ Breaks M12 (statements_of tables.now) (said_by statement.now) }
 {
     match typing(statement) {
@@ -173,7 +153,7 @@ fn breaks_m12(tables: &Tables, statement: &Statement) -> bool
 
 // An earlier `$f` gave the variable another type code.
 fn breaks_m13(tables: &Tables, statement: &Statement) -> bool
-    requires tables { AreTables tables.now }
+    requires { AreTables tables.now }
     ensures { IsTrue result ↔ Breaks M13 (statements_of tables.now) (said_by statement.now) }
 {
     match typing(statement) {
@@ -184,7 +164,7 @@ fn breaks_m13(tables: &Tables, statement: &Statement) -> bool
 
 // The first symbol of an expression is a variable.
 fn breaks_m14(tables: &Tables, statement: &Statement) -> bool
-    requires tables { AreTables tables.now }
+    requires { AreTables tables.now }
     ensures { IsTrue result ↔ Breaks M14 (statements_of tables.now) (said_by statement.now) }
 {
     match first_of(statement) {
@@ -195,7 +175,7 @@ fn breaks_m14(tables: &Tables, statement: &Statement) -> bool
 
 // A variable in an expression has no active `$f`.
 fn breaks_m15(tables: &Tables, statement: &Statement) -> bool
-    requires tables { AreTables tables.now }
+    requires { AreTables tables.now }
     ensures { IsTrue result ↔ Breaks M15 (statements_of tables.now) (said_by statement.now) }
 {
     is_stated(statement.kind)
@@ -211,7 +191,7 @@ fn breaks(
     repeats: bool,
 ) -> bool
     requires tables { AreTables tables.now }
-    requires repeats { IsTrue repeats ↔ Repeats (said_by statement.now) }
+    requires told { IsTold repeats (said_by statement.now) }
     ensures { IsTrue result ↔ Breaks rule (statements_of tables.now) (said_by statement.now) }
 {
     match rule {
@@ -252,18 +232,18 @@ const ORDER: [MeaningRule; 15] = [
     MeaningRule::M15,
 ];
 
-// Whether statements of this kind name each symbol once.
+// Whether statements of this kind state each symbol once.
 fn is_list(kind: Kind) -> bool
-    ensures { IsTrue result ↔ IsList kind }
+    ensures { IsTrue result ↔ StatesOnce kind }
 {
     kind == Kind::Constants || kind == Kind::Variables || kind == Kind::Distinct
 }
 
 // Whether a symbol stands twice.
 fn has_repeats(alloc: Global, symbols: &[Token]) -> Result<bool, AllocError>
-    requires few { length symbols.now < 4294967296 }
-    ensures { IfOk result (λ twice. IsTrue twice
-        ↔ ((x : List ℕ) × StandsTwice (map (λ t. t.text.now) symbols.now) x)) }
+    requires { length symbols.now < 2147483648 }
+    ensures { IfOk result (λ repeats. IsTrue repeats
+        ↔ ((symbol : List ℕ) × StandsTwice (map (λ token. token.text.now) symbols.now) symbol)) }
 {
     let mut seen = Names::new(alloc);
     seen.reserve(symbols.len())?;
@@ -276,10 +256,10 @@ fn has_repeats(alloc: Global, symbols: &[Token]) -> Result<bool, AllocError>
     Ok(false)
 }
 
-// Whether a symbol stands twice in a statement that is to name each symbol once.
+// Whether a symbol stands twice in a statement that states each symbol once.
 fn repeats(alloc: Global, statement: &Statement) -> Result<bool, AllocError>
-    requires few { length statement.now.symbols.items < 4294967296 }
-    ensures { IfOk result (λ twice. IsTrue twice ↔ Repeats (said_by statement.now)) }
+    requires { vec_len statement.now.symbols < 2147483648 }
+    ensures { IfOk result (λ repeats. IsTold repeats (said_by statement.now)) }
 {
     if is_list(statement.kind) {
         has_repeats(alloc, &statement.symbols)
@@ -288,38 +268,24 @@ fn repeats(alloc: Global, statement: &Statement) -> Result<bool, AllocError>
     }
 }
 
-// The first rule that the statement breaks, where it is known whether it repeats a symbol.
-fn first_of_order(tables: &Tables, statement: &Statement, repeats: bool) -> Option<MeaningRule>
-    requires tables { AreTables tables.now }
-    requires repeats { IsTrue repeats ↔ Repeats (said_by statement.now) }
-    ensures { MatchOption
-        result
-        (IsMeant (statements_of tables.now) (said_by statement.now))
-        (λ rule. FirstBroken rule (statements_of tables.now) (said_by statement.now)) }
-{
-    for rule in ORDER {
-        if breaks(rule, tables, statement, repeats) {
-            return Some(rule);
-        }
-    }
-    None
-}
-
 /// The first rule of meaning that the statement breaks after the statements before it, in the order
-/// M1 to M15 (the Metamath book, sections 4.2.1 to 4.2.8), or `None` where it breaks none. It fails
-/// only where memory runs out.
+/// M1 to M15 (the Metamath book, sections 4.2.1 to 4.2.8), or `None` where it breaks none.
 pub(crate) fn first_broken(
     tables: &Tables,
     statement: &Statement,
 ) -> Result<Option<MeaningRule>, AllocError>
     requires tables { AreTables tables.now }
-    requires formed { HasForm (plain_statement statement.now) }
-    requires room { bytes_in (plain_statement statement.now) ≤ 1073741824 }
-    ensures { IfOk result (λ broken. MatchOption
-        broken
+    requires few { vec_len statement.now.symbols < 2147483648 }
+    ensures { IfOk result (λ first. MatchOption
+        first
         (IsMeant (statements_of tables.now) (said_by statement.now))
         (λ rule. FirstBroken rule (statements_of tables.now) (said_by statement.now))) }
 {
     let repeats = repeats(tables.alloc, statement)?;
-    Ok(first_of_order(tables, statement, repeats))
+    for rule in ORDER {
+        if breaks(rule, tables, statement, repeats) {
+            return Ok(Some(rule));
+        }
+    }
+    Ok(None)
 }

@@ -3,7 +3,7 @@
 ghost use Rattle.std.specs.Prelude.{◌≡◌, ◌↔◌, ℕ, suc, ◌-◌, ◌<◌, ◌≤◌, List, [], ◌∷◌, ◌++◌, length, take, slice_get, Some, IsTrue, IfOk, OnOk};
 ghost use Rattle.mm_text.specs.declared.statement.Kind.TheVariants.{Opening, Closing};
 ghost use Rattle.mm_frame.specs.Sentence.{Sentence};
-ghost use Rattle.mm_frame.specs.Active.{IsActive, openings, closings};
+ghost use Rattle.mm_frame.specs.Active.{IsOpen, IsActive, openings, closings};
 ghost use Rattle.mm_frame.specs.ScopesOf.{HaveScopes, HasRoom, HaveSameLists};
 
 use crate::lists::{at as at_place, put, write};
@@ -62,6 +62,14 @@ impl Scopes {
             → result ≡ openings statements - closings statements }
     {
         self.open.len().saturating_sub(1)
+    }
+
+    /// Whether a block is open.
+    pub(crate) fn has_open(&self) -> bool
+        ensures { (statements : List Sentence) → HaveScopes statements self.now
+            → (IsTrue result ↔ ((place : ℕ) × IsOpen statements place)) }
+    {
+        self.open.len() >= 2
     }
 
     /// Makes room for one statement more.

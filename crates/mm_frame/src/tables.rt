@@ -1,7 +1,6 @@
 //! The lists in which a book keeps its statements by numbers.
 
-ghost use Rattle.std.specs.Prelude.{◌≡◌, length, slice_range};
-ghost use Rattle.mm_frame.specs.Layout.{IsWithin};
+ghost use Rattle.std.specs.Prelude.{◌≡◌, ◌≤◌, length, slice_range};
 
 use crate::lists::at;
 use crate::names::Names;
@@ -20,7 +19,7 @@ pub(crate) struct Part {
 
 /// The elements of a part of a list.
 pub(crate) fn part_of<T>(list: &[T], part: Part) -> &[T]
-    ensures { IsWithin part (length list.now)
+    ensures { part.start ≤ part.end → part.end ≤ length list.now
         → result.now ≡ slice_range list.now part.start part.end }
 {
     list.get(part.start..part.end).unwrap_or(&[])
@@ -79,8 +78,9 @@ pub struct Tables<'a> {
 }
 
 impl<'a> Tables<'a> {
-    ghost use Rattle.std.specs.Prelude.{◌≡◌, ◌↔◌, ◌<◌, IsTrue, MatchOption, Some, length, slice_get, slice_range};
-    ghost use Rattle.mm_frame.specs.declared.tables.Entry.{Entry};
+    ghost use Rattle.std.specs.Prelude.{◌≡◌, ◌↔◌, ◌<◌, IsTrue, MatchOption, Some, length, map, slice_get};
+    ghost use Rattle.mm_frame.specs.Sentence.{Sentence};
+    ghost use Rattle.mm_frame.specs.Numbers.{AreNumbers};
     ghost use Rattle.mm_frame.specs.Active.{IsActive};
     ghost use Rattle.mm_frame.specs.Layout.{AreTables, statements_of, IsDeclared, IsKnown};
 
@@ -135,10 +135,10 @@ impl<'a> Tables<'a> {
     /// The symbols of the statement at a place.
     pub(crate) fn symbols_at(&self, place: usize) -> &[Sym]
         requires { AreTables self.now }
-        ensures { (e : Entry) → slice_get self.now.log.items place ≡ Some e
-            → result.now ≡ slice_range self.now.flat.items e.symbols.start e.symbols.end }
+        ensures { (s : Sentence) → slice_get (statements_of self.now) place ≡ Some s
+            → AreNumbers (statements_of self.now) (map (λ n. n.0) result.now) s.symbols }
     {
-        match self.log.get(place) {
+        match at(&self.log, place) {
             Some(entry) => part_of(&self.flat, entry.symbols),
             None => &[],
         }
@@ -146,7 +146,7 @@ impl<'a> Tables<'a> {
 
     /// The variable of the `$f` at a place.
     pub(crate) fn floating_variable(&self, place: usize) -> Option<Sym> {
-        match self.log.get(place) {
+        match at(&self.log, place) {
             Some(entry) => match part_of(&self.flat, entry.symbols) {
                 [_, variable] if entry.kind == Kind::Floating => Some(*variable),
                 _ => None,

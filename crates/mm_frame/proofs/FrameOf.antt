@@ -1,0 +1,107 @@
+-- The mandatory hypotheses of an assertion, as they are gathered from what is known of symbols and from the active `$e`.
+use Rattle.std.proofs.Common.{◌≡◌, ◌↔◌, ℕ, zero, suc, ◌<◌, ◌≤◌, ◌⊎◌, inl, inr, true, length, take, List, [], ◌∷◌, ◌++◌, map, filter_map, is_some, Contains, Option, Some, None, refl, sym, ap, ◌∙◌, subst, arith}
+use Rattle.std.specs.List.{slice_get}
+use Rattle.std.proofs.lemmas.Option.{slice_get_within}
+use Rattle.std.proofs.Math.Seq.{take-append_seam}
+use Rattle.mm_text.specs.declared.statement.Kind.{Kind}
+use Rattle.mm_text.specs.declared.statement.Kind.TheVariants.{Floating, Essential}
+use Rattle.mm_frame.specs.Sentence.{Sentence, IsStated, Types}
+use Rattle.mm_frame.specs.Active.{IsActive, SomeActive, IsVariable}
+use Rattle.mm_frame.specs.Rules.{IsMeant, AllMeant}
+use Rattle.mm_frame.specs.Form.{AllFormed, IsNamed, IsFormedSentence}
+use Rattle.mm_frame.specs.Frame.{IsMandatory, IsMandatoryAt, AreMandatory}
+use Rattle.mm_frame.specs.Numbers.{labelled, IsNumbered}
+use Rattle.mm_frame.specs.FramePlace.{AreHypotheses}
+use Rattle.mm_frame.specs.Latest.{IsLatest}
+use Rattle.mm_frame.specs.Layout.{GivesType, AreEssentials}
+use Rattle.mm_frame.proofs.Pushed.{get_kept, get_pushed}
+use Rattle.mm_frame.proofs.Numbered.{At, at_from_contains, contains_from_at}
+use Rattle.mm_frame.proofs.Labelled.{numbered_get, numbered_at, labelled_grow}
+use Rattle.mm_frame.proofs.Those.{Rise, those_by_places}
+use Rattle.mm_frame.proofs.Needed.{mandatory_places, latest_is_variable}
+use Rattle.mm_frame.proofs.Meant.{get_parted}
+use Rattle.mm_frame.proofs.FrameLaws.{at_place}
+
+-- the symbol stands in the assertion, or in a `$e` at one of the places
+abbrev pub StandsIn : List Sentence → List ℕ → Sentence → List ℕ → Type 0
+StandsIn st places s x =
+    Contains s.symbols x ⊎ ((q : ℕ) × (h : Sentence) × At places q × (slice_get st q ≡ Some h) × Contains h.symbols x)
+
+-- the place of an active `$e`, or of the latest `$f` of a symbol of it or of the assertion
+abbrev pub IsGathered : List Sentence → List ℕ → Sentence → ℕ → Type 0
+IsGathered st essentials s p = At essentials p ⊎ ((x : List ℕ) × StandsIn st essentials s x × IsLatest (GivesType x) st p)
+
+same_at : (st : List Sentence) (p : ℕ) (s t : Sentence) → slice_get st p ≡ Some s → slice_get st p ≡ Some t → s ≡ t
+same_at st p s t one other = cc
+
+pub mandatory_gathered : (st : List Sentence) (essentials : List ℕ) (s : Sentence) (p : ℕ) (h : Sentence) → AllMeant st → IsMeant st s → IsStated s.kind → AreEssentials st essentials → slice_get st p ≡ Some h
+    → IsMandatoryAt st s p h ↔ IsGathered st essentials s p
+mandatory_gathered st essentials s p h meant last stated are there =
+    let places = mandatory_places st s p h meant last stated there in (
+      (λ mandatory. elim (places.0 mandatory) [
+        | inl (essential, active) ↦ inl (are.each p h there essential active)
+        | inr (x, (variable, stands), latest) ↦ inr (x, elim stands [
+          | inl in_it ↦ inl in_it
+          | inr (q, e, at, active, (kind, in_e)) ↦ inr (q, e, are.each q e at kind active, at, in_e)
+        ], latest)
+      ]),
+      (λ gathered. elim gathered [
+        | inl (i, at) ↦
+            let (e, at_p, kind, active) = are.only i p at in
+            places.1 (inl (ap (λ (t : Sentence). t.kind) (same_at st p h e there at_p) ∙ kind, active))
+        | inr (x, stands, latest) ↦ places.1 (inr (x, (latest_is_variable st x p meant latest, elim stands [
+          | inl in_it ↦ inl in_it
+          | inr (q, e, (i, at), at_q, in_e) ↦
+              let (d, at_d, kind, active) = are.only i q at in
+              let same = same_at st q e d at_q at_d in
+              inr (q, e, at_q, active, (ap (λ (t : Sentence). t.kind) same ∙ kind, in_e))
+        ]), latest))
+      ]),
+    )
+
+-- a hypothesis has a label
+hypothesis_named : (st : List Sentence) (s : Sentence) (p : ℕ) (h : Sentence) → AllFormed st → slice_get st p ≡ Some h → IsMandatoryAt st s p h → is_some h.label ≡ true
+hypothesis_named st s p h formed there (active, which) =
+    let named = (formed p h there).label in
+    elim which [
+      | inl essential ↦ let (l, is, label) = subst (λ k. IsNamed k h.label) essential named in ap is_some is
+      | inr (code, x, types, mandatory) ↦ let (l, is, label) = subst (λ k. IsNamed k h.label) types.0 named in ap is_some is
+    ]
+
+-- the numbers of the labels of the statements at places
+abbrev pub numbers_at : List Sentence → List ℕ → List ℕ
+numbers_at st places = map (λ p. length (labelled (take p st))) places
+
+numbered_all : (st more : List Sentence) (places : List ℕ) (hs : List Sentence) → map (slice_get st) places ≡ map (λ h. Some h) hs → ((i p : ℕ) (h : Sentence) → slice_get places i ≡ Some p → slice_get st p ≡ Some h → is_some h.label ≡ true)
+    → map (slice_get (labelled (st ++ more))) (numbers_at st places) ≡ map (λ h. Some h) hs
+numbered_all st more [] hs are named = are
+numbered_all st more (p ∷ places) [] are named = absurd (cc)
+numbered_all st more (p ∷ places) (h ∷ hs) are named =
+    let here : slice_get st p ≡ Some h = cc in
+    let rest : map (slice_get st) places ≡ map (λ h. Some h) hs = cc in
+    let first = labelled_grow st more (length (labelled (take p st))) h (numbered_get st (length (labelled (take p st))) p h (numbered_at st p h here (named 0 p h refl here))) in
+    let others = numbered_all st more places hs rest (λ i q g at there. named (suc i) q g at there) in
+    cc
+
+-- Rising places, exactly those that are gathered, are those of the mandatory hypotheses.
+pub hypotheses_gathered : (st : List Sentence) (essentials places : List ℕ) (s : Sentence) (more : List Sentence) → AllMeant st → AllFormed st → IsMeant st s → IsStated s.kind → AreEssentials st essentials
+    → Rise places → ((p : ℕ) → At places p → IsGathered st essentials s p) → ((p : ℕ) → IsGathered st essentials s p → At places p)
+    → AreHypotheses (at_place (st ++ s ∷ more) (length st)) (numbers_at st places)
+hypotheses_gathered st essentials places s more meant formed last stated are rise only each =
+    let within : (i p : ℕ) → slice_get places i ≡ Some p → p < length st = λ i p there. elim (only p (i, there)) [
+          | inl (k, at) ↦ let (e, at_p, kind, active) = are.only k p at in slice_get_within st p e at_p
+          | inr (x, stands, latest) ↦ slice_get_within st p latest.statement latest.there
+        ] in
+    let tells : (p : ℕ) (h : Sentence) → slice_get st p ≡ Some h → IsMandatoryAt st s p h ↔ Contains places p = λ p h there.
+        let gathered = mandatory_gathered st essentials s p h meant last stated are there in
+        ((λ mandatory. contains_from_at places p (each p (gathered.0 mandatory))), (λ in_it. gathered.1 (only p (at_from_contains places p in_it)))) in
+    let (hs, those, values) = those_by_places (IsMandatoryAt st s) st places rise within tells in
+    let front : take (length st) (st ++ s ∷ more) ≡ st = take-append_seam st (s ∷ more) in
+    record {
+      assertion = s;
+      there = get_parted st more s;
+      hypotheses = hs;
+      mandatory = subst (λ ys. AreMandatory ys s hs) (sym front) those;
+      numbered = numbered_all st (s ∷ more) places hs values
+          (λ i p h there at. hypothesis_named st s p h formed at ((tells p h at).1 (contains_from_at places p (i, there))));
+    }
