@@ -11,6 +11,7 @@ pub mod LookupLaws
 pub mod SymbolsAt
 pub mod Places
 pub mod Symbols
+pub mod RepeatsCode
 pub mod Numbered
 pub mod Labelled
 pub mod Those
@@ -24,4 +25,5 @@ pub mod FrameOf
 pub mod DistinctAt
 pub mod Order
 pub mod Repeats
+pub mod Spans
 pub mod Lawful
