@@ -28,3 +28,4 @@ pub mod Repeats
 pub mod Spans
 pub mod Lawful
 pub mod EmptyTables
+pub mod SameTables
