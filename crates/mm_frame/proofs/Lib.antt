@@ -29,3 +29,4 @@ pub mod Spans
 pub mod Lawful
 pub mod EmptyTables
 pub mod SameTables
+pub mod Assembled

@@ -1,7 +1,7 @@
 //! Taking a statement that breaks no rule into the lists: room is made first, so that nothing can
 //! fail once something is written.
 
-ghost use Rattle.std.specs.Prelude.{◌≡◌, ◌+◌, ◌<◌, ◌≤◌, [], ◌∷◌, None, IfOk, OnErr, OnOk};
+ghost use Rattle.std.specs.Prelude.{◌≡◌, ◌+◌, ◌<◌, ◌≤◌, [], ◌∷◌, None, IfOk, OnErr, OnOk, vec_len, vec_capacity};
 ghost use Rattle.mm_text.specs.declared.statement.Kind.TheVariants.{Opening, Closing};
 ghost use Rattle.mm_text.specs.Statement.{plain_statement, HasForm, bytes_in};
 ghost use Rattle.mm_frame.specs.Sentence.{Sentence, said_by};
@@ -9,7 +9,8 @@ ghost use Rattle.mm_frame.specs.Active.{openings, closings};
 ghost use Rattle.mm_frame.specs.Rules.{IsMeant};
 ghost use Rattle.mm_frame.specs.Taken.{TakenAs};
 ghost use Rattle.mm_frame.specs.Layout.{AreTables, statements_of};
-ghost use Rattle.mm_frame.specs.Grows.{Grows, IsSame, SameLists, HaveRoom};
+ghost use Rattle.mm_frame.specs.Grows.{Grows, IsSame, SameLists, HaveRoom, Entered};
+ghost use Rattle.mm_frame.specs.ScopesOf.{HasRoom};
 ghost use Rattle.mm_frame.specs.Form.{IsFormedSentence};
 ghost use Rattle.mm_frame.specs.declared.answer.Taken.TheVariants.{Opened};
 
@@ -52,7 +53,12 @@ impl<'a> Tables<'a> {
     }
 
     // Writes the entry of a statement whose symbols stand at the end of the list of symbols.
-    fn enter(&mut self, kind: Kind, label: Option<LabelId>, start: usize, bytes: u64) {
+    fn enter(&mut self, kind: Kind, label: Option<LabelId>, start: usize, bytes: u64)
+        requires scopes { HasRoom self.old.scopes }
+        requires log { vec_len self.old.log < vec_capacity self.old.log }
+        requires few { self.old.bytes + bytes ≤ 1073741824 }
+        ensures { Entered self.old self.new kind label start bytes }
+    {
         let symbols = Part {
             start,
             end: self.flat.len(),
