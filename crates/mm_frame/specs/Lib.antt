@@ -16,3 +16,4 @@ pub mod ScopesOf
 pub mod Layout
 pub mod Told
 pub mod Laws
+pub mod FrameSeen
