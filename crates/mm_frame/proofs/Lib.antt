@@ -27,3 +27,4 @@ pub mod Order
 pub mod Repeats
 pub mod Spans
 pub mod Lawful
+pub mod EmptyTables

@@ -17,3 +17,4 @@ pub mod Layout
 pub mod Told
 pub mod Laws
 pub mod FrameSeen
+pub mod Grows

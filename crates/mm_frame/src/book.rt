@@ -99,11 +99,8 @@ impl<'a> Book<'a> {
             Ok(Some(rule)) => return Err(RuleFault::Rule(rule)),
             Err(_) => return Err(RuleFault::Memory),
         }
-        match self.tables.grow(statement) {
-            Ok(taken) => {
-                self.tables.bytes += bytes_of(statement);
-                Ok(taken)
-            }
+        match self.tables.grow(statement, bytes_of(statement)) {
+            Ok(taken) => Ok(taken),
             Err(_) => Err(RuleFault::Memory),
         }
     }

@@ -1,6 +1,16 @@
 //! Taking a statement that breaks no rule into the lists: room is made first, so that nothing can
 //! fail once something is written.
 
+ghost use Rattle.std.specs.Prelude.{◌≡◌, ◌+◌, ◌<◌, ◌≤◌, [], ◌∷◌, None, IfOk, OnErr, OnOk};
+ghost use Rattle.mm_text.specs.declared.statement.Kind.TheVariants.{Opening, Closing};
+ghost use Rattle.mm_text.specs.Statement.{plain_statement, HasForm, bytes_in};
+ghost use Rattle.mm_frame.specs.Sentence.{Sentence, said_by};
+ghost use Rattle.mm_frame.specs.Active.{openings, closings};
+ghost use Rattle.mm_frame.specs.Rules.{IsMeant};
+ghost use Rattle.mm_frame.specs.Taken.{TakenAs};
+ghost use Rattle.mm_frame.specs.Layout.{AreTables, statements_of};
+ghost use Rattle.mm_frame.specs.Grows.{Grows, IsSame};
+
 use crate::answer::Taken;
 use crate::framing::{label_ids, mandatory, mandatory_pairs};
 use crate::lists::put;
@@ -37,7 +47,7 @@ impl<'a> Tables<'a> {
     }
 
     // Writes the entry of a statement whose symbols stand at the end of the list of symbols.
-    fn enter(&mut self, kind: Kind, label: Option<LabelId>, start: usize) {
+    fn enter(&mut self, kind: Kind, label: Option<LabelId>, start: usize, bytes: u64) {
         let symbols = Part {
             start,
             end: self.flat.len(),
@@ -48,21 +58,22 @@ impl<'a> Tables<'a> {
             label,
             symbols,
         });
+        self.bytes += bytes;
     }
 
     // Takes a `${` in.
-    fn open(&mut self) -> Result<Taken, AllocError> {
+    fn open(&mut self, bytes: u64) -> Result<Taken, AllocError> {
         self.reserve(0)?;
         let start = self.flat.len();
-        self.enter(Kind::Opening, None, start);
+        self.enter(Kind::Opening, None, start, bytes);
         Ok(Taken::Opened)
     }
 
     // Takes a `$}` in: the active `$e` of its block aren't active any more.
-    fn close(&mut self) -> Result<Taken, AllocError> {
+    fn close(&mut self, bytes: u64) -> Result<Taken, AllocError> {
         self.reserve(0)?;
         let start = self.flat.len();
-        self.enter(Kind::Closing, None, start);
+        self.enter(Kind::Closing, None, start, bytes);
         self.forget_inactive();
         Ok(Taken::Closed)
     }
@@ -107,7 +118,11 @@ impl<'a> Tables<'a> {
     }
 
     // Takes a `$c` or `$v` in.
-    fn declare_all(&mut self, statement: &Statement<'a>) -> Result<Taken, AllocError> {
+    fn declare_all(
+        &mut self,
+        statement: &Statement<'a>,
+        bytes: u64,
+    ) -> Result<Taken, AllocError> {
         let place = self.log.len();
         let start = self.flat.len();
         self.symbols.reserve(statement.symbols.len())?;
@@ -121,7 +136,7 @@ impl<'a> Tables<'a> {
         for token in &statement.symbols {
             self.declare(token.text, variable);
         }
-        self.enter(statement.kind, None, start);
+        self.enter(statement.kind, None, start, bytes);
         Ok(Taken::Declared)
     }
 
@@ -135,7 +150,7 @@ impl<'a> Tables<'a> {
     }
 
     // Takes a `$d` in.
-    fn separate_all(&mut self, numbers: &[Sym]) -> Result<Taken, AllocError> {
+    fn separate_all(&mut self, numbers: &[Sym], bytes: u64) -> Result<Taken, AllocError> {
         let place = self.log.len();
         let start = self.flat.len();
         self.distinct.reserve(numbers.len().saturating_mul(numbers.len()))?;
@@ -144,7 +159,7 @@ impl<'a> Tables<'a> {
         for i in 0..numbers.len() {
             self.separate(numbers[i], &numbers[..i], place);
         }
-        self.enter(Kind::Distinct, None, start);
+        self.enter(Kind::Distinct, None, start, bytes);
         Ok(Taken::Declared)
     }
 
@@ -154,8 +169,8 @@ impl<'a> Tables<'a> {
         kind: Kind,
         label: &'a [u8],
         numbers: &[Sym],
-        hypotheses: Part,
-        pairs: Part,
+        frame: (Part, Part),
+        bytes: u64,
     ) -> LabelId {
         let id = LabelId(self.labels.len() as u32);
         let place = self.log.len();
@@ -164,10 +179,10 @@ impl<'a> Tables<'a> {
         self.labels.add(label);
         put(&mut self.named, LabelInfo {
             place,
-            hypotheses,
-            pairs,
+            hypotheses: frame.0,
+            pairs: frame.1,
         });
-        self.enter(kind, Some(id), start);
+        self.enter(kind, Some(id), start, bytes);
         id
     }
 
@@ -180,20 +195,20 @@ impl<'a> Tables<'a> {
     }
 
     // Takes a `$f` in.
-    fn give_type(&mut self, label: &'a [u8], numbers: &[Sym]) -> Result<Taken, AllocError> {
+    fn give_type(&mut self, label: &'a [u8], numbers: &[Sym], bytes: u64) -> Result<Taken, AllocError> {
         self.reserve(numbers.len())?;
         if let [_, variable] = numbers {
             self.note_floating(*variable);
         }
-        let id = self.name(Kind::Floating, label, numbers, NO_PART, NO_PART);
+        let id = self.name(Kind::Floating, label, numbers, (NO_PART, NO_PART), bytes);
         Ok(Taken::Hypothesis(id))
     }
 
     // Takes a `$e` in.
-    fn suppose(&mut self, label: &'a [u8], numbers: &[Sym]) -> Result<Taken, AllocError> {
+    fn suppose(&mut self, label: &'a [u8], numbers: &[Sym], bytes: u64) -> Result<Taken, AllocError> {
         self.reserve(numbers.len())?;
         put(&mut self.essentials, self.log.len());
-        let id = self.name(Kind::Essential, label, numbers, NO_PART, NO_PART);
+        let id = self.name(Kind::Essential, label, numbers, (NO_PART, NO_PART), bytes);
         Ok(Taken::Hypothesis(id))
     }
 
@@ -203,6 +218,7 @@ impl<'a> Tables<'a> {
         kind: Kind,
         label: &'a [u8],
         numbers: &[Sym],
+        bytes: u64,
     ) -> Result<Taken, AllocError> {
         let places = mandatory(self, numbers)?;
         let hypotheses = label_ids(self, &places)?;
@@ -212,7 +228,7 @@ impl<'a> Tables<'a> {
         self.reserve(numbers.len())?;
         let hypotheses = add_part(&mut self.hypotheses, &hypotheses);
         let pairs = add_part(&mut self.pairs, &pairs);
-        let id = self.name(kind, label, numbers, hypotheses, pairs);
+        let id = self.name(kind, label, numbers, (hypotheses, pairs), bytes);
         Ok(Taken::Assertion(id))
     }
 
@@ -222,30 +238,46 @@ impl<'a> Tables<'a> {
         kind: Kind,
         label: &'a [u8],
         numbers: &[Sym],
+        bytes: u64,
     ) -> Result<Taken, AllocError> {
         match kind {
-            Kind::Floating => self.give_type(label, numbers),
-            Kind::Essential => self.suppose(label, numbers),
-            _ => self.assert(kind, label, numbers),
+            Kind::Floating => self.give_type(label, numbers, bytes),
+            Kind::Essential => self.suppose(label, numbers, bytes),
+            _ => self.assert(kind, label, numbers, bytes),
         }
     }
 
     // Takes a statement in that uses symbols.
-    fn take_use(&mut self, statement: &Statement<'a>) -> Result<Taken, AllocError> {
+    fn take_use(&mut self, statement: &Statement<'a>, bytes: u64) -> Result<Taken, AllocError> {
         let numbers = self.numbers_of(&statement.symbols)?;
         match &statement.label {
-            Some(label) => self.take_labelled(statement.kind, label.text, &numbers),
-            None => self.separate_all(&numbers),
+            Some(label) => self.take_labelled(statement.kind, label.text, &numbers, bytes),
+            None => self.separate_all(&numbers, bytes),
         }
     }
 
-    /// Takes a statement in that breaks no rule.
-    pub(crate) fn grow(&mut self, statement: &Statement<'a>) -> Result<Taken, AllocError> {
+    /// Takes a statement in that breaks no rule, and whose tokens have so many bytes.
+    pub(crate) fn grow(
+        &mut self,
+        statement: &Statement<'a>,
+        bytes: u64,
+    ) -> Result<Taken, AllocError>
+        requires tables { AreTables self.old }
+        requires meant { IsMeant (statements_of self.old) (said_by statement.now) }
+        requires formed { HasForm (plain_statement statement.now) }
+        requires closes { statement.now.kind ≡ Closing
+            → closings (statements_of self.old) < openings (statements_of self.old) }
+        requires counted { bytes ≡ bytes_in (plain_statement statement.now) }
+        requires room { self.old.bytes + bytes ≤ 1073741824 }
+        ensures ok { IfOk result (λ taken. Grows self.old self.new (said_by statement.now) bytes
+            × TakenAs (statements_of self.old) statement.now.kind taken) }
+        ensures err { OnErr result (IsSame self.old self.new) }
+    {
         match statement.kind {
-            Kind::Opening => self.open(),
-            Kind::Closing => self.close(),
-            Kind::Constants | Kind::Variables => self.declare_all(statement),
-            _ => self.take_use(statement),
+            Kind::Opening => self.open(bytes),
+            Kind::Closing => self.close(bytes),
+            Kind::Constants | Kind::Variables => self.declare_all(statement, bytes),
+            _ => self.take_use(statement, bytes),
         }
     }
 }
