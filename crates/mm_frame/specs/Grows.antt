@@ -49,12 +49,12 @@ abbrev pub entry_of : Kind → Option LabelId → ℕ → ℕ → Entry
 entry_of kind label start end = record { kind = kind; label = label; symbols = record { start = start; end = end } }
 
 -- one entry more was written, whose symbols end where the list of symbols ends
-pub record Entered (old new : Tables) (kind : Kind) (label : Option LabelId) (start bytes : ℕ) : Type 0 where
+pub record Entered (old new : Tables) (kind : Kind) (tag : Option LabelId) (start bytes : ℕ) : Type 0 where
   pub symbols : new.symbols.names ≡ old.symbols.names
   pub infos : new.infos.items ≡ old.infos.items
   pub labels : new.labels.names ≡ old.labels.names
   pub named : new.named.items ≡ old.named.items
-  pub log : new.log.items ≡ old.log.items ++ entry_of kind label start (length old.flat.items) ∷ []
+  pub log : new.log.items ≡ old.log.items ++ entry_of kind tag start (length old.flat.items) ∷ []
   pub flat : new.flat.items ≡ old.flat.items
   pub scopes :
     (statements : List Sentence) (s : Sentence) → HaveScopes statements old.scopes → s.kind ≡ kind
@@ -63,4 +63,4 @@ pub record Entered (old new : Tables) (kind : Kind) (label : Option LabelId) (st
   pub hypotheses : new.hypotheses.items ≡ old.hypotheses.items
   pub pairs : new.pairs.items ≡ old.pairs.items
   pub stated : new.distinct.stated ≡ old.distinct.stated
-  pub bytes : new.bytes ≡ old.bytes + bytes
+  pub counted : new.bytes ≡ old.bytes + bytes
