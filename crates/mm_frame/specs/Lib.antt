@@ -18,3 +18,4 @@ pub mod Told
 pub mod Laws
 pub mod FrameSeen
 pub mod Grows
+pub mod Declaring
