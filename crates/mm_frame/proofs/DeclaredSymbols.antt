@@ -1,8 +1,8 @@
 -- Taking the symbols of a `$c` or `$v` in, one after the other.
-use Rattle.std.proofs.Common.{◌≡◌, ℕ, suc, ◌+◌, ◌<◌, ◌≤◌, ◌⊎◌, inl, inr, length, map, List, [], ◌∷◌, ◌++◌, Contains, Option, Some, None, refl, sym, ap, ◌∙◌, subst, append-nil, arith}
+use Rattle.std.proofs.Common.{◌≡◌, ℕ, suc, ◌+◌, ◌<◌, ◌≤◌, ◌⊎◌, inl, inr, length, take, map, List, [], ◌∷◌, ◌++◌, Contains, Option, Some, None, refl, sym, ap, ◌∙◌, subst, append-nil, arith}
 use Rattle.std.specs.List.{slice_get, slice_set}
 use Rattle.std.specs.Option.{unwrap_or}
-use Rattle.std.proofs.lemmas.List.{append-assoc}
+use Rattle.std.proofs.lemmas.List.{append_assoc}
 use Rattle.std.proofs.lemmas.Option.{slice_get_within}
 use Rattle.mm_text.specs.declared.statement.Kind.{Kind}
 use Rattle.mm_text.specs.declared.statement.Kind.TheVariants.{Constants, Variables}
@@ -13,7 +13,7 @@ use Rattle.mm_frame.specs.Sentence.{Sentence}
 use Rattle.mm_frame.specs.Rules.{AllMeant}
 use Rattle.mm_frame.specs.Layout.{AreTables, AreInfos, names_by, statements_of}
 use Rattle.mm_frame.specs.Declaring.{IsDeclaration, latest_by, AreNoted, IsNoted, IsAdded, ChangesSymbols, TakesSymbol, TakesSymbols}
-use Rattle.mm_frame.proofs.Pushed.{get_pushed, get_within, pushed_cases}
+use Rattle.mm_frame.proofs.Pushed.{get_pushed, get_within, pushed_cases, take_next}
 use Rattle.mm_frame.proofs.NameLists.{map_snoc}
 use Rattle.mm_frame.proofs.ScopeLaws.{length_pushed}
 use Rattle.mm_frame.proofs.Entries.{length-sentences, names_same}
@@ -80,8 +80,8 @@ taken_more old now new kind xs x variable tables which is taken one = elim one.k
     st = statements_of old
     latest : variable ≡ latest_by kind (length st)
     latest = is ∙ ap (latest_by kind) (sym (length-sentences old.symbols.names old.labels.names old.flat.items old.log.items))
-    flat : new.flat.items ≡ old.flat.items ++ taken.numbers ++ one.number ∷ []
-    flat = one.flat ∙ ap (λ (f : List Sym). f ++ one.number ∷ []) taken.flat ∙ append-assoc old.flat.items taken.numbers (one.number ∷ [])
+    flat : new.flat.items ≡ old.flat.items ++ (taken.numbers ++ one.number ∷ [])
+    flat = one.flat ∙ ap (λ (f : List Sym). f ++ one.number ∷ []) taken.flat ∙ append_assoc old.flat.items taken.numbers (one.number ∷ [])
     within : (names : List (List ℕ)) → length now.symbols.names ≤ length names → one.number.0 < length names
         → (i : ℕ) (n : Sym) → slice_get (taken.numbers ++ one.number ∷ []) i ≡ Some n → n.0 < length names
     within names more lt i n there = elim (pushed_cases taken.numbers one.number i n there) [
@@ -113,7 +113,7 @@ taken_more old now new kind xs x variable tables which is taken one = elim one.k
         record {
           added = taken.added ++ x ∷ [];
           numbers = taken.numbers ++ one.number ∷ [];
-          names = added.names ∙ ap (λ names. names ++ x ∷ []) taken.names ∙ append-assoc old.symbols.names taken.added (x ∷ []);
+          names = added.names ∙ ap (λ names. names ++ x ∷ []) taken.names ∙ append_assoc old.symbols.names taken.added (x ∷ []);
           flat = flat;
           named = ap (λ names. names_by names (taken.numbers ++ one.number ∷ [])) added.names ∙ names_pushed (now.symbols.names ++ x ∷ []) taken.numbers one.number x there
               ∙ ap (λ ys. ys ++ x ∷ []) (names_same now.symbols.names (x ∷ []) taken.numbers taken.within ∙ taken.named);
@@ -122,3 +122,19 @@ taken_more old now new kind xs x variable tables which is taken one = elim one.k
               (subst (λ names. AreInfos (st ++ of_kind kind (xs ++ x ∷ []) ∷ []) names (now.infos.items ++ record { variable = latest_by kind (length st); floating = None } ∷ [])) (sym added.names) infos);
           others = changed_twice old now new taken.others one.others;
         }
+
+-- the place of a `$v`, and of no other
+pub latest_variable : (kind : Kind) (place : ℕ) → kind ≡ Variables → Some place ≡ latest_by kind place
+latest_variable kind place is = ap (λ k. latest_by k place) (sym is)
+
+pub latest_none : (kind : Kind) (place : ℕ) → IsDeclaration kind → ¬ (kind ≡ Variables) → None ≡ latest_by kind place
+latest_none kind place which other = elim which [ inl c ↦ ap (λ k. latest_by k place) (sym c) | inr v ↦ absurd (other v) ]
+
+-- the symbols that were taken in, with one more
+pub taken_next : (old now new : Tables) (kind : Kind) (xs : List (List ℕ)) (i : ℕ) (x : List ℕ) (variable : Option ℕ) → AreTables old → IsDeclaration kind
+    → variable ≡ latest_by kind (length old.log.items) → slice_get xs i ≡ Some x
+    → TakesSymbols old now kind (take i xs) → TakesSymbol now new x variable → TakesSymbols old new kind (take (i + 1) xs)
+taken_next old now new kind xs i x variable tables which is there taken one =
+    let more : suc i ≡ i + 1 = omega arith in
+    let next : take i xs ++ x ∷ [] ≡ take (i + 1) xs = sym (take_next xs i x there) ∙ ap (λ (k : ℕ). take k xs) more in
+    subst (λ (ys : List (List ℕ)). TakesSymbols old new kind ys) next (taken_more old now new kind (take i xs) x variable tables which is taken one)

@@ -31,3 +31,4 @@ pub mod EmptyTables
 pub mod SameTables
 pub mod Assembled
 pub mod DeclaredSymbols
+pub mod Declared
