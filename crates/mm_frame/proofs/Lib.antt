@@ -28,5 +28,7 @@ pub mod Repeats
 pub mod Spans
 pub mod Lawful
 pub mod EmptyTables
+pub mod Forgotten
+pub mod Blocks
 pub mod SameTables
 pub mod Assembled

@@ -2,6 +2,7 @@ pub mod Sentence
 pub mod Active
 pub mod Rules
 pub mod Frame
+pub mod Forgotten
 pub mod Form
 pub mod Database
 pub mod Numbers

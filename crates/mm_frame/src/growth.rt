@@ -1,24 +1,27 @@
 //! Taking a statement that breaks no rule into the lists: room is made first, so that nothing can
 //! fail once something is written.
 
-ghost use Rattle.std.specs.Prelude.{◌≡◌, ◌+◌, ◌<◌, ◌≤◌, [], ◌∷◌, None, IfOk, OnErr, OnOk, vec_len, vec_capacity};
+ghost use Rattle.std.specs.Prelude.{◌≡◌, ◌↔◌, ℕ, suc, ◌+◌, ◌*◌, ◌<◌, ◌≤◌, List, [], ◌∷◌, length, map, slice_get, None, Some, IsTrue, IfOk, OnErr, OnOk, vec_len, vec_capacity};
 ghost use Rattle.mm_text.specs.declared.statement.Kind.TheVariants.{Opening, Closing};
 ghost use Rattle.mm_text.specs.Statement.{plain_statement, HasForm, bytes_in};
 ghost use Rattle.mm_frame.specs.Sentence.{Sentence, said_by};
-ghost use Rattle.mm_frame.specs.Active.{openings, closings};
+ghost use Rattle.mm_frame.specs.Active.{IsActive, openings, closings};
 ghost use Rattle.mm_frame.specs.Rules.{IsMeant};
 ghost use Rattle.mm_frame.specs.Taken.{TakenAs};
 ghost use Rattle.mm_frame.specs.Layout.{AreTables, statements_of};
 ghost use Rattle.mm_frame.specs.Grows.{Grows, IsSame, SameLists, HaveRoom, Entered};
-ghost use Rattle.mm_frame.specs.ScopesOf.{HasRoom};
+ghost use Rattle.mm_frame.specs.ScopesOf.{HaveScopes, HasRoom};
+ghost use Rattle.mm_frame.specs.Forgotten.{AreForgotten};
+ghost use Rattle.mm_frame.specs.declared.scopes.TheConstants.{NEVER};
 ghost use Rattle.mm_frame.specs.Form.{IsFormedSentence};
-ghost use Rattle.mm_frame.specs.declared.answer.Taken.TheVariants.{Opened};
+ghost use Rattle.mm_frame.specs.declared.answer.Taken.TheVariants.{Opened, Closed};
 
 use crate::answer::Taken;
 use crate::framing::{label_ids, mandatory, mandatory_pairs};
 use crate::lists::put;
 use crate::number::{LabelId, Sym};
 use crate::pairs::in_order;
+use crate::scopes::Scopes;
 use crate::tables::{Entry, LabelInfo, Part, SymbolInfo, Tables};
 use mm_text::{Kind, Statement, Token};
 use std::alloc::AllocError;
@@ -90,24 +93,22 @@ impl<'a> Tables<'a> {
     }
 
     // Takes a `$}` in: the active `$e` of its block aren't active any more.
-    fn close(&mut self, bytes: u64) -> Result<Taken, AllocError> {
+    fn close(&mut self, bytes: u64) -> Result<Taken, AllocError>
+        requires tables { AreTables self.old }
+        requires closes { closings (statements_of self.old) < openings (statements_of self.old) }
+        requires room { self.old.bytes + bytes ≤ 1073741824 }
+        requires some { 1 ≤ bytes }
+        ensures ok { IfOk result (λ taken. (taken ≡ Closed) × ((s : Sentence)
+            → s.kind ≡ Closing → s.label ≡ None → s.symbols ≡ []
+            → IsMeant (statements_of self.old) s → IsFormedSentence s
+            → Grows self.old self.new s bytes)) }
+        ensures err { OnErr result (IsSame self.old self.new) }
+    {
         self.reserve(0)?;
         let start = self.flat.len();
         self.enter(Kind::Closing, None, start, bytes);
-        self.forget_inactive();
+        forget_inactive(&mut self.essentials, &self.scopes, self.log.len());
         Ok(Taken::Closed)
-    }
-
-    // Drops the `$e` at the end of their list that aren't active.
-    fn forget_inactive(&mut self) {
-        for _ in 0..self.essentials.len() {
-            match self.essentials.last() {
-                Some(place) if self.is_active_now(*place) => return,
-                _ => {
-                    let _ = self.essentials.pop();
-                }
-            }
-        }
     }
 
     // Notes the place of the latest `$v` that declares a symbol.
@@ -299,6 +300,33 @@ impl<'a> Tables<'a> {
             Kind::Constants | Kind::Variables => self.declare_all(statement, bytes),
             _ => self.take_use(statement, bytes),
         }
+    }
+}
+
+// Whether the last of some places is active, if there is one.
+fn is_last_active(places: &[usize], scopes: &Scopes, at: usize) -> bool
+    ensures { (statements : List Sentence) (k p : ℕ) → HaveScopes statements scopes.now
+        → length statements ≤ NEVER → at ≡ length statements → length places.now ≡ suc k
+        → slice_get places.now k ≡ Some p → p < at → (IsTrue result ↔ IsActive statements p) }
+{
+    match places.last() {
+        Some(place) => scopes.is_active(*place, at),
+        None => true,
+    }
+}
+
+// Drops the places at the end of their list that aren't active.
+fn forget_inactive(places: &mut Vec<usize>, scopes: &Scopes, at: usize)
+    ensures { (statements : List Sentence) → HaveScopes statements scopes.now
+        → length statements ≤ NEVER → at ≡ length statements
+        → ((i p : ℕ) → slice_get places.old.items i ≡ Some p → p < at)
+        → AreForgotten statements places.old.items places.new.items }
+{
+    for _ in 0..places.len() {
+        if is_last_active(places, scopes, at) {
+            return;
+        }
+        let _ = places.pop();
     }
 }
 
