@@ -32,3 +32,5 @@ pub mod Forgotten
 pub mod Blocks
 pub mod SameTables
 pub mod Assembled
+pub mod DeclaredSymbols
+pub mod Declared
