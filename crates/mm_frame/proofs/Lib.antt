@@ -28,3 +28,5 @@ pub mod Repeats
 pub mod Spans
 pub mod Lawful
 pub mod EmptyTables
+pub mod SameTables
+pub mod Assembled

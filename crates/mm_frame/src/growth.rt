@@ -1,7 +1,7 @@
 //! Taking a statement that breaks no rule into the lists: room is made first, so that nothing can
 //! fail once something is written.
 
-ghost use Rattle.std.specs.Prelude.{◌≡◌, ◌+◌, ◌<◌, ◌≤◌, [], ◌∷◌, None, IfOk, OnErr, OnOk};
+ghost use Rattle.std.specs.Prelude.{◌≡◌, ◌+◌, ◌<◌, ◌≤◌, [], ◌∷◌, None, IfOk, OnErr, OnOk, vec_len, vec_capacity};
 ghost use Rattle.mm_text.specs.declared.statement.Kind.TheVariants.{Opening, Closing};
 ghost use Rattle.mm_text.specs.Statement.{plain_statement, HasForm, bytes_in};
 ghost use Rattle.mm_frame.specs.Sentence.{Sentence, said_by};
@@ -9,7 +9,10 @@ ghost use Rattle.mm_frame.specs.Active.{openings, closings};
 ghost use Rattle.mm_frame.specs.Rules.{IsMeant};
 ghost use Rattle.mm_frame.specs.Taken.{TakenAs};
 ghost use Rattle.mm_frame.specs.Layout.{AreTables, statements_of};
-ghost use Rattle.mm_frame.specs.Grows.{Grows, IsSame};
+ghost use Rattle.mm_frame.specs.Grows.{Grows, IsSame, SameLists, HaveRoom, Entered};
+ghost use Rattle.mm_frame.specs.ScopesOf.{HasRoom};
+ghost use Rattle.mm_frame.specs.Form.{IsFormedSentence};
+ghost use Rattle.mm_frame.specs.declared.answer.Taken.TheVariants.{Opened};
 
 use crate::answer::Taken;
 use crate::framing::{label_ids, mandatory, mandatory_pairs};
@@ -37,7 +40,10 @@ impl<'a> Tables<'a> {
     }
 
     // Makes room for a statement of so many symbols, and for its label.
-    fn reserve(&mut self, symbols: usize) -> Result<(), AllocError> {
+    fn reserve(&mut self, symbols: usize) -> Result<(), AllocError>
+        ensures same { SameLists self.old self.new }
+        ensures room { OnOk result (HaveRoom self.new symbols) }
+    {
         self.log.reserve(1)?;
         self.flat.reserve(symbols)?;
         self.essentials.reserve(1)?;
@@ -47,7 +53,12 @@ impl<'a> Tables<'a> {
     }
 
     // Writes the entry of a statement whose symbols stand at the end of the list of symbols.
-    fn enter(&mut self, kind: Kind, label: Option<LabelId>, start: usize, bytes: u64) {
+    fn enter(&mut self, kind: Kind, label: Option<LabelId>, start: usize, bytes: u64)
+        requires scopes { HasRoom self.old.scopes }
+        requires log { vec_len self.old.log < vec_capacity self.old.log }
+        requires few { self.old.bytes + bytes ≤ 1073741824 }
+        ensures { Entered self.old self.new kind label start bytes }
+    {
         let symbols = Part {
             start,
             end: self.flat.len(),
@@ -62,7 +73,16 @@ impl<'a> Tables<'a> {
     }
 
     // Takes a `${` in.
-    fn open(&mut self, bytes: u64) -> Result<Taken, AllocError> {
+    fn open(&mut self, bytes: u64) -> Result<Taken, AllocError>
+        requires tables { AreTables self.old }
+        requires room { self.old.bytes + bytes ≤ 1073741824 }
+        requires some { 1 ≤ bytes }
+        ensures ok { IfOk result (λ taken. (taken ≡ Opened) × ((s : Sentence)
+            → s.kind ≡ Opening → s.label ≡ None → s.symbols ≡ []
+            → IsMeant (statements_of self.old) s → IsFormedSentence s
+            → Grows self.old self.new s bytes)) }
+        ensures err { OnErr result (IsSame self.old self.new) }
+    {
         self.reserve(0)?;
         let start = self.flat.len();
         self.enter(Kind::Opening, None, start, bytes);
