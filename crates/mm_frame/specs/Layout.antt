@@ -143,4 +143,4 @@ pub record AreTables (t : Tables) : Type 0 where
   pub scopes : HaveScopes (statements_of t) t.scopes
   pub essentials : AreEssentials (statements_of t) t.essentials.items
   pub frames : AreFrames (statements_of t) t.hypotheses.items t.pairs.items t.named.items
-  pub stated : AreStated (statements_of t) t.symbols.names t.distinct
+  pub stated : AreStated (statements_of t) t.symbols.names t.distinct.stated

@@ -14,5 +14,6 @@ pub mod NameTable
 pub mod Stated
 pub mod ScopesOf
 pub mod Layout
+pub mod Gathered
 pub mod Told
 pub mod Laws

@@ -1,5 +1,14 @@
 //! The frame of an assertion, from the lists as they are before it.
 
+ghost use Rattle.std.specs.Prelude.{◌≡◌, ◌↔◌, ℕ, ◌++◌, List, length, map, take, Contains, OnOk, IfOk};
+ghost use Rattle.std.specs.List.Sorted.{IsSorted};
+ghost use Rattle.std.specs.Ordering.{nat_cmp};
+ghost use Rattle.mm_frame.specs.Sentence.{Sentence, IsStated};
+ghost use Rattle.mm_frame.specs.Rules.{IsMeant};
+ghost use Rattle.mm_frame.specs.Numbers.{AreNumbers, labelled};
+ghost use Rattle.mm_frame.specs.Layout.{AreTables, statements_of};
+ghost use Rattle.mm_frame.specs.Gathered.{floatings, AreGathered, AreRising, ArePlaces, IsIn};
+
 use crate::number::{LabelId, Sym};
 use crate::tables::Tables;
 use std::alloc::AllocError;
@@ -9,7 +18,10 @@ fn add_floating(
     tables: &Tables,
     expression: &[Sym],
     places: &mut Vec<usize>,
-) -> Result<(), AllocError> {
+) -> Result<(), AllocError>
+    ensures { OnOk result
+        (places.new.items ≡ places.old.items ++ floatings tables.now.infos.items expression.now) }
+{
     for symbol in expression {
         match tables.info(*symbol) {
             Some(info) => match info.floating {
@@ -23,7 +35,13 @@ fn add_floating(
 }
 
 // The places of the mandatory hypotheses, in no order and with repetitions.
-fn mandatory_unsorted(tables: &Tables, expression: &[Sym]) -> Result<Vec<usize>, AllocError> {
+fn mandatory_unsorted(tables: &Tables, expression: &[Sym]) -> Result<Vec<usize>, AllocError>
+    requires { AreTables tables.now }
+    ensures { (s : Sentence)
+        → AreNumbers (statements_of tables.now) (map (λ n. n.0) expression.now) s.symbols
+        → IfOk result (λ places. AreGathered
+            (statements_of tables.now) tables.now.essentials.items s places.items) }
+{
     let mut places = Vec::new(tables.alloc);
     add_floating(tables, expression, &mut places)?;
     for place in &tables.essentials {
@@ -34,7 +52,11 @@ fn mandatory_unsorted(tables: &Tables, expression: &[Sym]) -> Result<Vec<usize>,
 }
 
 // A list in order, without the repetitions that stand side by side.
-fn without_repetitions(tables: &Tables, sorted: &[usize]) -> Result<Vec<usize>, AllocError> {
+fn without_repetitions(tables: &Tables, sorted: &[usize]) -> Result<Vec<usize>, AllocError>
+    requires { IsSorted nat_cmp sorted.now }
+    ensures rising { IfOk result (λ once. AreRising once.items) }
+    ensures same { IfOk result (λ once. (p : ℕ) → IsIn once.items p ↔ IsIn sorted.now p) }
+{
     let mut once = Vec::new(tables.alloc);
     for place in sorted {
         if once.last() != Some(place) {
@@ -45,14 +67,24 @@ fn without_repetitions(tables: &Tables, sorted: &[usize]) -> Result<Vec<usize>, 
 }
 
 /// The places of the mandatory hypotheses of an assertion, in order.
-pub(crate) fn mandatory(tables: &Tables, expression: &[Sym]) -> Result<Vec<usize>, AllocError> {
+pub(crate) fn mandatory(tables: &Tables, expression: &[Sym]) -> Result<Vec<usize>, AllocError>
+    requires { AreTables tables.now }
+    ensures { (s : Sentence) → IsMeant (statements_of tables.now) s → IsStated s.kind
+        → AreNumbers (statements_of tables.now) (map (λ n. n.0) expression.now) s.symbols
+        → IfOk result (λ places. ArePlaces (statements_of tables.now) s places.items) }
+{
     let mut places = mandatory_unsorted(tables, expression)?;
     places.sort_unstable();
     without_repetitions(tables, &places)
 }
 
 /// The labels' numbers of the statements at some places.
-pub(crate) fn label_ids(tables: &Tables, places: &[usize]) -> Result<Vec<LabelId>, AllocError> {
+pub(crate) fn label_ids(tables: &Tables, places: &[usize]) -> Result<Vec<LabelId>, AllocError>
+    requires { AreTables tables.now }
+    ensures { (s : Sentence) → ArePlaces (statements_of tables.now) s places.now
+        → IfOk result (λ ids. map (λ id. id.0) ids.items
+            ≡ map (λ p. length (labelled (take p (statements_of tables.now)))) places.now) }
+{
     let mut ids = Vec::new(tables.alloc);
     for place in places {
         match tables.log.get(*place) {
