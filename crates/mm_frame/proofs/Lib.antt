@@ -25,4 +25,5 @@ pub mod DistinctAt
 pub mod Order
 pub mod Repeats
 pub mod Spans
+pub mod Gather
 pub mod Lawful

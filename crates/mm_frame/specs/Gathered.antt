@@ -9,9 +9,13 @@ use Rattle.mm_frame.specs.Frame.{IsMandatoryAt}
 use Rattle.mm_frame.specs.Latest.{IsLatest}
 use Rattle.mm_frame.specs.Layout.{GivesType}
 
+-- the place of the latest `$f` of a symbol, if it has one
+abbrev pub floating_of : List SymbolInfo → Sym → Option ℕ
+floating_of infos n = option_and_then (λ info. info.floating) (slice_get infos n.0)
+
 -- the places of the latest `$f` of some symbols, where they have one
 abbrev pub floatings : List SymbolInfo → List Sym → List ℕ
-floatings infos symbols = filter_map (λ n. option_and_then (λ info. info.floating) (slice_get infos n.0)) symbols
+floatings infos symbols = filter_map (floating_of infos) symbols
 
 -- a place stands in the list
 abbrev pub IsIn : List ℕ → ℕ → Type 0

@@ -7,11 +7,21 @@ ghost use Rattle.mm_frame.specs.Sentence.{Sentence, IsStated};
 ghost use Rattle.mm_frame.specs.Rules.{IsMeant};
 ghost use Rattle.mm_frame.specs.Numbers.{AreNumbers, labelled};
 ghost use Rattle.mm_frame.specs.Layout.{AreTables, statements_of};
-ghost use Rattle.mm_frame.specs.Gathered.{floatings, AreGathered, AreRising, ArePlaces, IsIn};
+ghost use Rattle.mm_frame.specs.Gathered.{floating_of, floatings, AreGathered, AreRising, ArePlaces, IsIn};
 
 use crate::number::{LabelId, Sym};
 use crate::tables::Tables;
 use std::alloc::AllocError;
+
+// The place of the latest `$f` of a symbol, if it has one.
+fn floating(tables: &Tables, symbol: Sym) -> Option<usize>
+    ensures { result ≡ floating_of tables.now.infos.items symbol }
+{
+    match tables.info(symbol) {
+        Some(info) => info.floating,
+        None => None,
+    }
+}
 
 // Notes the places of the `$f` of the variables in an expression.
 fn add_floating(
@@ -23,11 +33,8 @@ fn add_floating(
         (places.new.items ≡ places.old.items ++ floatings tables.now.infos.items expression.now) }
 {
     for symbol in expression {
-        match tables.info(*symbol) {
-            Some(info) => match info.floating {
-                Some(place) => places.push(place)?,
-                None => {}
-            },
+        match floating(tables, *symbol) {
+            Some(place) => places.push(place)?,
             None => {}
         }
     }
