@@ -38,12 +38,13 @@ floatings_none infos xs i d old now lt is so_far =
 -- what the places of latest `$f` are
 floatings_at : (infos : List SymbolInfo) (xs : List Sym) (i p : ℕ) → slice_get (floatings infos xs) i ≡ Some p → (j : ℕ) × (n : Sym) × (slice_get xs j ≡ Some n) × (floating_of infos n ≡ Some p)
 floatings_at infos [] i p there = absurd (cc)
-floatings_at infos (x ∷ xs) i p there = first (floating_of infos x) refl i there
+floatings_at infos (x ∷ xs) i p there = first (floating_of infos x) refl (λ k at. floatings_at infos xs k p at) i there
   where
-    first : (o : Option ℕ) → floating_of infos x ≡ o → (i : ℕ) → slice_get (cons_option o (floatings infos xs)) i ≡ Some p → (j : ℕ) × (n : Sym) × (slice_get (x ∷ xs) j ≡ Some n) × (floating_of infos n ≡ Some p)
-    first None is i at = let (j, n, at_n, says) = floatings_at infos xs i p at in (suc j, n, at_n, says)
-    first (Some q) is zero at = (0, x, refl, is ∙ at)
-    first (Some q) is (suc i) at = let (j, n, at_n, says) = floatings_at infos xs i p at in (suc j, n, at_n, says)
+    first : (o : Option ℕ) → floating_of infos x ≡ o → ((k : ℕ) → slice_get (floatings infos xs) k ≡ Some p → (j : ℕ) × (n : Sym) × (slice_get xs j ≡ Some n) × (floating_of infos n ≡ Some p))
+        → (i : ℕ) → slice_get (cons_option o (floatings infos xs)) i ≡ Some p → (j : ℕ) × (n : Sym) × (slice_get (x ∷ xs) j ≡ Some n) × (floating_of infos n ≡ Some p)
+    first None is rest i at = let (j, n, at_n, says) = rest i at in (suc j, n, at_n, says)
+    first (Some q) is rest zero at = (0, x, refl, is ∙ at)
+    first (Some q) is rest (suc i) at = let (j, n, at_n, says) = rest i at in (suc j, n, at_n, says)
 
 floatings_have : (infos : List SymbolInfo) (xs : List Sym) (j p : ℕ) (n : Sym) → slice_get xs j ≡ Some n → floating_of infos n ≡ Some p → IsIn (floatings infos xs) p
 floatings_have infos [] j p n there says = absurd (cc)
