@@ -2,7 +2,7 @@
 use Rattle.std.proofs.Common.{◌≡◌, ◌↔◌, ℕ, zero, suc, ◌+◌, ◌<◌, ◌≤◌, ◌⊎◌, inl, inr, length, take, get_or, List, [], ◌∷◌, ◌++◌, map, Contains, Option, Some, None, refl, sym, ap, ◌∙◌, subst, append_assoc, append-nil, arith}
 use Rattle.std.specs.List.{slice_get, filter_map, cons_option}
 use Rattle.std.specs.Option.{option_and_then}
-use Rattle.std.proofs.lemmas.Option.{slice_get_within}
+use Rattle.std.proofs.lemmas.Option.{slice_get_within, slice_get-get_or}
 use Rattle.std.proofs.lemmas.List.{take_more}
 use Rattle.std.proofs.lemmas.Bool.{cases_order}
 use Rattle.std.proofs.lemmas.List.Elements.{filter_map-append}
@@ -12,7 +12,7 @@ use Rattle.mm_frame.specs.Sentence.{Sentence, SomeSentence}
 use Rattle.mm_frame.specs.Rules.{AllMeant}
 use Rattle.mm_frame.specs.Numbers.{symbols_of, AreNumbers}
 use Rattle.mm_frame.specs.Latest.{IsLatest}
-use Rattle.mm_frame.specs.Layout.{AreInfos, GivesType, IsLatestIn}
+use Rattle.mm_frame.specs.Layout.{AreInfos, AreEssentials, GivesType, IsLatestIn}
 use Rattle.mm_frame.specs.Gathered.{floating_of, floatings, IsIn, StandsIn, IsGathered, AreGathered}
 use Rattle.mm_frame.proofs.Pushed.{get_kept, get_pushed, pushed_cases, get_within}
 use Rattle.mm_frame.proofs.Numbered.{At, at_from_contains, contains_from_at}
@@ -184,3 +184,15 @@ gathered_more st names infos es q h s ns places are at_q numbers gathered =
         ]
       ];
     }
+
+pub gathered_step : (st : List Sentence) (names : List (List ℕ)) (infos : List SymbolInfo) (es xs : List ℕ) (i : ℕ) (s : Sentence) (ns : List Sym) (places pushed now : List ℕ) → AreInfos st names infos → AreEssentials st es
+    → xs ≡ es → i < length xs → ((h : Sentence) → slice_get st (get_or xs i 0) ≡ Some h → AreNumbers st (map (λ n. n.0) ns) h.symbols) → pushed ≡ places ++ get_or xs i 0 ∷ [] → now ≡ pushed ++ floatings infos ns
+    → AreGathered st (take i es) s places → AreGathered st (take (i + 1) es) s now
+gathered_step st names infos es xs i s ns places pushed now are essentials same lt says push add gathered =
+    let q = get_or xs i 0 in
+    let at : slice_get es i ≡ Some q = subst (λ ys. slice_get ys i ≡ Some q) same (slice_get-get_or xs i 0 lt) in
+    let (h, there, kind, active) = essentials.only i q at in
+    let front : take (i + 1) es ≡ take i es ++ q ∷ [] = subst (λ ys. take (i + 1) ys ≡ take i ys ++ q ∷ []) same (take_more xs i 0 lt) in
+    let more = gathered_more st names infos (take i es) q h s ns places are there (says h there) gathered in
+    let result : (places ++ q ∷ []) ++ floatings infos ns ≡ now = sym (add ∙ ap (λ ys. ys ++ floatings infos ns) push) in
+    subst (λ ys. AreGathered st ys s now) (sym front) (subst (λ ys. AreGathered st (take i es ++ q ∷ []) s ys) result more)
