@@ -1,8 +1,14 @@
 -- Gathering the places of the mandatory hypotheses.
-use Rattle.std.proofs.Common.{◌≡◌, ◌↔◌, ℕ, zero, suc, ◌+◌, ◌<◌, ◌≤◌, ◌⊎◌, inl, inr, length, take, get_or, List, [], ◌∷◌, ◌++◌, map, Contains, Option, Some, None, refl, sym, ap, ◌∙◌, subst, append_assoc, append-nil, arith}
+use Rattle.std.proofs.Common.{eqb, ◌≡◌, ◌↔◌, ℕ, zero, suc, ◌+◌, ◌<◌, ◌≤◌, ◌⊎◌, inl, inr, length, take, get_or, List, [], ◌∷◌, ◌++◌, map, Contains, Option, Some, None, refl, sym, ap, ◌∙◌, subst, append_assoc, append-nil, arith}
 use Rattle.std.specs.List.{slice_get, filter_map, cons_option}
 use Rattle.std.specs.Option.{option_and_then}
-use Rattle.std.proofs.lemmas.Option.{slice_get_within, slice_get-get_or}
+use Rattle.std.proofs.lemmas.Option.{slice_get_within, slice_get-get_or, get_or_from_slice_get}
+use Rattle.std.specs.List.{dedup}
+use Rattle.std.specs.List.Sorted.{IsPermutation, IsSorted, IsStrictlyIncreasing}
+use Rattle.std.specs.Ordering.{nat_cmp}
+use Rattle.std.proofs.lemmas.List.Kept.{AllPairs-from_increasing, Contains-dedup_nat, Contains-from_dedup}
+use Rattle.std.proofs.lemmas.List.Sorted.{IsPermutation-sym, Contains-permutation}
+use Rattle.std.proofs.lemmas.Map.Keys.{IsStrictlyIncreasing-dedup}
 use Rattle.std.proofs.lemmas.List.{take_more}
 use Rattle.std.proofs.lemmas.Bool.{cases_order}
 use Rattle.std.proofs.lemmas.List.Elements.{filter_map-append}
@@ -13,7 +19,7 @@ use Rattle.mm_frame.specs.Rules.{AllMeant}
 use Rattle.mm_frame.specs.Numbers.{symbols_of, AreNumbers}
 use Rattle.mm_frame.specs.Latest.{IsLatest}
 use Rattle.mm_frame.specs.Layout.{AreInfos, AreEssentials, GivesType, IsLatestIn}
-use Rattle.mm_frame.specs.Gathered.{floating_of, floatings, IsIn, StandsIn, IsGathered, AreGathered}
+use Rattle.mm_frame.specs.Gathered.{floating_of, floatings, IsIn, StandsIn, IsGathered, AreGathered, AreRising}
 use Rattle.mm_frame.proofs.Pushed.{get_kept, get_pushed, pushed_cases, get_within}
 use Rattle.mm_frame.proofs.Numbered.{At, at_from_contains, contains_from_at}
 use Rattle.mm_frame.proofs.Entries.{append_cases}
@@ -196,3 +202,33 @@ gathered_step st names infos es xs i s ns places pushed now are essentials same 
     let more = gathered_more st names infos (take i es) q h s ns places are there (says h there) gathered in
     let result : (places ++ q ∷ []) ++ floatings infos ns ≡ now = sym (add ∙ ap (λ ys. ys ++ floatings infos ns) push) in
     subst (λ ys. AreGathered st ys s now) (sym front) (subst (λ ys. AreGathered st (take i es ++ q ∷ []) s ys) result more)
+
+-- ---- in order, each once
+
+-- a list that rises from each element to the next rises
+increasing_rises : (xs : List ℕ) → IsStrictlyIncreasing xs → AreRising xs
+increasing_rises xs increasing i j p q at_i at_j lt =
+    let within_i = slice_get_within xs i p at_i in
+    let within_j = slice_get_within xs j q at_j in
+    let pairs = AllPairs-from_increasing xs increasing in
+    let h = pairs i j 0 lt within_j in
+    let e = get_or_from_slice_get xs i p 0 at_i in
+    let f = get_or_from_slice_get xs j q 0 at_j in
+    omega arith
+
+-- what is left after sorting and leaving out repetitions
+pub gathered_sorted : (st : List Sentence) (es : List ℕ) (s : Sentence) (places sorted once : List ℕ) → AreGathered st es s places → IsPermutation places sorted → IsSorted nat_cmp sorted → once ≡ dedup eqb sorted
+    → AreRising once × AreGathered st es s once
+gathered_sorted st es s places sorted once gathered permutation in_order same =
+    let rising : AreRising once = subst AreRising (sym same) (increasing_rises (dedup eqb sorted) (IsStrictlyIncreasing-dedup sorted in_order)) in (
+      rising,
+      record {
+        only = λ i p there.
+            let kept : Contains (dedup eqb sorted) p = subst (λ xs. Contains xs p) same (contains_from_at once p (i, there)) in
+            let (j, at) = at_from_contains places p (Contains-permutation sorted places p (IsPermutation-sym places sorted permutation) (Contains-from_dedup eqb sorted p kept)) in
+            gathered.only j p at;
+        each = λ p is.
+            let moved = Contains-permutation places sorted p permutation (contains_from_at places p (gathered.each p is)) in
+            at_from_contains once p (subst (λ xs. Contains xs p) (sym same) (Contains-dedup_nat sorted p moved));
+      },
+    )

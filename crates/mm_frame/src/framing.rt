@@ -1,13 +1,11 @@
 //! The frame of an assertion, from the lists as they are before it.
 
-ghost use Rattle.std.specs.Prelude.{◌≡◌, ◌↔◌, ℕ, ◌++◌, List, length, map, take, Contains, OnOk, IfOk};
-ghost use Rattle.std.specs.List.Sorted.{IsSorted};
-ghost use Rattle.std.specs.Ordering.{nat_cmp};
+ghost use Rattle.std.specs.Prelude.{◌≡◌, ◌++◌, length, map, take, OnOk, IfOk};
 ghost use Rattle.mm_frame.specs.Sentence.{Sentence, IsStated};
 ghost use Rattle.mm_frame.specs.Rules.{IsMeant};
 ghost use Rattle.mm_frame.specs.Numbers.{AreNumbers, labelled};
 ghost use Rattle.mm_frame.specs.Layout.{AreTables, statements_of};
-ghost use Rattle.mm_frame.specs.Gathered.{floating_of, floatings, AreGathered, AreRising, ArePlaces, IsIn};
+ghost use Rattle.mm_frame.specs.Gathered.{floating_of, floatings, AreGathered, ArePlaces};
 
 use crate::number::{LabelId, Sym};
 use crate::tables::Tables;
@@ -58,21 +56,6 @@ fn mandatory_unsorted(tables: &Tables, expression: &[Sym]) -> Result<Vec<usize>,
     Ok(places)
 }
 
-// A list in order, without the repetitions that stand side by side.
-fn without_repetitions(tables: &Tables, sorted: &[usize]) -> Result<Vec<usize>, AllocError>
-    requires { IsSorted nat_cmp sorted.now }
-    ensures rising { IfOk result (λ once. AreRising once.items) }
-    ensures same { IfOk result (λ once. (p : ℕ) → IsIn once.items p ↔ IsIn sorted.now p) }
-{
-    let mut once = Vec::new(tables.alloc);
-    for place in sorted {
-        if once.last() != Some(place) {
-            once.push(*place)?;
-        }
-    }
-    Ok(once)
-}
-
 /// The places of the mandatory hypotheses of an assertion, in order.
 pub(crate) fn mandatory(tables: &Tables, expression: &[Sym]) -> Result<Vec<usize>, AllocError>
     requires { AreTables tables.now }
@@ -82,7 +65,8 @@ pub(crate) fn mandatory(tables: &Tables, expression: &[Sym]) -> Result<Vec<usize
 {
     let mut places = mandatory_unsorted(tables, expression)?;
     places.sort_unstable();
-    without_repetitions(tables, &places)
+    places.dedup();
+    Ok(places)
 }
 
 /// The labels' numbers of the statements at some places.
