@@ -26,4 +26,5 @@ pub mod Order
 pub mod Repeats
 pub mod Spans
 pub mod Gather
+pub mod LabelIds
 pub mod Lawful

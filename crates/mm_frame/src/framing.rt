@@ -1,12 +1,14 @@
 //! The frame of an assertion, from the lists as they are before it.
 
-ghost use Rattle.std.specs.Prelude.{◌≡◌, ◌++◌, length, map, take, OnOk, IfOk};
+ghost use Rattle.std.specs.Prelude.{◌≡◌, ◌++◌, length, map, take, slice_get, OnOk, IfOk};
+ghost use Rattle.std.specs.Option.{option_and_then};
 ghost use Rattle.mm_frame.specs.Sentence.{Sentence, IsStated};
 ghost use Rattle.mm_frame.specs.Rules.{IsMeant};
 ghost use Rattle.mm_frame.specs.Numbers.{AreNumbers, labelled};
 ghost use Rattle.mm_frame.specs.Layout.{AreTables, statements_of};
 ghost use Rattle.mm_frame.specs.Gathered.{floating_of, floatings, AreGathered, ArePlaces};
 
+use crate::lists::at;
 use crate::number::{LabelId, Sym};
 use crate::tables::Tables;
 use std::alloc::AllocError;
@@ -69,6 +71,16 @@ pub(crate) fn mandatory(tables: &Tables, expression: &[Sym]) -> Result<Vec<usize
     Ok(places)
 }
 
+// The number of the label of the statement at a place, if it has one.
+fn label_at(tables: &Tables, place: usize) -> Option<LabelId>
+    ensures { result ≡ option_and_then (λ e. e.label) (slice_get tables.now.log.items place) }
+{
+    match at(&tables.log, place) {
+        Some(entry) => entry.label,
+        None => None,
+    }
+}
+
 /// The labels' numbers of the statements at some places.
 pub(crate) fn label_ids(tables: &Tables, places: &[usize]) -> Result<Vec<LabelId>, AllocError>
     requires { AreTables tables.now }
@@ -78,11 +90,8 @@ pub(crate) fn label_ids(tables: &Tables, places: &[usize]) -> Result<Vec<LabelId
 {
     let mut ids = Vec::new(tables.alloc);
     for place in places {
-        match tables.log.get(*place) {
-            Some(entry) => match entry.label {
-                Some(id) => ids.push(id)?,
-                None => {}
-            },
+        match label_at(tables, *place) {
+            Some(id) => ids.push(id)?,
             None => {}
         }
     }
