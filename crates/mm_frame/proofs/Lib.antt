@@ -27,4 +27,5 @@ pub mod Repeats
 pub mod Spans
 pub mod Gather
 pub mod LabelIds
+pub mod PairsOf
 pub mod Lawful

@@ -156,10 +156,13 @@ impl<'a> Tables<'a> {
                 × IsNumberOf (statements_of self.now) x n.0) }
     {
         match at(&self.log, place) {
-            Some(entry) => match part_of(&self.flat, entry.symbols) {
-                [_, variable] if entry.kind == Kind::Floating => Some(*variable),
-                _ => None,
-            },
+            Some(entry) => {
+                if entry.kind == Kind::Floating {
+                    at(self.symbols_at(place), 1)
+                } else {
+                    None
+                }
+            }
             None => None,
         }
     }
