@@ -26,7 +26,11 @@ pub mod DistinctAt
 pub mod Order
 pub mod Repeats
 pub mod Spans
+pub mod Gather
+pub mod LabelIds
+pub mod PairsOf
 pub mod Lawful
 pub mod EmptyTables
 pub mod SameTables
 pub mod Assembled
+pub mod Separated

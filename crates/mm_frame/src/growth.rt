@@ -18,7 +18,6 @@ use crate::answer::Taken;
 use crate::framing::{label_ids, mandatory, mandatory_pairs};
 use crate::lists::put;
 use crate::number::{LabelId, Sym};
-use crate::pairs::in_order;
 use crate::tables::{Entry, LabelInfo, Part, SymbolInfo, Tables};
 use mm_text::{Kind, Statement, Token};
 use std::alloc::AllocError;
@@ -40,7 +39,7 @@ impl<'a> Tables<'a> {
     }
 
     // Makes room for a statement of so many symbols, and for its label.
-    fn reserve(&mut self, symbols: usize) -> Result<(), AllocError>
+    pub(crate) fn reserve(&mut self, symbols: usize) -> Result<(), AllocError>
         ensures same { SameLists self.old self.new }
         ensures room { OnOk result (HaveRoom self.new symbols) }
     {
@@ -53,7 +52,7 @@ impl<'a> Tables<'a> {
     }
 
     // Writes the entry of a statement whose symbols stand at the end of the list of symbols.
-    fn enter(&mut self, kind: Kind, label: Option<LabelId>, start: usize, bytes: u64)
+    pub(crate) fn enter(&mut self, kind: Kind, label: Option<LabelId>, start: usize, bytes: u64)
         requires scopes { HasRoom self.old.scopes }
         requires log { vec_len self.old.log < vec_capacity self.old.log }
         requires few { self.old.bytes + bytes ≤ 1073741824 }
@@ -157,29 +156,6 @@ impl<'a> Tables<'a> {
             self.declare(token.text, variable);
         }
         self.enter(statement.kind, None, start, bytes);
-        Ok(Taken::Declared)
-    }
-
-    // Takes the pairs of one member of a `$d` with the members before it in.
-    fn separate(&mut self, member: Sym, others: &[Sym], place: usize) {
-        for other in others {
-            if !self.is_distinct(member, *other, place) {
-                self.distinct.add(in_order(member.0, other.0), place);
-            }
-        }
-    }
-
-    // Takes a `$d` in.
-    fn separate_all(&mut self, numbers: &[Sym], bytes: u64) -> Result<Taken, AllocError> {
-        let place = self.log.len();
-        let start = self.flat.len();
-        self.distinct.reserve(numbers.len().saturating_mul(numbers.len()))?;
-        self.reserve(numbers.len())?;
-        let _ = self.flat.extend_from_slice(numbers);
-        for i in 0..numbers.len() {
-            self.separate(numbers[i], &numbers[..i], place);
-        }
-        self.enter(Kind::Distinct, None, start, bytes);
         Ok(Taken::Declared)
     }
 

@@ -1,0 +1,5 @@
+-- The pairs that a `$d` adds.
+use Rattle.std.proofs.Common.{◌≡◌, ℕ, arith}
+
+todo : ℕ
+todo = 0
