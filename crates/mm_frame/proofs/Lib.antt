@@ -28,4 +28,5 @@ pub mod Spans
 pub mod Gather
 pub mod LabelIds
 pub mod PairsOf
+pub mod MandatoryPairs
 pub mod Lawful
