@@ -8,8 +8,15 @@ use Rattle.mm_frame.specs.declared.number.Sym.{Sym}
 use Rattle.mm_frame.specs.Sentence.{Sentence, Types}
 use Rattle.mm_frame.specs.Form.{AllFormed}
 use Rattle.mm_frame.specs.Numbers.{symbols_of, AreNumbers, IsNumberOf}
+use Rattle.std.specs.Prelude.{if◌then◌else◌, nat_lt}
+use Rattle.std.proofs.lemmas.Bool.{cases_order, lt-ltb, le-ltb}
 use Rattle.mm_frame.specs.declared.tables.Entry.{Entry}
-use Rattle.mm_frame.specs.Layout.{sentences, sentence_by}
+use Rattle.mm_frame.specs.Active.{IsActive}
+use Rattle.mm_frame.specs.Frame.{IsDistinct}
+use Rattle.mm_frame.specs.Stated.{Stated, IsLatestStated}
+use Rattle.mm_frame.proofs.Those.{distinct_other}
+use Rattle.mm_frame.proofs.DistinctAt.{latest_distinct, unstated_distinct}
+use Rattle.mm_frame.specs.Layout.{sentences, sentence_by, AreStated}
 use Rattle.mm_frame.proofs.Entries.{sentence_at, entry_at}
 use Rattle.mm_frame.proofs.Pushed.{get_within}
 
@@ -46,3 +53,48 @@ pub some_entry : (symbols labels : List (List ℕ)) (flat : List Sym) (log : Lis
 some_entry symbols labels flat log place f said none =
     let (e, at, says) = entry_at symbols labels flat log place f said in
     absurd (cc)
+
+-- ---- whether two numbers' symbols are distinct, by the pairs that `$d` state
+
+-- the pair of two numbers, the lesser one first
+abbrev pub ordered : ℕ → ℕ → ℕ × ℕ
+ordered a b = if nat_lt a b then (a, b) else (b, a)
+
+ordered_below : (a b : ℕ) → a < b → ordered a b ≡ (a, b)
+ordered_below a b lt = ap (λ t. if t then (a, b) else (b, a)) (lt-ltb a b lt)
+
+ordered_above : (a b : ℕ) → b ≤ a → ordered a b ≡ (b, a)
+ordered_above a b le = ap (λ t. if t then (a, b) else (b, a)) (le-ltb a b le)
+
+names_number : (st : List Sentence) (names : List (List ℕ)) (x : List ℕ) (n : ℕ) → names ≡ symbols_of st → IsNumberOf st x n → slice_get names n ≡ Some x
+names_number st names x n all at = subst (λ ys. slice_get ys n ≡ Some x) (sym all) at
+
+latest_below : (st : List Sentence) (names : List (List ℕ)) (spans : List Stated) (a b q place : ℕ) (x y : List ℕ) → names ≡ symbols_of st → AreStated st names spans → IsNumberOf st x a → IsNumberOf st y b → a < b → q ≤ length st
+    → IsLatestStated spans (a, b) q (Some place) → (place < q) × (IsActive (take q st) place ↔ IsDistinct (take q st) x y)
+latest_below st names spans a b q place x y all are at_a at_b lt le (i, span, there, pair, is, before, last) =
+    let distinct = latest_distinct st names spans a b q i x y span all are (names_number st names x a all at_a) (names_number st names y b all at_b) lt le there pair (let h = before in let e = is in omega arith) last in
+    (before, subst (λ p. IsActive (take q st) p ↔ IsDistinct (take q st) x y) is distinct)
+
+pub latest_tells : (st : List Sentence) (names : List (List ℕ)) (spans : List Stated) (a b q place : ℕ) (x y : List ℕ) → names ≡ symbols_of st → AreStated st names spans → IsNumberOf st x a → IsNumberOf st y b → a ≢ b → q ≤ length st
+    → IsLatestStated spans (ordered a b) q (Some place) → (place < q) × (IsActive (take q st) place ↔ IsDistinct (take q st) x y)
+latest_tells st names spans a b q place x y all are at_a at_b apart le latest = elim (cases_order a b) [
+  | inl same ↦ absurd (apart same)
+  | inr (inl lt) ↦ latest_below st names spans a b q place x y all are at_a at_b lt le (subst (λ p. IsLatestStated spans p q (Some place)) (ordered_below a b lt) latest)
+  | inr (inr gt) ↦
+      let (before, tell) = latest_below st names spans b a q place y x all are at_b at_a gt le (subst (λ p. IsLatestStated spans p q (Some place)) (ordered_above a b (omega arith)) latest) in
+      (before, ((λ active. distinct_other (take q st) y x (tell.0 active)), (λ distinct. tell.1 (distinct_other (take q st) x y distinct))))
+]
+
+-- a symbol isn't distinct from itself
+pub same_tells : (st : List Sentence) (q a b : ℕ) (x y : List ℕ) → IsNumberOf st x a → IsNumberOf st y b → a ≡ b → ¬ (IsDistinct (take q st) x y)
+same_tells st q a b x y at_a at_b same distinct = distinct.0 (let at = subst (λ n. slice_get (symbols_of st) n ≡ Some x) same at_a in cc)
+
+pub none_tells : (st : List Sentence) (names : List (List ℕ)) (spans : List Stated) (a b q : ℕ) (x y : List ℕ) → names ≡ symbols_of st → AreStated st names spans → IsNumberOf st x a → IsNumberOf st y b
+    → IsLatestStated spans (ordered a b) q None → ¬ (IsDistinct (take q st) x y)
+none_tells st names spans a b q x y all are at_a at_b none distinct = elim (cases_order a b) [
+  | inl same ↦ same_tells st q a b x y at_a at_b same distinct
+  | inr (inl lt) ↦
+      unstated_distinct st names spans a b q x y are (names_number st names x a all at_a) (names_number st names y b all at_b) lt (subst (λ p. IsLatestStated spans p q None) (ordered_below a b lt) none) distinct
+  | inr (inr gt) ↦
+      unstated_distinct st names spans b a q y x are (names_number st names y b all at_b) (names_number st names x a all at_a) gt (subst (λ p. IsLatestStated spans p q None) (ordered_above a b (omega arith)) none) (distinct_other (take q st) x y distinct)
+]
