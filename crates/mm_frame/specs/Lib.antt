@@ -15,8 +15,10 @@ pub mod NameTable
 pub mod Stated
 pub mod ScopesOf
 pub mod Layout
+pub mod Gathered
 pub mod Told
 pub mod Laws
 pub mod FrameSeen
 pub mod Grows
 pub mod Declaring
+pub mod Separated

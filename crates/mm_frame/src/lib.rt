@@ -17,6 +17,7 @@ mod rule;
 mod rules;
 mod said;
 mod scopes;
+mod separate;
 mod tables;
 
 pub use answer::{Found, RuleFault, Taken};
