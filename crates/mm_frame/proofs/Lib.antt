@@ -26,6 +26,8 @@ pub mod DistinctAt
 pub mod Order
 pub mod Repeats
 pub mod Spans
+pub mod Gather
+pub mod LabelIds
 pub mod Lawful
 pub mod EmptyTables
 pub mod SameTables
