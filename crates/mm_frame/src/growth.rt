@@ -15,16 +15,12 @@ ghost use Rattle.mm_frame.specs.Form.{IsFormedSentence};
 ghost use Rattle.mm_frame.specs.declared.answer.Taken.TheVariants.{Opened};
 
 use crate::answer::Taken;
-use crate::framing::{label_ids, mandatory, mandatory_pairs};
 use crate::lists::put;
 use crate::number::{LabelId, Sym};
 use crate::pairs::in_order;
-use crate::tables::{Entry, LabelInfo, Part, SymbolInfo, Tables};
+use crate::tables::{Entry, Part, SymbolInfo, Tables};
 use mm_text::{Kind, Statement, Token};
 use std::alloc::AllocError;
-
-// Nothing of a list.
-const NO_PART: Part = Part { start: 0, end: 0 };
 
 impl<'a> Tables<'a> {
     // The numbers of declared symbols.
@@ -39,8 +35,8 @@ impl<'a> Tables<'a> {
         Ok(numbers)
     }
 
-    // Makes room for a statement of so many symbols, and for its label.
-    fn reserve(&mut self, symbols: usize) -> Result<(), AllocError>
+    /// Makes room for a statement of so many symbols, and for its label.
+    pub(crate) fn reserve(&mut self, symbols: usize) -> Result<(), AllocError>
         ensures same { SameLists self.old self.new }
         ensures room { OnOk result (HaveRoom self.new symbols) }
     {
@@ -52,8 +48,8 @@ impl<'a> Tables<'a> {
         self.scopes.reserve()
     }
 
-    // Writes the entry of a statement whose symbols stand at the end of the list of symbols.
-    fn enter(&mut self, kind: Kind, label: Option<LabelId>, start: usize, bytes: u64)
+    /// Writes the entry of a statement whose symbols stand at the end of the list of symbols.
+    pub(crate) fn enter(&mut self, kind: Kind, label: Option<LabelId>, start: usize, bytes: u64)
         requires scopes { HasRoom self.old.scopes }
         requires log { vec_len self.old.log < vec_capacity self.old.log }
         requires few { self.old.bytes + bytes ≤ 1073741824 }
@@ -183,75 +179,6 @@ impl<'a> Tables<'a> {
         Ok(Taken::Declared)
     }
 
-    // Writes a label's entry, and the entry of its statement.
-    fn name(
-        &mut self,
-        kind: Kind,
-        label: &'a [u8],
-        numbers: &[Sym],
-        frame: (Part, Part),
-        bytes: u64,
-    ) -> LabelId {
-        let id = LabelId(self.labels.len() as u32);
-        let place = self.log.len();
-        let start = self.flat.len();
-        let _ = self.flat.extend_from_slice(numbers);
-        self.labels.add(label);
-        put(&mut self.named, LabelInfo {
-            place,
-            hypotheses: frame.0,
-            pairs: frame.1,
-        });
-        self.enter(kind, Some(id), start, bytes);
-        id
-    }
-
-    // Notes the place of a variable's latest `$f`.
-    fn note_floating(&mut self, variable: Sym) {
-        let place = self.log.len();
-        if let Some(info) = self.infos.get_mut(variable.0 as usize) {
-            info.floating = Some(place);
-        }
-    }
-
-    // Takes a `$f` in.
-    fn give_type(&mut self, label: &'a [u8], numbers: &[Sym], bytes: u64) -> Result<Taken, AllocError> {
-        self.reserve(numbers.len())?;
-        if let [_, variable] = numbers {
-            self.note_floating(*variable);
-        }
-        let id = self.name(Kind::Floating, label, numbers, (NO_PART, NO_PART), bytes);
-        Ok(Taken::Hypothesis(id))
-    }
-
-    // Takes a `$e` in.
-    fn suppose(&mut self, label: &'a [u8], numbers: &[Sym], bytes: u64) -> Result<Taken, AllocError> {
-        self.reserve(numbers.len())?;
-        put(&mut self.essentials, self.log.len());
-        let id = self.name(Kind::Essential, label, numbers, (NO_PART, NO_PART), bytes);
-        Ok(Taken::Hypothesis(id))
-    }
-
-    // Takes a `$a` or `$p` in, with its frame.
-    fn assert(
-        &mut self,
-        kind: Kind,
-        label: &'a [u8],
-        numbers: &[Sym],
-        bytes: u64,
-    ) -> Result<Taken, AllocError> {
-        let places = mandatory(self, numbers)?;
-        let hypotheses = label_ids(self, &places)?;
-        let pairs = mandatory_pairs(self, &places)?;
-        self.hypotheses.reserve(hypotheses.len())?;
-        self.pairs.reserve(pairs.len())?;
-        self.reserve(numbers.len())?;
-        let hypotheses = add_part(&mut self.hypotheses, &hypotheses);
-        let pairs = add_part(&mut self.pairs, &pairs);
-        let id = self.name(kind, label, numbers, (hypotheses, pairs), bytes);
-        Ok(Taken::Assertion(id))
-    }
-
     // Takes a labelled statement in.
     fn take_labelled(
         &mut self,
@@ -299,15 +226,5 @@ impl<'a> Tables<'a> {
             Kind::Constants | Kind::Variables => self.declare_all(statement, bytes),
             _ => self.take_use(statement, bytes),
         }
-    }
-}
-
-// Adds elements to the end of a list that has room, and says where they stand.
-fn add_part<T: Copy + Drop>(list: &mut Vec<T>, more: &[T]) -> Part {
-    let start = list.len();
-    let _ = list.extend_from_slice(more);
-    Part {
-        start,
-        end: list.len(),
     }
 }
