@@ -32,3 +32,4 @@ pub mod Lawful
 pub mod EmptyTables
 pub mod SameTables
 pub mod Assembled
+pub mod NamedTables

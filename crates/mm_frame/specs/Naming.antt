@@ -1,5 +1,5 @@
 -- How a book's lists change as a label is named. This file mirrors the code, and is cited by private contracts alone.
-use Rattle.std.specs.Prelude.{◌≡◌, ℕ, ◌+◌, ◌<◌, length, List, [], ◌∷◌, ◌++◌, Some}
+use Rattle.std.specs.Prelude.{◌≡◌, ℕ, ◌+◌, ◌<◌, ◌≤◌, vec_len, vec_capacity, length, List, [], ◌∷◌, ◌++◌, Some}
 use Rattle.mm_text.specs.declared.statement.Kind.{Kind}
 use Rattle.mm_text.specs.declared.statement.Kind.TheVariants.{Closing}
 use Rattle.mm_frame.specs.declared.number.LabelId.{LabelId}
@@ -10,7 +10,7 @@ use Rattle.mm_frame.specs.declared.tables.Tables.{Tables}
 use Rattle.mm_frame.specs.Sentence.{Sentence}
 use Rattle.mm_frame.specs.Active.{openings, closings}
 use Rattle.mm_frame.specs.Numbers.{with_name}
-use Rattle.mm_frame.specs.ScopesOf.{HaveScopes}
+use Rattle.mm_frame.specs.ScopesOf.{HaveScopes, HasRoom}
 use Rattle.mm_frame.specs.Grows.{entry_of}
 
 -- where elements stand that are added to the end of a list
@@ -19,6 +19,14 @@ part_after xs more = record { start = length xs; end = length (xs ++ more) }
 
 abbrev pub label_info : ℕ → Part × Part → LabelInfo
 label_info place frame = record { place = place; hypotheses = frame.0; pairs = frame.1 }
+
+-- there is room for a label, and for the entry of its statement of so many symbols
+pub record HaveNameRoom (t : Tables) (symbols : ℕ) : Type 0 where
+  pub log : vec_len t.log < vec_capacity t.log
+  pub flat : vec_len t.flat + symbols ≤ vec_capacity t.flat
+  pub named : vec_len t.named < vec_capacity t.named
+  pub labels : 0 < t.labels.room
+  pub scopes : HasRoom t.scopes
 
 -- one label more was written, and the entry of its statement, which has these symbols
 pub record Named (old new : Tables) (kind : Kind) (label : List ℕ) (numbers : List Sym) (frame : Part × Part) (id : LabelId) (bytes : ℕ) : Type 0 where

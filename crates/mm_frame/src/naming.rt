@@ -9,8 +9,8 @@ ghost use Rattle.mm_frame.specs.Form.{IsFormedSentence};
 ghost use Rattle.mm_frame.specs.Numbers.{AreNumbers};
 ghost use Rattle.mm_frame.specs.Taken.{TakenAs};
 ghost use Rattle.mm_frame.specs.Layout.{AreTables, statements_of};
-ghost use Rattle.mm_frame.specs.Grows.{Grows, IsSame, HaveRoom};
-ghost use Rattle.mm_frame.specs.Naming.{Named, part_after};
+ghost use Rattle.mm_frame.specs.Grows.{Grows, IsSame};
+ghost use Rattle.mm_frame.specs.Naming.{Named, HaveNameRoom, part_after};
 
 use crate::answer::Taken;
 use crate::framing::{label_ids, mandatory, mandatory_pairs};
@@ -57,7 +57,7 @@ impl<'a> Tables<'a> {
         frame: (Part, Part),
         bytes: u64,
     ) -> LabelId
-        requires room { HaveRoom self.old (length numbers.now) }
+        requires room { HaveNameRoom self.old (length numbers.now) }
         requires labels { length self.old.labels.names + 1 < 4294967296 }
         requires few { self.old.bytes + bytes ≤ 1073741824 }
         ensures id { result.0 ≡ length self.old.labels.names }
