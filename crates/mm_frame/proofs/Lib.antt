@@ -39,3 +39,4 @@ pub mod Assembled
 pub mod DeclaredSymbols
 pub mod Declared
 pub mod Separated
+pub mod NamedTables

@@ -22,3 +22,4 @@ pub mod FrameSeen
 pub mod Grows
 pub mod Declaring
 pub mod Separated
+pub mod Naming

@@ -11,6 +11,7 @@ mod laws;
 mod lists;
 mod lookups;
 mod names;
+mod naming;
 mod number;
 mod pairs;
 mod rule;
