@@ -26,9 +26,17 @@ pub mod DistinctAt
 pub mod Order
 pub mod Repeats
 pub mod Spans
+pub mod Gather
+pub mod LabelIds
+pub mod PairsOf
+pub mod MandatoryPairs
 pub mod Lawful
 pub mod EmptyTables
+pub mod Forgotten
+pub mod Blocks
 pub mod SameTables
 pub mod Assembled
 pub mod DeclaredSymbols
 pub mod Declared
+pub mod Separated
+pub mod NamedTables

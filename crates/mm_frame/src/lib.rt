@@ -11,12 +11,14 @@ mod laws;
 mod lists;
 mod lookups;
 mod names;
+mod naming;
 mod number;
 mod pairs;
 mod rule;
 mod rules;
 mod said;
 mod scopes;
+mod separate;
 mod tables;
 
 pub use answer::{Found, RuleFault, Taken};
