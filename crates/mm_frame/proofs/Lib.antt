@@ -35,3 +35,4 @@ pub mod EmptyTables
 pub mod SameTables
 pub mod Assembled
 pub mod Separated
+pub mod SeparatedTables

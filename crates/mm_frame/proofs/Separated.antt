@@ -150,7 +150,7 @@ is_fresh st a b n r all says fails x y at_x at_y distinct =
     absurd (cc)
 
 -- the name of a member with one of some numbers, and the number of a symbol
-member_name : (names : List (List ℕ)) (members : List Sym) (symbols : List (List ℕ)) (u : ℕ) (a : Sym) → map (slice_get names) (map (λ n. n.0) members) ≡ map Some symbols → slice_get members u ≡ Some a
+pub member_name : (names : List (List ℕ)) (members : List Sym) (symbols : List (List ℕ)) (u : ℕ) (a : Sym) → map (slice_get names) (map (λ n. n.0) members) ≡ map Some symbols → slice_get members u ≡ Some a
     → (x : List ℕ) × (slice_get symbols u ≡ Some x) × (slice_get names a.0 ≡ Some x)
 member_name names [] symbols u a are there = absurd (cc)
 member_name names (m ∷ members) [] u a are there = absurd (cc)
