@@ -34,5 +34,7 @@ pub mod Lawful
 pub mod EmptyTables
 pub mod SameTables
 pub mod Assembled
+pub mod DeclaredSymbols
+pub mod Declared
 pub mod Separated
 pub mod SeparatedTables

@@ -19,4 +19,5 @@ pub mod Told
 pub mod Laws
 pub mod FrameSeen
 pub mod Grows
+pub mod Declaring
 pub mod Separated
