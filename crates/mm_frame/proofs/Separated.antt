@@ -249,6 +249,7 @@ new_from_paired st s symbols members pairs all kind meant numbers are = record {
   where
     stand : StandOnce members
     stand = members_once st s members kind meant numbers
+
     only : (k : ℕ) (span : Stated) (pair : ℕ × ℕ) → slice_get pairs k ≡ Some pair → stated_at (length st) pair ≡ span → (span.place ≡ length st) × (span.pair.0 < span.pair.1) × (x : List ℕ) × (y : List ℕ)
         × (slice_get symbols span.pair.0 ≡ Some x) × (slice_get symbols span.pair.1 ≡ Some y) × Contains s.symbols x × Contains s.symbols y × ¬ (IsDistinct st x y)
     only k span pair there is =

@@ -78,7 +78,7 @@ appended t v s members pairs bytes tables are new =
     let names = t.symbols.names in
     let whole : names ++ [] ≡ names = append-nil names in
     let numbers : map (slice_get names) (map (λ n. n.0) members) ≡ map Some s.symbols =
-        subst (λ (ns : List (List ℕ)). map (slice_get ns) (map (λ n. n.0) members) ≡ map Some s.symbols) (sym tables.infos.all) new.numbered in
+    subst (λ (ns : List (List ℕ)). map (slice_get ns) (map (λ n. n.0) members) ≡ map Some s.symbols) (sym tables.infos.all) new.numbered in
     let flat = t.flat.items ++ members in
     let part : slice_range flat (length t.flat.items) (length flat) ≡ members = end_part t.flat.items members in
     let size = length-append t.flat.items members in
@@ -110,13 +110,13 @@ grown t v s members pairs bytes tables are new paired =
     let labels : AreLabels (st ++ s ∷ []) v.labels.names v.named.items v.log.items = rw (are.labels, are.named, are.log) (labels_none st t.labels.names t.named.items t.log.items s _ tables.labels new.label refl size) in
     let essentials : AreEssentials (st ++ s ∷ []) v.essentials.items = rw are.essentials (essentials_other st t.essentials.items s tables.essentials supposes closes) in
     let others : AreFrames (st ++ s ∷ []) (t.hypotheses.items ++ []) (t.pairs.items ++ []) t.named.items =
-        frames_other st s t.hypotheses.items [] t.pairs.items [] t.named.items (placed st t.labels.names t.named.items t.log.items tables.labels) tables.frames in
+    frames_other st s t.hypotheses.items [] t.pairs.items [] t.named.items (placed st t.labels.names t.named.items t.log.items tables.labels) tables.frames in
     let hypotheses : v.hypotheses.items ≡ t.hypotheses.items ++ [] = are.hypotheses ∙ sym (append-nil t.hypotheses.items) in
     let distinct : v.pairs.items ≡ t.pairs.items ++ [] = are.pairs ∙ sym (append-nil t.pairs.items) in
     let frames : AreFrames (st ++ s ∷ []) v.hypotheses.items v.pairs.items v.named.items = rw (hypotheses, distinct, are.named) others in
     let stated : AreStated (st ++ s ∷ []) v.symbols.names v.distinct.stated = rw (are.symbols, are.stated)
-        (stated_push st s t.symbols.names t.distinct.stated (map (stated_at (length st)) pairs) tables.infos.all tables.stated new.kind
-        (new_from_paired st s t.symbols.names members pairs tables.infos.all new.kind new.meant new.numbered paired)) in
+    (stated_push st s t.symbols.names t.distinct.stated (map (stated_at (length st)) pairs) tables.infos.all tables.stated new.kind
+    (new_from_paired st s t.symbols.names members pairs tables.infos.all new.kind new.meant new.numbered paired)) in
     record { infos = infos; labels = labels; scopes = are.scopes s new.kind; essentials = essentials; frames = frames; stated = stated }
 
 -- The lists hold the `$d`.
