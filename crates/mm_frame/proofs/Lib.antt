@@ -40,3 +40,4 @@ pub mod DeclaredSymbols
 pub mod Declared
 pub mod Separated
 pub mod NamedTables
+pub mod SeparatedTables
