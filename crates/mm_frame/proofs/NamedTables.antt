@@ -307,3 +307,12 @@ known_info t n x are at =
     let lt = slice_get_within t.symbols.names n.0 x at in
     let size = are.infos.informed in
     get_within t.infos.items n.0 (omega arith)
+
+-- what is noted of a symbol, by lists, numbers and places that are the same
+pub noted : (old told new : List SymbolInfo) (m n : Sym) (info : SymbolInfo) (p q : ℕ) → old ≡ told → m ≡ n → p ≡ q → slice_get told n.0 ≡ Some info
+    → ((i : SymbolInfo) → slice_get old m.0 ≡ Some i → new ≡ set old m.0 (record i { floating = Some p })) → new ≡ set told n.0 (record info { floating = Some q })
+noted old told new m n info p q same is place there tells =
+    tells info (rw (same, is) there)
+    ∙ ap (λ xs. set xs m.0 (record info { floating = Some p })) same
+    ∙ ap (λ (k : Sym). set told k.0 (record info { floating = Some p })) is
+    ∙ ap (λ r. set told n.0 (record info { floating = Some r })) place
