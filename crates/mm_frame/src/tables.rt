@@ -5,7 +5,7 @@ ghost use Rattle.std.specs.Prelude.{◌≡◌, ◌≤◌, length, slice_range};
 use crate::lists::at;
 use crate::names::Names;
 use crate::number::{LabelId, Sym};
-use crate::pairs::Pairs;
+use crate::pairs::{Pairs, in_order};
 use crate::scopes::Scopes;
 use mm_text::Kind;
 use std::alloc::{AllocError, Global};
@@ -158,10 +158,13 @@ impl<'a> Tables<'a> {
                 × IsNumberOf (statements_of self.now) x n.0) }
     {
         match at(&self.log, place) {
-            Some(entry) => match part_of(&self.flat, entry.symbols) {
-                [_, variable] if entry.kind == Kind::Floating => Some(*variable),
-                _ => None,
-            },
+            Some(entry) => {
+                if entry.kind == Kind::Floating {
+                    at(self.symbols_at(place), 1)
+                } else {
+                    None
+                }
+            }
             None => None,
         }
     }
@@ -182,8 +185,11 @@ impl<'a> Tables<'a> {
             → IsNumberOf (statements_of self.now) y b.0 → at ≤ length (statements_of self.now)
             → (IsTrue result ↔ IsDistinct (take at (statements_of self.now)) x y) }
     {
-        match self.distinct.latest(crate::pairs::in_order(a.0, b.0), at) {
-            Some(place) => a != b && self.scopes.is_active(place, at),
+        if a.0 == b.0 {
+            return false;
+        }
+        match self.distinct.latest(in_order(a.0, b.0), at) {
+            Some(place) => self.scopes.is_active(place, at),
             None => false,
         }
     }

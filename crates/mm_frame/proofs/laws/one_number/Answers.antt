@@ -1,3 +1,4 @@
+use Rattle.mm_frame.proofs.MandatoryPairs.{found_none}
 use Rattle.mm_frame.proofs.Order.{first_at}
 use Rattle.mm_frame.proofs.Repeats.{twice_none}
 use Rattle.mm_frame.proofs.DistinctAt.{stated_push}
