@@ -148,9 +148,9 @@ impl<'a> Tables<'a> {
         let places = mandatory(self, numbers)?;
         let hypotheses = label_ids(self, &places)?;
         let pairs = mandatory_pairs(self, &places)?;
+        self.reserve(numbers.len())?;
         self.hypotheses.reserve(hypotheses.len())?;
         self.pairs.reserve(pairs.len())?;
-        self.reserve(numbers.len())?;
         let hypotheses = add_part(&mut self.hypotheses, &hypotheses);
         let pairs = add_part(&mut self.pairs, &pairs);
         let id = self.name(kind, label, numbers, (hypotheses, pairs), bytes);
