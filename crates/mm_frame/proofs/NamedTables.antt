@@ -21,7 +21,8 @@ use Rattle.mm_frame.specs.declared.rule.MeaningRule.TheVariants.{M5}
 use Rattle.mm_frame.specs.Form.{IsFormedSentence}
 use Rattle.mm_frame.specs.Numbers.{AreNumbers, labelled, symbols_of, with_name, declared_by, declared_in}
 use Rattle.mm_frame.specs.ScopesOf.{HaveScopes, HaveSameLists}
-use Rattle.mm_frame.specs.Taken.{next_id}
+use Rattle.mm_frame.specs.Taken.{next_id, TakenAs}
+use Rattle.mm_frame.specs.declared.answer.Taken.TheVariants.{Assertion}
 use Rattle.mm_frame.specs.Layout.{AreTables, AreInfos, AreLabels, AreEssentials, AreFrames, AreStated, IsFrameInfo, IsWithin, names_by, label_by, sentence_by, statements_of}
 use Rattle.mm_frame.specs.Grows.{Grows, SameLists, entry_of}
 use Rattle.mm_frame.specs.Naming.{Named, label_info, part_after}
@@ -337,3 +338,10 @@ framed t s places a b are at ids pairs =
       are_pairs = subst (λ n. ArePairs (at_place (st ++ s ∷ []) n) (map (λ pair. (pair.0.0, pair.1.0)) (slice_range (t.pairs.items ++ b) (length t.pairs.items) (length (t.pairs.items ++ b))))) size
           (subst (λ (ps : List (Sym × Sym)). ArePairs (at_place (st ++ s ∷ []) (length st)) (map (λ pair. (pair.0.0, pair.1.0)) ps)) (sym (added_part t.pairs.items b)) pairs);
     }
+
+-- what an assertion is taken as
+pub assertion_taken : (t : Tables) (kind : Kind) (id : LabelId) → AreTables t → IsAssertion kind → id.0 ≡ length t.labels.names → TakenAs (statements_of t) kind (Assertion id)
+assertion_taken t kind id are which is = elim which [
+  | inl one ↦ subst (λ k. TakenAs (statements_of t) k (Assertion id)) (sym one) (ap Assertion (next_number t id are is))
+  | inr other ↦ subst (λ k. TakenAs (statements_of t) k (Assertion id)) (sym other) (ap Assertion (next_number t id are is))
+]
