@@ -1,11 +1,11 @@
-use Rattle.std.proofs.Common.{◌≡◌, refl, sym, ap, ◌∙◌, subst, inl, inr, length, [], ◌++◌}
+use Rattle.std.proofs.Common.{◌≡◌, refl, sym, ap, ◌∙◌, subst, inl, inr, length, [], ◌∷◌, ◌++◌}
 use Rattle.mm_text.specs.declared.statement.Kind.{Kind}
 use Rattle.mm_frame.specs.Sentence.{Sentence, IsStated, IsAssertion}
 use Rattle.mm_frame.specs.declared.answer.Taken.TheVariants.{Assertion}
 use Rattle.mm_frame.specs.Grows.{IsSame}
-use Rattle.mm_frame.specs.Layout.{statements_of}
+use Rattle.mm_frame.specs.Layout.{IsFrameInfo, statements_of}
 use Rattle.mm_frame.specs.Gathered.{ArePlaces}
-use Rattle.mm_frame.specs.Naming.{Named, part_after}
+use Rattle.mm_frame.specs.Naming.{label_info}
 use Rattle.mm_frame.proofs.SameTables.{same_tables}
 use Rattle.mm_frame.proofs.NamedTables.{few_labels, assertion_taken, before_same, asserted, framed, on_err}
 use Rattle.mm_frame.proofs.tables.Tables.assert.Goals as goal
@@ -50,7 +50,10 @@ returns-clause-ok c =
         let places = c.in_ok-places.ensures s meant stated numbered in
         let first : ArePlaces st s c.deref.result.now = rw c.deref.ensures.value places in
         let second : ArePlaces st s c.deref-2.result.now = rw c.deref-2.ensures.value places in
-        asserted t _ c.name-id.new.self s c.args.kind c.args.label.now c.args.numbers.now (part_after t.hypotheses.items ids, part_after t.pairs.items pairs) c.name-id.result ids pairs c.args.bytes
+        let framed_at : IsFrameInfo (st ++ s ∷ []) (t.hypotheses.items ++ ids) (t.pairs.items ++ pairs) (label_info (length t.log.items) (c.add_part-hypotheses.result, c.add_part-pairs.result)) =
+            rw (c.add_part-hypotheses.ensures.part, c.add_part-pairs.ensures.part, old_hypotheses, old_pairs, c.deref-3.ensures.value, c.deref-4.ensures.value)
+            (framed t s c.deref.result.now ids pairs c.requires.tables first (c.in_ok-hypotheses.ensures s first) (c.in_ok-pairs.ensures s [] meant stated second)) in
+        asserted t _ c.name-id.new.self s c.args.kind c.args.label.now c.args.numbers.now (c.add_part-hypotheses.result, c.add_part-pairs.result) c.name-id.result ids pairs c.args.bytes
         c.requires.tables c.requires.kind
         (record {
             symbols = b.symbols; labels = b.labels; named = b.named; log = b.log; flat = b.flat; scopes = b.scopes;
@@ -59,8 +62,8 @@ returns-clause-ok c =
             stated = b.stated; bytes = b.bytes;
         })
         same.infos same.essentials
-        (subst (λ frame. Named _ c.name-id.new.self c.args.kind c.args.label.now c.args.numbers.now frame c.name-id.result c.args.bytes) ? c.name-id.ensures.named)
+        c.name-id.ensures.named
         c.name-id.ensures.id
         (record { kinds = kind; label = label; numbered = numbered; meant = meant; formed = formed })
-        (framed t s c.deref.result.now ids pairs c.requires.tables first (c.in_ok-hypotheses.ensures s first) (c.in_ok-pairs.ensures s [] meant stated second))
+        framed_at
         c.requires.enough c.requires.room)
