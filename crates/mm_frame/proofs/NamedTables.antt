@@ -21,10 +21,14 @@ use Rattle.mm_frame.specs.declared.rule.MeaningRule.TheVariants.{M5}
 use Rattle.mm_frame.specs.Form.{IsFormedSentence}
 use Rattle.mm_frame.specs.Numbers.{AreNumbers, labelled, symbols_of, with_name, declared_by, declared_in}
 use Rattle.mm_frame.specs.ScopesOf.{HaveScopes, HaveSameLists}
-use Rattle.mm_frame.specs.Taken.{next_id}
+use Rattle.mm_frame.specs.Taken.{next_id, TakenAs}
+use Rattle.mm_frame.specs.declared.answer.Taken.TheVariants.{Assertion}
 use Rattle.mm_frame.specs.Layout.{AreTables, AreInfos, AreLabels, AreEssentials, AreFrames, AreStated, IsFrameInfo, IsWithin, names_by, label_by, sentence_by, statements_of}
 use Rattle.mm_frame.specs.Grows.{Grows, SameLists, entry_of}
-use Rattle.mm_frame.specs.Naming.{Named, label_info}
+use Rattle.mm_frame.specs.Naming.{Named, label_info, part_after}
+use Rattle.mm_frame.specs.FramePlace.{AreHypotheses, ArePairs}
+use Rattle.mm_frame.specs.Gathered.{ArePlaces}
+use Rattle.mm_frame.proofs.FrameOf.{numbers_at, hypotheses_from_places}
 use Rattle.mm_frame.proofs.Pushed.{get_pushed, get_within}
 use Rattle.mm_frame.proofs.LookupLaws.{label_number}
 use Rattle.mm_frame.proofs.Numbered.{contains_from_at, with_name_cases, symbols_push}
@@ -32,7 +36,7 @@ use Rattle.mm_frame.proofs.Labelled.{labelled_few}
 use Rattle.mm_frame.proofs.Labels.{labels_counted, labels_some, essentials_essential, essentials_other}
 use Rattle.mm_frame.proofs.Infos.{infos_other, infos_floating}
 use Rattle.mm_frame.proofs.Entries.{length-sentences}
-use Rattle.mm_frame.proofs.FrameLaws.{stated_other, placed, frames_hypothesis, frames_assertion}
+use Rattle.mm_frame.proofs.FrameLaws.{at_place, stated_other, placed, frames_hypothesis, frames_assertion}
 use Rattle.mm_frame.proofs.Assembled.{AreAppended, AreGrown, assembled}
 
 -- there are fewer labels than numbers for them
@@ -307,3 +311,37 @@ known_info t n x are at =
     let lt = slice_get_within t.symbols.names n.0 x at in
     let size = are.infos.informed in
     get_within t.infos.items n.0 (omega arith)
+
+-- what is noted of a symbol, by lists, numbers and places that are the same
+pub noted : (old told new : List SymbolInfo) (m n : Sym) (info : SymbolInfo) (p q : ℕ) → old ≡ told → m ≡ n → p ≡ q → slice_get told n.0 ≡ Some info
+    → ((i : SymbolInfo) → slice_get old m.0 ≡ Some i → new ≡ set old m.0 (record i { floating = Some p })) → new ≡ set told n.0 (record info { floating = Some q })
+noted old told new m n info p q same is place there tells =
+    tells info (rw (same, is) there)
+    ∙ ap (λ xs. set xs m.0 (record info { floating = Some p })) same
+    ∙ ap (λ (k : Sym). set told k.0 (record info { floating = Some p })) is
+    ∙ ap (λ r. set told n.0 (record info { floating = Some r })) place
+
+-- the frame of a new assertion, at the ends of the lists of hypotheses and of pairs
+pub framed : (t : Tables) (s : Sentence) (places : List ℕ) (a : List LabelId) (b : List (Sym × Sym)) → AreTables t → ArePlaces (statements_of t) s places
+    → map (λ id. id.0) a ≡ numbers_at (statements_of t) places → ArePairs (at_place (statements_of t ++ s ∷ []) (length (statements_of t))) (map (λ pair. (pair.0.0, pair.1.0)) b)
+    → IsFrameInfo (statements_of t ++ s ∷ []) (t.hypotheses.items ++ a) (t.pairs.items ++ b) (label_info (length t.log.items) (part_after t.hypotheses.items a, part_after t.pairs.items b))
+framed t s places a b are at ids pairs =
+    let st = statements_of t in
+    let size = length-sentences t.symbols.names t.labels.names t.flat.items t.log.items in
+    let hs : AreHypotheses (at_place (st ++ s ∷ []) (length st)) (map (λ id. id.0) a) =
+        subst (AreHypotheses (at_place (st ++ s ∷ []) (length st))) (sym ids) (hypotheses_from_places st places s [] are.sound.1 at) in
+    record {
+      hypotheses_in = record { ordered = added_within t.hypotheses.items a; within = omega arith };
+      pairs_in = record { ordered = added_within t.pairs.items b; within = omega arith };
+      are_hypotheses = subst (λ n. AreHypotheses (at_place (st ++ s ∷ []) n) (map (λ id. id.0) (slice_range (t.hypotheses.items ++ a) (length t.hypotheses.items) (length (t.hypotheses.items ++ a))))) size
+          (subst (λ (ids : List LabelId). AreHypotheses (at_place (st ++ s ∷ []) (length st)) (map (λ id. id.0) ids)) (sym (added_part t.hypotheses.items a)) hs);
+      are_pairs = subst (λ n. ArePairs (at_place (st ++ s ∷ []) n) (map (λ pair. (pair.0.0, pair.1.0)) (slice_range (t.pairs.items ++ b) (length t.pairs.items) (length (t.pairs.items ++ b))))) size
+          (subst (λ (ps : List (Sym × Sym)). ArePairs (at_place (st ++ s ∷ []) (length st)) (map (λ pair. (pair.0.0, pair.1.0)) ps)) (sym (added_part t.pairs.items b)) pairs);
+    }
+
+-- what an assertion is taken as
+pub assertion_taken : (t : Tables) (kind : Kind) (id : LabelId) → AreTables t → IsAssertion kind → id.0 ≡ length t.labels.names → TakenAs (statements_of t) kind (Assertion id)
+assertion_taken t kind id are which is = elim which [
+  | inl one ↦ subst (λ k. TakenAs (statements_of t) k (Assertion id)) (sym one) (ap Assertion (next_number t id are is))
+  | inr other ↦ subst (λ k. TakenAs (statements_of t) k (Assertion id)) (sym other) (ap Assertion (next_number t id are is))
+]
