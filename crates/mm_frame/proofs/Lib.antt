@@ -11,6 +11,7 @@ pub mod LookupLaws
 pub mod SymbolsAt
 pub mod Places
 pub mod Symbols
+pub mod RepeatsCode
 pub mod Numbered
 pub mod Labelled
 pub mod Those
@@ -30,3 +31,8 @@ pub mod LabelIds
 pub mod PairsOf
 pub mod MandatoryPairs
 pub mod Lawful
+pub mod EmptyTables
+pub mod SameTables
+pub mod Assembled
+pub mod DeclaredSymbols
+pub mod Declared

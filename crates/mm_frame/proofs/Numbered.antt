@@ -72,7 +72,7 @@ once_pushed xs y once absent i j x at_i at_j = elim (pushed_cases xs y i x at_i)
   ]
 ]
 
-once_with_name : (names : List (List ℕ)) (name : List ℕ) → StandOnce names → StandOnce (with_name names name)
+pub once_with_name : (names : List (List ℕ)) (name : List ℕ) → StandOnce names → StandOnce (with_name names name)
 once_with_name names name once = elim (with_name_cases names name) [
   | inl (found, same) ↦ subst (λ (xs : List (List ℕ)). StandOnce xs) (sym same) once
   | inr (absent, longer) ↦ subst (λ (xs : List (List ℕ)). StandOnce xs) (sym longer) (once_pushed names name once absent)

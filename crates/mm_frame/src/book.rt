@@ -1,5 +1,21 @@
 //! A book: the statements that were taken, by numbers.
 
+ghost use Rattle.std.specs.Prelude.{◌≡◌, ◌↔◌, ℕ, ◌+◌, ◌-◌, ◌<◌, ◌≤◌, List, [], ◌∷◌, ◌++◌, IsTrue, IfOk, IfErr, OnErr, Err, length, map, take, sum_by};
+ghost use Rattle.mm_text.specs.declared.statement.Kind.TheVariants.{Closing};
+ghost use Rattle.mm_text.specs.Statement.{plain_statement, HasForm, bytes_in};
+ghost use Rattle.mm_frame.specs.declared.rule.MeaningRule.{MeaningRule};
+ghost use Rattle.mm_frame.specs.declared.answer.RuleFault.TheVariants.{Rule, Memory};
+ghost use Rattle.mm_frame.specs.Sentence.{Sentence, said_by, IsLabelled, IsAssertion};
+ghost use Rattle.mm_frame.specs.Active.{IsActive, IsVariable, openings, closings};
+ghost use Rattle.mm_frame.specs.Rules.{IsMeant, FirstBroken};
+ghost use Rattle.mm_frame.specs.Form.{IsSound};
+ghost use Rattle.mm_frame.specs.Frame.{IsDistinct};
+ghost use Rattle.mm_frame.specs.Numbers.{symbols_of, IsNumberOf, AreNumbers, IsNumbered, IsAssertionNumber};
+ghost use Rattle.mm_frame.specs.Found.{Finds};
+ghost use Rattle.mm_frame.specs.Taken.{TakenAs, kind_behind};
+ghost use Rattle.mm_frame.specs.FramePlace.{AreHypotheses, ArePairs};
+ghost use Rattle.mm_frame.specs.FrameSeen.{frame_place, IsFrame};
+
 use crate::answer::{Found, RuleFault, Taken};
 use crate::frame::Frame;
 use crate::number::{LabelId, LabelKind, Sym};
@@ -7,6 +23,7 @@ use crate::rules::first_broken;
 use crate::tables::{Tables, part_of};
 use mm_text::{Kind, Statement, Token};
 use std::alloc::Global;
+use std::marker::Model;
 
 /// The statements of a database as far as they were taken, and what they say of each symbol, label
 /// and assertion.
@@ -16,7 +33,10 @@ pub struct Book<'a> {
 }
 
 // How many bytes some tokens have.
-fn bytes_of_all(tokens: &[Token]) -> u64 {
+fn bytes_of_all(tokens: &[Token]) -> u64
+    requires { sum_by (λ t. length t.text.now) tokens.now ≤ 1073741824 }
+    ensures { result ≡ sum_by (λ t. length t.text.now) tokens.now }
+{
     let mut bytes = 0;
     for token in tokens {
         bytes += token.text.len() as u64;
@@ -25,15 +45,32 @@ fn bytes_of_all(tokens: &[Token]) -> u64 {
 }
 
 // How many bytes the tokens of a statement have.
-fn bytes_of(statement: &Statement) -> u64 {
+fn bytes_of(statement: &Statement) -> u64
+    requires { bytes_in (plain_statement statement.now) ≤ 1073741824 }
+    ensures { result ≡ bytes_in (plain_statement statement.now) }
+{
     statement.first.text.len() as u64
         + bytes_of_all(&statement.symbols)
         + bytes_of_all(&statement.proof)
 }
 
+impl<'a> Model for Book<'a> {
+    ghost use Rattle.mm_frame.specs.Database.{Database};
+    ghost use Rattle.mm_frame.specs.Layout.{AreTables, database_of};
+
+    ghost Value = { Database };
+
+    ghost view = { λ b. database_of b.tables };
+
+    ghost invariant = { λ b. AreTables b.tables };
+}
+
 impl<'a> Book<'a> {
     /// A book of no statements.
-    pub fn new(alloc: Global) -> Result<Book<'a>, RuleFault> {
+    pub fn new(alloc: Global) -> Result<Book<'a>, RuleFault>
+        ensures ok { IfOk result (λ book. book ≡ record { statements = []; bytes = 0 }) }
+        ensures memory { IfErr result (λ fault. fault ≡ Memory) }
+    {
         match Tables::new(alloc) {
             Ok(tables) => Ok(Book { tables }),
             Err(_) => Err(RuleFault::Memory),
@@ -42,33 +79,50 @@ impl<'a> Book<'a> {
 
     /// Takes the next statement in, unless it breaks a rule of meaning (the Metamath book, sections
     /// 4.2.1 to 4.2.8). A refused statement leaves the book as it was.
-    pub fn take(&mut self, statement: &Statement<'a>) -> Result<Taken, RuleFault> {
+    pub fn take(&mut self, statement: &Statement<'a>) -> Result<Taken, RuleFault>
+        requires formed { HasForm (plain_statement statement.now) }
+        requires closes { statement.now.kind ≡ Closing
+            → closings self.old.statements < openings self.old.statements }
+        requires room { self.old.bytes + bytes_in (plain_statement statement.now) ≤ 1073741824 }
+        ensures ok { IfOk result (λ taken. IsMeant self.old.statements (said_by statement.now)
+            × (self.new ≡ record {
+                statements = self.old.statements ++ said_by statement.now ∷ [];
+                bytes = self.old.bytes + bytes_in (plain_statement statement.now);
+            })
+            × TakenAs self.old.statements statement.now.kind taken) }
+        ensures rule { (broken : MeaningRule) → result ≡ Err (Rule broken)
+            → FirstBroken broken self.old.statements (said_by statement.now) }
+        ensures unchanged { OnErr result (self.new ≡ self.old) }
+    {
         match first_broken(&self.tables, statement) {
             Ok(None) => {}
             Ok(Some(rule)) => return Err(RuleFault::Rule(rule)),
             Err(_) => return Err(RuleFault::Memory),
         }
-        match self.tables.grow(statement) {
-            Ok(taken) => {
-                self.tables.bytes += bytes_of(statement);
-                Ok(taken)
-            }
+        match self.tables.grow(statement, bytes_of(statement)) {
+            Ok(taken) => Ok(taken),
             Err(_) => Err(RuleFault::Memory),
         }
     }
 
     /// How many blocks are open.
-    pub fn depth(&self) -> usize {
+    pub fn depth(&self) -> usize
+        ensures { result ≡ openings self.now.statements - closings self.now.statements }
+    {
         self.tables.scopes.depth()
     }
 
     /// How many bytes the tokens of the statements have.
-    pub fn bytes(&self) -> u64 {
+    pub fn bytes(&self) -> u64
+        ensures { result ≡ self.now.bytes }
+    {
         self.tables.bytes
     }
 
     /// What stands under a label.
-    pub fn find(&self, label: &[u8]) -> Found {
+    pub fn find(&self, label: &[u8]) -> Found
+        ensures { Finds self.now.statements label.now result }
+    {
         match self.tables.labels.find(label) {
             Some(number) => self.found(LabelId(number)),
             None => Found::None,
@@ -87,7 +141,11 @@ impl<'a> Book<'a> {
     }
 
     // Whether a labelled statement is active after the statements before a place.
-    pub(crate) fn is_active(&self, id: LabelId, at: usize) -> bool {
+    pub(crate) fn is_active(&self, id: LabelId, at: usize) -> bool
+        requires within { at ≤ length self.now.statements }
+        ensures { (place : ℕ) (s : Sentence) → IsNumbered self.now.statements id.0 place s
+            → (IsTrue result ↔ IsActive (take at self.now.statements) place) }
+    {
         match self.tables.label_info(id) {
             Some(info) => info.place < at && self.tables.scopes.is_active(info.place, at),
             None => false,
@@ -95,12 +153,18 @@ impl<'a> Book<'a> {
     }
 
     /// The name of a symbol.
-    pub fn name(&self, symbol: Sym) -> &'a [u8] {
+    pub fn name(&self, symbol: Sym) -> &'a [u8]
+        requires { symbol.0 < length (symbols_of self.now.statements) }
+        ensures { IsNumberOf self.now.statements result.now symbol.0 }
+    {
         self.tables.symbols.name(symbol.0).unwrap_or(&[])
     }
 
     /// Whether a symbol is a variable.
-    pub fn is_variable(&self, symbol: Sym) -> bool {
+    pub fn is_variable(&self, symbol: Sym) -> bool
+        ensures { (x : List ℕ) → IsNumberOf self.now.statements x symbol.0
+            → (IsTrue result ↔ IsVariable self.now.statements x) }
+    {
         match self.tables.info(symbol) {
             Some(info) => info.variable.is_some(),
             None => false,
@@ -108,12 +172,18 @@ impl<'a> Book<'a> {
     }
 
     /// A label.
-    pub fn label(&self, id: LabelId) -> &'a [u8] {
+    pub fn label(&self, id: LabelId) -> &'a [u8]
+        ensures { (place : ℕ) (s : Sentence) → IsNumbered self.now.statements id.0 place s
+            → IsLabelled result.now s }
+    {
         self.tables.labels.name(id.0).unwrap_or(&[])
     }
 
     // The place of a labelled statement.
-    fn place(&self, id: LabelId) -> usize {
+    fn place(&self, id: LabelId) -> usize
+        ensures { (place : ℕ) (s : Sentence) → IsNumbered self.now.statements id.0 place s
+            → result ≡ place }
+    {
         match self.tables.label_info(id) {
             Some(info) => info.place,
             None => 0,
@@ -121,12 +191,18 @@ impl<'a> Book<'a> {
     }
 
     /// The symbols of a labelled statement.
-    pub fn expression(&self, id: LabelId) -> &[Sym] {
+    pub fn expression(&self, id: LabelId) -> &[Sym]
+        ensures { (place : ℕ) (s : Sentence) → IsNumbered self.now.statements id.0 place s
+            → AreNumbers self.now.statements (map (λ n. n.0) result.now) s.symbols }
+    {
         self.tables.symbols_at(self.place(id))
     }
 
     /// The kind of a labelled statement.
-    pub fn kind(&self, id: LabelId) -> LabelKind {
+    pub fn kind(&self, id: LabelId) -> LabelKind
+        ensures { (place : ℕ) (s : Sentence) → IsNumbered self.now.statements id.0 place s
+            → s.kind ≡ kind_behind result }
+    {
         match self.tables.log.get(self.place(id)) {
             Some(entry) => match entry.kind {
                 Kind::Floating => LabelKind::Floating,
@@ -139,7 +215,14 @@ impl<'a> Book<'a> {
     }
 
     /// The frame of an assertion (the Metamath book, section 4.2.7).
-    pub fn frame(&self, id: LabelId) -> Frame<'_, 'a> {
+    pub fn frame(&self, id: LabelId) -> Frame<'_, 'a>
+        requires { IsAssertionNumber self.now.statements id.0 }
+        ensures same { (frame_place result).statements ≡ self.now.statements }
+        ensures place { (s : Sentence) × IsNumbered self.now.statements id.0 (frame_place result).place s
+            × IsAssertion s.kind }
+        ensures frame { IsFrame result }
+        ensures sound { IsSound self.now.statements }
+    {
         Frame {
             book: self,
             id,
@@ -147,8 +230,23 @@ impl<'a> Book<'a> {
         }
     }
 
+    // Whether two symbols are a distinct pair after the statements before a place.
+    pub(crate) fn is_distinct(&self, a: Sym, b: Sym, at: usize) -> bool
+        requires { at ≤ length self.now.statements }
+        ensures { (x y : List ℕ) → IsNumberOf self.now.statements x a.0
+            → IsNumberOf self.now.statements y b.0
+            → (IsTrue result ↔ IsDistinct (take at self.now.statements) x y) }
+    {
+        self.tables.is_distinct(a, b, at)
+    }
+
     // The mandatory hypotheses of an assertion.
-    pub(crate) fn hypotheses(&self, id: LabelId) -> &[LabelId] {
+    pub(crate) fn hypotheses(&self, id: LabelId) -> &[LabelId]
+        ensures { (place : ℕ) (s : Sentence) → IsNumbered self.now.statements id.0 place s
+            → IsAssertion s.kind → AreHypotheses
+                (record { statements = self.now.statements; place = place })
+                (map (λ h. h.0) result.now) }
+    {
         match self.tables.label_info(id) {
             Some(info) => part_of(&self.tables.hypotheses, info.hypotheses),
             None => &[],
@@ -156,7 +254,12 @@ impl<'a> Book<'a> {
     }
 
     // The mandatory distinct pairs of an assertion.
-    pub(crate) fn pairs(&self, id: LabelId) -> &[(Sym, Sym)] {
+    pub(crate) fn pairs(&self, id: LabelId) -> &[(Sym, Sym)]
+        ensures { (place : ℕ) (s : Sentence) → IsNumbered self.now.statements id.0 place s
+            → IsAssertion s.kind → ArePairs
+                (record { statements = self.now.statements; place = place })
+                (map (λ pair. (pair.0.0, pair.1.0)) result.now) }
+    {
         match self.tables.label_info(id) {
             Some(info) => part_of(&self.tables.pairs, info.pairs),
             None => &[],

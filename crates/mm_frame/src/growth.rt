@@ -1,12 +1,25 @@
 //! Taking a statement that breaks no rule into the lists: room is made first, so that nothing can
 //! fail once something is written.
 
+ghost use Rattle.std.specs.Prelude.{◌≡◌, ◌+◌, ◌<◌, ◌≤◌, [], ◌∷◌, None, IfOk, OnErr, OnOk, vec_len, vec_capacity};
+ghost use Rattle.mm_text.specs.declared.statement.Kind.TheVariants.{Opening, Closing};
+ghost use Rattle.mm_text.specs.Statement.{plain_statement, HasForm, bytes_in};
+ghost use Rattle.mm_frame.specs.Sentence.{Sentence, said_by};
+ghost use Rattle.mm_frame.specs.Active.{openings, closings};
+ghost use Rattle.mm_frame.specs.Rules.{IsMeant};
+ghost use Rattle.mm_frame.specs.Taken.{TakenAs};
+ghost use Rattle.mm_frame.specs.Layout.{AreTables, statements_of};
+ghost use Rattle.mm_frame.specs.Grows.{Grows, IsSame, SameLists, HaveRoom, Entered};
+ghost use Rattle.mm_frame.specs.ScopesOf.{HasRoom};
+ghost use Rattle.mm_frame.specs.Form.{IsFormedSentence};
+ghost use Rattle.mm_frame.specs.declared.answer.Taken.TheVariants.{Opened};
+
 use crate::answer::Taken;
 use crate::framing::{label_ids, mandatory, mandatory_pairs};
 use crate::lists::put;
 use crate::number::{LabelId, Sym};
 use crate::pairs::in_order;
-use crate::tables::{Entry, LabelInfo, Part, SymbolInfo, Tables};
+use crate::tables::{Entry, LabelInfo, Part, Tables};
 use mm_text::{Kind, Statement, Token};
 use std::alloc::AllocError;
 
@@ -27,7 +40,10 @@ impl<'a> Tables<'a> {
     }
 
     // Makes room for a statement of so many symbols, and for its label.
-    fn reserve(&mut self, symbols: usize) -> Result<(), AllocError> {
+    pub(crate) fn reserve(&mut self, symbols: usize) -> Result<(), AllocError>
+        ensures same { SameLists self.old self.new }
+        ensures room { OnOk result (HaveRoom self.new symbols) }
+    {
         self.log.reserve(1)?;
         self.flat.reserve(symbols)?;
         self.essentials.reserve(1)?;
@@ -37,7 +53,12 @@ impl<'a> Tables<'a> {
     }
 
     // Writes the entry of a statement whose symbols stand at the end of the list of symbols.
-    fn enter(&mut self, kind: Kind, label: Option<LabelId>, start: usize) {
+    pub(crate) fn enter(&mut self, kind: Kind, label: Option<LabelId>, start: usize, bytes: u64)
+        requires scopes { HasRoom self.old.scopes }
+        requires log { vec_len self.old.log < vec_capacity self.old.log }
+        requires few { self.old.bytes + bytes ≤ 1073741824 }
+        ensures { Entered self.old self.new kind label start bytes }
+    {
         let symbols = Part {
             start,
             end: self.flat.len(),
@@ -48,21 +69,31 @@ impl<'a> Tables<'a> {
             label,
             symbols,
         });
+        self.bytes += bytes;
     }
 
     // Takes a `${` in.
-    fn open(&mut self) -> Result<Taken, AllocError> {
+    fn open(&mut self, bytes: u64) -> Result<Taken, AllocError>
+        requires tables { AreTables self.old }
+        requires room { self.old.bytes + bytes ≤ 1073741824 }
+        requires some { 1 ≤ bytes }
+        ensures ok { IfOk result (λ taken. (taken ≡ Opened) × ((s : Sentence)
+            → s.kind ≡ Opening → s.label ≡ None → s.symbols ≡ []
+            → IsMeant (statements_of self.old) s → IsFormedSentence s
+            → Grows self.old self.new s bytes)) }
+        ensures err { OnErr result (IsSame self.old self.new) }
+    {
         self.reserve(0)?;
         let start = self.flat.len();
-        self.enter(Kind::Opening, None, start);
+        self.enter(Kind::Opening, None, start, bytes);
         Ok(Taken::Opened)
     }
 
     // Takes a `$}` in: the active `$e` of its block aren't active any more.
-    fn close(&mut self) -> Result<Taken, AllocError> {
+    fn close(&mut self, bytes: u64) -> Result<Taken, AllocError> {
         self.reserve(0)?;
         let start = self.flat.len();
-        self.enter(Kind::Closing, None, start);
+        self.enter(Kind::Closing, None, start, bytes);
         self.forget_inactive();
         Ok(Taken::Closed)
     }
@@ -79,52 +110,6 @@ impl<'a> Tables<'a> {
         }
     }
 
-    // Notes the place of the latest `$v` that declares a symbol.
-    fn note_variable(&mut self, number: u32, variable: Option<usize>) {
-        if let Some(info) = self.infos.get_mut(number as usize) {
-            info.variable = variable;
-        }
-    }
-
-    // Takes a declared symbol in, where it is new.
-    fn declare(&mut self, symbol: &'a [u8], variable: Option<usize>) {
-        match self.symbols.find(symbol) {
-            Some(number) => {
-                if variable.is_some() {
-                    self.note_variable(number, variable);
-                }
-                put(&mut self.flat, Sym(number));
-            }
-            None => {
-                put(&mut self.flat, Sym(self.symbols.len() as u32));
-                self.symbols.add(symbol);
-                put(&mut self.infos, SymbolInfo {
-                    variable,
-                    floating: None,
-                });
-            }
-        }
-    }
-
-    // Takes a `$c` or `$v` in.
-    fn declare_all(&mut self, statement: &Statement<'a>) -> Result<Taken, AllocError> {
-        let place = self.log.len();
-        let start = self.flat.len();
-        self.symbols.reserve(statement.symbols.len())?;
-        self.infos.reserve(statement.symbols.len())?;
-        self.reserve(statement.symbols.len())?;
-        let variable = if statement.kind == Kind::Variables {
-            Some(place)
-        } else {
-            None
-        };
-        for token in &statement.symbols {
-            self.declare(token.text, variable);
-        }
-        self.enter(statement.kind, None, start);
-        Ok(Taken::Declared)
-    }
-
     // Takes the pairs of one member of a `$d` with the members before it in.
     fn separate(&mut self, member: Sym, others: &[Sym], place: usize) {
         for other in others {
@@ -135,7 +120,7 @@ impl<'a> Tables<'a> {
     }
 
     // Takes a `$d` in.
-    fn separate_all(&mut self, numbers: &[Sym]) -> Result<Taken, AllocError> {
+    fn separate_all(&mut self, numbers: &[Sym], bytes: u64) -> Result<Taken, AllocError> {
         let place = self.log.len();
         let start = self.flat.len();
         self.distinct.reserve(numbers.len().saturating_mul(numbers.len()))?;
@@ -144,7 +129,7 @@ impl<'a> Tables<'a> {
         for i in 0..numbers.len() {
             self.separate(numbers[i], &numbers[..i], place);
         }
-        self.enter(Kind::Distinct, None, start);
+        self.enter(Kind::Distinct, None, start, bytes);
         Ok(Taken::Declared)
     }
 
@@ -154,8 +139,8 @@ impl<'a> Tables<'a> {
         kind: Kind,
         label: &'a [u8],
         numbers: &[Sym],
-        hypotheses: Part,
-        pairs: Part,
+        frame: (Part, Part),
+        bytes: u64,
     ) -> LabelId {
         let id = LabelId(self.labels.len() as u32);
         let place = self.log.len();
@@ -164,10 +149,10 @@ impl<'a> Tables<'a> {
         self.labels.add(label);
         put(&mut self.named, LabelInfo {
             place,
-            hypotheses,
-            pairs,
+            hypotheses: frame.0,
+            pairs: frame.1,
         });
-        self.enter(kind, Some(id), start);
+        self.enter(kind, Some(id), start, bytes);
         id
     }
 
@@ -180,20 +165,20 @@ impl<'a> Tables<'a> {
     }
 
     // Takes a `$f` in.
-    fn give_type(&mut self, label: &'a [u8], numbers: &[Sym]) -> Result<Taken, AllocError> {
+    fn give_type(&mut self, label: &'a [u8], numbers: &[Sym], bytes: u64) -> Result<Taken, AllocError> {
         self.reserve(numbers.len())?;
         if let [_, variable] = numbers {
             self.note_floating(*variable);
         }
-        let id = self.name(Kind::Floating, label, numbers, NO_PART, NO_PART);
+        let id = self.name(Kind::Floating, label, numbers, (NO_PART, NO_PART), bytes);
         Ok(Taken::Hypothesis(id))
     }
 
     // Takes a `$e` in.
-    fn suppose(&mut self, label: &'a [u8], numbers: &[Sym]) -> Result<Taken, AllocError> {
+    fn suppose(&mut self, label: &'a [u8], numbers: &[Sym], bytes: u64) -> Result<Taken, AllocError> {
         self.reserve(numbers.len())?;
         put(&mut self.essentials, self.log.len());
-        let id = self.name(Kind::Essential, label, numbers, NO_PART, NO_PART);
+        let id = self.name(Kind::Essential, label, numbers, (NO_PART, NO_PART), bytes);
         Ok(Taken::Hypothesis(id))
     }
 
@@ -203,6 +188,7 @@ impl<'a> Tables<'a> {
         kind: Kind,
         label: &'a [u8],
         numbers: &[Sym],
+        bytes: u64,
     ) -> Result<Taken, AllocError> {
         let places = mandatory(self, numbers)?;
         let hypotheses = label_ids(self, &places)?;
@@ -212,7 +198,7 @@ impl<'a> Tables<'a> {
         self.reserve(numbers.len())?;
         let hypotheses = add_part(&mut self.hypotheses, &hypotheses);
         let pairs = add_part(&mut self.pairs, &pairs);
-        let id = self.name(kind, label, numbers, hypotheses, pairs);
+        let id = self.name(kind, label, numbers, (hypotheses, pairs), bytes);
         Ok(Taken::Assertion(id))
     }
 
@@ -222,30 +208,46 @@ impl<'a> Tables<'a> {
         kind: Kind,
         label: &'a [u8],
         numbers: &[Sym],
+        bytes: u64,
     ) -> Result<Taken, AllocError> {
         match kind {
-            Kind::Floating => self.give_type(label, numbers),
-            Kind::Essential => self.suppose(label, numbers),
-            _ => self.assert(kind, label, numbers),
+            Kind::Floating => self.give_type(label, numbers, bytes),
+            Kind::Essential => self.suppose(label, numbers, bytes),
+            _ => self.assert(kind, label, numbers, bytes),
         }
     }
 
     // Takes a statement in that uses symbols.
-    fn take_use(&mut self, statement: &Statement<'a>) -> Result<Taken, AllocError> {
+    fn take_use(&mut self, statement: &Statement<'a>, bytes: u64) -> Result<Taken, AllocError> {
         let numbers = self.numbers_of(&statement.symbols)?;
         match &statement.label {
-            Some(label) => self.take_labelled(statement.kind, label.text, &numbers),
-            None => self.separate_all(&numbers),
+            Some(label) => self.take_labelled(statement.kind, label.text, &numbers, bytes),
+            None => self.separate_all(&numbers, bytes),
         }
     }
 
-    /// Takes a statement in that breaks no rule.
-    pub(crate) fn grow(&mut self, statement: &Statement<'a>) -> Result<Taken, AllocError> {
+    /// Takes a statement in that breaks no rule, and whose tokens have so many bytes.
+    pub(crate) fn grow(
+        &mut self,
+        statement: &Statement<'a>,
+        bytes: u64,
+    ) -> Result<Taken, AllocError>
+        requires tables { AreTables self.old }
+        requires meant { IsMeant (statements_of self.old) (said_by statement.now) }
+        requires formed { HasForm (plain_statement statement.now) }
+        requires closes { statement.now.kind ≡ Closing
+            → closings (statements_of self.old) < openings (statements_of self.old) }
+        requires counted { bytes ≡ bytes_in (plain_statement statement.now) }
+        requires room { self.old.bytes + bytes ≤ 1073741824 }
+        ensures ok { IfOk result (λ taken. Grows self.old self.new (said_by statement.now) bytes
+            × TakenAs (statements_of self.old) statement.now.kind taken) }
+        ensures err { OnErr result (IsSame self.old self.new) }
+    {
         match statement.kind {
-            Kind::Opening => self.open(),
-            Kind::Closing => self.close(),
-            Kind::Constants | Kind::Variables => self.declare_all(statement),
-            _ => self.take_use(statement),
+            Kind::Opening => self.open(bytes),
+            Kind::Closing => self.close(bytes),
+            Kind::Constants | Kind::Variables => self.declare_all(statement, bytes),
+            _ => self.take_use(statement, bytes),
         }
     }
 }
