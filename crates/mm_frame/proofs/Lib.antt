@@ -30,3 +30,4 @@ pub mod Lawful
 pub mod EmptyTables
 pub mod SameTables
 pub mod Assembled
+pub mod ReadLaws

@@ -12,6 +12,7 @@ mod lookups;
 mod names;
 mod number;
 mod pairs;
+mod reads;
 mod rule;
 mod rules;
 mod said;
