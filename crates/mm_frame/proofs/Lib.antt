@@ -26,6 +26,9 @@ pub mod DistinctAt
 pub mod Order
 pub mod Repeats
 pub mod Spans
+pub mod Gather
+pub mod LabelIds
+pub mod PairsOf
 pub mod Lawful
 pub mod EmptyTables
 pub mod SameTables

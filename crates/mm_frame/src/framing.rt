@@ -1,21 +1,40 @@
 //! The frame of an assertion, from the lists as they are before it.
 
+ghost use Rattle.std.specs.Prelude.{◌≡◌, ◌++◌, length, map, take, slice_get, OnOk, IfOk};
+ghost use Rattle.std.specs.Option.{option_and_then};
+ghost use Rattle.mm_frame.specs.Sentence.{Sentence, IsStated};
+ghost use Rattle.mm_frame.specs.Rules.{IsMeant};
+ghost use Rattle.mm_frame.specs.Numbers.{AreNumbers, labelled};
+ghost use Rattle.mm_frame.specs.Layout.{AreTables, statements_of};
+ghost use Rattle.mm_frame.specs.Gathered.{floating_of, floatings, AreGathered, ArePlaces};
+
+use crate::lists::at;
 use crate::number::{LabelId, Sym};
 use crate::tables::Tables;
 use std::alloc::AllocError;
+
+// The place of the latest `$f` of a symbol, if it has one.
+fn floating(tables: &Tables, symbol: Sym) -> Option<usize>
+    ensures { result ≡ floating_of tables.now.infos.items symbol }
+{
+    match tables.info(symbol) {
+        Some(info) => info.floating,
+        None => None,
+    }
+}
 
 // Notes the places of the `$f` of the variables in an expression.
 fn add_floating(
     tables: &Tables,
     expression: &[Sym],
     places: &mut Vec<usize>,
-) -> Result<(), AllocError> {
+) -> Result<(), AllocError>
+    ensures { OnOk result
+        (places.new.items ≡ places.old.items ++ floatings tables.now.infos.items expression.now) }
+{
     for symbol in expression {
-        match tables.info(*symbol) {
-            Some(info) => match info.floating {
-                Some(place) => places.push(place)?,
-                None => {}
-            },
+        match floating(tables, *symbol) {
+            Some(place) => places.push(place)?,
             None => {}
         }
     }
@@ -23,7 +42,13 @@ fn add_floating(
 }
 
 // The places of the mandatory hypotheses, in no order and with repetitions.
-fn mandatory_unsorted(tables: &Tables, expression: &[Sym]) -> Result<Vec<usize>, AllocError> {
+fn mandatory_unsorted(tables: &Tables, expression: &[Sym]) -> Result<Vec<usize>, AllocError>
+    requires { AreTables tables.now }
+    ensures { (s : Sentence)
+        → AreNumbers (statements_of tables.now) (map (λ n. n.0) expression.now) s.symbols
+        → IfOk result (λ places. AreGathered
+            (statements_of tables.now) tables.now.essentials.items s places.items) }
+{
     let mut places = Vec::new(tables.alloc);
     add_floating(tables, expression, &mut places)?;
     for place in &tables.essentials {
@@ -33,33 +58,40 @@ fn mandatory_unsorted(tables: &Tables, expression: &[Sym]) -> Result<Vec<usize>,
     Ok(places)
 }
 
-// A list in order, without the repetitions that stand side by side.
-fn without_repetitions(tables: &Tables, sorted: &[usize]) -> Result<Vec<usize>, AllocError> {
-    let mut once = Vec::new(tables.alloc);
-    for place in sorted {
-        if once.last() != Some(place) {
-            once.push(*place)?;
-        }
-    }
-    Ok(once)
-}
-
 /// The places of the mandatory hypotheses of an assertion, in order.
-pub(crate) fn mandatory(tables: &Tables, expression: &[Sym]) -> Result<Vec<usize>, AllocError> {
+pub(crate) fn mandatory(tables: &Tables, expression: &[Sym]) -> Result<Vec<usize>, AllocError>
+    requires { AreTables tables.now }
+    ensures { (s : Sentence) → IsMeant (statements_of tables.now) s → IsStated s.kind
+        → AreNumbers (statements_of tables.now) (map (λ n. n.0) expression.now) s.symbols
+        → IfOk result (λ places. ArePlaces (statements_of tables.now) s places.items) }
+{
     let mut places = mandatory_unsorted(tables, expression)?;
     places.sort_unstable();
-    without_repetitions(tables, &places)
+    places.dedup();
+    Ok(places)
+}
+
+// The number of the label of the statement at a place, if it has one.
+fn label_at(tables: &Tables, place: usize) -> Option<LabelId>
+    ensures { result ≡ option_and_then (λ e. e.label) (slice_get tables.now.log.items place) }
+{
+    match at(&tables.log, place) {
+        Some(entry) => entry.label,
+        None => None,
+    }
 }
 
 /// The labels' numbers of the statements at some places.
-pub(crate) fn label_ids(tables: &Tables, places: &[usize]) -> Result<Vec<LabelId>, AllocError> {
+pub(crate) fn label_ids(tables: &Tables, places: &[usize]) -> Result<Vec<LabelId>, AllocError>
+    requires { AreTables tables.now }
+    ensures { (s : Sentence) → ArePlaces (statements_of tables.now) s places.now
+        → IfOk result (λ ids. map (λ id. id.0) ids.items
+            ≡ map (λ p. length (labelled (take p (statements_of tables.now)))) places.now) }
+{
     let mut ids = Vec::new(tables.alloc);
     for place in places {
-        match tables.log.get(*place) {
-            Some(entry) => match entry.label {
-                Some(id) => ids.push(id)?,
-                None => {}
-            },
+        match label_at(tables, *place) {
+            Some(id) => ids.push(id)?,
             None => {}
         }
     }
