@@ -47,7 +47,8 @@ map_agree f g (x ∷ xs) agree =
     let rest = map_agree f g xs (λ i y there. agree (suc i) y there) in
     cc
 
-names_same : (symbols more : List (List ℕ)) (numbers : List Sym) → ((i : ℕ) (n : Sym) → slice_get numbers i ≡ Some n → n.0 < length symbols) → names_by (symbols ++ more) numbers ≡ names_by symbols numbers
+-- names by number stay as more names are appended
+pub names_same : (symbols more : List (List ℕ)) (numbers : List Sym) → ((i : ℕ) (n : Sym) → slice_get numbers i ≡ Some n → n.0 < length symbols) → names_by (symbols ++ more) numbers ≡ names_by symbols numbers
 names_same symbols more numbers within =
     map_agree (λ (n : Sym). unwrap_or (slice_get (symbols ++ more) n.0) []) (λ (n : Sym). unwrap_or (slice_get symbols n.0) []) numbers
     (λ i n there. ap (λ o. unwrap_or o []) (get_left symbols more n.0 (within i n there)))

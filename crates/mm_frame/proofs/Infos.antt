@@ -147,7 +147,7 @@ names_more st kind xs x which =
 known_name : (names : List (List ℕ)) (x : List ℕ) → At names x → with_name names x ≡ names
 known_name names x at = elim (with_name_cases names x) [ inl (found, same) ↦ same | inr (absent, more) ↦ absurd (absent at) ]
 
-fresh_name : (names : List (List ℕ)) (x : List ℕ) → ¬ (At names x) → with_name names x ≡ names ++ x ∷ []
+pub fresh_name : (names : List (List ℕ)) (x : List ℕ) → ¬ (At names x) → with_name names x ≡ names ++ x ∷ []
 fresh_name names x none = elim (with_name_cases names x) [ inl (found, same) ↦ absurd (none found) | inr (absent, more) ↦ more ]
 
 -- a symbol that is known is declared again

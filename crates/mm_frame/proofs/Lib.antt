@@ -34,3 +34,5 @@ pub mod EmptyTables
 pub mod SameTables
 pub mod Assembled
 pub mod ReadLaws
+pub mod DeclaredSymbols
+pub mod Declared

@@ -19,3 +19,4 @@ pub mod Told
 pub mod Laws
 pub mod FrameSeen
 pub mod Grows
+pub mod Declaring

@@ -19,7 +19,7 @@ use crate::framing::{label_ids, mandatory, mandatory_pairs};
 use crate::lists::put;
 use crate::number::{LabelId, Sym};
 use crate::pairs::in_order;
-use crate::tables::{Entry, LabelInfo, Part, SymbolInfo, Tables};
+use crate::tables::{Entry, LabelInfo, Part, Tables};
 use mm_text::{Kind, Statement, Token};
 use std::alloc::AllocError;
 
@@ -40,7 +40,7 @@ impl<'a> Tables<'a> {
     }
 
     // Makes room for a statement of so many symbols, and for its label.
-    fn reserve(&mut self, symbols: usize) -> Result<(), AllocError>
+    pub(crate) fn reserve(&mut self, symbols: usize) -> Result<(), AllocError>
         ensures same { SameLists self.old self.new }
         ensures room { OnOk result (HaveRoom self.new symbols) }
     {
@@ -53,7 +53,7 @@ impl<'a> Tables<'a> {
     }
 
     // Writes the entry of a statement whose symbols stand at the end of the list of symbols.
-    fn enter(&mut self, kind: Kind, label: Option<LabelId>, start: usize, bytes: u64)
+    pub(crate) fn enter(&mut self, kind: Kind, label: Option<LabelId>, start: usize, bytes: u64)
         requires scopes { HasRoom self.old.scopes }
         requires log { vec_len self.old.log < vec_capacity self.old.log }
         requires few { self.old.bytes + bytes ≤ 1073741824 }
@@ -108,56 +108,6 @@ impl<'a> Tables<'a> {
                 }
             }
         }
-    }
-
-    // Notes the place of the latest `$v` that declares a symbol.
-    fn note_variable(&mut self, number: u32, variable: Option<usize>) {
-        if let Some(info) = self.infos.get_mut(number as usize) {
-            info.variable = variable;
-        }
-    }
-
-    // Takes a declared symbol in, where it is new.
-    fn declare(&mut self, symbol: &'a [u8], variable: Option<usize>) {
-        match self.symbols.find(symbol) {
-            Some(number) => {
-                if variable.is_some() {
-                    self.note_variable(number, variable);
-                }
-                put(&mut self.flat, Sym(number));
-            }
-            None => {
-                put(&mut self.flat, Sym(self.symbols.len() as u32));
-                self.symbols.add(symbol);
-                put(&mut self.infos, SymbolInfo {
-                    variable,
-                    floating: None,
-                });
-            }
-        }
-    }
-
-    // Takes a `$c` or `$v` in.
-    fn declare_all(
-        &mut self,
-        statement: &Statement<'a>,
-        bytes: u64,
-    ) -> Result<Taken, AllocError> {
-        let place = self.log.len();
-        let start = self.flat.len();
-        self.symbols.reserve(statement.symbols.len())?;
-        self.infos.reserve(statement.symbols.len())?;
-        self.reserve(statement.symbols.len())?;
-        let variable = if statement.kind == Kind::Variables {
-            Some(place)
-        } else {
-            None
-        };
-        for token in &statement.symbols {
-            self.declare(token.text, variable);
-        }
-        self.enter(statement.kind, None, start, bytes);
-        Ok(Taken::Declared)
     }
 
     // Takes the pairs of one member of a `$d` with the members before it in.

@@ -3,6 +3,7 @@
 
 mod answer;
 mod book;
+mod declare;
 mod frame;
 mod framing;
 mod growth;
