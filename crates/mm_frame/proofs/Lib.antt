@@ -36,6 +36,7 @@ pub mod Forgotten
 pub mod Blocks
 pub mod SameTables
 pub mod Assembled
+pub mod ReadLaws
 pub mod DeclaredSymbols
 pub mod Declared
 pub mod Separated

@@ -14,6 +14,7 @@ mod names;
 mod naming;
 mod number;
 mod pairs;
+mod reads;
 mod rule;
 mod rules;
 mod said;
