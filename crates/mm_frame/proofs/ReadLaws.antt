@@ -1,17 +1,12 @@
 -- What is read under a label's number, in terms of the statements.
-use Rattle.std.proofs.Common.{◌≡◌, ◌↔◌, ℕ, ◌<◌, ◌≤◌, ◌⊎◌, inl, inr, IsTrue, Bool, true, false, length, take, List, [], ◌∷◌, map, Option, Some, None, Contains, is_some, slice_range, refl, sym, ap, ◌∙◌, subst, length-take, arith, rules}
+use Rattle.std.proofs.Common.{◌≡◌, ℕ, ◌≤◌, length, List, map, Option, Some, None, slice_range, sym, ap, ◌∙◌, subst, arith}
 use Rattle.std.specs.List.{slice_get}
-use Rattle.std.specs.Option.{option_map}
-use Rattle.std.proofs.lemmas.Option.{slice_get_within}
 use Rattle.mm_text.specs.declared.statement.Kind.{Kind}
-use Rattle.mm_text.specs.declared.statement.Kind.TheVariants.{Constants, Variables, Distinct, Floating, Essential, Axiom, Provable, Opening, Closing}
 use Rattle.mm_frame.specs.declared.number.LabelId.{LabelId}
 use Rattle.mm_frame.specs.declared.number.Sym.{Sym}
 use Rattle.mm_frame.specs.declared.tables.Entry.{Entry}
-use Rattle.mm_frame.specs.declared.tables.Part.{Part}
 use Rattle.mm_frame.specs.declared.tables.LabelInfo.{LabelInfo}
 use Rattle.mm_frame.specs.Sentence.{Sentence, IsLabelled, IsAssertion}
-use Rattle.mm_frame.specs.Active.{IsActive}
 use Rattle.mm_frame.specs.Form.{IsNamed, AllFormed}
 use Rattle.mm_frame.specs.Numbers.{labelled, IsNumbered}
 use Rattle.mm_frame.specs.FramePlace.{AreHypotheses, ArePairs}

@@ -1,4 +1,3 @@
-use Rattle.std.proofs.Common.{Some, None}
 use Rattle.mm_frame.specs.Layout.{statements_of}
 use Rattle.mm_frame.proofs.ReadLaws.{labelled_at}
 use Rattle.mm_frame.proofs.LookupLaws.{label_number}

@@ -1,4 +1,4 @@
-use Rattle.std.proofs.Common.{◌≡◌, List, ℕ, Some, None, option_map}
+use Rattle.std.proofs.Common.{◌≡◌, Some, None}
 use Rattle.std.specs.List.{slice_get}
 use Rattle.mm_frame.specs.Layout.{statements_of}
 use Rattle.mm_frame.proofs.ReadLaws.{label_at}
