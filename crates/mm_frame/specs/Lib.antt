@@ -18,7 +18,6 @@ pub mod Layout
 pub mod Gathered
 pub mod Told
 pub mod Laws
-pub mod FrameSeen
 pub mod Grows
 pub mod Declaring
 pub mod Separated

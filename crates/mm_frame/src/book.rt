@@ -1,6 +1,6 @@
 //! A book: the statements that were taken, by numbers.
 
-ghost use Rattle.std.specs.Prelude.{◌≡◌, ◌↔◌, ℕ, ◌+◌, ◌-◌, ◌<◌, ◌≤◌, List, [], ◌∷◌, ◌++◌, IsTrue, IfOk, IfErr, OnErr, Err, length, map, take, sum_by};
+ghost use Rattle.std.specs.Prelude.{◌≡◌, ◌↔◌, ℕ, ◌+◌, ◌-◌, ◌<◌, ◌≤◌, List, [], ◌∷◌, ◌++◌, IsTrue, IfOk, IfErr, OnErr, Err, Some, length, map, take, slice_get, sum_by};
 ghost use Rattle.mm_text.specs.declared.statement.Kind.TheVariants.{Closing};
 ghost use Rattle.mm_text.specs.Statement.{plain_statement, HasForm, bytes_in};
 ghost use Rattle.mm_frame.specs.declared.rule.MeaningRule.{MeaningRule};
@@ -10,11 +10,10 @@ ghost use Rattle.mm_frame.specs.Active.{IsActive, IsVariable, openings, closings
 ghost use Rattle.mm_frame.specs.Rules.{IsMeant, FirstBroken};
 ghost use Rattle.mm_frame.specs.Form.{IsSound};
 ghost use Rattle.mm_frame.specs.Frame.{IsDistinct};
-ghost use Rattle.mm_frame.specs.Numbers.{symbols_of, IsNumberOf, AreNumbers, IsNumbered, IsAssertionNumber};
+ghost use Rattle.mm_frame.specs.Numbers.{symbols_of, labelled, IsNumberOf, AreNumbers, IsNumbered, IsAssertionNumber};
 ghost use Rattle.mm_frame.specs.Found.{Finds};
 ghost use Rattle.mm_frame.specs.Taken.{TakenAs, kind_behind};
 ghost use Rattle.mm_frame.specs.FramePlace.{AreHypotheses, ArePairs};
-ghost use Rattle.mm_frame.specs.FrameSeen.{frame_place, IsFrame};
 
 use crate::answer::{Found, RuleFault, Taken};
 use crate::frame::Frame;
@@ -161,7 +160,7 @@ impl<'a> Book<'a> {
 
     /// A label.
     pub fn label(&self, id: LabelId) -> &'a [u8]
-        ensures { (place : ℕ) (s : Sentence) → IsNumbered self.now.statements id.0 place s
+        ensures { (s : Sentence) → slice_get (labelled self.now.statements) id.0 ≡ Some s
             → IsLabelled result.now s }
     {
         label_text(&self.tables, id)
@@ -169,7 +168,7 @@ impl<'a> Book<'a> {
 
     /// The symbols of a labelled statement.
     pub fn expression(&self, id: LabelId) -> &[Sym]
-        ensures { (place : ℕ) (s : Sentence) → IsNumbered self.now.statements id.0 place s
+        ensures { (s : Sentence) → slice_get (labelled self.now.statements) id.0 ≡ Some s
             → AreNumbers self.now.statements (map (λ n. n.0) result.now) s.symbols }
     {
         label_symbols(&self.tables, id)
@@ -177,7 +176,7 @@ impl<'a> Book<'a> {
 
     /// The kind of a labelled statement.
     pub fn kind(&self, id: LabelId) -> LabelKind
-        ensures { (place : ℕ) (s : Sentence) → IsNumbered self.now.statements id.0 place s
+        ensures { (s : Sentence) → slice_get (labelled self.now.statements) id.0 ≡ Some s
             → s.kind ≡ kind_behind result }
     {
         label_kind(&self.tables, id)
@@ -186,10 +185,9 @@ impl<'a> Book<'a> {
     /// The frame of an assertion (the Metamath book, section 4.2.7).
     pub fn frame(&self, id: LabelId) -> Frame<'_, 'a>
         requires { IsAssertionNumber self.now.statements id.0 }
-        ensures same { (frame_place result).statements ≡ self.now.statements }
-        ensures place { (s : Sentence) × IsNumbered self.now.statements id.0 (frame_place result).place s
+        ensures same { result.statements ≡ self.now.statements }
+        ensures place { (s : Sentence) × IsNumbered self.now.statements id.0 result.place s
             × IsAssertion s.kind }
-        ensures frame { IsFrame result }
         ensures sound { IsSound self.now.statements }
     {
         Frame {
