@@ -1,13 +1,13 @@
 -- A book's lists once a label and its statement are written.
-use Rattle.std.proofs.Common.{◌≡◌, ℕ, zero, suc, ◌+◌, ◌*◌, ◌-◌, ◌<◌, ◌≤◌, ◌⊎◌, inl, inr, length, take, drop, set, List, [], ◌∷◌, ◌++◌, map, unwrap_or, Option, Some, None, refl, sym, ap, ◌∙◌, subst, length-append, Result, Ok, Err, arith, rules}
+use Rattle.std.proofs.Common.{◌≡◌, ℕ, zero, suc, ◌+◌, ◌*◌, ◌-◌, ◌<◌, ◌≤◌, inl, inr, length, take, set, List, [], ◌∷◌, ◌++◌, map, unwrap_or, Option, Some, refl, sym, ap, ◌∙◌, subst, length-append, Result, Ok, Err, arith, rules}
 use Rattle.std.specs.List.{slice_get, slice_range, fold}
 use Rattle.std.proofs.lemmas.Option.{slice_get_within}
-use Rattle.std.proofs.lemmas.List.{append-nil, length-map}
+use Rattle.std.proofs.lemmas.List.{append-nil}
 use Rattle.std.proofs.Math.Seq.{drop-append_seam, take-length}
 use Rattle.std.specs.Result.{OnErr}
 use Rattle.mm_text.specs.Statement.{FitsCount}
 use Rattle.mm_text.specs.declared.statement.Kind.{Kind}
-use Rattle.mm_text.specs.declared.statement.Kind.TheVariants.{Constants, Variables, Floating, Essential, Axiom, Provable, Distinct, Closing}
+use Rattle.mm_text.specs.declared.statement.Kind.TheVariants.{Floating, Essential, Distinct, Closing}
 use Rattle.mm_frame.specs.declared.number.LabelId.{LabelId}
 use Rattle.mm_frame.specs.declared.number.Sym.{Sym}
 use Rattle.mm_frame.specs.declared.tables.Entry.{Entry}
@@ -15,15 +15,15 @@ use Rattle.mm_frame.specs.declared.tables.LabelInfo.{LabelInfo}
 use Rattle.mm_frame.specs.declared.tables.Part.{Part}
 use Rattle.mm_frame.specs.declared.tables.SymbolInfo.{SymbolInfo}
 use Rattle.mm_frame.specs.declared.tables.Tables.{Tables}
-use Rattle.mm_frame.specs.Sentence.{Sentence, IsHypothesis, IsAssertion}
+use Rattle.mm_frame.specs.Sentence.{Sentence, IsAssertion}
 use Rattle.mm_frame.specs.Rules.{IsMeant}
 use Rattle.mm_frame.specs.declared.rule.MeaningRule.TheVariants.{M5}
 use Rattle.mm_frame.specs.Form.{IsFormedSentence}
-use Rattle.mm_frame.specs.Numbers.{AreNumbers, labelled, symbols_of, with_name, declared_by, declared_in}
+use Rattle.mm_frame.specs.Numbers.{AreNumbers, symbols_of, with_name, declared_by, declared_in}
 use Rattle.mm_frame.specs.ScopesOf.{HaveScopes, HaveSameLists}
 use Rattle.mm_frame.specs.Taken.{next_id, TakenAs}
 use Rattle.mm_frame.specs.declared.answer.Taken.TheVariants.{Assertion}
-use Rattle.mm_frame.specs.Layout.{AreTables, AreInfos, AreLabels, AreEssentials, AreFrames, AreStated, IsFrameInfo, IsWithin, names_by, label_by, sentence_by, statements_of}
+use Rattle.mm_frame.specs.Layout.{AreTables, AreInfos, AreLabels, AreEssentials, AreFrames, IsFrameInfo, names_by, statements_of}
 use Rattle.mm_frame.specs.Grows.{Grows, SameLists, entry_of}
 use Rattle.mm_frame.specs.Naming.{Named, label_info, part_after}
 use Rattle.mm_frame.specs.FramePlace.{AreHypotheses, ArePairs}
@@ -35,7 +35,7 @@ use Rattle.mm_frame.proofs.Numbered.{contains_from_at, with_name_cases, symbols_
 use Rattle.mm_frame.proofs.Labelled.{labelled_few}
 use Rattle.mm_frame.proofs.Labels.{labels_counted, labels_some, essentials_essential, essentials_other}
 use Rattle.mm_frame.proofs.Infos.{infos_other, infos_floating}
-use Rattle.mm_frame.proofs.Entries.{length-sentences}
+use Rattle.mm_frame.proofs.Entries.{length-sentences, longer}
 use Rattle.mm_frame.proofs.FrameLaws.{at_place, stated_other, placed, frames_hypothesis, frames_assertion}
 use Rattle.mm_frame.proofs.Assembled.{AreAppended, AreGrown, assembled}
 
@@ -93,9 +93,6 @@ added_part xs more =
     let n : length (xs ++ more) - length xs ≡ length more = omega arith in
     ap (take (length (xs ++ more) - length xs)) (drop-append_seam xs more) ∙ ap (λ k. take k more) n ∙ take-length more
 
-pub added_within : {X : Type 0} (xs more : List X) → length xs ≤ length (xs ++ more)
-added_within xs more = let size = length-append xs more in omega arith
-
 same_sentence : (s : Sentence) (kind : Kind) (l : Option (List ℕ)) (xs : List (List ℕ)) → kind ≡ s.kind → l ≡ s.label → xs ≡ s.symbols → ◌≡◌ {A = Sentence} (record { kind = kind; label = l; symbols = xs }) s
 same_sentence s kind l xs e f g =
     ap (λ (k : Kind). let t : Sentence = record { kind = k; label = l; symbols = xs } in t) e
@@ -151,7 +148,7 @@ appended t u v s kind l numbers frame id a b bytes are before named number is =
       said = same_sentence s kind _ _ (sym is.kinds)
           (ap (slice_get (t.labels.names ++ l ∷ [])) number' ∙ get_pushed t.labels.names l ∙ sym is.label)
           (ap (names_by (t.symbols.names ++ [])) (added_part t.flat.items numbers) ∙ ap (λ ys. names_by ys numbers) more ∙ names_numbered t.symbols.names numbers s.symbols names);
-      within = record { ordered = added_within t.flat.items numbers; within = omega arith };
+      within = record { ordered = longer t.flat.items numbers; within = omega arith };
       numbers = λ i n there. subst (λ (ys : List (List ℕ)). n.0 < length ys) (sym more) (numbers_within t.symbols.names numbers s.symbols names i n there);
       label = λ other same. let e : id ≡ other = cc in let f : id.0 ≡ other.0 = ap (λ (i : LabelId). i.0) e in omega arith;
     }
@@ -331,8 +328,8 @@ framed t s places a b are at ids pairs =
     let hs : AreHypotheses (at_place (st ++ s ∷ []) (length st)) (map (λ id. id.0) a) =
         subst (AreHypotheses (at_place (st ++ s ∷ []) (length st))) (sym ids) (hypotheses_from_places st places s [] are.sound.1 at) in
     record {
-      hypotheses_in = record { ordered = added_within t.hypotheses.items a; within = omega arith };
-      pairs_in = record { ordered = added_within t.pairs.items b; within = omega arith };
+      hypotheses_in = record { ordered = longer t.hypotheses.items a; within = omega arith };
+      pairs_in = record { ordered = longer t.pairs.items b; within = omega arith };
       are_hypotheses = subst (λ n. AreHypotheses (at_place (st ++ s ∷ []) n) (map (λ id. id.0) (slice_range (t.hypotheses.items ++ a) (length t.hypotheses.items) (length (t.hypotheses.items ++ a))))) size
           (subst (λ (ids : List LabelId). AreHypotheses (at_place (st ++ s ∷ []) (length st)) (map (λ id. id.0) ids)) (sym (added_part t.hypotheses.items a)) hs);
       are_pairs = subst (λ n. ArePairs (at_place (st ++ s ∷ []) n) (map (λ pair. (pair.0.0, pair.1.0)) (slice_range (t.pairs.items ++ b) (length t.pairs.items) (length (t.pairs.items ++ b))))) size

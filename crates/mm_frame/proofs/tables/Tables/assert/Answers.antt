@@ -1,8 +1,5 @@
-use Rattle.std.proofs.Common.{◌≡◌, refl, sym, ap, ◌∙◌, subst, inl, inr, length, [], ◌∷◌, ◌++◌}
-use Rattle.mm_text.specs.declared.statement.Kind.{Kind}
-use Rattle.mm_frame.specs.Sentence.{Sentence, IsStated, IsAssertion}
-use Rattle.mm_frame.specs.declared.answer.Taken.TheVariants.{Assertion}
-use Rattle.mm_frame.specs.Grows.{IsSame}
+use Rattle.std.proofs.Common.{◌≡◌, refl, sym, ap, ◌∙◌, subst, inr, length, [], ◌∷◌, ◌++◌}
+use Rattle.mm_frame.specs.Sentence.{IsStated, IsAssertion}
 use Rattle.mm_frame.specs.Layout.{IsFrameInfo, statements_of}
 use Rattle.mm_frame.specs.Gathered.{ArePlaces}
 use Rattle.mm_frame.specs.Naming.{label_info}

@@ -1,4 +1,4 @@
-use Rattle.std.proofs.Common.{sym, ap, ◌∙◌, subst, ◌≡◌, length, ◌++◌, ◌∷◌, [], Some, None, arith}
+use Rattle.std.proofs.Common.{sym, ap, ◌∙◌, subst, ◌≡◌, length, [], Some, None, arith}
 use Rattle.std.specs.List.{slice_get}
 use Rattle.mm_text.specs.declared.statement.Kind.TheVariants.{Floating}
 use Rattle.mm_frame.specs.declared.answer.Taken.TheVariants.{Hypothesis}
