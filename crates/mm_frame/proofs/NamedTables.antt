@@ -115,8 +115,16 @@ pub record Before (t u : Tables) (a : List LabelId) (b : List (Sym × Sym)) : Ty
 -- lists that are the same are so
 pub before_same : (t u : Tables) → SameLists t u → Before t u [] []
 before_same t u same = record {
-  symbols = same.symbols; labels = same.labels; named = same.named; log = same.log; flat = same.flat; scopes = same.scopes;
-  hypotheses = same.hypotheses ∙ sym (append-nil t.hypotheses.items); pairs = same.pairs ∙ sym (append-nil t.pairs.items); stated = same.stated; bytes = same.bytes;
+  symbols = same.symbols;
+  labels = same.labels;
+  named = same.named;
+  log = same.log;
+  flat = same.flat;
+  scopes = same.scopes;
+  hypotheses = same.hypotheses ∙ sym (append-nil t.hypotheses.items);
+  pairs = same.pairs ∙ sym (append-nil t.pairs.items);
+  stated = same.stated;
+  bytes = same.bytes;
 }
 
 -- what the new statement is, as the lists say it
@@ -170,14 +178,14 @@ grown t u v s kind l numbers frame id a b bytes are before named number is none 
     let app = appended t u v s kind l numbers frame id a b bytes are before named number is in
     let size = length-sentences t.symbols.names t.labels.names t.flat.items t.log.items in
     let labels = labels_some st t.labels.names t.named.items t.log.items s new l id (label_info (length t.log.items) frame) are.labels
-          is.label refl (number ∙ ap length before.labels) (sym size) (sym size) in
+    is.label refl (number ∙ ap length before.labels) (sym size) (sym size) in
     let held : HaveScopes st u.scopes = rw (before.scopes.blocks, before.scopes.ends, before.scopes.open_blocks) are.scopes in
     let names : v.named.items ≡ t.named.items ++ label_info (length t.log.items) frame ∷ [] =
-        named.named ∙ ap (λ (ys : List LabelInfo). ys ++ label_info (length u.log.items) frame ∷ []) before.named
-        ∙ ap (λ (ys : List Entry). t.named.items ++ label_info (length ys) frame ∷ []) before.log in
+    named.named ∙ ap (λ (ys : List LabelInfo). ys ++ label_info (length u.log.items) frame ∷ []) before.named
+    ∙ ap (λ (ys : List Entry). t.named.items ++ label_info (length ys) frame ∷ []) before.log in
     let same : v.symbols.names ≡ t.symbols.names = named.symbols ∙ before.symbols in
     let kept = stated_other st s t.symbols.names [] t.distinct.stated are.sound.0 are.infos.all (same_symbols t s are none) are.stated
-          (λ distinct. together (sym is.kinds ∙ distinct)) in
+    (λ distinct. together (sym is.kinds ∙ distinct)) in
     record {
       infos = rw (same, named.infos) infos;
       labels = rw (app.labels, names, app.log) labels;
@@ -231,7 +239,7 @@ supposed t u v s l numbers frame id bytes are before infos essentials named numb
     let size = length-sentences t.symbols.names t.labels.names t.flat.items t.log.items in
     let known = infos_other st t.symbols.names t.infos.items s are.infos none (λ floats. let e = is.kinds in absurd (cc)) in
     let active : AreEssentials (st ++ s ∷ []) (t.essentials.items ++ length t.log.items ∷ []) =
-        subst (λ n. AreEssentials (st ++ s ∷ []) (t.essentials.items ++ n ∷ [])) size (essentials_essential st t.essentials.items s are.essentials is.kinds) in
+    subst (λ n. AreEssentials (st ++ s ∷ []) (t.essentials.items ++ n ∷ [])) size (essentials_essential st t.essentials.items s are.essentials is.kinds) in
     named_grows t u v s Essential l numbers frame id [] [] bytes are before named number is none (λ e. absurd (cc)) (λ e. absurd (cc))
     (rw infos known) (rw essentials active) (hypothesis_frames t s frame are (no_assertion s Essential is.kinds essential_asserts)) enough room
 
@@ -246,8 +254,8 @@ typed t u v s code x n info l numbers frame id bytes are before says at there in
     let none = declares_none s Floating is.kinds refl in
     let size = length-sentences t.symbols.names t.labels.names t.flat.items t.log.items in
     let known : AreInfos (st ++ s ∷ []) t.symbols.names (set t.infos.items n.0 (record info { floating = Some (length t.log.items) })) =
-        subst (λ k. AreInfos (st ++ s ∷ []) t.symbols.names (set t.infos.items n.0 (record info { floating = Some k }))) size
-        (infos_floating st t.symbols.names t.infos.items s code x n.0 info are.infos is.kinds says at there) in
+    subst (λ k. AreInfos (st ++ s ∷ []) t.symbols.names (set t.infos.items n.0 (record info { floating = Some k }))) size
+    (infos_floating st t.symbols.names t.infos.items s code x n.0 info are.infos is.kinds says at there) in
     let active = essentials_other st t.essentials.items s are.essentials (λ e. let k = is.kinds in absurd (cc)) (λ e. let k = is.kinds in absurd (cc)) in
     named_grows t u v s Floating l numbers frame id [] [] bytes are before named number is none (λ e. absurd (cc)) (λ e. absurd (cc))
     (rw infos known) (rw essentials active) (hypothesis_frames t s frame are (no_assertion s Floating is.kinds floating_asserts)) enough room
@@ -270,7 +278,7 @@ asserted t u v s kind l numbers frame id a b bytes are which before infos essent
     named_grows t u v s kind l numbers frame id a b bytes are before named number is none unclosed apart
     (rw infos known) (rw essentials active)
     (frames_assertion st s t.hypotheses.items a t.pairs.items b t.named.items (label_info (length t.log.items) frame)
-        (placed st t.labels.names t.named.items t.log.items are.labels) are.frames framed) enough room
+    (placed st t.labels.names t.named.items t.log.items are.labels) are.frames framed) enough room
 
 -- what holds anyway holds after a failure
 pub on_err : {T E : Type 0} (r : Result T E) (P : Type 0) → P → OnErr r P
@@ -326,7 +334,7 @@ framed t s places a b are at ids pairs =
     let st = statements_of t in
     let size = length-sentences t.symbols.names t.labels.names t.flat.items t.log.items in
     let hs : AreHypotheses (at_place (st ++ s ∷ []) (length st)) (map (λ id. id.0) a) =
-        subst (AreHypotheses (at_place (st ++ s ∷ []) (length st))) (sym ids) (hypotheses_from_places st places s [] are.sound.1 at) in
+    subst (AreHypotheses (at_place (st ++ s ∷ []) (length st))) (sym ids) (hypotheses_from_places st places s [] are.sound.1 at) in
     record {
       hypotheses_in = record { ordered = longer t.hypotheses.items a; within = omega arith };
       pairs_in = record { ordered = longer t.pairs.items b; within = omega arith };
