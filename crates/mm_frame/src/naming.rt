@@ -68,11 +68,14 @@ impl<'a> Tables<'a> {
         let start = self.flat.len();
         let _ = self.flat.extend_from_slice(numbers);
         self.labels.add(label);
-        put(&mut self.named, LabelInfo {
-            place,
-            hypotheses: frame.0,
-            pairs: frame.1,
-        });
+        put(
+            &mut self.named,
+            LabelInfo {
+                place,
+                hypotheses: frame.0,
+                pairs: frame.1,
+            },
+        );
         self.enter(kind, Some(id), start, bytes);
         id
     }
