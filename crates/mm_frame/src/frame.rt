@@ -9,7 +9,6 @@ ghost use Rattle.mm_frame.specs.FramePlace.{AreHypotheses, ArePairs, AreItsSymbo
 
 use crate::book::Book;
 use crate::number::{LabelId, Sym};
-use crate::reads::label_symbols;
 use std::marker::Model;
 
 /// What an assertion of a book takes from the statements before it (the Metamath book, section
@@ -54,7 +53,7 @@ impl<'b, 'a> Frame<'b, 'a> {
     pub fn expression(&self) -> &'b [Sym]
         ensures { AreItsSymbols self.now (map (λ n. n.0) result.now) }
     {
-        label_symbols(&self.book.tables, self.id)
+        self.book.expression(self.id)
     }
 
     /// Whether a hypothesis is active at the assertion's place.
