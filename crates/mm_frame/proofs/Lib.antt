@@ -38,5 +38,6 @@ pub mod SameTables
 pub mod Assembled
 pub mod DeclaredSymbols
 pub mod Declared
+pub mod Uses
 pub mod Separated
 pub mod NamedTables
