@@ -125,3 +125,9 @@ unlabelled_uses r t v s numbers bytes none used are meant form ok =
     (λ taken (said_as, grows). (
       grows (said_by s) is (ap (option_map (λ (t : PlainToken). t.text)) bare) (numbers_said (statements_of t) s numbers are) meant (formed_said (plain_statement s) form),
       taken_distinct (statements_of t) s.kind taken is said_as)) ok
+
+-- the same numbers of the same tokens
+pub numbers_through : (st : List Sentence) (read tokens : List Token) (numbers passed : List Sym) → read ≡ tokens → passed ≡ numbers
+    → AreNumbers st (map (λ n. n.0) numbers) (texts_of read) → AreNumbers st (map (λ n. n.0) passed) (texts_of tokens)
+numbers_through st read tokens numbers passed same kept are =
+    subst (λ (ns : List Sym). AreNumbers st (map (λ n. n.0) ns) (texts_of tokens)) (sym kept) (subst (λ (ts : List Token). AreNumbers st (map (λ n. n.0) numbers) (texts_of ts)) same are)
