@@ -171,7 +171,7 @@ symbols_small (t ∷ tokens) (one, all) =
     let sum = sum_by-cons (λ (t : PlainToken). length t.text) t tokens in
     omega arith
 
-bytes_enough : (p : PlainStatement) → HasForm p → 1 + length p.symbols ≤ bytes_in p
+pub bytes_enough : (p : PlainStatement) → HasForm p → 1 + length p.symbols ≤ bytes_in p
 bytes_enough p form = let small = symbols_small p.symbols form.symbols in let first = form.first in omega arith
 
 -- a `$c` or `$v` has no label

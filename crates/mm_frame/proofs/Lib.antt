@@ -39,6 +39,7 @@ pub mod Assembled
 pub mod ReadLaws
 pub mod DeclaredSymbols
 pub mod Declared
+pub mod Uses
 pub mod Separated
 pub mod NamedTables
 pub mod SeparatedTables
