@@ -32,3 +32,6 @@ pub mod SameTables
 pub mod Assembled
 pub mod DeclaredSymbols
 pub mod Declared
+pub mod OpenLaws
+pub mod Surplus
+pub mod OpenPlaces
