@@ -1,35 +1,22 @@
 -- The mandatory hypotheses of an assertion, as they are gathered from what is known of symbols and from the active `$e`.
-use Rattle.std.proofs.Common.{◌≡◌, ◌↔◌, ℕ, zero, suc, ◌<◌, ◌≤◌, ◌⊎◌, inl, inr, true, length, take, List, [], ◌∷◌, ◌++◌, map, filter_map, is_some, Contains, Option, Some, None, refl, sym, ap, ◌∙◌, subst, arith}
+use Rattle.std.proofs.Common.{◌≡◌, ◌↔◌, ℕ, suc, inl, inr, true, length, take, List, [], ◌∷◌, ◌++◌, map, is_some, Some, refl, sym, ap, ◌∙◌, subst}
 use Rattle.std.specs.List.{slice_get}
 use Rattle.std.proofs.lemmas.Option.{slice_get_within}
 use Rattle.std.proofs.Math.Seq.{take-append_seam}
-use Rattle.mm_text.specs.declared.statement.Kind.{Kind}
-use Rattle.mm_text.specs.declared.statement.Kind.TheVariants.{Floating, Essential}
-use Rattle.mm_frame.specs.Sentence.{Sentence, IsStated, Types}
-use Rattle.mm_frame.specs.Active.{IsActive, SomeActive, IsVariable}
+use Rattle.mm_frame.specs.Sentence.{Sentence, IsStated}
 use Rattle.mm_frame.specs.Rules.{IsMeant, AllMeant}
-use Rattle.mm_frame.specs.Form.{AllFormed, IsNamed, IsFormedSentence}
-use Rattle.mm_frame.specs.Frame.{IsMandatory, IsMandatoryAt, AreMandatory}
-use Rattle.mm_frame.specs.Numbers.{labelled, IsNumbered}
+use Rattle.mm_frame.specs.Form.{AllFormed, IsNamed}
+use Rattle.mm_frame.specs.Frame.{IsMandatoryAt, AreMandatory}
+use Rattle.mm_frame.specs.Numbers.{labelled}
 use Rattle.mm_frame.specs.FramePlace.{AreHypotheses}
-use Rattle.mm_frame.specs.Latest.{IsLatest}
-use Rattle.mm_frame.specs.Layout.{GivesType, AreEssentials}
-use Rattle.mm_frame.proofs.Pushed.{get_kept, get_pushed}
-use Rattle.mm_frame.proofs.Numbered.{At, at_from_contains, contains_from_at}
+use Rattle.mm_frame.specs.Layout.{AreEssentials}
+use Rattle.mm_frame.specs.Gathered.{IsGathered, AreGathered, ArePlaces}
+use Rattle.mm_frame.proofs.Numbered.{at_from_contains, contains_from_at}
 use Rattle.mm_frame.proofs.Labelled.{numbered_get, numbered_at, labelled_grow}
 use Rattle.mm_frame.proofs.Those.{Rise, those_by_places}
 use Rattle.mm_frame.proofs.Needed.{mandatory_places, latest_is_variable}
 use Rattle.mm_frame.proofs.Meant.{get_parted}
 use Rattle.mm_frame.proofs.FrameLaws.{at_place}
-
--- the symbol stands in the assertion, or in a `$e` at one of the places
-abbrev pub StandsIn : List Sentence → List ℕ → Sentence → List ℕ → Type 0
-StandsIn st places s x =
-    Contains s.symbols x ⊎ ((q : ℕ) × (h : Sentence) × At places q × (slice_get st q ≡ Some h) × Contains h.symbols x)
-
--- the place of an active `$e`, or of the latest `$f` of a symbol of it or of the assertion
-abbrev pub IsGathered : List Sentence → List ℕ → Sentence → ℕ → Type 0
-IsGathered st essentials s p = At essentials p ⊎ ((x : List ℕ) × StandsIn st essentials s x × IsLatest (GivesType x) st p)
 
 same_at : (st : List Sentence) (p : ℕ) (s t : Sentence) → slice_get st p ≡ Some s → slice_get st p ≡ Some t → s ≡ t
 same_at st p s t one other = cc
@@ -84,24 +71,33 @@ numbered_all st more (p ∷ places) (h ∷ hs) are named =
     cc
 
 -- Rising places, exactly those that are gathered, are those of the mandatory hypotheses.
-pub hypotheses_gathered : (st : List Sentence) (essentials places : List ℕ) (s : Sentence) (more : List Sentence) → AllMeant st → AllFormed st → IsMeant st s → IsStated s.kind → AreEssentials st essentials
-    → Rise places → ((p : ℕ) → At places p → IsGathered st essentials s p) → ((p : ℕ) → IsGathered st essentials s p → At places p)
-    → AreHypotheses (at_place (st ++ s ∷ more) (length st)) (numbers_at st places)
-hypotheses_gathered st essentials places s more meant formed last stated are rise only each =
-    let within : (i p : ℕ) → slice_get places i ≡ Some p → p < length st = λ i p there. elim (only p (i, there)) [
-          | inl (k, at) ↦ let (e, at_p, kind, active) = are.only k p at in slice_get_within st p e at_p
-          | inr (x, stands, latest) ↦ slice_get_within st p latest.statement latest.there
-        ] in
-    let tells : (p : ℕ) (h : Sentence) → slice_get st p ≡ Some h → IsMandatoryAt st s p h ↔ Contains places p = λ p h there.
-        let gathered = mandatory_gathered st essentials s p h meant last stated are there in
-        ((λ mandatory. contains_from_at places p (each p (gathered.0 mandatory))), (λ in_it. gathered.1 (only p (at_from_contains places p in_it)))) in
-    let (hs, those, values) = those_by_places (IsMandatoryAt st s) st places rise within tells in
+pub places_gathered : (st : List Sentence) (essentials places : List ℕ) (s : Sentence) → AllMeant st → IsMeant st s → IsStated s.kind → AreEssentials st essentials → Rise places → AreGathered st essentials s places → ArePlaces st s places
+places_gathered st essentials places s meant last stated are rise gathered = record {
+  rising = rise;
+  within = λ i p there. elim (gathered.only i p there) [
+    | inl (k, at) ↦ let (e, at_p, kind, active) = are.only k p at in slice_get_within st p e at_p
+    | inr (x, stands, latest) ↦ slice_get_within st p latest.statement latest.there
+  ];
+  exact = λ p h there.
+      let same = mandatory_gathered st essentials s p h meant last stated are there in (
+        (λ mandatory. contains_from_at places p (gathered.each p (same.0 mandatory))),
+        (λ in_it. let (i, at) = at_from_contains places p in_it in same.1 (gathered.only i p at)),
+      );
+}
+
+-- a mandatory hypothesis has a label
+pub place_named : (st : List Sentence) (s : Sentence) (places : List ℕ) (i p : ℕ) (h : Sentence) → AllFormed st → ArePlaces st s places → slice_get places i ≡ Some p → slice_get st p ≡ Some h → is_some h.label ≡ true
+place_named st s places i p h formed are there at = hypothesis_named st s p h formed at ((are.exact p h at).1 (contains_from_at places p (i, there)))
+
+-- The labels' numbers at these places are those of the mandatory hypotheses, once the assertion is added.
+pub hypotheses_from_places : (st : List Sentence) (places : List ℕ) (s : Sentence) (more : List Sentence) → AllFormed st → ArePlaces st s places → AreHypotheses (at_place (st ++ s ∷ more) (length st)) (numbers_at st places)
+hypotheses_from_places st places s more formed are =
+    let (hs, those, values) = those_by_places (IsMandatoryAt st s) st places are.rising are.within are.exact in
     let front : take (length st) (st ++ s ∷ more) ≡ st = take-append_seam st (s ∷ more) in
     record {
       assertion = s;
       there = get_parted st more s;
       hypotheses = hs;
       mandatory = subst (λ ys. AreMandatory ys s hs) (sym front) those;
-      numbered = numbered_all st (s ∷ more) places hs values
-          (λ i p h there at. hypothesis_named st s p h formed at ((tells p h at).1 (contains_from_at places p (i, there))));
+      numbered = numbered_all st (s ∷ more) places hs values (λ i p h there at. place_named st s places i p h formed are there at);
     }

@@ -60,7 +60,7 @@ with_name_cases names name = elim (cases_Bool (list_any (bytes_eq name) names)) 
 abbrev pub StandOnce : {X : Type 0} → List X → Type 0
 StandOnce {X} xs = (i j : ℕ) (x : X) → slice_get xs i ≡ Some x → slice_get xs j ≡ Some x → i ≡ j
 
-once_pushed : {X : Type 0} (xs : List X) (y : X) → StandOnce xs → ¬ (At xs y) → StandOnce (xs ++ y ∷ [])
+pub once_pushed : {X : Type 0} (xs : List X) (y : X) → StandOnce xs → ¬ (At xs y) → StandOnce (xs ++ y ∷ [])
 once_pushed xs y once absent i j x at_i at_j = elim (pushed_cases xs y i x at_i) [
   | inl i_before ↦ elim (pushed_cases xs y j x at_j) [
     | inl j_before ↦ once i j x i_before j_before

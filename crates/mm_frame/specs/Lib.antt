@@ -2,6 +2,7 @@ pub mod Sentence
 pub mod Active
 pub mod Rules
 pub mod Frame
+pub mod Forgotten
 pub mod Form
 pub mod Database
 pub mod Numbers
@@ -14,8 +15,11 @@ pub mod NameTable
 pub mod Stated
 pub mod ScopesOf
 pub mod Layout
+pub mod Gathered
 pub mod Told
 pub mod Laws
 pub mod FrameSeen
 pub mod Grows
 pub mod Declaring
+pub mod Separated
+pub mod Naming

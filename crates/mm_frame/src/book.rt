@@ -19,9 +19,13 @@ ghost use Rattle.mm_frame.specs.FrameSeen.{frame_place, IsFrame};
 use crate::answer::{Found, RuleFault, Taken};
 use crate::frame::Frame;
 use crate::number::{LabelId, LabelKind, Sym};
+use crate::reads::{
+    find_label, is_label_active, label_hypotheses, label_kind, label_pairs, label_place,
+    label_symbols, label_text,
+};
 use crate::rules::first_broken;
-use crate::tables::{Tables, part_of};
-use mm_text::{Kind, Statement, Token};
+use crate::tables::Tables;
+use mm_text::{Statement, Token};
 use std::alloc::Global;
 use std::marker::Model;
 
@@ -121,23 +125,10 @@ impl<'a> Book<'a> {
 
     /// What stands under a label.
     pub fn find(&self, label: &[u8]) -> Found
-        ensures { Finds self.now.statements label.now result }
+        ensures finds { Finds self.now.statements label.now result }
+        ensures sound { IsSound self.now.statements }
     {
-        match self.tables.labels.find(label) {
-            Some(number) => self.found(LabelId(number)),
-            None => Found::None,
-        }
-    }
-
-    // What a label's number stands for.
-    fn found(&self, id: LabelId) -> Found {
-        match self.kind(id) {
-            LabelKind::Floating | LabelKind::Essential => Found::Hypothesis {
-                id,
-                active: self.is_active(id, self.tables.log.len()),
-            },
-            LabelKind::Axiom | LabelKind::Proof => Found::Assertion(id),
-        }
+        find_label(&self.tables, label)
     }
 
     // Whether a labelled statement is active after the statements before a place.
@@ -146,10 +137,7 @@ impl<'a> Book<'a> {
         ensures { (place : ℕ) (s : Sentence) → IsNumbered self.now.statements id.0 place s
             → (IsTrue result ↔ IsActive (take at self.now.statements) place) }
     {
-        match self.tables.label_info(id) {
-            Some(info) => info.place < at && self.tables.scopes.is_active(info.place, at),
-            None => false,
-        }
+        is_label_active(&self.tables, id, at)
     }
 
     /// The name of a symbol.
@@ -176,18 +164,7 @@ impl<'a> Book<'a> {
         ensures { (place : ℕ) (s : Sentence) → IsNumbered self.now.statements id.0 place s
             → IsLabelled result.now s }
     {
-        self.tables.labels.name(id.0).unwrap_or(&[])
-    }
-
-    // The place of a labelled statement.
-    fn place(&self, id: LabelId) -> usize
-        ensures { (place : ℕ) (s : Sentence) → IsNumbered self.now.statements id.0 place s
-            → result ≡ place }
-    {
-        match self.tables.label_info(id) {
-            Some(info) => info.place,
-            None => 0,
-        }
+        label_text(&self.tables, id)
     }
 
     /// The symbols of a labelled statement.
@@ -195,7 +172,7 @@ impl<'a> Book<'a> {
         ensures { (place : ℕ) (s : Sentence) → IsNumbered self.now.statements id.0 place s
             → AreNumbers self.now.statements (map (λ n. n.0) result.now) s.symbols }
     {
-        self.tables.symbols_at(self.place(id))
+        label_symbols(&self.tables, id)
     }
 
     /// The kind of a labelled statement.
@@ -203,15 +180,7 @@ impl<'a> Book<'a> {
         ensures { (place : ℕ) (s : Sentence) → IsNumbered self.now.statements id.0 place s
             → s.kind ≡ kind_behind result }
     {
-        match self.tables.log.get(self.place(id)) {
-            Some(entry) => match entry.kind {
-                Kind::Floating => LabelKind::Floating,
-                Kind::Essential => LabelKind::Essential,
-                Kind::Axiom => LabelKind::Axiom,
-                _ => LabelKind::Proof,
-            },
-            None => LabelKind::Proof,
-        }
+        label_kind(&self.tables, id)
     }
 
     /// The frame of an assertion (the Metamath book, section 4.2.7).
@@ -226,7 +195,7 @@ impl<'a> Book<'a> {
         Frame {
             book: self,
             id,
-            place: self.place(id),
+            place: label_place(&self.tables, id),
         }
     }
 
@@ -247,10 +216,7 @@ impl<'a> Book<'a> {
                 (record { statements = self.now.statements; place = place })
                 (map (λ h. h.0) result.now) }
     {
-        match self.tables.label_info(id) {
-            Some(info) => part_of(&self.tables.hypotheses, info.hypotheses),
-            None => &[],
-        }
+        label_hypotheses(&self.tables, id)
     }
 
     // The mandatory distinct pairs of an assertion.
@@ -260,9 +226,6 @@ impl<'a> Book<'a> {
                 (record { statements = self.now.statements; place = place })
                 (map (λ pair. (pair.0.0, pair.1.0)) result.now) }
     {
-        match self.tables.label_info(id) {
-            Some(info) => part_of(&self.tables.pairs, info.pairs),
-            None => &[],
-        }
+        label_pairs(&self.tables, id)
     }
 }

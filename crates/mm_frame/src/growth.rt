@@ -1,40 +1,56 @@
 //! Taking a statement that breaks no rule into the lists: room is made first, so that nothing can
 //! fail once something is written.
 
-ghost use Rattle.std.specs.Prelude.{◌≡◌, ◌+◌, ◌<◌, ◌≤◌, [], ◌∷◌, None, IfOk, OnErr, OnOk, vec_len, vec_capacity};
+ghost use Rattle.std.specs.Prelude.{◌≡◌, ◌↔◌, ◌⊎◌, ℕ, suc, ◌+◌, ◌<◌, ◌≤◌, List, [], length, map, slice_get, Contains, None, Some, IsTrue, IfOk, OnErr, OnOk, vec_len, vec_capacity};
 ghost use Rattle.mm_text.specs.declared.statement.Kind.TheVariants.{Opening, Closing};
 ghost use Rattle.mm_text.specs.Statement.{plain_statement, HasForm, bytes_in};
-ghost use Rattle.mm_frame.specs.Sentence.{Sentence, said_by};
-ghost use Rattle.mm_frame.specs.Active.{openings, closings};
+ghost use Rattle.mm_frame.specs.Sentence.{Sentence, said_by, IsHypothesis, IsAssertion, IsUse};
+ghost use Rattle.mm_frame.specs.Numbers.{AreNumbers, IsNumberOf};
+ghost use Rattle.mm_frame.specs.Active.{IsActive, openings, closings};
 ghost use Rattle.mm_frame.specs.Rules.{IsMeant};
 ghost use Rattle.mm_frame.specs.Taken.{TakenAs};
-ghost use Rattle.mm_frame.specs.Layout.{AreTables, statements_of};
+ghost use Rattle.mm_frame.specs.Layout.{AreTables, IsDeclared, statements_of};
 ghost use Rattle.mm_frame.specs.Grows.{Grows, IsSame, SameLists, HaveRoom, Entered};
-ghost use Rattle.mm_frame.specs.ScopesOf.{HasRoom};
+ghost use Rattle.mm_frame.specs.ScopesOf.{HaveScopes, HasRoom};
+ghost use Rattle.mm_frame.specs.Forgotten.{AreForgotten};
+ghost use Rattle.mm_frame.specs.declared.scopes.TheConstants.{NEVER};
 ghost use Rattle.mm_frame.specs.Form.{IsFormedSentence};
-ghost use Rattle.mm_frame.specs.declared.answer.Taken.TheVariants.{Opened};
+ghost use Rattle.mm_frame.specs.declared.answer.Taken.TheVariants.{Opened, Closed};
 
 use crate::answer::Taken;
-use crate::framing::{label_ids, mandatory, mandatory_pairs};
 use crate::lists::put;
 use crate::number::{LabelId, Sym};
-use crate::pairs::in_order;
-use crate::tables::{Entry, LabelInfo, Part, Tables};
+use crate::scopes::Scopes;
+use crate::tables::{Entry, Part, Tables};
 use mm_text::{Kind, Statement, Token};
 use std::alloc::AllocError;
 
-// Nothing of a list.
-const NO_PART: Part = Part { start: 0, end: 0 };
-
 impl<'a> Tables<'a> {
+    // The number of a declared symbol.
+    fn number_of(&self, symbol: &[u8]) -> Sym
+        requires tables { AreTables self.now }
+        requires declared { IsDeclared (statements_of self.now) symbol.now }
+        ensures { IsNumberOf (statements_of self.now) symbol.now result.0 }
+    {
+        match self.symbols.find(symbol) {
+            Some(number) => Sym(number),
+            None => Sym(0),
+        }
+    }
+
     // The numbers of declared symbols.
-    fn numbers_of(&self, symbols: &[Token]) -> Result<Vec<Sym>, AllocError> {
+    fn numbers_of(&self, symbols: &[Token]) -> Result<Vec<Sym>, AllocError>
+        requires tables { AreTables self.now }
+        requires declared { (x : List ℕ) → Contains (map (λ t. t.text.now) symbols.now) x
+            → IsDeclared (statements_of self.now) x }
+        ensures { IfOk result (λ numbers. AreNumbers
+            (statements_of self.now)
+            (map (λ n. n.0) numbers.items)
+            (map (λ t. t.text.now) symbols.now)) }
+    {
         let mut numbers = Vec::new(self.alloc);
         for token in symbols {
-            match self.symbols.find(token.text) {
-                Some(number) => numbers.push(Sym(number))?,
-                None => {}
-            }
+            numbers.push(self.number_of(token.text))?;
         }
         Ok(numbers)
     }
@@ -90,116 +106,22 @@ impl<'a> Tables<'a> {
     }
 
     // Takes a `$}` in: the active `$e` of its block aren't active any more.
-    fn close(&mut self, bytes: u64) -> Result<Taken, AllocError> {
+    fn close(&mut self, bytes: u64) -> Result<Taken, AllocError>
+        requires tables { AreTables self.old }
+        requires closes { closings (statements_of self.old) < openings (statements_of self.old) }
+        requires room { self.old.bytes + bytes ≤ 1073741824 }
+        requires some { 1 ≤ bytes }
+        ensures ok { IfOk result (λ taken. (taken ≡ Closed) × ((s : Sentence)
+            → s.kind ≡ Closing → s.label ≡ None → s.symbols ≡ []
+            → IsMeant (statements_of self.old) s → IsFormedSentence s
+            → Grows self.old self.new s bytes)) }
+        ensures err { OnErr result (IsSame self.old self.new) }
+    {
         self.reserve(0)?;
         let start = self.flat.len();
         self.enter(Kind::Closing, None, start, bytes);
-        self.forget_inactive();
+        forget_inactive(&mut self.essentials, &self.scopes, self.log.len());
         Ok(Taken::Closed)
-    }
-
-    // Drops the `$e` at the end of their list that aren't active.
-    fn forget_inactive(&mut self) {
-        for _ in 0..self.essentials.len() {
-            match self.essentials.last() {
-                Some(place) if self.is_active_now(*place) => return,
-                _ => {
-                    let _ = self.essentials.pop();
-                }
-            }
-        }
-    }
-
-    // Takes the pairs of one member of a `$d` with the members before it in.
-    fn separate(&mut self, member: Sym, others: &[Sym], place: usize) {
-        for other in others {
-            if !self.is_distinct(member, *other, place) {
-                self.distinct.add(in_order(member.0, other.0), place);
-            }
-        }
-    }
-
-    // Takes a `$d` in.
-    fn separate_all(&mut self, numbers: &[Sym], bytes: u64) -> Result<Taken, AllocError> {
-        let place = self.log.len();
-        let start = self.flat.len();
-        self.distinct.reserve(numbers.len().saturating_mul(numbers.len()))?;
-        self.reserve(numbers.len())?;
-        let _ = self.flat.extend_from_slice(numbers);
-        for i in 0..numbers.len() {
-            self.separate(numbers[i], &numbers[..i], place);
-        }
-        self.enter(Kind::Distinct, None, start, bytes);
-        Ok(Taken::Declared)
-    }
-
-    // Writes a label's entry, and the entry of its statement.
-    fn name(
-        &mut self,
-        kind: Kind,
-        label: &'a [u8],
-        numbers: &[Sym],
-        frame: (Part, Part),
-        bytes: u64,
-    ) -> LabelId {
-        let id = LabelId(self.labels.len() as u32);
-        let place = self.log.len();
-        let start = self.flat.len();
-        let _ = self.flat.extend_from_slice(numbers);
-        self.labels.add(label);
-        put(&mut self.named, LabelInfo {
-            place,
-            hypotheses: frame.0,
-            pairs: frame.1,
-        });
-        self.enter(kind, Some(id), start, bytes);
-        id
-    }
-
-    // Notes the place of a variable's latest `$f`.
-    fn note_floating(&mut self, variable: Sym) {
-        let place = self.log.len();
-        if let Some(info) = self.infos.get_mut(variable.0 as usize) {
-            info.floating = Some(place);
-        }
-    }
-
-    // Takes a `$f` in.
-    fn give_type(&mut self, label: &'a [u8], numbers: &[Sym], bytes: u64) -> Result<Taken, AllocError> {
-        self.reserve(numbers.len())?;
-        if let [_, variable] = numbers {
-            self.note_floating(*variable);
-        }
-        let id = self.name(Kind::Floating, label, numbers, (NO_PART, NO_PART), bytes);
-        Ok(Taken::Hypothesis(id))
-    }
-
-    // Takes a `$e` in.
-    fn suppose(&mut self, label: &'a [u8], numbers: &[Sym], bytes: u64) -> Result<Taken, AllocError> {
-        self.reserve(numbers.len())?;
-        put(&mut self.essentials, self.log.len());
-        let id = self.name(Kind::Essential, label, numbers, (NO_PART, NO_PART), bytes);
-        Ok(Taken::Hypothesis(id))
-    }
-
-    // Takes a `$a` or `$p` in, with its frame.
-    fn assert(
-        &mut self,
-        kind: Kind,
-        label: &'a [u8],
-        numbers: &[Sym],
-        bytes: u64,
-    ) -> Result<Taken, AllocError> {
-        let places = mandatory(self, numbers)?;
-        let hypotheses = label_ids(self, &places)?;
-        let pairs = mandatory_pairs(self, &places)?;
-        self.hypotheses.reserve(hypotheses.len())?;
-        self.pairs.reserve(pairs.len())?;
-        self.reserve(numbers.len())?;
-        let hypotheses = add_part(&mut self.hypotheses, &hypotheses);
-        let pairs = add_part(&mut self.pairs, &pairs);
-        let id = self.name(kind, label, numbers, (hypotheses, pairs), bytes);
-        Ok(Taken::Assertion(id))
     }
 
     // Takes a labelled statement in.
@@ -209,7 +131,18 @@ impl<'a> Tables<'a> {
         label: &'a [u8],
         numbers: &[Sym],
         bytes: u64,
-    ) -> Result<Taken, AllocError> {
+    ) -> Result<Taken, AllocError>
+        requires tables { AreTables self.old }
+        requires kind { IsHypothesis kind ⊎ IsAssertion kind }
+        requires room { self.old.bytes + bytes ≤ 1073741824 }
+        requires enough { 1 + length numbers.now ≤ bytes }
+        ensures ok { IfOk result (λ taken. TakenAs (statements_of self.old) kind taken
+            × ((s : Sentence) → s.kind ≡ kind → s.label ≡ Some label.now
+            → AreNumbers (statements_of self.old) (map (λ n. n.0) numbers.now) s.symbols
+            → IsMeant (statements_of self.old) s → IsFormedSentence s
+            → Grows self.old self.new s bytes)) }
+        ensures err { OnErr result (IsSame self.old self.new) }
+    {
         match kind {
             Kind::Floating => self.give_type(label, numbers, bytes),
             Kind::Essential => self.suppose(label, numbers, bytes),
@@ -218,7 +151,17 @@ impl<'a> Tables<'a> {
     }
 
     // Takes a statement in that uses symbols.
-    fn take_use(&mut self, statement: &Statement<'a>, bytes: u64) -> Result<Taken, AllocError> {
+    fn take_use(&mut self, statement: &Statement<'a>, bytes: u64) -> Result<Taken, AllocError>
+        requires tables { AreTables self.old }
+        requires kind { IsUse statement.now.kind }
+        requires meant { IsMeant (statements_of self.old) (said_by statement.now) }
+        requires formed { HasForm (plain_statement statement.now) }
+        requires counted { bytes ≡ bytes_in (plain_statement statement.now) }
+        requires room { self.old.bytes + bytes ≤ 1073741824 }
+        ensures ok { IfOk result (λ taken. Grows self.old self.new (said_by statement.now) bytes
+            × TakenAs (statements_of self.old) statement.now.kind taken) }
+        ensures err { OnErr result (IsSame self.old self.new) }
+    {
         let numbers = self.numbers_of(&statement.symbols)?;
         match &statement.label {
             Some(label) => self.take_labelled(statement.kind, label.text, &numbers, bytes),
@@ -252,12 +195,29 @@ impl<'a> Tables<'a> {
     }
 }
 
-// Adds elements to the end of a list that has room, and says where they stand.
-fn add_part<T: Copy + Drop>(list: &mut Vec<T>, more: &[T]) -> Part {
-    let start = list.len();
-    let _ = list.extend_from_slice(more);
-    Part {
-        start,
-        end: list.len(),
+// Whether the last of some places is active, if there is one.
+fn is_last_active(places: &[usize], scopes: &Scopes, at: usize) -> bool
+    ensures { (statements : List Sentence) (k p : ℕ) → HaveScopes statements scopes.now
+        → length statements ≤ NEVER → at ≡ length statements → length places.now ≡ suc k
+        → slice_get places.now k ≡ Some p → p < at → (IsTrue result ↔ IsActive statements p) }
+{
+    match places.last() {
+        Some(place) => scopes.is_active(*place, at),
+        None => true,
+    }
+}
+
+// Drops the places at the end of their list that aren't active.
+fn forget_inactive(places: &mut Vec<usize>, scopes: &Scopes, at: usize)
+    ensures { (statements : List Sentence) → HaveScopes statements scopes.now
+        → length statements ≤ NEVER → at ≡ length statements
+        → ((i p : ℕ) → slice_get places.old.items i ≡ Some p → p < at)
+        → AreForgotten statements places.old.items places.new.items }
+{
+    for _ in 0..places.len() {
+        if is_last_active(places, scopes, at) {
+            return;
+        }
+        let _ = places.pop();
     }
 }

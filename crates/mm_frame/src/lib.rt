@@ -11,12 +11,15 @@ mod laws;
 mod lists;
 mod lookups;
 mod names;
+mod naming;
 mod number;
 mod pairs;
+mod reads;
 mod rule;
 mod rules;
 mod said;
 mod scopes;
+mod separate;
 mod tables;
 
 pub use answer::{Found, RuleFault, Taken};

@@ -5,7 +5,7 @@ ghost use Rattle.std.specs.Prelude.{◌≡◌, ◌≤◌, length, slice_range};
 use crate::lists::at;
 use crate::names::Names;
 use crate::number::{LabelId, Sym};
-use crate::pairs::Pairs;
+use crate::pairs::{Pairs, in_order};
 use crate::scopes::Scopes;
 use mm_text::Kind;
 use std::alloc::{AllocError, Global};
@@ -78,9 +78,11 @@ pub struct Tables<'a> {
 }
 
 impl<'a> Tables<'a> {
-    ghost use Rattle.std.specs.Prelude.{◌≡◌, ◌↔◌, ◌<◌, [], IfOk, IsTrue, MatchOption, Some, length, map, slice_get};
-    ghost use Rattle.mm_frame.specs.Sentence.{Sentence};
-    ghost use Rattle.mm_frame.specs.Numbers.{AreNumbers};
+    ghost use Rattle.std.specs.Prelude.{◌≡◌, ◌↔◌, ◌<◌, ◌≤◌, ℕ, [], IfOk, IsTrue, List, MatchOption, Some, length, map, slice_get, take};
+    ghost use Rattle.mm_text.specs.declared.statement.Kind.TheVariants.{Floating};
+    ghost use Rattle.mm_frame.specs.Sentence.{Sentence, Types};
+    ghost use Rattle.mm_frame.specs.Frame.{IsDistinct};
+    ghost use Rattle.mm_frame.specs.Numbers.{AreNumbers, IsNumberOf};
     ghost use Rattle.mm_frame.specs.Active.{IsActive};
     ghost use Rattle.mm_frame.specs.Layout.{AreTables, statements_of, database_of, IsDeclared, IsKnown};
 
@@ -147,12 +149,22 @@ impl<'a> Tables<'a> {
     }
 
     /// The variable of the `$f` at a place.
-    pub(crate) fn floating_variable(&self, place: usize) -> Option<Sym> {
+    pub(crate) fn floating_variable(&self, place: usize) -> Option<Sym>
+        requires { AreTables self.now }
+        ensures { (f : Sentence) → slice_get (statements_of self.now) place ≡ Some f → MatchOption
+            result
+            (¬ (f.kind ≡ Floating))
+            (λ n. (code : List ℕ) × (x : List ℕ) × Types code x f
+                × IsNumberOf (statements_of self.now) x n.0) }
+    {
         match at(&self.log, place) {
-            Some(entry) => match part_of(&self.flat, entry.symbols) {
-                [_, variable] if entry.kind == Kind::Floating => Some(*variable),
-                _ => None,
-            },
+            Some(entry) => {
+                if entry.kind == Kind::Floating {
+                    at(self.symbols_at(place), 1)
+                } else {
+                    None
+                }
+            }
             None => None,
         }
     }
@@ -167,9 +179,17 @@ impl<'a> Tables<'a> {
     }
 
     /// Whether two symbols are a distinct pair after the statements before a place.
-    pub(crate) fn is_distinct(&self, a: Sym, b: Sym, at: usize) -> bool {
-        match self.distinct.latest(crate::pairs::in_order(a.0, b.0), at) {
-            Some(place) => a != b && self.scopes.is_active(place, at),
+    pub(crate) fn is_distinct(&self, a: Sym, b: Sym, at: usize) -> bool
+        requires { AreTables self.now }
+        ensures { (x y : List ℕ) → IsNumberOf (statements_of self.now) x a.0
+            → IsNumberOf (statements_of self.now) y b.0 → at ≤ length (statements_of self.now)
+            → (IsTrue result ↔ IsDistinct (take at (statements_of self.now)) x y) }
+    {
+        if a.0 == b.0 {
+            return false;
+        }
+        match self.distinct.latest(in_order(a.0, b.0), at) {
+            Some(place) => self.scopes.is_active(place, at),
             None => false,
         }
     }
