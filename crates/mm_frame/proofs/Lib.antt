@@ -40,6 +40,9 @@ pub mod ReadLaws
 pub mod DeclaredSymbols
 pub mod Declared
 pub mod Uses
+pub mod OpenLaws
+pub mod Surplus
+pub mod OpenPlaces
 pub mod Separated
 pub mod NamedTables
 pub mod SeparatedTables
