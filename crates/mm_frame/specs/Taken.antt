@@ -1,5 +1,5 @@
 -- What a statement is taken as.
-use Rattle.std.specs.Prelude.{◌≡◌, ℕ, List, length}
+use Rattle.std.specs.Prelude.{◌≡◌, List, length}
 use Rattle.mm_text.specs.declared.statement.Kind.{Kind}
 use Rattle.mm_text.specs.declared.statement.Kind.TheVariants as kinds
 use Rattle.mm_frame.specs.declared.answer.Taken.{Taken}

@@ -2,9 +2,32 @@
 #![tactic(auto)]
 
 mod answer;
+mod book;
+mod declare;
+mod frame;
+mod framing;
+mod growth;
+mod laws;
+mod lists;
+mod lookups;
+mod names;
+mod naming;
 mod number;
+mod pairs;
+mod reads;
 mod rule;
+mod rules;
+mod said;
+mod scopes;
+mod separate;
+mod tables;
 
 pub use answer::{Found, RuleFault, Taken};
+pub use book::Book;
+pub use frame::Frame;
+pub use laws::{active_statements, one_frame, one_label_number, one_number, open_blocks, open_count};
 pub use number::{LabelId, LabelKind, Sym};
 pub use rule::MeaningRule;
+
+#[cfg(test)]
+mod tests;

@@ -1,0 +1,116 @@
+-- What is active at each place, by the blocks' numbers; and what stays active as statements are added.
+use Rattle.std.proofs.Common.{◌≡◌, ◌↔◌, ℕ, zero, suc, ◌<◌, ◌≤◌, inl, inr, length, take, List, Some, sym, subst, arith}
+use Rattle.std.specs.List.{slice_get}
+use Rattle.std.proofs.lemmas.Option.{slice_get_within}
+use Rattle.std.proofs.lemmas.Bool.{cases_lt}
+use Rattle.std.proofs.lemmas.List.{take-take, take_all, length-take-le}
+use Rattle.mm_frame.specs.Sentence.{Sentence}
+use Rattle.mm_frame.specs.Active.{IsOpen, Holds, IsActive}
+use Rattle.mm_frame.specs.Scopes.{IsUnclosed, AreScopes}
+use Rattle.mm_frame.proofs.Pushed.{get_from_front, get_in_front}
+use Rattle.mm_frame.proofs.Counts.{unclosed_front, unclosed_outer}
+
+-- a front's front
+pub fronts : {X : Type 0} (xs : List X) (n m : ℕ) → n ≤ m → take n (take m xs) ≡ take n xs
+fronts xs n m le = take-take n m xs le
+
+-- a block is open after a front, if it is after a longer one
+pub unclosed_shorter : (xs : List Sentence) (n m x : ℕ) → n ≤ m → IsUnclosed (take m xs) x → IsUnclosed (take n xs) x
+unclosed_shorter xs n m x le still = subst (λ ys. IsUnclosed ys x) (fronts xs n m le) (unclosed_front (take m xs) n x still)
+
+-- a block is open after the front that ends with its `$}` or earlier
+unclosed_until : (never : ℕ) (st : List Sentence) (blocks ends stack : List ℕ) → (a : AreScopes never st blocks ends stack) → (b x c q : ℕ) → slice_get a.starts b ≡ Some x → slice_get ends b ≡ Some c
+    → q ≤ length st → q ≤ c → IsUnclosed (take q st) x
+unclosed_until never st blocks ends stack a b x c q begins ends_at le until =
+    elim (a.ended b x c begins ends_at) [
+      | inl (is_never, k, on) ↦
+          let h = a.on_stack k b on in
+          let same : h.start ≡ x = let there = h.there in cc in
+          unclosed_front st q x (subst (λ y. IsUnclosed st y) same h.unclosed)
+      | inr end ↦ unclosed_shorter st q c x until end.before
+    ]
+
+-- a block that is open after a front has its `$}` no earlier
+until_unclosed : (never : ℕ) (st : List Sentence) (blocks ends stack : List ℕ) → (a : AreScopes never st blocks ends stack) → (b x c q : ℕ) → slice_get a.starts b ≡ Some x → slice_get ends b ≡ Some c
+    → q ≤ length st → length st ≤ never → IsUnclosed (take q st) x → q ≤ c
+until_unclosed never st blocks ends stack a b x c q begins ends_at le room still =
+    elim (a.ended b x c begins ends_at) [
+      | inl (is_never, k, on) ↦ omega arith
+      | inr end ↦ elim (cases_lt c q) [
+        | inl lt ↦ absurd (end.after (unclosed_shorter st (suc c) q x (omega arith) still))
+        | inr ge ↦ ge
+      ]
+    ]
+
+-- what a block holds in a front, where the front holds the statement
+pub holds_kept : (st : List Sentence) (q p outer : ℕ) → p < q → Holds (take q st) outer p → Holds st outer p
+holds_kept st q p outer lt (before, still) = (before, subst (λ ys. IsOpen ys outer) (fronts st (suc p) q (omega arith)) still)
+
+pub holds_back : (st : List Sentence) (q p outer : ℕ) → p < q → Holds st outer p → Holds (take q st) outer p
+holds_back st q p outer lt (before, still) = (before, subst (λ ys. IsOpen ys outer) (sym (fronts st (suc p) q (omega arith))) still)
+
+within_front : (st : List Sentence) (q p : ℕ) → p < q → q ≤ length st → p < length (take q st)
+within_front st q p lt le = let e = length-take-le q st le in omega arith
+
+-- the statement is active, while the block that directly holds it is open
+active_while : (never : ℕ) (st : List Sentence) (blocks ends stack : List ℕ) → AreScopes never st blocks ends stack → (p q b c : ℕ) → slice_get blocks p ≡ Some b → slice_get ends b ≡ Some c
+    → p < q → q ≤ length st → q ≤ c → IsActive (take q st) p
+active_while never st blocks ends stack a p q b c holder ends_at lt le until =
+    let h = a.holders p b holder in
+    let x = h.start in
+    let still = unclosed_until never st blocks ends stack a b x c q h.there ends_at le until in
+    let before = h.before in
+    record {
+      within = within_front st q p lt le;
+      kept = λ outer holds.
+          let held = holds_kept st q p outer lt holds in
+          let near = h.nearest outer held in
+          let opened = held.1 in record {
+            opening = opened.opening;
+            there = get_in_front st q outer opened.opening (omega arith) (get_from_front st (suc p) outer opened.opening opened.there);
+            opened = opened.opened;
+            unclosed = unclosed_outer (take q st) x (suc outer) near
+                (subst (λ ys. IsUnclosed ys (suc outer)) (sym (fronts st x q (omega arith))) (unclosed_shorter st x (suc p) (suc outer) (omega arith) opened.unclosed))
+                still;
+          };
+    }
+
+while_active : (never : ℕ) (st : List Sentence) (blocks ends stack : List ℕ) → AreScopes never st blocks ends stack → length st ≤ never → (p q b c : ℕ) → slice_get blocks p ≡ Some b → slice_get ends b ≡ Some c
+    → p < q → q ≤ length st → IsActive (take q st) p → q ≤ c
+while_active never st blocks ends stack a room p q b c holder ends_at lt le active =
+    let h = a.holders p b holder in
+    until_unclosed never st blocks ends stack a b h.start c q h.there ends_at le room (still never st blocks ends stack a p q b h.start h.there lt le h.before h.unclosed active)
+  where
+    still : (never : ℕ) (st : List Sentence) (blocks ends stack : List ℕ) → (a : AreScopes never st blocks ends stack) → (p q b x : ℕ) → slice_get a.starts b ≡ Some x
+        → p < q → q ≤ length st → x ≤ p → IsUnclosed (take (suc p) st) x → IsActive (take q st) p → IsUnclosed (take q st) x
+    still never st blocks ends stack a p q zero x begins lt le before unclosed active =
+        let h = a.on_stack 0 0 a.bottom in
+        let same : h.start ≡ x = let there = h.there in cc in
+        unclosed_front st q x (subst (λ y. IsUnclosed st y) same h.unclosed)
+    still never st blocks ends stack a p q (suc b) x begins lt le before unclosed active =
+        let begun = a.begun b x begins in
+        let next = begun.next in
+        let outer = begun.place in
+        let opened : IsOpen (take (suc p) st) outer = record {
+              opening = begun.opening;
+              there = get_in_front st (suc p) outer begun.opening (omega arith) begun.there;
+              opened = begun.opened;
+              unclosed = subst (λ y. IsUnclosed (take (suc p) st) y) next unclosed;
+            } in
+        let kept = active.kept outer (holds_back st q p outer lt (omega arith, opened)) in
+        subst (λ y. IsUnclosed (take q st) y) (sym next) kept.unclosed
+
+-- A statement is active at a later place exactly if the block that directly holds it has its `$}` there or later.
+pub scope_active : (never : ℕ) (st : List Sentence) (blocks ends stack : List ℕ) → AreScopes never st blocks ends stack → length st ≤ never → (p q b c : ℕ) → slice_get blocks p ≡ Some b → slice_get ends b ≡ Some c
+    → p < q → q ≤ length st → (q ≤ c) ↔ IsActive (take q st) p
+scope_active never st blocks ends stack a room p q b c holder ends_at lt le =
+    ((λ until. active_while never st blocks ends stack a p q b c holder ends_at lt le until), (λ active. while_active never st blocks ends stack a room p q b c holder ends_at lt le active))
+
+-- the same after all statements
+pub scope_active_now : (never : ℕ) (st : List Sentence) (blocks ends stack : List ℕ) → AreScopes never st blocks ends stack → length st ≤ never → (p b c : ℕ) → slice_get blocks p ≡ Some b → slice_get ends b ≡ Some c
+    → (length st ≤ c) ↔ IsActive st p
+scope_active_now never st blocks ends stack a room p b c holder ends_at =
+    let held = a.held in
+    let lt = slice_get_within blocks p b holder in
+    let P : List Sentence → Type 0 = λ ys. (length st ≤ c) ↔ IsActive ys p in
+    subst P (take_all (length st) st (omega arith)) (scope_active never st blocks ends stack a room p (length st) b c holder ends_at (omega arith) (omega arith))

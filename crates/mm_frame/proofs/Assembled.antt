@@ -1,0 +1,60 @@
+-- A book's lists after one statement more, from what holds of each of them.
+use Rattle.std.proofs.Common.{◌≡◌, ℕ, ◌+◌, ◌*◌, ◌<◌, ◌≤◌, length, List, [], ◌∷◌, ◌++◌, Some, refl, sym, ap, ◌∙◌, length-append, arith}
+use Rattle.std.specs.List.{slice_get}
+use Rattle.mm_frame.specs.declared.number.Sym.{Sym}
+use Rattle.mm_frame.specs.declared.number.LabelId.{LabelId}
+use Rattle.mm_frame.specs.declared.tables.Entry.{Entry}
+use Rattle.mm_frame.specs.declared.tables.Tables.{Tables}
+use Rattle.mm_frame.specs.Sentence.{Sentence}
+use Rattle.mm_frame.specs.Rules.{IsMeant}
+use Rattle.mm_frame.specs.Form.{IsFormedSentence, IsSound}
+use Rattle.mm_frame.specs.ScopesOf.{HaveScopes}
+use Rattle.mm_frame.specs.Layout.{AreTables, AreInfos, AreLabels, AreEntries, AreEssentials, AreFrames, AreStated, IsWithin, sentence_by, statements_of}
+use Rattle.mm_frame.specs.Grows.{Grows}
+use Rattle.mm_frame.proofs.Meant.{allmeant_push, allformed_push}
+use Rattle.mm_frame.proofs.Entries.{sentences_push, entries_push}
+
+-- the lists that are looked up by statement, once they hold one statement more
+pub record AreGrown (t v : Tables) (s : Sentence) : Type 0 where
+  pub infos : AreInfos (statements_of t ++ s ∷ []) v.symbols.names v.infos.items
+  pub labels : AreLabels (statements_of t ++ s ∷ []) v.labels.names v.named.items v.log.items
+  pub scopes : HaveScopes (statements_of t ++ s ∷ []) v.scopes
+  pub essentials : AreEssentials (statements_of t ++ s ∷ []) v.essentials.items
+  pub frames : AreFrames (statements_of t ++ s ∷ []) v.hypotheses.items v.pairs.items v.named.items
+  pub stated : AreStated (statements_of t ++ s ∷ []) v.symbols.names v.distinct.stated
+
+-- what was appended to the lists that say the statements
+pub record AreAppended (t v : Tables) (a b : List (List ℕ)) (c : List Sym) (new : Entry) (s : Sentence) : Type 0 where
+  pub symbols : v.symbols.names ≡ t.symbols.names ++ a
+  pub labels : v.labels.names ≡ t.labels.names ++ b
+  pub flat : v.flat.items ≡ t.flat.items ++ c
+  pub log : v.log.items ≡ t.log.items ++ new ∷ []
+  pub said : sentence_by (t.symbols.names ++ a) (t.labels.names ++ b) (t.flat.items ++ c) new ≡ s
+  pub within : IsWithin new.symbols (length (t.flat.items ++ c))
+  pub numbers : (i : ℕ) (n : Sym) → slice_get c i ≡ Some n → n.0 < length (t.symbols.names ++ a)
+  pub label : (id : LabelId) → new.label ≡ Some id → id.0 < length (t.labels.names ++ b)
+
+pub assembled : (t v : Tables) (s : Sentence) (new : Entry) (a b : List (List ℕ)) (c : List Sym) (bytes : ℕ) → AreTables t → IsMeant (statements_of t) s → IsFormedSentence s
+    → AreAppended t v a b c new s → AreGrown t v s → v.bytes ≡ t.bytes + bytes → 1 + length c ≤ 2 * bytes → t.bytes + bytes ≤ 1073741824 → Grows t v s bytes
+assembled t v s new a b c bytes tables meant formed app grown counted enough room =
+    let pushed = sentences_push t.symbols.names t.labels.names t.flat.items t.log.items a b c new tables.entries in
+    let st : statements_of v ≡ statements_of t ++ s ∷ [] =
+        rw (app.symbols, app.labels, app.flat, app.log) (pushed ∙ ap (λ (x : Sentence). statements_of t ++ x ∷ []) app.said) in
+    let sound : IsSound (statements_of v) = rw st (allmeant_push (statements_of t) s tables.sound.0 meant, allformed_push (statements_of t) s tables.sound.1 formed) in
+    let n : AreEntries v.symbols.names v.labels.names v.flat.items v.log.items = rw (app.symbols, app.labels, app.flat, app.log)
+        (entries_push t.symbols.names t.labels.names t.flat.items t.log.items a b c new tables.entries app.within app.numbers app.label) in
+    let i : AreInfos (statements_of v) v.symbols.names v.infos.items = rw st grown.infos in
+    let l : AreLabels (statements_of v) v.labels.names v.named.items v.log.items = rw st grown.labels in
+    let h : HaveScopes (statements_of v) v.scopes = rw st grown.scopes in
+    let e : AreEssentials (statements_of v) v.essentials.items = rw st grown.essentials in
+    let f : AreFrames (statements_of v) v.hypotheses.items v.pairs.items v.named.items = rw st grown.frames in
+    let d : AreStated (statements_of v) v.symbols.names v.distinct.stated = rw st grown.stated in
+    let logs = length-append t.log.items (new ∷ []) in
+    let flats = length-append t.flat.items c in
+    let before = tables.counted in
+    let sum : length v.log.items + length v.flat.items ≤ 2 * v.bytes = rw (app.log, app.flat, counted, logs, flats) (omega arith) in
+    record {
+        tables = record { sound = sound; counted = sum; small = rw counted room; infos = i; labels = l; entries = n; scopes = h; essentials = e; frames = f; stated = d; };
+        statements = st;
+        counted = counted;
+    }

@@ -1,0 +1,153 @@
+-- A book's lists after a `${` or a `$}`.
+use Rattle.std.proofs.Common.{◌≡◌, ℕ, suc, ◌+◌, ◌-◌, ◌*◌, ◌<◌, ◌≤◌, length, List, [], ◌∷◌, ◌++◌, map, take, drop, Option, Some, None, Result, Ok, Err, refl, sym, ap, ◌∙◌, subst, append-nil, arith}
+use Rattle.std.specs.List.{slice_get, slice_range}
+use Rattle.std.specs.Result.{OnErr}
+use Rattle.mm_text.specs.declared.statement.Kind.{Kind}
+use Rattle.mm_text.specs.declared.statement.Kind.TheVariants.{Opening, Closing, Floating, Distinct}
+use Rattle.mm_frame.specs.declared.number.Sym.{Sym}
+use Rattle.mm_frame.specs.declared.tables.Entry.{Entry}
+use Rattle.mm_frame.specs.declared.tables.Tables.{Tables}
+use Rattle.mm_frame.specs.Sentence.{Sentence}
+use Rattle.mm_frame.specs.Active.{openings, closings}
+use Rattle.mm_frame.specs.Rules.{IsMeant}
+use Rattle.mm_frame.specs.Form.{IsFormedSentence}
+use Rattle.mm_frame.specs.Numbers.{symbols_of, declared_by}
+use Rattle.mm_frame.specs.ScopesOf.{HaveScopes}
+use Rattle.mm_frame.specs.Layout.{AreTables, AreInfos, AreLabels, AreEssentials, AreFrames, AreStated, IsWithin, sentence_by, names_by, statements_of}
+use Rattle.mm_frame.specs.Forgotten.{AreForgotten}
+use Rattle.mm_frame.specs.Grows.{Grows, IsSame, SameLists, Entered, entry_of}
+use Rattle.std.proofs.lemmas.Option.{slice_get_within}
+use Rattle.mm_frame.specs.declared.scopes.TheConstants.{NEVER}
+use Rattle.mm_frame.proofs.Entries.{length-sentences}
+use Rattle.mm_frame.proofs.ScopeLaws.{length_pushed}
+use Rattle.mm_frame.proofs.Infos.{infos_other}
+use Rattle.mm_frame.proofs.Labels.{labels_none, essentials_other, essentials_closing}
+use Rattle.mm_frame.proofs.FrameLaws.{placed, frames_other, stated_other}
+use Rattle.mm_frame.proofs.SameTables.{same_tables}
+use Rattle.mm_frame.proofs.Assembled.{AreGrown, AreAppended, assembled}
+
+-- one statement with no label and no symbols was written, but the active `$e` are another matter
+pub record AddsBlock (t v : Tables) (kind : Kind) (bytes : ℕ) : Type 0 where
+  pub symbols : v.symbols.names ≡ t.symbols.names
+  pub infos : v.infos.items ≡ t.infos.items
+  pub labels : v.labels.names ≡ t.labels.names
+  pub named : v.named.items ≡ t.named.items
+  pub log : v.log.items ≡ t.log.items ++ entry_of kind None (length t.flat.items) (length t.flat.items) ∷ []
+  pub flat : v.flat.items ≡ t.flat.items
+  pub scopes :
+    (statements : List Sentence) (s : Sentence) → HaveScopes statements t.scopes → s.kind ≡ kind
+    → (kind ≡ Closing → closings statements < openings statements) → HaveScopes (statements ++ s ∷ []) v.scopes
+  pub hypotheses : v.hypotheses.items ≡ t.hypotheses.items
+  pub pairs : v.pairs.items ≡ t.pairs.items
+  pub stated : v.distinct.stated ≡ t.distinct.stated
+  pub counted : v.bytes ≡ t.bytes + bytes
+
+-- where room can't be made
+pub same_on_err : {X Y : Type 0} (r : Result X Y) (t u : Tables) → AreTables t → SameLists t u → OnErr r (IsSame t u)
+same_on_err (Ok x) t u tables same = tt
+same_on_err (Err y) t u tables same = same_tables t u tables same
+
+-- the scopes of the same lists
+same_scopes : (t u : Tables) (st : List Sentence) → SameLists t u → HaveScopes st t.scopes → HaveScopes st u.scopes
+same_scopes t u st same have = rw (same.scopes.blocks, same.scopes.ends, same.scopes.open_blocks) have
+
+pub adds_block : (t u w : Tables) (kind : Kind) (start bytes : ℕ) → SameLists t u → Entered u w kind None start bytes → start ≡ length u.flat.items → AddsBlock t w kind bytes
+adds_block t u w kind start bytes same e begins = record {
+  symbols = e.symbols ∙ same.symbols;
+  infos = e.infos ∙ same.infos;
+  labels = e.labels ∙ same.labels;
+  named = e.named ∙ same.named;
+  log = e.log ∙ ap (λ n. u.log.items ++ entry_of kind None n (length u.flat.items) ∷ []) begins
+      ∙ ap (λ (ys : List Sym). u.log.items ++ entry_of kind None (length ys) (length ys) ∷ []) same.flat
+      ∙ ap (λ ys. ys ++ entry_of kind None (length t.flat.items) (length t.flat.items) ∷ []) same.log;
+  flat = e.flat ∙ same.flat;
+  scopes = λ st s have is more. e.scopes st s (same_scopes t u st same have) is more;
+  hypotheses = e.hypotheses ∙ same.hypotheses;
+  pairs = e.pairs ∙ same.pairs;
+  stated = e.stated ∙ same.stated;
+  counted = e.counted ∙ ap (λ n. n + bytes) same.bytes;
+}
+
+-- nothing is read between a place and itself
+no_range : {X : Type 0} (xs : List X) (n : ℕ) → slice_range xs n n ≡ []
+no_range xs n = let none : n - n ≡ 0 = omega arith in rw none refl
+
+-- what a statement of these parts says
+abbrev said_of : Kind → Option (List ℕ) → List (List ℕ) → Sentence
+said_of kind label symbols = record { kind = kind; label = label; symbols = symbols }
+
+-- what the entry says
+block_said : (symbols labels : List (List ℕ)) (flat : List Sym) (kind : Kind) (n : ℕ) (s : Sentence) → s.kind ≡ kind → s.label ≡ None → s.symbols ≡ []
+    → sentence_by symbols labels flat (entry_of kind None n n) ≡ s
+block_said symbols labels flat kind n s is unlabelled bare =
+    ap (λ (part : List Sym). said_of kind None (names_by symbols part)) (no_range flat n)
+    ∙ ap (λ k. said_of k None []) (sym is) ∙ ap (λ l. said_of s.kind l []) (sym unlabelled) ∙ ap (λ xs. said_of s.kind s.label xs) (sym bare)
+
+pub block_grows : (t v : Tables) (s : Sentence) (kind : Kind) (bytes : ℕ) → AreTables t → AddsBlock t v kind bytes → s.kind ≡ kind → s.label ≡ None → s.symbols ≡ []
+    → declared_by s ≡ [] → ¬ (s.kind ≡ Floating) → ¬ (s.kind ≡ Distinct) → (kind ≡ Closing → closings (statements_of t) < openings (statements_of t))
+    → AreEssentials (statements_of t ++ s ∷ []) v.essentials.items → 1 ≤ bytes → t.bytes + bytes ≤ 1073741824
+    → IsMeant (statements_of t) s → IsFormedSentence s → Grows t v s bytes
+block_grows t v s kind bytes tables adds is unlabelled bare none no_float no_distinct more essentials some room meant formed =
+    let st = statements_of t in
+    let n = length t.flat.items in
+    let new = entry_of kind None n n in
+    let size : length t.log.items ≡ length st = sym (length-sentences t.symbols.names t.labels.names t.flat.items t.log.items) in
+    let a : v.symbols.names ≡ t.symbols.names ++ [] = adds.symbols ∙ sym (append-nil t.symbols.names) in
+    let b : v.labels.names ≡ t.labels.names ++ [] = adds.labels ∙ sym (append-nil t.labels.names) in
+    let c : v.flat.items ≡ t.flat.items ++ [] = adds.flat ∙ sym (append-nil t.flat.items) in
+    let hs : v.hypotheses.items ≡ t.hypotheses.items ++ [] = adds.hypotheses ∙ sym (append-nil t.hypotheses.items) in
+    let ps : v.pairs.items ≡ t.pairs.items ++ [] = adds.pairs ∙ sym (append-nil t.pairs.items) in
+    let flat_size : length (t.flat.items ++ []) ≡ n = ap length (append-nil t.flat.items) in
+    let i : AreInfos (st ++ s ∷ []) v.symbols.names v.infos.items = rw (adds.symbols, adds.infos) (infos_other st t.symbols.names t.infos.items s tables.infos none no_float) in
+    let l : AreLabels (st ++ s ∷ []) v.labels.names v.named.items v.log.items = rw (adds.labels, adds.named, adds.log)
+        (labels_none st t.labels.names t.named.items t.log.items s new tables.labels unlabelled refl size) in
+    let f : AreFrames (st ++ s ∷ []) v.hypotheses.items v.pairs.items v.named.items = rw (hs, ps, adds.named)
+        (frames_other st s t.hypotheses.items [] t.pairs.items [] t.named.items (placed st t.labels.names t.named.items t.log.items tables.labels) tables.frames) in
+    let all : t.symbols.names ++ [] ≡ symbols_of (st ++ s ∷ []) = sym a ∙ i.all in
+    let d : AreStated (st ++ s ∷ []) v.symbols.names v.distinct.stated = rw (a, adds.stated)
+        (stated_other st s t.symbols.names [] t.distinct.stated tables.sound.0 tables.infos.all all tables.stated no_distinct) in
+    assembled t v s new [] [] [] bytes tables meant formed
+    (record {
+      symbols = a; labels = b; flat = c; log = adds.log;
+      said = block_said (t.symbols.names ++ []) (t.labels.names ++ []) (t.flat.items ++ []) kind n s is unlabelled bare;
+      within = record { ordered = omega arith; within = omega arith };
+      numbers = λ i n there. absurd (cc);
+      label = λ id there. absurd (cc);
+    })
+    (record { infos = i; labels = l; scopes = adds.scopes st s tables.scopes is more; essentials = essentials; frames = f; stated = d })
+    adds.counted (omega arith) room
+
+pub open_grows : (t v : Tables) (s : Sentence) (bytes : ℕ) → AreTables t → AddsBlock t v Opening bytes → v.essentials.items ≡ t.essentials.items → s.kind ≡ Opening → s.label ≡ None → s.symbols ≡ []
+    → 1 ≤ bytes → t.bytes + bytes ≤ 1073741824 → IsMeant (statements_of t) s → IsFormedSentence s → Grows t v s bytes
+open_grows t v s bytes tables adds same is unlabelled bare some room meant formed =
+    let e : AreEssentials (statements_of t ++ s ∷ []) v.essentials.items = rw same
+        (essentials_other (statements_of t) t.essentials.items s tables.essentials (λ k. absurd (cc)) (λ k. absurd (cc))) in
+    block_grows t v s Opening bytes tables adds is unlabelled bare (rw is refl) (λ k. absurd (cc)) (λ k. absurd (cc)) (λ k. absurd (cc)) e some room meant formed
+
+pub close_grows : (t v : Tables) (s : Sentence) (bytes : ℕ) → AreTables t → AddsBlock t v Closing bytes → AreForgotten (statements_of t ++ s ∷ []) t.essentials.items v.essentials.items
+    → s.kind ≡ Closing → s.label ≡ None → s.symbols ≡ [] → closings (statements_of t) < openings (statements_of t)
+    → 1 ≤ bytes → t.bytes + bytes ≤ 1073741824 → IsMeant (statements_of t) s → IsFormedSentence s → Grows t v s bytes
+close_grows t v s bytes tables adds left is unlabelled bare more some room meant formed =
+    let before : AreEssentials (statements_of t) (v.essentials.items ++ left.gone) = subst (λ ps. AreEssentials (statements_of t) ps) left.parted tables.essentials in
+    let e = essentials_closing (statements_of t) v.essentials.items left.gone s before is left.inactive left.last_active in
+    block_grows t v s Closing bytes tables adds is unlabelled bare (rw is refl) (λ k. absurd (cc)) (λ k. absurd (cc)) (λ k. more) e some room meant formed
+
+-- the active `$e` after a `$}`
+pub closing_left : (t w : Tables) (s : Sentence) (bytes at : ℕ) (after : List ℕ) → AreTables t → AddsBlock t w Closing bytes → w.essentials.items ≡ t.essentials.items → s.kind ≡ Closing
+    → closings (statements_of t) < openings (statements_of t) → at ≡ length w.log.items
+    → ((statements : List Sentence) → HaveScopes statements w.scopes → length statements ≤ NEVER → at ≡ length statements
+        → ((i p : ℕ) → slice_get w.essentials.items i ≡ Some p → p < at) → AreForgotten statements w.essentials.items after)
+    → AreForgotten (statements_of t ++ s ∷ []) t.essentials.items after
+closing_left t w s bytes at after tables adds same is more ends forget =
+    let st = statements_of t in
+    let size = length-sentences t.symbols.names t.labels.names t.flat.items t.log.items in
+    let longer = length_pushed st s in
+    let log : length w.log.items ≡ suc (length t.log.items) = ap length adds.log ∙ length_pushed t.log.items _ in
+    let counted = tables.counted in
+    let few = tables.small in
+    let small : length (st ++ s ∷ []) ≤ NEVER = omega arith in
+    let all : at ≡ length (st ++ s ∷ []) = omega arith in
+    let within : (i p : ℕ) → slice_get w.essentials.items i ≡ Some p → p < at = λ i p there.
+        let (e, place, kind, active) = tables.essentials.only i p (subst (λ ys. slice_get ys i ≡ Some p) same there) in
+        let lt = slice_get_within st p e place in omega arith in
+    subst (λ ys. AreForgotten (st ++ s ∷ []) ys after) same (forget (st ++ s ∷ []) (adds.scopes st s tables.scopes is (λ k. more)) small all within)

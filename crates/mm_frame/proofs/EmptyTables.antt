@@ -1,0 +1,40 @@
+-- The lists of no statements.
+use Rattle.std.proofs.Common.{◌≡◌, ℕ, ◌+◌, ◌≤◌, List, [], ◌∷◌, Some, refl, arith}
+use Rattle.mm_frame.specs.declared.tables.Tables.{Tables}
+use Rattle.mm_frame.specs.Sentence.{Sentence}
+use Rattle.mm_frame.specs.Stated.{Stated}
+use Rattle.mm_frame.specs.ScopesOf.{HaveScopes}
+use Rattle.mm_frame.specs.Layout.{AreTables, AreInfos, AreLabels, AreEntries, AreEssentials, AreFrames, AreStated, statements_of, database_of}
+use Rattle.mm_frame.proofs.Meant.{allmeant_none, allformed_none}
+use Rattle.mm_frame.proofs.Entries.{sentences_none}
+use Rattle.mm_frame.proofs.Infos.{infos_none}
+use Rattle.mm_frame.proofs.Labels.{essentials_none}
+
+labels_empty : AreLabels [] [] [] []
+labels_empty = record { all = refl; informed = refl; each = λ id info there. absurd (cc); logged = λ p e id there named. absurd (cc) }
+
+entries_empty : AreEntries [] [] [] []
+entries_empty = record { within = λ p e there. absurd (cc); numbered = λ n s there. absurd (cc); named = λ p e id there is. absurd (cc) }
+
+stated_empty : (symbols : List (List ℕ)) → AreStated [] symbols []
+stated_empty symbols = record { only = λ i s there. absurd (cc); each = λ p a b d x y there k. absurd (cc); apart = λ i j o n lt there at e. absurd (cc) }
+
+-- new lists hold no statements
+pub empty_tables : (t : Tables) → t.symbols.names ≡ [] → t.infos.items ≡ [] → t.labels.names ≡ [] → t.named.items ≡ [] → t.log.items ≡ [] → t.flat.items ≡ []
+    → HaveScopes [] t.scopes → t.essentials.items ≡ [] → t.distinct.stated ≡ [] → t.bytes ≡ 0 → AreTables t × (database_of t ≡ record { statements = []; bytes = 0 })
+empty_tables t e1 e2 e3 e4 e5 e6 scopes e7 e8 e9 =
+    let none : statements_of t ≡ [] = rw (e1, e3, e6, e5) sentences_none in
+    let i : AreInfos (statements_of t) t.symbols.names t.infos.items = rw (none, e1, e2) infos_none in
+    let l : AreLabels (statements_of t) t.labels.names t.named.items t.log.items = rw (none, e3, e4, e5) labels_empty in
+    let n : AreEntries t.symbols.names t.labels.names t.flat.items t.log.items = rw (e1, e3, e5, e6) entries_empty in
+    let h : HaveScopes (statements_of t) t.scopes = rw none scopes in
+    let s : AreEssentials (statements_of t) t.essentials.items = rw (none, e7) essentials_none in
+    let d : AreStated (statements_of t) t.symbols.names t.distinct.stated = rw (none, e8) (stated_empty t.symbols.names) in
+    (record {
+        sound = rw none (allmeant_none, allformed_none);
+        counted = rw (e5, e6) (omega arith);
+        small = omega (arith, e9);
+        infos = i; labels = l; entries = n; scopes = h; essentials = s;
+        frames = λ id info x there at kind. absurd (let bad = rw e4 at there in cc);
+        stated = d;
+    }, rw (none, e9) refl)

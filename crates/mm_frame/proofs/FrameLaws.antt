@@ -1,0 +1,151 @@
+-- Frames stay what they are as statements are added.
+use Rattle.std.proofs.Common.{◌≡◌, ℕ, ◌+◌, ◌<◌, inl, inr, length, take, List, [], ◌∷◌, ◌++◌, map, Contains, Some, sym, ap, ◌∙◌, subst, arith}
+use Rattle.std.specs.List.{slice_get}
+use Rattle.std.proofs.lemmas.Option.{slice_get_within}
+use Rattle.std.proofs.lemmas.List.{take-append-le}
+use Rattle.mm_text.specs.declared.statement.Kind.TheVariants.{Distinct}
+use Rattle.mm_frame.specs.declared.number.LabelId.{LabelId}
+use Rattle.mm_frame.specs.declared.number.Sym.{Sym}
+use Rattle.mm_frame.specs.declared.tables.Part.{Part}
+use Rattle.mm_frame.specs.declared.tables.LabelInfo.{LabelInfo}
+use Rattle.mm_frame.specs.Sentence.{Sentence, IsAssertion}
+use Rattle.mm_frame.specs.Active.{IsActive}
+use Rattle.mm_frame.specs.Rules.{AllMeant}
+use Rattle.mm_frame.specs.Frame.{AreMandatory, IsMandatoryPair}
+use Rattle.mm_frame.specs.Numbers.{symbols_of}
+use Rattle.mm_frame.specs.FramePlace.{FramePlace, AreHypotheses, ArePairs, AreItsSymbols}
+use Rattle.mm_frame.specs.Layout.{IsWithin, IsFrameInfo, AreFrames, AreLabels, AreStated}
+use Rattle.mm_frame.specs.Stated.{Stated}
+use Rattle.mm_frame.proofs.Pushed.{get_kept, get_pushed, pushed_cases, get_before}
+use Rattle.mm_frame.proofs.Numbered.{symbols_grow, numbers_grow, symbols_unique, number_from_declared}
+use Rattle.mm_frame.proofs.Labelled.{labels_grow}
+use Rattle.mm_frame.proofs.Entries.{slice_left, longer}
+use Rattle.mm_frame.proofs.Meant.{meant_at}
+use Rattle.mm_frame.proofs.Needed.{used_declared, some_later}
+
+abbrev pub at_place : List Sentence → ℕ → FramePlace
+at_place st place = record { statements = st; place = place }
+
+pub hypotheses_grow : (st more : List Sentence) (place : ℕ) (numbers : List ℕ) → AreHypotheses (at_place st place) numbers → AreHypotheses (at_place (st ++ more) place) numbers
+hypotheses_grow st more place numbers are =
+    let lt = slice_get_within st place are.assertion are.there in
+    record {
+      assertion = are.assertion;
+      there = get_kept st more place are.assertion are.there;
+      hypotheses = are.hypotheses;
+      mandatory = subst (λ ys. AreMandatory ys are.assertion are.hypotheses) (sym (take-append-le place st more (omega arith))) are.mandatory;
+      numbered = labels_grow st more numbers are.hypotheses are.numbered;
+    }
+
+pub pairs_grow : (st more : List Sentence) (place : ℕ) (pairs : List (ℕ × ℕ)) → ArePairs (at_place st place) pairs → ArePairs (at_place (st ++ more) place) pairs
+pairs_grow st more place pairs are =
+    let lt = slice_get_within st place are.assertion are.there in
+    let same : take place (st ++ more) ≡ take place st = take-append-le place st more (omega arith) in
+    record {
+      assertion = are.assertion;
+      there = get_kept st more place are.assertion are.there;
+      only = λ pair in_it.
+          let (x, y, at_x, at_y, mandatory) = are.only pair in_it in
+          (x, y, symbols_grow st more pair.0 x at_x, symbols_grow st more pair.1 y at_y, subst (λ ys. IsMandatoryPair ys are.assertion x y) (sym same) mandatory);
+      each = λ x y mandatory.
+          let (pair, at_x, at_y, in_it) = are.each x y (subst (λ ys. IsMandatoryPair ys are.assertion x y) same mandatory) in
+          (pair, symbols_grow st more pair.0 x at_x, symbols_grow st more pair.1 y at_y, in_it);
+      once = are.once;
+    }
+
+pub its_symbols_grow : (st more : List Sentence) (place : ℕ) (numbers : List ℕ) → AreItsSymbols (at_place st place) numbers → AreItsSymbols (at_place (st ++ more) place) numbers
+its_symbols_grow st more place numbers are = record {
+  assertion = are.assertion;
+  there = get_kept st more place are.assertion are.there;
+  numbered = numbers_grow st more numbers are.assertion.symbols are.numbered;
+}
+
+part_grow : {X : Type 0} (xs ys : List X) (part : Part) → IsWithin part (length xs) → IsWithin part (length (xs ++ ys))
+part_grow xs ys part within = let inside = within.within in let more = longer xs ys in record { ordered = within.ordered; within = omega arith }
+
+pub frame_grow : (st more : List Sentence) (hs a : List LabelId) (pairs b : List (Sym × Sym)) (info : LabelInfo) → IsFrameInfo st hs pairs info → IsFrameInfo (st ++ more) (hs ++ a) (pairs ++ b) info
+frame_grow st more hs a pairs b info is =
+    let h = is.hypotheses_in in
+    let p = is.pairs_in in
+    record {
+      hypotheses_in = part_grow hs a info.hypotheses h;
+      pairs_in = part_grow pairs b info.pairs p;
+      are_hypotheses = hypotheses_grow st more info.place _
+          (subst (λ (ids : List LabelId). AreHypotheses (at_place st info.place) (map (λ id. id.0) ids)) (sym (slice_left hs a info.hypotheses.start info.hypotheses.end h.ordered h.within)) is.are_hypotheses);
+      are_pairs = pairs_grow st more info.place _
+          (subst (λ (ps : List (Sym × Sym)). ArePairs (at_place st info.place) (map (λ pair. (pair.0.0, pair.1.0)) ps)) (sym (slice_left pairs b info.pairs.start info.pairs.end p.ordered p.within)) is.are_pairs);
+    }
+
+-- each label's statement is one of the statements
+abbrev pub ArePlaced : List Sentence → List LabelInfo → Type 0
+ArePlaced st named = (id : ℕ) (info : LabelInfo) → slice_get named id ≡ Some info → info.place < length st
+
+pub placed : (st : List Sentence) (labels : List (List ℕ)) (named : List LabelInfo) (log : List _) → AreLabels st labels named log → ArePlaced st named
+placed st labels named log are id info there = let (s, numbered) = are.each id info there in slice_get_within st info.place s numbered.there
+
+pub frames_none : AreFrames [] [] [] []
+frames_none id info s there at is = absurd (cc)
+
+-- a statement with no label
+pub frames_other : (st : List Sentence) (e : Sentence) (hs a : List LabelId) (pairs b : List (Sym × Sym)) (named : List LabelInfo) → ArePlaced st named → AreFrames st hs pairs named
+    → AreFrames (st ++ e ∷ []) (hs ++ a) (pairs ++ b) named
+frames_other st e hs a pairs b named within are id info s there at is =
+    frame_grow st (e ∷ []) hs a pairs b info (are id info s there (get_before st (e ∷ []) info.place s (within id info there) at) is)
+
+-- a hypothesis
+pub frames_hypothesis : (st : List Sentence) (e : Sentence) (hs a : List LabelId) (pairs b : List (Sym × Sym)) (named : List LabelInfo) (new : LabelInfo) → ArePlaced st named → AreFrames st hs pairs named
+    → new.place ≡ length st → ¬ (IsAssertion e.kind) → AreFrames (st ++ e ∷ []) (hs ++ a) (pairs ++ b) (named ++ new ∷ [])
+frames_hypothesis st e hs a pairs b named new within are place other id info s there at is = elim (pushed_cases named new id info there) [
+  | inl before ↦ frames_other st e hs a pairs b named within are id info s before at is
+  | inr (last, same) ↦
+      let here : info.place ≡ length st = ap (λ (i : LabelInfo). i.place) (sym same) ∙ place in
+      let e_is : e ≡ s = let one = get_pushed st e in let two = subst (λ n. slice_get (st ++ e ∷ []) n ≡ Some s) here at in cc in
+      absurd (other (subst (λ (t : Sentence). IsAssertion t.kind) (sym e_is) is))
+]
+
+-- an assertion
+pub frames_assertion : (st : List Sentence) (e : Sentence) (hs a : List LabelId) (pairs b : List (Sym × Sym)) (named : List LabelInfo) (new : LabelInfo) → ArePlaced st named → AreFrames st hs pairs named
+    → IsFrameInfo (st ++ e ∷ []) (hs ++ a) (pairs ++ b) new → AreFrames (st ++ e ∷ []) (hs ++ a) (pairs ++ b) (named ++ new ∷ [])
+frames_assertion st e hs a pairs b named new within are frame id info s there at is = elim (pushed_cases named new id info there) [
+  | inl before ↦ frames_other st e hs a pairs b named within are id info s before at is
+  | inr (last, same) ↦ subst (λ i. IsFrameInfo (st ++ e ∷ []) (hs ++ a) (pairs ++ b) i) same frame
+]
+
+-- ---- the pairs that `$d` state
+
+pub stated_none : (symbols : List (List ℕ)) → AreStated [] symbols []
+stated_none symbols = record {
+  only = λ i span there. absurd (cc);
+  each = λ place a b d x y there kind at_a at_b lt in_x in_y. absurd (cc);
+  apart = λ i j older newer lt at_i at_j same. absurd (cc);
+}
+
+-- the number of a symbol that a statement uses, among the symbols before or after
+old_number : (st : List Sentence) (e d : Sentence) (symbols more : List (List ℕ)) (place n : ℕ) (x : List ℕ) → AllMeant st → symbols ≡ symbols_of st → symbols ++ more ≡ symbols_of (st ++ e ∷ [])
+    → slice_get st place ≡ Some d → d.kind ≡ Distinct → Contains d.symbols x → slice_get (symbols ++ more) n ≡ Some x → slice_get symbols n ≡ Some x
+old_number st e d symbols more place n x meant all all' there kind in_it at =
+    let declared = used_declared (take place st) d x (meant_at st place d meant there) (inl kind) in_it in
+    let (k, number) = number_from_declared st x (elim declared [ inl c ↦ inl (some_later st place _ c) | inr v ↦ inr (some_later st place _ v) ]) in
+    let old : slice_get symbols k ≡ Some x = subst (λ names. slice_get names k ≡ Some x) (sym all) number in
+    let same : k ≡ n = symbols_unique (st ++ e ∷ []) k n x (symbols_grow st (e ∷ []) k x number) (subst (λ names. slice_get names n ≡ Some x) all' at) in
+    subst (λ m. slice_get symbols m ≡ Some x) same old
+
+pub stated_other : (st : List Sentence) (e : Sentence) (symbols more : List (List ℕ)) (spans : List Stated) → AllMeant st → symbols ≡ symbols_of st → symbols ++ more ≡ symbols_of (st ++ e ∷ [])
+    → AreStated st symbols spans → ¬ (e.kind ≡ Distinct) → AreStated (st ++ e ∷ []) (symbols ++ more) spans
+stated_other st e symbols more spans meant all all' are other = record {
+  only = λ i span there.
+      let (d, at, kind, lt, x, y, at_x, at_y, in_x, in_y) = are.only i span there in
+      (d, get_kept st (e ∷ []) span.place d at, kind, lt, x, y, get_kept symbols more span.pair.0 x at_x, get_kept symbols more span.pair.1 y at_y, in_x, in_y);
+  each = λ place a b d x y there kind at_a at_b lt in_x in_y. elim (pushed_cases st e place d there) [
+    | inl before ↦
+        let within = slice_get_within st place d before in
+        let (i, span, at, pair, le, active) = are.each place a b d x y before kind (old_number st e d symbols more place a x meant all all' before kind in_x at_a) (old_number st e d symbols more place b y meant all all' before kind in_y at_b) lt in_x in_y in
+        (i, span, at, pair, le, subst (λ ys. IsActive ys span.place) (sym (take-append-le (place + 1) st (e ∷ []) (omega arith))) active)
+    | inr (last, same) ↦ absurd (other (ap (λ (t : Sentence). t.kind) same ∙ kind))
+  ];
+  apart = λ i j older newer lt at_i at_j same.
+      let (less, inactive) = are.apart i j older newer lt at_i at_j same in
+      let stated = are.only j newer at_j in
+      let within = slice_get_within st newer.place stated.0 stated.1 in
+      (less, subst (λ ys. ¬ (IsActive ys older.place)) (sym (take-append-le newer.place st (e ∷ []) (omega arith))) inactive);
+}

@@ -1,0 +1,233 @@
+-- Gathering the places of the mandatory hypotheses.
+use Rattle.std.proofs.Common.{eqb, ◌≡◌, ◌↔◌, ℕ, zero, suc, ◌+◌, ◌<◌, inl, inr, length, take, get_or, List, [], ◌∷◌, ◌++◌, map, Contains, Option, Some, None, refl, sym, ap, ◌∙◌, subst, append_assoc, append-nil, arith}
+use Rattle.std.specs.List.{slice_get, cons_option}
+use Rattle.std.specs.Option.{option_and_then}
+use Rattle.std.proofs.lemmas.Option.{slice_get_within, slice_get-get_or, get_or_from_slice_get}
+use Rattle.std.specs.List.{dedup}
+use Rattle.std.specs.List.Sorted.{IsPermutation, IsSorted, IsStrictlyIncreasing}
+use Rattle.std.specs.Ordering.{nat_cmp}
+use Rattle.std.proofs.lemmas.List.Kept.{AllPairs-from_increasing, Contains-dedup_nat, Contains-from_dedup}
+use Rattle.std.proofs.lemmas.List.Sorted.{IsPermutation-sym, Contains-permutation}
+use Rattle.std.proofs.lemmas.Map.Keys.{IsStrictlyIncreasing-dedup}
+use Rattle.std.proofs.lemmas.List.{take_more}
+use Rattle.std.proofs.lemmas.Bool.{cases_order}
+use Rattle.std.proofs.lemmas.List.Elements.{filter_map-append}
+use Rattle.mm_frame.specs.declared.number.Sym.{Sym}
+use Rattle.mm_frame.specs.declared.tables.SymbolInfo.{SymbolInfo}
+use Rattle.mm_frame.specs.Sentence.{Sentence}
+use Rattle.mm_frame.specs.Numbers.{symbols_of, AreNumbers}
+use Rattle.mm_frame.specs.Latest.{IsLatest}
+use Rattle.mm_frame.specs.Layout.{AreInfos, AreEssentials, GivesType, IsLatestIn}
+use Rattle.mm_frame.specs.Gathered.{floating_of, floatings, IsIn, StandsIn, AreGathered, AreRising}
+use Rattle.mm_frame.proofs.Pushed.{get_kept, get_pushed, pushed_cases, get_within}
+use Rattle.mm_frame.proofs.Numbered.{at_from_contains, contains_from_at}
+use Rattle.mm_frame.proofs.Entries.{append_cases}
+
+-- one symbol more, with a `$f` or without
+pub floatings_some : (infos : List SymbolInfo) (xs : List Sym) (i : ℕ) (d : Sym) (p : ℕ) (old now : List ℕ) → i < length xs → floating_of infos (get_or xs i d) ≡ Some p → now ≡ old ++ floatings infos (take i xs)
+    → now ++ p ∷ [] ≡ old ++ floatings infos (take (i + 1) xs)
+floatings_some infos xs i d p old now lt is so_far =
+    let more : floatings infos (take (i + 1) xs) ≡ floatings infos (take i xs) ++ floatings infos (get_or xs i d ∷ []) =
+          ap (floatings infos) (take_more xs i d lt) ∙ filter_map-append (floating_of infos) (take i xs) (get_or xs i d ∷ []) in
+    let one : floatings infos (get_or xs i d ∷ []) ≡ p ∷ [] = ap (λ o. cons_option o []) is in
+    ap (λ ys. ys ++ p ∷ []) so_far ∙ (rw append_assoc) ∙ ap (λ ys. old ++ ys) (sym (more ∙ ap (λ ys. floatings infos (take i xs) ++ ys) one))
+
+pub floatings_none : (infos : List SymbolInfo) (xs : List Sym) (i : ℕ) (d : Sym) (old now : List ℕ) → i < length xs → floating_of infos (get_or xs i d) ≡ None → now ≡ old ++ floatings infos (take i xs)
+    → now ≡ old ++ floatings infos (take (i + 1) xs)
+floatings_none infos xs i d old now lt is so_far =
+    let more : floatings infos (take (i + 1) xs) ≡ floatings infos (take i xs) ++ floatings infos (get_or xs i d ∷ []) =
+          ap (floatings infos) (take_more xs i d lt) ∙ filter_map-append (floating_of infos) (take i xs) (get_or xs i d ∷ []) in
+    let one : floatings infos (get_or xs i d ∷ []) ≡ [] = ap (λ o. cons_option o []) is in
+    so_far ∙ ap (λ ys. old ++ ys) (sym (more ∙ ap (λ ys. floatings infos (take i xs) ++ ys) one ∙ append-nil (floatings infos (take i xs))))
+
+-- what the places of latest `$f` are
+floatings_at : (infos : List SymbolInfo) (xs : List Sym) (i p : ℕ) → slice_get (floatings infos xs) i ≡ Some p → (j : ℕ) × (n : Sym) × (slice_get xs j ≡ Some n) × (floating_of infos n ≡ Some p)
+floatings_at infos [] i p there = absurd (cc)
+floatings_at infos (x ∷ xs) i p there = first (floating_of infos x) refl (λ k at. floatings_at infos xs k p at) i there
+  where
+    first : (o : Option ℕ) → floating_of infos x ≡ o → ((k : ℕ) → slice_get (floatings infos xs) k ≡ Some p → (j : ℕ) × (n : Sym) × (slice_get xs j ≡ Some n) × (floating_of infos n ≡ Some p))
+        → (i : ℕ) → slice_get (cons_option o (floatings infos xs)) i ≡ Some p → (j : ℕ) × (n : Sym) × (slice_get (x ∷ xs) j ≡ Some n) × (floating_of infos n ≡ Some p)
+    first None is rest i at = let (j, n, at_n, says) = rest i at in (suc j, n, at_n, says)
+    first (Some q) is rest zero at = (0, x, refl, is ∙ at)
+    first (Some q) is rest (suc i) at = let (j, n, at_n, says) = rest i at in (suc j, n, at_n, says)
+
+floatings_have : (infos : List SymbolInfo) (xs : List Sym) (j p : ℕ) (n : Sym) → slice_get xs j ≡ Some n → floating_of infos n ≡ Some p → IsIn (floatings infos xs) p
+floatings_have infos [] j p n there says = absurd (cc)
+floatings_have infos (x ∷ xs) zero p n there says =
+    let same : x ≡ n = cc in
+    let is : floating_of infos x ≡ Some p = ap (floating_of infos) same ∙ says in
+    (0, ap (λ o. slice_get (cons_option o (floatings infos xs)) 0) is)
+floatings_have infos (x ∷ xs) (suc j) p n there says =
+    let (i, at) = floatings_have infos xs j p n there says in
+    after (floating_of infos x) i at
+  where
+    after : (o : Option ℕ) (i : ℕ) → slice_get (floatings infos xs) i ≡ Some p → IsIn (cons_option o (floatings infos xs)) p
+    after None i at = (i, at)
+    after (Some q) i at = (suc i, at)
+
+-- the symbol with one of some numbers
+numbers_at : (st : List Sentence) (ns : List Sym) (symbols : List (List ℕ)) (j : ℕ) (n : Sym) → AreNumbers st (map (λ n. n.0) ns) symbols → slice_get ns j ≡ Some n → (x : List ℕ) × (slice_get symbols j ≡ Some x) × (slice_get (symbols_of st) n.0 ≡ Some x)
+numbers_at st [] symbols j n are there = absurd (cc)
+numbers_at st (m ∷ ns) [] j n are there = absurd (cc)
+numbers_at st (m ∷ ns) (x ∷ symbols) zero n are there =
+    let same : m ≡ n = cc in
+    let here : slice_get (symbols_of st) m.0 ≡ Some x = cc in
+    (x, refl, subst (λ (k : Sym). slice_get (symbols_of st) k.0 ≡ Some x) same here)
+numbers_at st (m ∷ ns) (x ∷ symbols) (suc j) n are there =
+    let rest : AreNumbers st (map (λ n. n.0) ns) symbols = cc in
+    numbers_at st ns symbols j n rest there
+
+symbol_number : (st : List Sentence) (ns : List Sym) (symbols : List (List ℕ)) (j : ℕ) (x : List ℕ) → AreNumbers st (map (λ n. n.0) ns) symbols → slice_get symbols j ≡ Some x → (n : Sym) × (slice_get ns j ≡ Some n) × (slice_get (symbols_of st) n.0 ≡ Some x)
+symbol_number st [] [] j x are there = absurd (cc)
+symbol_number st [] (y ∷ symbols) j x are there = absurd (cc)
+symbol_number st (m ∷ ns) [] j x are there = absurd (cc)
+symbol_number st (m ∷ ns) (y ∷ symbols) zero x are there =
+    let same : y ≡ x = cc in
+    let here : slice_get (symbols_of st) m.0 ≡ Some y = cc in
+    (m, refl, here ∙ ap (λ z. Some z) same)
+symbol_number st (m ∷ ns) (y ∷ symbols) (suc j) x are there =
+    let rest : AreNumbers st (map (λ n. n.0) ns) symbols = cc in
+    symbol_number st ns symbols j x rest there
+
+-- a symbol's info
+pub info_of : (st : List Sentence) (names : List (List ℕ)) (infos : List SymbolInfo) (n : ℕ) (x : List ℕ) → AreInfos st names infos → slice_get (symbols_of st) n ≡ Some x
+    → (info : SymbolInfo) × (slice_get infos n ≡ Some info) × IsLatestIn (GivesType x) st info.floating
+info_of st names infos n x are at =
+    let at_names : slice_get names n ≡ Some x = subst (λ ys. slice_get ys n ≡ Some x) (sym are.all) at in
+    let lt = slice_get_within names n x at_names in
+    let size = are.informed in
+    let (info, there) = get_within infos n (omega arith) in
+    (info, there, (are.each n x info at_names there).floating)
+
+-- the latest one is one
+one_latest : (P : Sentence → Type 0) (st : List Sentence) (p q : ℕ) → IsLatest P st p → IsLatest P st q → p ≡ q
+one_latest P st p q first second = elim (cases_order p q) [
+  | inl same ↦ same
+  | inr (inl lt) ↦ absurd (first.last q second.statement lt second.there second.holds)
+  | inr (inr gt) ↦ absurd (second.last p first.statement gt first.there first.holds)
+]
+
+floating_latest : (P : Sentence → Type 0) (st : List Sentence) (o : Option ℕ) (p : ℕ) → IsLatestIn P st o → IsLatest P st p → o ≡ Some p
+floating_latest P st None p none latest = absurd (none (p, latest.statement, latest.there, latest.holds))
+floating_latest P st (Some q) p there latest = ap (λ n. Some n) (one_latest P st q p there latest)
+
+latest_floating : (P : Sentence → Type 0) (st : List Sentence) (o : Option ℕ) (p : ℕ) → IsLatestIn P st o → o ≡ Some p → IsLatest P st p
+latest_floating P st o p there is = subst (λ o. IsLatestIn P st o) is there
+
+-- The places are those of the latest `$f` of the symbols.
+pub floatings_tell : (st : List Sentence) (names : List (List ℕ)) (infos : List SymbolInfo) (ns : List Sym) (symbols : List (List ℕ)) (p : ℕ) → AreInfos st names infos → AreNumbers st (map (λ n. n.0) ns) symbols
+    → IsIn (floatings infos ns) p ↔ ((x : List ℕ) × Contains symbols x × IsLatest (GivesType x) st p)
+floatings_tell st names infos ns symbols p are numbers = (
+  (λ (i, there).
+      let (j, n, at_n, says) = floatings_at infos ns i p there in
+      let (x, at_x, number) = numbers_at st ns symbols j n numbers at_n in
+      let (info, at_info, latest) = info_of st names infos n.0 x are number in
+      let floats : info.floating ≡ Some p = sym (ap (option_and_then (λ info. info.floating)) at_info) ∙ says in
+      (x, contains_from_at symbols x (j, at_x), latest_floating (GivesType x) st info.floating p latest floats)),
+  (λ (x, in_it, latest).
+      let (j, at_x) = at_from_contains symbols x in_it in
+      let (n, at_n, number) = symbol_number st ns symbols j x numbers at_x in
+      let (info, at_info, known) = info_of st names infos n.0 x are number in
+      floatings_have infos ns j p n at_n (ap (option_and_then (λ info. info.floating)) at_info ∙ floating_latest (GivesType x) st info.floating p known latest)),
+)
+
+-- ---- what is gathered, `$e` by `$e`
+
+-- before any `$e`
+pub gathered_first : (st : List Sentence) (names : List (List ℕ)) (infos : List SymbolInfo) (ns : List Sym) (s : Sentence) → AreInfos st names infos → AreNumbers st (map (λ n. n.0) ns) s.symbols → AreGathered st [] s (floatings infos ns)
+gathered_first st names infos ns s are numbers = record {
+  only = λ i p there. let (x, in_it, latest) = (floatings_tell st names infos ns s.symbols p are numbers).0 (i, there) in inr (x, inl in_it, latest);
+  each = λ p gathered. elim gathered [
+    | inl (i, at) ↦ absurd (cc)
+    | inr (x, stands, latest) ↦ elim stands [
+      | inl in_it ↦ (floatings_tell st names infos ns s.symbols p are numbers).1 (x, in_it, latest)
+      | inr (q, h, (i, at), there, in_h) ↦ absurd (cc)
+    ]
+  ];
+}
+
+in_left : (xs ys : List ℕ) (p : ℕ) → IsIn xs p → IsIn (xs ++ ys) p
+in_left xs ys p (i, there) = (i, get_kept xs ys i p there)
+
+in_right : (xs ys : List ℕ) (p : ℕ) → IsIn ys p → IsIn (xs ++ ys) p
+in_right [] ys p at = at
+in_right (z ∷ xs) ys p at = let (i, there) = in_right xs ys p at in (suc i, there)
+
+-- one `$e` more
+pub gathered_more : (st : List Sentence) (names : List (List ℕ)) (infos : List SymbolInfo) (es : List ℕ) (q : ℕ) (h s : Sentence) (ns : List Sym) (places : List ℕ) → AreInfos st names infos → slice_get st q ≡ Some h
+    → AreNumbers st (map (λ n. n.0) ns) h.symbols → AreGathered st es s places → AreGathered st (es ++ q ∷ []) s ((places ++ q ∷ []) ++ floatings infos ns)
+gathered_more st names infos es q h s ns places are at_q numbers gathered =
+    let widen : (x : List ℕ) → StandsIn st es s x → StandsIn st (es ++ q ∷ []) s x = λ x stands. elim stands [
+          | inl in_it ↦ inl in_it
+          | inr (k, e, at, there, in_e) ↦ inr (k, e, in_left es (q ∷ []) k at, there, in_e)
+        ] in
+    let tell = λ (p : ℕ). floatings_tell st names infos ns h.symbols p are numbers in
+    record {
+      only = λ i p there. elim (append_cases (places ++ q ∷ []) (floatings infos ns) i p there) [
+        | inl front ↦ elim (pushed_cases places q i p front) [
+          | inl before ↦ elim (gathered.only i p before) [
+            | inl at ↦ inl (in_left es (q ∷ []) p at)
+            | inr (x, stands, latest) ↦ inr (x, widen x stands, latest)
+          ]
+          | inr (last, same) ↦ inl (subst (IsIn (es ++ q ∷ [])) same (length es, get_pushed es q))
+        ]
+        | inr at ↦ let (x, in_it, latest) = (tell p).0 at in inr (x, inr (q, h, (length es, get_pushed es q), at_q, in_it), latest)
+      ];
+      each = λ p is. elim is [
+        | inl (i, at) ↦ elim (pushed_cases es q i p at) [
+          | inl before ↦ in_left (places ++ q ∷ []) (floatings infos ns) p (in_left places (q ∷ []) p (gathered.each p (inl (i, before))))
+          | inr (last, same) ↦ in_left (places ++ q ∷ []) (floatings infos ns) p (subst (IsIn (places ++ q ∷ [])) same (length places, get_pushed places q))
+        ]
+        | inr (x, stands, latest) ↦ elim stands [
+          | inl in_it ↦ in_left (places ++ q ∷ []) (floatings infos ns) p (in_left places (q ∷ []) p (gathered.each p (inr (x, inl in_it, latest))))
+          | inr (k, e, (i, at), there, in_e) ↦ elim (pushed_cases es q i k at) [
+            | inl before ↦ in_left (places ++ q ∷ []) (floatings infos ns) p (in_left places (q ∷ []) p (gathered.each p (inr (x, inr (k, e, (i, before), there, in_e), latest))))
+            | inr (last, same) ↦
+                let e_is : e ≡ h = let there_q = subst (λ m. slice_get st m ≡ Some e) (sym same) there in cc in
+                in_right (places ++ q ∷ []) (floatings infos ns) p ((tell p).1 (x, subst (λ (t : Sentence). Contains t.symbols x) e_is in_e, latest))
+          ]
+        ]
+      ];
+    }
+
+pub gathered_step : (st : List Sentence) (names : List (List ℕ)) (infos : List SymbolInfo) (es xs : List ℕ) (i : ℕ) (s : Sentence) (ns : List Sym) (places pushed now : List ℕ) → AreInfos st names infos → AreEssentials st es
+    → xs ≡ es → i < length xs → ((h : Sentence) → slice_get st (get_or xs i 0) ≡ Some h → AreNumbers st (map (λ n. n.0) ns) h.symbols) → pushed ≡ places ++ get_or xs i 0 ∷ [] → now ≡ pushed ++ floatings infos ns
+    → AreGathered st (take i es) s places → AreGathered st (take (i + 1) es) s now
+gathered_step st names infos es xs i s ns places pushed now are essentials same lt says push add gathered =
+    let q = get_or xs i 0 in
+    let at : slice_get es i ≡ Some q = subst (λ ys. slice_get ys i ≡ Some q) same (slice_get-get_or xs i 0 lt) in
+    let (h, there, kind, active) = essentials.only i q at in
+    let front : take (i + 1) es ≡ take i es ++ q ∷ [] = subst (λ ys. take (i + 1) ys ≡ take i ys ++ q ∷ []) same (take_more xs i 0 lt) in
+    let more = gathered_more st names infos (take i es) q h s ns places are there (says h there) gathered in
+    let result : (places ++ q ∷ []) ++ floatings infos ns ≡ now = sym (add ∙ ap (λ ys. ys ++ floatings infos ns) push) in
+    subst (λ ys. AreGathered st ys s now) (sym front) (subst (λ ys. AreGathered st (take i es ++ q ∷ []) s ys) result more)
+
+-- ---- in order, each once
+
+-- a list that rises from each element to the next rises
+increasing_rises : (xs : List ℕ) → IsStrictlyIncreasing xs → AreRising xs
+increasing_rises xs increasing i j p q at_i at_j lt =
+    let within_i = slice_get_within xs i p at_i in
+    let within_j = slice_get_within xs j q at_j in
+    let pairs = AllPairs-from_increasing xs increasing in
+    let h = pairs i j 0 lt within_j in
+    let e = get_or_from_slice_get xs i p 0 at_i in
+    let f = get_or_from_slice_get xs j q 0 at_j in
+    omega arith
+
+-- what is left after sorting and leaving out repetitions
+pub gathered_sorted : (st : List Sentence) (es : List ℕ) (s : Sentence) (places sorted once : List ℕ) → AreGathered st es s places → IsPermutation places sorted → IsSorted nat_cmp sorted → once ≡ dedup eqb sorted
+    → AreRising once × AreGathered st es s once
+gathered_sorted st es s places sorted once gathered permutation in_order same =
+    let rising : AreRising once = subst AreRising (sym same) (increasing_rises (dedup eqb sorted) (IsStrictlyIncreasing-dedup sorted in_order)) in (
+      rising,
+      record {
+        only = λ i p there.
+            let kept : Contains (dedup eqb sorted) p = subst (λ xs. Contains xs p) same (contains_from_at once p (i, there)) in
+            let (j, at) = at_from_contains places p (Contains-permutation sorted places p (IsPermutation-sym places sorted permutation) (Contains-from_dedup eqb sorted p kept)) in
+            gathered.only j p at;
+        each = λ p is.
+            let moved = Contains-permutation places sorted p permutation (contains_from_at places p (gathered.each p is)) in
+            at_from_contains once p (subst (λ xs. Contains xs p) (sym same) (Contains-dedup_nat sorted p moved));
+      },
+    )

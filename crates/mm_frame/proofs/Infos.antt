@@ -1,0 +1,278 @@
+-- What is known of each symbol, as a statement is added.
+use Rattle.std.proofs.Common.{◌≡◌, ◌≢◌, ℕ, suc, ◌⊎◌, inl, inr, length, take, set, List, [], ◌∷◌, ◌++◌, Contains, Option, Some, None, refl, sym, ap, ◌∙◌, subst, length-set, arith}
+use Rattle.std.specs.List.{slice_get, fold}
+use Rattle.std.proofs.lemmas.Option.{slice_get_within}
+use Rattle.std.proofs.lemmas.List.Sums.{fold-append}
+use Rattle.mm_text.specs.declared.statement.Kind.{Kind}
+use Rattle.mm_text.specs.declared.statement.Kind.TheVariants.{Constants, Variables, Floating}
+use Rattle.mm_frame.specs.declared.tables.SymbolInfo.{SymbolInfo}
+use Rattle.mm_frame.specs.Sentence.{Sentence, SomeSentence, Declares}
+use Rattle.mm_frame.specs.Rules.{AllMeant}
+use Rattle.mm_frame.specs.Numbers.{declared_by, declared_in, with_name, symbols_of}
+use Rattle.mm_frame.specs.Latest.{IsLatest}
+use Rattle.mm_frame.specs.Layout.{IsLatestIn, GivesType, IsInfo, AreInfos}
+use Rattle.mm_frame.proofs.Pushed.{get_kept, get_pushed, pushed_cases, get_before, get_set_cases}
+use Rattle.mm_frame.proofs.ScopeLaws.{length_pushed}
+use Rattle.mm_frame.proofs.Meant.{meant_at}
+use Rattle.mm_frame.proofs.Needed.{typed_variable, some_later}
+use Rattle.mm_frame.proofs.Numbered.{At, at_from_contains, contains_from_at, symbols_push, symbols_unique, symbols_none, number_from_declared, with_name_cases}
+
+-- the latest statement that is so, with one statement more
+pub latest_kept : (P : Sentence → Type 0) (st : List Sentence) (e : Sentence) (o : Option ℕ) → ¬ (P e) → IsLatestIn P st o → IsLatestIn P (st ++ e ∷ []) o
+latest_kept P st e None other none = λ (p, s, there, holds). elim (pushed_cases st e p s there) [
+  | inl before ↦ none (p, s, before, holds)
+  | inr (last, same) ↦ other (subst P (sym same) holds)
+]
+latest_kept P st e (Some p) other latest = record {
+  statement = latest.statement;
+  there = get_kept st (e ∷ []) p latest.statement latest.there;
+  holds = latest.holds;
+  last = λ k s after at holds. elim (pushed_cases st e k s at) [
+    | inl before ↦ latest.last k s after before holds
+    | inr (last, same) ↦ other (subst P (sym same) holds)
+  ];
+}
+
+pub latest_new : (P : Sentence → Type 0) (st : List Sentence) (e : Sentence) → P e → IsLatestIn P (st ++ e ∷ []) (Some (length st))
+latest_new P st e holds = record {
+  statement = e;
+  there = get_pushed st e;
+  holds = holds;
+  last = λ k s after at so. elim (pushed_cases st e k s at) [
+    | inl before ↦ absurd (let lt = slice_get_within st k s before in omega arith)
+    | inr (last, same) ↦ absurd (omega arith)
+  ];
+}
+
+-- the latest statement that is so, where the last statement is replaced by one that is so exactly if the last was
+pub latest_replaced : (P : Sentence → Type 0) (st : List Sentence) (e d : Sentence) (o : Option ℕ) → (P e → P d) → (P d → P e) → IsLatestIn P (st ++ e ∷ []) o → IsLatestIn P (st ++ d ∷ []) o
+latest_replaced P st e d None there back none = λ (p, s, at, holds). elim (pushed_cases st d p s at) [
+  | inl before ↦ none (p, s, get_kept st (e ∷ []) p s before, holds)
+  | inr (last, same) ↦ none (length st, e, get_pushed st e, back (subst P (sym same) holds))
+]
+latest_replaced P st e d (Some p) there back latest = elim (pushed_cases st e p latest.statement latest.there) [
+  | inl before ↦ record {
+        statement = latest.statement;
+        there = get_kept st (d ∷ []) p latest.statement before;
+        holds = latest.holds;
+        last = λ k s after at holds. elim (pushed_cases st d k s at) [
+          | inl k_before ↦ latest.last k s after (get_kept st (e ∷ []) k s k_before) holds
+          | inr (last, same) ↦ latest.last k e after (subst (λ n. slice_get (st ++ e ∷ []) n ≡ Some e) (sym last) (get_pushed st e)) (back (subst P (sym same) holds))
+        ];
+      }
+  | inr (at_end, same) ↦ subst (λ n. IsLatest P (st ++ d ∷ []) n) (sym at_end) (latest_new P st d (there (subst P (sym same) latest.holds)))
+]
+
+nothing_in : (x : List ℕ) → ¬ (Contains [] x)
+nothing_in x (k, lt, is) = absurd (omega arith)
+
+undeclaring : (e : Sentence) (x : List ℕ) → declared_by e ≡ [] → ¬ (Declares Variables x e)
+undeclaring e x none (kind, in_it) =
+    let empty : e.symbols ≡ [] = sym (ap (λ k. declared_in k e.symbols) kind) ∙ none in
+    nothing_in x (subst (λ xs. Contains xs x) empty in_it)
+
+-- no symbols of its own, and no type
+pub infos_other : (st : List Sentence) (symbols : List (List ℕ)) (infos : List SymbolInfo) (e : Sentence) → AreInfos st symbols infos → declared_by e ≡ [] → ¬ (e.kind ≡ Floating) → AreInfos (st ++ e ∷ []) symbols infos
+infos_other st symbols infos e are none other = record {
+  all = are.all ∙ sym (symbols_push st e ∙ ap (fold with_name (symbols_of st)) none);
+  informed = are.informed;
+  each = λ n x info named there. let old = are.each n x info named there in record {
+    variable = latest_kept (Declares Variables x) st e info.variable (undeclaring e x none) old.variable;
+    floating = latest_kept (GivesType x) st e info.floating (λ (code, types). other types.0) old.floating;
+  };
+}
+
+same_number : (st : List Sentence) (symbols : List (List ℕ)) (m n : ℕ) (x : List ℕ) → symbols ≡ symbols_of st → slice_get symbols m ≡ Some x → slice_get symbols n ≡ Some x → m ≡ n
+same_number st symbols m n x all at_m at_n =
+    symbols_unique st m n x (subst (λ xs. slice_get xs m ≡ Some x) all at_m) (subst (λ xs. slice_get xs n ≡ Some x) all at_n)
+
+floating_declares_none : (e : Sentence) → e.kind ≡ Floating → declared_by e ≡ []
+floating_declares_none e kind = ap (λ k. declared_in k e.symbols) kind
+
+-- a `$f`
+pub infos_floating : (st : List Sentence) (symbols : List (List ℕ)) (infos : List SymbolInfo) (e : Sentence) (code x : List ℕ) (n : ℕ) (info : SymbolInfo) → AreInfos st symbols infos
+    → e.kind ≡ Floating → e.symbols ≡ code ∷ x ∷ [] → slice_get symbols n ≡ Some x → slice_get infos n ≡ Some info
+    → AreInfos (st ++ e ∷ []) symbols (set infos n (record info { floating = Some (length st) }))
+infos_floating st symbols infos e code x n info are kind says named there =
+    let none = floating_declares_none e kind in
+    record {
+      all = are.all ∙ sym (symbols_push st e ∙ ap (fold with_name (symbols_of st)) none);
+      informed = length-set infos n (record info { floating = Some (length st) }) ∙ are.informed;
+      each = λ m y other at found. elim (get_set_cases infos n m (record info { floating = Some (length st) }) other found) [
+        | inl (same, is) ↦
+            let same_name : x ≡ y = let at_n = subst (λ k. slice_get symbols k ≡ Some y) same at in cc in
+            let old = are.each n x info named there in
+            subst (λ i. IsInfo (st ++ e ∷ []) y i) is (subst (λ z. IsInfo (st ++ e ∷ []) z (record info { floating = Some (length st) })) same_name (record {
+              variable = latest_kept (Declares Variables x) st e info.variable (undeclaring e x none) old.variable;
+              floating = latest_new (GivesType x) st e (code, (kind, says));
+            }))
+        | inr (apart, before) ↦
+            let old = are.each m y other at before in
+            record {
+              variable = latest_kept (Declares Variables y) st e other.variable (undeclaring e y none) old.variable;
+              floating = latest_kept (GivesType y) st e other.floating
+                  (λ (c, types). apart (same_number st symbols m n x are.all (let h = types.1 in let g : y ≡ x = cc in subst (λ z. slice_get symbols m ≡ Some z) g at) named)) old.floating;
+            }
+      ];
+    }
+
+-- a `$c` or `$v` of some symbols
+abbrev pub of_kind : Kind → List (List ℕ) → Sentence
+of_kind kind symbols = record { kind = kind; label = None; symbols = symbols }
+
+contains_push : (xs : List (List ℕ)) (x y : List ℕ) → Contains xs y → Contains (xs ++ x ∷ []) y
+contains_push xs x y in_it = let (i, there) = at_from_contains xs y in_it in contains_from_at (xs ++ x ∷ []) y (i, get_kept xs (x ∷ []) i y there)
+
+contains_unpush : (xs : List (List ℕ)) (x y : List ℕ) → x ≢ y → Contains (xs ++ x ∷ []) y → Contains xs y
+contains_unpush xs x y apart in_it =
+    let (i, there) = at_from_contains (xs ++ x ∷ []) y in_it in
+    elim (pushed_cases xs x i y there) [ inl before ↦ contains_from_at xs y (i, before) | inr (last, same) ↦ absurd (apart same) ]
+
+contains_last : (xs : List (List ℕ)) (x : List ℕ) → Contains (xs ++ x ∷ []) x
+contains_last xs x = contains_from_at (xs ++ x ∷ []) x (length xs, get_pushed xs x)
+
+-- the names, with one symbol more of a `$c` or `$v`
+declaring_all : (kind : Kind) (xs : List (List ℕ)) → (kind ≡ Constants) ⊎ (kind ≡ Variables) → declared_in kind xs ≡ xs
+declaring_all kind xs which = elim which [ inl is ↦ ap (λ k. declared_in k xs) is | inr is ↦ ap (λ k. declared_in k xs) is ]
+
+names_more : (st : List Sentence) (kind : Kind) (xs : List (List ℕ)) (x : List ℕ) → (kind ≡ Constants) ⊎ (kind ≡ Variables)
+    → symbols_of (st ++ of_kind kind (xs ++ x ∷ []) ∷ []) ≡ with_name (symbols_of (st ++ of_kind kind xs ∷ [])) x
+names_more st kind xs x which =
+    symbols_push st (of_kind kind (xs ++ x ∷ [])) ∙ ap (fold with_name (symbols_of st)) (declaring_all kind (xs ++ x ∷ []) which)
+    ∙ fold-append with_name (symbols_of st) xs (x ∷ [])
+    ∙ ap (λ names. with_name names x) (sym (symbols_push st (of_kind kind xs) ∙ ap (fold with_name (symbols_of st)) (declaring_all kind xs which)))
+
+known_name : (names : List (List ℕ)) (x : List ℕ) → At names x → with_name names x ≡ names
+known_name names x at = elim (with_name_cases names x) [ inl (found, same) ↦ same | inr (absent, more) ↦ absurd (absent at) ]
+
+pub fresh_name : (names : List (List ℕ)) (x : List ℕ) → ¬ (At names x) → with_name names x ≡ names ++ x ∷ []
+fresh_name names x none = elim (with_name_cases names x) [ inl (found, same) ↦ absurd (none found) | inr (absent, more) ↦ more ]
+
+-- a symbol that is known is declared again
+no_type_first : (kind : Kind) (xs : List (List ℕ)) (y : List ℕ) → (kind ≡ Constants) ⊎ (kind ≡ Variables) → ¬ (GivesType y (of_kind kind xs))
+no_type_first kind xs y which (code, (is, says)) = elim which [ inl c ↦ absurd (cc) | inr v ↦ absurd (cc) ]
+
+pub infos_known : (st : List Sentence) (symbols xs : List (List ℕ)) (infos : List SymbolInfo) (x : List ℕ) (n : ℕ) (info : SymbolInfo) → AreInfos (st ++ of_kind Variables xs ∷ []) symbols infos
+    → slice_get symbols n ≡ Some x → slice_get infos n ≡ Some info
+    → AreInfos (st ++ of_kind Variables (xs ++ x ∷ []) ∷ []) symbols (set infos n (record info { variable = Some (length st) }))
+infos_known st symbols xs infos x n info are named there =
+    let e = of_kind Variables xs in
+    let d = of_kind Variables (xs ++ x ∷ []) in
+    let new = record info { variable = Some (length st) } in
+    let at_names : At (symbols_of (st ++ e ∷ [])) x = (n, subst (λ names. slice_get names n ≡ Some x) are.all named) in
+    record {
+      all = are.all ∙ sym (names_more st Variables xs x (inr refl) ∙ known_name (symbols_of (st ++ e ∷ [])) x at_names);
+      informed = length-set infos n (record info { variable = Some (length st) }) ∙ are.informed;
+      each = λ m y other at found. elim (get_set_cases infos n m (record info { variable = Some (length st) }) other found) [
+        | inl (same, is) ↦
+            let same_name : x ≡ y = let at_n = subst (λ k. slice_get symbols k ≡ Some y) same at in cc in
+            let old = are.each n x info named there in
+            subst (λ i. IsInfo (st ++ d ∷ []) y i) is (subst (λ z. IsInfo (st ++ d ∷ []) z (record info { variable = Some (length st) })) same_name (record {
+              variable = latest_new (Declares Variables x) st d (refl, contains_last xs x);
+              floating = latest_replaced (GivesType x) st e d info.floating (λ h. absurd (no_type_first Variables xs x (inr refl) h)) (λ h. absurd (no_type_first Variables (xs ++ x ∷ []) x (inr refl) h)) old.floating;
+            }))
+        | inr (apart, before) ↦
+            let old = are.each m y other at before in
+            let differs : x ≢ y = λ same. apart (same_number (st ++ e ∷ []) symbols m n x are.all (at ∙ ap (λ z. Some z) (sym same)) named) in
+            record {
+              variable = latest_replaced (Declares Variables y) st e d other.variable (λ h. (refl, contains_push xs x y h.1)) (λ h. (refl, contains_unpush xs x y differs h.1)) old.variable;
+              floating = latest_replaced (GivesType y) st e d other.floating (λ h. absurd (no_type_first Variables xs y (inr refl) h)) (λ h. absurd (no_type_first Variables (xs ++ x ∷ []) y (inr refl) h)) old.floating;
+            }
+      ];
+    }
+
+no_variable : (xs : List (List ℕ)) (y : List ℕ) → ¬ (Declares Variables y (of_kind Constants xs))
+no_variable xs y (kind, in_it) = absurd (cc)
+
+pub infos_known_constant : (st : List Sentence) (symbols xs : List (List ℕ)) (infos : List SymbolInfo) (x : List ℕ) (n : ℕ) → AreInfos (st ++ of_kind Constants xs ∷ []) symbols infos
+    → slice_get symbols n ≡ Some x → AreInfos (st ++ of_kind Constants (xs ++ x ∷ []) ∷ []) symbols infos
+infos_known_constant st symbols xs infos x n are named =
+    let e = of_kind Constants xs in
+    let d = of_kind Constants (xs ++ x ∷ []) in
+    let at_names : At (symbols_of (st ++ e ∷ [])) x = (n, subst (λ names. slice_get names n ≡ Some x) are.all named) in
+    record {
+      all = are.all ∙ sym (names_more st Constants xs x (inl refl) ∙ known_name (symbols_of (st ++ e ∷ [])) x at_names);
+      informed = are.informed;
+      each = λ m y info at found. let old = are.each m y info at found in record {
+        variable = latest_replaced (Declares Variables y) st e d info.variable (λ h. absurd (no_variable xs y h)) (λ h. absurd (no_variable (xs ++ x ∷ []) y h)) old.variable;
+        floating = latest_replaced (GivesType y) st e d info.floating (λ h. absurd (no_type_first Constants xs y (inl refl) h)) (λ h. absurd (no_type_first Constants (xs ++ x ∷ []) y (inl refl) h)) old.floating;
+      };
+    }
+
+-- a symbol that isn't known yet: no `$v` and no `$f` names it
+unknown_untyped : (st : List Sentence) (e : Sentence) (x : List ℕ) → AllMeant st → ¬ (e.kind ≡ Floating) → ¬ (At (symbols_of (st ++ e ∷ [])) x) → ¬ (SomeSentence (st ++ e ∷ []) (GivesType x))
+unknown_untyped st e x meant other unknown (p, f, there, (code, types)) = elim (pushed_cases st e p f there) [
+  | inl before ↦
+      let variable = some_later st p (Declares Variables x) (typed_variable (take p st) f code x (meant_at st p f meant before) types) in
+      let (k, s, at, declares) = variable in
+      unknown (number_from_declared (st ++ e ∷ []) x (inr (k, s, get_kept st (e ∷ []) k s at, declares)))
+  | inr (last, same) ↦ other (ap (λ (s : Sentence). s.kind) same ∙ types.0)
+]
+
+pub infos_fresh : (st : List Sentence) (kind : Kind) (symbols xs : List (List ℕ)) (infos : List SymbolInfo) (x : List ℕ) (v : Option ℕ) → AllMeant st → (kind ≡ Constants) ⊎ (kind ≡ Variables)
+    → AreInfos (st ++ of_kind kind xs ∷ []) symbols infos → ¬ (Contains symbols x) → IsLatestIn (Declares Variables x) (st ++ of_kind kind (xs ++ x ∷ []) ∷ []) v
+    → AreInfos (st ++ of_kind kind (xs ++ x ∷ []) ∷ []) (symbols ++ x ∷ []) (infos ++ record { variable = v; floating = None } ∷ [])
+infos_fresh st kind symbols xs infos x v meant which are unknown latest =
+    let e = of_kind kind xs in
+    let d = of_kind kind (xs ++ x ∷ []) in
+    let new : SymbolInfo = record { variable = v; floating = None } in
+    let informed = are.informed in
+    let absent : ¬ (At symbols x) = λ at. unknown (contains_from_at symbols x at) in
+    let absent_before : ¬ (At (symbols_of (st ++ e ∷ [])) x) = λ (i, at). absent (i, subst (λ names. slice_get names i ≡ Some x) (sym are.all) at) in
+    let all : symbols ++ x ∷ [] ≡ symbols_of (st ++ d ∷ []) =
+          ap (λ names. names ++ x ∷ []) are.all ∙ sym (names_more st kind xs x which ∙ fresh_name (symbols_of (st ++ e ∷ [])) x absent_before) in
+    record {
+      all = all;
+      informed = length_pushed infos new ∙ ap suc informed ∙ sym (length_pushed symbols x);
+      each = λ m y info at found. elim (pushed_cases symbols x m y at) [
+        | inl before ↦
+            let lt = slice_get_within symbols m y before in
+            let old = are.each m y info before (get_before infos (new ∷ []) m info (omega arith) found) in
+            let differs : x ≢ y = λ same. absent (m, before ∙ ap (λ z. Some z) (sym same)) in
+            record {
+              variable = latest_replaced (Declares Variables y) st e d info.variable (λ h. (h.0, contains_push xs x y h.1)) (λ h. (h.0, contains_unpush xs x y differs h.1)) old.variable;
+              floating = latest_replaced (GivesType y) st e d info.floating (λ h. absurd (no_type_first kind xs y which h)) (λ h. absurd (no_type_first kind (xs ++ x ∷ []) y which h)) old.floating;
+            }
+        | inr (last, same) ↦ elim (pushed_cases infos new m info found) [
+          | inl before ↦ absurd (let lt = slice_get_within infos m info before in omega arith)
+          | inr (at_end, is) ↦
+              subst (λ i. IsInfo (st ++ d ∷ []) y i) is (subst (λ z. IsInfo (st ++ d ∷ []) z new) same (record {
+                variable = latest;
+                floating = untyped st e d x meant which absent_before refl;
+              }))
+        ]
+      ];
+    }
+  where
+    untyped : (st : List Sentence) (e d : Sentence) (x : List ℕ) → AllMeant st → (kind ≡ Constants) ⊎ (kind ≡ Variables) → ¬ (At (symbols_of (st ++ of_kind kind xs ∷ [])) x) → d ≡ of_kind kind (xs ++ x ∷ [])
+        → ¬ (SomeSentence (st ++ d ∷ []) (GivesType x))
+    untyped st e d x meant which absent is (p, f, there, types) = elim (pushed_cases st d p f there) [
+      | inl before ↦ unknown_untyped st (of_kind kind xs) x meant (λ floats. elim which [ inl c ↦ absurd (cc) | inr w ↦ absurd (cc) ]) absent (p, f, get_kept st (of_kind kind xs ∷ []) p f before, types)
+      | inr (last, same) ↦ no_type_first kind (xs ++ x ∷ []) x which (subst (GivesType x) (sym same ∙ is) types)
+    ]
+
+pub infos_fresh_variable : (st : List Sentence) (symbols xs : List (List ℕ)) (infos : List SymbolInfo) (x : List ℕ) → AllMeant st
+    → AreInfos (st ++ of_kind Variables xs ∷ []) symbols infos → ¬ (Contains symbols x)
+    → AreInfos (st ++ of_kind Variables (xs ++ x ∷ []) ∷ []) (symbols ++ x ∷ []) (infos ++ record { variable = Some (length st); floating = None } ∷ [])
+infos_fresh_variable st symbols xs infos x meant are unknown =
+    infos_fresh st Variables symbols xs infos x (Some (length st)) meant (inr refl) are unknown (latest_new (Declares Variables x) st (of_kind Variables (xs ++ x ∷ [])) (refl, contains_last xs x))
+
+pub infos_fresh_constant : (st : List Sentence) (symbols xs : List (List ℕ)) (infos : List SymbolInfo) (x : List ℕ) → AllMeant st
+    → AreInfos (st ++ of_kind Constants xs ∷ []) symbols infos → ¬ (Contains symbols x)
+    → AreInfos (st ++ of_kind Constants (xs ++ x ∷ []) ∷ []) (symbols ++ x ∷ []) (infos ++ record { variable = None; floating = None } ∷ [])
+infos_fresh_constant st symbols xs infos x meant are unknown =
+    infos_fresh st Constants symbols xs infos x None meant (inl refl) are unknown (λ (p, s, there, declares). elim (pushed_cases st (of_kind Constants (xs ++ x ∷ [])) p s there) [
+      | inl before ↦
+          let e = of_kind Constants xs in
+          let (n, at) = number_from_declared (st ++ e ∷ []) x (inr (p, s, get_kept st (e ∷ []) p s before, declares)) in
+          unknown (contains_from_at symbols x (n, subst (λ names. slice_get names n ≡ Some x) (sym are.all) at))
+      | inr (last, same) ↦ no_variable (xs ++ x ∷ []) x (subst (Declares Variables x) (sym same) declares)
+    ])
+
+-- before its symbols are taken, a `$c` or `$v` says nothing of them
+pub infos_begin : (st : List Sentence) (symbols : List (List ℕ)) (infos : List SymbolInfo) (kind : Kind) → AreInfos st symbols infos → (kind ≡ Constants) ⊎ (kind ≡ Variables) → AreInfos (st ++ of_kind kind [] ∷ []) symbols infos
+infos_begin st symbols infos kind are which =
+    infos_other st symbols infos (of_kind kind []) are (declaring_all kind [] which) (λ floats. elim which [ inl c ↦ absurd (cc) | inr w ↦ absurd (cc) ])
+
+pub infos_none : AreInfos [] [] []
+infos_none = record { all = sym symbols_none; informed = refl; each = λ n x info at found. absurd (cc) }

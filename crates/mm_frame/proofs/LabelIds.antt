@@ -1,0 +1,57 @@
+-- The numbers of the labels of the mandatory hypotheses.
+use Rattle.std.proofs.Common.{◌≡◌, ℕ, ◌+◌, ◌<◌, true, length, take, get_or, List, [], ◌∷◌, ◌++◌, map, is_some, Option, Some, None, refl, sym, ap, ◌∙◌}
+use Rattle.std.specs.List.{slice_get}
+use Rattle.std.specs.Option.{option_and_then}
+use Rattle.std.proofs.lemmas.Option.{slice_get-get_or}
+use Rattle.std.proofs.lemmas.List.{take_more, map-append}
+use Rattle.mm_frame.specs.declared.number.LabelId.{LabelId}
+use Rattle.mm_frame.specs.declared.number.Sym.{Sym}
+use Rattle.mm_frame.specs.declared.tables.Entry.{Entry}
+use Rattle.mm_frame.specs.declared.tables.LabelInfo.{LabelInfo}
+use Rattle.mm_frame.specs.Sentence.{Sentence}
+use Rattle.mm_frame.specs.Form.{AllFormed}
+use Rattle.mm_frame.specs.Numbers.{labelled}
+use Rattle.mm_frame.specs.Layout.{sentences, label_by, AreLabels}
+use Rattle.mm_frame.specs.Gathered.{ArePlaces}
+use Rattle.mm_frame.proofs.Pushed.{get_within}
+use Rattle.mm_frame.proofs.Entries.{entry_at}
+use Rattle.mm_frame.proofs.FrameOf.{place_named}
+
+-- an entry that says a labelled statement has a label
+entry_labelled : (labels : List (List ℕ)) (label : Option LabelId) → is_some (label_by labels label) ≡ true → (id : LabelId) × (label ≡ Some id)
+entry_labelled labels None named = absurd (cc)
+entry_labelled labels (Some id) named = (id, refl)
+
+-- the label's number at the place of a mandatory hypothesis
+pub id_at : (symbols labels : List (List ℕ)) (flat : List Sym) (log : List Entry) (named : List LabelInfo) (s : Sentence) (places : List ℕ) (i p : ℕ) → AreLabels (sentences symbols labels flat log) labels named log
+    → AllFormed (sentences symbols labels flat log) → ArePlaces (sentences symbols labels flat log) s places → slice_get places i ≡ Some p
+    → (id : LabelId) × (option_and_then (λ e. e.label) (slice_get log p) ≡ Some id) × (id.0 ≡ length (labelled (take p (sentences symbols labels flat log))))
+id_at symbols labels flat log named s places i p are formed are_places there =
+    let st = sentences symbols labels flat log in
+    let (h, at) = get_within st p (are_places.within i p there) in
+    let (e, at_e, says) = entry_at symbols labels flat log p h at in
+    let has : is_some h.label ≡ true = place_named st s places i p h formed are_places there at in
+    let (id, is) = entry_labelled labels e.label (ap (λ (t : Sentence). is_some t.label) says ∙ has) in
+    (id, ap (option_and_then (λ e. e.label)) at_e ∙ is, sym (are.logged p e id at_e is))
+
+-- one place more
+pub ids_step : (symbols labels : List (List ℕ)) (flat : List Sym) (log : List Entry) (named : List LabelInfo) (s : Sentence) (places : List ℕ) (i : ℕ) (id : LabelId) (ids : List LabelId)
+    → AreLabels (sentences symbols labels flat log) labels named log → AllFormed (sentences symbols labels flat log) → ArePlaces (sentences symbols labels flat log) s places → i < length places
+    → option_and_then (λ e. e.label) (slice_get log (get_or places i 0)) ≡ Some id
+    → map (λ id. id.0) ids ≡ map (λ p. length (labelled (take p (sentences symbols labels flat log)))) (take i places)
+    → map (λ id. id.0) (ids ++ id ∷ []) ≡ map (λ p. length (labelled (take p (sentences symbols labels flat log)))) (take (i + 1) places)
+ids_step symbols labels flat log named s places i id ids are formed are_places lt found so_far =
+    let st = sentences symbols labels flat log in
+    let number : ℕ → ℕ = λ p. length (labelled (take p st)) in
+    let p = get_or places i 0 in
+    let (other, is, value) = id_at symbols labels flat log named s places i p are formed are_places (slice_get-get_or places i 0 lt) in
+    let same : id.0 ≡ number p = let e : other ≡ id = cc in ap (λ (j : LabelId). j.0) (sym e) ∙ value in
+    map-append (λ (id : LabelId). id.0) ids (id ∷ []) ∙ ap (λ ns. ns ++ id.0 ∷ []) so_far ∙ ap (λ n. map number (take i places) ++ n ∷ []) same
+    ∙ sym (ap (map number) (take_more places i 0 lt) ∙ map-append number (take i places) (p ∷ []))
+
+pub ids_never : (symbols labels : List (List ℕ)) (flat : List Sym) (log : List Entry) (named : List LabelInfo) (s : Sentence) (places : List ℕ) (i : ℕ)
+    → AreLabels (sentences symbols labels flat log) labels named log → AllFormed (sentences symbols labels flat log) → ArePlaces (sentences symbols labels flat log) s places → i < length places
+    → option_and_then (λ e. e.label) (slice_get log (get_or places i 0)) ≡ None → ⊥
+ids_never symbols labels flat log named s places i are formed are_places lt none =
+    let (other, is, value) = id_at symbols labels flat log named s places i (get_or places i 0) are formed are_places (slice_get-get_or places i 0 lt) in
+    absurd (cc)

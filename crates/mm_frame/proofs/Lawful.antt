@@ -1,0 +1,30 @@
+-- The laws hold.
+use Rattle.std.proofs.Common.{◌≡◌, ℕ, List, Some, sym, ◌∙◌}
+use Rattle.std.specs.List.{slice_get}
+use Rattle.mm_frame.specs.Numbers.{symbols_of}
+use Rattle.mm_frame.specs.Laws.{OneNumber, OneLabelNumber, OneFrame}
+use Rattle.mm_frame.proofs.Numbered.{symbols_unique, symbols_grow, number_from_declared, declared_from_number}
+use Rattle.mm_frame.proofs.Labelled.{numbered_at, numbered_unique, numbered_grow}
+use Rattle.mm_frame.proofs.Those.{mandatory_unique}
+
+same_element : (xs : List (List ℕ)) (x y : List ℕ) (n : ℕ) → slice_get xs n ≡ Some x → slice_get xs n ≡ Some y → x ≡ y
+same_element xs x y n at_x at_y = cc
+
+pub one_number_holds : OneNumber
+one_number_holds st more x = (
+  ((λ declared. number_from_declared st x declared), (λ (n, there). declared_from_number st x n there)),
+  (λ m n at_m at_n. symbols_unique st m n x at_m at_n),
+  (λ y n at_x at_y. same_element (symbols_of st) x y n at_x at_y),
+  (λ n there. symbols_grow st more n x there),
+)
+
+pub one_label_number_holds : OneLabelNumber
+one_label_number_holds st more p s = (
+  ((λ (there, named). (_, numbered_at st p s there named)), (λ (n, is). (is.there, is.named))),
+  (λ m n one other. sym one.number ∙ other.number),
+  (λ q n t one other. numbered_unique st n p q s t one other),
+  (λ n one. numbered_grow st more n p s one),
+)
+
+pub one_frame_holds : OneFrame
+one_frame_holds before s hypotheses others one other = mandatory_unique before s hypotheses others one other

@@ -1,0 +1,352 @@
+-- A book's lists once a label and its statement are written.
+use Rattle.std.proofs.Common.{◌≡◌, ℕ, zero, suc, ◌+◌, ◌*◌, ◌-◌, ◌<◌, ◌≤◌, inl, inr, length, take, set, List, [], ◌∷◌, ◌++◌, map, unwrap_or, Option, Some, refl, sym, ap, ◌∙◌, subst, length-append, Result, Ok, Err, arith, rules}
+use Rattle.std.specs.List.{slice_get, slice_range, fold}
+use Rattle.std.proofs.lemmas.Option.{slice_get_within}
+use Rattle.std.proofs.lemmas.List.{append-nil}
+use Rattle.std.proofs.Math.Seq.{drop-append_seam, take-length}
+use Rattle.std.specs.Result.{OnErr}
+use Rattle.mm_text.specs.Statement.{FitsCount}
+use Rattle.mm_text.specs.declared.statement.Kind.{Kind}
+use Rattle.mm_text.specs.declared.statement.Kind.TheVariants.{Floating, Essential, Distinct, Closing}
+use Rattle.mm_frame.specs.declared.number.LabelId.{LabelId}
+use Rattle.mm_frame.specs.declared.number.Sym.{Sym}
+use Rattle.mm_frame.specs.declared.tables.Entry.{Entry}
+use Rattle.mm_frame.specs.declared.tables.LabelInfo.{LabelInfo}
+use Rattle.mm_frame.specs.declared.tables.Part.{Part}
+use Rattle.mm_frame.specs.declared.tables.SymbolInfo.{SymbolInfo}
+use Rattle.mm_frame.specs.declared.tables.Tables.{Tables}
+use Rattle.mm_frame.specs.Sentence.{Sentence, IsAssertion}
+use Rattle.mm_frame.specs.Rules.{IsMeant}
+use Rattle.mm_frame.specs.declared.rule.MeaningRule.TheVariants.{M5}
+use Rattle.mm_frame.specs.Form.{IsFormedSentence}
+use Rattle.mm_frame.specs.Numbers.{AreNumbers, symbols_of, with_name, declared_by, declared_in}
+use Rattle.mm_frame.specs.ScopesOf.{HaveScopes, HaveSameLists}
+use Rattle.mm_frame.specs.Taken.{next_id, TakenAs}
+use Rattle.mm_frame.specs.declared.answer.Taken.TheVariants.{Assertion}
+use Rattle.mm_frame.specs.Layout.{AreTables, AreInfos, AreLabels, AreEssentials, AreFrames, IsFrameInfo, names_by, statements_of}
+use Rattle.mm_frame.specs.Grows.{Grows, SameLists, entry_of}
+use Rattle.mm_frame.specs.Naming.{Named, label_info, part_after}
+use Rattle.mm_frame.specs.FramePlace.{AreHypotheses, ArePairs}
+use Rattle.mm_frame.specs.Gathered.{ArePlaces}
+use Rattle.mm_frame.proofs.FrameOf.{numbers_at, hypotheses_from_places}
+use Rattle.mm_frame.proofs.Pushed.{get_pushed, get_within}
+use Rattle.mm_frame.proofs.LookupLaws.{label_number}
+use Rattle.mm_frame.proofs.Numbered.{contains_from_at, with_name_cases, symbols_push}
+use Rattle.mm_frame.proofs.Labelled.{labelled_few}
+use Rattle.mm_frame.proofs.Labels.{labels_counted, labels_some, essentials_essential, essentials_other}
+use Rattle.mm_frame.proofs.Infos.{infos_other, infos_floating}
+use Rattle.mm_frame.proofs.Entries.{length-sentences, longer}
+use Rattle.mm_frame.proofs.FrameLaws.{at_place, stated_other, placed, frames_hypothesis, frames_assertion}
+use Rattle.mm_frame.proofs.Assembled.{AreAppended, AreGrown, assembled}
+
+-- there are fewer labels than numbers for them
+pub few_labels : (t : Tables) (bytes : ℕ) → AreTables t → t.bytes + bytes ≤ 1073741824 → length t.labels.names + 1 < 4294967296
+few_labels t bytes are room =
+    let counted = labels_counted (statements_of t) t.labels.names t.named.items t.log.items are.labels in
+    let few = labelled_few (statements_of t) in
+    let size = length-sentences t.symbols.names t.labels.names t.flat.items t.log.items in
+    let sum = are.counted in
+    omega arith
+
+-- the number of the next label
+pub next_number : (t : Tables) (id : LabelId) → AreTables t → id.0 ≡ length t.labels.names → id ≡ next_id (statements_of t)
+next_number t id are is =
+    let counted = labels_counted (statements_of t) t.labels.names t.named.items t.log.items are.labels in
+    ap (λ (n : ℕ). let i : LabelId = record { 0 = n } in i) (is ∙ sym counted)
+
+-- a label that breaks no rule is new
+pub label_new : (st : List Sentence) (labels : List (List ℕ)) (named : List LabelInfo) (log : List Entry) (s : Sentence) (l : List ℕ) → AreLabels st labels named log → IsMeant st s → s.label ≡ Some l
+    → with_name labels l ≡ labels ++ l ∷ []
+label_new st labels named log s l are meant has = elim (with_name_cases labels l) [
+  | inl (at, same) ↦ absurd (meant M5 (l, has, (label_number st labels l are.all).1 (contains_from_at labels l at)))
+  | inr (new, longer) ↦ longer
+]
+
+-- the names of the numbers of symbols are the symbols
+pub names_numbered : (names : List (List ℕ)) (numbers : List Sym) (xs : List (List ℕ)) → map (slice_get names) (map (λ n. n.0) numbers) ≡ map (λ x. Some x) xs → names_by names numbers ≡ xs
+names_numbered names [] [] are = refl
+names_numbered names [] (x ∷ xs) are = absurd (cc)
+names_numbered names (n ∷ numbers) [] are = absurd (cc)
+names_numbered names (n ∷ numbers) (x ∷ xs) are =
+    let here : slice_get names n.0 ≡ Some x = cc in
+    let rest : map (slice_get names) (map (λ n. n.0) numbers) ≡ map (λ x. Some x) xs = cc in
+    let head : unwrap_or (slice_get names n.0) [] ≡ x = ap (λ o. unwrap_or o []) here in
+    let tail = names_numbered names numbers xs rest in
+    cc (head, tail)
+
+pub numbers_within : (names : List (List ℕ)) (numbers : List Sym) (xs : List (List ℕ)) → map (slice_get names) (map (λ n. n.0) numbers) ≡ map (λ x. Some x) xs
+    → (i : ℕ) (n : Sym) → slice_get numbers i ≡ Some n → n.0 < length names
+numbers_within names [] xs are i n there = absurd (cc)
+numbers_within names (m ∷ numbers) [] are i n there = absurd (cc)
+numbers_within names (m ∷ numbers) (x ∷ xs) are zero n there =
+    let here : slice_get names m.0 ≡ Some x = cc in
+    let same : m ≡ n = cc in
+    slice_get_within names n.0 x (subst (λ (k : Sym). slice_get names k.0 ≡ Some x) same here)
+numbers_within names (m ∷ numbers) (x ∷ xs) are (suc i) n there =
+    let rest : map (slice_get names) (map (λ n. n.0) numbers) ≡ map (λ x. Some x) xs = cc in
+    numbers_within names numbers xs rest i n there
+
+-- the part that was added to the end of a list
+pub added_part : {X : Type 0} (xs more : List X) → slice_range (xs ++ more) (length xs) (length (xs ++ more)) ≡ more
+added_part xs more =
+    let size = length-append xs more in
+    let n : length (xs ++ more) - length xs ≡ length more = omega arith in
+    ap (take (length (xs ++ more) - length xs)) (drop-append_seam xs more) ∙ ap (λ k. take k more) n ∙ take-length more
+
+same_sentence : (s : Sentence) (kind : Kind) (l : Option (List ℕ)) (xs : List (List ℕ)) → kind ≡ s.kind → l ≡ s.label → xs ≡ s.symbols → ◌≡◌ {A = Sentence} (record { kind = kind; label = l; symbols = xs }) s
+same_sentence s kind l xs e f g =
+    ap (λ (k : Kind). let t : Sentence = record { kind = k; label = l; symbols = xs } in t) e
+    ∙ ap (λ (o : Option (List ℕ)). let t : Sentence = record { kind = s.kind; label = o; symbols = xs } in t) f
+    ∙ ap (λ (ys : List (List ℕ)). let t : Sentence = record { kind = s.kind; label = s.label; symbols = ys } in t) g
+
+-- the lists before a label is written: those of a book, but for what is known of symbols and for the active `$e`, and with more of frames
+pub record Before (t u : Tables) (a : List LabelId) (b : List (Sym × Sym)) : Type 0 where
+  pub symbols : u.symbols.names ≡ t.symbols.names
+  pub labels : u.labels.names ≡ t.labels.names
+  pub named : u.named.items ≡ t.named.items
+  pub log : u.log.items ≡ t.log.items
+  pub flat : u.flat.items ≡ t.flat.items
+  pub scopes : HaveSameLists t.scopes u.scopes
+  pub hypotheses : u.hypotheses.items ≡ t.hypotheses.items ++ a
+  pub pairs : u.pairs.items ≡ t.pairs.items ++ b
+  pub stated : u.distinct.stated ≡ t.distinct.stated
+  pub bytes : u.bytes ≡ t.bytes
+
+-- lists that are the same are so
+pub before_same : (t u : Tables) → SameLists t u → Before t u [] []
+before_same t u same = record {
+  symbols = same.symbols;
+  labels = same.labels;
+  named = same.named;
+  log = same.log;
+  flat = same.flat;
+  scopes = same.scopes;
+  hypotheses = same.hypotheses ∙ sym (append-nil t.hypotheses.items);
+  pairs = same.pairs ∙ sym (append-nil t.pairs.items);
+  stated = same.stated;
+  bytes = same.bytes;
+}
+
+-- what the new statement is, as the lists say it
+pub record IsWritten (t : Tables) (s : Sentence) (kind : Kind) (l : List ℕ) (numbers : List Sym) : Type 0 where
+  pub kinds : s.kind ≡ kind
+  pub label : s.label ≡ Some l
+  pub numbered : AreNumbers (statements_of t) (map (λ n. n.0) numbers) s.symbols
+  pub meant : IsMeant (statements_of t) s
+  pub formed : IsFormedSentence s
+
+by_names : (t : Tables) (numbers : List Sym) (xs : List (List ℕ)) → AreTables t → AreNumbers (statements_of t) (map (λ n. n.0) numbers) xs → map (slice_get t.symbols.names) (map (λ n. n.0) numbers) ≡ map (λ x. Some x) xs
+by_names t numbers xs are numbered = subst (λ (names : List (List ℕ)). map (slice_get names) (map (λ n. n.0) numbers) ≡ map (λ x. Some x) xs) (sym are.infos.all) numbered
+
+appended : (t u v : Tables) (s : Sentence) (kind : Kind) (l : List ℕ) (numbers : List Sym) (frame : Part × Part) (id : LabelId) (a : List LabelId) (b : List (Sym × Sym)) (bytes : ℕ)
+    → AreTables t → Before t u a b → Named u v kind l numbers frame id bytes → id.0 ≡ length u.labels.names → IsWritten t s kind l numbers
+    → AreAppended t v [] (l ∷ []) numbers (entry_of kind (Some id) (length t.flat.items) (length (t.flat.items ++ numbers))) s
+appended t u v s kind l numbers frame id a b bytes are before named number is =
+    let names = by_names t numbers s.symbols are is.numbered in
+    let more : t.symbols.names ++ [] ≡ t.symbols.names = append-nil t.symbols.names in
+    let number' : id.0 ≡ length t.labels.names = number ∙ ap length before.labels in
+    let new = label_new (statements_of t) t.labels.names t.named.items t.log.items s l are.labels is.meant is.label in
+    let size = length-append t.labels.names (l ∷ []) in
+    record {
+      symbols = named.symbols ∙ before.symbols ∙ sym more;
+      labels = named.labels ∙ ap (λ ys. with_name ys l) before.labels ∙ new;
+      flat = named.flat ∙ ap (λ ys. ys ++ numbers) before.flat;
+      log = named.log ∙ ap (λ (ys : List Entry). ys ++ entry_of kind (Some id) (length u.flat.items) (length (u.flat.items ++ numbers)) ∷ []) before.log
+          ∙ ap (λ (fs : List Sym). t.log.items ++ entry_of kind (Some id) (length fs) (length (fs ++ numbers)) ∷ []) before.flat;
+      said = same_sentence s kind _ _ (sym is.kinds)
+          (ap (slice_get (t.labels.names ++ l ∷ [])) number' ∙ get_pushed t.labels.names l ∙ sym is.label)
+          (ap (names_by (t.symbols.names ++ [])) (added_part t.flat.items numbers) ∙ ap (λ ys. names_by ys numbers) more ∙ names_numbered t.symbols.names numbers s.symbols names);
+      within = record { ordered = longer t.flat.items numbers; within = omega arith };
+      numbers = λ i n there. subst (λ (ys : List (List ℕ)). n.0 < length ys) (sym more) (numbers_within t.symbols.names numbers s.symbols names i n there);
+      label = λ other same. let e : id ≡ other = cc in let f : id.0 ≡ other.0 = ap (λ (i : LabelId). i.0) e in omega arith;
+    }
+
+-- a statement that declares nothing leaves the symbols as they are
+same_symbols : (t : Tables) (s : Sentence) → AreTables t → declared_by s ≡ [] → t.symbols.names ++ [] ≡ symbols_of (statements_of t ++ s ∷ [])
+same_symbols t s are none = append-nil t.symbols.names ∙ are.infos.all ∙ sym (symbols_push (statements_of t) s ∙ ap (fold with_name (symbols_of (statements_of t))) none)
+
+-- the lists once a label and its statement are written, but for infos, essentials and frames
+grown : (t u v : Tables) (s : Sentence) (kind : Kind) (l : List ℕ) (numbers : List Sym) (frame : Part × Part) (id : LabelId) (a : List LabelId) (b : List (Sym × Sym)) (bytes : ℕ)
+    → AreTables t → Before t u a b → Named u v kind l numbers frame id bytes → id.0 ≡ length u.labels.names → IsWritten t s kind l numbers
+    → declared_by s ≡ [] → ¬ (kind ≡ Closing) → ¬ (kind ≡ Distinct)
+    → AreInfos (statements_of t ++ s ∷ []) t.symbols.names u.infos.items → AreEssentials (statements_of t ++ s ∷ []) u.essentials.items
+    → AreFrames (statements_of t ++ s ∷ []) (t.hypotheses.items ++ a) (t.pairs.items ++ b) (t.named.items ++ label_info (length t.log.items) frame ∷ [])
+    → AreGrown t v s
+grown t u v s kind l numbers frame id a b bytes are before named number is none unclosed together infos essentials frames =
+    let st = statements_of t in
+    let new = entry_of kind (Some id) (length t.flat.items) (length (t.flat.items ++ numbers)) in
+    let app = appended t u v s kind l numbers frame id a b bytes are before named number is in
+    let size = length-sentences t.symbols.names t.labels.names t.flat.items t.log.items in
+    let labels = labels_some st t.labels.names t.named.items t.log.items s new l id (label_info (length t.log.items) frame) are.labels
+    is.label refl (number ∙ ap length before.labels) (sym size) (sym size) in
+    let held : HaveScopes st u.scopes = rw (before.scopes.blocks, before.scopes.ends, before.scopes.open_blocks) are.scopes in
+    let names : v.named.items ≡ t.named.items ++ label_info (length t.log.items) frame ∷ [] =
+    named.named ∙ ap (λ (ys : List LabelInfo). ys ++ label_info (length u.log.items) frame ∷ []) before.named
+    ∙ ap (λ (ys : List Entry). t.named.items ++ label_info (length ys) frame ∷ []) before.log in
+    let same : v.symbols.names ≡ t.symbols.names = named.symbols ∙ before.symbols in
+    let kept = stated_other st s t.symbols.names [] t.distinct.stated are.sound.0 are.infos.all (same_symbols t s are none) are.stated
+    (λ distinct. together (sym is.kinds ∙ distinct)) in
+    record {
+      infos = rw (same, named.infos) infos;
+      labels = rw (app.labels, names, app.log) labels;
+      scopes = named.scopes st s held is.kinds (λ closes. absurd (unclosed closes));
+      essentials = rw named.essentials essentials;
+      frames = rw (named.hypotheses, before.hypotheses, named.pairs, before.pairs, names) frames;
+      stated = rw (app.symbols, named.stated, before.stated) kept;
+    }
+
+pub named_grows : (t u v : Tables) (s : Sentence) (kind : Kind) (l : List ℕ) (numbers : List Sym) (frame : Part × Part) (id : LabelId) (a : List LabelId) (b : List (Sym × Sym)) (bytes : ℕ)
+    → AreTables t → Before t u a b → Named u v kind l numbers frame id bytes → id.0 ≡ length u.labels.names → IsWritten t s kind l numbers
+    → declared_by s ≡ [] → ¬ (kind ≡ Closing) → ¬ (kind ≡ Distinct)
+    → AreInfos (statements_of t ++ s ∷ []) t.symbols.names u.infos.items → AreEssentials (statements_of t ++ s ∷ []) u.essentials.items
+    → AreFrames (statements_of t ++ s ∷ []) (t.hypotheses.items ++ a) (t.pairs.items ++ b) (t.named.items ++ label_info (length t.log.items) frame ∷ [])
+    → 1 + length numbers ≤ 2 * bytes → t.bytes + bytes ≤ 1073741824 → Grows t v s bytes
+named_grows t u v s kind l numbers frame id a b bytes are before named number is none unclosed together infos essentials frames enough room =
+    let new = entry_of kind (Some id) (length t.flat.items) (length (t.flat.items ++ numbers)) in
+    assembled t v s new [] (l ∷ []) numbers bytes are is.meant is.formed
+    (appended t u v s kind l numbers frame id a b bytes are before named number is)
+    (grown t u v s kind l numbers frame id a b bytes are before named number is none unclosed together infos essentials frames)
+    (named.counted ∙ ap (λ n. n + bytes) before.bytes) enough room
+
+declares_none : (s : Sentence) (kind : Kind) → s.kind ≡ kind → declared_in kind s.symbols ≡ [] → declared_by s ≡ []
+declares_none s kind is none = ap (λ k. declared_in k s.symbols) is ∙ none
+
+no_assertion : (s : Sentence) (kind : Kind) → s.kind ≡ kind → ¬ (IsAssertion kind) → ¬ (IsAssertion s.kind)
+no_assertion s kind is other asserts = other (subst IsAssertion is asserts)
+
+floating_asserts : ¬ (IsAssertion Floating)
+floating_asserts asserts = elim asserts [ inl e ↦ absurd (cc) | inr e ↦ absurd (cc) ]
+
+essential_asserts : ¬ (IsAssertion Essential)
+essential_asserts asserts = elim asserts [ inl e ↦ absurd (cc) | inr e ↦ absurd (cc) ]
+
+-- a hypothesis has no frame
+hypothesis_frames : (t : Tables) (s : Sentence) (frame : Part × Part) → AreTables t → ¬ (IsAssertion s.kind)
+    → AreFrames (statements_of t ++ s ∷ []) (t.hypotheses.items ++ []) (t.pairs.items ++ []) (t.named.items ++ label_info (length t.log.items) frame ∷ [])
+hypothesis_frames t s frame are other =
+    frames_hypothesis (statements_of t) s t.hypotheses.items [] t.pairs.items [] t.named.items (label_info (length t.log.items) frame)
+    (placed (statements_of t) t.labels.names t.named.items t.log.items are.labels) are.frames
+    (sym (length-sentences t.symbols.names t.labels.names t.flat.items t.log.items)) other
+
+-- a `$e`
+pub supposed : (t u v : Tables) (s : Sentence) (l : List ℕ) (numbers : List Sym) (frame : Part × Part) (id : LabelId) (bytes : ℕ)
+    → AreTables t → Before t u [] [] → u.infos.items ≡ t.infos.items → u.essentials.items ≡ t.essentials.items ++ length t.log.items ∷ []
+    → Named u v Essential l numbers frame id bytes → id.0 ≡ length u.labels.names → IsWritten t s Essential l numbers
+    → 1 + length numbers ≤ 2 * bytes → t.bytes + bytes ≤ 1073741824 → Grows t v s bytes
+supposed t u v s l numbers frame id bytes are before infos essentials named number is enough room =
+    let st = statements_of t in
+    let none = declares_none s Essential is.kinds refl in
+    let size = length-sentences t.symbols.names t.labels.names t.flat.items t.log.items in
+    let known = infos_other st t.symbols.names t.infos.items s are.infos none (λ floats. let e = is.kinds in absurd (cc)) in
+    let active : AreEssentials (st ++ s ∷ []) (t.essentials.items ++ length t.log.items ∷ []) =
+    subst (λ n. AreEssentials (st ++ s ∷ []) (t.essentials.items ++ n ∷ [])) size (essentials_essential st t.essentials.items s are.essentials is.kinds) in
+    named_grows t u v s Essential l numbers frame id [] [] bytes are before named number is none (λ e. absurd (cc)) (λ e. absurd (cc))
+    (rw infos known) (rw essentials active) (hypothesis_frames t s frame are (no_assertion s Essential is.kinds essential_asserts)) enough room
+
+-- a `$f`
+pub typed : (t u v : Tables) (s : Sentence) (code x : List ℕ) (n : Sym) (info : SymbolInfo) (l : List ℕ) (numbers : List Sym) (frame : Part × Part) (id : LabelId) (bytes : ℕ)
+    → AreTables t → Before t u [] [] → s.symbols ≡ code ∷ x ∷ [] → slice_get t.symbols.names n.0 ≡ Some x → slice_get t.infos.items n.0 ≡ Some info
+    → u.infos.items ≡ set t.infos.items n.0 (record info { floating = Some (length t.log.items) }) → u.essentials.items ≡ t.essentials.items
+    → Named u v Floating l numbers frame id bytes → id.0 ≡ length u.labels.names → IsWritten t s Floating l numbers
+    → 1 + length numbers ≤ 2 * bytes → t.bytes + bytes ≤ 1073741824 → Grows t v s bytes
+typed t u v s code x n info l numbers frame id bytes are before says at there infos essentials named number is enough room =
+    let st = statements_of t in
+    let none = declares_none s Floating is.kinds refl in
+    let size = length-sentences t.symbols.names t.labels.names t.flat.items t.log.items in
+    let known : AreInfos (st ++ s ∷ []) t.symbols.names (set t.infos.items n.0 (record info { floating = Some (length t.log.items) })) =
+    subst (λ k. AreInfos (st ++ s ∷ []) t.symbols.names (set t.infos.items n.0 (record info { floating = Some k }))) size
+    (infos_floating st t.symbols.names t.infos.items s code x n.0 info are.infos is.kinds says at there) in
+    let active = essentials_other st t.essentials.items s are.essentials (λ e. let k = is.kinds in absurd (cc)) (λ e. let k = is.kinds in absurd (cc)) in
+    named_grows t u v s Floating l numbers frame id [] [] bytes are before named number is none (λ e. absurd (cc)) (λ e. absurd (cc))
+    (rw infos known) (rw essentials active) (hypothesis_frames t s frame are (no_assertion s Floating is.kinds floating_asserts)) enough room
+
+-- a `$a` or `$p`
+pub asserted : (t u v : Tables) (s : Sentence) (kind : Kind) (l : List ℕ) (numbers : List Sym) (frame : Part × Part) (id : LabelId) (a : List LabelId) (b : List (Sym × Sym)) (bytes : ℕ)
+    → AreTables t → IsAssertion kind → Before t u a b → u.infos.items ≡ t.infos.items → u.essentials.items ≡ t.essentials.items
+    → Named u v kind l numbers frame id bytes → id.0 ≡ length u.labels.names → IsWritten t s kind l numbers
+    → IsFrameInfo (statements_of t ++ s ∷ []) (t.hypotheses.items ++ a) (t.pairs.items ++ b) (label_info (length t.log.items) frame)
+    → 1 + length numbers ≤ 2 * bytes → t.bytes + bytes ≤ 1073741824 → Grows t v s bytes
+asserted t u v s kind l numbers frame id a b bytes are which before infos essentials named number is framed enough room =
+    let st = statements_of t in
+    let none = declares_none s kind is.kinds (elim which [ inl e ↦ ap (λ k. declared_in k s.symbols) e | inr e ↦ ap (λ k. declared_in k s.symbols) e ]) in
+    let unclosed : ¬ (kind ≡ Closing) = λ e. elim which [ inl f ↦ absurd (cc) | inr f ↦ absurd (cc) ] in
+    let apart : ¬ (kind ≡ Distinct) = λ e. elim which [ inl f ↦ absurd (cc) | inr f ↦ absurd (cc) ] in
+    let typeless : ¬ (s.kind ≡ Floating) = λ e. let k = is.kinds in elim which [ inl f ↦ absurd (cc) | inr f ↦ absurd (cc) ] in
+    let unsupposed : ¬ (s.kind ≡ Essential) = λ e. let k = is.kinds in elim which [ inl f ↦ absurd (cc) | inr f ↦ absurd (cc) ] in
+    let known = infos_other st t.symbols.names t.infos.items s are.infos none typeless in
+    let active = essentials_other st t.essentials.items s are.essentials unsupposed (λ e. unclosed (sym is.kinds ∙ e)) in
+    named_grows t u v s kind l numbers frame id a b bytes are before named number is none unclosed apart
+    (rw infos known) (rw essentials active)
+    (frames_assertion st s t.hypotheses.items a t.pairs.items b t.named.items (label_info (length t.log.items) frame)
+    (placed st t.labels.names t.named.items t.log.items are.labels) are.frames framed) enough room
+
+-- what holds anyway holds after a failure
+pub on_err : {T E : Type 0} (r : Result T E) (P : Type 0) → P → OnErr r P
+on_err (Ok x) P holds = search rules
+on_err (Err e) P holds = holds
+
+-- the numbers of a type code and a variable
+pub record AreTwo (names : List (List ℕ)) (numbers : List Sym) (xs : List (List ℕ)) : Type 0 where
+  pub first : Sym
+  pub second : Sym
+  pub code : List ℕ
+  pub variable : List ℕ
+  pub numbers_are : numbers ≡ first ∷ second ∷ []
+  pub symbols_are : xs ≡ code ∷ variable ∷ []
+  pub named : slice_get names second.0 ≡ Some variable
+
+pub are_two : (names : List (List ℕ)) (numbers : List Sym) (xs : List (List ℕ)) → map (slice_get names) (map (λ n. n.0) numbers) ≡ map (λ x. Some x) xs → length xs ≡ 2 → AreTwo names numbers xs
+are_two names numbers [] are size = absurd (omega arith)
+are_two names numbers (c ∷ []) are size = absurd (omega arith)
+are_two names [] (c ∷ x ∷ []) are size = absurd (cc)
+are_two names (a ∷ []) (c ∷ x ∷ []) are size = absurd (cc)
+are_two names (a ∷ n ∷ []) (c ∷ x ∷ []) are size = record { first = a; second = n; code = c; variable = x; numbers_are = refl; symbols_are = refl; named = cc }
+are_two names (a ∷ n ∷ m ∷ ms) (c ∷ x ∷ []) are size = absurd (cc)
+are_two names numbers (c ∷ x ∷ y ∷ ys) are size = absurd (omega arith)
+
+-- the symbols of a `$f`
+pub typing_numbers : (t : Tables) (s : Sentence) (l : List ℕ) (numbers : List Sym) → AreTables t → IsWritten t s Floating l numbers → AreTwo t.symbols.names numbers s.symbols
+typing_numbers t s l numbers are is =
+    let count : length s.symbols ≡ 2 = subst (λ k. FitsCount k (length s.symbols)) is.kinds is.formed.count in
+    are_two t.symbols.names numbers s.symbols (by_names t numbers s.symbols are is.numbered) count
+
+-- what is known of a symbol that has a number
+pub known_info : (t : Tables) (n : Sym) (x : List ℕ) → AreTables t → slice_get t.symbols.names n.0 ≡ Some x → (info : SymbolInfo) × (slice_get t.infos.items n.0 ≡ Some info)
+known_info t n x are at =
+    let lt = slice_get_within t.symbols.names n.0 x at in
+    let size = are.infos.informed in
+    get_within t.infos.items n.0 (omega arith)
+
+-- what is noted of a symbol, by lists, numbers and places that are the same
+pub noted : (old told new : List SymbolInfo) (m n : Sym) (info : SymbolInfo) (p q : ℕ) → old ≡ told → m ≡ n → p ≡ q → slice_get told n.0 ≡ Some info
+    → ((i : SymbolInfo) → slice_get old m.0 ≡ Some i → new ≡ set old m.0 (record i { floating = Some p })) → new ≡ set told n.0 (record info { floating = Some q })
+noted old told new m n info p q same is place there tells =
+    tells info (rw (same, is) there)
+    ∙ ap (λ xs. set xs m.0 (record info { floating = Some p })) same
+    ∙ ap (λ (k : Sym). set told k.0 (record info { floating = Some p })) is
+    ∙ ap (λ r. set told n.0 (record info { floating = Some r })) place
+
+-- the frame of a new assertion, at the ends of the lists of hypotheses and of pairs
+pub framed : (t : Tables) (s : Sentence) (places : List ℕ) (a : List LabelId) (b : List (Sym × Sym)) → AreTables t → ArePlaces (statements_of t) s places
+    → map (λ id. id.0) a ≡ numbers_at (statements_of t) places → ArePairs (at_place (statements_of t ++ s ∷ []) (length (statements_of t))) (map (λ pair. (pair.0.0, pair.1.0)) b)
+    → IsFrameInfo (statements_of t ++ s ∷ []) (t.hypotheses.items ++ a) (t.pairs.items ++ b) (label_info (length t.log.items) (part_after t.hypotheses.items a, part_after t.pairs.items b))
+framed t s places a b are at ids pairs =
+    let st = statements_of t in
+    let size = length-sentences t.symbols.names t.labels.names t.flat.items t.log.items in
+    let hs : AreHypotheses (at_place (st ++ s ∷ []) (length st)) (map (λ id. id.0) a) =
+    subst (AreHypotheses (at_place (st ++ s ∷ []) (length st))) (sym ids) (hypotheses_from_places st places s [] are.sound.1 at) in
+    record {
+      hypotheses_in = record { ordered = longer t.hypotheses.items a; within = omega arith };
+      pairs_in = record { ordered = longer t.pairs.items b; within = omega arith };
+      are_hypotheses = subst (λ n. AreHypotheses (at_place (st ++ s ∷ []) n) (map (λ id. id.0) (slice_range (t.hypotheses.items ++ a) (length t.hypotheses.items) (length (t.hypotheses.items ++ a))))) size
+          (subst (λ (ids : List LabelId). AreHypotheses (at_place (st ++ s ∷ []) (length st)) (map (λ id. id.0) ids)) (sym (added_part t.hypotheses.items a)) hs);
+      are_pairs = subst (λ n. ArePairs (at_place (st ++ s ∷ []) n) (map (λ pair. (pair.0.0, pair.1.0)) (slice_range (t.pairs.items ++ b) (length t.pairs.items) (length (t.pairs.items ++ b))))) size
+          (subst (λ (ps : List (Sym × Sym)). ArePairs (at_place (st ++ s ∷ []) (length st)) (map (λ pair. (pair.0.0, pair.1.0)) ps)) (sym (added_part t.pairs.items b)) pairs);
+    }
+
+-- what an assertion is taken as
+pub assertion_taken : (t : Tables) (kind : Kind) (id : LabelId) → AreTables t → IsAssertion kind → id.0 ≡ length t.labels.names → TakenAs (statements_of t) kind (Assertion id)
+assertion_taken t kind id are which is = elim which [
+  | inl one ↦ subst (λ k. TakenAs (statements_of t) k (Assertion id)) (sym one) (ap Assertion (next_number t id are is))
+  | inr other ↦ subst (λ k. TakenAs (statements_of t) k (Assertion id)) (sym other) (ap Assertion (next_number t id are is))
+]

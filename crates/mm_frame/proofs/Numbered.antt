@@ -1,0 +1,255 @@
+-- Numbers of symbols: each name stands once among the declared symbols, and keeps its place as statements are added.
+use Rattle.std.proofs.Common.{◌≡◌, ◌↔◌, ℕ, zero, suc, ◌⊎◌, inl, inr, Bool, true, false, ◌||◌, length, List, [], ◌∷◌, ◌++◌, map, Contains, Some, refl, sym, ap, ◌∙◌, subst, append-nil}
+use Rattle.std.specs.Prelude.{if◌then◌else◌}
+use Rattle.std.specs.List.{slice_get, fold, flat_map, list_any}
+use Rattle.std.specs.Str.{bytes_eq}
+use Rattle.std.specs.Bool.{Decides}
+use Rattle.std.proofs.lemmas.Option.{slice_get_within, get_or_from_slice_get, slice_get_read}
+use Rattle.std.proofs.lemmas.Bool.{cases_Bool, or_cases}
+use Rattle.std.proofs.lemmas.Slice.Eq.{bytes_eq-Decides}
+use Rattle.std.proofs.lemmas.List.Concat.{flat_map-append}
+use Rattle.std.proofs.lemmas.List.Sums.{fold-append}
+use Rattle.mm_text.specs.declared.statement.Kind.{Kind}
+use Rattle.mm_text.specs.declared.statement.Kind.TheVariants.{Constants, Variables, Distinct, Floating, Essential, Axiom, Provable, Opening, Closing}
+use Rattle.mm_frame.specs.Sentence.{Sentence, SomeSentence, Declares}
+use Rattle.mm_frame.specs.Active.{IsConstant, IsVariable}
+use Rattle.mm_frame.specs.Numbers.{declared_in, declared_by, with_name, symbols_of, AreNumbers}
+use Rattle.mm_frame.proofs.Pushed.{get_kept, get_pushed, pushed_cases}
+
+-- an element stands at some place
+abbrev pub At : {X : Type 0} → List X → X → Type 0
+At xs x = (i : ℕ) × (slice_get xs i ≡ Some x)
+
+pub at_from_contains : {X : Type 0} (xs : List X) (x : X) → Contains xs x → At xs x
+at_from_contains xs x (k, lt, is) = (k, slice_get_read xs (length xs) k x refl lt (sym is))
+
+pub contains_from_at : {X : Type 0} (xs : List X) (x : X) → At xs x → Contains xs x
+contains_from_at xs x (k, there) = (k, slice_get_within xs k x there, get_or_from_slice_get xs k x x there)
+
+-- what the test whether a name is among names tells
+found_at : (name : List ℕ) (names : List (List ℕ)) → list_any (bytes_eq name) names ≡ true → At names name
+found_at name [] found = absurd (cc)
+found_at name (x ∷ names) found =
+    let decides : Decides (bytes_eq name x) (name ≡ x) = bytes_eq-Decides name x in
+    elim (or_cases (bytes_eq name x) (list_any (bytes_eq name) names) found) [
+      | inl here ↦ (0, ap (λ y. Some y) (sym (decides.0 here)))
+      | inr there ↦ let (i, at) = found_at name names there in (suc i, at)
+    ]
+
+or_right : (a b : Bool) → b ≡ true → (a || b) ≡ true
+or_right true b is = refl
+or_right false b is = is
+
+found_from : (name : List ℕ) (names : List (List ℕ)) (i : ℕ) → slice_get names i ≡ Some name → list_any (bytes_eq name) names ≡ true
+found_from name [] i there = absurd (cc)
+found_from name (x ∷ names) zero there =
+    let decides : Decides (bytes_eq name x) (name ≡ x) = bytes_eq-Decides name x in
+    let same : name ≡ x = cc in
+    ap (λ b. b || list_any (bytes_eq name) names) (decides.1 same)
+found_from name (x ∷ names) (suc i) there =
+    or_right (bytes_eq name x) (list_any (bytes_eq name) names) (found_from name names i there)
+
+-- a name is among the names already, or is put at their end
+pub with_name_cases : (names : List (List ℕ)) (name : List ℕ) → (At names name × (with_name names name ≡ names)) ⊎ (¬ (At names name) × (with_name names name ≡ names ++ name ∷ []))
+with_name_cases names name = elim (cases_Bool (list_any (bytes_eq name) names)) [
+  | inl found ↦ inl (found_at name names found, ap (λ b. if b then names else (names ++ name ∷ [])) found)
+  | inr absent ↦ inr ((λ (i, there). let t = found_from name names i there in cc), ap (λ b. if b then names else (names ++ name ∷ [])) absent)
+]
+
+-- no name stands twice
+abbrev pub StandOnce : {X : Type 0} → List X → Type 0
+StandOnce {X} xs = (i j : ℕ) (x : X) → slice_get xs i ≡ Some x → slice_get xs j ≡ Some x → i ≡ j
+
+pub once_pushed : {X : Type 0} (xs : List X) (y : X) → StandOnce xs → ¬ (At xs y) → StandOnce (xs ++ y ∷ [])
+once_pushed xs y once absent i j x at_i at_j = elim (pushed_cases xs y i x at_i) [
+  | inl i_before ↦ elim (pushed_cases xs y j x at_j) [
+    | inl j_before ↦ once i j x i_before j_before
+    | inr (j_last, same) ↦ absurd (absent (i, i_before ∙ ap (λ z. Some z) (sym same)))
+  ]
+  | inr (i_last, same) ↦ elim (pushed_cases xs y j x at_j) [
+    | inl j_before ↦ absurd (absent (j, j_before ∙ ap (λ z. Some z) (sym same)))
+    | inr (j_last, same') ↦ i_last ∙ sym j_last
+  ]
+]
+
+pub once_with_name : (names : List (List ℕ)) (name : List ℕ) → StandOnce names → StandOnce (with_name names name)
+once_with_name names name once = elim (with_name_cases names name) [
+  | inl (found, same) ↦ subst (λ (xs : List (List ℕ)). StandOnce xs) (sym same) once
+  | inr (absent, longer) ↦ subst (λ (xs : List (List ℕ)). StandOnce xs) (sym longer) (once_pushed names name once absent)
+]
+
+once_fold : (names more : List (List ℕ)) → StandOnce names → StandOnce (fold with_name names more)
+once_fold names [] once = once
+once_fold names (x ∷ more) once = once_fold (with_name names x) more (once_with_name names x once)
+
+-- a name stays at its place
+kept_with_name : (names : List (List ℕ)) (name : List ℕ) (i : ℕ) (x : List ℕ) → slice_get names i ≡ Some x → slice_get (with_name names name) i ≡ Some x
+kept_with_name names name i x there = elim (with_name_cases names name) [
+  | inl (found, same) ↦ subst (λ xs. slice_get xs i ≡ Some x) (sym same) there
+  | inr (absent, longer) ↦ subst (λ xs. slice_get xs i ≡ Some x) (sym longer) (get_kept names (name ∷ []) i x there)
+]
+
+pub kept_fold : (names more : List (List ℕ)) (i : ℕ) (x : List ℕ) → slice_get names i ≡ Some x → slice_get (fold with_name names more) i ≡ Some x
+kept_fold names [] i x there = there
+kept_fold names (y ∷ more) i x there = kept_fold (with_name names y) more i x (kept_with_name names y i x there)
+
+-- a name that is put in is there
+put_with_name : (names : List (List ℕ)) (name : List ℕ) → At (with_name names name) name
+put_with_name names name = elim (with_name_cases names name) [
+  | inl (found, same) ↦ subst (λ xs. At xs name) (sym same) found
+  | inr (absent, longer) ↦ subst (λ xs. At xs name) (sym longer) (length names, get_pushed names name)
+]
+
+put_fold : (names more : List (List ℕ)) (i : ℕ) (x : List ℕ) → slice_get more i ≡ Some x → At (fold with_name names more) x
+put_fold names [] i x there = absurd (cc)
+put_fold names (y ∷ more) zero x there =
+    let (k, at) = put_with_name names y in
+    let same : y ≡ x = cc in
+    (k, kept_fold (with_name names y) more k x (at ∙ ap (λ z. Some z) same))
+put_fold names (y ∷ more) (suc i) x there = put_fold (with_name names y) more i x there
+
+-- what is there was there, or is put in
+from_with_name : (names : List (List ℕ)) (name : List ℕ) (i : ℕ) (x : List ℕ) → slice_get (with_name names name) i ≡ Some x → At names x ⊎ (name ≡ x)
+from_with_name names name i x there = elim (with_name_cases names name) [
+  | inl (found, same) ↦ inl (i, subst (λ xs. slice_get xs i ≡ Some x) same there)
+  | inr (absent, longer) ↦ elim (pushed_cases names name i x (subst (λ xs. slice_get xs i ≡ Some x) longer there)) [
+    | inl before ↦ inl (i, before)
+    | inr (last, is) ↦ inr is
+  ]
+]
+
+from_fold : (names more : List (List ℕ)) (i : ℕ) (x : List ℕ) → slice_get (fold with_name names more) i ≡ Some x → At names x ⊎ At more x
+from_fold names [] i x there = inl (i, there)
+from_fold names (y ∷ more) i x there = elim (from_fold (with_name names y) more i x there) [
+  | inl (j, before) ↦ elim (from_with_name names y j x before) [ inl old ↦ inl old | inr same ↦ inr (0, ap (λ z. Some z) same) ]
+  | inr (j, after) ↦ inr (suc j, after)
+]
+
+pub symbols_append : (st more : List Sentence) → symbols_of (st ++ more) ≡ fold with_name (symbols_of st) (flat_map declared_by more)
+unfolding symbols_of
+symbols_append st more = ap (fold with_name []) (flat_map-append declared_by st more) ∙ fold-append with_name [] (flat_map declared_by st) (flat_map declared_by more)
+
+pub symbols_none : symbols_of [] ≡ []
+unfolding symbols_of
+symbols_none = refl
+
+pub symbols_push : (st : List Sentence) (e : Sentence) → symbols_of (st ++ e ∷ []) ≡ fold with_name (symbols_of st) (declared_by e)
+symbols_push st e = symbols_append st (e ∷ []) ∙ ap (fold with_name (symbols_of st)) (append-nil (declared_by e))
+
+pub symbols_unique : (st : List Sentence) (i j : ℕ) (x : List ℕ) → slice_get (symbols_of st) i ≡ Some x → slice_get (symbols_of st) j ≡ Some x → i ≡ j
+unfolding symbols_of
+symbols_unique st = once_fold [] (flat_map declared_by st) (λ i j x at_i at_j. absurd (cc))
+
+pub symbols_grow : (st more : List Sentence) (i : ℕ) (x : List ℕ) → slice_get (symbols_of st) i ≡ Some x → slice_get (symbols_of (st ++ more)) i ≡ Some x
+symbols_grow st more i x there = subst (λ xs. slice_get xs i ≡ Some x) (sym (symbols_append st more)) (kept_fold (symbols_of st) (flat_map declared_by more) i x there)
+
+-- what is declared
+in_declared : (kind : Kind) (symbols : List (List ℕ)) (x : List ℕ) → At (declared_in kind symbols) x → ((kind ≡ Constants) ⊎ (kind ≡ Variables)) × At symbols x
+in_declared Constants symbols x at = (inl refl, at)
+in_declared Variables symbols x at = (inr refl, at)
+in_declared Distinct symbols x (i, there) = absurd (cc)
+in_declared Floating symbols x (i, there) = absurd (cc)
+in_declared Essential symbols x (i, there) = absurd (cc)
+in_declared Axiom symbols x (i, there) = absurd (cc)
+in_declared Provable symbols x (i, there) = absurd (cc)
+in_declared Opening symbols x (i, there) = absurd (cc)
+in_declared Closing symbols x (i, there) = absurd (cc)
+
+append_cases : {X : Type 0} (xs ys : List X) (i : ℕ) (x : X) → slice_get (xs ++ ys) i ≡ Some x → At xs x ⊎ At ys x
+append_cases [] ys i x there = inr (i, there)
+append_cases (z ∷ xs) ys zero x there = inl (0, there)
+append_cases (z ∷ xs) ys (suc i) x there = elim (append_cases xs ys i x there) [ inl (j, at) ↦ inl (suc j, at) | inr at ↦ inr at ]
+
+append_right : {X : Type 0} (xs ys : List X) (x : X) → At ys x → At (xs ++ ys) x
+append_right [] ys x at = at
+append_right (z ∷ xs) ys x at = let (i, there) = append_right xs ys x at in (suc i, there)
+
+-- one statement more to the left
+further : (s : Sentence) (st : List Sentence) (P : Sentence → Type 0) → SomeSentence st P → SomeSentence (s ∷ st) P
+further s st P (i, t, there, holds) = (suc i, t, there, holds)
+
+declared_from : (st : List Sentence) (x : List ℕ) (i : ℕ) → slice_get (flat_map declared_by st) i ≡ Some x → IsConstant st x ⊎ IsVariable st x
+declared_from [] x i there = absurd (cc)
+declared_from (s ∷ st) x i there = elim (append_cases (declared_by s) (flat_map declared_by st) i x there) [
+  | inl here ↦
+      let (kind, at) = in_declared s.kind s.symbols x here in
+      let in_it = contains_from_at s.symbols x at in
+      elim kind [
+        | inl constants ↦ inl (0, s, refl, (constants, in_it))
+        | inr variables ↦ inr (0, s, refl, (variables, in_it))
+      ]
+  | inr (j, after) ↦ elim (declared_from st x j after) [
+    | inl constant ↦ inl (further s st (Declares Constants x) constant)
+    | inr variable ↦ inr (further s st (Declares Variables x) variable)
+  ]
+]
+
+declared_at : (st : List Sentence) (x : List ℕ) (p : ℕ) (s : Sentence) → slice_get st p ≡ Some s → At (declared_by s) x → At (flat_map declared_by st) x
+declared_at [] x p s there at = absurd (cc)
+declared_at (t ∷ st) x zero s there (i, at) =
+    let same : t ≡ s = cc in
+    (i, get_kept (declared_by t) (flat_map declared_by st) i x (subst (λ u. slice_get (declared_by u) i ≡ Some x) (sym same) at))
+declared_at (t ∷ st) x (suc p) s there at = append_right (declared_by t) (flat_map declared_by st) x (declared_at st x p s there at)
+
+-- the numbers are those of the declared symbols
+pub number_from_declared : (st : List Sentence) (x : List ℕ) → IsConstant st x ⊎ IsVariable st x → At (symbols_of st) x
+unfolding symbols_of
+number_from_declared st x (inl (p, s, there, (kind, in_it))) =
+    let (k, at) = at_from_contains s.symbols x in_it in
+    let (i, put) = declared_at st x p s there (k, subst (λ kind. slice_get (declared_in kind s.symbols) k ≡ Some x) (sym kind) at) in
+    put_fold [] (flat_map declared_by st) i x put
+number_from_declared st x (inr (p, s, there, (kind, in_it))) =
+    let (k, at) = at_from_contains s.symbols x in_it in
+    let (i, put) = declared_at st x p s there (k, subst (λ kind. slice_get (declared_in kind s.symbols) k ≡ Some x) (sym kind) at) in
+    put_fold [] (flat_map declared_by st) i x put
+
+pub declared_from_number : (st : List Sentence) (x : List ℕ) (i : ℕ) → slice_get (symbols_of st) i ≡ Some x → IsConstant st x ⊎ IsVariable st x
+unfolding symbols_of
+declared_from_number st x i there = elim (from_fold [] (flat_map declared_by st) i x there) [
+  | inl (j, nowhere) ↦ absurd (cc)
+  | inr (j, at) ↦ declared_from st x j at
+]
+
+pub symbols_declared : (st : List Sentence) (x : List ℕ) → Contains (symbols_of st) x ↔ (IsConstant st x ⊎ IsVariable st x)
+symbols_declared st x = (
+  (λ in_it. let (i, there) = at_from_contains (symbols_of st) x in_it in declared_from_number st x i there),
+  (λ declared. contains_from_at (symbols_of st) x (number_from_declared st x declared)),
+)
+
+-- numbers of symbols stay theirs
+pub numbers_grow : (st more : List Sentence) (numbers : List ℕ) (symbols : List (List ℕ)) → AreNumbers st numbers symbols → AreNumbers (st ++ more) numbers symbols
+numbers_grow st more [] symbols are = are
+numbers_grow st more (n ∷ numbers) [] are = absurd (cc)
+numbers_grow st more (n ∷ numbers) (x ∷ symbols) are =
+    let here : slice_get (symbols_of st) n ≡ Some x = cc in
+    let rest : AreNumbers st numbers symbols = cc in
+    let here' = symbols_grow st more n x here in
+    let rest' = numbers_grow st more numbers symbols rest in
+    cc
+
+-- the same numbers are those of the same symbols, and the same symbols have the same numbers
+same_somes : {X : Type 0} (xs ys : List X) → map (λ x. Some x) xs ≡ map (λ x. Some x) ys → xs ≡ ys
+same_somes [] [] e = refl
+same_somes [] (y ∷ ys) e = absurd (cc)
+same_somes (x ∷ xs) [] e = absurd (cc)
+same_somes (x ∷ xs) (y ∷ ys) e =
+    let rest : map (λ x. Some x) xs ≡ map (λ x. Some x) ys = cc in
+    let more = same_somes xs ys rest in
+    cc
+
+pub numbers_same : (st : List Sentence) (numbers : List ℕ) (xs ys : List (List ℕ)) → AreNumbers st numbers xs → AreNumbers st numbers ys → xs ≡ ys
+numbers_same st numbers xs ys one other = same_somes xs ys (sym one ∙ other)
+
+pub symbols_same : (st : List Sentence) (ms ns : List ℕ) (xs : List (List ℕ)) → AreNumbers st ms xs → AreNumbers st ns xs → ms ≡ ns
+symbols_same st [] [] xs one other = refl
+symbols_same st [] (n ∷ ns) xs one other = absurd (cc)
+symbols_same st (m ∷ ms) [] xs one other = absurd (cc)
+symbols_same st (m ∷ ms) (n ∷ ns) [] one other = absurd (cc)
+symbols_same st (m ∷ ms) (n ∷ ns) (x ∷ xs) one other =
+    let at_m : slice_get (symbols_of st) m ≡ Some x = cc in
+    let at_n : slice_get (symbols_of st) n ≡ Some x = cc in
+    let one' : AreNumbers st ms xs = cc in
+    let other' : AreNumbers st ns xs = cc in
+    let first = symbols_unique st m n x at_m at_n in
+    let rest = symbols_same st ms ns xs one' other' in
+    cc

@@ -1,0 +1,98 @@
+-- The variables that `$f` type, and their distinct pairs, by numbers.
+use Rattle.std.proofs.Common.{◌≡◌, ◌≢◌, ◌↔◌, ℕ, ◌<◌, ◌≤◌, inl, inr, length, take, List, [], ◌∷◌, map, Some, None, refl, sym, ap, subst, arith}
+use Rattle.std.specs.List.{slice_get}
+use Rattle.mm_text.specs.Statement.{FitsCount}
+use Rattle.mm_text.specs.declared.statement.Kind.TheVariants.{Floating}
+use Rattle.mm_frame.specs.declared.number.Sym.{Sym}
+use Rattle.mm_frame.specs.Sentence.{Sentence, Types}
+use Rattle.mm_frame.specs.Form.{AllFormed}
+use Rattle.mm_frame.specs.Numbers.{symbols_of, AreNumbers, IsNumberOf}
+use Rattle.std.specs.Prelude.{if◌then◌else◌, nat_lt}
+use Rattle.std.proofs.lemmas.Bool.{cases_order, lt-ltb, le-ltb}
+use Rattle.mm_frame.specs.declared.tables.Entry.{Entry}
+use Rattle.mm_frame.specs.Active.{IsActive}
+use Rattle.mm_frame.specs.Frame.{IsDistinct}
+use Rattle.mm_frame.specs.Stated.{Stated, IsLatestStated}
+use Rattle.mm_frame.proofs.Those.{distinct_other}
+use Rattle.mm_frame.proofs.DistinctAt.{latest_distinct, unstated_distinct}
+use Rattle.mm_frame.specs.Layout.{sentences, sentence_by, AreStated}
+use Rattle.mm_frame.proofs.Entries.{sentence_at, entry_at}
+
+-- the second of two
+two_parts : (symbols : List (List ℕ)) → length symbols ≡ 2 → (a : List ℕ) × (b : List ℕ) × (symbols ≡ a ∷ b ∷ [])
+two_parts [] size = absurd (omega arith)
+two_parts (a ∷ []) size = absurd (omega arith)
+two_parts (a ∷ b ∷ []) size = (a, b, refl)
+two_parts (a ∷ b ∷ c ∷ symbols) size = absurd (omega arith)
+
+second_number : (st : List Sentence) (ns : List Sym) (code x : List ℕ) → AreNumbers st (map (λ n. n.0) ns) (code ∷ x ∷ []) → (n : Sym) × (slice_get ns 1 ≡ Some n) × IsNumberOf st x n.0
+second_number st [] code x are = absurd (cc)
+second_number st (a ∷ []) code x are = absurd (cc)
+second_number st (a ∷ b ∷ ns) code x are = (b, refl, cc)
+
+-- the second number of a `$f` is that of its variable
+pub variable_says : (st : List Sentence) (place : ℕ) (f : Sentence) (ns : List Sym) → AllFormed st → slice_get st place ≡ Some f → f.kind ≡ Floating → AreNumbers st (map (λ n. n.0) ns) f.symbols
+    → (n : Sym) × (slice_get ns 1 ≡ Some n) × (code : List ℕ) × (x : List ℕ) × Types code x f × IsNumberOf st x n.0
+variable_says st place f ns formed there kind are =
+    let count : length f.symbols ≡ 2 = subst (λ k. FitsCount k (length f.symbols)) kind (formed place f there).count in
+    let (code, x, parts) = two_parts f.symbols count in
+    let (n, at, number) = second_number st ns code x (subst (AreNumbers st (map (λ n. n.0) ns)) parts are) in
+    (n, at, code, x, (kind, parts), number)
+
+-- a statement's kind is its entry's
+pub kind_at : (symbols labels : List (List ℕ)) (flat : List Sym) (log : List Entry) (place : ℕ) (e : Entry) (f : Sentence) → slice_get log place ≡ Some e → slice_get (sentences symbols labels flat log) place ≡ Some f → f.kind ≡ e.kind
+kind_at symbols labels flat log place e f there said =
+    let at = sentence_at symbols labels flat log place e there in
+    let same : sentence_by symbols labels flat e ≡ f = cc in
+    ap (λ (s : Sentence). s.kind) (sym same)
+
+-- where there is a statement, there is an entry
+pub some_entry : (symbols labels : List (List ℕ)) (flat : List Sym) (log : List Entry) (place : ℕ) (f : Sentence) → slice_get (sentences symbols labels flat log) place ≡ Some f → slice_get log place ≡ None → ⊥
+some_entry symbols labels flat log place f said none =
+    let (e, at, says) = entry_at symbols labels flat log place f said in
+    absurd (cc)
+
+-- ---- whether two numbers' symbols are distinct, by the pairs that `$d` state
+
+-- the pair of two numbers, the lesser one first
+abbrev pub ordered : ℕ → ℕ → ℕ × ℕ
+ordered a b = if nat_lt a b then (a, b) else (b, a)
+
+ordered_below : (a b : ℕ) → a < b → ordered a b ≡ (a, b)
+ordered_below a b lt = ap (λ t. if t then (a, b) else (b, a)) (lt-ltb a b lt)
+
+ordered_above : (a b : ℕ) → b ≤ a → ordered a b ≡ (b, a)
+ordered_above a b le = ap (λ t. if t then (a, b) else (b, a)) (le-ltb a b le)
+
+names_number : (st : List Sentence) (names : List (List ℕ)) (x : List ℕ) (n : ℕ) → names ≡ symbols_of st → IsNumberOf st x n → slice_get names n ≡ Some x
+names_number st names x n all at = subst (λ ys. slice_get ys n ≡ Some x) (sym all) at
+
+latest_below : (st : List Sentence) (names : List (List ℕ)) (spans : List Stated) (a b q place : ℕ) (x y : List ℕ) → names ≡ symbols_of st → AreStated st names spans → IsNumberOf st x a → IsNumberOf st y b → a < b → q ≤ length st
+    → IsLatestStated spans (a, b) q (Some place) → (place < q) × (IsActive (take q st) place ↔ IsDistinct (take q st) x y)
+latest_below st names spans a b q place x y all are at_a at_b lt le (i, span, there, pair, is, before, last) =
+    let distinct = latest_distinct st names spans a b q i x y span all are (names_number st names x a all at_a) (names_number st names y b all at_b) lt le there pair (let h = before in let e = is in omega arith) last in
+    (before, subst (λ p. IsActive (take q st) p ↔ IsDistinct (take q st) x y) is distinct)
+
+pub latest_tells : (st : List Sentence) (names : List (List ℕ)) (spans : List Stated) (a b q place : ℕ) (x y : List ℕ) → names ≡ symbols_of st → AreStated st names spans → IsNumberOf st x a → IsNumberOf st y b → a ≢ b → q ≤ length st
+    → IsLatestStated spans (ordered a b) q (Some place) → (place < q) × (IsActive (take q st) place ↔ IsDistinct (take q st) x y)
+latest_tells st names spans a b q place x y all are at_a at_b apart le latest = elim (cases_order a b) [
+  | inl same ↦ absurd (apart same)
+  | inr (inl lt) ↦ latest_below st names spans a b q place x y all are at_a at_b lt le (subst (λ p. IsLatestStated spans p q (Some place)) (ordered_below a b lt) latest)
+  | inr (inr gt) ↦
+      let (before, tell) = latest_below st names spans b a q place y x all are at_b at_a gt le (subst (λ p. IsLatestStated spans p q (Some place)) (ordered_above a b (omega arith)) latest) in
+      (before, ((λ active. distinct_other (take q st) y x (tell.0 active)), (λ distinct. tell.1 (distinct_other (take q st) x y distinct))))
+]
+
+-- a symbol isn't distinct from itself
+pub same_tells : (st : List Sentence) (q a b : ℕ) (x y : List ℕ) → IsNumberOf st x a → IsNumberOf st y b → a ≡ b → ¬ (IsDistinct (take q st) x y)
+same_tells st q a b x y at_a at_b same distinct = distinct.0 (let at = subst (λ n. slice_get (symbols_of st) n ≡ Some x) same at_a in cc)
+
+pub none_tells : (st : List Sentence) (names : List (List ℕ)) (spans : List Stated) (a b q : ℕ) (x y : List ℕ) → names ≡ symbols_of st → AreStated st names spans → IsNumberOf st x a → IsNumberOf st y b
+    → IsLatestStated spans (ordered a b) q None → ¬ (IsDistinct (take q st) x y)
+none_tells st names spans a b q x y all are at_a at_b none distinct = elim (cases_order a b) [
+  | inl same ↦ same_tells st q a b x y at_a at_b same distinct
+  | inr (inl lt) ↦
+      unstated_distinct st names spans a b q x y are (names_number st names x a all at_a) (names_number st names y b all at_b) lt (subst (λ p. IsLatestStated spans p q None) (ordered_below a b lt) none) distinct
+  | inr (inr gt) ↦
+      unstated_distinct st names spans b a q y x are (names_number st names y b all at_b) (names_number st names x a all at_a) gt (subst (λ p. IsLatestStated spans p q None) (ordered_above a b (omega arith)) none) (distinct_other (take q st) x y distinct)
+]

@@ -1,0 +1,96 @@
+-- What the scopes' code does, in terms of the laws of blocks by numbers.
+use Rattle.std.proofs.Common.{◌≡◌, ℕ, zero, suc, ◌+◌, ◌-◌, ◌<◌, ◌≤◌, ◌⊎◌, inl, inr, ◌↔◌, IsTrue, IsSome, Bool, true, false, leb, length, take, set, List, [], ◌∷◌, ◌++◌, Option, Some, None, refl, sym, ap, ◌∙◌, subst, arith, rules}
+use Rattle.std.specs.List.{slice_get}
+use Rattle.mm_text.specs.declared.statement.Kind.{Kind}
+use Rattle.mm_text.specs.declared.statement.Kind.TheVariants.{Constants, Variables, Distinct, Floating, Essential, Axiom, Provable, Opening, Closing}
+use Rattle.mm_frame.specs.Sentence.{Sentence}
+use Rattle.mm_frame.specs.Active.{IsActive, openings, closings, is_opening, is_closing}
+use Rattle.mm_frame.specs.Scopes.{AreScopes}
+use Rattle.mm_frame.proofs.Actives.{scope_active}
+use Rattle.mm_frame.proofs.Depth.{scope_depth, scope_block_within, scope_stack_within}
+use Rattle.mm_frame.proofs.Stays.{not_closing}
+use Rattle.mm_frame.proofs.Pushed.{get_within, get_pushed}
+use Rattle.std.specs.Option.{option_to_list}
+use Rattle.mm_frame.proofs.ScopeLaws.{length_pushed, scopes_ordinary, scopes_opening, scopes_closing}
+
+-- a list that isn't empty has a last element, at the place before its length
+pub last_place : (stack : List ℕ) → 1 ≤ length stack → (k : ℕ) × (length stack ≡ suc k)
+last_place [] some = absurd (omega arith)
+last_place (x ∷ stack) some = (length stack, refl)
+
+-- the stack has a block
+pub stack_some : (never : ℕ) (st : List Sentence) (blocks ends stack : List ℕ) → AreScopes never st blocks ends stack → (k : ℕ) × (length stack ≡ suc k)
+stack_some never st blocks ends stack a = last_place stack (let d = scope_depth never st blocks ends stack a in omega (arith, d.0))
+
+-- each statement has a block, and each block an end
+pub block_there : (never : ℕ) (st : List Sentence) (blocks ends stack : List ℕ) → AreScopes never st blocks ends stack → (p : ℕ) → p < length st
+    → (b : ℕ) × (c : ℕ) × (slice_get blocks p ≡ Some b) × (slice_get ends b ≡ Some c)
+block_there never st blocks ends stack a p lt =
+    let (b, there) = get_within blocks p (let e = a.held in omega (arith, e)) in
+    let (c, end) = get_within ends b (scope_block_within never st blocks ends stack a p b there) in
+    (b, c, there, end)
+
+leb_says : (m n : ℕ) (P : Type 0) → (m ≤ n) ↔ P → IsTrue (leb m n) ↔ P
+leb_says m n P h = ((λ t. h.0 (search (rules))), (λ p. let le : m ≤ n = h.1 p in search (rules)))
+
+-- what a look-up of a block and its end says
+pub active_by_end : (never : ℕ) (st : List Sentence) (blocks ends stack : List ℕ) (p q b c : ℕ) → slice_get blocks p ≡ Some b → slice_get ends b ≡ Some c
+    → AreScopes never st blocks ends stack → length st ≤ never → p < q → q ≤ length st → IsTrue (leb q c) ↔ IsActive (take q st) p
+active_by_end never st blocks ends stack p q b c there end a small lt le = leb_says q c _ (scope_active never st blocks ends stack a small p q b c there end lt le)
+
+pub no_end : (never : ℕ) (st : List Sentence) (blocks ends stack : List ℕ) (p q b : ℕ) → slice_get blocks p ≡ Some b → slice_get ends b ≡ None
+    → AreScopes never st blocks ends stack → p < q → q ≤ length st → ⊥
+no_end never st blocks ends stack p q b there end a lt le = let (b', c, there', end') = block_there never st blocks ends stack a p (omega arith) in cc
+
+pub no_block : (never : ℕ) (st : List Sentence) (blocks ends stack : List ℕ) (p q : ℕ) → slice_get blocks p ≡ None
+    → AreScopes never st blocks ends stack → p < q → q ≤ length st → ⊥
+no_block never st blocks ends stack p q there a lt le = let (b', c, there', end') = block_there never st blocks ends stack a p (omega arith) in cc
+
+not_opening : (kind : Kind) → ¬ (kind ≡ Opening) → is_opening kind ≡ false
+not_opening Opening apart = absurd (apart refl)
+not_opening Constants apart = refl
+not_opening Variables apart = refl
+not_opening Distinct apart = refl
+not_opening Floating apart = refl
+not_opening Essential apart = refl
+not_opening Axiom apart = refl
+not_opening Provable apart = refl
+not_opening Closing apart = refl
+
+-- after a statement that opens and closes no block
+pub stayed : (never : ℕ) (st : List Sentence) (e : Sentence) (blocks ends stack : List ℕ) (top : ℕ) → ((k : ℕ) → length stack ≡ suc k → slice_get stack k ≡ Some top)
+    → AreScopes never st blocks ends stack → ¬ (e.kind ≡ Opening) → ¬ (e.kind ≡ Closing) → AreScopes never (st ++ e ∷ []) (blocks ++ top ∷ []) ends stack
+stayed never st e blocks ends stack top inner a no_open no_close =
+    let (k, is) = stack_some never st blocks ends stack a in
+    scopes_ordinary never st e blocks ends stack k top a is (inner k is) (not_opening e.kind no_open) (not_closing e.kind no_close)
+
+-- after a `${`
+pub begun : (never : ℕ) (st : List Sentence) (e : Sentence) (blocks ends stack : List ℕ) (top : ℕ) → ((k : ℕ) → length stack ≡ suc k → slice_get stack k ≡ Some top)
+    → AreScopes never st blocks ends stack → e.kind ≡ Opening → AreScopes never (st ++ e ∷ []) (blocks ++ top ∷ []) (ends ++ never ∷ []) (stack ++ length ends ∷ [])
+begun never st e blocks ends stack top inner a opened =
+    let (k, is) = stack_some never st blocks ends stack a in
+    scopes_opening never st e blocks ends stack k top a is (inner k is) opened
+
+-- a list with an element is the elements before its last, and the last
+pub split_last : (stack below : List ℕ) (popped : Option ℕ) → IsSome popped → stack ≡ below ++ option_to_list popped
+    → (top : ℕ) × (stack ≡ below ++ top ∷ []) × (slice_get stack (length below) ≡ Some top) × (length below + 1 ≡ length stack)
+split_last stack below None some e = absurd (cc some)
+split_last stack below (Some top) some e = (top, e, rw e (get_pushed below top), omega (arith, ap length e, length_pushed below top))
+
+-- after a `$}`
+pub closed : (never : ℕ) (st : List Sentence) (e : Sentence) (blocks ends stack below : List ℕ) (popped : Option ℕ) (top under : ℕ)
+    → ((k : ℕ) → length stack ≡ suc k → slice_get stack k ≡ Some top) → ((k : ℕ) → length below ≡ suc k → slice_get below k ≡ Some under)
+    → stack ≡ below ++ option_to_list popped → (1 ≤ length stack → IsSome popped)
+    → AreScopes never st blocks ends stack → e.kind ≡ Closing → closings st < openings st
+    → (top < length ends) × AreScopes never (st ++ e ∷ []) (blocks ++ under ∷ []) (set ends top (length blocks)) below
+closed never st e blocks ends stack below popped top under inner outer split len a is_close more =
+    let d = scope_depth never st blocks ends stack a in
+    let two : 2 ≤ length stack = omega (arith, d.0) in
+    let (t, whole, at_end, shorter) = split_last stack below popped (len (omega arith)) split in
+    let same : Some top ≡ Some t = sym (inner (length below) (omega arith)) ∙ at_end in
+    let top_is : top ≡ t = cc in
+    let (k, below_is) = last_place below (omega arith) in
+    let within : top < length ends = scope_stack_within never st blocks ends stack a (length below) top (inner (length below) (omega arith)) in
+    let b : AreScopes never st blocks ends (below ++ top ∷ []) = subst (λ (xs : List ℕ). AreScopes never st blocks ends xs) (whole ∙ ap (λ x. below ++ x ∷ []) (sym top_is)) a in
+    let held : length blocks ≡ length st = a.held in
+    (within, rw held (scopes_closing never st e blocks ends below k top under b below_is (outer k below_is) is_close))

@@ -1,0 +1,403 @@
+-- Blocks by number, as statements are added one by one.
+use Rattle.std.proofs.Common.{◌≡◌, ℕ, zero, suc, ◌+◌, ◌<◌, ◌≤◌, ◌⊎◌, inl, inr, Bool, true, false, cond, length, take, drop, set, List, [], ◌∷◌, ◌++◌, Some, refl, sym, ap, ◌∙◌, subst, drop_of_length-le, length-append, length-set, arith}
+use Rattle.std.specs.List.{slice_get}
+use Rattle.std.proofs.lemmas.Option.{slice_get_within}
+use Rattle.std.proofs.lemmas.Bool.{cases_lt, cases_order}
+use Rattle.std.proofs.lemmas.List.{drop-append-le, take-append-le, take_all}
+use Rattle.std.proofs.Math.Seq.{take-append_seam}
+use Rattle.mm_text.specs.declared.statement.Kind.TheVariants.{Opening, Closing}
+use Rattle.mm_frame.specs.Sentence.{Sentence}
+use Rattle.mm_frame.specs.Active.{is_opening, is_closing, openings, closings, IsOpen}
+use Rattle.mm_frame.specs.Scopes.{IsUnclosed, IsBegun, IsEnd, IsOnStack, DirectlyHolds, AreScopes}
+use Rattle.mm_frame.proofs.Pushed.{get_kept, get_pushed, pushed_cases, get_before, get_set_cases}
+use Rattle.mm_frame.proofs.Counts.{openings-append, closings-append, unclosed_pushed, unclosed_before, unclosed_all, unclosed_new}
+
+-- what one statement opens and closes
+pub openings_one : (e : Sentence) (b : Bool) → is_opening e.kind ≡ b → openings (e ∷ []) ≡ cond b 1 0
+openings_one e b is = ap (λ c. 0 + cond c 1 0) is ∙ same
+  where
+    same : 0 + cond b 1 0 ≡ cond b 1 0
+    same = omega arith
+
+pub closings_one : (e : Sentence) (b : Bool) → is_closing e.kind ≡ b → closings (e ∷ []) ≡ cond b 1 0
+closings_one e b is = ap (λ c. 0 + cond c 1 0) is ∙ same
+  where
+    same : 0 + cond b 1 0 ≡ cond b 1 0
+    same = omega arith
+
+pub length_pushed : {X : Type 0} (xs : List X) (x : X) → length (xs ++ x ∷ []) ≡ suc (length xs)
+length_pushed xs x = length-append xs (x ∷ []) ∙ (omega arith)
+
+-- what is open after one statement more was open before it, or is opened by it
+pub open_before : (xs : List Sentence) (e : Sentence) (p : ℕ) → IsOpen (xs ++ e ∷ []) p → p < length xs → IsOpen xs p
+open_before xs e p o lt = record {
+  opening = o.opening;
+  there = get_before xs (e ∷ []) p o.opening lt o.there;
+  opened = o.opened;
+  unclosed = unclosed_before xs (e ∷ []) (suc p) o.unclosed;
+}
+
+pub opened_last : (xs : List Sentence) (e : Sentence) (p : ℕ) → IsOpen (xs ++ e ∷ []) p → ¬ (p < length xs) → (p ≡ length xs) × (e.kind ≡ Opening)
+opened_last xs e p o past =
+    elim (pushed_cases xs e p o.opening o.there) [
+      | inl before ↦ absurd (past (slice_get_within xs p o.opening before))
+      | inr (last, same) ↦ (last, ap (λ (s : Sentence). s.kind) same ∙ o.opened)
+    ]
+
+-- a front of the statements before is one of those and one more
+front_kept : (xs : List Sentence) (e : Sentence) (n : ℕ) → n ≤ length xs → take n (xs ++ e ∷ []) ≡ take n xs
+front_kept xs e n le = take-append-le n xs (e ∷ []) le
+
+pub all_taken : (xs : List Sentence) (e : Sentence) → take (suc (length xs)) (xs ++ e ∷ []) ≡ xs ++ e ∷ []
+all_taken xs e = take_all (suc (length xs)) (xs ++ e ∷ []) (let h = length_pushed xs e in omega arith)
+
+begun_grown : (xs : List Sentence) (e : Sentence) (x : ℕ) → IsBegun xs x → IsBegun (xs ++ e ∷ []) x
+begun_grown xs e x b = record { place = b.place; opening = b.opening; next = b.next; there = get_kept xs (e ∷ []) b.place b.opening b.there; opened = b.opened }
+
+end_grown : (xs : List Sentence) (e : Sentence) (x c : ℕ) → IsEnd xs x c → IsEnd (xs ++ e ∷ []) x c
+end_grown xs e x c end =
+    let lt = end.within in
+    let more = length_pushed xs e in
+    record {
+      within = omega arith;
+      before = subst (λ ys. IsUnclosed ys x) (sym (front_kept xs e c (omega arith))) end.before;
+      after = subst (λ ys. ¬ (IsUnclosed ys x)) (sym (front_kept xs e (suc c) (omega arith))) end.after;
+    }
+
+-- each start is a start in the other list too
+abbrev pub AreKept : List ℕ → List ℕ → Type 0
+AreKept starts others = (b x : ℕ) → slice_get starts b ≡ Some x → slice_get others b ≡ Some x
+
+holder_grown : (xs : List Sentence) (e : Sentence) (starts others : List ℕ) (b i : ℕ) → AreKept starts others → i < length xs → DirectlyHolds xs starts b i → DirectlyHolds (xs ++ e ∷ []) others b i
+holder_grown xs e starts others b i kept lt h =
+    let same : take (suc i) (xs ++ e ∷ []) ≡ take (suc i) xs = front_kept xs e (suc i) (omega arith) in
+    record {
+      start = h.start;
+      there = kept b h.start h.there;
+      before = h.before;
+      unclosed = subst (λ ys. IsUnclosed ys h.start) (sym same) h.unclosed;
+      nearest = λ outer (before, still). h.nearest outer (before, subst (λ ys. IsOpen ys outer) same still);
+    }
+
+-- a block on the stack stays there, where the statement's opening and closing is what the stack grows by
+on_stack_grown : (xs : List Sentence) (e : Sentence) (starts others stack next : List ℕ) (k b : ℕ) → (h : IsOnStack xs starts stack k b) → h.start ≤ length xs → AreKept starts others
+    → openings (e ∷ []) + length stack ≡ closings (e ∷ []) + length next → k < length next → IsOnStack (xs ++ e ∷ []) others next k b
+on_stack_grown xs e starts others stack next k b h le kept balance lt =
+    let x = h.start in
+    let o = openings-append (drop x xs) (e ∷ []) in
+    let c = closings-append (drop x xs) (e ∷ []) in
+    let same : drop x (xs ++ e ∷ []) ≡ drop x xs ++ e ∷ [] = drop-append-le x xs (e ∷ []) le in
+    let above = h.above in
+    let sum : openings (drop x xs ++ e ∷ []) + suc k ≡ closings (drop x xs ++ e ∷ []) + length next = omega arith in
+    record {
+      start = x;
+      there = kept b x h.there;
+      unclosed = unclosed_pushed xs e x le h.unclosed (omega arith);
+      above = subst (λ ys. openings ys + suc k ≡ closings ys + length next) (sym same) sum;
+    }
+
+-- each start lies within
+pub start_within : (never : ℕ) (xs : List Sentence) (blocks ends stack : List ℕ) (a : AreScopes never xs blocks ends stack) (b x : ℕ) → slice_get a.starts b ≡ Some x → x ≤ length xs
+start_within never xs blocks ends stack a zero x there = let first = a.outermost in let e : x ≡ 0 = cc in omega arith
+start_within never xs blocks ends stack a (suc b) x there =
+    let begun = a.begun b x there in
+    let lt = slice_get_within xs begun.place begun.opening begun.there in
+    let next = begun.next in
+    omega arith
+
+-- the last block on the stack begins after each other block on it
+innermost : (starts stack : List ℕ) (k top x j b outer : ℕ) → ((a b x y : ℕ) → slice_get starts a ≡ Some x → slice_get starts b ≡ Some y → a < b → x < y)
+    → ((j k a b : ℕ) → slice_get stack j ≡ Some a → slice_get stack k ≡ Some b → j < k → a < b) → length stack ≡ suc k → slice_get stack k ≡ Some top
+    → slice_get starts top ≡ Some x → slice_get stack j ≡ Some b → slice_get starts b ≡ Some (suc outer) → outer < x
+innermost starts stack k top x j b outer rising stacked size last there on begins =
+    let lt = slice_get_within stack j b on in
+    elim (cases_order j k) [
+      | inl same ↦
+          let e : b ≡ top = let at = subst (λ i. slice_get stack i ≡ Some b) same on in cc in
+          let f : suc outer ≡ x = let at = subst (λ i. slice_get starts i ≡ Some (suc outer)) e begins in cc in
+          omega arith
+      | inr (inl before) ↦ let h = rising b top (suc outer) x begins there (stacked j k b top on last before) in omega arith
+      | inr (inr after) ↦ absurd (omega arith)
+    ]
+
+-- the block that holds one statement more
+holder_new : (xs : List Sentence) (e : Sentence) (starts : List ℕ) (b x : ℕ) → slice_get starts b ≡ Some x → x ≤ length xs → IsUnclosed (xs ++ e ∷ []) x
+    → ((outer : ℕ) → outer < length xs → IsOpen (xs ++ e ∷ []) outer → outer < x) → DirectlyHolds (xs ++ e ∷ []) starts b (length xs)
+holder_new xs e starts b x there le still nearest = record {
+  start = x;
+  there = there;
+  before = le;
+  unclosed = subst (λ ys. IsUnclosed ys x) (sym (all_taken xs e)) still;
+  nearest = λ outer (before, opened). nearest outer before (subst (λ ys. IsOpen ys outer) (all_taken xs e) opened);
+}
+
+-- the blocks that hold the statements, with one statement more
+holders_grown : (xs : List Sentence) (e : Sentence) (starts others blocks : List ℕ) (new : ℕ) → length blocks ≡ length xs → AreKept starts others
+    → ((i b : ℕ) → slice_get blocks i ≡ Some b → DirectlyHolds xs starts b i) → DirectlyHolds (xs ++ e ∷ []) others new (length xs)
+    → (i b : ℕ) → slice_get (blocks ++ new ∷ []) i ≡ Some b → DirectlyHolds (xs ++ e ∷ []) others b i
+holders_grown xs e starts others blocks new size kept old last i b there =
+    elim (pushed_cases blocks new i b there) [
+      | inl before ↦ let lt = slice_get_within blocks i b before in holder_grown xs e starts others b i kept (omega arith) (old i b before)
+      | inr (at_end, same) ↦
+          let at : length xs ≡ i = sym (at_end ∙ size) in
+          subst (λ c. DirectlyHolds (xs ++ e ∷ []) others c i) same (subst (λ j. DirectlyHolds (xs ++ e ∷ []) others new j) at last)
+    ]
+
+-- how each block ends, with one statement more that ends none
+ended_grown : (never : ℕ) (xs : List Sentence) (e : Sentence) (blocks ends stack : List ℕ) (a : AreScopes never xs blocks ends stack) (b x c : ℕ) → slice_get a.starts b ≡ Some x → slice_get ends b ≡ Some c
+    → ((c ≡ never) × (k : ℕ) × (slice_get stack k ≡ Some b)) ⊎ IsEnd (xs ++ e ∷ []) x c
+ended_grown never xs e blocks ends stack a b x c begins ends_at =
+    elim (a.ended b x c begins ends_at) [ inl still ↦ inl still | inr end ↦ inr (end_grown xs e x c end) ]
+
+held_grown : (xs : List Sentence) (e : Sentence) (blocks : List ℕ) (b : ℕ) → length blocks ≡ length xs → length (blocks ++ b ∷ []) ≡ length (xs ++ e ∷ [])
+held_grown xs e blocks b size = length_pushed blocks b ∙ ap suc size ∙ sym (length_pushed xs e)
+
+apart_kinds : (b : Bool) → b ≡ false → b ≡ true → ⊥
+apart_kinds b is_not is = cc
+
+-- one place in a list of one
+only_zero : {X : Type 0} (x y : X) (k : ℕ) → slice_get (x ∷ []) k ≡ Some y → (k ≡ 0) × (x ≡ y)
+only_zero x y zero there = (refl, cc)
+only_zero x y (suc k) there = absurd (cc)
+
+pub scopes_new : (never : ℕ) → AreScopes never [] [] (never ∷ []) (0 ∷ [])
+scopes_new never = record {
+  starts = 0 ∷ [];
+  held = refl;
+  sized = refl;
+  outermost = refl;
+  bottom = refl;
+  rising = λ a b x y at_a at_b lt. absurd (let e = (only_zero 0 x a at_a).0 in let f = (only_zero 0 y b at_b).0 in omega arith);
+  begun = λ b x there. absurd (cc);
+  stacked = λ j k a b at_j at_k lt. absurd (let e = (only_zero 0 a j at_j).0 in let f = (only_zero 0 b k at_k).0 in omega arith);
+  on_stack = λ k b there.
+      let (first, same) = only_zero 0 b k there in
+      record { start = 0; there = ap (slice_get (0 ∷ [])) (sym same); unclosed = unclosed_new [] 0 (omega arith); above = ap (λ n. 0 + suc n) first };
+  complete = λ place still. absurd (let there = still.there in cc);
+  ended = λ b x c begins ends. inl (sym (only_zero never c b ends).1, 0, ap (λ n. Some n) (sym (only_zero never c b ends).0));
+  holders = λ i b there. absurd (cc);
+}
+
+pub scopes_ordinary : (never : ℕ) (xs : List Sentence) (e : Sentence) (blocks ends stack : List ℕ) (k top : ℕ) → AreScopes never xs blocks ends stack
+    → length stack ≡ suc k → slice_get stack k ≡ Some top → is_opening e.kind ≡ false → is_closing e.kind ≡ false
+    → AreScopes never (xs ++ e ∷ []) (blocks ++ top ∷ []) ends stack
+scopes_ordinary never xs e blocks ends stack k top a size last not_opening not_closing =
+    let same : AreKept a.starts a.starts = λ b x there. there in
+    let o = openings_one e false not_opening in
+    let c = closings_one e false not_closing in
+    let within = start_within never xs blocks ends stack a in
+    let balance : openings (e ∷ []) + length stack ≡ closings (e ∷ []) + length stack = omega arith in
+    let grown : (k b : ℕ) → slice_get stack k ≡ Some b → IsOnStack (xs ++ e ∷ []) a.starts stack k b = λ k b there.
+        let h = a.on_stack k b there in
+        on_stack_grown xs e a.starts a.starts stack stack k b h (within b h.start h.there) same balance (slice_get_within stack k b there) in
+    let earlier : (outer : ℕ) → IsOpen (xs ++ e ∷ []) outer → IsOpen xs outer = λ outer still. elim (cases_lt outer (length xs)) [
+          | inl lt ↦ open_before xs e outer still lt
+          | inr ge ↦ absurd (apart_kinds (is_opening e.kind) not_opening (ap is_opening (opened_last xs e outer still (λ lt. omega arith)).1))
+        ] in
+    let holder = grown k top last in
+    record {
+      starts = a.starts;
+      held = held_grown xs e blocks top a.held;
+      sized = a.sized;
+      outermost = a.outermost;
+      bottom = a.bottom;
+      rising = a.rising;
+      begun = λ b x there. begun_grown xs e x (a.begun b x there);
+      stacked = a.stacked;
+      on_stack = grown;
+      complete = λ place still. a.complete place (earlier place still);
+      ended = ended_grown never xs e blocks ends stack a;
+      holders = holders_grown xs e a.starts a.starts blocks top a.held same a.holders
+          (holder_new xs e a.starts top holder.start holder.there (within top holder.start holder.there) holder.unclosed
+          (λ outer before still.
+              let (j, b, on, begins) = a.complete outer (earlier outer still) in
+              innermost a.starts stack k top holder.start j b outer a.rising a.stacked size last holder.there on begins));
+    }
+
+-- the elements of a list and one more rise, where the one more is above all
+rising_grown : (xs : List ℕ) (y : ℕ) → ((j k a b : ℕ) → slice_get xs j ≡ Some a → slice_get xs k ≡ Some b → j < k → a < b) → ((k a : ℕ) → slice_get xs k ≡ Some a → a < y)
+    → (j k a b : ℕ) → slice_get (xs ++ y ∷ []) j ≡ Some a → slice_get (xs ++ y ∷ []) k ≡ Some b → j < k → a < b
+rising_grown xs y rising below j k a b at_j at_k lt =
+    elim (pushed_cases xs y k b at_k) [
+      | inl k_before ↦
+          let within = slice_get_within xs k b k_before in
+          rising j k a b (get_before xs (y ∷ []) j a (omega arith) at_j) k_before lt
+      | inr (last, same) ↦
+          let h = below j a (get_before xs (y ∷ []) j a (omega arith) at_j) in
+          omega arith
+    ]
+
+-- the place in a list of the same length
+within_sized : (xs ys : List ℕ) (i x : ℕ) → length xs ≡ length ys → slice_get ys i ≡ Some x → i < length xs
+within_sized xs ys i x size there = let h = slice_get_within ys i x there in omega arith
+
+on_stack_new : (xs : List Sentence) (e : Sentence) (starts next : List ℕ) (k b : ℕ) → slice_get starts b ≡ Some (suc (length xs)) → length next ≡ suc k → IsOnStack (xs ++ e ∷ []) starts next k b
+on_stack_new xs e starts next k b there size =
+    let longer = length_pushed xs e in
+    let past : drop (suc (length xs)) (xs ++ e ∷ []) ≡ [] = drop_of_length-le (xs ++ e ∷ []) {i = suc (length xs)} (omega arith) in
+    record {
+      start = suc (length xs);
+      there = there;
+      unclosed = unclosed_new (xs ++ e ∷ []) (suc (length xs)) (omega arith);
+      above = subst (λ ys. openings ys + suc k ≡ closings ys + length next) (sym past) (ap (λ m. 0 + m) (sym size));
+    }
+
+ended_new : (never : ℕ) (xs : List Sentence) (e : Sentence) (blocks ends stack : List ℕ) (a : AreScopes never xs blocks ends stack) (new b x c : ℕ) → slice_get (a.starts ++ new ∷ []) b ≡ Some x → slice_get (ends ++ never ∷ []) b ≡ Some c
+    → ((c ≡ never) × (k : ℕ) × (slice_get (stack ++ length ends ∷ []) k ≡ Some b)) ⊎ IsEnd (xs ++ e ∷ []) x c
+ended_new never xs e blocks ends stack a new b x c begins ends_at =
+    let sized = a.sized in
+    elim (pushed_cases a.starts new b x begins) [
+      | inl before ↦
+          let lt = slice_get_within a.starts b x before in
+          elim (a.ended b x c before (get_before ends (never ∷ []) b c (omega arith) ends_at)) [
+            | inl (is_never, k, on) ↦ inl (is_never, k, get_kept stack (length ends ∷ []) k b on)
+            | inr end ↦ inr (end_grown xs e x c end)
+          ]
+      | inr (at_end, same) ↦ elim (pushed_cases ends never b c ends_at) [
+        | inl before ↦ absurd (let lt = slice_get_within ends b c before in omega arith)
+        | inr (last, is_never) ↦ inl (sym is_never, length stack, subst (λ m. slice_get (stack ++ length ends ∷ []) (length stack) ≡ Some m) (sym last) (get_pushed stack (length ends)))
+      ]
+    ]
+
+pub scopes_opening : (never : ℕ) (xs : List Sentence) (e : Sentence) (blocks ends stack : List ℕ) (k top : ℕ) → AreScopes never xs blocks ends stack
+    → length stack ≡ suc k → slice_get stack k ≡ Some top → e.kind ≡ Opening
+    → AreScopes never (xs ++ e ∷ []) (blocks ++ top ∷ []) (ends ++ never ∷ []) (stack ++ length ends ∷ [])
+scopes_opening never xs e blocks ends stack k top a size last opens =
+    let n = length xs in
+    let starts = a.starts ++ suc n ∷ [] in
+    let next = stack ++ length ends ∷ [] in
+    let kept : AreKept a.starts starts = λ b x there. get_kept a.starts (suc n ∷ []) b x there in
+    let sized = a.sized in
+    let o = openings_one e true (ap is_opening opens) in
+    let c = closings_one e false (ap is_closing opens) in
+    let more = length_pushed stack (length ends) in
+    let longer = length_pushed xs e in
+    let within = start_within never xs blocks ends stack a in
+    let new_start : slice_get starts (length ends) ≡ Some (suc n) = subst (λ i. slice_get starts i ≡ Some (suc n)) (sym sized) (get_pushed a.starts (suc n)) in
+    let balance : openings (e ∷ []) + length stack ≡ closings (e ∷ []) + length next = omega arith in
+    let old : (k b : ℕ) → slice_get stack k ≡ Some b → IsOnStack (xs ++ e ∷ []) starts next k b = λ k b there.
+        let h = a.on_stack k b there in
+        let lt = slice_get_within stack k b there in
+        on_stack_grown xs e a.starts starts stack next k b h (within b h.start h.there) kept balance (omega arith) in
+    let holder = old k top last in
+    let begins = a.on_stack k top last in
+    let same_start : holder.start ≡ begins.start = let one = holder.there in let other = kept top begins.start begins.there in cc in
+    let still_open : IsUnclosed (xs ++ e ∷ []) begins.start = subst (λ x. IsUnclosed (xs ++ e ∷ []) x) same_start holder.unclosed in
+    record {
+      starts = starts;
+      held = held_grown xs e blocks top a.held;
+      sized = length_pushed ends never ∙ ap suc sized ∙ sym (length_pushed a.starts (suc n));
+      outermost = kept 0 0 a.outermost;
+      bottom = get_kept stack (length ends ∷ []) 0 0 a.bottom;
+      rising = λ b c x y at_b at_c lt.
+          rising_grown a.starts (suc n) (λ j k a' b' at_j at_k before. a.rising j k a' b' at_j at_k before) (λ b x there. let le = within b x there in omega arith) b c x y at_b at_c lt;
+      begun = λ b x there. elim (pushed_cases a.starts (suc n) (suc b) x there) [
+        | inl before ↦ begun_grown xs e x (a.begun b x before)
+        | inr (at_end, same) ↦ record { place = n; opening = e; next = sym same; there = get_pushed xs e; opened = opens }
+      ];
+      stacked = rising_grown stack (length ends) a.stacked (λ k b there. let h = a.on_stack k b there in within_sized ends a.starts b h.start sized h.there);
+      on_stack = λ k b there. elim (pushed_cases stack (length ends) k b there) [
+        | inl before ↦ old k b before
+        | inr (at_end, same) ↦
+            on_stack_new xs e starts next k b (subst (λ m. slice_get starts m ≡ Some (suc n)) same new_start) (omega arith)
+      ];
+      complete = λ place still. elim (cases_lt place n) [
+        | inl lt ↦
+            let (k, b, on, begins) = a.complete place (open_before xs e place still lt) in
+            (k, b, get_kept stack (length ends ∷ []) k b on, kept b (suc place) begins)
+        | inr ge ↦ 
+            let (at_end, opened) = opened_last xs e place still (λ lt. omega arith) in
+            (length stack, length ends, get_pushed stack (length ends), new_start ∙ ap (λ m. Some (suc m)) (sym at_end))
+      ];
+      ended = ended_new never xs e blocks ends stack a (suc n);
+      holders = holders_grown xs e a.starts starts blocks top a.held kept a.holders
+          (holder_new xs e starts top begins.start (kept top begins.start begins.there) (within top begins.start begins.there) still_open
+          (λ outer before still.
+              let (j, b, on, starting) = a.complete outer (open_before xs e outer still before) in
+              innermost a.starts stack k top begins.start j b outer a.rising a.stacked size last begins.there on starting));
+    }
+
+-- the block that a `$}` closes is open no more
+closed_by : (xs : List Sentence) (e : Sentence) (starts stack : List ℕ) (k b : ℕ) → (h : IsOnStack xs starts stack k b) → h.start ≤ length xs → length stack ≡ suc k → e.kind ≡ Closing
+    → ¬ (IsUnclosed (xs ++ e ∷ []) h.start)
+closed_by xs e starts stack k b h le size closes still =
+    let x = h.start in
+    let all = unclosed_all (xs ++ e ∷ []) x still in
+    let same : drop x (xs ++ e ∷ []) ≡ drop x xs ++ e ∷ [] = drop-append-le x xs (e ∷ []) le in
+    let all' : closings (drop x xs ++ e ∷ []) ≤ openings (drop x xs ++ e ∷ []) = subst (λ ys. closings ys ≤ openings ys) same all in
+    let above = h.above in
+    let o = openings_one e false (ap is_opening closes) in
+    let c = closings_one e true (ap is_closing closes) in
+    let os = openings-append (drop x xs) (e ∷ []) in
+    let cs = closings-append (drop x xs) (e ∷ []) in
+    omega arith
+
+end_new : (xs : List Sentence) (e : Sentence) (x : ℕ) → IsUnclosed xs x → ¬ (IsUnclosed (xs ++ e ∷ []) x) → IsEnd (xs ++ e ∷ []) x (length xs)
+end_new xs e x still not_after = record {
+  within = let h = length_pushed xs e in omega arith;
+  before = subst (λ ys. IsUnclosed ys x) (sym (take-append_seam xs (e ∷ []))) still;
+  after = subst (λ ys. ¬ (IsUnclosed ys x)) (sym (all_taken xs e)) not_after;
+}
+
+pub scopes_closing : (never : ℕ) (xs : List Sentence) (e : Sentence) (blocks ends below : List ℕ) (k top under : ℕ) → AreScopes never xs blocks ends (below ++ top ∷ [])
+    → length below ≡ suc k → slice_get below k ≡ Some under → e.kind ≡ Closing
+    → AreScopes never (xs ++ e ∷ []) (blocks ++ under ∷ []) (set ends top (length xs)) below
+scopes_closing never xs e blocks ends below k top under a size last closes =
+    let n = length xs in
+    let stack = below ++ top ∷ [] in
+    let more = length_pushed below top in
+    let same : AreKept a.starts a.starts = λ b x there. there in
+    let o = openings_one e false (ap is_opening closes) in
+    let c = closings_one e true (ap is_closing closes) in
+    let within = start_within never xs blocks ends stack a in
+    let up : (k b : ℕ) → slice_get below k ≡ Some b → slice_get stack k ≡ Some b = λ k b there. get_kept below (top ∷ []) k b there in
+    let balance : openings (e ∷ []) + length stack ≡ closings (e ∷ []) + length below = omega arith in
+    let grown : (k b : ℕ) → slice_get below k ≡ Some b → IsOnStack (xs ++ e ∷ []) a.starts below k b = λ k b there.
+        let h = a.on_stack k b (up k b there) in
+        on_stack_grown xs e a.starts a.starts stack below k b h (within b h.start h.there) same balance (slice_get_within below k b there) in
+    let ending = a.on_stack (length below) top (get_pushed below top) in
+    let ended = closed_by xs e a.starts stack (length below) top ending (within top ending.start ending.there) more closes in
+    let earlier : (outer : ℕ) → IsOpen (xs ++ e ∷ []) outer → IsOpen xs outer = λ outer still. elim (cases_lt outer n) [
+          | inl lt ↦ open_before xs e outer still lt
+          | inr ge ↦ absurd (let h = ap is_opening (opened_last xs e outer still (λ lt. omega arith)).1 in let g = ap is_opening closes in cc)
+        ] in
+    let complete : (place : ℕ) → IsOpen (xs ++ e ∷ []) place → (k : ℕ) × (b : ℕ) × (slice_get below k ≡ Some b) × (slice_get a.starts b ≡ Some (suc place)) = λ place still.
+        let (k, b, on, begins) = a.complete place (earlier place still) in
+        elim (pushed_cases below top k b on) [
+          | inl before ↦ (k, b, before, begins)
+          | inr (at_end, is_top) ↦ absurd (ended (
+              let x_there = ending.there in
+              let start_is : suc place ≡ ending.start = let at = subst (λ m. slice_get a.starts m ≡ Some (suc place)) (sym is_top) begins in cc in
+              subst (λ x. IsUnclosed (xs ++ e ∷ []) x) start_is still.unclosed))
+        ] in
+    let new_end = end_new xs e ending.start ending.unclosed ended in
+    let holder = grown k under last in
+    record {
+      starts = a.starts;
+      held = held_grown xs e blocks under a.held;
+      sized = length-set ends top n ∙ a.sized;
+      outermost = a.outermost;
+      bottom = get_before below (top ∷ []) 0 0 (omega arith) a.bottom;
+      rising = a.rising;
+      begun = λ b x there. begun_grown xs e x (a.begun b x there);
+      stacked = λ j k b c at_j at_k lt. a.stacked j k b c (up j b at_j) (up k c at_k) lt;
+      on_stack = grown;
+      complete = complete;
+      ended = λ b x c begins ends_at. elim (get_set_cases ends top b n c ends_at) [
+        | inl (is_top, is_end) ↦
+            let start_is : ending.start ≡ x = let there = ending.there in let at = subst (λ m. slice_get a.starts m ≡ Some x) is_top begins in cc in
+            inr (subst (λ m. IsEnd (xs ++ e ∷ []) x m) is_end (subst (λ y. IsEnd (xs ++ e ∷ []) y n) start_is new_end))
+        | inr (apart, old) ↦ elim (a.ended b x c begins old) [
+          | inl (is_never, k, on) ↦ elim (pushed_cases below top k b on) [
+            | inl before ↦ inl (is_never, k, before)
+            | inr (at_end, is_top) ↦ absurd (apart (sym is_top))
+          ]
+          | inr end ↦ inr (end_grown xs e x c end)
+        ]
+      ];
+      holders = holders_grown xs e a.starts a.starts blocks under a.held same a.holders
+          (holder_new xs e a.starts under holder.start holder.there (within under holder.start holder.there) holder.unclosed
+          (λ outer before still.
+              let (j, b, on, begins) = complete outer still in
+              innermost a.starts below k under holder.start j b outer a.rising (λ j k b c at_j at_k lt. a.stacked j k b c (up j b at_j) (up k c at_k) lt) size last holder.there on begins));
+    }

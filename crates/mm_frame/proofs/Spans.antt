@@ -1,0 +1,185 @@
+-- The spans of pairs, one after the other and linked.
+use Rattle.std.proofs.Common.{◌≡◌, ◌≢◌, ℕ, zero, suc, ◌+◌, ◌<◌, ◌≤◌, inl, inr, true, cond, ◌==◌, length, length-append, List, [], ◌∷◌, ◌++◌, map, Option, Some, None, refl, sym, ap, ◌∙◌, subst, arith}
+use Rattle.std.specs.List.{slice_get}
+use Rattle.std.specs.Option.{option_and_then, option_map}
+use Rattle.std.proofs.lemmas.Option.{slice_get_within, slice_get-map}
+use Rattle.std.proofs.lemmas.Bool.{cases_lt, cases_order, cases_Bool, and_parts, and_from, eqb-true, eq-eqb}
+use Rattle.std.specs.Map.{update}
+use Rattle.indexmap.specs.IndexMap.{IndexMap, get}
+use Rattle.mm_frame.specs.declared.pairs.Span.{Span}
+use Rattle.mm_frame.specs.Stated.{Stated, stated_by, IsLastSpan, IsLatestStated, AreOlder, AreLinked, is_same_key}
+use Rattle.mm_frame.proofs.Pushed.{get_kept, get_pushed, pushed_cases, get_before}
+
+-- after so many steps from the newest span of a pair, the next one is the last of the first spans of the pair, and those after
+-- them stand at the place or later
+pub record IsLeft (spans : List Span) (newest next : Option ℕ) (before steps : ℕ) : Type 0 where
+  pub left : (pair : ℕ × ℕ) → IsLastSpan spans (length spans) pair newest
+      → (n : ℕ) × (n + steps ≤ length spans) × IsLastSpan spans n pair next
+        × ((j : ℕ) (span : Span) → n ≤ j → slice_get spans j ≡ Some span → span.pair ≡ pair → before ≤ span.place)
+
+pub left_first : (spans : List Span) (newest : Option ℕ) (before : ℕ) → IsLeft spans newest newest before 0
+left_first spans newest before = record {
+  left = λ pair last. (length spans, omega arith, last, λ j span le there same. absurd (let lt = slice_get_within spans j span there in omega arith));
+}
+
+-- the stated pair at a place is that of a span
+span_of : (spans : List Span) (j : ℕ) (other : Stated) → slice_get (map stated_by spans) j ≡ Some other → (span : Span) × (slice_get spans j ≡ Some span) × (stated_by span ≡ other)
+span_of [] j other there = absurd (cc)
+span_of (s ∷ spans) zero other there = (s, refl, cc)
+span_of (s ∷ spans) (suc j) other there = span_of spans j other there
+
+stated_at : (spans : List Span) (j : ℕ) (span : Span) → slice_get spans j ≡ Some span → slice_get (map stated_by spans) j ≡ Some (stated_by span)
+stated_at spans j span there = slice_get-map stated_by spans j ∙ ap (option_map stated_by) there
+
+-- the one further back
+pub left_next : (spans : List Span) (newest : Option ℕ) (k before steps : ℕ) (span : Span) → AreOlder spans → IsLeft spans newest (Some k) before steps → slice_get spans k ≡ Some span → before ≤ span.place
+    → IsLeft spans newest span.older before (steps + 1)
+left_next spans newest k before steps span links is there late = record {
+  left = λ pair last.
+      let (n, within, (lt, (s, at, same), after), done) = is.left pair last in
+      let e : s ≡ span = cc in
+      let pair_is : span.pair ≡ pair = ap (λ (t : Span). t.pair) (sym e) ∙ same in (
+        k,
+        omega arith,
+        subst (λ p. IsLastSpan spans k p span.older) pair_is (links k span there),
+        λ j other le other_at other_is. elim (cases_order j k) [
+          | inl here ↦ let f : other ≡ span = let g = subst (λ m. slice_get spans m ≡ Some other) here other_at in cc in subst (λ (t : Span). before ≤ t.place) (sym f) late
+          | inr (inl less) ↦ absurd (omega arith)
+          | inr (inr more) ↦ elim (cases_lt j n) [
+            | inl before_n ↦ absurd (after j other more before_n other_at other_is)
+            | inr past ↦ done j other past other_at other_is
+          ]
+        ],
+      );
+}
+
+-- where there's none further back, none stands before the place
+pub left_none : (spans : List Span) (newest : Option ℕ) (before steps : ℕ) → IsLeft spans newest None before steps → (pair : ℕ × ℕ) → IsLastSpan spans (length spans) pair newest → IsLatestStated (map stated_by spans) pair before None
+left_none spans newest before steps is pair last j other there same =
+    let (n, within, none, done) = is.left pair last in
+    let (span, at, says) = span_of spans j other there in
+    let pair_is : span.pair ≡ pair = ap (λ (t : Stated). t.pair) says ∙ same in
+    let place_is : span.place ≡ other.place = ap (λ (t : Stated). t.place) says in
+    elim (cases_lt j n) [
+      | inl lt ↦ absurd (none j span lt at pair_is)
+      | inr le ↦ let h = done j span le at pair_is in omega arith
+    ]
+
+-- where as many steps were taken as there are spans, there's none further back
+pub left_all : (spans : List Span) (newest next : Option ℕ) (before : ℕ) → IsLeft spans newest next before (length spans) → (pair : ℕ × ℕ) → IsLastSpan spans (length spans) pair newest → IsLatestStated (map stated_by spans) pair before None
+left_all spans newest None before is pair last = left_none spans newest before (length spans) is pair last
+left_all spans newest (Some k) before is pair last =
+    let (n, within, (lt, there, after), done) = is.left pair last in
+    absurd (omega arith)
+
+-- the first one that stands before the place
+pub left_found : (spans : List Span) (newest : Option ℕ) (k before steps : ℕ) (span : Span) → IsLeft spans newest (Some k) before steps → slice_get spans k ≡ Some span → span.place < before
+    → (pair : ℕ × ℕ) → IsLastSpan spans (length spans) pair newest → IsLatestStated (map stated_by spans) pair before (Some span.place)
+left_found spans newest k before steps span is there early pair last =
+    let (n, within, (lt, (s, at, same), after), done) = is.left pair last in
+    let e : s ≡ span = cc in
+    let pair_is : span.pair ≡ pair = ap (λ (t : Span). t.pair) (sym e) ∙ same in (
+      k,
+      stated_by span,
+      stated_at spans k span there,
+      pair_is,
+      refl,
+      early,
+      λ j other more other_at other_is.
+          let (found, found_at, says) = span_of spans j other other_at in
+          let found_is : found.pair ≡ pair = ap (λ (t : Stated). t.pair) says ∙ other_is in
+          let place_is : found.place ≡ other.place = ap (λ (t : Stated). t.place) says in
+          elim (cases_lt j n) [
+            | inl before_n ↦ absurd (after j found more before_n found_at found_is)
+            | inr past ↦ let h = done j found past found_at found_is in omega arith
+          ],
+    )
+
+-- what a look-up by a number that there may be gives
+span_found : (spans : List Span) (next : Option ℕ) (span : Span) → option_and_then (λ n. slice_get spans n) next ≡ Some span → (k : ℕ) × (next ≡ Some k) × (slice_get spans k ≡ Some span)
+span_found spans None span found = absurd (cc)
+span_found spans (Some k) span found = (k, refl, found)
+
+pub step_next : (spans : List Span) (newest next : Option ℕ) (before steps : ℕ) (span : Span) → AreOlder spans → IsLeft spans newest next before steps → option_and_then (λ n. slice_get spans n) next ≡ Some span → before ≤ span.place
+    → IsLeft spans newest span.older before (steps + 1)
+step_next spans newest next before steps span links is found late =
+    let (k, at, there) = span_found spans next span found in
+    left_next spans newest k before steps span links (subst (λ o. IsLeft spans newest o before steps) at is) there late
+
+pub step_found : (spans : List Span) (newest next : Option ℕ) (before steps : ℕ) (span : Span) → IsLeft spans newest next before steps → option_and_then (λ n. slice_get spans n) next ≡ Some span → span.place < before
+    → (pair : ℕ × ℕ) → IsLastSpan spans (length spans) pair newest → IsLatestStated (map stated_by spans) pair before (Some span.place)
+step_found spans newest next before steps span is found early =
+    let (k, at, there) = span_found spans next span found in
+    left_found spans newest k before steps span (subst (λ o. IsLeft spans newest o before steps) at is) there early
+
+pub step_none : (spans : List Span) (newest next : Option ℕ) (before steps : ℕ) → IsLeft spans newest next before steps → option_and_then (λ n. slice_get spans n) next ≡ None
+    → (pair : ℕ × ℕ) → IsLastSpan spans (length spans) pair newest → IsLatestStated (map stated_by spans) pair before None
+step_none spans newest None before steps is found pair last = left_none spans newest before steps is pair last
+step_none spans newest (Some k) before steps is found pair last =
+    let (n, within, (lt, (s, at, same), after), done) = is.left pair last in
+    absurd (cc)
+
+-- ---- one span more
+
+last_grow : (spans more : List Span) (n : ℕ) (pair : ℕ × ℕ) (o : Option ℕ) → n ≤ length spans → IsLastSpan spans n pair o → IsLastSpan (spans ++ more) n pair o
+last_grow spans more n pair None le none = λ j span lt there. none j span lt (get_before spans more j span (omega arith) there)
+last_grow spans more n pair (Some k) le (lt, (s, at, same), after) =
+    (lt, (s, get_kept spans more k s at, same), λ j span above below there. after j span above below (get_before spans more j span (omega arith) there))
+
+last_passed : (spans : List Span) (n : ℕ) (pair : ℕ × ℕ) (o : Option ℕ) (s : Span) → slice_get spans n ≡ Some s → s.pair ≢ pair → IsLastSpan spans n pair o → IsLastSpan spans (suc n) pair o
+last_passed spans n pair None s there other none = λ j span lt at. elim (cases_lt j n) [
+  | inl less ↦ none j span less at
+  | inr more ↦
+      let here : j ≡ n = omega arith in
+      let same : s ≡ span = let f = subst (λ m. slice_get spans m ≡ Some span) here at in cc in
+      λ e. other (ap (λ (t : Span). t.pair) same ∙ e)
+]
+last_passed spans n pair (Some k) s there other (lt, found, after) = (omega arith, found, λ j span above below at. elim (cases_lt j n) [
+  | inl less ↦ after j span above less at
+  | inr more ↦
+      let here : j ≡ n = omega arith in
+      let same : s ≡ span = let f = subst (λ m. slice_get spans m ≡ Some span) here at in cc in
+      λ e. other (ap (λ (t : Span). t.pair) same ∙ e)
+])
+
+last_here : (spans : List Span) (n : ℕ) (pair : ℕ × ℕ) (s : Span) → slice_get spans n ≡ Some s → s.pair ≡ pair → IsLastSpan spans (suc n) pair (Some n)
+last_here spans n pair s there same = (omega arith, (s, there, same), λ j span above below at. absurd (omega arith))
+
+same_key : (p q : ℕ × ℕ) → is_same_key p q ≡ true → p ≡ q
+same_key p q is =
+    let (first, second) = and_parts (p.0 == q.0) (p.1 == q.1) is in
+    let e : p.0 ≡ q.0 = eqb-true p.0 q.0 first in
+    let f : p.1 ≡ q.1 = eqb-true p.1 q.1 second in
+    ap (λ a. (a, p.1)) e ∙ ap (λ b. (q.0, b)) f
+
+key_same : (p q : ℕ × ℕ) → p ≡ q → is_same_key p q ≡ true
+key_same p q same = and_from (p.0 == q.0) (p.1 == q.1) (eq-eqb p.0 q.0 (ap (λ r. r.0) same)) (eq-eqb p.1 q.1 (ap (λ r. r.1) same))
+
+pub linked_push : {S : Type 0} (spans : List Span) (old new : IndexMap (ℕ × ℕ) ℕ S) (pair : ℕ × ℕ) (place : ℕ) → AreLinked spans old
+    → ((q : ℕ × ℕ) → get is_same_key new q ≡ update is_same_key (get is_same_key old) pair (Some (length spans)) q)
+    → AreLinked (spans ++ record { pair = pair; place = place; older = get is_same_key old pair } ∷ []) new
+linked_push spans old new pair place linked updates =
+    let s : Span = record { pair = pair; place = place; older = get is_same_key old pair } in
+    let here = get_pushed spans s in
+    let size = length-append spans (s ∷ []) in
+    let next : suc (length spans) ≡ length (spans ++ s ∷ []) = omega arith in
+    record {
+      last = λ p. subst (λ n. IsLastSpan (spans ++ s ∷ []) n p (get is_same_key new p)) next (elim (cases_Bool (is_same_key pair p)) [
+        | inl is ↦
+            let value : get is_same_key new p ≡ Some (length spans) = updates p ∙ ap (λ b. cond b (Some (length spans)) (get is_same_key old p)) is in
+            subst (λ o. IsLastSpan (spans ++ s ∷ []) (suc (length spans)) p o) (sym value) (last_here (spans ++ s ∷ []) (length spans) p s here (same_key pair p is))
+        | inr is_not ↦
+            let value : get is_same_key new p ≡ get is_same_key old p = updates p ∙ ap (λ b. cond b (Some (length spans)) (get is_same_key old p)) is_not in
+            let other : pair ≢ p = λ same. let t = key_same pair p same in absurd (cc) in
+            subst (λ o. IsLastSpan (spans ++ s ∷ []) (suc (length spans)) p o) (sym value)
+            (last_passed (spans ++ s ∷ []) (length spans) p (get is_same_key old p) s here other (last_grow spans (s ∷ []) (length spans) p (get is_same_key old p) (omega arith) (linked.last p)))
+      ]);
+      older = λ i span there. elim (pushed_cases spans s i span there) [
+        | inl before ↦
+            let lt = slice_get_within spans i span before in
+            last_grow spans (s ∷ []) i span.pair span.older (omega arith) (linked.older i span before)
+        | inr (at_end, same) ↦
+            subst (λ (t : Span). IsLastSpan (spans ++ s ∷ []) i t.pair t.older) same
+            (subst (λ n. IsLastSpan (spans ++ s ∷ []) n pair (get is_same_key old pair)) (sym at_end) (last_grow spans (s ∷ []) (length spans) pair (get is_same_key old pair) (omega arith) (linked.last pair)))
+      ];
+    }

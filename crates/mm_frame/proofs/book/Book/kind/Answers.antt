@@ -1,0 +1,8 @@
+use Rattle.mm_frame.specs.Layout.{statements_of}
+use Rattle.mm_frame.proofs.Labelled.{numbered_from_get}
+use Rattle.mm_frame.proofs.book.Book.kind.Goals as goal
+
+pub returns : goal.returns
+returns c = rw (← c.self.view_is) (λ s there.
+    let (place, numbered) = numbered_from_get (statements_of c.self.inside.tables) c.args.id.0 s there in
+    c.label_kind.ensures place s numbered)

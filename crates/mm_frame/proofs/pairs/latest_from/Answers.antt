@@ -1,0 +1,23 @@
+use Rattle.std.proofs.Common.{ℕ, arith, subst, sym, ◌∙◌, length, ◌≡◌}
+use Rattle.mm_frame.proofs.Spans.{IsLeft, left_first, step_next, step_found, step_none, left_all}
+use Rattle.mm_frame.proofs.pairs.latest_from.Goals as goal
+
+pub loop-init : goal.loop-init
+loop-init c = left_first c.args.spans.now c.args.newest c.args.before
+
+pub returns-in-Some : goal.returns-in-Some
+returns-in-Some c =
+    step_found c.args.spans.now c.args.newest c.loop.next c.args.before c.loop.counter c.in-Some.span c.loop.invariant (sym c.span_at.ensures ∙ c.in-Some.is) c.if-span-before.true
+
+pub returns-in-None : goal.returns-in-None
+returns-in-None c = step_none c.args.spans.now c.args.newest c.loop.next c.args.before c.loop.counter c.loop.invariant (sym c.span_at.ensures ∙ c.in-None.is)
+
+pub loop-preserved : goal.loop-preserved
+loop-preserved c =
+    step_next c.args.spans.now c.args.newest c.loop.next c.args.before c.loop.counter c.in-Some.span c.requires c.loop.invariant (sym c.span_at.ensures ∙ c.in-Some.is) c.if-span-before.false
+
+pub returns : goal.returns
+returns c =
+    let test = c.loop-test.false in
+    let all : c.loop.counter ≡ length c.args.spans.now = omega (arith, c.loop.auto.counter-end) in
+    left_all c.args.spans.now c.args.newest c.loop.next c.args.before (subst (λ (n : ℕ). IsLeft c.args.spans.now c.args.newest c.loop.next c.args.before n) all c.loop.invariant)

@@ -1,0 +1,9 @@
+use Rattle.std.proofs.Common.{rules, ◌≤◌, length}
+use Rattle.mm_frame.proofs.Depth.{scope_some_open}
+use Rattle.mm_frame.specs.declared.scopes.TheConstants.{NEVER}
+use Rattle.mm_frame.proofs.scopes.Scopes.has_open.Goals as goal
+
+pub returns : goal.returns
+returns c st a =
+    let h = scope_some_open NEVER st _ _ _ a in
+    ((λ t. h.1 (search rules)), (λ p. let le : 2 ≤ length c.args.self.now.open.items = h.0 p in search rules))

@@ -1,0 +1,35 @@
+use Rattle.std.proofs.Common.{◌≡◌, ℕ, List, Some, sym, ◌∙◌, ap, subst, rules, MatchOption}
+use Rattle.std.specs.List.{slice_get}
+use denote.Enum.Bare.{same_true, sameb}
+use Rattle.mm_text.specs.contracts.statement.Kind.{the_type}
+use Rattle.mm_text.specs.declared.statement.Kind.TheVariants.{Floating}
+use Rattle.mm_frame.specs.Sentence.{Types}
+use Rattle.mm_frame.specs.Numbers.{IsNumberOf}
+use Rattle.mm_frame.specs.Layout.{statements_of}
+use Rattle.mm_frame.proofs.PairsOf.{variable_says, kind_at, some_entry}
+use Rattle.mm_frame.proofs.tables.Tables.floating_variable.Goals as goal
+
+pub returns-then-eq : goal.returns-then-eq
+returns-then-eq c f said =
+    let t = c.args.self.now in
+    let st = statements_of t in
+    let there : slice_get t.log.items c.args.place ≡ Some c.in-Some.entry = ap (λ xs. slice_get xs c.args.place) (sym c.deref.ensures.value) ∙ sym c.at.ensures ∙ c.in-Some.is in
+    let kind : c.in-Some.entry.kind ≡ Floating = same_true the_type (search rules) _ _ (sym c.if-eq.ensures) in
+    let floats = kind_at t.symbols.names t.labels.names t.flat.items t.log.items c.args.place c.in-Some.entry f there said ∙ kind in
+    let (n, at, code, x, types, number) = variable_says st c.args.place f c.symbols_at.result.now c.requires.sound.1 said floats (c.symbols_at.ensures f said) in
+    let found = c.at-then-eq.ensures in
+    subst (λ o. MatchOption o (¬ (f.kind ≡ Floating)) (λ n. (code : List ℕ) × (x : List ℕ) × Types code x f × IsNumberOf st x n.0)) (sym (found ∙ at)) (code, x, types, number)
+
+pub returns-else-eq : goal.returns-else-eq
+returns-else-eq c f said floats =
+    let t = c.args.self.now in
+    let there : slice_get t.log.items c.args.place ≡ Some c.in-Some.entry = ap (λ xs. slice_get xs c.args.place) (sym c.deref.ensures.value) ∙ sym c.at.ensures ∙ c.in-Some.is in
+    let kind : c.in-Some.entry.kind ≡ Floating = sym (kind_at t.symbols.names t.labels.names t.flat.items t.log.items c.args.place c.in-Some.entry f there said) ∙ floats in
+    let same = ap (λ k. sameb the_type k Floating) kind in
+    let test = c.if-eq.ensures in
+    absurd (cc)
+
+pub returns-in-None : goal.returns-in-None
+returns-in-None c f said floats =
+    let t = c.args.self.now in
+    some_entry t.symbols.names t.labels.names t.flat.items t.log.items c.args.place f said (ap (λ xs. slice_get xs c.args.place) (sym c.deref.ensures.value) ∙ sym c.at.ensures ∙ c.in-None.is)

@@ -1,0 +1,6 @@
+use Rattle.mm_frame.specs.Layout.{statements_of}
+use Rattle.mm_frame.specs.Separated.{ArePaired}
+use Rattle.mm_frame.proofs.tables.Tables.gather.Given as goal
+
+abbrev pub invariant-loop-j : goal.invariant-loop-j
+invariant-loop-j l = ArePaired (statements_of l.self) l.members l.i l.j l.pairs.items

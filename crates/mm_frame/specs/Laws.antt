@@ -1,0 +1,65 @@
+-- Laws of numbers, of what is declared, open and active as statements are added, and of frames.
+use Rattle.std.specs.Prelude.{◌≡◌, ◌↔◌, ℕ, ◌+◌, ◌<◌, ◌≤◌, List, [], ◌∷◌, ◌++◌, length, take, slice_get, Contains, is_some, true, Some, ◌⊎◌}
+use Rattle.mm_text.specs.declared.statement.Kind.TheVariants.{Opening, Closing}
+use Rattle.mm_frame.specs.Sentence.{Sentence}
+use Rattle.mm_frame.specs.Active.{IsConstant, IsVariable, IsOpen, IsActive, openings, closings}
+use Rattle.mm_frame.specs.Frame.{AreMandatory}
+use Rattle.mm_frame.specs.Numbers.{IsNumberOf, IsNumbered}
+
+-- Exactly the declared symbols have numbers; a symbol has one number, and a number one symbol; and it stays so.
+abbrev pub OneNumber : Type 0
+OneNumber =
+    (statements more : List Sentence) (x : List ℕ)
+    → ((IsConstant statements x ⊎ IsVariable statements x) ↔ ((n : ℕ) × IsNumberOf statements x n))
+      × ((m n : ℕ) → IsNumberOf statements x m → IsNumberOf statements x n → m ≡ n)
+      × ((y : List ℕ) (n : ℕ) → IsNumberOf statements x n → IsNumberOf statements y n → x ≡ y)
+      × ((n : ℕ) → IsNumberOf statements x n → IsNumberOf (statements ++ more) x n)
+
+-- A labelled statement has a number, and one only; a number is that of one statement; and it stays so.
+abbrev pub OneLabelNumber : Type 0
+OneLabelNumber =
+    (statements more : List Sentence) (p : ℕ) (s : Sentence)
+    → (((slice_get statements p ≡ Some s) × (is_some s.label ≡ true)) ↔ ((n : ℕ) × IsNumbered statements n p s))
+      × ((m n : ℕ) → IsNumbered statements m p s → IsNumbered statements n p s → m ≡ n)
+      × ((q n : ℕ) (t : Sentence) → IsNumbered statements n p s → IsNumbered statements n q t → (p ≡ q) × (s ≡ t))
+      × ((n : ℕ) → IsNumbered statements n p s → IsNumbered (statements ++ more) n p s)
+
+-- the innermost open block
+pub record IsInnermost (statements : List Sentence) (place : ℕ) : Type 0 where
+  pub still : IsOpen statements place
+  pub last : (other : ℕ) → IsOpen statements other → other ≤ place
+
+-- A `${` opens a block, and a `$}` closes the innermost one; no other block opens or closes.
+abbrev pub OpenBlocks : Type 0
+OpenBlocks =
+    (before : List Sentence) (s : Sentence) (p : ℕ)
+    → (¬ (s.kind ≡ Closing)
+        → (IsOpen (before ++ s ∷ []) p ↔ (IsOpen before p ⊎ ((s.kind ≡ Opening) × (p ≡ length before)))))
+      × ((m : ℕ) → s.kind ≡ Closing → IsInnermost before m → (IsOpen (before ++ s ∷ []) p ↔ (IsOpen before p × p < m)))
+
+-- A statement is active from its place on. A `$}` ends all that is active and comes after the `${` of the innermost block;
+-- nothing else ends, and nothing begins again.
+abbrev pub ActiveStatements : Type 0
+ActiveStatements =
+    (before : List Sentence) (s : Sentence) (p : ℕ)
+    → (¬ (s.kind ≡ Closing) → (IsActive (before ++ s ∷ []) p ↔ (IsActive before p ⊎ (p ≡ length before))))
+      × ((m : ℕ) → s.kind ≡ Closing → IsInnermost before m
+          → (IsActive (before ++ s ∷ []) p ↔ ((IsActive before p × p ≤ m) ⊎ (p ≡ length before))))
+
+-- these are the places of the open blocks, the outermost first
+pub record AreOpen (statements : List Sentence) (places : List ℕ) : Type 0 where
+  pub rising : (i j p q : ℕ) → slice_get places i ≡ Some p → slice_get places j ≡ Some q → i < j → p < q
+  pub each : (p : ℕ) → IsOpen statements p ↔ Contains places p
+
+-- Where no `$}` lacks its `${`, as many blocks are open as there are more `${` than `$}`.
+abbrev pub OpenCount : Type 0
+OpenCount =
+    (statements : List Sentence)
+    → ((n : ℕ) → closings (take n statements) ≤ openings (take n statements))
+    → (places : List ℕ) × AreOpen statements places × (closings statements + length places ≡ openings statements)
+
+-- An assertion has one list of mandatory hypotheses.
+abbrev pub OneFrame : Type 0
+OneFrame =
+    (before : List Sentence) (s : Sentence) (hypotheses others : List Sentence)
+    → AreMandatory before s hypotheses → AreMandatory before s others → hypotheses ≡ others

@@ -1,0 +1,146 @@
+-- How a book's lists hold its statements. This file mirrors the code, and is cited by private contracts alone.
+use Rattle.std.specs.Prelude.{◌≡◌, ◌≢◌, ℕ, ◌+◌, ◌*◌, ◌<◌, ◌≤◌, ◌↔◌, List, [], ◌∷◌, length, map, take, slice_get, slice_range, Option, Some, None, Contains, unwrap_or, MatchOption, ◌⊎◌}
+use Rattle.std.specs.Option.{option_and_then}
+use Rattle.mm_text.specs.declared.statement.Kind.TheVariants.{Variables, Essential, Distinct}
+use Rattle.mm_frame.specs.declared.number.LabelId.{LabelId}
+use Rattle.mm_frame.specs.declared.number.Sym.{Sym}
+use Rattle.mm_frame.specs.declared.tables.Entry.{Entry}
+use Rattle.mm_frame.specs.declared.tables.Part.{Part}
+use Rattle.mm_frame.specs.declared.tables.SymbolInfo.{SymbolInfo}
+use Rattle.mm_frame.specs.declared.tables.LabelInfo.{LabelInfo}
+use Rattle.mm_frame.specs.declared.tables.Tables.{Tables}
+use Rattle.mm_frame.specs.Sentence.{Sentence, SomeSentence, Declares, Types, IsAssertion}
+use Rattle.mm_frame.specs.Active.{IsActive, IsConstant, IsVariable}
+use Rattle.mm_frame.specs.Form.{IsSound}
+use Rattle.mm_frame.specs.Numbers.{symbols_of, labelled, IsNumbered}
+use Rattle.mm_frame.specs.FramePlace.{FramePlace, AreHypotheses, ArePairs}
+use Rattle.mm_frame.specs.Database.{Database}
+use Rattle.mm_frame.specs.Latest.{IsLatest}
+use Rattle.mm_frame.specs.ScopesOf.{HaveScopes}
+use Rattle.mm_frame.specs.Stated.{Stated}
+
+-- the names of some numbers
+abbrev pub names_by : List (List ℕ) → List Sym → List (List ℕ)
+names_by names numbers = map (λ n. unwrap_or (slice_get names n.0) []) numbers
+
+-- the name of a label, where there is one
+abbrev pub label_by : List (List ℕ) → Option LabelId → Option (List ℕ)
+label_by names None = None
+label_by names (Some id) = slice_get names id.0
+
+-- what an entry says, by the names of the symbols and of the labels, and the list of all symbols
+abbrev pub sentence_by : List (List ℕ) → List (List ℕ) → List Sym → Entry → Sentence
+sentence_by symbols labels flat e = record {
+  kind = e.kind;
+  label = label_by labels e.label;
+  symbols = names_by symbols (slice_range flat e.symbols.start e.symbols.end);
+}
+
+-- the statements that the lists hold
+unfoldable pub sentences : List (List ℕ) → List (List ℕ) → List Sym → List Entry → List Sentence
+sentences symbols labels flat log = map (sentence_by symbols labels flat) log
+
+abbrev pub statements_of : Tables → List Sentence
+statements_of t = sentences t.symbols.names t.labels.names t.flat.items t.log.items
+
+abbrev pub database_of : Tables → Database
+database_of t = record { statements = statements_of t; bytes = t.bytes; }
+
+-- the place of the latest statement that is so, if there is one
+abbrev pub IsLatestIn : (Sentence → Type 0) → List Sentence → Option ℕ → Type 0
+IsLatestIn P statements None = ¬ (SomeSentence statements P)
+IsLatestIn P statements (Some place) = IsLatest P statements place
+
+-- a `$f` of the variable
+abbrev pub GivesType : List ℕ → Sentence → Type 0
+GivesType x f = (code : List ℕ) × Types code x f
+
+-- what is known of a symbol is so
+pub record IsInfo (statements : List Sentence) (x : List ℕ) (info : SymbolInfo) : Type 0 where
+  pub variable : IsLatestIn (Declares Variables x) statements info.variable
+  pub floating : IsLatestIn (GivesType x) statements info.floating
+
+-- some `$c` or `$v` declares the symbol
+abbrev pub IsDeclared : List Sentence → List ℕ → Type 0
+IsDeclared statements x = IsConstant statements x ⊎ IsVariable statements x
+
+-- this is known of a declared symbol
+pub record IsKnown (statements : List Sentence) (x : List ℕ) (info : SymbolInfo) : Type 0 where
+  pub declared : IsDeclared statements x
+  pub known : IsInfo statements x info
+
+-- the part lies in a list
+pub record IsWithin (part : Part) (len : ℕ) : Type 0 where
+  pub ordered : part.start ≤ part.end
+  pub within : part.end ≤ len
+
+-- what is known of each symbol
+pub record AreInfos (statements : List Sentence) (symbols : List (List ℕ)) (infos : List SymbolInfo) : Type 0 where
+  pub all : symbols ≡ symbols_of statements
+  pub informed : length infos ≡ length symbols
+  pub each : (n : ℕ) (x : List ℕ) (info : SymbolInfo) → slice_get symbols n ≡ Some x → slice_get infos n ≡ Some info
+    → IsInfo statements x info
+
+-- what is known of each label
+pub record AreLabels (statements : List Sentence) (labels : List (List ℕ)) (named : List LabelInfo) (log : List Entry) : Type 0 where
+  pub all : map (λ s. s.label) (labelled statements) ≡ map Some labels
+  pub informed : length named ≡ length labels
+  pub each : (id : ℕ) (info : LabelInfo) → slice_get named id ≡ Some info
+    → (s : Sentence) × IsNumbered statements id info.place s
+  pub logged : (place : ℕ) (e : Entry) (id : LabelId) → slice_get log place ≡ Some e → e.label ≡ Some id
+    → length (labelled (take place statements)) ≡ id.0
+
+-- where the symbols of each statement stand
+pub record AreEntries (symbols : List (List ℕ)) (labels : List (List ℕ)) (flat : List Sym) (log : List Entry) : Type 0 where
+  pub within : (place : ℕ) (e : Entry) → slice_get log place ≡ Some e → IsWithin e.symbols (length flat)
+  pub numbered : (n : ℕ) (symbol : Sym) → slice_get flat n ≡ Some symbol → symbol.0 < length symbols
+  pub named : (place : ℕ) (e : Entry) (id : LabelId) → slice_get log place ≡ Some e → e.label ≡ Some id → id.0 < length labels
+
+-- the places of the active `$e`, in order
+pub record AreEssentials (statements : List Sentence) (places : List ℕ) : Type 0 where
+  pub rising : (i j p q : ℕ) → i < j → slice_get places i ≡ Some p → slice_get places j ≡ Some q → p < q
+  pub only : (i p : ℕ) → slice_get places i ≡ Some p
+    → (s : Sentence) × (slice_get statements p ≡ Some s) × (s.kind ≡ Essential) × IsActive statements p
+  pub each : (p : ℕ) (s : Sentence) → slice_get statements p ≡ Some s → s.kind ≡ Essential → IsActive statements p
+    → (i : ℕ) × (slice_get places i ≡ Some p)
+
+-- the frame of an assertion
+pub record IsFrameInfo (statements : List Sentence) (hypotheses : List LabelId) (pairs : List (Sym × Sym)) (info : LabelInfo) : Type 0 where
+  pub hypotheses_in : IsWithin info.hypotheses (length hypotheses)
+  pub pairs_in : IsWithin info.pairs (length pairs)
+  pub are_hypotheses : AreHypotheses (record { statements = statements; place = info.place })
+    (map (λ id. id.0) (slice_range hypotheses info.hypotheses.start info.hypotheses.end))
+  pub are_pairs : ArePairs (record { statements = statements; place = info.place })
+    (map (λ pair. (pair.0.0, pair.1.0)) (slice_range pairs info.pairs.start info.pairs.end))
+
+-- the frames of all assertions
+abbrev pub AreFrames : List Sentence → List LabelId → List (Sym × Sym) → List LabelInfo → Type 0
+AreFrames statements hypotheses pairs named =
+    (id : ℕ) (info : LabelInfo) (s : Sentence) → slice_get named id ≡ Some info → slice_get statements info.place ≡ Some s
+    → IsAssertion s.kind → IsFrameInfo statements hypotheses pairs info
+
+-- the pairs that were stated: each by an active `$d` at its place, and none while it was active by the one before
+pub record AreStated (statements : List Sentence) (symbols : List (List ℕ)) (spans : List Stated) : Type 0 where
+  pub only : (i : ℕ) (span : Stated) → slice_get spans i ≡ Some span
+    → (d : Sentence) × (slice_get statements span.place ≡ Some d) × (d.kind ≡ Distinct) × (span.pair.0 < span.pair.1)
+      × (x : List ℕ) × (y : List ℕ) × (slice_get symbols span.pair.0 ≡ Some x) × (slice_get symbols span.pair.1 ≡ Some y)
+      × Contains d.symbols x × Contains d.symbols y
+  pub each : (place a b : ℕ) (d : Sentence) (x y : List ℕ) → slice_get statements place ≡ Some d → d.kind ≡ Distinct
+    → slice_get symbols a ≡ Some x → slice_get symbols b ≡ Some y → a < b → Contains d.symbols x → Contains d.symbols y
+    → (i : ℕ) × (span : Stated) × (slice_get spans i ≡ Some span) × (span.pair ≡ (a, b)) × (span.place ≤ place)
+      × IsActive (take (place + 1) statements) span.place
+  pub apart : (i j : ℕ) (older newer : Stated) → i < j → slice_get spans i ≡ Some older → slice_get spans j ≡ Some newer
+    → older.pair ≡ newer.pair → (older.place < newer.place) × ¬ (IsActive (take newer.place statements) older.place)
+
+-- all lists of a book, as they are between two statements
+pub record AreTables (t : Tables) : Type 0 where
+  pub sound : IsSound (statements_of t)
+  pub counted : length t.log.items + length t.flat.items ≤ 2 * t.bytes
+  pub small : t.bytes ≤ 1073741824
+  pub infos : AreInfos (statements_of t) t.symbols.names t.infos.items
+  pub labels : AreLabels (statements_of t) t.labels.names t.named.items t.log.items
+  pub entries : AreEntries t.symbols.names t.labels.names t.flat.items t.log.items
+  pub scopes : HaveScopes (statements_of t) t.scopes
+  pub essentials : AreEssentials (statements_of t) t.essentials.items
+  pub frames : AreFrames (statements_of t) t.hypotheses.items t.pairs.items t.named.items
+  pub stated : AreStated (statements_of t) t.symbols.names t.distinct.stated

@@ -1,0 +1,47 @@
+-- How a book's lists change as a label is named. This file mirrors the code, and is cited by private contracts alone.
+use Rattle.std.specs.Prelude.{◌≡◌, ℕ, ◌+◌, ◌<◌, ◌≤◌, vec_len, vec_capacity, length, List, [], ◌∷◌, ◌++◌, Some}
+use Rattle.mm_text.specs.declared.statement.Kind.{Kind}
+use Rattle.mm_text.specs.declared.statement.Kind.TheVariants.{Closing}
+use Rattle.mm_frame.specs.declared.number.LabelId.{LabelId}
+use Rattle.mm_frame.specs.declared.number.Sym.{Sym}
+use Rattle.mm_frame.specs.declared.tables.LabelInfo.{LabelInfo}
+use Rattle.mm_frame.specs.declared.tables.Part.{Part}
+use Rattle.mm_frame.specs.declared.tables.Tables.{Tables}
+use Rattle.mm_frame.specs.Sentence.{Sentence}
+use Rattle.mm_frame.specs.Active.{openings, closings}
+use Rattle.mm_frame.specs.Numbers.{with_name}
+use Rattle.mm_frame.specs.ScopesOf.{HaveScopes, HasRoom}
+use Rattle.mm_frame.specs.Grows.{entry_of}
+
+-- where elements stand that are added to the end of a list
+abbrev pub part_after : {X : Type 0} → List X → List X → Part
+part_after xs more = record { start = length xs; end = length (xs ++ more) }
+
+abbrev pub label_info : ℕ → Part × Part → LabelInfo
+label_info place frame = record { place = place; hypotheses = frame.0; pairs = frame.1 }
+
+-- there is room for a label, and for the entry of its statement of so many symbols
+pub record HaveNameRoom (t : Tables) (symbols : ℕ) : Type 0 where
+  pub log : vec_len t.log < vec_capacity t.log
+  pub flat : vec_len t.flat + symbols ≤ vec_capacity t.flat
+  pub named : vec_len t.named < vec_capacity t.named
+  pub labels : 0 < t.labels.room
+  pub scopes : HasRoom t.scopes
+
+-- one label more was written, and the entry of its statement, which has these symbols
+pub record Named (old new : Tables) (kind : Kind) (label : List ℕ) (numbers : List Sym) (frame : Part × Part) (id : LabelId) (bytes : ℕ) : Type 0 where
+  pub symbols : new.symbols.names ≡ old.symbols.names
+  pub infos : new.infos.items ≡ old.infos.items
+  pub labels : new.labels.names ≡ with_name old.labels.names label
+  pub named : new.named.items ≡ old.named.items ++ label_info (length old.log.items) frame ∷ []
+  pub log : new.log.items
+      ≡ old.log.items ++ entry_of kind (Some id) (length old.flat.items) (length (old.flat.items ++ numbers)) ∷ []
+  pub flat : new.flat.items ≡ old.flat.items ++ numbers
+  pub scopes :
+      (statements : List Sentence) (s : Sentence) → HaveScopes statements old.scopes → s.kind ≡ kind
+      → (kind ≡ Closing → closings statements < openings statements) → HaveScopes (statements ++ s ∷ []) new.scopes
+  pub essentials : new.essentials.items ≡ old.essentials.items
+  pub hypotheses : new.hypotheses.items ≡ old.hypotheses.items
+  pub pairs : new.pairs.items ≡ old.pairs.items
+  pub stated : new.distinct.stated ≡ old.distinct.stated
+  pub counted : new.bytes ≡ old.bytes + bytes

@@ -1,0 +1,22 @@
+-- What the code's scopes hold. This file mirrors the code, and is cited by private contracts alone.
+use Rattle.std.specs.Prelude.{◌≡◌, ℕ, ◌+◌, ◌<◌, List, vec_len, vec_capacity}
+use Rattle.mm_frame.specs.declared.scopes.Scopes.{Scopes}
+use Rattle.mm_frame.specs.declared.scopes.TheConstants.{NEVER}
+use Rattle.mm_frame.specs.Sentence.{Sentence}
+use Rattle.mm_frame.specs.Scopes.{AreScopes}
+
+-- the scopes are those of these statements
+abbrev pub HaveScopes : List Sentence → Scopes → Type 0
+HaveScopes statements s = AreScopes NEVER statements s.blocks.items s.ends.items s.open.items
+
+-- there is room for one statement more
+pub record HasRoom (s : Scopes) : Type 0 where
+  pub blocks : vec_len s.blocks < vec_capacity s.blocks
+  pub ends : vec_len s.ends < vec_capacity s.ends
+  pub open_blocks : vec_len s.open < vec_capacity s.open
+
+-- the same lists
+pub record HaveSameLists (s t : Scopes) : Type 0 where
+  pub blocks : t.blocks.items ≡ s.blocks.items
+  pub ends : t.ends.items ≡ s.ends.items
+  pub open_blocks : t.open.items ≡ s.open.items

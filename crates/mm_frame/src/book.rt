@@ -1,0 +1,229 @@
+//! A book: the statements that were taken, by numbers.
+
+ghost use Rattle.std.specs.Prelude.{◌≡◌, ◌↔◌, ℕ, ◌+◌, ◌-◌, ◌<◌, ◌≤◌, List, [], ◌∷◌, ◌++◌, IsTrue, IfOk, IfErr, OnErr, Err, Some, length, map, take, slice_get, sum_by};
+ghost use Rattle.mm_text.specs.declared.statement.Kind.TheVariants.{Closing};
+ghost use Rattle.mm_text.specs.Statement.{plain_statement, HasForm, bytes_in};
+ghost use Rattle.mm_frame.specs.declared.rule.MeaningRule.{MeaningRule};
+ghost use Rattle.mm_frame.specs.declared.answer.RuleFault.TheVariants.{Rule, Memory};
+ghost use Rattle.mm_frame.specs.Sentence.{Sentence, said_by, IsLabelled, IsAssertion};
+ghost use Rattle.mm_frame.specs.Active.{IsActive, IsVariable, openings, closings};
+ghost use Rattle.mm_frame.specs.Rules.{IsMeant, FirstBroken};
+ghost use Rattle.mm_frame.specs.Form.{IsSound};
+ghost use Rattle.mm_frame.specs.Frame.{IsDistinct};
+ghost use Rattle.mm_frame.specs.Numbers.{symbols_of, labelled, IsNumberOf, AreNumbers, IsNumbered, IsAssertionNumber};
+ghost use Rattle.mm_frame.specs.Found.{Finds};
+ghost use Rattle.mm_frame.specs.Taken.{TakenAs, kind_behind};
+ghost use Rattle.mm_frame.specs.FramePlace.{AreHypotheses, ArePairs};
+
+use crate::answer::{Found, RuleFault, Taken};
+use crate::frame::Frame;
+use crate::number::{LabelId, LabelKind, Sym};
+use crate::reads::{
+    find_label, is_label_active, label_hypotheses, label_kind, label_pairs, label_place,
+    label_symbols, label_text,
+};
+use crate::rules::first_broken;
+use crate::tables::Tables;
+use mm_text::{Statement, Token};
+use std::alloc::Global;
+use std::marker::Model;
+
+/// The statements of a database as far as they were taken, and what they say of each symbol, label
+/// and assertion.
+#[derive(Drop)]
+pub struct Book<'a> {
+    pub(crate) tables: Tables<'a>,
+}
+
+// How many bytes some tokens have.
+fn bytes_of_all(tokens: &[Token]) -> u64
+    requires { sum_by (λ t. length t.text.now) tokens.now ≤ 1073741824 }
+    ensures { result ≡ sum_by (λ t. length t.text.now) tokens.now }
+{
+    let mut bytes = 0;
+    for token in tokens {
+        bytes += token.text.len() as u64;
+    }
+    bytes
+}
+
+// How many bytes the tokens of a statement have.
+fn bytes_of(statement: &Statement) -> u64
+    requires { bytes_in (plain_statement statement.now) ≤ 1073741824 }
+    ensures { result ≡ bytes_in (plain_statement statement.now) }
+{
+    statement.first.text.len() as u64
+        + bytes_of_all(&statement.symbols)
+        + bytes_of_all(&statement.proof)
+}
+
+impl<'a> Model for Book<'a> {
+    ghost use Rattle.mm_frame.specs.Database.{Database};
+    ghost use Rattle.mm_frame.specs.Layout.{AreTables, database_of};
+
+    ghost Value = { Database };
+
+    ghost view = { λ b. database_of b.tables };
+
+    ghost invariant = { λ b. AreTables b.tables };
+}
+
+impl<'a> Book<'a> {
+    /// A book of no statements.
+    pub fn new(alloc: Global) -> Result<Book<'a>, RuleFault>
+        ensures ok { IfOk result (λ book. book ≡ record { statements = []; bytes = 0 }) }
+        ensures memory { IfErr result (λ fault. fault ≡ Memory) }
+    {
+        match Tables::new(alloc) {
+            Ok(tables) => Ok(Book { tables }),
+            Err(_) => Err(RuleFault::Memory),
+        }
+    }
+
+    /// Takes the next statement in, unless it breaks a rule of meaning (the Metamath book, sections
+    /// 4.2.1 to 4.2.8). A refused statement leaves the book as it was.
+    pub fn take(&mut self, statement: &Statement<'a>) -> Result<Taken, RuleFault>
+        requires formed { HasForm (plain_statement statement.now) }
+        requires closes { statement.now.kind ≡ Closing
+            → closings self.old.statements < openings self.old.statements }
+        requires room { self.old.bytes + bytes_in (plain_statement statement.now) ≤ 1073741824 }
+        ensures ok { IfOk result (λ taken. IsMeant self.old.statements (said_by statement.now)
+            × (self.new ≡ record {
+                statements = self.old.statements ++ said_by statement.now ∷ [];
+                bytes = self.old.bytes + bytes_in (plain_statement statement.now);
+            })
+            × TakenAs self.old.statements statement.now.kind taken) }
+        ensures rule { (broken : MeaningRule) → result ≡ Err (Rule broken)
+            → FirstBroken broken self.old.statements (said_by statement.now) }
+        ensures unchanged { OnErr result (self.new ≡ self.old) }
+    {
+        match first_broken(&self.tables, statement) {
+            Ok(None) => {}
+            Ok(Some(rule)) => return Err(RuleFault::Rule(rule)),
+            Err(_) => return Err(RuleFault::Memory),
+        }
+        match self.tables.grow(statement, bytes_of(statement)) {
+            Ok(taken) => Ok(taken),
+            Err(_) => Err(RuleFault::Memory),
+        }
+    }
+
+    /// How many blocks are open.
+    pub fn depth(&self) -> usize
+        ensures { result ≡ openings self.now.statements - closings self.now.statements }
+    {
+        self.tables.scopes.depth()
+    }
+
+    /// How many bytes the tokens of the statements have.
+    pub fn bytes(&self) -> u64
+        ensures { result ≡ self.now.bytes }
+    {
+        self.tables.bytes
+    }
+
+    /// What stands under a label.
+    pub fn find(&self, label: &[u8]) -> Found
+        ensures finds { Finds self.now.statements label.now result }
+        ensures sound { IsSound self.now.statements }
+    {
+        find_label(&self.tables, label)
+    }
+
+    // Whether a labelled statement is active after the statements before a place.
+    pub(crate) fn is_active(&self, id: LabelId, at: usize) -> bool
+        requires within { at ≤ length self.now.statements }
+        ensures { (place : ℕ) (s : Sentence) → IsNumbered self.now.statements id.0 place s
+            → (IsTrue result ↔ IsActive (take at self.now.statements) place) }
+    {
+        is_label_active(&self.tables, id, at)
+    }
+
+    /// The name of a symbol.
+    pub fn name(&self, symbol: Sym) -> &'a [u8]
+        requires { symbol.0 < length (symbols_of self.now.statements) }
+        ensures { IsNumberOf self.now.statements result.now symbol.0 }
+    {
+        self.tables.symbols.name(symbol.0).unwrap_or(&[])
+    }
+
+    /// Whether a symbol is a variable.
+    pub fn is_variable(&self, symbol: Sym) -> bool
+        ensures { (x : List ℕ) → IsNumberOf self.now.statements x symbol.0
+            → (IsTrue result ↔ IsVariable self.now.statements x) }
+    {
+        match self.tables.info(symbol) {
+            Some(info) => info.variable.is_some(),
+            None => false,
+        }
+    }
+
+    /// A label.
+    pub fn label(&self, id: LabelId) -> &'a [u8]
+        ensures { (s : Sentence) → slice_get (labelled self.now.statements) id.0 ≡ Some s
+            → IsLabelled result.now s }
+    {
+        label_text(&self.tables, id)
+    }
+
+    /// The symbols of a labelled statement.
+    pub fn expression(&self, id: LabelId) -> &[Sym]
+        ensures { (s : Sentence) → slice_get (labelled self.now.statements) id.0 ≡ Some s
+            → AreNumbers self.now.statements (map (λ n. n.0) result.now) s.symbols }
+    {
+        label_symbols(&self.tables, id)
+    }
+
+    /// The kind of a labelled statement.
+    pub fn kind(&self, id: LabelId) -> LabelKind
+        ensures { (s : Sentence) → slice_get (labelled self.now.statements) id.0 ≡ Some s
+            → s.kind ≡ kind_behind result }
+    {
+        label_kind(&self.tables, id)
+    }
+
+    /// The frame of an assertion (the Metamath book, section 4.2.7).
+    pub fn frame(&self, id: LabelId) -> Frame<'_, 'a>
+        requires { IsAssertionNumber self.now.statements id.0 }
+        ensures same { result.statements ≡ self.now.statements }
+        ensures place { (s : Sentence) × IsNumbered self.now.statements id.0 result.place s
+            × IsAssertion s.kind }
+        ensures sound { IsSound self.now.statements }
+    {
+        Frame {
+            book: self,
+            id,
+            place: label_place(&self.tables, id),
+        }
+    }
+
+    // Whether two symbols are a distinct pair after the statements before a place.
+    pub(crate) fn is_distinct(&self, a: Sym, b: Sym, at: usize) -> bool
+        requires { at ≤ length self.now.statements }
+        ensures { (x y : List ℕ) → IsNumberOf self.now.statements x a.0
+            → IsNumberOf self.now.statements y b.0
+            → (IsTrue result ↔ IsDistinct (take at self.now.statements) x y) }
+    {
+        self.tables.is_distinct(a, b, at)
+    }
+
+    // The mandatory hypotheses of an assertion.
+    pub(crate) fn hypotheses(&self, id: LabelId) -> &[LabelId]
+        ensures { (place : ℕ) (s : Sentence) → IsNumbered self.now.statements id.0 place s
+            → IsAssertion s.kind → AreHypotheses
+                (record { statements = self.now.statements; place = place })
+                (map (λ h. h.0) result.now) }
+    {
+        label_hypotheses(&self.tables, id)
+    }
+
+    // The mandatory distinct pairs of an assertion.
+    pub(crate) fn pairs(&self, id: LabelId) -> &[(Sym, Sym)]
+        ensures { (place : ℕ) (s : Sentence) → IsNumbered self.now.statements id.0 place s
+            → IsAssertion s.kind → ArePairs
+                (record { statements = self.now.statements; place = place })
+                (map (λ pair. (pair.0.0, pair.1.0)) result.now) }
+    {
+        label_pairs(&self.tables, id)
+    }
+}

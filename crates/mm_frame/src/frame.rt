@@ -1,0 +1,76 @@
+//! Frames of assertions.
+
+ghost use Rattle.std.specs.Prelude.{◌↔◌, ℕ, List, IsTrue, map};
+ghost use Rattle.mm_frame.specs.Sentence.{Sentence};
+ghost use Rattle.mm_frame.specs.Active.{IsActive};
+ghost use Rattle.mm_frame.specs.Frame.{IsDistinct};
+ghost use Rattle.mm_frame.specs.Numbers.{IsNumbered, IsNumberOf};
+ghost use Rattle.mm_frame.specs.FramePlace.{AreHypotheses, ArePairs, AreItsSymbols, before_it};
+
+use crate::book::Book;
+use crate::number::{LabelId, Sym};
+use std::marker::Model;
+
+/// What an assertion of a book takes from the statements before it (the Metamath book, section
+/// 4.2.7). It stays true while the book grows.
+#[derive(Drop)]
+pub struct Frame<'b, 'a> {
+    pub(crate) book: &'b Book<'a>,
+    pub(crate) id: LabelId,
+    pub(crate) place: usize,
+}
+
+impl<'b, 'a> Model for Frame<'b, 'a> {
+    ghost use Rattle.mm_frame.specs.Sentence.{Sentence, IsAssertion};
+    ghost use Rattle.mm_frame.specs.Numbers.{IsNumbered};
+    ghost use Rattle.mm_frame.specs.FramePlace.{FramePlace};
+
+    ghost Value = { FramePlace };
+
+    ghost view = { λ f. record { statements = f.book.now.statements; place = f.place } };
+
+    // It is the frame of an assertion of its book.
+    ghost invariant = { λ f. (s : Sentence)
+        × IsNumbered f.book.now.statements f.id.0 f.place s × IsAssertion s.kind };
+}
+
+impl<'b, 'a> Frame<'b, 'a> {
+    /// The mandatory hypotheses, in database order.
+    pub fn hypotheses(&self) -> &'b [LabelId]
+        ensures { AreHypotheses self.now (map (λ id. id.0) result.now) }
+    {
+        self.book.hypotheses(self.id)
+    }
+
+    /// The mandatory distinct pairs, each in one order.
+    pub fn pairs(&self) -> &'b [(Sym, Sym)]
+        ensures { ArePairs self.now (map (λ pair. (pair.0.0, pair.1.0)) result.now) }
+    {
+        self.book.pairs(self.id)
+    }
+
+    /// The symbols of the assertion.
+    pub fn expression(&self) -> &'b [Sym]
+        ensures { AreItsSymbols self.now (map (λ n. n.0) result.now) }
+    {
+        self.book.expression(self.id)
+    }
+
+    /// Whether a hypothesis is active at the assertion's place.
+    pub fn active(&self, hypothesis: LabelId) -> bool
+        ensures { (place : ℕ) (s : Sentence)
+            → IsNumbered self.now.statements hypothesis.0 place s
+            → (IsTrue result ↔ IsActive (before_it self.now) place) }
+    {
+        self.book.is_active(hypothesis, self.place)
+    }
+
+    /// Whether two variables are a distinct pair at the assertion's place.
+    pub fn distinct(&self, a: Sym, b: Sym) -> bool
+        ensures { (x y : List ℕ) → IsNumberOf self.now.statements x a.0
+            → IsNumberOf self.now.statements y b.0
+            → (IsTrue result ↔ IsDistinct (before_it self.now) x y) }
+    {
+        self.book.is_distinct(a, b, self.place)
+    }
+}

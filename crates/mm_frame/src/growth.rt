@@ -1,0 +1,223 @@
+//! Taking a statement that breaks no rule into the lists: room is made first, so that nothing can
+//! fail once something is written.
+
+ghost use Rattle.std.specs.Prelude.{◌≡◌, ◌↔◌, ◌⊎◌, ℕ, suc, ◌+◌, ◌<◌, ◌≤◌, List, [], length, map, slice_get, Contains, None, Some, IsTrue, IfOk, OnErr, OnOk, vec_len, vec_capacity};
+ghost use Rattle.mm_text.specs.declared.statement.Kind.TheVariants.{Opening, Closing};
+ghost use Rattle.mm_text.specs.Statement.{plain_statement, HasForm, bytes_in};
+ghost use Rattle.mm_frame.specs.Sentence.{Sentence, said_by, IsHypothesis, IsAssertion, IsUse};
+ghost use Rattle.mm_frame.specs.Numbers.{AreNumbers, IsNumberOf};
+ghost use Rattle.mm_frame.specs.Active.{IsActive, openings, closings};
+ghost use Rattle.mm_frame.specs.Rules.{IsMeant};
+ghost use Rattle.mm_frame.specs.Taken.{TakenAs};
+ghost use Rattle.mm_frame.specs.Layout.{AreTables, IsDeclared, statements_of};
+ghost use Rattle.mm_frame.specs.Grows.{Grows, IsSame, SameLists, HaveRoom, Entered};
+ghost use Rattle.mm_frame.specs.ScopesOf.{HaveScopes, HasRoom};
+ghost use Rattle.mm_frame.specs.Forgotten.{AreForgotten};
+ghost use Rattle.mm_frame.specs.declared.scopes.TheConstants.{NEVER};
+ghost use Rattle.mm_frame.specs.Form.{IsFormedSentence};
+ghost use Rattle.mm_frame.specs.declared.answer.Taken.TheVariants.{Opened, Closed};
+
+use crate::answer::Taken;
+use crate::lists::put;
+use crate::number::{LabelId, Sym};
+use crate::scopes::Scopes;
+use crate::tables::{Entry, Part, Tables};
+use mm_text::{Kind, Statement, Token};
+use std::alloc::AllocError;
+
+impl<'a> Tables<'a> {
+    // The number of a declared symbol.
+    fn number_of(&self, symbol: &[u8]) -> Sym
+        requires tables { AreTables self.now }
+        requires declared { IsDeclared (statements_of self.now) symbol.now }
+        ensures { IsNumberOf (statements_of self.now) symbol.now result.0 }
+    {
+        match self.symbols.find(symbol) {
+            Some(number) => Sym(number),
+            None => Sym(0),
+        }
+    }
+
+    // The numbers of declared symbols.
+    fn numbers_of(&self, symbols: &[Token]) -> Result<Vec<Sym>, AllocError>
+        requires tables { AreTables self.now }
+        requires declared { (x : List ℕ) → Contains (map (λ t. t.text.now) symbols.now) x
+            → IsDeclared (statements_of self.now) x }
+        ensures { IfOk result (λ numbers. AreNumbers
+            (statements_of self.now)
+            (map (λ n. n.0) numbers.items)
+            (map (λ t. t.text.now) symbols.now)) }
+    {
+        let mut numbers = Vec::new(self.alloc);
+        for token in symbols {
+            numbers.push(self.number_of(token.text))?;
+        }
+        Ok(numbers)
+    }
+
+    // Makes room for a statement of so many symbols, and for its label.
+    pub(crate) fn reserve(&mut self, symbols: usize) -> Result<(), AllocError>
+        ensures same { SameLists self.old self.new }
+        ensures room { OnOk result (HaveRoom self.new symbols) }
+    {
+        self.log.reserve(1)?;
+        self.flat.reserve(symbols)?;
+        self.essentials.reserve(1)?;
+        self.named.reserve(1)?;
+        self.labels.reserve(1)?;
+        self.scopes.reserve()
+    }
+
+    // Writes the entry of a statement whose symbols stand at the end of the list of symbols.
+    pub(crate) fn enter(&mut self, kind: Kind, label: Option<LabelId>, start: usize, bytes: u64)
+        requires scopes { HasRoom self.old.scopes }
+        requires log { vec_len self.old.log < vec_capacity self.old.log }
+        requires few { self.old.bytes + bytes ≤ 1073741824 }
+        ensures { Entered self.old self.new kind label start bytes }
+    {
+        let symbols = Part {
+            start,
+            end: self.flat.len(),
+        };
+        self.scopes.push(kind);
+        put(&mut self.log, Entry {
+            kind,
+            label,
+            symbols,
+        });
+        self.bytes += bytes;
+    }
+
+    // Takes a `${` in.
+    fn open(&mut self, bytes: u64) -> Result<Taken, AllocError>
+        requires tables { AreTables self.old }
+        requires room { self.old.bytes + bytes ≤ 1073741824 }
+        requires some { 1 ≤ bytes }
+        ensures ok { IfOk result (λ taken. (taken ≡ Opened) × ((s : Sentence)
+            → s.kind ≡ Opening → s.label ≡ None → s.symbols ≡ []
+            → IsMeant (statements_of self.old) s → IsFormedSentence s
+            → Grows self.old self.new s bytes)) }
+        ensures err { OnErr result (IsSame self.old self.new) }
+    {
+        self.reserve(0)?;
+        let start = self.flat.len();
+        self.enter(Kind::Opening, None, start, bytes);
+        Ok(Taken::Opened)
+    }
+
+    // Takes a `$}` in: the active `$e` of its block aren't active any more.
+    fn close(&mut self, bytes: u64) -> Result<Taken, AllocError>
+        requires tables { AreTables self.old }
+        requires closes { closings (statements_of self.old) < openings (statements_of self.old) }
+        requires room { self.old.bytes + bytes ≤ 1073741824 }
+        requires some { 1 ≤ bytes }
+        ensures ok { IfOk result (λ taken. (taken ≡ Closed) × ((s : Sentence)
+            → s.kind ≡ Closing → s.label ≡ None → s.symbols ≡ []
+            → IsMeant (statements_of self.old) s → IsFormedSentence s
+            → Grows self.old self.new s bytes)) }
+        ensures err { OnErr result (IsSame self.old self.new) }
+    {
+        self.reserve(0)?;
+        let start = self.flat.len();
+        self.enter(Kind::Closing, None, start, bytes);
+        forget_inactive(&mut self.essentials, &self.scopes, self.log.len());
+        Ok(Taken::Closed)
+    }
+
+    // Takes a labelled statement in.
+    fn take_labelled(
+        &mut self,
+        kind: Kind,
+        label: &'a [u8],
+        numbers: &[Sym],
+        bytes: u64,
+    ) -> Result<Taken, AllocError>
+        requires tables { AreTables self.old }
+        requires kind { IsHypothesis kind ⊎ IsAssertion kind }
+        requires room { self.old.bytes + bytes ≤ 1073741824 }
+        requires enough { 1 + length numbers.now ≤ bytes }
+        ensures ok { IfOk result (λ taken. TakenAs (statements_of self.old) kind taken
+            × ((s : Sentence) → s.kind ≡ kind → s.label ≡ Some label.now
+            → AreNumbers (statements_of self.old) (map (λ n. n.0) numbers.now) s.symbols
+            → IsMeant (statements_of self.old) s → IsFormedSentence s
+            → Grows self.old self.new s bytes)) }
+        ensures err { OnErr result (IsSame self.old self.new) }
+    {
+        match kind {
+            Kind::Floating => self.give_type(label, numbers, bytes),
+            Kind::Essential => self.suppose(label, numbers, bytes),
+            _ => self.assert(kind, label, numbers, bytes),
+        }
+    }
+
+    // Takes a statement in that uses symbols.
+    fn take_use(&mut self, statement: &Statement<'a>, bytes: u64) -> Result<Taken, AllocError>
+        requires tables { AreTables self.old }
+        requires kind { IsUse statement.now.kind }
+        requires meant { IsMeant (statements_of self.old) (said_by statement.now) }
+        requires formed { HasForm (plain_statement statement.now) }
+        requires counted { bytes ≡ bytes_in (plain_statement statement.now) }
+        requires room { self.old.bytes + bytes ≤ 1073741824 }
+        ensures ok { IfOk result (λ taken. Grows self.old self.new (said_by statement.now) bytes
+            × TakenAs (statements_of self.old) statement.now.kind taken) }
+        ensures err { OnErr result (IsSame self.old self.new) }
+    {
+        let numbers = self.numbers_of(&statement.symbols)?;
+        match &statement.label {
+            Some(label) => self.take_labelled(statement.kind, label.text, &numbers, bytes),
+            None => self.separate_all(&numbers, bytes),
+        }
+    }
+
+    /// Takes a statement in that breaks no rule, and whose tokens have so many bytes.
+    pub(crate) fn grow(
+        &mut self,
+        statement: &Statement<'a>,
+        bytes: u64,
+    ) -> Result<Taken, AllocError>
+        requires tables { AreTables self.old }
+        requires meant { IsMeant (statements_of self.old) (said_by statement.now) }
+        requires formed { HasForm (plain_statement statement.now) }
+        requires closes { statement.now.kind ≡ Closing
+            → closings (statements_of self.old) < openings (statements_of self.old) }
+        requires counted { bytes ≡ bytes_in (plain_statement statement.now) }
+        requires room { self.old.bytes + bytes ≤ 1073741824 }
+        ensures ok { IfOk result (λ taken. Grows self.old self.new (said_by statement.now) bytes
+            × TakenAs (statements_of self.old) statement.now.kind taken) }
+        ensures err { OnErr result (IsSame self.old self.new) }
+    {
+        match statement.kind {
+            Kind::Opening => self.open(bytes),
+            Kind::Closing => self.close(bytes),
+            Kind::Constants | Kind::Variables => self.declare_all(statement, bytes),
+            _ => self.take_use(statement, bytes),
+        }
+    }
+}
+
+// Whether the last of some places is active, if there is one.
+fn is_last_active(places: &[usize], scopes: &Scopes, at: usize) -> bool
+    ensures { (statements : List Sentence) (k p : ℕ) → HaveScopes statements scopes.now
+        → length statements ≤ NEVER → at ≡ length statements → length places.now ≡ suc k
+        → slice_get places.now k ≡ Some p → p < at → (IsTrue result ↔ IsActive statements p) }
+{
+    match places.last() {
+        Some(place) => scopes.is_active(*place, at),
+        None => true,
+    }
+}
+
+// Drops the places at the end of their list that aren't active.
+fn forget_inactive(places: &mut Vec<usize>, scopes: &Scopes, at: usize)
+    ensures { (statements : List Sentence) → HaveScopes statements scopes.now
+        → length statements ≤ NEVER → at ≡ length statements
+        → ((i p : ℕ) → slice_get places.old.items i ≡ Some p → p < at)
+        → AreForgotten statements places.old.items places.new.items }
+{
+    for _ in 0..places.len() {
+        if is_last_active(places, scopes, at) {
+            return;
+        }
+        let _ = places.pop();
+    }
+}

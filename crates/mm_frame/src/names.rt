@@ -1,0 +1,126 @@
+//! Names by number: lists of names without repetition, in which a name is found at once.
+
+ghost use Rattle.std.specs.Prelude.{◌≡◌, ◌+◌, ◌<◌, ◌≤◌, [], length, slice_get, option_map, Some, MatchOption, Contains, OnOk};
+ghost use Rattle.mm_frame.specs.Numbers.{with_name};
+
+use indexmap::IndexSet;
+use std::alloc::{AllocError, Global};
+use std::hash::{Hash, Hasher};
+use std::marker::Model;
+
+/// A name as a key. It is hashed by one write of its bytes, which is faster than a slice's own hash.
+#[derive(Clone, Copy)]
+pub struct Name<'a>(pub &'a [u8]);
+
+impl PartialEq for Name<'_> {
+    ghost use Rattle.std.specs.Str.{bytes_eq};
+    ghost use Rattle.std.specs.Cmp.Rules.{comparing};
+    ghost use Rattle.std.proofs.Common.{rules};
+
+    ghost eq = { λ a b. bytes_eq a.0.now b.0.now };
+
+    ghost laws = { Prim.search (comparing, rules) };
+
+    fn eq(&self, other: &Self) -> bool {
+        self.0 == other.0
+    }
+}
+
+impl Eq for Name<'_> {
+    ghost use Rattle.std.specs.Cmp.Rules.{comparing};
+    ghost use Rattle.std.proofs.Common.{rules};
+
+    ghost laws = { Prim.search (comparing, rules) };
+}
+
+impl Hash for Name<'_> {
+    ghost use Rattle.std.specs.Prelude.{[], ◌∷◌};
+    ghost use Rattle.std.specs.Cmp.Rules.{hashing};
+    ghost use Rattle.std.proofs.Common.{rules};
+
+    ghost hash_input = { λ a. a.0.now ∷ [] };
+
+    ghost respects_eq = { Prim.search (hashing, rules) };
+
+    fn hash<H: Hasher>(&self, state: &mut H) {
+        state.write(self.0);
+    }
+}
+
+/// Names, each once: a name's number is its place.
+#[derive(Drop)]
+pub struct Names<'a> {
+    table: IndexSet<Name<'a>>,
+}
+
+impl<'a> Model for Names<'a> {
+    ghost use Rattle.std.specs.Prelude.{ℕ, ◌<◌, length, map};
+    ghost use Rattle.indexmap.specs.IndexSet.{spare};
+    ghost use Rattle.mm_frame.specs.NameTable.{NameTable};
+
+    ghost Value = { NameTable };
+
+    ghost view = { λ n. record { names = map (λ k. k.0.now) n.table.keys; room = spare n.table } };
+
+    ghost invariant = { λ n. length n.table.keys < 4294967296 };
+}
+
+impl<'a> Names<'a> {
+    /// No names. It takes no memory.
+    pub(crate) fn new(alloc: Global) -> Names<'a>
+        ensures { result.names ≡ [] }
+    {
+        Names {
+            table: IndexSet::new(alloc),
+        }
+    }
+
+    /// How many names there are.
+    pub(crate) fn len(&self) -> usize
+        ensures len { result ≡ length self.now.names }
+        ensures small { result < 4294967296 }
+    {
+        self.table.len()
+    }
+
+    /// The number of a name, if it is one of them.
+    pub(crate) fn find(&self, name: &[u8]) -> Option<u32>
+        ensures { MatchOption
+            result
+            (¬ (Contains self.now.names name.now))
+            (λ number. slice_get self.now.names number ≡ Some name.now) }
+    {
+        match self.table.get_index_of(&Name(name)) {
+            Some(number) => Some(number as u32),
+            None => None,
+        }
+    }
+
+    /// The name with a number.
+    pub(crate) fn name(&self, number: u32) -> Option<&'a [u8]>
+        ensures { option_map (λ name. name.now) result ≡ slice_get self.now.names number }
+    {
+        match self.table.get_index(number as usize) {
+            Some(name) => Some(name.0),
+            None => None,
+        }
+    }
+
+    /// Makes room for more names.
+    pub(crate) fn reserve(&mut self, more: usize) -> Result<(), AllocError>
+        ensures names { self.new.names ≡ self.old.names }
+        ensures room { OnOk result (more ≤ self.new.room) }
+    {
+        self.table.reserve(more)
+    }
+
+    /// Takes a name in, at the end where it is new.
+    pub(crate) fn add(&mut self, name: &'a [u8])
+        requires few { length self.old.names + 1 < 4294967296 }
+        requires room { 0 < self.old.room }
+        ensures names { self.new.names ≡ with_name self.old.names name.now }
+        ensures room { self.old.room ≤ self.new.room + 1 }
+    {
+        let _ = self.table.insert(Name(name));
+    }
+}

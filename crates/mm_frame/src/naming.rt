@@ -1,0 +1,162 @@
+//! Taking a statement with a label into the lists.
+
+ghost use Rattle.std.specs.Prelude.{◌≡◌, ◌+◌, ◌*◌, ◌<◌, ◌≤◌, [], ◌∷◌, ◌++◌, Some, IfOk, OnErr, length, map, set, slice_get, vec_len, vec_capacity};
+ghost use Rattle.mm_text.specs.declared.statement.Kind.TheVariants.{Floating, Essential};
+ghost use Rattle.mm_frame.specs.declared.tables.SymbolInfo.{SymbolInfo};
+ghost use Rattle.mm_frame.specs.Sentence.{Sentence, IsAssertion};
+ghost use Rattle.mm_frame.specs.Rules.{IsMeant};
+ghost use Rattle.mm_frame.specs.Form.{IsFormedSentence};
+ghost use Rattle.mm_frame.specs.Numbers.{AreNumbers};
+ghost use Rattle.mm_frame.specs.Taken.{TakenAs};
+ghost use Rattle.mm_frame.specs.Layout.{AreTables, statements_of};
+ghost use Rattle.mm_frame.specs.Grows.{Grows, IsSame};
+ghost use Rattle.mm_frame.specs.Naming.{Named, HaveNameRoom, part_after};
+
+use crate::answer::Taken;
+use crate::framing::{label_ids, mandatory, mandatory_pairs};
+use crate::lists::{at, put};
+use crate::number::{LabelId, Sym};
+use crate::tables::{LabelInfo, Part, SymbolInfo, Tables};
+use mm_text::Kind;
+use std::alloc::AllocError;
+
+// Nothing of a list.
+const NO_PART: Part = Part { start: 0, end: 0 };
+
+// Adds elements to the end of a list that has room, and says where they stand.
+fn add_part<T: Copy + Drop>(list: &mut Vec<T>, more: &[T]) -> Part
+    requires { vec_len list.old + length more.now ≤ vec_capacity list.old }
+    ensures items { list.new.items ≡ list.old.items ++ more.now }
+    ensures part { result ≡ part_after list.old.items more.now }
+{
+    let start = list.len();
+    let _ = list.extend_from_slice(more);
+    Part {
+        start,
+        end: list.len(),
+    }
+}
+
+// Notes the place of a variable's latest `$f`.
+fn note_floating(infos: &mut Vec<SymbolInfo>, variable: Sym, place: usize)
+    ensures { (info : SymbolInfo) → slice_get infos.old.items variable.0 ≡ Some info
+        → infos.new.items ≡ set infos.old.items variable.0 (record info { floating = Some place }) }
+{
+    if let Some(info) = infos.get_mut(variable.0 as usize) {
+        info.floating = Some(place);
+    }
+}
+
+impl<'a> Tables<'a> {
+    // Writes a label's entry, and the entry of its statement.
+    fn name(
+        &mut self,
+        kind: Kind,
+        label: &'a [u8],
+        numbers: &[Sym],
+        frame: (Part, Part),
+        bytes: u64,
+    ) -> LabelId
+        requires room { HaveNameRoom self.old (length numbers.now) }
+        requires labels { length self.old.labels.names + 1 < 4294967296 }
+        requires few { self.old.bytes + bytes ≤ 1073741824 }
+        ensures id { result.0 ≡ length self.old.labels.names }
+        ensures named { Named self.old self.new kind label.now numbers.now frame result bytes }
+    {
+        let id = LabelId(self.labels.len() as u32);
+        let place = self.log.len();
+        let start = self.flat.len();
+        let _ = self.flat.extend_from_slice(numbers);
+        self.labels.add(label);
+        put(
+            &mut self.named,
+            LabelInfo {
+                place,
+                hypotheses: frame.0,
+                pairs: frame.1,
+            },
+        );
+        self.enter(kind, Some(id), start, bytes);
+        id
+    }
+
+    /// Takes a `$f` in.
+    pub(crate) fn give_type(
+        &mut self,
+        label: &'a [u8],
+        numbers: &[Sym],
+        bytes: u64,
+    ) -> Result<Taken, AllocError>
+        requires tables { AreTables self.old }
+        requires room { self.old.bytes + bytes ≤ 1073741824 }
+        requires enough { 1 + length numbers.now ≤ 2 * bytes }
+        ensures ok { IfOk result (λ taken. TakenAs (statements_of self.old) Floating taken
+            × ((s : Sentence) → s.kind ≡ Floating → s.label ≡ Some label.now
+            → AreNumbers (statements_of self.old) (map (λ n. n.0) numbers.now) s.symbols
+            → IsMeant (statements_of self.old) s → IsFormedSentence s
+            → Grows self.old self.new s bytes)) }
+        ensures err { OnErr result (IsSame self.old self.new) }
+    {
+        self.reserve(numbers.len())?;
+        match at(numbers, 1) {
+            Some(variable) => note_floating(&mut self.infos, variable, self.log.len()),
+            None => {}
+        }
+        let id = self.name(Kind::Floating, label, numbers, (NO_PART, NO_PART), bytes);
+        Ok(Taken::Hypothesis(id))
+    }
+
+    /// Takes a `$e` in.
+    pub(crate) fn suppose(
+        &mut self,
+        label: &'a [u8],
+        numbers: &[Sym],
+        bytes: u64,
+    ) -> Result<Taken, AllocError>
+        requires tables { AreTables self.old }
+        requires room { self.old.bytes + bytes ≤ 1073741824 }
+        requires enough { 1 + length numbers.now ≤ 2 * bytes }
+        ensures ok { IfOk result (λ taken. TakenAs (statements_of self.old) Essential taken
+            × ((s : Sentence) → s.kind ≡ Essential → s.label ≡ Some label.now
+            → AreNumbers (statements_of self.old) (map (λ n. n.0) numbers.now) s.symbols
+            → IsMeant (statements_of self.old) s → IsFormedSentence s
+            → Grows self.old self.new s bytes)) }
+        ensures err { OnErr result (IsSame self.old self.new) }
+    {
+        self.reserve(numbers.len())?;
+        put(&mut self.essentials, self.log.len());
+        let id = self.name(Kind::Essential, label, numbers, (NO_PART, NO_PART), bytes);
+        Ok(Taken::Hypothesis(id))
+    }
+
+    /// Takes a `$a` or `$p` in, with its frame.
+    pub(crate) fn assert(
+        &mut self,
+        kind: Kind,
+        label: &'a [u8],
+        numbers: &[Sym],
+        bytes: u64,
+    ) -> Result<Taken, AllocError>
+        requires tables { AreTables self.old }
+        requires kind { IsAssertion kind }
+        requires room { self.old.bytes + bytes ≤ 1073741824 }
+        requires enough { 1 + length numbers.now ≤ 2 * bytes }
+        ensures ok { IfOk result (λ taken. TakenAs (statements_of self.old) kind taken
+            × ((s : Sentence) → s.kind ≡ kind → s.label ≡ Some label.now
+            → AreNumbers (statements_of self.old) (map (λ n. n.0) numbers.now) s.symbols
+            → IsMeant (statements_of self.old) s → IsFormedSentence s
+            → Grows self.old self.new s bytes)) }
+        ensures err { OnErr result (IsSame self.old self.new) }
+    {
+        let places = mandatory(self, numbers)?;
+        let hypotheses = label_ids(self, &places)?;
+        let pairs = mandatory_pairs(self, &places)?;
+        self.reserve(numbers.len())?;
+        self.hypotheses.reserve(hypotheses.len())?;
+        self.pairs.reserve(pairs.len())?;
+        let hypotheses = add_part(&mut self.hypotheses, &hypotheses);
+        let pairs = add_part(&mut self.pairs, &pairs);
+        let id = self.name(kind, label, numbers, (hypotheses, pairs), bytes);
+        Ok(Taken::Assertion(id))
+    }
+}

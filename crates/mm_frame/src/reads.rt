@@ -1,0 +1,150 @@
+//! What a book's lists hold under a label, or under its number.
+
+ghost use Rattle.std.specs.Prelude.{◌≡◌, ◌↔◌, ℕ, ◌≤◌, List, IsTrue, Some, length, map, take};
+ghost use Rattle.mm_text.specs.declared.statement.Kind.{Kind};
+ghost use Rattle.mm_frame.specs.Sentence.{Sentence, IsLabelled, IsAssertion};
+ghost use Rattle.mm_frame.specs.Active.{IsActive};
+ghost use Rattle.mm_frame.specs.Form.{IsNamed};
+ghost use Rattle.mm_frame.specs.Numbers.{AreNumbers, IsNumbered};
+ghost use Rattle.mm_frame.specs.Found.{Finds};
+ghost use Rattle.mm_frame.specs.Taken.{kind_behind};
+ghost use Rattle.mm_frame.specs.FramePlace.{AreHypotheses, ArePairs};
+ghost use Rattle.mm_frame.specs.Layout.{AreTables, statements_of};
+
+use crate::answer::Found;
+use crate::lists::at as at_place;
+use crate::number::{LabelId, LabelKind, Sym};
+use crate::tables::{Tables, part_of};
+use mm_text::Kind;
+
+// The place of a labelled statement.
+pub(crate) fn label_place(tables: &Tables, id: LabelId) -> usize
+    requires { AreTables tables.now }
+    ensures { (place : ℕ) (s : Sentence) → IsNumbered (statements_of tables.now) id.0 place s
+        → result ≡ place }
+{
+    match tables.label_info(id) {
+        Some(info) => info.place,
+        None => 0,
+    }
+}
+
+// A label.
+pub(crate) fn label_text<'a>(tables: &Tables<'a>, id: LabelId) -> &'a [u8]
+    requires { AreTables tables.now }
+    ensures { (place : ℕ) (s : Sentence) → IsNumbered (statements_of tables.now) id.0 place s
+        → IsLabelled result.now s }
+{
+    match tables.labels.name(id.0) {
+        Some(text) => text,
+        None => &[],
+    }
+}
+
+// The symbols of a labelled statement.
+pub(crate) fn label_symbols<'b>(tables: &'b Tables, id: LabelId) -> &'b [Sym]
+    requires { AreTables tables.now }
+    ensures { (place : ℕ) (s : Sentence) → IsNumbered (statements_of tables.now) id.0 place s
+        → AreNumbers (statements_of tables.now) (map (λ n. n.0) result.now) s.symbols }
+{
+    tables.symbols_at(label_place(tables, id))
+}
+
+// A kind of statements that have labels.
+fn kind_of(kind: Kind) -> LabelKind
+    ensures { (label : List ℕ) → IsNamed kind (Some label) → kind ≡ kind_behind result }
+{
+    match kind {
+        Kind::Floating => LabelKind::Floating,
+        Kind::Essential => LabelKind::Essential,
+        Kind::Axiom => LabelKind::Axiom,
+        _ => LabelKind::Proof,
+    }
+}
+
+// The kind of a labelled statement.
+pub(crate) fn label_kind(tables: &Tables, id: LabelId) -> LabelKind
+    requires { AreTables tables.now }
+    ensures { (place : ℕ) (s : Sentence) → IsNumbered (statements_of tables.now) id.0 place s
+        → s.kind ≡ kind_behind result }
+{
+    match at_place(&tables.log, label_place(tables, id)) {
+        Some(entry) => kind_of(entry.kind),
+        None => LabelKind::Proof,
+    }
+}
+
+// Whether a labelled statement is active after the statements before a place.
+pub(crate) fn is_label_active(tables: &Tables, id: LabelId, at: usize) -> bool
+    requires tables { AreTables tables.now }
+    requires within { at ≤ length (statements_of tables.now) }
+    ensures { (place : ℕ) (s : Sentence) → IsNumbered (statements_of tables.now) id.0 place s
+        → (IsTrue result ↔ IsActive (take at (statements_of tables.now)) place) }
+{
+    let place = label_place(tables, id);
+    place < at && tables.scopes.is_active(place, at)
+}
+
+// Whether a labelled statement is active now.
+fn is_label_active_now(tables: &Tables, id: LabelId) -> bool
+    requires { AreTables tables.now }
+    ensures { (place : ℕ) (s : Sentence) → IsNumbered (statements_of tables.now) id.0 place s
+        → (IsTrue result ↔ IsActive (statements_of tables.now) place) }
+{
+    tables.is_active_now(label_place(tables, id))
+}
+
+// What stands under a label's number.
+fn find_number(tables: &Tables, id: LabelId) -> Found
+    requires { AreTables tables.now }
+    ensures { (label : List ℕ) (place : ℕ) (s : Sentence)
+        → IsNumbered (statements_of tables.now) id.0 place s → IsLabelled label s
+        → Finds (statements_of tables.now) label result }
+{
+    match label_kind(tables, id) {
+        LabelKind::Floating | LabelKind::Essential => Found::Hypothesis {
+            id,
+            active: is_label_active_now(tables, id),
+        },
+        LabelKind::Axiom | LabelKind::Proof => Found::Assertion(id),
+    }
+}
+
+// What stands under a label.
+pub(crate) fn find_label(tables: &Tables, label: &[u8]) -> Found
+    requires { AreTables tables.now }
+    ensures { Finds (statements_of tables.now) label.now result }
+{
+    match tables.labels.find(label) {
+        Some(number) => find_number(tables, LabelId(number)),
+        None => Found::None,
+    }
+}
+
+// The mandatory hypotheses of an assertion.
+pub(crate) fn label_hypotheses<'b>(tables: &'b Tables, id: LabelId) -> &'b [LabelId]
+    requires { AreTables tables.now }
+    ensures { (place : ℕ) (s : Sentence) → IsNumbered (statements_of tables.now) id.0 place s
+        → IsAssertion s.kind → AreHypotheses
+            (record { statements = statements_of tables.now; place = place })
+            (map (λ h. h.0) result.now) }
+{
+    match tables.label_info(id) {
+        Some(info) => part_of(&tables.hypotheses, info.hypotheses),
+        None => &[],
+    }
+}
+
+// The mandatory distinct pairs of an assertion.
+pub(crate) fn label_pairs<'b>(tables: &'b Tables, id: LabelId) -> &'b [(Sym, Sym)]
+    requires { AreTables tables.now }
+    ensures { (place : ℕ) (s : Sentence) → IsNumbered (statements_of tables.now) id.0 place s
+        → IsAssertion s.kind → ArePairs
+            (record { statements = statements_of tables.now; place = place })
+            (map (λ pair. (pair.0.0, pair.1.0)) result.now) }
+{
+    match tables.label_info(id) {
+        Some(info) => part_of(&tables.pairs, info.pairs),
+        None => &[],
+    }
+}

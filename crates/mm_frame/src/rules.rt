@@ -1,0 +1,291 @@
+//! The rules of meaning: which a statement breaks after the statements before it.
+
+ghost use Rattle.std.specs.Prelude.{◌↔◌, ◌<◌, ℕ, List, IsTrue, IfOk, MatchOption, length, map, vec_len};
+ghost use Rattle.mm_frame.specs.declared.rule.MeaningRule.TheVariants.{M1, M2, M3, M4, M5, M6, M7, M8, M9, M10, M11, M12, M13, M14, M15};
+ghost use Rattle.mm_frame.specs.Sentence.{Sentence, said_by, StandsTwice};
+ghost use Rattle.mm_frame.specs.Rules.{Breaks, IsMeant, FirstBroken};
+ghost use Rattle.mm_frame.specs.Layout.{AreTables, statements_of};
+ghost use Rattle.mm_frame.specs.Told.{IsTold, StatesOnce};
+
+use crate::lookups::{
+    has_other_type, is_active_symbol, is_active_variable, is_constant, is_label, is_typed,
+    is_variable,
+};
+use crate::names::Names;
+use crate::rule::MeaningRule;
+use crate::said::{first_of, is_stated, is_use, label_of, typing};
+use crate::tables::Tables;
+use mm_text::{Kind, Statement, Token};
+use std::alloc::{AllocError, Global};
+
+// A `$c` stands in a block.
+fn breaks_m1(tables: &Tables, statement: &Statement) -> bool
+    requires { AreTables tables.now }
+    ensures { IsTrue result ↔ Breaks M1 (statements_of tables.now) (said_by statement.now) }
+{
+    statement.kind == Kind::Constants && tables.scopes.has_open()
+}
+
+// A symbol of a `$c` was declared before, or stands twice in it.
+fn breaks_m2(tables: &Tables, statement: &Statement, repeats: bool) -> bool
+    requires tables { AreTables tables.now }
+    requires told { IsTold repeats (said_by statement.now) }
+    ensures { IsTrue result ↔ Breaks M2 (statements_of tables.now) (said_by statement.now) }
+{
+    statement.kind == Kind::Constants
+        && (repeats
+            || statement.symbols.iter().any(|token| {
+                is_constant(tables, token.text) || is_variable(tables, token.text)
+            }))
+}
+
+// A symbol of a `$v` is an active variable, was declared a constant, or stands twice in it.
+fn breaks_m3(tables: &Tables, statement: &Statement, repeats: bool) -> bool
+    requires tables { AreTables tables.now }
+    requires told { IsTold repeats (said_by statement.now) }
+    ensures { IsTrue result ↔ Breaks M3 (statements_of tables.now) (said_by statement.now) }
+{
+    statement.kind == Kind::Variables
+        && (repeats
+            || statement.symbols.iter().any(|token| {
+                is_active_variable(tables, token.text) || is_constant(tables, token.text)
+            }))
+}
+
+// A symbol of a `$c` or `$v` equals an earlier label.
+fn breaks_m4(tables: &Tables, statement: &Statement) -> bool
+    requires { AreTables tables.now }
+    ensures { IsTrue result ↔ Breaks M4 (statements_of tables.now) (said_by statement.now) }
+{
+    (statement.kind == Kind::Constants || statement.kind == Kind::Variables)
+        && statement
+            .symbols
+            .iter()
+            .any(|token| is_label(tables, token.text))
+}
+
+// The label equals an earlier label.
+fn breaks_m5(tables: &Tables, statement: &Statement) -> bool
+    requires { AreTables tables.now }
+    ensures { IsTrue result ↔ Breaks M5 (statements_of tables.now) (said_by statement.now) }
+{
+    match label_of(statement) {
+        Some(label) => is_label(tables, label),
+        None => false,
+    }
+}
+
+// The label equals a symbol declared before.
+fn breaks_m6(tables: &Tables, statement: &Statement) -> bool
+    requires { AreTables tables.now }
+    ensures { IsTrue result ↔ Breaks M6 (statements_of tables.now) (said_by statement.now) }
+{
+    match label_of(statement) {
+        Some(label) => is_constant(tables, label) || is_variable(tables, label),
+        None => false,
+    }
+}
+
+// A symbol that is used isn't active.
+fn breaks_m7(tables: &Tables, statement: &Statement) -> bool
+    requires { AreTables tables.now }
+    ensures { IsTrue result ↔ Breaks M7 (statements_of tables.now) (said_by statement.now) }
+{
+    is_use(statement.kind)
+        && statement
+            .symbols
+            .iter()
+            .any(|token| !is_active_symbol(tables, token.text))
+}
+
+// A member of a `$d` is a constant.
+fn breaks_m8(tables: &Tables, statement: &Statement) -> bool
+    requires { AreTables tables.now }
+    ensures { IsTrue result ↔ Breaks M8 (statements_of tables.now) (said_by statement.now) }
+{
+    statement.kind == Kind::Distinct
+        && statement
+            .symbols
+            .iter()
+            .any(|token| is_constant(tables, token.text))
+}
+
+// A member stands twice in a `$d`.
+fn breaks_m9(statement: &Statement, repeats: bool) -> bool
+    requires { IsTold repeats (said_by statement.now) }
+    ensures { (before : List Sentence) → (IsTrue result ↔ Breaks M9 before (said_by statement.now)) }
+{
+    statement.kind == Kind::Distinct && repeats
+}
+
+// The type code of a `$f` is a variable.
+fn breaks_m10(tables: &Tables, statement: &Statement) -> bool
+    requires { AreTables tables.now }
+    ensures { IsTrue result ↔ Breaks M10 (statements_of tables.now) (said_by statement.now) }
+{
+    match typing(statement) {
+        Some((code, _)) => is_variable(tables, code),
+        None => false,
+    }
+}
+
+// The second symbol of a `$f` is a constant.
+fn breaks_m11(tables: &Tables, statement: &Statement) -> bool
+    requires { AreTables tables.now }
+    ensures { IsTrue result ↔ Breaks M11 (statements_of tables.now) (said_by statement.now) }
+{
+    match typing(statement) {
+        Some((_, variable)) => is_constant(tables, variable),
+        None => false,
+    }
+}
+
+// The variable of a `$f` has an active `$f`.
+fn breaks_m12(tables: &Tables, statement: &Statement) -> bool
+    requires { AreTables tables.now }
+    ensures { IsTrue result ↔ Breaks M12 (statements_of tables.now) (said_by statement.now) }
+{
+    match typing(statement) {
+        Some((_, variable)) => is_typed(tables, variable),
+        None => false,
+    }
+}
+
+// An earlier `$f` gave the variable another type code.
+fn breaks_m13(tables: &Tables, statement: &Statement) -> bool
+    requires { AreTables tables.now }
+    ensures { IsTrue result ↔ Breaks M13 (statements_of tables.now) (said_by statement.now) }
+{
+    match typing(statement) {
+        Some((code, variable)) => has_other_type(tables, code, variable),
+        None => false,
+    }
+}
+
+// The first symbol of an expression is a variable.
+fn breaks_m14(tables: &Tables, statement: &Statement) -> bool
+    requires { AreTables tables.now }
+    ensures { IsTrue result ↔ Breaks M14 (statements_of tables.now) (said_by statement.now) }
+{
+    match first_of(statement) {
+        Some(first) => is_stated(statement.kind) && is_variable(tables, first),
+        None => false,
+    }
+}
+
+// A variable in an expression has no active `$f`.
+fn breaks_m15(tables: &Tables, statement: &Statement) -> bool
+    requires { AreTables tables.now }
+    ensures { IsTrue result ↔ Breaks M15 (statements_of tables.now) (said_by statement.now) }
+{
+    is_stated(statement.kind)
+        && statement.symbols.iter().any(|token| is_variable(tables, token.text)
+            && !is_typed(tables, token.text))
+}
+
+// Whether the statement breaks the rule.
+fn breaks(
+    rule: MeaningRule,
+    tables: &Tables,
+    statement: &Statement,
+    repeats: bool,
+) -> bool
+    requires tables { AreTables tables.now }
+    requires told { IsTold repeats (said_by statement.now) }
+    ensures { IsTrue result ↔ Breaks rule (statements_of tables.now) (said_by statement.now) }
+{
+    match rule {
+        MeaningRule::M1 => breaks_m1(tables, statement),
+        MeaningRule::M2 => breaks_m2(tables, statement, repeats),
+        MeaningRule::M3 => breaks_m3(tables, statement, repeats),
+        MeaningRule::M4 => breaks_m4(tables, statement),
+        MeaningRule::M5 => breaks_m5(tables, statement),
+        MeaningRule::M6 => breaks_m6(tables, statement),
+        MeaningRule::M7 => breaks_m7(tables, statement),
+        MeaningRule::M8 => breaks_m8(tables, statement),
+        MeaningRule::M9 => breaks_m9(statement, repeats),
+        MeaningRule::M10 => breaks_m10(tables, statement),
+        MeaningRule::M11 => breaks_m11(tables, statement),
+        MeaningRule::M12 => breaks_m12(tables, statement),
+        MeaningRule::M13 => breaks_m13(tables, statement),
+        MeaningRule::M14 => breaks_m14(tables, statement),
+        MeaningRule::M15 => breaks_m15(tables, statement),
+    }
+}
+
+// The rules in the order in which they are judged.
+const ORDER: [MeaningRule; 15] = [
+    MeaningRule::M1,
+    MeaningRule::M2,
+    MeaningRule::M3,
+    MeaningRule::M4,
+    MeaningRule::M5,
+    MeaningRule::M6,
+    MeaningRule::M7,
+    MeaningRule::M8,
+    MeaningRule::M9,
+    MeaningRule::M10,
+    MeaningRule::M11,
+    MeaningRule::M12,
+    MeaningRule::M13,
+    MeaningRule::M14,
+    MeaningRule::M15,
+];
+
+// Whether statements of this kind state each symbol once.
+fn is_list(kind: Kind) -> bool
+    ensures { IsTrue result ↔ StatesOnce kind }
+{
+    kind == Kind::Constants || kind == Kind::Variables || kind == Kind::Distinct
+}
+
+// Whether a symbol stands twice.
+fn has_repeats(alloc: Global, symbols: &[Token]) -> Result<bool, AllocError>
+    requires { length symbols.now < 2147483648 }
+    ensures { IfOk result (λ repeats. IsTrue repeats
+        ↔ ((symbol : List ℕ) × StandsTwice (map (λ token. token.text.now) symbols.now) symbol)) }
+{
+    let mut seen = Names::new(alloc);
+    seen.reserve(symbols.len())?;
+    for token in symbols {
+        if seen.find(token.text).is_some() {
+            return Ok(true);
+        }
+        seen.add(token.text);
+    }
+    Ok(false)
+}
+
+// Whether a symbol stands twice in a statement that states each symbol once.
+fn repeats(alloc: Global, statement: &Statement) -> Result<bool, AllocError>
+    requires { vec_len statement.now.symbols < 2147483648 }
+    ensures { IfOk result (λ repeats. IsTold repeats (said_by statement.now)) }
+{
+    if is_list(statement.kind) {
+        has_repeats(alloc, &statement.symbols)
+    } else {
+        Ok(false)
+    }
+}
+
+/// The first rule of meaning that the statement breaks after the statements before it, in the order
+/// M1 to M15 (the Metamath book, sections 4.2.1 to 4.2.8), or `None` where it breaks none.
+pub(crate) fn first_broken(
+    tables: &Tables,
+    statement: &Statement,
+) -> Result<Option<MeaningRule>, AllocError>
+    requires tables { AreTables tables.now }
+    requires few { vec_len statement.now.symbols < 2147483648 }
+    ensures { IfOk result (λ first. MatchOption
+        first
+        (IsMeant (statements_of tables.now) (said_by statement.now))
+        (λ rule. FirstBroken rule (statements_of tables.now) (said_by statement.now))) }
+{
+    let repeats = repeats(tables.alloc, statement)?;
+    for rule in ORDER {
+        if breaks(rule, tables, statement, repeats) {
+            return Ok(Some(rule));
+        }
+    }
+    Ok(None)
+}

@@ -1,0 +1,59 @@
+//! What a statement says.
+
+ghost use Rattle.std.specs.Prelude.{◌≡◌, ◌↔◌, ℕ, IsTrue, MatchOption, Contains, List, [], ◌∷◌, map};
+ghost use Rattle.mm_frame.specs.Sentence.{said_by, IsUse, IsStated, IsLabelled, Types};
+
+use mm_text::{Kind, Statement};
+
+// Whether statements of this kind state an expression.
+pub(crate) fn is_stated(kind: Kind) -> bool
+    ensures { IsTrue result ↔ IsStated kind }
+{
+    kind == Kind::Essential || kind == Kind::Axiom || kind == Kind::Provable
+}
+
+// Whether statements of this kind use symbols.
+pub(crate) fn is_use(kind: Kind) -> bool
+    ensures { IsTrue result ↔ IsUse kind }
+{
+    kind == Kind::Distinct || kind == Kind::Floating || is_stated(kind)
+}
+
+// The label of the statement.
+pub(crate) fn label_of<'a>(statement: &Statement<'a>) -> Option<&'a [u8]>
+    ensures { MatchOption
+        result
+        ((label : List ℕ) → ¬ (IsLabelled label (said_by statement.now)))
+        (λ label. IsLabelled label.now (said_by statement.now)) }
+{
+    match &statement.label {
+        Some(token) => Some(token.text),
+        None => None,
+    }
+}
+
+// The first symbol of the statement.
+pub(crate) fn first_of<'a>(statement: &Statement<'a>) -> Option<&'a [u8]>
+    ensures { MatchOption
+        result
+        ((said_by statement.now).symbols ≡ [])
+        (λ first. (others : List (List ℕ)) × ((said_by statement.now).symbols ≡ first.now ∷ others)) }
+{
+    match statement.symbols.as_slice() {
+        [first, ..] => Some(first.text),
+        [] => None,
+    }
+}
+
+// The type code and the variable of a `$f`.
+pub(crate) fn typing<'a>(statement: &Statement<'a>) -> Option<(&'a [u8], &'a [u8])>
+    ensures { MatchOption
+        result
+        ((code x : List ℕ) → ¬ (Types code x (said_by statement.now)))
+        (λ t. Types t.0.now t.1.now (said_by statement.now)) }
+{
+    match statement.symbols.as_slice() {
+        [code, variable] if statement.kind == Kind::Floating => Some((code.text, variable.text)),
+        _ => None,
+    }
+}

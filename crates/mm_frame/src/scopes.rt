@@ -1,0 +1,148 @@
+//! Blocks by number, and what is active at a place.
+
+ghost use Rattle.std.specs.Prelude.{◌≡◌, ◌↔◌, ℕ, suc, ◌-◌, ◌<◌, ◌≤◌, List, [], ◌∷◌, ◌++◌, length, take, slice_get, Some, IsTrue, IfOk, OnOk};
+ghost use Rattle.mm_text.specs.declared.statement.Kind.TheVariants.{Opening, Closing};
+ghost use Rattle.mm_frame.specs.Sentence.{Sentence};
+ghost use Rattle.mm_frame.specs.Active.{IsOpen, IsActive, openings, closings};
+ghost use Rattle.mm_frame.specs.ScopesOf.{HaveScopes, HasRoom, HaveSameLists};
+
+use crate::lists::{at as at_place, put, write};
+use mm_text::Kind;
+use std::alloc::{AllocError, Global};
+
+/// The end of a block that is open.
+pub(crate) const NEVER: usize = 18446744073709551615;
+
+/// The blocks of the statements so far. The whole database counts as block 0; each `${` begins the
+/// next number's block. Closing a block is one write.
+#[derive(Drop)]
+pub struct Scopes {
+    /// The block that directly holds each statement.
+    pub(crate) blocks: Vec<usize>,
+    /// The place of each block's `$}`, or `NEVER`.
+    pub(crate) ends: Vec<usize>,
+    /// The open blocks, the outermost first.
+    pub(crate) open: Vec<usize>,
+}
+
+impl Scopes {
+    /// The scopes of no statements.
+    pub(crate) fn new(alloc: Global) -> Result<Scopes, AllocError>
+        ensures { IfOk result (λ scopes. HaveScopes [] scopes) }
+    {
+        let mut ends = Vec::new(alloc);
+        let mut open = Vec::new(alloc);
+        ends.push(NEVER)?;
+        open.push(0)?;
+        Ok(Scopes {
+            blocks: Vec::new(alloc),
+            ends,
+            open,
+        })
+    }
+
+    /// Whether the statement at a place is active after the statements before another.
+    pub(crate) fn is_active(&self, place: usize, at: usize) -> bool
+        ensures { (statements : List Sentence) → HaveScopes statements self.now
+            → length statements ≤ NEVER → place < at → at ≤ length statements
+            → (IsTrue result ↔ IsActive (take at statements) place) }
+    {
+        match at_place(&self.blocks, place) {
+            Some(block) => match at_place(&self.ends, block) {
+                Some(end) => at <= end,
+                None => false,
+            },
+            None => false,
+        }
+    }
+
+    /// How many blocks are open.
+    pub(crate) fn depth(&self) -> usize
+        ensures { (statements : List Sentence) → HaveScopes statements self.now
+            → result ≡ openings statements - closings statements }
+    {
+        self.open.len().saturating_sub(1)
+    }
+
+    /// Whether a block is open.
+    pub(crate) fn has_open(&self) -> bool
+        ensures { (statements : List Sentence) → HaveScopes statements self.now
+            → (IsTrue result ↔ ((place : ℕ) × IsOpen statements place)) }
+    {
+        self.open.len() >= 2
+    }
+
+    /// Makes room for one statement more.
+    pub(crate) fn reserve(&mut self) -> Result<(), AllocError>
+        ensures same { HaveSameLists self.old self.new }
+        ensures room { OnOk result (HasRoom self.new) }
+    {
+        self.blocks.reserve(1)?;
+        self.ends.reserve(1)?;
+        self.open.reserve(1)
+    }
+
+    // The innermost open block.
+    fn innermost(&self) -> usize
+        ensures { (k : ℕ) → length self.now.open.items ≡ suc k
+            → slice_get self.now.open.items k ≡ Some result }
+    {
+        match self.open.last() {
+            Some(block) => *block,
+            None => 0,
+        }
+    }
+
+    // Takes a `$}` in.
+    fn close(&mut self)
+        requires { HasRoom self.old }
+        ensures { (statements : List Sentence) (e : Sentence) → HaveScopes statements self.old
+            → e.kind ≡ Closing → closings statements < openings statements
+            → HaveScopes (statements ++ e ∷ []) self.new }
+    {
+        let place = self.blocks.len();
+        let block = self.innermost();
+        write(&mut self.ends, block, place);
+        let _ = self.open.pop();
+        let outer = self.innermost();
+        put(&mut self.blocks, outer);
+    }
+
+    // Takes a `${` in.
+    fn begin(&mut self)
+        requires { HasRoom self.old }
+        ensures { (statements : List Sentence) (e : Sentence) → HaveScopes statements self.old
+            → e.kind ≡ Opening → HaveScopes (statements ++ e ∷ []) self.new }
+    {
+        let block = self.innermost();
+        put(&mut self.blocks, block);
+        put(&mut self.open, self.ends.len());
+        put(&mut self.ends, NEVER);
+    }
+
+    // Takes another statement in.
+    fn stay(&mut self)
+        requires { HasRoom self.old }
+        ensures { (statements : List Sentence) (e : Sentence) → HaveScopes statements self.old
+            → ¬ (e.kind ≡ Opening) → ¬ (e.kind ≡ Closing) → HaveScopes (statements ++ e ∷ []) self.new }
+    {
+        let block = self.innermost();
+        put(&mut self.blocks, block);
+    }
+
+    /// Takes a statement in.
+    pub(crate) fn push(&mut self, kind: Kind)
+        requires { HasRoom self.old }
+        ensures { (statements : List Sentence) (e : Sentence) → HaveScopes statements self.old
+            → e.kind ≡ kind → (kind ≡ Closing → closings statements < openings statements)
+            → HaveScopes (statements ++ e ∷ []) self.new }
+    {
+        if kind == Kind::Opening {
+            self.begin();
+        } else if kind == Kind::Closing {
+            self.close();
+        } else {
+            self.stay();
+        }
+    }
+}

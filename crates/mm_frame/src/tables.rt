@@ -1,0 +1,196 @@
+//! The lists in which a book keeps its statements by numbers.
+
+ghost use Rattle.std.specs.Prelude.{◌≡◌, ◌≤◌, length, slice_range};
+
+use crate::lists::at;
+use crate::names::Names;
+use crate::number::{LabelId, Sym};
+use crate::pairs::{Pairs, in_order};
+use crate::scopes::Scopes;
+use mm_text::Kind;
+use std::alloc::{AllocError, Global};
+
+/// A part of a list: the places from `start` up to and without `end`.
+#[derive(Clone, Copy)]
+pub(crate) struct Part {
+    pub(crate) start: usize,
+    pub(crate) end: usize,
+}
+
+/// The elements of a part of a list.
+pub(crate) fn part_of<T>(list: &[T], part: Part) -> &[T]
+    ensures { part.start ≤ part.end → part.end ≤ length list.now
+        → result.now ≡ slice_range list.now part.start part.end }
+{
+    list.get(part.start..part.end).unwrap_or(&[])
+}
+
+/// A statement.
+#[derive(Clone, Copy)]
+pub(crate) struct Entry {
+    pub(crate) kind: Kind,
+    pub(crate) label: Option<LabelId>,
+    /// Where its symbols stand in the list of all symbols.
+    pub(crate) symbols: Part,
+}
+
+/// A declared symbol.
+#[derive(Clone, Copy)]
+pub(crate) struct SymbolInfo {
+    /// The place of the latest `$v` that declares it; a constant has none.
+    pub(crate) variable: Option<usize>,
+    /// The place of its latest `$f`.
+    pub(crate) floating: Option<usize>,
+}
+
+/// A labelled statement.
+#[derive(Clone, Copy)]
+pub(crate) struct LabelInfo {
+    pub(crate) place: usize,
+    /// Of an assertion: where its mandatory hypotheses stand in their list.
+    pub(crate) hypotheses: Part,
+    /// Of an assertion: where its distinct pairs stand in their list.
+    pub(crate) pairs: Part,
+}
+
+/// All lists of a book.
+#[derive(Drop)]
+pub struct Tables<'a> {
+    pub(crate) alloc: Global,
+    /// The declared symbols and the labels, and what is known of each.
+    pub(crate) symbols: Names<'a>,
+    pub(crate) infos: Vec<SymbolInfo>,
+    pub(crate) labels: Names<'a>,
+    pub(crate) named: Vec<LabelInfo>,
+    /// The statements, and the symbols of all of them, one after the other.
+    pub(crate) log: Vec<Entry>,
+    pub(crate) flat: Vec<Sym>,
+    pub(crate) scopes: Scopes,
+    /// The places of the active `$e`, in order.
+    pub(crate) essentials: Vec<usize>,
+    /// The mandatory hypotheses of all assertions, one after the other, and their distinct pairs.
+    pub(crate) hypotheses: Vec<LabelId>,
+    pub(crate) pairs: Vec<(Sym, Sym)>,
+    /// The pairs that `$d` state.
+    pub(crate) distinct: Pairs,
+    /// How many bytes the statements' tokens have.
+    pub(crate) bytes: u64,
+}
+
+impl<'a> Tables<'a> {
+    ghost use Rattle.std.specs.Prelude.{◌≡◌, ◌↔◌, ◌<◌, ◌≤◌, ℕ, [], IfOk, IsTrue, List, MatchOption, Some, length, map, slice_get, take};
+    ghost use Rattle.mm_text.specs.declared.statement.Kind.TheVariants.{Floating};
+    ghost use Rattle.mm_frame.specs.Sentence.{Sentence, Types};
+    ghost use Rattle.mm_frame.specs.Frame.{IsDistinct};
+    ghost use Rattle.mm_frame.specs.Numbers.{AreNumbers, IsNumberOf};
+    ghost use Rattle.mm_frame.specs.Active.{IsActive};
+    ghost use Rattle.mm_frame.specs.Layout.{AreTables, statements_of, database_of, IsDeclared, IsKnown};
+
+    /// No statements.
+    pub(crate) fn new(alloc: Global) -> Result<Tables<'a>, AllocError>
+        ensures { IfOk result (λ t. AreTables t × (database_of t ≡ record { statements = []; bytes = 0 })) }
+    {
+        let scopes = Scopes::new(alloc)?;
+        Ok(Tables {
+            alloc,
+            symbols: Names::new(alloc),
+            infos: Vec::new(alloc),
+            labels: Names::new(alloc),
+            named: Vec::new(alloc),
+            log: Vec::new(alloc),
+            flat: Vec::new(alloc),
+            scopes,
+            essentials: Vec::new(alloc),
+            hypotheses: Vec::new(alloc),
+            pairs: Vec::new(alloc),
+            distinct: Pairs::new(alloc),
+            bytes: 0,
+        })
+    }
+
+    /// What is known of the symbol with a number.
+    pub(crate) fn info(&self, symbol: Sym) -> Option<SymbolInfo>
+        ensures { result ≡ slice_get self.now.infos.items symbol.0 }
+    {
+        at(&self.infos, symbol.0 as usize)
+    }
+
+    /// What is known of a symbol by its name.
+    pub(crate) fn known(&self, symbol: &[u8]) -> Option<SymbolInfo>
+        requires { AreTables self.now }
+        ensures { MatchOption
+            result
+            (¬ (IsDeclared (statements_of self.now) symbol.now))
+            (λ info. IsKnown (statements_of self.now) symbol.now info) }
+    {
+        match self.symbols.find(symbol) {
+            Some(number) => self.info(Sym(number)),
+            None => None,
+        }
+    }
+
+    /// What is known of a label.
+    pub(crate) fn label_info(&self, id: LabelId) -> Option<LabelInfo>
+        ensures { result ≡ slice_get self.now.named.items id.0 }
+    {
+        at(&self.named, id.0 as usize)
+    }
+
+    /// The symbols of the statement at a place.
+    pub(crate) fn symbols_at(&self, place: usize) -> &[Sym]
+        requires { AreTables self.now }
+        ensures { (s : Sentence) → slice_get (statements_of self.now) place ≡ Some s
+            → AreNumbers (statements_of self.now) (map (λ n. n.0) result.now) s.symbols }
+    {
+        match at(&self.log, place) {
+            Some(entry) => part_of(&self.flat, entry.symbols),
+            None => &[],
+        }
+    }
+
+    /// The variable of the `$f` at a place.
+    pub(crate) fn floating_variable(&self, place: usize) -> Option<Sym>
+        requires { AreTables self.now }
+        ensures { (f : Sentence) → slice_get (statements_of self.now) place ≡ Some f → MatchOption
+            result
+            (¬ (f.kind ≡ Floating))
+            (λ n. (code : List ℕ) × (x : List ℕ) × Types code x f
+                × IsNumberOf (statements_of self.now) x n.0) }
+    {
+        match at(&self.log, place) {
+            Some(entry) => {
+                if entry.kind == Kind::Floating {
+                    at(self.symbols_at(place), 1)
+                } else {
+                    None
+                }
+            }
+            None => None,
+        }
+    }
+
+    /// Whether the statement at a place is active now.
+    pub(crate) fn is_active_now(&self, place: usize) -> bool
+        requires { AreTables self.now }
+        ensures { place < length (statements_of self.now)
+            → (IsTrue result ↔ IsActive (statements_of self.now) place) }
+    {
+        self.scopes.is_active(place, self.log.len())
+    }
+
+    /// Whether two symbols are a distinct pair after the statements before a place.
+    pub(crate) fn is_distinct(&self, a: Sym, b: Sym, at: usize) -> bool
+        requires { AreTables self.now }
+        ensures { (x y : List ℕ) → IsNumberOf (statements_of self.now) x a.0
+            → IsNumberOf (statements_of self.now) y b.0 → at ≤ length (statements_of self.now)
+            → (IsTrue result ↔ IsDistinct (take at (statements_of self.now)) x y) }
+    {
+        if a.0 == b.0 {
+            return false;
+        }
+        match self.distinct.latest(in_order(a.0, b.0), at) {
+            Some(place) => self.scopes.is_active(place, at),
+            None => false,
+        }
+    }
+}
