@@ -1,5 +1,5 @@
 -- A book's lists once a `$c` or `$v` was taken in.
-use Rattle.std.proofs.Common.{◌≡◌, ℕ, suc, ◌+◌, ◌*◌, ◌-◌, ◌<◌, ◌≤◌, ◌⊎◌, inl, inr, length, take, drop, map, List, [], ◌∷◌, ◌++◌, Contains, Option, Some, None, refl, sym, ap, ◌∙◌, subst, append-nil, length-append, arith}
+use Rattle.std.proofs.Common.{◌≡◌, ℕ, ◌+◌, ◌-◌, ◌<◌, ◌≤◌, ◌⊎◌, inl, inr, length, take, List, [], ◌∷◌, ◌++◌, Contains, Option, Some, None, refl, sym, ap, ◌∙◌, subst, append-nil, length-append, arith}
 use Rattle.std.specs.List.{slice_get, slice_range, AllByRecursion, sum_by}
 use Rattle.std.proofs.Math.Seq.{drop-append_seam}
 use Rattle.std.specs.Option.{unwrap_or, option_map}
@@ -13,7 +13,6 @@ use Rattle.indexmap.proofs.IndexTableLemmas.Probe.{pigeonhole}
 use Rattle.mm_text.specs.declared.statement.Kind.{Kind}
 use Rattle.mm_text.specs.declared.statement.Kind.TheVariants.{Constants, Variables, Distinct, Essential, Closing}
 use Rattle.mm_frame.specs.declared.number.Sym.{Sym}
-use Rattle.mm_frame.specs.declared.number.LabelId.{LabelId}
 use Rattle.mm_frame.specs.declared.tables.Entry.{Entry}
 use Rattle.mm_frame.specs.declared.tables.Tables.{Tables}
 use Rattle.mm_text.specs.Token.{PlainToken}
@@ -25,7 +24,7 @@ use Rattle.mm_frame.specs.Database.{Database}
 use Rattle.mm_frame.specs.Rules.{IsMeant}
 use Rattle.mm_frame.specs.Form.{IsFormedSentence, IsNamed}
 use Rattle.mm_frame.specs.ScopesOf.{HaveScopes}
-use Rattle.mm_frame.specs.Layout.{AreTables, AreInfos, AreLabels, AreEssentials, AreFrames, AreStated, IsWithin, names_by, label_by, sentence_by, statements_of}
+use Rattle.mm_frame.specs.Layout.{AreTables, AreInfos, names_by, statements_of}
 use Rattle.mm_frame.specs.Declaring.{IsDeclaration, TakesSymbols}
 use Rattle.mm_frame.specs.Grows.{Grows, IsSame, SameLists, Entered, entry_of}
 use Rattle.mm_frame.proofs.SameTables.{same_tables}
@@ -60,9 +59,9 @@ appended t d v s bytes none taken entered =
     let sizes = length-append t.flat.items taken.numbers in
     let end : length d.flat.items ≡ length (t.flat.items ++ taken.numbers) = ap length flat in
     let part : slice_range (t.flat.items ++ taken.numbers) (length t.flat.items) (length d.flat.items) ≡ taken.numbers =
-          ap (slice_range (t.flat.items ++ taken.numbers) (length t.flat.items)) end ∙ appended_part t.flat.items taken.numbers in
+    ap (slice_range (t.flat.items ++ taken.numbers) (length t.flat.items)) end ∙ appended_part t.flat.items taken.numbers in
     let symbols : names_by (t.symbols.names ++ taken.added) (slice_range (t.flat.items ++ taken.numbers) (length t.flat.items) (length d.flat.items)) ≡ s.symbols =
-          ap (names_by (t.symbols.names ++ taken.added)) part ∙ ap (λ names. names_by names taken.numbers) (sym taken.names) ∙ taken.named in
+    ap (names_by (t.symbols.names ++ taken.added)) part ∙ ap (λ names. names_by names taken.numbers) (sym taken.names) ∙ taken.named in
     record {
       symbols = entered.symbols ∙ taken.names;
       labels = entered.labels ∙ labels ∙ sym (append-nil t.labels.names);
@@ -111,7 +110,7 @@ declared t d v s bytes tables meant formed which none taken entered enough room 
     let size : length taken.numbers ≡ length s.symbols = sym (length-map taken.numbers _) ∙ ap length taken.named in
     let counted : v.bytes ≡ t.bytes + bytes = entered.counted ∙ ap (λ (u : Tables). u.bytes + bytes) taken.others in
     assembled t v s _ taken.added [] taken.numbers bytes tables meant formed (appended t d v s bytes none taken entered) (grown t d v s bytes tables which none taken entered)
-        counted (omega arith) room
+    counted (omega arith) room
 
 -- the same, where the lists before had less room
 grows_from : (t u v : Tables) (s : Sentence) (bytes : ℕ) → IsSame t u → Grows u v s bytes → Grows t v s bytes
@@ -153,10 +152,10 @@ names_few : (t : Tables) → AreTables t → length t.symbols.names ≤ length t
 names_few t tables = pigeonhole (length t.symbols.names) (length t.flat.items) (λ n. (place n).0)
     (λ n lt. let (m, at, is) = (place n).1 lt in slice_get_within t.flat.items (place n).0 m at)
     (λ i j i_lt j_lt same.
-      let (m, at_m, is_i) = (place i).1 i_lt in
-      let (n, at_n, is_j) = (place j).1 j_lt in
-      let both : m ≡ n = let here = subst (λ (k : ℕ). slice_get t.flat.items k ≡ Some m) same at_m in cc in
-      sym is_i ∙ ap (λ (k : Sym). k.0) both ∙ is_j)
+    let (m, at_m, is_i) = (place i).1 i_lt in
+    let (n, at_n, is_j) = (place j).1 j_lt in
+    let both : m ≡ n = let here = subst (λ (k : ℕ). slice_get t.flat.items k ≡ Some m) same at_m in cc in
+    sym is_i ∙ ap (λ (k : Sym). k.0) both ∙ is_j)
   where
     place : (n : ℕ) → (j : ℕ) × (n < length t.symbols.names → (m : Sym) × (slice_get t.flat.items j ≡ Some m) × (m.0 ≡ n))
     place n = elim (cases_lt n (length t.symbols.names)) [
@@ -167,7 +166,7 @@ names_few t tables = pigeonhole (length t.symbols.names) (length t.flat.items) (
 -- each symbol has a byte
 symbols_small : (tokens : List PlainToken) → AllByRecursion (λ t. 1 ≤ length t.text) tokens → length tokens ≤ sum_by (λ (t : PlainToken). length t.text) tokens
 symbols_small [] all = omega arith
-symbols_small (t ∷ tokens) (one, all) = 
+symbols_small (t ∷ tokens) (one, all) =
     let rest = symbols_small tokens all in
     let sum = sum_by-cons (λ (t : PlainToken). length t.text) t tokens in
     omega arith

@@ -1,6 +1,6 @@
 -- Taking the symbols of a `$c` or `$v` in, one after the other.
-use Rattle.std.proofs.Common.{◌≡◌, ℕ, suc, ◌+◌, ◌<◌, ◌≤◌, ◌⊎◌, inl, inr, length, take, map, List, [], ◌∷◌, ◌++◌, Contains, Option, Some, None, refl, sym, ap, ◌∙◌, subst, append-nil, arith}
-use Rattle.std.specs.List.{slice_get, slice_set}
+use Rattle.std.proofs.Common.{◌≡◌, ℕ, suc, ◌+◌, ◌<◌, ◌≤◌, inl, inr, length, take, List, [], ◌∷◌, ◌++◌, Contains, Option, Some, None, refl, sym, ap, ◌∙◌, subst, append-nil, arith}
+use Rattle.std.specs.List.{slice_get}
 use Rattle.std.specs.Option.{unwrap_or}
 use Rattle.std.proofs.lemmas.List.{append_assoc}
 use Rattle.std.proofs.lemmas.Option.{slice_get_within}
@@ -26,8 +26,10 @@ infos_noted st kind symbols xs infos new x n which there = elim which [ inl c �
   where
     Step : Kind → Type 0
     Step k = AreInfos (st ++ of_kind k xs ∷ []) symbols infos → AreNoted infos new n (latest_by k (length st)) → AreInfos (st ++ of_kind k (xs ++ x ∷ []) ∷ []) symbols new
+
     constant : Step Constants
     constant are same = subst (λ (is : List SymbolInfo). AreInfos (st ++ of_kind Constants (xs ++ x ∷ []) ∷ []) symbols is) (sym same) (infos_known_constant st symbols xs infos x n are there)
+
     variable : Step Variables
     variable are noted =
         let lt = slice_get_within symbols n x there in
@@ -44,8 +46,10 @@ infos_added st kind symbols xs infos x meant which fresh = elim which [ inl c �
     Step : Kind → Type 0
     Step k = AreInfos (st ++ of_kind k xs ∷ []) symbols infos
         → AreInfos (st ++ of_kind k (xs ++ x ∷ []) ∷ []) (symbols ++ x ∷ []) (infos ++ record { variable = latest_by k (length st); floating = None } ∷ [])
+
     constant : Step Constants
     constant are = infos_fresh_constant st symbols xs infos x meant are fresh
+
     variable : Step Variables
     variable are = infos_fresh_variable st symbols xs infos x meant are fresh
 
@@ -78,16 +82,20 @@ taken_more old now new kind xs x variable tables which is taken one = elim one.k
   where
     st : List Sentence
     st = statements_of old
+
     latest : variable ≡ latest_by kind (length st)
     latest = is ∙ ap (latest_by kind) (sym (length-sentences old.symbols.names old.labels.names old.flat.items old.log.items))
+
     flat : new.flat.items ≡ old.flat.items ++ (taken.numbers ++ one.number ∷ [])
     flat = one.flat ∙ ap (λ (f : List Sym). f ++ one.number ∷ []) taken.flat ∙ append_assoc old.flat.items taken.numbers (one.number ∷ [])
+
     within : (names : List (List ℕ)) → length now.symbols.names ≤ length names → one.number.0 < length names
         → (i : ℕ) (n : Sym) → slice_get (taken.numbers ++ one.number ∷ []) i ≡ Some n → n.0 < length names
     within names more lt i n there = elim (pushed_cases taken.numbers one.number i n there) [
       | inl before ↦ let less = taken.within i n before in omega arith
       | inr (last, same) ↦ subst (λ (m : Sym). m.0 < length names) same lt
     ]
+
     again : IsNoted now new x one.number.0 variable → TakesSymbols old new kind (xs ++ x ∷ [])
     again noted =
         let lt = slice_get_within now.symbols.names one.number.0 x noted.there in
@@ -102,6 +110,7 @@ taken_more old now new kind xs x variable tables which is taken one = elim one.k
           infos = subst (λ names. AreInfos (st ++ of_kind kind (xs ++ x ∷ []) ∷ []) names new.infos.items) (sym noted.names) infos;
           others = changed_twice old now new taken.others one.others;
         }
+
     first : IsAdded now new x one.number.0 variable → TakesSymbols old new kind (xs ++ x ∷ [])
     first added =
         let size = length_pushed now.symbols.names x in
@@ -109,7 +118,7 @@ taken_more old now new kind xs x variable tables which is taken one = elim one.k
         let there : slice_get (now.symbols.names ++ x ∷ []) one.number.0 ≡ Some x = subst (λ k. slice_get (now.symbols.names ++ x ∷ []) k ≡ Some x) (sym next) (get_pushed now.symbols.names x) in
         let infos = infos_added st kind now.symbols.names xs now.infos.items x tables.sound.0 which added.fresh taken.infos in
         let news : now.infos.items ++ record { variable = latest_by kind (length st); floating = None } ∷ [] ≡ new.infos.items =
-              sym (added.infos ∙ ap (λ v. now.infos.items ++ record { variable = v; floating = None } ∷ []) latest) in
+        sym (added.infos ∙ ap (λ v. now.infos.items ++ record { variable = v; floating = None } ∷ []) latest) in
         record {
           added = taken.added ++ x ∷ [];
           numbers = taken.numbers ++ one.number ∷ [];

@@ -1,5 +1,5 @@
 -- The distinct pairs at a place, by the pairs that `$d` state.
-use Rattle.std.proofs.Common.{◌≡◌, ◌≢◌, ◌↔◌, ℕ, zero, suc, ◌+◌, ◌<◌, ◌≤◌, ◌⊎◌, inl, inr, length, take, List, [], ◌∷◌, ◌++◌, Contains, Some, refl, sym, ap, ◌∙◌, subst, arith}
+use Rattle.std.proofs.Common.{◌≡◌, ◌↔◌, ℕ, zero, suc, ◌+◌, ◌<◌, ◌≤◌, ◌⊎◌, inl, inr, length, take, List, [], ◌∷◌, ◌++◌, Contains, Some, sym, ap, ◌∙◌, subst, arith}
 use Rattle.std.specs.List.{slice_get}
 use Rattle.std.proofs.lemmas.Option.{slice_get_within}
 use Rattle.std.proofs.lemmas.Bool.{cases_order}
@@ -14,11 +14,11 @@ use Rattle.mm_frame.specs.Stated.{Stated}
 use Rattle.mm_frame.specs.Layout.{AreStated}
 use Rattle.mm_frame.proofs.Pushed.{get_kept, get_pushed, pushed_cases, get_before, get_from_front, get_in_front}
 use Rattle.mm_frame.proofs.Entries.{append_cases}
-use Rattle.mm_frame.proofs.ScopeLaws.{length_pushed, all_taken}
+use Rattle.mm_frame.proofs.ScopeLaws.{all_taken}
 use Rattle.mm_frame.proofs.Actives.{fronts}
 use Rattle.mm_frame.proofs.Stays.{active_last, active_stays, active_nest}
 use Rattle.mm_frame.proofs.Meant.{active_in_front}
-use Rattle.mm_frame.proofs.Numbered.{At, symbols_unique}
+use Rattle.mm_frame.proofs.Numbered.{symbols_unique}
 
 -- a span of the pair that is active at a place
 pub record HasSpan (st : List Sentence) (spans : List Stated) (a b q : ℕ) : Type 0 where

@@ -1,5 +1,5 @@
 -- A book's lists say the same statements as more is appended to them.
-use Rattle.std.proofs.Common.{◌≡◌, ℕ, zero, suc, ◌+◌, ◌-◌, ◌<◌, ◌≤◌, ◌⊎◌, inl, inr, length, take, drop, List, [], ◌∷◌, ◌++◌, map, Option, Some, None, refl, sym, ap, ◌∙◌, subst, length-append, arith}
+use Rattle.std.proofs.Common.{◌≡◌, ℕ, zero, suc, ◌-◌, ◌<◌, ◌≤◌, ◌⊎◌, inl, inr, length, take, drop, List, [], ◌∷◌, ◌++◌, map, Option, Some, None, refl, ap, ◌∙◌, subst, length-append, arith}
 use Rattle.std.specs.List.{slice_get, slice_range}
 use Rattle.std.specs.Option.{unwrap_or, option_map}
 use Rattle.std.proofs.lemmas.Option.{slice_get_within, slice_get-map}
@@ -8,10 +8,9 @@ use Rattle.mm_text.specs.declared.statement.Kind.{Kind}
 use Rattle.mm_frame.specs.declared.number.LabelId.{LabelId}
 use Rattle.mm_frame.specs.declared.number.Sym.{Sym}
 use Rattle.mm_frame.specs.declared.tables.Entry.{Entry}
-use Rattle.mm_frame.specs.declared.tables.Part.{Part}
 use Rattle.mm_frame.specs.Sentence.{Sentence}
 use Rattle.mm_frame.specs.Layout.{names_by, label_by, sentence_by, sentences, IsWithin, AreEntries}
-use Rattle.mm_frame.proofs.Pushed.{get_kept, get_pushed, pushed_cases, get_from_front, get_within}
+use Rattle.mm_frame.proofs.Pushed.{pushed_cases, get_from_front, get_within}
 use Rattle.mm_frame.proofs.Numbered.{At}
 
 -- what is read before the end stays

@@ -1,6 +1,6 @@
 -- Frames stay what they are as statements are added.
-use Rattle.std.proofs.Common.{◌≡◌, ℕ, suc, ◌+◌, ◌<◌, ◌≤◌, ◌⊎◌, inl, inr, length, take, List, [], ◌∷◌, ◌++◌, map, Contains, Some, refl, sym, ap, ◌∙◌, subst, length-append, arith}
-use Rattle.std.specs.List.{slice_get, slice_range}
+use Rattle.std.proofs.Common.{◌≡◌, ℕ, ◌+◌, ◌<◌, inl, inr, length, take, List, [], ◌∷◌, ◌++◌, map, Contains, Some, sym, ap, ◌∙◌, subst, arith}
+use Rattle.std.specs.List.{slice_get}
 use Rattle.std.proofs.lemmas.Option.{slice_get_within}
 use Rattle.std.proofs.lemmas.List.{take-append-le}
 use Rattle.mm_text.specs.declared.statement.Kind.TheVariants.{Distinct}
@@ -12,12 +12,12 @@ use Rattle.mm_frame.specs.Sentence.{Sentence, IsAssertion}
 use Rattle.mm_frame.specs.Active.{IsActive}
 use Rattle.mm_frame.specs.Rules.{AllMeant}
 use Rattle.mm_frame.specs.Frame.{AreMandatory, IsMandatoryPair}
-use Rattle.mm_frame.specs.Numbers.{labelled, symbols_of, IsNumberOf, IsNumbered}
+use Rattle.mm_frame.specs.Numbers.{symbols_of}
 use Rattle.mm_frame.specs.FramePlace.{FramePlace, AreHypotheses, ArePairs, AreItsSymbols}
 use Rattle.mm_frame.specs.Layout.{IsWithin, IsFrameInfo, AreFrames, AreLabels, AreStated}
 use Rattle.mm_frame.specs.Stated.{Stated}
 use Rattle.mm_frame.proofs.Pushed.{get_kept, get_pushed, pushed_cases, get_before}
-use Rattle.mm_frame.proofs.Numbered.{At, symbols_grow, numbers_grow, symbols_unique, number_from_declared}
+use Rattle.mm_frame.proofs.Numbered.{symbols_grow, numbers_grow, symbols_unique, number_from_declared}
 use Rattle.mm_frame.proofs.Labelled.{labels_grow}
 use Rattle.mm_frame.proofs.Entries.{slice_left, longer}
 use Rattle.mm_frame.proofs.Meant.{meant_at}

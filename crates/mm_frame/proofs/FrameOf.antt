@@ -1,22 +1,17 @@
 -- The mandatory hypotheses of an assertion, as they are gathered from what is known of symbols and from the active `$e`.
-use Rattle.std.proofs.Common.{◌≡◌, ◌↔◌, ℕ, zero, suc, ◌<◌, ◌≤◌, ◌⊎◌, inl, inr, true, length, take, List, [], ◌∷◌, ◌++◌, map, filter_map, is_some, Contains, Option, Some, None, refl, sym, ap, ◌∙◌, subst, arith}
+use Rattle.std.proofs.Common.{◌≡◌, ◌↔◌, ℕ, suc, inl, inr, true, length, take, List, [], ◌∷◌, ◌++◌, map, is_some, Some, refl, sym, ap, ◌∙◌, subst}
 use Rattle.std.specs.List.{slice_get}
 use Rattle.std.proofs.lemmas.Option.{slice_get_within}
 use Rattle.std.proofs.Math.Seq.{take-append_seam}
-use Rattle.mm_text.specs.declared.statement.Kind.{Kind}
-use Rattle.mm_text.specs.declared.statement.Kind.TheVariants.{Floating, Essential}
-use Rattle.mm_frame.specs.Sentence.{Sentence, IsStated, Types}
-use Rattle.mm_frame.specs.Active.{IsActive, SomeActive, IsVariable}
+use Rattle.mm_frame.specs.Sentence.{Sentence, IsStated}
 use Rattle.mm_frame.specs.Rules.{IsMeant, AllMeant}
-use Rattle.mm_frame.specs.Form.{AllFormed, IsNamed, IsFormedSentence}
-use Rattle.mm_frame.specs.Frame.{IsMandatory, IsMandatoryAt, AreMandatory}
-use Rattle.mm_frame.specs.Numbers.{labelled, IsNumbered}
+use Rattle.mm_frame.specs.Form.{AllFormed, IsNamed}
+use Rattle.mm_frame.specs.Frame.{IsMandatoryAt, AreMandatory}
+use Rattle.mm_frame.specs.Numbers.{labelled}
 use Rattle.mm_frame.specs.FramePlace.{AreHypotheses}
-use Rattle.mm_frame.specs.Latest.{IsLatest}
-use Rattle.mm_frame.specs.Layout.{GivesType, AreEssentials}
+use Rattle.mm_frame.specs.Layout.{AreEssentials}
 use Rattle.mm_frame.specs.Gathered.{IsGathered, AreGathered, ArePlaces}
-use Rattle.mm_frame.proofs.Pushed.{get_kept, get_pushed}
-use Rattle.mm_frame.proofs.Numbered.{At, at_from_contains, contains_from_at}
+use Rattle.mm_frame.proofs.Numbered.{at_from_contains, contains_from_at}
 use Rattle.mm_frame.proofs.Labelled.{numbered_get, numbered_at, labelled_grow}
 use Rattle.mm_frame.proofs.Those.{Rise, those_by_places}
 use Rattle.mm_frame.proofs.Needed.{mandatory_places, latest_is_variable}

@@ -1,6 +1,6 @@
 -- Gathering the places of the mandatory hypotheses.
-use Rattle.std.proofs.Common.{eqb, ◌≡◌, ◌↔◌, ℕ, zero, suc, ◌+◌, ◌<◌, ◌≤◌, ◌⊎◌, inl, inr, length, take, get_or, List, [], ◌∷◌, ◌++◌, map, Contains, Option, Some, None, refl, sym, ap, ◌∙◌, subst, append_assoc, append-nil, arith}
-use Rattle.std.specs.List.{slice_get, filter_map, cons_option}
+use Rattle.std.proofs.Common.{eqb, ◌≡◌, ◌↔◌, ℕ, zero, suc, ◌+◌, ◌<◌, inl, inr, length, take, get_or, List, [], ◌∷◌, ◌++◌, map, Contains, Option, Some, None, refl, sym, ap, ◌∙◌, subst, append_assoc, append-nil, arith}
+use Rattle.std.specs.List.{slice_get, cons_option}
 use Rattle.std.specs.Option.{option_and_then}
 use Rattle.std.proofs.lemmas.Option.{slice_get_within, slice_get-get_or, get_or_from_slice_get}
 use Rattle.std.specs.List.{dedup}
@@ -14,14 +14,13 @@ use Rattle.std.proofs.lemmas.Bool.{cases_order}
 use Rattle.std.proofs.lemmas.List.Elements.{filter_map-append}
 use Rattle.mm_frame.specs.declared.number.Sym.{Sym}
 use Rattle.mm_frame.specs.declared.tables.SymbolInfo.{SymbolInfo}
-use Rattle.mm_frame.specs.Sentence.{Sentence, SomeSentence}
-use Rattle.mm_frame.specs.Rules.{AllMeant}
+use Rattle.mm_frame.specs.Sentence.{Sentence}
 use Rattle.mm_frame.specs.Numbers.{symbols_of, AreNumbers}
 use Rattle.mm_frame.specs.Latest.{IsLatest}
 use Rattle.mm_frame.specs.Layout.{AreInfos, AreEssentials, GivesType, IsLatestIn}
-use Rattle.mm_frame.specs.Gathered.{floating_of, floatings, IsIn, StandsIn, IsGathered, AreGathered, AreRising}
+use Rattle.mm_frame.specs.Gathered.{floating_of, floatings, IsIn, StandsIn, AreGathered, AreRising}
 use Rattle.mm_frame.proofs.Pushed.{get_kept, get_pushed, pushed_cases, get_within}
-use Rattle.mm_frame.proofs.Numbered.{At, at_from_contains, contains_from_at}
+use Rattle.mm_frame.proofs.Numbered.{at_from_contains, contains_from_at}
 use Rattle.mm_frame.proofs.Entries.{append_cases}
 
 -- one symbol more, with a `$f` or without

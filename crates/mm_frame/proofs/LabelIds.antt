@@ -1,5 +1,5 @@
 -- The numbers of the labels of the mandatory hypotheses.
-use Rattle.std.proofs.Common.{◌≡◌, ℕ, ◌+◌, ◌<◌, ◌≤◌, Bool, true, length, take, get_or, List, [], ◌∷◌, ◌++◌, map, is_some, Option, Some, None, refl, sym, ap, ◌∙◌, subst, arith}
+use Rattle.std.proofs.Common.{◌≡◌, ℕ, ◌+◌, ◌<◌, true, length, take, get_or, List, [], ◌∷◌, ◌++◌, map, is_some, Option, Some, None, refl, sym, ap, ◌∙◌}
 use Rattle.std.specs.List.{slice_get}
 use Rattle.std.specs.Option.{option_and_then}
 use Rattle.std.proofs.lemmas.Option.{slice_get-get_or}
@@ -11,7 +11,7 @@ use Rattle.mm_frame.specs.declared.tables.LabelInfo.{LabelInfo}
 use Rattle.mm_frame.specs.Sentence.{Sentence}
 use Rattle.mm_frame.specs.Form.{AllFormed}
 use Rattle.mm_frame.specs.Numbers.{labelled}
-use Rattle.mm_frame.specs.Layout.{sentences, sentence_by, label_by, AreLabels}
+use Rattle.mm_frame.specs.Layout.{sentences, label_by, AreLabels}
 use Rattle.mm_frame.specs.Gathered.{ArePlaces}
 use Rattle.mm_frame.proofs.Pushed.{get_within}
 use Rattle.mm_frame.proofs.Entries.{entry_at}

@@ -1,8 +1,6 @@
 -- The laws hold.
-use Rattle.std.proofs.Common.{◌≡◌, ◌↔◌, ℕ, List, ◌++◌, ◌⊎◌, Some}
+use Rattle.std.proofs.Common.{◌≡◌, ℕ, List, Some}
 use Rattle.std.specs.List.{slice_get}
-use Rattle.mm_frame.specs.Sentence.{Sentence}
-use Rattle.mm_frame.specs.Active.{IsConstant, IsVariable}
 use Rattle.mm_frame.specs.Numbers.{symbols_of}
 use Rattle.mm_frame.specs.Laws.{OneNumber}
 use Rattle.mm_frame.proofs.Numbered.{symbols_unique, symbols_grow, number_from_declared, declared_from_number}

@@ -1,23 +1,21 @@
 -- The mandatory distinct pairs of an assertion, as they are found among its mandatory variables.
-use Rattle.std.proofs.Common.{◌≡◌, ◌≢◌, ◌↔◌, ℕ, zero, suc, ◌+◌, ◌<◌, ◌≤◌, ◌⊎◌, inl, inr, length, take, get_or, List, [], ◌∷◌, ◌++◌, map, Contains, Option, Some, None, refl, sym, ap, ◌∙◌, subst, arith}
+use Rattle.std.proofs.Common.{◌≡◌, ◌↔◌, ℕ, zero, suc, ◌+◌, ◌<◌, ◌≤◌, inl, inr, Bool, true, false, IsTrue, length, take, get_or, List, [], ◌∷◌, ◌++◌, map, Contains, Option, Some, None, refl, sym, ap, ◌∙◌, subst, arith}
 use Rattle.std.specs.List.{slice_get}
 use Rattle.std.specs.Option.{MatchOption, option_map}
 use Rattle.std.proofs.lemmas.Option.{slice_get_within, slice_get-get_or, slice_get-map, slice_get_read, get_or_from_slice_get}
 use Rattle.std.proofs.lemmas.Bool.{cases_order}
 use Rattle.std.proofs.lemmas.List.{take_more, length-take-le}
-use Rattle.std.proofs.Math.Seq.{take-append_seam}
-use Rattle.mm_text.specs.declared.statement.Kind.TheVariants.{Floating, Essential}
+use Rattle.std.proofs.Math.Seq.{take-append_seam, take-length}
+use Rattle.mm_text.specs.declared.statement.Kind.TheVariants.{Floating}
 use Rattle.mm_frame.specs.declared.number.Sym.{Sym}
 use Rattle.mm_frame.specs.Sentence.{Sentence, Types, IsStated}
-use Rattle.mm_frame.specs.Active.{IsActive}
 use Rattle.mm_frame.specs.Rules.{IsMeant, AllMeant}
-use Rattle.mm_frame.specs.Frame.{IsMandatory, IsMandatoryAt, IsDistinct, IsMandatoryPair}
+use Rattle.mm_frame.specs.Frame.{IsMandatory, IsDistinct, IsMandatoryPair}
 use Rattle.mm_frame.specs.FramePlace.{ArePairs, IsSamePair}
-use Rattle.mm_frame.specs.Latest.{IsLatest}
 use Rattle.mm_frame.specs.Numbers.{symbols_of, IsNumberOf}
-use Rattle.mm_frame.specs.Gathered.{ArePlaces, IsTypedBy, AreVariables, AreApart, IsReached, AreFound}
+use Rattle.mm_frame.specs.Gathered.{ArePlaces, IsTypedBy, AreVariables, AreApart, AreFound}
 use Rattle.mm_frame.proofs.Pushed.{get_kept, get_pushed, pushed_cases, get_from_front, get_within}
-use Rattle.mm_frame.proofs.Numbered.{At, at_from_contains, contains_from_at, symbols_unique, symbols_grow}
+use Rattle.mm_frame.proofs.Numbered.{at_from_contains, contains_from_at, symbols_grow}
 use Rattle.mm_frame.proofs.Meant.{get_parted}
 use Rattle.mm_frame.proofs.Needed.{latest_from_active, mandatory_typed}
 use Rattle.mm_frame.proofs.Those.{distinct_other}
@@ -25,6 +23,9 @@ use Rattle.mm_frame.proofs.FrameLaws.{at_place}
 
 one_sentence : (st : List Sentence) (p : ℕ) (s t : Sentence) → slice_get st p ≡ Some s → slice_get st p ≡ Some t → s ≡ t
 one_sentence st p s t one other = cc
+
+one_element : (xs : List Sym) (i j : ℕ) (a b : Sym) → i ≡ j → slice_get xs i ≡ Some a → slice_get xs j ≡ Some b → a ≡ b
+one_element xs i j a b same at_a at_b = let at = subst (λ m. slice_get xs m ≡ Some a) same at_a in cc
 
 one_name : (st : List Sentence) (n m : ℕ) (x y : List ℕ) → IsNumberOf st x n → IsNumberOf st y m → n ≡ m → x ≡ y
 one_name st n m x y at_n at_m same = let at = subst (λ k. slice_get (symbols_of st) k ≡ Some x) same at_n in cc
@@ -306,7 +307,7 @@ pairs_from_found st s more places variables n pairs meant last stated are vars s
             symbols_grow st (s ∷ more) a.0 x number_a,
             symbols_grow st (s ∷ more) b.0 y number_b,
             elim (cases_order i j) [
-              | inl same ↦ absurd (distinct.0 (one_name st a.0 b.0 x y number_a number_b (let e : a ≡ b = let at = subst (λ m. slice_get variables m ≡ Some a) same at_a in cc in ap (λ (m : Sym). m.0) e)))
+              | inl same ↦ absurd (distinct.0 (one_name st a.0 b.0 x y number_a number_b (ap (λ (m : Sym). m.0) (one_element variables i j a b same at_a at_b))))
               | inr (inl lt) ↦ let (m, there) = found_pair st places variables n pairs i j a b size found at_a at_b lt (x, y, number_a, number_b, distinct) in inl (pair_there pairs m (a, b) there)
               | inr (inr gt) ↦
                   let (m, there) = found_pair st places variables n pairs j i b a size found at_b at_a gt (y, x, number_b, number_a, distinct_other st x y distinct) in
@@ -332,3 +333,28 @@ pairs_from_found st s more places variables n pairs meant last stated are vars s
               let b = vars.once k1 j2 u.1 v.0 at_k1 at_j2 (ap (λ (r : ℕ × ℕ). r.1) e) in
               absurd (omega arith)
         ]
+
+-- ---- the steps of the loops
+
+-- what the test whether two variables are distinct tells
+abbrev pub TellsDistinct : List Sentence → ℕ → Sym → Sym → Bool → Type 0
+TellsDistinct st n a b r = (x y : List ℕ) → IsNumberOf st x a.0 → IsNumberOf st y b.0 → n ≤ length st → IsTrue r ↔ IsDistinct (take n st) x y
+
+pub pairs_step : (st : List Sentence) (places : List ℕ) (variables others : List Sym) (b : Sym) (i n : ℕ) (d : Sym) (r : Bool) (pairs : List (Sym × Sym)) → AreVariables st places variables → others ≡ take (length others) variables
+    → slice_get variables (length others) ≡ Some b → i < length others → n ≡ length st → TellsDistinct st n (get_or others i d) b r → AreFound st variables (length others) i pairs
+    → ((r ≡ true) → AreFound st variables (length others) (i + 1) (pairs ++ (get_or others i d, b) ∷ [])) × ((r ≡ false) → AreFound st variables (length others) (i + 1) pairs)
+pairs_step st places variables others b i n d r pairs are same at_b lt all tells found =
+    let a = get_or others i d in
+    let at_a : slice_get variables i ≡ Some a = get_from_front variables (length others) i a (subst (λ ys. slice_get ys i ≡ Some a) same (slice_get-get_or others i d lt)) in
+    let a_is = are.only i a at_a in
+    let b_is = are.only (length others) b at_b in
+    let whole : take n st ≡ st = ap (λ m. take m st) all ∙ take-length st in
+    let tell = tells a_is.variable b_is.variable a_is.number b_is.number (omega arith) in (
+      (λ is. found_more st places variables (length others) i a b pairs are at_a at_b lt
+          (a_is.variable, b_is.variable, a_is.number, b_is.number, subst (λ ys. IsDistinct ys a_is.variable b_is.variable) whole (tell.0 is)) found),
+      (λ is. found_passed st variables (length others) i a b pairs at_a at_b (λ (x, y, at_x, at_y, distinct).
+          let x_is = one_name st a.0 a.0 x a_is.variable at_x a_is.number refl in
+          let y_is = one_name st b.0 b.0 y b_is.variable at_y b_is.number refl in
+          let true_is = tell.1 (subst (λ ys. IsDistinct ys a_is.variable b_is.variable) (sym whole) (subst (λ z. IsDistinct st z b_is.variable) x_is (subst (λ z. IsDistinct st x z) y_is distinct))) in
+          cc) found),
+    )

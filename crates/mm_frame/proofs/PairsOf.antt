@@ -1,7 +1,6 @@
 -- The variables that `$f` type, and their distinct pairs, by numbers.
-use Rattle.std.proofs.Common.{◌≡◌, ◌≢◌, ◌↔◌, ℕ, zero, suc, ◌+◌, ◌<◌, ◌≤◌, ◌⊎◌, inl, inr, IsTrue, Bool, true, false, length, take, get_or, List, [], ◌∷◌, ◌++◌, map, Contains, Option, Some, None, refl, sym, ap, ◌∙◌, subst, arith}
+use Rattle.std.proofs.Common.{◌≡◌, ◌≢◌, ◌↔◌, ℕ, ◌<◌, ◌≤◌, inl, inr, length, take, List, [], ◌∷◌, map, Some, None, refl, sym, ap, subst, arith}
 use Rattle.std.specs.List.{slice_get}
-use Rattle.std.proofs.lemmas.Option.{slice_get_within}
 use Rattle.mm_text.specs.Statement.{FitsCount}
 use Rattle.mm_text.specs.declared.statement.Kind.TheVariants.{Floating}
 use Rattle.mm_frame.specs.declared.number.Sym.{Sym}
@@ -18,7 +17,6 @@ use Rattle.mm_frame.proofs.Those.{distinct_other}
 use Rattle.mm_frame.proofs.DistinctAt.{latest_distinct, unstated_distinct}
 use Rattle.mm_frame.specs.Layout.{sentences, sentence_by, AreStated}
 use Rattle.mm_frame.proofs.Entries.{sentence_at, entry_at}
-use Rattle.mm_frame.proofs.Pushed.{get_within}
 
 -- the second of two
 two_parts : (symbols : List (List ℕ)) → length symbols ≡ 2 → (a : List ℕ) × (b : List ℕ) × (symbols ≡ a ∷ b ∷ [])

@@ -1,5 +1,5 @@
 -- A symbol that stands twice in a statement.
-use Rattle.std.proofs.Common.{◌≡◌, ℕ, ◌<◌, List, Some, sym, ap, subst, arith}
+use Rattle.std.proofs.Common.{◌≡◌, ℕ, ◌<◌, List, Some, subst, arith}
 use Rattle.std.specs.List.{slice_get}
 use Rattle.mm_frame.specs.Sentence.{Sentence, StandsTwice}
 use Rattle.mm_frame.specs.Rules.{SomeSymbol}

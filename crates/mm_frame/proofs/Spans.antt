@@ -1,5 +1,5 @@
 -- The spans of pairs, one after the other and linked.
-use Rattle.std.proofs.Common.{◌≡◌, ◌≢◌, ℕ, zero, suc, ◌+◌, ◌<◌, ◌≤◌, ◌⊎◌, inl, inr, Bool, true, false, cond, ◌&&◌, ◌==◌, length, length-append, List, [], ◌∷◌, ◌++◌, map, Option, Some, None, refl, sym, ap, ◌∙◌, subst, arith}
+use Rattle.std.proofs.Common.{◌≡◌, ◌≢◌, ℕ, zero, suc, ◌+◌, ◌<◌, ◌≤◌, inl, inr, true, cond, ◌==◌, length, length-append, List, [], ◌∷◌, ◌++◌, map, Option, Some, None, refl, sym, ap, ◌∙◌, subst, arith}
 use Rattle.std.specs.List.{slice_get}
 use Rattle.std.specs.Option.{option_and_then, option_map}
 use Rattle.std.proofs.lemmas.Option.{slice_get_within, slice_get-map}
@@ -8,7 +8,7 @@ use Rattle.std.specs.Map.{update}
 use Rattle.indexmap.specs.IndexMap.{IndexMap, get}
 use Rattle.mm_frame.specs.declared.pairs.Span.{Span}
 use Rattle.mm_frame.specs.Stated.{Stated, stated_by, IsLastSpan, IsLatestStated, AreOlder, AreLinked, is_same_key}
-use Rattle.mm_frame.proofs.Pushed.{get_kept, get_pushed, pushed_cases, get_before, get_within}
+use Rattle.mm_frame.proofs.Pushed.{get_kept, get_pushed, pushed_cases, get_before}
 
 -- after so many steps from the newest span of a pair, the next one is the last of the first spans of the pair, and those after
 -- them stand at the place or later

@@ -1,12 +1,11 @@
--- How a book's lists change as the symbols of a `$c` or `$v` are taken in, one after the other. This file mirrors the code, and is
--- cited by private contracts alone.
+-- How a book's lists change as the symbols of a `$c` or `$v` are taken in. This file mirrors the code,
+-- and is cited by private contracts alone.
 use Rattle.std.specs.Prelude.{◌≡◌, ℕ, ◌+◌, ◌<◌, ◌≤◌, ◌⊎◌, vec_len, vec_capacity, length, slice_get, slice_set, Contains, Option, Some, None, List, [], ◌∷◌, ◌++◌}
 use Rattle.mm_text.specs.declared.statement.Kind.{Kind}
 use Rattle.mm_text.specs.declared.statement.Kind.TheVariants.{Constants, Variables}
 use Rattle.mm_frame.specs.declared.number.Sym.{Sym}
 use Rattle.mm_frame.specs.declared.tables.SymbolInfo.{SymbolInfo}
 use Rattle.mm_frame.specs.declared.tables.Tables.{Tables}
-use Rattle.mm_frame.specs.Sentence.{Sentence}
 use Rattle.mm_frame.specs.Layout.{AreInfos, names_by, statements_of}
 
 -- a kind of statement that declares its symbols
@@ -43,11 +42,13 @@ pub record IsAdded (old new : Tables) (symbol : List ℕ) (number : ℕ) (variab
   pub fresh : ¬ (Contains old.symbols.names symbol)
   pub next : number ≡ length old.symbols.names
   pub names : new.symbols.names ≡ old.symbols.names ++ symbol ∷ []
-  pub infos : new.infos.items ≡ old.infos.items ++ record { variable = variable; floating = None } ∷ []
+  pub infos :
+      new.infos.items ≡ old.infos.items ++ record { variable = variable; floating = None } ∷ []
 
 -- only the lists of symbols change
 abbrev pub ChangesSymbols : Tables → Tables → Type 0
-ChangesSymbols old new = new ≡ record old { symbols = new.symbols; infos = new.infos; flat = new.flat }
+ChangesSymbols old new =
+    new ≡ record old { symbols = new.symbols; infos = new.infos; flat = new.flat }
 
 -- one symbol was taken in
 pub record TakesSymbol (old new : Tables) (symbol : List ℕ) (variable : Option ℕ) : Type 0 where
@@ -65,5 +66,7 @@ pub record TakesSymbols (old new : Tables) (kind : Kind) (symbols : List (List �
   pub named : names_by new.symbols.names numbers ≡ symbols
   pub within : (i : ℕ) (n : Sym) → slice_get numbers i ≡ Some n → n.0 < length new.symbols.names
   pub infos : AreInfos
-    (statements_of old ++ record { kind = kind; label = None; symbols = symbols } ∷ []) new.symbols.names new.infos.items
+      (statements_of old ++ record { kind = kind; label = None; symbols = symbols } ∷ [])
+      new.symbols.names
+      new.infos.items
   pub others : ChangesSymbols old new

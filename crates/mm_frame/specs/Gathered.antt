@@ -1,5 +1,5 @@
 -- How the frame of an assertion is gathered. This file mirrors the code, and is cited by private contracts alone.
-use Rattle.std.specs.Prelude.{◌≡◌, ◌↔◌, ℕ, ◌+◌, ◌<◌, List, length, map, slice_get, Option, Some, Contains, ◌⊎◌}
+use Rattle.std.specs.Prelude.{◌≡◌, ◌↔◌, ℕ, ◌<◌, List, length, slice_get, Option, Some, Contains, ◌⊎◌}
 use Rattle.std.specs.List.{filter_map}
 use Rattle.std.specs.Option.{option_and_then}
 use Rattle.mm_frame.specs.declared.number.Sym.{Sym}

@@ -2,7 +2,7 @@
 use Rattle.std.specs.Prelude.{◌≡◌, ◌↔◌, ℕ, List, ◌++◌, ◌⊎◌}
 use Rattle.mm_frame.specs.Sentence.{Sentence}
 use Rattle.mm_frame.specs.Active.{IsConstant, IsVariable}
-use Rattle.mm_frame.specs.Numbers.{IsNumberOf, IsNumbered}
+use Rattle.mm_frame.specs.Numbers.{IsNumberOf}
 
 -- Exactly the declared symbols have numbers; a symbol has one number, and a number one symbol; and it stays so.
 abbrev pub OneNumber : Type 0

@@ -1,6 +1,6 @@
 -- The pairs that `$d` state, and how they are linked. This file mirrors the code, and is cited by private contracts alone.
 use Rattle.std.specs.Prelude.{◌≡◌, ◌≢◌, ℕ, ◌<◌, ◌≤◌, List, length, slice_get, Option, Some, None, Bool, ◌==◌, ◌&&◌}
-use Rattle.indexmap.specs.IndexMap.{IndexMap, get, IsUnique}
+use Rattle.indexmap.specs.IndexMap.{IndexMap, get}
 use Rattle.mm_frame.specs.declared.pairs.Span.{Span}
 
 -- a `$d` states a pair: the numbers of the two variables, the lesser one first, and the place of the `$d`

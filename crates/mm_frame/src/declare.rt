@@ -21,7 +21,7 @@ impl<'a> Tables<'a> {
     fn note_variable(&mut self, number: u32, variable: usize)
         ensures infos { (info : SymbolInfo) → slice_get self.old.infos.items number ≡ Some info
             → self.new.infos.items ≡ slice_set self.old.infos.items number
-                (record { variable = Some variable; floating = info.floating }) }
+            (record { variable = Some variable; floating = info.floating }) }
         ensures len { vec_len self.new.infos ≡ vec_len self.old.infos }
         ensures room { vec_capacity self.new.infos ≡ vec_capacity self.old.infos }
         ensures others { self.new ≡ record self.old { infos = self.new.infos } }

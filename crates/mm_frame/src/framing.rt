@@ -1,12 +1,14 @@
 //! The frame of an assertion, from the lists as they are before it.
 
-ghost use Rattle.std.specs.Prelude.{◌≡◌, ◌++◌, length, map, take, slice_get, OnOk, IfOk};
+ghost use Rattle.std.specs.Prelude.{◌≡◌, ℕ, ◌+◌, ◌++◌, ◌∷◌, List, Some, length, map, take, slice_get, OnOk, IfOk};
 ghost use Rattle.std.specs.Option.{option_and_then};
 ghost use Rattle.mm_frame.specs.Sentence.{Sentence, IsStated};
 ghost use Rattle.mm_frame.specs.Rules.{IsMeant};
 ghost use Rattle.mm_frame.specs.Numbers.{AreNumbers, labelled};
+ghost use Rattle.mm_frame.specs.FramePlace.{ArePairs};
+ghost use Rattle.mm_frame.specs.declared.number.Sym.{Sym};
 ghost use Rattle.mm_frame.specs.Layout.{AreTables, statements_of};
-ghost use Rattle.mm_frame.specs.Gathered.{floating_of, floatings, AreGathered, ArePlaces};
+ghost use Rattle.mm_frame.specs.Gathered.{floating_of, floatings, AreGathered, ArePlaces, AreVariables, AreFound};
 
 use crate::lists::at;
 use crate::number::{LabelId, Sym};
@@ -99,7 +101,12 @@ pub(crate) fn label_ids(tables: &Tables, places: &[usize]) -> Result<Vec<LabelId
 }
 
 // The variables of the `$f` at some places, and nothing of a `$e`.
-fn typed_by(tables: &Tables, places: &[usize]) -> Result<Vec<Sym>, AllocError> {
+fn typed_by(tables: &Tables, places: &[usize]) -> Result<Vec<Sym>, AllocError>
+    requires { AreTables tables.now }
+    ensures { (s : Sentence) → ArePlaces (statements_of tables.now) s places.now
+        → IfOk result (λ variables.
+            AreVariables (statements_of tables.now) places.now variables.items) }
+{
     let mut variables = Vec::new(tables.alloc);
     for place in places {
         match tables.floating_variable(*place) {
@@ -116,7 +123,16 @@ fn add_pairs(
     variable: Sym,
     others: &[Sym],
     pairs: &mut Vec<(Sym, Sym)>,
-) -> Result<(), AllocError> {
+) -> Result<(), AllocError>
+    requires { AreTables tables.now }
+    ensures { (places : List ℕ) (variables : List Sym)
+        → AreVariables (statements_of tables.now) places variables
+        → others.now ≡ take (length others.now) variables
+        → slice_get variables (length others.now) ≡ Some variable
+        → AreFound (statements_of tables.now) variables (length others.now) 0 pairs.old.items
+        → OnOk result (AreFound
+            (statements_of tables.now) variables (length others.now + 1) 0 pairs.new.items) }
+{
     for other in others {
         if tables.is_distinct(*other, variable, tables.log.len()) {
             pairs.push((*other, variable))?;
@@ -129,7 +145,17 @@ fn add_pairs(
 pub(crate) fn mandatory_pairs(
     tables: &Tables,
     places: &[usize],
-) -> Result<Vec<(Sym, Sym)>, AllocError> {
+) -> Result<Vec<(Sym, Sym)>, AllocError>
+    requires { AreTables tables.now }
+    ensures { (s : Sentence) (more : List Sentence) → IsMeant (statements_of tables.now) s
+        → IsStated s.kind → ArePlaces (statements_of tables.now) s places.now
+        → IfOk result (λ pairs. ArePairs
+            (record {
+                statements = statements_of tables.now ++ s ∷ more;
+                place = length (statements_of tables.now);
+            })
+            (map (λ pair. (pair.0.0, pair.1.0)) pairs.items)) }
+{
     let variables = typed_by(tables, places)?;
     let mut pairs = Vec::new(tables.alloc);
     for i in 0..variables.len() {

@@ -23,7 +23,10 @@ pub declare_each-requires-clause-tables : goal.declare_each-requires-clause-tabl
 declare_each-requires-clause-tables c = (same_tables _ _ c.requires.tables c.make_room.ensures.same).tables
 
 pub returns-clause-ok : goal.returns-clause-ok
-returns-clause-ok c = (refl, declares c.args.self.now c.make_room.new.self c.declare_each.new.self c.enter.new.self (plain_statement c.args.statement.now) c.len-start.result c.args.bytes
-    c.requires.tables c.make_room.ensures.same c.requires.meant c.requires.formed c.requires.kind c.requires.counted c.requires.room
-    (subst (TakesSymbols c.make_room.new.self c.declare_each.new.self c.args.statement.now.kind) (ap texts_of c.deref.ensures.value ∙ sym (texts c.args.statement.now.symbols.items)) c.declare_each.ensures)
-    (search rules) c.enter.ensures)
+returns-clause-ok c = (
+  refl,
+  declares c.args.self.now c.make_room.new.self c.declare_each.new.self c.enter.new.self (plain_statement c.args.statement.now) c.len-start.result c.args.bytes
+      c.requires.tables c.make_room.ensures.same c.requires.meant c.requires.formed c.requires.kind c.requires.counted c.requires.room
+      (subst (TakesSymbols c.make_room.new.self c.declare_each.new.self c.args.statement.now.kind) (ap texts_of c.deref.ensures.value ∙ sym (texts c.args.statement.now.symbols.items)) c.declare_each.ensures)
+      (search rules) c.enter.ensures,
+)

@@ -1,4 +1,4 @@
-use Rattle.std.proofs.Common.{rules, ◌≡◌, ◌+◌, ◌<◌, ◌≤◌, ◌-◌, length, map, Some, suc, sym, ap, ◌∙◌, subst, arith}
+use Rattle.std.proofs.Common.{rules, length, Some, ap, ◌∙◌, subst, arith}
 use Rattle.mm_frame.specs.Declaring.{HasSpace}
 use Rattle.mm_frame.proofs.RepeatsCode.{texts_of, text_at}
 use Rattle.mm_frame.proofs.DeclaredSymbols.{taken_none, taken_next, latest_variable, latest_none}
@@ -7,18 +7,18 @@ use Rattle.mm_frame.proofs.tables.Tables.declare_each.Goals as goal
 
 pub loop-token-init : goal.loop-token-init
 loop-token-init c = record {
-    taken = taken_none c.args.self.now c.args.kind c.requires.tables c.requires.kind;
-    space = subst (HasSpace c.args.self.now) (omega arith) c.requires.room;
-    latest = elim c.if-eq.branch [
-      | then-eq w ↦ w.variable-is ∙ ap Some (search rules) ∙ latest_variable c.args.kind (length c.args.self.now.log.items) (search rules)
-      | else-eq w ↦ w.variable-is ∙ latest_none _ _ c.requires.kind (search rules)
-    ];
-  }
+  taken = taken_none c.args.self.now c.args.kind c.requires.tables c.requires.kind;
+  space = subst (HasSpace c.args.self.now) (omega arith) c.requires.room;
+  latest = elim c.if-eq.branch [
+    | then-eq w ↦ w.variable-is ∙ ap Some (search rules) ∙ latest_variable c.args.kind (length c.args.self.now.log.items) (search rules)
+    | else-eq w ↦ w.variable-is ∙ latest_none _ _ c.requires.kind (search rules)
+  ];
+}
 
 pub loop-token-preserved : goal.loop-token-preserved
 loop-token-preserved c = record {
-    taken = taken_next c.args.self.now c.loop-token.self c.declare.new.self c.args.kind (texts_of c.args.symbols.now) c.loop-token.token-index _ _ c.requires.tables c.requires.kind
-        c.loop-token.invariant.latest (text_at c.args.symbols.now c.loop-token.token-index _ (search rules)) c.loop-token.invariant.taken c.declare.ensures.taken;
-    space = c.declare.ensures.room _ (subst (HasSpace c.loop-token.self) (omega arith) c.loop-token.invariant.space);
-    latest = c.loop-token.invariant.latest;
-  }
+  taken = taken_next c.args.self.now c.loop-token.self c.declare.new.self c.args.kind (texts_of c.args.symbols.now) c.loop-token.token-index _ _ c.requires.tables c.requires.kind
+      c.loop-token.invariant.latest (text_at c.args.symbols.now c.loop-token.token-index _ (search rules)) c.loop-token.invariant.taken c.declare.ensures.taken;
+  space = c.declare.ensures.room _ (subst (HasSpace c.loop-token.self) (omega arith) c.loop-token.invariant.space);
+  latest = c.loop-token.invariant.latest;
+}

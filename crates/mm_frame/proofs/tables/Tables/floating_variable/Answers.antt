@@ -1,4 +1,4 @@
-use Rattle.std.proofs.Common.{◌≡◌, ℕ, List, Some, None, refl, sym, ◌∙◌, ap, subst, rules, MatchOption}
+use Rattle.std.proofs.Common.{◌≡◌, ℕ, List, Some, sym, ◌∙◌, ap, subst, rules, MatchOption}
 use Rattle.std.specs.List.{slice_get}
 use denote.Enum.Bare.{same_true, sameb}
 use Rattle.mm_text.specs.contracts.statement.Kind.{the_type}
