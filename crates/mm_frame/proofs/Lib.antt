@@ -41,3 +41,4 @@ pub mod Declared
 pub mod Uses
 pub mod Separated
 pub mod NamedTables
+pub mod SeparatedTables

@@ -1,8 +1,8 @@
 -- The pairs that a `$d` adds.
-use Rattle.std.proofs.Common.{◌≡◌, ℕ, zero, suc, ◌+◌, ◌<◌, ◌≤◌, ◌⊎◌, inl, inr, ◌↔◌, Bool, true, false, IsTrue, take, get_or, List, [], ◌∷◌, ◌++◌, map, length, Contains, Some, refl, sym, ap, ◌∙◌, subst, arith}
+use Rattle.std.proofs.Common.{◌≡◌, ℕ, zero, suc, ◌+◌, ◌<◌, ◌≤◌, ◌⊎◌, inl, inr, ◌↔◌, Bool, true, false, IsTrue, take, List, [], ◌∷◌, ◌++◌, map, length, Contains, Some, refl, sym, ap, ◌∙◌, subst, arith}
 use Rattle.std.specs.List.{slice_get}
 use Rattle.std.specs.Bool.{if◌then◌else◌}
-use Rattle.std.proofs.lemmas.Option.{slice_get_within, slice_get-get_or}
+use Rattle.std.proofs.lemmas.Option.{slice_get_within}
 use Rattle.std.proofs.lemmas.Bool.{cases_lt, cases_order, le-ltb, lt-ltb}
 use Rattle.std.proofs.Math.Seq.{take-length}
 use Rattle.mm_text.specs.declared.statement.Kind.TheVariants.{Distinct}
@@ -150,7 +150,7 @@ is_fresh st a b n r all says fails x y at_x at_y distinct =
     absurd (cc)
 
 -- the name of a member with one of some numbers, and the number of a symbol
-member_name : (names : List (List ℕ)) (members : List Sym) (symbols : List (List ℕ)) (u : ℕ) (a : Sym) → map (slice_get names) (map (λ n. n.0) members) ≡ map Some symbols → slice_get members u ≡ Some a
+pub member_name : (names : List (List ℕ)) (members : List Sym) (symbols : List (List ℕ)) (u : ℕ) (a : Sym) → map (slice_get names) (map (λ n. n.0) members) ≡ map Some symbols → slice_get members u ≡ Some a
     → (x : List ℕ) × (slice_get symbols u ≡ Some x) × (slice_get names a.0 ≡ Some x)
 member_name names [] symbols u a are there = absurd (cc)
 member_name names (m ∷ members) [] u a are there = absurd (cc)
@@ -249,6 +249,7 @@ new_from_paired st s symbols members pairs all kind meant numbers are = record {
   where
     stand : StandOnce members
     stand = members_once st s members kind meant numbers
+
     only : (k : ℕ) (span : Stated) (pair : ℕ × ℕ) → slice_get pairs k ≡ Some pair → stated_at (length st) pair ≡ span → (span.place ≡ length st) × (span.pair.0 < span.pair.1) × (x : List ℕ) × (y : List ℕ)
         × (slice_get symbols span.pair.0 ≡ Some x) × (slice_get symbols span.pair.1 ≡ Some y) × Contains s.symbols x × Contains s.symbols y × ¬ (IsDistinct st x y)
     only k span pair there is =

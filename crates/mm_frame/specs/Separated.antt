@@ -29,9 +29,9 @@ IsPassed i j u v = (u < v) × ((v < i) ⊎ ((v ≡ i) × (u < j)))
 -- the pairs of the members at those places that aren't distinct already, each once if no member stands twice
 pub record ArePaired (statements : List Sentence) (members : List Sym) (i j : ℕ) (pairs : List (ℕ × ℕ)) : Type 0 where
   pub only : (k : ℕ) (pair : ℕ × ℕ) → slice_get pairs k ≡ Some pair
-    → (u : ℕ) × (v : ℕ) × (a : Sym) × (b : Sym) × IsPassed i j u v × (slice_get members u ≡ Some a) × (slice_get members v ≡ Some b)
+      → (u : ℕ) × (v : ℕ) × (a : Sym) × (b : Sym) × IsPassed i j u v × (slice_get members u ≡ Some a) × (slice_get members v ≡ Some b)
       × (pair ≡ ordered b.0 a.0) × IsFresh statements b.0 a.0
   pub once : ((u v : ℕ) (a : Sym) → slice_get members u ≡ Some a → slice_get members v ≡ Some a → u ≡ v)
-    → (k l : ℕ) (pair : ℕ × ℕ) → slice_get pairs k ≡ Some pair → slice_get pairs l ≡ Some pair → k ≡ l
+      → (k l : ℕ) (pair : ℕ × ℕ) → slice_get pairs k ≡ Some pair → slice_get pairs l ≡ Some pair → k ≡ l
   pub each : (u v : ℕ) (a b : Sym) → IsPassed i j u v → slice_get members u ≡ Some a → slice_get members v ≡ Some b
-    → ((k : ℕ) × (slice_get pairs k ≡ Some (ordered b.0 a.0))) ⊎ IsOld statements b.0 a.0
+      → ((k : ℕ) × (slice_get pairs k ≡ Some (ordered b.0 a.0))) ⊎ IsOld statements b.0 a.0

@@ -13,7 +13,7 @@ ghost use Rattle.mm_frame.specs.declared.answer.Taken.TheVariants.{Declared};
 
 use crate::answer::Taken;
 use crate::number::Sym;
-use crate::pairs::{in_order, Pairs};
+use crate::pairs::{Pairs, in_order};
 use crate::tables::Tables;
 use mm_text::Kind;
 use std::alloc::AllocError;

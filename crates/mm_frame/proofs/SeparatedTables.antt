@@ -1,0 +1,126 @@
+-- A book's lists once a `$d` is written.
+use Rattle.std.proofs.Common.{◌≡◌, ℕ, ◌+◌, ◌-◌, ◌<◌, ◌≤◌, length, take, List, [], ◌∷◌, ◌++◌, map, unwrap_or, Option, Some, None, refl, sym, ap, ◌∙◌, subst, length-append, arith}
+use Rattle.std.specs.List.{slice_get, slice_range}
+use Rattle.std.proofs.lemmas.Option.{slice_get_within}
+use Rattle.std.proofs.lemmas.List.{append-nil}
+use Rattle.std.proofs.Math.Seq.{drop-append_seam, take-length}
+use Rattle.mm_text.specs.declared.statement.Kind.{Kind}
+use Rattle.mm_text.specs.declared.statement.Kind.TheVariants.{Floating, Essential, Distinct, Closing}
+use Rattle.mm_frame.specs.declared.number.Sym.{Sym}
+use Rattle.mm_frame.specs.declared.tables.Tables.{Tables}
+use Rattle.mm_frame.specs.Sentence.{Sentence}
+use Rattle.mm_frame.specs.Rules.{IsMeant}
+use Rattle.mm_frame.specs.Form.{IsFormedSentence}
+use Rattle.mm_frame.specs.Numbers.{AreNumbers, declared_by, declared_in}
+use Rattle.mm_frame.specs.ScopesOf.{HaveScopes}
+use Rattle.mm_frame.specs.Layout.{AreTables, AreInfos, AreLabels, AreEssentials, AreFrames, AreStated, names_by, statements_of}
+use Rattle.mm_frame.specs.Grows.{Grows, entry_of}
+use Rattle.mm_frame.specs.Separated.{ArePaired, stated_at}
+use Rattle.mm_frame.proofs.Labels.{labels_none, essentials_other}
+use Rattle.mm_frame.proofs.Infos.{infos_other}
+use Rattle.mm_frame.proofs.Entries.{length-sentences}
+use Rattle.mm_frame.proofs.FrameLaws.{placed, frames_other}
+use Rattle.mm_frame.proofs.DistinctAt.{stated_push}
+use Rattle.mm_frame.proofs.Separated.{member_name, new_from_paired}
+use Rattle.mm_frame.proofs.Assembled.{AreAppended, AreGrown, assembled}
+
+-- the names of the members
+members_named : (names : List (List ℕ)) (members : List Sym) (xs : List (List ℕ)) → map (slice_get names) (map (λ n. n.0) members) ≡ map Some xs → names_by names members ≡ xs
+members_named names [] [] are = refl
+members_named names [] (x ∷ xs) are = absurd (cc)
+members_named names (n ∷ members) [] are = absurd (cc)
+members_named names (n ∷ members) (x ∷ xs) are =
+    let here : slice_get names n.0 ≡ Some x = cc in
+    let rest : map (slice_get names) (map (λ n. n.0) members) ≡ map Some xs = cc in
+    let head : unwrap_or (slice_get names n.0) [] ≡ x = ap (λ o. unwrap_or o []) here in
+    let tail = members_named names members xs rest in
+    cc (head, tail)
+
+-- the part that was added to the end of a list
+end_part : {X : Type 0} (xs more : List X) → slice_range (xs ++ more) (length xs) (length (xs ++ more)) ≡ more
+end_part xs more =
+    let size = length-append xs more in
+    let n : length (xs ++ more) - length xs ≡ length more = omega arith in
+    ap (take (length (xs ++ more) - length xs)) (drop-append_seam xs more) ∙ ap (λ k. take k more) n ∙ take-length more
+
+same_said : (s : Sentence) (kind : Kind) (l : Option (List ℕ)) (xs : List (List ℕ)) → kind ≡ s.kind → l ≡ s.label → xs ≡ s.symbols → ◌≡◌ {A = Sentence} (record { kind = kind; label = l; symbols = xs }) s
+same_said s kind l xs e f g =
+    ap (λ (k : Kind). let t : Sentence = record { kind = k; label = l; symbols = xs } in t) e
+    ∙ ap (λ (o : Option (List ℕ)). let t : Sentence = record { kind = s.kind; label = o; symbols = xs } in t) f
+    ∙ ap (λ (ys : List (List ℕ)). let t : Sentence = record { kind = s.kind; label = s.label; symbols = ys } in t) g
+
+-- the lists with a `$d` of these members more, which adds these pairs
+pub record AreSeparated (t v : Tables) (members : List Sym) (added : List (ℕ × ℕ)) (size : ℕ) : Type 0 where
+  pub symbols : v.symbols.names ≡ t.symbols.names
+  pub infos : v.infos.items ≡ t.infos.items
+  pub labels : v.labels.names ≡ t.labels.names
+  pub named : v.named.items ≡ t.named.items
+  pub log : v.log.items ≡ t.log.items ++ entry_of Distinct None (length t.flat.items) (length (t.flat.items ++ members)) ∷ []
+  pub flat : v.flat.items ≡ t.flat.items ++ members
+  pub scopes : (s : Sentence) → s.kind ≡ Distinct → HaveScopes (statements_of t ++ s ∷ []) v.scopes
+  pub essentials : v.essentials.items ≡ t.essentials.items
+  pub hypotheses : v.hypotheses.items ≡ t.hypotheses.items
+  pub pairs : v.pairs.items ≡ t.pairs.items
+  pub stated : v.distinct.stated ≡ t.distinct.stated ++ map (stated_at (length (statements_of t))) added
+  pub bytes : v.bytes ≡ t.bytes + size
+
+-- what a new `$d` says
+pub record IsNewDistinct (t : Tables) (s : Sentence) (members : List Sym) : Type 0 where
+  pub kind : s.kind ≡ Distinct
+  pub label : s.label ≡ None
+  pub numbered : AreNumbers (statements_of t) (map (λ n. n.0) members) s.symbols
+  pub meant : IsMeant (statements_of t) s
+  pub formed : IsFormedSentence s
+
+appended : (t v : Tables) (s : Sentence) (members : List Sym) (pairs : List (ℕ × ℕ)) (bytes : ℕ) → AreTables t → AreSeparated t v members pairs bytes → IsNewDistinct t s members
+    → AreAppended t v [] [] members (entry_of Distinct None (length t.flat.items) (length (t.flat.items ++ members))) s
+appended t v s members pairs bytes tables are new =
+    let names = t.symbols.names in
+    let whole : names ++ [] ≡ names = append-nil names in
+    let numbers : map (slice_get names) (map (λ n. n.0) members) ≡ map Some s.symbols =
+    subst (λ (ns : List (List ℕ)). map (slice_get ns) (map (λ n. n.0) members) ≡ map Some s.symbols) (sym tables.infos.all) new.numbered in
+    let flat = t.flat.items ++ members in
+    let part : slice_range flat (length t.flat.items) (length flat) ≡ members = end_part t.flat.items members in
+    let size = length-append t.flat.items members in
+    record {
+      symbols = are.symbols ∙ sym whole;
+      labels = are.labels ∙ sym (append-nil t.labels.names);
+      flat = are.flat;
+      log = are.log;
+      said = same_said s Distinct None _ (sym new.kind) (sym new.label)
+          (ap (λ ns. names_by ns (slice_range flat (length t.flat.items) (length flat))) whole ∙ ap (names_by names) part ∙ members_named names members s.symbols numbers);
+      within = record { ordered = omega arith; within = omega arith };
+      numbers = λ i n there.
+          let (x, in_it, at) = member_name names members s.symbols i n numbers there in
+          let lt = slice_get_within names n.0 x at in
+          subst (λ ns. n.0 < length ns) (sym whole) lt;
+      label = λ id is. absurd (cc);
+    }
+
+grown : (t v : Tables) (s : Sentence) (members : List Sym) (pairs : List (ℕ × ℕ)) (bytes : ℕ) → AreTables t → AreSeparated t v members pairs bytes → IsNewDistinct t s members
+    → ArePaired (statements_of t) members (length members) 0 pairs → AreGrown t v s
+grown t v s members pairs bytes tables are new paired =
+    let st = statements_of t in
+    let size : length t.log.items ≡ length st = sym (length-sentences t.symbols.names t.labels.names t.flat.items t.log.items) in
+    let declares : declared_by s ≡ [] = ap (λ k. declared_in k s.symbols) new.kind in
+    let types : ¬ (s.kind ≡ Floating) = λ is. absurd (let k = new.kind in cc) in
+    let supposes : ¬ (s.kind ≡ Essential) = λ is. absurd (let k = new.kind in cc) in
+    let closes : ¬ (s.kind ≡ Closing) = λ is. absurd (let k = new.kind in cc) in
+    let infos : AreInfos (st ++ s ∷ []) v.symbols.names v.infos.items = rw (are.symbols, are.infos) (infos_other st t.symbols.names t.infos.items s tables.infos declares types) in
+    let labels : AreLabels (st ++ s ∷ []) v.labels.names v.named.items v.log.items = rw (are.labels, are.named, are.log) (labels_none st t.labels.names t.named.items t.log.items s _ tables.labels new.label refl size) in
+    let essentials : AreEssentials (st ++ s ∷ []) v.essentials.items = rw are.essentials (essentials_other st t.essentials.items s tables.essentials supposes closes) in
+    let others : AreFrames (st ++ s ∷ []) (t.hypotheses.items ++ []) (t.pairs.items ++ []) t.named.items =
+    frames_other st s t.hypotheses.items [] t.pairs.items [] t.named.items (placed st t.labels.names t.named.items t.log.items tables.labels) tables.frames in
+    let hypotheses : v.hypotheses.items ≡ t.hypotheses.items ++ [] = are.hypotheses ∙ sym (append-nil t.hypotheses.items) in
+    let distinct : v.pairs.items ≡ t.pairs.items ++ [] = are.pairs ∙ sym (append-nil t.pairs.items) in
+    let frames : AreFrames (st ++ s ∷ []) v.hypotheses.items v.pairs.items v.named.items = rw (hypotheses, distinct, are.named) others in
+    let stated : AreStated (st ++ s ∷ []) v.symbols.names v.distinct.stated = rw (are.symbols, are.stated)
+    (stated_push st s t.symbols.names t.distinct.stated (map (stated_at (length st)) pairs) tables.infos.all tables.stated new.kind
+    (new_from_paired st s t.symbols.names members pairs tables.infos.all new.kind new.meant new.numbered paired)) in
+    record { infos = infos; labels = labels; scopes = are.scopes s new.kind; essentials = essentials; frames = frames; stated = stated }
+
+-- The lists hold the `$d`.
+pub separated : (t v : Tables) (s : Sentence) (members : List Sym) (pairs : List (ℕ × ℕ)) (bytes : ℕ) → AreTables t → t.bytes + bytes ≤ 1073741824 → 1 + length members ≤ bytes → AreSeparated t v members pairs bytes
+    → ArePaired (statements_of t) members (length members) 0 pairs → IsNewDistinct t s members → Grows t v s bytes
+separated t v s members pairs bytes tables room enough are paired new =
+    assembled t v s _ [] [] members bytes tables new.meant new.formed (appended t v s members pairs bytes tables are new) (grown t v s members pairs bytes tables are new paired) are.bytes (omega arith) room
