@@ -1,13 +1,13 @@
 -- A book's lists once a label and its statement are written.
-use Rattle.std.proofs.Common.{◌≡◌, ℕ, zero, suc, ◌+◌, ◌*◌, ◌-◌, ◌<◌, ◌≤◌, ◌⊎◌, inl, inr, length, take, drop, set, List, [], ◌∷◌, ◌++◌, map, unwrap_or, Option, Some, None, refl, sym, ap, ◌∙◌, subst, length-append, Result, Ok, Err, arith, rules}
+use Rattle.std.proofs.Common.{◌≡◌, ℕ, zero, suc, ◌+◌, ◌*◌, ◌-◌, ◌<◌, ◌≤◌, inl, inr, length, take, set, List, [], ◌∷◌, ◌++◌, map, unwrap_or, Option, Some, refl, sym, ap, ◌∙◌, subst, length-append, Result, Ok, Err, arith, rules}
 use Rattle.std.specs.List.{slice_get, slice_range, fold}
 use Rattle.std.proofs.lemmas.Option.{slice_get_within}
-use Rattle.std.proofs.lemmas.List.{append-nil, length-map}
+use Rattle.std.proofs.lemmas.List.{append-nil}
 use Rattle.std.proofs.Math.Seq.{drop-append_seam, take-length}
 use Rattle.std.specs.Result.{OnErr}
 use Rattle.mm_text.specs.Statement.{FitsCount}
 use Rattle.mm_text.specs.declared.statement.Kind.{Kind}
-use Rattle.mm_text.specs.declared.statement.Kind.TheVariants.{Constants, Variables, Floating, Essential, Axiom, Provable, Distinct, Closing}
+use Rattle.mm_text.specs.declared.statement.Kind.TheVariants.{Floating, Essential, Distinct, Closing}
 use Rattle.mm_frame.specs.declared.number.LabelId.{LabelId}
 use Rattle.mm_frame.specs.declared.number.Sym.{Sym}
 use Rattle.mm_frame.specs.declared.tables.Entry.{Entry}
@@ -15,24 +15,28 @@ use Rattle.mm_frame.specs.declared.tables.LabelInfo.{LabelInfo}
 use Rattle.mm_frame.specs.declared.tables.Part.{Part}
 use Rattle.mm_frame.specs.declared.tables.SymbolInfo.{SymbolInfo}
 use Rattle.mm_frame.specs.declared.tables.Tables.{Tables}
-use Rattle.mm_frame.specs.Sentence.{Sentence, IsHypothesis, IsAssertion}
+use Rattle.mm_frame.specs.Sentence.{Sentence, IsAssertion}
 use Rattle.mm_frame.specs.Rules.{IsMeant}
 use Rattle.mm_frame.specs.declared.rule.MeaningRule.TheVariants.{M5}
 use Rattle.mm_frame.specs.Form.{IsFormedSentence}
-use Rattle.mm_frame.specs.Numbers.{AreNumbers, labelled, symbols_of, with_name, declared_by, declared_in}
+use Rattle.mm_frame.specs.Numbers.{AreNumbers, symbols_of, with_name, declared_by, declared_in}
 use Rattle.mm_frame.specs.ScopesOf.{HaveScopes, HaveSameLists}
-use Rattle.mm_frame.specs.Taken.{next_id}
-use Rattle.mm_frame.specs.Layout.{AreTables, AreInfos, AreLabels, AreEssentials, AreFrames, AreStated, IsFrameInfo, IsWithin, names_by, label_by, sentence_by, statements_of}
+use Rattle.mm_frame.specs.Taken.{next_id, TakenAs}
+use Rattle.mm_frame.specs.declared.answer.Taken.TheVariants.{Assertion}
+use Rattle.mm_frame.specs.Layout.{AreTables, AreInfos, AreLabels, AreEssentials, AreFrames, IsFrameInfo, names_by, statements_of}
 use Rattle.mm_frame.specs.Grows.{Grows, SameLists, entry_of}
-use Rattle.mm_frame.specs.Naming.{Named, label_info}
+use Rattle.mm_frame.specs.Naming.{Named, label_info, part_after}
+use Rattle.mm_frame.specs.FramePlace.{AreHypotheses, ArePairs}
+use Rattle.mm_frame.specs.Gathered.{ArePlaces}
+use Rattle.mm_frame.proofs.FrameOf.{numbers_at, hypotheses_from_places}
 use Rattle.mm_frame.proofs.Pushed.{get_pushed, get_within}
 use Rattle.mm_frame.proofs.LookupLaws.{label_number}
 use Rattle.mm_frame.proofs.Numbered.{contains_from_at, with_name_cases, symbols_push}
 use Rattle.mm_frame.proofs.Labelled.{labelled_few}
 use Rattle.mm_frame.proofs.Labels.{labels_counted, labels_some, essentials_essential, essentials_other}
 use Rattle.mm_frame.proofs.Infos.{infos_other, infos_floating}
-use Rattle.mm_frame.proofs.Entries.{length-sentences}
-use Rattle.mm_frame.proofs.FrameLaws.{stated_other, placed, frames_hypothesis, frames_assertion}
+use Rattle.mm_frame.proofs.Entries.{length-sentences, longer}
+use Rattle.mm_frame.proofs.FrameLaws.{at_place, stated_other, placed, frames_hypothesis, frames_assertion}
 use Rattle.mm_frame.proofs.Assembled.{AreAppended, AreGrown, assembled}
 
 -- there are fewer labels than numbers for them
@@ -89,9 +93,6 @@ added_part xs more =
     let n : length (xs ++ more) - length xs ≡ length more = omega arith in
     ap (take (length (xs ++ more) - length xs)) (drop-append_seam xs more) ∙ ap (λ k. take k more) n ∙ take-length more
 
-pub added_within : {X : Type 0} (xs more : List X) → length xs ≤ length (xs ++ more)
-added_within xs more = let size = length-append xs more in omega arith
-
 same_sentence : (s : Sentence) (kind : Kind) (l : Option (List ℕ)) (xs : List (List ℕ)) → kind ≡ s.kind → l ≡ s.label → xs ≡ s.symbols → ◌≡◌ {A = Sentence} (record { kind = kind; label = l; symbols = xs }) s
 same_sentence s kind l xs e f g =
     ap (λ (k : Kind). let t : Sentence = record { kind = k; label = l; symbols = xs } in t) e
@@ -114,8 +115,16 @@ pub record Before (t u : Tables) (a : List LabelId) (b : List (Sym × Sym)) : Ty
 -- lists that are the same are so
 pub before_same : (t u : Tables) → SameLists t u → Before t u [] []
 before_same t u same = record {
-  symbols = same.symbols; labels = same.labels; named = same.named; log = same.log; flat = same.flat; scopes = same.scopes;
-  hypotheses = same.hypotheses ∙ sym (append-nil t.hypotheses.items); pairs = same.pairs ∙ sym (append-nil t.pairs.items); stated = same.stated; bytes = same.bytes;
+  symbols = same.symbols;
+  labels = same.labels;
+  named = same.named;
+  log = same.log;
+  flat = same.flat;
+  scopes = same.scopes;
+  hypotheses = same.hypotheses ∙ sym (append-nil t.hypotheses.items);
+  pairs = same.pairs ∙ sym (append-nil t.pairs.items);
+  stated = same.stated;
+  bytes = same.bytes;
 }
 
 -- what the new statement is, as the lists say it
@@ -147,7 +156,7 @@ appended t u v s kind l numbers frame id a b bytes are before named number is =
       said = same_sentence s kind _ _ (sym is.kinds)
           (ap (slice_get (t.labels.names ++ l ∷ [])) number' ∙ get_pushed t.labels.names l ∙ sym is.label)
           (ap (names_by (t.symbols.names ++ [])) (added_part t.flat.items numbers) ∙ ap (λ ys. names_by ys numbers) more ∙ names_numbered t.symbols.names numbers s.symbols names);
-      within = record { ordered = added_within t.flat.items numbers; within = omega arith };
+      within = record { ordered = longer t.flat.items numbers; within = omega arith };
       numbers = λ i n there. subst (λ (ys : List (List ℕ)). n.0 < length ys) (sym more) (numbers_within t.symbols.names numbers s.symbols names i n there);
       label = λ other same. let e : id ≡ other = cc in let f : id.0 ≡ other.0 = ap (λ (i : LabelId). i.0) e in omega arith;
     }
@@ -169,14 +178,14 @@ grown t u v s kind l numbers frame id a b bytes are before named number is none 
     let app = appended t u v s kind l numbers frame id a b bytes are before named number is in
     let size = length-sentences t.symbols.names t.labels.names t.flat.items t.log.items in
     let labels = labels_some st t.labels.names t.named.items t.log.items s new l id (label_info (length t.log.items) frame) are.labels
-          is.label refl (number ∙ ap length before.labels) (sym size) (sym size) in
+    is.label refl (number ∙ ap length before.labels) (sym size) (sym size) in
     let held : HaveScopes st u.scopes = rw (before.scopes.blocks, before.scopes.ends, before.scopes.open_blocks) are.scopes in
     let names : v.named.items ≡ t.named.items ++ label_info (length t.log.items) frame ∷ [] =
-        named.named ∙ ap (λ (ys : List LabelInfo). ys ++ label_info (length u.log.items) frame ∷ []) before.named
-        ∙ ap (λ (ys : List Entry). t.named.items ++ label_info (length ys) frame ∷ []) before.log in
+    named.named ∙ ap (λ (ys : List LabelInfo). ys ++ label_info (length u.log.items) frame ∷ []) before.named
+    ∙ ap (λ (ys : List Entry). t.named.items ++ label_info (length ys) frame ∷ []) before.log in
     let same : v.symbols.names ≡ t.symbols.names = named.symbols ∙ before.symbols in
     let kept = stated_other st s t.symbols.names [] t.distinct.stated are.sound.0 are.infos.all (same_symbols t s are none) are.stated
-          (λ distinct. together (sym is.kinds ∙ distinct)) in
+    (λ distinct. together (sym is.kinds ∙ distinct)) in
     record {
       infos = rw (same, named.infos) infos;
       labels = rw (app.labels, names, app.log) labels;
@@ -230,7 +239,7 @@ supposed t u v s l numbers frame id bytes are before infos essentials named numb
     let size = length-sentences t.symbols.names t.labels.names t.flat.items t.log.items in
     let known = infos_other st t.symbols.names t.infos.items s are.infos none (λ floats. let e = is.kinds in absurd (cc)) in
     let active : AreEssentials (st ++ s ∷ []) (t.essentials.items ++ length t.log.items ∷ []) =
-        subst (λ n. AreEssentials (st ++ s ∷ []) (t.essentials.items ++ n ∷ [])) size (essentials_essential st t.essentials.items s are.essentials is.kinds) in
+    subst (λ n. AreEssentials (st ++ s ∷ []) (t.essentials.items ++ n ∷ [])) size (essentials_essential st t.essentials.items s are.essentials is.kinds) in
     named_grows t u v s Essential l numbers frame id [] [] bytes are before named number is none (λ e. absurd (cc)) (λ e. absurd (cc))
     (rw infos known) (rw essentials active) (hypothesis_frames t s frame are (no_assertion s Essential is.kinds essential_asserts)) enough room
 
@@ -245,8 +254,8 @@ typed t u v s code x n info l numbers frame id bytes are before says at there in
     let none = declares_none s Floating is.kinds refl in
     let size = length-sentences t.symbols.names t.labels.names t.flat.items t.log.items in
     let known : AreInfos (st ++ s ∷ []) t.symbols.names (set t.infos.items n.0 (record info { floating = Some (length t.log.items) })) =
-        subst (λ k. AreInfos (st ++ s ∷ []) t.symbols.names (set t.infos.items n.0 (record info { floating = Some k }))) size
-        (infos_floating st t.symbols.names t.infos.items s code x n.0 info are.infos is.kinds says at there) in
+    subst (λ k. AreInfos (st ++ s ∷ []) t.symbols.names (set t.infos.items n.0 (record info { floating = Some k }))) size
+    (infos_floating st t.symbols.names t.infos.items s code x n.0 info are.infos is.kinds says at there) in
     let active = essentials_other st t.essentials.items s are.essentials (λ e. let k = is.kinds in absurd (cc)) (λ e. let k = is.kinds in absurd (cc)) in
     named_grows t u v s Floating l numbers frame id [] [] bytes are before named number is none (λ e. absurd (cc)) (λ e. absurd (cc))
     (rw infos known) (rw essentials active) (hypothesis_frames t s frame are (no_assertion s Floating is.kinds floating_asserts)) enough room
@@ -269,7 +278,7 @@ asserted t u v s kind l numbers frame id a b bytes are which before infos essent
     named_grows t u v s kind l numbers frame id a b bytes are before named number is none unclosed apart
     (rw infos known) (rw essentials active)
     (frames_assertion st s t.hypotheses.items a t.pairs.items b t.named.items (label_info (length t.log.items) frame)
-        (placed st t.labels.names t.named.items t.log.items are.labels) are.frames framed) enough room
+    (placed st t.labels.names t.named.items t.log.items are.labels) are.frames framed) enough room
 
 -- what holds anyway holds after a failure
 pub on_err : {T E : Type 0} (r : Result T E) (P : Type 0) → P → OnErr r P
@@ -307,3 +316,37 @@ known_info t n x are at =
     let lt = slice_get_within t.symbols.names n.0 x at in
     let size = are.infos.informed in
     get_within t.infos.items n.0 (omega arith)
+
+-- what is noted of a symbol, by lists, numbers and places that are the same
+pub noted : (old told new : List SymbolInfo) (m n : Sym) (info : SymbolInfo) (p q : ℕ) → old ≡ told → m ≡ n → p ≡ q → slice_get told n.0 ≡ Some info
+    → ((i : SymbolInfo) → slice_get old m.0 ≡ Some i → new ≡ set old m.0 (record i { floating = Some p })) → new ≡ set told n.0 (record info { floating = Some q })
+noted old told new m n info p q same is place there tells =
+    tells info (rw (same, is) there)
+    ∙ ap (λ xs. set xs m.0 (record info { floating = Some p })) same
+    ∙ ap (λ (k : Sym). set told k.0 (record info { floating = Some p })) is
+    ∙ ap (λ r. set told n.0 (record info { floating = Some r })) place
+
+-- the frame of a new assertion, at the ends of the lists of hypotheses and of pairs
+pub framed : (t : Tables) (s : Sentence) (places : List ℕ) (a : List LabelId) (b : List (Sym × Sym)) → AreTables t → ArePlaces (statements_of t) s places
+    → map (λ id. id.0) a ≡ numbers_at (statements_of t) places → ArePairs (at_place (statements_of t ++ s ∷ []) (length (statements_of t))) (map (λ pair. (pair.0.0, pair.1.0)) b)
+    → IsFrameInfo (statements_of t ++ s ∷ []) (t.hypotheses.items ++ a) (t.pairs.items ++ b) (label_info (length t.log.items) (part_after t.hypotheses.items a, part_after t.pairs.items b))
+framed t s places a b are at ids pairs =
+    let st = statements_of t in
+    let size = length-sentences t.symbols.names t.labels.names t.flat.items t.log.items in
+    let hs : AreHypotheses (at_place (st ++ s ∷ []) (length st)) (map (λ id. id.0) a) =
+    subst (AreHypotheses (at_place (st ++ s ∷ []) (length st))) (sym ids) (hypotheses_from_places st places s [] are.sound.1 at) in
+    record {
+      hypotheses_in = record { ordered = longer t.hypotheses.items a; within = omega arith };
+      pairs_in = record { ordered = longer t.pairs.items b; within = omega arith };
+      are_hypotheses = subst (λ n. AreHypotheses (at_place (st ++ s ∷ []) n) (map (λ id. id.0) (slice_range (t.hypotheses.items ++ a) (length t.hypotheses.items) (length (t.hypotheses.items ++ a))))) size
+          (subst (λ (ids : List LabelId). AreHypotheses (at_place (st ++ s ∷ []) (length st)) (map (λ id. id.0) ids)) (sym (added_part t.hypotheses.items a)) hs);
+      are_pairs = subst (λ n. ArePairs (at_place (st ++ s ∷ []) n) (map (λ pair. (pair.0.0, pair.1.0)) (slice_range (t.pairs.items ++ b) (length t.pairs.items) (length (t.pairs.items ++ b))))) size
+          (subst (λ (ps : List (Sym × Sym)). ArePairs (at_place (st ++ s ∷ []) (length st)) (map (λ pair. (pair.0.0, pair.1.0)) ps)) (sym (added_part t.pairs.items b)) pairs);
+    }
+
+-- what an assertion is taken as
+pub assertion_taken : (t : Tables) (kind : Kind) (id : LabelId) → AreTables t → IsAssertion kind → id.0 ≡ length t.labels.names → TakenAs (statements_of t) kind (Assertion id)
+assertion_taken t kind id are which is = elim which [
+  | inl one ↦ subst (λ k. TakenAs (statements_of t) k (Assertion id)) (sym one) (ap Assertion (next_number t id are is))
+  | inr other ↦ subst (λ k. TakenAs (statements_of t) k (Assertion id)) (sym other) (ap Assertion (next_number t id are is))
+]

@@ -38,8 +38,8 @@ pub record Named (old new : Tables) (kind : Kind) (label : List ℕ) (numbers : 
       ≡ old.log.items ++ entry_of kind (Some id) (length old.flat.items) (length (old.flat.items ++ numbers)) ∷ []
   pub flat : new.flat.items ≡ old.flat.items ++ numbers
   pub scopes :
-    (statements : List Sentence) (s : Sentence) → HaveScopes statements old.scopes → s.kind ≡ kind
-    → (kind ≡ Closing → closings statements < openings statements) → HaveScopes (statements ++ s ∷ []) new.scopes
+      (statements : List Sentence) (s : Sentence) → HaveScopes statements old.scopes → s.kind ≡ kind
+      → (kind ≡ Closing → closings statements < openings statements) → HaveScopes (statements ++ s ∷ []) new.scopes
   pub essentials : new.essentials.items ≡ old.essentials.items
   pub hypotheses : new.hypotheses.items ≡ old.hypotheses.items
   pub pairs : new.pairs.items ≡ old.pairs.items

@@ -14,7 +14,7 @@ ghost use Rattle.mm_frame.specs.Naming.{Named, HaveNameRoom, part_after};
 
 use crate::answer::Taken;
 use crate::framing::{label_ids, mandatory, mandatory_pairs};
-use crate::lists::put;
+use crate::lists::{at, put};
 use crate::number::{LabelId, Sym};
 use crate::tables::{LabelInfo, Part, SymbolInfo, Tables};
 use mm_text::Kind;
@@ -68,11 +68,14 @@ impl<'a> Tables<'a> {
         let start = self.flat.len();
         let _ = self.flat.extend_from_slice(numbers);
         self.labels.add(label);
-        put(&mut self.named, LabelInfo {
-            place,
-            hypotheses: frame.0,
-            pairs: frame.1,
-        });
+        put(
+            &mut self.named,
+            LabelInfo {
+                place,
+                hypotheses: frame.0,
+                pairs: frame.1,
+            },
+        );
         self.enter(kind, Some(id), start, bytes);
         id
     }
@@ -95,8 +98,9 @@ impl<'a> Tables<'a> {
         ensures err { OnErr result (IsSame self.old self.new) }
     {
         self.reserve(numbers.len())?;
-        if let [_, variable] = numbers {
-            note_floating(&mut self.infos, *variable, self.log.len());
+        match at(numbers, 1) {
+            Some(variable) => note_floating(&mut self.infos, variable, self.log.len()),
+            None => {}
         }
         let id = self.name(Kind::Floating, label, numbers, (NO_PART, NO_PART), bytes);
         Ok(Taken::Hypothesis(id))
@@ -147,9 +151,9 @@ impl<'a> Tables<'a> {
         let places = mandatory(self, numbers)?;
         let hypotheses = label_ids(self, &places)?;
         let pairs = mandatory_pairs(self, &places)?;
+        self.reserve(numbers.len())?;
         self.hypotheses.reserve(hypotheses.len())?;
         self.pairs.reserve(pairs.len())?;
-        self.reserve(numbers.len())?;
         let hypotheses = add_part(&mut self.hypotheses, &hypotheses);
         let pairs = add_part(&mut self.pairs, &pairs);
         let id = self.name(kind, label, numbers, (hypotheses, pairs), bytes);

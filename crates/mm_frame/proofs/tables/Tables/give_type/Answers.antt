@@ -1,22 +1,62 @@
-use Rattle.std.proofs.Common.{sym, ap, ◌∙◌, length, ◌++◌, ◌∷◌, []}
+use Rattle.std.proofs.Common.{sym, ap, ◌∙◌, subst, ◌≡◌, length, [], Some, None, arith}
+use Rattle.std.specs.List.{slice_get}
+use Rattle.mm_text.specs.declared.statement.Kind.TheVariants.{Floating}
 use Rattle.mm_frame.specs.declared.answer.Taken.TheVariants.{Hypothesis}
 use Rattle.mm_frame.proofs.SameTables.{same_tables}
-use Rattle.mm_frame.proofs.Entries.{length-sentences}
-use Rattle.mm_frame.proofs.NamedTables.{few_labels, next_number, before_same, typed, on_err, typing_numbers, known_info}
+use Rattle.mm_frame.proofs.NamedTables.{Before, IsWritten, few_labels, next_number, before_same, typed, on_err, typing_numbers, known_info, noted}
 use Rattle.mm_frame.proofs.tables.Tables.give_type.Goals as goal
-use Rattle.mm_frame.proofs.tables.Tables.give_type.Goals.{then-numbers-lt2, in-len2, else-numbers-lt2+else-numbers-lt3}
+use Rattle.mm_frame.proofs.tables.Tables.give_type.Goals.{in-Some, in-None}
 
 pub returns-in_err-reserve-clause-err : goal.returns-in_err-reserve-clause-err
 returns-in_err-reserve-clause-err c = on_err c.from_residual.result _ (same_tables _ _ c.requires.tables c.reserve.ensures.same)
 
 pub name-id-requires-clause-labels : goal.name-id-requires-clause-labels
 name-id-requires-clause-labels c =
-    let few = few_labels c.args.self.now c.args.bytes c.requires.tables c.requires.room in
-    elim c.if-numbers-lt2.branch [
-      | then-numbers-lt2 w ↦ rw (w.self-is, c.reserve.ensures.same.labels) few
-      | in-len2 w ↦ ?
-      | else-numbers-lt2+else-numbers-lt3 w ↦ ?
-    ]
+    let t = c.args.self.now in
+    let labels : c.match-at.self.labels.names ≡ t.labels.names = elim c.match-at.branch [
+      | in-Some w ↦ rw w.self-is c.reserve.ensures.same.labels
+      | in-None w ↦ rw w.self-is c.reserve.ensures.same.labels
+    ] in
+    rw labels (few_labels c.args.self.now c.args.bytes c.requires.tables c.requires.room)
 
 pub returns-clause-ok : goal.returns-clause-ok
-returns-clause-ok c = ?
+returns-clause-ok c =
+    let t = c.args.self.now in
+    let same = c.reserve.ensures.same in
+    let labels : c.match-at.self.labels.names ≡ t.labels.names = elim c.match-at.branch [
+      | in-Some w ↦ rw w.self-is c.reserve.ensures.same.labels
+      | in-None w ↦ rw w.self-is c.reserve.ensures.same.labels
+    ] in
+    let b = before_same t c.reserve.new.self same in (
+      ap Hypothesis (next_number t c.name-id.result c.requires.tables (c.name-id.ensures.id ∙ ap length labels)),
+      λ s kind label numbered meant formed.
+          let is : IsWritten t s Floating c.args.label.now c.args.numbers.now = record { kinds = kind; label = label; numbered = numbered; meant = meant; formed = formed } in
+          let two = typing_numbers t s c.args.label.now c.args.numbers.now c.requires.tables is in
+          let second : slice_get c.args.numbers.now 1 ≡ Some two.second = ap (λ ns. slice_get ns 1) two.numbers_are in
+          let (info, there) = known_info t two.second two.variable c.requires.tables two.named in
+          elim c.match-at.branch [
+            | in-Some w ↦
+                let found : Some w.in-Some.variable ≡ Some two.second = sym w.in-Some.is ∙ c.at.ensures ∙ second in
+                let is_second : w.in-Some.variable ≡ two.second = cc in
+                let place : w.len.result ≡ length t.log.items = let size = ap length same.log in omega arith in
+                typed t c.match-at.self c.name-id.new.self s two.code two.variable two.second info c.args.label.now c.args.numbers.now _ c.name-id.result c.args.bytes c.requires.tables
+                (subst (λ u. Before t u [] []) (sym w.self-is) (record {
+                  symbols = b.symbols;
+                  labels = b.labels;
+                  named = b.named;
+                  log = b.log;
+                  flat = b.flat;
+                  scopes = b.scopes;
+                  hypotheses = b.hypotheses;
+                  pairs = b.pairs;
+                  stated = b.stated;
+                  bytes = b.bytes;
+                }))
+                two.symbols_are two.named there
+                (rw w.self-is (noted c.reserve.new.self.infos.items t.infos.items w.note_floating.new.infos.items w.in-Some.variable two.second info w.len.result (length t.log.items)
+                same.infos is_second place there w.note_floating.ensures))
+                (rw w.self-is same.essentials)
+                c.name-id.ensures.named c.name-id.ensures.id is c.requires.enough c.requires.room
+            | in-None w ↦ absurd (let found : None ≡ Some two.second = sym w.in-None.is ∙ c.at.ensures ∙ second in cc)
+          ],
+    )

@@ -1,7 +1,6 @@
-use Rattle.std.proofs.Common.{sym, ap, ◌∙◌, length, ◌++◌, ◌∷◌, []}
+use Rattle.std.proofs.Common.{◌≡◌, ap, ◌∙◌, length, arith, ◌++◌, ◌∷◌, []}
 use Rattle.mm_frame.specs.declared.answer.Taken.TheVariants.{Hypothesis}
 use Rattle.mm_frame.proofs.SameTables.{same_tables}
-use Rattle.mm_frame.proofs.Entries.{length-sentences}
 use Rattle.mm_frame.proofs.NamedTables.{few_labels, next_number, before_same, supposed, on_err}
 use Rattle.mm_frame.proofs.tables.Tables.suppose.Goals as goal
 
@@ -15,12 +14,26 @@ pub returns-clause-ok : goal.returns-clause-ok
 returns-clause-ok c =
     let t = c.args.self.now in
     let same = c.reserve.ensures.same in
-    (ap Hypothesis (next_number t c.name-id.result c.requires.tables (c.name-id.ensures.id ∙ ap length same.labels)),
-    λ s kind label numbered meant formed.
-        supposed t _ c.name-id.new.self s c.args.label.now c.args.numbers.now _ c.name-id.result c.args.bytes c.requires.tables
-        ?
-        same.infos
-        ?
-        c.name-id.ensures.named c.name-id.ensures.id
-        (record { kinds = kind; label = label; numbered = numbered; meant = meant; formed = formed })
-        c.requires.enough c.requires.room)
+    let place : c.len.result ≡ length t.log.items = let size = ap length same.log in omega arith in
+    let b = before_same t c.reserve.new.self same in (
+      ap Hypothesis (next_number t c.name-id.result c.requires.tables (c.name-id.ensures.id ∙ ap length same.labels)),
+      λ s kind label numbered meant formed.
+          supposed t _ c.name-id.new.self s c.args.label.now c.args.numbers.now _ c.name-id.result c.args.bytes c.requires.tables
+          (record {
+            symbols = b.symbols;
+            labels = b.labels;
+            named = b.named;
+            log = b.log;
+            flat = b.flat;
+            scopes = b.scopes;
+            hypotheses = b.hypotheses;
+            pairs = b.pairs;
+            stated = b.stated;
+            bytes = b.bytes;
+          })
+          same.infos
+          (c.put.ensures ∙ ap (λ ys. ys ++ c.len.result ∷ []) same.essentials ∙ ap (λ n. t.essentials.items ++ n ∷ []) place)
+          c.name-id.ensures.named c.name-id.ensures.id
+          (record { kinds = kind; label = label; numbered = numbered; meant = meant; formed = formed })
+          c.requires.enough c.requires.room,
+    )

@@ -1,0 +1,93 @@
+use Rattle.std.proofs.Common.{◌≡◌, refl, sym, ap, ◌∙◌, subst, inr, length, [], ◌∷◌, ◌++◌}
+use Rattle.mm_frame.specs.Sentence.{IsStated, IsAssertion}
+use Rattle.mm_frame.specs.Layout.{IsFrameInfo, statements_of}
+use Rattle.mm_frame.specs.Gathered.{ArePlaces}
+use Rattle.mm_frame.specs.Naming.{label_info}
+use Rattle.mm_frame.proofs.SameTables.{same_tables}
+use Rattle.mm_frame.proofs.NamedTables.{few_labels, assertion_taken, before_same, asserted, framed, on_err}
+use Rattle.mm_frame.proofs.tables.Tables.assert.Goals as goal
+
+pub returns-in_err-reserve-clause-err : goal.returns-in_err-reserve-clause-err
+returns-in_err-reserve-clause-err c = on_err c.from_residual-in_err-reserve.result _ (same_tables _ _ c.requires.tables c.reserve.ensures.same)
+
+pub returns-in_err-reserve-2-clause-err : goal.returns-in_err-reserve-2-clause-err
+returns-in_err-reserve-2-clause-err c =
+    let same = c.reserve.ensures.same in
+    on_err c.from_residual-in_err-reserve-2.result _ (same_tables _ _ c.requires.tables (record {
+      symbols = same.symbols;
+      infos = same.infos;
+      labels = same.labels;
+      named = same.named;
+      log = same.log;
+      flat = same.flat;
+      scopes = same.scopes;
+      essentials = same.essentials;
+      hypotheses = c.reserve-2.ensures.items ∙ same.hypotheses;
+      pairs = same.pairs;
+      stated = same.stated;
+      bytes = same.bytes;
+    }))
+
+pub returns-in_err-reserve-3-clause-err : goal.returns-in_err-reserve-3-clause-err
+returns-in_err-reserve-3-clause-err c =
+    let same = c.reserve.ensures.same in
+    on_err c.from_residual-in_err-reserve-3.result _ (same_tables _ _ c.requires.tables (record {
+      symbols = same.symbols;
+      infos = same.infos;
+      labels = same.labels;
+      named = same.named;
+      log = same.log;
+      flat = same.flat;
+      scopes = same.scopes;
+      essentials = same.essentials;
+      hypotheses = c.reserve-2.ensures.items ∙ same.hypotheses;
+      pairs = c.reserve-3.ensures.items ∙ same.pairs;
+      stated = same.stated;
+      bytes = same.bytes;
+    }))
+
+pub name-id-requires-clause-labels : goal.name-id-requires-clause-labels
+name-id-requires-clause-labels c = rw c.reserve.ensures.same.labels (few_labels c.args.self.now c.args.bytes c.requires.tables c.requires.room)
+
+pub returns-clause-ok : goal.returns-clause-ok
+returns-clause-ok c =
+    let t = c.args.self.now in
+    let st = statements_of t in
+    let same = c.reserve.ensures.same in
+    let b = before_same t c.reserve.new.self same in
+    let ids = c.in_ok-hypotheses.hypotheses.items in
+    let pairs = c.in_ok-pairs.pairs.items in
+    let old_hypotheses : c.reserve-2.new.self.items ≡ t.hypotheses.items = c.reserve-2.ensures.items ∙ same.hypotheses in
+    let old_pairs : c.reserve-3.new.self.items ≡ t.pairs.items = c.reserve-3.ensures.items ∙ same.pairs in
+    let new_hypotheses : c.add_part-hypotheses.new.list.items ≡ t.hypotheses.items ++ ids = rw (c.add_part-hypotheses.ensures.items, old_hypotheses, c.deref-3.ensures.value) refl in
+    let new_pairs : c.add_part-pairs.new.list.items ≡ t.pairs.items ++ pairs = rw (c.add_part-pairs.ensures.items, old_pairs, c.deref-4.ensures.value) refl in (
+      assertion_taken t c.args.kind c.name-id.result c.requires.tables c.requires.kind (c.name-id.ensures.id ∙ ap length same.labels),
+      λ s kind label numbered meant formed.
+          let stated : IsStated s.kind = inr (subst IsAssertion (sym kind) c.requires.kind) in
+          let places = c.in_ok-places.ensures s meant stated numbered in
+          let first : ArePlaces st s c.deref.result.now = rw c.deref.ensures.value places in
+          let second : ArePlaces st s c.deref-2.result.now = rw c.deref-2.ensures.value places in
+          let framed_at : IsFrameInfo (st ++ s ∷ []) (t.hypotheses.items ++ ids) (t.pairs.items ++ pairs) (label_info (length t.log.items) (c.add_part-hypotheses.result, c.add_part-pairs.result)) =
+          rw (c.add_part-hypotheses.ensures.part, c.add_part-pairs.ensures.part, old_hypotheses, old_pairs, c.deref-3.ensures.value, c.deref-4.ensures.value)
+          (framed t s c.deref.result.now ids pairs c.requires.tables first (c.in_ok-hypotheses.ensures s first) (c.in_ok-pairs.ensures s [] meant stated second)) in
+          asserted t _ c.name-id.new.self s c.args.kind c.args.label.now c.args.numbers.now (c.add_part-hypotheses.result, c.add_part-pairs.result) c.name-id.result ids pairs c.args.bytes
+          c.requires.tables c.requires.kind
+          (record {
+            symbols = b.symbols;
+            labels = b.labels;
+            named = b.named;
+            log = b.log;
+            flat = b.flat;
+            scopes = b.scopes;
+            hypotheses = new_hypotheses;
+            pairs = new_pairs;
+            stated = b.stated;
+            bytes = b.bytes;
+          })
+          same.infos same.essentials
+          c.name-id.ensures.named
+          c.name-id.ensures.id
+          (record { kinds = kind; label = label; numbered = numbered; meant = meant; formed = formed })
+          framed_at
+          c.requires.enough c.requires.room,
+    )
