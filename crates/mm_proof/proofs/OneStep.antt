@@ -57,7 +57,7 @@ hypothesis_zero : (k : Kind) → IsHypothesis k → is_assertion_kind k ≡ 0
 hypothesis_zero k (inl f) = ap is_assertion_kind f
 hypothesis_zero k (inr e) = ap is_assertion_kind e
 
-not_both_kinds : (k : Kind) → IsHypothesis k → IsAssertion k → ⊥
+pub not_both_kinds : (k : Kind) → IsHypothesis k → IsAssertion k → ⊥
 not_both_kinds k h a = omega (arith, hypothesis_zero k h, assertion_one k a)
 
 pub hypothesis_or_assertion : (before : List Sentence) (i j : ℕ) (h a : Sentence) (label : List ℕ) → AllMeant before → slice_get before i ≡ Some h → slice_get before j ≡ Some a

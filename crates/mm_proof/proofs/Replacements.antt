@@ -52,7 +52,7 @@ replaced_found (h ∷ hypotheses) (entry ∷ entries) x some = go (typing_dec x 
 typed_once_later : (h : Sentence) (hypotheses : List Sentence) → IsTypedOnce (h ∷ hypotheses) → IsTypedOnce hypotheses
 typed_once_later h hypotheses once i j f g code code' x p q t u = let e : suc i ≡ suc j = once (suc i) (suc j) f g code code' x p q t u in omega arith
 
-replaced_at : (hypotheses : List Sentence) (entries : List (List (List ℕ))) → IsTypedOnce hypotheses → (i : ℕ) (f : Sentence) (entry : List (List ℕ)) (code x : List ℕ)
+pub replaced_at : (hypotheses : List Sentence) (entries : List (List (List ℕ))) → IsTypedOnce hypotheses → (i : ℕ) (f : Sentence) (entry : List (List ℕ)) (code x : List ℕ)
     → slice_get hypotheses i ≡ Some f → slice_get entries i ≡ Some entry → Types code x f → replaced_by hypotheses entries x ≡ Some (drop 1 entry)
 replaced_at [] entries once i f entry code x there at types = absurd (none-some f there)
 replaced_at (h ∷ hypotheses) [] once i f entry code x there at types = absurd (none-some entry at)
@@ -115,12 +115,31 @@ some_unless : (o : Option (List (List ℕ))) → ¬ (o ≡ None) → IsSome o
 some_unless None h = absurd (h refl)
 some_unless (Some x) h = refl
 
+pub found_mandatory : (before : List Sentence) (label : List ℕ) (place : ℕ) (assertion : Sentence) (hypotheses : List Sentence) (entries : List (List (List ℕ)))
+    → Names before label place assertion hypotheses → (x : List ℕ) → IsSome (replaced_by hypotheses entries x) → IsMandatory (take place before) assertion x
+found_mandatory before label place assertion hypotheses entries names x some =
+    let f = replaced_found hypotheses entries x some in
+    let t = typing_of before label place assertion hypotheses f.0 f.1 names f.3 f.4.0 in
+    subst (IsMandatory (take place before) assertion) (same_typing f.1 t.0 t.1 f.2 x t.2 f.4).1 t.3
+
+pub mandatory_found : (before : List Sentence) (label : List ℕ) (place : ℕ) (assertion : Sentence) (hypotheses : List Sentence) (entries : List (List (List ℕ)))
+    → AllMeant before → Names before label place assertion hypotheses → length entries ≡ length hypotheses → IsTypedOnce hypotheses
+    → (x : List ℕ) → IsMandatory (take place before) assertion x → IsSome (replaced_by hypotheses entries x)
+mandatory_found before label place assertion hypotheses entries all names paired once x m = some_unless (replaced_by hypotheses entries x)
+    (λ none. mandatory_typed before place assertion x all names.there (inr names.kind) m
+    (λ typed. let f = typing_among before label place assertion hypotheses x names m typed in
+    let e = get_beside hypotheses entries f.0 f.1 paired f.3 in
+    none-some (drop 1 e.0) (sym none ∙ replaced_at hypotheses entries once f.0 f.1 e.0 f.2 x f.3 e.1 f.4)))
+
+pub names_once : (before : List Sentence) (label : List ℕ) (place : ℕ) (assertion : Sentence) (hypotheses : List Sentence) → AllMeant before
+    → Names before label place assertion hypotheses → IsTypedOnce hypotheses
+names_once before label place assertion hypotheses all names = typed_once (take place before) assertion hypotheses (meant_front before place all) names.mandatory
+
 -- Where there are as many entries as mandatory hypotheses, the step meets them.
-pub meets_of : (before : List Sentence) (stack : List (List (List ℕ))) (label : List ℕ) (place : ℕ) (assertion : Sentence) (hypotheses : List Sentence)
+abbrev pub meets_of : (before : List Sentence) (stack : List (List (List ℕ))) (label : List ℕ) (place : ℕ) (assertion : Sentence) (hypotheses : List Sentence)
     (rest entries : List (List (List ℕ))) → AllMeant before → Names before label place assertion hypotheses → stack ≡ rest ++ entries
     → length entries ≡ length hypotheses → Meets before stack label
 meets_of before stack label place assertion hypotheses rest entries all names split paired =
-    let once : IsTypedOnce hypotheses = typed_once (take place before) assertion hypotheses (meant_front before place all) names.mandatory in
     record {
       place = place;
       assertion = assertion;
@@ -131,18 +150,7 @@ meets_of before stack label place assertion hypotheses rest entries all names sp
       split = split;
       paired = paired;
       σ = replaced_by hypotheses entries;
-      on = λ x. (found x, given once x);
-      replaced = replaced_at hypotheses entries once;
+      on = λ x. (found_mandatory before label place assertion hypotheses entries names x,
+          mandatory_found before label place assertion hypotheses entries all names paired (names_once before label place assertion hypotheses all names) x);
+      replaced = replaced_at hypotheses entries (names_once before label place assertion hypotheses all names);
     }
-  where
-    found : (x : List ℕ) → IsSome (replaced_by hypotheses entries x) → IsMandatory (take place before) assertion x
-    found x some =
-        let f = replaced_found hypotheses entries x some in
-        let t = typing_of before label place assertion hypotheses f.0 f.1 names f.3 f.4.0 in
-        subst (IsMandatory (take place before) assertion) (same_typing f.1 t.0 t.1 f.2 x t.2 f.4).1 t.3
-
-    given : IsTypedOnce hypotheses → (x : List ℕ) → IsMandatory (take place before) assertion x → IsSome (replaced_by hypotheses entries x)
-    given once x m = some_unless (replaced_by hypotheses entries x) (λ none. mandatory_typed before place assertion x all names.there (inr names.kind) m
-        (λ typed. let f = typing_among before label place assertion hypotheses x names m typed in
-        let e = get_beside hypotheses entries f.0 f.1 paired f.3 in
-        none-some (drop 1 e.0) (sym none ∙ replaced_at hypotheses entries once f.0 f.1 e.0 f.2 x f.3 e.1 f.4)))

@@ -8,3 +8,9 @@ pub mod Used
 pub mod Expansion
 pub mod Laws
 pub mod Answer
+pub mod Stores
+pub mod Buffer
+pub mod CodeSteps
+pub mod CodeVerify
+pub mod CodeRun
+pub mod CodeApply

@@ -1,0 +1,246 @@
+-- Compressed proofs: their list, their letters, and the moves that their codes say.
+use Rattle.std.proofs.Common.{◌≡◌, ◌≢◌, ℕ, zero, suc, ◌+◌, ◌*◌, ◌<◌, ◌≤◌, min, List, [], ◌∷◌, ◌++◌, length, map, take, drop, get_or, slice_get, Contains, All, Bor, Some, Result, Ok, Err, ◌⊎◌, inl, inr, ⊎_elim, refl, sym, ap, subst, ◌∙◌, arith}
+use Rattle.std.specs.List.{AllZip, AllByRecursion, flat_map}
+use Rattle.std.proofs.lemmas.Option.{same_Some, none-some}
+use Rattle.std.proofs.lemmas.List.{map-append, take_more, take-map, drop-map}
+use Rattle.std.proofs.lemmas.List.Elements.{Contains-append_left, Contains-append_right, All-from_recursion}
+use Rattle.mm_text.specs.declared.statement.Kind.{Kind}
+use Rattle.mm_text.specs.declared.statement.Kind.TheVariants.{Floating, Essential}
+use Rattle.mm_code.specs.declared.code.Code.{Code}
+use Rattle.mm_code.specs.declared.code.Code.TheVariants.{Number, Tag}
+use Rattle.mm_code.specs.Letters as letter
+use Rattle.mm_code.specs.Letters.{Letters, Breaks, HasSpelling}
+use Rattle.mm_code.specs.declared.code.CodeRule.{CodeRule}
+use Rattle.mm_code.specs.declared.code.CodeRule.TheVariants as code
+use Rattle.mm_code.specs.declared.code.CodeFault.{CodeFault}
+use Rattle.mm_code.specs.declared.code.CodeFault.TheVariants as code_fault
+use Rattle.mm_frame.specs.Sentence.{Sentence, IsLabelled, IsHypothesis}
+use Rattle.mm_frame.specs.Active.{IsActive}
+use Rattle.mm_frame.specs.Rules.{AllMeant}
+use Rattle.mm_frame.specs.Form.{AllFormed, IsNamed}
+use Rattle.mm_frame.specs.Frame.{AreMandatory, IsMandatoryAt}
+use Rattle.mm_frame.specs.Numbers.{labelled}
+use Rattle.mm_frame.specs.FramePlace.{FramePlace, AreHypotheses}
+use Rattle.mm_proof.specs.declared.fault.ProofRule.{ProofRule}
+use Rattle.mm_proof.specs.declared.fault.ProofRule.TheVariants.{P1, P2, P3, P4, P5, P6, P7, P8, P9, P10, P11, P12, P13, P14, L1}
+use Rattle.mm_proof.specs.declared.moves.NumberedMove.{NumberedMove}
+use Rattle.mm_proof.specs.Moves.{Move}
+use Rattle.mm_proof.specs.Tokens.{IsNormal, IsCompressed, AreLabels, AreLetters, Says, opening_token, closing_token}
+use Rattle.mm_proof.specs.Proof.{rank, BreaksWhole, IsWholeFault}
+use Rattle.mm_proof.specs.Steps.{IsUsable}
+use Rattle.mm_proof.specs.CodeSteps.{AreFor, NumberSays, IsReading, move_in, moves_in, texts, fault_behind}
+use Rattle.mm_proof.specs.Answer.{OnRule}
+use Rattle.mm_proof.proofs.Places.{split_at, get_take, get_from_take}
+use Rattle.mm_proof.proofs.Frames.{those_hold}
+use Rattle.mm_proof.proofs.LabelLists.{zip_push}
+use Rattle.mm_proof.proofs.TokenFacts.{HasLabels, labels_pass}
+use Rattle.mm_proof.proofs.Readings.{Stands, for_stands, zip_append, codes_named, whole_of}
+
+-- ---- codes, one after the other
+
+pub codes_more : (ids : List ℕ) (codes : List Code) (i : ℕ) (d : Code) (moves : List NumberedMove) (m : NumberedMove) → i < length codes
+    → AllZip (NumberSays ids) (take i codes) (moves_in moves) → NumberSays ids (get_or codes i d) (move_in m)
+    → AllZip (NumberSays ids) (take (i + 1) codes) (moves_in (moves ++ m ∷ []))
+codes_more ids codes i d moves m less all here =
+    rw (take_more codes i d less, map-append move_in moves (m ∷ [])) (zip_push (NumberSays ids) (take i codes) (moves_in moves) (get_or codes i d) (move_in m) all here)
+
+-- each code that letters say is a number from 1 on, or a tag
+spelled_said : (pieces : List (List ℕ)) (spelled : List Code) → AllZip letter.Says pieces spelled → AllByRecursion HasSpelling (map letter.held spelled)
+spelled_said [] [] all = tt
+spelled_said [] (c ∷ spelled) all = absurd all
+spelled_said (p ∷ pieces) [] all = absurd all
+spelled_said (p ∷ pieces) (Tag ∷ spelled) all = (tt, spelled_said pieces spelled all.1)
+spelled_said (p ∷ pieces) (Number n ∷ spelled) all =
+    let s = all.0 in
+    let last = s.is_last.0 in
+    let some : 1 ≤ n = omega (arith, s.value, last) in
+    let held : 1 ≤ min n letter.largest = omega arith in
+    (held, spelled_said pieces spelled all.1)
+
+pub letters_spelled : (text : List ℕ) (codes : List Code) → Letters text codes → All HasSpelling codes
+letters_spelled text codes l =
+    subst (λ cs. All HasSpelling cs) (sym l.are_held) (All-from_recursion HasSpelling (map letter.held l.spelled) (spelled_said l.spells.pieces l.spelled l.spells.each))
+
+-- ---- the one list of a compressed proof
+
+tail_has : (x : List ℕ) (xs : List (List ℕ)) (c : List ℕ) → ¬ (Contains (x ∷ xs) c) → ¬ (Contains xs c)
+tail_has x xs c none has = none (suc has.0, (let l : has.0 < length xs = has.1 in omega arith), has.2)
+
+-- the part before the first of a token is one
+one_front : (c : List ℕ) (xs es ys fs : List (List ℕ)) → xs ++ c ∷ es ≡ ys ++ c ∷ fs → ¬ (Contains xs c) → ¬ (Contains ys c) → (xs ≡ ys) × (es ≡ fs)
+one_front c [] es [] fs e p q = (refl, (let t = ap (drop 1) e in t))
+one_front c [] es (y ∷ ys) fs e p q = absurd (q (0, omega arith, (let h : c ≡ y = same_Some c y (ap (λ l. slice_get l 0) e) in sym h)))
+one_front c (x ∷ xs) es [] fs e p q = absurd (p (0, omega arith, same_Some x c (ap (λ l. slice_get l 0) e)))
+one_front c (x ∷ xs) es (y ∷ ys) fs e p q =
+    let rest = one_front c xs es ys fs (ap (drop 1) e) (tail_has x xs c p) (tail_has y ys c q) in
+    let first : x ≡ y = same_Some x y (ap (λ l. slice_get l 0) e) in
+    (ap (λ z. z ∷ xs) first ∙ ap (λ l. y ∷ l) rest.0, rest.1)
+
+pub one_compressed : (tokens a es b fs : List (List ℕ)) → IsCompressed tokens a es → IsCompressed tokens b fs → (a ≡ b) × (es ≡ fs)
+one_compressed tokens a es b fs c d = one_front closing_token a es b fs (ap (drop 1) (sym c.whole ∙ d.whole)) c.first d.first
+
+pub compressed_labels : (tokens listed letters : List (List ℕ)) → IsCompressed tokens listed letters → HasLabels tokens listed
+compressed_labels tokens listed letters c = record {
+  are = inr (letters, c);
+  one = λ others are. ⊎_elim (λ n. absurd (n.0 (ap (λ l. slice_get l 0) c.whole))) (λ d. (one_compressed tokens others d.0 listed letters d.1 c).0) are;
+  ends = λ b. b.1 (subst (λ l. Contains (drop 1 l) closing_token) (sym c.whole) (Contains-append_right listed (closing_token ∷ letters) closing_token (0, omega arith, refl)));
+}
+
+-- a list that doesn't end
+pub no_end_fault : (before : List (Sentence)) (rest : List (List ℕ)) → ¬ (Contains rest closing_token) → IsWholeFault before (opening_token ∷ rest) P1
+no_end_fault before rest none = record { broken = (refl, none); first = λ other less. absurd (none_below other less) }
+  where
+    none_below : (other : ProofRule) → rank other < rank P1 → ⊥
+    none_below P1 less = omega arith
+    none_below other less = omega arith
+
+-- ---- letters at fault
+
+pub letters_fault : (statements : List Sentence) (place : ℕ) (tokens : List (List ℕ)) (ids : List ℕ) (listed letters : List (List ℕ)) → AllMeant statements
+    → IsCompressed tokens listed letters → AreFor statements place ids listed → Breaks code.P4 (flat_map (λ p. p) letters)
+    → IsWholeFault (take place statements) tokens P4
+letters_fault statements place tokens ids listed letters all c each b =
+    record { broken = (flat_map (λ p. p) letters, (listed, letters, c, refl), b); first = labels_pass statements place tokens ids listed all (compressed_labels tokens listed letters c) each }
+
+-- the joined letters of a compressed proof are one text
+one_text : (tokens listed letters : List (List ℕ)) (text : List ℕ) → IsCompressed tokens listed letters → AreLetters tokens text → text ≡ flat_map (λ p. p) letters
+one_text tokens listed letters text c a = a.3 ∙ ap (λ l. flat_map (λ p. p) l) (one_compressed tokens a.0 a.1 listed letters a.2 c).1
+
+no_odd_letter : (text : List ℕ) → All letter.IsLetter text → ¬ (Breaks code.P4 text)
+no_odd_letter text all b = b.4 (subst letter.IsLetter b.3 (all b.0 b.1 b.2))
+
+pub cut_fault : (statements : List Sentence) (place : ℕ) (tokens : List (List ℕ)) (ids : List ℕ) (listed letters : List (List ℕ)) → AllMeant statements
+    → IsCompressed tokens listed letters → AreFor statements place ids listed → Breaks code.P5 (flat_map (λ p. p) letters)
+    → IsWholeFault (take place statements) tokens P5
+cut_fault statements place tokens ids listed letters all c each b =
+    record { broken = (flat_map (λ p. p) letters, (listed, letters, c, refl), b); first = first }
+  where
+    low : (other : ProofRule) → rank other < rank P4 → ¬ (BreaksWhole other (take place statements) tokens)
+    low = labels_pass statements place tokens ids listed all (compressed_labels tokens listed letters c) each
+
+    first : (other : ProofRule) → rank other < rank P5 → ¬ (BreaksWhole other (take place statements) tokens)
+    first P1 less = low P1 (omega arith)
+    first P2 less = low P2 (omega arith)
+    first P3 less = low P3 (omega arith)
+    first P4 less = λ broken. no_odd_letter (flat_map (λ p. p) letters) b.0 (subst (Breaks code.P4) (one_text tokens listed letters broken.0 c broken.1) broken.2)
+    first other less = absurd (omega arith)
+
+-- ---- the mandatory hypotheses by their numbers
+
+-- labels of hypotheses, each of which may be used
+record HypothesisLabels (statements : List Sentence) (place : ℕ) (ids : List ℕ) (hypotheses : List Sentence) : Type 0 where
+  labels : List (List ℕ)
+  are : map (λ h. h.label) hypotheses ≡ map Some labels
+  stand : AllZip (Stands statements place) ids labels
+
+hypotheses_labels : (statements : List Sentence) (place : ℕ) (ids : List ℕ) (hypotheses : List Sentence)
+    → map (slice_get (labelled statements)) ids ≡ map Some hypotheses
+    → ((i : ℕ) (h : Sentence) → slice_get hypotheses i ≡ Some h → (label : List ℕ) × IsLabelled label h × IsUsable (take place statements) label)
+    → HypothesisLabels statements place ids hypotheses
+hypotheses_labels statements place [] [] numbered each = record { labels = []; are = refl; stand = tt }
+hypotheses_labels statements place [] (h ∷ hypotheses) numbered each = absurd cc
+hypotheses_labels statements place (id ∷ ids) [] numbered each = absurd cc
+hypotheses_labels statements place (id ∷ ids) (h ∷ hypotheses) numbered each =
+    let first = each 0 h refl in
+    let there : slice_get (labelled statements) id ≡ Some h = cc in
+    let others : map (slice_get (labelled statements)) ids ≡ map Some hypotheses = cc in
+    let rest = hypotheses_labels statements place ids hypotheses others (λ i g at. each (suc i) g at) in
+    let label = first.1 in
+    let tail = rest.are in
+    record {
+      labels = first.0 ∷ rest.labels;
+      are = cc;
+      stand = (record { s = h; there = there; named = first.1; usable = first.2 }, rest.stand);
+    }
+
+-- a mandatory hypothesis has a label, which may be used
+mandatory_usable : (statements : List Sentence) (place : ℕ) (assertion : Sentence) (hypotheses : List Sentence) → AllFormed statements
+    → AreMandatory (take place statements) assertion hypotheses → (i : ℕ) (h : Sentence) → slice_get hypotheses i ≡ Some h
+    → (label : List ℕ) × IsLabelled label h × IsUsable (take place statements) label
+mandatory_usable statements place assertion hypotheses formed mandatory i h at =
+    let p = those_hold (IsMandatoryAt (take place statements) assertion) 0 (take place statements) hypotheses i h mandatory at in
+    let zero : 0 + p.0 ≡ p.0 = omega arith in
+    let active = subst (λ k. IsActive (take place statements) k) zero p.2.0 in
+    let kind : IsHypothesis h.kind = ⊎_elim (λ e. inr e) (λ f. inl f.2.0) p.2.1 in
+    let label = hypothesis_label h kind (formed p.0 h (get_from_take statements place p.0 h p.1).1).label in
+    (label.0, label.1, inl (p.0, h, p.1, active, (label.1, kind)))
+  where
+    hypothesis_label : (s : Sentence) → IsHypothesis s.kind → IsNamed s.kind s.label → (label : List ℕ) × IsLabelled label s
+    hypothesis_label s (inl f) named = let n = subst (λ k. IsNamed k s.label) f named in (n.0, n.1)
+    hypothesis_label s (inr e) named = let n = subst (λ k. IsNamed k s.label) e named in (n.0, n.1)
+
+-- ---- what a compressed proof says
+
+pub reading_compressed : (statements : List Sentence) (place : ℕ) (own : Sentence) (tokens : List (List ℕ)) (ids hypothesis_ids : List ℕ) (listed letters : List (List ℕ))
+    (cs : List Code) (steps : List (Move ℕ)) → AllMeant statements → AllFormed statements → slice_get statements place ≡ Some own
+    → IsCompressed tokens listed letters → AreFor statements place ids listed
+    → AreHypotheses (record { statements = statements; place = place }) hypothesis_ids
+    → Letters (flat_map (λ p. p) letters) cs → ¬ (Breaks code.P4 (flat_map (λ p. p) letters)) → ¬ (Breaks code.P5 (flat_map (λ p. p) letters))
+    → AllZip (NumberSays (hypothesis_ids ++ ids)) cs steps → IsReading statements place tokens steps
+reading_compressed statements place own tokens ids hypothesis_ids listed letters cs steps all formed there c each h coded p4 p5 says =
+    let same : h.assertion ≡ own = same_Some h.assertion own (sym h.there ∙ there) in
+    let hl = hypotheses_labels statements place hypothesis_ids h.hypotheses h.numbered (mandatory_usable statements place h.assertion h.hypotheses formed h.mandatory) in
+    let stand = zip_append (Stands statements place) hypothesis_ids hl.labels ids listed hl.stand (for_stands statements place ids listed each) in
+    let named = codes_named statements place (hypothesis_ids ++ ids) (hl.labels ++ listed) stand cs steps says in
+    record {
+      whole = whole_of (take place statements) tokens (labels_pass statements place tokens ids listed all (compressed_labels tokens listed letters c) each)
+          (λ b. p4 (subst (Breaks code.P4) (one_text tokens listed letters b.0 c b.1) b.2)) (λ b. p5 (subst (Breaks code.P5) (one_text tokens listed letters b.0 c b.1) b.2));
+      own = own;
+      there = there;
+      moves = named.moves;
+      said = inr (record {
+        listed = listed;
+        letters = letters;
+        parts = c;
+        codes = cs;
+        coded = coded;
+        hypotheses = h.hypotheses;
+        mandatory = subst (λ (s : Sentence). AreMandatory (take place statements) s h.hypotheses) same h.mandatory;
+        labels = hl.labels;
+        labelled = hl.are;
+        each = named.each;
+      });
+      numbered = named.numbered;
+      usable = named.usable;
+    }
+
+-- ---- the parts, by the place of the first `)`
+
+pub parts_whole : (xs : List (List ℕ)) (i : ℕ) → slice_get xs i ≡ Some closing_token → xs ≡ take i xs ++ closing_token ∷ drop (i + 1) xs
+parts_whole xs i at = let one : suc i ≡ i + 1 = omega arith in subst (λ (k : ℕ). xs ≡ take i xs ++ closing_token ∷ drop k xs) one (split_at xs i closing_token at)
+
+pub parts_compressed : (rest : List (Bor (List ℕ))) (i : ℕ) → slice_get (texts rest) i ≡ Some closing_token → ¬ (Contains (take i (texts rest)) closing_token)
+    → IsCompressed (opening_token ∷ texts rest) (texts (take i rest)) (texts (drop (i + 1) rest))
+parts_compressed rest i at none =
+    let front = take-map (λ t. t.now) i rest in
+    let back = drop-map (λ t. t.now) (i + 1) rest in
+    record {
+      whole = ap (λ l. opening_token ∷ l) (parts_whole (texts rest) i at ∙ ap (λ l. l ++ closing_token ∷ drop (i + 1) (texts rest)) front ∙ ap (λ l. texts (take i rest) ++ closing_token ∷ l) back);
+      first = λ has. none (subst (λ l. Contains l closing_token) (sym front) has);
+    }
+
+pub joined_texts : (tokens : List (Bor (List ℕ))) → letter.joined_tokens tokens ≡ flat_map (λ p. p) (texts tokens)
+joined_texts [] = refl
+joined_texts (t ∷ tokens) = ap (λ l. t.now ++ l) (joined_texts tokens)
+
+pub parts_given : (rest front back : List (Bor (List ℕ))) (i : ℕ) → front ≡ take i rest → back ≡ drop (i + 1) rest → slice_get (texts rest) i ≡ Some closing_token
+    → ¬ (Contains (take i (texts rest)) closing_token) → IsCompressed (opening_token ∷ texts rest) (texts front) (texts back)
+parts_given rest front back i f b at none =
+    subst (λ l. IsCompressed (opening_token ∷ texts rest) (texts l) (texts back)) (sym f)
+    (subst (λ l. IsCompressed (opening_token ∷ texts rest) (texts (take i rest)) (texts l)) (sym b) (parts_compressed rest i at none))
+
+-- a fault of the letters is one of the proof
+pub letter_broken : (statements : List Sentence) (place : ℕ) (tokens : List (List ℕ)) (ids : List ℕ) (listed letters : List (List ℕ)) (fault : CodeFault) → AllMeant statements
+    → IsCompressed tokens listed letters → AreFor statements place ids listed
+    → ((rule : CodeRule) → fault ≡ code_fault.Rule rule → Breaks rule (flat_map (λ p. p) letters))
+    → OnRule (fault_behind fault) (λ rule step. (step ≡ 0) × IsWholeFault (take place statements) tokens rule)
+letter_broken statements place tokens ids listed letters (code_fault.Rule code.P4) all c each broken = (refl, letters_fault statements place tokens ids listed letters all c each (broken code.P4 refl))
+letter_broken statements place tokens ids listed letters (code_fault.Rule code.P5) all c each broken = (refl, cut_fault statements place tokens ids listed letters all c each (broken code.P5 refl))
+letter_broken statements place tokens ids listed letters code_fault.Memory all c each broken = tt
+
+abbrev pub IsAnswer : Result (List Code) CodeRule → Result (List Code) CodeRule → Type 0
+IsAnswer a b = a ≡ b
+
+-- letters whose codes were read break no rule
+pub read_unbroken : (rule : CodeRule) (text : List ℕ) (cs : List Code) → (Breaks rule text → IsAnswer (Err rule) (Ok cs)) → ¬ (Breaks rule text)
+read_unbroken rule text cs h b = let e = h b in absurd cc

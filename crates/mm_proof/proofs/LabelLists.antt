@@ -1,0 +1,78 @@
+-- The labels of a proof, one after the other.
+use Rattle.std.proofs.Common.{◌≡◌, ℕ, zero, suc, ◌+◌, ◌<◌, ◌≤◌, List, [], ◌∷◌, ◌++◌, length, take, get_or, Contains, Bool, true, false, Bor, ⊎_elim, refl, sym, ap, subst, ◌∙◌, arith}
+use Rattle.std.specs.List.{AllZip}
+use Rattle.mm_frame.specs.Sentence.{Sentence}
+use Rattle.std.proofs.lemmas.List.{map_more, take-map, map-append, take_all, length-map}
+use Rattle.std.proofs.lemmas.List.Elements.{Contains-push, Contains-push_cases, Contains-append_left}
+use Rattle.mm_frame.specs.declared.number.LabelId.{LabelId}
+use Rattle.mm_proof.specs.CodeSteps.{AreFor, IsIdle, IsUnknown, MayBeUsed, ids_in, texts}
+use Rattle.mm_proof.proofs.Places.{get_take}
+
+-- one of the labels is idle, or all may be used
+abbrev pub IdleOr : List Sentence → ℕ → Bool → List ℕ → List (List ℕ) → Type 0
+IdleOr statements place true ids labels = (label : List ℕ) × Contains labels label × IsIdle statements place label
+IdleOr statements place false ids labels = AreFor statements place ids labels
+
+-- what is known of the labels so far: each is that of an earlier statement, and all may be used or one of them is idle
+abbrev pub SoFar : List Sentence → ℕ → Bool → List ℕ → List (List ℕ) → Type 0
+SoFar statements place idle ids labels =
+    ((label : List ℕ) → Contains labels label → ¬ (IsUnknown statements place label)) × IdleOr statements place idle ids labels
+
+-- ---- one label more
+
+pub texts_more : (labels : List (Bor (List ℕ))) (i : ℕ) (d : Bor (List ℕ)) → i < length labels → take (i + 1) (texts labels) ≡ take i (texts labels) ++ (get_or labels i d).now ∷ []
+texts_more labels i d less =
+    take-map (λ t. t.now) (i + 1) labels ∙ map_more (λ t. t.now) labels i d less ∙ ap (λ front. front ++ (get_or labels i d).now ∷ []) (sym (take-map (λ t. t.now) i labels))
+
+pub zip_push : {A B : Type 0} (R : A → B → Type 0) (xs : List A) (ys : List B) (x : A) (y : B) → AllZip R xs ys → R x y → AllZip R (xs ++ x ∷ []) (ys ++ y ∷ [])
+zip_push R [] [] x y all here = (here, tt)
+zip_push R [] (b ∷ ys) x y all here = absurd all
+zip_push R (a ∷ xs) [] x y all here = absurd all
+zip_push R (a ∷ xs) (b ∷ ys) x y all here = (all.0, zip_push R xs ys x y all.1 here)
+
+-- a label that is that of an earlier statement is known
+pub known_push : (P : List ℕ → Type 0) (labels : List (List ℕ)) (label : List ℕ) → ((l : List ℕ) → Contains labels l → ¬ (P l)) → ¬ (P label)
+    → (l : List ℕ) → Contains (labels ++ label ∷ []) l → ¬ (P l)
+known_push P labels label all here l has = ⊎_elim (all l) (λ same. subst (λ k. ¬ (P k)) same here) (Contains-push_cases labels label l has)
+
+used_known : (statements : List Sentence) (place : ℕ) (label : List ℕ) (id : ℕ) → MayBeUsed statements place label id → ¬ (IsUnknown statements place label)
+used_known statements place label id m unknown = unknown (m.at, m.s, get_take statements place m.at m.before ∙ m.numbered.there, m.named)
+
+idle_known : (statements : List Sentence) (place : ℕ) (label : List ℕ) → IsIdle statements place label → ¬ (IsUnknown statements place label)
+idle_known statements place label m unknown = unknown (m.at, m.s, m.there, m.named)
+
+or_push : (statements : List Sentence) (place : ℕ) (idle : Bool) (ids : List ℕ) (id : ℕ) (labels : List (List ℕ)) (label : List ℕ)
+    → IdleOr statements place idle ids labels → MayBeUsed statements place label id → IdleOr statements place idle (ids ++ id ∷ []) (labels ++ label ∷ [])
+or_push statements place true ids id labels label so here = (so.0, Contains-append_left labels (label ∷ []) so.0 so.1, so.2)
+or_push statements place false ids id labels label so here = zip_push (λ i l. MayBeUsed statements place l i) ids labels id label so here
+
+-- a label that may be used
+pub sofar_number : (statements : List Sentence) (place : ℕ) (idle : Bool) (ids : List LabelId) (id : LabelId) (labels : List (Bor (List ℕ))) (i : ℕ) (d : Bor (List ℕ))
+    → i < length labels → SoFar statements place idle (ids_in ids) (take i (texts labels)) → MayBeUsed statements place (get_or labels i d).now id.0
+    → SoFar statements place idle (ids_in (ids ++ id ∷ [])) (take (i + 1) (texts labels))
+sofar_number statements place idle ids id labels i d less so here =
+    rw (texts_more labels i d less, map-append (λ n. n.0) ids (id ∷ [])) (
+      known_push (IsUnknown statements place) (take i (texts labels)) (get_or labels i d).now so.0 (used_known statements place _ id.0 here),
+      or_push statements place idle (ids_in ids) id.0 (take i (texts labels)) (get_or labels i d).now so.1 here,
+    )
+
+-- a label that is idle
+pub sofar_idle : (statements : List Sentence) (place : ℕ) (idle : Bool) (ids : List ℕ) (labels : List (Bor (List ℕ))) (i : ℕ) (d : Bor (List ℕ))
+    → i < length labels → SoFar statements place idle ids (take i (texts labels)) → IsIdle statements place (get_or labels i d).now
+    → SoFar statements place true ids (take (i + 1) (texts labels))
+sofar_idle statements place idle ids labels i d less so here =
+    rw (texts_more labels i d less) (
+      known_push (IsUnknown statements place) (take i (texts labels)) (get_or labels i d).now so.0 (idle_known statements place _ here),
+      ((get_or labels i d).now, Contains-push (take i (texts labels)) (get_or labels i d).now, here),
+    )
+
+-- a label is one of the labels
+pub text_among : (labels : List (Bor (List ℕ))) (i : ℕ) (d : Bor (List ℕ)) → i < length labels → Contains (texts labels) (get_or labels i d).now
+text_among [] i d less = absurd (omega arith)
+text_among (t ∷ labels) zero d less = (0, omega arith, refl)
+text_among (t ∷ labels) (suc i) d less = let at = text_among labels i d (omega arith) in (suc at.0, (let l : at.0 < length (texts labels) = at.1 in omega arith), at.2)
+
+-- at the end all labels are known
+pub sofar_all : (statements : List Sentence) (place : ℕ) (idle : Bool) (ids : List ℕ) (labels : List (Bor (List ℕ))) (i : ℕ) → length labels ≤ i
+    → SoFar statements place idle ids (take i (texts labels)) → SoFar statements place idle ids (texts labels)
+sofar_all statements place idle ids labels i all so = rw (← take_all i (texts labels) (omega (arith, length-map labels (λ t. t.now)))) so

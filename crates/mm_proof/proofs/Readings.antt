@@ -1,0 +1,154 @@
+-- What the tokens of a proof say, once their labels have numbers and their letters are read.
+use Rattle.std.proofs.Common.{◌≡◌, ◌≢◌, ℕ, zero, suc, ◌+◌, ◌*◌, ◌<◌, ◌≤◌, min, List, [], ◌∷◌, ◌++◌, length, map, take, drop, get_or, slice_get, Contains, All, Some, ◌⊎◌, inl, inr, ⊎_elim, refl, sym, ap, subst, ◌∙◌, arith}
+use Rattle.std.specs.List.{AllZip, AllByRecursion, flat_map}
+use Rattle.std.proofs.lemmas.Option.{same_Some, none-some}
+use Rattle.std.proofs.lemmas.List.{map-append, length-append}
+use Rattle.std.proofs.lemmas.List.Elements.{Contains-append_left, Contains-append_right}
+use Rattle.mm_text.specs.declared.statement.Kind.{Kind}
+use Rattle.mm_text.specs.declared.statement.Kind.TheVariants.{Floating, Essential, Axiom, Provable}
+use Rattle.mm_code.specs.declared.code.Code.{Code}
+use Rattle.mm_code.specs.declared.code.Code.TheVariants.{Number, Tag}
+use Rattle.mm_code.specs.declared.code.CodeRule.{CodeRule}
+use Rattle.mm_code.specs.declared.code.CodeRule.TheVariants as code
+use Rattle.mm_code.specs.Letters.{Letters, Breaks}
+use Rattle.mm_frame.specs.Sentence.{Sentence, SomeSentence, IsLabelled, IsHypothesis, IsAssertion}
+use Rattle.mm_frame.specs.Active.{IsActive}
+use Rattle.mm_frame.specs.Rules.{AllMeant}
+use Rattle.mm_frame.specs.Form.{AllFormed, IsNamed}
+use Rattle.mm_frame.specs.Frame.{AreMandatory, IsMandatoryAt}
+use Rattle.mm_frame.specs.Numbers.{labelled}
+use Rattle.mm_frame.specs.FramePlace.{FramePlace, AreHypotheses}
+use Rattle.mm_proof.specs.declared.fault.ProofRule.{ProofRule}
+use Rattle.mm_proof.specs.declared.fault.ProofRule.TheVariants.{P1, P2, P3, P4, P5, P6, P7, P8, P9, P10, P11, P12, P13, P14, L1}
+use Rattle.mm_proof.specs.Moves.{Move, name, again, mark}
+use Rattle.mm_proof.specs.Tokens.{IsNormal, IsCompressed, AreLabels, AreLetters, Says, SayMoves, SaysCompressed, opening_token, closing_token}
+use Rattle.mm_proof.specs.Proof.{rank, BreaksWhole, IsWhole, IsWholeFault}
+use Rattle.mm_proof.specs.Steps.{IsNumberedMove, AreNumberedMoves, IsUsable, IsUsableMove}
+use Rattle.mm_proof.specs.CodeSteps.{AreFor, MayBeUsed, NumberSays, IsReading}
+use Rattle.mm_proof.proofs.Places.{get_take, get_from_take}
+use Rattle.mm_proof.proofs.Frames.{those_hold}
+use Rattle.mm_proof.proofs.Numbered.{numbered_at}
+use Rattle.mm_proof.proofs.TokenFacts.{HasLabels, labels_pass, normal_labels}
+
+-- ---- labels and their numbers
+
+-- the number is that of the label, which may be used after the statements before the place
+pub record Stands (statements : List Sentence) (place id : ℕ) (label : List ℕ) : Type 0 where
+  pub s : Sentence
+  pub there : slice_get (labelled statements) id ≡ Some s
+  pub named : IsLabelled label s
+  pub usable : IsUsable (take place statements) label
+
+used_stands : (statements : List Sentence) (place id : ℕ) (label : List ℕ) → MayBeUsed statements place label id → Stands statements place id label
+used_stands statements place id label m =
+    let before = get_take statements place m.at m.before ∙ m.numbered.there in
+    record {
+      s = m.s;
+      there = numbered_at statements id m.at m.s m.numbered;
+      named = m.named;
+      usable = ⊎_elim (λ h. inl (m.at, m.s, before, h.1, (m.named, h.0))) (λ a. inr (m.at, m.s, before, (m.named, a))) m.kind;
+    }
+
+pub for_stands : (statements : List Sentence) (place : ℕ) (ids : List ℕ) (labels : List (List ℕ)) → AreFor statements place ids labels
+    → AllZip (Stands statements place) ids labels
+for_stands statements place [] [] all = all
+for_stands statements place [] (l ∷ labels) all = absurd all
+for_stands statements place (id ∷ ids) [] all = absurd all
+for_stands statements place (id ∷ ids) (l ∷ labels) all = (used_stands statements place id l all.0, for_stands statements place ids labels all.1)
+
+pub zip_append : {A B : Type 0} (R : A → B → Type 0) (xs : List A) (ys : List B) (more : List A) (others : List B) → AllZip R xs ys → AllZip R more others → AllZip R (xs ++ more) (ys ++ others)
+zip_append R [] [] ms os all also = also
+zip_append R [] (y ∷ ys) ms os all also = absurd all
+zip_append R (x ∷ xs) [] ms os all also = absurd all
+zip_append R (x ∷ xs) (y ∷ ys) ms os all also = (all.0, zip_append R xs ys ms os all.1 also)
+
+zip_get : {A B : Type 0} (R : A → B → Type 0) (xs : List A) (ys : List B) (i : ℕ) (x : A) → AllZip R xs ys → slice_get xs i ≡ Some x → (y : B) × (slice_get ys i ≡ Some y) × R x y
+zip_get R [] ys i x all at = absurd (none-some x at)
+zip_get R (a ∷ xs) [] i x all at = absurd all
+zip_get R (a ∷ xs) (b ∷ ys) zero x all at = (b, refl, subst (λ z. R z b) (same_Some a x at) all.0)
+zip_get R (a ∷ xs) (b ∷ ys) (suc i) x all at = zip_get R xs ys i x all.1 at
+
+zip_length : {A B : Type 0} (R : A → B → Type 0) (xs : List A) (ys : List B) → AllZip R xs ys → length xs ≡ length ys
+zip_length R [] [] all = refl
+zip_length R [] (y ∷ ys) all = absurd all
+zip_length R (x ∷ xs) [] all = absurd all
+zip_length R (x ∷ xs) (y ∷ ys) all = ap suc (zip_length R xs ys all.1)
+
+-- ---- moves by numbers and by names
+
+-- by names, moves that these labels may make, with what each of the codes or tokens says of its move
+pub record Named {C : Type 0} (statements : List Sentence) (place : ℕ) (R : C → Move (List ℕ) → Type 0) (codes : List C) (steps : List (Move ℕ)) : Type 0 where
+  pub moves : List (Move (List ℕ))
+  pub each : AllZip R codes moves
+  pub numbered : AreNumberedMoves statements steps moves
+  pub usable : AllByRecursion (IsUsableMove (take place statements)) moves
+
+one_named : {C : Type 0} (statements : List Sentence) (place : ℕ) (R : C → Move (List ℕ) → Type 0) (c : C) (codes : List C) (step : Move ℕ) (steps : List (Move ℕ)) (move : Move (List ℕ))
+    → R c move → IsNumberedMove statements step move → IsUsableMove (take place statements) move → Named statements place R codes steps → Named statements place R (c ∷ codes) (step ∷ steps)
+one_named statements place R c codes step steps move here numbered usable rest =
+    record { moves = move ∷ rest.moves; each = (here, rest.each); numbered = (numbered, rest.numbered); usable = (usable, rest.usable) }
+
+named_label : (statements : List Sentence) (place id : ℕ) (label : List ℕ) → Stands statements place id label → IsNumberedMove statements (name id) (name label)
+named_label statements place id label s = (s.s, label, s.there, s.named, refl)
+
+number_named : (statements : List Sentence) (place : ℕ) (ids : List ℕ) (labels : List (List ℕ)) → AllZip (Stands statements place) ids labels
+    → (n : ℕ) (codes : List Code) (s : Move ℕ) (steps : List (Move ℕ)) → NumberSays ids (Number n) s → Named statements place (Says labels) codes steps
+    → Named statements place (Says labels) (Number n ∷ codes) (s ∷ steps)
+number_named statements place ids labels all n codes s steps here rest = go here.2
+  where
+    go : ((id : ℕ) × (slice_get ids here.0 ≡ Some id) × (s ≡ name id)) ⊎ ((tag : ℕ) × (here.0 ≡ length ids + tag) × (s ≡ again tag))
+        → Named statements place (Says labels) (Number n ∷ codes) (s ∷ steps)
+    go (inl l) =
+        let at = zip_get (Stands statements place) ids labels here.0 l.0 all l.1 in
+        one_named statements place (Says labels) (Number n) codes s steps (name at.0) (here.0, here.1, inl (at.0, at.1, refl))
+        (subst (λ m. IsNumberedMove statements m (name at.0)) (sym l.2) (named_label statements place l.0 at.0 at.2)) at.2.usable rest
+    go (inr t) =
+        let count = zip_length (Stands statements place) ids labels all in
+        one_named statements place (Says labels) (Number n) codes s steps (again t.0) (here.0, here.1, inr (t.0, t.1 ∙ ap (λ k. k + t.0) count, refl))
+        (subst (λ m. IsNumberedMove statements m (again t.0)) (sym t.2) refl) tt rest
+
+pub codes_named : (statements : List Sentence) (place : ℕ) (ids : List ℕ) (labels : List (List ℕ)) → AllZip (Stands statements place) ids labels
+    → (codes : List Code) (steps : List (Move ℕ)) → AllZip (NumberSays ids) codes steps → Named statements place (Says labels) codes steps
+codes_named statements place ids labels all [] [] each = record { moves = []; each = tt; numbered = tt; usable = tt }
+codes_named statements place ids labels all [] (s ∷ steps) each = absurd each
+codes_named statements place ids labels all (c ∷ codes) [] each = absurd each
+codes_named statements place ids labels all (Tag ∷ codes) (s ∷ steps) each =
+    one_named statements place (Says labels) Tag codes s steps mark refl (subst (λ m. IsNumberedMove statements m mark) (sym each.0) refl) tt
+    (codes_named statements place ids labels all codes steps each.1)
+codes_named statements place ids labels all (Number n ∷ codes) (s ∷ steps) each =
+    number_named statements place ids labels all n codes s steps each.0 (codes_named statements place ids labels all codes steps each.1)
+
+names_named : (statements : List Sentence) (place : ℕ) (ids : List ℕ) (labels : List (List ℕ)) → AllZip (Stands statements place) ids labels
+    → AreNumberedMoves statements (map name ids) (map name labels) × AllByRecursion (IsUsableMove (take place statements)) (map name labels)
+names_named statements place [] [] all = (tt, tt)
+names_named statements place [] (l ∷ labels) all = absurd all
+names_named statements place (id ∷ ids) [] all = absurd all
+names_named statements place (id ∷ ids) (l ∷ labels) all =
+    let rest = names_named statements place ids labels all.1 in
+    ((named_label statements place id l all.0, rest.0), (all.0.usable, rest.1))
+
+-- ---- a proof that breaks no rule over the whole of it
+
+pub whole_of : (before : List Sentence) (tokens : List (List ℕ)) → ((rule : ProofRule) → rank rule < rank P4 → ¬ (BreaksWhole rule before tokens))
+    → ¬ (BreaksWhole P4 before tokens) → ¬ (BreaksWhole P5 before tokens) → IsWhole before tokens
+whole_of before tokens low p4 p5 P1 = low P1 (omega arith)
+whole_of before tokens low p4 p5 P2 = low P2 (omega arith)
+whole_of before tokens low p4 p5 P3 = low P3 (omega arith)
+whole_of before tokens low p4 p5 P4 = p4
+whole_of before tokens low p4 p5 P5 = p5
+whole_of before tokens low p4 p5 rule = λ b. b
+
+pub reading_normal : (statements : List Sentence) (place : ℕ) (own : Sentence) (ids : List ℕ) (tokens : List (List ℕ)) → AllMeant statements
+    → slice_get statements place ≡ Some own → IsNormal tokens → AreFor statements place ids tokens → IsReading statements place tokens (map name ids)
+reading_normal statements place own ids tokens all there normal each =
+    let named = names_named statements place ids tokens (for_stands statements place ids tokens each) in
+    record {
+      whole = whole_of (take place statements) tokens (labels_pass statements place tokens ids tokens all (normal_labels tokens normal) each)
+          (λ b. normal (ap (λ l. slice_get l 0) b.1.2.whole)) (λ b. normal (ap (λ l. slice_get l 0) b.1.2.whole));
+      own = own;
+      there = there;
+      moves = map name tokens;
+      said = inl (normal, refl);
+      numbered = named.0;
+      usable = named.1;
+    }

@@ -1,0 +1,35 @@
+-- Elements of a list that a contract sees as something else.
+use Rattle.std.proofs.Common.{◌≡◌, ℕ, ◌<◌, ◌-◌, List, [], ◌∷◌, ◌++◌, map, take, length, get_or, Some, refl, arith}
+use Rattle.std.specs.List.{slice_get}
+use Rattle.std.proofs.lemmas.List.{take-map, length-map, map-append}
+use Rattle.std.proofs.lemmas.Option.{slice_get-map, slice_get_read}
+
+-- what is read at a place is seen as what stands there
+pub read-at : {X Y : Type 0} (f : X → Y) (xs : List X) (i : ℕ) (x : X) (y : Y) → i < length (map f xs)
+    → x ≡ get_or xs i x → slice_get (map f xs) i ≡ Some y → f x ≡ y
+read-at f xs i x y within read there =
+    let at = slice_get-map f xs i in
+    let room : i < length xs = omega (arith, length-map xs f) in
+    let is = slice_get_read xs (length xs) i x refl room read in
+    cc
+
+-- what stands last is seen as what is read there
+pub read-last : {X Y : Type 0} (f : X → Y) (xs : List X) (i : ℕ) (x : X) (y : Y) → 0 < length (map f xs) → i ≡ length xs - 1
+    → x ≡ get_or xs i x → slice_get (map f xs) (length (map f xs) - 1) ≡ Some y → f x ≡ y
+read-last f xs i x y some last read there =
+    let is : length (map f xs) - 1 ≡ i = omega (arith, length-map xs f) in
+    let at : slice_get (map f xs) i ≡ Some y = cc in
+    read-at f xs i x y (omega (arith, length-map xs f)) read at
+
+-- a front of the list is seen as that front
+pub take-seen : {X Y : Type 0} (f : X → Y) (xs : List X) (m k : ℕ) → m ≡ length xs - k → map f (take m xs) ≡ take (length (map f xs) - k) (map f xs)
+take-seen f xs m k is =
+    let cut = take-map f m xs in
+    let number : m ≡ length (map f xs) - k = omega (arith, length-map xs f) in
+    cc
+
+-- an element more at the end is seen as what it is
+pub push-seen : {X Y : Type 0} (f : X → Y) (xs : List X) (x : X) (y : Y) → f x ≡ y → map f (xs ++ x ∷ []) ≡ map f xs ++ y ∷ []
+push-seen f xs x y is =
+    let whole = map-append f xs (x ∷ []) in
+    cc

@@ -1,0 +1,229 @@
+-- The moves of a proof, one after the other.
+use Rattle.std.proofs.Common.{◌≡◌, ℕ, zero, suc, ◌+◌, ◌<◌, ◌≤◌, ◌-◌, List, [], ◌∷◌, ◌++◌, length, map, Result, Err, take, drop, slice_get, get_or, Some, Bool, cond, refl, sym, ap, subst, ◌∙◌, arith}
+use Rattle.std.specs.List.{AllZip, AllByRecursion}
+use Rattle.std.specs.Result.{IsErrAnd}
+use Rattle.std.proofs.lemmas.Result.{err_from_is_err_and}
+use Rattle.std.proofs.lemmas.List.{map_more, take-map, map-append, length-map, length-append}
+use Rattle.mm_frame.specs.declared.number.LabelId.{LabelId}
+use Rattle.mm_frame.specs.Sentence.{Sentence}
+use Rattle.mm_proof.specs.declared.fault.ProofFault.{ProofFault}
+use Rattle.mm_proof.specs.declared.fault.ProofRule.{ProofRule}
+use Rattle.mm_proof.specs.declared.fault.ProofRule.TheVariants.{P6, P7}
+use Rattle.mm_proof.specs.declared.moves.NumberedMove.{NumberedMove}
+use Rattle.mm_proof.specs.declared.moves.NumberedMove.TheVariants as code
+use Rattle.mm_proof.specs.Moves.{Move, name, again, mark, is_step, steps_in}
+use Rattle.mm_proof.specs.Proof.{IsWithin, expression_limit, Passed, FirstAtMove, IsMoveFault}
+use Rattle.mm_proof.specs.Steps.{IsNumberedMove, AreNumberedMoves}
+use Rattle.mm_proof.specs.CodeSteps.{move_in, moves_in}
+use Rattle.mm_proof.specs.CodeVerify.{AreSymbols, AreEntries, named, all_named, name_at}
+use Rattle.mm_proof.specs.CodeRun.{CarriesOn, StopsAt, HasRun}
+use Rattle.mm_proof.proofs.Places.{split_at}
+use Rattle.mm_proof.proofs.Derived.{zip_front, zip_left, all_push, all_at}
+use Rattle.mm_proof.proofs.Forward.{passed_none, passed_again, passed_mark}
+use Rattle.mm_proof.proofs.Firsts.{first_P6, first_P7, steps_in-append}
+
+-- ---- moves by numbers and by names
+
+-- a front with one move more
+pub front_more : (moves : List NumberedMove) (i : ℕ) (d : NumberedMove) → i < length moves
+    → take (i + 1) (moves_in moves) ≡ take i (moves_in moves) ++ move_in (get_or moves i d) ∷ []
+front_more moves i d less =
+    take-map move_in (i + 1) moves ∙ map_more move_in moves i d less
+    ∙ ap (λ front. front ++ move_in (get_or moves i d) ∷ []) (sym (take-map move_in i moves))
+
+-- the move at a place
+pub move_at : (moves : List NumberedMove) (i : ℕ) (d : NumberedMove) → i < length moves → slice_get (moves_in moves) i ≡ Some (move_in (get_or moves i d))
+move_at [] i d less = absurd (omega arith)
+move_at (m ∷ moves) zero d less = refl
+move_at (m ∷ moves) (suc i) d less = move_at moves i d (omega arith)
+
+zip_take : {A B : Type 0} (R : A → B → Type 0) (xs : List A) (ys : List B) (i : ℕ) → AllZip R xs ys → AllZip R (take i xs) (take i ys)
+zip_take R [] [] zero z = tt
+zip_take R [] [] (suc i) z = tt
+zip_take R [] (y ∷ ys) i z = absurd z
+zip_take R (x ∷ xs) [] i z = absurd z
+zip_take R (x ∷ xs) (y ∷ ys) zero z = tt
+zip_take R (x ∷ xs) (y ∷ ys) (suc i) z = (z.0, zip_take R xs ys i z.1)
+
+same_kind : (st : List Sentence) (x : Move ℕ) (move : Move (List ℕ)) → IsNumberedMove st x move → is_step x ≡ is_step move
+same_kind st (name id) move n = sym (ap (λ (m : Move (List ℕ)). is_step m) n.4)
+same_kind st (again tag) move n = sym (ap (λ (m : Move (List ℕ)). is_step m) n)
+same_kind st mark move n = sym (ap (λ (m : Move (List ℕ)). is_step m) n)
+
+-- numbered moves have as many steps as those by names
+pub same_steps : (st : List Sentence) (xs : List (Move ℕ)) (moves : List (Move (List ℕ))) → AreNumberedMoves st xs moves → steps_in xs ≡ steps_in moves
+same_steps st [] [] z = refl
+same_steps st [] (m ∷ moves) z = absurd z
+same_steps st (x ∷ xs) [] z = absurd z
+same_steps st (x ∷ xs) (m ∷ moves) z =
+    steps_in-append (x ∷ []) xs ∙ ap (λ b. 0 + cond b 1 0 + steps_in xs) (same_kind st x m z.0)
+    ∙ ap (λ n. steps_in (m ∷ []) + n) (same_steps st xs moves z.1) ∙ sym (steps_in-append (m ∷ []) moves)
+
+-- ---- one move more
+
+-- no moves, and an empty store
+pub run_none : (st : List Sentence) (place : ℕ) (stack kept : List (List ℕ)) → stack ≡ [] → kept ≡ [] → HasRun st place [] stack kept 0
+run_none st place stack kept empty none_kept = rw (empty, none_kept) (record {
+  count = refl;
+  passed = λ moves numbered. nothing moves numbered;
+  entries = tt;
+  kept_entries = tt;
+})
+  where
+    nothing : (moves : List (Move (List ℕ))) → AreNumberedMoves st [] moves → Passed (IsWithin expression_limit) (take place st) moves [] []
+    nothing [] z = passed_none (IsWithin expression_limit) (take place st)
+    nothing (m ∷ moves) z = absurd z
+
+-- a move that carries on what passed
+run_more : (st : List Sentence) (place : ℕ) (front : List (Move ℕ)) (x : Move ℕ) (stack kept stack' kept' : List (List ℕ)) (steps steps' : ℕ) → HasRun st place front stack kept steps
+    → ((move : Move (List ℕ)) (moves : List (Move (List ℕ))) → IsNumberedMove st x move
+        → Passed (IsWithin expression_limit) (take place st) moves (all_named st stack) (all_named st kept)
+        → Passed (IsWithin expression_limit) (take place st) (moves ++ move ∷ []) (all_named st stack') (all_named st kept'))
+    → AreEntries st (take place st) stack' → AreEntries st (take place st) kept' → steps' ≡ steps + steps_in (x ∷ [])
+    → HasRun st place (front ++ x ∷ []) stack' kept' steps'
+run_more st place front x stack kept stack' kept' steps steps' run carried entries kept_entries count = record {
+  count = count ∙ ap (λ n. n + steps_in (x ∷ [])) run.count ∙ sym (steps_in-append front (x ∷ []));
+  passed = λ moves numbered.
+    let h = zip_front (IsNumberedMove st) front x moves numbered in
+    subst (λ l. Passed (IsWithin expression_limit) (take place st) l (all_named st stack') (all_named st kept')) (sym h.2) (carried h.1 h.0 h.4 (run.passed h.0 h.3));
+  entries = entries;
+  kept_entries = kept_entries;
+}
+
+-- a step by a label
+pub run_name : (st : List Sentence) (place : ℕ) (front : List (Move ℕ)) (id : ℕ) (stack kept stack' : List (List ℕ)) (steps : ℕ) → HasRun st place front stack kept steps
+    → CarriesOn st place id stack stack' → AreEntries st (take place st) stack' → HasRun st place (front ++ name id ∷ []) stack' kept (steps + 1)
+run_name st place front id stack kept stack' steps run carries entries =
+    run_more st place front (name id) stack kept stack' kept steps (steps + 1) run
+    (λ move moves n passed.
+    subst (λ m. Passed (IsWithin expression_limit) (take place st) (moves ++ m ∷ []) (all_named st stack') (all_named st kept)) (sym n.4)
+    (carries n.1 moves (all_named st kept) (n.0, n.1, n.2, n.3, refl) passed))
+    entries run.kept_entries refl
+
+named_there : (st : List Sentence) (entries : List (List ℕ)) (i : ℕ) (e : List ℕ) → slice_get entries i ≡ Some e → slice_get (all_named st entries) i ≡ Some (named st e)
+named_there st [] i e there = absurd cc
+named_there st (x ∷ entries) zero e there = let same : x ≡ e = cc in ap (λ (l : List ℕ). Some (named st l)) same
+named_there st (x ∷ entries) (suc i) e there = named_there st entries i e there
+
+named_push : (st : List Sentence) (entries : List (List ℕ)) (e : List ℕ) → all_named st (entries ++ e ∷ []) ≡ all_named st entries ++ named st e ∷ []
+named_push st entries e = map-append (named st) entries (e ∷ [])
+
+-- a step by a tag
+pub run_again : (st : List Sentence) (place : ℕ) (front : List (Move ℕ)) (tag : ℕ) (stack kept stack' : List (List ℕ)) (steps : ℕ) (e : List ℕ) → HasRun st place front stack kept steps
+    → slice_get kept tag ≡ Some e → stack' ≡ stack ++ e ∷ [] → HasRun st place (front ++ again tag ∷ []) stack' kept (steps + 1)
+run_again st place front tag stack kept stack' steps e run there is =
+    run_more st place front (again tag) stack kept stack' kept steps (steps + 1) run
+    (λ move moves n passed. rw (n, is, named_push st stack e)
+    (passed_again (IsWithin expression_limit) (take place st) moves (all_named st stack) (all_named st kept) tag (named st e) passed (named_there st kept tag e there)))
+    (rw is (all_push (AreSymbols st (take place st)) stack e run.entries (all_at (AreSymbols st (take place st)) kept tag e run.kept_entries there)))
+    run.kept_entries refl
+
+last_is : {X : Type 0} (P : X → Type 0) (rest : List X) (e : X) → AllByRecursion P (rest ++ e ∷ []) → P e
+last_is P [] e all = all.0
+last_is P (x ∷ rest) e all = last_is P rest e all.1
+
+-- a mark
+pub run_mark : (st : List Sentence) (place : ℕ) (front : List (Move ℕ)) (stack kept stack' kept' : List (List ℕ)) (steps : ℕ) (rest : List (List ℕ)) (e : List ℕ) → HasRun st place front stack kept steps
+    → stack ≡ rest ++ e ∷ [] → stack' ≡ stack → kept' ≡ kept ++ e ∷ [] → HasRun st place (front ++ mark ∷ []) stack' kept' steps
+run_mark st place front stack kept stack' kept' steps rest e run split same is =
+    run_more st place front mark stack kept stack' kept' steps steps run
+    (λ move moves n passed. rw (n, same, is, split, named_push st rest e, named_push st kept e)
+    (passed_mark (IsWithin expression_limit) (take place st) moves (all_named st rest) (all_named st kept) (named st e)
+    (subst (λ l. Passed (IsWithin expression_limit) (take place st) moves l (all_named st kept)) (ap (all_named st) split ∙ named_push st rest e) passed)))
+    (rw same run.entries)
+    (rw is (all_push (AreSymbols st (take place st)) kept e run.kept_entries
+    (last_is (AreSymbols st (take place st)) rest e (subst (AreEntries st (take place st)) split run.entries))))
+    (omega arith)
+
+-- ---- a move that breaks a rule
+
+pub run_fault : (st : List Sentence) (place : ℕ) (xs : List (Move ℕ)) (i : ℕ) (x : Move ℕ) (stack kept : List (List ℕ)) (steps : ℕ) (rule : ProofRule) (at : ℕ)
+    → slice_get xs i ≡ Some x → HasRun st place (take i xs) stack kept steps
+    → ((move : Move (List ℕ)) → IsNumberedMove st x move → FirstAtMove (IsWithin expression_limit) rule (take place st) (all_named st stack) (all_named st kept) move)
+    → at ≡ steps + 1 → (names : List (Move (List ℕ))) → AreNumberedMoves st xs names → IsMoveFault (IsWithin expression_limit) (take place st) names rule at
+run_fault st place xs i x stack kept steps rule at there run first number names numbered =
+    let here = zip_left (IsNumberedMove st) xs names i x numbered there in
+    let front = zip_take (IsNumberedMove st) xs names i numbered in
+    record {
+      earlier = take i names;
+      move = here.0;
+      later = drop (suc i) names;
+      parts = split_at names i here.0 here.1;
+      number = number ∙ ap (λ n. n + 1) (run.count ∙ same_steps st (take i xs) (take i names) front);
+      stack = all_named st stack;
+      kept = all_named st kept;
+      passed = run.passed (take i names) front;
+      fault = first here.0 here.2;
+    }
+
+-- a step by a label
+pub stops_first : (st : List Sentence) (place id : ℕ) (stack kept : List (List ℕ)) (rule : ProofRule) → StopsAt st place id stack rule
+    → (move : Move (List ℕ)) → IsNumberedMove st (name id) move → FirstAtMove (IsWithin expression_limit) rule (take place st) (all_named st stack) (all_named st kept) move
+stops_first st place id stack kept rule stops move n =
+    subst (λ m. FirstAtMove (IsWithin expression_limit) rule (take place st) (all_named st stack) (all_named st kept) m) (sym n.4)
+    (stops n.1 (all_named st kept) (n.0, n.1, n.2, n.3, refl))
+
+-- a tag of nothing kept
+pub again_first : (st : List Sentence) (place tag : ℕ) (stack kept : List (List ℕ)) (rule : ProofRule) → rule ≡ P6 → length kept ≤ tag
+    → (move : Move (List ℕ)) → IsNumberedMove st (again tag) move → FirstAtMove (IsWithin expression_limit) rule (take place st) (all_named st stack) (all_named st kept) move
+again_first st place tag stack kept rule is over move n =
+    rw (is, n) (first_P6 (IsWithin expression_limit) (take place st) (all_named st stack) (all_named st kept) tag (omega (arith, length-map kept (named st))))
+
+-- a mark on nothing
+pub mark_first : (st : List Sentence) (place : ℕ) (stack kept : List (List ℕ)) (rule : ProofRule) → rule ≡ P7 → stack ≡ []
+    → (move : Move (List ℕ)) → IsNumberedMove st mark move → FirstAtMove (IsWithin expression_limit) rule (take place st) (all_named st stack) (all_named st kept) move
+mark_first st place stack kept rule is empty move n = rw (is, n, empty) (first_P7 (IsWithin expression_limit) (take place st) (all_named st kept))
+
+-- a fault that is handed on is the one of the call
+pub refused : {X : Type 0} (r : Result X ProofFault) (e f : ProofFault) → IsErrAnd r (λ x. x ≡ e) → r ≡ Err f → e ≡ f
+refused {X} r e f from is =
+    let p = err_from_is_err_and r from in sym p.2 ∙ same_err p.0 f (sym p.1 ∙ is)
+  where
+    same_err : (a b : ProofFault) → ◌≡◌ {A = Result X ProofFault} (Err a) (Err b) → a ≡ b
+    same_err a b e = cc
+
+-- ---- the loop
+
+-- what holds before each move: the moves so far have run, so many are marks
+abbrev pub Turn : List Sentence → ℕ → List NumberedMove → ℕ → (stack kept : List (List ℕ)) → (steps count : ℕ) → Type 0
+Turn st place moves i stack kept steps count =
+    HasRun st place (take i (moves_in moves)) stack kept steps × (count ≡ length kept) × (steps + count ≡ i)
+
+pub more_name : (st : List Sentence) (place : ℕ) (moves : List NumberedMove) (i : ℕ) (d : NumberedMove) (id : LabelId) (stack kept stack' kept' : List (List ℕ)) (steps count : ℕ)
+    → i < length moves → get_or moves i d ≡ code.Name id → Turn st place moves i stack kept steps count
+    → CarriesOn st place id.0 stack stack' → AreEntries st (take place st) stack' → kept' ≡ kept → Turn st place moves (i + 1) stack' kept' (steps + 1) count
+more_name st place moves i d id stack kept stack' kept' steps count less is turn carries entries same =
+    rw (same, front_more moves i d less, is) (
+      run_name st place (take i (moves_in moves)) id.0 stack kept stack' steps turn.0 carries entries,
+      turn.1,
+      (let e : steps + count ≡ i = turn.2 in omega arith),
+    )
+
+pub more_again : (st : List Sentence) (place : ℕ) (moves : List NumberedMove) (i : ℕ) (d : NumberedMove) (tag : ℕ) (stack kept stack' kept' : List (List ℕ)) (steps count : ℕ)
+    → i < length moves → get_or moves i d ≡ code.Again tag → Turn st place moves i stack kept steps count
+    → (e : List ℕ) × (slice_get kept tag ≡ Some e) × (stack' ≡ stack ++ e ∷ []) → kept' ≡ kept → Turn st place moves (i + 1) stack' kept' (steps + 1) count
+more_again st place moves i d tag stack kept stack' kept' steps count less is turn pushed same =
+    rw (same, front_more moves i d less, is) (
+      run_again st place (take i (moves_in moves)) tag stack kept stack' steps pushed.0 turn.0 pushed.1 pushed.2,
+      turn.1,
+      (let e : steps + count ≡ i = turn.2 in omega arith),
+    )
+
+pub more_mark : (st : List Sentence) (place : ℕ) (moves : List NumberedMove) (i : ℕ) (d : NumberedMove) (stack kept stack' kept' : List (List ℕ)) (steps count : ℕ)
+    → i < length moves → get_or moves i d ≡ code.Mark → Turn st place moves i stack kept steps count
+    → (rest : List (List ℕ)) × (e : List ℕ) × (stack ≡ rest ++ e ∷ []) × (kept' ≡ kept ++ e ∷ []) → stack' ≡ stack → Turn st place moves (i + 1) stack' kept' steps (count + 1)
+more_mark st place moves i d stack kept stack' kept' steps count less is turn kept_one same =
+    rw (front_more moves i d less, is) (
+      run_mark st place (take i (moves_in moves)) stack kept stack' kept' steps kept_one.0 kept_one.1 turn.0 kept_one.2 same kept_one.3,
+      (let e : count ≡ length kept = turn.1 in omega (arith, ap length kept_one.3, length-append kept (kept_one.1 ∷ []))),
+      (let e : steps + count ≡ i = turn.2 in omega arith),
+    )
+
+-- the last of a list, and what stands before it
+pub last_split : {X : Type 0} (xs : List X) → 0 < length xs → (rest : List X) × (e : X) × (xs ≡ rest ++ e ∷ []) × (slice_get xs (length xs - 1) ≡ Some e)
+last_split [] less = absurd (omega arith)
+last_split (x ∷ []) less = ([], x, refl, refl)
+last_split (x ∷ y ∷ xs) less =
+    let h = last_split (y ∷ xs) (omega arith) in
+    let there : slice_get (y ∷ xs) (length xs) ≡ Some h.1 = subst (λ k. slice_get (y ∷ xs) k ≡ Some h.1) (omega arith) h.3 in
+    (x ∷ h.0, h.1, ap (λ l. x ∷ l) h.2, subst (λ k. slice_get (x ∷ y ∷ xs) k ≡ Some h.1) (let e : suc (length xs) ≡ length (x ∷ y ∷ xs) - 1 = omega arith in e) there)

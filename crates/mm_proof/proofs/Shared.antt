@@ -1,0 +1,175 @@
+-- Variables that two expressions share, by numbers and by names.
+use Rattle.std.proofs.Common.{◌≡◌, ℕ, zero, suc, ◌+◌, ◌<◌, ◌≤◌, List, [], ◌∷◌, length, take, drop, get_or, slice_get, Contains, Bool, true, false, not, cond, Option, Some, IsTrue, MatchBool, inl, inr, ⊎_elim, refl, sym, ap, subst, ◌∙◌, arith}
+use Rattle.std.proofs.lemmas.Bool.{false≢true, cases_lt}
+use Rattle.std.proofs.lemmas.List.{length-map, get_or_default}
+use Rattle.mm_text.specs.declared.statement.Kind.TheVariants.{Constants, Variables}
+use Rattle.mm_frame.specs.declared.number.Sym.{Sym}
+use Rattle.mm_frame.specs.Sentence.{Sentence, Declares}
+use Rattle.mm_frame.specs.Active.{IsVariable}
+use Rattle.mm_frame.specs.Rules.{AllMeant}
+use Rattle.mm_frame.specs.Numbers.{symbols_of}
+use Rattle.mm_frame.specs.Laws.{OneNumber}
+use Rattle.mm_proof.specs.Tree.{ShareNoVariable, AreDistinct}
+use Rattle.mm_proof.specs.Stores.{numbers_in}
+use Rattle.mm_proof.specs.CodeVerify.{name_at, named, IsSymbol, AreSymbols, AreBelow, IsApartFromEach, AreEntries, is_of, value_of, EachValues, SomeValues, pairs_in}
+use Rattle.std.proofs.lemmas.Option.{same_Some}
+use Rattle.mm_frame.specs.Frame.{IsDistinct}
+use Rattle.mm_proof.proofs.Meaning.{not_both, some_in_front}
+use Rattle.mm_proof.proofs.Searches.{distinct_dec}
+use Rattle.mm_proof.proofs.Named.{one_name}
+
+pub number_at : (symbols : List Sym) (k : ℕ) (d : Sym) → k < length symbols → get_or (numbers_in symbols) k 0 ≡ (get_or symbols k d).0
+number_at [] k d less = absurd (omega arith)
+number_at (s ∷ symbols) zero d less = refl
+number_at (s ∷ symbols) (suc k) d less = number_at symbols k d (omega arith)
+
+-- numbers of symbols are below the count
+pub symbols_below : (st before : List Sentence) (ns : List ℕ) → AreSymbols st before ns → AreBelow st ns
+symbols_below st before [] all = tt
+symbols_below st before (n ∷ ns) all = (all.0.below, symbols_below st before ns all.1)
+
+pub symbol_at : (st before : List Sentence) (ns : List ℕ) (k : ℕ) → AreSymbols st before ns → k < length ns → IsSymbol st before (get_or ns k 0)
+symbol_at st before [] k all less = absurd (omega arith)
+symbol_at st before (n ∷ ns) zero all less = all.0
+symbol_at st before (n ∷ ns) (suc k) all less = symbol_at st before ns k all.1 (omega arith)
+
+-- a variable of all statements that was declared before is a variable of those before
+pub variable_before : (st : List Sentence) (place n : ℕ) → AllMeant st → IsSymbol st (take place st) n → IsVariable st (name_at st n) → ¬ (¬ (IsVariable (take place st) (name_at st n)))
+variable_before st place n all s variable none =
+    s.declared (λ d. ⊎_elim (λ c. not_both st (name_at st n) all (some_in_front st place (Declares Constants (name_at st n)) c) variable) none d)
+
+-- a name stands among the names as the number does among the numbers
+pub named_has : (st : List Sentence) (ns : List ℕ) (n : ℕ) → Contains ns n → Contains (named st ns) (name_at st n)
+named_has st [] n has = absurd (let l : has.0 < 0 = has.1 in omega arith)
+named_has st (m ∷ ns) n (zero, less, is) = (0, omega arith, ap (name_at st) is)
+named_has st (m ∷ ns) n (suc k, less, is) =
+    let rest = named_has st ns n (k, (let l : suc k < suc (length ns) = less in omega arith), is) in
+    (suc rest.0, (let l : rest.0 < length (named st ns) = rest.1 in omega arith), rest.2)
+
+pub has_named : (st : List Sentence) (ns : List ℕ) (u : List ℕ) → Contains (named st ns) u → (k : ℕ) × (k < length ns) × (name_at st (get_or ns k 0) ≡ u)
+has_named st [] u has = absurd (let l : has.0 < 0 = has.1 in omega arith)
+has_named st (n ∷ ns) u (zero, less, is) = (0, omega arith, is)
+has_named st (n ∷ ns) u (suc k, less, is) =
+    let rest = has_named st ns u (k, (let l : suc k < suc (length (named st ns)) = less in omega arith), is) in
+    (suc rest.0, (let l : rest.0 < length ns = rest.1 in omega arith), rest.2)
+
+-- the number at a place is one of the numbers
+pub number_among : (ns : List ℕ) (k : ℕ) → k < length ns → Contains ns (get_or ns k 0)
+number_among ns k less = (k, less, get_or_default ns k (get_or ns k 0) 0 less)
+
+-- a shared variable
+pub shared_told : (st : List Sentence) (place : ℕ) (e f : List ℕ) (k : ℕ) → AllMeant st → AreSymbols st (take place st) e → k < length e
+    → IsVariable st (name_at st (get_or e k 0)) → Contains f (get_or e k 0) → ¬ (ShareNoVariable (take place st) (named st e) (named st f))
+shared_told st place e f k all symbols less variable has none =
+    variable_before st place (get_or e k 0) all (symbol_at st (take place st) e k symbols less) variable
+    (λ v. none (name_at st (get_or e k 0)) v (named_has st e (get_or e k 0) (number_among e k less)) (named_has st f (get_or e k 0) has))
+
+-- no variable is shared
+pub not_shared_told : OneNumber → (st : List Sentence) (place : ℕ) (e f : List ℕ) → AreSymbols st (take place st) e → AreSymbols st (take place st) f
+    → ((k : ℕ) → k < length e → IsVariable st (name_at st (get_or e k 0)) → ¬ (Contains f (get_or e k 0))) → ShareNoVariable (take place st) (named st e) (named st f)
+not_shared_told one st place e f se sf none u variable in_e in_f =
+    let i = has_named st e u in_e in
+    let j = has_named st f u in_f in
+    let bi = (symbol_at st (take place st) e i.0 se i.1).below in
+    let bj = (symbol_at st (take place st) f j.0 sf j.1).below in
+    let same = one_name one st (get_or f j.0 0) (get_or e i.0 0) bj bi (j.2 ∙ sym i.2) in
+    none i.0 i.1 (subst (IsVariable st) (sym i.2) (some_in_front st place (Declares Variables u) variable)) (subst (Contains f) same (number_among f j.0 j.1))
+
+pub and_told : (V H : Type 0) (r : Bool) → (IsTrue r → H) → (H → IsTrue r) → V → MatchBool r (V × H) (V → ¬ H)
+and_told V H true to from v = (v, to refl)
+and_told V H false to from v = λ w h. false≢true (from h)
+
+pub not_told : (V H : Type 0) (r : Bool) → r ≡ false → (V → IsTrue r) → MatchBool r (V × H) (V → ¬ H)
+not_told V H true is from = absurd (false≢true (sym is))
+not_told V H false is from = λ v h. false≢true (from v)
+
+-- none of them up to the end
+pub none_has : (ns : List ℕ) (n i : ℕ) → length ns ≤ i → ((k : ℕ) → k < i → get_or ns k 0 ≡ n → ⊥) → ¬ (Contains ns n)
+none_has ns n i all none has =
+    let within : has.0 < length ns = has.1 in
+    none has.0 (omega arith) (get_or_default ns has.0 0 n within ∙ has.2)
+
+pub symbol_below : (st before : List Sentence) (e : List Sym) (k : ℕ) (d : Sym) → AreSymbols st before (numbers_in e) → k < length e → (get_or e k d).0 < length (symbols_of st)
+symbol_below st before e k d all less =
+    subst (λ n. n < length (symbols_of st)) (number_at e k d less) (symbol_at st before (numbers_in e) k all (omega (arith, length-map e (λ s. s.0)))).below
+
+pub apart_free : (V D : Type 0) (r : Bool) → r ≡ false → (V → IsTrue r) → MatchBool (not r) (V → D) (¬ (V → D))
+apart_free V D true is from = absurd (false≢true (sym is))
+apart_free V D false is from = λ v. absurd (false≢true (from v))
+
+pub apart_told : (V D : Type 0) (q : Bool) → (IsTrue q → D) → (D → IsTrue q) → V → MatchBool q (V → D) (¬ (V → D))
+apart_told V D true to from v = λ w. to refl
+apart_told V D false to from v = λ f. false≢true (from (f v))
+
+-- each of the one is apart from each of the other: the expressions are distinct
+pub distinct_told : (st : List Sentence) (place : ℕ) (e f : List ℕ) → ((k : ℕ) → k < length e → IsApartFromEach st place f (get_or e k 0)) → AreDistinct (take place st) (named st e) (named st f)
+distinct_told st place e f each u v var_u var_v in_e in_f =
+    let i = has_named st e u in_e in
+    let j = has_named st f v in_f in
+    let d = each i.0 i.1 (subst (IsVariable st) (sym i.2) (some_in_front st place (Declares Variables u) var_u)) j.0 j.1 (subst (IsVariable st) (sym j.2) (some_in_front st place (Declares Variables v) var_v)) in
+    subst (λ (x : List ℕ). IsDistinct (take place st) x v) i.2 (subst (λ (y : List ℕ). IsDistinct (take place st) (name_at st (get_or e i.0 0)) y) j.2 d)
+
+-- one that isn't: they aren't
+pub near_told : (st : List Sentence) (place : ℕ) (e f : List ℕ) (k : ℕ) → AllMeant st → AreSymbols st (take place st) e → AreSymbols st (take place st) f → k < length e
+    → ¬ (IsApartFromEach st place f (get_or e k 0)) → ¬ (AreDistinct (take place st) (named st e) (named st f))
+near_told st place e f k all se sf less near distinct =
+    near (λ var_u j in_f var_v.
+    decided (distinct_dec (take place st) (name_at st (get_or e k 0)) (name_at st (get_or f j 0)))
+    (variable_before st place (get_or e k 0) all (symbol_at st (take place st) e k se less) var_u)
+    (variable_before st place (get_or f j 0) all (symbol_at st (take place st) f j sf in_f) var_v)
+    (λ u v. distinct (name_at st (get_or e k 0)) (name_at st (get_or f j 0)) u v (named_has st e _ (number_among e k less)) (named_has st f _ (number_among f j in_f))))
+  where
+    decided : {D U V : Type 0} → Dec D → ¬ (¬ U) → ¬ (¬ V) → (U → V → D) → D
+    decided (yes d) u v f = d
+    decided (no n) u v f = absurd (u (λ x. v (λ y. n (f x y))))
+
+-- what replaces a symbol has symbols
+pub value_symbols : (st before : List Sentence) (vs : List (Option ℕ)) (es : List (List ℕ)) (n : ℕ) (v : List ℕ) → AreEntries st before es → value_of vs es n ≡ Some v → AreSymbols st before v
+value_symbols st before [] es n v all is = absurd cc
+value_symbols st before (x ∷ vs) [] n v all is = absurd cc
+value_symbols st before (x ∷ vs) (e ∷ es) n v all is = go (is_of n x) is (value_symbols st before vs es n v all.1)
+  where
+    tail : (l : List ℕ) → AreSymbols st before l → AreSymbols st before (drop 1 l)
+    tail [] a = tt
+    tail (y ∷ l) a = a.1
+
+    go : (b : Bool) → cond b (Some (drop 1 e)) (value_of vs es n) ≡ Some v → (value_of vs es n ≡ Some v → AreSymbols st before v) → AreSymbols st before v
+    go true s later = subst (AreSymbols st before) (same_Some (drop 1 e) v s) (tail e all.0)
+    go false s later = later s
+
+-- the one pair of values is so or not
+pub values_told : (σ : ℕ → Option (List ℕ)) (x y : ℕ) (e f : List ℕ) (P : List ℕ → List ℕ → Type 0) (r : Bool) → σ x ≡ Some e → σ y ≡ Some f
+    → MatchBool r (¬ (P e f)) (P e f) → MatchBool r (SomeValues σ x y (λ a b. ¬ (P a b))) (EachValues σ x y P)
+values_told σ x y e f P true at_x at_y h = (e, f, at_x, at_y, h)
+values_told σ x y e f P false at_x at_y h =
+    λ a b p q. subst (λ l. P l b) (same_Some e a (sym at_x ∙ p)) (subst (P e) (same_Some f b (sym at_y ∙ q)) h)
+
+pub values_apart : (σ : ℕ → Option (List ℕ)) (x y : ℕ) (e f : List ℕ) (P : List ℕ → List ℕ → Type 0) (r : Bool) → σ x ≡ Some e → σ y ≡ Some f
+    → MatchBool r (P e f) (¬ (P e f)) → MatchBool r (EachValues σ x y P) (SomeValues σ x y (λ a b. ¬ (P a b)))
+values_apart σ x y e f P true at_x at_y h =
+    λ a b p q. subst (λ l. P l b) (same_Some e a (sym at_x ∙ p)) (subst (P e) (same_Some f b (sym at_y ∙ q)) h)
+values_apart σ x y e f P false at_x at_y h = (e, f, at_x, at_y, h)
+
+pub pair_at : (pairs : List (Sym × Sym)) (k : ℕ) (d : Sym × Sym) → k < length pairs → slice_get (pairs_in pairs) k ≡ Some ((get_or pairs k d).0.0, (get_or pairs k d).1.0)
+pair_at [] k d less = absurd (omega arith)
+pair_at (p ∷ pairs) zero d less = refl
+pair_at (p ∷ pairs) (suc k) d less = pair_at pairs k d (omega arith)
+
+pub pairs_more : (σ : ℕ → Option (List ℕ)) (pairs : List (Sym × Sym)) (P : List ℕ → List ℕ → Type 0) (n : ℕ) (d : Sym × Sym) → n < length pairs
+    → ((k : ℕ) (p : ℕ × ℕ) → k < n → slice_get (pairs_in pairs) k ≡ Some p → EachValues σ p.0 p.1 P) → EachValues σ (get_or pairs n d).0.0 (get_or pairs n d).1.0 P
+    → (k : ℕ) (p : ℕ × ℕ) → k < n + 1 → slice_get (pairs_in pairs) k ≡ Some p → EachValues σ p.0 p.1 P
+pairs_more σ pairs P n d less below here k p lt at = elim (cases_lt k n) [
+  | inl l ↦ below k p l at
+  | inr m ↦
+      let same : k ≡ n = omega arith in
+      let one = same_Some ((get_or pairs n d).0.0, (get_or pairs n d).1.0) p (sym (pair_at pairs n d less) ∙ ap (slice_get (pairs_in pairs)) (sym same) ∙ at) in
+      subst (λ (q : ℕ × ℕ). EachValues σ q.0 q.1 P) one here
+]
+
+-- what a pair that isn't there is read as
+abbrev pub no_pair : Sym × Sym
+no_pair = (record { 0 = 0 }, record { 0 = 0 })
+
+pub pairs_length : (pairs : List (Sym × Sym)) → length (pairs_in pairs) ≡ length pairs
+pairs_length [] = refl
+pairs_length (p ∷ pairs) = ap suc (pairs_length pairs)

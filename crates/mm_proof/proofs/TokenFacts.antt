@@ -1,0 +1,122 @@
+-- The tokens of a proof: its parts, its labels, and what a list of labels that may be used tells.
+use Rattle.std.proofs.Common.{◌≡◌, ◌≢◌, ℕ, zero, suc, ◌+◌, ◌*◌, ◌<◌, ◌≤◌, min, List, [], ◌∷◌, ◌++◌, length, map, take, drop, get_or, slice_get, Contains, All, Bor, Some, ◌⊎◌, inl, inr, ⊎_elim, refl, sym, ap, subst, ◌∙◌, arith}
+use Rattle.std.specs.List.{AllZip, AllByRecursion, flat_map}
+use Rattle.std.proofs.lemmas.Option.{same_Some, none-some, slice_get_read}
+use Rattle.std.proofs.lemmas.List.{map_more, take-map, map-append, take_all, length-map, take-append-drop}
+use Rattle.std.proofs.lemmas.List.Elements.{Contains-push, Contains-push_cases, Contains-append_left, Contains-append_right}
+use Rattle.mm_text.specs.declared.statement.Kind.{Kind}
+use Rattle.mm_text.specs.declared.statement.Kind.TheVariants.{Floating, Essential, Axiom, Provable}
+use Rattle.mm_code.specs.declared.code.Code.{Code}
+use Rattle.mm_code.specs.declared.code.Code.TheVariants.{Number, Tag}
+use Rattle.mm_code.specs.Letters as letters
+use Rattle.mm_frame.specs.Sentence.{Sentence, SomeSentence, IsLabelled, IsHypothesis, IsAssertion}
+use Rattle.mm_frame.specs.Active.{IsActive}
+use Rattle.mm_frame.specs.Rules.{AllMeant}
+use Rattle.mm_frame.specs.Numbers.{labelled}
+use Rattle.mm_proof.specs.declared.fault.ProofRule.{ProofRule}
+use Rattle.mm_proof.specs.declared.fault.ProofRule.TheVariants.{P1, P2, P3, P4, P5, P6, P7, P8, P9, P10, P11, P12, P13, P14, L1}
+use Rattle.mm_proof.specs.Moves.{Move, name, again, mark}
+use Rattle.mm_proof.specs.Tokens.{IsIncomplete, IsNormal, IsCompressed, AreLabels, AreLetters, opening_token, closing_token}
+use Rattle.mm_proof.specs.Proof.{rank, BreaksWhole, IsWhole, IsWholeFault}
+use Rattle.mm_proof.specs.Steps.{IsNumberedMove, AreNumberedMoves, IsUsable, IsUsableMove}
+use Rattle.mm_proof.specs.CodeSteps.{AreFor, MayBeUsed, IsIdle, IsUnknown, BreaksLabels, NumberSays, ids_in, texts}
+use Rattle.mm_proof.proofs.Places.{get_take, get_from_take}
+use Rattle.mm_proof.proofs.Meaning.{one_label, one_labelled, meant_front}
+use Rattle.mm_proof.proofs.Numbered.{numbered_at}
+use Rattle.mm_proof.proofs.LabelLists.{texts_more, known_push}
+
+-- ---- a token more, of which something doesn't hold
+
+pub none_more : (P : List ℕ → Type 0) (tokens : List (Bor (List ℕ))) (i : ℕ) (d : Bor (List ℕ)) → i < length tokens
+    → ((t : List ℕ) → Contains (take i (texts tokens)) t → ¬ (P t)) → ¬ (P (get_or tokens i d).now)
+    → (t : List ℕ) → Contains (take (i + 1) (texts tokens)) t → ¬ (P t)
+none_more P tokens i d less none here t has =
+    known_push P (take i (texts tokens)) (get_or tokens i d).now none here t (subst (λ l. Contains l t) (texts_more tokens i d less) has)
+
+-- the front that is all
+pub front_all : (tokens : List (Bor (List ℕ))) (i : ℕ) → length tokens ≤ i → take i (texts tokens) ≡ texts tokens
+front_all tokens i all = take_all i (texts tokens) (omega (arith, length-map tokens (λ t. t.now)))
+
+pub text_at : (tokens : List (Bor (List ℕ))) (i : ℕ) (d : Bor (List ℕ)) → i < length tokens → slice_get (texts tokens) i ≡ Some (get_or tokens i d).now
+text_at [] i d less = absurd (omega arith)
+text_at (t ∷ tokens) zero d less = refl
+text_at (t ∷ tokens) (suc i) d less = text_at tokens i d (omega arith)
+
+-- ---- labels that may be used
+
+-- each of the labels is that of an earlier statement
+pub for_known : (statements : List Sentence) (place : ℕ) (ids : List ℕ) (labels : List (List ℕ)) (label : List ℕ) → AreFor statements place ids labels
+    → Contains labels label → (id : ℕ) × MayBeUsed statements place label id
+for_known statements place [] [] label all has = absurd (let l : has.0 < 0 = has.1 in omega arith)
+for_known statements place [] (l ∷ labels) label all has = absurd all
+for_known statements place (id ∷ ids) [] label all has = absurd all
+for_known statements place (id ∷ ids) (l ∷ labels) label all (zero, within, is) = (id, subst (λ k. MayBeUsed statements place k id) is all.0)
+for_known statements place (id ∷ ids) (l ∷ labels) label all (suc k, within, is) =
+    for_known statements place ids labels label all.1 (k, (let w : suc k < suc (length labels) = within in omega arith), is)
+
+not_two_kinds : (kind : Kind) → IsHypothesis kind → IsAssertion kind → ⊥
+not_two_kinds kind (inl f) (inl a) = absurd (let e : Floating ≡ Axiom = sym f ∙ a in cc)
+not_two_kinds kind (inl f) (inr p) = absurd (let e : Floating ≡ Provable = sym f ∙ p in cc)
+not_two_kinds kind (inr e) (inl a) = absurd (let x : Essential ≡ Axiom = sym e ∙ a in cc)
+not_two_kinds kind (inr e) (inr p) = absurd (let x : Essential ≡ Provable = sym e ∙ p in cc)
+
+-- no hypothesis with such a label is idle
+used_not_idle : (statements : List Sentence) (place : ℕ) (label : List ℕ) (id : ℕ) → AllMeant statements → MayBeUsed statements place label id
+    → (at : ℕ) (h : Sentence) → slice_get (take place statements) at ≡ Some h → IsLabelled label h → IsHypothesis h.kind → ¬ (¬ (IsActive (take place statements) at))
+used_not_idle statements place label id all m at h there named kind idle =
+    let front = get_from_take statements place at h there in
+    let here = m.numbered.there in
+    let one : m.at ≡ at = one_label statements m.at at m.s h label all here front.1 m.named named in
+    let same : m.s ≡ h = one_labelled statements m.at at m.s h label all here front.1 m.named named in
+    elim m.kind [
+      | inl active ↦ idle (subst (λ k. IsActive (take place statements) k) one active.1)
+      | inr assertion ↦ not_two_kinds h.kind kind (subst (λ (s : Sentence). IsAssertion s.kind) same assertion)
+    ]
+
+-- ---- what the labels of a proof tell
+
+-- these are the labels, there are no others, and the list of a compressed proof ends
+pub record HasLabels (tokens labels : List (List ℕ)) : Type 0 where
+  pub are : AreLabels tokens labels
+  pub one : (others : List (List ℕ)) → AreLabels tokens others → others ≡ labels
+  pub ends : ¬ ((slice_get tokens 0 ≡ Some opening_token) × ¬ (Contains (drop 1 tokens) closing_token))
+
+-- labels that may be used break no rule that is judged of labels
+pub labels_pass : (statements : List Sentence) (place : ℕ) (tokens : List (List ℕ)) (ids : List ℕ) (labels : List (List ℕ)) → AllMeant statements
+    → HasLabels tokens labels → AreFor statements place ids labels → (rule : ProofRule) → rank rule < rank P4 → ¬ (BreaksWhole rule (take place statements) tokens)
+labels_pass statements place tokens ids labels all has each P1 less b = has.ends b
+labels_pass statements place tokens ids labels all has each P2 less b =
+    let known = for_known statements place ids labels b.2 each (subst (λ l. Contains l b.2) (has.one b.0 b.1) b.3) in
+    b.4 (known.1.at, known.1.s, get_take statements place known.1.at known.1.before ∙ known.1.numbered.there, known.1.named)
+labels_pass statements place tokens ids labels all has each P3 less b =
+    let known = for_known statements place ids labels b.2 each (subst (λ l. Contains l b.2) (has.one b.0 b.1) b.3) in
+    used_not_idle statements place b.2 known.0 all known.1 b.4 b.5 b.6 b.7 b.8 b.9
+labels_pass statements place tokens ids labels all has each rule less b = absurd (omega arith)
+
+-- labels that break a rule are at fault by it
+pub labels_fault : (statements : List Sentence) (place : ℕ) (tokens labels : List (List ℕ)) (rule : ProofRule) → HasLabels tokens labels
+    → BreaksLabels rule statements place labels → IsWholeFault (take place statements) tokens rule
+labels_fault statements place tokens labels P2 has b = record { broken = (labels, has.are, b.0, b.1, b.2); first = first }
+  where
+    first : (other : ProofRule) → rank other < rank P2 → ¬ (BreaksWhole other (take place statements) tokens)
+    first P1 less broken = has.ends broken
+    first other less broken = absurd (omega arith)
+labels_fault statements place tokens labels P3 has b = record {
+  broken = (labels, has.are, b.1, b.2, b.3.at, b.3.s, b.3.there, b.3.named, b.3.kind, b.3.idle);
+  first = first;
+}
+  where
+    first : (other : ProofRule) → rank other < rank P3 → ¬ (BreaksWhole other (take place statements) tokens)
+    first P1 less broken = has.ends broken
+    first P2 less broken = b.0 broken.2 (subst (λ l. Contains l broken.2) (has.one broken.0 broken.1) broken.3) broken.4
+    first other less broken = absurd (omega arith)
+labels_fault statements place tokens labels rule has b = absurd b
+
+-- ---- normal proofs
+
+pub normal_labels : (tokens : List (List ℕ)) → IsNormal tokens → HasLabels tokens tokens
+normal_labels tokens normal = record {
+  are = inl (normal, refl);
+  one = λ others are. ⊎_elim (λ n. n.1) (λ c. absurd (normal (ap (λ l. slice_get l 0) c.1.whole))) are;
+  ends = λ b. normal b.0;
+}

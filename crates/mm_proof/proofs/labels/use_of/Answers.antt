@@ -1,0 +1,63 @@
+use Rattle.std.proofs.Common.{rules, arith, inl, inr, subst, sym, ◌<◌, ◌≡◌, ◌∙◌, length, List, take, slice_get, Some}
+use Rattle.mm_frame.specs.Sentence.{Sentence}
+use Rattle.mm_frame.specs.Active.{IsActive}
+use Rattle.mm_frame.specs.Numbers.{labelled, IsNumbered}
+use Rattle.std.proofs.lemmas.Bool.{false≢true}
+use Rattle.mm_proof.proofs.Meaning.{some_in_front}
+use Rattle.mm_proof.proofs.Places.{get_take}
+use Rattle.mm_proof.proofs.Numbered.{numbered_below, numbers_order, not_earlier}
+use Rattle.mm_proof.proofs.labels.use_of.Goals as goal
+
+pub active-requires : goal.active-requires
+active-requires c =
+    let f = c.in-Hypothesis.ensures.found in
+    subst (λ (st : List Sentence). c.in-Hypothesis.found.0 < length (labelled st)) (sym c.requires.book) (numbered_below _ _ f.0 f.1 f.2)
+
+pub returns-in-Assertion : goal.returns-in-Assertion
+returns-in-Assertion c =
+    let f = c.in-Assertion.ensures.found in
+    record { at = f.0; s = f.1; numbered = f.2; named = f.3; before = numbers_order _ _ _ _ _ _ _ f.2 c.requires.own.1 (omega arith); kind = inr f.4 }
+
+pub returns-then-active : goal.returns-then-active
+returns-then-active c =
+    let f = c.in-Hypothesis.ensures.found in
+    let less = numbers_order _ _ _ _ _ _ _ f.2 c.requires.own.1 (omega arith) in
+    let own = subst (λ (st : List Sentence). IsNumbered st c.in-Hypothesis.found.0 f.0 f.1) (sym c.requires.book) f.2 in
+    let active = (c.active.ensures f.0 f.1 own).0 c.if-active.true in
+    record {
+      at = f.0;
+      s = f.1;
+      numbered = f.2;
+      named = f.3;
+      before = less;
+      kind = inl (f.4, subst (λ (st : List Sentence). IsActive (take c.args.own.now.place st) f.0) c.requires.book active);
+    }
+
+pub returns-else-active : goal.returns-else-active
+returns-else-active c =
+    let f = c.in-Hypothesis.ensures.found in
+    let less = numbers_order _ _ _ _ _ _ _ f.2 c.requires.own.1 (omega arith) in
+    let own = subst (λ (st : List Sentence). IsNumbered st c.in-Hypothesis.found.0 f.0 f.1) (sym c.requires.book) f.2 in
+    record {
+      at = f.0;
+      s = f.1;
+      there = get_take c.args.book.now.statements c.args.own.now.place f.0 less ∙ f.2.there;
+      named = f.3;
+      kind = f.4;
+      idle = λ active.
+          let is = (c.active.ensures f.0 f.1 own).1 (subst (λ (st : List Sentence). IsActive (take c.args.own.now.place st) f.0) (sym c.requires.book) active) in
+          false≢true (sym c.if-active.false ∙ is);
+    }
+
+pub returns-in_default : goal.returns-in_default
+returns-in_default c =
+    let f = c.in-Assertion.ensures.found in
+    not_earlier _ _ f.0 f.1 _ _ _ _ c.in-Assertion.ensures.sound.0 f.2 f.3 c.requires.own.1 (omega arith)
+
+pub returns-in_default-2 : goal.returns-in_default-2
+returns-in_default-2 c =
+    let f = c.in-Hypothesis.ensures.found in
+    not_earlier _ _ f.0 f.1 _ _ _ _ c.in-Hypothesis.ensures.sound.0 f.2 f.3 c.requires.own.1 (omega arith)
+
+pub returns-in_default-3 : goal.returns-in_default-3
+returns-in_default-3 c h = c.in_default.ensures.found (some_in_front _ _ _ h)

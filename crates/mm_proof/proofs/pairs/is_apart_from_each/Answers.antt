@@ -1,0 +1,26 @@
+use Rattle.std.proofs.Common.{ℕ, sym, subst, arith, below_more, get_or}
+use Rattle.std.proofs.lemmas.List.{length-map}
+use Rattle.mm_proof.specs.Stores.{numbers_in}
+use Rattle.mm_proof.specs.CodeVerify.{IsApart}
+use Rattle.mm_proof.proofs.Shared.{number_at, symbol_below}
+use Rattle.mm_proof.proofs.Named.{number_of_name}
+use Rattle.mm_proof.proofs.pairs.is_apart_from_each.Goals as goal
+
+pub is_apart-requires-clause-second : goal.is_apart-requires-clause-second
+is_apart-requires-clause-second c = symbol_below c.args.book.now.statements _ c.args.f.now c.loop-symbol.symbol-index _ c.requires.second c.loop-symbol-test.true
+
+pub loop-symbol-preserved : goal.loop-symbol-preserved
+loop-symbol-preserved c =
+    let at = number_at c.args.f.now c.loop-symbol.symbol-index (record { 0 = 0 }) c.loop-symbol-test.true in
+    below_more (λ (k : ℕ). IsApart c.args.book.now.statements c.args.own.now.place c.args.variable.0 (get_or (numbers_in c.args.f.now) k 0)) c.loop-symbol.symbol-index c.loop-symbol.invariant
+    (subst (λ (n : ℕ). IsApart c.args.book.now.statements c.args.own.now.place c.args.variable.0 n) (sym at) c.if-not-is_apart.ensures)
+
+pub returns-then-not-is_apart : goal.returns-then-not-is_apart
+returns-then-not-is_apart c each =
+    let at = number_at c.args.f.now c.loop-symbol.symbol-index (record { 0 = 0 }) c.loop-symbol-test.true in
+    let variable = (c.is_variable.ensures _ (number_of_name c.args.book.now.statements c.args.variable.0 c.requires.first)).0 c.if-not-is_variable.false in
+    c.if-not-is_apart.ensures
+    (subst (λ (n : ℕ). IsApart c.args.book.now.statements c.args.own.now.place c.args.variable.0 n) at (each variable c.loop-symbol.symbol-index (omega (arith, length-map c.args.f.now (λ s. s.0)))))
+
+pub returns : goal.returns
+returns c variable k less = c.loop-symbol.invariant k (omega (arith, length-map c.args.f.now (λ s. s.0)))

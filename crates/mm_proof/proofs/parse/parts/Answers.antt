@@ -1,0 +1,7 @@
+use Rattle.std.proofs.Common.{refl, ◌+◌}
+use Rattle.std.proofs.lemmas.List.{take_rest}
+use Rattle.mm_proof.proofs.Compressed.{parts_given}
+use Rattle.mm_proof.proofs.parse.parts.Goals as goal
+
+pub returns : goal.returns
+returns c = parts_given c.args.rest.now _ _ c.in_ok-place.place refl (take_rest c.args.rest.now (c.in_ok-place.place + 1)) c.in_ok-place.ensures.1 c.in_ok-place.ensures.2

@@ -1,0 +1,23 @@
+use Rattle.std.proofs.Common.{arith}
+use Rattle.std.proofs.lemmas.Option.{slice_get_within}
+use Rattle.mm_proof.proofs.Named.{id_below, hypothesis_at, entry_at, entry_below, each_more, as_many}
+use Rattle.mm_proof.proofs.step.are_right_codes.Goals as goal
+
+pub is_right_code-requires-clause-named : goal.is_right_code-requires-clause-named
+is_right_code-requires-clause-named g c = id_below c.args.book.now.statements c.args.hypotheses.now c.requires.known.0 c.loop-index.index (record { 0 = 0 }) c.requires.known.1 c.loop-index-test.true
+
+pub is_right_code-requires-clause-below : goal.is_right_code-requires-clause-below
+is_right_code-requires-clause-below g c = entry_below c.args.book.now.statements (g.S.Store.stack c.args.store.now) c.args.base c.loop-index.index _ c.requires.below c.at.ensures
+
+pub returns-then-not-is_right_code : goal.returns-then-not-is_right_code
+returns-then-not-is_right_code g c hs are =
+    let at = hypothesis_at c.args.book.now.statements c.args.hypotheses.now hs c.loop-index.index (record { 0 = 0 }) are c.loop-index-test.true in
+    (c.loop-index.index, at.0, _, at.1, entry_at c.args.book.now.statements (g.S.Store.stack c.args.store.now) c.args.base c.loop-index.index _ c.at.ensures, c.if-not-is_right_code.ensures at.0 at.2)
+
+pub loop-index-preserved : goal.loop-index-preserved
+loop-index-preserved g c hs are =
+    let at = hypothesis_at c.args.book.now.statements c.args.hypotheses.now hs c.loop-index.index (record { 0 = 0 }) are c.loop-index-test.true in
+    each_more hs _ _ c.loop-index.index at.0 _ at.1 (entry_at c.args.book.now.statements (g.S.Store.stack c.args.store.now) c.args.base c.loop-index.index _ c.at.ensures) (c.if-not-is_right_code.ensures at.0 at.2) (c.loop-index.invariant hs are)
+
+pub returns : goal.returns
+returns g c hs are i h entry p q = c.loop-index.invariant hs are i h entry (omega (arith, slice_get_within hs i h p, as_many c.args.book.now.statements c.args.hypotheses.now hs are)) p q

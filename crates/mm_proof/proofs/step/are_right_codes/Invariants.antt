@@ -1,0 +1,11 @@
+use Rattle.std.proofs.Common.{ℕ, ◌<◌, ◌≡◌, List, Some, drop, slice_get}
+use Rattle.mm_frame.specs.Sentence.{Sentence}
+use Rattle.mm_proof.specs.CodeSteps.{ids_in}
+use Rattle.mm_proof.specs.CodeVerify.{AreHypothesesOf, IsRightCode, all_named}
+use Rattle.mm_proof.proofs.step.are_right_codes.Given as goal
+
+abbrev pub invariant-loop-index : goal.invariant-loop-index
+invariant-loop-index g l =
+    (hs : List Sentence) → AreHypothesesOf l.fn.book.statements (ids_in l.hypotheses) hs
+    → (i : ℕ) (h : Sentence) (entry : List (List ℕ)) → i < l.index → slice_get hs i ≡ Some h
+    → slice_get (all_named l.fn.book.statements (drop l.base (g.S.Store.stack l.store))) i ≡ Some entry → IsRightCode h entry

@@ -1,0 +1,7 @@
+use Rattle.mm_proof.proofs.Replacing.{equal_told}
+use Rattle.mm_proof.proofs.step.is_equal.Goals as goal
+
+pub returns-in-Essential : goal.returns-in-Essential
+returns-in-Essential g c σ replaces h there =
+    equal_told c.one_number.ensures c.args.book.now.statements σ _ _ h _ _ c.is_replaced.result replaces c.requires.below c.requires.entry (c.expression.ensures h there)
+    (c.in-Essential.ensures h there) c.is_replaced.ensures.0 c.is_replaced.ensures.1

@@ -1,0 +1,9 @@
+use Rattle.std.proofs.Common.{ℕ, ◌+◌, ◌≡◌, take, length}
+use Rattle.mm_proof.specs.CodeSteps.{moves_in}
+use Rattle.mm_proof.specs.CodeRun.{HasRun}
+use Rattle.mm_proof.proofs.verdict.run.Given as goal
+
+abbrev pub invariant-loop-one : goal.invariant-loop-one
+invariant-loop-one g l =
+    HasRun l.fn.book.statements l.fn.own.place (take l.one-index (moves_in l.moves)) (g.S.Store.stack l.store) (g.S.Store.kept l.store) l.steps
+    × (l.kept ≡ length (g.S.Store.kept l.store)) × (l.steps + l.kept ≡ l.one-index)

@@ -1,0 +1,23 @@
+-- Entries of a flat store: ranges of its buffer.
+use Rattle.std.specs.Prelude.{◌≡◌, ℕ, ◌<◌, ◌≤◌, List, map, slice_get, slice_range, Some}
+use Rattle.mm_frame.specs.declared.number.Sym.{Sym}
+use Rattle.mm_proof.specs.declared.flat.Entry.{Entry}
+use Rattle.mm_proof.specs.Stores.{numbers_in}
+
+-- the expressions that the entries name
+abbrev pub parts_of : List Sym → List Entry → List (List ℕ)
+parts_of symbols entries = map (λ e. numbers_in (slice_range symbols e.start e.end)) entries
+
+-- the entry is a range of what stands before a place
+pub record IsPart (place : ℕ) (e : Entry) : Type 0 where
+  pub order : e.start ≤ e.end
+  pub within : e.end ≤ place
+
+-- each of the entries is
+abbrev pub AreWithin : ℕ → List Entry → Type 0
+AreWithin place entries = (i : ℕ) (e : Entry) → slice_get entries i ≡ Some e → IsPart place e
+
+-- An entry that ends above the floor stands in what the buffer held when any later entry came.
+abbrev pub AreApart : ℕ → List Entry → Type 0
+AreApart floor entries =
+    (i j : ℕ) (a b : Entry) → i < j → slice_get entries i ≡ Some a → slice_get entries j ≡ Some b → floor < a.end → a.end ≤ b.before

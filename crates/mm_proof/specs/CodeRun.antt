@@ -1,0 +1,74 @@
+-- What the steps by labels do to the stack by numbers: it mirrors the code.
+use Rattle.std.specs.Prelude.{◌≡◌, ℕ, ◌<◌, List, [], ◌∷◌, ◌++◌, take, slice_get, Some}
+use Rattle.std.specs.Prelude.{Contains, ◌↔◌, ◌⊎◌, ◌≢◌, length}
+use Rattle.mm_frame.specs.Sentence.{Sentence}
+use Rattle.mm_frame.specs.Numbers.{IsAssertionNumber}
+use Rattle.mm_proof.specs.declared.fault.ProofRule.{ProofRule}
+use Rattle.mm_proof.specs.declared.fault.ProofRule.TheVariants.{P13, P14}
+use Rattle.mm_proof.specs.Tree.{tree, none}
+use Rattle.mm_proof.specs.Moves.{Move, name, again, mark, steps_in}
+use Rattle.mm_proof.specs.Proof.{IsWithin, expression_limit, Passed, FirstAtMove, Prove}
+use Rattle.mm_proof.specs.Steps.{IsNumberedMove, AreNumberedMoves, IsProofNumber}
+use Rattle.mm_proof.specs.Used.{AreUsed}
+use Rattle.mm_proof.specs.CodeSteps.{MayBeUsed}
+use Rattle.mm_proof.specs.CodeVerify.{all_named, AreEntries}
+
+-- the step by the label with a number carries passed moves on: from the one stack to the other
+abbrev pub CarriesOn : List Sentence → (place id : ℕ) → (old new : List (List ℕ)) → Type 0
+CarriesOn statements place id old new =
+    (label : List ℕ) (moves : List (Move (List ℕ))) (kept : List (List (List ℕ))) → IsNumberedMove statements (name id) (name label)
+    → Passed (IsWithin expression_limit) (take place statements) moves (all_named statements old) kept
+    → Passed (IsWithin expression_limit) (take place statements) (moves ++ name label ∷ []) (all_named statements new) kept
+
+-- the step by the label with a number breaks this rule first, on this stack
+abbrev pub StopsAt : List Sentence → (place id : ℕ) → List (List ℕ) → ProofRule → Type 0
+StopsAt statements place id stack rule =
+    (label : List ℕ) (kept : List (List (List ℕ))) → IsNumberedMove statements (name id) (name label)
+    → FirstAtMove (IsWithin expression_limit) rule (take place statements) (all_named statements stack) kept (name label)
+
+-- what the move by number stands for may be made at the place
+abbrev pub MayBeMade : List Sentence → ℕ → Move ℕ → Type 0
+MayBeMade statements place (name id) = (label : List ℕ) × MayBeUsed statements place label id
+MayBeMade statements place (again tag) = Unit {0}
+MayBeMade statements place mark = Unit {0}
+
+-- A front of the moves passed, in so many steps, whatever names it stands for, and left these lists
+-- of the store.
+pub record HasRun (statements : List Sentence) (place : ℕ) (front : List (Move ℕ))
+    (stack kept : List (List ℕ)) (steps : ℕ) : Type 0 where
+  pub count : steps ≡ steps_in front
+  pub passed :
+    (moves : List (Move (List ℕ))) → AreNumberedMoves statements front moves
+    → Passed (IsWithin expression_limit) (take place statements) moves
+      (all_named statements stack) (all_named statements kept)
+  pub entries : AreEntries statements (take place statements) stack
+  pub kept_entries : AreEntries statements (take place statements) kept
+
+-- one of the moves names the assertion with this number
+abbrev pub IsNamed : List Sentence → List (Move ℕ) → ℕ → Type 0
+IsNamed statements moves id =
+    ((i : ℕ) × (slice_get moves i ≡ Some (name id))) × IsAssertionNumber statements id
+
+-- the numbers of the assertions that the moves name, rising
+pub record AreNamed (statements : List Sentence) (moves : List (Move ℕ)) (ids : List ℕ) : Type 0 where
+  pub rising : (i j a b : ℕ) → i < j → slice_get ids i ≡ Some a → slice_get ids j ≡ Some b → a < b
+  pub each : (id : ℕ) → Contains ids id ↔ IsNamed statements moves id
+
+-- what is on the stack at the end breaks this rule, where the statement's expression is the second
+abbrev pub EndsWrong : ProofRule → List (List ℕ) → List ℕ → Type 0
+EndsWrong rule stack expression =
+    ((rule ≡ P13) × (length stack ≢ 1))
+    ⊎ ((rule ≡ P14) × (e : List ℕ) × (stack ≡ e ∷ []) × (e ≢ expression))
+
+-- the moves prove the statement, and these are the assertions of its tree
+abbrev pub ProvesWith : List Sentence → ℕ → Sentence → List (Move (List ℕ)) → List ℕ → Type 0
+ProvesWith statements place s moves used =
+    (p : Prove (IsWithin expression_limit) (take place statements) s moves)
+    × AreUsed (take place statements) (tree p.label p.below none) used
+
+-- of the `$p` with this number and its moves, by names, this holds
+abbrev pub OfMoves : List Sentence → ℕ → List (Move ℕ)
+    → (ℕ → Sentence → List (Move (List ℕ)) → Type 0) → Type 0
+OfMoves statements id steps P =
+    (place : ℕ) (s : Sentence) (moves : List (Move (List ℕ))) → IsProofNumber statements id place s
+    → AreNumberedMoves statements steps moves → P place s moves

@@ -1,0 +1,114 @@
+-- What the code of the moves knows on its way: it mirrors the code.
+use Rattle.std.specs.Prelude.{◌≡◌, ℕ, ◌+◌, ◌<◌, List, length, map, take, slice_get, Contains, Some, ◌⊎◌}
+use Rattle.std.specs.Borrow.{Bor}
+use Rattle.std.specs.List.{AllZip, AllByRecursion}
+use Rattle.mm_frame.specs.declared.number.LabelId.{LabelId}
+use Rattle.mm_frame.specs.Sentence.{Sentence, SomeSentence, IsLabelled, IsHypothesis, IsAssertion}
+use Rattle.mm_frame.specs.Active.{IsActive}
+use Rattle.mm_frame.specs.Numbers.{IsNumbered}
+use Rattle.mm_code.specs.declared.code.Code.{Code}
+use Rattle.mm_code.specs.declared.code.Code.TheVariants as codes
+use Rattle.mm_code.specs.declared.code.CodeFault.{CodeFault}
+use Rattle.mm_code.specs.declared.code.CodeFault.TheVariants as code_faults
+use Rattle.mm_code.specs.declared.code.CodeRule.TheVariants as code_rules
+use Rattle.mm_proof.specs.declared.fault.ProofFault.{ProofFault}
+use Rattle.mm_proof.specs.declared.fault.ProofFault.TheVariants as faults
+use Rattle.mm_proof.specs.Moves.{Move, name, again, mark}
+use Rattle.mm_proof.specs.Tokens.{SayMoves}
+use Rattle.mm_proof.specs.Proof.{IsWhole}
+use Rattle.mm_proof.specs.Steps.{AreNumberedMoves, IsUsableMove}
+use Rattle.mm_proof.specs.declared.moves.NumberedMove.{NumberedMove}
+use Rattle.mm_proof.specs.declared.moves.NumberedMove.TheVariants as code
+use Rattle.mm_proof.specs.declared.fault.ProofRule.{ProofRule}
+use Rattle.mm_proof.specs.declared.fault.ProofRule.TheVariants as rules
+use Rattle.mm_proof.specs.declared.labels.Use.{Use}
+use Rattle.mm_proof.specs.declared.labels.Use.TheVariants as uses
+
+-- the move that the code's move stands for
+abbrev pub move_in : NumberedMove → Move ℕ
+move_in (code.Name id) = name id.0
+move_in (code.Again tag) = again tag
+move_in code.Mark = mark
+
+abbrev pub moves_in : List NumberedMove → List (Move ℕ)
+moves_in moves = map move_in moves
+
+-- the bytes of the tokens
+abbrev pub texts : List (Bor (List ℕ)) → List (List ℕ)
+texts tokens = map (λ t. t.now) tokens
+
+-- the numbers of labels
+abbrev pub ids_in : List LabelId → List ℕ
+ids_in ids = map (λ i. i.0) ids
+
+-- the statement with this number stands before a place and has the label
+pub record IsEarlier (statements : List Sentence) (place : ℕ) (label : List ℕ) (id : ℕ) : Type 0 where
+  pub at : ℕ
+  pub s : Sentence
+  pub numbered : IsNumbered statements id at s
+  pub named : IsLabelled label s
+  pub before : at < place
+  pub kind : IsHypothesis s.kind ⊎ IsAssertion s.kind
+
+-- it is an assertion, or an active hypothesis
+pub record MayBeUsed (statements : List Sentence) (place : ℕ) (label : List ℕ) (id : ℕ) : Type 0 where
+  pub at : ℕ
+  pub s : Sentence
+  pub numbered : IsNumbered statements id at s
+  pub named : IsLabelled label s
+  pub before : at < place
+  pub kind : (IsHypothesis s.kind × IsActive (take place statements) at) ⊎ IsAssertion s.kind
+
+-- it is a hypothesis that isn't active
+pub record IsIdle (statements : List Sentence) (place : ℕ) (label : List ℕ) : Type 0 where
+  pub at : ℕ
+  pub s : Sentence
+  pub there : slice_get (take place statements) at ≡ Some s
+  pub named : IsLabelled label s
+  pub kind : IsHypothesis s.kind
+  pub idle : ¬ (IsActive (take place statements) at)
+
+-- a label of no statement before the place
+abbrev pub IsUnknown : List Sentence → ℕ → List ℕ → Type 0
+IsUnknown statements place label = ¬ (SomeSentence (take place statements) (IsLabelled label))
+
+-- The numbers are those of the labels, which may be used.
+abbrev pub AreFor : List Sentence → ℕ → List ℕ → List (List ℕ) → Type 0
+AreFor statements place ids labels = AllZip (λ id label. MayBeUsed statements place label id) ids labels
+
+-- what a label stands for in the proof of the statement at a place
+abbrev pub IsUseOf : List Sentence → ℕ → List ℕ → Use → Type 0
+IsUseOf statements place label uses.Unknown = IsUnknown statements place label
+IsUseOf statements place label uses.Idle = IsIdle statements place label
+IsUseOf statements place label (uses.Number id) = MayBeUsed statements place label id.0
+
+-- Why the labels have no numbers: one is unknown; or each is that of an earlier statement, and one of them is idle.
+abbrev pub BreaksLabels : ProofRule → List Sentence → ℕ → List (List ℕ) → Type 0
+BreaksLabels rules.P2 statements place labels = (label : List ℕ) × Contains labels label × IsUnknown statements place label
+BreaksLabels rules.P3 statements place labels =
+    ((label : List ℕ) → Contains labels label → ¬ (IsUnknown statements place label))
+    × (label : List ℕ) × Contains labels label × IsIdle statements place label
+BreaksLabels rule statements place labels = ⊥
+
+-- the code says the move by numbers, where numbers from 1 on stand for these labels in order, and those above for tags
+abbrev pub NumberSays : List ℕ → Code → Move ℕ → Type 0
+NumberSays ids (codes.Number number) move =
+    (place : ℕ) × (number ≡ place + 1)
+    × (((id : ℕ) × (slice_get ids place ≡ Some id) × (move ≡ name id)) ⊎ ((tag : ℕ) × (place ≡ length ids + tag) × (move ≡ again tag)))
+NumberSays ids codes.Tag move = move ≡ mark
+
+-- the tokens break no rule over the whole proof, and the moves are what they say, each of which may be made
+pub record IsReading (statements : List Sentence) (place : ℕ) (tokens : List (List ℕ)) (steps : List (Move ℕ)) : Type 0 where
+  pub whole : IsWhole (take place statements) tokens
+  pub own : Sentence
+  pub there : slice_get statements place ≡ Some own
+  pub moves : List (Move (List ℕ))
+  pub said : SayMoves (take place statements) own tokens moves
+  pub numbered : AreNumberedMoves statements steps moves
+  pub usable : AllByRecursion (IsUsableMove (take place statements)) moves
+
+-- a fault of the letters as a fault of the proof
+abbrev pub fault_behind : CodeFault → ProofFault
+fault_behind (code_faults.Rule code_rules.P4) = faults.Rule rules.P4 0
+fault_behind (code_faults.Rule code_rules.P5) = faults.Rule rules.P5 0
+fault_behind code_faults.Memory = faults.Memory

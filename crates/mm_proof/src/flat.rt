@@ -1,0 +1,115 @@
+//! A store that has one buffer for the symbols of all its expressions.
+
+ghost use Rattle.std.specs.Prelude.{◌≡◌, [], ◌≤◌, length, take};
+ghost use Rattle.mm_proof.specs.Buffer.{AreWithin, AreApart};
+
+use crate::store::Store;
+use mm_frame::Sym;
+use std::alloc::{AllocError, Global};
+
+/// Where an expression stands in the buffer.
+#[derive(Clone, Copy)]
+pub(crate) struct Entry {
+    pub(crate) start: usize,
+    pub(crate) end: usize,
+    /// How long the buffer was before the entry came.
+    pub(crate) before: usize,
+}
+
+/// A store that has one buffer for the symbols of all its expressions.
+///
+/// An entry of the stack or of the kept ones is a range of the buffer. A copy shares its range, so
+/// that no symbol is copied. What is kept stands below the floor, where nothing is ever cut off.
+#[derive(Drop)]
+pub struct Flat {
+    symbols: Vec<Sym>,
+    stack: Vec<Entry>,
+    kept: Vec<Entry>,
+    floor: usize,
+    ghost stacked: { AreWithin (length symbols.items) stack.items },
+    ghost saved: { AreWithin floor kept.items },
+    ghost grounded: { floor ≤ length symbols.items },
+    ghost ordered: { AreApart floor stack.items },
+}
+
+impl Flat {
+    /// A store with nothing in it.
+    pub fn new(alloc: Global) -> Flat
+        ensures stack { ⟦<Flat as Store>⟧.stack result ≡ [] }
+        ensures kept { ⟦<Flat as Store>⟧.kept result ≡ [] }
+    {
+        Flat {
+            symbols: Vec::new(alloc),
+            stack: Vec::new(alloc),
+            kept: Vec::new(alloc),
+            floor: 0,
+        }
+    }
+}
+
+// How much of the buffer the first entries of the stack and the kept ones need.
+fn needed(stack: &[Entry], left: usize, floor: usize, used: usize) -> usize
+    requires within { AreWithin used stack.now }
+    requires apart { AreApart floor stack.now }
+    ensures floor { floor ≤ result }
+    ensures stack { AreWithin result (take left stack.now) }
+{
+    match stack.get(left) {
+        Some(first) => floor.max(first.before),
+        None => floor.max(used),
+    }
+}
+
+impl Store for Flat {
+    ghost use Rattle.mm_proof.specs.Buffer.{parts_of};
+
+    ghost stack = { λ flat. parts_of flat.symbols.items flat.stack.items };
+
+    ghost kept = { λ flat. parts_of flat.symbols.items flat.kept.items };
+
+    fn len(&self) -> usize {
+        self.stack.len()
+    }
+
+    fn at(&self, place: usize) -> &[Sym] {
+        let entry = self.stack[place];
+        &self.symbols[entry.start..entry.end]
+    }
+
+    fn push(&mut self, expression: &[Sym]) -> Result<(), AllocError> {
+        let start = self.symbols.len();
+        self.symbols.extend_from_slice(expression)?;
+        let entry = Entry {
+            start,
+            end: self.symbols.len(),
+            before: start,
+        };
+        self.stack.push(entry)?;
+        Ok(())
+    }
+
+    fn keep(&mut self) -> Result<(), AllocError> {
+        let last = self.stack[self.stack.len() - 1];
+        self.kept.push(last)?;
+        self.floor = self.floor.max(last.end);
+        Ok(())
+    }
+
+    fn push_copy(&mut self, place: usize) -> Result<(), AllocError> {
+        let copied = self.kept[place];
+        let entry = Entry {
+            start: copied.start,
+            end: copied.end,
+            before: self.symbols.len(),
+        };
+        self.stack.push(entry)?;
+        Ok(())
+    }
+
+    fn drop_last(&mut self, count: usize) {
+        let left = self.stack.len() - count;
+        let used = needed(&self.stack, left, self.floor, self.symbols.len());
+        self.symbols.truncate(used);
+        self.stack.truncate(left);
+    }
+}

@@ -1,0 +1,78 @@
+//! The labels of a proof: P2 and P3 (the Metamath book, section 4.3 and appendix B).
+
+ghost use Rattle.std.specs.Prelude.{◌≡◌, ◌↔◌, ◌⊎◌, ℕ, IsTrue, IfOk, IfErr, MatchOption, MatchBool, take};
+ghost use Rattle.mm_frame.specs.Sentence.{Sentence, IsHypothesis, IsAssertion, IsLabelled};
+ghost use Rattle.mm_frame.specs.Active.{IsActive};
+ghost use Rattle.mm_frame.specs.Numbers.{IsNumbered};
+ghost use Rattle.mm_proof.specs.Answer.{OnRule};
+ghost use Rattle.mm_proof.specs.CodeSteps.{IsUseOf, AreFor, BreaksLabels, ids_in, texts};
+
+use crate::fault::{ProofFault, ProofRule};
+use mm_frame::{Book, Found, Frame, LabelId};
+use std::alloc::Global;
+
+/// What a label of a proof stands for.
+enum Use {
+    /// No statement before the proof's own has it.
+    Unknown,
+    /// A hypothesis that isn't active has it.
+    Idle,
+    /// The number of an active hypothesis, or of an assertion.
+    Number(LabelId),
+}
+
+// What the label stands for in the proof of the `$p` with a number.
+fn use_of(book: &Book, own: &Frame, id: LabelId, label: &[u8]) -> Use
+    requires book { own.now.statements ≡ book.now.statements }
+    requires own { (s : Sentence) × IsNumbered book.now.statements id.0 own.now.place s }
+    ensures { IsUseOf book.now.statements own.now.place label.now result }
+{
+    match book.find(label) {
+        Found::Assertion(found) if found.0 < id.0 => Use::Number(found),
+        Found::Hypothesis { id: found, .. } if found.0 < id.0 => {
+            if own.active(found) {
+                Use::Number(found)
+            } else {
+                Use::Idle
+            }
+        }
+        _ => Use::Unknown,
+    }
+}
+
+/// The numbers of the labels, which are those of a proof: P2 where one is that of no statement before
+/// the proof's own, or else P3 where one is that of a hypothesis that isn't active.
+pub(crate) fn numbers_of(
+    alloc: Global,
+    book: &Book,
+    own: &Frame,
+    id: LabelId,
+    labels: &[&[u8]],
+) -> Result<Vec<LabelId>, ProofFault>
+    requires book { own.now.statements ≡ book.now.statements }
+    requires own { (s : Sentence) × IsNumbered book.now.statements id.0 own.now.place s }
+    ensures ok { IfOk result (λ v. AreFor book.now.statements own.now.place (ids_in v.items) (texts labels.now)) }
+    ensures fault { IfErr result (λ e. OnRule e (λ rule step. (step ≡ 0) × BreaksLabels rule book.now.statements own.now.place (texts labels.now))) }
+{
+    let mut ids = Vec::new(alloc);
+    let mut idle = false;
+    for label in labels {
+        match use_of(book, own, id, label) {
+            Use::Number(number) => ids.push(number)?,
+            Use::Idle => idle = true,
+            Use::Unknown => {
+                return Err(ProofFault::Rule {
+                    rule: ProofRule::P2,
+                    step: 0,
+                });
+            }
+        }
+    }
+    if idle {
+        return Err(ProofFault::Rule {
+            rule: ProofRule::P3,
+            step: 0,
+        });
+    }
+    Ok(ids)
+}

@@ -1,0 +1,41 @@
+//! The moves of a proof, with numbers for labels.
+
+use mm_frame::LabelId;
+use std::marker::Model;
+
+/// A move of a proof (the Metamath book, section 4.3 and appendix B).
+#[derive(Clone, Copy)]
+pub(crate) enum NumberedMove {
+    /// A step by a label.
+    Name(LabelId),
+    /// A step by a tag: the place of a kept expression, from 0 on.
+    Again(u32),
+    /// A `Z`, which keeps what the step before it made.
+    Mark,
+}
+
+/// The moves of a proof, read from its tokens.
+#[derive(Drop)]
+pub struct Steps {
+    pub(crate) moves: Vec<NumberedMove>,
+}
+
+impl Model for Steps {
+    ghost use Rattle.std.specs.Prelude.{ℕ, List};
+    ghost use Rattle.mm_proof.specs.Moves.{Move};
+
+    ghost Value = { List (Move ℕ) };
+
+    ghost use Rattle.mm_proof.specs.CodeSteps.{moves_in};
+
+    ghost view = { λ s. moves_in s.moves.items };
+}
+
+/// What the tokens of a proof are.
+#[derive(Drop)]
+pub enum Parsed {
+    /// A token holds a `?`: a step is unknown.
+    Incomplete,
+    /// The moves.
+    Steps(Steps),
+}

@@ -1,0 +1,246 @@
+//! The verdict on the moves of a proof.
+
+ghost use Rattle.std.specs.Prelude.{◌≡◌, ◌↔◌, ◌≤◌, ℕ, List, [], ◌∷◌, ◌++◌, take, length, slice_get, Contains, Some, Ok, Err, IfOk, IfErr, OnOk, IsOkUnless};
+ghost use Rattle.std.specs.List.{AllByRecursion};
+ghost use Rattle.mm_frame.specs.Sentence.{Sentence};
+ghost use Rattle.mm_proof.specs.Answer.{OnRule, IsUnlessMemory};
+ghost use Rattle.mm_proof.specs.Stores.{numbers_in};
+ghost use Rattle.mm_proof.specs.Tree.{tree, none};
+ghost use Rattle.mm_proof.specs.Moves.{Move};
+ghost use Rattle.mm_proof.specs.Proof.{Prove, IsWithin, expression_limit, IsMoveFault, IsMovesFault};
+ghost use Rattle.mm_proof.specs.Steps.{AreNumberedMoves, AreSteps, IsProofNumber};
+ghost use Rattle.mm_proof.specs.Used.{AreUsed};
+ghost use Rattle.mm_frame.specs.Form.{IsSound};
+ghost use Rattle.mm_proof.specs.CodeSteps.{MayBeUsed, ids_in, moves_in};
+ghost use Rattle.mm_proof.specs.CodeVerify.{AreEntries};
+ghost use Rattle.mm_proof.specs.CodeRun.{CarriesOn, StopsAt, MayBeMade, HasRun, IsNamed, AreNamed, EndsWrong, ProvesWith, OfMoves};
+
+use crate::apply::{Scratch, apply};
+use crate::fault::{ProofFault, ProofRule};
+use crate::moves::{NumberedMove, Steps};
+use crate::store::Store;
+use crate::substitution::{EXPRESSION_LIMIT, is_same};
+use crate::used::Used;
+use mm_frame::{Book, Frame, LabelId, LabelKind, Sym, one_number};
+use std::alloc::{AllocError, Global};
+
+// The proof breaks a rule at a step.
+fn broken(rule: ProofRule, step: usize) -> Result<(), ProofFault>
+    ensures { result ≡ Err (ProofFault.Rule rule step) }
+{
+    Err(ProofFault::Rule { rule, step })
+}
+
+// The step by a label.
+fn step<S: Store>(
+    store: &mut S,
+    book: &Book,
+    own: &Frame,
+    id: LabelId,
+    number: usize,
+    scratch: &mut Scratch,
+) -> Result<(), ProofFault>
+    requires own { own.now.statements ≡ book.now.statements }
+    requires sound { IsSound book.now.statements }
+    requires usable { (label : List ℕ) × MayBeUsed book.now.statements own.now.place label id.0 }
+    requires entries { AreEntries book.now.statements (take own.now.place book.now.statements) (S.stack store.old) }
+    ensures carried { OnOk result (CarriesOn book.now.statements own.now.place id.0 (S.stack store.old) (S.stack store.new)) }
+    ensures entries { OnOk result (AreEntries book.now.statements (take own.now.place book.now.statements) (S.stack store.new)) }
+    ensures kept { S.kept store.new ≡ S.kept store.old }
+    ensures fault { (rule : ProofRule) → (at : ℕ) → result ≡ Err (ProofFault.Rule rule at)
+        → (at ≡ number) × StopsAt book.now.statements own.now.place id.0 (S.stack store.old) rule }
+{
+    match book.kind(id) {
+        LabelKind::Floating | LabelKind::Essential => {
+            let expression = book.expression(id);
+            if expression.len() > EXPRESSION_LIMIT {
+                return broken(ProofRule::L1, number);
+            }
+            store.push(expression)?;
+            Ok(())
+        }
+        _ => apply(store, book, own, id, number, scratch),
+    }
+}
+
+// The step by a tag.
+fn step_again<S: Store>(
+    store: &mut S,
+    tag: u32,
+    kept: usize,
+    number: usize,
+) -> Result<(), ProofFault>
+    requires { kept ≡ length (S.kept store.old) }
+    ensures ok { OnOk result ((e : List ℕ) × (slice_get (S.kept store.old) tag ≡ Some e) × (S.stack store.new ≡ S.stack store.old ++ e ∷ [])) }
+    ensures kept { S.kept store.new ≡ S.kept store.old }
+    ensures fault { (rule : ProofRule) → (at : ℕ) → result ≡ Err (ProofFault.Rule rule at)
+        → (at ≡ number) × (rule ≡ ProofRule.P6) × (length (S.kept store.old) ≤ tag) }
+{
+    if tag as usize >= kept {
+        return broken(ProofRule::P6, number);
+    }
+    store.push_copy(tag as usize)?;
+    Ok(())
+}
+
+// A mark, where a step would have this number.
+fn mark<S: Store>(store: &mut S, number: usize) -> Result<(), ProofFault>
+    ensures ok { OnOk result ((rest : List (List ℕ)) × (e : List ℕ) × (S.stack store.old ≡ rest ++ e ∷ []) × (S.kept store.new ≡ S.kept store.old ++ e ∷ [])) }
+    ensures stack { S.stack store.new ≡ S.stack store.old }
+    ensures fault { (rule : ProofRule) → (at : ℕ) → result ≡ Err (ProofFault.Rule rule at)
+        → (at ≡ number) × (rule ≡ ProofRule.P7) × (S.stack store.old ≡ []) }
+{
+    if store.len() == 0 {
+        return broken(ProofRule::P7, number);
+    }
+    store.keep()?;
+    Ok(())
+}
+
+// All moves, one after the other: how many are steps.
+fn run<S: Store>(
+    alloc: Global,
+    store: &mut S,
+    book: &Book,
+    own: &Frame,
+    moves: &[NumberedMove],
+) -> Result<usize, ProofFault>
+    requires own { own.now.statements ≡ book.now.statements }
+    requires sound { IsSound book.now.statements }
+    requires usable { AllByRecursion (MayBeMade book.now.statements own.now.place) (moves_in moves.now) }
+    requires stack { S.stack store.old ≡ [] }
+    requires kept { S.kept store.old ≡ [] }
+    ensures ok { IfOk result (λ count. HasRun book.now.statements own.now.place (moves_in moves.now) (S.stack store.new) (S.kept store.new) count) }
+    ensures count { IfOk result (λ count. count ≤ length moves.now) }
+    ensures fault { (rule : ProofRule) → (at : ℕ) → result ≡ Err (ProofFault.Rule rule at)
+        → (names : List (Move (List ℕ))) → AreNumberedMoves book.now.statements (moves_in moves.now) names
+        → IsMoveFault (IsWithin expression_limit) (take own.now.place book.now.statements) names rule at }
+{
+    let mut scratch = Scratch::new(alloc);
+    let mut steps = 0;
+    let mut kept = 0;
+    for one in moves {
+        match one {
+            NumberedMove::Name(id) => {
+                step(store, book, own, *id, steps + 1, &mut scratch)?;
+                steps += 1;
+            }
+            NumberedMove::Again(tag) => {
+                step_again(store, *tag, kept, steps + 1)?;
+                steps += 1;
+            }
+            NumberedMove::Mark => {
+                mark(store, steps + 1)?;
+                kept += 1;
+            }
+        }
+    }
+    Ok(steps)
+}
+
+// The assertions that the moves name, in the order of the moves.
+fn named_by(alloc: Global, book: &Book, moves: &[NumberedMove]) -> Result<Vec<LabelId>, AllocError>
+    requires known { (place : ℕ) × AllByRecursion (MayBeMade book.now.statements place) (moves_in moves.now) }
+    ensures { IfOk result (λ v. (id : ℕ) → Contains (ids_in v.items) id ↔ IsNamed book.now.statements (moves_in moves.now) id) }
+{
+    let mut ids = Vec::new(alloc);
+    for one in moves {
+        if let NumberedMove::Name(id) = one {
+            match book.kind(*id) {
+                LabelKind::Axiom | LabelKind::Proof => ids.push(*id)?,
+                _ => {}
+            }
+        }
+    }
+    Ok(ids)
+}
+
+// The assertions that the moves name, each once, in database order.
+fn used_by(alloc: Global, book: &Book, moves: &[NumberedMove]) -> Result<Vec<LabelId>, AllocError>
+    requires known { (place : ℕ) × AllByRecursion (MayBeMade book.now.statements place) (moves_in moves.now) }
+    ensures { IfOk result (λ v. AreNamed book.now.statements (moves_in moves.now) (ids_in v.items)) }
+{
+    let mut ids = named_by(alloc, book, moves)?;
+    ids.sort()?;
+    ids.dedup();
+    Ok(ids)
+}
+
+// What is on the stack at the end: only the expression, or P13 or P14.
+fn ending<S: Store>(store: &S, expression: &[Sym], number: usize) -> Result<(), ProofFault>
+    ensures ok { OnOk result (S.stack store.now ≡ numbers_in expression.now ∷ []) }
+    ensures fault { (rule : ProofRule) → (at : ℕ) → result ≡ Err (ProofFault.Rule rule at)
+        → (at ≡ number) × EndsWrong rule (S.stack store.now) (numbers_in expression.now) }
+{
+    if store.len() != 1 {
+        return broken(ProofRule::P13, number);
+    }
+    if !is_same(store.at(0), expression) {
+        return broken(ProofRule::P14, number);
+    }
+    Ok(())
+}
+
+// The assertions of the tree that the moves make, or their first fault.
+fn judged<S: Store>(
+    alloc: Global,
+    store: &mut S,
+    book: &Book,
+    id: LabelId,
+    moves: &[NumberedMove],
+) -> Result<Vec<LabelId>, ProofFault>
+    requires stack { S.stack store.old ≡ [] }
+    requires kept { S.kept store.old ≡ [] }
+    requires steps { AreSteps book.now.statements id.0 (moves_in moves.now) }
+    ensures proved { IfOk result (λ v. OfMoves book.now.statements id.0 (moves_in moves.now)
+        (λ place s names. ProvesWith book.now.statements place s names (ids_in v.items))) }
+    ensures fault { IfErr result (λ e. OnRule e (λ rule step. OfMoves book.now.statements id.0 (moves_in moves.now)
+        (λ place s names. IsMovesFault (IsWithin expression_limit) (take place book.now.statements) s names rule step))) }
+    ensures sound { IsSound book.now.statements }
+{
+    one_number();
+    let own = book.frame(id);
+    let count = run(alloc, store, book, &own, moves)?;
+    ending(store, own.expression(), count + 1)?;
+    Ok(used_by(alloc, book, moves)?)
+}
+
+/// Whether the moves prove the `$p` with this number: the assertions of its tree, each once, in
+/// database order; or the first of P6 to P14 and L1 that they break, with the number of the step.
+/// The store is handed in empty.
+pub fn verify<S: Store + Drop>(
+    alloc: Global,
+    mut store: S,
+    book: &Book,
+    id: LabelId,
+    steps: &Steps,
+) -> Result<Used, ProofFault>
+    requires stack { S.stack store ≡ [] }
+    requires kept { S.kept store ≡ [] }
+    requires steps { AreSteps book.now.statements id.0 steps.now }
+    // What is answered `Ok` is proved, and these are the assertions of its tree.
+    ensures proved { IfOk result (λ used. (place : ℕ) → (s : Sentence) → (moves : List (Move (List ℕ))) → IsProofNumber book.now.statements id.0 place s
+        → AreNumberedMoves book.now.statements steps.now moves
+        → (p : Prove (IsWithin expression_limit) (take place book.now.statements) s moves) × AreUsed (take place book.now.statements) (tree p.label p.below none) used) }
+
+    // The rule and the step are those of the first fault.
+    ensures fault { (rule : ProofRule) → (step : ℕ) → result ≡ Err (ProofFault.Rule rule step) → (place : ℕ) → (s : Sentence) → (moves : List (Move (List ℕ)))
+        → IsProofNumber book.now.statements id.0 place s → AreNumberedMoves book.now.statements steps.now moves
+        → IsMovesFault (IsWithin expression_limit) (take place book.now.statements) s moves rule step }
+
+    // What is proved is answered `Ok`, unless memory is refused.
+    ensures accepts { (place : ℕ) → (s : Sentence) → (moves : List (Move (List ℕ))) → IsProofNumber book.now.statements id.0 place s
+        → AreNumberedMoves book.now.statements steps.now moves
+        → Prove (IsWithin expression_limit) (take place book.now.statements) s moves → IsOkUnless result ProofFault.Memory }
+
+    // What has a fault is answered with it, unless memory is refused.
+    ensures refuses { (place : ℕ) → (s : Sentence) → (moves : List (Move (List ℕ))) → IsProofNumber book.now.statements id.0 place s
+        → AreNumberedMoves book.now.statements steps.now moves → (rule : ProofRule) → (step : ℕ)
+        → IsMovesFault (IsWithin expression_limit) (take place book.now.statements) s moves rule step
+        → IsUnlessMemory result (Err (ProofFault.Rule rule step)) }
+{
+    match judged(alloc, &mut store, book, id, &steps.moves) {
+        Ok(labels) => Ok(Used { labels }),
+        Err(fault) => Err(fault),
+    }
+}
