@@ -124,7 +124,7 @@ impl<'a> Book<'a> {
 
     /// What stands under a label.
     pub fn find(&self, label: &[u8]) -> Found
-        ensures finds { Finds self.now.statements label.now result }
+        ensures found { Finds self.now.statements label.now result }
         ensures sound { IsSound self.now.statements }
     {
         find_label(&self.tables, label)
@@ -185,7 +185,7 @@ impl<'a> Book<'a> {
     /// The frame of an assertion (the Metamath book, section 4.2.7).
     pub fn frame(&self, id: LabelId) -> Frame<'_, 'a>
         requires { IsAssertionNumber self.now.statements id.0 }
-        ensures same { result.statements ≡ self.now.statements }
+        ensures book { result.statements ≡ self.now.statements }
         ensures place { (s : Sentence) × IsNumbered self.now.statements id.0 result.place s
             × IsAssertion s.kind }
         ensures sound { IsSound self.now.statements }
