@@ -8,11 +8,6 @@ use Rattle.mm_proof.proofs.Places.{get_take}
 use Rattle.mm_proof.proofs.Numbered.{numbered_below, numbers_order, not_earlier}
 use Rattle.mm_proof.proofs.labels.use_of.Goals as goal
 
-pub active-requires : goal.active-requires
-active-requires c =
-    let f = c.in-Hypothesis.ensures.found in
-    subst (λ (st : List Sentence). c.in-Hypothesis.found.0 < length (labelled st)) (sym c.requires.book) (numbered_below _ _ f.0 f.1 f.2)
-
 pub returns-in-Assertion : goal.returns-in-Assertion
 returns-in-Assertion c =
     let f = c.in-Assertion.ensures.found in

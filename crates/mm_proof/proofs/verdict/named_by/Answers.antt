@@ -7,12 +7,6 @@ use Rattle.mm_proof.proofs.Naming.{label_known, is_assertion, gather_name, gathe
 use Rattle.mm_proof.proofs.verdict.named_by.Goals as goal
 use Rattle.mm_proof.proofs.verdict.named_by.Goals.{in-Name+in-Axiom+in_ok-push-in-Axiom, in-Name+in_default-kind, in_default}
 
-pub kind-requires : goal.kind-requires
-kind-requires c =
-    label_known c.args.book.now.statements c.requires.known.0 c.in-Name.id.0
-    (all_at (MayBeMade c.args.book.now.statements c.requires.known.0) (moves_in c.args.moves.now) c.loop-one.one-index _ c.requires.known.1
-    (move_at c.args.moves.now c.loop-one.one-index _ c.loop-one-test.true ∙ ap (λ m. Some (move_in m)) c.in-Name.is))
-
 pub loop-one-preserved : goal.loop-one-preserved
 loop-one-preserved c = elim c.match-one.branch [
   | in-Name+in-Axiom+in_ok-push-in-Axiom w ↦ rw (w.ids-is, w.in_ok-push-in-Axiom.ensures.items)

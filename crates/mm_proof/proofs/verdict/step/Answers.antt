@@ -10,12 +10,6 @@ use Rattle.mm_proof.proofs.Numbered.{numbered_at, numbered_below}
 use Rattle.mm_proof.proofs.Applying.{is_hypothesis_kind, is_assertion_kind, stops_long, pushes, pushed_entries}
 use Rattle.mm_proof.proofs.verdict.step.Goals as goal
 
-pub kind-requires : goal.kind-requires
-kind-requires g c = let u = c.requires.usable.1 in numbered_below c.args.book.now.statements c.args.id.0 u.at u.s u.numbered
-
-pub expression-expression-requires : goal.expression-expression-requires
-expression-expression-requires g c = let u = c.requires.usable.1 in numbered_below c.args.book.now.statements c.args.id.0 u.at u.s u.numbered
-
 pub returns-then-expression-gt-EXPRESSION_LIMIT-clause-carried : goal.returns-then-expression-gt-EXPRESSION_LIMIT-clause-carried
 returns-then-expression-gt-EXPRESSION_LIMIT-clause-carried g c = rw c.broken.ensures tt
 
