@@ -1,11 +1,9 @@
 -- Compressed proofs: their list, their letters, and the moves that their codes say.
-use Rattle.std.proofs.Common.{◌≡◌, ◌≢◌, ℕ, zero, suc, ◌+◌, ◌*◌, ◌<◌, ◌≤◌, min, List, [], ◌∷◌, ◌++◌, length, map, take, drop, get_or, slice_get, Contains, All, Bor, Some, Result, Ok, Err, ◌⊎◌, inl, inr, ⊎_elim, refl, sym, ap, subst, ◌∙◌, arith}
+use Rattle.std.proofs.Common.{◌≡◌, ℕ, suc, ◌+◌, ◌<◌, ◌≤◌, min, List, [], ◌∷◌, ◌++◌, length, map, take, drop, get_or, slice_get, Contains, All, Bor, Some, Result, Ok, Err, inl, inr, ⊎_elim, refl, sym, ap, subst, ◌∙◌, arith}
 use Rattle.std.specs.List.{AllZip, AllByRecursion, flat_map}
-use Rattle.std.proofs.lemmas.Option.{same_Some, none-some}
+use Rattle.std.proofs.lemmas.Option.{same_Some}
 use Rattle.std.proofs.lemmas.List.{map-append, take_more, take-map, drop-map}
-use Rattle.std.proofs.lemmas.List.Elements.{Contains-append_left, Contains-append_right, All-from_recursion}
-use Rattle.mm_text.specs.declared.statement.Kind.{Kind}
-use Rattle.mm_text.specs.declared.statement.Kind.TheVariants.{Floating, Essential}
+use Rattle.std.proofs.lemmas.List.Elements.{Contains-append_right, All-from_recursion}
 use Rattle.mm_code.specs.declared.code.Code.{Code}
 use Rattle.mm_code.specs.declared.code.Code.TheVariants.{Number, Tag}
 use Rattle.mm_code.specs.Letters as letter
@@ -20,17 +18,17 @@ use Rattle.mm_frame.specs.Rules.{AllMeant}
 use Rattle.mm_frame.specs.Form.{AllFormed, IsNamed}
 use Rattle.mm_frame.specs.Frame.{AreMandatory, IsMandatoryAt}
 use Rattle.mm_frame.specs.Numbers.{labelled}
-use Rattle.mm_frame.specs.FramePlace.{FramePlace, AreHypotheses}
+use Rattle.mm_frame.specs.FramePlace.{AreHypotheses}
 use Rattle.mm_proof.specs.declared.fault.ProofRule.{ProofRule}
-use Rattle.mm_proof.specs.declared.fault.ProofRule.TheVariants.{P1, P2, P3, P4, P5, P6, P7, P8, P9, P10, P11, P12, P13, P14, L1}
+use Rattle.mm_proof.specs.declared.fault.ProofRule.TheVariants.{P1, P2, P3, P4, P5}
 use Rattle.mm_proof.specs.declared.moves.NumberedMove.{NumberedMove}
 use Rattle.mm_proof.specs.Moves.{Move}
-use Rattle.mm_proof.specs.Tokens.{IsNormal, IsCompressed, AreLabels, AreLetters, Says, opening_token, closing_token}
+use Rattle.mm_proof.specs.Tokens.{IsCompressed, AreLetters, opening_token, closing_token}
 use Rattle.mm_proof.specs.Proof.{rank, BreaksWhole, IsWholeFault}
 use Rattle.mm_proof.specs.Steps.{IsUsable}
 use Rattle.mm_proof.specs.CodeSteps.{AreFor, NumberSays, IsReading, move_in, moves_in, texts, fault_behind}
 use Rattle.mm_proof.specs.Answer.{OnRule}
-use Rattle.mm_proof.proofs.Places.{split_at, get_take, get_from_take}
+use Rattle.mm_proof.proofs.Places.{split_at, get_from_take}
 use Rattle.mm_proof.proofs.Frames.{those_hold}
 use Rattle.mm_proof.proofs.LabelLists.{zip_push}
 use Rattle.mm_proof.proofs.TokenFacts.{HasLabels, labels_pass}

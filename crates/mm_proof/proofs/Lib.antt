@@ -38,6 +38,7 @@ pub mod Renamed
 pub mod Lookups
 pub mod Ties
 pub mod ByNumber
-pub mod Applying
 pub mod Running
 pub mod Naming
+pub mod Ending
+pub mod Applying

@@ -1,26 +1,24 @@
 -- The assertions that moves name, by their numbers.
-use Rattle.std.proofs.Common.{◌≡◌, ℕ, zero, suc, ◌+◌, ◌<◌, ◌≤◌, List, [], ◌∷◌, ◌++◌, length, map, take, slice_get, get_or, Contains, Some, ◌⊎◌, ◌↔◌, inl, inr, ⊎_elim, refl, sym, ap, subst, ◌∙◌, arith, Ordering, Less, nat_cmp}
+use Rattle.std.proofs.Common.{◌≡◌, ℕ, zero, suc, ◌+◌, ◌<◌, ◌≤◌, List, [], ◌∷◌, ◌++◌, length, take, slice_get, get_or, Contains, Some, ◌⊎◌, ◌↔◌, inl, inr, ⊎_elim, refl, sym, ap, subst, ◌∙◌, arith, Less, nat_cmp}
 use Rattle.std.specs.List.Sorted.{IsStrictlySortedBy}
 use Rattle.std.specs.List.{AllByRecursion}
 use Rattle.std.proofs.lemmas.Option.{same_Some, none-some}
 use Rattle.std.proofs.lemmas.Bool.Decides.{nat_tests}
 use Rattle.std.proofs.lemmas.List.{map-append, take_all, length-map}
 use Rattle.std.proofs.lemmas.List.Elements.{Contains-push, Contains-push_cases, Contains-append_left}
-use Rattle.mm_text.specs.declared.statement.Kind.{Kind}
 use Rattle.mm_frame.specs.declared.number.LabelId.{LabelId}
 use Rattle.mm_frame.specs.declared.number.LabelKind.{LabelKind}
 use Rattle.mm_frame.specs.declared.number.LabelKind.TheVariants as label_kinds
 use Rattle.mm_frame.specs.Sentence.{Sentence, IsAssertion}
-use Rattle.mm_frame.specs.Numbers.{labelled, IsNumbered, IsAssertionNumber}
+use Rattle.mm_frame.specs.Numbers.{labelled, IsAssertionNumber}
 use Rattle.mm_frame.specs.Taken.{kind_behind}
 use Rattle.mm_proof.specs.declared.moves.NumberedMove.{NumberedMove}
 use Rattle.mm_proof.specs.declared.moves.NumberedMove.TheVariants as code
-use Rattle.mm_proof.specs.Moves.{Move, name, again, mark}
+use Rattle.mm_proof.specs.Moves.{Move, name}
 use Rattle.mm_proof.specs.CodeSteps.{MayBeUsed, ids_in, move_in, moves_in}
 use Rattle.mm_proof.specs.CodeRun.{IsNamed, AreNamed}
 use Rattle.mm_proof.proofs.Places.{get_append}
 use Rattle.mm_proof.proofs.Numbered.{numbered_at, numbered_below}
-use Rattle.mm_proof.proofs.Derived.{all_at}
 use Rattle.mm_proof.proofs.Running.{front_more}
 
 -- ---- one more at the end of a list

@@ -1,10 +1,10 @@
 -- Ranges of a list that grows at its end, or is cut there.
-use Rattle.std.proofs.Common.{◌≡◌, ℕ, zero, suc, ◌+◌, ◌-◌, ◌<◌, ◌≤◌, min, List, [], ◌∷◌, ◌++◌, take, drop, length, refl, sym, ap, subst, ◌∙◌, arith}
-use Rattle.std.specs.List.{slice_range, slice_get}
+use Rattle.std.proofs.Common.{◌≡◌, ℕ, suc, ◌+◌, ◌-◌, ◌≤◌, List, [], ◌∷◌, ◌++◌, take, drop, length, refl, ap, subst, ◌∙◌, arith}
+use Rattle.std.specs.List.{slice_range}
 use Rattle.mm_frame.specs.declared.number.Sym.{Sym}
 use Rattle.mm_proof.specs.declared.flat.Entry.{Entry}
 use Rattle.mm_proof.specs.Stores.{numbers_in}
-use Rattle.mm_proof.specs.Buffer.{parts_of, AreWithin, IsPart}
+use Rattle.mm_proof.specs.Buffer.{parts_of, AreWithin}
 use Rattle.std.proofs.lemmas.List.{drop-append-le, take-append-le, drop_at, length-drop, take_all, drop-take, take-take, length-append, map-append}
 
 -- a range of a list stays as it is where the list grows

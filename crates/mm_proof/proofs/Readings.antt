@@ -1,34 +1,22 @@
 -- What the tokens of a proof say, once their labels have numbers and their letters are read.
-use Rattle.std.proofs.Common.{◌≡◌, ◌≢◌, ℕ, zero, suc, ◌+◌, ◌*◌, ◌<◌, ◌≤◌, min, List, [], ◌∷◌, ◌++◌, length, map, take, drop, get_or, slice_get, Contains, All, Some, ◌⊎◌, inl, inr, ⊎_elim, refl, sym, ap, subst, ◌∙◌, arith}
-use Rattle.std.specs.List.{AllZip, AllByRecursion, flat_map}
+use Rattle.std.proofs.Common.{◌≡◌, ℕ, zero, suc, ◌+◌, ◌<◌, List, [], ◌∷◌, ◌++◌, length, map, take, slice_get, Some, ◌⊎◌, inl, inr, ⊎_elim, refl, sym, ap, subst, ◌∙◌, arith}
+use Rattle.std.specs.List.{AllZip, AllByRecursion}
 use Rattle.std.proofs.lemmas.Option.{same_Some, none-some}
-use Rattle.std.proofs.lemmas.List.{map-append, length-append}
-use Rattle.std.proofs.lemmas.List.Elements.{Contains-append_left, Contains-append_right}
-use Rattle.mm_text.specs.declared.statement.Kind.{Kind}
-use Rattle.mm_text.specs.declared.statement.Kind.TheVariants.{Floating, Essential, Axiom, Provable}
 use Rattle.mm_code.specs.declared.code.Code.{Code}
 use Rattle.mm_code.specs.declared.code.Code.TheVariants.{Number, Tag}
-use Rattle.mm_code.specs.declared.code.CodeRule.{CodeRule}
-use Rattle.mm_code.specs.declared.code.CodeRule.TheVariants as code
-use Rattle.mm_code.specs.Letters.{Letters, Breaks}
-use Rattle.mm_frame.specs.Sentence.{Sentence, SomeSentence, IsLabelled, IsHypothesis, IsAssertion}
-use Rattle.mm_frame.specs.Active.{IsActive}
+use Rattle.mm_frame.specs.Sentence.{Sentence, IsLabelled}
 use Rattle.mm_frame.specs.Rules.{AllMeant}
-use Rattle.mm_frame.specs.Form.{AllFormed, IsNamed}
-use Rattle.mm_frame.specs.Frame.{AreMandatory, IsMandatoryAt}
 use Rattle.mm_frame.specs.Numbers.{labelled}
-use Rattle.mm_frame.specs.FramePlace.{FramePlace, AreHypotheses}
 use Rattle.mm_proof.specs.declared.fault.ProofRule.{ProofRule}
-use Rattle.mm_proof.specs.declared.fault.ProofRule.TheVariants.{P1, P2, P3, P4, P5, P6, P7, P8, P9, P10, P11, P12, P13, P14, L1}
+use Rattle.mm_proof.specs.declared.fault.ProofRule.TheVariants.{P1, P2, P3, P4, P5}
 use Rattle.mm_proof.specs.Moves.{Move, name, again, mark}
-use Rattle.mm_proof.specs.Tokens.{IsNormal, IsCompressed, AreLabels, AreLetters, Says, SayMoves, SaysCompressed, opening_token, closing_token}
-use Rattle.mm_proof.specs.Proof.{rank, BreaksWhole, IsWhole, IsWholeFault}
+use Rattle.mm_proof.specs.Tokens.{IsNormal, Says}
+use Rattle.mm_proof.specs.Proof.{rank, BreaksWhole, IsWhole}
 use Rattle.mm_proof.specs.Steps.{IsNumberedMove, AreNumberedMoves, IsUsable, IsUsableMove}
 use Rattle.mm_proof.specs.CodeSteps.{AreFor, MayBeUsed, NumberSays, IsReading}
-use Rattle.mm_proof.proofs.Places.{get_take, get_from_take}
-use Rattle.mm_proof.proofs.Frames.{those_hold}
+use Rattle.mm_proof.proofs.Places.{get_take}
 use Rattle.mm_proof.proofs.Numbered.{numbered_at}
-use Rattle.mm_proof.proofs.TokenFacts.{HasLabels, labels_pass, normal_labels}
+use Rattle.mm_proof.proofs.TokenFacts.{labels_pass, normal_labels}
 
 -- ---- labels and their numbers
 

@@ -1,5 +1,5 @@
 -- The moves of a proof, one after the other.
-use Rattle.std.proofs.Common.{◌≡◌, ℕ, zero, suc, ◌+◌, ◌<◌, ◌≤◌, ◌-◌, List, [], ◌∷◌, ◌++◌, length, map, Result, Err, take, drop, slice_get, get_or, Some, Bool, cond, refl, sym, ap, subst, ◌∙◌, arith}
+use Rattle.std.proofs.Common.{◌≡◌, ℕ, zero, suc, ◌+◌, ◌<◌, ◌≤◌, ◌-◌, List, [], ◌∷◌, ◌++◌, length, Result, Err, take, drop, slice_get, get_or, Some, cond, refl, sym, ap, subst, ◌∙◌, arith}
 use Rattle.std.specs.List.{AllZip, AllByRecursion}
 use Rattle.std.specs.Result.{IsErrAnd}
 use Rattle.std.proofs.lemmas.Result.{err_from_is_err_and}
@@ -15,7 +15,7 @@ use Rattle.mm_proof.specs.Moves.{Move, name, again, mark, is_step, steps_in}
 use Rattle.mm_proof.specs.Proof.{IsWithin, expression_limit, Passed, FirstAtMove, IsMoveFault}
 use Rattle.mm_proof.specs.Steps.{IsNumberedMove, AreNumberedMoves}
 use Rattle.mm_proof.specs.CodeSteps.{move_in, moves_in}
-use Rattle.mm_proof.specs.CodeVerify.{AreSymbols, AreEntries, named, all_named, name_at}
+use Rattle.mm_proof.specs.CodeVerify.{AreSymbols, AreEntries, named, all_named}
 use Rattle.mm_proof.specs.CodeRun.{CarriesOn, StopsAt, HasRun}
 use Rattle.mm_proof.proofs.Places.{split_at}
 use Rattle.mm_proof.proofs.Derived.{zip_front, zip_left, all_push, all_at}

@@ -1,28 +1,18 @@
 -- The tokens of a proof: its parts, its labels, and what a list of labels that may be used tells.
-use Rattle.std.proofs.Common.{◌≡◌, ◌≢◌, ℕ, zero, suc, ◌+◌, ◌*◌, ◌<◌, ◌≤◌, min, List, [], ◌∷◌, ◌++◌, length, map, take, drop, get_or, slice_get, Contains, All, Bor, Some, ◌⊎◌, inl, inr, ⊎_elim, refl, sym, ap, subst, ◌∙◌, arith}
-use Rattle.std.specs.List.{AllZip, AllByRecursion, flat_map}
-use Rattle.std.proofs.lemmas.Option.{same_Some, none-some, slice_get_read}
-use Rattle.std.proofs.lemmas.List.{map_more, take-map, map-append, take_all, length-map, take-append-drop}
-use Rattle.std.proofs.lemmas.List.Elements.{Contains-push, Contains-push_cases, Contains-append_left, Contains-append_right}
+use Rattle.std.proofs.Common.{◌≡◌, ℕ, zero, suc, ◌+◌, ◌<◌, ◌≤◌, List, [], ◌∷◌, length, take, drop, get_or, slice_get, Contains, Bor, Some, inl, inr, ⊎_elim, refl, sym, ap, subst, ◌∙◌, arith}
+use Rattle.std.proofs.lemmas.List.{take_all, length-map}
 use Rattle.mm_text.specs.declared.statement.Kind.{Kind}
 use Rattle.mm_text.specs.declared.statement.Kind.TheVariants.{Floating, Essential, Axiom, Provable}
-use Rattle.mm_code.specs.declared.code.Code.{Code}
-use Rattle.mm_code.specs.declared.code.Code.TheVariants.{Number, Tag}
-use Rattle.mm_code.specs.Letters as letters
-use Rattle.mm_frame.specs.Sentence.{Sentence, SomeSentence, IsLabelled, IsHypothesis, IsAssertion}
+use Rattle.mm_frame.specs.Sentence.{Sentence, IsLabelled, IsHypothesis, IsAssertion}
 use Rattle.mm_frame.specs.Active.{IsActive}
 use Rattle.mm_frame.specs.Rules.{AllMeant}
-use Rattle.mm_frame.specs.Numbers.{labelled}
 use Rattle.mm_proof.specs.declared.fault.ProofRule.{ProofRule}
-use Rattle.mm_proof.specs.declared.fault.ProofRule.TheVariants.{P1, P2, P3, P4, P5, P6, P7, P8, P9, P10, P11, P12, P13, P14, L1}
-use Rattle.mm_proof.specs.Moves.{Move, name, again, mark}
-use Rattle.mm_proof.specs.Tokens.{IsIncomplete, IsNormal, IsCompressed, AreLabels, AreLetters, opening_token, closing_token}
-use Rattle.mm_proof.specs.Proof.{rank, BreaksWhole, IsWhole, IsWholeFault}
-use Rattle.mm_proof.specs.Steps.{IsNumberedMove, AreNumberedMoves, IsUsable, IsUsableMove}
-use Rattle.mm_proof.specs.CodeSteps.{AreFor, MayBeUsed, IsIdle, IsUnknown, BreaksLabels, NumberSays, ids_in, texts}
+use Rattle.mm_proof.specs.declared.fault.ProofRule.TheVariants.{P1, P2, P3, P4}
+use Rattle.mm_proof.specs.Tokens.{IsNormal, AreLabels, opening_token, closing_token}
+use Rattle.mm_proof.specs.Proof.{rank, BreaksWhole, IsWholeFault}
+use Rattle.mm_proof.specs.CodeSteps.{AreFor, MayBeUsed, BreaksLabels, texts}
 use Rattle.mm_proof.proofs.Places.{get_take, get_from_take}
-use Rattle.mm_proof.proofs.Meaning.{one_label, one_labelled, meant_front}
-use Rattle.mm_proof.proofs.Numbered.{numbered_at}
+use Rattle.mm_proof.proofs.Meaning.{one_label, one_labelled}
 use Rattle.mm_proof.proofs.LabelLists.{texts_more, known_push}
 
 -- ---- a token more, of which something doesn't hold

@@ -3,6 +3,7 @@
 ghost use Rattle.std.specs.Prelude.{◌≡◌, ◌↔◌, ◌≤◌, ℕ, List, [], ◌∷◌, ◌++◌, take, length, slice_get, Contains, Some, Ok, Err, IfOk, IfErr, OnOk, IsOkUnless};
 ghost use Rattle.std.specs.List.{AllByRecursion};
 ghost use Rattle.mm_frame.specs.Sentence.{Sentence};
+ghost use Rattle.mm_frame.specs.Numbers.{IsNumbered};
 ghost use Rattle.mm_proof.specs.Answer.{OnRule, IsUnlessMemory};
 ghost use Rattle.mm_proof.specs.Stores.{numbers_in};
 ghost use Rattle.mm_proof.specs.Tree.{tree, none};
@@ -181,6 +182,33 @@ fn ending<S: Store>(store: &S, expression: &[Sym], number: usize) -> Result<(), 
     Ok(())
 }
 
+// The assertions of the tree that the moves make, or their first fault, where the frame is that of
+// the `$p`.
+fn judged_frame<S: Store>(
+    alloc: Global,
+    store: &mut S,
+    book: &Book,
+    own: &Frame,
+    id: LabelId,
+    moves: &[NumberedMove],
+) -> Result<Vec<LabelId>, ProofFault>
+    requires own { own.now.statements ≡ book.now.statements }
+    requires number { (s : Sentence) × IsNumbered book.now.statements id.0 own.now.place s }
+    requires sound { IsSound book.now.statements }
+    requires stack { S.stack store.old ≡ [] }
+    requires kept { S.kept store.old ≡ [] }
+    requires steps { AreSteps book.now.statements id.0 (moves_in moves.now) }
+    ensures proved { IfOk result (λ v. OfMoves book.now.statements id.0 (moves_in moves.now)
+        (λ place s names. ProvesWith book.now.statements place s names (ids_in v.items))) }
+    ensures fault { IfErr result (λ e. OnRule e (λ rule step. OfMoves book.now.statements id.0 (moves_in moves.now)
+        (λ place s names. IsMovesFault (IsWithin expression_limit) (take place book.now.statements) s names rule step))) }
+{
+    one_number();
+    let count = run(alloc, store, book, own, moves)?;
+    ending(store, own.expression(), count + 1)?;
+    Ok(used_by(alloc, book, moves)?)
+}
+
 // The assertions of the tree that the moves make, or their first fault.
 fn judged<S: Store>(
     alloc: Global,
@@ -198,11 +226,8 @@ fn judged<S: Store>(
         (λ place s names. IsMovesFault (IsWithin expression_limit) (take place book.now.statements) s names rule step))) }
     ensures sound { IsSound book.now.statements }
 {
-    one_number();
     let own = book.frame(id);
-    let count = run(alloc, store, book, &own, moves)?;
-    ending(store, own.expression(), count + 1)?;
-    Ok(used_by(alloc, book, moves)?)
+    judged_frame(alloc, store, book, &own, id, moves)
 }
 
 /// Whether the moves prove the `$p` with this number: the assertions of its tree, each once, in

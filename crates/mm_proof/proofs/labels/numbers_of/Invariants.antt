@@ -1,5 +1,5 @@
-use Rattle.std.proofs.Common.{◌≡◌, ℕ, ◌<◌, List, true, false, slice_get, take, length, Contains, Some, ◌⊎◌}
-use Rattle.mm_proof.specs.CodeSteps.{AreFor, IsIdle, IsUnknown, ids_in, texts}
+use Rattle.std.proofs.Common.{take}
+use Rattle.mm_proof.specs.CodeSteps.{ids_in, texts}
 use Rattle.mm_proof.proofs.LabelLists.{SoFar}
 use Rattle.mm_proof.proofs.labels.numbers_of.Given as goal
 

@@ -1,4 +1,4 @@
-use Rattle.std.proofs.Common.{rules, arith, inl, inr, subst, sym, ◌<◌, ◌≡◌, ◌∙◌, length, List, take, slice_get, Some}
+use Rattle.std.proofs.Common.{arith, inl, inr, subst, sym, ◌<◌, ◌∙◌, length, List, take}
 use Rattle.mm_frame.specs.Sentence.{Sentence}
 use Rattle.mm_frame.specs.Active.{IsActive}
 use Rattle.mm_frame.specs.Numbers.{labelled, IsNumbered}

@@ -1,4 +1,4 @@
-use Rattle.std.proofs.Common.{◌≡◌, ℕ, List, subst, Contains, refl, sym, ap, ◌∙◌, Some, take}
+use Rattle.std.proofs.Common.{◌≡◌, subst, Contains, refl, sym, ap, ◌∙◌, Some, take}
 use Rattle.std.proofs.lemmas.Bool.{false≢true}
 use Rattle.mm_proof.specs.Tokens.{closing_token}
 use Rattle.mm_proof.specs.CodeSteps.{texts}

@@ -1,18 +1,16 @@
-use Rattle.std.proofs.Common.{ℕ, ◌≡◌, List, ◌++◌, ◌∷◌, All, Bool, Ok, Err, subst, sym, refl, ap, ◌∙◌, rules, map}
-use Rattle.std.specs.List.{AllZip, flat_map}
+use Rattle.std.proofs.Common.{ℕ, List, ◌++◌, All, Err, subst, sym, ap, ◌∙◌}
+use Rattle.std.specs.List.{AllZip}
 use Rattle.std.proofs.lemmas.Result.{err_from_is_err_and, IfOk-weaker}
 use Rattle.std.proofs.lemmas.List.{map-append}
 use Rattle.mm_code.specs.declared.code.Code.{Code}
 use Rattle.mm_code.specs.Letters.{HasSpelling, Letters, Breaks}
 use Rattle.mm_code.specs.declared.code.CodeRule.TheVariants as code
-use Rattle.mm_frame.specs.declared.number.LabelId.{LabelId}
 use Rattle.mm_frame.specs.Sentence.{Sentence}
 use Rattle.mm_frame.specs.FramePlace.{AreHypotheses}
-use Rattle.mm_proof.specs.Moves.{Move}
-use Rattle.mm_proof.specs.CodeSteps.{NumberSays, ids_in, texts, moves_in}
+use Rattle.mm_proof.specs.CodeSteps.{NumberSays, ids_in, moves_in}
 use Rattle.mm_proof.proofs.Answering.{on_rule_map, memory_only}
 use Rattle.mm_proof.proofs.TokenFacts.{labels_fault}
-use Rattle.mm_proof.proofs.Compressed.{reading_compressed, letters_fault, cut_fault, compressed_labels, no_end_fault, letters_spelled, joined_texts, letter_broken, read_unbroken}
+use Rattle.mm_proof.proofs.Compressed.{reading_compressed, compressed_labels, letters_spelled, joined_texts, letter_broken, read_unbroken}
 use Rattle.mm_proof.proofs.parse.compressed_moves.Goals as goal
 
 pub moves_of-requires : goal.moves_of-requires

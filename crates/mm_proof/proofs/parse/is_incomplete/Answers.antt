@@ -1,7 +1,7 @@
-use Rattle.std.proofs.Common.{◌≡◌, ℕ, List, subst, Contains, refl, sym, ap, ◌∙◌, Some}
+use Rattle.std.proofs.Common.{subst, Contains, sym, ◌∙◌}
 use Rattle.std.proofs.lemmas.Bool.{false≢true}
 use Rattle.mm_proof.specs.Tokens.{IsIncomplete}
-use Rattle.mm_proof.proofs.TokenFacts.{none_more, front_all, text_at}
+use Rattle.mm_proof.proofs.TokenFacts.{none_more, front_all}
 use Rattle.mm_proof.proofs.parse.is_incomplete.Goals as goal
 
 pub loop-token-preserved : goal.loop-token-preserved

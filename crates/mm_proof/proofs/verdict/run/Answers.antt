@@ -1,4 +1,4 @@
-use Rattle.std.proofs.Common.{◌≡◌, ℕ, List, Err, Some, length, arith, refl, sym, ap, ◌∙◌}
+use Rattle.std.proofs.Common.{Err, Some, length, refl, sym, ap, ◌∙◌}
 use Rattle.mm_proof.specs.CodeSteps.{move_in, moves_in}
 use Rattle.mm_proof.specs.CodeRun.{MayBeMade}
 use Rattle.mm_proof.proofs.Derived.{all_at}

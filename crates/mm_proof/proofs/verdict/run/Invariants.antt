@@ -1,4 +1,4 @@
-use Rattle.std.proofs.Common.{ℕ, ◌+◌, ◌≡◌, take, length}
+use Rattle.std.proofs.Common.{◌+◌, ◌≡◌, take, length}
 use Rattle.mm_proof.specs.CodeSteps.{moves_in}
 use Rattle.mm_proof.specs.CodeRun.{HasRun}
 use Rattle.mm_proof.proofs.verdict.run.Given as goal

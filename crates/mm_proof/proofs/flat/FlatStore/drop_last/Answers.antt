@@ -1,7 +1,6 @@
-use Rattle.std.proofs.Common.{arith, ◌≡◌, ◌∙◌, take}
+use Rattle.std.proofs.Common.{arith, ◌∙◌}
 use Rattle.std.specs.Prelude.{slice_range}
 use Rattle.mm_proof.specs.Stores.{numbers_in}
-use Rattle.mm_proof.specs.Buffer.{parts_of}
 use Rattle.mm_proof.proofs.RowLemmas.{take-seen}
 use Rattle.mm_proof.proofs.Parts.{parts-cut, within-later}
 use Rattle.mm_proof.proofs.flat.FlatStore.drop_last.Goals as goal

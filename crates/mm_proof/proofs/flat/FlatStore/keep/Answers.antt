@@ -1,4 +1,4 @@
-use Rattle.std.proofs.Common.{arith, ◌≡◌}
+use Rattle.std.proofs.Common.{arith}
 use Rattle.std.specs.Prelude.{slice_range}
 use Rattle.mm_proof.specs.Stores.{numbers_in}
 use Rattle.mm_proof.proofs.RowLemmas.{read-last, push-seen}

@@ -1,6 +1,5 @@
 use Rattle.std.proofs.Common.{arith, ap, length}
 use Rattle.std.proofs.lemmas.Result.{err_from_is_err_and}
-use Rattle.mm_proof.specs.Buffer.{parts_of, AreWithin}
 use Rattle.mm_proof.proofs.Parts.{parts-grow, parts-push, within-later}
 use Rattle.mm_proof.proofs.flat.FlatStore.push.Goals as goal
 

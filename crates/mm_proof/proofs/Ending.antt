@@ -1,0 +1,178 @@
+-- What the moves of a proof leave at the end, and the verdict.
+use Rattle.std.proofs.Common.{◌≡◌, ℕ, ◌+◌, ◌<◌, List, [], ◌∷◌, length, take, slice_get, Some, Result, Err, inl, inr, refl, sym, ap, subst, ◌∙◌, arith}
+use Rattle.std.specs.List.{AllByRecursion}
+use Rattle.std.proofs.lemmas.Option.{same_Some}
+use Rattle.std.proofs.lemmas.List.{length-map}
+use Rattle.mm_frame.specs.Sentence.{Sentence, IsHypothesis, IsAssertion, IsLabelled}
+use Rattle.mm_frame.specs.Active.{IsActive}
+use Rattle.mm_frame.specs.Rules.{AllMeant}
+use Rattle.mm_frame.specs.Numbers.{symbols_of, labelled, IsNumbered}
+use Rattle.mm_frame.specs.FramePlace.{AreItsSymbols}
+use Rattle.mm_frame.specs.Laws.{OneNumber}
+use Rattle.mm_proof.specs.declared.fault.ProofRule.{ProofRule}
+use Rattle.mm_proof.specs.declared.fault.ProofFault.{ProofFault}
+use Rattle.mm_proof.specs.declared.fault.ProofFault.TheVariants.{Rule, Memory}
+use Rattle.mm_proof.specs.Answer.{OnRule}
+use Rattle.mm_proof.specs.Tree.{tree, none}
+use Rattle.mm_proof.specs.Moves.{Move, name, again, mark}
+use Rattle.mm_proof.specs.Proof.{IsWithin, expression_limit, Passed, BreaksEnd, IsMoveFault, IsMovesFault}
+use Rattle.mm_proof.specs.Steps.{IsNumberedMove, AreNumberedMoves, IsUsable, IsUsableMove, AreSteps}
+use Rattle.mm_proof.specs.CodeSteps.{MayBeUsed, moves_in}
+use Rattle.mm_proof.specs.declared.moves.NumberedMove.{NumberedMove}
+use Rattle.mm_proof.specs.CodeVerify.{IsSymbol, AreEntries, AreBelow, named, all_named}
+use Rattle.mm_proof.specs.CodeRun.{HasRun, MayBeMade, AreNamed, EndsWrong, ProvesWith, OfMoves}
+use Rattle.mm_proof.proofs.Places.{get_from_take}
+use Rattle.mm_proof.proofs.Meaning.{one_label}
+use Rattle.mm_proof.proofs.Named.{named_is, below_is, named_once}
+use Rattle.mm_proof.proofs.Numbered.{numbers_order_back}
+use Rattle.mm_proof.proofs.UsedNumbers.{placed, used_numbers}
+use Rattle.mm_proof.proofs.Forward.{prove_at_end}
+use Rattle.mm_proof.proofs.Firsts.{end_fault}
+use Rattle.mm_proof.proofs.Running.{same_steps}
+use Rattle.mm_proof.proofs.Derived.{zip_once, all_mapped}
+
+-- ---- the statement with a number, and its moves
+
+one_place : (st : List Sentence) (id p q : ℕ) (s t : Sentence) → IsNumbered st id p s → IsNumbered st id q t → p ≡ q
+one_place st id p q s t n m =
+    let a = numbers_order_back st id id p q s t n m (omega arith) in
+    let b = numbers_order_back st id id q p t s m n (omega arith) in
+    omega arith
+
+one_move : (st : List Sentence) (x : Move ℕ) (y z : Move (List ℕ)) → IsNumberedMove st x y → IsNumberedMove st x z → y ≡ z
+one_move st (name id) y z a b =
+    let same : a.0 ≡ b.0 = same_Some a.0 b.0 (sym a.2 ∙ b.2) in
+    let labelled_so : IsLabelled a.1 b.0 = subst (IsLabelled a.1) same a.3 in
+    let label : a.1 ≡ b.1 = same_Some a.1 b.1 (sym labelled_so ∙ b.3) in
+    a.4 ∙ ap name label ∙ sym b.4
+one_move st (again tag) y z a b = a ∙ sym b
+one_move st mark y z a b = a ∙ sym b
+
+-- each of the moves may be made at the place
+pub usable_names : (st : List Sentence) (id : ℕ) (xs : List (Move ℕ)) (place : ℕ) (s : Sentence) (names : List (Move (List ℕ))) → AreSteps st id xs → IsNumbered st id place s
+    → AreNumberedMoves st xs names → AllByRecursion (IsUsableMove (take place st)) names
+usable_names st id xs place s names a n numbered =
+    let here : a.place ≡ place = one_place st id a.place place a.s s a.proof.numbered n in
+    let same : a.moves ≡ names = zip_once (IsNumberedMove st) (IsNumberedMove st) xs a.moves names (one_move st) a.numbered numbered in
+    subst (λ p. AllByRecursion (IsUsableMove (take p st)) names) here (subst (λ l. AllByRecursion (IsUsableMove (take a.place st)) l) same a.usable)
+
+may_be_used : (st : List Sentence) (place id : ℕ) (s : Sentence) (label : List ℕ) → AllMeant st → slice_get (labelled st) id ≡ Some s → IsLabelled label s → IsUsable (take place st) label
+    → MayBeUsed st place label id
+may_be_used st place id s label all there is (inl h) =
+    let p = placed st id s there in
+    let t = get_from_take st place h.0 h.1 h.2 in
+    let one : h.0 ≡ p.0 = one_label st h.0 p.0 h.1 s label all t.1 p.1.there h.4.0 is in
+    let same : h.1 ≡ s = same_Some h.1 s (sym t.1 ∙ ap (slice_get st) one ∙ p.1.there) in
+    record {
+      at = p.0;
+      s = s;
+      numbered = p.1;
+      named = is;
+      before = subst (λ k. k < place) one t.0;
+      kind = inl (subst (λ (x : Sentence). IsHypothesis x.kind) same h.4.1, subst (IsActive (take place st)) one h.3);
+    }
+may_be_used st place id s label all there is (inr b) =
+    let p = placed st id s there in
+    let t = get_from_take st place b.0 b.1 b.2 in
+    let one : b.0 ≡ p.0 = one_label st b.0 p.0 b.1 s label all t.1 p.1.there b.3.0 is in
+    let same : b.1 ≡ s = same_Some b.1 s (sym t.1 ∙ ap (slice_get st) one ∙ p.1.there) in
+    record {
+      at = p.0;
+      s = s;
+      numbered = p.1;
+      named = is;
+      before = subst (λ k. k < place) one t.0;
+      kind = inr (subst (λ (x : Sentence). IsAssertion x.kind) same b.3.1);
+    }
+
+move_made : (st : List Sentence) (place : ℕ) (x : Move ℕ) (move : Move (List ℕ)) → AllMeant st → IsNumberedMove st x move → IsUsableMove (take place st) move → MayBeMade st place x
+move_made st place (name id) move all n u =
+    (n.1, may_be_used st place id n.0 n.1 all n.2 n.3 (subst (IsUsableMove (take place st)) n.4 u))
+move_made st place (again tag) move all n u = tt
+move_made st place mark move all n u = tt
+
+all_made : (st : List Sentence) (place : ℕ) (xs : List (Move ℕ)) (names : List (Move (List ℕ))) → AllMeant st → AreNumberedMoves st xs names
+    → AllByRecursion (IsUsableMove (take place st)) names → AllByRecursion (MayBeMade st place) xs
+all_made st place [] names all z u = tt
+all_made st place (x ∷ xs) [] all z u = absurd z
+all_made st place (x ∷ xs) (m ∷ names) all z u = (move_made st place x m all z.0 u.0, all_made st place xs names all z.1 u.1)
+
+pub steps_made : (st : List Sentence) (id : ℕ) (xs : List (Move ℕ)) (place : ℕ) (s : Sentence) → AllMeant st → AreSteps st id xs → IsNumbered st id place s
+    → AllByRecursion (MayBeMade st place) xs
+steps_made st id xs place s all a n = all_made st place xs a.moves all a.numbered (usable_names st id xs place s a.moves a n a.numbered)
+
+-- ---- the verdict
+
+its_symbols : (st : List Sentence) (own place : ℕ) (s : Sentence) (numbers : List ℕ) → own ≡ place → slice_get st place ≡ Some s
+    → AreItsSymbols (record { statements = st; place = own }) numbers → (named st numbers ≡ s.symbols) × AreBelow st numbers
+its_symbols st own place s numbers here there i =
+    let same : i.assertion ≡ s = same_Some i.assertion s (sym i.there ∙ ap (slice_get st) here ∙ there) in
+    (named_is st numbers i.assertion.symbols i.numbered ∙ ap (λ (x : Sentence). x.symbols) same, below_is st numbers i.assertion.symbols i.numbered)
+
+-- the moves have run, and left the statement's expression
+pub proved_end : (st : List Sentence) (id own : ℕ) (t : Sentence) (xs : List (Move ℕ)) (stack kept : List (List ℕ)) (count : ℕ) (numbers used : List ℕ) → AllMeant st → AreSteps st id xs
+    → IsNumbered st id own t → AreItsSymbols (record { statements = st; place = own }) numbers → HasRun st own xs stack kept count → stack ≡ numbers ∷ [] → AreNamed st xs used
+    → OfMoves st id xs (λ place s names. ProvesWith st place s names used)
+proved_end st id own t xs stack kept count numbers used all a n symbols run is named_so place s names proof numbered =
+    let here : own ≡ place = one_place st id own place t s n proof.numbered in
+    let moved = subst (λ p. HasRun st p xs stack kept count) here run in
+    let expression = (its_symbols st own place s numbers here proof.numbered.there symbols).0 in
+    let passed = subst (λ l. Passed (IsWithin expression_limit) (take place st) names l (all_named st kept))
+    (ap (all_named st) is ∙ ap (λ e. e ∷ []) expression) (moved.passed names numbered) in
+    let p = prove_at_end (IsWithin expression_limit) (take place st) s names (all_named st kept) passed in
+    let uses = used_numbers st place xs names (tree p.label p.below none) p.kept all numbered (usable_names st id xs place s names a proof.numbered numbered) p.made in (
+      p,
+      record {
+        rising = named_so.rising;
+        each = λ k. ((λ h. (uses k).1 ((named_so.each k).0 h)), λ h. (named_so.each k).1 ((uses k).0 h));
+      },
+    )
+
+-- they have run, and left something else
+pub wrong_end : (st : List Sentence) (id own : ℕ) (t : Sentence) (xs : List (Move ℕ)) (stack kept : List (List ℕ)) (count : ℕ) (numbers : List ℕ) (rule : ProofRule) (at : ℕ) → OneNumber
+    → IsNumbered st id own t → AreItsSymbols (record { statements = st; place = own }) numbers → HasRun st own xs stack kept count → (at ≡ count + 1) × EndsWrong rule stack numbers
+    → OfMoves st id xs (λ place s names. IsMovesFault (IsWithin expression_limit) (take place st) s names rule at)
+wrong_end st id own t xs stack kept count numbers rule at one n symbols run wrong place s names proof numbered =
+    let here : own ≡ place = one_place st id own place t s n proof.numbered in
+    let moved = subst (λ p. HasRun st p xs stack kept count) here run in
+    let expression = its_symbols st own place s numbers here proof.numbered.there symbols in
+    end_fault (IsWithin expression_limit) (take place st) s names (all_named st stack) (all_named st kept) rule at (moved.passed names numbered)
+    (broken expression.0 expression.1 moved.entries wrong.1) (wrong.0 ∙ ap (λ k. k + 1) (moved.count ∙ same_steps st xs names numbered))
+  where
+    broken : named st numbers ≡ s.symbols → AreBelow st numbers → AreEntries st (take place st) stack → EndsWrong rule stack numbers → BreaksEnd rule (all_named st stack) s.symbols
+    broken symbols_are below entries (inl w) = rw w.0 (λ e. w.1 (sym (length-map stack (named st)) ∙ e))
+    broken symbols_are below entries (inr w) =
+        let entry = (subst (AreEntries st (take place st)) w.2 entries).0 in
+        rw w.0 (
+          named st w.1,
+          ap (all_named st) w.2,
+          λ same. w.3 (named_once one st w.1 numbers (all_mapped (IsSymbol st (take place st)) (λ k. k < length (symbols_of st)) w.1 (λ k i. i.below) entry) below (same ∙ sym symbols_are)),
+        )
+
+-- a move breaks a rule
+pub wrong_move : (st : List Sentence) (id own : ℕ) (t : Sentence) (xs : List (Move ℕ)) (rule : ProofRule) (at : ℕ) → IsNumbered st id own t
+    → ((names : List (Move (List ℕ))) → AreNumberedMoves st xs names → IsMoveFault (IsWithin expression_limit) (take own st) names rule at)
+    → OfMoves st id xs (λ place s names. IsMovesFault (IsWithin expression_limit) (take place st) s names rule at)
+wrong_move st id own t xs rule at n fault place s names proof numbered =
+    let here : own ≡ place = one_place st id own place t s n proof.numbered in
+    inl (subst (λ p. IsMoveFault (IsWithin expression_limit) (take p st) names rule at) here (fault names numbered))
+
+pub on_rule_from : (e : ProofFault) (P : ProofRule → ℕ → Type 0) → ((rule : ProofRule) (step : ℕ) → e ≡ Rule rule step → P rule step) → OnRule e P
+on_rule_from (Rule rule step) P f = f rule step refl
+on_rule_from Memory P f = tt
+
+-- ---- one entry
+
+pub only_entry : {X : Type 0} (xs : List X) (x : X) → length xs ≡ 1 → slice_get xs 0 ≡ Some x → xs ≡ x ∷ []
+only_entry [] x l e = absurd (omega arith)
+only_entry (y ∷ []) x l e = ap (λ z. z ∷ []) (same_Some y x e)
+only_entry (y ∷ z ∷ xs) x l e = absurd (omega arith)
+
+pub same_fault : {X : Type 0} (a b : ProofRule) (m n : ℕ) → ◌≡◌ {A = Result X ProofFault} (Err (Rule a m)) (Err (Rule b n)) → (b ≡ a) × (n ≡ m)
+same_fault {X} a b m n e =
+    let same : Rule a m ≡ Rule b n = cc in (cc, cc)
+
+-- the moves of the list are those of the proof
+pub same_moves : (st : List Sentence) (xs : List (Move ℕ)) (given held : List NumberedMove) (names : List (Move (List ℕ))) → given ≡ held → xs ≡ moves_in held
+    → AreNumberedMoves st xs names → AreNumberedMoves st (moves_in given) names
+same_moves st xs given held names is view numbered = subst (λ l. AreNumberedMoves st l names) (view ∙ ap moves_in (sym is)) numbered
