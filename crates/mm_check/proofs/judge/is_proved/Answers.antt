@@ -6,7 +6,7 @@ use Rattle.mm_text.specs.Token.{PlainToken}
 use Rattle.mm_text.specs.Statement.{PlainStatement, plain_statement}
 use Rattle.mm_frame.specs.Sentence.{Sentence, said}
 use Rattle.mm_proof.specs.Tokens.{IsIncomplete}
-use Rattle.mm_proof.specs.declared.stub.Parsed.TheVariants.{Incomplete, Steps}
+use Rattle.mm_proof.specs.declared.moves.Parsed.TheVariants.{Incomplete, Steps}
 use Rattle.mm_check.specs.Verdict.{proof_of}
 use Rattle.mm_check.proofs.Judging.{filled_texts, last_number, of_fault, parser_fault, verified, verifier_fault, incomplete_is}
 use Rattle.mm_check.proofs.judge.is_proved.Goals as goal

@@ -5,12 +5,6 @@ use Rattle.mm_check.specs.Conclusion.{Conclusion, labels_in}
 use Rattle.mm_check.proofs.Numbers.{count_labelled, label_named}
 use Rattle.mm_check.proofs.checked.Checked.name.Goals as goal
 
-pub label-requires : goal.label-requires
-label-requires c =
-    let within : c.args.id.0 < length (labels_in c.self.inside.book.statements) =
-    subst (λ (v : Conclusion). c.args.id.0 < length v.labels) (sym c.self.view_is) c.requires in
-    subst (λ (n : ℕ). c.args.id.0 < n) (sym (count_labelled (λ (s : Sentence). s.label) c.self.inside.book.statements)) within
-
 pub returns : goal.returns
 returns c =
     let within : c.args.id.0 < length (labels_in c.self.inside.book.statements) =
