@@ -1,11 +1,10 @@
 -- A book's lists after a `${` or a `$}`.
-use Rattle.std.proofs.Common.{◌≡◌, ℕ, suc, ◌+◌, ◌-◌, ◌*◌, ◌<◌, ◌≤◌, length, List, [], ◌∷◌, ◌++◌, map, take, drop, Option, Some, None, Result, Ok, Err, refl, sym, ap, ◌∙◌, subst, append-nil, arith}
+use Rattle.std.proofs.Common.{◌≡◌, ℕ, suc, ◌+◌, ◌-◌, ◌<◌, ◌≤◌, length, List, [], ◌∷◌, ◌++◌, Option, Some, None, Result, Ok, Err, refl, sym, ap, ◌∙◌, subst, append-nil, arith}
 use Rattle.std.specs.List.{slice_get, slice_range}
 use Rattle.std.specs.Result.{OnErr}
 use Rattle.mm_text.specs.declared.statement.Kind.{Kind}
 use Rattle.mm_text.specs.declared.statement.Kind.TheVariants.{Opening, Closing, Floating, Distinct}
 use Rattle.mm_frame.specs.declared.number.Sym.{Sym}
-use Rattle.mm_frame.specs.declared.tables.Entry.{Entry}
 use Rattle.mm_frame.specs.declared.tables.Tables.{Tables}
 use Rattle.mm_frame.specs.Sentence.{Sentence}
 use Rattle.mm_frame.specs.Active.{openings, closings}
@@ -13,7 +12,7 @@ use Rattle.mm_frame.specs.Rules.{IsMeant}
 use Rattle.mm_frame.specs.Form.{IsFormedSentence}
 use Rattle.mm_frame.specs.Numbers.{symbols_of, declared_by}
 use Rattle.mm_frame.specs.ScopesOf.{HaveScopes}
-use Rattle.mm_frame.specs.Layout.{AreTables, AreInfos, AreLabels, AreEssentials, AreFrames, AreStated, IsWithin, sentence_by, names_by, statements_of}
+use Rattle.mm_frame.specs.Layout.{AreTables, AreInfos, AreLabels, AreEssentials, AreFrames, AreStated, sentence_by, names_by, statements_of}
 use Rattle.mm_frame.specs.Forgotten.{AreForgotten}
 use Rattle.mm_frame.specs.Grows.{Grows, IsSame, SameLists, Entered, entry_of}
 use Rattle.std.proofs.lemmas.Option.{slice_get_within}
@@ -24,7 +23,7 @@ use Rattle.mm_frame.proofs.Infos.{infos_other}
 use Rattle.mm_frame.proofs.Labels.{labels_none, essentials_other, essentials_closing}
 use Rattle.mm_frame.proofs.FrameLaws.{placed, frames_other, stated_other}
 use Rattle.mm_frame.proofs.SameTables.{same_tables}
-use Rattle.mm_frame.proofs.Assembled.{AreGrown, AreAppended, assembled}
+use Rattle.mm_frame.proofs.Assembled.{assembled}
 
 -- one statement with no label and no symbols was written, but the active `$e` are another matter
 pub record AddsBlock (t v : Tables) (kind : Kind) (bytes : ℕ) : Type 0 where

@@ -1,5 +1,5 @@
 -- Statements that used symbols, and what they say by numbers.
-use Rattle.std.proofs.Common.{◌≡◌, ℕ, suc, ◌+◌, ◌<◌, ◌≤◌, ◌⊎◌, inl, inr, length, take, get_or, List, [], ◌∷◌, ◌++◌, map, Contains, Option, Some, None, Result, refl, sym, ap, ◌∙◌, subst, arith}
+use Rattle.std.proofs.Common.{◌≡◌, ℕ, suc, ◌+◌, ◌<◌, ◌≤◌, inl, inr, length, take, get_or, List, [], ◌∷◌, ◌++◌, map, Contains, Option, Some, None, Result, refl, sym, ap, ◌∙◌, subst, arith}
 use Rattle.std.specs.List.{slice_get}
 use Rattle.std.specs.Option.{option_map}
 use Rattle.std.specs.Result.{IfOk}

@@ -1,5 +1,4 @@
-use Rattle.std.proofs.Common.{◌≡◌, ◌<◌, suc, false, length, Some, arith}
-use Rattle.std.specs.List.{slice_get}
+use Rattle.std.proofs.Common.{arith}
 use Rattle.mm_frame.proofs.Forgotten.{dropped_none, dropped_more, forgotten_all, forgotten_last, left_within, popped_size}
 use Rattle.mm_frame.proofs.growth.forget_inactive.Goals as goal
 
