@@ -114,9 +114,9 @@ judged_statements files before (s ∷ later) obeyed formed =
           (judged_statements files (before ++ s ∷ []) later (one_more before s obeyed obeys)
           (subst (λ (ss : List PlainStatement). AllByRecursion HasForm ss) (sym same) formed))
       | inr fault ↦ inl (
-          refusal_of files (length before) s fault.0 fault.1,
-          record { before = before; s = s; after = later; split = refl; obeyed = obeyed; rule = fault.0; step = fault.1; fault = fault.2; refused = refl },
-        )
+        refusal_of files (length before) s fault.0 fault.1,
+        record { before = before; s = s; after = later; split = refl; obeyed = obeyed; rule = fault.0; step = fault.1; fault = fault.2; refused = refl },
+      )
     ]
 
 -- ## The verdict

@@ -125,7 +125,7 @@ of_fault before s (Err e) fault same q = subst (Fails before s) (sym same) q
 pub parser_fault : (statements : List Sentence) (id : ℕ) (s : PlainStatement) (tokens : List (List ℕ)) (fault : ProofFault) → HasForm s → IsLastProof statements id s
     → tokens ≡ proof_of s → ¬ (IsIncomplete tokens)
     → ((rule : ProofRule) (step : ℕ) → fault ≡ faults.Rule rule step → (place : ℕ) (t : Sentence) → IsProofNumber statements id place t
-      → (step ≡ 0) × IsWholeFault (take place statements) tokens rule)
+    → (step ≡ 0) × IsWholeFault (take place statements) tokens rule)
     → (before : List Sentence) → statements ≡ before ++ said s ∷ []
     → Fails before s fault
 parser_fault statements id s tokens faults.Memory formed last same complete told before e = tt
@@ -141,13 +141,13 @@ abbrev pub SaysMoves : List Sentence → ℕ → List (List ℕ) → List (Move 
 SaysMoves statements id tokens steps =
     (place : ℕ) (t : Sentence) → IsProofNumber statements id place t
     → IsWhole (take place statements) tokens
-      × (moves : List (Move (List ℕ))) × SayMoves (take place statements) t tokens moves × AreNumberedMoves statements steps moves
+    × (moves : List (Move (List ℕ))) × SayMoves (take place statements) t tokens moves × AreNumberedMoves statements steps moves
 
 -- the moves prove the last statement
 pub verified : (statements : List Sentence) (id : ℕ) (s : PlainStatement) (tokens : List (List ℕ)) (steps : List (Move ℕ)) → HasForm s → IsLastProof statements id s
     → tokens ≡ proof_of s → ¬ (IsIncomplete tokens) → SaysMoves statements id tokens steps
     → ((place : ℕ) (t : Sentence) (moves : List (Move (List ℕ))) → IsProofNumber statements id place t → AreNumberedMoves statements steps moves
-      → Prove (IsWithin expression_limit) (take place statements) t moves)
+    → Prove (IsWithin expression_limit) (take place statements) t moves)
     → (before : List Sentence) → statements ≡ before ++ said s ∷ []
     → IsJudged before s true
 verified statements id s tokens steps formed last same complete says proves before e =
@@ -168,8 +168,8 @@ verified statements id s tokens steps formed last same complete says proves befo
 pub verifier_fault : (statements : List Sentence) (id : ℕ) (s : PlainStatement) (tokens : List (List ℕ)) (steps : List (Move ℕ)) (fault : ProofFault) → HasForm s → IsLastProof statements id s
     → tokens ≡ proof_of s → ¬ (IsIncomplete tokens) → SaysMoves statements id tokens steps
     → ((rule : ProofRule) (step : ℕ) → fault ≡ faults.Rule rule step → (place : ℕ) (t : Sentence) (moves : List (Move (List ℕ)))
-      → IsProofNumber statements id place t → AreNumberedMoves statements steps moves
-      → IsMovesFault (IsWithin expression_limit) (take place statements) t moves rule step)
+    → IsProofNumber statements id place t → AreNumberedMoves statements steps moves
+    → IsMovesFault (IsWithin expression_limit) (take place statements) t moves rule step)
     → (before : List Sentence) → statements ≡ before ++ said s ∷ []
     → Fails before s fault
 verifier_fault statements id s tokens steps faults.Memory formed last same complete says told before e = tt

@@ -61,10 +61,10 @@ typing_at s P each (yes k) (a ∷ b ∷ c ∷ more) e = no (λ t. let p : a ∷ 
 typing_at s P each (yes k) (a ∷ b ∷ []) e = dec_as
     (λ p. (a, b, (k, e), p))
     (λ t.
-      let f : a ∷ b ∷ [] ≡ t.0 ∷ t.1 ∷ [] = sym e ∙ t.2.1 in
-      let first : t.0 ≡ a = cc in
-      let second : t.1 ≡ b = cc in
-      subst (λ (y : List ℕ). P a y) second (subst (λ (x : List ℕ). P x t.1) first t.3))
+    let f : a ∷ b ∷ [] ≡ t.0 ∷ t.1 ∷ [] = sym e ∙ t.2.1 in
+    let first : t.0 ≡ a = cc in
+    let second : t.1 ≡ b = cc in
+    subst (λ (y : List ℕ). P a y) second (subst (λ (x : List ℕ). P x t.1) first t.3))
     (each a b)
 
 its_typing_dec : (s : Sentence) (P : List ℕ → List ℕ → Type 0) → ((x y : List ℕ) → Dec (P x y)) → Dec (ItsTyping s P)
@@ -117,7 +117,7 @@ breaks_dec M11 before s = its_typing_dec s (λ code x. IsConstant before x) (λ 
 breaks_dec M12 before s = its_typing_dec s (λ code x. IsTyped before x) (λ code x. typed_dec before x)
 breaks_dec M13 before s = its_typing_dec s (λ code x. SomeSentence before (λ f. (other : List ℕ) × Types other x f × (other ≢ code)))
     (λ code x. sentence_dec before (λ f. (other : List ℕ) × Types other x f × (other ≢ code))
-      (λ f. gives_dec x (λ other. other ≢ code) (λ other. dec_not (symbol_dec other code)) f))
+    (λ f. gives_dec x (λ other. other ≢ code) (λ other. dec_not (symbol_dec other code)) f))
 breaks_dec M14 before s = dec_both (stated_dec s) (its_first_dec s (IsVariable before) (variable_dec before) s.symbols refl)
 breaks_dec M15 before s = dec_both (stated_dec s)
     (dec_member (λ x. IsVariable before x × ¬ (IsTyped before x)) (λ x. dec_both (variable_dec before x) (dec_not (typed_dec before x))) s.symbols)

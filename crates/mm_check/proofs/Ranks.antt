@@ -69,4 +69,3 @@ compared (suc a) (suc b) = elim (compared a b) [
   | inl h ↦ inl (omega arith)
   | inr rest ↦ elim rest [ inl h ↦ inr (inl (omega arith)) | inr e ↦ inr (inr (ap suc e)) ]
 ]
-

@@ -201,13 +201,12 @@ yes_obeys files n p h = record {
   proved = λ before after s split provable.
       let complete : is_incomplete (proof_of s) ≡ false =
       complete_where_none before after s (subst (λ (ss : List PlainStatement). AllByRecursion HasForm ss) split (readings_are_formed_in_place files h.0 None h.1.reads).formed)
-      (sym (ap unproved_of split) ∙ h.2) provable in
-      (
+      (sym (ap unproved_of split) ∙ h.2) provable in (
         complete,
         (limits_aside_holds expression_limit (sentences before) (said s) (proof_of s)
-        (all_meant before (λ earlier later t e. h.1.obeyed earlier (later ++ s ∷ after) t
-        (split ∙ ap (λ (xs : List PlainStatement). xs ++ s ∷ after) e ∙ append_assoc earlier (t ∷ later) (s ∷ after))))).0
-        ((h.1.obeyed before after s split).proved (proof_there s provable complete)),
+            (all_meant before (λ earlier later t e. h.1.obeyed earlier (later ++ s ∷ after) t
+            (split ∙ ap (λ (xs : List PlainStatement). xs ++ s ∷ after) e ∙ append_assoc earlier (t ∷ later) (s ∷ after))))).0
+            ((h.1.obeyed before after s split).proved (proof_there s provable complete)),
       );
 }
 

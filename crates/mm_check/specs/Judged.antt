@@ -82,7 +82,7 @@ RefusesProof files old s fault =
     (verdict_of_fault fault ≡ None)
     ⊎ ((rule : ProofRule) × (step : ℕ) × (is_incomplete (proof_of s) ≡ false)
     × ((before : List Sentence) → old.book.statements ≡ before ++ said s ∷ []
-      → IsFault (IsWithin expression_limit) before (said s) (proof_of s) rule step)
+    → IsFault (IsWithin expression_limit) before (said s) (proof_of s) rule step)
     × (verdict_of_fault fault ≡ Some (Refused (refusal_of files old.count s (proof_rule rule) step))))
 
 -- The statement obeys the rules, and is taken into the progress.

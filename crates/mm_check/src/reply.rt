@@ -101,11 +101,7 @@ fn push_label(out: &mut Vec<u8>, checked: &Checked, number: LabelId) -> Result<(
 
 /// A line for the label of each of these numbers.
 #[tactic(auto, using(crate::proofs::Lines::one_more_line))]
-fn push_labels(
-    out: &mut Vec<u8>,
-    checked: &Checked,
-    numbers: &[LabelId],
-) -> Result<(), AllocError>
+fn push_labels(out: &mut Vec<u8>, checked: &Checked, numbers: &[LabelId]) -> Result<(), AllocError>
     requires { AllByRecursion (λ n. n < length checked.now.labels) (map (λ id. id.0) numbers.now) }
     ensures { OnOk result (out.new.items ≡ out.old.items
         ++ lines_of (labels_at checked.now.labels (map (λ id. id.0) numbers.now))) }

@@ -83,7 +83,10 @@ fn names_incomplete_proofs(rt: HostRuntime) -> Result<(), Fail> {
     for id in checked.incomplete() {
         names.push(checked.name(*id))?;
     }
-    assert_eq!(rt; names.as_slice(), [b"q".as_slice(), b"s".as_slice()].as_slice());
+    assert_eq!(rt;
+        names.as_slice(),
+        [b"q".as_slice(), b"s".as_slice()].as_slice()
+    );
     Ok(())
 }
 

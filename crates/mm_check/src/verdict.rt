@@ -20,10 +20,7 @@ use mm_text::{File, Statement, Statements, TextFault, TextRule, Token};
 use std::alloc::Global;
 
 /// Why the files can't be taken as a whole.
-fn load<'a>(
-    alloc: Global,
-    files: &'a [File<'a>],
-) -> Result<Statements<'a>, CheckFault<'a>>
+fn load<'a>(alloc: Global, files: &'a [File<'a>]) -> Result<Statements<'a>, CheckFault<'a>>
     ensures unread { IfOk result (IsUnread (map plain_file files.now)) }
     ensures readable { OnOk result (CanBeRead (map plain_file files.now)) }
     ensures load { IfErr result (RefusesLoad (map plain_file files.now)) }

@@ -92,11 +92,11 @@ while_active never st blocks ends stack a room p q b c holder ends_at lt le acti
         let next = begun.next in
         let outer = begun.place in
         let opened : IsOpen (take (suc p) st) outer = record {
-              opening = begun.opening;
-              there = get_in_front st (suc p) outer begun.opening (omega arith) begun.there;
-              opened = begun.opened;
-              unclosed = subst (λ y. IsUnclosed (take (suc p) st) y) next unclosed;
-            } in
+          opening = begun.opening;
+          there = get_in_front st (suc p) outer begun.opening (omega arith) begun.there;
+          opened = begun.opened;
+          unclosed = subst (λ y. IsUnclosed (take (suc p) st) y) next unclosed;
+        } in
         let kept = active.kept outer (holds_back st q p outer lt (omega arith, opened)) in
         subst (λ y. IsUnclosed (take q st) y) (sym next) kept.unclosed
 

@@ -39,10 +39,10 @@ pub assembled : (t v : Tables) (s : Sentence) (new : Entry) (a b : List (List �
 assembled t v s new a b c bytes tables meant formed app grown counted enough room =
     let pushed = sentences_push t.symbols.names t.labels.names t.flat.items t.log.items a b c new tables.entries in
     let st : statements_of v ≡ statements_of t ++ s ∷ [] =
-        rw (app.symbols, app.labels, app.flat, app.log) (pushed ∙ ap (λ (x : Sentence). statements_of t ++ x ∷ []) app.said) in
+    rw (app.symbols, app.labels, app.flat, app.log) (pushed ∙ ap (λ (x : Sentence). statements_of t ++ x ∷ []) app.said) in
     let sound : IsSound (statements_of v) = rw st (allmeant_push (statements_of t) s tables.sound.0 meant, allformed_push (statements_of t) s tables.sound.1 formed) in
     let n : AreEntries v.symbols.names v.labels.names v.flat.items v.log.items = rw (app.symbols, app.labels, app.flat, app.log)
-        (entries_push t.symbols.names t.labels.names t.flat.items t.log.items a b c new tables.entries app.within app.numbers app.label) in
+    (entries_push t.symbols.names t.labels.names t.flat.items t.log.items a b c new tables.entries app.within app.numbers app.label) in
     let i : AreInfos (statements_of v) v.symbols.names v.infos.items = rw st grown.infos in
     let l : AreLabels (statements_of v) v.labels.names v.named.items v.log.items = rw st grown.labels in
     let h : HaveScopes (statements_of v) v.scopes = rw st grown.scopes in
@@ -54,7 +54,7 @@ assembled t v s new a b c bytes tables meant formed app grown counted enough roo
     let before = tables.counted in
     let sum : length v.log.items + length v.flat.items ≤ 2 * v.bytes = rw (app.log, app.flat, counted, logs, flats) (omega arith) in
     record {
-        tables = record { sound = sound; counted = sum; small = rw counted room; infos = i; labels = l; entries = n; scopes = h; essentials = e; frames = f; stated = d; };
-        statements = st;
-        counted = counted;
+      tables = record { sound = sound; counted = sum; small = rw counted room; infos = i; labels = l; entries = n; scopes = h; essentials = e; frames = f; stated = d };
+      statements = st;
+      counted = counted;
     }

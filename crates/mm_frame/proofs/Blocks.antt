@@ -34,8 +34,8 @@ pub record AddsBlock (t v : Tables) (kind : Kind) (bytes : ℕ) : Type 0 where
   pub log : v.log.items ≡ t.log.items ++ entry_of kind None (length t.flat.items) (length t.flat.items) ∷ []
   pub flat : v.flat.items ≡ t.flat.items
   pub scopes :
-    (statements : List Sentence) (s : Sentence) → HaveScopes statements t.scopes → s.kind ≡ kind
-    → (kind ≡ Closing → closings statements < openings statements) → HaveScopes (statements ++ s ∷ []) v.scopes
+      (statements : List Sentence) (s : Sentence) → HaveScopes statements t.scopes → s.kind ≡ kind
+      → (kind ≡ Closing → closings statements < openings statements) → HaveScopes (statements ++ s ∷ []) v.scopes
   pub hypotheses : v.hypotheses.items ≡ t.hypotheses.items
   pub pairs : v.pairs.items ≡ t.pairs.items
   pub stated : v.distinct.stated ≡ t.distinct.stated
@@ -99,15 +99,18 @@ block_grows t v s kind bytes tables adds is unlabelled bare none no_float no_dis
     let flat_size : length (t.flat.items ++ []) ≡ n = ap length (append-nil t.flat.items) in
     let i : AreInfos (st ++ s ∷ []) v.symbols.names v.infos.items = rw (adds.symbols, adds.infos) (infos_other st t.symbols.names t.infos.items s tables.infos none no_float) in
     let l : AreLabels (st ++ s ∷ []) v.labels.names v.named.items v.log.items = rw (adds.labels, adds.named, adds.log)
-        (labels_none st t.labels.names t.named.items t.log.items s new tables.labels unlabelled refl size) in
+    (labels_none st t.labels.names t.named.items t.log.items s new tables.labels unlabelled refl size) in
     let f : AreFrames (st ++ s ∷ []) v.hypotheses.items v.pairs.items v.named.items = rw (hs, ps, adds.named)
-        (frames_other st s t.hypotheses.items [] t.pairs.items [] t.named.items (placed st t.labels.names t.named.items t.log.items tables.labels) tables.frames) in
+    (frames_other st s t.hypotheses.items [] t.pairs.items [] t.named.items (placed st t.labels.names t.named.items t.log.items tables.labels) tables.frames) in
     let all : t.symbols.names ++ [] ≡ symbols_of (st ++ s ∷ []) = sym a ∙ i.all in
     let d : AreStated (st ++ s ∷ []) v.symbols.names v.distinct.stated = rw (a, adds.stated)
-        (stated_other st s t.symbols.names [] t.distinct.stated tables.sound.0 tables.infos.all all tables.stated no_distinct) in
+    (stated_other st s t.symbols.names [] t.distinct.stated tables.sound.0 tables.infos.all all tables.stated no_distinct) in
     assembled t v s new [] [] [] bytes tables meant formed
     (record {
-      symbols = a; labels = b; flat = c; log = adds.log;
+      symbols = a;
+      labels = b;
+      flat = c;
+      log = adds.log;
       said = block_said (t.symbols.names ++ []) (t.labels.names ++ []) (t.flat.items ++ []) kind n s is unlabelled bare;
       within = record { ordered = omega arith; within = omega arith };
       numbers = λ i n there. absurd (cc);
@@ -120,7 +123,7 @@ pub open_grows : (t v : Tables) (s : Sentence) (bytes : ℕ) → AreTables t →
     → 1 ≤ bytes → t.bytes + bytes ≤ 1073741824 → IsMeant (statements_of t) s → IsFormedSentence s → Grows t v s bytes
 open_grows t v s bytes tables adds same is unlabelled bare some room meant formed =
     let e : AreEssentials (statements_of t ++ s ∷ []) v.essentials.items = rw same
-        (essentials_other (statements_of t) t.essentials.items s tables.essentials (λ k. absurd (cc)) (λ k. absurd (cc))) in
+    (essentials_other (statements_of t) t.essentials.items s tables.essentials (λ k. absurd (cc)) (λ k. absurd (cc))) in
     block_grows t v s Opening bytes tables adds is unlabelled bare (rw is refl) (λ k. absurd (cc)) (λ k. absurd (cc)) (λ k. absurd (cc)) e some room meant formed
 
 pub close_grows : (t v : Tables) (s : Sentence) (bytes : ℕ) → AreTables t → AddsBlock t v Closing bytes → AreForgotten (statements_of t ++ s ∷ []) t.essentials.items v.essentials.items
@@ -135,7 +138,7 @@ close_grows t v s bytes tables adds left is unlabelled bare more some room meant
 pub closing_left : (t w : Tables) (s : Sentence) (bytes at : ℕ) (after : List ℕ) → AreTables t → AddsBlock t w Closing bytes → w.essentials.items ≡ t.essentials.items → s.kind ≡ Closing
     → closings (statements_of t) < openings (statements_of t) → at ≡ length w.log.items
     → ((statements : List Sentence) → HaveScopes statements w.scopes → length statements ≤ NEVER → at ≡ length statements
-        → ((i p : ℕ) → slice_get w.essentials.items i ≡ Some p → p < at) → AreForgotten statements w.essentials.items after)
+    → ((i p : ℕ) → slice_get w.essentials.items i ≡ Some p → p < at) → AreForgotten statements w.essentials.items after)
     → AreForgotten (statements_of t ++ s ∷ []) t.essentials.items after
 closing_left t w s bytes at after tables adds same is more ends forget =
     let st = statements_of t in
@@ -147,6 +150,6 @@ closing_left t w s bytes at after tables adds same is more ends forget =
     let small : length (st ++ s ∷ []) ≤ NEVER = omega arith in
     let all : at ≡ length (st ++ s ∷ []) = omega arith in
     let within : (i p : ℕ) → slice_get w.essentials.items i ≡ Some p → p < at = λ i p there.
-        let (e, place, kind, active) = tables.essentials.only i p (subst (λ ys. slice_get ys i ≡ Some p) same there) in
-        let lt = slice_get_within st p e place in omega arith in
+    let (e, place, kind, active) = tables.essentials.only i p (subst (λ ys. slice_get ys i ≡ Some p) same there) in
+    let lt = slice_get_within st p e place in omega arith in
     subst (λ ys. AreForgotten (st ++ s ∷ []) ys after) same (forget (st ++ s ∷ []) (adds.scopes st s tables.scopes is (λ k. more)) small all within)

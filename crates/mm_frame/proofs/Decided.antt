@@ -195,7 +195,6 @@ distinct_dec before x y = dec_both (dec_not (symbol_dec x y))
     (some_active_dec before (λ d. (d.kind ≡ Distinct) × Contains d.symbols x × Contains d.symbols y)
     (λ d. dec_as (λ c. (c.0, c.1.0, c.1.1)) (λ c. (c.0, (c.1, c.2))) (dec_both (kind_dec d.kind Distinct) (dec_both (contains_dec d.symbols x) (contains_dec d.symbols y)))))
 
-
 pub constant_dec : (before : List Sentence) (x : List ℕ) → Dec (IsConstant before x)
 constant_dec before x = sentence_dec before (Declares Constants x) (λ s. dec_both (kind_dec s.kind Constants) (contains_dec s.symbols x))
 

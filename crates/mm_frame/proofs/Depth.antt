@@ -46,6 +46,7 @@ scope_some_open never st blocks ends stack a =
         let same : b ≡ 0 = cc in
         absurd (let at = subst (λ m. slice_get a.starts m ≡ Some (suc p)) same begins in cc)
     above never st blocks ends stack a p (suc k) b on begins = let lt = slice_get_within stack (suc k) b on in omega arith
+
     opened : (never : ℕ) (st : List Sentence) (blocks ends stack : List ℕ) → (a : AreScopes never st blocks ends stack) → (b x : ℕ) → 0 < b → slice_get a.starts b ≡ Some x → IsUnclosed st x → (p : ℕ) × IsOpen st p
     opened never st blocks ends stack a zero x positive there still = absurd (omega arith)
     opened never st blocks ends stack a (suc b) x positive there still =
@@ -117,6 +118,7 @@ scope_counts never st blocks ends stack a =
         let within = start_within never st blocks ends stack a n x there in
         let le = risen a.starts (λ j k y z at_j at_k lt. a.rising j k y z at_j at_k lt) n x there in
         omega arith
+
     open_few : (never : ℕ) (st : List Sentence) (blocks ends stack : List ℕ) → AreScopes never st blocks ends stack → (n : ℕ) → length stack ≡ n → length stack ≤ length ends
     open_few never st blocks ends stack a zero size = omega arith
     open_few never st blocks ends stack a (suc n) size =

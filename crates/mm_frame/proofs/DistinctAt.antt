@@ -110,7 +110,7 @@ unstated_distinct st symbols spans a b q x y are at_a at_b lt none distinct =
 pub record AreNew (st : List Sentence) (e : Sentence) (symbols : List (List ℕ)) (new : List Stated) : Type 0 where
   pub only : (i : ℕ) (span : Stated) → slice_get new i ≡ Some span
       → (span.place ≡ length st) × (span.pair.0 < span.pair.1) × (x : List ℕ) × (y : List ℕ) × (slice_get symbols span.pair.0 ≡ Some x) × (slice_get symbols span.pair.1 ≡ Some y)
-        × Contains e.symbols x × Contains e.symbols y × ¬ (IsDistinct st x y)
+      × Contains e.symbols x × Contains e.symbols y × ¬ (IsDistinct st x y)
   pub once : (i j : ℕ) (one other : Stated) → slice_get new i ≡ Some one → slice_get new j ≡ Some other → one.pair ≡ other.pair → i ≡ j
   pub each : (a b : ℕ) (x y : List ℕ) → slice_get symbols a ≡ Some x → slice_get symbols b ≡ Some y → a < b → Contains e.symbols x → Contains e.symbols y
       → ((i : ℕ) × (span : Stated) × (slice_get new i ≡ Some span) × (span.pair ≡ (a, b))) ⊎ IsDistinct st x y
@@ -172,7 +172,7 @@ stated_push st e symbols spans new all are kind news =
                     has.pair,
                     omega arith,
                     subst (λ n. IsActive (take (n + 1) (st ++ e ∷ [])) has.span.place) (sym last)
-                    (subst (λ ys. IsActive ys has.span.place) (sym pushed) (active_stays st e has.span.place (stays_distinct e kind) (subst (λ ys. IsActive ys has.span.place) whole has.active))),
+                        (subst (λ ys. IsActive ys has.span.place) (sym pushed) (active_stays st e has.span.place (stays_distinct e kind) (subst (λ ys. IsActive ys has.span.place) whole has.active))),
                   )
             ]
       ];
@@ -196,8 +196,7 @@ stated_push st e symbols spans new all are kind news =
         let stated = are.only i older at_i in
         let within = slice_get_within st older.place stated.0 stated.1 in
         let whole : take (length st) st ≡ st = take-length st in
-        let front : take newer.place (st ++ e ∷ []) ≡ st = ap (λ n. take n (st ++ e ∷ [])) place ∙ take-append-le (length st) st (e ∷ []) (omega arith) ∙ whole in
-        (
+        let front : take newer.place (st ++ e ∷ []) ≡ st = ap (λ n. take n (st ++ e ∷ [])) place ∙ take-append-le (length st) st (e ∷ []) (omega arith) ∙ whole in (
           omega arith,
           λ active. apart (subst (λ ys. IsDistinct ys x y) whole (span_distinct st symbols spans newer.pair.0 newer.pair.1 (length st) x y all are at_x at_y lt
               (record { i = i; span = older; there = at_i; pair = same; before = within; active = subst (λ ys. IsActive ys older.place) (sym whole) (subst (λ ys. IsActive ys older.place) front active) }))),

@@ -29,12 +29,18 @@ empty_tables t e1 e2 e3 e4 e5 e6 scopes e7 e8 e9 =
     let n : AreEntries t.symbols.names t.labels.names t.flat.items t.log.items = rw (e1, e3, e5, e6) entries_empty in
     let h : HaveScopes (statements_of t) t.scopes = rw none scopes in
     let s : AreEssentials (statements_of t) t.essentials.items = rw (none, e7) essentials_none in
-    let d : AreStated (statements_of t) t.symbols.names t.distinct.stated = rw (none, e8) (stated_empty t.symbols.names) in
-    (record {
+    let d : AreStated (statements_of t) t.symbols.names t.distinct.stated = rw (none, e8) (stated_empty t.symbols.names) in (
+      record {
         sound = rw none (allmeant_none, allformed_none);
         counted = rw (e5, e6) (omega arith);
         small = omega (arith, e9);
-        infos = i; labels = l; entries = n; scopes = h; essentials = s;
+        infos = i;
+        labels = l;
+        entries = n;
+        scopes = h;
+        essentials = s;
         frames = λ id info x there at kind. absurd (let bad = rw e4 at there in cc);
         stated = d;
-    }, rw (none, e9) refl)
+      },
+      rw (none, e9) refl,
+    )

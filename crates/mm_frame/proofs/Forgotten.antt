@@ -28,6 +28,7 @@ dropped_more st before mid after (Some p) dropped parted last = record {
   where
     size : length mid ≡ suc (length after)
     size = ap length parted ∙ length_pushed after p
+
     more : (gone : List ℕ) → ((i q : ℕ) → slice_get gone i ≡ Some q → ¬ (IsActive st q)) → (i q : ℕ) → slice_get (p ∷ gone) i ≡ Some q → ¬ (IsActive st q)
     more gone none zero q there =
         let is : p ≡ q = cc in

@@ -27,22 +27,33 @@ mandatory_gathered st essentials s p h meant last stated are there =
     let places = mandatory_places st s p h meant last stated there in (
       (λ mandatory. elim (places.0 mandatory) [
         | inl (essential, active) ↦ inl (are.each p h there essential active)
-        | inr (x, (variable, stands), latest) ↦ inr (x, elim stands [
-          | inl in_it ↦ inl in_it
-          | inr (q, e, at, active, (kind, in_e)) ↦ inr (q, e, are.each q e at kind active, at, in_e)
-        ], latest)
+        | inr (x, (variable, stands), latest) ↦ inr (
+          x,
+          elim stands [
+            | inl in_it ↦ inl in_it
+            | inr (q, e, at, active, (kind, in_e)) ↦ inr (q, e, are.each q e at kind active, at, in_e)
+          ],
+          latest,
+        )
       ]),
       (λ gathered. elim gathered [
         | inl (i, at) ↦
             let (e, at_p, kind, active) = are.only i p at in
             places.1 (inl (ap (λ (t : Sentence). t.kind) (same_at st p h e there at_p) ∙ kind, active))
-        | inr (x, stands, latest) ↦ places.1 (inr (x, (latest_is_variable st x p meant latest, elim stands [
-          | inl in_it ↦ inl in_it
-          | inr (q, e, (i, at), at_q, in_e) ↦
-              let (d, at_d, kind, active) = are.only i q at in
-              let same = same_at st q e d at_q at_d in
-              inr (q, e, at_q, active, (ap (λ (t : Sentence). t.kind) same ∙ kind, in_e))
-        ]), latest))
+        | inr (x, stands, latest) ↦ places.1 (inr (
+          x,
+          (
+            latest_is_variable st x p meant latest,
+            elim stands [
+              | inl in_it ↦ inl in_it
+              | inr (q, e, (i, at), at_q, in_e) ↦
+                  let (d, at_d, kind, active) = are.only i q at in
+                  let same = same_at st q e d at_q at_d in
+                  inr (q, e, at_q, active, (ap (λ (t : Sentence). t.kind) same ∙ kind, in_e))
+            ],
+          ),
+          latest,
+        ))
       ]),
     )
 

@@ -28,7 +28,7 @@ pub floatings_some : (infos : List SymbolInfo) (xs : List Sym) (i : ℕ) (d : Sy
     → now ++ p ∷ [] ≡ old ++ floatings infos (take (i + 1) xs)
 floatings_some infos xs i d p old now lt is so_far =
     let more : floatings infos (take (i + 1) xs) ≡ floatings infos (take i xs) ++ floatings infos (get_or xs i d ∷ []) =
-          ap (floatings infos) (take_more xs i d lt) ∙ filter_map-append (floating_of infos) (take i xs) (get_or xs i d ∷ []) in
+    ap (floatings infos) (take_more xs i d lt) ∙ filter_map-append (floating_of infos) (take i xs) (get_or xs i d ∷ []) in
     let one : floatings infos (get_or xs i d ∷ []) ≡ p ∷ [] = ap (λ o. cons_option o []) is in
     ap (λ ys. ys ++ p ∷ []) so_far ∙ (rw append_assoc) ∙ ap (λ ys. old ++ ys) (sym (more ∙ ap (λ ys. floatings infos (take i xs) ++ ys) one))
 
@@ -36,7 +36,7 @@ pub floatings_none : (infos : List SymbolInfo) (xs : List Sym) (i : ℕ) (d : Sy
     → now ≡ old ++ floatings infos (take (i + 1) xs)
 floatings_none infos xs i d old now lt is so_far =
     let more : floatings infos (take (i + 1) xs) ≡ floatings infos (take i xs) ++ floatings infos (get_or xs i d ∷ []) =
-          ap (floatings infos) (take_more xs i d lt) ∙ filter_map-append (floating_of infos) (take i xs) (get_or xs i d ∷ []) in
+    ap (floatings infos) (take_more xs i d lt) ∙ filter_map-append (floating_of infos) (take i xs) (get_or xs i d ∷ []) in
     let one : floatings infos (get_or xs i d ∷ []) ≡ [] = ap (λ o. cons_option o []) is in
     so_far ∙ ap (λ ys. old ++ ys) (sym (more ∙ ap (λ ys. floatings infos (take i xs) ++ ys) one ∙ append-nil (floatings infos (take i xs))))
 
@@ -158,9 +158,9 @@ pub gathered_more : (st : List Sentence) (names : List (List ℕ)) (infos : List
     → AreNumbers st (map (λ n. n.0) ns) h.symbols → AreGathered st es s places → AreGathered st (es ++ q ∷ []) s ((places ++ q ∷ []) ++ floatings infos ns)
 gathered_more st names infos es q h s ns places are at_q numbers gathered =
     let widen : (x : List ℕ) → StandsIn st es s x → StandsIn st (es ++ q ∷ []) s x = λ x stands. elim stands [
-          | inl in_it ↦ inl in_it
-          | inr (k, e, at, there, in_e) ↦ inr (k, e, in_left es (q ∷ []) k at, there, in_e)
-        ] in
+      | inl in_it ↦ inl in_it
+      | inr (k, e, at, there, in_e) ↦ inr (k, e, in_left es (q ∷ []) k at, there, in_e)
+    ] in
     let tell = λ (p : ℕ). floatings_tell st names infos ns h.symbols p are numbers in
     record {
       only = λ i p there. elim (append_cases (places ++ q ∷ []) (floatings infos ns) i p there) [

@@ -52,14 +52,14 @@ latest_replaced P st e d None there back none = λ (p, s, at, holds). elim (push
 ]
 latest_replaced P st e d (Some p) there back latest = elim (pushed_cases st e p latest.statement latest.there) [
   | inl before ↦ record {
-        statement = latest.statement;
-        there = get_kept st (d ∷ []) p latest.statement before;
-        holds = latest.holds;
-        last = λ k s after at holds. elim (pushed_cases st d k s at) [
-          | inl k_before ↦ latest.last k s after (get_kept st (e ∷ []) k s k_before) holds
-          | inr (last, same) ↦ latest.last k e after (subst (λ n. slice_get (st ++ e ∷ []) n ≡ Some e) (sym last) (get_pushed st e)) (back (subst P (sym same) holds))
-        ];
-      }
+    statement = latest.statement;
+    there = get_kept st (d ∷ []) p latest.statement before;
+    holds = latest.holds;
+    last = λ k s after at holds. elim (pushed_cases st d k s at) [
+      | inl k_before ↦ latest.last k s after (get_kept st (e ∷ []) k s k_before) holds
+      | inr (last, same) ↦ latest.last k e after (subst (λ n. slice_get (st ++ e ∷ []) n ≡ Some e) (sym last) (get_pushed st e)) (back (subst P (sym same) holds))
+    ];
+  }
   | inr (at_end, same) ↦ subst (λ n. IsLatest P (st ++ d ∷ []) n) (sym at_end) (latest_new P st d (there (subst P (sym same) latest.holds)))
 ]
 
@@ -220,7 +220,7 @@ infos_fresh st kind symbols xs infos x v meant which are unknown latest =
     let absent : ¬ (At symbols x) = λ at. unknown (contains_from_at symbols x at) in
     let absent_before : ¬ (At (symbols_of (st ++ e ∷ [])) x) = λ (i, at). absent (i, subst (λ names. slice_get names i ≡ Some x) (sym are.all) at) in
     let all : symbols ++ x ∷ [] ≡ symbols_of (st ++ d ∷ []) =
-          ap (λ names. names ++ x ∷ []) are.all ∙ sym (names_more st kind xs x which ∙ fresh_name (symbols_of (st ++ e ∷ [])) x absent_before) in
+    ap (λ names. names ++ x ∷ []) are.all ∙ sym (names_more st kind xs x which ∙ fresh_name (symbols_of (st ++ e ∷ [])) x absent_before) in
     record {
       all = all;
       informed = length_pushed infos new ∙ ap suc informed ∙ sym (length_pushed symbols x);

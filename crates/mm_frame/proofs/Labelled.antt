@@ -12,7 +12,6 @@ use Rattle.mm_frame.proofs.Pushed.{get_kept, get_pushed, get_before, get_in_fron
 use Rattle.mm_frame.proofs.Actives.{fronts}
 use Rattle.mm_frame.proofs.Meant.{parts_at, get_parted}
 
-
 pub labelled_append : (st more : List Sentence) → labelled (st ++ more) ≡ labelled st ++ labelled more
 labelled_append st more = filter-append (λ (s : Sentence). is_some s.label) st more
 
@@ -68,10 +67,10 @@ numbered_last st e named = record {
 pub numbered_rise : (st : List Sentence) (i j p q : ℕ) (s t : Sentence) → IsNumbered st i p s → IsNumbered st j q t → p < q → i < j
 numbered_rise st i j p q s t first second lt =
     let front : IsNumbered (take q st) i p s = record {
-          there = get_in_front st q p s lt first.there;
-          named = first.named;
-          number = subst (λ ys. length (labelled ys) ≡ i) (sym (fronts st p q (omega arith))) first.number;
-        } in
+      there = get_in_front st q p s lt first.there;
+      named = first.named;
+      number = subst (λ ys. length (labelled ys) ≡ i) (sym (fronts st p q (omega arith))) first.number;
+    } in
     let h = numbered_within (take q st) i p s front in
     let number = second.number in
     omega arith
@@ -82,10 +81,10 @@ numbered_unique st id p q s t first second =
     let one = numbered_get st id p s first in
     let other = numbered_get st id q t second in
     let place : p ≡ q = elim (cases_order p q) [
-          | inl same ↦ same
-          | inr (inl lt) ↦ absurd (let h = numbered_rise st id id p q s t first second lt in omega arith)
-          | inr (inr gt) ↦ absurd (let h = numbered_rise st id id q p t s second first gt in omega arith)
-        ] in
+      | inl same ↦ same
+      | inr (inl lt) ↦ absurd (let h = numbered_rise st id id p q s t first second lt in omega arith)
+      | inr (inr gt) ↦ absurd (let h = numbered_rise st id id q p t s second first gt in omega arith)
+    ] in
     (place, cc)
 
 -- each labelled statement has a number

@@ -62,8 +62,10 @@ active_symbol st x meant = (to, from)
     to : IsActiveSymbol st x → IsConstant st x ⊎ SomeActive st (Declares Variables x)
     to (p, s, there, active, inl c) = inl (p, s, there, c)
     to (p, s, there, active, inr v) = inr (p, s, there, active, v)
+
     from_constant : SomeActive st (Declares Constants x) → IsActiveSymbol st x
     from_constant (p, s, there, active, c) = (p, s, there, active, inl c)
+
     from : IsConstant st x ⊎ SomeActive st (Declares Variables x) → IsActiveSymbol st x
     from (inl c) = from_constant (constant_active st x meant c)
     from (inr (p, s, there, active, v)) = (p, s, there, active, inr v)
@@ -88,6 +90,7 @@ label_number st labels label all = (to, from)
         let (l, at, same) = get_unmapped (λ (l : List ℕ). Some l) labels n (Some label) other in
         let is : l ≡ label = cc in
         contains_from_at labels label (n, subst (λ (x : List ℕ). slice_get labels n ≡ Some x) is at)
+
     from : Contains labels label → SomeSentence st (IsLabelled label)
     from c =
         let (n, at) = at_from_contains labels label c in
@@ -111,9 +114,10 @@ turned h = (h.1, h.0)
 -- the latest type code says whether a `$f` gave another
 pub other_code : (st : List Sentence) (x code latest : List ℕ) (r : Bool) → AllMeant st → SomeSentence st (Types latest x) → (IsTrue r ↔ (latest ≢ code))
     → IsTrue r ↔ SomeSentence st (λ f. (other : List ℕ) × Types other x f × (other ≢ code))
-other_code st x code latest r meant (p, f, there, types) h =
-    ((λ t. (p, f, there, (latest, types, h.0 t))),
-     (λ (k, g, there', (other, types', apart)). h.1 (λ same. apart (one_code st x other latest k p g f meant there' there types' types ∙ same))))
+other_code st x code latest r meant (p, f, there, types) h = (
+  (λ t. (p, f, there, (latest, types, h.0 t))),
+  (λ (k, g, there', (other, types', apart)). h.1 (λ same. apart (one_code st x other latest k p g f meant there' there types' types ∙ same))),
+)
 
 -- what is looked up under a symbol's number is known of it
 pub known_match : (st : List Sentence) (names : List (List ℕ)) (infos : List SymbolInfo) (x : List ℕ) (n : ℕ) (o : Option SymbolInfo) → AreInfos st names infos

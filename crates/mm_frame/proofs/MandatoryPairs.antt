@@ -131,14 +131,14 @@ variables_step st s places i (Some n) variables meant are lt says so_far =
     let (f, there) = get_within st p (are.within i p at_i) in
     let (code, x, types, number) = says f there in
     let new : (j : ℕ) (m : Sym) → slice_get variables j ≡ Some m → ¬ (m.0 ≡ n.0) = λ j m at same.
-        let typed = so_far.only j m at in
-        let at_k = get_from_front places i typed.k typed.place typed.in_places in
-        let before = slice_get_within (take i places) typed.k typed.place typed.in_places in
-        let size = length-take-le i places (omega arith) in
-        let name = one_name st m.0 n.0 typed.variable x typed.number number same in
-        let place = one_type st s places typed.k i typed.place p typed.floating f typed.code code x meant are at_k at_i typed.there there (subst (λ y. Types typed.code y typed.floating) name typed.types) types in
-        let below = are.rising typed.k i typed.place p at_k at_i (omega arith) in
-        omega arith in
+    let typed = so_far.only j m at in
+    let at_k = get_from_front places i typed.k typed.place typed.in_places in
+    let before = slice_get_within (take i places) typed.k typed.place typed.in_places in
+    let size = length-take-le i places (omega arith) in
+    let name = one_name st m.0 n.0 typed.variable x typed.number number same in
+    let place = one_type st s places typed.k i typed.place p typed.floating f typed.code code x meant are at_k at_i typed.there there (subst (λ y. Types typed.code y typed.floating) name typed.types) types in
+    let below = are.rising typed.k i typed.place p at_k at_i (omega arith) in
+    omega arith in
     subst (λ ys. AreVariables st ys (variables ++ n ∷ [])) (sym (take_more places i 0 lt)) (variables_more st (take i places) p f code x n variables there types number new so_far)
 
 -- ---- pairs
@@ -194,14 +194,14 @@ found_more st places variables i count a b pairs are at_a at_b lt_i apart_ab fou
         let (j, k, at_j, at_k, lt, reached, apart) = found.only m pair before in
         (j, k, at_j, at_k, lt, elim reached [ inl below ↦ inl below | inr (same, below) ↦ inr (same, omega arith) ], apart)
     | inr (last, same) ↦ (
-          count,
-          i,
-          at_a ∙ ap (λ (p : Sym × Sym). Some p.0) same,
-          at_b ∙ ap (λ (p : Sym × Sym). Some p.1) same,
-          lt_i,
-          inr (refl, omega arith),
-          subst (λ (p : Sym × Sym). AreApart st p.0 p.1) same apart_ab,
-        )
+      count,
+      i,
+      at_a ∙ ap (λ (p : Sym × Sym). Some p.0) same,
+      at_b ∙ ap (λ (p : Sym × Sym). Some p.1) same,
+      lt_i,
+      inr (refl, omega arith),
+      subst (λ (p : Sym × Sym). AreApart st p.0 p.1) same apart_ab,
+    )
   ];
   each = λ j k c d at_j at_k lt reached apart. elim reached [
     | inl below ↦ let (m, there) = found.each j k c d at_j at_k lt (inl below) apart in (m, get_kept pairs ((a, b) ∷ []) m (c, d) there)
@@ -291,8 +291,7 @@ pairs_from_found st s more places variables n pairs meant last stated are vars s
           let x_is = variable_mandatory st s places q.0 x are (vars.only j q.0 at_j) number_x in
           let y_is = variable_mandatory st s places q.1 y are (vars.only k q.1 at_k) number_y in
           let first : q.0.0 ≡ pair.0 = ap (λ (r : ℕ × ℕ). r.0) (sym same) in
-          let second : q.1.0 ≡ pair.1 = ap (λ (r : ℕ × ℕ). r.1) (sym same) in
-          (
+          let second : q.1.0 ≡ pair.1 = ap (λ (r : ℕ × ℕ). r.1) (sym same) in (
             x,
             y,
             symbols_grow st (s ∷ more) pair.0 x (subst (IsNumberOf st x) first number_x),

@@ -137,12 +137,16 @@ constant_active st x meant (p, s, there, declares) = (
   there,
   record {
     within = slice_get_within st p s there;
-    kept = λ outer (before, still). absurd (meant_at st p s meant there M1 (declares.0, outer, record {
-      opening = still.opening;
-      there = get_in_front st p outer still.opening before (get_from_front st (suc p) outer still.opening still.there);
-      opened = still.opened;
-      unclosed = unclosed_shorter st p (suc p) (suc outer) (omega arith) still.unclosed;
-    }));
+    kept = λ outer (before, still). absurd (meant_at st p s meant there M1 (
+      declares.0,
+      outer,
+      record {
+        opening = still.opening;
+        there = get_in_front st p outer still.opening before (get_from_front st (suc p) outer still.opening still.there);
+        opened = still.opened;
+        unclosed = unclosed_shorter st p (suc p) (suc outer) (omega arith) still.unclosed;
+      },
+    ));
   },
   declares,
 )

@@ -53,9 +53,11 @@ place_of_name {X} f name xs o is = by (cases_lt (name_len f name xs) (length xs)
     at : (o : Option ℕ) → Some (name_len f name xs) ≡ o → slice_get (map f xs) (name_len f name xs) ≡ Some name → MatchOption o (¬ (Contains (map f xs) name)) (λ n. slice_get (map f xs) n ≡ Some name)
     at None e h = absurd (cc)
     at (Some n) e h = let same : name_len f name xs ≡ n = cc in subst (λ (k : ℕ). slice_get (map f xs) k ≡ Some name) same h
+
     none : (o : Option ℕ) → None ≡ o → ¬ (name_len f name xs < length xs) → MatchOption o (¬ (Contains (map f xs) name)) (λ n. slice_get (map f xs) n ≡ Some name)
     none None e h = λ c. h (some_name f name xs c.0 (slice_get_read (map f xs) (length (map f xs)) c.0 name refl c.1 (sym c.2)))
     none (Some n) e h = absurd (cc)
+
     by : (name_len f name xs < length xs) ⊎ (length xs ≤ name_len f name xs) → (o : Option ℕ) → position (λ x. bytes_eq name (f x)) xs ≡ o
         → MatchOption o (¬ (Contains (map f xs) name)) (λ n. slice_get (map f xs) n ≡ Some name)
     by (inl lt) o is = at o (rw (lt-ltb _ _ lt) at is) (found_name f name xs lt)

@@ -30,9 +30,9 @@ open_last st e kind = record {
 
 opened_last : (st : List Sentence) (e : Sentence) (p : ℕ) → IsOpen (st ++ e ∷ []) p → ¬ (p < length st) → (e.kind ≡ Opening) × (p ≡ length st)
 opened_last st e p still past = elim (pushed_cases st e p still.opening still.there) [
-    | inl before ↦ absurd (past (slice_get_within st p still.opening before))
-    | inr (last, same) ↦ (ap (λ s. s.kind) same ∙ still.opened, last)
-  ]
+  | inl before ↦ absurd (past (slice_get_within st p still.opening before))
+  | inr (last, same) ↦ (ap (λ s. s.kind) same ∙ still.opened, last)
+]
 
 pub opening_law : (st : List Sentence) (e : Sentence) (p : ℕ) → ¬ (e.kind ≡ Closing)
     → (IsOpen (st ++ e ∷ []) p ↔ (IsOpen st p ⊎ ((e.kind ≡ Opening) × (p ≡ length st))))
@@ -58,7 +58,7 @@ get_dropped (suc n) (y ∷ xs) k x there =
 -- the two parts of a list at an element of it
 part_counts : (st : List Sentence) (m : ℕ) (x : Sentence) → slice_get st m ≡ Some x
     → (openings st ≡ openings (take m st) + (openings (x ∷ []) + openings (drop (suc m) st)))
-      × (closings st ≡ closings (take m st) + (closings (x ∷ []) + closings (drop (suc m) st)))
+    × (closings st ≡ closings (take m st) + (closings (x ∷ []) + closings (drop (suc m) st)))
 part_counts [] m x there = absurd (cc)
 part_counts (y ∷ st) zero x there =
     let same : y ≡ x = cc in
@@ -129,11 +129,13 @@ closing_law st e p m kind innermost = (
   (λ still. elim (cases_lt p (length st)) [
     | inl lt ↦
         let before = open_before st e p still lt in
-        let le = innermost.last p before in
-        (before, elim (cases_lt p m) [
-          | inl less ↦ less
-          | inr ge ↦ absurd (innermost_closed st e m kind innermost (let same : p ≡ m = omega arith in subst (λ q. IsOpen (st ++ e ∷ []) q) same still))
-        ])
+        let le = innermost.last p before in (
+          before,
+          elim (cases_lt p m) [
+            | inl less ↦ less
+            | inr ge ↦ absurd (innermost_closed st e m kind innermost (let same : p ≡ m = omega arith in subst (λ q. IsOpen (st ++ e ∷ []) q) same still))
+          ],
+        )
     | inr ge ↦ absurd (let opens = (opened_last st e p still (λ lt. omega arith)).0 in let k = kind in cc)
   ]),
   (λ (before, lt). kept before lt),
@@ -162,18 +164,21 @@ holds_less st e p outer lt (before, still) = (before, subst (λ ys. IsOpen ys ou
 
 -- an open block holds what comes after its `${`
 holds_open : (st : List Sentence) (p outer : ℕ) → outer < p → IsOpen st outer → Holds st outer p
-holds_open st p outer lt still = (lt, record {
-  opening = still.opening;
-  there = get_in_front st (suc p) outer still.opening (omega arith) still.there;
-  opened = still.opened;
-  unclosed = unclosed_front st (suc p) (suc outer) still.unclosed;
-})
+holds_open st p outer lt still = (
+  lt,
+  record {
+    opening = still.opening;
+    there = get_in_front st (suc p) outer still.opening (omega arith) still.there;
+    opened = still.opened;
+    unclosed = unclosed_front st (suc p) (suc outer) still.unclosed;
+  },
+)
 
 active_kept : (st : List Sentence) (e : Sentence) (p : ℕ) → IsActive (st ++ e ∷ []) p → IsActive st p ⊎ (p ≡ length st)
 active_kept st e p active = elim (cases_lt p (length st)) [
-    | inl lt ↦ inl (active_falls st (e ∷ []) p lt active)
-    | inr ge ↦ inr (let h = length_pushed st e in let lt = active.within in omega arith)
-  ]
+  | inl lt ↦ inl (active_falls st (e ∷ []) p lt active)
+  | inr ge ↦ inr (let h = length_pushed st e in let lt = active.within in omega arith)
+]
 
 active_again : (st : List Sentence) (e : Sentence) (p : ℕ) → p ≡ length st → IsActive (st ++ e ∷ []) p
 active_again st e p last = subst (λ q. IsActive (st ++ e ∷ []) q) (sym last) (active_last st e)
@@ -188,24 +193,31 @@ active_closed st e p m kind innermost active le = record {
 
 pub active_statements_hold : ActiveStatements
 active_statements_hold st e p = (
-  (λ other. ((λ active. active_kept st e p active), (λ either. elim either [
-    | inl active ↦ active_stays st e p other active
-    | inr last ↦ active_again st e p last
-  ]))),
-  (λ m kind innermost. ((λ active. elim (active_kept st e p active) [
+  (λ other. (
+    (λ active. active_kept st e p active),
+    (λ either. elim either [
+      | inl active ↦ active_stays st e p other active
+      | inr last ↦ active_again st e p last
+    ]),
+  )),
+  (λ m kind innermost. (
+    (λ active. elim (active_kept st e p active) [
       | inl before ↦ inl (before, up_to m kind innermost active before)
       | inr last ↦ inr last
-    ]), (λ either. elim either [
+    ]),
+    (λ either. elim either [
       | inl (active, le) ↦ active_closed st e p m kind innermost active le
       | inr last ↦ active_again st e p last
-    ]))),
+    ]),
+  )),
 )
   where
     holds_more : (st : List Sentence) (e : Sentence) (p outer : ℕ) → p < length st → Holds st outer p → Holds (st ++ e ∷ []) outer p
     holds_more st e p outer lt (before, still) = (before, subst (λ ys. IsOpen ys outer) (sym (take-append-le (suc p) st (e ∷ []) (omega arith))) still)
+
     up_to : (m : ℕ) → e.kind ≡ Closing → IsInnermost st m → IsActive (st ++ e ∷ []) p → IsActive st p → p ≤ m
     up_to m kind innermost active before = elim (cases_lt m p) [
-        | inl lt ↦ absurd (innermost_closed st e m kind innermost (active.kept m
-            (holds_more st e p m before.within (holds_open st p m lt innermost.still))))
-        | inr ge ↦ omega arith
-      ]
+      | inl lt ↦ absurd (innermost_closed st e m kind innermost (active.kept m
+          (holds_more st e p m before.within (holds_open st p m lt innermost.still))))
+      | inr ge ↦ omega arith
+    ]

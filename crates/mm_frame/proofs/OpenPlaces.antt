@@ -45,27 +45,28 @@ open_more st e places other kind a = record {
           contains_from_at (places ++ length st ∷ []) p (length places, get_pushed places (length st) ∙ ap (λ m. Some m) (sym last))
     ]),
     (λ among.
-      let (i, at) = at_from_contains (places ++ length st ∷ []) p among in
-      (opening_law st e p other).1 (elim (pushed_cases places (length st) i p at) [
-        | inl before ↦ inl ((a.each p).1 (contains_from_at places p (i, before)))
-        | inr (last, same) ↦ inr (kind, sym same)
-      ])),
+        let (i, at) = at_from_contains (places ++ length st ∷ []) p among in
+        (opening_law st e p other).1 (elim (pushed_cases places (length st) i p at) [
+          | inl before ↦ inl ((a.each p).1 (contains_from_at places p (i, before)))
+          | inr (last, same) ↦ inr (kind, sym same)
+        ])),
   );
 }
   where
     within : (i p : ℕ) → slice_get places i ≡ Some p → p < length st
     within i p at = let still = (a.each p).1 (contains_from_at places p (i, at)) in slice_get_within st p still.opening still.there
+
     rise : (i j p q : ℕ) → slice_get (places ++ length st ∷ []) i ≡ Some p → slice_get (places ++ length st ∷ []) j ≡ Some q → i < j → p < q
     rise i j p q at_i at_j lt = elim (pushed_cases places (length st) i p at_i) [
-        | inl one ↦ elim (pushed_cases places (length st) j q at_j) [
-          | inl other ↦ a.rising i j p q one other lt
-          | inr (last, same) ↦ let h = within i p one in omega arith
-        ]
-        | inr (last, same) ↦ elim (pushed_cases places (length st) j q at_j) [
-          | inl other ↦ let h = slice_get_within places j q other in absurd (omega arith)
-          | inr (end, again) ↦ absurd (omega arith)
-        ]
+      | inl one ↦ elim (pushed_cases places (length st) j q at_j) [
+        | inl other ↦ a.rising i j p q one other lt
+        | inr (last, same) ↦ let h = within i p one in omega arith
       ]
+      | inr (last, same) ↦ elim (pushed_cases places (length st) j q at_j) [
+        | inl other ↦ let h = slice_get_within places j q other in absurd (omega arith)
+        | inr (end, again) ↦ absurd (omega arith)
+      ]
+    ]
 
 -- the last of the places is that of the innermost block
 last_innermost : (st : List Sentence) (places : List ℕ) (k m : ℕ) → length places ≡ suc k → slice_get places k ≡ Some m → AreOpen st places → IsInnermost st m
@@ -87,29 +88,29 @@ open_fewer st e places k m kind size at a =
       rising = λ i j p q at_i at_j lt. a.rising i j p q (get_from_front places k i p at_i) (get_from_front places k j q at_j) lt;
       each = λ p. (
         (λ still.
-          let (before, lt) = (closing_law st e p m kind innermost).0 still in
-          let (i, at_i) = at_from_contains places p ((a.each p).0 before) in
-          contains_from_at (take k places) p (i, get_in_front places k i p (earlier i p at_i lt) at_i)),
+            let (before, lt) = (closing_law st e p m kind innermost).0 still in
+            let (i, at_i) = at_from_contains places p ((a.each p).0 before) in
+            contains_from_at (take k places) p (i, get_in_front places k i p (earlier i p at_i lt) at_i)),
         (λ among.
-          let (i, at_i) = at_from_contains (take k places) p among in
-          let there = get_from_front places k i p at_i in
-          let lt = slice_get_within (take k places) i p at_i in
-          let few = length-take-le k places (omega arith) in
-          let less = a.rising i k p m there at (omega arith) in
-          (closing_law st e p m kind innermost).1 ((a.each p).1 (contains_from_at places p (i, there)), less)),
+            let (i, at_i) = at_from_contains (take k places) p among in
+            let there = get_from_front places k i p at_i in
+            let lt = slice_get_within (take k places) i p at_i in
+            let few = length-take-le k places (omega arith) in
+            let less = a.rising i k p m there at (omega arith) in
+            (closing_law st e p m kind innermost).1 ((a.each p).1 (contains_from_at places p (i, there)), less)),
       );
     }
   where
     earlier : (i p : ℕ) → slice_get places i ≡ Some p → p < m → i < k
     earlier i p at_i lt = elim (cases_lt i k) [
-        | inl less ↦ less
-        | inr ge ↦
-            let h = slice_get_within places i p at_i in
-            let same : i ≡ k = omega arith in
-            let e : slice_get places k ≡ Some p = subst (λ j. slice_get places j ≡ Some p) same at_i in
-            let eq : p ≡ m = cc in
-            absurd (omega arith)
-      ]
+      | inl less ↦ less
+      | inr ge ↦
+          let h = slice_get_within places i p at_i in
+          let same : i ≡ k = omega arith in
+          let e : slice_get places k ≡ Some p = subst (λ j. slice_get places j ≡ Some p) same at_i in
+          let eq : p ≡ m = cc in
+          absurd (omega arith)
+    ]
 
 counted_push : (st : List Sentence) (e : Sentence) → closings (st ++ e ∷ []) ≤ openings (st ++ e ∷ []) → Counted st → Counted (st ++ e ∷ [])
 counted_push st e le (places, a, count) =
@@ -136,10 +137,14 @@ counted_push st e le (places, a, count) =
     ]
 
 none_open : Counted []
-none_open = ([], record {
-  rising = λ i j p q at_i at_j lt. absurd (cc);
-  each = λ p. ((λ still. absurd (let there = still.there in cc)), (λ among. absurd (let at = (at_from_contains [] p among).1 in cc)));
-}, omega arith)
+none_open = (
+  [],
+  record {
+    rising = λ i j p q at_i at_j lt. absurd (cc);
+    each = λ p. ((λ still. absurd (let there = still.there in cc)), (λ among. absurd (let at = (at_from_contains [] p among).1 in cc)));
+  },
+  omega arith,
+)
 
 counted_front : (st : List Sentence) → ((n : ℕ) → closings (take n st) ≤ openings (take n st)) → (n : ℕ) → n ≤ length st → Counted (take n st)
 counted_front st enough zero le = none_open

@@ -55,6 +55,7 @@ new_name tokens i d names None r lt are is not_so h =
 pub twice_told : (tokens : List Token) (r : Bool) → (IsTrue r ↔ ((x : List ℕ) × StandsTwice (texts_of tokens) x))
     → IsTrue r ↔ ((x : List ℕ) × Contains (map (λ t. t.text) (map plain_token tokens)) x × StandsTwice (map (λ t. t.text) (map plain_token tokens)) x)
 twice_told tokens r h =
-    let Q : List (List ℕ) → Type 0 = λ xs. (x : List ℕ) × Contains xs x × StandsTwice xs x in
-    ((λ t. let (x, twice) = h.0 t in subst Q (sym (texts tokens)) (x, contains_from_at (texts_of tokens) x (twice.i, twice.at_i), twice)),
-     (λ q. let (x, there, twice) = subst Q (texts tokens) q in h.1 (x, twice)))
+    let Q : List (List ℕ) → Type 0 = λ xs. (x : List ℕ) × Contains xs x × StandsTwice xs x in (
+      (λ t. let (x, twice) = h.0 t in subst Q (sym (texts tokens)) (x, contains_from_at (texts_of tokens) x (twice.i, twice.at_i), twice)),
+      (λ q. let (x, there, twice) = subst Q (texts tokens) q in h.1 (x, twice)),
+    )

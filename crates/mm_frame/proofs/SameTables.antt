@@ -19,9 +19,17 @@ same_tables t u a s =
     let d : AreStated (statements_of u) u.symbols.names u.distinct.stated = rw (st, s.symbols, s.stated) a.stated in
     let sound : IsSound (statements_of u) = rw st a.sound in
     record {
-        tables = record {
-            sound = sound; counted = rw (s.log, s.flat, s.bytes) a.counted; small = rw s.bytes a.small;
-            infos = i; labels = l; entries = n; scopes = h; essentials = e; frames = f; stated = d;
-        };
-        same = rw (st, s.bytes) refl;
+      tables = record {
+        sound = sound;
+        counted = rw (s.log, s.flat, s.bytes) a.counted;
+        small = rw s.bytes a.small;
+        infos = i;
+        labels = l;
+        entries = n;
+        scopes = h;
+        essentials = e;
+        frames = f;
+        stated = d;
+      };
+      same = rw (st, s.bytes) refl;
     }

@@ -188,12 +188,12 @@ scopes_ordinary never xs e blocks ends stack k top a size last not_opening not_c
     let within = start_within never xs blocks ends stack a in
     let balance : openings (e ∷ []) + length stack ≡ closings (e ∷ []) + length stack = omega arith in
     let grown : (k b : ℕ) → slice_get stack k ≡ Some b → IsOnStack (xs ++ e ∷ []) a.starts stack k b = λ k b there.
-        let h = a.on_stack k b there in
-        on_stack_grown xs e a.starts a.starts stack stack k b h (within b h.start h.there) same balance (slice_get_within stack k b there) in
+    let h = a.on_stack k b there in
+    on_stack_grown xs e a.starts a.starts stack stack k b h (within b h.start h.there) same balance (slice_get_within stack k b there) in
     let earlier : (outer : ℕ) → IsOpen (xs ++ e ∷ []) outer → IsOpen xs outer = λ outer still. elim (cases_lt outer (length xs)) [
-          | inl lt ↦ open_before xs e outer still lt
-          | inr ge ↦ absurd (apart_kinds (is_opening e.kind) not_opening (ap is_opening (opened_last xs e outer still (λ lt. omega arith)).1))
-        ] in
+      | inl lt ↦ open_before xs e outer still lt
+      | inr ge ↦ absurd (apart_kinds (is_opening e.kind) not_opening (ap is_opening (opened_last xs e outer still (λ lt. omega arith)).1))
+    ] in
     let holder = grown k top last in
     record {
       starts = a.starts;
@@ -210,8 +210,8 @@ scopes_ordinary never xs e blocks ends stack k top a size last not_opening not_c
       holders = holders_grown xs e a.starts a.starts blocks top a.held same a.holders
           (holder_new xs e a.starts top holder.start holder.there (within top holder.start holder.there) holder.unclosed
           (λ outer before still.
-              let (j, b, on, begins) = a.complete outer (earlier outer still) in
-              innermost a.starts stack k top holder.start j b outer a.rising a.stacked size last holder.there on begins));
+          let (j, b, on, begins) = a.complete outer (earlier outer still) in
+          innermost a.starts stack k top holder.start j b outer a.rising a.stacked size last holder.there on begins));
     }
 
 -- the elements of a list and one more rise, where the one more is above all
@@ -276,9 +276,9 @@ scopes_opening never xs e blocks ends stack k top a size last opens =
     let new_start : slice_get starts (length ends) ≡ Some (suc n) = subst (λ i. slice_get starts i ≡ Some (suc n)) (sym sized) (get_pushed a.starts (suc n)) in
     let balance : openings (e ∷ []) + length stack ≡ closings (e ∷ []) + length next = omega arith in
     let old : (k b : ℕ) → slice_get stack k ≡ Some b → IsOnStack (xs ++ e ∷ []) starts next k b = λ k b there.
-        let h = a.on_stack k b there in
-        let lt = slice_get_within stack k b there in
-        on_stack_grown xs e a.starts starts stack next k b h (within b h.start h.there) kept balance (omega arith) in
+    let h = a.on_stack k b there in
+    let lt = slice_get_within stack k b there in
+    on_stack_grown xs e a.starts starts stack next k b h (within b h.start h.there) kept balance (omega arith) in
     let holder = old k top last in
     let begins = a.on_stack k top last in
     let same_start : holder.start ≡ begins.start = let one = holder.there in let other = kept top begins.start begins.there in cc in
@@ -305,7 +305,7 @@ scopes_opening never xs e blocks ends stack k top a size last opens =
         | inl lt ↦
             let (k, b, on, begins) = a.complete place (open_before xs e place still lt) in
             (k, b, get_kept stack (length ends ∷ []) k b on, kept b (suc place) begins)
-        | inr ge ↦ 
+        | inr ge ↦
             let (at_end, opened) = opened_last xs e place still (λ lt. omega arith) in
             (length stack, length ends, get_pushed stack (length ends), new_start ∙ ap (λ m. Some (suc m)) (sym at_end))
       ];
@@ -313,8 +313,8 @@ scopes_opening never xs e blocks ends stack k top a size last opens =
       holders = holders_grown xs e a.starts starts blocks top a.held kept a.holders
           (holder_new xs e starts top begins.start (kept top begins.start begins.there) (within top begins.start begins.there) still_open
           (λ outer before still.
-              let (j, b, on, starting) = a.complete outer (open_before xs e outer still before) in
-              innermost a.starts stack k top begins.start j b outer a.rising a.stacked size last begins.there on starting));
+          let (j, b, on, starting) = a.complete outer (open_before xs e outer still before) in
+          innermost a.starts stack k top begins.start j b outer a.rising a.stacked size last begins.there on starting));
     }
 
 -- the block that a `$}` closes is open no more
@@ -353,23 +353,23 @@ scopes_closing never xs e blocks ends below k top under a size last closes =
     let up : (k b : ℕ) → slice_get below k ≡ Some b → slice_get stack k ≡ Some b = λ k b there. get_kept below (top ∷ []) k b there in
     let balance : openings (e ∷ []) + length stack ≡ closings (e ∷ []) + length below = omega arith in
     let grown : (k b : ℕ) → slice_get below k ≡ Some b → IsOnStack (xs ++ e ∷ []) a.starts below k b = λ k b there.
-        let h = a.on_stack k b (up k b there) in
-        on_stack_grown xs e a.starts a.starts stack below k b h (within b h.start h.there) same balance (slice_get_within below k b there) in
+    let h = a.on_stack k b (up k b there) in
+    on_stack_grown xs e a.starts a.starts stack below k b h (within b h.start h.there) same balance (slice_get_within below k b there) in
     let ending = a.on_stack (length below) top (get_pushed below top) in
     let ended = closed_by xs e a.starts stack (length below) top ending (within top ending.start ending.there) more closes in
     let earlier : (outer : ℕ) → IsOpen (xs ++ e ∷ []) outer → IsOpen xs outer = λ outer still. elim (cases_lt outer n) [
-          | inl lt ↦ open_before xs e outer still lt
-          | inr ge ↦ absurd (let h = ap is_opening (opened_last xs e outer still (λ lt. omega arith)).1 in let g = ap is_opening closes in cc)
-        ] in
+      | inl lt ↦ open_before xs e outer still lt
+      | inr ge ↦ absurd (let h = ap is_opening (opened_last xs e outer still (λ lt. omega arith)).1 in let g = ap is_opening closes in cc)
+    ] in
     let complete : (place : ℕ) → IsOpen (xs ++ e ∷ []) place → (k : ℕ) × (b : ℕ) × (slice_get below k ≡ Some b) × (slice_get a.starts b ≡ Some (suc place)) = λ place still.
-        let (k, b, on, begins) = a.complete place (earlier place still) in
-        elim (pushed_cases below top k b on) [
-          | inl before ↦ (k, b, before, begins)
-          | inr (at_end, is_top) ↦ absurd (ended (
-              let x_there = ending.there in
-              let start_is : suc place ≡ ending.start = let at = subst (λ m. slice_get a.starts m ≡ Some (suc place)) (sym is_top) begins in cc in
-              subst (λ x. IsUnclosed (xs ++ e ∷ []) x) start_is still.unclosed))
-        ] in
+    let (k, b, on, begins) = a.complete place (earlier place still) in
+    elim (pushed_cases below top k b on) [
+      | inl before ↦ (k, b, before, begins)
+      | inr (at_end, is_top) ↦ absurd (ended (
+          let x_there = ending.there in
+          let start_is : suc place ≡ ending.start = let at = subst (λ m. slice_get a.starts m ≡ Some (suc place)) (sym is_top) begins in cc in
+          subst (λ x. IsUnclosed (xs ++ e ∷ []) x) start_is still.unclosed))
+    ] in
     let new_end = end_new xs e ending.start ending.unclosed ended in
     let holder = grown k under last in
     record {
@@ -398,6 +398,6 @@ scopes_closing never xs e blocks ends below k top under a size last closes =
       holders = holders_grown xs e a.starts a.starts blocks under a.held same a.holders
           (holder_new xs e a.starts under holder.start holder.there (within under holder.start holder.there) holder.unclosed
           (λ outer before still.
-              let (j, b, on, begins) = complete outer still in
-              innermost a.starts below k under holder.start j b outer a.rising (λ j k b c at_j at_k lt. a.stacked j k b c (up j b at_j) (up k c at_k) lt) size last holder.there on begins));
+          let (j, b, on, begins) = complete outer still in
+          innermost a.starts below k under holder.start j b outer a.rising (λ j k b c at_j at_k lt. a.stacked j k b c (up j b at_j) (up k c at_k) lt) size last holder.there on begins));
     }

@@ -15,7 +15,7 @@ use Rattle.mm_frame.proofs.Pushed.{get_kept, get_pushed, pushed_cases, get_befor
 pub record IsLeft (spans : List Span) (newest next : Option ℕ) (before steps : ℕ) : Type 0 where
   pub left : (pair : ℕ × ℕ) → IsLastSpan spans (length spans) pair newest
       → (n : ℕ) × (n + steps ≤ length spans) × IsLastSpan spans n pair next
-        × ((j : ℕ) (span : Span) → n ≤ j → slice_get spans j ≡ Some span → span.pair ≡ pair → before ≤ span.place)
+      × ((j : ℕ) (span : Span) → n ≤ j → slice_get spans j ≡ Some span → span.pair ≡ pair → before ≤ span.place)
 
 pub left_first : (spans : List Span) (newest : Option ℕ) (before : ℕ) → IsLeft spans newest newest before 0
 left_first spans newest before = record {
@@ -134,13 +134,17 @@ last_passed spans n pair None s there other none = λ j span lt at. elim (cases_
       let same : s ≡ span = let f = subst (λ m. slice_get spans m ≡ Some span) here at in cc in
       λ e. other (ap (λ (t : Span). t.pair) same ∙ e)
 ]
-last_passed spans n pair (Some k) s there other (lt, found, after) = (omega arith, found, λ j span above below at. elim (cases_lt j n) [
-  | inl less ↦ after j span above less at
-  | inr more ↦
-      let here : j ≡ n = omega arith in
-      let same : s ≡ span = let f = subst (λ m. slice_get spans m ≡ Some span) here at in cc in
-      λ e. other (ap (λ (t : Span). t.pair) same ∙ e)
-])
+last_passed spans n pair (Some k) s there other (lt, found, after) = (
+  omega arith,
+  found,
+  λ j span above below at. elim (cases_lt j n) [
+    | inl less ↦ after j span above less at
+    | inr more ↦
+        let here : j ≡ n = omega arith in
+        let same : s ≡ span = let f = subst (λ m. slice_get spans m ≡ Some span) here at in cc in
+        λ e. other (ap (λ (t : Span). t.pair) same ∙ e)
+  ],
+)
 
 last_here : (spans : List Span) (n : ℕ) (pair : ℕ × ℕ) (s : Span) → slice_get spans n ≡ Some s → s.pair ≡ pair → IsLastSpan spans (suc n) pair (Some n)
 last_here spans n pair s there same = (omega arith, (s, there, same), λ j span above below at. absurd (omega arith))

@@ -60,38 +60,38 @@ surplus [] = ((λ d le. inr (λ n. nothing d n)), (λ lt. absurd (omega arith)))
     nothing d zero = omega arith
     nothing d (suc n) = omega arith
 surplus (x ∷ xs) = elim (block_cases x.kind) [
-    | inl (kind, is_o, is_c) ↦
-        let (os, cs) = counts x xs true false is_o is_c in (
-          (λ d le. elim ((surplus xs).0 (suc d) (omega arith)) [
-            | inl some ↦ inl (later x xs some)
-            | inr within ↦ inr (fronts_step x xs true false d (suc d) is_o is_c (omega arith) within)
-          ]),
-          (λ lt. elim ((surplus xs).0 0 (omega arith)) [
-            | inl some ↦ later x xs some
-            | inr within ↦ (0, record { opening = x; there = refl; opened = kind; unclosed = λ n. let h = within n in omega arith })
-          ]),
-        )
-    | inr (inl (kind, is_o, is_c)) ↦
-        let (os, cs) = counts x xs false true is_o is_c in
-        ((λ d le. closed x xs d is_o is_c (omega arith) (surplus xs)), (λ lt. later x xs ((surplus xs).1 (omega arith))))
-    | inr (inr (not_o, not_c, is_o, is_c)) ↦
-        let (os, cs) = counts x xs false false is_o is_c in (
-          (λ d le. elim ((surplus xs).0 d (omega arith)) [
-            | inl some ↦ inl (later x xs some)
-            | inr within ↦ inr (fronts_step x xs false false d d is_o is_c (omega arith) within)
-          ]),
-          (λ lt. later x xs ((surplus xs).1 (omega arith))),
-        )
-  ]
+  | inl (kind, is_o, is_c) ↦
+      let (os, cs) = counts x xs true false is_o is_c in (
+        (λ d le. elim ((surplus xs).0 (suc d) (omega arith)) [
+          | inl some ↦ inl (later x xs some)
+          | inr within ↦ inr (fronts_step x xs true false d (suc d) is_o is_c (omega arith) within)
+        ]),
+        (λ lt. elim ((surplus xs).0 0 (omega arith)) [
+          | inl some ↦ later x xs some
+          | inr within ↦ (0, record { opening = x; there = refl; opened = kind; unclosed = λ n. let h = within n in omega arith })
+        ]),
+      )
+  | inr (inl (kind, is_o, is_c)) ↦
+      let (os, cs) = counts x xs false true is_o is_c in
+      ((λ d le. closed x xs d is_o is_c (omega arith) (surplus xs)), (λ lt. later x xs ((surplus xs).1 (omega arith))))
+  | inr (inr (not_o, not_c, is_o, is_c)) ↦
+      let (os, cs) = counts x xs false false is_o is_c in (
+        (λ d le. elim ((surplus xs).0 d (omega arith)) [
+          | inl some ↦ inl (later x xs some)
+          | inr within ↦ inr (fronts_step x xs false false d d is_o is_c (omega arith) within)
+        ]),
+        (λ lt. later x xs ((surplus xs).1 (omega arith))),
+      )
+]
   where
     closed : (x : Sentence) (xs : List Sentence) (d : ℕ) → is_opening x.kind ≡ false → is_closing x.kind ≡ true → suc (closings xs) ≤ openings xs + d
         → ((d : ℕ) → closings xs ≤ openings xs + d → SomeOpen xs ⊎ FrontsWithin xs d) × (closings xs < openings xs → SomeOpen xs)
         → SomeOpen (x ∷ xs) ⊎ FrontsWithin (x ∷ xs) d
     closed x xs zero is_o is_c le (either, some) = inl (later x xs (some (omega arith)))
     closed x xs (suc d) is_o is_c le (either, some) = elim (either d (omega arith)) [
-        | inl found ↦ inl (later x xs found)
-        | inr within ↦ inr (fronts_step x xs false true (suc d) d is_o is_c (omega arith) within)
-      ]
+      | inl found ↦ inl (later x xs found)
+      | inr within ↦ inr (fronts_step x xs false true (suc d) d is_o is_c (omega arith) within)
+    ]
 
 pub some_open : (xs : List Sentence) → closings xs < openings xs → (p : ℕ) × IsOpen xs p
 some_open xs lt = (surplus xs).1 lt

@@ -58,6 +58,7 @@ none_twice symbols A B Twice r once h = ((λ t. more (h.0 t)), (λ q. h.1 (fewer
     more : (x : List ℕ) × Contains symbols x × (A x ⊎ B x) → (x : List ℕ) × Contains symbols x × (A x ⊎ B x ⊎ Twice x)
     more (x, there, inl a) = (x, there, inl a)
     more (x, there, inr b) = (x, there, inr (inl b))
+
     fewer : (x : List ℕ) × Contains symbols x × (A x ⊎ B x ⊎ Twice x) → (x : List ℕ) × Contains symbols x × (A x ⊎ B x)
     fewer (x, there, inl a) = (x, there, inl a)
     fewer (x, there, inr (inl b)) = (x, there, inr b)

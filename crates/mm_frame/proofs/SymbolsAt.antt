@@ -36,7 +36,7 @@ numbers_at symbols labels flat log place e s part all a there is said =
     let says : sentence_by symbols labels flat e ≡ s = cc in
     let xs : names_by symbols (slice_range flat e.symbols.start e.symbols.end) ≡ s.symbols = ap (λ (t : Sentence). t.symbols) says in
     let within : (i : ℕ) (n : Sym) → slice_get (slice_range flat e.symbols.start e.symbols.end) i ≡ Some n → n.0 < length symbols
-        = λ i n h. let (j, at) = get_sliced flat e.symbols.start e.symbols.end i n h in a.numbered j n at in
+    = λ i n h. let (j, at) = get_sliced flat e.symbols.start e.symbols.end i n h in a.numbered j n at in
     let numbers = numbers_of_names symbols (slice_range flat e.symbols.start e.symbols.end) within in
     let whole = subst (λ (names : List (List ℕ)). map (slice_get names) (map (λ n. n.0) (slice_range flat e.symbols.start e.symbols.end)) ≡ map (λ x. Some x) (names_by symbols (slice_range flat e.symbols.start e.symbols.end))) all numbers in
     rw (part_is, ← xs) whole

@@ -37,7 +37,7 @@ numbers_more st numbers n tokens i d lt are is =
     let x = (get_or tokens i d).text.now in
     let one : i + 1 ≡ suc i = omega arith in
     let next : take (i + 1) (texts_of tokens) ≡ take i (texts_of tokens) ++ x ∷ [] =
-        ap (λ k. take k (texts_of tokens)) one ∙ take_next (texts_of tokens) i x (text_at tokens i d lt) in
+    ap (λ k. take k (texts_of tokens)) one ∙ take_next (texts_of tokens) i x (text_at tokens i d lt) in
     ap (map (slice_get (symbols_of st))) (map_snoc (λ (m : Sym). m.0) numbers n) ∙ map_snoc (slice_get (symbols_of st)) (map (λ (m : Sym). m.0) numbers) n.0
     ∙ ap (λ ys. ys ++ slice_get (symbols_of st) n.0 ∷ []) are ∙ ap (λ o. map (λ y. Some y) (take i (texts_of tokens)) ++ o ∷ []) is
     ∙ sym (ap (map (λ y. Some y)) next ∙ map_snoc (λ y. Some y) (take i (texts_of tokens)) x)
@@ -124,7 +124,8 @@ unlabelled_uses r t v s numbers bytes none used are meant form ok =
     IfOk-weaker r _ _
     (λ taken (said_as, grows). (
       grows (said_by s) is (ap (option_map (λ (t : PlainToken). t.text)) bare) (numbers_said (statements_of t) s numbers are) meant (formed_said (plain_statement s) form),
-      taken_distinct (statements_of t) s.kind taken is said_as)) ok
+      taken_distinct (statements_of t) s.kind taken is said_as,
+    )) ok
 
 -- the same numbers of the same tokens
 pub numbers_through : (st : List Sentence) (read tokens : List Token) (numbers passed : List Sym) → read ≡ tokens → passed ≡ numbers

@@ -64,9 +64,9 @@ pub record IsTypedBy (st : List Sentence) (places : List ℕ) (n : Sym) : Type 0
 pub record AreVariables (st : List Sentence) (places : List ℕ) (variables : List Sym) : Type 0 where
   pub only : (i : ℕ) (n : Sym) → slice_get variables i ≡ Some n → IsTypedBy st places n
   pub each : (k p : ℕ) (f : Sentence) (code x : List ℕ) → slice_get places k ≡ Some p → slice_get st p ≡ Some f
-    → Types code x f → (i : ℕ) × (n : Sym) × (slice_get variables i ≡ Some n) × IsNumberOf st x n.0
+      → Types code x f → (i : ℕ) × (n : Sym) × (slice_get variables i ≡ Some n) × IsNumberOf st x n.0
   pub once : (i j : ℕ) (n m : Sym) → slice_get variables i ≡ Some n → slice_get variables j ≡ Some m → n.0 ≡ m.0
-    → i ≡ j
+      → i ≡ j
 
 -- the symbols with these numbers are a distinct pair
 abbrev pub AreApart : List Sentence → Sym → Sym → Type 0
@@ -79,9 +79,9 @@ IsReached i count j k = (k < i) ⊎ ((k ≡ i) × (j < count))
 -- these are the distinct pairs among the variables as far as they are reached, each once
 pub record AreFound (st : List Sentence) (variables : List Sym) (i count : ℕ) (pairs : List (Sym × Sym)) : Type 0 where
   pub only : (m : ℕ) (pair : Sym × Sym) → slice_get pairs m ≡ Some pair
-    → (j : ℕ) × (k : ℕ) × (slice_get variables j ≡ Some pair.0) × (slice_get variables k ≡ Some pair.1) × (j < k)
+      → (j : ℕ) × (k : ℕ) × (slice_get variables j ≡ Some pair.0) × (slice_get variables k ≡ Some pair.1) × (j < k)
       × IsReached i count j k × AreApart st pair.0 pair.1
   pub each : (j k : ℕ) (a b : Sym) → slice_get variables j ≡ Some a → slice_get variables k ≡ Some b → j < k
-    → IsReached i count j k → AreApart st a b → (m : ℕ) × (slice_get pairs m ≡ Some (a, b))
+      → IsReached i count j k → AreApart st a b → (m : ℕ) × (slice_get pairs m ≡ Some (a, b))
   pub once : (m n : ℕ) (p q : Sym × Sym) → slice_get pairs m ≡ Some p → slice_get pairs n ≡ Some q → p.0.0 ≡ q.0.0
-    → p.1.0 ≡ q.1.0 → m ≡ n
+      → p.1.0 ≡ q.1.0 → m ≡ n

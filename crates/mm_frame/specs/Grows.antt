@@ -57,8 +57,8 @@ pub record Entered (old new : Tables) (kind : Kind) (tag : Option LabelId) (star
   pub log : new.log.items ≡ old.log.items ++ entry_of kind tag start (length old.flat.items) ∷ []
   pub flat : new.flat.items ≡ old.flat.items
   pub scopes :
-    (statements : List Sentence) (s : Sentence) → HaveScopes statements old.scopes → s.kind ≡ kind
-    → (kind ≡ Closing → closings statements < openings statements) → HaveScopes (statements ++ s ∷ []) new.scopes
+      (statements : List Sentence) (s : Sentence) → HaveScopes statements old.scopes → s.kind ≡ kind
+      → (kind ≡ Closing → closings statements < openings statements) → HaveScopes (statements ++ s ∷ []) new.scopes
   pub essentials : new.essentials.items ≡ old.essentials.items
   pub hypotheses : new.hypotheses.items ≡ old.hypotheses.items
   pub pairs : new.pairs.items ≡ old.pairs.items

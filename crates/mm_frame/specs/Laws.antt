@@ -11,18 +11,18 @@ abbrev pub OneNumber : Type 0
 OneNumber =
     (statements more : List Sentence) (x : List ℕ)
     → ((IsConstant statements x ⊎ IsVariable statements x) ↔ ((n : ℕ) × IsNumberOf statements x n))
-      × ((m n : ℕ) → IsNumberOf statements x m → IsNumberOf statements x n → m ≡ n)
-      × ((y : List ℕ) (n : ℕ) → IsNumberOf statements x n → IsNumberOf statements y n → x ≡ y)
-      × ((n : ℕ) → IsNumberOf statements x n → IsNumberOf (statements ++ more) x n)
+    × ((m n : ℕ) → IsNumberOf statements x m → IsNumberOf statements x n → m ≡ n)
+    × ((y : List ℕ) (n : ℕ) → IsNumberOf statements x n → IsNumberOf statements y n → x ≡ y)
+    × ((n : ℕ) → IsNumberOf statements x n → IsNumberOf (statements ++ more) x n)
 
 -- A labelled statement has a number, and one only; a number is that of one statement; and it stays so.
 abbrev pub OneLabelNumber : Type 0
 OneLabelNumber =
     (statements more : List Sentence) (p : ℕ) (s : Sentence)
     → (((slice_get statements p ≡ Some s) × (is_some s.label ≡ true)) ↔ ((n : ℕ) × IsNumbered statements n p s))
-      × ((m n : ℕ) → IsNumbered statements m p s → IsNumbered statements n p s → m ≡ n)
-      × ((q n : ℕ) (t : Sentence) → IsNumbered statements n p s → IsNumbered statements n q t → (p ≡ q) × (s ≡ t))
-      × ((n : ℕ) → IsNumbered statements n p s → IsNumbered (statements ++ more) n p s)
+    × ((m n : ℕ) → IsNumbered statements m p s → IsNumbered statements n p s → m ≡ n)
+    × ((q n : ℕ) (t : Sentence) → IsNumbered statements n p s → IsNumbered statements n q t → (p ≡ q) × (s ≡ t))
+    × ((n : ℕ) → IsNumbered statements n p s → IsNumbered (statements ++ more) n p s)
 
 -- the innermost open block
 pub record IsInnermost (statements : List Sentence) (place : ℕ) : Type 0 where
@@ -34,8 +34,8 @@ abbrev pub OpenBlocks : Type 0
 OpenBlocks =
     (before : List Sentence) (s : Sentence) (p : ℕ)
     → (¬ (s.kind ≡ Closing)
-        → (IsOpen (before ++ s ∷ []) p ↔ (IsOpen before p ⊎ ((s.kind ≡ Opening) × (p ≡ length before)))))
-      × ((m : ℕ) → s.kind ≡ Closing → IsInnermost before m → (IsOpen (before ++ s ∷ []) p ↔ (IsOpen before p × p < m)))
+    → (IsOpen (before ++ s ∷ []) p ↔ (IsOpen before p ⊎ ((s.kind ≡ Opening) × (p ≡ length before)))))
+    × ((m : ℕ) → s.kind ≡ Closing → IsInnermost before m → (IsOpen (before ++ s ∷ []) p ↔ (IsOpen before p × p < m)))
 
 -- A statement is active from its place on. A `$}` ends all that is active and comes after the `${` of the innermost block;
 -- nothing else ends, and nothing begins again.
@@ -43,8 +43,8 @@ abbrev pub ActiveStatements : Type 0
 ActiveStatements =
     (before : List Sentence) (s : Sentence) (p : ℕ)
     → (¬ (s.kind ≡ Closing) → (IsActive (before ++ s ∷ []) p ↔ (IsActive before p ⊎ (p ≡ length before))))
-      × ((m : ℕ) → s.kind ≡ Closing → IsInnermost before m
-          → (IsActive (before ++ s ∷ []) p ↔ ((IsActive before p × p ≤ m) ⊎ (p ≡ length before))))
+    × ((m : ℕ) → s.kind ≡ Closing → IsInnermost before m
+    → (IsActive (before ++ s ∷ []) p ↔ ((IsActive before p × p ≤ m) ⊎ (p ≡ length before))))
 
 -- these are the places of the open blocks, the outermost first
 pub record AreOpen (statements : List Sentence) (places : List ℕ) : Type 0 where

@@ -44,7 +44,7 @@ abbrev pub statements_of : Tables → List Sentence
 statements_of t = sentences t.symbols.names t.labels.names t.flat.items t.log.items
 
 abbrev pub database_of : Tables → Database
-database_of t = record { statements = statements_of t; bytes = t.bytes; }
+database_of t = record { statements = statements_of t; bytes = t.bytes }
 
 -- the place of the latest statement that is so, if there is one
 abbrev pub IsLatestIn : (Sentence → Type 0) → List Sentence → Option ℕ → Type 0
@@ -79,16 +79,16 @@ pub record AreInfos (statements : List Sentence) (symbols : List (List ℕ)) (in
   pub all : symbols ≡ symbols_of statements
   pub informed : length infos ≡ length symbols
   pub each : (n : ℕ) (x : List ℕ) (info : SymbolInfo) → slice_get symbols n ≡ Some x → slice_get infos n ≡ Some info
-    → IsInfo statements x info
+      → IsInfo statements x info
 
 -- what is known of each label
 pub record AreLabels (statements : List Sentence) (labels : List (List ℕ)) (named : List LabelInfo) (log : List Entry) : Type 0 where
   pub all : map (λ s. s.label) (labelled statements) ≡ map Some labels
   pub informed : length named ≡ length labels
   pub each : (id : ℕ) (info : LabelInfo) → slice_get named id ≡ Some info
-    → (s : Sentence) × IsNumbered statements id info.place s
+      → (s : Sentence) × IsNumbered statements id info.place s
   pub logged : (place : ℕ) (e : Entry) (id : LabelId) → slice_get log place ≡ Some e → e.label ≡ Some id
-    → length (labelled (take place statements)) ≡ id.0
+      → length (labelled (take place statements)) ≡ id.0
 
 -- where the symbols of each statement stand
 pub record AreEntries (symbols : List (List ℕ)) (labels : List (List ℕ)) (flat : List Sym) (log : List Entry) : Type 0 where
@@ -100,18 +100,18 @@ pub record AreEntries (symbols : List (List ℕ)) (labels : List (List ℕ)) (fl
 pub record AreEssentials (statements : List Sentence) (places : List ℕ) : Type 0 where
   pub rising : (i j p q : ℕ) → i < j → slice_get places i ≡ Some p → slice_get places j ≡ Some q → p < q
   pub only : (i p : ℕ) → slice_get places i ≡ Some p
-    → (s : Sentence) × (slice_get statements p ≡ Some s) × (s.kind ≡ Essential) × IsActive statements p
+      → (s : Sentence) × (slice_get statements p ≡ Some s) × (s.kind ≡ Essential) × IsActive statements p
   pub each : (p : ℕ) (s : Sentence) → slice_get statements p ≡ Some s → s.kind ≡ Essential → IsActive statements p
-    → (i : ℕ) × (slice_get places i ≡ Some p)
+      → (i : ℕ) × (slice_get places i ≡ Some p)
 
 -- the frame of an assertion
 pub record IsFrameInfo (statements : List Sentence) (hypotheses : List LabelId) (pairs : List (Sym × Sym)) (info : LabelInfo) : Type 0 where
   pub hypotheses_in : IsWithin info.hypotheses (length hypotheses)
   pub pairs_in : IsWithin info.pairs (length pairs)
   pub are_hypotheses : AreHypotheses (record { statements = statements; place = info.place })
-    (map (λ id. id.0) (slice_range hypotheses info.hypotheses.start info.hypotheses.end))
+      (map (λ id. id.0) (slice_range hypotheses info.hypotheses.start info.hypotheses.end))
   pub are_pairs : ArePairs (record { statements = statements; place = info.place })
-    (map (λ pair. (pair.0.0, pair.1.0)) (slice_range pairs info.pairs.start info.pairs.end))
+      (map (λ pair. (pair.0.0, pair.1.0)) (slice_range pairs info.pairs.start info.pairs.end))
 
 -- the frames of all assertions
 abbrev pub AreFrames : List Sentence → List LabelId → List (Sym × Sym) → List LabelInfo → Type 0
@@ -122,15 +122,15 @@ AreFrames statements hypotheses pairs named =
 -- the pairs that were stated: each by an active `$d` at its place, and none while it was active by the one before
 pub record AreStated (statements : List Sentence) (symbols : List (List ℕ)) (spans : List Stated) : Type 0 where
   pub only : (i : ℕ) (span : Stated) → slice_get spans i ≡ Some span
-    → (d : Sentence) × (slice_get statements span.place ≡ Some d) × (d.kind ≡ Distinct) × (span.pair.0 < span.pair.1)
+      → (d : Sentence) × (slice_get statements span.place ≡ Some d) × (d.kind ≡ Distinct) × (span.pair.0 < span.pair.1)
       × (x : List ℕ) × (y : List ℕ) × (slice_get symbols span.pair.0 ≡ Some x) × (slice_get symbols span.pair.1 ≡ Some y)
       × Contains d.symbols x × Contains d.symbols y
   pub each : (place a b : ℕ) (d : Sentence) (x y : List ℕ) → slice_get statements place ≡ Some d → d.kind ≡ Distinct
-    → slice_get symbols a ≡ Some x → slice_get symbols b ≡ Some y → a < b → Contains d.symbols x → Contains d.symbols y
-    → (i : ℕ) × (span : Stated) × (slice_get spans i ≡ Some span) × (span.pair ≡ (a, b)) × (span.place ≤ place)
+      → slice_get symbols a ≡ Some x → slice_get symbols b ≡ Some y → a < b → Contains d.symbols x → Contains d.symbols y
+      → (i : ℕ) × (span : Stated) × (slice_get spans i ≡ Some span) × (span.pair ≡ (a, b)) × (span.place ≤ place)
       × IsActive (take (place + 1) statements) span.place
   pub apart : (i j : ℕ) (older newer : Stated) → i < j → slice_get spans i ≡ Some older → slice_get spans j ≡ Some newer
-    → older.pair ≡ newer.pair → (older.place < newer.place) × ¬ (IsActive (take newer.place statements) older.place)
+      → older.pair ≡ newer.pair → (older.place < newer.place) × ¬ (IsActive (take newer.place statements) older.place)
 
 -- all lists of a book, as they are between two statements
 pub record AreTables (t : Tables) : Type 0 where

@@ -89,8 +89,8 @@ impl<'a> Book<'a> {
         requires room { self.old.bytes + bytes_in (plain_statement statement.now) ≤ 1073741824 }
         ensures ok { IfOk result (λ taken. IsMeant self.old.statements (said_by statement.now)
             × (self.new ≡ record {
-                statements = self.old.statements ++ said_by statement.now ∷ [];
-                bytes = self.old.bytes + bytes_in (plain_statement statement.now);
+              statements = self.old.statements ++ said_by statement.now ∷ [];
+              bytes = self.old.bytes + bytes_in (plain_statement statement.now);
             })
             × TakenAs self.old.statements statement.now.kind taken) }
         ensures rule { (broken : MeaningRule) → result ≡ Err (Rule broken)
@@ -211,8 +211,8 @@ impl<'a> Book<'a> {
     pub(crate) fn hypotheses(&self, id: LabelId) -> &[LabelId]
         ensures { (place : ℕ) (s : Sentence) → IsNumbered self.now.statements id.0 place s
             → IsAssertion s.kind → AreHypotheses
-                (record { statements = self.now.statements; place = place })
-                (map (λ h. h.0) result.now) }
+            (record { statements = self.now.statements; place = place })
+            (map (λ h. h.0) result.now) }
     {
         label_hypotheses(&self.tables, id)
     }
@@ -221,8 +221,8 @@ impl<'a> Book<'a> {
     pub(crate) fn pairs(&self, id: LabelId) -> &[(Sym, Sym)]
         ensures { (place : ℕ) (s : Sentence) → IsNumbered self.now.statements id.0 place s
             → IsAssertion s.kind → ArePairs
-                (record { statements = self.now.statements; place = place })
-                (map (λ pair. (pair.0.0, pair.1.0)) result.now) }
+            (record { statements = self.now.statements; place = place })
+            (map (λ pair. (pair.0.0, pair.1.0)) result.now) }
     {
         label_pairs(&self.tables, id)
     }

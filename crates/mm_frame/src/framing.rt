@@ -49,7 +49,7 @@ fn mandatory_unsorted(tables: &Tables, expression: &[Sym]) -> Result<Vec<usize>,
     ensures { (s : Sentence)
         → AreNumbers (statements_of tables.now) (map (λ n. n.0) expression.now) s.symbols
         → IfOk result (λ places. AreGathered
-            (statements_of tables.now) tables.now.essentials.items s places.items) }
+        (statements_of tables.now) tables.now.essentials.items s places.items) }
 {
     let mut places = Vec::new(tables.alloc);
     add_floating(tables, expression, &mut places)?;
@@ -88,7 +88,7 @@ pub(crate) fn label_ids(tables: &Tables, places: &[usize]) -> Result<Vec<LabelId
     requires { AreTables tables.now }
     ensures { (s : Sentence) → ArePlaces (statements_of tables.now) s places.now
         → IfOk result (λ ids. map (λ id. id.0) ids.items
-            ≡ map (λ p. length (labelled (take p (statements_of tables.now)))) places.now) }
+        ≡ map (λ p. length (labelled (take p (statements_of tables.now)))) places.now) }
 {
     let mut ids = Vec::new(tables.alloc);
     for place in places {
@@ -105,7 +105,7 @@ fn typed_by(tables: &Tables, places: &[usize]) -> Result<Vec<Sym>, AllocError>
     requires { AreTables tables.now }
     ensures { (s : Sentence) → ArePlaces (statements_of tables.now) s places.now
         → IfOk result (λ variables.
-            AreVariables (statements_of tables.now) places.now variables.items) }
+        AreVariables (statements_of tables.now) places.now variables.items) }
 {
     let mut variables = Vec::new(tables.alloc);
     for place in places {
@@ -131,7 +131,7 @@ fn add_pairs(
         → slice_get variables (length others.now) ≡ Some variable
         → AreFound (statements_of tables.now) variables (length others.now) 0 pairs.old.items
         → OnOk result (AreFound
-            (statements_of tables.now) variables (length others.now + 1) 0 pairs.new.items) }
+        (statements_of tables.now) variables (length others.now + 1) 0 pairs.new.items) }
 {
     for other in others {
         if tables.is_distinct(*other, variable, tables.log.len()) {
@@ -150,11 +150,11 @@ pub(crate) fn mandatory_pairs(
     ensures { (s : Sentence) (more : List Sentence) → IsMeant (statements_of tables.now) s
         → IsStated s.kind → ArePlaces (statements_of tables.now) s places.now
         → IfOk result (λ pairs. ArePairs
-            (record {
-                statements = statements_of tables.now ++ s ∷ more;
-                place = length (statements_of tables.now);
-            })
-            (map (λ pair. (pair.0.0, pair.1.0)) pairs.items)) }
+        (record {
+          statements = statements_of tables.now ++ s ∷ more;
+          place = length (statements_of tables.now);
+        })
+        (map (λ pair. (pair.0.0, pair.1.0)) pairs.items)) }
 {
     let variables = typed_by(tables, places)?;
     let mut pairs = Vec::new(tables.alloc);

@@ -80,11 +80,14 @@ impl<'a> Tables<'a> {
             end: self.flat.len(),
         };
         self.scopes.push(kind);
-        put(&mut self.log, Entry {
-            kind,
-            label,
-            symbols,
-        });
+        put(
+            &mut self.log,
+            Entry {
+                kind,
+                label,
+                symbols,
+            },
+        );
         self.bytes += bytes;
     }
 

@@ -25,7 +25,9 @@ mod tables;
 pub use answer::{Found, RuleFault, Taken};
 pub use book::Book;
 pub use frame::Frame;
-pub use laws::{active_statements, one_frame, one_label_number, one_number, open_blocks, open_count};
+pub use laws::{
+    active_statements, one_frame, one_label_number, one_number, open_blocks, open_count,
+};
 pub use number::{LabelId, LabelKind, Sym};
 pub use rule::MeaningRule;
 

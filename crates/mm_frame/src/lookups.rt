@@ -102,8 +102,8 @@ pub(crate) fn has_other_type(tables: &Tables, code: &[u8], variable: &[u8]) -> b
     requires { AreTables tables.now }
     ensures { IsTrue result
         ↔ SomeSentence
-            (statements_of tables.now)
-            (λ f. (other : List ℕ) × Types other variable.now f × (other ≢ code.now)) }
+        (statements_of tables.now)
+        (λ f. (other : List ℕ) × Types other variable.now f × (other ≢ code.now)) }
 {
     match latest_code(tables, variable) {
         Some(other) => other != code,

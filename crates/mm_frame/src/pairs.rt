@@ -70,8 +70,8 @@ impl Model for Pairs {
     ghost Value = { PairTable };
 
     ghost view = { λ p. record {
-        stated = map stated_by p.spans.items;
-        room = min (vec_capacity p.spans - vec_len p.spans) (spare p.newest);
+      stated = map stated_by p.spans.items;
+      room = min (vec_capacity p.spans - vec_len p.spans) (spare p.newest);
     } };
 
     ghost invariant = { λ p. AreLinked p.spans.items p.newest };
@@ -108,7 +108,7 @@ impl Pairs {
     pub(crate) fn add(&mut self, pair: (u32, u32), place: usize)
         requires room { 0 < self.old.room }
         ensures stated { self.new.stated
-            ≡ self.old.stated ++ record { pair = pair; place = place; } ∷ [] }
+            ≡ self.old.stated ++ record { pair = pair; place = place } ∷ [] }
         ensures room { self.old.room ≤ self.new.room + 1 }
     {
         let number = self.spans.len();

@@ -126,8 +126,8 @@ pub(crate) fn label_hypotheses<'b>(tables: &'b Tables, id: LabelId) -> &'b [Labe
     requires { AreTables tables.now }
     ensures { (place : ℕ) (s : Sentence) → IsNumbered (statements_of tables.now) id.0 place s
         → IsAssertion s.kind → AreHypotheses
-            (record { statements = statements_of tables.now; place = place })
-            (map (λ h. h.0) result.now) }
+        (record { statements = statements_of tables.now; place = place })
+        (map (λ h. h.0) result.now) }
 {
     match tables.label_info(id) {
         Some(info) => part_of(&tables.hypotheses, info.hypotheses),
@@ -140,8 +140,8 @@ pub(crate) fn label_pairs<'b>(tables: &'b Tables, id: LabelId) -> &'b [(Sym, Sym
     requires { AreTables tables.now }
     ensures { (place : ℕ) (s : Sentence) → IsNumbered (statements_of tables.now) id.0 place s
         → IsAssertion s.kind → ArePairs
-            (record { statements = statements_of tables.now; place = place })
-            (map (λ pair. (pair.0.0, pair.1.0)) result.now) }
+        (record { statements = statements_of tables.now; place = place })
+        (map (λ pair. (pair.0.0, pair.1.0)) result.now) }
 {
     match tables.label_info(id) {
         Some(info) => part_of(&tables.pairs, info.pairs),

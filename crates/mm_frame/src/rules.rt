@@ -184,12 +184,7 @@ fn breaks_m15(tables: &Tables, statement: &Statement) -> bool
 }
 
 // Whether the statement breaks the rule.
-fn breaks(
-    rule: MeaningRule,
-    tables: &Tables,
-    statement: &Statement,
-    repeats: bool,
-) -> bool
+fn breaks(rule: MeaningRule, tables: &Tables, statement: &Statement, repeats: bool) -> bool
     requires tables { AreTables tables.now }
     requires told { IsTold repeats (said_by statement.now) }
     ensures { IsTrue result ↔ Breaks rule (statements_of tables.now) (said_by statement.now) }

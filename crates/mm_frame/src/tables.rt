@@ -155,7 +155,7 @@ impl<'a> Tables<'a> {
             result
             (¬ (f.kind ≡ Floating))
             (λ n. (code : List ℕ) × (x : List ℕ) × Types code x f
-                × IsNumberOf (statements_of self.now) x n.0) }
+            × IsNumberOf (statements_of self.now) x n.0) }
     {
         match at(&self.log, place) {
             Some(entry) => {

@@ -245,15 +245,31 @@ fn each_rule(rt: HostRuntime) -> Result<(), Fail> {
     let mut book = Book::new(alloc).expect(&rt, "memory");
     take_all(alloc, &mut book, &texts)?;
     for (text, rule) in cases {
-        assert_eq!(rt; take(alloc, &mut book, text)?, Err(RuleFault::Rule(rule)), "{text}");
+        assert_eq!(rt;
+            take(alloc, &mut book, text)?,
+            Err(RuleFault::Rule(rule)),
+            "{text}"
+        );
     }
     assert_eq!(rt; book.depth(), 1);
     assert_eq!(rt; take(alloc, &mut book, "$v u z")?, Ok(Taken::Declared));
-    assert_eq!(rt; take(alloc, &mut book, "p $f b u")?, Err(RuleFault::Rule(MeaningRule::M13)));
-    assert_eq!(rt; take(alloc, &mut book, "p $f a u")?, Ok(Taken::Hypothesis(LabelId(2))));
+    assert_eq!(rt;
+        take(alloc, &mut book, "p $f b u")?,
+        Err(RuleFault::Rule(MeaningRule::M13))
+    );
+    assert_eq!(rt;
+        take(alloc, &mut book, "p $f a u")?,
+        Ok(Taken::Hypothesis(LabelId(2)))
+    );
     assert_eq!(rt; take(alloc, &mut book, "$}")?, Ok(Taken::Closed));
-    assert_eq!(rt; take(alloc, &mut book, "$c a")?, Err(RuleFault::Rule(MeaningRule::M2)));
-    assert_eq!(rt; take(alloc, &mut book, "$c c c")?, Err(RuleFault::Rule(MeaningRule::M2)));
+    assert_eq!(rt;
+        take(alloc, &mut book, "$c a")?,
+        Err(RuleFault::Rule(MeaningRule::M2))
+    );
+    assert_eq!(rt;
+        take(alloc, &mut book, "$c c c")?,
+        Err(RuleFault::Rule(MeaningRule::M2))
+    );
     assert_eq!(rt; take(alloc, &mut book, "$c c")?, Ok(Taken::Declared));
     assert_eq!(rt; book.bytes(), 37);
     Ok(())

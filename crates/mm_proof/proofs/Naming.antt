@@ -151,7 +151,7 @@ named_sorted st moves ids sorted all order keeps only = record {
   each = λ n. (
     (λ h. let c = only (record { 0 = n }) (contains_id_at sorted n h.0 h.1 h.2) in (all n).0 (contains_number_at ids (record { 0 = n }) c.0 c.1 c.2)),
     λ h.
-      let o = (all n).1 h in
-      let c = keeps (record { 0 = n }) (contains_id_at ids n o.0 o.1 o.2) in contains_number_at sorted (record { 0 = n }) c.0 c.1 c.2,
+        let o = (all n).1 h in
+        let c = keeps (record { 0 = n }) (contains_id_at ids n o.0 o.1 o.2) in contains_number_at sorted (record { 0 = n }) c.0 c.1 c.2,
   );
 }

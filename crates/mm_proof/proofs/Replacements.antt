@@ -150,7 +150,9 @@ meets_of before stack label place assertion hypotheses rest entries all names sp
       split = split;
       paired = paired;
       σ = replaced_by hypotheses entries;
-      on = λ x. (found_mandatory before label place assertion hypotheses entries names x,
-          mandatory_found before label place assertion hypotheses entries all names paired (names_once before label place assertion hypotheses all names) x);
+      on = λ x. (
+        found_mandatory before label place assertion hypotheses entries names x,
+        mandatory_found before label place assertion hypotheses entries all names paired (names_once before label place assertion hypotheses all names) x,
+      );
       replaced = replaced_at hypotheses entries (names_once before label place assertion hypotheses all names);
     }

@@ -77,15 +77,15 @@ run_none st place stack kept empty none_kept = rw (empty, none_kept) (record {
 -- a move that carries on what passed
 run_more : (st : List Sentence) (place : ℕ) (front : List (Move ℕ)) (x : Move ℕ) (stack kept stack' kept' : List (List ℕ)) (steps steps' : ℕ) → HasRun st place front stack kept steps
     → ((move : Move (List ℕ)) (moves : List (Move (List ℕ))) → IsNumberedMove st x move
-        → Passed (IsWithin expression_limit) (take place st) moves (all_named st stack) (all_named st kept)
-        → Passed (IsWithin expression_limit) (take place st) (moves ++ move ∷ []) (all_named st stack') (all_named st kept'))
+    → Passed (IsWithin expression_limit) (take place st) moves (all_named st stack) (all_named st kept)
+    → Passed (IsWithin expression_limit) (take place st) (moves ++ move ∷ []) (all_named st stack') (all_named st kept'))
     → AreEntries st (take place st) stack' → AreEntries st (take place st) kept' → steps' ≡ steps + steps_in (x ∷ [])
     → HasRun st place (front ++ x ∷ []) stack' kept' steps'
 run_more st place front x stack kept stack' kept' steps steps' run carried entries kept_entries count = record {
   count = count ∙ ap (λ n. n + steps_in (x ∷ [])) run.count ∙ sym (steps_in-append front (x ∷ []));
   passed = λ moves numbered.
-    let h = zip_front (IsNumberedMove st) front x moves numbered in
-    subst (λ l. Passed (IsWithin expression_limit) (take place st) l (all_named st stack') (all_named st kept')) (sym h.2) (carried h.1 h.0 h.4 (run.passed h.0 h.3));
+      let h = zip_front (IsNumberedMove st) front x moves numbered in
+      subst (λ l. Passed (IsWithin expression_limit) (take place st) l (all_named st stack') (all_named st kept')) (sym h.2) (carried h.1 h.0 h.4 (run.passed h.0 h.3));
   entries = entries;
   kept_entries = kept_entries;
 }

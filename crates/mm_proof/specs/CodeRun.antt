@@ -38,8 +38,8 @@ pub record HasRun (statements : List Sentence) (place : ℕ) (front : List (Move
     (stack kept : List (List ℕ)) (steps : ℕ) : Type 0 where
   pub count : steps ≡ steps_in front
   pub passed :
-    (moves : List (Move (List ℕ))) → AreNumberedMoves statements front moves
-    → Passed (IsWithin expression_limit) (take place statements) moves
+      (moves : List (Move (List ℕ))) → AreNumberedMoves statements front moves
+      → Passed (IsWithin expression_limit) (take place statements) moves
       (all_named statements stack) (all_named statements kept)
   pub entries : AreEntries statements (take place statements) stack
   pub kept_entries : AreEntries statements (take place statements) kept

@@ -58,9 +58,9 @@ fn rule_broken<S: Store>(
         → AreVariablesOf book.now.statements (variables_in variables.now) hs
         → ArePairs (record { statements = book.now.statements; place = at }) (pairs_in pairs.now)
         → MatchOption
-            result
-            (IsMatched book.now.statements own.now.place hs (variables_in variables.now) (drop base (S.stack store.now)) (pairs_in pairs.now))
-            (λ rule. StopsAt book.now.statements own.now.place id (S.stack store.now) rule) }
+        result
+        (IsMatched book.now.statements own.now.place hs (variables_in variables.now) (drop base (S.stack store.now)) (pairs_in pairs.now))
+        (λ rule. StopsAt book.now.statements own.now.place id (S.stack store.now) rule) }
 {
     one_number();
     if !are_right_codes(store, base, book, hypotheses) {

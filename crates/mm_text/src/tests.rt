@@ -233,11 +233,13 @@ fn answers_faults_of_comments_and_inclusions(rt: HostRuntime) -> Result<(), Fail
             return Err(Fail::from("refused"));
         };
         let mut statement = Statement::empty(rt.alloc());
-        let Err(TextFault::Fault {
-            rule: found,
-            at: place,
-            ..
-        }) = statements.read(&mut statement)
+        let Err(
+            TextFault::Fault {
+                rule: found,
+                at: place,
+                ..
+            },
+        ) = statements.read(&mut statement)
         else {
             return Err(Fail::from("no fault"));
         };

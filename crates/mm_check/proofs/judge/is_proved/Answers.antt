@@ -30,10 +30,10 @@ returns-in_err-parse c =
     let same : tokens ≡ proof_of s =
     ap (λ (ts : List (Bor (List ℕ))). map (λ (t : Bor (List ℕ)). t.now) ts) c.deref.ensures.value ∙ c.in_ok-tokens.ensures in
     let complete : ¬ (IsIncomplete tokens) = λ h.
-      let e : Err c.in_err-parse.field-0.0 ≡ Ok Incomplete = sym c.in_err-parse.was ∙ c.parse.ensures.complete h in absurd cc in
+    let e : Err c.in_err-parse.field-0.0 ≡ Ok Incomplete = sym c.in_err-parse.was ∙ c.parse.ensures.complete h in absurd cc in
     λ before e. of_fault before s c.from_residual-in_err-parse.result c.in_err-parse.field-0.0 c.from_residual-in_err-parse.ensures.1
-      (parser_fault c.args.book.now.statements c.args.id.0 s tokens c.in_err-parse.field-0.0 c.requires.formed c.requires.last same complete
-      (λ rule step f place t n. c.parse.ensures.fault rule step (c.in_err-parse.was ∙ ap Err f) place t n) before e)
+    (parser_fault c.args.book.now.statements c.args.id.0 s tokens c.in_err-parse.field-0.0 c.requires.formed c.requires.last same complete
+    (λ rule step f place t n. c.parse.ensures.fault rule step (c.in_err-parse.was ∙ ap Err f) place t n) before e)
 
 pub returns-in_err-_used-in-Steps : goal.returns-in_err-_used-in-Steps
 returns-in_err-_used-in-Steps c =
@@ -43,11 +43,11 @@ returns-in_err-_used-in-Steps c =
     ap (λ (ts : List (Bor (List ℕ))). map (λ (t : Bor (List ℕ)). t.now) ts) c.deref.ensures.value ∙ c.in_ok-tokens.ensures in
     let parsed : c.parse.result ≡ Ok (Steps c.in-Steps.steps) = c.in_ok-parse.was ∙ ap Ok c.in-Steps.is in
     let complete : ¬ (IsIncomplete tokens) = λ h.
-      let e : Ok (Steps c.in-Steps.steps) ≡ Ok Incomplete = sym parsed ∙ c.parse.ensures.complete h in absurd cc in
+    let e : Ok (Steps c.in-Steps.steps) ≡ Ok Incomplete = sym parsed ∙ c.parse.ensures.complete h in absurd cc in
     λ before e. of_fault before s c.from_residual-in_err-_used-in-Steps.result c.in_err-_used-in-Steps.field-0.0 c.from_residual-in_err-_used-in-Steps.ensures.1
-      (verifier_fault c.args.book.now.statements c.args.id.0 s tokens c.in-Steps.steps c.in_err-_used-in-Steps.field-0.0 c.requires.formed c.requires.last same complete
-      (λ place t n. c.parse.ensures.steps c.in-Steps.steps parsed place t n)
-      (λ rule step f place t moves n m. c.verify.ensures.fault rule step (c.in_err-_used-in-Steps.was ∙ ap Err f) place t moves n m) before e)
+    (verifier_fault c.args.book.now.statements c.args.id.0 s tokens c.in-Steps.steps c.in_err-_used-in-Steps.field-0.0 c.requires.formed c.requires.last same complete
+    (λ place t n. c.parse.ensures.steps c.in-Steps.steps parsed place t n)
+    (λ rule step f place t moves n m. c.verify.ensures.fault rule step (c.in_err-_used-in-Steps.was ∙ ap Err f) place t moves n m) before e)
 
 pub returns : goal.returns
 returns c =
@@ -57,7 +57,7 @@ returns c =
     ap (λ (ts : List (Bor (List ℕ))). map (λ (t : Bor (List ℕ)). t.now) ts) c.deref.ensures.value ∙ c.in_ok-tokens.ensures in
     let parsed : c.parse.result ≡ Ok (Steps c.in-Steps.steps) = c.in_ok-parse.was ∙ ap Ok c.in-Steps.is in
     let complete : ¬ (IsIncomplete tokens) = λ h.
-      let e : Ok (Steps c.in-Steps.steps) ≡ Ok Incomplete = sym parsed ∙ c.parse.ensures.complete h in absurd cc in
+    let e : Ok (Steps c.in-Steps.steps) ≡ Ok Incomplete = sym parsed ∙ c.parse.ensures.complete h in absurd cc in
     λ before e. verified c.args.book.now.statements c.args.id.0 s tokens c.in-Steps.steps c.requires.formed c.requires.last same complete
-      (λ place t n. c.parse.ensures.steps c.in-Steps.steps parsed place t n)
-      (λ place t moves n m. (c.in_ok-_used-in-Steps.ensures.proved place t moves n m).0) before e
+    (λ place t n. c.parse.ensures.steps c.in-Steps.steps parsed place t n)
+    (λ place t moves n m. (c.in_ok-_used-in-Steps.ensures.proved place t moves n m).0) before e

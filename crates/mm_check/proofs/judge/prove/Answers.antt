@@ -23,5 +23,5 @@ returns-in-Err-Rule-clause-refused c =
       first.0,
       λ before e. (fails before e).1,
       ap (λ r. Some (Refused r)) c.refusal-refusal.ensures
-      ∙ same_refusal (map plain_file c.args.files.now) c.args.progress.now.count s rule c.in-Err-Rule.step-is,
+          ∙ same_refusal (map plain_file c.args.files.now) c.args.progress.now.count s rule c.in-Err-Rule.step-is,
     )

@@ -29,7 +29,7 @@ returns-clause-verdict c =
     record { statements = c.new.ensures.statements; proofs = c.new.ensures.proofs; incomplete = c.new.ensures.incomplete; labels = c.new.ensures.labels } in
     let end : IsAtEnd files c.judge_rest.new.progress c.judge_rest.new.statements = c.in_ok-judge_rest.ensures.done in
     λ verdict e. subst (HasVerdict files) (same_Some (concluded c.new.result) verdict e)
-      (end_concludes files c.judge_rest.new.progress c.judge_rest.new.statements c.new.result end.way end.none end.ending kept)
+    (end_concludes files c.judge_rest.new.progress c.judge_rest.new.statements c.new.result end.way end.none end.ending kept)
 
 pub returns-clause-labels : goal.returns-clause-labels
 returns-clause-labels c =

@@ -14,7 +14,7 @@ loop-other-preserved c places variables are same at_b first =
     let i = c.loop-other.other-index in
     let all : c.len.result ≡ length st = omega (arith, length-sentences t.symbols.names t.labels.names t.flat.items t.log.items) in
     let step = pairs_step st places variables others c.args.variable i c.len.result _ c.is_distinct.result c.loop-other.pairs.items are same at_b c.loop-other-test.true all c.is_distinct.ensures
-          (c.loop-other.invariant places variables are same at_b first) in
+    (c.loop-other.invariant places variables are same at_b first) in
     elim c.if-is_distinct.branch [
       | then-is_distinct+in_ok-push w ↦
           subst (λ ps. AreFound st variables (length others) (i + 1) ps) (sym (ap (λ v. v.items) w.pairs-is ∙ w.in_ok-push.ensures.items)) (step.0 w.if-is_distinct.true)
@@ -28,4 +28,4 @@ returns c places variables are same at_b first =
     let test = c.loop-other-test.false in
     let all : c.loop-other.other-index ≡ length others = omega (arith, c.loop-other.auto.other-index-end) in
     found_next st variables (length others) c.loop-other.pairs.items
-        (subst (λ (n : ℕ). AreFound st variables (length others) n c.loop-other.pairs.items) all (c.loop-other.invariant places variables are same at_b first))
+    (subst (λ (n : ℕ). AreFound st variables (length others) n c.loop-other.pairs.items) all (c.loop-other.invariant places variables are same at_b first))

@@ -12,5 +12,5 @@ returns c s meant stated numbers =
     let sorted = c.sort_unstable.new.self.items in
     let once = c.dedup.new.self.items in
     let (rising, gathered) = gathered_sorted st t.essentials.items s c.in_ok-places.places.items sorted once (c.in_ok-places.ensures s numbers) c.sort_unstable.ensures.permutation c.sort_unstable.ensures.sorted
-          (dedup_is eqb sorted once c.dedup.ensures.filtered) in
+    (dedup_is eqb sorted once c.dedup.ensures.filtered) in
     places_gathered st t.essentials.items once s c.requires.sound.0 meant stated c.requires.essentials rising gathered

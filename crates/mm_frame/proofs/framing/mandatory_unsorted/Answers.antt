@@ -15,5 +15,5 @@ pub loop-place-preserved : goal.loop-place-preserved
 loop-place-preserved c s numbers =
     let t = c.args.tables.now in
     gathered_step (statements_of t) t.symbols.names t.infos.items t.essentials.items c.deref-place-items.result.now c.loop-place.place-index s c.symbols_at.result.now c.loop-place.places.items c.push.new.self.items
-        c.add_floating-in-loop-place.new.places.items c.requires.infos c.requires.essentials c.deref-place-items.ensures.value c.loop-place-test.true c.symbols_at.ensures c.in_ok-push.ensures.items c.in_ok-add_floating-2.ensures
-        (c.loop-place.invariant s numbers)
+    c.add_floating-in-loop-place.new.places.items c.requires.infos c.requires.essentials c.deref-place-items.ensures.value c.loop-place-test.true c.symbols_at.ensures c.in_ok-push.ensures.items c.in_ok-add_floating-2.ensures
+    (c.loop-place.invariant s numbers)

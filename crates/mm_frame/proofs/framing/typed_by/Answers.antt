@@ -16,11 +16,11 @@ loop-place-preserved c s are =
     elim c.match-floating_variable.branch [
       | in-Some+in_ok-push-in-Some w ↦
           let more : AreVariables st (take (i + 1) places) (variables ++ w.in-Some.variable ∷ []) =
-                subst (λ o. MatchOption o (AreVariables st (take (i + 1) places) variables) (λ n. AreVariables st (take (i + 1) places) (variables ++ n ∷ []))) w.in-Some.is step in
+          subst (λ o. MatchOption o (AreVariables st (take (i + 1) places) variables) (λ n. AreVariables st (take (i + 1) places) (variables ++ n ∷ []))) w.in-Some.is step in
           subst (AreVariables st (take (i + 1) places)) (sym (ap (λ v. v.items) w.variables-is ∙ w.in_ok-push-in-Some.ensures.items)) more
       | in-None w ↦
           let same : AreVariables st (take (i + 1) places) variables =
-                subst (λ o. MatchOption o (AreVariables st (take (i + 1) places) variables) (λ n. AreVariables st (take (i + 1) places) (variables ++ n ∷ []))) w.in-None.is step in
+          subst (λ o. MatchOption o (AreVariables st (take (i + 1) places) variables) (λ n. AreVariables st (take (i + 1) places) (variables ++ n ∷ []))) w.in-None.is step in
           subst (AreVariables st (take (i + 1) places)) (sym (ap (λ v. v.items) w.variables-is)) same
     ]
 

@@ -9,21 +9,21 @@ pub returns-then-is_last_active : goal.returns-then-is_last_active
 returns-then-is_last_active c st have small size within =
     let dropped = c.loop.invariant.dropped st have small size within in
     forgotten_last st _ _ dropped (λ k p len there.
-        (c.is_last_active.ensures st k p have small size (rw c.deref.ensures.value len) (rw c.deref.ensures.value there)
-            (left_within st _ _ c.args.at dropped within k p there)).0 c.if-is_last_active.true)
+    (c.is_last_active.ensures st k p have small size (rw c.deref.ensures.value len) (rw c.deref.ensures.value there)
+    (left_within st _ _ c.args.at dropped within k p there)).0 c.if-is_last_active.true)
 
 pub loop-preserved : goal.loop-preserved
 loop-preserved c =
     let shorter = popped_size c.loop.places.items c.pop.new.self.items c.pop.result c.pop.ensures.items
-        (c.pop.ensures.variant.1 (let len = c.loop.invariant.sized in omega arith)) in
+    (c.pop.ensures.variant.1 (let len = c.loop.invariant.sized in omega arith)) in
     record {
       sized = omega arith;
       dropped = λ st have small size within.
           let dropped = c.loop.invariant.dropped st have small size within in
           dropped_more st _ _ c.pop.new.self.items c.pop.result dropped c.pop.ensures.items (λ k p len there active.
-              let now = (c.is_last_active.ensures st k p have small size (rw c.deref.ensures.value len) (rw c.deref.ensures.value there)
-                  (left_within st _ _ c.args.at dropped within k p there)).1 active in
-              absurd (cc (now, c.if-is_last_active.false)));
+          let now = (c.is_last_active.ensures st k p have small size (rw c.deref.ensures.value len) (rw c.deref.ensures.value there)
+          (left_within st _ _ c.args.at dropped within k p there)).1 active in
+          absurd (cc (now, c.if-is_last_active.false)));
     }
 
 pub returns : goal.returns

@@ -6,4 +6,4 @@ use Rattle.mm_frame.proofs.lookups.has_other_type.Goals as goal
 pub returns-in-Some : goal.returns-in-Some
 returns-in-Some c =
     other_code (statements_of c.args.tables.now) c.args.variable.now c.args.code.now c.in-Some.other.now c.ne.result c.requires.sound.0
-        (rw c.in-Some.is at c.latest_code.ensures) (search rules)
+    (rw c.in-Some.is at c.latest_code.ensures) (search rules)

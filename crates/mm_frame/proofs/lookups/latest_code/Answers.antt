@@ -13,7 +13,7 @@ returns-in-Some-at c =
     let x = c.args.variable.now in
     let latest = known_latest st x c.in-Some.info c.in-Some-floating.place (rw c.in-Some.is at c.known.ensures) c.in-Some-floating.is in
     code_match (λ text. text.now) _ (λ code. SomeSentence st (Types code x)) c.name.result
-        (latest_code_says st t.symbols.names c.symbols_at.result.now x c.in-Some-floating.place c.in-Some-at.code _ c.requires.infos.all latest c.symbols_at.ensures (search rules) c.name.ensures)
+    (latest_code_says st t.symbols.names c.symbols_at.result.now x c.in-Some-floating.place c.in-Some-at.code _ c.requires.infos.all latest c.symbols_at.ensures (search rules) c.name.ensures)
 
 pub returns-in-None-at : goal.returns-in-None-at
 returns-in-None-at c =

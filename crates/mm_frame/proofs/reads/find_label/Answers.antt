@@ -7,7 +7,7 @@ pub returns-in-Some : goal.returns-in-Some
 returns-in-Some c =
     let t = c.args.tables.now in
     let (place, s, numbered, named) = labelled_at (statements_of t) t.labels.names t.named.items t.log.items c.in-Some.number c.args.label.now c.requires.labels
-        (rw c.in-Some.is at c.find.ensures) in
+    (rw c.in-Some.is at c.find.ensures) in
     c.find_number.ensures c.args.label.now place s numbered named
 
 pub returns-in-None : goal.returns-in-None

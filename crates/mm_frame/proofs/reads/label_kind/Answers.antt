@@ -11,9 +11,9 @@ returns-in-Some c place s numbered =
     let (l, at, named) = label_at (statements_of t) t.labels.names t.named.items t.log.items c.args.id.0 place s c.requires.labels numbered in
     let read : Some c.in-Some.entry ≡ slice_get c.deref.result.now c.label_place.result = rw c.in-Some.is at c.at.ensures in
     let at_entry : slice_get t.log.items place ≡ Some c.in-Some.entry =
-        sym (rw (c.deref.ensures.value, c.label_place.ensures place s numbered) at read) in
+    sym (rw (c.deref.ensures.value, c.label_place.ensures place s numbered) at read) in
     let (same, has) = entry_named t.symbols.names t.labels.names t.flat.items t.log.items place c.in-Some.entry s l c.requires.sound.1
-        at_entry numbered.there named in
+    at_entry numbered.there named in
     same ∙ c.kind_of.ensures l has
 
 pub returns-in-None : goal.returns-in-None
@@ -21,4 +21,4 @@ returns-in-None c place s numbered =
     let t = c.args.tables.now in
     let read : None ≡ slice_get c.deref.result.now c.label_place.result = rw c.in-None.is at c.at.ensures in
     absurd (no_entry t.symbols.names t.labels.names t.flat.items t.log.items place s
-        (sym (rw (c.deref.ensures.value, c.label_place.ensures place s numbered) at read)) numbered.there)
+    (sym (rw (c.deref.ensures.value, c.label_place.ensures place s numbered) at read)) numbered.there)

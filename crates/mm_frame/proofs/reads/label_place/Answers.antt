@@ -7,10 +7,10 @@ pub returns-in-Some : goal.returns-in-Some
 returns-in-Some c place s numbered =
     let t = c.args.tables.now in
     same_place (statements_of t) t.labels.names t.named.items t.log.items c.args.id.0 place s c.in-Some.info c.requires.labels
-        (sym (rw c.in-Some.is at c.label_info.ensures)) numbered
+    (sym (rw c.in-Some.is at c.label_info.ensures)) numbered
 
 pub returns-in-None : goal.returns-in-None
 returns-in-None c place s numbered =
     let t = c.args.tables.now in
     absurd (no_info (statements_of t) t.labels.names t.named.items t.log.items c.args.id.0 place s c.requires.labels
-        (sym (rw c.in-None.is at c.label_info.ensures)) numbered)
+    (sym (rw c.in-None.is at c.label_info.ensures)) numbered)

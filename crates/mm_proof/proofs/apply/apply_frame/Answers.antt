@@ -18,17 +18,19 @@ use Rattle.mm_proof.proofs.apply.apply_frame.Goals as goal
 pub returns-then-count-hypotheses-clause-fault : goal.returns-then-count-hypotheses-clause-fault
 returns-then-count-hypotheses-clause-fault g c rule step is =
     let same : P8 ≡ rule = cc in
-    let number : step ≡ c.args.number = cc in
-    (number, λ id s n.
-    let st = c.args.book.now.statements in
-    let at = c.args.frame.now.place in
-    let stack = g.S.Store.stack c.args.store.now in
-    let h = c.hypotheses-hypotheses.ensures in
-    let ids = ids_in c.hypotheses-hypotheses.result.now in
-    let known = subst (λ (l : List Sentence). AreHypothesesOf l ids h.hypotheses) c.requires.frame h.numbered in
-    let short : length stack < length h.hypotheses = omega (arith, c.if-count-hypotheses.true, c.len-count.ensures, as_many st c.hypotheses-hypotheses.result.now h.hypotheses known) in
-    let called = called_of st c.args.frame.now.statements c.args.own.now.place id at ids c.requires.assertion.0 s c.requires.frame h c.requires.assertion.1 c.requires.assertion.2 c.requires.before n in
-    subst (λ (r : ProofRule). StopsAt st c.args.own.now.place id stack r) same (stops_P8 st c.args.own.now.place id at ids h.hypotheses stack called short))
+    let number : step ≡ c.args.number = cc in (
+      number,
+      λ id s n.
+          let st = c.args.book.now.statements in
+          let at = c.args.frame.now.place in
+          let stack = g.S.Store.stack c.args.store.now in
+          let h = c.hypotheses-hypotheses.ensures in
+          let ids = ids_in c.hypotheses-hypotheses.result.now in
+          let known = subst (λ (l : List Sentence). AreHypothesesOf l ids h.hypotheses) c.requires.frame h.numbered in
+          let short : length stack < length h.hypotheses = omega (arith, c.if-count-hypotheses.true, c.len-count.ensures, as_many st c.hypotheses-hypotheses.result.now h.hypotheses known) in
+          let called = called_of st c.args.frame.now.statements c.args.own.now.place id at ids c.requires.assertion.0 s c.requires.frame h c.requires.assertion.1 c.requires.assertion.2 c.requires.before n in
+          subst (λ (r : ProofRule). StopsAt st c.args.own.now.place id stack r) same (stops_P8 st c.args.own.now.place id at ids h.hypotheses stack called short),
+    )
 
 pub rule_broken-rule-requires-clause-variables : goal.rule_broken-rule-requires-clause-variables
 rule_broken-rule-requires-clause-variables g c =
@@ -39,8 +41,12 @@ rule_broken-rule-requires-clause-variables g c =
     let ids = ids_in c.hypotheses-hypotheses.result.now in
     let known = subst (λ (l : List Sentence). AreHypothesesOf l ids h.hypotheses) c.requires.frame h.numbered in
     let count : length c.fill_variables.new.variables.items ≡ length c.hypotheses-hypotheses.result.now =
-    omega (arith, length-map c.fill_variables.new.variables.items (λ v. option_map (λ s. s.0) v), typed_count st (variables_in c.fill_variables.new.variables.items) h.hypotheses (c.in_ok-fill_variables.ensures h.hypotheses known),
-    as_many st c.hypotheses-hypotheses.result.now h.hypotheses known) in
+    omega (
+      arith,
+      length-map c.fill_variables.new.variables.items (λ v. option_map (λ s. s.0) v),
+      typed_count st (variables_in c.fill_variables.new.variables.items) h.hypotheses (c.in_ok-fill_variables.ensures h.hypotheses known),
+      as_many st c.hypotheses-hypotheses.result.now h.hypotheses known,
+    ) in
     ap length c.deref.ensures.value ∙ count
 
 pub conclude-requires-clause-sound : goal.conclude-requires-clause-sound
@@ -55,25 +61,31 @@ conclude-requires-clause-entries g c =
     let ids = ids_in c.hypotheses-hypotheses.result.now in
     let known = subst (λ (l : List Sentence). AreHypothesesOf l ids h.hypotheses) c.requires.frame h.numbered in
     let count : length c.fill_variables.new.variables.items ≡ length c.hypotheses-hypotheses.result.now =
-    omega (arith, length-map c.fill_variables.new.variables.items (λ v. option_map (λ s. s.0) v), typed_count st (variables_in c.fill_variables.new.variables.items) h.hypotheses (c.in_ok-fill_variables.ensures h.hypotheses known),
-    as_many st c.hypotheses-hypotheses.result.now h.hypotheses known) in
+    omega (
+      arith,
+      length-map c.fill_variables.new.variables.items (λ v. option_map (λ s. s.0) v),
+      typed_count st (variables_in c.fill_variables.new.variables.items) h.hypotheses (c.in_ok-fill_variables.ensures h.hypotheses known),
+      as_many st c.hypotheses-hypotheses.result.now h.hypotheses known,
+    ) in
     omega (arith, count, c.len-count.ensures, c.if-count-hypotheses.false)
 
 pub returns-in-Some-clause-fault : goal.returns-in-Some-clause-fault
 returns-in-Some-clause-fault g c rule step is =
     let same : c.in-Some.rule ≡ rule = cc in
-    let number : step ≡ c.args.number = cc in
-    (number, λ id s n.
-    let st = c.args.book.now.statements in
-    let at = c.args.frame.now.place in
-    let stack = g.S.Store.stack c.args.store.now in
-    let h = c.hypotheses-hypotheses.ensures in
-    let ids = ids_in c.hypotheses-hypotheses.result.now in
-    let called = called_of st c.args.frame.now.statements c.args.own.now.place id at ids c.requires.assertion.0 s c.requires.frame h c.requires.assertion.1 c.requires.assertion.2 c.requires.before n in
-    let typed = c.in_ok-fill_variables.ensures h.hypotheses called.known in
-    let typed_in = subst (λ (items : List (Option Sym)). AreVariablesOf st (variables_in items) h.hypotheses) (sym c.deref.ensures.value) typed in
-    let pairs = subst (λ (l : List Sentence). ArePairs (record { statements = l; place = at }) (pairs_in c.pairs.result.now)) c.requires.frame c.pairs.ensures in
-    subst (λ (r : ProofRule). StopsAt st c.args.own.now.place id stack r) same (c.in-Some.ensures id at h.hypotheses called typed_in pairs))
+    let number : step ≡ c.args.number = cc in (
+      number,
+      λ id s n.
+          let st = c.args.book.now.statements in
+          let at = c.args.frame.now.place in
+          let stack = g.S.Store.stack c.args.store.now in
+          let h = c.hypotheses-hypotheses.ensures in
+          let ids = ids_in c.hypotheses-hypotheses.result.now in
+          let called = called_of st c.args.frame.now.statements c.args.own.now.place id at ids c.requires.assertion.0 s c.requires.frame h c.requires.assertion.1 c.requires.assertion.2 c.requires.before n in
+          let typed = c.in_ok-fill_variables.ensures h.hypotheses called.known in
+          let typed_in = subst (λ (items : List (Option Sym)). AreVariablesOf st (variables_in items) h.hypotheses) (sym c.deref.ensures.value) typed in
+          let pairs = subst (λ (l : List Sentence). ArePairs (record { statements = l; place = at }) (pairs_in c.pairs.result.now)) c.requires.frame c.pairs.ensures in
+          subst (λ (r : ProofRule). StopsAt st c.args.own.now.place id stack r) same (c.in-Some.ensures id at h.hypotheses called typed_in pairs),
+    )
 
 pub returns-in-None-clause-carried : goal.returns-in-None-clause-carried
 returns-in-None-clause-carried g c = IfOk-weaker c.conclude.result _ _ (λ u carried id s n.
@@ -112,19 +124,21 @@ returns-in-None-clause-entries g c = IfOk-weaker c.conclude.result _ _ (λ u ent
 
 pub returns-in-None-clause-fault : goal.returns-in-None-clause-fault
 returns-in-None-clause-fault g c rule step is =
-    let fault = c.conclude.ensures.fault rule step is in
-    (fault.0, λ id s n.
-    let st = c.args.book.now.statements in
-    let at = c.args.frame.now.place in
-    let stack = g.S.Store.stack c.args.store.now in
-    let h = c.hypotheses-hypotheses.ensures in
-    let ids = ids_in c.hypotheses-hypotheses.result.now in
-    let called = called_of st c.args.frame.now.statements c.args.own.now.place id at ids c.requires.assertion.0 s c.requires.frame h c.requires.assertion.1 c.requires.assertion.2 c.requires.before n in
-    let typed = c.in_ok-fill_variables.ensures h.hypotheses called.known in
-    let typed_in = subst (λ (items : List (Option Sym)). AreVariablesOf st (variables_in items) h.hypotheses) (sym c.deref.ensures.value) typed in
-    let pairs = subst (λ (l : List Sentence). ArePairs (record { statements = l; place = at }) (pairs_in c.pairs.result.now)) c.requires.frame c.pairs.ensures in
-    let matched = c.in-None.ensures id at h.hypotheses called typed_in pairs in
-    let base = c.len-count.result - length c.hypotheses-hypotheses.result.now in
-    let matched_in = subst (λ (items : List (Option Sym)). IsMatched st c.args.own.now.place h.hypotheses (variables_in items) (drop base stack) (pairs_in c.pairs.result.now)) c.deref.ensures.value matched in
-    let ready = ready_of st c.args.frame.now.statements c.args.own.now.place id at (variables_in c.fill_variables.new.variables.items) (drop base stack) ids h.hypotheses (pairs_in c.pairs.result.now) c.requires.frame called typed pairs matched_in in
-    subst (λ (l : List Sentence). StopsAt l c.args.own.now.place id stack rule) c.requires.frame (fault.1 c.args.own.now.place id ready))
+    let fault = c.conclude.ensures.fault rule step is in (
+      fault.0,
+      λ id s n.
+          let st = c.args.book.now.statements in
+          let at = c.args.frame.now.place in
+          let stack = g.S.Store.stack c.args.store.now in
+          let h = c.hypotheses-hypotheses.ensures in
+          let ids = ids_in c.hypotheses-hypotheses.result.now in
+          let called = called_of st c.args.frame.now.statements c.args.own.now.place id at ids c.requires.assertion.0 s c.requires.frame h c.requires.assertion.1 c.requires.assertion.2 c.requires.before n in
+          let typed = c.in_ok-fill_variables.ensures h.hypotheses called.known in
+          let typed_in = subst (λ (items : List (Option Sym)). AreVariablesOf st (variables_in items) h.hypotheses) (sym c.deref.ensures.value) typed in
+          let pairs = subst (λ (l : List Sentence). ArePairs (record { statements = l; place = at }) (pairs_in c.pairs.result.now)) c.requires.frame c.pairs.ensures in
+          let matched = c.in-None.ensures id at h.hypotheses called typed_in pairs in
+          let base = c.len-count.result - length c.hypotheses-hypotheses.result.now in
+          let matched_in = subst (λ (items : List (Option Sym)). IsMatched st c.args.own.now.place h.hypotheses (variables_in items) (drop base stack) (pairs_in c.pairs.result.now)) c.deref.ensures.value matched in
+          let ready = ready_of st c.args.frame.now.statements c.args.own.now.place id at (variables_in c.fill_variables.new.variables.items) (drop base stack) ids h.hypotheses (pairs_in c.pairs.result.now) c.requires.frame called typed pairs matched_in in
+          subst (λ (l : List Sentence). StopsAt l c.args.own.now.place id stack rule) c.requires.frame (fault.1 c.args.own.now.place id ready),
+    )

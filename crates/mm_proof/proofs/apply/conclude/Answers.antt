@@ -19,9 +19,11 @@ returns-then-not-fits-clause-fault g c rule at is =
     omega (arith, length-drop c.args.base stack, c.requires.entries, ap length c.deref.ensures.value, length-map c.deref.result.now (λ v. option_map (λ s. s.0) v)) in
     let over = match_false c.in_ok-fits.fits _ _ c.if-not-fits.true c.in_ok-fits.ensures in
     let same : L1 ≡ rule = cc in
-    let number : at ≡ c.args.number = cc in
-    (number, λ place id ready. subst (λ (r : ProofRule). StopsAt st place id stack r) same (stops_L1 c.one_number.ensures st place id c.args.frame.now.place stack c.args.base vs (numbers_in c.expression.result.now) c.requires.sound.0
-    (subst (λ (items : List (Option Sym)). IsReady st place id c.args.frame.now.place (variables_in items) (drop c.args.base stack)) (sym c.deref.ensures.value) ready) count c.expression.ensures over))
+    let number : at ≡ c.args.number = cc in (
+      number,
+      λ place id ready. subst (λ (r : ProofRule). StopsAt st place id stack r) same (stops_L1 c.one_number.ensures st place id c.args.frame.now.place stack c.args.base vs (numbers_in c.expression.result.now) c.requires.sound.0
+          (subst (λ (items : List (Option Sym)). IsReady st place id c.args.frame.now.place (variables_in items) (drop c.args.base stack)) (sym c.deref.ensures.value) ready) count c.expression.ensures over),
+    )
 
 pub returns-clause-carried : goal.returns-clause-carried
 returns-clause-carried g c place id ready =

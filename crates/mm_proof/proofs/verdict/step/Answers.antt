@@ -22,10 +22,12 @@ returns-then-expression-gt-EXPRESSION_LIMIT-clause-fault g c rule at is =
     let both = sym c.broken.ensures ∙ is in
     let same : L1 ≡ rule = cc in
     let number : at ≡ c.args.number = cc in
-    let over : 1048576 < length (numbers_in c.expression-expression.result.now) = omega (arith, c.if-expression-gt-EXPRESSION_LIMIT.true, length-map c.expression-expression.result.now (λ s. s.0)) in
-    (number, subst (λ (r : ProofRule). StopsAt st c.args.own.now.place c.args.id.0 (g.S.Store.stack c.args.store.now) r) same
-    (stops_long st c.args.own.now.place c.args.id.0 c.requires.usable.0 (g.S.Store.stack c.args.store.now) (numbers_in c.expression-expression.result.now) c.requires.sound.0 u kind
-    (c.expression-expression.ensures u.s there) over))
+    let over : 1048576 < length (numbers_in c.expression-expression.result.now) = omega (arith, c.if-expression-gt-EXPRESSION_LIMIT.true, length-map c.expression-expression.result.now (λ s. s.0)) in (
+      number,
+      subst (λ (r : ProofRule). StopsAt st c.args.own.now.place c.args.id.0 (g.S.Store.stack c.args.store.now) r) same
+          (stops_long st c.args.own.now.place c.args.id.0 c.requires.usable.0 (g.S.Store.stack c.args.store.now) (numbers_in c.expression-expression.result.now) c.requires.sound.0 u kind
+          (c.expression-expression.ensures u.s there) over),
+    )
 
 pub apply-requires-clause-usable : goal.apply-requires-clause-usable
 apply-requires-clause-usable g c =

@@ -18,13 +18,13 @@ invariant_of-self c =
     let spare_space : 0 < spare c.self.inside.newest = omega arith in
     let s : Span = record { pair = c.args.pair; place = c.args.place; older = c.copied-older.result } in
     let pushed : c.push.new.self.items ≡ spans ++ s ∷ [] =
-          c.push.ensures.items ∙ ap (λ b. if b then (spans ++ s ∷ []) else spans) (c.push.ensures.succeeds space) in
+    c.push.ensures.items ∙ ap (λ b. if b then (spans ++ s ∷ []) else spans) (c.push.ensures.succeeds space) in
     let older : c.copied-older.result ≡ get is_same_key c.self.inside.newest c.args.pair = c.copied-older.ensures ∙ c.get.ensures.value in
     let number : c.len-number.result ≡ length spans = c.len-number.ensures ∙ c.self.inside.spans.ok.0 in
     let updates = holds_if_ok c.insert.result (Updates is_same_key c.self.inside.newest c.insert.new.self c.args.pair (Some c.len-number.result)) (c.insert.ensures.succeeds spare_space) c.insert.ensures.updates in
     let values : (q : ℕ × ℕ) → get is_same_key c.insert.new.self q ≡ update is_same_key (get is_same_key c.self.inside.newest) c.args.pair (Some (length spans)) q =
-          subst (λ n. (q : ℕ × ℕ) → get is_same_key c.insert.new.self q ≡ update is_same_key (get is_same_key c.self.inside.newest) c.args.pair (Some n) q) number updates.0 in
+    subst (λ n. (q : ℕ × ℕ) → get is_same_key c.insert.new.self q ≡ update is_same_key (get is_same_key c.self.inside.newest) c.args.pair (Some n) q) number updates.0 in
     let linked : AreLinked (spans ++ record { pair = c.args.pair; place = c.args.place; older = get is_same_key c.self.inside.newest c.args.pair } ∷ []) c.insert.new.self =
-          linked_push spans c.self.inside.newest c.insert.new.self c.args.pair c.args.place c.self.invariant values in
+    linked_push spans c.self.inside.newest c.insert.new.self c.args.pair c.args.place c.self.invariant values in
     subst (λ xs. AreLinked xs c.insert.new.self) (sym pushed)
     (subst (λ (o : Option ℕ). AreLinked (spans ++ record { pair = c.args.pair; place = c.args.place; older = o } ∷ []) c.insert.new.self) (sym older) linked)

@@ -7,6 +7,6 @@ pub returns : goal.returns
 returns c st e a is_close more =
     let s = c.args.self.now in
     let (within, scopes) = closed NEVER st e s.blocks.items s.ends.items s.open.items c.pop.new.self.items c.pop.result c.innermost-block.result c.innermost-outer.result
-        c.innermost-block.ensures c.innermost-outer.ensures c.pop.ensures.items (λ some. c.pop.ensures.variant.1 (omega arith)) a is_close more in
+    c.innermost-block.ensures c.innermost-outer.ensures c.pop.ensures.items (λ some. c.pop.ensures.variant.1 (omega arith)) a is_close more in
     let place : c.len-place.result ≡ length s.blocks.items = omega arith in
     rw (c.put.ensures, c.write.ensures within, place) scopes

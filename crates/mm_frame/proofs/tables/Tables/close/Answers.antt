@@ -7,13 +7,25 @@ pub returns-in_err-reserve-clause-err : goal.returns-in_err-reserve-clause-err
 returns-in_err-reserve-clause-err c = same_on_err _ c.args.self.now c.reserve.new.self c.requires.tables c.reserve.ensures.same
 
 pub returns-clause-ok : goal.returns-clause-ok
-returns-clause-ok c = (refl, λ s is unlabelled bare meant formed.
-    let adds = adds_block c.args.self.now c.reserve.new.self c.enter.new.self Closing c.len-start.result c.args.bytes c.reserve.ensures.same c.enter.ensures (omega arith) in
-    let left = closing_left c.args.self.now c.enter.new.self s c.args.bytes c.len.result c.forget_inactive.new.places.items c.requires.tables adds
-        (c.enter.ensures.essentials ∙ c.reserve.ensures.same.essentials) is c.requires.closes (omega arith) c.forget_inactive.ensures in
-    close_grows c.args.self.now _ s c.args.bytes c.requires.tables
-    (record {
-      symbols = adds.symbols; infos = adds.infos; labels = adds.labels; named = adds.named; log = adds.log; flat = adds.flat; scopes = adds.scopes;
-      hypotheses = adds.hypotheses; pairs = adds.pairs; stated = adds.stated; counted = adds.counted;
-    })
-    left is unlabelled bare c.requires.closes c.requires.some c.requires.room meant formed)
+returns-clause-ok c = (
+  refl,
+  λ s is unlabelled bare meant formed.
+      let adds = adds_block c.args.self.now c.reserve.new.self c.enter.new.self Closing c.len-start.result c.args.bytes c.reserve.ensures.same c.enter.ensures (omega arith) in
+      let left = closing_left c.args.self.now c.enter.new.self s c.args.bytes c.len.result c.forget_inactive.new.places.items c.requires.tables adds
+      (c.enter.ensures.essentials ∙ c.reserve.ensures.same.essentials) is c.requires.closes (omega arith) c.forget_inactive.ensures in
+      close_grows c.args.self.now _ s c.args.bytes c.requires.tables
+      (record {
+        symbols = adds.symbols;
+        infos = adds.infos;
+        labels = adds.labels;
+        named = adds.named;
+        log = adds.log;
+        flat = adds.flat;
+        scopes = adds.scopes;
+        hypotheses = adds.hypotheses;
+        pairs = adds.pairs;
+        stated = adds.stated;
+        counted = adds.counted;
+      })
+      left is unlabelled bare c.requires.closes c.requires.some c.requires.room meant formed,
+)

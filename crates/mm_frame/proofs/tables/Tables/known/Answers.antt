@@ -7,7 +7,7 @@ pub returns-in-Some : goal.returns-in-Some
 returns-in-Some c =
     let t = c.args.self.now in
     known_match (statements_of t) t.symbols.names t.infos.items c.args.symbol.now c.in-Some.number c.info.result c.requires.infos
-        (rw c.in-Some.is at c.find.ensures) c.info.ensures
+    (rw c.in-Some.is at c.find.ensures) c.info.ensures
 
 pub returns-in-None : goal.returns-in-None
 returns-in-None c =

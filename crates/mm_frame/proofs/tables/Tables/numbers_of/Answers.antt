@@ -15,4 +15,4 @@ number_of-requires-clause-declared c =
 pub loop-token-preserved : goal.loop-token-preserved
 loop-token-preserved c =
     rw c.in_ok-push.ensures.items (numbers_more (statements_of c.args.self.now) c.loop-token.numbers.items c.number_of.result c.args.symbols.now c.loop-token.token-index _
-        c.loop-token-test.true c.loop-token.invariant c.number_of.ensures)
+    c.loop-token-test.true c.loop-token.invariant c.number_of.ensures)

@@ -7,7 +7,10 @@ pub returns-in_err-reserve-clause-err : goal.returns-in_err-reserve-clause-err
 returns-in_err-reserve-clause-err c = same_on_err _ c.args.self.now c.reserve.new.self c.requires.tables c.reserve.ensures.same
 
 pub returns-clause-ok : goal.returns-clause-ok
-returns-clause-ok c = (refl, λ s is unlabelled bare meant formed.
-    open_grows c.args.self.now c.enter.new.self s c.args.bytes c.requires.tables
-    (adds_block c.args.self.now c.reserve.new.self c.enter.new.self Opening c.len-start.result c.args.bytes c.reserve.ensures.same c.enter.ensures (omega arith))
-    (c.enter.ensures.essentials ∙ c.reserve.ensures.same.essentials) is unlabelled bare c.requires.some c.requires.room meant formed)
+returns-clause-ok c = (
+  refl,
+  λ s is unlabelled bare meant formed.
+      open_grows c.args.self.now c.enter.new.self s c.args.bytes c.requires.tables
+      (adds_block c.args.self.now c.reserve.new.self c.enter.new.self Opening c.len-start.result c.args.bytes c.reserve.ensures.same c.enter.ensures (omega arith))
+      (c.enter.ensures.essentials ∙ c.reserve.ensures.same.essentials) is unlabelled bare c.requires.some c.requires.room meant formed,
+)
