@@ -1,7 +1,11 @@
 //! What a book answers.
 
+ghost use Rattle.std.specs.Prelude.{◌≡◌};
+ghost use Rattle.mm_frame.specs.declared.answer.RuleFault.TheVariants.{Memory};
+
 use crate::number::LabelId;
 use crate::rule::MeaningRule;
+use std::alloc::AllocError;
 
 /// What a statement was taken as.
 #[derive(Clone, Copy, PartialEq, Eq, Debug)]
@@ -36,4 +40,12 @@ pub enum RuleFault {
     Rule(MeaningRule),
     /// Memory ran out.
     Memory,
+}
+
+impl From<AllocError> for RuleFault {
+    ghost from_gives = { λ _ e. e ≡ Memory };
+
+    fn from(_e: AllocError) -> RuleFault {
+        RuleFault::Memory
+    }
 }

@@ -76,7 +76,7 @@ impl<'a> Book<'a> {
     {
         match Tables::new(alloc) {
             Ok(tables) => Ok(Book { tables }),
-            Err(_) => Err(RuleFault::Memory),
+            Err(refused) => Err(RuleFault::from(refused)),
         }
     }
 
@@ -100,11 +100,11 @@ impl<'a> Book<'a> {
         match first_broken(&self.tables, statement) {
             Ok(None) => {}
             Ok(Some(rule)) => return Err(RuleFault::Rule(rule)),
-            Err(_) => return Err(RuleFault::Memory),
+            Err(refused) => return Err(RuleFault::from(refused)),
         }
         match self.tables.grow(statement, bytes_of(statement)) {
             Ok(taken) => Ok(taken),
-            Err(_) => Err(RuleFault::Memory),
+            Err(refused) => Err(RuleFault::from(refused)),
         }
     }
 
