@@ -10,6 +10,7 @@ pub mod OnceLaws
 pub mod InclusionsEnd
 pub mod TopEnd
 pub mod StepLaws
+pub mod MoreLeft
 pub mod PartLaws
 pub mod HandedLaws
 pub mod TextFacts

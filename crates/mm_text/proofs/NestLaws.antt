@@ -1,5 +1,5 @@
 -- The items that are left, as a file's pieces are taken, a file is gone into and a file ends.
-use Rattle.std.proofs.Common.{◌≡◌, ℕ, zero, suc, ◌+◌, ◌<◌, ◌≤◌, List, [], ◌∷◌, ◌++◌, length, map, Bool, true, false, not, cond, refl, sym, ap, ◌∙◌, subst, Some, None, Option, count_by, get_or, set, drop, replicate, append-nil, arith}
+use Rattle.std.proofs.Common.{◌≡◌, ℕ, zero, suc, ◌+◌, ◌-◌, ◌<◌, ◌≤◌, List, [], ◌∷◌, ◌++◌, length, map, Bool, true, false, not, cond, refl, sym, ap, ◌∙◌, subst, Some, None, Option, count_by, get_or, set, drop, replicate, append-nil, arith}
 use Rattle.std.specs.Prelude.{slice_index_or, slice_set, slice_get, sum_by, position, if◌then◌else◌}
 use Rattle.std.proofs.lemmas.List.Sums.{sum_by-set, sum_by_from}
 use Rattle.std.proofs.lemmas.List.Quantifiers.{position-Some}
@@ -188,6 +188,13 @@ count_replicate (suc n) = omega (arith, count_replicate n, sum_by_from (λ b. co
 
 pub count_top : (n : ℕ) → count_by not (true ∷ replicate n false) ≡ n
 count_top n = omega (arith, count_replicate n, sum_by_from (λ b. cond (not b) 1 0) (0 + 0) (replicate n false))
+
+-- all files but the top file aren't named yet
+pub room_at_begin : (files : List File) (named : List Bool) → 0 < length files → named ≡ replicate (length files) false → count_by not (slice_set named 0 true) ≡ length files - 1
+room_at_begin [] named some e = absurd (omega arith)
+room_at_begin (f ∷ files) named some e =
+    let first : count_by not (slice_set named 0 true) ≡ length files = ap (λ l. count_by not (slice_set l 0 true)) e ∙ count_top (length files) in
+    omega (arith, first)
 
 pub begins : (files : List File) (d : File) (named : List Bool) (p : Place) (places : List Place) → 0 < length files → named ≡ replicate (length files) false
     → p.bytes.now ≡ (get_or files 0 d).bytes.now → p.file ≡ 0 → p.at ≡ 0 → places ≡ []

@@ -19,36 +19,37 @@ use Rattle.mm_text.specs.Statement.{PlainStatement}
 use Rattle.mm_text.specs.Items.{Item, Plain, Wrong, Inclusion, End}
 use Rattle.mm_text.specs.Next.{items_with, IsOfClass, TakesToken, TakesNext}
 use Rattle.mm_text.specs.Reading.{PlainFault}
-use Rattle.mm_text.specs.Reader.{Part, step, More, Whole, Faulty, PlainScope, passed, fault_in, unfinished_fault, end_fault, inclusion_fault, is_outside, has_none, unless, part_label, part_first, Between, begun, block_fault, PlainReading, ended, with_statement, reading_of}
+use Rattle.mm_text.specs.Reader.{Part, step, More, Whole, Faulty, PlainScope, passed, opened, fault_in, unfinished_fault, end_fault, inclusion_fault, is_outside, has_none, unless, part_label, part_first, Between, begun, block_fault, PlainReading, ended, with_statement, reading_of}
 use Rattle.mm_text.specs.Steps.{fault_of, TakesPlain, AnswersFault, GivesPart, GivesFirst, TakesFirst, TellsFault, Opens, Closes, StepsTo}
 use Rattle.mm_text.proofs.StepLaws.{read_nothing, read_end, read_inclusion, read_wrong, read_more, read_whole, read_opened, read_closing, read_faulty, step_opens, step_closes}
+use Rattle.mm_text.proofs.MoreLeft.{HasMore, IsUnfinished, more_left, statement_more}
 
 -- ---- what was taken, where it is known
 
-pub takes_token : (old new : List Item) (n : Next) (t : Token) (kind : Class) → TakesNext old (Ok n) new → n ≡ next.Token t kind → TakesToken old (plain_token t) kind new
-takes_token old new n t kind h e = subst (λ n. TakesNext old (Ok n) new) e h
+pub takes_token : (old new : List Item) (n : Next) (t : Token) (kind : Class) → TakesNext old n new → n ≡ next.Token t kind → TakesToken old (plain_token t) kind new
+takes_token old new n t kind h e = subst (λ n. TakesNext old n new) e h
 
-pub takes_wrong : (old new : List Item) (n : Next) (t : Token) (kind : Class) (rule : TextRule) → TakesNext old (Ok n) new → n ≡ next.Token t kind → kind ≡ class.Wrong rule → old ≡ Wrong rule (plain_token t) ∷ []
+pub takes_wrong : (old new : List Item) (n : Next) (t : Token) (kind : Class) (rule : TextRule) → TakesNext old n new → n ≡ next.Token t kind → kind ≡ class.Wrong rule → old ≡ Wrong rule (plain_token t) ∷ []
 takes_wrong old new n t kind rule h e k = (takes_token old new n t kind h e).first ∙ ap (λ k. items_with (plain_token t) k new) k
 
-pub takes_keyword : (old new : List Item) (n : Next) (t : Token) (kind : Class) (keyword : Keyword) → TakesNext old (Ok n) new → n ≡ next.Token t kind → kind ≡ class.Keyword keyword → TakesPlain old (plain_token t) (Some keyword) new
+pub takes_keyword : (old new : List Item) (n : Next) (t : Token) (kind : Class) (keyword : Keyword) → TakesNext old n new → n ≡ next.Token t kind → kind ≡ class.Keyword keyword → TakesPlain old (plain_token t) (Some keyword) new
 takes_keyword old new n t kind keyword h e k =
     let taken = takes_token old new n t kind h e in
     record { first = taken.first ∙ ap (λ k. items_with (plain_token t) k new) k; text = subst (IsOfClass (plain_token t)) k taken.text; at = taken.at }
 
-pub takes_word : (old new : List Item) (n : Next) (t : Token) (kind : Class) → TakesNext old (Ok n) new → n ≡ next.Token t kind → kind ≡ class.Word → TakesPlain old (plain_token t) None new
+pub takes_word : (old new : List Item) (n : Next) (t : Token) (kind : Class) → TakesNext old n new → n ≡ next.Token t kind → kind ≡ class.Word → TakesPlain old (plain_token t) None new
 takes_word old new n t kind h e k =
     let taken = takes_token old new n t kind h e in
     record { first = taken.first ∙ ap (λ k. items_with (plain_token t) k new) k; text = subst (IsOfClass (plain_token t)) k taken.text; at = taken.at }
 
-pub takes_inclusion : (old new : List Item) (n : Next) (t : Token) → TakesNext old (Ok n) new → n ≡ next.Inclusion t → old ≡ Inclusion (plain_token t) ∷ new
-takes_inclusion old new n t h e = subst (λ n. TakesNext old (Ok n) new) e h
+pub takes_inclusion : (old new : List Item) (n : Next) (t : Token) → TakesNext old n new → n ≡ next.Inclusion t → old ≡ Inclusion (plain_token t) ∷ new
+takes_inclusion old new n t h e = subst (λ n. TakesNext old n new) e h
 
-pub takes_end : (old new : List Item) (n : Next) (file : ℕ) → TakesNext old (Ok n) new → n ≡ next.End file → old ≡ End file ∷ new
-takes_end old new n file h e = subst (λ n. TakesNext old (Ok n) new) e h
+pub takes_end : (old new : List Item) (n : Next) (file : ℕ) → TakesNext old n new → n ≡ next.End file → old ≡ End file ∷ new
+takes_end old new n file h e = subst (λ n. TakesNext old n new) e h
 
-pub takes_nothing : (old new : List Item) (n : Next) → TakesNext old (Ok n) new → n ≡ next.Nothing → old ≡ []
-takes_nothing old new n h e = let nothing : (old ≡ []) × (new ≡ []) = subst (λ n. TakesNext old (Ok n) new) e h in nothing.0
+pub takes_nothing : (old new : List Item) (n : Next) → TakesNext old n new → n ≡ next.Nothing → old ≡ []
+takes_nothing old new n h e = let nothing : (old ≡ []) × (new ≡ []) = subst (λ n. TakesNext old n new) e h in nothing.0
 
 pub sign_is : (old new : List Item) (t : PlainToken) (sign other : Option Keyword) → TakesPlain old t sign new → sign ≡ other → TakesPlain old t other new
 sign_is old new t sign other h e = subst (λ sign. TakesPlain old t sign new) e h
@@ -104,12 +105,13 @@ pub steps_to_fault : (scope : PlainScope) (part : Part) (t : PlainToken) (fault 
 steps_to_fault scope part t fault rule label next e faulty named =
     subst (λ f. StepsTo scope part t (Err f) next) (sym e) (faulty, fault_with scope part t rule label named)
 
--- a token that was not taken in ends the reading
-pub answers_refused : (scope : PlainScope) (part next : Part) (items rest : List Item) (t : PlainToken) (fault : TextFault) → items ≡ Plain t ∷ rest → StepsTo scope part t (Err fault) next → AnswersFault (reading_of scope part items) fault
-answers_refused scope part next items rest t (Fault rule file at statement label) first h =
+-- a token that was not taken in ends the reading, or there was no memory for it
+pub answers_refused : (scope : PlainScope) (part next : Part) (items rest : List Item) (t : PlainToken) (fault : TextFault) → IsUnfinished part → items ≡ Plain t ∷ rest → StepsTo scope part t (Err fault) next
+    → AnswersFault (reading_of scope part items) fault
+answers_refused scope part next items rest t (Fault rule file at statement label) some first h =
     ap (reading_of scope part) first ∙ read_faulty scope part t rest rule h.0 ∙ ap (λ (f : PlainFault). ended (Some f)) h.1
-answers_refused scope part next items rest t Memory first h = tt
-answers_refused scope part next items rest t (Load rule) first h = absurd h
+answers_refused scope part next items rest t Memory some first h = more_left scope part items some
+answers_refused scope part next items rest t (Load rule) some first h = absurd h
 
 -- ---- answers
 
@@ -155,7 +157,7 @@ same_included scope items rest t next none =
 pub answers_open : (scope : PlainScope) (items rest : List Item) (file : ℕ) (fault : TextFault) → items ≡ End file ∷ rest → TellsFault (end_fault scope Between file) (Some fault) → AnswersFault (reading_of scope Between items) fault
 answers_open scope items rest file (Fault rule home at statement label) next told =
     ap (reading_of scope Between) next ∙ read_end scope Between file rest ∙ ap (λ (f : Option PlainFault). unless f (reading_of scope Between rest)) told
-answers_open scope items rest file Memory next told = tt
+answers_open scope items rest file Memory next told = absurd told
 answers_open scope items rest file (Load rule) next told = absurd told
 
 -- another file ends, or the top file outside of blocks
@@ -164,7 +166,7 @@ same_ended scope items rest file next none =
     ap (reading_of scope Between) next ∙ read_end scope Between file rest ∙ ap (λ (f : Option PlainFault). unless f (reading_of scope Between rest)) none
 
 -- a token is the first one of a statement
-pub takes_first : (scope : PlainScope) (whole old new : List Item) (n : Next) (t : Token) (kind : Class) → reading_of scope Between whole ≡ reading_of scope Between old → TakesNext old (Ok n) new → n ≡ next.Token t kind
+pub takes_first : (scope : PlainScope) (whole old new : List Item) (n : Next) (t : Token) (kind : Class) → reading_of scope Between whole ≡ reading_of scope Between old → TakesNext old n new → n ≡ next.Token t kind
     → TakesFirst scope whole (Ok (Some (t, kind))) new
 takes_first scope whole old new n t kind same h e =
     let taken = takes_token old new n t kind h e in
@@ -173,16 +175,6 @@ takes_first scope whole old new n t kind same h e =
 -- nothing is left
 pub nothing_left : (scope : PlainScope) (items : List Item) → items ≡ [] → reading_of scope Between items ≡ ended None
 nothing_left scope items e = ap (reading_of scope Between) e ∙ read_nothing scope Between
-
--- a fault that is passed on
-pub first_err : (scope : PlainScope) (old new : List Item) (r : Result (Option (Token × Class)) TextFault) (fault passed_on : TextFault) → r ≡ Err passed_on → passed_on ≡ fault → AnswersFault (reading_of scope Between old) fault → TakesFirst scope old r new
-first_err scope old new r fault passed_on is same h = subst (λ r. TakesFirst scope old r new) (sym (is ∙ ap Err same)) h
-
--- want of memory is a fault of any reading
-pub memory_of_any : (reading : PlainReading) (n : TextFault) (old new : List Item) → TakesNext old (Err n) new → AnswersFault reading n
-memory_of_any reading (Fault rule file at statement label) old new h = absurd h
-memory_of_any reading Memory old new h = tt
-memory_of_any reading (Load rule) old new h = absurd h
 
 -- ---- whole statements
 
@@ -195,7 +187,9 @@ pub gives_opening : (scope later : PlainScope) (items rest : List Item) (t : Pla
     → GivesFirst scope items r into later rest
 gives_opening scope later items rest t into (Ok unit) first sign is h =
     (ap (reading_of scope Between) first ∙ read_opened scope Between t rest (step_opens t sign) ∙ (λ i. with_statement (sym is i) (reading_of (sym h i) Between rest)), ap (λ (x : PlainScope). x.count) h)
-gives_opening scope later items rest t into (Err fault) first sign is h = subst (AnswersFault (reading_of scope Between items)) (sym h) tt
+gives_opening scope later items rest t into (Err fault) first sign is h =
+    subst (AnswersFault (reading_of scope Between items)) (sym h)
+    (subst HasMore (sym (ap (reading_of scope Between) first ∙ read_opened scope Between t rest (step_opens t sign))) (statement_more (begun Opening t None) (reading_of (opened scope t) Between rest)))
 
 -- a `$}`
 pub closes_block : (scope later : PlainScope) (items rest : List Item) (t : PlainToken) (into : PlainStatement) → items ≡ Plain t ∷ rest → t.text ≡ codes "$}" → into ≡ begun Closing t None → Closes scope true later

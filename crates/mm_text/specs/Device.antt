@@ -23,6 +23,10 @@ AppendsBeginning old new bytes = (taken : ℕ) × (taken < length bytes) × Appe
 abbrev pub CameWithin : Option (List ℕ) → Option (List ℕ) → ℕ → Type 0
 CameWithin old new max = (came : List ℕ) × (length came ≤ max) × Consumes old new came
 
+-- At least one byte came from the reader, and at most max.
+abbrev pub CameSome : Option (List ℕ) → Option (List ℕ) → ℕ → Type 0
+CameSome old new max = (came : List ℕ) × (0 < length came) × (length came ≤ max) × Consumes old new came
+
 -- More than max bytes came from the reader.
 abbrev pub CameOver : Option (List ℕ) → Option (List ℕ) → ℕ → Type 0
 CameOver old new max = (came : List ℕ) × (max < length came) × Consumes old new came

@@ -1,6 +1,6 @@
 -- How the code goes through the files: the one that is read, and those that wait for the end of one that they include.
 -- Private clauses speak of this.
-use Rattle.std.specs.Prelude.{◌≡◌, ℕ, ◌<◌, ◌≤◌, ◌++◌, List, [], ◌∷◌, Bool, true, false, not, length, map, count_by, if◌then◌else◌, Option, Some, None, IfSome, Result, Ok, Err}
+use Rattle.std.specs.Prelude.{◌≡◌, ℕ, ◌+◌, ◌<◌, ◌≤◌, ◌++◌, List, [], ◌∷◌, Bool, true, false, not, length, map, count_by, if◌then◌else◌, Option, Some, None, IfSome, Result, Ok, Err, vec_len, vec_capacity}
 use Rattle.std.specs.List.{AllByRecursion}
 use Rattle.mm_text.specs.declared.comments.Place.{Place}
 use Rattle.mm_text.specs.declared.comments.Wrong.{Wrong}
@@ -10,8 +10,6 @@ use Rattle.mm_text.specs.declared.next.Next.TheVariants as next
 use Rattle.mm_text.specs.declared.token.Token.{Token}
 use Rattle.mm_text.specs.declared.class.Class.{Class}
 use Rattle.mm_text.specs.declared.class.Class.TheVariants as class
-use Rattle.mm_text.specs.declared.fault.TextFault.{TextFault}
-use Rattle.mm_text.specs.declared.fault.TextFault.TheVariants.{Load, Fault, Memory}
 use Rattle.mm_text.specs.Token.{PlainToken, plain_token}
 use Rattle.mm_text.specs.Files.{plain_file, total_bytes}
 use Rattle.mm_text.specs.Items as items
@@ -86,29 +84,24 @@ abbrev pub items_left : Nest → List Item
 items_left n =
     if n.is_over then [] else put_into n (pieces_left n)
 
--- what holds of the fields
+-- What holds of the fields. For each file that wasn't named yet there is room to keep the place after its name.
 pub record IsNest (n : Nest) : Type 0 where
   pub place : IsPlace n.place
   pub waits : AllByRecursion IsPlace n.«open».items
+  pub room : vec_len n.«open» + count_by not n.named.items ≤ vec_capacity n.«open»
   pub names : n.names ≡ map (λ f. f.name) (map plain_file n.files.now)
   pub named : length n.named.items ≡ length n.files.now
   pub small : total_bytes (map plain_file n.files.now) ≤ 1073741824
   pub naming : IfSome n.naming (λ begin. begin.at < 1073741824)
 
 -- the file with a number is gone into, where it is named before the rest of a file
-abbrev pub Enters : Nest → Place → ℕ → Result Unit TextFault → Nest → Type 0
-Enters old place number (Ok unit) new =
-    ((name : PlainToken) → number_of (map plain_file old.files.now) name.text ≡ Some number
-    → items_left new ≡ put_into old (Named name ∷ pieces place.file Outside (shown_at place) ++ waiting old.«open».items))
-    × (new.naming ≡ None) × (new.is_over ≡ false)
-Enters old place number (Err Memory) new = items_left new ≡ items_left old
-Enters old place number (Err (Load rule)) new = ⊥
-Enters old place number (Err (Fault rule file at statement label)) new = ⊥
+pub record Enters (old : Nest) (place : Place) (number : ℕ) (new : Nest) : Type 0 where
+  pub left : (name : PlainToken) → number_of (map plain_file old.files.now) name.text ≡ Some number
+      → items_left new ≡ put_into old (Named name ∷ pieces place.file Outside (shown_at place) ++ waiting old.«open».items)
+  pub naming : new.naming ≡ None
+  pub over : new.is_over ≡ false
 
 -- what finishing an inclusion comes to
-abbrev pub Includes : Nest → Result (Option Wrong) TextFault → Nest → Type 0
-Includes old (Ok None) new = (items_left new ≡ items_left old) × (new.naming ≡ None) × (new.is_over ≡ false)
-Includes old (Ok (Some w)) new = (items_left old ≡ wrong_item w ∷ []) × (w.token.at < 1073741824)
-Includes old (Err Memory) new = items_left new ≡ items_left old
-Includes old (Err (Load rule)) new = ⊥
-Includes old (Err (Fault rule file at statement label)) new = ⊥
+abbrev pub Includes : Nest → Option Wrong → Nest → Type 0
+Includes old None new = (items_left new ≡ items_left old) × (new.naming ≡ None) × (new.is_over ≡ false)
+Includes old (Some w) new = (items_left old ≡ wrong_item w ∷ []) × (w.token.at < 1073741824)

@@ -30,15 +30,12 @@ pub record TakesToken (old : List Item) (t : PlainToken) (kind : Class) (new : L
   pub text : IsOfClass t kind
   pub at : t.at < 1073741824
 
--- The first of the items is taken, and those after it are left. Where memory is wanting nothing is taken.
-abbrev pub TakesNext : List Item → Result Next TextFault → List Item → Type 0
-TakesNext old (Ok (next.Token t kind)) new = TakesToken old (plain_token t) kind new
-TakesNext old (Ok (next.Inclusion t)) new = old ≡ Inclusion (plain_token t) ∷ new
-TakesNext old (Ok (next.End file)) new = old ≡ End file ∷ new
-TakesNext old (Ok next.Nothing) new = (old ≡ []) × (new ≡ [])
-TakesNext old (Err Memory) new = new ≡ old
-TakesNext old (Err (Load rule)) new = ⊥
-TakesNext old (Err (Fault rule file at statement label)) new = ⊥
+-- the first of the items is taken, and those after it are left
+abbrev pub TakesNext : List Item → Next → List Item → Type 0
+TakesNext old (next.Token t kind) new = TakesToken old (plain_token t) kind new
+TakesNext old (next.Inclusion t) new = old ≡ Inclusion (plain_token t) ∷ new
+TakesNext old (next.End file) new = old ≡ End file ∷ new
+TakesNext old next.Nothing new = (old ≡ []) × (new ≡ [])
 
 -- The items of the files are left, and no rule is broken by the files as a whole; or one is, or memory is wanting.
 abbrev pub IsFirstCursor : List PlainFile → Result (List Item) TextFault → Type 0

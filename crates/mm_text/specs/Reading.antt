@@ -175,6 +175,10 @@ ReadsAs its statements (Some fault) =
 abbrev pub Reads : List PlainFile → List PlainStatement → Option PlainFault → Type 0
 Reads files statements ending = ReadsAs (items files) statements ending
 
+-- something is left to tell: a statement, or the fault that ends the reading
+abbrev pub TellsMore : List PlainStatement → Option PlainFault → Type 0
+TellsMore statements ending = (statements ≢ []) ⊎ (ending ≢ None)
+
 -- a token's text is the slice of its file at its place
 abbrev pub IsSliceOf : List PlainFile → PlainToken → Type 0
 IsSliceOf files t =

@@ -1,5 +1,5 @@
 -- What a reader has still to give.
-use Rattle.std.specs.Prelude.{◌≡◌, ◌≤◌, sum_by, List, [], ◌∷◌, Bool, true, false, Option, Some, None, Result, Ok, Err, option_map}
+use Rattle.std.specs.Prelude.{◌≡◌, ◌≤◌, sum_by, List, [], ◌∷◌, Bool, true, false, Option, Some, None, Result, Ok, Err, option_map, ◌⊎◌}
 use Rattle.mm_text.specs.declared.fault.LoadRule.{LoadRule}
 use Rattle.mm_text.specs.declared.fault.TextFault.{TextFault}
 use Rattle.mm_text.specs.declared.fault.TextFault.TheVariants.{Load, Fault, Memory}
@@ -7,7 +7,7 @@ use Rattle.mm_text.specs.Token.{plain_token}
 use Rattle.mm_text.specs.Statement.{PlainStatement, bytes_in}
 use Rattle.mm_text.specs.Blocks.{AreBalanced}
 use Rattle.mm_text.specs.Files.{PlainFile, total_bytes, BreaksLoad}
-use Rattle.mm_text.specs.Reading.{PlainFault, Reads}
+use Rattle.mm_text.specs.Reading.{PlainFault, Reads, TellsMore}
 
 -- The statements of the files that weren't given yet, and the fault that ends them; whether a growth was refused, after
 -- which nothing is given; and whether the end, a fault or want of memory was answered.
@@ -41,8 +41,8 @@ pub record IsEmpty (s : PlainStatement) : Type 0 where
   pub symbols : s.symbols ≡ []
   pub proof : s.proof ≡ []
 
--- What a call of `read` answers, and what it leaves: the next statement, the end, the fault, or want of memory, which is
--- answered for good, and is new only where neither the end nor a fault was told.
+-- What a call of `read` answers, and what it leaves: the next statement, the end, the fault, or want of memory. This is
+-- answered for good, and is new only where a statement was left to give, or a fault that wasn't told.
 abbrev pub Gives : Remaining → Result Bool TextFault → Remaining → PlainStatement → Type 0
 Gives old (Ok true) new into =
     (old.refused ≡ false) × (old.told ≡ false) × (old.statements ≡ into ∷ new.statements)
@@ -54,6 +54,6 @@ Gives old (Err (Fault rule file at statement label)) new into =
     × (old.ending ≡ Some (record { rule = rule; file = file; at = at; statement = statement; label = option_map plain_token label }))
     × (new ≡ record old { told = true }) × IsEmpty into
 Gives old (Err Memory) new into =
-    (old.told ≡ true → old.refused ≡ true)
+    ((old.refused ≡ true) ⊎ ((old.told ≡ false) × TellsMore old.statements old.ending))
     × (new ≡ record old { statements = []; ending = None; refused = true; told = true }) × IsEmpty into
 Gives old (Err (Load rule)) new into = ⊥

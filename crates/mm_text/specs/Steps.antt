@@ -15,7 +15,7 @@ use Rattle.mm_text.specs.Token.{PlainToken, plain_token, HoldsNoDollar}
 use Rattle.mm_text.specs.Statement.{PlainStatement}
 use Rattle.mm_text.specs.Items.{Item, Plain}
 use Rattle.mm_text.specs.Next.{items_with, IsOfClass}
-use Rattle.mm_text.specs.Reading.{PlainFault}
+use Rattle.mm_text.specs.Reading.{PlainFault, TellsMore}
 use Rattle.mm_text.specs.Reader.{PlainReading, PlainScope, Part, Between, step, More, Faulty, part_first, part_label, fault_in, has_none, passed, opened, closed, same_text, is_provable, reading_of, ended, with_statement}
 
 -- what its keyword, or that it is none, tells of a token
@@ -34,10 +34,11 @@ abbrev pub fault_of : TextRule → ℕ → ℕ → ℕ → Option Token → Plai
 fault_of rule file at statement label =
     record { rule = rule; file = file; at = at; statement = statement; label = option_map plain_token label }
 
--- a fault that a part of the reader answers ends the reading; want of memory may be answered of any reading
+-- A fault that a part of the reader answers ends the reading. Want of memory may be answered of any reading that has
+-- something to tell.
 abbrev pub AnswersFault : PlainReading → TextFault → Type 0
 AnswersFault reading (Fault rule file at statement label) = reading ≡ ended (Some (fault_of rule file at statement label))
-AnswersFault reading Memory = Unit {0}
+AnswersFault reading Memory = TellsMore reading.statements reading.ending
 AnswersFault reading (Load rule) = ⊥
 
 -- the next token of an unfinished statement with this first token and this label; or the fault that ends the reading

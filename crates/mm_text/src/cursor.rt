@@ -37,7 +37,7 @@ impl<'a> Cursor<'a> {
     ///
     /// The files are judged as a whole first, in this order: `Load(F1)` where there is none,
     /// `Load(F2)` where two have one name, `Load(F3)` where they hold over 1,073,741,824 bytes in
-    /// all. Else `Memory` alone can be wanting.
+    /// all. Else `Memory` alone can be wanting: for their names, and for those that are open at once.
     pub fn new(alloc: Global, files: &'a [File<'a>]) -> Result<Cursor<'a>, TextFault<'a>>
         ensures { IsFirstCursor (map plain_file files.now) result }
     {
@@ -52,9 +52,8 @@ impl<'a> Cursor<'a> {
         Ok(Cursor { nest })
     }
 
-    /// Takes the next item. `Memory` where an inclusion wants another file to be open and there is
-    /// no memory for that; then nothing is taken.
-    pub fn next(&mut self) -> Result<Next<'a>, TextFault<'a>>
+    /// Takes the next item. It takes no memory.
+    pub fn next(&mut self) -> Next<'a>
         ensures { TakesNext self.old result self.new }
     {
         self.nest.next()

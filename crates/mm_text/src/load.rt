@@ -1,7 +1,7 @@
 //! Reading a device to its end, up to a limit.
 ghost use Rattle.std.specs.Prelude.{◌≡◌, ◌+◌, ◌<◌, ◌≤◌, ◌↔◌, length, OnOk, IfOk, IfSome, IsErrOf, vec_len};
 ghost use Rattle.std.specs.Io.KnownBytes.{IsAtEnd};
-ghost use Rattle.mm_text.specs.Device.{faults_of, inner_of, CameWithin, CameOver};
+ghost use Rattle.mm_text.specs.Device.{faults_of, inner_of, CameWithin, CameSome, CameOver};
 ghost use Rattle.mm_text.specs.declared.load.LoadFault.TheVariants.{Memory};
 
 use crate::counted::{Counted, Source};
@@ -37,10 +37,11 @@ const PIECE: usize = 64 * 1024;
 ///
 /// # Errors
 ///
-/// - `Device` exactly where a call of the source failed; the count then rose by one. Where `max`
-///   bytes came, the call that looks for the end can still fail.
+/// - `Device` exactly where a call of the source failed; the count then rose by one, and stays in all
+///   other cases. Where `max` bytes came, the call that looks for the end can still fail.
 /// - `TooLong` exactly where more than `max` bytes came.
-/// - `Memory` where a growth was refused, and nowhere else.
+/// - `Memory` only where a growth was refused, so only where bytes came. They are at most `max`, and
+///   none of them is given back to the reader.
 pub fn read_all<S: Source>(
     alloc: Global,
     reader: &mut Counted<S>,
@@ -59,7 +60,7 @@ pub fn read_all<S: Source>(
     ensures under { IsErrOf result LoadFault.Device →
         CameWithin (S.left (inner_of reader.old)) (S.left (inner_of reader.new)) max }
     ensures memory { IsErrOf result LoadFault.Memory →
-        IfSome (S.left (inner_of reader.old)) (λ all. 0 < length all) }
+        CameSome (S.left (inner_of reader.old)) (S.left (inner_of reader.new)) max }
     ensures device { IsErrOf result LoadFault.Device ↔
         (faults_of reader.new ≡ faults_of reader.old + 1) }
     ensures cause { IsErrOf result LoadFault.Device → S.may_fail (inner_of reader.old) }

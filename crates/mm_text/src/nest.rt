@@ -1,6 +1,6 @@
 //! The files as they stand in one another: each is put in where it is first named.
 
-ghost use Rattle.std.specs.Prelude.{◌≡◌, ◌<◌, ◌≤◌, length, map, codes, slice_index_or, None, Some, Ok, IfOk, true, false};
+ghost use Rattle.std.specs.Prelude.{◌≡◌, ◌<◌, ◌≤◌, length, map, codes, slice_index_or, None, Some, IfOk, true, false};
 ghost use Rattle.mm_text.specs.Token.{plain_token};
 ghost use Rattle.mm_text.specs.Files.{plain_file, total_bytes};
 ghost use Rattle.mm_text.specs.Items.{spells, items};
@@ -10,7 +10,7 @@ ghost use Rattle.mm_text.specs.Nest.{TakesPiece, TakesInner, TakesName, Enters, 
 
 use crate::class::{Class, class_of};
 use crate::comments::{Place, Wrong, take_token};
-use crate::fault::{TextFault, TextRule};
+use crate::fault::TextRule;
 use crate::file::File;
 use crate::names::Names;
 use crate::next::Next;
@@ -99,7 +99,8 @@ pub struct Nest<'a> {
     pub names: Names<'a>,
     /// For each file, whether it was named before. The top file counts as named.
     pub named: Vec<bool>,
-    /// The files that wait for the end of one that they include, the innermost last.
+    /// The files that wait for the end of one that they include, the innermost last. There is room
+    /// for all of them from the begin on, so that no inclusion wants memory.
     pub open: Vec<Place<'a>>,
     pub place: Place<'a>,
     /// The `$[` of the inclusion that was begun.
@@ -122,11 +123,12 @@ impl<'a> Nest<'a> {
     {
         let mut named = vec![in alloc; false; files.len()]?;
         named[0] = true;
+        let open = Vec::with_capacity(alloc, files.len() - 1)?;
         Ok(Nest {
             files,
             names,
             named,
-            open: Vec::new(alloc),
+            open,
             place: Place::begin(files[0].bytes, 0),
             naming: None,
             is_over: false,
@@ -134,28 +136,27 @@ impl<'a> Nest<'a> {
     }
 
     /// Goes into a file that is named for the first time, and keeps the place after its name.
-    /// `Memory` where no more places can be kept; then nothing is taken.
-    fn enter(&mut self, place: Place<'a>, number: usize) -> Result<(), TextFault<'a>>
+    fn enter(&mut self, place: Place<'a>, number: usize)
         requires nest { IsNest self.old }
         requires over { self.old.is_over ≡ false }
         requires place { IsPlace place }
         requires known { number < length self.old.files.now }
         requires first { slice_index_or self.old.named.items number true ≡ false }
         ensures nest { IsNest self.new }
-        ensures enters { Enters self.old place.entry number result self.new }
+        ensures enters { Enters self.old place.entry number self.new }
     {
         let begin = Place::begin(self.files[number].bytes, number);
-        self.open.push(place)?;
+        let Ok(()) = self.open.push(place) else {
+            unreachable!();
+        };
         self.named[number] = true;
         self.place = begin;
         self.naming = None;
-        Ok(())
     }
 
     /// Finishes the inclusion that a `$[` begins: its file is gone into where it is named for the
-    /// first time. Answers where the text is wrong. `Memory` where no more files can be open; then
-    /// nothing is taken.
-    fn include(&mut self, begin: Token<'a>) -> Result<Option<Wrong<'a>>, TextFault<'a>>
+    /// first time. Answers where the text is wrong.
+    fn include(&mut self, begin: Token<'a>) -> Option<Wrong<'a>>
         requires nest { IsNest self.old }
         requires naming { self.old.naming ≡ Some begin }
         requires over { self.old.is_over ≡ false }
@@ -165,21 +166,21 @@ impl<'a> Nest<'a> {
         let mut place = self.place;
         let name = match take_name(&mut place, begin) {
             Ok(name) => name,
-            Err(wrong) => return Ok(Some(wrong)),
+            Err(wrong) => return Some(wrong),
         };
         let Some(number) = self.names.number(name.text) else {
-            return Ok(Some(Wrong {
+            return Some(Wrong {
                 rule: TextRule::X7,
                 token: name,
-            }));
+            });
         };
         if self.named[number] {
             self.place = place;
             self.naming = None;
-            return Ok(None);
+            return None;
         }
-        self.enter(place, number)?;
-        Ok(None)
+        self.enter(place, number);
+        None
     }
 
     /// Goes back to the file in which the one that ended stands.
@@ -202,7 +203,7 @@ impl<'a> Nest<'a> {
         requires naming { self.old.naming ≡ None }
         requires over { self.old.is_over ≡ false }
         ensures nest { IsNest self.new }
-        ensures takes { TakesNext (items_left self.old) (Ok result) (items_left self.new) }
+        ensures takes { TakesNext (items_left self.old) result (items_left self.new) }
     {
         let next = take_piece(&mut self.place);
         match next {
@@ -215,20 +216,20 @@ impl<'a> Nest<'a> {
     }
 
     /// Takes the next item.
-    pub fn next(&mut self) -> Result<Next<'a>, TextFault<'a>>
+    pub fn next(&mut self) -> Next<'a>
         requires { IsNest self.old }
         ensures nest { IsNest self.new }
         ensures takes { TakesNext (items_left self.old) result (items_left self.new) }
     {
         if self.is_over {
-            return Ok(Next::Nothing);
+            return Next::Nothing;
         }
         let Some(begin) = self.naming else {
-            return Ok(self.take());
+            return self.take();
         };
-        if let Some(wrong) = self.include(begin)? {
-            return Ok(Next::Token(wrong.token, Class::Wrong(wrong.rule)));
+        if let Some(wrong) = self.include(begin) {
+            return Next::Token(wrong.token, Class::Wrong(wrong.rule));
         }
-        Ok(self.take())
+        self.take()
     }
 }

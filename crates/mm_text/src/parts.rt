@@ -97,7 +97,7 @@ fn token_within<'a>(
     requires { scope.now.count ≤ 1073741824 }
     ensures { TakesWithin (plain_scope scope.now) (plain_token first.entry) (option_map plain_token label.entry) cursor.old result cursor.new }
 {
-    match cursor.next()? {
+    match cursor.next() {
         Next::Token(token, class) => match class {
             Class::Wrong(rule) => Err(scope.fault(rule, token, label)),
             Class::Keyword(keyword) => Ok((token, Some(keyword))),
@@ -321,7 +321,7 @@ fn first_token<'a>(
     ensures { TakesFirst (plain_scope scope.now) cursor.old result cursor.new }
 {
     loop {
-        match cursor.next()? {
+        match cursor.next() {
             Next::Token(token, class) => return Ok(Some((token, class))),
             Next::Inclusion(token) => {
                 if !scope.is_closed() {

@@ -38,4 +38,4 @@ returns-in_err-add_symbol-in-None c =
     let p = err_from_is_err_and c.from_residual-in_err-add_symbol-in-None.result c.from_residual-in_err-add_symbol-in-None.ensures.1 in
     gives_err (plain_scope c.args.scope.now) _ _ _ p.0 _ _ p.1 p.2
     (answers_same _ _ _ c.loop-token.invariant
-    (answers_refused (plain_scope c.args.scope.now) (InBody (plain_statement c.loop-token.into)) (InBody (plain_statement c.add_symbol.new.into)) c.loop-token.cursor c.token_within.new.cursor (plain_token c.in_ok-token.token) _ taken.first c.in_err-add_symbol-in-None.ensures))
+    (answers_refused (plain_scope c.args.scope.now) (InBody (plain_statement c.loop-token.into)) (InBody (plain_statement c.add_symbol.new.into)) c.loop-token.cursor c.token_within.new.cursor (plain_token c.in_ok-token.token) _ tt taken.first c.in_err-add_symbol-in-None.ensures))

@@ -1,9 +1,9 @@
-use Rattle.std.proofs.Common.{sym, ap, ◌∙◌, length, subst, true, List, length-set}
+use Rattle.std.proofs.Common.{sym, ap, ◌∙◌, length, subst, true, List, length-set, arith}
 use Rattle.std.specs.List.{AllByRecursion}
 use Rattle.std.proofs.lemmas.List.{length-replicate}
 use Rattle.mm_text.specs.declared.comments.Place.{Place}
 use Rattle.mm_text.specs.Place.{IsPlace}
-use Rattle.mm_text.proofs.NestLaws.{begins, no_file}
+use Rattle.mm_text.proofs.NestLaws.{begins, room_at_begin, no_file}
 use Rattle.mm_text.proofs.nest.Nest.begin.Goals as goal
 
 pub returns : goal.returns
@@ -11,11 +11,12 @@ returns c =
     let e = c.in_ok-named.ensures.items_if_clones_equal (λ y h. h) in (
       record {
         place = c.begin.ensures.place;
-        waits = subst (λ (l : List Place). AllByRecursion IsPlace l) (sym c.new.ensures.items) tt;
+        waits = subst (λ (l : List Place). AllByRecursion IsPlace l) (sym c.in_ok-open.ensures.items) tt;
+        room = omega (arith, c.in_ok-open.ensures.len, c.in_ok-open.ensures.exact, room_at_begin c.args.files.now c.in_ok-named.named.items c.requires.some e);
         names = c.requires.names;
         named = length-set c.in_ok-named.named.items 0 true ∙ ap length e ∙ length-replicate _ _;
         small = c.requires.small;
         naming = tt;
       },
-      begins c.args.files.now no_file c.in_ok-named.named.items c.begin.result c.new.result.items c.requires.some e c.begin.ensures.bytes c.begin.ensures.file c.begin.ensures.at c.new.ensures.items,
+      begins c.args.files.now no_file c.in_ok-named.named.items c.begin.result c.in_ok-open.open.items c.requires.some e c.begin.ensures.bytes c.begin.ensures.file c.begin.ensures.at c.in_ok-open.ensures.items,
     )

@@ -13,12 +13,13 @@ pub returns-clause-enters : goal.returns-clause-enters
 returns-clause-enters c =
     let n = c.args.self.now in
     let begin = c.begin-begin.result in
-    let m = record n { named = with_item n.named c.args.number true; «open» = c.push.new.self; place = begin; naming = None } in (
-      λ name e.
+    let m = record n { named = with_item n.named c.args.number true; «open» = c.push.new.self; place = begin; naming = None } in
+    record {
+      left = λ name e.
           left_outside m c.requires.over refl
-          ∙ ap (λ l. put_into m (pieces begin.file Outside (shown_at begin) ++ waiting l)) c.in_ok-push.ensures.items
+          ∙ ap (λ l. put_into m (pieces begin.file Outside (shown_at begin) ++ waiting l)) c.in-Ok.ensures.items
           ∙ enters n c.args.place begin name c.args.number no_file c.requires.known c.requires.nest e c.requires.first
-          c.begin-begin.ensures.bytes c.begin-begin.ensures.file c.begin-begin.ensures.at,
-      refl,
-      c.requires.over,
-    )
+          c.begin-begin.ensures.bytes c.begin-begin.ensures.file c.begin-begin.ensures.at;
+      naming = refl;
+      over = c.requires.over;
+    }

@@ -39,8 +39,8 @@ returns-clause-includes c =
     let q = c.take_name.new.place in
     let name = plain_token c.in-Ok.name in
     let known : number_of (map plain_file n.files.now) name.text ≡ Some c.in-Some.number = sym (number_told n name.text c.requires.nest) ∙ sym c.number.ensures ∙ c.in-Some.is in (
-      c.in_ok-enter.ensures.enters.0 name known
+      c.enter.ensures.enters.left name known
           ∙ sym (includes_name n q c.args.begin name c.requires.over c.requires.naming c.in-Ok.ensures.same c.in-Ok.ensures.takes.0),
-      c.in_ok-enter.ensures.enters.1,
-      c.in_ok-enter.ensures.enters.2,
+      c.enter.ensures.enters.naming,
+      c.enter.ensures.enters.over,
     )
