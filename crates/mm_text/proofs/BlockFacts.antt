@@ -10,7 +10,7 @@ use Rattle.mm_text.specs.declared.statement.Kind.{Kind}
 use Rattle.mm_text.specs.declared.statement.Kind.TheVariants.{Constants, Variables, Distinct, Floating, Essential, Axiom, Provable, Opening, Closing}
 use Rattle.mm_text.specs.Statement.{PlainStatement, HasBody}
 use Rattle.mm_text.specs.Blocks.{is_opening, is_closing, openings, closings, AreBalanced, AreClosed, IsInnermost}
-use Rattle.mm_text.specs.Reader.{PlainScope, outermost, passed, opened, closed, has_none}
+use Rattle.mm_text.specs.Mirror.Reader.{PlainScope, outermost, passed, opened, closed, has_none}
 use Rattle.mm_text.proofs.Fronts.{two_cuts}
 
 -- ---- counts

@@ -10,7 +10,7 @@ use Rattle.memchr.specs.Find.{Nowhere, Passes, is_byte}
 use Rattle.mm_text.specs.declared.fault.TextRule.TheVariants.{X1, X2, X3, X4}
 use Rattle.mm_text.specs.Token.{PlainToken, is_space, is_printable, with_byte, tokens_from}
 use Rattle.mm_text.specs.Items.{Shown, Clear, Broken, uncommented, spells, holds_mark}
-use Rattle.mm_text.specs.Place.{is_legal, is_quiet, IsLegalFront, IsPlace, IsLater, moved, comment_at, shown_at}
+use Rattle.mm_text.specs.Mirror.Place.{is_legal, is_quiet, IsLegalFront, IsPlace, IsLater, moved, comment_at, shown_at}
 use Rattle.std.specs.Cmp.Lexicographic.{bytes_decides}
 use Rattle.mm_text.specs.declared.comments.Place.{Place}
 use Rattle.mm_text.proofs.TokenLaws.{tokens_from-space, tokens_from-byte, tokens_from-nil, tokens_from-step, tokens_from-end, BeginFrom, tokens_from_begin, with_byte_apart, BeginsWithSpace, space_from_place}

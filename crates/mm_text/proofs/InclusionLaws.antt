@@ -11,13 +11,13 @@ use Rattle.mm_text.specs.declared.class.Class.{Class}
 use Rattle.mm_text.specs.declared.class.Class.TheVariants as class
 use Rattle.mm_text.specs.declared.comments.Place.{Place}
 use Rattle.mm_text.specs.Token.{PlainToken, HoldsNoDollar}
-use Rattle.mm_text.specs.Class.{spelling, ClassIs}
+use Rattle.mm_text.specs.Mirror.Class.{spelling, ClassIs}
 use Rattle.mm_text.specs.Statement.{keywords}
 use Rattle.mm_text.specs.Files.{PlainFile}
 use Rattle.mm_text.specs.Items.{Item, Plain, Wrong, Inclusion, End, Shown, Clear, Broken, Piece, Met, Named, Spot, Outside, Naming, Closing, pieces, broken_outside, holds_dollar, spells, number_of, spliced, put_before, put_in}
-use Rattle.mm_text.specs.Place.{shown_at}
-use Rattle.mm_text.specs.Next.{IsOfClass}
-use Rattle.mm_text.specs.Nest.{pieces_with, waiting}
+use Rattle.mm_text.specs.Mirror.Place.{shown_at}
+use Rattle.mm_text.specs.Mirror.Next.{IsOfClass}
+use Rattle.mm_text.specs.Mirror.Nest.{pieces_with, waiting}
 
 -- ---- outside inclusions
 

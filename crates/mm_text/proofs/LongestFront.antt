@@ -5,7 +5,7 @@ use Rattle.mm_text.specs.Token.{PlainToken}
 use Rattle.mm_text.specs.Statement.{PlainStatement}
 use Rattle.mm_text.specs.Items.{Item, Wrong}
 use Rattle.mm_text.specs.Reading.{PlainFault, Viable, EndsAt}
-use Rattle.mm_text.specs.Reader.{PlainReading, Between, outermost, fault_in, ended, reading_of}
+use Rattle.mm_text.specs.Mirror.Reader.{PlainReading, Between, outermost, fault_in, ended, reading_of}
 use Rattle.mm_text.specs.Laws.{FaultsEndLongestFronts}
 use Rattle.mm_text.proofs.Fronts.{cons_parts}
 use Rattle.mm_text.proofs.PartFacts.{part_of_beginning}

@@ -7,7 +7,7 @@ use Rattle.mm_text.specs.Token.{PlainToken}
 use Rattle.mm_text.specs.Statement.{PlainStatement}
 use Rattle.mm_text.specs.Items.{Item, Plain, Wrong, Inclusion, End}
 use Rattle.mm_text.specs.Reading.{PlainFault, TellsMore}
-use Rattle.mm_text.specs.Reader.{Part, Between, Labelled, InBody, InProof, Step, More, Whole, Opened, Closed, Faulty, step, same_text, is_keyword, has_count, is_full, is_provable, begun, PlainScope, passed, opened, closed, has_none, fault_in, unfinished_fault, end_fault, inclusion_fault, unless, PlainReading, ended, with_statement, reading_of}
+use Rattle.mm_text.specs.Mirror.Reader.{Part, Between, Labelled, InBody, InProof, Step, More, Whole, Opened, Closed, Faulty, step, same_text, is_keyword, has_count, is_full, is_provable, begun, PlainScope, passed, opened, closed, has_none, fault_in, unfinished_fault, end_fault, inclusion_fault, unless, PlainReading, ended, with_statement, reading_of}
 
 abbrev pub HasMore : PlainReading → Type 0
 HasMore reading = TellsMore reading.statements reading.ending

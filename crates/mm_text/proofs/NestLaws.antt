@@ -16,10 +16,10 @@ use Rattle.mm_text.specs.Token.{PlainToken, plain_token, tokens_from}
 use Rattle.mm_text.specs.Files.{PlainFile, plain_file, total_bytes}
 use Rattle.mm_text.specs.Items as items
 use Rattle.mm_text.specs.Items.{Item, Plain, Inclusion, End, Piece, Met, Named, Outside, Naming, pieces, pieces_of, uncommented, spells, number_of, put_before, put_in}
-use Rattle.mm_text.specs.Names.{number_among}
-use Rattle.mm_text.specs.Place.{IsSameFile, shown_at}
-use Rattle.mm_text.specs.Next.{items_with}
-use Rattle.mm_text.specs.Nest.{IsNest, pieces_with, wrong_item, waiting, spot_of, put_into, pieces_left, items_after, items_left}
+use Rattle.mm_text.specs.Mirror.Names.{number_among}
+use Rattle.mm_text.specs.Mirror.Place.{IsSameFile, shown_at}
+use Rattle.mm_text.specs.Mirror.Next.{items_with}
+use Rattle.mm_text.specs.Mirror.Nest.{IsNest, pieces_with, wrong_item, waiting, spot_of, put_into, pieces_left, items_after, items_left}
 use Rattle.mm_text.proofs.NameLaws.{position-names, other_default}
 use Rattle.mm_text.proofs.InclusionLaws.{put_in-plain, put_in-wrong, put_in-inclusion, put_in-end, put_in-nil, put_in-unknown, put_in-again, put_in-first, waiting-push}
 

@@ -5,7 +5,7 @@ use Rattle.mm_text.specs.declared.statement.Kind.TheVariants.{Constants, Variabl
 use Rattle.mm_text.specs.Token.{PlainToken, IsLabel}
 use Rattle.mm_text.specs.Statement.{PlainStatement, IsHead, HasBody, AreSymbols, label_in}
 use Rattle.mm_text.specs.Reading.{IsBeginning, IsBody, IsInProof}
-use Rattle.mm_text.specs.Reader.{Part, Between, Labelled, InBody, InProof, part_label, part_first}
+use Rattle.mm_text.specs.Mirror.Reader.{Part, Between, Labelled, InBody, InProof, part_label, part_first}
 
 -- the tokens of a statement of which only symbols were read after its head
 pub record IsPartBody (s : PlainStatement) (tokens : List PlainToken) : Type 0 where
@@ -48,9 +48,6 @@ pub symbols-append : (a b : List PlainToken) → AreSymbols a → AreSymbols b �
 symbols-append [] b h k = k
 symbols-append (t ∷ a) b h k = (h.0, symbols-append a b h.1 k)
 
-label_in-cons : (t : PlainToken) (a b : List PlainToken) → label_in (t ∷ a) ≡ label_in (t ∷ b)
-label_in-cons t a b = refl
-
 -- the label of the head is the label of all tokens
 pub label_in-front : (head : List PlainToken) (first : PlainToken) (others more : List PlainToken) → head ≡ first ∷ others → label_in (head ++ more) ≡ label_in head
 label_in-front head first others more e = subst (λ (h : List PlainToken). label_in (h ++ more) ≡ label_in h) (sym e) refl
@@ -74,9 +71,6 @@ pub record IsStarted (kind : Kind) (head : List PlainToken) : Type 0 where
   pub first : PlainToken
   pub others : List PlainToken
   pub is : head ≡ first ∷ others
-
-bare_started : (head : List PlainToken) (t : PlainToken) (rest : List PlainToken) → head ≡ t ∷ rest → IsStarted Constants head
-bare_started head t rest e = record { first = t; others = rest; is = e }
 
 pub started : (kind : Kind) (head : List PlainToken) → IsHead kind head → IsStarted kind head
 started Constants head h = record { first = h.keyword; others = []; is = h.tokens }

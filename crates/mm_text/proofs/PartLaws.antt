@@ -13,14 +13,14 @@ use Rattle.mm_text.specs.declared.class.Class.{Class}
 use Rattle.mm_text.specs.declared.class.Class.TheVariants as class
 use Rattle.mm_text.specs.declared.next.Next.{Next}
 use Rattle.mm_text.specs.declared.next.Next.TheVariants as next
-use Rattle.mm_text.specs.Class.{spelling}
+use Rattle.mm_text.specs.Mirror.Class.{spelling}
 use Rattle.mm_text.specs.Token.{PlainToken, plain_token, HoldsNoDollar}
 use Rattle.mm_text.specs.Statement.{PlainStatement}
 use Rattle.mm_text.specs.Items.{Item, Plain, Wrong, Inclusion, End}
-use Rattle.mm_text.specs.Next.{items_with, IsOfClass, TakesToken, TakesNext}
+use Rattle.mm_text.specs.Mirror.Next.{items_with, IsOfClass, TakesToken, TakesNext}
 use Rattle.mm_text.specs.Reading.{PlainFault}
-use Rattle.mm_text.specs.Reader.{Part, step, More, Whole, Faulty, PlainScope, passed, opened, fault_in, unfinished_fault, end_fault, inclusion_fault, is_outside, has_none, unless, part_label, part_first, Between, begun, block_fault, PlainReading, ended, with_statement, reading_of}
-use Rattle.mm_text.specs.Steps.{fault_of, TakesPlain, AnswersFault, GivesPart, GivesFirst, TakesFirst, TellsFault, Opens, Closes, StepsTo}
+use Rattle.mm_text.specs.Mirror.Reader.{Part, step, More, Whole, Faulty, PlainScope, passed, opened, fault_in, unfinished_fault, end_fault, inclusion_fault, is_outside, has_none, unless, part_label, part_first, Between, begun, block_fault, PlainReading, ended, with_statement, reading_of}
+use Rattle.mm_text.specs.Mirror.Steps.{fault_of, TakesPlain, AnswersFault, GivesPart, GivesFirst, TakesFirst, TellsFault, Opens, Closes, StepsTo}
 use Rattle.mm_text.proofs.StepLaws.{read_nothing, read_end, read_inclusion, read_wrong, read_more, read_whole, read_opened, read_closing, read_faulty, step_opens, step_closes}
 use Rattle.mm_text.proofs.MoreLeft.{HasMore, IsUnfinished, more_left, statement_more}
 
@@ -206,7 +206,3 @@ pub answers_closing : (scope later : PlainScope) (items rest : List Item) (t : P
 answers_closing scope later items rest t fault first sign h e =
     answers_at scope Between t S6 None _ fault refl (e ∙ ap (λ (x : PlainScope). Fault S6 t.file t.at (x.count + 1) None) h.1)
     (ap (reading_of scope Between) first ∙ read_closing scope Between t rest (step_closes t sign) ∙ cond-true (has_none scope.blocks) _ _ h.0)
-
--- a statement with symbols
-pub gives_passed : (scope later : PlainScope) (items rest : List Item) (into : PlainStatement) → GivesPart scope (reading_of scope Between items) (Ok tt) into rest → later ≡ passed scope → GivesFirst scope items (Ok tt) into later rest
-gives_passed scope later items rest into h e = (h.answer ∙ ap (λ (x : PlainScope). with_statement into (reading_of x Between rest)) (sym e), ap (λ (x : PlainScope). x.count) e)

@@ -11,10 +11,10 @@ use Rattle.mm_text.specs.Files.{PlainFile, total_bytes, HasTwins, BreaksLoad}
 use Rattle.mm_text.specs.Items.{Item, items}
 use Rattle.mm_text.specs.Statement.{PlainStatement}
 use Rattle.mm_text.specs.Reading.{Reads}
-use Rattle.mm_text.specs.Reader.{PlainReading, PlainScope, Between, outermost, reading_of}
+use Rattle.mm_text.specs.Mirror.Reader.{PlainReading, PlainScope, Between, outermost, reading_of}
 use Rattle.mm_text.specs.Remaining.{IsUnread}
-use Rattle.mm_text.specs.Steps.{AnswersFault, GivesStatement}
-use Rattle.mm_text.specs.ReaderState.{remaining_in, IsAnswerable, AreFew, AnswersIn}
+use Rattle.mm_text.specs.Mirror.Steps.{AnswersFault, GivesStatement}
+use Rattle.mm_text.specs.Mirror.ReaderState.{remaining_in, IsAnswerable, AreFew, AnswersIn}
 use Rattle.mm_text.specs.Laws.{AreFormedInPlace, EachHasOneReading}
 use Rattle.mm_text.proofs.ItemTokens.{items_signed}
 use Rattle.mm_text.proofs.SettledLaws.{items_settled}

@@ -13,7 +13,7 @@ use Rattle.mm_text.specs.Statement.{PlainStatement, HasBody, Spells, SpellsAll}
 use Rattle.mm_text.specs.Items.{Item, Plain, Wrong, Inclusion, End, plain_tokens, HoldNoFault}
 use Rattle.mm_text.specs.Blocks.{AreBalanced, AreClosed}
 use Rattle.mm_text.specs.Reading.{PlainFault, IsBeginning, AreOutside, Viable, fault_at, EndsAt, ReadsAs}
-use Rattle.mm_text.specs.Reader.{Part, Between, Labelled, InBody, InProof, Step, More, Whole, Opened, Closed, Faulty, step, begun, part_first, part_label, PlainScope, outermost, passed, opened, closed, has_none, fault_in, block_fault, unfinished_fault, end_fault, inclusion_fault, unless, PlainReading, ended, with_statement, reading_of}
+use Rattle.mm_text.specs.Mirror.Reader.{Part, Between, Labelled, InBody, InProof, Step, More, Whole, Opened, Closed, Faulty, step, begun, part_first, part_label, PlainScope, outermost, passed, opened, closed, has_none, fault_in, block_fault, unfinished_fault, end_fault, inclusion_fault, unless, PlainReading, ended, with_statement, reading_of}
 use Rattle.mm_text.proofs.TextFacts.{IsSigned}
 use Rattle.mm_text.proofs.Fronts.{nil_append, last_cut, plain_tokens-append, clean_append}
 use Rattle.mm_text.proofs.PartFacts.{Describes, Describes-label, beginning_of_part, first_of_part}

@@ -12,9 +12,9 @@ use Rattle.mm_text.specs.declared.class.Keyword.TheVariants as keyword
 use Rattle.mm_text.specs.Token.{PlainToken, HoldsNoDollar, is_label_byte}
 use Rattle.mm_text.specs.Statement.{PlainStatement}
 use Rattle.mm_text.specs.Items.{Item, Plain, Wrong, Inclusion, End}
-use Rattle.mm_text.specs.Class.{spelling}
-use Rattle.mm_text.specs.Reader.{same_text, is_keyword, begun, Part, Between, Labelled, InBody, InProof, Step, More, Whole, Opened, Closed, Faulty, has_count, is_full, is_provable, step, PlainScope, passed, opened, closed, has_none, fault_in, unfinished_fault, end_fault, inclusion_fault, unless, PlainReading, ended, with_statement, reading_of}
-use Rattle.mm_text.specs.Steps.{is_block_sign, bare_kind, labelled_kind, ends_symbols}
+use Rattle.mm_text.specs.Mirror.Class.{spelling}
+use Rattle.mm_text.specs.Mirror.Reader.{same_text, is_keyword, begun, Part, Between, Labelled, InBody, InProof, Step, More, Whole, Opened, Closed, Faulty, has_count, is_full, is_provable, step, PlainScope, passed, opened, closed, has_none, fault_in, unfinished_fault, end_fault, inclusion_fault, unless, PlainReading, ended, with_statement, reading_of}
+use Rattle.mm_text.specs.Mirror.Steps.{is_block_sign, bare_kind, labelled_kind, ends_symbols}
 
 -- ---- the reading of items, by the first
 

@@ -5,7 +5,7 @@ use Rattle.std.specs.Cmp.Lexicographic.{pointwise, bytes_decides}
 use Rattle.std.proofs.lemmas.Bool.{or_parts, or_cases, or_left, or_right, and_parts, false≢true, both_ways, false_from_ne_true, eqb-true}
 use Rattle.mm_text.specs.Token.{PlainToken, IsLabel, is_label_byte, HoldsNoDollar}
 use Rattle.mm_text.specs.Statement.{keywords, IsKeyword}
-use Rattle.mm_text.specs.Reader.{same_text, is_keyword}
+use Rattle.mm_text.specs.Mirror.Reader.{same_text, is_keyword}
 
 pub same_text-true : (a b : List ℕ) → same_text a b ≡ true → a ≡ b
 same_text-true a b e = (bytes_decides a b).0 e
@@ -83,10 +83,6 @@ label-is_keyword text h = no_keyword text (label-begins text h)
 -- nor is it one by itself
 pub label_ne : (text key : List ℕ) → IsLabel text → is_keyword key ≡ true → same_text text key ≡ false
 label_ne text key h k = same_text-ne text key (λ e. both_ways _ (label-is_keyword text h) (ap is_keyword e ∙ k))
-
--- and a keyword is no label
-pub keyword-label : (text : List ℕ) → is_keyword text ≡ true → list_all is_label_byte text ≡ false
-keyword-label text k = false_from_ne_true _ (λ h. both_ways _ (label-is_keyword text h) k)
 
 -- a token is a keyword or holds no `$`
 abbrev pub IsSigned : PlainToken → Type 0

@@ -1,5 +1,4 @@
 pub mod Device
-pub mod Reader
 pub mod Files
 pub mod Items
 pub mod ItemLaws
@@ -8,12 +7,6 @@ pub mod Remaining
 pub mod Statement
 pub mod Blocks
 pub mod Token
-pub mod Class
-pub mod Next
-pub mod Place
-pub mod Names
-pub mod Nest
-pub mod Steps
 pub mod Empty
-pub mod ReaderState
 pub mod Laws
+pub mod Mirror

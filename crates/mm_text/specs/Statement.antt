@@ -147,18 +147,6 @@ SpellsAll tokens [] = tokens ≡ []
 SpellsAll tokens (s ∷ statements) =
     (front : List PlainToken) × (rest : List PlainToken) × (tokens ≡ front ++ rest) × Spells front s × SpellsAll rest statements
 
--- the kinds of statements that are read so far: blocks, `$d` and `$e` aren't yet
-abbrev pub IsRead : Kind → Type 0
-IsRead Constants = Unit {0}
-IsRead Variables = Unit {0}
-IsRead Floating = Unit {0}
-IsRead Axiom = Unit {0}
-IsRead Provable = Unit {0}
-IsRead Distinct = ⊥
-IsRead Essential = ⊥
-IsRead Opening = ⊥
-IsRead Closing = ⊥
-
 -- a label, for the kinds that have one
 abbrev pub HasLabel : Kind → Option PlainToken → Type 0
 HasLabel Floating label = (l : PlainToken) × (label ≡ Some l) × IsLabel l.text
@@ -166,12 +154,6 @@ HasLabel Essential label = (l : PlainToken) × (label ≡ Some l) × IsLabel l.t
 HasLabel Axiom label = (l : PlainToken) × (label ≡ Some l) × IsLabel l.text
 HasLabel Provable label = (l : PlainToken) × (label ≡ Some l) × IsLabel l.text
 HasLabel kind label = label ≡ None
-
--- what the grammar says of a statement by itself
-pub record IsFormed (s : PlainStatement) : Type 0 where
-  pub read : IsRead s.kind
-  pub count : FitsCount s.kind (length s.symbols)
-  pub label : HasLabel s.kind s.label
 
 -- what the grammar says of a statement by itself, and that each of its tokens holds a byte
 pub record HasForm (s : PlainStatement) : Type 0 where

@@ -3,7 +3,7 @@
 ghost use Rattle.std.specs.Prelude.{◌≡◌, ℕ, ◌==◌, ◌&&◌, ◌||◌, ◌≤◌, ◌<◌, true, false, length, codes, slice_index, slice_range};
 ghost use Rattle.mm_text.specs.Token.{plain_token, is_space};
 ghost use Rattle.mm_text.specs.Items.{holds_mark, spells};
-ghost use Rattle.mm_text.specs.Place.{is_quiet, IsLegalFront, IsPlace, IsSameFile, GoesOn, Closes, TakesOne, TakesShown, shown_at};
+ghost use Rattle.mm_text.specs.Mirror.Place.{is_quiet, IsLegalFront, IsPlace, IsSameFile, GoesOn, Closes, TakesOne, TakesShown, shown_at};
 
 use crate::fault::TextRule;
 use crate::scan::{legal_end, skip_space, token_end, token_start};

@@ -2,7 +2,7 @@
 
 ghost use Rattle.std.specs.Prelude.{◌≡◌, map};
 ghost use Rattle.mm_text.specs.Files.{plain_file};
-ghost use Rattle.mm_text.specs.Next.{TakesNext, IsFirstCursor};
+ghost use Rattle.mm_text.specs.Mirror.Next.{TakesNext, IsFirstCursor};
 
 use crate::fault::{LoadRule, TextFault};
 use crate::file::File;
@@ -25,7 +25,7 @@ impl<'a> Model for Cursor<'a> {
 
     ghost Value = { List Item };
 
-    ghost use Rattle.mm_text.specs.Nest.{IsNest, items_left};
+    ghost use Rattle.mm_text.specs.Mirror.Nest.{IsNest, items_left};
 
     ghost view = { λ c. items_left c.nest };
 

@@ -5,7 +5,7 @@ ghost use Rattle.std.specs.Cmp.Lexicographic.{pointwise};
 ghost use Rattle.std.specs.Cmp.Rules.{comparing, hashing};
 ghost use Rattle.std.proofs.Common.{rules};
 ghost use Rattle.mm_text.specs.Files.{plain_file};
-ghost use Rattle.mm_text.specs.Names.{number_among, AreNames};
+ghost use Rattle.mm_text.specs.Mirror.Names.{number_among, AreNames};
 
 use crate::fault::{LoadRule, TextFault};
 use crate::file::File;

@@ -4,9 +4,9 @@ ghost use Rattle.std.specs.Prelude.{◌≡◌, ◌<◌, ◌≤◌, length, map, 
 ghost use Rattle.mm_text.specs.Token.{plain_token};
 ghost use Rattle.mm_text.specs.Files.{plain_file, total_bytes};
 ghost use Rattle.mm_text.specs.Items.{spells, items};
-ghost use Rattle.mm_text.specs.Place.{IsPlace, IsSameFile};
-ghost use Rattle.mm_text.specs.Next.{TakesNext};
-ghost use Rattle.mm_text.specs.Nest.{TakesPiece, TakesInner, TakesName, Enters, Includes, IsNest, items_left, items_after};
+ghost use Rattle.mm_text.specs.Mirror.Place.{IsPlace, IsSameFile};
+ghost use Rattle.mm_text.specs.Mirror.Next.{TakesNext};
+ghost use Rattle.mm_text.specs.Mirror.Nest.{TakesPiece, TakesInner, TakesName, Enters, Includes, IsNest, items_left, items_after};
 
 use crate::class::{Class, class_of};
 use crate::comments::{Place, Wrong, take_token};

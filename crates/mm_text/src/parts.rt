@@ -2,12 +2,12 @@
 
 ghost use Rattle.std.specs.Prelude.{◌≡◌, ◌≤◌, ◌<◌, ◌∷◌, true, false, Some, None, option_map, length, codes};
 ghost use Rattle.mm_text.specs.Token.{plain_token, HoldsNoDollar};
-ghost use Rattle.mm_text.specs.Class.{spelling};
+ghost use Rattle.mm_text.specs.Mirror.Class.{spelling};
 ghost use Rattle.mm_text.specs.Statement.{plain_statement};
 ghost use Rattle.mm_text.specs.Items.{Plain};
-ghost use Rattle.mm_text.specs.Next.{items_with, IsOfClass};
-ghost use Rattle.mm_text.specs.Reader.{Between, Labelled, InBody, InProof, reading_of, has_count, is_full, is_provable, begun, same_text};
-ghost use Rattle.mm_text.specs.Steps.{plain_scope, TakesWithin, TakesFirst, GivesPart, GivesFirst, GivesStatement, StepsTo, is_block_sign, bare_kind, labelled_kind, ends_symbols};
+ghost use Rattle.mm_text.specs.Mirror.Next.{items_with, IsOfClass};
+ghost use Rattle.mm_text.specs.Mirror.Reader.{Between, Labelled, InBody, InProof, reading_of, has_count, is_full, is_provable, begun, same_text};
+ghost use Rattle.mm_text.specs.Mirror.Steps.{plain_scope, TakesWithin, TakesFirst, GivesPart, GivesFirst, GivesStatement, StepsTo, is_block_sign, bare_kind, labelled_kind, ends_symbols};
 
 use crate::class::{Class, Keyword, is_label};
 use crate::cursor::Cursor;

@@ -2,7 +2,7 @@
 
 ghost use Rattle.std.specs.Prelude.{◌≡◌, ℕ, ◌<◌, ◌≤◌, ◌+◌, ◌∷◌, ◌⊎◌, true, false, length, drop, slice_index, slice_range};
 ghost use Rattle.mm_text.specs.Token.{is_space, tokens_from};
-ghost use Rattle.mm_text.specs.Place.{is_legal, IsLegalFront};
+ghost use Rattle.mm_text.specs.Mirror.Place.{is_legal, IsLegalFront};
 
 /// Whether a byte is white space.
 fn is_space(byte: u8) -> bool

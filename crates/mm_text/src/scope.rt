@@ -2,8 +2,8 @@
 
 ghost use Rattle.std.specs.Prelude.{◌≡◌, ◌+◌, ◌≤◌};
 ghost use Rattle.mm_text.specs.Token.{plain_token};
-ghost use Rattle.mm_text.specs.Reader.{Between, passed, has_none, end_fault, outermost};
-ghost use Rattle.mm_text.specs.Steps.{plain_scope, Opens, Closes, TellsFault};
+ghost use Rattle.mm_text.specs.Mirror.Reader.{Between, passed, has_none, end_fault, outermost};
+ghost use Rattle.mm_text.specs.Mirror.Steps.{plain_scope, Opens, Closes, TellsFault};
 
 use crate::fault::{TextFault, TextRule};
 use crate::token::Token;

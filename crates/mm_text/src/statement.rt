@@ -48,7 +48,7 @@ pub struct Statement<'a> {
 impl<'a> Statement<'a> {
     ghost use Rattle.mm_text.specs.Token.{plain_token};
     ghost use Rattle.mm_text.specs.Statement.{plain_statement};
-    ghost use Rattle.mm_text.specs.Reader.{begun};
+    ghost use Rattle.mm_text.specs.Mirror.Reader.{begun};
     ghost use Rattle.mm_text.specs.Empty.{no_statement, emptied};
 
     /// A statement to read into, with empty lists. It takes no memory.

@@ -5,8 +5,8 @@ ghost use Rattle.mm_text.specs.Statement.{plain_statement, HasForm};
 ghost use Rattle.mm_text.specs.Files.{plain_file};
 ghost use Rattle.mm_text.specs.Reading.{IsInPlace};
 ghost use Rattle.mm_text.specs.Remaining.{Begins, Gives};
-ghost use Rattle.mm_text.specs.Steps.{plain_scope};
-ghost use Rattle.mm_text.specs.ReaderState.{AreFew, AnswersIn};
+ghost use Rattle.mm_text.specs.Mirror.Steps.{plain_scope};
+ghost use Rattle.mm_text.specs.Mirror.ReaderState.{AreFew, AnswersIn};
 
 use crate::cursor::Cursor;
 use crate::fault::TextFault;
@@ -42,7 +42,7 @@ impl<'a> Model for Statements<'a> {
 
     ghost Value = { Remaining };
 
-    ghost use Rattle.mm_text.specs.ReaderState.{remaining_of, IsReader};
+    ghost use Rattle.mm_text.specs.Mirror.ReaderState.{remaining_of, IsReader};
 
     ghost view = { remaining_of };
 

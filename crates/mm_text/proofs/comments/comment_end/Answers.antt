@@ -1,5 +1,5 @@
 use Rattle.std.proofs.Common.{ap, ◌∙◌, arith}
-use Rattle.mm_text.specs.Place.{moved, shown_at}
+use Rattle.mm_text.specs.Mirror.Place.{moved, shown_at}
 use Rattle.mm_text.specs.declared.comments.Place.{Place}
 use Rattle.mm_text.proofs.CommentLaws.{later_place}
 use Rattle.mm_text.proofs.comments.comment_end.Goals as goal

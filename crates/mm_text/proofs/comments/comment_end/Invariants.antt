@@ -1,6 +1,6 @@
 use Rattle.std.proofs.Common.{◌≡◌, ◌≤◌, ◌-◌, length}
 use Rattle.mm_text.specs.Token.{plain_token}
-use Rattle.mm_text.specs.Place.{IsPlace, IsSameFile, comment_at}
+use Rattle.mm_text.specs.Mirror.Place.{IsPlace, IsSameFile, comment_at}
 use Rattle.mm_text.proofs.comments.comment_end.Given as goal
 
 -- what was passed leaves the comment open

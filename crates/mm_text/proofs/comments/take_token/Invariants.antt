@@ -1,5 +1,5 @@
 use Rattle.std.proofs.Common.{◌≡◌, ◌-◌, length}
-use Rattle.mm_text.specs.Place.{IsPlace, IsSameFile, shown_at}
+use Rattle.mm_text.specs.Mirror.Place.{IsPlace, IsSameFile, shown_at}
 use Rattle.mm_text.proofs.comments.take_token.Given as goal
 
 -- comments alone were passed

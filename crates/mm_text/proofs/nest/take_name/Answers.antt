@@ -3,7 +3,7 @@ use Rattle.std.proofs.lemmas.Result.{err_from_is_err_and}
 use Rattle.mm_text.specs.declared.comments.Place.{Place}
 use Rattle.mm_text.specs.Token.{plain_token}
 use Rattle.mm_text.specs.Items.{Naming, Closing, pieces}
-use Rattle.mm_text.specs.Place.{shown_at}
+use Rattle.mm_text.specs.Mirror.Place.{shown_at}
 use Rattle.mm_text.proofs.InclusionLaws.{naming-dollar, naming-name, closing-other, closing-close}
 use Rattle.mm_text.proofs.nest.take_name.Goals as goal
 

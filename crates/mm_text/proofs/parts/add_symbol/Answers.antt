@@ -2,8 +2,8 @@ use Rattle.std.proofs.Common.{◌≡◌, map, length, refl, sym, ap, ◌∙◌, 
 use Rattle.std.proofs.lemmas.List.{map_push, length-map}
 use Rattle.mm_text.specs.Token.{plain_token}
 use Rattle.mm_text.specs.Statement.{plain_statement}
-use Rattle.mm_text.specs.Reader.{InBody, More, is_full}
-use Rattle.mm_text.specs.Steps.{plain_scope}
+use Rattle.mm_text.specs.Mirror.Reader.{InBody, More, is_full}
+use Rattle.mm_text.specs.Mirror.Steps.{plain_scope}
 use Rattle.mm_text.proofs.StepLaws.{step_symbol, step_too_many}
 use Rattle.mm_text.proofs.PartLaws.{steps_to_fault}
 use Rattle.mm_text.proofs.parts.add_symbol.Goals as goal

@@ -2,7 +2,7 @@ use Rattle.std.proofs.Common.{map, sym, ap, ◌∙◌}
 use Rattle.std.proofs.lemmas.List.{map_push}
 use Rattle.mm_text.specs.Token.{plain_token}
 use Rattle.mm_text.specs.Statement.{plain_statement}
-use Rattle.mm_text.specs.Reader.{InProof, More}
+use Rattle.mm_text.specs.Mirror.Reader.{InProof, More}
 use Rattle.mm_text.proofs.StepLaws.{step_proof_token}
 use Rattle.mm_text.proofs.parts.add_to_proof.Goals as goal
 

@@ -1,8 +1,8 @@
 use Rattle.std.proofs.Common.{Some, refl, sym, ap, ◌∙◌}
 use Rattle.std.proofs.lemmas.Result.{err_from_is_err_and}
 use Rattle.mm_text.specs.Token.{plain_token}
-use Rattle.mm_text.specs.Reader.{Labelled, InBody, reading_of}
-use Rattle.mm_text.specs.Steps.{plain_scope}
+use Rattle.mm_text.specs.Mirror.Reader.{Labelled, InBody, reading_of}
+use Rattle.mm_text.specs.Mirror.Steps.{plain_scope}
 use Rattle.mm_text.proofs.StepLaws.{step_after_label, step_after_label_none, step_label_word}
 use Rattle.mm_text.proofs.PartLaws.{sign_is, gives_same, gives_fault, gives_err, answers_faulty, same_more}
 use Rattle.mm_text.proofs.parts.after_label.Goals as goal

@@ -1,6 +1,6 @@
 use Rattle.std.proofs.Common.{◌≡◌, length}
-use Rattle.mm_text.specs.Reader.{Between, reading_of}
-use Rattle.mm_text.specs.Steps.{plain_scope}
+use Rattle.mm_text.specs.Mirror.Reader.{Between, reading_of}
+use Rattle.mm_text.specs.Mirror.Steps.{plain_scope}
 use Rattle.mm_text.proofs.parts.first_token.Given as goal
 
 -- what was passed over says nothing

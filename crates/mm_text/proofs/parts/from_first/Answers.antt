@@ -1,9 +1,9 @@
 use Rattle.std.proofs.Common.{None, refl, ap, ◌∙◌, subst}
 use Rattle.mm_text.specs.Token.{plain_token}
-use Rattle.mm_text.specs.Class.{spelling}
-use Rattle.mm_text.specs.Next.{items_with}
-use Rattle.mm_text.specs.Reader.{Between}
-use Rattle.mm_text.specs.Steps.{plain_scope, Closes}
+use Rattle.mm_text.specs.Mirror.Class.{spelling}
+use Rattle.mm_text.specs.Mirror.Next.{items_with}
+use Rattle.mm_text.specs.Mirror.Reader.{Between}
+use Rattle.mm_text.specs.Mirror.Steps.{plain_scope, Closes}
 use Rattle.mm_text.proofs.PartLaws.{is_keyword_first, answers_wrong, gives_opening, closes_block, answers_closing}
 use Rattle.mm_text.proofs.parts.from_first.Goals as goal
 

@@ -1,7 +1,7 @@
 use Rattle.std.proofs.Common.{None, refl, sym, ap, ◌∙◌}
 use Rattle.mm_text.specs.Token.{plain_token}
-use Rattle.mm_text.specs.Reader.{Between, InBody, reading_of}
-use Rattle.mm_text.specs.Steps.{plain_scope}
+use Rattle.mm_text.specs.Mirror.Reader.{Between, InBody, reading_of}
+use Rattle.mm_text.specs.Mirror.Steps.{plain_scope}
 use Rattle.mm_text.proofs.StepLaws.{step_begins, step_begins_none}
 use Rattle.mm_text.proofs.PartLaws.{gives_same, gives_fault, answers_faulty, same_more}
 use Rattle.mm_text.proofs.parts.from_keyword.Goals as goal

@@ -1,7 +1,7 @@
 use Rattle.std.proofs.Common.{None, refl, sym, ◌∙◌}
 use Rattle.mm_text.specs.Token.{plain_token}
-use Rattle.mm_text.specs.Reader.{Between}
-use Rattle.mm_text.specs.Steps.{plain_scope}
+use Rattle.mm_text.specs.Mirror.Reader.{Between}
+use Rattle.mm_text.specs.Mirror.Steps.{plain_scope}
 use Rattle.mm_text.proofs.StepLaws.{step_label, step_no_label}
 use Rattle.mm_text.proofs.PartLaws.{gives_same, gives_fault, answers_faulty, same_more}
 use Rattle.mm_text.proofs.parts.from_word.Goals as goal

@@ -2,8 +2,8 @@ use Rattle.std.proofs.Common.{Some, None, refl, sym, ap, ◌∙◌}
 use Rattle.std.proofs.lemmas.Result.{err_from_is_err_and}
 use Rattle.mm_text.specs.Token.{plain_token}
 use Rattle.mm_text.specs.Statement.{plain_statement}
-use Rattle.mm_text.specs.Reader.{InProof}
-use Rattle.mm_text.specs.Steps.{plain_scope}
+use Rattle.mm_text.specs.Mirror.Reader.{InProof}
+use Rattle.mm_text.specs.Mirror.Steps.{plain_scope}
 use Rattle.mm_text.proofs.StepLaws.{step_ends_proof, step_in_proof}
 use Rattle.mm_text.proofs.PartLaws.{sign_is, gives_same, gives_fault, gives_err, answers_same, answers_faulty, answers_refused, same_more, gives_whole}
 use Rattle.mm_text.proofs.parts.proof.Goals as goal

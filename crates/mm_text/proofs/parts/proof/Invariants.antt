@@ -1,7 +1,7 @@
 use Rattle.std.proofs.Common.{◌≡◌, length}
 use Rattle.mm_text.specs.Statement.{plain_statement}
-use Rattle.mm_text.specs.Reader.{InProof, reading_of}
-use Rattle.mm_text.specs.Steps.{plain_scope}
+use Rattle.mm_text.specs.Mirror.Reader.{InProof, reading_of}
+use Rattle.mm_text.specs.Mirror.Steps.{plain_scope}
 use Rattle.mm_text.proofs.parts.proof.Given as goal
 
 -- what was read so far and what is left give the same reading

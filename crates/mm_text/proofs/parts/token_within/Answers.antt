@@ -1,6 +1,6 @@
 use Rattle.std.proofs.Common.{inl, inr}
 use Rattle.mm_text.specs.Token.{plain_token}
-use Rattle.mm_text.specs.Steps.{plain_scope}
+use Rattle.mm_text.specs.Mirror.Steps.{plain_scope}
 use Rattle.mm_text.proofs.PartLaws.{takes_wrong, takes_keyword, takes_word, takes_inclusion, takes_end, takes_nothing, answers_wrong, answers_inclusion, answers_end, answers_nothing}
 use Rattle.mm_text.proofs.parts.token_within.Goals as goal
 

@@ -2,7 +2,7 @@ use Rattle.std.proofs.Common.{sym, ap, ◌∙◌, length, subst, true, List, len
 use Rattle.std.specs.List.{AllByRecursion}
 use Rattle.std.proofs.lemmas.List.{length-replicate}
 use Rattle.mm_text.specs.declared.comments.Place.{Place}
-use Rattle.mm_text.specs.Place.{IsPlace}
+use Rattle.mm_text.specs.Mirror.Place.{IsPlace}
 use Rattle.mm_text.proofs.NestLaws.{begins, room_at_begin, no_file}
 use Rattle.mm_text.proofs.nest.Nest.begin.Goals as goal
 

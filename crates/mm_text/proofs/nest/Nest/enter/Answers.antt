@@ -1,8 +1,8 @@
 use Rattle.std.proofs.Common.{◌++◌, None, ap, ◌∙◌, refl, arith, true}
 use Rattle.std.specs.Vec.{with_item}
 use Rattle.mm_text.specs.Items.{Outside, pieces}
-use Rattle.mm_text.specs.Place.{shown_at}
-use Rattle.mm_text.specs.Nest.{put_into, waiting}
+use Rattle.mm_text.specs.Mirror.Place.{shown_at}
+use Rattle.mm_text.specs.Mirror.Nest.{put_into, waiting}
 use Rattle.mm_text.proofs.NestLaws.{enters, left_outside, file_within, no_file}
 use Rattle.mm_text.proofs.nest.Nest.enter.Goals as goal
 

@@ -1,6 +1,6 @@
 use Rattle.std.proofs.Common.{map}
 use Rattle.mm_text.specs.Files.{plain_file}
-use Rattle.mm_text.specs.Steps.{plain_scope}
+use Rattle.mm_text.specs.Mirror.Steps.{plain_scope}
 use Rattle.mm_text.proofs.ReaderLaws.{kept_from_start, unread_from_start, bytes_kept}
 use Rattle.mm_text.proofs.statements.Statements.new.Goals as goal
 

@@ -1,6 +1,6 @@
 use Rattle.std.proofs.Common.{◌≡◌, map, true, sym, ap, ◌∙◌, Ok}
 use Rattle.mm_text.specs.Files.{plain_file}
-use Rattle.mm_text.specs.Steps.{plain_scope}
+use Rattle.mm_text.specs.Mirror.Steps.{plain_scope}
 use Rattle.mm_text.proofs.ReaderLaws.{kept_on, kept_ended, kept_failed, fault_answerable}
 use Rattle.mm_text.proofs.statements.Statements.read.Goals as goal
 

@@ -6,7 +6,7 @@ use Rattle.mm_text.specs.declared.next.Next.{Next}
 use Rattle.mm_text.specs.declared.next.Next.TheVariants as next
 use Rattle.mm_text.specs.declared.fault.TextFault.{TextFault}
 use Rattle.mm_text.specs.declared.fault.TextFault.TheVariants.{Load, Fault, Memory}
-use Rattle.mm_text.specs.Class.{spelling}
+use Rattle.mm_text.specs.Mirror.Class.{spelling}
 use Rattle.mm_text.specs.Token.{PlainToken, plain_token, HoldsNoDollar}
 use Rattle.mm_text.specs.Files.{PlainFile, BreaksLoad}
 use Rattle.mm_text.specs.declared.fault.LoadRule.{LoadRule}

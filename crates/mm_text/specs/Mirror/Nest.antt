@@ -14,8 +14,8 @@ use Rattle.mm_text.specs.Token.{PlainToken, plain_token}
 use Rattle.mm_text.specs.Files.{plain_file, total_bytes}
 use Rattle.mm_text.specs.Items as items
 use Rattle.mm_text.specs.Items.{Item, Plain, Inclusion, End, Piece, Met, Named, Spot, Outside, Naming, Closing, Clear, pieces, put_in, number_of}
-use Rattle.mm_text.specs.Place.{IsPlace, IsClear, shown_at}
-use Rattle.mm_text.specs.Next.{IsOfClass}
+use Rattle.mm_text.specs.Mirror.Place.{IsPlace, IsClear, shown_at}
+use Rattle.mm_text.specs.Mirror.Next.{IsOfClass}
 
 -- ---- one file
 

@@ -10,13 +10,13 @@ use Rattle.mm_text.specs.declared.fault.TextFault.{TextFault}
 use Rattle.mm_text.specs.declared.fault.TextFault.TheVariants.{Load, Fault, Memory}
 use Rattle.mm_text.specs.declared.statement.Kind.{Kind}
 use Rattle.mm_text.specs.declared.statement.Kind.TheVariants as kind
-use Rattle.mm_text.specs.Class.{spelling}
+use Rattle.mm_text.specs.Mirror.Class.{spelling}
 use Rattle.mm_text.specs.Token.{PlainToken, plain_token, HoldsNoDollar}
 use Rattle.mm_text.specs.Statement.{PlainStatement}
 use Rattle.mm_text.specs.Items.{Item, Plain}
-use Rattle.mm_text.specs.Next.{items_with, IsOfClass}
+use Rattle.mm_text.specs.Mirror.Next.{items_with, IsOfClass}
 use Rattle.mm_text.specs.Reading.{PlainFault, TellsMore}
-use Rattle.mm_text.specs.Reader.{PlainReading, PlainScope, Part, Between, step, More, Faulty, part_first, part_label, fault_in, has_none, passed, opened, closed, same_text, is_provable, reading_of, ended, with_statement}
+use Rattle.mm_text.specs.Mirror.Reader.{PlainReading, PlainScope, Part, Between, step, More, Faulty, part_first, part_label, fault_in, has_none, passed, opened, closed, same_text, is_provable, reading_of, ended, with_statement}
 
 -- what its keyword, or that it is none, tells of a token
 abbrev pub IsSign : PlainToken → Option Keyword → Type 0

@@ -1,4 +1,4 @@
--- What the fields of a reader say of what it has still to give.
+-- What the fields of a reader say of what it has still to give. Private clauses and the reader's invariant speak of this.
 use Rattle.std.specs.Prelude.{◌≡◌, ℕ, ◌+◌, ◌≤◌, length, List, [], Bool, true, false, Some, None, Result, Ok, Err, map}
 use Rattle.mm_text.specs.declared.fault.TextFault.{TextFault}
 use Rattle.mm_text.specs.declared.fault.TextFault.TheVariants.{Load, Fault, Memory}
@@ -8,10 +8,10 @@ use Rattle.mm_text.specs.declared.statements.Statements.TheInside.{Inside}
 use Rattle.mm_text.specs.Statement.{PlainStatement}
 use Rattle.mm_text.specs.Files.{PlainFile, plain_file}
 use Rattle.mm_text.specs.Items.{Item}
-use Rattle.mm_text.specs.Reader.{PlainReading, PlainScope, Between, reading_of}
+use Rattle.mm_text.specs.Mirror.Reader.{PlainReading, PlainScope, Between, reading_of}
 use Rattle.mm_text.specs.Remaining.{Remaining}
 use Rattle.mm_text.specs.Laws.{AreFormedInPlace}
-use Rattle.mm_text.specs.Steps.{fault_of, plain_scope, GivesStatement}
+use Rattle.mm_text.specs.Mirror.Steps.{fault_of, plain_scope, GivesStatement}
 
 -- what is left in a state, where reading on would give this
 abbrev pub remaining_in : State → List PlainFile → PlainReading → Remaining
