@@ -2,18 +2,18 @@
 use Rattle.std.proofs.Common.{◌≡◌, ℕ, ⊎_elim, zero, append-nil, ◌+◌, ◌-◌, ◌<◌, ◌≤◌, ◌==◌, ◌&&◌, ◌||◌, List, [], ◌∷◌, ◌++◌, length, get_or, drop, take, Bool, true, false, not, cond, refl, sym, ap, ◌∙◌, subst, suc, arith, Some, None, ◌⊎◌, inl, inr}
 use Rattle.std.specs.Prelude.{slice_range, codes}
 use Rattle.std.specs.List.{list_any, list_all, AllByRecursion}
-use Rattle.std.proofs.lemmas.List.{drop_more, drop_all, drop-drop, take-append-drop, get_or-drop, get_or-take, length-drop, length-take-le}
-use Rattle.std.proofs.lemmas.Bool.{ne_eqb, or_parts, or_right, both_ways, false_from_ne_true}
+use Rattle.std.proofs.lemmas.List.{drop_more, drop-drop, take-append-drop, get_or-drop, get_or-take, length-drop, length-take-le}
+use Rattle.std.proofs.lemmas.Bool.{or_parts, or_right, both_ways, false_from_ne_true}
 use Rattle.std.proofs.str.Laws.{order}
 use Rattle.std.proofs.lemmas.List.Folds.{list_all_at}
 use Rattle.memchr.specs.Find.{Nowhere, Passes, is_byte}
 use Rattle.mm_text.specs.declared.fault.TextRule.TheVariants.{X1, X2, X3, X4}
 use Rattle.mm_text.specs.Token.{PlainToken, is_space, is_printable, with_byte, tokens_from}
-use Rattle.mm_text.specs.Items.{Shown, Clear, Broken, uncommented, spells, holds_mark}
+use Rattle.mm_text.specs.Items.{Clear, Broken, uncommented, spells, holds_mark}
 use Rattle.mm_text.specs.Mirror.Place.{is_legal, is_quiet, IsLegalFront, IsPlace, IsLater, moved, comment_at, shown_at}
 use Rattle.std.specs.Cmp.Lexicographic.{bytes_decides}
 use Rattle.mm_text.specs.declared.comments.Place.{Place}
-use Rattle.mm_text.proofs.TokenLaws.{tokens_from-space, tokens_from-byte, tokens_from-nil, tokens_from-step, tokens_from-end, BeginFrom, tokens_from_begin, with_byte_apart, BeginsWithSpace, space_from_place}
+use Rattle.mm_text.proofs.TokenLaws.{tokens_from-space, tokens_from-byte, tokens_from-nil, tokens_from-step, BeginFrom, tokens_from_begin, with_byte_apart, BeginsWithSpace, space_from_place}
 
 -- ---- marks
 

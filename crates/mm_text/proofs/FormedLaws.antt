@@ -1,5 +1,5 @@
 -- The statements that are read are formed by the grammar, stand in the files, and hold no more bytes than they do.
-use Rattle.std.proofs.Common.{◌≡◌, ℕ, ◌+◌, ◌≤◌, length, List, [], ◌∷◌, refl, sym, ap, subst, ◌∙◌, Option, Some, None, false, arith}
+use Rattle.std.proofs.Common.{◌≡◌, ◌≤◌, length, List, [], ◌∷◌, refl, ap, ◌∙◌, Option, Some, None, false, arith}
 use Rattle.std.specs.Prelude.{sum_by}
 use Rattle.std.specs.List.{AllByRecursion, list_all}
 use Rattle.std.proofs.lemmas.Bool.{cond-true, cond-false}
@@ -9,7 +9,7 @@ use Rattle.mm_text.specs.declared.statement.Kind.TheVariants.{Constants, Variabl
 use Rattle.mm_text.specs.Token.{PlainToken, is_label_byte, IsLabel}
 use Rattle.mm_text.specs.Statement.{PlainStatement, IsHead, IsBareHead, IsLabelledHead, label_in, keyword_of, Spells, HasLabel, HasForm, bytes_in}
 use Rattle.mm_text.specs.Files.{PlainFile, total_bytes}
-use Rattle.mm_text.specs.Items.{items, plain_tokens}
+use Rattle.mm_text.specs.Items.{items}
 use Rattle.mm_text.specs.Reading.{PlainFault, Reads, IsSliceOf, IsInPlace}
 use Rattle.mm_text.specs.Laws.{ReadingsAreFormedInPlace, ReadingsAreBalanced, ReadingsFit}
 use Rattle.mm_text.proofs.StatementTokens.{all_of_statement, reading_front, each_read, text_bytes, bytes-append, statements_bytes}

@@ -1,6 +1,6 @@
 -- The pieces of a file, one token at a time, and the files that are put in.
-use Rattle.std.proofs.Common.{◌≡◌, ℕ, zero, suc, ◌+◌, ◌<◌, ◌≤◌, ◌==◌, ◌&&◌, List, [], ◌∷◌, ◌++◌, length, map, Bool, true, false, not, cond, refl, sym, ap, ◌∙◌, subst, Some, None, Option, count_by, arith, append_assoc, append-nil}
-use Rattle.std.specs.Prelude.{codes, slice_index_or, slice_set, slice_get}
+use Rattle.std.proofs.Common.{◌≡◌, ℕ, zero, suc, ◌==◌, ◌&&◌, List, [], ◌∷◌, ◌++◌, Bool, true, false, not, cond, refl, sym, ap, ◌∙◌, Some, None, append_assoc, append-nil}
+use Rattle.std.specs.Prelude.{codes, slice_index_or, slice_set}
 use Rattle.std.specs.List.{list_any}
 use Rattle.std.proofs.lemmas.Bool.{or_parts}
 use Rattle.mm_text.specs.declared.fault.TextRule.{TextRule}

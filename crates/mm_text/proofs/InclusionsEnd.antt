@@ -1,5 +1,5 @@
 -- So many files as there are can be put in: that more could be changes nothing.
-use Rattle.std.proofs.Common.{◌≡◌, ℕ, zero, suc, ◌+◌, ◌<◌, ◌≤◌, List, [], ◌∷◌, length, Bool, true, false, cond, not, refl, sym, ap, ◌∙◌, Some, None, Option, replicate, count_by, arith}
+use Rattle.std.proofs.Common.{◌≡◌, ℕ, zero, suc, ◌+◌, ◌<◌, ◌≤◌, List, [], ◌∷◌, length, Bool, true, false, cond, not, refl, ap, Some, None, Option, replicate, count_by, arith}
 use Rattle.std.specs.Prelude.{slice_index_or, slice_set}
 use Rattle.mm_text.specs.declared.fault.TextRule.TheVariants.{X7}
 use Rattle.mm_text.specs.Token.{PlainToken}

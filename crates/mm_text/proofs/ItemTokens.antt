@@ -1,10 +1,10 @@
 -- What holds of all tokens among the items of files.
-use Rattle.std.proofs.Common.{◌≡◌, ℕ, zero, suc, ◌+◌, ◌-◌, ◌==◌, ◌&&◌, ◌≤◌, ◌<◌, length, take, drop, List, [], ◌∷◌, ◌++◌, replicate, Bool, true, false, cond, not, refl, sym, ap, subst, ◌∙◌, codes, Option, Some, None, ◌⊎◌, inl, inr, arith}
+use Rattle.std.proofs.Common.{◌≡◌, ℕ, zero, suc, ◌+◌, ◌-◌, ◌==◌, ◌&&◌, ◌≤◌, length, take, drop, List, [], ◌∷◌, ◌++◌, replicate, Bool, true, false, cond, not, refl, ap, ◌∙◌, codes, Option, Some, None, ◌⊎◌, inl, inr, arith}
 use Rattle.std.specs.Prelude.{sum_by, slice_get, slice_index_or, slice_set}
 use Rattle.std.specs.List.{AllByRecursion, list_any, list_all}
 use Rattle.std.proofs.lemmas.Bool.{cond_both}
 use Rattle.mm_text.specs.declared.fault.TextRule.{TextRule}
-use Rattle.mm_text.specs.declared.fault.TextRule.TheVariants.{X1, X3, X4, X5, X7, X9}
+use Rattle.mm_text.specs.declared.fault.TextRule.TheVariants.{X4, X7, X9}
 use Rattle.mm_text.specs.Token.{PlainToken, HoldsNoDollar, is_printable, is_space, with_byte, tokens_from}
 use Rattle.mm_text.specs.Statement.{IsKeyword, keywords}
 use Rattle.mm_text.specs.Files.{PlainFile, total_bytes}

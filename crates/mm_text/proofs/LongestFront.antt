@@ -1,11 +1,11 @@
 -- The front of the items after which a fault comes is the longest viable one.
-use Rattle.std.proofs.Common.{◌≡◌, ℕ, ◌+◌, ◌≤◌, length, List, [], ◌∷◌, ◌++◌, refl, sym, ap, subst, ◌∙◌, Some, Option, append_assoc, ◌⊎◌, inl, inr, arith}
+use Rattle.std.proofs.Common.{◌≡◌, ◌+◌, ◌≤◌, length, List, [], ◌∷◌, ◌++◌, refl, sym, ap, ◌∙◌, Some, append_assoc, ◌⊎◌, inl, inr, arith}
 use Rattle.mm_text.specs.declared.fault.TextRule.TheVariants.{X1}
 use Rattle.mm_text.specs.Token.{PlainToken}
 use Rattle.mm_text.specs.Statement.{PlainStatement}
 use Rattle.mm_text.specs.Items.{Item, Wrong}
 use Rattle.mm_text.specs.Reading.{PlainFault, Viable, EndsAt}
-use Rattle.mm_text.specs.Mirror.Reader.{PlainReading, Between, outermost, fault_in, ended, reading_of}
+use Rattle.mm_text.specs.Mirror.Reader.{PlainReading, Between, outermost, fault_in, reading_of}
 use Rattle.mm_text.specs.Laws.{FaultsEndLongestFronts}
 use Rattle.mm_text.proofs.Fronts.{cons_parts}
 use Rattle.mm_text.proofs.PartFacts.{part_of_beginning}

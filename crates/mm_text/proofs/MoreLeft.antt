@@ -1,5 +1,5 @@
 -- While a statement is unfinished, something is left to tell.
-use Rattle.std.proofs.Common.{◌≡◌, ◌≢◌, List, [], ◌∷◌, length, true, false, if◌then◌else◌, Option, Some, None, codes, inl, inr}
+use Rattle.std.proofs.Common.{◌≢◌, List, [], ◌∷◌, length, if◌then◌else◌, Option, Some, None, codes, inl, inr}
 use Rattle.std.proofs.lemmas.Bool.{cond_both}
 use Rattle.mm_text.specs.declared.statement.Kind.TheVariants.{Opening, Closing}
 use Rattle.mm_text.specs.declared.fault.TextRule.TheVariants.{S6}

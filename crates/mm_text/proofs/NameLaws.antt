@@ -1,8 +1,8 @@
 -- The names of files: different up to a place, two of them equal, and where one stands.
-use Rattle.std.proofs.Common.{◌≡◌, ◌≢◌, ℕ, zero, suc, ◌+◌, ◌<◌, ◌≤◌, List, [], ◌∷◌, map, length, get_or, take, Bool, ◌||◌, true, false, Some, None, cond, nat_lt, Option, refl, sym, ap, ◌∙◌, subst, arith, ⊎_elim, if◌then◌else◌, not, ◌++◌}
-use Rattle.std.specs.Prelude.{slice_get, nat_eq, position}
+use Rattle.std.proofs.Common.{◌≡◌, ◌≢◌, ℕ, zero, suc, ◌+◌, ◌<◌, ◌≤◌, List, [], ◌∷◌, map, length, get_or, take, Bool, ◌||◌, true, false, Some, None, cond, nat_lt, refl, sym, ap, ◌∙◌, arith, ⊎_elim, if◌then◌else◌, not, ◌++◌}
+use Rattle.std.specs.Prelude.{slice_get, position}
 use Rattle.std.specs.List.{list_any, position_or_len}
-use Rattle.std.specs.Cmp.Lexicographic.{pointwise, bytes_decides}
+use Rattle.std.specs.Cmp.Lexicographic.{bytes_decides}
 use Rattle.std.proofs.lemmas.Bool.{false≢true, both_ways}
 use Rattle.std.proofs.lemmas.List.{get_or-take, length-take-le, length-map, map-append}
 use Rattle.std.proofs.Math.Seq.{take-suc}

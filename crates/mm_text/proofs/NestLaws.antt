@@ -1,6 +1,6 @@
 -- The items that are left, as a file's pieces are taken, a file is gone into and a file ends.
-use Rattle.std.proofs.Common.{◌≡◌, ℕ, zero, suc, ◌+◌, ◌-◌, ◌<◌, ◌≤◌, List, [], ◌∷◌, ◌++◌, length, map, Bool, true, false, not, cond, refl, sym, ap, ◌∙◌, subst, Some, None, Option, count_by, get_or, set, drop, replicate, append-nil, arith}
-use Rattle.std.specs.Prelude.{slice_index_or, slice_set, slice_get, sum_by, position, if◌then◌else◌}
+use Rattle.std.proofs.Common.{◌≡◌, ℕ, zero, suc, ◌+◌, ◌-◌, ◌<◌, ◌≤◌, List, [], ◌∷◌, ◌++◌, length, map, Bool, true, false, not, cond, refl, sym, ap, ◌∙◌, Some, None, count_by, get_or, drop, replicate, append-nil, arith}
+use Rattle.std.specs.Prelude.{slice_index_or, slice_set, slice_get, sum_by, if◌then◌else◌}
 use Rattle.std.proofs.lemmas.List.Sums.{sum_by-set, sum_by_from}
 use Rattle.std.proofs.lemmas.List.Quantifiers.{position-Some}
 use Rattle.std.proofs.lemmas.List.{length-map}
@@ -20,7 +20,7 @@ use Rattle.mm_text.specs.Mirror.Names.{number_among}
 use Rattle.mm_text.specs.Mirror.Place.{IsSameFile, shown_at}
 use Rattle.mm_text.specs.Mirror.Next.{items_with}
 use Rattle.mm_text.specs.Mirror.Nest.{IsNest, pieces_with, wrong_item, waiting, spot_of, put_into, pieces_left, items_after, items_left}
-use Rattle.mm_text.proofs.NameLaws.{position-names, other_default}
+use Rattle.mm_text.proofs.NameLaws.{position-names}
 use Rattle.mm_text.proofs.InclusionLaws.{put_in-plain, put_in-wrong, put_in-inclusion, put_in-end, put_in-nil, put_in-unknown, put_in-again, put_in-first, waiting-push}
 
 -- before the top file's end

@@ -1,5 +1,5 @@
 -- A reading of items is what the reader computes, so there is one reading.
-use Rattle.std.proofs.Common.{◌≡◌, ◌≢◌, ℕ, ◌+◌, ◌==◌, length, List, [], ◌∷◌, ◌++◌, Bool, true, false, cond, refl, sym, ap, subst, ◌∙◌, codes, Option, Some, None, append_assoc, ◌⊎◌, inl, inr, lit<}
+use Rattle.std.proofs.Common.{◌≡◌, ◌≢◌, ℕ, ◌==◌, length, List, [], ◌∷◌, ◌++◌, true, false, cond, refl, sym, ap, subst, ◌∙◌, codes, Option, Some, None, append_assoc, ◌⊎◌, inl, inr, lit<}
 use Rattle.std.specs.List.{list_all}
 use Rattle.std.proofs.lemmas.List.{append-nil}
 use Rattle.std.proofs.lemmas.Bool.{cond-true, cond-false, cond_both, false_from_ne_true, false≢true, eq-eqb, eqb-true}
@@ -9,19 +9,19 @@ use Rattle.mm_text.specs.declared.fault.TextRule.TheVariants.{X6, X8, S1, S2, S3
 use Rattle.mm_text.specs.declared.statement.Kind.{Kind}
 use Rattle.mm_text.specs.declared.statement.Kind.TheVariants.{Floating, Opening, Closing}
 use Rattle.mm_text.specs.Token.{PlainToken, is_label_byte, HoldsNoDollar}
-use Rattle.mm_text.specs.Statement.{PlainStatement, HasBody, label_in, SpellsAll, IsKeyword, FitsCount, keyword_of}
+use Rattle.mm_text.specs.Statement.{PlainStatement, HasBody, SpellsAll, IsKeyword, FitsCount}
 use Rattle.mm_text.specs.Items.{Item, Plain, Wrong, Inclusion, End, plain_tokens, HoldNoFault}
 use Rattle.mm_text.specs.Blocks.{AreBalanced, AreClosed, IsInnermost}
 use Rattle.mm_text.specs.Reading.{PlainFault, closes_symbols, IsBody, IsInProof, IsBeginning, AreOutside, Viable, Meets, MeetsS1, MeetsS2, MeetsS3, MeetsS6, fault_at, EndsInX8, EndsInS7, EndsAt, ReadsAs}
-use Rattle.mm_text.specs.Mirror.Reader.{Part, Between, Labelled, InBody, InProof, Step, More, Whole, Opened, Closed, Faulty, step, at_start, after_label, in_body, in_proof, begun, same_text, is_keyword, has_count, is_full, is_provable, part_first, PlainScope, outermost, passed, opened, closed, has_none, fault_in, block_fault, unfinished_fault, end_fault, inclusion_fault, unless, PlainReading, ended, with_statement, reading_of}
-use Rattle.mm_text.proofs.TextFacts.{same_text-ne, is_keyword-ne, is_keyword_from, symbol-is_keyword, IsSigned}
-use Rattle.mm_text.proofs.Fronts.{cons_parts, nil_append, plain_tokens-append, clean_behind}
+use Rattle.mm_text.specs.Mirror.Reader.{Part, Between, Labelled, InBody, InProof, Step, More, Whole, Opened, Closed, Faulty, step, at_start, after_label, in_body, in_proof, begun, same_text, is_keyword, has_count, is_full, is_provable, PlainScope, outermost, passed, opened, closed, has_none, fault_in, block_fault, end_fault, inclusion_fault, unless, PlainReading, ended, with_statement, reading_of}
+use Rattle.mm_text.proofs.TextFacts.{same_text-ne, is_keyword-ne, is_keyword_from, symbol-is_keyword}
+use Rattle.mm_text.proofs.Fronts.{cons_parts, plain_tokens-append, clean_behind}
 use Rattle.mm_text.proofs.PartFacts.{Describes, part_of_body, part_of_proof, part_of_beginning, first_of_part}
-use Rattle.mm_text.proofs.StepFacts.{closing_sign, StepsTo, step_right}
+use Rattle.mm_text.proofs.StepFacts.{closing_sign}
 use Rattle.mm_text.proofs.StepLaws.{read_nothing, read_end, read_inclusion, read_wrong, read_more, read_whole, read_opened, read_closing, read_faulty}
-use Rattle.mm_text.proofs.Runs.{Run, Runs, Fails, run, run-nil, run-more, run-whole, run-opened, run-closed, run-faulty, with_first, with_all, with_all-runs, with_all-fails, run_on, runs_parts, fails_not, front_of_run}
+use Rattle.mm_text.proofs.Runs.{Runs, run, run-nil, run-more, run-whole, run-opened, run-closed, run-faulty, with_first, with_all, with_all-runs, run_on, runs_parts, fails_not, front_of_run}
 use Rattle.mm_text.proofs.StatementRuns.{closing_short, start_closing, spelled_run, whole_run}
-use Rattle.mm_text.proofs.BlockFacts.{AreOpen, scope_after, scope_of, scope_body, scope_more, scope_open, closed_scope, unclosed_scope, scope_closed, one_innermost, innermost_unclosed, balanced_front, closing_unbalanced}
+use Rattle.mm_text.proofs.BlockFacts.{AreOpen, scope_after, scope_of, scope_body, scope_more, scope_open, closed_scope, unclosed_scope, one_innermost, innermost_unclosed, balanced_front, closing_unbalanced}
 use Rattle.mm_text.proofs.ReadingLaws.{fault_is}
 
 -- ---- faulty tokens

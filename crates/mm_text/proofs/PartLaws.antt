@@ -1,6 +1,6 @@
 -- What a part of the reader answers at the next item.
-use Rattle.std.proofs.Common.{◌≡◌, ◌≢◌, ℕ, ◌+◌, ◌==◌, List, [], ◌∷◌, true, false, Option, Some, None, Result, Ok, Err, refl, sym, ap, ◌∙◌, subst, codes, ◌⊎◌, inl, inr}
-use Rattle.std.proofs.lemmas.Bool.{cond-true, cond-false, cond_both, ne_eqb}
+use Rattle.std.proofs.Common.{◌≡◌, ℕ, ◌+◌, List, [], ◌∷◌, true, false, Option, Some, None, Result, Ok, Err, refl, sym, ap, ◌∙◌, subst, codes}
+use Rattle.std.proofs.lemmas.Bool.{cond-true, cond-false}
 use Rattle.std.specs.Prelude.{option_map}
 use Rattle.mm_text.specs.declared.token.Token.{Token}
 use Rattle.mm_text.specs.declared.fault.TextRule.{TextRule}
@@ -14,12 +14,12 @@ use Rattle.mm_text.specs.declared.class.Class.TheVariants as class
 use Rattle.mm_text.specs.declared.next.Next.{Next}
 use Rattle.mm_text.specs.declared.next.Next.TheVariants as next
 use Rattle.mm_text.specs.Mirror.Class.{spelling}
-use Rattle.mm_text.specs.Token.{PlainToken, plain_token, HoldsNoDollar}
+use Rattle.mm_text.specs.Token.{PlainToken, plain_token}
 use Rattle.mm_text.specs.Statement.{PlainStatement}
 use Rattle.mm_text.specs.Items.{Item, Plain, Wrong, Inclusion, End}
 use Rattle.mm_text.specs.Mirror.Next.{items_with, IsOfClass, TakesToken, TakesNext}
 use Rattle.mm_text.specs.Reading.{PlainFault}
-use Rattle.mm_text.specs.Mirror.Reader.{Part, step, More, Whole, Faulty, PlainScope, passed, opened, fault_in, unfinished_fault, end_fault, inclusion_fault, is_outside, has_none, unless, part_label, part_first, Between, begun, block_fault, PlainReading, ended, with_statement, reading_of}
+use Rattle.mm_text.specs.Mirror.Reader.{Part, step, More, Whole, Faulty, PlainScope, opened, fault_in, unfinished_fault, end_fault, inclusion_fault, has_none, unless, part_label, part_first, Between, begun, PlainReading, ended, with_statement, reading_of}
 use Rattle.mm_text.specs.Mirror.Steps.{fault_of, TakesPlain, AnswersFault, GivesPart, GivesFirst, TakesFirst, TellsFault, Opens, Closes, StepsTo}
 use Rattle.mm_text.proofs.StepLaws.{read_nothing, read_end, read_inclusion, read_wrong, read_more, read_whole, read_opened, read_closing, read_faulty, step_opens, step_closes}
 use Rattle.mm_text.proofs.MoreLeft.{HasMore, IsUnfinished, more_left, statement_more}

@@ -1,5 +1,5 @@
 -- What the reader computes of items is a reading of them.
-use Rattle.std.proofs.Common.{◌≡◌, ◌≢◌, ℕ, ◌+◌, ◌==◌, length, List, [], ◌∷◌, ◌++◌, Bool, true, false, cond, refl, sym, ap, subst, ◌∙◌, codes, Option, Some, None, append_assoc, ◌⊎◌, inl, inr}
+use Rattle.std.proofs.Common.{◌≡◌, ◌≢◌, ℕ, ◌+◌, ◌==◌, List, [], ◌∷◌, ◌++◌, Bool, true, false, refl, sym, ap, subst, ◌∙◌, Option, Some, None, append_assoc, ◌⊎◌, inl, inr}
 use Rattle.std.specs.List.{AllByRecursion}
 use Rattle.std.proofs.Math.Path.{transport}
 use Rattle.std.proofs.lemmas.List.{append-nil}
@@ -9,11 +9,11 @@ use Rattle.mm_text.specs.declared.fault.TextRule.{TextRule}
 use Rattle.mm_text.specs.declared.fault.TextRule.TheVariants.{X6, X8, S6, S7}
 use Rattle.mm_text.specs.declared.statement.Kind.TheVariants.{Opening, Closing}
 use Rattle.mm_text.specs.Token.{PlainToken}
-use Rattle.mm_text.specs.Statement.{PlainStatement, HasBody, Spells, SpellsAll}
+use Rattle.mm_text.specs.Statement.{PlainStatement, Spells, SpellsAll}
 use Rattle.mm_text.specs.Items.{Item, Plain, Wrong, Inclusion, End, plain_tokens, HoldNoFault}
 use Rattle.mm_text.specs.Blocks.{AreBalanced, AreClosed}
 use Rattle.mm_text.specs.Reading.{PlainFault, IsBeginning, AreOutside, Viable, fault_at, EndsAt, ReadsAs}
-use Rattle.mm_text.specs.Mirror.Reader.{Part, Between, Labelled, InBody, InProof, Step, More, Whole, Opened, Closed, Faulty, step, begun, part_first, part_label, PlainScope, outermost, passed, opened, closed, has_none, fault_in, block_fault, unfinished_fault, end_fault, inclusion_fault, unless, PlainReading, ended, with_statement, reading_of}
+use Rattle.mm_text.specs.Mirror.Reader.{Part, Between, Step, More, Whole, Opened, Closed, Faulty, step, begun, part_first, PlainScope, outermost, passed, opened, closed, has_none, fault_in, block_fault, unfinished_fault, end_fault, inclusion_fault, unless, PlainReading, ended, with_statement, reading_of}
 use Rattle.mm_text.proofs.TextFacts.{IsSigned}
 use Rattle.mm_text.proofs.Fronts.{nil_append, last_cut, plain_tokens-append, clean_append}
 use Rattle.mm_text.proofs.PartFacts.{Describes, Describes-label, beginning_of_part, first_of_part}

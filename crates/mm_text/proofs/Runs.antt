@@ -5,7 +5,6 @@ use Rattle.mm_text.specs.declared.statement.Kind.TheVariants.{Opening, Closing}
 use Rattle.mm_text.specs.Token.{PlainToken}
 use Rattle.mm_text.specs.Statement.{PlainStatement}
 use Rattle.mm_text.specs.Mirror.Reader.{Part, Between, Step, More, Whole, Opened, Closed, Faulty, step, begun}
-use Rattle.mm_text.proofs.Fronts.{cons_parts}
 
 pub data Run : Type 0 where
   Fails : Run

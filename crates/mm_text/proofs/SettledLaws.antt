@@ -1,10 +1,10 @@
 -- After each token among the items of files a fault or the end of a file comes.
-use Rattle.std.proofs.Common.{◌≡◌, ℕ, zero, suc, ◌≤◌, ◌<◌, length, List, [], ◌∷◌, ◌++◌, Bool, true, false, cond, not, refl, Option, Some, None, replicate, count_by, codes, arith}
+use Rattle.std.proofs.Common.{◌≡◌, ℕ, zero, suc, ◌≤◌, ◌<◌, length, List, [], ◌∷◌, ◌++◌, Bool, true, false, cond, not, Option, Some, None, replicate, count_by, codes, arith}
 use Rattle.std.specs.Prelude.{slice_get, slice_index_or, slice_set}
 use Rattle.std.proofs.lemmas.Bool.{cond_both}
 use Rattle.mm_text.specs.declared.fault.TextRule.{TextRule}
-use Rattle.mm_text.specs.declared.fault.TextRule.TheVariants.{X5, X7}
-use Rattle.mm_text.specs.Token.{PlainToken, tokens_from}
+use Rattle.mm_text.specs.declared.fault.TextRule.TheVariants.{X7}
+use Rattle.mm_text.specs.Token.{tokens_from}
 use Rattle.mm_text.specs.Files.{PlainFile}
 use Rattle.mm_text.specs.Items.{Item, Plain, Wrong, Inclusion, End, Shown, Clear, Broken, uncommented, spells, holds_dollar, Spot, Outside, Naming, Closing, Piece, Met, Named, broken_outside, pieces, pieces_of, number_of, spliced, put_before, put_in, items}
 use Rattle.mm_text.proofs.NestLaws.{count_named, count_top}

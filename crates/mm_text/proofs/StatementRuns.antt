@@ -14,7 +14,7 @@ use Rattle.mm_text.proofs.TextFacts.{same_text_from, symbol-is_keyword, label-is
 use Rattle.mm_text.proofs.Fronts.{cons_parts}
 use Rattle.mm_text.proofs.PartFacts.{IsPartBody, IsPartProof, Describes}
 use Rattle.mm_text.proofs.StepFacts.{has_count_from, has_count-true, closing_sign}
-use Rattle.mm_text.proofs.Runs.{Run, Runs, Fails, with_first, with_all, with_all-runs, run, run-nil, run-more, run-whole, run-opened, run-closed}
+use Rattle.mm_text.proofs.Runs.{Runs, with_first, with_all, with_all-runs, run, run-nil, run-more, run-whole, run-opened, run-closed}
 
 -- ---- single steps
 

@@ -1,7 +1,7 @@
 -- Texts of tokens: keywords, labels, and texts that hold no `$`.
-use Rattle.std.proofs.Common.{◌≡◌, ◌≢◌, ℕ, zero, suc, ◌<◌, ◌==◌, ◌&&◌, ◌||◌, not, cond, nat_eq, length, get_or, List, [], ◌∷◌, Bool, true, false, refl, sym, ap, ◌∙◌, codes, Some, None, Contains, arith, ◌⊎◌, inl, inr}
+use Rattle.std.proofs.Common.{◌≡◌, ◌≢◌, ℕ, zero, suc, ◌<◌, ◌==◌, length, get_or, List, [], ◌∷◌, Bool, true, false, refl, sym, ap, ◌∙◌, Contains, arith, ◌⊎◌, inl, inr}
 use Rattle.std.specs.List.{list_any, list_all}
-use Rattle.std.specs.Cmp.Lexicographic.{pointwise, bytes_decides}
+use Rattle.std.specs.Cmp.Lexicographic.{bytes_decides}
 use Rattle.std.proofs.lemmas.Bool.{or_parts, or_cases, or_left, or_right, and_parts, false≢true, both_ways, false_from_ne_true, eqb-true}
 use Rattle.mm_text.specs.Token.{PlainToken, IsLabel, is_label_byte, HoldsNoDollar}
 use Rattle.mm_text.specs.Statement.{keywords, IsKeyword}

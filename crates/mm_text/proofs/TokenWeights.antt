@@ -1,5 +1,5 @@
 -- What is counted of the pieces of a file is at most what is counted of its tokens and of its end.
-use Rattle.std.proofs.Common.{◌≡◌, ℕ, zero, suc, ◌+◌, ◌<◌, ◌≤◌, ◌==◌, ◌&&◌, List, [], ◌∷◌, ◌++◌, length, Bool, true, false, cond, not, refl, sym, ap, ◌∙◌, subst, Some, None, Option, codes, arith}
+use Rattle.std.proofs.Common.{◌≡◌, ℕ, suc, ◌+◌, ◌≤◌, ◌==◌, List, [], ◌∷◌, length, Bool, true, false, cond, not, refl, Some, None, Option, codes, arith}
 use Rattle.std.specs.Prelude.{sum_by}
 use Rattle.std.specs.List.{list_all}
 use Rattle.std.proofs.lemmas.List.Sums.{sum_by_from}
@@ -7,7 +7,7 @@ use Rattle.mm_text.specs.declared.fault.TextRule.{TextRule}
 use Rattle.mm_text.specs.declared.fault.TextRule.TheVariants.{X1, X3, X4, X5}
 use Rattle.mm_text.specs.Token.{PlainToken, is_printable, is_space, with_byte, tokens_from}
 use Rattle.mm_text.specs.Files.{PlainFile, total_bytes}
-use Rattle.mm_text.specs.Items.{Item, Plain, Wrong, Inclusion, End, Shown, Clear, Broken, uncommented, spells, holds_dollar, holds_mark, Spot, Outside, Naming, Closing, Piece, Met, Named, broken_outside, pieces, pieces_of, plain_tokens, items}
+use Rattle.mm_text.specs.Items.{Item, Plain, Wrong, Inclusion, End, Shown, Clear, Broken, uncommented, spells, holds_dollar, holds_mark, Spot, Outside, Naming, Closing, Met, Named, broken_outside, pieces, pieces_of, plain_tokens, items}
 use Rattle.mm_text.proofs.Weights.{weigh, weigh_pieces, each_once, items_weight}
 
 -- what is counted of a token, and of the end of a file

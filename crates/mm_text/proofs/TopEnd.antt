@@ -1,10 +1,10 @@
 -- Nothing comes after the top file's end.
-use Rattle.std.proofs.Common.{◌≡◌, ℕ, zero, suc, List, [], ◌∷◌, ◌++◌, length, Bool, true, false, cond, refl, sym, ap, ◌∙◌, subst, Some, None, Option, codes, replicate, append-nil}
+use Rattle.std.proofs.Common.{◌≡◌, ℕ, zero, suc, List, [], ◌∷◌, ◌++◌, length, Bool, true, false, cond, refl, ap, ◌∙◌, subst, Some, None, Option, codes, replicate, append-nil}
 use Rattle.std.specs.Prelude.{slice_get, slice_index_or, slice_set}
 use Rattle.std.proofs.lemmas.Bool.{both_ways}
 use Rattle.mm_text.specs.declared.fault.TextRule.{TextRule}
 use Rattle.mm_text.specs.declared.fault.TextRule.TheVariants.{X5, X7}
-use Rattle.mm_text.specs.Token.{PlainToken, tokens_from}
+use Rattle.mm_text.specs.Token.{tokens_from}
 use Rattle.mm_text.specs.Files.{PlainFile}
 use Rattle.mm_text.specs.Items.{Item, Plain, Wrong, Inclusion, End, Shown, Clear, Broken, uncommented, spells, holds_dollar, Spot, Outside, Naming, Closing, Piece, Met, Named, broken_outside, pieces, pieces_of, number_of, spliced, put_before, put_in, items}
 use Rattle.mm_text.specs.ItemLaws.{TopFileEndsLast}

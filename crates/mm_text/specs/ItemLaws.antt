@@ -1,6 +1,5 @@
 -- The laws of the items of all files.
-use Rattle.std.specs.Prelude.{◌≡◌, ℕ, ◌+◌, ◌≤◌, ◌==◌, ◌&&◌, List, [], ◌∷◌, ◌++◌, length, map, replicate, sum_by, count_by, Bool, true, false, if◌then◌else◌}
-use Rattle.mm_text.specs.Token.{PlainToken}
+use Rattle.std.specs.Prelude.{◌≡◌, ℕ, ◌+◌, ◌≤◌, ◌==◌, ◌&&◌, List, [], ◌∷◌, ◌++◌, length, replicate, sum_by, count_by, true, false, if◌then◌else◌}
 use Rattle.mm_text.specs.Files.{PlainFile, total_bytes}
 use Rattle.mm_text.specs.Items.{Item, Plain, Wrong, Inclusion, End, items, plain_tokens, pieces_of, put_in}
 

@@ -1,5 +1,5 @@
 -- The reading of the handed files: the statements that they hold, and how it ends (the Metamath book, sections 4.1 and 4.2).
-use Rattle.std.specs.Prelude.{◌≡◌, ◌≢◌, ℕ, ◌+◌, ◌<◌, ◌≤◌, ◌==◌, ◌&&◌, ◌||◌, nat_eq, List, [], ◌∷◌, ◌++◌, length, slice_get, not, if◌then◌else◌, codes, Option, Some, None, IfSome, ◌⊎◌, slice_range}
+use Rattle.std.specs.Prelude.{◌≡◌, ◌≢◌, ℕ, ◌+◌, ◌≤◌, List, [], ◌∷◌, ◌++◌, length, slice_get, codes, Option, Some, None, IfSome, ◌⊎◌, slice_range}
 use Rattle.std.specs.List.{AllByRecursion}
 use Rattle.mm_text.specs.declared.fault.TextRule.{TextRule}
 use Rattle.mm_text.specs.declared.fault.TextRule.TheVariants.{X6, X8, S1, S2, S3, S4, S5, S6, S7}

@@ -1,6 +1,6 @@
 -- How the code goes through the files: the one that is read, and those that wait for the end of one that they include.
 -- Private clauses speak of this.
-use Rattle.std.specs.Prelude.{◌≡◌, ℕ, ◌+◌, ◌<◌, ◌≤◌, ◌++◌, List, [], ◌∷◌, Bool, true, false, not, length, map, count_by, if◌then◌else◌, Option, Some, None, IfSome, Result, Ok, Err, vec_len, vec_capacity}
+use Rattle.std.specs.Prelude.{◌≡◌, ℕ, ◌+◌, ◌<◌, ◌≤◌, ◌++◌, List, [], ◌∷◌, false, not, length, map, count_by, if◌then◌else◌, Option, Some, None, IfSome, Result, Ok, Err, vec_len, vec_capacity}
 use Rattle.std.specs.List.{AllByRecursion}
 use Rattle.mm_text.specs.declared.comments.Place.{Place}
 use Rattle.mm_text.specs.declared.comments.Wrong.{Wrong}

@@ -1,5 +1,5 @@
 -- What the parts of the reader's code answer, in the words of the plain reader. Private clauses speak of this.
-use Rattle.std.specs.Prelude.{◌≡◌, ℕ, ◌+◌, ◌<◌, List, [], ◌∷◌, Bool, true, false, Option, Some, None, Result, Ok, Err, option_map, codes, reverse, if◌then◌else◌}
+use Rattle.std.specs.Prelude.{◌≡◌, ℕ, ◌+◌, ◌<◌, List, ◌∷◌, Bool, true, false, Option, Some, None, Result, Ok, Err, option_map, codes, reverse, if◌then◌else◌}
 use Rattle.mm_text.specs.declared.token.Token.{Token}
 use Rattle.mm_text.specs.declared.scope.Scope.{Scope}
 use Rattle.mm_text.specs.declared.class.Keyword.{Keyword}

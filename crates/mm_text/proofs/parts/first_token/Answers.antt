@@ -1,6 +1,6 @@
-use Rattle.std.proofs.Common.{sym, ◌∙◌, subst, inl, inr}
+use Rattle.std.proofs.Common.{sym, ◌∙◌}
 use Rattle.mm_text.specs.Token.{plain_token}
-use Rattle.mm_text.specs.Mirror.Steps.{plain_scope, TakesFirst}
+use Rattle.mm_text.specs.Mirror.Steps.{plain_scope}
 use Rattle.mm_text.proofs.PartLaws.{takes_inclusion, takes_end, takes_nothing, takes_first, answers_same, answers_in_block, same_included, answers_open, same_ended, nothing_left}
 use Rattle.mm_text.proofs.parts.first_token.Goals as goal
 
