@@ -1,9 +1,11 @@
 //! What stands in a file outside comments.
 
-ghost use Rattle.std.specs.Prelude.{◌≡◌, ℕ, ◌==◌, ◌&&◌, ◌||◌, ◌≤◌, ◌<◌, true, false, length, codes, slice_index, slice_range};
+ghost use Rattle.std.specs.Prelude.{◌≡◌, ℕ, ◌==◌, ◌&&◌, ◌||◌, ◌≤◌, ◌<◌, true, false, length, codes};
+ghost use Rattle.std.specs.Prelude.{slice_index, slice_range};
 ghost use Rattle.mm_text.specs.Token.{plain_token, is_space};
 ghost use Rattle.mm_text.specs.Items.{holds_mark, spells};
-ghost use Rattle.mm_text.specs.Mirror.Place.{is_quiet, IsLegalFront, IsPlace, IsSameFile, GoesOn, Closes, TakesOne, TakesShown, shown_at};
+ghost use Rattle.mm_text.specs.Mirror.Place.{is_quiet, IsLegalFront, IsPlace, IsSameFile, GoesOn};
+ghost use Rattle.mm_text.specs.Mirror.Place.{Closes, TakesOne, TakesShown, shown_at};
 
 use crate::fault::TextRule;
 use crate::scan::{legal_end, skip_space, token_end, token_start};
@@ -105,7 +107,8 @@ fn make_token<'a>(bytes: &'a [u8], file: usize, start: usize, end: usize) -> Tok
     requires order { start < end }
     requires within { end ≤ length bytes.now }
     requires small { length bytes.now ≤ 1073741824 }
-    ensures token { plain_token result ≡ record { text = slice_range bytes.now start end; file = file; at = start } }
+    ensures token { plain_token result
+        ≡ record { text = slice_range bytes.now start end; file = file; at = start } }
     ensures at { result.at < 1073741824 }
 {
     Token {

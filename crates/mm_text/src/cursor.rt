@@ -37,7 +37,8 @@ impl<'a> Cursor<'a> {
     ///
     /// The files are judged as a whole first, in this order: `Load(F1)` where there is none,
     /// `Load(F2)` where two have one name, `Load(F3)` where they hold over 1,073,741,824 bytes in
-    /// all. Else `Memory` alone can be wanting: for their names, and for those that are open at once.
+    /// all. Else `Memory` alone can be wanting: for their names, and for those that are open at
+    /// once.
     pub fn new(alloc: Global, files: &'a [File<'a>]) -> Result<Cursor<'a>, TextFault<'a>>
         ensures { IsFirstCursor (map plain_file files.now) result }
     {

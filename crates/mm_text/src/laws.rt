@@ -1,8 +1,11 @@
 //! What holds of the tokens and of the readings of all files. A law is the contract of a function
 //! that does nothing: what it ensures is proved, and there is no need to call it.
 
-ghost use Rattle.mm_text.specs.ItemLaws.{FilesArePutInOnce, InclusionsEnd, TokensFitFiles, TopFileEndsLast};
-ghost use Rattle.mm_text.specs.Laws.{BeginningsBeginStatements, EachHasOneReading, FaultsEndLongestFronts, ReadingsAreBalanced, ReadingsAreFormedInPlace, ReadingsFit, TokensAreLongestRuns};
+ghost use Rattle.mm_text.specs.ItemLaws.{FilesArePutInOnce, InclusionsEnd, TokensFitFiles};
+ghost use Rattle.mm_text.specs.ItemLaws.{TopFileEndsLast};
+ghost use Rattle.mm_text.specs.Laws.{BeginningsBeginStatements, EachHasOneReading};
+ghost use Rattle.mm_text.specs.Laws.{FaultsEndLongestFronts, ReadingsAreBalanced};
+ghost use Rattle.mm_text.specs.Laws.{ReadingsAreFormedInPlace, ReadingsFit, TokensAreLongestRuns};
 
 /// The tokens of a file are its longest runs of bytes that aren't white space (the Metamath book,
 /// section 4.1.1): each token is the slice of the file at its place and such a run, each such run

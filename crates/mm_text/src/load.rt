@@ -1,5 +1,6 @@
 //! Reading a device to its end, up to a limit.
-ghost use Rattle.std.specs.Prelude.{◌≡◌, ◌+◌, ◌<◌, ◌≤◌, ◌↔◌, length, OnOk, IfOk, IfSome, IsErrOf, vec_len};
+ghost use Rattle.std.specs.Prelude.{◌≡◌, ◌+◌, ◌<◌, ◌≤◌, ◌↔◌, length, OnOk, IfOk, IfSome, IsErrOf};
+ghost use Rattle.std.specs.Prelude.{vec_len};
 ghost use Rattle.std.specs.Io.KnownBytes.{IsAtEnd};
 ghost use Rattle.mm_text.specs.Device.{faults_of, inner_of, CameWithin, CameSome, CameOver};
 ghost use Rattle.mm_text.specs.declared.load.LoadFault.TheVariants.{Memory};
@@ -37,11 +38,11 @@ const PIECE: usize = 64 * 1024;
 ///
 /// # Errors
 ///
-/// - `Device` exactly where a call of the source failed; the count then rose by one, and stays in all
-///   other cases. Where `max` bytes came, the call that looks for the end can still fail.
+/// - `Device` exactly where a call of the source failed; the count then rose by one, and else it
+///   stays. Where `max` bytes came, the call that looks for the end can still fail.
 /// - `TooLong` exactly where more than `max` bytes came.
-/// - `Memory` only where a growth was refused, so only where bytes came. They are at most `max`, and
-///   none of them is given back to the reader.
+/// - `Memory` only where a growth was refused, so only where bytes came. They are at most `max`,
+///   and none of them is given back to the reader.
 pub fn read_all<S: Source>(
     alloc: Global,
     reader: &mut Counted<S>,

@@ -1,12 +1,14 @@
 //! The files as they stand in one another: each is put in where it is first named.
 
-ghost use Rattle.std.specs.Prelude.{◌≡◌, ◌<◌, ◌≤◌, length, map, codes, slice_index_or, None, Some, IfOk, true, false};
+ghost use Rattle.std.specs.Prelude.{◌≡◌, ◌<◌, ◌≤◌, length, map, codes, slice_index_or, None, Some};
+ghost use Rattle.std.specs.Prelude.{IfOk, true, false};
 ghost use Rattle.mm_text.specs.Token.{plain_token};
 ghost use Rattle.mm_text.specs.Files.{plain_file, total_bytes};
 ghost use Rattle.mm_text.specs.Items.{spells, items};
 ghost use Rattle.mm_text.specs.Mirror.Place.{IsPlace, IsSameFile};
 ghost use Rattle.mm_text.specs.Mirror.Next.{TakesNext};
-ghost use Rattle.mm_text.specs.Mirror.Nest.{TakesPiece, TakesInner, TakesName, Enters, Includes, IsNest, items_left, items_after};
+ghost use Rattle.mm_text.specs.Mirror.Nest.{TakesPiece, TakesInner, TakesName, Enters, Includes};
+ghost use Rattle.mm_text.specs.Mirror.Nest.{IsNest, items_left, items_after};
 
 use crate::class::{Class, class_of};
 use crate::comments::{Place, Wrong, take_token};

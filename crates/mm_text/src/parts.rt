@@ -1,13 +1,17 @@
 //! The parts of a statement, each read from the cursor on.
 
-ghost use Rattle.std.specs.Prelude.{◌≡◌, ◌≤◌, ◌<◌, ◌∷◌, true, false, Some, None, option_map, length, codes};
+ghost use Rattle.std.specs.Prelude.{◌≡◌, ◌≤◌, ◌<◌, ◌∷◌, true, false, Some, None, option_map};
+ghost use Rattle.std.specs.Prelude.{length, codes};
 ghost use Rattle.mm_text.specs.Token.{plain_token, HoldsNoDollar};
 ghost use Rattle.mm_text.specs.Mirror.Class.{spelling};
 ghost use Rattle.mm_text.specs.Statement.{plain_statement};
 ghost use Rattle.mm_text.specs.Items.{Plain};
 ghost use Rattle.mm_text.specs.Mirror.Next.{items_with, IsOfClass};
-ghost use Rattle.mm_text.specs.Mirror.Reader.{Between, Labelled, InBody, InProof, reading_of, has_count, is_full, is_provable, begun, same_text};
-ghost use Rattle.mm_text.specs.Mirror.Steps.{plain_scope, TakesWithin, TakesFirst, GivesPart, GivesFirst, GivesStatement, StepsTo, is_block_sign, bare_kind, labelled_kind, ends_symbols};
+ghost use Rattle.mm_text.specs.Mirror.Reader.{Between, Labelled, InBody, InProof, reading_of};
+ghost use Rattle.mm_text.specs.Mirror.Reader.{has_count, is_full, is_provable, begun, same_text};
+ghost use Rattle.mm_text.specs.Mirror.Steps.{plain_scope, TakesWithin, TakesFirst, GivesPart};
+ghost use Rattle.mm_text.specs.Mirror.Steps.{GivesFirst, GivesStatement, StepsTo, is_block_sign};
+ghost use Rattle.mm_text.specs.Mirror.Steps.{bare_kind, labelled_kind, ends_symbols};
 
 use crate::class::{Class, Keyword, is_label};
 use crate::cursor::Cursor;
@@ -95,7 +99,8 @@ fn token_within<'a>(
     label: Option<Token<'a>>,
 ) -> Result<(Token<'a>, Option<Keyword>), TextFault<'a>>
     requires { scope.now.count ≤ 1073741824 }
-    ensures { TakesWithin (plain_scope scope.now) (plain_token first.entry) (option_map plain_token label.entry) cursor.old result cursor.new }
+    ensures { TakesWithin (plain_scope scope.now) (plain_token first.entry)
+        (option_map plain_token label.entry) cursor.old result cursor.new }
 {
     match cursor.next() {
         Next::Token(token, class) => match class {
@@ -116,7 +121,8 @@ fn add_symbol<'a>(
 ) -> Result<(), TextFault<'a>>
     requires word { HoldsNoDollar token.text.now }
     requires room { scope.now.count ≤ 1073741824 }
-    ensures { StepsTo (plain_scope scope.now) (InBody (plain_statement into.old)) (plain_token token.entry) result (InBody (plain_statement into.new)) }
+    ensures { StepsTo (plain_scope scope.now) (InBody (plain_statement into.old))
+        (plain_token token.entry) result (InBody (plain_statement into.new)) }
 {
     if is_full(into.kind, into.symbols.len()) {
         return Err(scope.fault(TextRule::S5, token, into.label));
@@ -132,7 +138,8 @@ fn add_to_proof<'a>(
     token: Token<'a>,
 ) -> Result<(), TextFault<'a>>
     requires { HoldsNoDollar token.text.now }
-    ensures { StepsTo (plain_scope scope.now) (InProof (plain_statement into.old)) (plain_token token.entry) result (InProof (plain_statement into.new)) }
+    ensures { StepsTo (plain_scope scope.now) (InProof (plain_statement into.old))
+        (plain_token token.entry) result (InProof (plain_statement into.new)) }
 {
     into.proof.push(token)?;
     Ok(())
@@ -145,7 +152,9 @@ fn proof<'a>(
     scope: &Scope,
 ) -> Result<(), TextFault<'a>>
     requires { scope.now.count ≤ 1073741824 }
-    ensures { GivesPart (plain_scope scope.now) (reading_of (plain_scope scope.now) (InProof (plain_statement into.old)) cursor.old) result (plain_statement into.new) cursor.new }
+    ensures { GivesPart (plain_scope scope.now)
+        (reading_of (plain_scope scope.now) (InProof (plain_statement into.old)) cursor.old)
+        result (plain_statement into.new) cursor.new }
 {
     loop {
         let (token, sign) = token_within(cursor, scope, into.first, into.label)?;
@@ -173,7 +182,10 @@ fn after_symbols<'a>(
     requires sign { token.text.now ≡ spelling keyword }
     requires at { token.at < 1073741824 }
     requires room { scope.now.count ≤ 1073741824 }
-    ensures { GivesPart (plain_scope scope.now) (reading_of (plain_scope scope.now) (InBody (plain_statement into.old)) (Plain (plain_token token.entry) ∷ cursor.old)) result (plain_statement into.new) cursor.new }
+    ensures { GivesPart (plain_scope scope.now)
+        (reading_of (plain_scope scope.now) (InBody (plain_statement into.old))
+        (Plain (plain_token token.entry) ∷ cursor.old))
+        result (plain_statement into.new) cursor.new }
 {
     if !ends_symbols(into.kind, keyword) {
         return Err(scope.fault(TextRule::S4, token, into.label));
@@ -196,7 +208,9 @@ fn body<'a>(
     scope: &Scope,
 ) -> Result<(), TextFault<'a>>
     requires { scope.now.count ≤ 1073741824 }
-    ensures { GivesPart (plain_scope scope.now) (reading_of (plain_scope scope.now) (InBody (plain_statement into.old)) cursor.old) result (plain_statement into.new) cursor.new }
+    ensures { GivesPart (plain_scope scope.now)
+        (reading_of (plain_scope scope.now) (InBody (plain_statement into.old)) cursor.old)
+        result (plain_statement into.new) cursor.new }
 {
     loop {
         let (token, sign) = token_within(cursor, scope, into.first, into.label)?;
@@ -215,7 +229,9 @@ fn after_label<'a>(
     label: Token<'a>,
 ) -> Result<(), TextFault<'a>>
     requires { scope.now.count ≤ 1073741824 }
-    ensures { GivesPart (plain_scope scope.now) (reading_of (plain_scope scope.now) (Labelled (plain_token label.entry)) cursor.old) result (plain_statement into.new) cursor.new }
+    ensures { GivesPart (plain_scope scope.now)
+        (reading_of (plain_scope scope.now) (Labelled (plain_token label.entry)) cursor.old)
+        result (plain_statement into.new) cursor.new }
 {
     let (token, sign) = token_within(cursor, scope, label, Some(label))?;
     let Some(keyword) = sign else {
@@ -241,7 +257,9 @@ fn from_keyword<'a>(
     requires sign { first.text.now ≡ spelling keyword }
     requires symbols { is_block_sign keyword ≡ false }
     requires room { scope.now.count ≤ 1073741824 }
-    ensures { GivesPart (plain_scope scope.now) (reading_of (plain_scope scope.now) Between (Plain (plain_token first.entry) ∷ cursor.old)) result (plain_statement into.new) cursor.new }
+    ensures { GivesPart (plain_scope scope.now)
+        (reading_of (plain_scope scope.now) Between (Plain (plain_token first.entry) ∷ cursor.old))
+        result (plain_statement into.new) cursor.new }
 {
     match bare_kind(keyword) {
         Some(kind) => {
@@ -261,7 +279,9 @@ fn from_word<'a>(
 ) -> Result<(), TextFault<'a>>
     requires word { HoldsNoDollar first.text.now }
     requires room { scope.now.count ≤ 1073741824 }
-    ensures { GivesPart (plain_scope scope.now) (reading_of (plain_scope scope.now) Between (Plain (plain_token first.entry) ∷ cursor.old)) result (plain_statement into.new) cursor.new }
+    ensures { GivesPart (plain_scope scope.now)
+        (reading_of (plain_scope scope.now) Between (Plain (plain_token first.entry) ∷ cursor.old))
+        result (plain_statement into.new) cursor.new }
 {
     if is_label(first.text) {
         after_label(cursor, into, scope, first)
@@ -280,7 +300,9 @@ fn from_first<'a>(
 ) -> Result<(), TextFault<'a>>
     requires class { IsOfClass (plain_token first) class }
     requires room { scope.now.count ≤ 1073741824 }
-    ensures { GivesFirst (plain_scope scope.old) (items_with (plain_token first.entry) class cursor.old) result (plain_statement into.new) (plain_scope scope.new) cursor.new }
+    ensures { GivesFirst (plain_scope scope.old)
+        (items_with (plain_token first.entry) class cursor.old)
+        result (plain_statement into.new) (plain_scope scope.new) cursor.new }
 {
     match class {
         Class::Wrong(rule) => Err(scope.fault(rule, first, None)),
@@ -345,7 +367,8 @@ pub fn statement<'a>(
     scope: &mut Scope,
 ) -> Result<bool, TextFault<'a>>
     requires { scope.now.count ≤ 1073741824 }
-    ensures { GivesStatement (plain_scope scope.old) cursor.old result (plain_statement into.new) (plain_scope scope.new) cursor.new }
+    ensures { GivesStatement (plain_scope scope.old) cursor.old
+        result (plain_statement into.new) (plain_scope scope.new) cursor.new }
 {
     let Some((first, class)) = first_token(cursor, scope)? else {
         return Ok(false);

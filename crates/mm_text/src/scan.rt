@@ -1,6 +1,7 @@
 //! Where tokens begin and end in the bytes of a file.
 
-ghost use Rattle.std.specs.Prelude.{◌≡◌, ℕ, ◌<◌, ◌≤◌, ◌+◌, ◌∷◌, ◌⊎◌, true, false, length, drop, slice_index, slice_range};
+ghost use Rattle.std.specs.Prelude.{◌≡◌, ℕ, ◌<◌, ◌≤◌, ◌+◌, ◌∷◌, ◌⊎◌, true, false, length, drop};
+ghost use Rattle.std.specs.Prelude.{slice_index, slice_range};
 ghost use Rattle.mm_text.specs.Token.{is_space, tokens_from};
 ghost use Rattle.mm_text.specs.Mirror.Place.{is_legal, IsLegalFront};
 
@@ -17,7 +18,8 @@ pub fn skip_space(bytes: &[u8], start: usize) -> usize
     requires { start ≤ length bytes.now }
     ensures not_before { start ≤ result }
     ensures within { result ≤ length bytes.now }
-    ensures same_tokens { (file : ℕ) → tokens_from file start (drop start bytes.now) ≡ tokens_from file result (drop result bytes.now) }
+    ensures same_tokens { (file : ℕ) → tokens_from file start (drop start bytes.now)
+        ≡ tokens_from file result (drop result bytes.now) }
     ensures space { (k : ℕ) → start ≤ k → k < result → is_space (slice_index bytes.now k) ≡ true }
     ensures stops { result < length bytes.now → is_space (slice_index bytes.now result) ≡ false }
 {
@@ -35,7 +37,9 @@ pub fn token_end(bytes: &[u8], start: usize) -> usize
     requires begins { is_space (slice_index bytes.now start) ≡ false }
     ensures after { start < result }
     ensures within { result ≤ length bytes.now }
-    ensures token { (file : ℕ) → tokens_from file start (drop start bytes.now) ≡ record { text = slice_range bytes.now start result; file = file; at = start } ∷ tokens_from file result (drop result bytes.now) }
+    ensures token { (file : ℕ) → tokens_from file start (drop start bytes.now)
+        ≡ record { text = slice_range bytes.now start result; file = file; at = start }
+        ∷ tokens_from file result (drop result bytes.now) }
     ensures ink { (k : ℕ) → start ≤ k → k < result → is_space (slice_index bytes.now k) ≡ false }
 {
     for at in start + 1..bytes.len() {
@@ -55,7 +59,8 @@ pub fn token_start(bytes: &[u8], low: usize, at: usize) -> usize
     ensures from { low ≤ result }
     ensures before { result ≤ at }
     ensures ink { (k : ℕ) → result ≤ k → k ≤ at → is_space (slice_index bytes.now k) ≡ false }
-    ensures apart { (result ≡ low) ⊎ ((k : ℕ) → k + 1 ≡ result → is_space (slice_index bytes.now k) ≡ true) }
+    ensures apart { (result ≡ low)
+        ⊎ ((k : ℕ) → k + 1 ≡ result → is_space (slice_index bytes.now k) ≡ true) }
 {
     let mut start = at;
     while start > low {

@@ -43,7 +43,8 @@ impl Scope {
         label: Option<Token<'a>>,
     ) -> TextFault<'a>
         requires { self.now.count ≤ 1073741824 }
-        ensures { result ≡ TextFault.Fault rule token.entry.file token.entry.at (self.now.count + 1) label.entry }
+        ensures { result ≡ TextFault.Fault rule token.entry.file token.entry.at
+            (self.now.count + 1) label.entry }
     {
         TextFault::Fault {
             rule,
@@ -90,7 +91,8 @@ impl Scope {
     /// Takes in a `${`.
     pub fn enter<'a>(&mut self, token: Token<'a>) -> Result<(), TextFault<'a>>
         requires { self.now.count ≤ 1073741824 }
-        ensures { Opens (plain_scope self.old) (plain_token token.entry) result (plain_scope self.new) }
+        ensures { Opens (plain_scope self.old) (plain_token token.entry)
+            result (plain_scope self.new) }
     {
         self.blocks.push(OpenBlock {
             file: token.file,

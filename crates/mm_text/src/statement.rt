@@ -79,7 +79,8 @@ impl<'a> Statement<'a> {
 
     /// Begins a statement, with no symbols yet. The lists keep their room.
     pub(crate) fn begin(&mut self, kind: Kind, first: Token<'a>, label: Option<Token<'a>>)
-        ensures { plain_statement self.new ≡ begun kind (plain_token first.entry) (option_map plain_token label.entry) }
+        ensures { plain_statement self.new
+            ≡ begun kind (plain_token first.entry) (option_map plain_token label.entry) }
     {
         self.clear();
         self.kind = kind;

@@ -57,7 +57,8 @@ fn answer<'a>(
     scope: &mut Scope,
 ) -> Result<bool, TextFault<'a>>
     requires { AreFew state scope.now.count 0 }
-    ensures { AnswersIn state.entry (plain_scope scope.old) cursor.old result (plain_statement into.new) (plain_scope scope.new) cursor.new }
+    ensures { AnswersIn state.entry (plain_scope scope.old) cursor.old
+        result (plain_statement into.new) (plain_scope scope.new) cursor.new }
 {
     match state {
         State::Reading => statement(cursor, into, scope),
