@@ -313,11 +313,10 @@ fn from_first<'a>(
             }
             Keyword::Closing => {
                 into.begin(Kind::Closing, first, None);
-                if scope.leave() {
-                    Ok(())
-                } else {
-                    Err(scope.fault(TextRule::S6, first, None))
+                if !scope.leave() {
+                    return Err(scope.fault(TextRule::S6, first, None));
                 }
+                Ok(())
             }
             _ => {
                 from_keyword(cursor, into, scope, first, keyword)?;

@@ -18,16 +18,16 @@ returns-in-Opening c =
     let first = is_keyword_first t c.args.cursor.now c.args.class _ c.requires.class c.in-Keyword.is in
     gives_opening (plain_scope c.args.scope.now) _ _ c.args.cursor.now t _ _ first.0 (first.1 ∙ ap spelling c.in-Opening.is) c.begin.ensures c.enter.ensures
 
-pub returns-then-leave : goal.returns-then-leave
-returns-then-leave c =
+pub returns-else-not-leave : goal.returns-else-not-leave
+returns-else-not-leave c =
     let t = plain_token c.args.first in
     let first = is_keyword_first t c.args.cursor.now c.args.class _ c.requires.class c.in-Keyword.is in
     closes_block (plain_scope c.args.scope.now) _ _ c.args.cursor.now t _ first.0 (first.1 ∙ ap spelling c.in-Closing.is) c.begin-in-Closing.ensures
-    (subst (λ closed. Closes (plain_scope c.args.scope.now) closed (plain_scope c.leave.new.self)) c.if-leave.true c.leave.ensures)
+    (subst (λ closed. Closes (plain_scope c.args.scope.now) closed (plain_scope c.leave.new.self)) c.if-not-leave.false c.leave.ensures)
 
-pub returns-else-leave : goal.returns-else-leave
-returns-else-leave c =
+pub returns-then-not-leave : goal.returns-then-not-leave
+returns-then-not-leave c =
     let t = plain_token c.args.first in
     let first = is_keyword_first t c.args.cursor.now c.args.class _ c.requires.class c.in-Keyword.is in
     answers_closing (plain_scope c.args.scope.now) _ _ c.args.cursor.now t _ first.0 (first.1 ∙ ap spelling c.in-Closing.is)
-    (subst (λ closed. Closes (plain_scope c.args.scope.now) closed (plain_scope c.leave.new.self)) c.if-leave.false c.leave.ensures) c.fault-else-leave.ensures
+    (subst (λ closed. Closes (plain_scope c.args.scope.now) closed (plain_scope c.leave.new.self)) c.if-not-leave.true c.leave.ensures) c.fault-then-not-leave.ensures
