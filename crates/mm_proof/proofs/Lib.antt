@@ -45,3 +45,4 @@ pub mod Applying
 pub mod Listed
 pub mod ListingLoop
 pub mod ListingEnd
+pub mod FewMoves

@@ -7,6 +7,7 @@ use Rattle.mm_frame.specs.Numbers.{labelled, AreNumbers}
 use Rattle.mm_proof.specs.Substitution.{Expression}
 use Rattle.mm_proof.specs.Tree.{Trees, none, tree, beside, Derives}
 use Rattle.mm_proof.specs.Moves.{Move, name, again, mark, is_step, steps_in, Makes}
+use Rattle.mm_proof.specs.Steps.{AreNumberedMoves, IsProofNumber}
 use Rattle.mm_proof.specs.Stores.{numbers_in}
 use Rattle.mm_proof.specs.declared.lines.Name.{Name}
 use Rattle.mm_proof.specs.declared.lines.Name.TheVariants as names
@@ -80,3 +81,10 @@ abbrev pub AreLinesOf : List Sentence → (before : List Sentence) → List (Mov
 AreLinesOf statements before moves lines =
     (steps : List ListedStep) × AreListed before moves steps
     × AllZip (TellsStep statements) lines steps
+
+-- Of the statements before the `$p` with this number, of it, and of its moves, this holds.
+abbrev pub OfProof : List Sentence → (id : ℕ) → List (Move ℕ)
+    → (List Sentence → Sentence → List (Move (List ℕ)) → Type 0) → Type 0
+OfProof statements id steps P =
+    (place : ℕ) (s : Sentence) (moves : List (Move (List ℕ))) → IsProofNumber statements id place s
+    → AreNumberedMoves statements steps moves → P (take place statements) s moves

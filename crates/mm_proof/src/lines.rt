@@ -1,20 +1,21 @@
 //! The listing of a proof: its steps, one a line (the Metamath book, section 4.3 and appendix B).
 
-ghost use Rattle.std.specs.Prelude.{◌≡◌, ◌-◌, ◌<◌, ◌^◌, ℕ, List, [], length, take, slice_get, Some, Err, IfOk, IfErr, IsOkUnless};
+ghost use Rattle.std.specs.Prelude.{◌≡◌, ◌-◌, ◌<◌, ◌^◌, ℕ, List, [], length, slice_get, Some, Err};
+ghost use Rattle.std.specs.Prelude.{IfOk, IfErr, IsOkUnless};
 ghost use Rattle.std.specs.List.{AllByRecursion};
 ghost use Rattle.mm_frame.specs.Sentence.{Sentence};
 ghost use Rattle.mm_frame.specs.Form.{IsSound};
 ghost use Rattle.mm_frame.specs.Numbers.{IsNumbered};
 ghost use Rattle.mm_proof.specs.declared.fault.ProofRule.{ProofRule};
-ghost use Rattle.mm_proof.specs.Answer.{OnRule, IsUnlessMemory};
+ghost use Rattle.mm_proof.specs.Answer.{IsUnlessMemory};
 ghost use Rattle.mm_proof.specs.Stores.{numbers_in};
 ghost use Rattle.mm_proof.specs.Moves.{Move};
-ghost use Rattle.mm_proof.specs.Proof.{Prove, IsWithin, expression_limit, IsMoveFault, IsMovesFault};
-ghost use Rattle.mm_proof.specs.Steps.{AreNumberedMoves, AreSteps, IsProofNumber};
-ghost use Rattle.mm_proof.specs.Listing.{AreLinesOf};
+ghost use Rattle.mm_proof.specs.Proof.{Prove, IsWithin, expression_limit, IsMovesFault};
+ghost use Rattle.mm_proof.specs.Steps.{AreNumberedMoves, AreSteps};
+ghost use Rattle.mm_proof.specs.Listing.{AreLinesOf, OfProof};
 ghost use Rattle.mm_proof.specs.CodeSteps.{moves_in};
-ghost use Rattle.mm_proof.specs.CodeRun.{MayBeMade, HasRun, OfMoves};
-ghost use Rattle.mm_proof.specs.CodeLines.{AreLinesFor, ListsProof};
+ghost use Rattle.mm_proof.specs.CodeRun.{MayBeMade, HasRun};
+ghost use Rattle.mm_proof.specs.CodeLines.{AreLinesFor, BreaksAt, ListsProof, FaultsProof};
 
 use crate::apply::Scratch;
 use crate::fault::ProofFault;
@@ -67,17 +68,19 @@ fn lines_of<S: Store>(
 ) -> Result<Vec<Line>, ProofFault>
     requires own { own.now.statements ≡ book.now.statements }
     requires sound { IsSound book.now.statements }
-    requires usable { AllByRecursion (MayBeMade book.now.statements own.now.place) (moves_in moves.now) }
-    requires names { (names : List (Move (List ℕ))) × AreNumberedMoves book.now.statements (moves_in moves.now) names }
+    requires usable { AllByRecursion (MayBeMade book.now.statements own.now.place)
+        (moves_in moves.now) }
+    requires names { (names : List (Move (List ℕ)))
+        × AreNumberedMoves book.now.statements (moves_in moves.now) names }
     requires room { length moves.now < 2 ^ 32 }
     requires stack { S.stack store.old ≡ [] }
     requires kept { S.kept store.old ≡ [] }
-    ensures run { IfOk result (λ lines. HasRun book.now.statements own.now.place (moves_in moves.now)
-        (S.stack store.new) (S.kept store.new) (length lines.items)) }
-    ensures lines { IfOk result (λ lines. AreLinesFor book.now.statements own.now.place (moves_in moves.now) lines.items) }
+    ensures run { IfOk result (λ lines. HasRun book.now.statements own.now.place
+        (moves_in moves.now) (S.stack store.new) (S.kept store.new) (length lines.items)) }
+    ensures lines { IfOk result (λ lines. AreLinesFor book.now.statements own.now.place
+        (moves_in moves.now) lines.items) }
     ensures fault { (rule : ProofRule) → (at : ℕ) → result ≡ Err (ProofFault.Rule rule at)
-        → (names : List (Move (List ℕ))) → AreNumberedMoves book.now.statements (moves_in moves.now) names
-        → IsMoveFault (IsWithin expression_limit) (take own.now.place book.now.statements) names rule at }
+        → BreaksAt book.now.statements own.now.place (moves_in moves.now) rule at }
 {
     let mut scratch = Scratch::new(alloc);
     let mut lines = Vec::new(alloc);
@@ -120,10 +123,9 @@ fn listed_frame<S: Store>(
     requires stack { S.stack store.old ≡ [] }
     requires kept { S.kept store.old ≡ [] }
     requires steps { AreSteps book.now.statements id.0 (moves_in moves.now) }
-    ensures listed { IfOk result (λ lines. OfMoves book.now.statements id.0 (moves_in moves.now)
-        (λ place s names. ListsProof book.now.statements place s names lines.items)) }
-    ensures fault { IfErr result (λ e. OnRule e (λ rule step. OfMoves book.now.statements id.0 (moves_in moves.now)
-        (λ place s names. IsMovesFault (IsWithin expression_limit) (take place book.now.statements) s names rule step))) }
+    ensures listed { IfOk result (λ lines. ListsProof book.now.statements id.0
+        (moves_in moves.now) lines.items) }
+    ensures fault { IfErr result (FaultsProof book.now.statements id.0 (moves_in moves.now)) }
 {
     one_number();
     let lines = lines_of(alloc, store, book, own, moves)?;
@@ -140,10 +142,9 @@ fn listed(
 ) -> Result<Vec<Line>, ProofFault>
     requires room { length moves.now < 2 ^ 32 }
     requires steps { AreSteps book.now.statements id.0 (moves_in moves.now) }
-    ensures listed { IfOk result (λ lines. OfMoves book.now.statements id.0 (moves_in moves.now)
-        (λ place s names. ListsProof book.now.statements place s names lines.items)) }
-    ensures fault { IfErr result (λ e. OnRule e (λ rule step. OfMoves book.now.statements id.0 (moves_in moves.now)
-        (λ place s names. IsMovesFault (IsWithin expression_limit) (take place book.now.statements) s names rule step))) }
+    ensures listed { IfOk result (λ lines. ListsProof book.now.statements id.0
+        (moves_in moves.now) lines.items) }
+    ensures fault { IfErr result (FaultsProof book.now.statements id.0 (moves_in moves.now)) }
     ensures sound { IsSound book.now.statements }
 {
     let own = book.frame(id);
@@ -165,28 +166,27 @@ pub fn listing(
     id: LabelId,
     steps: &Steps,
 ) -> Result<Vec<Line>, ProofFault>
-    requires steps { AreSteps book.now.statements id.0 steps.now }
-    requires room { length steps.now < 2 ^ 32 }
-    // The lines are those of the steps: each with its name, and the expression that its tree derives.
-    ensures listed { IfOk result (λ lines. (place : ℕ) → (s : Sentence) → (moves : List (Move (List ℕ)))
-        → IsProofNumber book.now.statements id.0 place s → AreNumberedMoves book.now.statements steps.now moves
-        → AreLinesOf book.now.statements (take place book.now.statements) moves lines.items) }
+    requires { AreSteps book.now.statements id.0 steps.now }
+    // The lines are those of the steps: each with its name, and the expression that its tree
+    // derives.
+    ensures listed { IfOk result (λ lines. OfProof book.now.statements id.0 steps.now
+        (λ before s moves. AreLinesOf book.now.statements before moves lines.items)) }
 
     // The rule and the step are those of the first fault.
-    ensures fault { (rule : ProofRule) → (step : ℕ) → result ≡ Err (ProofFault.Rule rule step) → (place : ℕ) → (s : Sentence) → (moves : List (Move (List ℕ)))
-        → IsProofNumber book.now.statements id.0 place s → AreNumberedMoves book.now.statements steps.now moves
-        → IsMovesFault (IsWithin expression_limit) (take place book.now.statements) s moves rule step }
+    ensures fault { (rule : ProofRule) → (step : ℕ) → result ≡ Err (ProofFault.Rule rule step)
+        → OfProof book.now.statements id.0 steps.now
+        (λ before s moves. IsMovesFault (IsWithin expression_limit) before s moves rule step) }
 
     // What is proved is listed, unless memory is refused.
-    ensures accepts { (place : ℕ) → (s : Sentence) → (moves : List (Move (List ℕ))) → IsProofNumber book.now.statements id.0 place s
-        → AreNumberedMoves book.now.statements steps.now moves
-        → Prove (IsWithin expression_limit) (take place book.now.statements) s moves → IsOkUnless result ProofFault.Memory }
+    ensures accepts { OfProof book.now.statements id.0 steps.now
+        (λ before s moves. Prove (IsWithin expression_limit) before s moves
+        → IsOkUnless result ProofFault.Memory) }
 
     // What has a fault is answered with it, unless memory is refused.
-    ensures refuses { (place : ℕ) → (s : Sentence) → (moves : List (Move (List ℕ))) → IsProofNumber book.now.statements id.0 place s
-        → AreNumberedMoves book.now.statements steps.now moves → (rule : ProofRule) → (step : ℕ)
-        → IsMovesFault (IsWithin expression_limit) (take place book.now.statements) s moves rule step
-        → IsUnlessMemory result (Err (ProofFault.Rule rule step)) }
+    ensures refuses { OfProof book.now.statements id.0 steps.now
+        (λ before s moves. (rule : ProofRule) → (step : ℕ)
+        → IsMovesFault (IsWithin expression_limit) before s moves rule step
+        → IsUnlessMemory result (Err (ProofFault.Rule rule step))) }
 {
     listed(alloc, book, id, &steps.moves)
 }

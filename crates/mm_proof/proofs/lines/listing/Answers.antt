@@ -9,7 +9,7 @@ use Rattle.mm_proof.proofs.lines.listing.Goals as goal
 pub returns-clause-listed : goal.returns-clause-listed
 returns-clause-listed c =
     if_ok_map c.listed.result _ _ (λ lines h place s moves proof numbered.
-    (h place s moves proof (same_moves c.args.book.now.statements _ _ _ moves c.deref.ensures.value (sym c.steps.view_is) numbered)).listed) c.listed.ensures.listed
+    (h place s moves proof (same_moves c.args.book.now.statements _ _ _ moves c.deref.ensures.value (sym c.steps.view_is) numbered)).1) c.listed.ensures.listed
 
 pub returns-clause-fault : goal.returns-clause-fault
 returns-clause-fault c rule step is place s moves proof numbered =
@@ -23,5 +23,5 @@ returns-clause-accepts c place s moves proof numbered p =
 pub returns-clause-refuses : goal.returns-clause-refuses
 returns-clause-refuses c place s moves proof numbered rule step fault =
     refuses (IsWithin expression_limit) (take place c.args.book.now.statements) s moves c.listed.result (meant_front c.args.book.now.statements place c.listed.ensures.sound.0)
-    (λ x is. (if_ok_at c.listed.result _ x is c.listed.ensures.listed place s moves proof (same_moves c.args.book.now.statements _ _ _ moves c.deref.ensures.value (sym c.steps.view_is) numbered)).proves)
+    (λ x is. (if_ok_at c.listed.result _ x is c.listed.ensures.listed place s moves proof (same_moves c.args.book.now.statements _ _ _ moves c.deref.ensures.value (sym c.steps.view_is) numbered)).0)
     (if_rule_map c.listed.result _ _ (λ r n h. h place s moves proof (same_moves c.args.book.now.statements _ _ _ moves c.deref.ensures.value (sym c.steps.view_is) numbered)) c.listed.ensures.fault) rule step fault
