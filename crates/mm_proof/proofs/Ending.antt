@@ -103,7 +103,7 @@ steps_made st id xs place s all a n = all_made st place xs a.moves all a.numbere
 
 -- ---- the verdict
 
-its_symbols : (st : List Sentence) (own place : ℕ) (s : Sentence) (numbers : List ℕ) → own ≡ place → slice_get st place ≡ Some s
+pub its_symbols : (st : List Sentence) (own place : ℕ) (s : Sentence) (numbers : List ℕ) → own ≡ place → slice_get st place ≡ Some s
     → AreItsSymbols (record { statements = st; place = own }) numbers → (named st numbers ≡ s.symbols) × AreBelow st numbers
 its_symbols st own place s numbers here there i =
     let same : i.assertion ≡ s = same_Some i.assertion s (sym i.there ∙ ap (slice_get st) here ∙ there) in

@@ -42,3 +42,7 @@ pub mod Running
 pub mod Naming
 pub mod Ending
 pub mod Applying
+pub mod Listed
+pub mod ListingLoop
+pub mod ListingEnd
+pub mod FewMoves

@@ -37,7 +37,7 @@ move_at [] i d less = absurd (omega arith)
 move_at (m ∷ moves) zero d less = refl
 move_at (m ∷ moves) (suc i) d less = move_at moves i d (omega arith)
 
-zip_take : {A B : Type 0} (R : A → B → Type 0) (xs : List A) (ys : List B) (i : ℕ) → AllZip R xs ys → AllZip R (take i xs) (take i ys)
+pub zip_take : {A B : Type 0} (R : A → B → Type 0) (xs : List A) (ys : List B) (i : ℕ) → AllZip R xs ys → AllZip R (take i xs) (take i ys)
 zip_take R [] [] zero z = tt
 zip_take R [] [] (suc i) z = tt
 zip_take R [] (y ∷ ys) i z = absurd z

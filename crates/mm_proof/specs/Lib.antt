@@ -5,6 +5,7 @@ pub mod Tokens
 pub mod Proof
 pub mod Steps
 pub mod Used
+pub mod Listing
 pub mod Expansion
 pub mod Laws
 pub mod Answer
@@ -14,3 +15,4 @@ pub mod CodeSteps
 pub mod CodeVerify
 pub mod CodeRun
 pub mod CodeApply
+pub mod CodeLines

@@ -6,6 +6,7 @@ mod fault;
 mod flat;
 mod labels;
 mod laws;
+mod lines;
 mod moves;
 mod pairs;
 mod parse;
@@ -21,6 +22,7 @@ pub use flat::Flat;
 pub use laws::{
     by_spelling, by_word, limits_aside, one_fit, one_tree, one_verdict, one_word, some_verdict,
 };
+pub use lines::{Line, Name, listing};
 pub use moves::{Parsed, Steps};
 pub use rows::Rows;
 pub use store::Store;

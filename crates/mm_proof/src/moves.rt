@@ -1,5 +1,7 @@
 //! The moves of a proof, with numbers for labels.
 
+ghost use Rattle.std.specs.Prelude.{◌≤◌, length};
+
 use mm_frame::LabelId;
 use std::marker::Model;
 
@@ -18,6 +20,8 @@ pub(crate) enum NumberedMove {
 #[derive(Drop)]
 pub struct Steps {
     pub(crate) moves: Vec<NumberedMove>,
+    /// As many as the tokens of a proof have bytes, at most.
+    ghost few: { length moves.items ≤ 1073741824 },
 }
 
 impl Model for Steps {

@@ -216,6 +216,8 @@ fn parsed(
     requires own { (s : Sentence) × IsNumbered book.now.statements id.0 own.now.place s }
     requires sound { IsSound book.now.statements }
     requires proof { (place : ℕ) × (s : Sentence) × IsProofNumber book.now.statements id.0 place s }
+    requires filled { AllByRecursion (λ t. 1 ≤ length t) (texts tokens.now) }
+    requires room { sum_by length (texts tokens.now) ≤ 1073741824 }
     // A proof with an unknown step is told apart.
     ensures incomplete { result ≡ Ok Parsed.Incomplete → IsIncomplete (texts tokens.now) }
     ensures complete { IsIncomplete (texts tokens.now) → result ≡ Ok Parsed.Incomplete }

@@ -33,7 +33,7 @@ fn broken(rule: ProofRule, step: usize) -> Result<(), ProofFault>
 }
 
 // The step by a label.
-fn step<S: Store>(
+pub(crate) fn step<S: Store>(
     store: &mut S,
     book: &Book,
     own: &Frame,
@@ -65,7 +65,7 @@ fn step<S: Store>(
 }
 
 // The step by a tag.
-fn step_again<S: Store>(
+pub(crate) fn step_again<S: Store>(
     store: &mut S,
     tag: u32,
     kept: usize,
@@ -85,7 +85,7 @@ fn step_again<S: Store>(
 }
 
 // A mark, where a step would have this number.
-fn mark<S: Store>(store: &mut S, number: usize) -> Result<(), ProofFault>
+pub(crate) fn mark<S: Store>(store: &mut S, number: usize) -> Result<(), ProofFault>
     ensures ok { OnOk result ((rest : List (List ℕ)) × (e : List ℕ) × (S.stack store.old ≡ rest ++ e ∷ []) × (S.kept store.new ≡ S.kept store.old ++ e ∷ [])) }
     ensures stack { S.stack store.new ≡ S.stack store.old }
     ensures fault { (rule : ProofRule) → (at : ℕ) → result ≡ Err (ProofFault.Rule rule at)
@@ -168,7 +168,11 @@ fn used_by(alloc: Global, book: &Book, moves: &[NumberedMove]) -> Result<Vec<Lab
 }
 
 // What is on the stack at the end: only the expression, or P13 or P14.
-fn ending<S: Store>(store: &S, expression: &[Sym], number: usize) -> Result<(), ProofFault>
+pub(crate) fn ending<S: Store>(
+    store: &S,
+    expression: &[Sym],
+    number: usize,
+) -> Result<(), ProofFault>
     ensures ok { OnOk result (S.stack store.now ≡ numbers_in expression.now ∷ []) }
     ensures fault { (rule : ProofRule) → (at : ℕ) → result ≡ Err (ProofFault.Rule rule at)
         → (at ≡ number) × EndsWrong rule (S.stack store.now) (numbers_in expression.now) }

@@ -1,4 +1,4 @@
-use Rattle.std.proofs.Common.{◌≡◌, ℕ, List, take, slice_get, sym, ap, subst, ◌∙◌}
+use Rattle.std.proofs.Common.{◌≡◌, ℕ, List, take, slice_get, sym, ap, subst, ◌∙◌, arith}
 use Rattle.std.specs.List.{AllByRecursion}
 use Rattle.std.proofs.lemmas.Option.{same_Some}
 use Rattle.std.proofs.lemmas.Result.{err_from_is_err_and}
@@ -12,7 +12,15 @@ use Rattle.mm_proof.specs.Steps.{AreNumberedMoves, AreSteps, IsUsableMove}
 use Rattle.mm_proof.specs.Tokens.{SayMoves}
 use Rattle.mm_proof.specs.CodeSteps.{texts, moves_in}
 use Rattle.mm_proof.proofs.Numbered.{one_place}
+use Rattle.mm_proof.proofs.FewMoves.{moves_bytes}
 use Rattle.mm_proof.proofs.parse.parsed.Goals as goal
+
+pub invariant_of-result : goal.invariant_of-result
+invariant_of-result c =
+    let r = c.in_ok-moves.ensures.ok in
+    let st = c.args.book.now.statements in
+    let few = moves_bytes st (take c.args.own.now.place st) r.own (texts c.args.tokens.now) c.in_ok-moves.moves.items r.moves c.requires.filled r.said r.numbered in
+    (omega (arith, few, c.requires.room), tt)
 
 pub returns-in_err-moves-clause-fault : goal.returns-in_err-moves-clause-fault
 returns-in_err-moves-clause-fault c rule step is place s proof =

@@ -16,6 +16,12 @@ parsed-requires-clause-sound c = c.frame.ensures.sound
 pub parsed-requires-clause-proof : goal.parsed-requires-clause-proof
 parsed-requires-clause-proof c = c.requires.proof
 
+pub parsed-requires-clause-filled : goal.parsed-requires-clause-filled
+parsed-requires-clause-filled c = c.requires.filled
+
+pub parsed-requires-clause-room : goal.parsed-requires-clause-room
+parsed-requires-clause-room c = c.requires.room
+
 pub returns-clause-incomplete : goal.returns-clause-incomplete
 returns-clause-incomplete c = c.parsed.ensures.incomplete
 

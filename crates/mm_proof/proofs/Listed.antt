@@ -1,0 +1,150 @@
+-- One move more in a listing.
+use Rattle.std.proofs.Common.{◌≡◌, ℕ, zero, suc, ◌+◌, ◌<◌, List, [], ◌∷◌, ◌++◌, length, take, drop, slice_get, Some, true, ◌⊎◌, inl, inr, refl, sym, ap, subst, ◌∙◌, arith}
+use Rattle.std.proofs.lemmas.Bool.{false≢true}
+use Rattle.std.proofs.lemmas.Option.{same_Some, none-some, slice_get_within}
+use Rattle.std.proofs.lemmas.List.{take-append-le, take_at, length-append}
+use Rattle.mm_frame.specs.Sentence.{Sentence}
+use Rattle.mm_proof.specs.Tree.{none, tree, beside, roots, DeriveAll}
+use Rattle.mm_proof.specs.Moves.{Move, name, again, mark, is_step, steps_in, Makes}
+use Rattle.mm_proof.specs.Proof.{Passed}
+use Rattle.mm_proof.specs.Listing.{ListedStep, StandsAfter, MakeLast, IsListed, AreListed}
+use Rattle.mm_proof.proofs.Places.{split_at, get_append}
+use Rattle.mm_proof.proofs.Derived.{derive_halves, single_derives}
+use Rattle.mm_proof.proofs.Making.{makes_split, roots-beside, roots_derive}
+use Rattle.mm_proof.proofs.Limits.{derive_any}
+use Rattle.mm_proof.proofs.Firsts.{steps_in-append}
+
+-- ---- a list with one element more
+
+-- the new element
+pub get_new : {X : Type 0} (xs : List X) (x : X) (i : ℕ) → i ≡ length xs → slice_get (xs ++ x ∷ []) i ≡ Some x
+get_new [] x zero e = refl
+get_new [] x (suc i) e = absurd (omega arith)
+get_new (y ∷ xs) x zero e = absurd (omega arith)
+get_new (y ∷ xs) x (suc i) e = get_new xs x i (omega arith)
+
+-- an element is an old one or the new one
+pub old_or_new : {X : Type 0} (xs : List X) (x y : X) (i : ℕ) → slice_get (xs ++ x ∷ []) i ≡ Some y
+    → ((i < length xs) × (slice_get xs i ≡ Some y)) ⊎ ((i ≡ length xs) × (x ≡ y))
+old_or_new [] x y zero e = inr (refl, same_Some x y e)
+old_or_new [] x y (suc i) e = absurd (none-some y e)
+old_or_new (z ∷ xs) x y zero e = inl (omega arith, e)
+old_or_new (z ∷ xs) x y (suc i) e = elim (old_or_new xs x y i e) [
+  | inl h ↦ inl (let l = h.0 in omega arith, h.1)
+  | inr h ↦ inr (ap suc h.0, h.1)
+]
+
+-- ---- steps
+
+-- one step is one
+one_step : {X : Type 0} (move : Move X) → is_step move ≡ true → steps_in (move ∷ []) ≡ 1
+one_step (name label) is = refl
+one_step (again tag) is = refl
+one_step mark is = absurd (false≢true is)
+
+-- a step is counted among the moves, and not among those before it
+step_before : (moves : List (Move (List ℕ))) (i : ℕ) (move : Move (List ℕ)) → slice_get moves i ≡ Some move → is_step move ≡ true
+    → steps_in (take i moves) < steps_in moves
+step_before moves i move there is =
+    let whole : steps_in moves ≡ steps_in (take i moves) + steps_in (move ∷ drop (suc i) moves) =
+    ap steps_in (split_at moves i move there) ∙ steps_in-append (take i moves) (move ∷ drop (suc i) moves) in
+    let here : steps_in (move ∷ drop (suc i) moves) ≡ steps_in (move ∷ []) + steps_in (drop (suc i) moves) = steps_in-append (move ∷ []) (drop (suc i) moves) in
+    let one = one_step move is in
+    omega (arith, whole, here, one)
+
+-- ---- tags
+
+-- a tag stands where it stood, whatever comes
+pub stands_later : {X : Type 0} (moves more : List (Move X)) (tag step : ℕ) → StandsAfter moves tag step → StandsAfter (moves ++ more) tag step
+stands_later {X} moves more tag step s =
+    let within : step + tag < length moves = slice_get_within moves (step + tag) mark s.0 in
+    (get_append moves more (step + tag) mark s.0, ap steps_in (take-append-le (step + tag) moves more (omega arith)) ∙ s.1)
+
+-- the tag of a new mark stands after the last step
+pub stands_new : {X : Type 0} (moves : List (Move X)) (tag step : ℕ) → steps_in moves ≡ step → step + tag ≡ length moves → StandsAfter (moves ++ mark ∷ []) tag step
+stands_new {X} moves tag step count all =
+    (get_new moves mark (step + tag) all, ap steps_in (take_at moves (mark ∷ []) (step + tag) (sym all)) ∙ count)
+
+-- ---- what is listed
+
+-- a step more
+pub listed_step : (before : List Sentence) (moves : List (Move (List ℕ))) (move : Move (List ℕ)) (steps : List ListedStep) (step : ListedStep) → AreListed before moves steps
+    → is_step move ≡ true → IsListed before moves move step → AreListed before (moves ++ move ∷ []) (steps ++ step ∷ [])
+listed_step before moves move steps step listed is new = record {
+  count =
+      let a = length-append steps (step ∷ []) in
+      let b = steps_in-append moves (move ∷ []) in
+      let c = one_step move is in
+      let d : length steps ≡ steps_in moves = listed.count in
+      omega (arith, a, b, c, d);
+  each = λ place m s there is_one at. each place m s there is_one at (old_or_new moves move m place there);
+}
+  where
+    each : (place : ℕ) (m : Move (List ℕ)) (s : ListedStep) → slice_get (moves ++ move ∷ []) place ≡ Some m → is_step m ≡ true
+        → slice_get (steps ++ step ∷ []) (steps_in (take place (moves ++ move ∷ []))) ≡ Some s
+        → ((place < length moves) × (slice_get moves place ≡ Some m)) ⊎ ((place ≡ length moves) × (move ≡ m))
+        → IsListed before (take place (moves ++ move ∷ [])) m s
+    each place m s there is_one at (inl old) =
+        let front : take place (moves ++ move ∷ []) ≡ take place moves = (let l = old.0 in take-append-le place moves (move ∷ []) (omega arith)) in
+        let less : steps_in (take place moves) < length steps = (let l = step_before moves place m old.1 is_one in let d : length steps ≡ steps_in moves = listed.count in omega arith) in
+        let here : slice_get (steps ++ step ∷ []) (steps_in (take place moves)) ≡ Some s = subst (λ l. slice_get (steps ++ step ∷ []) (steps_in l) ≡ Some s) front at in
+        subst (λ l. IsListed before l m s) (sym front) (elim (old_or_new steps step s (steps_in (take place moves)) here) [
+          | inl h ↦ listed.each place m s old.1 is_one h.1
+          | inr h ↦ absurd (let e = h.0 in omega arith)
+        ])
+    each place m s there is_one at (inr new_one) =
+        let front : take place (moves ++ move ∷ []) ≡ moves = take_at moves (move ∷ []) place (sym new_one.0) in
+        let here : slice_get (steps ++ step ∷ []) (steps_in moves) ≡ Some s = subst (λ l. slice_get (steps ++ step ∷ []) (steps_in l) ≡ Some s) front at in
+        let same : step ≡ s = elim (old_or_new steps step s (steps_in moves) here) [
+          | inl h ↦ absurd (let l = h.0 in let d : length steps ≡ steps_in moves = listed.count in omega arith)
+          | inr h ↦ h.1
+        ] in
+        subst (λ l. IsListed before l m s) (sym front) (subst (λ t. IsListed before moves m t) same (subst (λ t. IsListed before moves t step) new_one.1 new))
+
+-- a mark more
+pub listed_mark : (before : List Sentence) (moves : List (Move (List ℕ))) (steps : List ListedStep) → AreListed before moves steps → AreListed before (moves ++ mark ∷ []) steps
+listed_mark before moves steps listed = record {
+  count =
+      let b = steps_in-append moves (mark ∷ []) in
+      let d : length steps ≡ steps_in moves = listed.count in
+      omega (arith, b, d);
+  each = λ place m s there is_one at. each place m s is_one at (old_or_new moves mark m place there);
+}
+  where
+    each : (place : ℕ) (m : Move (List ℕ)) (s : ListedStep) → is_step m ≡ true
+        → slice_get steps (steps_in (take place (moves ++ mark ∷ []))) ≡ Some s
+        → ((place < length moves) × (slice_get moves place ≡ Some m)) ⊎ ((place ≡ length moves) × (mark ≡ m))
+        → IsListed before (take place (moves ++ mark ∷ [])) m s
+    each place m s is_one at (inl old) =
+        let front : take place (moves ++ mark ∷ []) ≡ take place moves = (let l = old.0 in take-append-le place moves (mark ∷ []) (omega arith)) in
+        subst (λ l. IsListed before l m s) (sym front) (listed.each place m s old.1 is_one (subst (λ l. slice_get steps (steps_in l) ≡ Some s) front at))
+    each place m s is_one at (inr new) =
+        absurd (false≢true (subst (λ (t : Move (List ℕ)). is_step t ≡ true) (sym new.1) is_one))
+
+-- ---- what moves that passed leave
+
+-- the last expression is derived by the last tree
+pub last_made : (Fits : List (List ℕ) → Type 0) (before : List Sentence) (moves : List (Move (List ℕ))) (rest kept : List (List (List ℕ))) (e : List (List ℕ))
+    → Passed Fits before moves (rest ++ e ∷ []) kept → MakeLast before moves e
+last_made Fits before moves rest kept e passed =
+    let h = derive_halves Fits before passed.trees rest (e ∷ []) passed.derived in
+    let one = single_derives Fits before h.right e h.derive_right in
+    record {
+      rest = h.left;
+      label = one.0;
+      below = one.1;
+      kept = passed.shelf;
+      made = subst (λ t. Makes before moves none [] t passed.shelf) (h.parts ∙ ap (beside h.left) one.2) passed.made;
+      derived = derive_any Fits before (tree one.0 one.1 none) (e ∷ []) (subst (λ u. DeriveAll Fits before u (e ∷ [])) one.2 h.derive_right);
+    }
+
+-- a step by a label leaves something
+pub name_leaves : (Fits : List (List ℕ) → Type 0) (before : List Sentence) (moves : List (Move (List ℕ))) (label : List ℕ) (stack kept : List (List (List ℕ)))
+    → Passed Fits before (moves ++ name label ∷ []) stack kept → 0 < length stack
+name_leaves Fits before moves label stack kept passed =
+    let s = makes_split before moves (name label ∷ []) none passed.trees [] passed.shelf passed.made in
+    let last = s.3 in
+    let row : passed.trees ≡ beside last.2.0 (tree label last.2.1 none) = last.3.0 ∙ last.2.4 in
+    let width : roots passed.trees ≡ roots last.2.0 + 1 = ap roots row ∙ roots-beside last.2.0 (tree label last.2.1 none) in
+    let deep : roots passed.trees ≡ length stack = roots_derive Fits before passed.trees stack passed.derived in
+    omega arith

@@ -1,0 +1,60 @@
+-- What is listed at the end.
+use Rattle.std.proofs.Common.{◌≡◌, ℕ, List, [], ◌∷◌, take, Result, Ok, Err, IfOk, IfErr, ap, subst, ◌∙◌}
+use Rattle.mm_frame.specs.Sentence.{Sentence}
+use Rattle.mm_frame.specs.Numbers.{IsNumbered}
+use Rattle.mm_frame.specs.FramePlace.{AreItsSymbols}
+use Rattle.mm_proof.specs.declared.lines.Line.{Line}
+use Rattle.mm_proof.specs.declared.fault.ProofRule.{ProofRule}
+use Rattle.mm_proof.specs.declared.fault.ProofFault.{ProofFault}
+use Rattle.mm_proof.specs.declared.fault.ProofFault.TheVariants.{Rule}
+use Rattle.mm_proof.specs.Answer.{OnRule}
+use Rattle.mm_proof.specs.Moves.{Move}
+use Rattle.mm_proof.specs.Proof.{IsWithin, expression_limit, Passed}
+use Rattle.mm_proof.specs.CodeVerify.{all_named}
+use Rattle.mm_proof.specs.CodeRun.{HasRun}
+use Rattle.mm_proof.specs.CodeLines.{AreLinesFor, ListsProof}
+use Rattle.mm_proof.proofs.Answering.{on_rule_map}
+use Rattle.mm_proof.proofs.Numbered.{one_place}
+use Rattle.mm_proof.proofs.Forward.{prove_at_end}
+use Rattle.mm_proof.proofs.Ending.{its_symbols}
+
+-- the moves have run, and left the statement's expression
+pub lists_end : (st : List Sentence) (id own : ℕ) (t : Sentence) (xs : List (Move ℕ)) (stack kept : List (List ℕ)) (count : ℕ) (numbers : List ℕ) (lines : List Line)
+    → IsNumbered st id own t → AreItsSymbols (record { statements = st; place = own }) numbers → HasRun st own xs stack kept count → stack ≡ numbers ∷ []
+    → AreLinesFor st own xs lines → ListsProof st id xs lines
+lists_end st id own t xs stack kept count numbers lines n symbols run is lines_so place s names proof numbered =
+    let here : own ≡ place = one_place st id own place t s n proof.numbered in
+    let moved = subst (λ p. HasRun st p xs stack kept count) here run in
+    let expression = (its_symbols st own place s numbers here proof.numbered.there symbols).0 in
+    let passed = subst (λ l. Passed (IsWithin expression_limit) (take place st) names l (all_named st kept))
+    (ap (all_named st) is ∙ ap (λ e. e ∷ []) expression) (moved.passed names numbered) in (
+      prove_at_end (IsWithin expression_limit) (take place st) s names (all_named st kept) passed,
+      subst (λ p. AreLinesFor st p xs lines) here lines_so names numbered,
+    )
+
+-- ---- answers
+
+-- what holds of an answer's value, and what follows from it
+pub if_ok_map : {X : Type 0} (r : Result X ProofFault) (P Q : X → Type 0) → ((x : X) → P x → Q x) → IfOk r P → IfOk r Q
+if_ok_map (Ok x) P Q f h = f x h
+if_ok_map (Err e) P Q f h = tt
+
+pub if_ok_at : {X : Type 0} (r : Result X ProofFault) (P : X → Type 0) (x : X) → r ≡ Ok x → IfOk r P → P x
+if_ok_at (Ok y) P x is h = subst P (same y x is) h
+  where
+    same : {Y : Type 0} (y x : Y) → ◌≡◌ {A = Result Y ProofFault} (Ok y) (Ok x) → y ≡ x
+    same y x e = cc
+if_ok_at (Err e) P x is h = absurd cc
+
+-- what holds of an answer's rule and step
+pub if_rule_map : {X : Type 0} (r : Result X ProofFault) (P Q : ProofRule → ℕ → Type 0) → ((rule : ProofRule) (step : ℕ) → P rule step → Q rule step)
+    → IfErr r (λ e. OnRule e P) → IfErr r (λ e. OnRule e Q)
+if_rule_map (Ok x) P Q f h = tt
+if_rule_map (Err e) P Q f h = on_rule_map e P Q f h
+
+pub if_rule_at : {X : Type 0} (r : Result X ProofFault) (P : ProofRule → ℕ → Type 0) (rule : ProofRule) (step : ℕ) → r ≡ Err (Rule rule step) → IfErr r (λ e. OnRule e P) → P rule step
+if_rule_at (Ok x) P rule step is h = absurd cc
+if_rule_at {X} (Err e) P rule step is h = subst (λ f. OnRule f P) (same e (Rule rule step) is) h
+  where
+    same : (e f : ProofFault) → ◌≡◌ {A = Result X ProofFault} (Err e) (Err f) → e ≡ f
+    same e f is = cc

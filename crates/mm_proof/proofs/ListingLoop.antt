@@ -1,0 +1,227 @@
+-- The lines of the steps so far, by numbers.
+use Rattle.std.proofs.Common.{◌≡◌, ℕ, ◌+◌, ◌-◌, ◌<◌, ◌≤◌, List, [], ◌∷◌, ◌++◌, length, take, slice_get, get_or, Some, true, inl, inr, refl, sym, ap, subst, ◌∙◌, arith}
+use Rattle.std.proofs.lemmas.Option.{same_Some, slice_get_within}
+use Rattle.std.proofs.lemmas.List.{map-append, length-map, length-append, length-take-le, take_all}
+use Rattle.std.proofs.lemmas.Slice.Zip.{AllZip-long}
+use Rattle.mm_frame.specs.declared.number.LabelId.{LabelId}
+use Rattle.mm_frame.specs.Sentence.{Sentence}
+use Rattle.mm_frame.specs.Numbers.{symbols_of, AreNumbers}
+use Rattle.mm_proof.specs.declared.moves.NumberedMove.{NumberedMove}
+use Rattle.mm_proof.specs.declared.moves.NumberedMove.TheVariants as code
+use Rattle.mm_proof.specs.declared.lines.Line.{Line}
+use Rattle.mm_proof.specs.declared.lines.Name.TheVariants as names
+use Rattle.mm_proof.specs.Stores.{numbers_in}
+use Rattle.mm_proof.specs.Moves.{Move, name, again, mark, is_step, steps_in}
+use Rattle.mm_proof.specs.Proof.{IsWithin, expression_limit, Passed}
+use Rattle.mm_proof.specs.Steps.{IsNumberedMove, AreNumberedMoves}
+use Rattle.mm_proof.specs.Listing.{StepName, by_label, by_step, ListedStep, StandsAfter, IsCalled, MakeLast, AreListed, IsNameOf, TellsStep}
+use Rattle.mm_proof.specs.CodeSteps.{move_in, moves_in}
+use Rattle.mm_proof.specs.CodeVerify.{IsSymbol, AreSymbols, AreEntries, AreBelow, named, all_named}
+use Rattle.mm_proof.specs.CodeRun.{CarriesOn, HasRun}
+use Rattle.mm_proof.specs.CodeLines.{AreLinesFor}
+use Rattle.mm_proof.proofs.Derived.{zip_push, zip_front, all_mapped, all_at}
+use Rattle.mm_proof.proofs.Named.{number_of_name}
+use Rattle.mm_proof.proofs.Running.{Turn, front_more, last_split, same_steps, run_none, zip_take, more_name, more_again, more_mark}
+use Rattle.mm_proof.proofs.Listed.{old_or_new, stands_later, stands_new, listed_step, listed_mark, last_made, name_leaves}
+
+-- ---- numbers and names
+
+-- the names of symbols by their numbers
+pub numbers_named : (st : List Sentence) (ns : List ℕ) → AreBelow st ns → AreNumbers st ns (named st ns)
+numbers_named st [] below = refl
+numbers_named st (n ∷ ns) below =
+    let here = number_of_name st n below.0 in
+    let rest : AreNumbers st ns (named st ns) = numbers_named st ns below.1 in
+    cc
+
+step_kind : (st : List Sentence) (x : Move ℕ) (move : Move (List ℕ)) → IsNumberedMove st x move → is_step x ≡ true → is_step move ≡ true
+step_kind st (name id) move n is = ap (λ (m : Move (List ℕ)). is_step m) n.4
+step_kind st (again tag) move n is = ap (λ (m : Move (List ℕ)). is_step m) n
+step_kind st mark move n is = ap (λ (m : Move (List ℕ)). is_step m) n ∙ is
+
+-- ---- tags
+
+-- each tag stands after the step with its number, whatever names the moves stand for
+abbrev pub AreTagsFor : List Sentence → List (Move ℕ) → List ℕ → Type 0
+AreTagsFor st front tags =
+    (moves : List (Move (List ℕ))) → AreNumberedMoves st front moves
+    → (tag step : ℕ) → slice_get tags tag ≡ Some step → StandsAfter moves tag step
+
+tags_later : (st : List Sentence) (front : List (Move ℕ)) (x : Move ℕ) (tags : List ℕ) → AreTagsFor st front tags → AreTagsFor st (front ++ x ∷ []) tags
+tags_later st front x tags are moves numbered tag step there =
+    let h = zip_front (IsNumberedMove st) front x moves numbered in
+    subst (λ l. StandsAfter l tag step) (sym h.2) (stands_later h.0 (h.1 ∷ []) tag step (are h.0 h.3 tag step there))
+
+-- one tag more
+tags_more : (st : List Sentence) (front : List (Move ℕ)) (tags : List ℕ) (new : ℕ) → new ≡ steps_in front → new + length tags ≡ length front
+    → AreTagsFor st front tags → AreTagsFor st (front ++ mark ∷ []) (tags ++ new ∷ [])
+tags_more st front tags new count all are moves numbered tag step there =
+    let h = zip_front (IsNumberedMove st) front mark moves numbered in
+    subst (λ l. StandsAfter l tag step) (sym h.2) (elim (old_or_new tags new step tag there) [
+      | inl old ↦ stands_later h.0 (h.1 ∷ []) tag step (are h.0 h.3 tag step old.1)
+      | inr last ↦
+          let same : steps_in h.0 ≡ step = sym (same_steps st front h.0 h.3) ∙ sym count ∙ last.1 in
+          let long : length h.0 ≡ length front = AllZip-long (IsNumberedMove st) front h.0 h.3 in
+          let number : step + tag ≡ length h.0 = (let a = last.0 in let b = last.1 in omega arith) in
+          subst (λ m. StandsAfter (h.0 ++ m ∷ []) tag step) (sym h.4) (stands_new h.0 tag step same number)
+    ])
+
+-- ---- lines
+
+-- nothing is listed
+lines_none : (st : List Sentence) (place : ℕ) → AreLinesFor st place [] []
+lines_none st place [] numbered = ([], record { count = refl; each = λ place move step there is at. absurd cc }, tt)
+lines_none st place (m ∷ moves) numbered = absurd numbered
+
+-- a step more, which is called so
+line_more : (st : List Sentence) (place : ℕ) (front : List (Move ℕ)) (x : Move ℕ) (stack kept : List (List ℕ)) (count : ℕ) (lines : List Line) (line : Line)
+    → HasRun st place (front ++ x ∷ []) stack kept count → slice_get stack (length stack - 1) ≡ Some (numbers_in line.expression.items) → is_step x ≡ true
+    → ((moves : List (Move (List ℕ))) (move : Move (List ℕ)) → AreNumberedMoves st front moves → IsNumberedMove st x move
+    → (called : StepName) × IsNameOf st line.name called × IsCalled moves move called)
+    → AreLinesFor st place front lines → AreLinesFor st place (front ++ x ∷ []) (lines ++ line ∷ [])
+line_more st place front x stack kept count lines line run last is calls old moves numbered =
+    let before : List Sentence = take place st in
+    let e : List ℕ = numbers_in line.expression.items in
+    let h = zip_front (IsNumberedMove st) front x moves numbered in
+    let within : length stack - 1 < length stack = slice_get_within stack (length stack - 1) e last in
+    let parts = last_split stack (omega arith) in
+    let top : parts.1 ≡ e = same_Some parts.1 e (sym parts.3 ∙ last) in
+    let split : stack ≡ parts.0 ++ e ∷ [] = parts.2 ∙ ap (λ x. parts.0 ++ x ∷ []) top in
+    let names : all_named st stack ≡ all_named st parts.0 ++ named st e ∷ [] = ap (all_named st) split ∙ map-append (named st) parts.0 (e ∷ []) in
+    let passed : Passed (IsWithin expression_limit) before moves (all_named st parts.0 ++ named st e ∷ []) (all_named st kept) =
+    subst (λ l. Passed (IsWithin expression_limit) before moves l (all_named st kept)) names (run.passed moves numbered) in
+    let made : MakeLast before moves (named st e) = last_made (IsWithin expression_limit) before moves (all_named st parts.0) (all_named st kept) (named st e) passed in
+    let entry : AreSymbols st before e = all_at (AreSymbols st before) stack (length stack - 1) e run.entries last in
+    let below : AreBelow st e = all_mapped (IsSymbol st before) (λ k. k < length (symbols_of st)) e (λ k i. i.below) entry in
+    let call = calls h.0 h.1 h.3 h.4 in
+    let new : ListedStep = record { called = call.0; expression = named st e } in
+    let was = old h.0 h.3 in (
+      was.0 ++ new ∷ [],
+      subst (λ l. AreListed before l (was.0 ++ new ∷ [])) (sym h.2)
+          (listed_step before h.0 h.1 was.0 new was.1 (step_kind st x h.1 h.4 is)
+          (record { called = call.2; pushed = subst (λ l. MakeLast before l (named st e)) h.2 made })),
+      zip_push (TellsStep st) lines was.0 line new was.2 (record { called = call.1; pushed = numbers_named st e below }),
+    )
+
+-- a mark more
+line_mark : (st : List Sentence) (place : ℕ) (front : List (Move ℕ)) (lines : List Line) → AreLinesFor st place front lines → AreLinesFor st place (front ++ mark ∷ []) lines
+line_mark st place front lines old moves numbered =
+    let h = zip_front (IsNumberedMove st) front mark moves numbered in
+    let was = old h.0 h.3 in
+    (was.0, subst (λ l. AreListed (take place st) l was.0) (sym (h.2 ∙ ap (λ m. h.0 ++ m ∷ []) h.4)) (listed_mark (take place st) h.0 was.0 was.1), was.2)
+
+-- ---- the loop
+
+-- what holds before each move: those before it have run, and are listed
+pub record Listing (st : List Sentence) (place : ℕ) (moves : List NumberedMove) (i : ℕ) (stack kept : List (List ℕ)) (lines : List Line) (tags : List ℕ) : Type 0 where
+  pub turn : Turn st place moves i stack kept (length lines) (length tags)
+  pub listed : AreLinesFor st place (take i (moves_in moves)) lines
+  pub stand : AreTagsFor st (take i (moves_in moves)) tags
+
+-- before any move
+pub listing_none : (st : List Sentence) (place : ℕ) (moves : List NumberedMove) (stack kept : List (List ℕ)) → stack ≡ [] → kept ≡ [] → Listing st place moves 0 stack kept [] []
+listing_none st place moves stack kept empty none_kept = record {
+  turn = (run_none st place stack kept empty none_kept, sym (ap length none_kept), refl);
+  listed = lines_none st place;
+  stand = λ names numbered tag step there. absurd cc;
+}
+
+-- what a step by a label leaves isn't nothing
+pub name_stands : (st : List Sentence) (place : ℕ) (moves : List NumberedMove) (i : ℕ) (d : NumberedMove) (id : LabelId) (stack kept stack' kept' : List (List ℕ)) (lines : List Line) (tags : List ℕ)
+    → (names : List (Move (List ℕ))) × AreNumberedMoves st (moves_in moves) names
+    → i < length moves → get_or moves i d ≡ code.Name id → Listing st place moves i stack kept lines tags
+    → CarriesOn st place id.0 stack stack' → AreEntries st (take place st) stack' → kept' ≡ kept → 0 < length stack'
+name_stands st place moves i d id stack kept stack' kept' lines tags named_so less is l carries entries same =
+    let turn = more_name st place moves i d id stack kept stack' kept' (length lines) (length tags) less is l.turn carries entries same in
+    let front = zip_take (IsNumberedMove st) (moves_in moves) named_so.0 (i + 1) named_so.1 in
+    let one : take (i + 1) (moves_in moves) ≡ take i (moves_in moves) ++ name id.0 ∷ [] = front_more moves i d less ∙ ap (λ m. take i (moves_in moves) ++ move_in m ∷ []) is in
+    let h = zip_front (IsNumberedMove st) (take i (moves_in moves)) (name id.0) (take (i + 1) named_so.0) (subst (λ l. AreNumberedMoves st l (take (i + 1) named_so.0)) one front) in
+    let passed = turn.0.passed (take (i + 1) named_so.0) front in
+    let deep : 0 < length (all_named st stack') = name_leaves (IsWithin expression_limit) (take place st) h.0 h.4.1 (all_named st stack') (all_named st kept')
+    (subst (λ l. Passed (IsWithin expression_limit) (take place st) l (all_named st stack') (all_named st kept')) (h.2 ∙ ap (λ m. h.0 ++ m ∷ []) h.4.4) passed) in
+    omega (arith, length-map stack' (named st))
+
+-- a step by a label
+pub listing_name : (st : List Sentence) (place : ℕ) (moves : List NumberedMove) (i : ℕ) (d : NumberedMove) (id : LabelId) (stack kept stack' kept' : List (List ℕ)) (lines : List Line) (tags : List ℕ) (line : Line)
+    → i < length moves → get_or moves i d ≡ code.Name id → Listing st place moves i stack kept lines tags
+    → CarriesOn st place id.0 stack stack' → AreEntries st (take place st) stack' → kept' ≡ kept
+    → line.name ≡ names.Label id → slice_get stack' (length stack' - 1) ≡ Some (numbers_in line.expression.items)
+    → Listing st place moves (i + 1) stack' kept' (lines ++ line ∷ []) tags
+listing_name st place moves i d id stack kept stack' kept' lines tags line less is l carries entries same called last =
+    let count : length (lines ++ line ∷ []) ≡ length lines + 1 = length-append lines (line ∷ []) in
+    let turn = more_name st place moves i d id stack kept stack' kept' (length lines) (length tags) less is l.turn carries entries same in
+    let one : take (i + 1) (moves_in moves) ≡ take i (moves_in moves) ++ name id.0 ∷ [] = front_more moves i d less ∙ ap (λ m. take i (moves_in moves) ++ move_in m ∷ []) is in
+    let run = subst (λ f. HasRun st place f stack' kept' (length lines + 1)) one turn.0 in
+    record {
+      turn = subst (λ n. Turn st place moves (i + 1) stack' kept' n (length tags)) (sym count) turn;
+      listed = subst (λ f. AreLinesFor st place f (lines ++ line ∷ [])) (sym one)
+          (line_more st place (take i (moves_in moves)) (name id.0) stack' kept' (length lines + 1) lines line run last refl
+          (λ moves move numbered n. (
+            by_label n.1,
+            subst (λ c. IsNameOf st c (by_label n.1)) (sym called) (n.0, n.1, n.2, n.3, refl),
+            subst (λ m. IsCalled moves m (by_label n.1)) (sym n.4) refl,
+          )) l.listed);
+      stand = subst (λ f. AreTagsFor st f tags) (sym one) (tags_later st (take i (moves_in moves)) (name id.0) tags l.stand);
+    }
+
+-- a step by a tag
+pub listing_again : (st : List Sentence) (place : ℕ) (moves : List NumberedMove) (i : ℕ) (d : NumberedMove) (tag after : ℕ) (stack kept stack' kept' : List (List ℕ)) (lines : List Line) (tags : List ℕ) (line : Line)
+    → i < length moves → get_or moves i d ≡ code.Again tag → Listing st place moves i stack kept lines tags
+    → (e : List ℕ) × (slice_get kept tag ≡ Some e) × (stack' ≡ stack ++ e ∷ []) → kept' ≡ kept → slice_get tags tag ≡ Some after
+    → line.name ≡ names.Step after → slice_get stack' (length stack' - 1) ≡ Some (numbers_in line.expression.items)
+    → Listing st place moves (i + 1) stack' kept' (lines ++ line ∷ []) tags
+listing_again st place moves i d tag after stack kept stack' kept' lines tags line less is l pushed same there called last =
+    let count : length (lines ++ line ∷ []) ≡ length lines + 1 = length-append lines (line ∷ []) in
+    let turn = more_again st place moves i d tag stack kept stack' kept' (length lines) (length tags) less is l.turn pushed same in
+    let one : take (i + 1) (moves_in moves) ≡ take i (moves_in moves) ++ again tag ∷ [] = front_more moves i d less ∙ ap (λ m. take i (moves_in moves) ++ move_in m ∷ []) is in
+    let run = subst (λ f. HasRun st place f stack' kept' (length lines + 1)) one turn.0 in
+    record {
+      turn = subst (λ n. Turn st place moves (i + 1) stack' kept' n (length tags)) (sym count) turn;
+      listed = subst (λ f. AreLinesFor st place f (lines ++ line ∷ [])) (sym one)
+          (line_more st place (take i (moves_in moves)) (again tag) stack' kept' (length lines + 1) lines line run last refl
+          (λ moves move numbered n. (
+            by_step after,
+            subst (λ c. IsNameOf st c (by_step after)) (sym called) refl,
+            subst (λ m. IsCalled moves m (by_step after)) (sym n) (after, l.stand moves numbered tag after there, refl),
+          )) l.listed);
+      stand = subst (λ f. AreTagsFor st f tags) (sym one) (tags_later st (take i (moves_in moves)) (again tag) tags l.stand);
+    }
+
+-- a mark
+pub listing_mark : (st : List Sentence) (place : ℕ) (moves : List NumberedMove) (i : ℕ) (d : NumberedMove) (stack kept stack' kept' : List (List ℕ)) (lines : List Line) (tags : List ℕ) (new : ℕ)
+    → i < length moves → get_or moves i d ≡ code.Mark → Listing st place moves i stack kept lines tags
+    → (rest : List (List ℕ)) × (e : List ℕ) × (stack ≡ rest ++ e ∷ []) × (kept' ≡ kept ++ e ∷ []) → stack' ≡ stack → new ≡ length lines
+    → Listing st place moves (i + 1) stack' kept' lines (tags ++ new ∷ [])
+listing_mark st place moves i d stack kept stack' kept' lines tags new less is l kept_one same number =
+    let count : length (tags ++ new ∷ []) ≡ length tags + 1 = length-append tags (new ∷ []) in
+    let turn = more_mark st place moves i d stack kept stack' kept' (length lines) (length tags) less is l.turn kept_one same in
+    let one : take (i + 1) (moves_in moves) ≡ take i (moves_in moves) ++ mark ∷ [] = front_more moves i d less ∙ ap (λ m. take i (moves_in moves) ++ move_in m ∷ []) is in
+    let sum : length lines + length tags ≡ i = l.turn.2 in
+    let long : length (take i (moves_in moves)) ≡ i = length-take-le i (moves_in moves) (omega (arith, length-map moves move_in)) in
+    record {
+      turn = subst (λ n. Turn st place moves (i + 1) stack' kept' (length lines) n) (sym count) turn;
+      listed = subst (λ f. AreLinesFor st place f lines) (sym one) (line_mark st place (take i (moves_in moves)) lines l.listed);
+      stand = subst (λ f. AreTagsFor st f (tags ++ new ∷ [])) (sym one)
+          (tags_more st (take i (moves_in moves)) tags new (number ∙ l.turn.0.count) (omega arith) l.stand);
+    }
+
+-- the tag of an expression that is kept is known
+pub tag_stands : (st : List Sentence) (place : ℕ) (moves : List NumberedMove) (i : ℕ) (stack kept stack' : List (List ℕ)) (lines : List Line) (tags : List ℕ) (tag : ℕ) → Listing st place moves i stack kept lines tags
+    → (e : List ℕ) × (slice_get kept tag ≡ Some e) × (stack' ≡ stack ++ e ∷ []) → (tag < length tags) × (0 < length stack')
+tag_stands st place moves i stack kept stack' lines tags tag l pushed =
+    let within : tag < length kept = slice_get_within kept tag pushed.0 pushed.1 in
+    let same : length tags ≡ length kept = l.turn.1 in
+    let long : length stack' ≡ length stack + 1 = ap length pushed.2 ∙ length-append stack (pushed.0 ∷ []) in
+    (omega arith, omega arith)
+
+-- as many are listed as moves at most
+pub few_lines : (st : List Sentence) (place : ℕ) (moves : List NumberedMove) (i : ℕ) (stack kept : List (List ℕ)) (lines : List Line) (tags : List ℕ) → Listing st place moves i stack kept lines tags
+    → i < length moves → length lines < length moves
+few_lines st place moves i stack kept lines tags l less = let sum : length lines + length tags ≡ i = l.turn.2 in omega arith
+
+-- at the end
+pub listing_end : (st : List Sentence) (place : ℕ) (moves : List NumberedMove) (i : ℕ) (stack kept : List (List ℕ)) (lines : List Line) (tags : List ℕ) → Listing st place moves i stack kept lines tags
+    → length moves ≤ i → HasRun st place (moves_in moves) stack kept (length lines) × AreLinesFor st place (moves_in moves) lines
+listing_end st place moves i stack kept lines tags l over =
+    let all : take i (moves_in moves) ≡ moves_in moves = take_all i (moves_in moves) (omega (arith, length-map moves move_in)) in
+    (subst (λ f. HasRun st place f stack kept (length lines)) all l.turn.0, subst (λ f. AreLinesFor st place f lines) all l.listed)

@@ -1,0 +1,192 @@
+//! The listing of a proof: its steps, one a line (the Metamath book, section 4.3 and appendix B).
+
+ghost use Rattle.std.specs.Prelude.{◌≡◌, ◌-◌, ◌<◌, ◌^◌, ℕ, List, [], length, slice_get, Some, Err};
+ghost use Rattle.std.specs.Prelude.{IfOk, IfErr, IsOkUnless};
+ghost use Rattle.std.specs.List.{AllByRecursion};
+ghost use Rattle.mm_frame.specs.Sentence.{Sentence};
+ghost use Rattle.mm_frame.specs.Form.{IsSound};
+ghost use Rattle.mm_frame.specs.Numbers.{IsNumbered};
+ghost use Rattle.mm_proof.specs.declared.fault.ProofRule.{ProofRule};
+ghost use Rattle.mm_proof.specs.Answer.{IsUnlessMemory};
+ghost use Rattle.mm_proof.specs.Stores.{numbers_in};
+ghost use Rattle.mm_proof.specs.Moves.{Move};
+ghost use Rattle.mm_proof.specs.Proof.{Prove, IsWithin, expression_limit, IsMovesFault};
+ghost use Rattle.mm_proof.specs.Steps.{AreNumberedMoves, AreSteps};
+ghost use Rattle.mm_proof.specs.Listing.{AreLinesOf, OfProof};
+ghost use Rattle.mm_proof.specs.CodeSteps.{moves_in};
+ghost use Rattle.mm_proof.specs.CodeRun.{MayBeMade, HasRun};
+ghost use Rattle.mm_proof.specs.CodeLines.{AreLinesFor, BreaksAt, ListsProof, FaultsProof};
+
+use crate::apply::Scratch;
+use crate::fault::ProofFault;
+use crate::flat::Flat;
+use crate::moves::{NumberedMove, Steps};
+use crate::store::Store;
+use crate::verdict::{ending, mark, step, step_again};
+use mm_frame::{Book, Frame, LabelId, Sym, one_number};
+use std::alloc::{AllocError, Global};
+
+/// What a line calls its step.
+#[derive(Clone, Copy, PartialEq, Eq, Debug)]
+pub enum Name {
+    /// The label of the hypothesis or of the assertion.
+    Label(LabelId),
+    /// The number, from 1 on, of the step that the tag stands after.
+    Step(u32),
+}
+
+/// A step of a proof.
+#[derive(Drop)]
+pub struct Line {
+    /// What the step is called.
+    pub name: Name,
+    /// The expression that it puts on the stack.
+    pub expression: Vec<Sym>,
+}
+
+// The line of the step that was made last.
+fn last_line<S: Store>(alloc: Global, store: &S, name: Name) -> Result<Line, AllocError>
+    requires { 0 < length (S.stack store.now) }
+    ensures name { IfOk result (λ line. line.name ≡ name) }
+    ensures expression { IfOk result (λ line. slice_get (S.stack store.now)
+        (length (S.stack store.now) - 1) ≡ Some (numbers_in line.expression.items)) }
+{
+    let last = store.at(store.len() - 1);
+    Ok(Line {
+        name,
+        expression: Vec::from_slice(alloc, last)?,
+    })
+}
+
+// The lines of all steps, one after the other.
+fn lines_of<S: Store>(
+    alloc: Global,
+    store: &mut S,
+    book: &Book,
+    own: &Frame,
+    moves: &[NumberedMove],
+) -> Result<Vec<Line>, ProofFault>
+    requires own { own.now.statements ≡ book.now.statements }
+    requires sound { IsSound book.now.statements }
+    requires usable { AllByRecursion (MayBeMade book.now.statements own.now.place)
+        (moves_in moves.now) }
+    requires names { (names : List (Move (List ℕ)))
+        × AreNumberedMoves book.now.statements (moves_in moves.now) names }
+    requires room { length moves.now < 2 ^ 32 }
+    requires stack { S.stack store.old ≡ [] }
+    requires kept { S.kept store.old ≡ [] }
+    ensures run { IfOk result (λ lines. HasRun book.now.statements own.now.place
+        (moves_in moves.now) (S.stack store.new) (S.kept store.new) (length lines.items)) }
+    ensures lines { IfOk result (λ lines. AreLinesFor book.now.statements own.now.place
+        (moves_in moves.now) lines.items) }
+    ensures fault { (rule : ProofRule) → (at : ℕ) → result ≡ Err (ProofFault.Rule rule at)
+        → BreaksAt book.now.statements own.now.place (moves_in moves.now) rule at }
+{
+    let mut scratch = Scratch::new(alloc);
+    let mut lines = Vec::new(alloc);
+    // For each mark, the number of the step before it.
+    let mut tags = Vec::new(alloc);
+    for one in moves {
+        let number = lines.len() + 1;
+        match one {
+            NumberedMove::Name(id) => {
+                step(store, book, own, *id, number, &mut scratch)?;
+                lines.push(last_line(alloc, store, Name::Label(*id))?)?;
+            }
+            NumberedMove::Again(tag) => {
+                step_again(store, *tag, tags.len(), number)?;
+                let after = tags[*tag as usize];
+                lines.push(last_line(alloc, store, Name::Step(after))?)?;
+            }
+            NumberedMove::Mark => {
+                mark(store, number)?;
+                tags.push(lines.len() as u32)?;
+            }
+        }
+    }
+    Ok(lines)
+}
+
+// The lines of the moves, or their first fault, where the frame is that of the `$p`.
+fn listed_frame<S: Store>(
+    alloc: Global,
+    store: &mut S,
+    book: &Book,
+    own: &Frame,
+    id: LabelId,
+    moves: &[NumberedMove],
+) -> Result<Vec<Line>, ProofFault>
+    requires own { own.now.statements ≡ book.now.statements }
+    requires number { (s : Sentence) × IsNumbered book.now.statements id.0 own.now.place s }
+    requires sound { IsSound book.now.statements }
+    requires room { length moves.now < 2 ^ 32 }
+    requires stack { S.stack store.old ≡ [] }
+    requires kept { S.kept store.old ≡ [] }
+    requires steps { AreSteps book.now.statements id.0 (moves_in moves.now) }
+    ensures listed { IfOk result (λ lines. ListsProof book.now.statements id.0
+        (moves_in moves.now) lines.items) }
+    ensures fault { IfErr result (FaultsProof book.now.statements id.0 (moves_in moves.now)) }
+{
+    one_number();
+    let lines = lines_of(alloc, store, book, own, moves)?;
+    ending(store, own.expression(), lines.len() + 1)?;
+    Ok(lines)
+}
+
+// The lines of the moves, or their first fault.
+fn listed(
+    alloc: Global,
+    book: &Book,
+    id: LabelId,
+    moves: &[NumberedMove],
+) -> Result<Vec<Line>, ProofFault>
+    requires room { length moves.now < 2 ^ 32 }
+    requires steps { AreSteps book.now.statements id.0 (moves_in moves.now) }
+    ensures listed { IfOk result (λ lines. ListsProof book.now.statements id.0
+        (moves_in moves.now) lines.items) }
+    ensures fault { IfErr result (FaultsProof book.now.statements id.0 (moves_in moves.now)) }
+    ensures sound { IsSound book.now.statements }
+{
+    let own = book.frame(id);
+    let mut store = Flat::new(alloc);
+    listed_frame(alloc, &mut store, book, &own, id, moves)
+}
+
+/// The steps of the `$p` with this number, which these moves prove, in order: what each is called,
+/// and the expression that it puts on the stack. A step by a tag is called by the number of the step
+/// that the tag stands after; where that one is by a tag too, by that one's own number.
+///
+/// # Errors
+///
+/// `Memory` where a growth was refused. Moves that don't prove the `$p` are answered with their
+/// first fault, as `verify` does.
+pub fn listing(
+    alloc: Global,
+    book: &Book,
+    id: LabelId,
+    steps: &Steps,
+) -> Result<Vec<Line>, ProofFault>
+    requires { AreSteps book.now.statements id.0 steps.now }
+    // The lines are those of the steps: each with its name, and the expression that its tree
+    // derives.
+    ensures listed { IfOk result (λ lines. OfProof book.now.statements id.0 steps.now
+        (λ before s moves. AreLinesOf book.now.statements before moves lines.items)) }
+
+    // The rule and the step are those of the first fault.
+    ensures fault { (rule : ProofRule) → (step : ℕ) → result ≡ Err (ProofFault.Rule rule step)
+        → OfProof book.now.statements id.0 steps.now
+        (λ before s moves. IsMovesFault (IsWithin expression_limit) before s moves rule step) }
+
+    // What is proved is listed, unless memory is refused.
+    ensures accepts { OfProof book.now.statements id.0 steps.now
+        (λ before s moves. Prove (IsWithin expression_limit) before s moves
+        → IsOkUnless result ProofFault.Memory) }
+
+    // What has a fault is answered with it, unless memory is refused.
+    ensures refuses { OfProof book.now.statements id.0 steps.now
+        (λ before s moves. (rule : ProofRule) → (step : ℕ)
+        → IsMovesFault (IsWithin expression_limit) before s moves rule step
+        → IsUnlessMemory result (Err (ProofFault.Rule rule step))) }
+{
+    listed(alloc, book, id, &steps.moves)
+}
