@@ -13,6 +13,8 @@ mod rows;
 mod step;
 mod store;
 mod substitution;
+#[cfg(test)]
+mod tests;
 mod used;
 mod verdict;
 
