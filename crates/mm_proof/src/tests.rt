@@ -330,4 +330,6 @@ fn laws_are_called() {
     some_verdict();
     one_verdict();
     limits_aside();
+    mark_before_any_step();
+    tag_over_marks();
 }
