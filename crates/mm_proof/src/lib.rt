@@ -14,6 +14,7 @@ mod step;
 mod store;
 mod substitution;
 mod used;
+mod variables;
 mod verdict;
 
 pub use fault::{ProofFault, ProofRule};
