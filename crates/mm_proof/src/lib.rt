@@ -9,6 +9,7 @@ mod laws;
 mod moves;
 mod pairs;
 mod parse;
+mod prover;
 mod rows;
 mod step;
 mod store;
@@ -23,6 +24,7 @@ pub use laws::{
     by_spelling, by_word, limits_aside, one_fit, one_tree, one_verdict, one_word, some_verdict,
 };
 pub use moves::{Parsed, Steps};
+pub use prover::Prover;
 pub use rows::Rows;
 pub use store::Store;
 pub use used::Used;
