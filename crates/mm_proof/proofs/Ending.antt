@@ -15,7 +15,7 @@ use Rattle.mm_proof.specs.declared.fault.ProofFault.TheVariants.{Rule, Memory}
 use Rattle.mm_proof.specs.Answer.{OnRule}
 use Rattle.mm_proof.specs.Tree.{tree, none}
 use Rattle.mm_proof.specs.Moves.{Move, name, again, mark}
-use Rattle.mm_proof.specs.Proof.{IsWithin, expression_limit, Passed, BreaksEnd, IsMoveFault, IsMovesFault}
+use Rattle.mm_proof.specs.Proof.{IsWithin, expression_limit, Passed, Prove, BreaksEnd, IsMoveFault, IsMovesFault}
 use Rattle.mm_proof.specs.Steps.{IsNumberedMove, AreNumberedMoves, IsUsable, IsUsableMove, AreSteps}
 use Rattle.mm_proof.specs.CodeSteps.{MayBeUsed, moves_in}
 use Rattle.mm_proof.specs.declared.moves.NumberedMove.{NumberedMove}
@@ -110,16 +110,23 @@ its_symbols st own place s numbers here there i =
     (named_is st numbers i.assertion.symbols i.numbered ∙ ap (λ (x : Sentence). x.symbols) same, below_is st numbers i.assertion.symbols i.numbered)
 
 -- the moves have run, and left the statement's expression
-pub proved_end : (st : List Sentence) (id own : ℕ) (t : Sentence) (xs : List (Move ℕ)) (stack kept : List (List ℕ)) (count : ℕ) (numbers used : List ℕ) → AllMeant st → AreSteps st id xs
-    → IsNumbered st id own t → AreItsSymbols (record { statements = st; place = own }) numbers → HasRun st own xs stack kept count → stack ≡ numbers ∷ [] → AreNamed st xs used
-    → OfMoves st id xs (λ place s names. ProvesWith st place s names used)
-proved_end st id own t xs stack kept count numbers used all a n symbols run is named_so place s names proof numbered =
+pub proved_end : (st : List Sentence) (id own : ℕ) (t : Sentence) (xs : List (Move ℕ)) (stack kept : List (List ℕ)) (count : ℕ) (numbers : List ℕ)
+    → IsNumbered st id own t → AreItsSymbols (record { statements = st; place = own }) numbers → HasRun st own xs stack kept count → stack ≡ numbers ∷ []
+    → OfMoves st id xs (λ place s names. Prove (IsWithin expression_limit) (take place st) s names)
+proved_end st id own t xs stack kept count numbers n symbols run is place s names proof numbered =
     let here : own ≡ place = one_place st id own place t s n proof.numbered in
     let moved = subst (λ p. HasRun st p xs stack kept count) here run in
     let expression = (its_symbols st own place s numbers here proof.numbered.there symbols).0 in
     let passed = subst (λ l. Passed (IsWithin expression_limit) (take place st) names l (all_named st kept))
     (ap (all_named st) is ∙ ap (λ e. e ∷ []) expression) (moved.passed names numbered) in
-    let p = prove_at_end (IsWithin expression_limit) (take place st) s names (all_named st kept) passed in
+    prove_at_end (IsWithin expression_limit) (take place st) s names (all_named st kept) passed
+
+-- what is proved, with the assertions that the moves name
+pub proved_with : (st : List Sentence) (id : ℕ) (xs : List (Move ℕ)) (used : List ℕ) → AllMeant st → AreSteps st id xs → AreNamed st xs used
+    → OfMoves st id xs (λ place s names. Prove (IsWithin expression_limit) (take place st) s names)
+    → OfMoves st id xs (λ place s names. ProvesWith st place s names used)
+proved_with st id xs used all a named_so proved place s names proof numbered =
+    let p = proved place s names proof numbered in
     let uses = used_numbers st place xs names (tree p.label p.below none) p.kept all numbered (usable_names st id xs place s names a proof.numbered numbered) p.made in (
       p,
       record {

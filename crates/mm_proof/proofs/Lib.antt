@@ -30,6 +30,7 @@ pub mod Readings
 pub mod Compressed
 pub mod Answering
 pub mod Values
+pub mod FirstPlaces
 pub mod Named
 pub mod Replacing
 pub mod Shared

@@ -57,6 +57,11 @@ pub record IsFirstAt (n : ℕ) (variables : List (Option ℕ)) (place : ℕ) : T
   pub is : is_of n (slice_index_or variables place None) ≡ true
   pub first : (k : ℕ) → k < place → is_of n (slice_index_or variables k None) ≡ false
 
+-- each symbol that is a variable of these has its first place under its number
+abbrev pub ArePlaces : List ℕ → List (Option ℕ) → Type 0
+ArePlaces places variables =
+    (n place : ℕ) → IsFirstAt n variables place → slice_get places n ≡ Some place
+
 -- the numbers of the hypotheses
 abbrev pub AreHypothesesOf : List Sentence → List ℕ → List Sentence → Type 0
 AreHypothesesOf statements ids hypotheses = map (slice_get (labelled statements)) ids ≡ map Some hypotheses

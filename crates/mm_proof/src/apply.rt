@@ -15,6 +15,7 @@ use crate::pairs::{are_apart_pairs, has_shared_pair};
 use crate::step::{are_equal, are_right_codes, fill_variables};
 use crate::store::Store;
 use crate::substitution::substitute;
+use crate::variables::Variables;
 use mm_frame::{Book, Frame, LabelId, Sym, one_number};
 use std::alloc::Global;
 
@@ -22,7 +23,7 @@ use std::alloc::Global;
 #[derive(Drop)]
 pub(crate) struct Scratch {
     /// The variable of each mandatory hypothesis, where it is a `$f`.
-    variables: Vec<Option<Sym>>,
+    variables: Variables,
     /// What the step makes.
     made: Vec<Sym>,
 }
@@ -30,7 +31,7 @@ pub(crate) struct Scratch {
 impl Scratch {
     pub(crate) fn new(alloc: Global) -> Scratch {
         Scratch {
-            variables: Vec::new(alloc),
+            variables: Variables::new(alloc),
             made: Vec::new(alloc),
         }
     }
@@ -41,7 +42,7 @@ impl Scratch {
 fn rule_broken<S: Store>(
     store: &S,
     base: usize,
-    variables: &[Option<Sym>],
+    variables: &Variables,
     book: &Book,
     own: &Frame,
     hypotheses: &[LabelId],
@@ -51,15 +52,15 @@ fn rule_broken<S: Store>(
     requires own { own.now.statements ≡ book.now.statements }
     requires known { (hs : List Sentence) × AreHypothesesOf book.now.statements (ids_in hypotheses.now) hs }
     requires entries { base + length hypotheses.now ≡ length (S.stack store.now) }
-    requires variables { length variables.now ≡ length hypotheses.now }
+    requires variables { length variables.now.list.items ≡ length hypotheses.now }
     requires fits { length (S.stack store.now) < 2 ^ 64 }
     requires symbols { AreEntries book.now.statements (take own.now.place book.now.statements) (S.stack store.now) }
     ensures { (id at : ℕ) (hs : List Sentence) → IsCalled book.now.statements own.now.place id at (ids_in hypotheses.now) hs
-        → AreVariablesOf book.now.statements (variables_in variables.now) hs
+        → AreVariablesOf book.now.statements (variables_in variables.now.list.items) hs
         → ArePairs (record { statements = book.now.statements; place = at }) (pairs_in pairs.now)
         → MatchOption
         result
-        (IsMatched book.now.statements own.now.place hs (variables_in variables.now) (drop base (S.stack store.now)) (pairs_in pairs.now))
+        (IsMatched book.now.statements own.now.place hs (variables_in variables.now.list.items) (drop base (S.stack store.now)) (pairs_in pairs.now))
         (λ rule. StopsAt book.now.statements own.now.place id (S.stack store.now) rule) }
 {
     one_number();
@@ -88,16 +89,16 @@ fn conclude<S: Store>(
     number: usize,
 ) -> Result<(), ProofFault>
     requires sound { IsSound frame.now.statements }
-    requires entries { base + length scratch.old.variables.items ≡ length (S.stack store.old) }
+    requires entries { base + length scratch.old.variables.list.items ≡ length (S.stack store.old) }
     requires fits { length (S.stack store.old) < 2 ^ 64 }
-    ensures carried { OnOk result ((place id : ℕ) → IsReady frame.now.statements place id frame.now.place (variables_in scratch.old.variables.items) (drop base (S.stack store.old))
+    ensures carried { OnOk result ((place id : ℕ) → IsReady frame.now.statements place id frame.now.place (variables_in scratch.old.variables.list.items) (drop base (S.stack store.old))
         → CarriesOn frame.now.statements place id (S.stack store.old) (S.stack store.new)) }
-    ensures entries { OnOk result ((place id : ℕ) → IsReady frame.now.statements place id frame.now.place (variables_in scratch.old.variables.items) (drop base (S.stack store.old))
+    ensures entries { OnOk result ((place id : ℕ) → IsReady frame.now.statements place id frame.now.place (variables_in scratch.old.variables.list.items) (drop base (S.stack store.old))
         → AreEntries frame.now.statements (take place frame.now.statements) (S.stack store.old)
         → AreEntries frame.now.statements (take place frame.now.statements) (S.stack store.new)) }
     ensures kept { S.kept store.new ≡ S.kept store.old }
     ensures fault { (rule : ProofRule) → (at : ℕ) → result ≡ Err (ProofFault.Rule rule at)
-        → (at ≡ number) × ((place id : ℕ) → IsReady frame.now.statements place id frame.now.place (variables_in scratch.old.variables.items) (drop base (S.stack store.old))
+        → (at ≡ number) × ((place id : ℕ) → IsReady frame.now.statements place id frame.now.place (variables_in scratch.old.variables.list.items) (drop base (S.stack store.old))
         → StopsAt frame.now.statements place id (S.stack store.old) rule) }
 {
     one_number();

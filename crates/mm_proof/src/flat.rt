@@ -45,6 +45,17 @@ impl Flat {
             floor: 0,
         }
     }
+
+    /// Forgets everything, and keeps the memory for what comes next.
+    pub fn clear(&mut self)
+        ensures stack { ⟦<Flat as Store>⟧.stack self.new ≡ [] }
+        ensures kept { ⟦<Flat as Store>⟧.kept self.new ≡ [] }
+    {
+        self.symbols.clear();
+        self.stack.clear();
+        self.kept.clear();
+        self.floor = 0;
+    }
 }
 
 // How much of the buffer the first entries of the stack and the kept ones need.

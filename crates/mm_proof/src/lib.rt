@@ -10,6 +10,7 @@ mod lines;
 mod moves;
 mod pairs;
 mod parse;
+mod prover;
 mod rows;
 mod step;
 mod store;
@@ -17,6 +18,7 @@ mod substitution;
 #[cfg(test)]
 mod tests;
 mod used;
+mod variables;
 mod verdict;
 
 pub use fault::{ProofFault, ProofRule};
@@ -27,6 +29,7 @@ pub use laws::{
 };
 pub use lines::{Line, Name, listing};
 pub use moves::{Parsed, Steps};
+pub use prover::Prover;
 pub use rows::Rows;
 pub use store::Store;
 pub use used::Used;

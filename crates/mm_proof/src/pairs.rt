@@ -10,6 +10,7 @@ ghost use Rattle.mm_proof.specs.CodeVerify.{AreSymbols, AreEntries, SomeValues, 
 
 use crate::store::Store;
 use crate::substitution::value;
+use crate::variables::Variables;
 use mm_frame::{Book, Frame, Sym, one_number};
 
 // Whether the symbol is one of these.
@@ -109,17 +110,17 @@ fn are_apart(book: &Book, own: &Frame, e: &[Sym], f: &[Sym]) -> bool
 fn is_shared_pair<S: Store>(
     store: &S,
     base: usize,
-    variables: &[Option<Sym>],
+    variables: &Variables,
     book: &Book,
     own: &Frame,
     pair: (Sym, Sym),
 ) -> bool
     requires sound { IsSound book.now.statements }
     requires book { own.now.statements ≡ book.now.statements }
-    requires entries { base + length variables.now ≡ length (S.stack store.now) }
+    requires entries { base + length variables.now.list.items ≡ length (S.stack store.now) }
     requires fits { length (S.stack store.now) < 2 ^ 64 }
     requires symbols { AreEntries book.now.statements (take own.now.place book.now.statements) (drop base (S.stack store.now)) }
-    ensures { let before = take own.now.place book.now.statements in let σ = value_of (variables_in variables.now) (drop base (S.stack store.now)) in MatchBool
+    ensures { let before = take own.now.place book.now.statements in let σ = value_of (variables_in variables.now.list.items) (drop base (S.stack store.now)) in MatchBool
         result
         (SomeValues σ pair.0.0 pair.1.0 (λ e f. ¬ (ShareNoVariable before (named book.now.statements e) (named book.now.statements f))))
         (EachValues σ pair.0.0 pair.1.0 (λ e f. ShareNoVariable before (named book.now.statements e) (named book.now.statements f))) }
@@ -137,17 +138,17 @@ fn is_shared_pair<S: Store>(
 fn is_apart_pair<S: Store>(
     store: &S,
     base: usize,
-    variables: &[Option<Sym>],
+    variables: &Variables,
     book: &Book,
     own: &Frame,
     pair: (Sym, Sym),
 ) -> bool
     requires sound { IsSound book.now.statements }
     requires book { own.now.statements ≡ book.now.statements }
-    requires entries { base + length variables.now ≡ length (S.stack store.now) }
+    requires entries { base + length variables.now.list.items ≡ length (S.stack store.now) }
     requires fits { length (S.stack store.now) < 2 ^ 64 }
     requires symbols { AreEntries book.now.statements (take own.now.place book.now.statements) (drop base (S.stack store.now)) }
-    ensures { let before = take own.now.place book.now.statements in let σ = value_of (variables_in variables.now) (drop base (S.stack store.now)) in MatchBool
+    ensures { let before = take own.now.place book.now.statements in let σ = value_of (variables_in variables.now.list.items) (drop base (S.stack store.now)) in MatchBool
         result
         (EachValues σ pair.0.0 pair.1.0 (λ e f. AreDistinct before (named book.now.statements e) (named book.now.statements f)))
         (SomeValues σ pair.0.0 pair.1.0 (λ e f. ¬ (AreDistinct before (named book.now.statements e) (named book.now.statements f)))) }
@@ -165,17 +166,17 @@ fn is_apart_pair<S: Store>(
 pub(crate) fn has_shared_pair<S: Store>(
     store: &S,
     base: usize,
-    variables: &[Option<Sym>],
+    variables: &Variables,
     book: &Book,
     own: &Frame,
     pairs: &[(Sym, Sym)],
 ) -> bool
     requires sound { IsSound book.now.statements }
     requires book { own.now.statements ≡ book.now.statements }
-    requires entries { base + length variables.now ≡ length (S.stack store.now) }
+    requires entries { base + length variables.now.list.items ≡ length (S.stack store.now) }
     requires fits { length (S.stack store.now) < 2 ^ 64 }
     requires symbols { AreEntries book.now.statements (take own.now.place book.now.statements) (drop base (S.stack store.now)) }
-    ensures { let before = take own.now.place book.now.statements in let σ = value_of (variables_in variables.now) (drop base (S.stack store.now)) in MatchBool
+    ensures { let before = take own.now.place book.now.statements in let σ = value_of (variables_in variables.now.list.items) (drop base (S.stack store.now)) in MatchBool
         result
         (SomePairValues σ (pairs_in pairs.now) (λ e f. ¬ (ShareNoVariable before (named book.now.statements e) (named book.now.statements f))))
         (EachPairValues σ (pairs_in pairs.now) (λ e f. ShareNoVariable before (named book.now.statements e) (named book.now.statements f))) }
@@ -192,17 +193,17 @@ pub(crate) fn has_shared_pair<S: Store>(
 pub(crate) fn are_apart_pairs<S: Store>(
     store: &S,
     base: usize,
-    variables: &[Option<Sym>],
+    variables: &Variables,
     book: &Book,
     own: &Frame,
     pairs: &[(Sym, Sym)],
 ) -> bool
     requires sound { IsSound book.now.statements }
     requires book { own.now.statements ≡ book.now.statements }
-    requires entries { base + length variables.now ≡ length (S.stack store.now) }
+    requires entries { base + length variables.now.list.items ≡ length (S.stack store.now) }
     requires fits { length (S.stack store.now) < 2 ^ 64 }
     requires symbols { AreEntries book.now.statements (take own.now.place book.now.statements) (drop base (S.stack store.now)) }
-    ensures { let before = take own.now.place book.now.statements in let σ = value_of (variables_in variables.now) (drop base (S.stack store.now)) in MatchBool
+    ensures { let before = take own.now.place book.now.statements in let σ = value_of (variables_in variables.now.list.items) (drop base (S.stack store.now)) in MatchBool
         result
         (EachPairValues σ (pairs_in pairs.now) (λ e f. AreDistinct before (named book.now.statements e) (named book.now.statements f)))
         (SomePairValues σ (pairs_in pairs.now) (λ e f. ¬ (AreDistinct before (named book.now.statements e) (named book.now.statements f)))) }

@@ -13,6 +13,7 @@ ghost use Rattle.mm_proof.specs.Proof.{SomePair};
 
 use crate::store::Store;
 use crate::substitution::is_replaced;
+use crate::variables::Variables;
 use mm_frame::{Book, LabelId, LabelKind, Sym, one_number};
 use std::alloc::AllocError;
 
@@ -39,13 +40,13 @@ fn variable_of(book: &Book, id: LabelId) -> Option<Sym>
 
 // The variables of the hypotheses.
 pub(crate) fn fill_variables(
-    variables: &mut Vec<Option<Sym>>,
+    variables: &mut Variables,
     book: &Book,
     hypotheses: &[LabelId],
 ) -> Result<(), AllocError>
     requires sound { IsSound book.now.statements }
     requires known { (hs : List Sentence) × AreHypothesesOf book.now.statements (ids_in hypotheses.now) hs }
-    ensures { OnOk result ((hs : List Sentence) → AreHypothesesOf book.now.statements (ids_in hypotheses.now) hs → AreVariablesOf book.now.statements (variables_in variables.new.items) hs) }
+    ensures { OnOk result ((hs : List Sentence) → AreHypothesesOf book.now.statements (ids_in hypotheses.now) hs → AreVariablesOf book.now.statements (variables_in variables.new.list.items) hs) }
 {
     variables.clear();
     for id in hypotheses {
@@ -105,17 +106,17 @@ pub(crate) fn are_right_codes<S: Store>(
 fn is_equal<S: Store>(
     store: &S,
     base: usize,
-    variables: &[Option<Sym>],
+    variables: &Variables,
     book: &Book,
     id: LabelId,
     entry: &[Sym],
 ) -> bool
     requires named { id.0 < length (labelled book.now.statements) }
-    requires entries { base + length variables.now ≡ length (S.stack store.now) }
+    requires entries { base + length variables.now.list.items ≡ length (S.stack store.now) }
     requires fits { length (S.stack store.now) < 2 ^ 64 }
     requires below { AllByRecursion (AreBelow book.now.statements) (drop base (S.stack store.now)) }
     requires entry { AreBelow book.now.statements (numbers_in entry.now) }
-    ensures { (σ : List ℕ → Option (List (List ℕ))) → Replaces book.now.statements σ (variables_in variables.now) (drop base (S.stack store.now))
+    ensures { (σ : List ℕ → Option (List (List ℕ))) → Replaces book.now.statements σ (variables_in variables.now.list.items) (drop base (S.stack store.now))
         → (h : Sentence) → slice_get (labelled book.now.statements) id.0 ≡ Some h
         → MatchBool result (IsEqual σ h (named book.now.statements (numbers_in entry.now))) (IsUnequal σ h (named book.now.statements (numbers_in entry.now))) }
 {
@@ -130,16 +131,16 @@ fn is_equal<S: Store>(
 pub(crate) fn are_equal<S: Store>(
     store: &S,
     base: usize,
-    variables: &[Option<Sym>],
+    variables: &Variables,
     book: &Book,
     hypotheses: &[LabelId],
 ) -> bool
     requires known { (hs : List Sentence) × AreHypothesesOf book.now.statements (ids_in hypotheses.now) hs }
     requires entries { base + length hypotheses.now ≡ length (S.stack store.now) }
-    requires variables { length variables.now ≡ length hypotheses.now }
+    requires variables { length variables.now.list.items ≡ length hypotheses.now }
     requires fits { length (S.stack store.now) < 2 ^ 64 }
     requires below { AllByRecursion (AreBelow book.now.statements) (drop base (S.stack store.now)) }
-    ensures { (σ : List ℕ → Option (List (List ℕ))) → Replaces book.now.statements σ (variables_in variables.now) (drop base (S.stack store.now))
+    ensures { (σ : List ℕ → Option (List (List ℕ))) → Replaces book.now.statements σ (variables_in variables.now.list.items) (drop base (S.stack store.now))
         → (hs : List Sentence) → AreHypothesesOf book.now.statements (ids_in hypotheses.now) hs
         → MatchBool result (EachEntry hs (all_named book.now.statements (drop base (S.stack store.now))) (IsEqual σ)) (SomePair hs (all_named book.now.statements (drop base (S.stack store.now))) (IsUnequal σ)) }
 {

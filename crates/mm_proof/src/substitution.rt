@@ -6,32 +6,12 @@ ghost use Rattle.mm_proof.specs.Stores.{numbers_in};
 ghost use Rattle.mm_proof.specs.CodeVerify.{variables_in, is_of, value_of, replaced_in, IsNowhere, IsFirstAt};
 
 use crate::store::Store;
+use crate::variables::Variables;
 use mm_frame::Sym;
 use std::alloc::AllocError;
 
 /// The most symbols of an expression on the stack, its type code counted.
 pub(crate) const EXPRESSION_LIMIT: usize = 1_048_576;
-
-fn is_variable_of(variable: Option<Sym>, symbol: Sym) -> bool
-    ensures { result ≡ is_of symbol.0 (option_map (λ s. s.0) variable) }
-{
-    match variable {
-        Some(found) => found.0 == symbol.0,
-        None => false,
-    }
-}
-
-// The place of the hypothesis that types the symbol.
-fn place_of(variables: &[Option<Sym>], symbol: Sym) -> Option<usize>
-    ensures { MatchOption result (IsNowhere symbol.0 (variables_in variables.now)) (λ place. IsFirstAt symbol.0 (variables_in variables.now) place) }
-{
-    for (place, variable) in variables.iter().enumerate() {
-        if is_variable_of(*variable, symbol) {
-            return Some(place);
-        }
-    }
-    None
-}
 
 fn after_first(entry: &[Sym]) -> &[Sym]
     ensures { numbers_in result.now ≡ drop 1 (numbers_in entry.now) }
@@ -47,14 +27,14 @@ fn after_first(entry: &[Sym]) -> &[Sym]
 pub(crate) fn value<'s, S: Store>(
     store: &'s S,
     base: usize,
-    variables: &[Option<Sym>],
+    variables: &Variables,
     symbol: Sym,
 ) -> Option<&'s [Sym]>
-    requires entries { base + length variables.now ≡ length (S.stack store.now) }
+    requires entries { base + length variables.now.list.items ≡ length (S.stack store.now) }
     requires fits { length (S.stack store.now) < 2 ^ 64 }
-    ensures { option_map (λ v. numbers_in v.now) result ≡ value_of (variables_in variables.now) (drop base (S.stack store.now)) symbol.0 }
+    ensures { option_map (λ v. numbers_in v.now) result ≡ value_of (variables_in variables.now.list.items) (drop base (S.stack store.now)) symbol.0 }
 {
-    match place_of(variables, symbol) {
+    match variables.place_of(symbol) {
         Some(place) => Some(after_first(store.at(base + place))),
         None => None,
     }
@@ -89,13 +69,13 @@ pub(crate) fn is_same(symbols: &[Sym], others: &[Sym]) -> bool
 fn after_replaced<'e, S: Store>(
     store: &S,
     base: usize,
-    variables: &[Option<Sym>],
+    variables: &Variables,
     symbol: Sym,
     symbols: &'e [Sym],
 ) -> Option<&'e [Sym]>
-    requires entries { base + length variables.now ≡ length (S.stack store.now) }
+    requires entries { base + length variables.now.list.items ≡ length (S.stack store.now) }
     requires fits { length (S.stack store.now) < 2 ^ 64 }
-    ensures { let front = unwrap_or (value_of (variables_in variables.now) (drop base (S.stack store.now)) symbol.0) (symbol.0 ∷ []) in MatchOption
+    ensures { let front = unwrap_or (value_of (variables_in variables.now.list.items) (drop base (S.stack store.now)) symbol.0) (symbol.0 ∷ []) in MatchOption
         result
         ((rest : List ℕ) → ¬ (numbers_in symbols.now ≡ front ++ rest))
         (λ rest. numbers_in symbols.now ≡ front ++ numbers_in rest.now) }
@@ -110,13 +90,13 @@ fn after_replaced<'e, S: Store>(
 pub(crate) fn is_replaced<S: Store>(
     store: &S,
     base: usize,
-    variables: &[Option<Sym>],
+    variables: &Variables,
     pattern: &[Sym],
     symbols: &[Sym],
 ) -> bool
-    requires entries { base + length variables.now ≡ length (S.stack store.now) }
+    requires entries { base + length variables.now.list.items ≡ length (S.stack store.now) }
     requires fits { length (S.stack store.now) < 2 ^ 64 }
-    ensures { IsTrue result ↔ (numbers_in symbols.now ≡ replaced_in (value_of (variables_in variables.now) (drop base (S.stack store.now))) (numbers_in pattern.now)) }
+    ensures { IsTrue result ↔ (numbers_in symbols.now ≡ replaced_in (value_of (variables_in variables.now.list.items) (drop base (S.stack store.now))) (numbers_in pattern.now)) }
 {
     let mut rest = symbols;
     for symbol in pattern {
@@ -133,12 +113,12 @@ fn append_replaced<S: Store>(
     made: &mut Vec<Sym>,
     store: &S,
     base: usize,
-    variables: &[Option<Sym>],
+    variables: &Variables,
     symbol: Sym,
 ) -> Result<(), AllocError>
-    requires entries { base + length variables.now ≡ length (S.stack store.now) }
+    requires entries { base + length variables.now.list.items ≡ length (S.stack store.now) }
     requires fits { length (S.stack store.now) < 2 ^ 64 }
-    ensures { IfOk result (λ u. numbers_in made.new.items ≡ numbers_in made.old.items ++ unwrap_or (value_of (variables_in variables.now) (drop base (S.stack store.now)) symbol.0) (symbol.0 ∷ [])) }
+    ensures { IfOk result (λ u. numbers_in made.new.items ≡ numbers_in made.old.items ++ unwrap_or (value_of (variables_in variables.now.list.items) (drop base (S.stack store.now)) symbol.0) (symbol.0 ∷ [])) }
 {
     match value(store, base, variables, symbol) {
         Some(value) => made.extend_from_slice(value)?,
@@ -152,12 +132,12 @@ pub(crate) fn substitute<S: Store>(
     made: &mut Vec<Sym>,
     store: &S,
     base: usize,
-    variables: &[Option<Sym>],
+    variables: &Variables,
     pattern: &[Sym],
 ) -> Result<bool, AllocError>
-    requires entries { base + length variables.now ≡ length (S.stack store.now) }
+    requires entries { base + length variables.now.list.items ≡ length (S.stack store.now) }
     requires fits { length (S.stack store.now) < 2 ^ 64 }
-    ensures { IfOk result (λ fits. let whole = replaced_in (value_of (variables_in variables.now) (drop base (S.stack store.now))) (numbers_in pattern.now) in MatchBool
+    ensures { IfOk result (λ fits. let whole = replaced_in (value_of (variables_in variables.now.list.items) (drop base (S.stack store.now))) (numbers_in pattern.now) in MatchBool
         fits
         ((length whole ≤ 1048576) × (numbers_in made.new.items ≡ whole))
         (1048576 < length whole)) }

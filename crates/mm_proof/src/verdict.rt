@@ -100,8 +100,8 @@ pub(crate) fn mark<S: Store>(store: &mut S, number: usize) -> Result<(), ProofFa
 
 // All moves, one after the other: how many are steps.
 fn run<S: Store>(
-    alloc: Global,
     store: &mut S,
+    scratch: &mut Scratch,
     book: &Book,
     own: &Frame,
     moves: &[NumberedMove],
@@ -117,13 +117,12 @@ fn run<S: Store>(
         → (names : List (Move (List ℕ))) → AreNumberedMoves book.now.statements (moves_in moves.now) names
         → IsMoveFault (IsWithin expression_limit) (take own.now.place book.now.statements) names rule at }
 {
-    let mut scratch = Scratch::new(alloc);
     let mut steps = 0;
     let mut kept = 0;
     for one in moves {
         match one {
             NumberedMove::Name(id) => {
-                step(store, book, own, *id, steps + 1, &mut scratch)?;
+                step(store, book, own, *id, steps + 1, scratch)?;
                 steps += 1;
             }
             NumberedMove::Again(tag) => {
@@ -186,6 +185,33 @@ pub(crate) fn ending<S: Store>(
     Ok(())
 }
 
+// Whether the moves derive the expression of the `$p`, whose frame is handed in, or their first
+// fault.
+pub(crate) fn derive<S: Store>(
+    store: &mut S,
+    scratch: &mut Scratch,
+    book: &Book,
+    own: &Frame,
+    id: LabelId,
+    moves: &[NumberedMove],
+) -> Result<(), ProofFault>
+    requires own { own.now.statements ≡ book.now.statements }
+    requires number { (s : Sentence) × IsNumbered book.now.statements id.0 own.now.place s }
+    requires sound { IsSound book.now.statements }
+    requires stack { S.stack store.old ≡ [] }
+    requires kept { S.kept store.old ≡ [] }
+    requires steps { AreSteps book.now.statements id.0 (moves_in moves.now) }
+    ensures proved { OnOk result (OfMoves book.now.statements id.0 (moves_in moves.now)
+        (λ place s names. Prove (IsWithin expression_limit) (take place book.now.statements) s names)) }
+    ensures fault { IfErr result (λ e. OnRule e (λ rule step. OfMoves book.now.statements id.0 (moves_in moves.now)
+        (λ place s names. IsMovesFault (IsWithin expression_limit) (take place book.now.statements) s names rule step))) }
+{
+    one_number();
+    let count = run(store, scratch, book, own, moves)?;
+    ending(store, own.expression(), count + 1)?;
+    Ok(())
+}
+
 // The assertions of the tree that the moves make, or their first fault, where the frame is that of
 // the `$p`.
 fn judged_frame<S: Store>(
@@ -207,9 +233,8 @@ fn judged_frame<S: Store>(
     ensures fault { IfErr result (λ e. OnRule e (λ rule step. OfMoves book.now.statements id.0 (moves_in moves.now)
         (λ place s names. IsMovesFault (IsWithin expression_limit) (take place book.now.statements) s names rule step))) }
 {
-    one_number();
-    let count = run(alloc, store, book, own, moves)?;
-    ending(store, own.expression(), count + 1)?;
+    let mut scratch = Scratch::new(alloc);
+    derive(store, &mut scratch, book, own, id, moves)?;
     Ok(used_by(alloc, book, moves)?)
 }
 

@@ -1,16 +1,14 @@
-use Rattle.std.proofs.Common.{◌≡◌, ◌<◌, List, Option, option_map, ◌-◌, length, drop, take, sym, ap, subst, ◌∙◌, arith}
+use Rattle.std.proofs.Common.{◌≡◌, ◌<◌, List, option_map, ◌-◌, length, drop, take, sym, subst, arith}
 use Rattle.std.proofs.lemmas.List.{length-map}
 use Rattle.std.proofs.lemmas.Result.{IfOk-weaker}
-use Rattle.mm_frame.specs.declared.number.Sym.{Sym}
 use Rattle.mm_frame.specs.Sentence.{Sentence}
 use Rattle.mm_frame.specs.Form.{IsSound}
 use Rattle.mm_frame.specs.FramePlace.{ArePairs}
 use Rattle.mm_proof.specs.declared.fault.ProofRule.{ProofRule}
 use Rattle.mm_proof.specs.declared.fault.ProofRule.TheVariants.{P8}
 use Rattle.mm_proof.specs.CodeSteps.{ids_in}
-use Rattle.mm_proof.specs.CodeVerify.{AreHypothesesOf, AreVariablesOf, AreEntries, variables_in, pairs_in}
+use Rattle.mm_proof.specs.CodeVerify.{AreHypothesesOf, AreEntries, variables_in, pairs_in}
 use Rattle.mm_proof.specs.CodeRun.{CarriesOn, StopsAt}
-use Rattle.mm_proof.specs.CodeApply.{IsMatched}
 use Rattle.mm_proof.proofs.Named.{as_many}
 use Rattle.mm_proof.proofs.Applying.{stops_P8, called_of, ready_of, typed_count}
 use Rattle.mm_proof.proofs.apply.apply_frame.Goals as goal
@@ -40,14 +38,14 @@ rule_broken-rule-requires-clause-variables g c =
     let h = c.hypotheses-hypotheses.ensures in
     let ids = ids_in c.hypotheses-hypotheses.result.now in
     let known = subst (λ (l : List Sentence). AreHypothesesOf l ids h.hypotheses) c.requires.frame h.numbered in
-    let count : length c.fill_variables.new.variables.items ≡ length c.hypotheses-hypotheses.result.now =
+    let count : length c.fill_variables.new.variables.list.items ≡ length c.hypotheses-hypotheses.result.now =
     omega (
       arith,
-      length-map c.fill_variables.new.variables.items (λ v. option_map (λ s. s.0) v),
-      typed_count st (variables_in c.fill_variables.new.variables.items) h.hypotheses (c.in_ok-fill_variables.ensures h.hypotheses known),
+      length-map c.fill_variables.new.variables.list.items (λ v. option_map (λ s. s.0) v),
+      typed_count st (variables_in c.fill_variables.new.variables.list.items) h.hypotheses (c.in_ok-fill_variables.ensures h.hypotheses known),
       as_many st c.hypotheses-hypotheses.result.now h.hypotheses known,
     ) in
-    ap length c.deref.ensures.value ∙ count
+    count
 
 pub conclude-requires-clause-sound : goal.conclude-requires-clause-sound
 conclude-requires-clause-sound g c = subst IsSound (sym c.requires.frame) c.requires.sound
@@ -60,11 +58,11 @@ conclude-requires-clause-entries g c =
     let h = c.hypotheses-hypotheses.ensures in
     let ids = ids_in c.hypotheses-hypotheses.result.now in
     let known = subst (λ (l : List Sentence). AreHypothesesOf l ids h.hypotheses) c.requires.frame h.numbered in
-    let count : length c.fill_variables.new.variables.items ≡ length c.hypotheses-hypotheses.result.now =
+    let count : length c.fill_variables.new.variables.list.items ≡ length c.hypotheses-hypotheses.result.now =
     omega (
       arith,
-      length-map c.fill_variables.new.variables.items (λ v. option_map (λ s. s.0) v),
-      typed_count st (variables_in c.fill_variables.new.variables.items) h.hypotheses (c.in_ok-fill_variables.ensures h.hypotheses known),
+      length-map c.fill_variables.new.variables.list.items (λ v. option_map (λ s. s.0) v),
+      typed_count st (variables_in c.fill_variables.new.variables.list.items) h.hypotheses (c.in_ok-fill_variables.ensures h.hypotheses known),
       as_many st c.hypotheses-hypotheses.result.now h.hypotheses known,
     ) in
     omega (arith, count, c.len-count.ensures, c.if-count-hypotheses.false)
@@ -82,9 +80,8 @@ returns-in-Some-clause-fault g c rule step is =
           let ids = ids_in c.hypotheses-hypotheses.result.now in
           let called = called_of st c.args.frame.now.statements c.args.own.now.place id at ids c.requires.assertion.0 s c.requires.frame h c.requires.assertion.1 c.requires.assertion.2 c.requires.before n in
           let typed = c.in_ok-fill_variables.ensures h.hypotheses called.known in
-          let typed_in = subst (λ (items : List (Option Sym)). AreVariablesOf st (variables_in items) h.hypotheses) (sym c.deref.ensures.value) typed in
           let pairs = subst (λ (l : List Sentence). ArePairs (record { statements = l; place = at }) (pairs_in c.pairs.result.now)) c.requires.frame c.pairs.ensures in
-          subst (λ (r : ProofRule). StopsAt st c.args.own.now.place id stack r) same (c.in-Some.ensures id at h.hypotheses called typed_in pairs),
+          subst (λ (r : ProofRule). StopsAt st c.args.own.now.place id stack r) same (c.in-Some.ensures id at h.hypotheses called typed pairs),
     )
 
 pub returns-in-None-clause-carried : goal.returns-in-None-clause-carried
@@ -96,12 +93,10 @@ returns-in-None-clause-carried g c = IfOk-weaker c.conclude.result _ _ (λ u car
     let ids = ids_in c.hypotheses-hypotheses.result.now in
     let called = called_of st c.args.frame.now.statements c.args.own.now.place id at ids c.requires.assertion.0 s c.requires.frame h c.requires.assertion.1 c.requires.assertion.2 c.requires.before n in
     let typed = c.in_ok-fill_variables.ensures h.hypotheses called.known in
-    let typed_in = subst (λ (items : List (Option Sym)). AreVariablesOf st (variables_in items) h.hypotheses) (sym c.deref.ensures.value) typed in
     let pairs = subst (λ (l : List Sentence). ArePairs (record { statements = l; place = at }) (pairs_in c.pairs.result.now)) c.requires.frame c.pairs.ensures in
-    let matched = c.in-None.ensures id at h.hypotheses called typed_in pairs in
+    let matched = c.in-None.ensures id at h.hypotheses called typed pairs in
     let base = c.len-count.result - length c.hypotheses-hypotheses.result.now in
-    let matched_in = subst (λ (items : List (Option Sym)). IsMatched st c.args.own.now.place h.hypotheses (variables_in items) (drop base stack) (pairs_in c.pairs.result.now)) c.deref.ensures.value matched in
-    let ready = ready_of st c.args.frame.now.statements c.args.own.now.place id at (variables_in c.fill_variables.new.variables.items) (drop base stack) ids h.hypotheses (pairs_in c.pairs.result.now) c.requires.frame called typed pairs matched_in in
+    let ready = ready_of st c.args.frame.now.statements c.args.own.now.place id at (variables_in c.fill_variables.new.variables.list.items) (drop base stack) ids h.hypotheses (pairs_in c.pairs.result.now) c.requires.frame called typed pairs matched in
     subst (λ (l : List Sentence). CarriesOn l c.args.own.now.place id stack (g.S.Store.stack c.conclude.new.store)) c.requires.frame (carried c.args.own.now.place id ready)) c.conclude.ensures.carried
 
 pub returns-in-None-clause-entries : goal.returns-in-None-clause-entries
@@ -113,12 +108,10 @@ returns-in-None-clause-entries g c = IfOk-weaker c.conclude.result _ _ (λ u ent
     let ids = ids_in c.hypotheses-hypotheses.result.now in
     let called = called_of st c.args.frame.now.statements c.args.own.now.place id at ids c.requires.assertion.0 s c.requires.frame h c.requires.assertion.1 c.requires.assertion.2 c.requires.before n in
     let typed = c.in_ok-fill_variables.ensures h.hypotheses called.known in
-    let typed_in = subst (λ (items : List (Option Sym)). AreVariablesOf st (variables_in items) h.hypotheses) (sym c.deref.ensures.value) typed in
     let pairs = subst (λ (l : List Sentence). ArePairs (record { statements = l; place = at }) (pairs_in c.pairs.result.now)) c.requires.frame c.pairs.ensures in
-    let matched = c.in-None.ensures id at h.hypotheses called typed_in pairs in
+    let matched = c.in-None.ensures id at h.hypotheses called typed pairs in
     let base = c.len-count.result - length c.hypotheses-hypotheses.result.now in
-    let matched_in = subst (λ (items : List (Option Sym)). IsMatched st c.args.own.now.place h.hypotheses (variables_in items) (drop base stack) (pairs_in c.pairs.result.now)) c.deref.ensures.value matched in
-    let ready = ready_of st c.args.frame.now.statements c.args.own.now.place id at (variables_in c.fill_variables.new.variables.items) (drop base stack) ids h.hypotheses (pairs_in c.pairs.result.now) c.requires.frame called typed pairs matched_in in
+    let ready = ready_of st c.args.frame.now.statements c.args.own.now.place id at (variables_in c.fill_variables.new.variables.list.items) (drop base stack) ids h.hypotheses (pairs_in c.pairs.result.now) c.requires.frame called typed pairs matched in
     let before = subst (λ (l : List Sentence). AreEntries l (take c.args.own.now.place l) stack) (sym c.requires.frame) c.requires.entries in
     subst (λ (l : List Sentence). AreEntries l (take c.args.own.now.place l) (g.S.Store.stack c.conclude.new.store)) c.requires.frame (entries c.args.own.now.place id ready before)) c.conclude.ensures.entries
 
@@ -134,11 +127,9 @@ returns-in-None-clause-fault g c rule step is =
           let ids = ids_in c.hypotheses-hypotheses.result.now in
           let called = called_of st c.args.frame.now.statements c.args.own.now.place id at ids c.requires.assertion.0 s c.requires.frame h c.requires.assertion.1 c.requires.assertion.2 c.requires.before n in
           let typed = c.in_ok-fill_variables.ensures h.hypotheses called.known in
-          let typed_in = subst (λ (items : List (Option Sym)). AreVariablesOf st (variables_in items) h.hypotheses) (sym c.deref.ensures.value) typed in
           let pairs = subst (λ (l : List Sentence). ArePairs (record { statements = l; place = at }) (pairs_in c.pairs.result.now)) c.requires.frame c.pairs.ensures in
-          let matched = c.in-None.ensures id at h.hypotheses called typed_in pairs in
+          let matched = c.in-None.ensures id at h.hypotheses called typed pairs in
           let base = c.len-count.result - length c.hypotheses-hypotheses.result.now in
-          let matched_in = subst (λ (items : List (Option Sym)). IsMatched st c.args.own.now.place h.hypotheses (variables_in items) (drop base stack) (pairs_in c.pairs.result.now)) c.deref.ensures.value matched in
-          let ready = ready_of st c.args.frame.now.statements c.args.own.now.place id at (variables_in c.fill_variables.new.variables.items) (drop base stack) ids h.hypotheses (pairs_in c.pairs.result.now) c.requires.frame called typed pairs matched_in in
+          let ready = ready_of st c.args.frame.now.statements c.args.own.now.place id at (variables_in c.fill_variables.new.variables.list.items) (drop base stack) ids h.hypotheses (pairs_in c.pairs.result.now) c.requires.frame called typed pairs matched in
           subst (λ (l : List Sentence). StopsAt l c.args.own.now.place id stack rule) c.requires.frame (fault.1 c.args.own.now.place id ready),
     )

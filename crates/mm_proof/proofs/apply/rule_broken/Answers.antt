@@ -25,7 +25,7 @@ returns-then-not-are_equal g c id at hs called typed mandatory =
     let stack = g.S.Store.stack c.args.store.now in
     let paired : length (drop c.args.base stack) ≡ length hs =
     omega (arith, length-drop c.args.base stack, c.requires.entries, as_many st c.args.hypotheses.now hs called.known) in
-    let r = replaces_by c.one_number.ensures st (variables_in c.args.variables.now) hs (drop c.args.base stack) typed in
+    let r = replaces_by c.one_number.ensures st (variables_in c.args.variables.now.list.items) hs (drop c.args.base stack) typed in
     stops_P10 st c.args.own.now.place id at _ hs stack c.args.base c.requires.sound.0 called paired (c.if-not-are_right_codes.ensures hs called.known)
     (c.if-not-are_equal.ensures (replaced_by hs (all_named st (drop c.args.base stack))) r hs called.known)
 
@@ -35,8 +35,8 @@ returns-then-has_shared_pair g c id at hs called typed mandatory =
     let stack = g.S.Store.stack c.args.store.now in
     let paired : length (drop c.args.base stack) ≡ length hs =
     omega (arith, length-drop c.args.base stack, c.requires.entries, as_many st c.args.hypotheses.now hs called.known) in
-    let r = replaces_by c.one_number.ensures st (variables_in c.args.variables.now) hs (drop c.args.base stack) typed in
-    stops_P11 c.one_number.ensures st c.args.own.now.place id at _ hs stack c.args.base (variables_in c.args.variables.now) (pairs_in c.args.pairs.now) c.requires.sound.0 called paired typed mandatory
+    let r = replaces_by c.one_number.ensures st (variables_in c.args.variables.now.list.items) hs (drop c.args.base stack) typed in
+    stops_P11 c.one_number.ensures st c.args.own.now.place id at _ hs stack c.args.base (variables_in c.args.variables.now.list.items) (pairs_in c.args.pairs.now) c.requires.sound.0 called paired typed mandatory
     (c.if-not-are_right_codes.ensures hs called.known) (c.if-not-are_equal.ensures (replaced_by hs (all_named st (drop c.args.base stack))) r hs called.known)
     c.if-has_shared_pair.ensures
 
@@ -46,7 +46,7 @@ returns-then-not-are_apart_pairs g c id at hs called typed mandatory =
     let stack = g.S.Store.stack c.args.store.now in
     let paired : length (drop c.args.base stack) ≡ length hs =
     omega (arith, length-drop c.args.base stack, c.requires.entries, as_many st c.args.hypotheses.now hs called.known) in
-    let r = replaces_by c.one_number.ensures st (variables_in c.args.variables.now) hs (drop c.args.base stack) typed in
-    stops_P12 c.one_number.ensures st c.args.own.now.place id at _ hs stack c.args.base (variables_in c.args.variables.now) (pairs_in c.args.pairs.now) c.requires.sound.0 called paired typed mandatory
+    let r = replaces_by c.one_number.ensures st (variables_in c.args.variables.now.list.items) hs (drop c.args.base stack) typed in
+    stops_P12 c.one_number.ensures st c.args.own.now.place id at _ hs stack c.args.base (variables_in c.args.variables.now.list.items) (pairs_in c.args.pairs.now) c.requires.sound.0 called paired typed mandatory
     (c.if-not-are_right_codes.ensures hs called.known) (c.if-not-are_equal.ensures (replaced_by hs (all_named st (drop c.args.base stack))) r hs called.known)
     c.if-has_shared_pair.ensures c.if-not-are_apart_pairs.ensures

@@ -1,11 +1,11 @@
-use Rattle.std.proofs.Common.{arith, inl, inr, subst, sym, ◌<◌, ◌∙◌, length, List, take}
+use Rattle.std.proofs.Common.{arith, inl, inr, subst, sym, ◌∙◌, List, take}
 use Rattle.mm_frame.specs.Sentence.{Sentence}
 use Rattle.mm_frame.specs.Active.{IsActive}
-use Rattle.mm_frame.specs.Numbers.{labelled, IsNumbered}
+use Rattle.mm_frame.specs.Numbers.{IsNumbered}
 use Rattle.std.proofs.lemmas.Bool.{false≢true}
 use Rattle.mm_proof.proofs.Meaning.{some_in_front}
 use Rattle.mm_proof.proofs.Places.{get_take}
-use Rattle.mm_proof.proofs.Numbered.{numbered_below, numbers_order, not_earlier}
+use Rattle.mm_proof.proofs.Numbered.{numbers_order, not_earlier}
 use Rattle.mm_proof.proofs.labels.use_of.Goals as goal
 
 pub returns-in-Assertion : goal.returns-in-Assertion

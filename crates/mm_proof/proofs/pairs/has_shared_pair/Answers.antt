@@ -10,7 +10,7 @@ returns-then-is_shared_pair g c = (c.loop-pair.pair-index, _, pair_at c.args.pai
 
 pub loop-pair-preserved : goal.loop-pair-preserved
 loop-pair-preserved g c =
-    pairs_more (value_of (variables_in c.args.variables.now) (drop c.args.base (g.S.Store.stack c.args.store.now))) c.args.pairs.now
+    pairs_more (value_of (variables_in c.args.variables.now.list.items) (drop c.args.base (g.S.Store.stack c.args.store.now))) c.args.pairs.now
     (λ e f. ShareNoVariable (take c.args.own.now.place c.args.book.now.statements) (named c.args.book.now.statements e) (named c.args.book.now.statements f))
     c.loop-pair.pair-index no_pair c.loop-pair-test.true c.loop-pair.invariant c.if-is_shared_pair.ensures
 

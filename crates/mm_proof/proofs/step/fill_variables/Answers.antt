@@ -7,4 +7,4 @@ variable_of-requires-clause-named c = id_below c.args.book.now.statements c.args
 pub loop-id-preserved : goal.loop-id-preserved
 loop-id-preserved c hs are =
     let at = hypothesis_at c.args.book.now.statements c.args.hypotheses.now hs c.loop-id.id-index (record { 0 = 0 }) are c.loop-id-test.true in
-    rw c.in_ok-push.ensures.items (variables_more c.args.book.now.statements c.loop-id.variables.items c.variable_of.result hs c.loop-id.id-index at.0 at.1 (c.loop-id.invariant hs are) (c.variable_of.ensures at.0 at.2))
+    rw c.in_ok-push.ensures (variables_more c.args.book.now.statements c.loop-id.variables.list.items c.variable_of.result hs c.loop-id.id-index at.0 at.1 (c.loop-id.invariant hs are) (c.variable_of.ensures at.0 at.2))

@@ -9,18 +9,18 @@ use Rattle.mm_proof.proofs.substitution.is_replaced.Goals as goal
 pub returns-in-None : goal.returns-in-None
 returns-in-None g c = (
   λ f. absurd (false≢true f),
-  λ is. absurd (replaced_none (value_of (variables_in c.args.variables.now) (drop c.args.base (g.S.Store.stack c.args.store.now))) c.args.pattern.now
+  λ is. absurd (replaced_none (value_of (variables_in c.args.variables.now.list.items) (drop c.args.base (g.S.Store.stack c.args.store.now))) c.args.pattern.now
       c.loop-symbol.symbol-index no_symbol (numbers_in c.args.symbols.now) (numbers_in c.loop-symbol.rest.now) c.loop-symbol-test.true c.loop-symbol.invariant c.in-None.ensures is),
 )
 
 pub loop-symbol-preserved : goal.loop-symbol-preserved
 loop-symbol-preserved g c =
-    replaced_step (value_of (variables_in c.args.variables.now) (drop c.args.base (g.S.Store.stack c.args.store.now))) c.args.pattern.now
+    replaced_step (value_of (variables_in c.args.variables.now.list.items) (drop c.args.base (g.S.Store.stack c.args.store.now))) c.args.pattern.now
     c.loop-symbol.symbol-index no_symbol (numbers_in c.args.symbols.now) (numbers_in c.loop-symbol.rest.now) (numbers_in c.in-Some.others.now) c.loop-symbol-test.true
     c.loop-symbol.invariant c.in-Some.ensures
 
 pub returns : goal.returns
 returns g c =
-    replaced_end (value_of (variables_in c.args.variables.now) (drop c.args.base (g.S.Store.stack c.args.store.now))) c.args.pattern.now
+    replaced_end (value_of (variables_in c.args.variables.now.list.items) (drop c.args.base (g.S.Store.stack c.args.store.now))) c.args.pattern.now
     c.loop-symbol.symbol-index (numbers_in c.args.symbols.now) c.loop-symbol.rest.now c.is_empty.result c.loop-symbol-test.false c.loop-symbol.invariant
     (λ t. (Decides-eqb (length c.loop-symbol.rest.now) 0).0 (sym c.is_empty.ensures ∙ t)) (λ e. c.is_empty.ensures ∙ (Decides-eqb (length c.loop-symbol.rest.now) 0).1 e)

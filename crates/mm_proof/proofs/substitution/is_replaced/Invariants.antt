@@ -6,4 +6,4 @@ use Rattle.mm_proof.proofs.substitution.is_replaced.Given as goal
 abbrev pub invariant-loop-symbol : goal.invariant-loop-symbol
 invariant-loop-symbol g l =
     numbers_in l.fn.symbols
-    ≡ replaced_in (value_of (variables_in l.variables) (drop l.base (g.S.Store.stack l.store))) (take l.symbol-index (numbers_in l.pattern)) ++ numbers_in l.rest
+    ≡ replaced_in (value_of (variables_in l.variables.list.items) (drop l.base (g.S.Store.stack l.store))) (take l.symbol-index (numbers_in l.pattern)) ++ numbers_in l.rest

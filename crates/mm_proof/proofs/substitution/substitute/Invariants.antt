@@ -6,5 +6,5 @@ use Rattle.mm_proof.proofs.substitution.substitute.Given as goal
 abbrev pub invariant-loop-symbol : goal.invariant-loop-symbol
 invariant-loop-symbol g l =
     (numbers_in l.made.items
-    ≡ replaced_in (value_of (variables_in l.variables) (drop l.base (g.S.Store.stack l.store))) (take l.symbol-index (numbers_in l.pattern)))
+    ≡ replaced_in (value_of (variables_in l.variables.list.items) (drop l.base (g.S.Store.stack l.store))) (take l.symbol-index (numbers_in l.pattern)))
     × (length l.made.items ≤ 1048576)

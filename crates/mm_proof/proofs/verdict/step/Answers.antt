@@ -6,7 +6,7 @@ use Rattle.mm_proof.specs.declared.fault.ProofRule.TheVariants.{L1}
 use Rattle.mm_proof.specs.Stores.{numbers_in}
 use Rattle.mm_proof.specs.CodeRun.{CarriesOn, StopsAt}
 use Rattle.mm_proof.specs.CodeVerify.{AreEntries}
-use Rattle.mm_proof.proofs.Numbered.{numbered_at, numbered_below}
+use Rattle.mm_proof.proofs.Numbered.{numbered_at}
 use Rattle.mm_proof.proofs.Applying.{is_hypothesis_kind, is_assertion_kind, stops_long, pushes, pushed_entries}
 use Rattle.mm_proof.proofs.verdict.step.Goals as goal
 

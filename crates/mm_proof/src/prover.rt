@@ -1,0 +1,88 @@
+//! What proves one proof after the other.
+
+ghost use Rattle.std.specs.Prelude.{◌≡◌, ℕ, List, take, Err, OnOk, IsOkUnless};
+ghost use Rattle.mm_frame.specs.Sentence.{Sentence};
+ghost use Rattle.mm_frame.specs.Form.{IsSound};
+ghost use Rattle.mm_proof.specs.Answer.{IsUnlessMemory};
+ghost use Rattle.mm_proof.specs.Moves.{Move};
+ghost use Rattle.mm_proof.specs.Proof.{Prove, IsWithin, expression_limit, IsMovesFault};
+ghost use Rattle.mm_proof.specs.Steps.{AreNumberedMoves, AreSteps, IsProofNumber};
+
+use crate::apply::Scratch;
+use crate::fault::{ProofFault, ProofRule};
+use crate::flat::Flat;
+use crate::moves::Steps;
+use crate::verdict::derive;
+use mm_frame::{Book, LabelId};
+use std::alloc::Global;
+
+/// Proves one proof after the other in the same memory.
+///
+/// What it answers on a proof doesn't depend on those before it. Unlike `verify` it doesn't tell
+/// which assertions a proof uses.
+#[derive(Drop)]
+pub struct Prover {
+    store: Flat,
+    scratch: Scratch,
+}
+
+impl Prover {
+    /// A prover that has proved nothing yet.
+    pub fn new(alloc: Global) -> Prover {
+        Prover {
+            store: Flat::new(alloc),
+            scratch: Scratch::new(alloc),
+        }
+    }
+
+    /// Whether the moves prove the `$p` with this number, or the first of P6 to P14 and L1 that they
+    /// break, with the number of the step.
+    pub fn prove(&mut self, book: &Book, id: LabelId, steps: &Steps) -> Result<(), ProofFault>
+        requires { AreSteps book.now.statements id.0 steps.now }
+        // What is answered `Ok` is proved.
+        ensures proved { OnOk result ((place : ℕ) → (s : Sentence) → (moves : List (Move (List ℕ)))
+            → IsProofNumber book.now.statements id.0 place s
+            → AreNumberedMoves book.now.statements steps.now moves
+            → Prove (IsWithin expression_limit) (take place book.now.statements) s moves) }
+
+        // The rule and the step are those of the first fault.
+        ensures fault { (rule : ProofRule) → (step : ℕ)
+            → result ≡ Err (ProofFault.Rule rule step)
+            → (place : ℕ) → (s : Sentence) → (moves : List (Move (List ℕ)))
+            → IsProofNumber book.now.statements id.0 place s
+            → AreNumberedMoves book.now.statements steps.now moves
+            → IsMovesFault (IsWithin expression_limit) (take place book.now.statements) s moves
+              rule step }
+
+        // What is proved is answered `Ok`, unless memory is refused.
+        ensures accepts { (place : ℕ) → (s : Sentence) → (moves : List (Move (List ℕ)))
+            → IsProofNumber book.now.statements id.0 place s
+            → AreNumberedMoves book.now.statements steps.now moves
+            → Prove (IsWithin expression_limit) (take place book.now.statements) s moves
+            → IsOkUnless result ProofFault.Memory }
+
+        // What has a fault is answered with it, unless memory is refused.
+        ensures refuses { (place : ℕ) → (s : Sentence) → (moves : List (Move (List ℕ)))
+            → IsProofNumber book.now.statements id.0 place s
+            → AreNumberedMoves book.now.statements steps.now moves
+            → (rule : ProofRule) → (step : ℕ)
+            → IsMovesFault (IsWithin expression_limit) (take place book.now.statements) s moves
+              rule step
+            → IsUnlessMemory result (Err (ProofFault.Rule rule step)) }
+    {
+        self.store.clear();
+        let own = book.frame(id);
+        let result = derive(
+            &mut self.store,
+            &mut self.scratch,
+            book,
+            &own,
+            id,
+            &steps.moves,
+        );
+        match result {
+            Ok(()) => Ok(()),
+            Err(fault) => Err(fault),
+        }
+    }
+}
