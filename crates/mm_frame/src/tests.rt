@@ -1,3 +1,12 @@
+//! Books over small databases.
+
+mod alike;
+mod asked;
+mod databases;
+mod questions;
+mod refused;
+mod taking;
+
 use super::*;
 use std::test::Fail;
 
