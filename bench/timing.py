@@ -3,6 +3,7 @@ import argparse
 import contextlib
 import os
 import pathlib
+import resource
 import shutil
 import signal
 import subprocess
@@ -14,6 +15,7 @@ from typing import NamedTuple
 TOP = pathlib.Path(__file__).resolve().parent.parent
 LAUNCHER = TOP / "mm"
 BUILT = TOP / "crates/mm_tool/out/mm"
+DOCUMENT = TOP / "docs/PERFORMANCE.md"
 DATABASES = pathlib.Path("/usr/share/metamath/databases")
 LIMIT = 600  # seconds for one run
 
@@ -32,36 +34,39 @@ class Run(NamedTuple):
 def run(words):
     """Runs a program. One that takes longer than the limit is killed.
 
-    The processor time is that of the program and of the system for it. The peak memory is told by
-    GNU time, from which the program is started: of a program started from here the system would
-    tell at least the memory of this one.
+    The processor time is that of the program and of the system for it. The system tells a memory
+    that is at least that of this script, which starts the program: see `fastest`.
     """
+    process = subprocess.Popen([str(word) for word in words], stdin=subprocess.DEVNULL,
+                               stdout=subprocess.PIPE, start_new_session=True)
+    late = threading.Event()
+
+    def kill():
+        with contextlib.suppress(ProcessLookupError):
+            os.killpg(process.pid, signal.SIGKILL)
+
+    killer = threading.Timer(LIMIT, lambda: (late.set(), kill()))
+    killer.start()
+    try:
+        output = process.stdout.read().decode(errors="replace")
+        _, status, usage = os.wait4(process.pid, 0)
+    except BaseException:
+        kill()
+        process.wait()
+        raise
+    finally:
+        killer.cancel()
+        process.stdout.close()
+    process.returncode = os.waitstatus_to_exitcode(status)
+    status = -signal.SIGKILL if late.is_set() else process.returncode
+    return Run(output, status, usage.ru_utime + usage.ru_stime, usage.ru_maxrss * 1024)
+
+
+def peak(words):
+    """The peak memory in bytes of one more run, from GNU time, which takes little itself."""
     with tempfile.NamedTemporaryFile("r") as told:
-        words = ["/usr/bin/time", "-q", "-f", "%M", "-o", told.name, *map(str, words)]
-        process = subprocess.Popen(words, stdin=subprocess.DEVNULL, stdout=subprocess.PIPE,
-                                   start_new_session=True)
-        late = threading.Event()
-
-        def kill():
-            with contextlib.suppress(ProcessLookupError):
-                os.killpg(process.pid, signal.SIGKILL)
-
-        killer = threading.Timer(LIMIT, lambda: (late.set(), kill()))
-        killer.start()
-        try:
-            output = process.stdout.read().decode(errors="replace")
-            _, status, usage = os.wait4(process.pid, 0)
-        except BaseException:
-            kill()
-            process.wait()
-            raise
-        finally:
-            killer.cancel()
-            process.stdout.close()
-        process.returncode = os.waitstatus_to_exitcode(status)
-        status = -signal.SIGKILL if late.is_set() else process.returncode
-        memory = int(told.read().strip() or 0) * 1024
-    return Run(output, status, usage.ru_utime + usage.ru_stime, memory)
+        run(["/usr/bin/time", "-q", "-f", "%M", "-o", told.name, *words])
+        return int(told.read().strip() or 0) * 1024
 
 
 def fastest(commands, runs):
@@ -74,7 +79,9 @@ def fastest(commands, runs):
             latest = run(words)
             if not best[place] or latest.took_too_long() or latest.seconds < best[place].seconds:
                 best[place] = latest
-    return best
+    own = resource.getrusage(resource.RUSAGE_SELF).ru_maxrss * 1024
+    return [result if result.memory > own or result.took_too_long()
+            else result._replace(memory=peak(words)) for words, result in zip(commands, best)]
 
 
 def install(*packages):
@@ -83,6 +90,7 @@ def install(*packages):
         "hyperfine": lambda: shutil.which("hyperfine"),
         "metamath": lambda: shutil.which("metamath"),
         "metamath-databases": DATABASES.is_dir,
+        "linux-perf": lambda: shutil.which("perf"),
         "time": lambda: os.path.exists("/usr/bin/time"),
     }
     missing = [name for name in packages if not present[name]()]
@@ -128,6 +136,18 @@ def table(heads, rows):
              "|" + "|".join("---" if head.startswith("<") else "---:" for head in heads) + "|"]
     lines += ["| " + " | ".join(row) + " |" for row in rows]
     return "\n".join(lines) + "\n"
+
+
+def write(tables):
+    """Puts each text into the document, between the two comments that name it."""
+    text = DOCUMENT.read_text()
+    for name, lines in tables.items():
+        begin, end = f"<!-- bench: {name} -->\n", "<!-- end -->"
+        if begin not in text:
+            fail(f"{DOCUMENT} has no line {begin.strip()}")
+        before, after = text.split(begin)
+        text = before + begin + lines + end + after.split(end, 1)[1]
+    DOCUMENT.write_text(text)
 
 
 def say(message):
