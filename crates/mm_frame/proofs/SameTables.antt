@@ -1,5 +1,6 @@
 -- Lists that stay the same hold the same statements.
-use Rattle.std.proofs.Common.{◌≡◌, ℕ, ◌+◌, ◌≤◌, List, [], ◌∷◌, refl, sym, arith}
+use Rattle.std.proofs.Common.{◌≡◌, ℕ, ◌+◌, ◌≤◌, List, [], ◌∷◌, refl, sym, arith, Result, Ok, Err}
+use Rattle.std.specs.Result.{OnErr}
 use Rattle.mm_frame.specs.declared.tables.Tables.{Tables}
 use Rattle.mm_frame.specs.Sentence.{Sentence}
 use Rattle.mm_frame.specs.ScopesOf.{HaveScopes}
@@ -33,3 +34,8 @@ same_tables t u a s =
       };
       same = rw (st, s.bytes) refl;
     }
+
+-- what holds either way
+pub on_err : {T E P : Type 0} (r : Result T E) → P → OnErr r P
+on_err (Ok x) holds = tt
+on_err (Err e) holds = holds
