@@ -1,7 +1,5 @@
 use Rattle.std.proofs.Common.{◌≡◌, ◌+◌, ◌++◌, [], ◌∷◌, ℕ, length, map, None, refl, ap, sym, ◌∙◌}
-use Rattle.std.proofs.Common.{Result, Ok, Err}
 use Rattle.std.specs.Bool.{if◌then◌else◌}
-use Rattle.std.specs.Result.{OnErr}
 use Rattle.mm_text.specs.declared.statement.Kind.TheVariants.{Distinct, Closing}
 use Rattle.mm_frame.specs.ScopesOf.{HaveScopes}
 use Rattle.mm_frame.specs.Layout.{statements_of}
