@@ -1,13 +1,10 @@
 -- A book's lists once a `$c` or `$v` was taken in.
-use Rattle.std.proofs.Common.{◌≡◌, ℕ, ◌+◌, ◌-◌, ◌<◌, ◌≤◌, ◌⊎◌, inl, inr, length, take, List, [], ◌∷◌, ◌++◌, Contains, Option, Some, None, refl, sym, ap, ◌∙◌, subst, append-nil, length-append, arith}
+use Rattle.std.proofs.Common.{◌≡◌, ℕ, ◌+◌, ◌<◌, ◌≤◌, ◌⊎◌, inl, inr, length, List, [], ◌∷◌, ◌++◌, Contains, Some, None, refl, sym, ap, ◌∙◌, subst, append-nil, length-append, arith}
 use Rattle.std.specs.List.{slice_get, slice_range, AllByRecursion, sum_by}
-use Rattle.std.proofs.Math.Seq.{drop-append_seam}
 use Rattle.std.specs.Option.{unwrap_or, option_map}
-use Rattle.std.proofs.Common.{Result, Ok, Err}
-use Rattle.std.specs.Result.{OnErr}
 use Rattle.std.proofs.lemmas.Bool.{cases_lt}
 use Rattle.std.proofs.lemmas.List.Sums.{sum_by-cons}
-use Rattle.std.proofs.lemmas.List.{take_all, length-map}
+use Rattle.std.proofs.lemmas.List.{length-map}
 use Rattle.std.proofs.lemmas.Option.{slice_get_within}
 use Rattle.indexmap.proofs.IndexTableLemmas.Probe.{pigeonhole}
 use Rattle.mm_text.specs.declared.statement.Kind.{Kind}
@@ -28,6 +25,7 @@ use Rattle.mm_frame.specs.Layout.{AreTables, AreInfos, names_by, statements_of}
 use Rattle.mm_frame.specs.Declaring.{IsDeclaration, TakesSymbols}
 use Rattle.mm_frame.specs.Grows.{Grows, IsSame, SameLists, Entered, entry_of}
 use Rattle.mm_frame.proofs.SameTables.{same_tables}
+use Rattle.mm_frame.proofs.Written.{added_part, same_sentence}
 use Rattle.mm_frame.proofs.Assembled.{AreGrown, AreAppended, assembled}
 use Rattle.mm_frame.proofs.Entries.{length-sentences, entry_at, get_sliced}
 use Rattle.mm_frame.proofs.Pushed.{get_within}
@@ -36,18 +34,9 @@ use Rattle.mm_frame.proofs.Numbered.{at_from_contains, declared_from_number, sym
 use Rattle.mm_frame.proofs.Labels.{labels_none, essentials_other}
 use Rattle.mm_frame.proofs.FrameLaws.{placed, frames_other, stated_other}
 
--- the part that was appended
-appended_part : {X : Type 0} (xs ys : List X) → slice_range (xs ++ ys) (length xs) (length (xs ++ ys)) ≡ ys
-appended_part xs ys =
-    let sizes = length-append xs ys in
-    ap (take (length (xs ++ ys) - length xs)) (drop-append_seam xs ys) ∙ take_all (length (xs ++ ys) - length xs) ys (omega arith)
-
 -- such a kind is no other
 not_kind : (kind other : Kind) → IsDeclaration kind → ¬ (other ≡ Constants) → ¬ (other ≡ Variables) → ¬ (kind ≡ other)
 not_kind kind other which no_constants no_variables is = elim which [ inl c ↦ no_constants (sym is ∙ c) | inr v ↦ no_variables (sym is ∙ v) ]
-
-same_sentence : (s : Sentence) (l : Option (List ℕ)) → s.label ≡ l → ◌≡◌ {A = Sentence} (record { kind = s.kind; label = l; symbols = s.symbols }) s
-same_sentence s l is = ap (λ (o : Option (List ℕ)). let t : Sentence = record { kind = s.kind; label = o; symbols = s.symbols } in t) (sym is)
 
 -- what was appended to the lists
 appended : (t d v : Tables) (s : Sentence) (bytes : ℕ) → s.label ≡ None → (taken : TakesSymbols t d s.kind s.symbols) → Entered d v s.kind None (length t.flat.items) bytes
@@ -59,7 +48,7 @@ appended t d v s bytes none taken entered =
     let sizes = length-append t.flat.items taken.numbers in
     let end : length d.flat.items ≡ length (t.flat.items ++ taken.numbers) = ap length flat in
     let part : slice_range (t.flat.items ++ taken.numbers) (length t.flat.items) (length d.flat.items) ≡ taken.numbers =
-    ap (slice_range (t.flat.items ++ taken.numbers) (length t.flat.items)) end ∙ appended_part t.flat.items taken.numbers in
+    ap (slice_range (t.flat.items ++ taken.numbers) (length t.flat.items)) end ∙ added_part t.flat.items taken.numbers in
     let symbols : names_by (t.symbols.names ++ taken.added) (slice_range (t.flat.items ++ taken.numbers) (length t.flat.items) (length d.flat.items)) ≡ s.symbols =
     ap (names_by (t.symbols.names ++ taken.added)) part ∙ ap (λ names. names_by names taken.numbers) (sym taken.names) ∙ taken.named in
     record {
@@ -67,7 +56,7 @@ appended t d v s bytes none taken entered =
       labels = entered.labels ∙ labels ∙ sym (append-nil t.labels.names);
       flat = entered.flat ∙ flat;
       log = entered.log ∙ ap (λ (es : List Entry). es ++ entry_of s.kind None (length t.flat.items) (length d.flat.items) ∷ []) log;
-      said = ap (λ (xs : List (List ℕ)). let u : Sentence = record { kind = s.kind; label = None; symbols = xs } in u) symbols ∙ same_sentence s None none;
+      said = same_sentence s s.kind None _ refl (sym none) symbols;
       within = record { ordered = omega arith; within = omega arith };
       numbers = subst (λ (names : List (List ℕ)). (i : ℕ) (n : Sym) → slice_get taken.numbers i ≡ Some n → n.0 < length names) taken.names taken.within;
       label = λ id is. absurd (cc);
@@ -89,7 +78,7 @@ grown t d v s bytes tables which none taken entered =
     let stated : v.distinct.stated ≡ t.distinct.stated = e.stated ∙ ap (λ (u : Tables). u.distinct.stated) taken.others in
     let names : v.symbols.names ≡ t.symbols.names ++ taken.added = e.symbols ∙ taken.names in
     let size = length-sentences t.symbols.names t.labels.names t.flat.items t.log.items in
-    let infos : AreInfos (st ++ s ∷ []) d.symbols.names d.infos.items = subst (λ (u : Sentence). AreInfos (st ++ u ∷ []) d.symbols.names d.infos.items) (same_sentence s None none) taken.infos in
+    let infos : AreInfos (st ++ s ∷ []) d.symbols.names d.infos.items = subst (λ (u : Sentence). AreInfos (st ++ u ∷ []) d.symbols.names d.infos.items) (same_sentence s s.kind None s.symbols refl (sym none) refl) taken.infos in
     let all : t.symbols.names ++ taken.added ≡ _ = sym taken.names ∙ infos.all in
     let scopes : HaveScopes st d.scopes = subst (λ (u : Tables). HaveScopes st u.scopes) (sym taken.others) tables.scopes in
     record {
@@ -213,8 +202,3 @@ declares t m d v p start bytes tables lists meant form which is room taken begin
     grows_from t m v (said p) bytes same
     (declared m d v (said p) bytes same.tables (subst (λ (xs : List Sentence). IsMeant xs (said p)) st meant) (declares_formed p form which) which (declares_unlabelled p form which) taken
     (subst (λ (n : ℕ). Entered d v p.kind None n bytes) begins entered) (omega arith) (omega arith))
-
--- what holds either way
-pub on_err : {T E P : Type 0} (r : Result T E) → P → OnErr r P
-on_err (Ok x) h = tt
-on_err (Err e) h = h

@@ -44,5 +44,6 @@ pub mod OpenLaws
 pub mod Surplus
 pub mod OpenPlaces
 pub mod Separated
+pub mod Written
 pub mod NamedTables
 pub mod SeparatedTables

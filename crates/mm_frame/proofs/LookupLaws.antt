@@ -1,15 +1,15 @@
 -- What is known of a name, in the words of the rules of meaning.
-use Rattle.std.proofs.Common.{◌≡◌, ◌≢◌, ℕ, ◌<◌, ◌⊎◌, inl, inr, ◌↔◌, IsTrue, Bool, true, false, length, take, List, [], ◌∷◌, map, Option, Some, None, Contains, is_some, not, refl, sym, ap, ◌∙◌, subst, arith, rules}
+use Rattle.std.proofs.Common.{◌≡◌, ◌≢◌, ℕ, ◌<◌, ◌⊎◌, inl, inr, ◌↔◌, IsTrue, Bool, true, false, length, take, List, map, Option, Some, None, Contains, is_some, not, refl, sym, ap, ◌∙◌, subst, arith, rules}
 use Rattle.std.specs.List.{slice_get}
 use Rattle.std.specs.Option.{MatchOption}
-use Rattle.mm_text.specs.declared.statement.Kind.TheVariants.{Constants, Variables, Floating}
+use Rattle.mm_text.specs.declared.statement.Kind.TheVariants.{Constants, Variables}
 use Rattle.mm_frame.specs.declared.tables.SymbolInfo.{SymbolInfo}
 use Rattle.mm_frame.specs.Sentence.{Sentence, SomeSentence, Declares, Types, IsLabelled}
 use Rattle.mm_frame.specs.Active.{IsActive, SomeActive, IsConstant, IsVariable, IsActiveSymbol, IsTyped}
 use Rattle.mm_frame.specs.Rules.{AllMeant}
-use Rattle.mm_frame.specs.Numbers.{symbols_of, labelled, IsNumbered}
+use Rattle.mm_frame.specs.Numbers.{symbols_of, labelled}
 use Rattle.mm_frame.specs.Latest.{IsLatest}
-use Rattle.mm_frame.specs.Layout.{IsInfo, IsLatestIn, IsKnown, IsDeclared, GivesType, AreInfos, AreLabels}
+use Rattle.mm_frame.specs.Layout.{IsLatestIn, IsKnown, IsDeclared, GivesType, AreInfos}
 use Rattle.mm_frame.proofs.Meant.{latest_variable, latest_typed, constant_active, one_role, meant_at, one_code}
 use Rattle.mm_frame.proofs.Needed.{typed_variable, some_later}
 use Rattle.mm_frame.proofs.Numbered.{declared_from_number, number_from_declared, contains_from_at}

@@ -1,10 +1,8 @@
 -- A book's lists once a label and its statement are written.
-use Rattle.std.proofs.Common.{◌≡◌, ℕ, zero, suc, ◌+◌, ◌*◌, ◌-◌, ◌<◌, ◌≤◌, inl, inr, length, take, set, List, [], ◌∷◌, ◌++◌, map, unwrap_or, Option, Some, refl, sym, ap, ◌∙◌, subst, length-append, Result, Ok, Err, arith, rules}
+use Rattle.std.proofs.Common.{◌≡◌, ℕ, zero, suc, ◌+◌, ◌*◌, ◌<◌, ◌≤◌, inl, inr, length, set, List, [], ◌∷◌, ◌++◌, map, Some, refl, sym, ap, ◌∙◌, subst, length-append, arith}
 use Rattle.std.specs.List.{slice_get, slice_range, fold}
 use Rattle.std.proofs.lemmas.Option.{slice_get_within}
 use Rattle.std.proofs.lemmas.List.{append-nil}
-use Rattle.std.proofs.Math.Seq.{drop-append_seam, take-length}
-use Rattle.std.specs.Result.{OnErr}
 use Rattle.mm_text.specs.Statement.{FitsCount}
 use Rattle.mm_text.specs.declared.statement.Kind.{Kind}
 use Rattle.mm_text.specs.declared.statement.Kind.TheVariants.{Floating, Essential, Distinct, Closing}
@@ -37,6 +35,7 @@ use Rattle.mm_frame.proofs.Labels.{labels_counted, labels_some, essentials_essen
 use Rattle.mm_frame.proofs.Infos.{infos_other, infos_floating}
 use Rattle.mm_frame.proofs.Entries.{length-sentences, longer}
 use Rattle.mm_frame.proofs.FrameLaws.{at_place, stated_other, placed, frames_hypothesis, frames_assertion}
+use Rattle.mm_frame.proofs.Written.{added_part, names_numbered, same_sentence}
 use Rattle.mm_frame.proofs.Assembled.{AreAppended, AreGrown, assembled}
 
 -- there are fewer labels than numbers for them
@@ -62,18 +61,6 @@ label_new st labels named log s l are meant has = elim (with_name_cases labels l
   | inr (new, longer) ↦ longer
 ]
 
--- the names of the numbers of symbols are the symbols
-pub names_numbered : (names : List (List ℕ)) (numbers : List Sym) (xs : List (List ℕ)) → map (slice_get names) (map (λ n. n.0) numbers) ≡ map (λ x. Some x) xs → names_by names numbers ≡ xs
-names_numbered names [] [] are = refl
-names_numbered names [] (x ∷ xs) are = absurd (cc)
-names_numbered names (n ∷ numbers) [] are = absurd (cc)
-names_numbered names (n ∷ numbers) (x ∷ xs) are =
-    let here : slice_get names n.0 ≡ Some x = cc in
-    let rest : map (slice_get names) (map (λ n. n.0) numbers) ≡ map (λ x. Some x) xs = cc in
-    let head : unwrap_or (slice_get names n.0) [] ≡ x = ap (λ o. unwrap_or o []) here in
-    let tail = names_numbered names numbers xs rest in
-    cc (head, tail)
-
 pub numbers_within : (names : List (List ℕ)) (numbers : List Sym) (xs : List (List ℕ)) → map (slice_get names) (map (λ n. n.0) numbers) ≡ map (λ x. Some x) xs
     → (i : ℕ) (n : Sym) → slice_get numbers i ≡ Some n → n.0 < length names
 numbers_within names [] xs are i n there = absurd (cc)
@@ -85,19 +72,6 @@ numbers_within names (m ∷ numbers) (x ∷ xs) are zero n there =
 numbers_within names (m ∷ numbers) (x ∷ xs) are (suc i) n there =
     let rest : map (slice_get names) (map (λ n. n.0) numbers) ≡ map (λ x. Some x) xs = cc in
     numbers_within names numbers xs rest i n there
-
--- the part that was added to the end of a list
-pub added_part : {X : Type 0} (xs more : List X) → slice_range (xs ++ more) (length xs) (length (xs ++ more)) ≡ more
-added_part xs more =
-    let size = length-append xs more in
-    let n : length (xs ++ more) - length xs ≡ length more = omega arith in
-    ap (take (length (xs ++ more) - length xs)) (drop-append_seam xs more) ∙ ap (λ k. take k more) n ∙ take-length more
-
-same_sentence : (s : Sentence) (kind : Kind) (l : Option (List ℕ)) (xs : List (List ℕ)) → kind ≡ s.kind → l ≡ s.label → xs ≡ s.symbols → ◌≡◌ {A = Sentence} (record { kind = kind; label = l; symbols = xs }) s
-same_sentence s kind l xs e f g =
-    ap (λ (k : Kind). let t : Sentence = record { kind = k; label = l; symbols = xs } in t) e
-    ∙ ap (λ (o : Option (List ℕ)). let t : Sentence = record { kind = s.kind; label = o; symbols = xs } in t) f
-    ∙ ap (λ (ys : List (List ℕ)). let t : Sentence = record { kind = s.kind; label = s.label; symbols = ys } in t) g
 
 -- the lists before a label is written: those of a book, but for what is known of symbols and for the active `$e`, and with more of frames
 pub record Before (t u : Tables) (a : List LabelId) (b : List (Sym × Sym)) : Type 0 where
@@ -279,11 +253,6 @@ asserted t u v s kind l numbers frame id a b bytes are which before infos essent
     (rw infos known) (rw essentials active)
     (frames_assertion st s t.hypotheses.items a t.pairs.items b t.named.items (label_info (length t.log.items) frame)
     (placed st t.labels.names t.named.items t.log.items are.labels) are.frames framed) enough room
-
--- what holds anyway holds after a failure
-pub on_err : {T E : Type 0} (r : Result T E) (P : Type 0) → P → OnErr r P
-on_err (Ok x) P holds = search rules
-on_err (Err e) P holds = holds
 
 -- the numbers of a type code and a variable
 pub record AreTwo (names : List (List ℕ)) (numbers : List Sym) (xs : List (List ℕ)) : Type 0 where

@@ -1,16 +1,14 @@
 -- Names that are read one after the other, until one comes again.
-use Rattle.std.proofs.Common.{◌≡◌, ℕ, zero, suc, ◌+◌, ◌<◌, ◌≤◌, ◌⊎◌, inl, inr, ◌↔◌, IsTrue, Bool, true, false, is_some, get_or, length, take, List, [], ◌∷◌, ◌++◌, map, Contains, Option, Some, None, refl, sym, ap, ◌∙◌, subst, arith, rules}
+use Rattle.std.proofs.Common.{◌≡◌, ℕ, zero, suc, ◌+◌, ◌<◌, inl, inr, ◌↔◌, IsTrue, Bool, true, false, is_some, get_or, length, take, List, [], ◌∷◌, ◌++◌, map, Contains, Option, Some, None, refl, sym, ap, ◌∙◌, subst, arith}
 use Rattle.std.specs.List.{slice_get}
 use Rattle.std.specs.Option.{MatchOption}
 use Rattle.mm_text.specs.declared.token.Token.{Token}
 use Rattle.mm_text.specs.Token.{plain_token}
 use Rattle.mm_frame.specs.Sentence.{StandsTwice}
 use Rattle.mm_frame.specs.Numbers.{with_name}
-use Rattle.mm_frame.proofs.Numbered.{StandOnce, At, with_name_cases, once_with_name, at_from_contains, contains_from_at}
+use Rattle.mm_frame.proofs.Numbered.{with_name_cases, contains_from_at}
 use Rattle.mm_frame.proofs.Pushed.{get_from_front, take_next}
 use Rattle.mm_frame.proofs.Symbols.{texts}
-use Rattle.std.proofs.lemmas.Option.{slice_get_within}
-use Rattle.std.proofs.lemmas.List.{length-take-le}
 
 -- the texts of tokens
 abbrev pub texts_of : List Token → List (List ℕ)

@@ -1,10 +1,10 @@
 -- Lists that stay the same hold the same statements.
-use Rattle.std.proofs.Common.{◌≡◌, ℕ, ◌+◌, ◌≤◌, List, [], ◌∷◌, refl, sym, arith}
+use Rattle.std.proofs.Common.{◌≡◌, refl, Result, Ok, Err}
+use Rattle.std.specs.Result.{OnErr}
 use Rattle.mm_frame.specs.declared.tables.Tables.{Tables}
-use Rattle.mm_frame.specs.Sentence.{Sentence}
 use Rattle.mm_frame.specs.ScopesOf.{HaveScopes}
 use Rattle.mm_frame.specs.Form.{IsSound}
-use Rattle.mm_frame.specs.Layout.{AreTables, AreInfos, AreLabels, AreEntries, AreEssentials, AreFrames, AreStated, statements_of, database_of}
+use Rattle.mm_frame.specs.Layout.{AreTables, AreInfos, AreLabels, AreEntries, AreEssentials, AreFrames, AreStated, statements_of}
 use Rattle.mm_frame.specs.Grows.{SameLists, IsSame}
 
 pub same_tables : (t u : Tables) → AreTables t → SameLists t u → IsSame t u
@@ -33,3 +33,8 @@ same_tables t u a s =
       };
       same = rw (st, s.bytes) refl;
     }
+
+-- what holds either way
+pub on_err : {T E P : Type 0} (r : Result T E) → P → OnErr r P
+on_err (Ok x) holds = tt
+on_err (Err e) holds = holds

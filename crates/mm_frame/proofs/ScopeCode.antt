@@ -1,10 +1,10 @@
 -- What the scopes' code does, in terms of the laws of blocks by numbers.
-use Rattle.std.proofs.Common.{◌≡◌, ℕ, zero, suc, ◌+◌, ◌-◌, ◌<◌, ◌≤◌, ◌⊎◌, inl, inr, ◌↔◌, IsTrue, IsSome, Bool, true, false, leb, length, take, set, List, [], ◌∷◌, ◌++◌, Option, Some, None, refl, sym, ap, ◌∙◌, subst, arith, rules}
+use Rattle.std.proofs.Common.{◌≡◌, ℕ, suc, ◌+◌, ◌<◌, ◌≤◌, ◌↔◌, IsTrue, IsSome, false, leb, length, take, set, List, [], ◌∷◌, ◌++◌, Option, Some, None, refl, sym, ap, ◌∙◌, subst, arith, rules}
 use Rattle.std.specs.List.{slice_get}
 use Rattle.mm_text.specs.declared.statement.Kind.{Kind}
 use Rattle.mm_text.specs.declared.statement.Kind.TheVariants.{Constants, Variables, Distinct, Floating, Essential, Axiom, Provable, Opening, Closing}
 use Rattle.mm_frame.specs.Sentence.{Sentence}
-use Rattle.mm_frame.specs.Active.{IsActive, openings, closings, is_opening, is_closing}
+use Rattle.mm_frame.specs.Active.{IsActive, openings, closings, is_opening}
 use Rattle.mm_frame.specs.Scopes.{AreScopes}
 use Rattle.mm_frame.proofs.Actives.{scope_active}
 use Rattle.mm_frame.proofs.Depth.{scope_depth, scope_block_within, scope_stack_within}

@@ -1,10 +1,8 @@
 -- A book's lists once a `$d` is written.
-use Rattle.std.proofs.Common.{◌≡◌, ℕ, ◌+◌, ◌-◌, ◌<◌, ◌≤◌, length, take, List, [], ◌∷◌, ◌++◌, map, unwrap_or, Option, Some, None, refl, sym, ap, ◌∙◌, subst, length-append, arith}
+use Rattle.std.proofs.Common.{◌≡◌, ℕ, ◌+◌, ◌<◌, ◌≤◌, length, List, [], ◌∷◌, ◌++◌, map, Some, None, refl, sym, ap, ◌∙◌, subst, length-append, arith}
 use Rattle.std.specs.List.{slice_get, slice_range}
 use Rattle.std.proofs.lemmas.Option.{slice_get_within}
 use Rattle.std.proofs.lemmas.List.{append-nil}
-use Rattle.std.proofs.Math.Seq.{drop-append_seam, take-length}
-use Rattle.mm_text.specs.declared.statement.Kind.{Kind}
 use Rattle.mm_text.specs.declared.statement.Kind.TheVariants.{Floating, Essential, Distinct, Closing}
 use Rattle.mm_frame.specs.declared.number.Sym.{Sym}
 use Rattle.mm_frame.specs.declared.tables.Tables.{Tables}
@@ -22,32 +20,8 @@ use Rattle.mm_frame.proofs.Entries.{length-sentences}
 use Rattle.mm_frame.proofs.FrameLaws.{placed, frames_other}
 use Rattle.mm_frame.proofs.DistinctAt.{stated_push}
 use Rattle.mm_frame.proofs.Separated.{member_name, new_from_paired}
+use Rattle.mm_frame.proofs.Written.{added_part, names_numbered, same_sentence}
 use Rattle.mm_frame.proofs.Assembled.{AreAppended, AreGrown, assembled}
-
--- the names of the members
-members_named : (names : List (List ℕ)) (members : List Sym) (xs : List (List ℕ)) → map (slice_get names) (map (λ n. n.0) members) ≡ map Some xs → names_by names members ≡ xs
-members_named names [] [] are = refl
-members_named names [] (x ∷ xs) are = absurd (cc)
-members_named names (n ∷ members) [] are = absurd (cc)
-members_named names (n ∷ members) (x ∷ xs) are =
-    let here : slice_get names n.0 ≡ Some x = cc in
-    let rest : map (slice_get names) (map (λ n. n.0) members) ≡ map Some xs = cc in
-    let head : unwrap_or (slice_get names n.0) [] ≡ x = ap (λ o. unwrap_or o []) here in
-    let tail = members_named names members xs rest in
-    cc (head, tail)
-
--- the part that was added to the end of a list
-end_part : {X : Type 0} (xs more : List X) → slice_range (xs ++ more) (length xs) (length (xs ++ more)) ≡ more
-end_part xs more =
-    let size = length-append xs more in
-    let n : length (xs ++ more) - length xs ≡ length more = omega arith in
-    ap (take (length (xs ++ more) - length xs)) (drop-append_seam xs more) ∙ ap (λ k. take k more) n ∙ take-length more
-
-same_said : (s : Sentence) (kind : Kind) (l : Option (List ℕ)) (xs : List (List ℕ)) → kind ≡ s.kind → l ≡ s.label → xs ≡ s.symbols → ◌≡◌ {A = Sentence} (record { kind = kind; label = l; symbols = xs }) s
-same_said s kind l xs e f g =
-    ap (λ (k : Kind). let t : Sentence = record { kind = k; label = l; symbols = xs } in t) e
-    ∙ ap (λ (o : Option (List ℕ)). let t : Sentence = record { kind = s.kind; label = o; symbols = xs } in t) f
-    ∙ ap (λ (ys : List (List ℕ)). let t : Sentence = record { kind = s.kind; label = s.label; symbols = ys } in t) g
 
 -- the lists with a `$d` of these members more, which adds these pairs
 pub record AreSeparated (t v : Tables) (members : List Sym) (added : List (ℕ × ℕ)) (size : ℕ) : Type 0 where
@@ -80,15 +54,15 @@ appended t v s members pairs bytes tables are new =
     let numbers : map (slice_get names) (map (λ n. n.0) members) ≡ map Some s.symbols =
     subst (λ (ns : List (List ℕ)). map (slice_get ns) (map (λ n. n.0) members) ≡ map Some s.symbols) (sym tables.infos.all) new.numbered in
     let flat = t.flat.items ++ members in
-    let part : slice_range flat (length t.flat.items) (length flat) ≡ members = end_part t.flat.items members in
+    let part : slice_range flat (length t.flat.items) (length flat) ≡ members = added_part t.flat.items members in
     let size = length-append t.flat.items members in
     record {
       symbols = are.symbols ∙ sym whole;
       labels = are.labels ∙ sym (append-nil t.labels.names);
       flat = are.flat;
       log = are.log;
-      said = same_said s Distinct None _ (sym new.kind) (sym new.label)
-          (ap (λ ns. names_by ns (slice_range flat (length t.flat.items) (length flat))) whole ∙ ap (names_by names) part ∙ members_named names members s.symbols numbers);
+      said = same_sentence s Distinct None _ (sym new.kind) (sym new.label)
+          (ap (λ ns. names_by ns (slice_range flat (length t.flat.items) (length flat))) whole ∙ ap (names_by names) part ∙ names_numbered names members s.symbols numbers);
       within = record { ordered = omega arith; within = omega arith };
       numbers = λ i n there.
           let (x, in_it, at) = member_name names members s.symbols i n numbers there in

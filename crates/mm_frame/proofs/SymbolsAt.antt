@@ -1,12 +1,12 @@
 -- The symbols of a statement by their numbers.
-use Rattle.std.proofs.Common.{◌≡◌, ℕ, suc, ◌<◌, ◌≤◌, length, List, [], ◌∷◌, map, Option, Some, None, unwrap_or, slice_range, refl, sym, ap, ◌∙◌, subst, arith}
+use Rattle.std.proofs.Common.{◌≡◌, ℕ, suc, ◌<◌, ◌≤◌, length, List, [], ◌∷◌, map, Option, Some, None, unwrap_or, slice_range, refl, sym, ap, ◌∙◌, subst}
 use Rattle.std.specs.List.{slice_get}
 use Rattle.std.specs.Option.{MatchOption, option_map}
 use Rattle.mm_frame.specs.declared.number.Sym.{Sym}
 use Rattle.mm_frame.specs.declared.tables.Entry.{Entry}
 use Rattle.mm_frame.specs.Sentence.{Sentence, SomeSentence, Types}
 use Rattle.mm_frame.specs.Numbers.{symbols_of, AreNumbers}
-use Rattle.mm_frame.specs.Layout.{names_by, sentences, sentence_by, AreEntries, IsWithin, GivesType}
+use Rattle.mm_frame.specs.Layout.{names_by, sentences, sentence_by, AreEntries, GivesType}
 use Rattle.mm_frame.specs.Latest.{IsLatest}
 use Rattle.mm_frame.proofs.Entries.{sentence_at, entry_at, get_sliced}
 use Rattle.mm_frame.proofs.Pushed.{get_within}

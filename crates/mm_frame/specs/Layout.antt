@@ -1,6 +1,5 @@
 -- How a book's lists hold its statements. This file mirrors the code, and is cited by private contracts alone.
-use Rattle.std.specs.Prelude.{◌≡◌, ◌≢◌, ℕ, ◌+◌, ◌*◌, ◌<◌, ◌≤◌, ◌↔◌, List, [], ◌∷◌, length, map, take, slice_get, slice_range, Option, Some, None, Contains, unwrap_or, MatchOption, ◌⊎◌}
-use Rattle.std.specs.Option.{option_and_then}
+use Rattle.std.specs.Prelude.{◌≡◌, ℕ, ◌+◌, ◌*◌, ◌<◌, ◌≤◌, List, [], length, map, take, slice_get, slice_range, Option, Some, None, Contains, unwrap_or, ◌⊎◌}
 use Rattle.mm_text.specs.declared.statement.Kind.TheVariants.{Variables, Essential, Distinct}
 use Rattle.mm_frame.specs.declared.number.LabelId.{LabelId}
 use Rattle.mm_frame.specs.declared.number.Sym.{Sym}
@@ -13,7 +12,7 @@ use Rattle.mm_frame.specs.Sentence.{Sentence, SomeSentence, Declares, Types, IsA
 use Rattle.mm_frame.specs.Active.{IsActive, IsConstant, IsVariable}
 use Rattle.mm_frame.specs.Form.{IsSound}
 use Rattle.mm_frame.specs.Numbers.{symbols_of, labelled, IsNumbered}
-use Rattle.mm_frame.specs.FramePlace.{FramePlace, AreHypotheses, ArePairs}
+use Rattle.mm_frame.specs.FramePlace.{AreHypotheses, ArePairs}
 use Rattle.mm_frame.specs.Database.{Database}
 use Rattle.mm_frame.specs.Latest.{IsLatest}
 use Rattle.mm_frame.specs.ScopesOf.{HaveScopes}

@@ -1,5 +1,5 @@
 -- What the code's scopes hold. This file mirrors the code, and is cited by private contracts alone.
-use Rattle.std.specs.Prelude.{◌≡◌, ℕ, ◌+◌, ◌<◌, List, vec_len, vec_capacity}
+use Rattle.std.specs.Prelude.{◌≡◌, ◌<◌, List, vec_len, vec_capacity}
 use Rattle.mm_frame.specs.declared.scopes.Scopes.{Scopes}
 use Rattle.mm_frame.specs.declared.scopes.TheConstants.{NEVER}
 use Rattle.mm_frame.specs.Sentence.{Sentence}

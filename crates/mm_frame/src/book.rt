@@ -1,6 +1,8 @@
 //! A book: the statements that were taken, by numbers.
 
-ghost use Rattle.std.specs.Prelude.{◌≡◌, ◌↔◌, ℕ, ◌+◌, ◌-◌, ◌<◌, ◌≤◌, List, [], ◌∷◌, ◌++◌, IsTrue, IfOk, IfErr, OnErr, Err, Some, length, map, take, slice_get, sum_by};
+ghost use Rattle.std.specs.Prelude.{◌≡◌, ◌↔◌, ℕ, ◌+◌, ◌-◌, ◌<◌, ◌≤◌, List, [], ◌∷◌, ◌++◌, IsTrue};
+ghost use Rattle.std.specs.Prelude.{IfOk, IfErr, OnErr, Err, Some, length, map, take, slice_get};
+ghost use Rattle.std.specs.Prelude.{sum_by};
 ghost use Rattle.mm_text.specs.declared.statement.Kind.TheVariants.{Closing};
 ghost use Rattle.mm_text.specs.Statement.{plain_statement, HasForm, bytes_in};
 ghost use Rattle.mm_frame.specs.declared.rule.MeaningRule.{MeaningRule};
@@ -10,7 +12,8 @@ ghost use Rattle.mm_frame.specs.Active.{IsActive, IsVariable, openings, closings
 ghost use Rattle.mm_frame.specs.Rules.{IsMeant, FirstBroken};
 ghost use Rattle.mm_frame.specs.Form.{IsSound};
 ghost use Rattle.mm_frame.specs.Frame.{IsDistinct};
-ghost use Rattle.mm_frame.specs.Numbers.{symbols_of, labelled, IsNumberOf, AreNumbers, IsNumbered, IsAssertionNumber};
+ghost use Rattle.mm_frame.specs.Numbers.{symbols_of, labelled, IsNumberOf, AreNumbers, IsNumbered};
+ghost use Rattle.mm_frame.specs.Numbers.{IsAssertionNumber};
 ghost use Rattle.mm_frame.specs.Found.{Finds};
 ghost use Rattle.mm_frame.specs.Taken.{TakenAs, kind_behind};
 ghost use Rattle.mm_frame.specs.FramePlace.{AreHypotheses, ArePairs};

@@ -1,6 +1,8 @@
 //! Taking a `$c` or a `$v` into the lists.
 
-ghost use Rattle.std.specs.Prelude.{◌≡◌, ◌+◌, ◌<◌, ◌≤◌, ◌⊎◌, length, map, slice_get, slice_set, vec_len, vec_capacity, Contains, Some, None, [], ◌∷◌, ◌++◌, IfOk, OnErr, OnOk, ℕ, suc};
+ghost use Rattle.std.specs.Prelude.{◌≡◌, ◌+◌, ◌<◌, ◌≤◌, ◌⊎◌, length, map, slice_get, slice_set};
+ghost use Rattle.std.specs.Prelude.{vec_len, vec_capacity, Contains, Some, None, [], ◌∷◌, ◌++◌};
+ghost use Rattle.std.specs.Prelude.{IfOk, OnErr, OnOk, ℕ, suc};
 ghost use Rattle.mm_text.specs.Statement.{plain_statement, HasForm, bytes_in};
 ghost use Rattle.mm_frame.specs.declared.tables.SymbolInfo.{SymbolInfo};
 ghost use Rattle.mm_frame.specs.declared.answer.Taken.TheVariants.{Declared};
@@ -8,7 +10,8 @@ ghost use Rattle.mm_frame.specs.Sentence.{said_by};
 ghost use Rattle.mm_frame.specs.Rules.{IsMeant};
 ghost use Rattle.mm_frame.specs.Layout.{AreTables, statements_of};
 ghost use Rattle.mm_frame.specs.Grows.{Grows, IsSame, SameLists, HaveRoom};
-ghost use Rattle.mm_frame.specs.Declaring.{IsDeclaration, latest_by, HasSpace, TakesSymbol, TakesSymbols};
+ghost use Rattle.mm_frame.specs.Declaring.{IsDeclaration, latest_by, HasSpace, TakesSymbol};
+ghost use Rattle.mm_frame.specs.Declaring.{TakesSymbols};
 
 use crate::answer::Taken;
 use crate::number::Sym;

@@ -1,6 +1,7 @@
 //! The frame of an assertion, from the lists as they are before it.
 
-ghost use Rattle.std.specs.Prelude.{◌≡◌, ℕ, ◌+◌, ◌++◌, ◌∷◌, List, Some, length, map, take, slice_get, OnOk, IfOk};
+ghost use Rattle.std.specs.Prelude.{◌≡◌, ℕ, ◌+◌, ◌++◌, ◌∷◌, List, Some, length, map, take};
+ghost use Rattle.std.specs.Prelude.{slice_get, OnOk, IfOk};
 ghost use Rattle.std.specs.Option.{option_and_then};
 ghost use Rattle.mm_frame.specs.Sentence.{Sentence, IsStated};
 ghost use Rattle.mm_frame.specs.Rules.{IsMeant};
@@ -8,7 +9,8 @@ ghost use Rattle.mm_frame.specs.Numbers.{AreNumbers, labelled};
 ghost use Rattle.mm_frame.specs.FramePlace.{ArePairs};
 ghost use Rattle.mm_frame.specs.declared.number.Sym.{Sym};
 ghost use Rattle.mm_frame.specs.Layout.{AreTables, statements_of};
-ghost use Rattle.mm_frame.specs.Gathered.{floating_of, floatings, AreGathered, ArePlaces, AreVariables, AreFound};
+ghost use Rattle.mm_frame.specs.Gathered.{floating_of, floatings, AreGathered, ArePlaces};
+ghost use Rattle.mm_frame.specs.Gathered.{AreVariables, AreFound};
 
 use crate::lists::at;
 use crate::number::{LabelId, Sym};

@@ -1,7 +1,9 @@
 //! Taking a statement that breaks no rule into the lists: room is made first, so that nothing can
 //! fail once something is written.
 
-ghost use Rattle.std.specs.Prelude.{◌≡◌, ◌↔◌, ◌⊎◌, ℕ, suc, ◌+◌, ◌<◌, ◌≤◌, List, [], length, map, slice_get, Contains, None, Some, IsTrue, IfOk, OnErr, OnOk, vec_len, vec_capacity};
+ghost use Rattle.std.specs.Prelude.{◌≡◌, ◌↔◌, ◌⊎◌, ℕ, suc, ◌+◌, ◌<◌, ◌≤◌, List, [], length, map};
+ghost use Rattle.std.specs.Prelude.{slice_get, Contains, None, Some, IsTrue, IfOk, OnErr, OnOk};
+ghost use Rattle.std.specs.Prelude.{vec_len, vec_capacity};
 ghost use Rattle.mm_text.specs.declared.statement.Kind.TheVariants.{Opening, Closing};
 ghost use Rattle.mm_text.specs.Statement.{plain_statement, HasForm, bytes_in};
 ghost use Rattle.mm_frame.specs.Sentence.{Sentence, said_by, IsHypothesis, IsAssertion, IsUse};

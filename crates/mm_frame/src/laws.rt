@@ -1,6 +1,7 @@
 //! Laws of what a book holds. The functions do nothing: their contracts are the laws.
 
-ghost use Rattle.mm_frame.specs.Laws.{OneNumber, OneLabelNumber, OpenBlocks, ActiveStatements, OpenCount, OneFrame};
+ghost use Rattle.mm_frame.specs.Laws.{OneNumber, OneLabelNumber, OpenBlocks, ActiveStatements};
+ghost use Rattle.mm_frame.specs.Laws.{OpenCount, OneFrame};
 
 /// A symbol's number is its own, and stays.
 ///

@@ -3,7 +3,8 @@
 ghost use Rattle.std.specs.Prelude.{◌≢◌, ◌↔◌, ℕ, List, IsTrue, MatchOption};
 ghost use Rattle.mm_text.specs.declared.statement.Kind.TheVariants.{Variables};
 ghost use Rattle.mm_frame.specs.Sentence.{SomeSentence, IsLabelled, Declares, Types};
-ghost use Rattle.mm_frame.specs.Active.{SomeActive, IsConstant, IsVariable, IsActiveSymbol, IsTyped};
+ghost use Rattle.mm_frame.specs.Active.{SomeActive, IsConstant, IsVariable, IsActiveSymbol};
+ghost use Rattle.mm_frame.specs.Active.{IsTyped};
 ghost use Rattle.mm_frame.specs.Layout.{AreTables, statements_of, GivesType};
 
 use crate::lists::at;

@@ -1,6 +1,7 @@
 //! Names by number: lists of names without repetition, in which a name is found at once.
 
-ghost use Rattle.std.specs.Prelude.{◌≡◌, ◌+◌, ◌<◌, ◌≤◌, [], length, slice_get, option_map, Some, MatchOption, Contains, OnOk};
+ghost use Rattle.std.specs.Prelude.{◌≡◌, ◌+◌, ◌<◌, ◌≤◌, [], length, slice_get, option_map, Some};
+ghost use Rattle.std.specs.Prelude.{MatchOption, Contains, OnOk};
 ghost use Rattle.mm_frame.specs.Numbers.{with_name};
 
 use indexmap::IndexSet;
@@ -8,7 +9,8 @@ use std::alloc::{AllocError, Global};
 use std::hash::{Hash, Hasher};
 use std::marker::Model;
 
-/// A name as a key. It is hashed by one write of its bytes, which is faster than a slice's own hash.
+/// A name as a key. It is hashed by one write of its bytes, which is faster than a slice's own
+/// hash.
 #[derive(Clone, Copy)]
 pub struct Name<'a>(pub &'a [u8]);
 

@@ -1,7 +1,10 @@
 //! The rules of meaning: which a statement breaks after the statements before it.
 
-ghost use Rattle.std.specs.Prelude.{◌↔◌, ◌<◌, ℕ, List, IsTrue, IfOk, MatchOption, length, map, vec_len};
-ghost use Rattle.mm_frame.specs.declared.rule.MeaningRule.TheVariants.{M1, M2, M3, M4, M5, M6, M7, M8, M9, M10, M11, M12, M13, M14, M15};
+ghost use Rattle.std.specs.Prelude.{◌↔◌, ◌<◌, ℕ, List, IsTrue, IfOk, MatchOption, length, map};
+ghost use Rattle.std.specs.Prelude.{vec_len};
+ghost use Rattle.mm_frame.specs.declared.rule.MeaningRule.TheVariants.{M1, M2, M3, M4, M5, M6, M7};
+ghost use Rattle.mm_frame.specs.declared.rule.MeaningRule.TheVariants.{M8, M9, M10, M11, M12, M13};
+ghost use Rattle.mm_frame.specs.declared.rule.MeaningRule.TheVariants.{M14, M15};
 ghost use Rattle.mm_frame.specs.Sentence.{Sentence, said_by, StandsTwice};
 ghost use Rattle.mm_frame.specs.Rules.{Breaks, IsMeant, FirstBroken};
 ghost use Rattle.mm_frame.specs.Layout.{AreTables, statements_of};
@@ -113,7 +116,8 @@ fn breaks_m8(tables: &Tables, statement: &Statement) -> bool
 // A member stands twice in a `$d`.
 fn breaks_m9(statement: &Statement, repeats: bool) -> bool
     requires { IsTold repeats (said_by statement.now) }
-    ensures { (before : List Sentence) → (IsTrue result ↔ Breaks M9 before (said_by statement.now)) }
+    ensures { (before : List Sentence)
+        → (IsTrue result ↔ Breaks M9 before (said_by statement.now)) }
 {
     statement.kind == Kind::Distinct && repeats
 }

@@ -37,7 +37,8 @@ pub(crate) fn first_of<'a>(statement: &Statement<'a>) -> Option<&'a [u8]>
     ensures { MatchOption
         result
         ((said_by statement.now).symbols ≡ [])
-        (λ first. (others : List (List ℕ)) × ((said_by statement.now).symbols ≡ first.now ∷ others)) }
+        (λ first. (others : List (List ℕ))
+        × ((said_by statement.now).symbols ≡ first.now ∷ others)) }
 {
     match statement.symbols.as_slice() {
         [first, ..] => Some(first.text),

@@ -1,6 +1,7 @@
 //! Blocks by number, and what is active at a place.
 
-ghost use Rattle.std.specs.Prelude.{◌≡◌, ◌↔◌, ℕ, suc, ◌-◌, ◌<◌, ◌≤◌, List, [], ◌∷◌, ◌++◌, length, take, slice_get, Some, IsTrue, IfOk, OnOk};
+ghost use Rattle.std.specs.Prelude.{◌≡◌, ◌↔◌, ℕ, suc, ◌-◌, ◌<◌, ◌≤◌, List, [], ◌∷◌, ◌++◌, length};
+ghost use Rattle.std.specs.Prelude.{take, slice_get, Some, IsTrue, IfOk, OnOk};
 ghost use Rattle.mm_text.specs.declared.statement.Kind.TheVariants.{Opening, Closing};
 ghost use Rattle.mm_frame.specs.Sentence.{Sentence};
 ghost use Rattle.mm_frame.specs.Active.{IsOpen, IsActive, openings, closings};
@@ -124,7 +125,8 @@ impl Scopes {
     fn stay(&mut self)
         requires { HasRoom self.old }
         ensures { (statements : List Sentence) (e : Sentence) → HaveScopes statements self.old
-            → ¬ (e.kind ≡ Opening) → ¬ (e.kind ≡ Closing) → HaveScopes (statements ++ e ∷ []) self.new }
+            → ¬ (e.kind ≡ Opening) → ¬ (e.kind ≡ Closing)
+            → HaveScopes (statements ++ e ∷ []) self.new }
     {
         let block = self.innermost();
         put(&mut self.blocks, block);

@@ -78,17 +78,20 @@ pub struct Tables<'a> {
 }
 
 impl<'a> Tables<'a> {
-    ghost use Rattle.std.specs.Prelude.{◌≡◌, ◌↔◌, ◌<◌, ◌≤◌, ℕ, [], IfOk, IsTrue, List, MatchOption, Some, length, map, slice_get, take};
+    ghost use Rattle.std.specs.Prelude.{◌≡◌, ◌↔◌, ◌<◌, ◌≤◌, ℕ, [], IfOk, IsTrue, List, MatchOption};
+    ghost use Rattle.std.specs.Prelude.{Some, length, map, slice_get, take};
     ghost use Rattle.mm_text.specs.declared.statement.Kind.TheVariants.{Floating};
     ghost use Rattle.mm_frame.specs.Sentence.{Sentence, Types};
     ghost use Rattle.mm_frame.specs.Frame.{IsDistinct};
     ghost use Rattle.mm_frame.specs.Numbers.{AreNumbers, IsNumberOf};
     ghost use Rattle.mm_frame.specs.Active.{IsActive};
-    ghost use Rattle.mm_frame.specs.Layout.{AreTables, statements_of, database_of, IsDeclared, IsKnown};
+    ghost use Rattle.mm_frame.specs.Layout.{AreTables, statements_of, database_of, IsDeclared};
+    ghost use Rattle.mm_frame.specs.Layout.{IsKnown};
 
     /// No statements.
     pub(crate) fn new(alloc: Global) -> Result<Tables<'a>, AllocError>
-        ensures { IfOk result (λ t. AreTables t × (database_of t ≡ record { statements = []; bytes = 0 })) }
+        ensures { IfOk result (λ t. AreTables t
+            × (database_of t ≡ record { statements = []; bytes = 0 })) }
     {
         let scopes = Scopes::new(alloc)?;
         Ok(Tables {

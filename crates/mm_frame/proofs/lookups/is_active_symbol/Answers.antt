@@ -1,4 +1,4 @@
-use Rattle.std.proofs.Common.{IsTrue, inl, rules}
+use Rattle.std.proofs.Common.{inl}
 use Rattle.mm_frame.specs.Layout.{statements_of}
 use Rattle.mm_frame.proofs.LookupLaws.{active_symbol}
 use Rattle.mm_frame.proofs.lookups.is_active_symbol.Goals as goal

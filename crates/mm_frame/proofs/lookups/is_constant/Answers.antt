@@ -1,4 +1,3 @@
-use Rattle.std.proofs.Common.{IsTrue}
 use Rattle.mm_frame.specs.Layout.{statements_of}
 use Rattle.mm_frame.proofs.LookupLaws.{constant_says}
 use Rattle.mm_frame.proofs.lookups.is_constant.Goals as goal

@@ -1,4 +1,3 @@
-use Rattle.std.proofs.Common.{IsTrue}
 use Rattle.mm_frame.specs.Layout.{statements_of}
 use Rattle.mm_frame.proofs.LookupLaws.{label_number, found_says, both_ways, turned}
 use Rattle.mm_frame.proofs.lookups.is_label.Goals as goal

@@ -1,4 +1,4 @@
-use Rattle.std.proofs.Common.{rules, ℕ, List, map}
+use Rattle.std.proofs.Common.{rules, ℕ, List}
 use Rattle.std.proofs.lemmas.Iterator.{YieldsList-from_slice}
 use borrow.Author.Tests.{tests}
 use Rattle.mm_frame.specs.Layout.{statements_of}

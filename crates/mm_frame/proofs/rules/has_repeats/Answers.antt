@@ -1,4 +1,4 @@
-use Rattle.std.proofs.Common.{rules, ◌<◌, length, arith}
+use Rattle.std.proofs.Common.{rules, arith}
 use Rattle.mm_frame.proofs.Numbered.{once_with_name}
 use Rattle.mm_frame.proofs.RepeatsCode.{found_again, new_name}
 use Rattle.mm_frame.proofs.rules.has_repeats.Goals as goal

@@ -1,4 +1,4 @@
-use Rattle.std.proofs.Common.{ℕ, ◌<◌, ◌≡◌, map, arith, ap}
+use Rattle.std.proofs.Common.{◌≡◌, arith, ap}
 use Rattle.indexmap.specs.IndexSet.{spare}
 use Rattle.mm_frame.proofs.NameLists.{added_name, holds_if_ok}
 use Rattle.mm_frame.proofs.names.Names.add.Goals as goal

@@ -1,4 +1,4 @@
-use Rattle.std.proofs.Common.{rules, IsTrue, false, sym, ◌∙◌}
+use Rattle.std.proofs.Common.{rules}
 use Rattle.mm_frame.proofs.ScopeCode.{active_by_end, no_end, no_block}
 use Rattle.mm_frame.specs.declared.scopes.TheConstants.{NEVER}
 use Rattle.mm_frame.proofs.scopes.Scopes.is_active.Goals as goal

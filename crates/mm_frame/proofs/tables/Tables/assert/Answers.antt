@@ -3,17 +3,17 @@ use Rattle.mm_frame.specs.Sentence.{IsStated, IsAssertion}
 use Rattle.mm_frame.specs.Layout.{IsFrameInfo, statements_of}
 use Rattle.mm_frame.specs.Gathered.{ArePlaces}
 use Rattle.mm_frame.specs.Naming.{label_info}
-use Rattle.mm_frame.proofs.SameTables.{same_tables}
-use Rattle.mm_frame.proofs.NamedTables.{few_labels, assertion_taken, before_same, asserted, framed, on_err}
+use Rattle.mm_frame.proofs.SameTables.{on_err, same_tables}
+use Rattle.mm_frame.proofs.NamedTables.{few_labels, assertion_taken, before_same, asserted, framed}
 use Rattle.mm_frame.proofs.tables.Tables.assert.Goals as goal
 
 pub returns-in_err-reserve-clause-err : goal.returns-in_err-reserve-clause-err
-returns-in_err-reserve-clause-err c = on_err c.from_residual-in_err-reserve.result _ (same_tables _ _ c.requires.tables c.reserve.ensures.same)
+returns-in_err-reserve-clause-err c = on_err c.from_residual-in_err-reserve.result (same_tables _ _ c.requires.tables c.reserve.ensures.same)
 
 pub returns-in_err-reserve-2-clause-err : goal.returns-in_err-reserve-2-clause-err
 returns-in_err-reserve-2-clause-err c =
     let same = c.reserve.ensures.same in
-    on_err c.from_residual-in_err-reserve-2.result _ (same_tables _ _ c.requires.tables (record {
+    on_err c.from_residual-in_err-reserve-2.result (same_tables _ _ c.requires.tables (record {
       symbols = same.symbols;
       infos = same.infos;
       labels = same.labels;
@@ -31,7 +31,7 @@ returns-in_err-reserve-2-clause-err c =
 pub returns-in_err-reserve-3-clause-err : goal.returns-in_err-reserve-3-clause-err
 returns-in_err-reserve-3-clause-err c =
     let same = c.reserve.ensures.same in
-    on_err c.from_residual-in_err-reserve-3.result _ (same_tables _ _ c.requires.tables (record {
+    on_err c.from_residual-in_err-reserve-3.result (same_tables _ _ c.requires.tables (record {
       symbols = same.symbols;
       infos = same.infos;
       labels = same.labels;

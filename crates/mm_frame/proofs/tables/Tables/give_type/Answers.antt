@@ -2,13 +2,13 @@ use Rattle.std.proofs.Common.{sym, ap, ◌∙◌, subst, ◌≡◌, length, [], 
 use Rattle.std.specs.List.{slice_get}
 use Rattle.mm_text.specs.declared.statement.Kind.TheVariants.{Floating}
 use Rattle.mm_frame.specs.declared.answer.Taken.TheVariants.{Hypothesis}
-use Rattle.mm_frame.proofs.SameTables.{same_tables}
-use Rattle.mm_frame.proofs.NamedTables.{Before, IsWritten, few_labels, next_number, before_same, typed, on_err, typing_numbers, known_info, noted}
+use Rattle.mm_frame.proofs.SameTables.{on_err, same_tables}
+use Rattle.mm_frame.proofs.NamedTables.{Before, IsWritten, few_labels, next_number, before_same, typed, typing_numbers, known_info, noted}
 use Rattle.mm_frame.proofs.tables.Tables.give_type.Goals as goal
 use Rattle.mm_frame.proofs.tables.Tables.give_type.Goals.{in-Some, in-None}
 
 pub returns-in_err-reserve-clause-err : goal.returns-in_err-reserve-clause-err
-returns-in_err-reserve-clause-err c = on_err c.from_residual.result _ (same_tables _ _ c.requires.tables c.reserve.ensures.same)
+returns-in_err-reserve-clause-err c = on_err c.from_residual.result (same_tables _ _ c.requires.tables c.reserve.ensures.same)
 
 pub name-id-requires-clause-labels : goal.name-id-requires-clause-labels
 name-id-requires-clause-labels c =

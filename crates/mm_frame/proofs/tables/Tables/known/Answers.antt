@@ -1,4 +1,3 @@
-use Rattle.std.proofs.Common.{Some, None, sym, ◌∙◌}
 use Rattle.mm_frame.specs.Layout.{statements_of}
 use Rattle.mm_frame.proofs.LookupLaws.{known_match, unknown}
 use Rattle.mm_frame.proofs.tables.Tables.known.Goals as goal

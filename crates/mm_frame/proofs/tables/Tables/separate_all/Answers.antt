@@ -1,31 +1,25 @@
 use Rattle.std.proofs.Common.{◌≡◌, ◌+◌, ◌++◌, [], ◌∷◌, ℕ, length, map, None, refl, ap, sym, ◌∙◌}
-use Rattle.std.proofs.Common.{Result, Ok, Err}
 use Rattle.std.specs.Bool.{if◌then◌else◌}
-use Rattle.std.specs.Result.{OnErr}
 use Rattle.mm_text.specs.declared.statement.Kind.TheVariants.{Distinct, Closing}
 use Rattle.mm_frame.specs.ScopesOf.{HaveScopes}
 use Rattle.mm_frame.specs.Layout.{statements_of}
 use Rattle.mm_frame.specs.Grows.{entry_of}
 use Rattle.mm_frame.specs.Separated.{stated_at}
 use Rattle.mm_frame.proofs.Entries.{length-sentences}
-use Rattle.mm_frame.proofs.SameTables.{same_tables}
+use Rattle.mm_frame.proofs.SameTables.{on_err, same_tables}
 use Rattle.mm_frame.proofs.SeparatedTables.{separated}
 use Rattle.mm_frame.proofs.tables.Tables.separate_all.Goals as goal
 
 distinct_closes : ¬ (Distinct ≡ Closing)
 distinct_closes e = absurd (cc)
 
-on_err : {T E : Type 0} (r : Result T E) (P : Type 0) → P → OnErr r P
-on_err (Ok x) P h = tt
-on_err (Err e) P h = h
-
 pub returns-in_err-reserve-clause-err : goal.returns-in_err-reserve-clause-err
-returns-in_err-reserve-clause-err c = on_err _ _ (same_tables _ _ c.requires.tables c.reserve.ensures.same)
+returns-in_err-reserve-clause-err c = on_err _ (same_tables _ _ c.requires.tables c.reserve.ensures.same)
 
 pub returns-in_err-reserve-2-clause-err : goal.returns-in_err-reserve-2-clause-err
 returns-in_err-reserve-2-clause-err c =
     let same = c.reserve.ensures.same in
-    on_err _ _ (same_tables _ _ c.requires.tables (record {
+    on_err _ (same_tables _ _ c.requires.tables (record {
       symbols = same.symbols;
       infos = same.infos;
       labels = same.labels;

@@ -1,11 +1,11 @@
 use Rattle.std.proofs.Common.{◌≡◌, ap, ◌∙◌, length, arith, ◌++◌, ◌∷◌, []}
 use Rattle.mm_frame.specs.declared.answer.Taken.TheVariants.{Hypothesis}
-use Rattle.mm_frame.proofs.SameTables.{same_tables}
-use Rattle.mm_frame.proofs.NamedTables.{few_labels, next_number, before_same, supposed, on_err}
+use Rattle.mm_frame.proofs.SameTables.{on_err, same_tables}
+use Rattle.mm_frame.proofs.NamedTables.{few_labels, next_number, before_same, supposed}
 use Rattle.mm_frame.proofs.tables.Tables.suppose.Goals as goal
 
 pub returns-in_err-reserve-clause-err : goal.returns-in_err-reserve-clause-err
-returns-in_err-reserve-clause-err c = on_err c.from_residual.result _ (same_tables _ _ c.requires.tables c.reserve.ensures.same)
+returns-in_err-reserve-clause-err c = on_err c.from_residual.result (same_tables _ _ c.requires.tables c.reserve.ensures.same)
 
 pub name-id-requires-clause-labels : goal.name-id-requires-clause-labels
 name-id-requires-clause-labels c = rw c.reserve.ensures.same.labels (few_labels c.args.self.now c.args.bytes c.requires.tables c.requires.room)
