@@ -1,5 +1,6 @@
 pub mod Verdict
 pub mod Reply
+pub mod Shown
 pub mod Status
 pub mod Conclusion
 pub mod Ranges

@@ -11,6 +11,7 @@ mod place;
 mod progress;
 mod reply;
 mod rule;
+mod shown;
 mod status;
 #[cfg(test)]
 mod tests;

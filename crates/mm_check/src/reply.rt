@@ -18,7 +18,7 @@ use mm_text::File;
 use std::alloc::{AllocError, Global};
 
 /// Puts a space and a word at the end.
-fn push_word(out: &mut Vec<u8>, word: &[u8]) -> Result<(), AllocError>
+pub(crate) fn push_word(out: &mut Vec<u8>, word: &[u8]) -> Result<(), AllocError>
     ensures { OnOk result (out.new.items ≡ out.old.items ++ codes " " ++ word.now) }
 {
     out.push(b' ')?;
