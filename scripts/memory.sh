@@ -2,7 +2,7 @@
 # Fails where a source tells that memory was refused without a refused growth. No contract can see whether a growth was
 # refused, so `Memory` is made in one place of each fault type alone: the conversion from `AllocError` or `AllocFailed`.
 # Everything else passes it on, by `?`, or in an arm of a `match` whose pattern is itself `Memory` (or `OutOfMemory`).
-# An `AllocError` is made nowhere, but passed on in the same way.
+# An `AllocError` or `AllocFailed` is named as a type alone, and as a value only to be passed on in the same way.
 set -eu
 top=$(CDPATH='' cd -- "$(dirname -- "$0")/.." && pwd)
 cd "$top"
@@ -22,7 +22,9 @@ find crates -name out -prune -o -path '*/src/*' -name '*.rt' ! -name tests.rt ! 
             pattern = ""
         }
         passes = pattern ~ /::(Out[oO]f)?Memory/
-        makes = body ~ /::Memory/ || body ~ /(Err\(|return |= )AllocError[),;]/ || body ~ /^ *AllocError[),;]/
+        values = body
+        gsub(/(: *|, |<)(std::alloc::)?Alloc(Error|Failed<[^>]*>)/, "", values)
+        makes = values ~ /::Memory/ || values ~ /Alloc(Error|Failed)/
         if (makes && !conversion && !passes) {
             printf "%s:%d: makes a want of memory that no growth refused: %s\n", FILENAME, FNR, $0
             found = 1

@@ -15,15 +15,40 @@ made() {
     }
     function finish() {
         if (code != "") {
-            codes = codes summary(body) "\n"
+            codes = codes cut(quoted(sentence)) "\n"
             rules = rules "    RuleText {\n        code: \"" code "\",\n        text: \"" quoted(body) "\",\n    },\n"
         }
         code = ""
         body = ""
     }
+    # a text in lines of at most 80 bytes, without the asterisks of its variables
+    function wrapped(text,    words, count, i, line, lines) {
+        gsub(/\*/, "", text)
+        count = split(text, words, " ")
+        line = words[1]
+        for (i = 2; i <= count; i++) {
+            if (length(line) + 1 + length(words[i]) <= 80) {
+                line = line " " words[i]
+            } else {
+                lines = lines line "\n"
+                line = words[i]
+            }
+        }
+        return lines line
+    }
+    # a line of a literal, cut where the source would be too wide
+    function cut(text,    lines, width) {
+        while (length(text) > 96) {
+            width = 95
+            while (substr(text, width, 1) != " ") { width-- }
+            lines = lines substr(text, 1, width) "\\\n     "
+            text = substr(text, width + 1)
+        }
+        return lines text
+    }
     # the first sentence of a text
     function summary(text) {
-        sub(/\n.*/, "", text)
+        gsub(/\*/, "", text)
         sub(/\. .*/, ".", text)
         return text
     }
@@ -36,7 +61,8 @@ made() {
         finish()
         split($0, cells, / *\| */)
         code = cells[2]
-        body = code ": " cells[3] ".\nIt has no place. Reply: " cells[4] "\n"
+        sentence = summary(code ": " cells[3] ".")
+        body = wrapped(code ": " cells[3] ".") "\nIt has no place. Reply: " cells[4] "\n"
         finish()
         next
     }
@@ -48,7 +74,8 @@ made() {
         sub(/\*\*.*/, "", code)
         text = $0
         sub(/^\*\*[A-Z][0-9]+\*\*: /, "", text)
-        body = code ": " text "\n" place(code)
+        sentence = summary(code ": " text)
+        body = wrapped(code ": " text) "\n" place(code)
         next
     }
     code == "" { next }
@@ -61,7 +88,7 @@ made() {
         finish()
         printf "//! The rules, as `mm explain` tells them. Made by scripts/rules.sh from docs/RULES.md: edit that.\n\n"
         printf "use crate::texts::RuleText;\n\n"
-        printf "/// A line for each code.\npub(crate) const CODES: &str =\n    \"%s\";\n\n", quoted(codes)
+        printf "/// A line for each code.\npub(crate) const CODES: &str =\n    \"%s\";\n\n", codes
         printf "pub(crate) const RULES: &[RuleText<'"'"'static>] = &[\n%s];\n", rules
     }' "$source"
 }

@@ -1,8 +1,9 @@
 #!/bin/sh
-# Drives the built program, through the launcher: each status that it can end with, with the bytes of standard output and
-# of standard error. No contract reaches `main`, so this is what tests it.
+# Drives the built program, through the launcher or by the absolute path given: each status that it can end with, with the
+# bytes of standard output and of standard error. No contract reaches `main`, so this is what tests it.
 set -eu
 top=$(CDPATH='' cd -- "$(dirname -- "$0")/.." && pwd)
+mm=${1-$top/mm}
 folder=$(mktemp -d)
 trap 'rm -rf "$folder"' EXIT
 trap 'exit 1' HUP INT TERM
@@ -10,7 +11,7 @@ cd "$folder"
 failures=0
 
 # The program is built first, so that no message of the launcher is among the bytes that are compared.
-"$top/mm" help >/dev/null
+"$mm" help >/dev/null
 
 # ends STATUS OUT ERR WORDS..: the program, run with these words, ends so. The two texts are written by printf's rules.
 ends() {
@@ -19,7 +20,7 @@ ends() {
     printf "$3" >wanted.err
     shift 3
     status=0
-    "$top/mm" "$@" >got.out 2>got.err || status=$?
+    "$mm" "$@" >got.out 2>got.err || status=$?
     if [ "$status" != "$wanted" ] || ! cmp -s got.out wanted.out || ! cmp -s got.err wanted.err; then
         echo "statuses.sh: mm $*: status $status, wanted $wanted" >&2
         diff wanted.out got.out >&2 || :
@@ -35,7 +36,7 @@ begins() {
     err=$3
     shift 3
     status=0
-    "$top/mm" "$@" >got.out 2>got.err || status=$?
+    "$mm" "$@" >got.out 2>got.err || status=$?
     if [ "$status" != "$wanted" ] || [ "$(sed q got.out)" != "$out" ] || [ "$(sed q got.err)" != "$err" ]; then
         echo "statuses.sh: mm $*: status $status, wanted $wanted" >&2
         cat got.out got.err >&2
@@ -45,21 +46,26 @@ begins() {
 
 cp "$top/examples/first.mm" first.mm
 cp "$top/examples/first.mm" -- -first.mm
+cp "$top/examples/first.mm" -- -
 printf '$c a $.\n$c a $.\n' >twice.mm
 printf '$c a $.\np $a a $.\nq $p a $= ? $.\n' >open.mm
 : >empty.mm
 
 ends 0 'yes 7 statements 1 proofs\n' '' check first.mm
 ends 0 'yes 7 statements 1 proofs\n' '' check -- -first.mm
+ends 0 'yes 7 statements 1 proofs\n' '' check -
 ends 0 'yes 0 statements 0 proofs\n' '' check empty.mm
 begins 0 'Verifies databases of the Metamath language.' '' help
 begins 0 'Verifies databases of the Metamath language.' '' --help
-begins 0 'M2: a symbol of a `$c` was declared before, as a constant or a variable, active or not; or it stands twice in the `$c`.' '' explain M2
+begins 0 'F1: no file was handed in (by the library alone: the program asks for one).' '' explain
+begins 0 'M5: the label equals an earlier label, also one in a closed block.' '' explain M5
 if command -v rt >/dev/null 2>&1; then
     begins 0 "mm 0.1.0, proved with $(rt version)" '' --version
 fi
 ends 1 'no twice.mm 2 - M2 0\n' '' check twice.mm
+begins 2 '' 'Usage: mm <COMMAND>'
 begins 2 '' 'error: unexpected argument '"'--strict'"' found' check --strict first.mm
+begins 2 '' 'error: unexpected argument '"'-f'"' found' check -first.mm
 begins 2 '' 'mm: no rule has the code M222; the nearest is M2' explain M222
 ends 2 '' 'mm: a word is not UTF-8\n' check "$(printf '\377')"
 ends 3 'incomplete 1\nq\n' '' check open.mm
@@ -68,9 +74,24 @@ ends 4 '' 'mm: cannot read none.mm\n' check none.mm
 ends 4 '' 'mm: cannot read .\n' check .
 ends 4 '' 'mm: cannot read none.mm\n' check first.mm none.mm other.mm
 
+# A reader that has gone: the reply of 20,000 incomplete proofs passes what a pipe holds.
+{
+    printf '$c a $.\n'
+    awk 'BEGIN { for (i = 0; i < 20000; i++) { printf "p%d $p a $= ? $.\n", i } }'
+} >many.mm
+{
+    status=0
+    "$mm" check many.mm 2>got.err || status=$?
+    echo "$status" >got.status
+} | head -n 1 >got.out
+if [ "$(cat got.out)" != 'incomplete 20000' ] || [ "$(cat got.status)" != 4 ] || [ "$(cat got.err)" != 'mm: cannot write' ]; then
+    echo "statuses.sh: mm check many.mm | head: status $(cat got.status), wanted 4" >&2
+    failures=$((failures + 1))
+fi
+
 if [ -w /dev/full ]; then
     status=0
-    "$top/mm" check first.mm >/dev/full 2>got.err || status=$?
+    "$mm" check first.mm >/dev/full 2>got.err || status=$?
     printf 'mm: cannot write\n' >wanted.err
     if [ "$status" != 4 ] || ! cmp -s got.err wanted.err; then
         echo "statuses.sh: mm check first.mm, with a full device: status $status, wanted 4" >&2

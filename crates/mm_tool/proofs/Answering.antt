@@ -4,7 +4,7 @@ use Rattle.mm_text.specs.declared.counted.Counted.{Counted}
 use Rattle.mm_check.specs.Status.{number_of}
 use Rattle.mm_check.specs.declared.status.Status.{Status}
 use Rattle.mm_tool.specs.Words.{AsksCheck}
-use Rattle.mm_tool.specs.Ending.{BreaksOff, Ends, IsAnswer, IsCheckReply, Stops, StopsCheck, Takes}
+use Rattle.mm_tool.specs.Ending.{BreaksOff, Ends, AnswersWords, IsCheckReply, Stops, StopsCheck, TakesWhole}
 use Rattle.mm_tool.specs.declared.texts.Texts.{Texts}
 use Rattle.mm_tool.specs.declared.stop.Stop.{Stop}
 use Rattle.mm_tool.specs.declared.stop.Stop.TheVariants.{Usage, NotText, CannotRead, CannotWrite, Memory}
@@ -12,7 +12,7 @@ use Rattle.mm_tool.specs.declared.stop.Stop.TheVariants.{Usage, NotText, CannotR
 -- An answer broke off.
 pub stops_answer : {O T : Type 0} (contents : O → Option (List ℕ)) (holds : List ℕ → Option (List ℕ)) (may_fail : List ℕ → Type 0)
     (texts : Texts) (max : ℕ) (words : List (List ℕ)) (r : Result T Stop) (text : List ℕ) (status : ℕ) (old new : Counted O)
-    → IfErr r (λ stop. stop ≡ CannotWrite) → OnErr r (BreaksOff contents text old new) → IsAnswer holds texts max words text status
+    → IfErr r (λ stop. stop ≡ CannotWrite) → OnErr r (BreaksOff contents text old new) → AnswersWords holds texts max words text status
     → IfErr r (λ stop. Stops contents holds may_fail texts max words stop old new)
 stops_answer contents holds may_fail texts max words (Ok v) text status old new stop broke answers = tt
 stops_answer contents holds may_fail texts max words (Err s) text status old new stop broke answers =
@@ -22,8 +22,8 @@ stops_answer contents holds may_fail texts max words (Err s) text status old new
 -- The check that the words ask for answers them.
 pub answers_check : {O E : Type 0} (contents : O → Option (List ℕ)) (holds : List ℕ → Option (List ℕ)) (texts : Texts) (max : ℕ)
     (words names : List (List ℕ)) (r : Result Status E) (old new : Counted O) → AsksCheck words names
-    → IfOk r (λ status. (text : List ℕ) × IsCheckReply holds names max text (number_of status) × Takes contents text old new)
-    → IfOk r (λ status. (text : List ℕ) × IsAnswer holds texts max words text (number_of status) × Takes contents text old new)
+    → IfOk r (λ status. (text : List ℕ) × IsCheckReply holds names max text (number_of status) × TakesWhole contents text old new)
+    → IfOk r (λ status. (text : List ℕ) × AnswersWords holds texts max words text (number_of status) × TakesWhole contents text old new)
 answers_check contents holds texts max words names (Ok status) old new asked (text, reply, taken) =
     (text, inr (inr (inr (names, asked, reply))), taken)
 answers_check contents holds texts max words names (Err e) old new asked h = tt
@@ -45,8 +45,8 @@ stops_check contents holds may_fail texts max words names (Err Memory) old new a
 pub ends_answered : {O E : Type 0} (contents : O → Option (List ℕ)) (said : E → Option (List ℕ)) (holds : List ℕ → Option (List ℕ))
     (may_fail : List ℕ → Type 0) (texts : Texts) (max : ℕ) (words : List (List ℕ)) (status number : ℕ) (old new : Counted O) (err : Counted E)
     → number ≡ status
-    → ((text : List ℕ) × IsAnswer holds texts max words text status × Takes contents text old new)
+    → ((text : List ℕ) × AnswersWords holds texts max words text status × TakesWhole contents text old new)
     → Ends contents said holds may_fail texts max words number old new err err
 ends_answered contents said holds may_fail texts max words status number old new err same (text, answers, taken) =
-    let Answered : ℕ → Type 0 = λ n. IsAnswer holds texts max words text n in
+    let Answered : ℕ → Type 0 = λ n. AnswersWords holds texts max words text n in
     inl (record { text = text; answers = subst Answered (sym same) answers; written = taken; quiet = (refl, refl) })

@@ -31,17 +31,17 @@ values_are f id values e =
     ap given (e ∙ raw_values-rows f id)
 
 -- the kind of an error is wanting memory, or one of the faults of the words
-among : (app : App) (words : List Text) (e : Error) → app ≡ command_line
+kind_among : (app : App) (words : List Text) (e : Error) → app ≡ command_line
     → (is_simple_and_free app ≡ true → HasKind (fault_of app words) e) → HasKind (fault_of command_line words) e
-among app words e is kinds =
+kind_among app words e is kinds =
     let Kind : App → Type 0 = λ a. HasKind (fault_of a words) e in
     subst Kind is (kinds (ap is_simple_and_free is ∙ is_free_line))
 
 -- A fault that isn't want of memory is one of those of the words.
-named : (words : List Text) (e : Error) (kind : ErrorKind) → HasKind (fault_of command_line words) e → kind_of e ≡ kind → kind ≢ OutOfMemory
+among_faults : (words : List Text) (e : Error) (kind : ErrorKind) → HasKind (fault_of command_line words) e → kind_of e ≡ kind → kind ≢ OutOfMemory
     → IsAmong kind (fault_of command_line words)
-named words e kind (inl memory) is other = absurd (other (sym is ∙ memory))
-named words e kind (inr among) is other =
+among_faults words e kind (inl memory) is other = absurd (other (sym is ∙ memory))
+among_faults words e kind (inr among) is other =
     let Among : ErrorKind → Type 0 = λ k. IsAmong k (fault_of command_line words) in
     subst Among is among
 
@@ -49,8 +49,8 @@ named words e kind (inr among) is other =
 pub request_asked : (app : App) (words : List Text) (e : Error) (r : Result Request Stop) → app ≡ command_line
     → (is_simple_and_free app ≡ true → HasKind (fault_of app words) e)
     → IfOk r (IsOfKind (kind_of e)) → IfOk r (Asks words)
-request_asked app words e (Ok Help) is kinds h = inl (named words e DisplayHelp (among app words e is kinds) h (λ same. absurd (cc)))
-request_asked app words e (Ok Version) is kinds h = named words e DisplayVersion (among app words e is kinds) h (λ same. absurd (cc))
+request_asked app words e (Ok Help) is kinds h = inl (among_faults words e DisplayHelp (kind_among app words e is kinds) h (λ same. absurd (cc)))
+request_asked app words e (Ok Version) is kinds h = among_faults words e DisplayVersion (kind_among app words e is kinds) h (λ same. absurd (cc))
 request_asked app words e (Ok (Explain asked)) is kinds h = absurd h
 request_asked app words e (Ok (Check names)) is kinds h = absurd h
 request_asked app words e (Err fault) is kinds h = h
@@ -61,30 +61,30 @@ pub fault_met : (app : App) (words : List Text) (e : Error) (r : Result Request 
     → IfErr r (IsFaultOfKind (kind_of e)) → IfErr r (IsWordFault words)
 fault_met app words e (Ok request) is kinds h = h
 fault_met app words e (Err (Usage text)) is kinds h =
-    inl (kind_of e, named words e (kind_of e) (among app words e is kinds) refl h.0, h.1, h.2)
+    inl (kind_of e, among_faults words e (kind_of e) (kind_among app words e is kinds) refl h.0, h.1, h.2)
 fault_met app words e (Err NotText) is kinds h = absurd h
 fault_met app words e (Err (CannotRead name)) is kinds h = absurd h
 fault_met app words e (Err CannotWrite) is kinds h = absurd h
 fault_met app words e (Err Memory) is kinds h = tt
 
-abbrev paired : {X : Type 0} → (X → Text) → (X → List Row) → Option X → Option (Text × List Row)
-paired f g o = option_map {U = Text × List Row} (λ b. (f b, g b)) o
+abbrev pair_in : {X : Type 0} → (X → Text) → (X → List Row) → Option X → Option (Text × List Row)
+pair_in f g o = option_map {U = Text × List Row} (λ b. (f b, g b)) o
 
 -- A name and rows that are known apart are known together.
-joined : {X : Type 0} (f : X → Text) (g : X → List Row) (o : Option X) (name : Text) (rows : List Row)
-    → option_map f o ≡ Some name → option_map (λ (p : Text × List Row). p.1) (paired f g o) ≡ Some rows
-    → paired f g o ≡ Some (name, rows)
-joined f g None name rows e h = absurd (cc)
-joined f g (Some b) name rows e h = cc
+pair_known : {X : Type 0} (f : X → Text) (g : X → List Row) (o : Option X) (name : Text) (rows : List Row)
+    → option_map f o ≡ Some name → option_map (λ (p : Text × List Row). p.1) (pair_in f g o) ≡ Some rows
+    → pair_in f g o ≡ Some (name, rows)
+pair_known f g None name rows e h = absurd (cc)
+pair_known f g (Some b) name rows e h = cc
 
 -- the name alone
 first_only : {X : Type 0} (f : X → Text) (g : X → List Row) (o : Option X) (name : Text) (rows : List Row)
-    → paired f g o ≡ Some (name, rows) → option_map f o ≡ Some name
+    → pair_in f g o ≡ Some (name, rows) → option_map f o ≡ Some name
 first_only f g None name rows e = absurd (cc)
 first_only f g (Some b) name rows e = ap (option_map {U = Text} (λ (p : Text × List Row). p.0)) e
 
-accepted : (app : App) (words : List Text) → app ≡ command_line → (is_simple_and_free app ≡ true → fault_of app words ≡ []) → IsAccepted words
-accepted app words is free =
+is_accepted : (app : App) (words : List Text) → app ≡ command_line → (is_simple_and_free app ≡ true → fault_of app words ≡ []) → IsAccepted words
+is_accepted app words is free =
     let Free : App → Type 0 = λ a. fault_of a words ≡ [] in
     subst Free is (free (ap is_simple_and_free is ∙ is_free_line))
 
@@ -100,7 +100,7 @@ pub commands_met : (app : App) (words : List Text) (m : ArgMatches) (name : Text
     → subcommand_name_of m ≡ Some name → option_map (λ (p : Text × List Row). p.1) (subcommand_rows_of m) ≡ Some rows
     → Commands words name rows
 commands_met app words m name rows is free matched same values =
-    (accepted app words is free, sym (rows_met app words m is matched) ∙ joined _ _ (out-ArgMatches m).subcommand name rows same values)
+    (is_accepted app words is free, sym (rows_met app words m is matched) ∙ pair_known _ _ (out-ArgMatches m).subcommand name rows same values)
 
 -- A command that the parse didn't meet isn't that of the words.
 pub not_commanded : (app : App) (words : List Text) (m : ArgMatches) (name : Text) (rows : List Row) → app ≡ command_line

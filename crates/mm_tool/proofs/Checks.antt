@@ -7,7 +7,7 @@ use Rattle.mm_check.specs.Reply.{WritesBeginning}
 use Rattle.mm_check.specs.declared.command.RunFault.{RunFault}
 use Rattle.mm_check.specs.declared.command.RunFault.TheVariants as run
 use Rattle.mm_check.specs.declared.status.Status.{Status}
-use Rattle.mm_tool.proofs.FilesRead.{handed_on}
+use Rattle.mm_tool.proofs.FilesRead.{error_keeps}
 use Rattle.mm_tool.specs.Folder.{AreHeld, AreTooLong}
 use Rattle.mm_tool.specs.Ending.{BreaksOff, StopsCheck, stop_of}
 use Rattle.mm_tool.specs.declared.stop.Stop.{Stop}
@@ -23,17 +23,17 @@ stops_too_long contents holds may_fail names max (Err s) old new stop broke long
     let Stopped : Stop → Type 0 = λ s. StopsCheck contents holds may_fail names max s old new in
     subst Stopped (sym stop) (codes "load F3\n", 4, inr (long, refl, refl), broke)
 
-abbrev failed_run : RunFault → Result Status RunFault
-failed_run fault = Err fault
+abbrev run_error : RunFault → Result Status RunFault
+run_error fault = Err fault
 
 -- The reply over the files that were read broke off, or memory for it was wanting.
 stops_run : {O : Type 0} (contents : O → Option (List ℕ)) (holds : List ℕ → Option (List ℕ)) (may_fail : List ℕ → Type 0)
     (names : List (List ℕ)) (max : ℕ) (fault : RunFault) (files : List PlainFile) (old new : Counted O)
     → AreHeld holds names files → total_bytes files ≤ max
-    → (IsErrOf (failed_run fault) run.Device → WritesBeginning files (contents (inner_of old)) (contents (inner_of new)))
-    → (IsErrOf (failed_run fault) run.Memory → inner_of new ≡ inner_of old)
-    → (IsErrOf (failed_run fault) run.Device → faults_of new ≡ faults_of old + 1)
-    → ((IsErrOf (failed_run fault) run.Device → ⊥) → faults_of new ≡ faults_of old)
+    → (IsErrOf (run_error fault) run.Device → WritesBeginning files (contents (inner_of old)) (contents (inner_of new)))
+    → (IsErrOf (run_error fault) run.Memory → inner_of new ≡ inner_of old)
+    → (IsErrOf (run_error fault) run.Device → faults_of new ≡ faults_of old + 1)
+    → ((IsErrOf (run_error fault) run.Device → ⊥) → faults_of new ≡ faults_of old)
     → StopsCheck contents holds may_fail names max (stop_of fault) old new
 stops_run contents holds may_fail names max run.Device files old new held within device memory counted uncounted =
     let (text, status, reply, beginning) = device refl in
@@ -44,12 +44,12 @@ stops_run contents holds may_fail names max run.Memory files old new held within
 pub stops_at_run : {O T : Type 0} (contents : O → Option (List ℕ)) (holds : List ℕ → Option (List ℕ)) (may_fail : List ℕ → Type 0)
     (names : List (List ℕ)) (max : ℕ) (r : Result T Stop) (fault : RunFault) (given files : List PlainFile) (old new : Counted O)
     → IsErrAnd r (λ stop. stop ≡ stop_of fault) → given ≡ files → AreHeld holds names files → total_bytes files ≤ max
-    → (IsErrOf (failed_run fault) run.Device → WritesBeginning given (contents (inner_of old)) (contents (inner_of new)))
-    → (IsErrOf (failed_run fault) run.Memory → inner_of new ≡ inner_of old)
-    → (IsErrOf (failed_run fault) run.Device → faults_of new ≡ faults_of old + 1)
-    → ((IsErrOf (failed_run fault) run.Device → ⊥) → faults_of new ≡ faults_of old)
+    → (IsErrOf (run_error fault) run.Device → WritesBeginning given (contents (inner_of old)) (contents (inner_of new)))
+    → (IsErrOf (run_error fault) run.Memory → inner_of new ≡ inner_of old)
+    → (IsErrOf (run_error fault) run.Device → faults_of new ≡ faults_of old + 1)
+    → ((IsErrOf (run_error fault) run.Device → ⊥) → faults_of new ≡ faults_of old)
     → IfErr r (λ stop. StopsCheck contents holds may_fail names max stop old new)
 stops_at_run contents holds may_fail names max r fault given files old new is same held within device memory counted uncounted =
     let Begins : List PlainFile → Type 0 = λ list. WritesBeginning list (contents (inner_of old)) (contents (inner_of new)) in
-    handed_on r (stop_of fault) (λ stop. StopsCheck contents holds may_fail names max stop old new) is
+    error_keeps r (stop_of fault) (λ stop. StopsCheck contents holds may_fail names max stop old new) is
     (stops_run contents holds may_fail names max fault files old new held within (λ e. subst Begins same (device e)) memory counted uncounted)

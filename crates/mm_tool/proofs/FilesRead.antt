@@ -10,49 +10,49 @@ use Rattle.mm_tool.specs.declared.files.FileFault.{FileFault}
 use Rattle.mm_tool.specs.declared.files.FileFault.TheVariants.{CannotRead, TooLong, Memory}
 use Rattle.mm_tool.specs.declared.files.ReadFile.{ReadFile}
 
-abbrev words : List (Bor (List ℕ)) → List (List ℕ)
-words names = map (λ n. n.now) names
+abbrev texts_in : List (Bor (List ℕ)) → List (List ℕ)
+texts_in names = map (λ n. n.now) names
 
 -- An error that is handed on keeps what is known of it.
-pub handed_on : {T E : Type 0} (r : Result T E) (e : E) (P : E → Type 0) → IsErrAnd r (λ x. x ≡ e) → P e → IfErr r P
-handed_on (Ok v) e P h p = tt
-handed_on (Err x) e P h p = subst P (sym h) p
+pub error_keeps : {T E : Type 0} (r : Result T E) (e : E) (P : E → Type 0) → IsErrAnd r (λ x. x ≡ e) → P e → IfErr r P
+error_keeps (Ok v) e P h p = tt
+error_keeps (Err x) e P h p = subst P (sym h) p
 
 -- the names are those before a place, the one there, and those after it
-pub words_at : (names : List (Bor (List ℕ))) (i : ℕ) (d : Bor (List ℕ)) → i < length names
-    → words names ≡ words (take i names) ++ (get_or names i d).now ∷ words (drop (suc i) names)
-words_at names i d h =
-    ap words (sym (take-append-drop i names) ∙ ap (λ l. take i names ++ l) (drop-cons names i d h))
+pub texts_at : (names : List (Bor (List ℕ))) (i : ℕ) (d : Bor (List ℕ)) → i < length names
+    → texts_in names ≡ texts_in (take i names) ++ (get_or names i d).now ∷ texts_in (drop (suc i) names)
+texts_at names i d h =
+    ap texts_in (sym (take-append-drop i names) ∙ ap (λ l. take i names ++ l) (drop-cons names i d h))
     ∙ map-append (λ (n : Bor (List ℕ)). n.now) (take i names) (get_or names i d ∷ drop (suc i) names)
 
 abbrev pub comes_next : (holds : List ℕ → Option (List ℕ)) (names : List (Bor (List ℕ))) (max i : ℕ) (d : Bor (List ℕ)) (before : List PlainFile) (left : ℕ)
-    → i < length names → map (λ f. f.name) before ≡ words (take i names) → AllByRecursion (IsHeld holds) before → total_bytes before + left ≡ max
-    → ComesNext holds (words names) max (get_or names i d).now
+    → i < length names → map (λ f. f.name) before ≡ texts_in (take i names) → AllByRecursion (IsHeld holds) before → total_bytes before + left ≡ max
+    → ComesNext holds (texts_in names) max (get_or names i d).now
 comes_next holds names max i d before left h named held whole = record {
   before = before;
-  after = words (drop (suc i) names);
-  whole = words_at names i d h ∙ ap (λ l. l ++ (get_or names i d).now ∷ words (drop (suc i) names)) (sym named);
-  held = held;
+  after = texts_in (drop (suc i) names);
+  whole = texts_at names i d h ∙ ap (λ l. l ++ (get_or names i d).now ∷ texts_in (drop (suc i) names)) (sym named);
+  are_held = held;
   within = omega arith;
 }
 
-abbrev failed : FileFault → Result ReadFile FileFault
-failed f = Err f
+abbrev read_error : FileFault → Result ReadFile FileFault
+read_error f = Err f
 
 -- Where one file wasn't read, not all were.
-pub fault_at : (holds : List ℕ → Option (List ℕ)) (may_fail : List ℕ → Type 0) (names : List (Bor (List ℕ))) (max : ℕ) (name : Bor (List ℕ)) (left : ℕ)
-    (next : ComesNext holds (words names) max name.now) → total_bytes next.before + left ≡ max → (f : FileFault)
-    → ((word : Bor (List ℕ)) → failed f ≡ failed (CannotRead word) → word ≡ name)
-    → ((word : Bor (List ℕ)) → failed f ≡ failed (CannotRead word) → may_fail name.now)
-    → (IsErrOf (failed f) TooLong → IfSome (holds name.now) (λ all. left < length all))
-    → IsFileFault holds may_fail (words names) max f
-fault_at holds may_fail names max name left next whole (CannotRead word) named fails over =
-    let Unreadable : Bor (List ℕ) → Type 0 = λ w. ComesNext holds (words names) max w.now × may_fail w.now in
+pub file_fault_at : (holds : List ℕ → Option (List ℕ)) (may_fail : List ℕ → Type 0) (names : List (Bor (List ℕ))) (max : ℕ) (name : Bor (List ℕ)) (left : ℕ)
+    (next : ComesNext holds (texts_in names) max name.now) → total_bytes next.before + left ≡ max → (f : FileFault)
+    → ((word : Bor (List ℕ)) → read_error f ≡ read_error (CannotRead word) → word ≡ name)
+    → ((word : Bor (List ℕ)) → read_error f ≡ read_error (CannotRead word) → may_fail name.now)
+    → (IsErrOf (read_error f) TooLong → IfSome (holds name.now) (λ all. left < length all))
+    → IsFileFault holds may_fail (texts_in names) max f
+file_fault_at holds may_fail names max name left next whole (CannotRead word) named fails over =
+    let Unreadable : Bor (List ℕ) → Type 0 = λ w. ComesNext holds (texts_in names) max w.now × may_fail w.now in
     subst Unreadable (sym (named word refl)) (next, fails word refl)
-fault_at holds may_fail names max name left next whole TooLong named fails over =
+file_fault_at holds may_fail names max name left next whole TooLong named fails over =
     (name.now, next, more (holds name.now) (over refl))
   where
     more : (o : Option (List ℕ)) → IfSome o (λ all. left < length all) → IfSome o (λ all. max < total_bytes next.before + length all)
     more None h = tt
     more (Some all) h = omega arith
-fault_at holds may_fail names max name left next whole Memory named fails over = tt
+file_fault_at holds may_fail names max name left next whole Memory named fails over = tt

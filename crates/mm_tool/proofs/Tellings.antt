@@ -10,14 +10,14 @@ use Rattle.std.specs.List.{AllByRecursion}
 use Rattle.std.specs.Io.KnownBytes.{Appends}
 use Rattle.mm_text.specs.Device.{inner_of}
 use Rattle.mm_text.specs.declared.counted.Counted.{Counted}
-use Rattle.mm_tool.specs.Ending.{BreaksOff, Takes, Tells, IsUnknown, line_of}
+use Rattle.mm_tool.specs.Ending.{BreaksOff, TakesWhole, TellsLine, IsUnknownCode, error_line}
 use Rattle.mm_tool.specs.declared.texts.RuleText.{RuleText}
 use Rattle.mm_tool.specs.declared.texts.Texts.{Texts}
 use Rattle.mm_tool.specs.declared.stop.Stop.{Stop}
 
 -- Where the second part was told after the first, both were.
 pub tells_both : {E : Type 0} (contents : E → Option (List ℕ)) (first second : List ℕ) (a b d : Counted E)
-    → Takes contents first a b → Tells contents second b d → Tells contents (first ++ second) a d
+    → TakesWhole contents first a b → TellsLine contents second b d → TellsLine contents (first ++ second) a d
 tells_both contents first second a b d one (inl other) =
     inl (Appends-trans _ _ _ first second one.0 other.0, other.1 ∙ one.1)
 tells_both contents first second a b d one (inr ((k, less, put), counted)) =
@@ -33,16 +33,16 @@ tells_both contents first second a b d one (inr ((k, less, put), counted)) =
 
 -- Where the first part broke off, both did.
 pub breaks_first : {E : Type 0} (contents : E → Option (List ℕ)) (first second : List ℕ) (a b : Counted E)
-    → BreaksOff contents first a b → Tells contents (first ++ second) a b
+    → BreaksOff contents first a b → TellsLine contents (first ++ second) a b
 breaks_first contents first second a b ((k, less, put), counted) =
     let Put : List ℕ → Type 0 = λ text. Appends (contents (inner_of a)) (contents (inner_of b)) text in
     inr ((k, omega (arith, length-append first second), subst Put (sym (take-append-le k first second (omega arith))) put), counted)
 
 -- The line that was told is that of the stop.
 pub tells_stop : {E : Type 0} (contents : E → Option (List ℕ)) (stop this : Stop) (a b : Counted E) → stop ≡ this
-    → Tells contents (line_of this) a b → Tells contents (line_of stop) a b
+    → TellsLine contents (error_line this) a b → TellsLine contents (error_line stop) a b
 tells_stop contents stop this a b same told =
-    let Told : Stop → Type 0 = λ s. Tells contents (line_of s) a b in
+    let Told : Stop → Type 0 = λ s. TellsLine contents (error_line s) a b in
     subst Told (sym same) told
 
 -- What holds of each of a list, and of one more, holds of each of both.
@@ -60,7 +60,7 @@ different a b h = not_from_Decides (bytes_eq a b) (bytes_eq-Decides a b) h
 
 -- No rule has the asked code, where none has the first one.
 pub unknown_first : (texts : Texts) (asked : List (Bor (List ℕ))) (code : Bor (List ℕ)) → slice_get asked 0 ≡ Some code
-    → AllByRecursion (λ rule. rule.code.now ≢ code.now) texts.rules.now → IsUnknown texts (map (λ c. c.now) asked)
+    → AllByRecursion (λ rule. rule.code.now ≢ code.now) texts.rules.now → IsUnknownCode texts (map (λ c. c.now) asked)
 unknown_first texts [] code first others = absurd (cc)
 unknown_first texts (c ∷ cs) code first others =
     let Other : Bor (List ℕ) → Type 0 = λ x. AllByRecursion (λ (rule : RuleText). rule.code.now ≢ x.now) texts.rules.now in

@@ -24,8 +24,8 @@ use Rattle.mm_tool.specs.declared.stop.Stop.TheVariants.{Usage, NotText, CannotR
 -- ---- devices
 
 -- The device took these bytes, and none of its calls failed.
-abbrev pub Takes : {W : Type 0} → (W → Option (List ℕ)) → List ℕ → Counted W → Counted W → Type 0
-Takes contents text old new =
+abbrev pub TakesWhole : {W : Type 0} → (W → Option (List ℕ)) → List ℕ → Counted W → Counted W → Type 0
+TakesWhole contents text old new =
     Appends (contents (inner_of old)) (contents (inner_of new)) text × (faults_of new ≡ faults_of old)
 
 -- It took a proper beginning of these bytes, and one of its calls failed.
@@ -52,19 +52,19 @@ IsExplanation texts (code ∷ others) text =
     (rule : RuleText) × Contains texts.rules.now rule × (rule.code.now ≡ code) × (text ≡ rule.text.now)
 
 -- No rule has the asked code.
-abbrev pub IsUnknown : Texts → List Text → Type 0
-IsUnknown texts [] = ⊥
-IsUnknown texts (code ∷ others) = AllByRecursion (λ rule. rule.code.now ≢ code) texts.rules.now
+abbrev pub IsUnknownCode : Texts → List Text → Type 0
+IsUnknownCode texts [] = ⊥
+IsUnknownCode texts (code ∷ others) = AllByRecursion (λ rule. rule.code.now ≢ code) texts.rules.now
 
 -- why there is no explanation
-abbrev pub IsUnknownStop : Texts → List Text → Stop → Type 0
-IsUnknownStop texts asked (Usage text) = IsUnknown texts asked
-IsUnknownStop texts asked Memory = Unit {0}
-IsUnknownStop texts asked other = ⊥
+abbrev pub IsExplanationFault : Texts → List Text → Stop → Type 0
+IsExplanationFault texts asked (Usage text) = IsUnknownCode texts asked
+IsExplanationFault texts asked Memory = Unit {0}
+IsExplanationFault texts asked other = ⊥
 
 -- This text, with this status, answers the words.
-abbrev pub IsAnswer : (List ℕ → Option (List ℕ)) → Texts → ℕ → List Text → List ℕ → ℕ → Type 0
-IsAnswer holds texts max words text status =
+abbrev pub AnswersWords : (List ℕ → Option (List ℕ)) → Texts → ℕ → List Text → List ℕ → ℕ → Type 0
+AnswersWords holds texts max words text status =
     (AsksHelp words × (text ≡ texts.help.now) × (status ≡ 0))
     ⊎ ((AsksVersion words × (text ≡ texts.version.now) × (status ≡ 0))
     ⊎ (((asked : List Text) × AsksExplain words asked × IsExplanation texts asked text × (status ≡ 0))
@@ -91,12 +91,12 @@ stop_status CannotWrite = status.Stopped
 stop_status Memory = status.Stopped
 
 -- what is said of it on standard error
-abbrev pub line_of : Stop → List ℕ
-line_of (Usage text) = string_bytes text
-line_of NotText = codes "mm: a word is not UTF-8\n"
-line_of (CannotRead name) = codes "mm: cannot read " ++ (name.now ++ codes "\n")
-line_of CannotWrite = codes "mm: cannot write\n"
-line_of Memory = codes "mm: out of memory\n"
+abbrev pub error_line : Stop → List ℕ
+error_line (Usage text) = string_bytes text
+error_line NotText = codes "mm: a word is not UTF-8\n"
+error_line (CannotRead name) = codes "mm: cannot read " ++ (name.now ++ codes "\n")
+error_line CannotWrite = codes "mm: cannot write\n"
+error_line Memory = codes "mm: out of memory\n"
 
 -- The check of the files with these names ended so, and that is what standard output shows of it.
 abbrev pub StopsCheck : {O : Type 0} → (O → Option (List ℕ)) → (List ℕ → Option (List ℕ)) → (List ℕ → Type 0) → List Text → ℕ
@@ -111,26 +111,26 @@ StopsCheck contents holds may_fail names max other old new = ⊥
 abbrev pub Stops : {O : Type 0} → (O → Option (List ℕ)) → (List ℕ → Option (List ℕ)) → (List ℕ → Type 0) → Texts → ℕ → List Text
     → Stop → Counted O → Counted O → Type 0
 Stops contents holds may_fail texts max words (Usage text) old new =
-    (IsRefused words ⊎ ((asked : List Text) × AsksExplain words asked × IsUnknown texts asked)) × IsUntouched old new
+    (IsRefused words ⊎ ((asked : List Text) × AsksExplain words asked × IsUnknownCode texts asked)) × IsUntouched old new
 Stops contents holds may_fail texts max words NotText old new = ⊥
 Stops contents holds may_fail texts max words (CannotRead name) old new =
     (names : List Text) × AsksCheck words names × IsUnreadable holds may_fail names max name.now × IsUntouched old new
 Stops contents holds may_fail texts max words CannotWrite old new =
-    (text : List ℕ) × (status : ℕ) × IsAnswer holds texts max words text status × BreaksOff contents text old new
+    (text : List ℕ) × (status : ℕ) × AnswersWords holds texts max words text status × BreaksOff contents text old new
 Stops contents holds may_fail texts max words Memory old new = IsUntouched old new
 
 -- ---- ends
 
 -- The line was written, or a beginning of it, where a call failed.
-abbrev pub Tells : {E : Type 0} → (E → Option (List ℕ)) → List ℕ → Counted E → Counted E → Type 0
-Tells contents line old new = Takes contents line old new ⊎ BreaksOff contents line old new
+abbrev pub TellsLine : {E : Type 0} → (E → Option (List ℕ)) → List ℕ → Counted E → Counted E → Type 0
+TellsLine contents line old new = TakesWhole contents line old new ⊎ BreaksOff contents line old new
 
 -- The words were answered, with this status, and standard error is as it was.
 pub record EndsAnswered {O E : Type 0} (contents : O → Option (List ℕ)) (holds : List ℕ → Option (List ℕ)) (texts : Texts) (max : ℕ)
     (words : List Text) (status : ℕ) (out out' : Counted O) (err err' : Counted E) : Type 0 where
   pub text : List ℕ
-  pub answers : IsAnswer holds texts max words text status
-  pub written : Takes contents text out out'
+  pub answers : AnswersWords holds texts max words text status
+  pub written : TakesWhole contents text out out'
   pub quiet : IsUntouched err err'
 
 -- They weren't, for this reason, and standard error was told.
@@ -140,7 +140,7 @@ pub record EndsStopped {O E : Type 0} (contents : O → Option (List ℕ)) (said
   pub stop : Stop
   pub stops : Stops contents holds may_fail texts max words stop out out'
   pub ends : number_of (stop_status stop) ≡ status
-  pub told : Tells said (line_of stop) err err'
+  pub told : TellsLine said (error_line stop) err err'
 
 -- How the program ends with these words.
 abbrev pub Ends : {O E : Type 0} → (O → Option (List ℕ)) → (E → Option (List ℕ)) → (List ℕ → Option (List ℕ)) → (List ℕ → Type 0) → Texts
@@ -158,4 +158,4 @@ pub record EndsUnread {O E : Type 0} (said : E → Option (List ℕ)) (may_fail 
   pub reason : stop ≡ unread_stop fault
   pub silent : IsUntouched out out'
   pub ends : number_of (stop_status stop) ≡ status
-  pub told : Tells said (line_of stop) err err'
+  pub told : TellsLine said (error_line stop) err err'

@@ -24,7 +24,7 @@ pub record ComesNext (holds : List ℕ → Option (List ℕ)) (names : List (Lis
   pub before : List PlainFile
   pub after : List (List ℕ)
   pub whole : names ≡ map (λ f. f.name) before ++ name ∷ after
-  pub held : AllByRecursion (IsHeld holds) before
+  pub are_held : AllByRecursion (IsHeld holds) before
   pub within : total_bytes before ≤ max
 
 -- The file with this name, after those before it, couldn't be opened, or a read of it failed.

@@ -1,6 +1,7 @@
 //! Reading the files that the words name.
 
-ghost use Rattle.std.specs.Prelude.{◌≡◌, ◌<◌, ◌≤◌, length, IfOk, IfErr, IfSome, IsErrOf, map, vec_len};
+ghost use Rattle.std.specs.Prelude.{◌≡◌, ◌<◌, ◌≤◌, length, IfOk, IfErr, IfSome, IsErrOf, map};
+ghost use Rattle.std.specs.Prelude.{vec_len};
 ghost use Rattle.mm_text.specs.Files.{total_bytes};
 ghost use Rattle.mm_tool.specs.Folder.{AreHeld, IsFileFault, IsHeld, plain_read};
 ghost use Rattle.mm_tool.specs.declared.files.FileFault.TheVariants.{Memory};
@@ -8,6 +9,7 @@ ghost use Rattle.mm_tool.specs.declared.files.FileFault.TheVariants.{Memory};
 use crate::folder::Folder;
 use mm_text::{Counted, LoadFault, read_all};
 use std::alloc::{AllocFailed, Global};
+use thiserror::Error;
 
 /// A file that was read to its end.
 #[derive(Drop)]
@@ -18,13 +20,16 @@ pub(crate) struct ReadFile<'a> {
 }
 
 /// Why not all files were read.
-#[derive(Clone, Copy)]
+#[derive(Clone, Copy, Debug, Drop, Error)]
 pub(crate) enum FileFault<'a> {
     /// The file with this name can't be opened or read.
+    #[error("cannot read {0}")]
     CannotRead(&'a str),
     /// The files up to this one hold more bytes than they may.
+    #[error("the files hold too many bytes")]
     TooLong,
     /// A growth was refused.
+    #[error("out of memory")]
     Memory,
 }
 
@@ -45,7 +50,7 @@ fn read_file<'a, F: Folder>(
 ) -> Result<ReadFile<'a>, FileFault<'a>>
     ensures name { IfOk result (λ file. file.name.now ≡ name.entry.now) }
     ensures within { IfOk result (λ file. vec_len file.bytes ≤ max) }
-    ensures held { IfOk result (λ file. IsHeld (F.holds folder.now) (plain_read file)) }
+    ensures is_held { IfOk result (λ file. IsHeld (F.holds folder.now) (plain_read file)) }
     ensures named { (word : _) → result ≡ Err (FileFault.CannotRead word) → word ≡ name.entry }
     ensures unreadable { (word : _) → result ≡ Err (FileFault.CannotRead word)
         → F.may_fail folder.now name.entry.now }
@@ -76,8 +81,8 @@ pub(crate) fn read_files<'a, F: Folder>(
     names: &[&'a str],
     max: usize,
 ) -> Result<Vec<ReadFile<'a>>, FileFault<'a>>
-    ensures held { IfOk result (λ files. AreHeld (F.holds folder.now) (map (λ n. n.now) names.now)
-        (map plain_read files.items)) }
+    ensures are_held { IfOk result (λ files. AreHeld (F.holds folder.now)
+        (map (λ n. n.now) names.now) (map plain_read files.items)) }
     ensures within { IfOk result (λ files. total_bytes (map plain_read files.items) ≤ max) }
     ensures fault { IfErr result (IsFileFault (F.holds folder.now) (F.may_fail folder.now)
         (map (λ n. n.now) names.now) max) }

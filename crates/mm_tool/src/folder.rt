@@ -1,12 +1,15 @@
-//! What the program needs of its host: files by their names, and the words that it was started with.
+//! What the program needs of its host: files by their names, and the words that it was started
+//! with.
 
-ghost use Rattle.std.specs.Prelude.{◌≡◌, ℕ, ⊤, List, Option, None, map, IfOk, IfSome, OnErr, IsErrOf, string_bytes};
+ghost use Rattle.std.specs.Prelude.{◌≡◌, ℕ, ⊤, List, Option, None, map, IfOk, IfSome, OnErr};
+ghost use Rattle.std.specs.Prelude.{IsErrOf, string_bytes};
 
 use mm_text::Source;
 use std::alloc::{AllocError, AllocGlobal, Global};
 use std::env::Env;
 use std::rt::Files;
 use std::{env, fs, io};
+use thiserror::Error;
 
 /// Where files are opened by their names.
 pub(crate) trait Folder {
@@ -32,11 +35,13 @@ pub(crate) trait Folder {
 }
 
 /// Why the words weren't read.
-#[derive(Clone, Copy, PartialEq, Eq, Debug)]
+#[derive(Clone, Copy, PartialEq, Eq, Debug, Drop, Error)]
 pub(crate) enum ArgumentFault {
     /// A word isn't UTF-8, or the host failed.
+    #[error("a word is not UTF-8")]
     NotText,
     /// A growth was refused.
+    #[error("out of memory")]
     Memory,
 }
 
@@ -70,8 +75,8 @@ pub(crate) trait Arguments {
         ensures cause { IsErrOf result ArgumentFault.NotText → may_fail self.now };
 }
 
-/// The host that the program runs on. Nothing is known of what its files hold, nor of its words, nor
-/// of when it fails.
+/// The host that the program runs on. Nothing is known of what its files hold, nor of its words,
+/// nor of when it fails.
 #[derive(Drop)]
 pub(crate) struct Host<'r, R>(pub(crate) &'r R);
 

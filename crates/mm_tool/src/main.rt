@@ -6,8 +6,6 @@ mod folder;
 mod rules;
 mod serve;
 mod stop;
-#[cfg(test)]
-mod tests;
 mod texts;
 mod words;
 
@@ -22,3 +20,6 @@ fn main(rt: HostRuntime) -> ExitCode {
     let host = Host(&rt);
     ExitCode::from(serve::start(rt.alloc(), &host, &host, &TEXTS, &mut out, &mut err))
 }
+
+#[cfg(test)]
+mod tests;

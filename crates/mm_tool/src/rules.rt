@@ -11,25 +11,31 @@ X1: a token, in a comment too, holds a byte outside 0x21 to 0x7E.
 X2: a file ends in a comment.
 X3: in a comment, a token other than `$)` holds `$(` or `$)`.
 X4: `$)` stands outside a comment, or `$]` outside an inclusion.
-X5: after `$[` comes a token with `$` where the name should stand, or after the name a token other than `$]`.
+X5: after `$[` comes a token with `$` where the name should stand, or after the name a token \
+     other than `$]`.
 X6: `$[` stands in a block or in a statement.
 X7: the name of a whole inclusion was not handed in.
 X8: a file ends in a statement.
 X9: a token outside comments and inclusions holds `$` and is no keyword.
 S1: `$f`, `$e`, `$a`, `$p`, `$.` or `$=` stands where a statement should begin.
-S2: a token that is no keyword stands where a statement should begin, and holds a byte that a label may not hold.
+S2: a token that is no keyword stands where a statement should begin, and holds a byte that a \
+     label may not hold.
 S3: a label isn't followed by `$f`, `$e`, `$a` or `$p`.
-S4: a statement holds a keyword that can't stand in that place: `$.` before the `$=` of a `$p`, `$=` in any other place, or any other keyword.
+S4: a statement holds a keyword that can't stand in that place: `$.` before the `$=` of a \
+     `$p`, `$=` in any other place, or any other keyword.
 S5: `$.` or `$=` ends the symbols after too few of them, or a `$f` has a third symbol.
 S6: `$}` stands where a statement may begin, and no block is open.
 S7: the top file ends and a block is open.
 M1: a `$c` stands in a block.
-M2: a symbol of a `$c` was declared before, as a constant or a variable, active or not; or it stands twice in the `$c`.
-M3: a symbol of a `$v` is an active variable, was declared a constant, or stands twice in the `$v`.
+M2: a symbol of a `$c` was declared before, as a constant or a variable, active or not; or it \
+     stands twice in the `$c`.
+M3: a symbol of a `$v` is an active variable, was declared a constant, or stands twice in the \
+     `$v`.
 M4: a symbol of a `$c` or `$v` equals an earlier label.
 M5: the label equals an earlier label, also one in a closed block.
 M6: the label equals a symbol that was declared before, active or not.
-M7: a symbol of a `$d`, `$f`, `$e`, `$a` or `$p` isn't active: it was never declared, or only in a block that is closed.
+M7: a symbol of a `$d`, `$f`, `$e`, `$a` or `$p` isn't active: it was never declared, or only \
+     in a block that is closed.
 M8: a member of a `$d` is a constant.
 M9: a member stands twice in a `$d`.
 M10: the type code of a `$f` is a variable.
@@ -39,17 +45,19 @@ M13: an earlier `$f`, active or not, gave the variable of that name another type
 M14: the first symbol of an `$e`, `$a` or `$p` is a variable.
 M15: a variable in an `$e`, `$a` or `$p` has no active `$f`.
 P1: the first token of the proof is `(`, and there is no `)` among the others.
-P2: a label, in a normal proof or in the list of a compressed one, isn't that of an earlier statement; the `$p` itself isn't earlier.
+P2: a label, in a normal proof or in the list of a compressed one, isn't that of an earlier \
+     statement; the `$p` itself isn't earlier.
 P3: a label is that of a hypothesis that isn't active.
 P4: a byte of the letters isn't one of `A` to `Z`.
 P5: leading digits are followed by `Z`, or by the end of the letters.
-P6: a number exceeds *m* + *n* + *t*, with *m* mandatory hypotheses, *n* listed labels and *t* tags so far.
+P6: a number exceeds m + n + t, with m mandatory hypotheses, n listed labels and t tags so far.
 P7: a `Z` comes before any step.
 P8: the stack holds fewer entries than the assertion has mandatory hypotheses.
 P9: the type code of a `$f` differs from the first symbol of its entry.
 P10: an `$e`, substituted, differs from its entry.
 P11: the replacements of a mandatory distinct pair share a variable.
-P12: a pair of variables, one from each of these replacements, isn't an active pair where the `$p` stands.
+P12: a pair of variables, one from each of these replacements, isn't an active pair where the \
+     `$p` stands.
 L1: a step pushes an expression of more than 1,048,576 symbols, its type code counted.
 P13: at the end the stack doesn't hold exactly one entry.
 P14: that entry differs from the expression of the `$p`.
@@ -76,7 +84,8 @@ It has no place. Reply: `load F3`
     },
     RuleText {
         code: "X1",
-        text: "X1: a token, in a comment too, holds a byte outside 0x21 to 0x7E. Place: that token. Here it holds the two bytes 0xC3 and 0xA9.
+        text: "X1: a token, in a comment too, holds a byte outside 0x21 to 0x7E. Place: that
+token. Here it holds the two bytes 0xC3 and 0xA9.
 
 This file breaks it:
     $c é $.
@@ -123,7 +132,8 @@ The reply:
     },
     RuleText {
         code: "X4",
-        text: "X4: `$)` stands outside a comment, or `$]` outside an inclusion. Place: that token. So `$)` is X4 between `$[` and `$]` too.
+        text: "X4: `$)` stands outside a comment, or `$]` outside an inclusion. Place: that
+token. So `$)` is X4 between `$[` and `$]` too.
 
 This file breaks it:
     p $a $) $.
@@ -146,7 +156,8 @@ The reply:
     },
     RuleText {
         code: "X5",
-        text: "X5: after `$[` comes a token with `$` where the name should stand, or after the name a token other than `$]`. Place: that token.
+        text: "X5: after `$[` comes a token with `$` where the name should stand, or after the
+name a token other than `$]`. Place: that token.
 
 This file breaks it:
     $[ $]
@@ -164,7 +175,8 @@ The reply:
     },
     RuleText {
         code: "X6",
-        text: "X6: `$[` stands in a block or in a statement. Place: the `$[`. It is reported at once: the inclusion need not be whole, nor its file be handed in.
+        text: "X6: `$[` stands in a block or in a statement. Place: the `$[`. It is reported at
+once: the inclusion need not be whole, nor its file be handed in.
 
 This file breaks it:
     ${ $[ a.mm $] $}
@@ -194,7 +206,8 @@ The reply:
     },
     RuleText {
         code: "X8",
-        text: "X8: a file ends in a statement. Place: the statement's first token, here the label in line 1.
+        text: "X8: a file ends in a statement. Place: the statement's first token, here the
+label in line 1.
 
 This file breaks it:
     p $a
@@ -206,7 +219,8 @@ The reply:
     },
     RuleText {
         code: "X9",
-        text: "X9: a token outside comments and inclusions holds `$` and is no keyword. Place: that token.
+        text: "X9: a token outside comments and inclusions holds `$` and is no keyword. Place:
+that token.
 
 This file breaks it:
     $c a $.
@@ -218,7 +232,8 @@ The reply:
     },
     RuleText {
         code: "S1",
-        text: "S1: `$f`, `$e`, `$a`, `$p`, `$.` or `$=` stands where a statement should begin. Place: that token.
+        text: "S1: `$f`, `$e`, `$a`, `$p`, `$.` or `$=` stands where a statement should begin.
+Place: that token.
 
 This file breaks it:
     $a x $.
@@ -229,7 +244,8 @@ The reply:
     },
     RuleText {
         code: "S2",
-        text: "S2: a token that is no keyword stands where a statement should begin, and holds a byte that a label may not hold. Place: that token.
+        text: "S2: a token that is no keyword stands where a statement should begin, and holds
+a byte that a label may not hold. Place: that token.
 
 This file breaks it:
     a+ $a x $.
@@ -240,7 +256,8 @@ The reply:
     },
     RuleText {
         code: "S3",
-        text: "S3: a label isn't followed by `$f`, `$e`, `$a` or `$p`. Place: the token that follows it.
+        text: "S3: a label isn't followed by `$f`, `$e`, `$a` or `$p`. Place: the token that
+follows it.
 
 This file breaks it:
     p
@@ -252,7 +269,9 @@ The reply:
     },
     RuleText {
         code: "S4",
-        text: "S4: a statement holds a keyword that can't stand in that place: `$.` before the `$=` of a `$p`, `$=` in any other place, or any other keyword. Place: that token.
+        text: "S4: a statement holds a keyword that can't stand in that place: `$.` before the
+`$=` of a `$p`, `$=` in any other place, or any other keyword. Place: that
+token.
 
 This file breaks it:
     p $p x $.
@@ -269,7 +288,9 @@ The reply:
     },
     RuleText {
         code: "S5",
-        text: "S5: `$.` or `$=` ends the symbols after too few of them, or a `$f` has a third symbol. Place: that token. A `$d` needs two symbols, a `$f` exactly two, the others one.
+        text: "S5: `$.` or `$=` ends the symbols after too few of them, or a `$f` has a third
+symbol. Place: that token. A `$d` needs two symbols, a `$f` exactly two, the
+others one.
 
 This file breaks it:
     $c $.
@@ -292,7 +313,8 @@ The reply:
     },
     RuleText {
         code: "S6",
-        text: "S6: `$}` stands where a statement may begin, and no block is open. Place: that token.
+        text: "S6: `$}` stands where a statement may begin, and no block is open. Place: that
+token.
 
 This file breaks it:
     $}
@@ -303,7 +325,8 @@ The reply:
     },
     RuleText {
         code: "S7",
-        text: "S7: the top file ends and a block is open. Place: the innermost open `${`, here the one in line 2. It may stand in an included file.
+        text: "S7: the top file ends and a block is open. Place: the innermost open `${`, here
+the one in line 2. It may stand in an included file.
 
 This file breaks it:
     $c a $.
@@ -331,7 +354,8 @@ The reply:
     },
     RuleText {
         code: "M2",
-        text: "M2: a symbol of a `$c` was declared before, as a constant or a variable, active or not; or it stands twice in the `$c`.
+        text: "M2: a symbol of a `$c` was declared before, as a constant or a variable, active
+or not; or it stands twice in the `$c`.
 Place: the statement's first token.
 
 This file breaks it:
@@ -351,7 +375,8 @@ The reply:
     },
     RuleText {
         code: "M3",
-        text: "M3: a symbol of a `$v` is an active variable, was declared a constant, or stands twice in the `$v`.
+        text: "M3: a symbol of a `$v` is an active variable, was declared a constant, or stands
+twice in the `$v`.
 Place: the statement's first token.
 
 This file breaks it:
@@ -401,7 +426,8 @@ The reply:
     },
     RuleText {
         code: "M7",
-        text: "M7: a symbol of a `$d`, `$f`, `$e`, `$a` or `$p` isn't active: it was never declared, or only in a block that is closed.
+        text: "M7: a symbol of a `$d`, `$f`, `$e`, `$a` or `$p` isn't active: it was never
+declared, or only in a block that is closed.
 Place: the statement's first token.
 
 This file breaks it:
@@ -484,7 +510,8 @@ The reply:
     },
     RuleText {
         code: "M13",
-        text: "M13: an earlier `$f`, active or not, gave the variable of that name another type code.
+        text: "M13: an earlier `$f`, active or not, gave the variable of that name another type
+code.
 Place: the statement's first token.
 
 This file breaks it:
@@ -522,7 +549,8 @@ The reply:
     },
     RuleText {
         code: "P1",
-        text: "P1: the first token of the proof is `(`, and there is no `)` among the others. Step 0.
+        text: "P1: the first token of the proof is `(`, and there is no `)` among the others.
+Step 0.
 Place: the statement's first token.
 
 This file breaks it:
@@ -535,7 +563,9 @@ The reply:
     },
     RuleText {
         code: "P2",
-        text: "P2: a label, in a normal proof or in the list of a compressed one, isn't that of an earlier statement; the `$p` itself isn't earlier. Step 0, whatever the steps before it do, and whether or not a listed label is used.
+        text: "P2: a label, in a normal proof or in the list of a compressed one, isn't that of
+an earlier statement; the `$p` itself isn't earlier. Step 0, whatever the steps
+before it do, and whether or not a listed label is used.
 Place: the statement's first token.
 
 This file breaks it:
@@ -601,7 +631,8 @@ The reply:
     },
     RuleText {
         code: "P6",
-        text: "P6: a number exceeds *m* + *n* + *t*, with *m* mandatory hypotheses, *n* listed labels and *t* tags so far. Here *m* and *t* are 0, *n* is 1, and the number is 2.
+        text: "P6: a number exceeds m + n + t, with m mandatory hypotheses, n listed labels and
+t tags so far. Here m and t are 0, n is 1, and the number is 2.
 Place: the statement's first token.
 
 This file breaks it:
@@ -627,7 +658,8 @@ The reply:
     },
     RuleText {
         code: "P8",
-        text: "P8: the stack holds fewer entries than the assertion has mandatory hypotheses. Here `two` has one, `fx`.
+        text: "P8: the stack holds fewer entries than the assertion has mandatory hypotheses.
+Here `two` has one, `fx`.
 Place: the statement's first token.
 
 This file breaks it:
@@ -640,7 +672,8 @@ The reply:
     },
     RuleText {
         code: "P9",
-        text: "P9: the type code of a `$f` differs from the first symbol of its entry. Here `a` is asked for, and the entry is `b`.
+        text: "P9: the type code of a `$f` differs from the first symbol of its entry. Here `a`
+is asked for, and the entry is `b`.
 Place: the statement's first token.
 
 This file breaks it:
@@ -653,7 +686,8 @@ The reply:
     },
     RuleText {
         code: "P10",
-        text: "P10: an `$e`, substituted, differs from its entry. Here the entry of `fx` replaces `x` by `b`, so that `h` becomes `|- b`, and its entry is `|- b b`.
+        text: "P10: an `$e`, substituted, differs from its entry. Here the entry of `fx`
+replaces `x` by `b`, so that `h` becomes `|- b`, and its entry is `|- b b`.
 Place: the statement's first token.
 
 This file breaks it:
@@ -668,7 +702,8 @@ The reply:
     },
     RuleText {
         code: "P11",
-        text: "P11: the replacements of a mandatory distinct pair share a variable. Here both are `x`.
+        text: "P11: the replacements of a mandatory distinct pair share a variable. Here both
+are `x`.
 Place: the statement's first token.
 
 This file breaks it:
@@ -682,7 +717,9 @@ The reply:
     },
     RuleText {
         code: "P12",
-        text: "P12: a pair of variables, one from each of these replacements, isn't an active pair where the `$p` stands. Here the pair is `y`, `x`, and the `$d` of line 2 is no longer active.
+        text: "P12: a pair of variables, one from each of these replacements, isn't an active
+pair where the `$p` stands. Here the pair is `y`, `x`, and the `$d` of line 2 is
+no longer active.
 Place: the statement's first token.
 
 This file breaks it:
@@ -696,7 +733,9 @@ The reply:
     },
     RuleText {
         code: "L1",
-        text: "L1: a step pushes an expression of more than 1,048,576 symbols, its type code counted. Here step 1 pushes 2 symbols, and each further step twice as many as the one before: step 20 pushes 1,048,576.
+        text: "L1: a step pushes an expression of more than 1,048,576 symbols, its type code
+counted. Here step 1 pushes 2 symbols, and each further step twice as many as
+the one before: step 20 pushes 1,048,576.
 Place: the statement's first token.
 
 This file breaks it:
@@ -709,7 +748,8 @@ The reply:
     },
     RuleText {
         code: "P13",
-        text: "P13: at the end the stack doesn't hold exactly one entry. An empty proof leaves none, and its step is 1.
+        text: "P13: at the end the stack doesn't hold exactly one entry. An empty proof leaves
+none, and its step is 1.
 Place: the statement's first token.
 
 This file breaks it:

@@ -1,11 +1,14 @@
 //! The program over its words and devices.
 
-ghost use Rattle.std.specs.Prelude.{◌≡◌, ◌≢◌, ◌+◌, ◌<◌, ◌≤◌, ◌++◌, ◌⊎◌, map, codes, string_bytes, Contains, IfOk, IfErr, IfSome, IfNone, OnOk, OnErr};
+ghost use Rattle.std.specs.Prelude.{◌≡◌, ◌≢◌, ◌+◌, ◌<◌, ◌≤◌, ◌++◌, ◌⊎◌, map, codes, string_bytes};
+ghost use Rattle.std.specs.Prelude.{Contains, IfOk, IfErr, IfSome, IfNone, OnOk, OnErr};
 ghost use Rattle.std.specs.List.{AllByRecursion};
 ghost use Rattle.mm_text.specs.Device.{faults_of, inner_of};
 ghost use Rattle.mm_text.specs.Files.{plain_file};
 ghost use Rattle.mm_check.specs.Status.{number_of};
-ghost use Rattle.mm_tool.specs.Ending.{BreaksOff, Ends, EndsUnread, IsAnswer, IsCheckReply, IsExplanation, IsUnknown, IsUnknownStop, Stops, StopsCheck, Takes, Tells, line_of, stop_status};
+ghost use Rattle.mm_tool.specs.Ending.{BreaksOff, Ends, EndsUnread, AnswersWords, IsCheckReply};
+ghost use Rattle.mm_tool.specs.Ending.{IsExplanation, IsUnknownCode, IsExplanationFault, Stops};
+ghost use Rattle.mm_tool.specs.Ending.{StopsCheck, TakesWhole, TellsLine, error_line, stop_status};
 ghost use Rattle.mm_tool.specs.Folder.{plain_read};
 ghost use Rattle.mm_tool.specs.declared.stop.Stop.TheVariants.{CannotWrite};
 
@@ -38,7 +41,7 @@ fn reply<'a, O: Write>(
 ) -> Result<Status, Stop<'a>>
     requires { faults_of out.old < u64.MAX }
     ensures status { IfOk result (λ given. given ≡ status) }
-    ensures all { OnOk result (Takes O.contents text.now out.old out.new) }
+    ensures all { OnOk result (TakesWhole O.contents text.now out.old out.new) }
     ensures stop { IfErr result (λ stop. stop ≡ CannotWrite) }
     ensures beginning { OnErr result (BreaksOff O.contents text.now out.old out.new) }
 {
@@ -72,10 +75,10 @@ pub(crate) fn check<'a, F: Folder, O: Write>(
     out: &mut Counted<O>,
 ) -> Result<Status, Stop<'a>>
     requires { faults_of out.old < u64.MAX }
-    ensures replied { IfOk result (λ status. (text : _) × IsCheckReply (F.holds folder.now)
+    ensures replies { IfOk result (λ status. (text : _) × IsCheckReply (F.holds folder.now)
         (map (λ name. name.now) names.now) max text (number_of status)
-        × Takes O.contents text out.old out.new) }
-    ensures stopped { IfErr result (λ stop. StopsCheck O.contents (F.holds folder.now)
+        × TakesWhole O.contents text out.old out.new) }
+    ensures stops { IfErr result (λ stop. StopsCheck O.contents (F.holds folder.now)
         (F.may_fail folder.now) (map (λ name. name.now) names.now) max stop out.old out.new) }
 {
     let files = match read_files(alloc, folder, names, max) {
@@ -102,17 +105,28 @@ fn rule_with<'t>(rules: &[RuleText<'t>], code: &str) -> Option<RuleText<'t>>
     None
 }
 
-/// What is said of a code that no rule has.
-fn unknown_code(alloc: Global, rules: &[RuleText<'_>], code: &str) -> Result<String, AllocError> {
+/// The code that is nearest to one that no rule has. Codes have capitals, and so `p8` is near `P8`.
+fn nearest_code<'t>(
+    alloc: Global,
+    rules: &[RuleText<'t>],
+    code: &str,
+) -> Result<&'t str, AllocError> {
+    let capitals = code.to_ascii_uppercase(alloc)?;
     let mut nearest = "X1";
     let mut least = usize::MAX;
     for rule in rules {
-        let distance = damerau_levenshtein(alloc, rule.code, code)?;
+        let distance = damerau_levenshtein(alloc, rule.code, &capitals)?;
         if distance < least {
             nearest = rule.code;
             least = distance;
         }
     }
+    Ok(nearest)
+}
+
+/// What is said of a code that no rule has.
+fn unknown_code(alloc: Global, rules: &[RuleText<'_>], code: &str) -> Result<String, AllocError> {
+    let nearest = nearest_code(alloc, rules, code)?;
     format!(in alloc;
         "mm: no rule has the code {code}; the nearest is {nearest}\n`mm explain` lists all codes\n"
     )
@@ -124,9 +138,10 @@ fn explanation<'t, 'a>(
     texts: &Texts<'t>,
     asked: &[&str],
 ) -> Result<&'t str, Stop<'a>>
-    ensures text { IfOk result (λ text. IsExplanation texts.now (map (λ code. code.now) asked.now)
-        text.now) }
-    ensures unknown { IfErr result (IsUnknownStop texts.now (map (λ code. code.now) asked.now)) }
+    ensures text { IfOk result (λ text.
+        IsExplanation texts.now (map (λ code. code.now) asked.now) text.now) }
+    ensures unknown { IfErr result
+        (IsExplanationFault texts.now (map (λ code. code.now) asked.now)) }
 {
     let Some(code) = asked.first() else {
         return Ok(texts.codes);
@@ -146,10 +161,10 @@ fn answer<'a, F: Folder, O: Write>(
     out: &mut Counted<O>,
 ) -> Result<Status, Stop<'a>>
     requires { faults_of out.old < u64.MAX }
-    ensures answered { IfOk result (λ status. (text : _) × IsAnswer (F.holds folder.now) texts.now
-        BYTE_LIMIT (map (λ word. word.now) words.entry.now) text (number_of status)
-        × Takes O.contents text out.old out.new) }
-    ensures stopped { IfErr result (λ stop. Stops O.contents (F.holds folder.now)
+    ensures answers { IfOk result (λ status. (text : _) × AnswersWords (F.holds folder.now)
+        texts.now BYTE_LIMIT (map (λ word. word.now) words.entry.now) text (number_of status)
+        × TakesWhole O.contents text out.old out.new) }
+    ensures stops { IfErr result (λ stop. Stops O.contents (F.holds folder.now)
         (F.may_fail folder.now) texts.now BYTE_LIMIT (map (λ word. word.now) words.entry.now)
         stop out.old out.new) }
 {
@@ -167,7 +182,7 @@ fn answer<'a, F: Folder, O: Write>(
 /// Writes a line to standard error. What becomes of it changes nothing.
 fn say<E: Write>(err: &mut Counted<E>, line: &[u8])
     requires { faults_of err.old < u64.MAX }
-    ensures { Tells E.contents line.now err.old err.new }
+    ensures { TellsLine E.contents line.now err.old err.new }
 {
     let _ = err.write_all(line);
 }
@@ -175,7 +190,7 @@ fn say<E: Write>(err: &mut Counted<E>, line: &[u8])
 /// Writes a line in two parts, the second only where the first was written.
 fn say_both<E: Write>(err: &mut Counted<E>, first: &[u8], second: &[u8])
     requires { faults_of err.old < u64.MAX }
-    ensures { Tells E.contents (first.now ++ second.now) err.old err.new }
+    ensures { TellsLine E.contents (first.now ++ second.now) err.old err.new }
 {
     if err.write_all(first).is_ok() {
         say(err, second);
@@ -185,7 +200,7 @@ fn say_both<E: Write>(err: &mut Counted<E>, first: &[u8], second: &[u8])
 /// Writes a line in three parts, each only where those before it were written.
 fn say_all<E: Write>(err: &mut Counted<E>, first: &[u8], second: &[u8], third: &[u8])
     requires { faults_of err.old < u64.MAX }
-    ensures { Tells E.contents (first.now ++ (second.now ++ third.now)) err.old err.new }
+    ensures { TellsLine E.contents (first.now ++ (second.now ++ third.now)) err.old err.new }
 {
     if err.write_all(first).is_ok() {
         say_both(err, second, third);
@@ -194,10 +209,10 @@ fn say_all<E: Write>(err: &mut Counted<E>, first: &[u8], second: &[u8], third: &
 
 /// Says on standard error why there is no answer, and gives back the status that goes with that.
 /// It takes no memory.
-fn tell<E: Write>(stop: &Stop<'_>, err: &mut Counted<E>) -> Status
+pub(crate) fn tell<E: Write>(stop: &Stop<'_>, err: &mut Counted<E>) -> Status
     requires { faults_of err.old < u64.MAX }
     ensures status { result ≡ stop_status stop.now }
-    ensures told { Tells E.contents (line_of stop.now) err.old err.new }
+    ensures told { TellsLine E.contents (error_line stop.now) err.old err.new }
 {
     match stop {
         Stop::Usage(text) => {

@@ -7,19 +7,26 @@ ghost use Rattle.mm_tool.specs.declared.stop.Stop.TheVariants.{Memory};
 use crate::folder::ArgumentFault;
 use mm_check::RunFault;
 use std::alloc::AllocError;
+use thiserror::Error;
 
-/// Why the program ends without an answer, which is told on standard error.
-#[derive(Drop)]
+/// Why the program ends without an answer, which is told on standard error: the message, after
+/// `mm: ` where it isn't `Usage`.
+#[derive(Debug, Drop, Error)]
 pub(crate) enum Stop<'a> {
     /// The words aren't understood; the text says which words are.
+    #[error("{0}")]
     Usage(String),
     /// A word isn't UTF-8.
+    #[error("a word is not UTF-8")]
     NotText,
     /// The file with this name can't be opened or read.
+    #[error("cannot read {0}")]
     CannotRead(&'a str),
     /// Standard output didn't take the whole answer.
+    #[error("cannot write")]
     CannotWrite,
     /// A growth was refused.
+    #[error("out of memory")]
     Memory,
 }
 

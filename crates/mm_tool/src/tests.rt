@@ -2,7 +2,8 @@
 
 mod folder;
 
-use crate::serve::{check, serve};
+use crate::serve::{check, serve, tell};
+use crate::stop::Stop;
 use crate::texts::TEXTS;
 use folder::{Entry, Full, Shelf};
 use mm_check::Status;
@@ -38,7 +39,7 @@ const ENTRIES: [Entry; 3] = [
 ];
 
 /// The status, and what was written to standard output and to standard error.
-fn served(alloc: Global, words: &[&str]) -> (u8, Vec<u8>, Vec<u8>) {
+fn outcome_of(alloc: Global, words: &[&str]) -> (u8, Vec<u8>, Vec<u8>) {
     let entries = ENTRIES;
     let mut out = Counted::new(Vec::new(alloc));
     let mut err = Counted::new(Vec::new(alloc));
@@ -52,6 +53,7 @@ fn tells_the_usage(rt: HostRuntime) -> Result<(), Fail> {
     let unknown = ["mm", "prove", "first.mm"];
     let no_file = ["mm", "check"];
     let unknown_option = ["mm", "check", "--strict", "first.mm"];
+    let name_with_a_hyphen = ["mm", "check", "-x.mm"];
     let unknown_topic = ["mm", "help", "nonsense"];
     let two_codes = ["mm", "explain", "P8", "P9"];
     for words in [
@@ -60,10 +62,11 @@ fn tells_the_usage(rt: HostRuntime) -> Result<(), Fail> {
         unknown.as_slice(),
         no_file.as_slice(),
         unknown_option.as_slice(),
+        name_with_a_hyphen.as_slice(),
         unknown_topic.as_slice(),
         two_codes.as_slice(),
     ] {
-        let (status, out, err) = served(rt.alloc(), words);
+        let (status, out, err) = outcome_of(rt.alloc(), words);
         assert_eq!(rt; status, 2, "at {words:?}");
         assert!(rt; out.is_empty(), "at {words:?}");
         let text = String::from_utf8(err)?;
@@ -82,13 +85,13 @@ fn prints_help_and_the_version(rt: HostRuntime) {
         ["mm", "check", "--help"].as_slice(),
         ["mm", "explain", "-h"].as_slice(),
     ] {
-        let (status, out, err) = served(rt.alloc(), words);
+        let (status, out, err) = outcome_of(rt.alloc(), words);
         assert_eq!(rt; status, 0, "at {words:?}");
         assert!(rt; err.is_empty(), "at {words:?}");
         assert!(rt; out.as_slice() == TEXTS.help.as_bytes(), "at {words:?}");
     }
     for word in ["--version", "-V"] {
-        let (status, out, err) = served(rt.alloc(), &["mm", word]);
+        let (status, out, err) = outcome_of(rt.alloc(), &["mm", word]);
         assert_eq!(rt; status, 0, "at {word}");
         assert!(rt; err.is_empty(), "at {word}");
         assert!(rt; out.as_slice() == TEXTS.version.as_bytes(), "at {word}");
@@ -98,24 +101,51 @@ fn prints_help_and_the_version(rt: HostRuntime) {
 #[test]
 fn explains_each_rule(rt: HostRuntime) -> Result<(), Fail> {
     for rule in TEXTS.rules {
-        let (status, out, err) = served(rt.alloc(), &["mm", "explain", rule.code]);
+        let (status, out, err) = outcome_of(rt.alloc(), &["mm", "explain", rule.code]);
         assert_eq!(rt; status, 0, "at {}", rule.code);
         assert!(rt; err.is_empty(), "at {}", rule.code);
         assert!(rt; out.as_slice() == rule.text.as_bytes(), "at {}", rule.code);
     }
-    let (status, out, _) = served(rt.alloc(), &["mm", "explain"]);
+    let (status, out, _) = outcome_of(rt.alloc(), &["mm", "explain"]);
     assert_eq!(rt; status, 0);
     assert!(rt; out.as_slice() == TEXTS.codes.as_bytes());
 
-    let (status, out, err) = served(rt.alloc(), &["mm", "explain", "P88"]);
-    assert_eq!(rt; status, 2);
-    assert!(rt; out.is_empty());
-    let text = String::from_utf8(err)?;
-    assert!(rt;
-        text.as_str()
-            .starts_with("mm: no rule has the code P88; the nearest is P8\n"),
-        "{text}"
-    );
+    for (code, line) in [
+        ("P88", "mm: no rule has the code P88; the nearest is P8\n"),
+        ("p8", "mm: no rule has the code p8; the nearest is P8\n"),
+        ("X0", "mm: no rule has the code X0; the nearest is X1\n"),
+    ] {
+        let (status, out, err) = outcome_of(rt.alloc(), &["mm", "explain", code]);
+        assert_eq!(rt; status, 2, "at {code}");
+        assert!(rt; out.is_empty(), "at {code}");
+        let text = String::from_utf8(err)?;
+        assert!(rt; text.as_str().starts_with(line), "{text}");
+        assert!(rt;
+            text.as_str().ends_with("\n`mm explain` lists all codes\n"),
+            "{text}"
+        );
+    }
+    Ok(())
+}
+
+// The messages of the fault type are what is said on standard error.
+#[test]
+fn says_the_message(rt: HostRuntime) -> Result<(), Fail> {
+    for stop in [
+        Stop::NotText,
+        Stop::CannotRead("none.mm"),
+        Stop::CannotWrite,
+        Stop::Memory,
+    ] {
+        let mut err = Counted::new(Vec::new(rt.alloc()));
+        tell(&stop, &mut err);
+        let line = format!(in rt.alloc(); "mm: {stop}\n")?;
+        assert!(rt; err.into_inner().as_slice() == line.as_bytes(), "at {stop}");
+    }
+    let stop = Stop::Usage(format!(in rt.alloc(); "Usage: mm\n")?);
+    let mut err = Counted::new(Vec::new(rt.alloc()));
+    tell(&stop, &mut err);
+    assert!(rt; err.into_inner().as_slice() == b"Usage: mm\n".as_slice());
     Ok(())
 }
 
@@ -135,9 +165,10 @@ fn names_the_file_that_cannot_be_read(rt: HostRuntime) {
             "mm: cannot read breaks.mm\n",
         ),
         (["mm", "check", "--", "-x.mm"], "mm: cannot read -x.mm\n"),
+        (["mm", "check", "first.mm", "-"], "mm: cannot read -\n"),
         (["mm", "check", "", "first.mm"], "mm: cannot read \n"),
     ] {
-        let (status, out, err) = served(rt.alloc(), words.as_slice());
+        let (status, out, err) = outcome_of(rt.alloc(), words.as_slice());
         assert_eq!(rt; status, 4, "{line}");
         assert!(rt; out.is_empty(), "{line}");
         assert!(rt; err.as_slice() == line.as_bytes(), "{line}");
@@ -146,12 +177,12 @@ fn names_the_file_that_cannot_be_read(rt: HostRuntime) {
 
 #[test]
 fn replies(rt: HostRuntime) {
-    let (status, out, err) = served(rt.alloc(), &["mm", "check", "first.mm"]);
+    let (status, out, err) = outcome_of(rt.alloc(), &["mm", "check", "first.mm"]);
     assert!(rt; out.as_slice() == b"yes 7 statements 1 proofs\n".as_slice());
     assert_eq!(rt; status, 0);
     assert!(rt; err.is_empty());
 
-    let (status, out, err) = served(rt.alloc(), &["mm", "check", "first.mm", "first.mm"]);
+    let (status, out, err) = outcome_of(rt.alloc(), &["mm", "check", "first.mm", "first.mm"]);
     assert!(rt; out.as_slice() == b"load F2\n".as_slice());
     assert_eq!(rt; status, 4);
     assert!(rt; err.is_empty());

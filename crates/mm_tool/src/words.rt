@@ -3,7 +3,9 @@
 ghost use Rattle.std.specs.Prelude.{◌≡◌, [], map, IfOk, IfErr, false, unwrap_or};
 ghost use Rattle.clap.specs.Words.{all_of, app_of, found_of, kind_of, rows_of, rule_of};
 ghost use Rattle.clap.specs.declared.builder.command.Command.TheViews.{out-Command};
-ghost use Rattle.mm_tool.specs.Words.{Asks, IsOfKind, IsFaultOfKind, IsWordFault, bare_line, check_line, code_rule, command_line, explain_line, files_rule, help_line};
+ghost use Rattle.mm_tool.specs.Words.{Asks, IsOfKind, IsFaultOfKind, IsWordFault, bare_line};
+ghost use Rattle.mm_tool.specs.Words.{check_line, code_rule, command_line, explain_line};
+ghost use Rattle.mm_tool.specs.Words.{files_rule, help_line};
 
 use crate::stop::Stop;
 use clap::error::ErrorKind;
@@ -61,7 +63,9 @@ fn check_command<'a>(alloc: Global) -> Result<Command<'a>, AllocError>
     ensures shape { IfOk result (λ command. app_of command ≡ check_line) }
     ensures local { IfOk result (λ command. (out-Command command).has_globals ≡ false) }
 {
-    Command::new(alloc, CHECK).arg(files_argument(alloc))
+    Command::new(alloc, CHECK)
+        .about("checks each statement and each proof of a database")
+        .arg(files_argument(alloc))
 }
 
 /// The command `explain`, for `clap`.
@@ -69,7 +73,9 @@ fn explain_command<'a>(alloc: Global) -> Result<Command<'a>, AllocError>
     ensures shape { IfOk result (λ command. app_of command ≡ explain_line) }
     ensures local { IfOk result (λ command. (out-Command command).has_globals ≡ false) }
 {
-    Command::new(alloc, EXPLAIN).arg(code_argument(alloc))
+    Command::new(alloc, EXPLAIN)
+        .about("says what the rule with this code is; without a code, lists all codes")
+        .arg(code_argument(alloc))
 }
 
 /// The command `help`, for `clap`.
@@ -77,7 +83,7 @@ fn help_command<'a>(alloc: Global) -> Command<'a>
     ensures shape { app_of result ≡ help_line }
     ensures local { (out-Command result).has_globals ≡ false }
 {
-    Command::new(alloc, HELP)
+    Command::new(alloc, HELP).about("prints the help")
 }
 
 /// The program's command line without its commands, for `clap`.

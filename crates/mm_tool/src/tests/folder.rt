@@ -1,6 +1,7 @@
 //! A folder in memory, and devices that fail.
 
-ghost use Rattle.std.specs.Prelude.{◌≡◌, ⊤, List, ℕ, Some, MatchOption, IfSome, find, option_map, true};
+ghost use Rattle.std.specs.Prelude.{◌≡◌, ⊤, List, ℕ, Some, MatchOption, IfSome, find, option_map};
+ghost use Rattle.std.specs.Prelude.{true};
 ghost use Rattle.std.specs.Str.{bytes_eq};
 
 use crate::folder::Folder;
@@ -60,7 +61,8 @@ impl Folder for Shelf<'_> {
         (find (λ entry. bytes_eq entry.name.now name) shelf.0.now) };
 
     ghost may_fail = { λ shelf name. MatchOption
-        (find (λ entry. bytes_eq entry.name.now name) shelf.0.now) ⊤ (λ entry. entry.breaks ≡ true) };
+        (find (λ entry. bytes_eq entry.name.now name) shelf.0.now) ⊤
+        (λ entry. entry.breaks ≡ true) };
 
     fn open(&self, name: &str) -> io::Result<OpenEntry> {
         match entry_with(self.0, name) {

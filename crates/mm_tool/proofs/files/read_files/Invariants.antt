@@ -8,6 +8,6 @@ use Rattle.mm_tool.proofs.files.read_files.Given as goal
 abbrev pub invariant-loop-name : goal.invariant-loop-name
 invariant-loop-name g l = record {
   named : map (λ f. f.name) (map plain_read l.files.items) ≡ map (λ n. n.now) (take l.name-index l.names);
-  held : AllByRecursion (IsHeld (g.F.Folder.holds l.folder)) (map plain_read l.files.items);
+  are_held : AllByRecursion (IsHeld (g.F.Folder.holds l.folder)) (map plain_read l.files.items);
   whole : total_bytes (map plain_read l.files.items) + l.left ≡ l.max;
 }

@@ -5,8 +5,8 @@ use Rattle.mm_tool.specs.Words.{Asks, AsksCheck, AsksExplain}
 use Rattle.mm_tool.proofs.Answering.{answers_check, stops_answer, stops_check}
 use Rattle.mm_tool.proofs.serve.answer.Goals as goal
 
-pub returns-in_ok-text-in-Explain-clause-stopped : goal.returns-in_ok-text-in-Explain-clause-stopped
-returns-in_ok-text-in-Explain-clause-stopped g c =
+pub returns-in_ok-text-in-Explain-clause-stops : goal.returns-in_ok-text-in-Explain-clause-stops
+returns-in_ok-text-in-Explain-clause-stops g c =
     let words : List (List ℕ) = map (λ word. word.now) c.args.words.now in
     let Named : List (Bor (List ℕ)) → Type 0 = λ codes. AsksExplain words (map (λ code. code.now) codes) in
     let asked : Named c.in-Explain.asked.items = subst (Asks words) c.in-Explain.is c.in_ok-request_of.ensures.request in
@@ -18,18 +18,18 @@ returns-in_ok-text-in-Explain-clause-stopped g c =
     c.reply-in-Explain.result c.as_bytes-in-Explain.result.now 0 _ _ c.reply-in-Explain.ensures.stop c.reply-in-Explain.ensures.beginning
     (inr (inr (inl (_, here, explains, refl))))
 
-pub returns-in-Check-clause-answered : goal.returns-in-Check-clause-answered
-returns-in-Check-clause-answered g c =
+pub returns-in-Check-clause-answers : goal.returns-in-Check-clause-answers
+returns-in-Check-clause-answers g c =
     let words : List (List ℕ) = map (λ word. word.now) c.args.words.now in
     let Named : List (Bor (List ℕ)) → Type 0 = λ names. AsksCheck words (map (λ name. name.now) names) in
     let asked : Named c.in-Check.names.items = subst (Asks words) c.in-Check.is c.in_ok-request_of.ensures.request in
     answers_check g.O.Write.contents (g.F.Folder.holds c.args.folder.now) c.args.texts.now _ words _ c.check.result _ _
-    (subst Named (sym c.deref-in-Check.ensures.value) asked) c.check.ensures.replied
+    (subst Named (sym c.deref-in-Check.ensures.value) asked) c.check.ensures.replies
 
-pub returns-in-Check-clause-stopped : goal.returns-in-Check-clause-stopped
-returns-in-Check-clause-stopped g c =
+pub returns-in-Check-clause-stops : goal.returns-in-Check-clause-stops
+returns-in-Check-clause-stops g c =
     let words : List (List ℕ) = map (λ word. word.now) c.args.words.now in
     let Named : List (Bor (List ℕ)) → Type 0 = λ names. AsksCheck words (map (λ name. name.now) names) in
     let asked : Named c.in-Check.names.items = subst (Asks words) c.in-Check.is c.in_ok-request_of.ensures.request in
     stops_check g.O.Write.contents (g.F.Folder.holds c.args.folder.now) (g.F.Folder.may_fail c.args.folder.now) c.args.texts.now _ words _
-    c.check.result _ _ (subst Named (sym c.deref-in-Check.ensures.value) asked) c.check.ensures.stopped
+    c.check.result _ _ (subst Named (sym c.deref-in-Check.ensures.value) asked) c.check.ensures.stops

@@ -6,18 +6,18 @@ use Rattle.mm_tool.specs.declared.files.FileFault.{FileFault}
 use Rattle.mm_tool.proofs.Checks.{stops_at_run, stops_too_long}
 use Rattle.mm_tool.proofs.serve.check.Goals as goal
 
-pub returns-in-Err-TooLong-clause-stopped : goal.returns-in-Err-TooLong-clause-stopped
-returns-in-Err-TooLong-clause-stopped g c =
+pub returns-in-Err-TooLong-clause-stops : goal.returns-in-Err-TooLong-clause-stops
+returns-in-Err-TooLong-clause-stops g c =
     let Fault : FileFault → Type 0 = λ fault. IsFileFault (g.F.Folder.holds c.args.folder.now) (g.F.Folder.may_fail c.args.folder.now)
     (map (λ n. n.now) c.args.names.now) c.args.max fault in
     stops_too_long g.O.Write.contents (g.F.Folder.holds c.args.folder.now) (g.F.Folder.may_fail c.args.folder.now) _ c.args.max c.reply.result
     _ _ c.reply.ensures.stop c.reply.ensures.beginning (subst Fault c.in-Err-TooLong.field-0-is c.in-Err-TooLong.ensures.fault)
 
-pub returns-in_err-run-clause-stopped : goal.returns-in_err-run-clause-stopped
-returns-in_err-run-clause-stopped g c =
+pub returns-in_err-run-clause-stops : goal.returns-in_err-run-clause-stops
+returns-in_err-run-clause-stops g c =
     stops_at_run g.O.Write.contents (g.F.Folder.holds c.args.folder.now) (g.F.Folder.may_fail c.args.folder.now) _ c.args.max
     c.from_residual-in_err-run.result c.in_err-run.field-0.0 (map plain_file c.deref-2.result.now) (map plain_read c.in-Ok.files.items) _ _
     c.from_residual-in_err-run.ensures.1
     (ap (map plain_file) c.deref-2.ensures.value ∙ c.in_ok-files.ensures ∙ ap (map plain_read) c.deref.ensures.value)
-    c.in-Ok.ensures.held c.in-Ok.ensures.within
+    c.in-Ok.ensures.are_held c.in-Ok.ensures.within
     c.in_err-run.ensures.device c.in_err-run.ensures.memory c.in_err-run.ensures.counted.0 c.in_err-run.ensures.uncounted

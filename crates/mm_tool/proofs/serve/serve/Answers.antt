@@ -8,4 +8,4 @@ pub returns-in-Ok-clause-ends : goal.returns-in-Ok-clause-ends
 returns-in-Ok-clause-ends g c =
     ends_answered g.O.Write.contents g.E.Write.contents (g.F.Folder.holds c.args.folder.now) (g.F.Folder.may_fail c.args.folder.now)
     c.args.texts.now _ (map (λ word. word.now) c.args.words.now) (number_of c.in-Ok.status) c.number.result c.args.out.now c.answer.new.out
-    c.args.err.now c.number.ensures c.in-Ok.ensures.answered
+    c.args.err.now c.number.ensures c.in-Ok.ensures.answers

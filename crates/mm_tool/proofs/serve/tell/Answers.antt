@@ -1,7 +1,7 @@
 -- The line that was said is that of the stop.
 use Rattle.std.proofs.Common.{ℕ, List, ◌++◌, codes, subst}
 use Rattle.mm_tool.proofs.Tellings.{tells_stop}
-use Rattle.mm_tool.specs.Ending.{Tells}
+use Rattle.mm_tool.specs.Ending.{TellsLine}
 use Rattle.mm_tool.proofs.serve.tell.Goals as goal
 
 pub returns-in-NotText-clause-told : goal.returns-in-NotText-clause-told
@@ -10,7 +10,7 @@ returns-in-NotText-clause-told g c = tells_stop g.E.Write.contents _ _ _ _ c.in-
 pub returns-in-CannotRead-clause-told : goal.returns-in-CannotRead-clause-told
 returns-in-CannotRead-clause-told g c =
     let Told : List ℕ → Type 0 = λ name.
-    Tells g.E.Write.contents (codes "mm: cannot read " ++ (name ++ codes "\n")) c.args.err.now c.say_all.new.err in
+    TellsLine g.E.Write.contents (codes "mm: cannot read " ++ (name ++ codes "\n")) c.args.err.now c.say_all.new.err in
     tells_stop g.E.Write.contents _ _ _ _ c.in-CannotRead.is (subst Told c.as_bytes-in-CannotRead.ensures.value c.say_all.ensures)
 
 pub returns-in-CannotWrite-clause-told : goal.returns-in-CannotWrite-clause-told
