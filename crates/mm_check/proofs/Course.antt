@@ -1,18 +1,18 @@
 -- The course of checking: statement after statement, up to the first fault.
-use Rattle.std.proofs.Common.{◌≡◌, ℕ, zero, suc, ◌+◌, ◌<◌, ◌≤◌, List, [], ◌∷◌, ◌++◌, map, length, sum_by, slice_get, Bool, true, false, Option, Some, None, Result, Ok, Err, IsErrAnd, inl, inr, refl, sym, ap, subst, ◌∙◌, arith, append_assoc, append-nil, length-append}
-use Rattle.std.proofs.lemmas.List.{map-append, length-map}
+use Rattle.std.proofs.Common.{◌≡◌, ℕ, ◌<◌, List, [], ◌∷◌, ◌++◌, map, length, slice_get, true, false, Option, Some, None, Result, Ok, Err, IsErrAnd, inl, inr, refl, sym, ap, subst, ◌∙◌, append_assoc, append-nil}
 use Rattle.std.specs.List.{AllByRecursion}
-use Rattle.mm_text.specs.Statement.{PlainStatement, HasForm, bytes_in}
-use Rattle.mm_text.specs.Files.{PlainFile, total_bytes}
+use Rattle.mm_text.specs.Statement.{PlainStatement, HasForm}
+use Rattle.mm_text.specs.Files.{PlainFile}
 use Rattle.mm_text.specs.Reading.{PlainFault, Reads}
 use Rattle.mm_text.specs.Remaining.{Remaining, IsUnread}
 use Rattle.mm_text.proofs.ReaderLaws.{each_has_one_reading}
-use Rattle.mm_frame.specs.Sentence.{Sentence, said}
+use Rattle.mm_frame.specs.Sentence.{Sentence}
 use Rattle.mm_check.specs.declared.fault.CheckFault.{CheckFault}
 use Rattle.mm_check.specs.declared.progress.Progress.{Progress}
-use Rattle.mm_check.specs.Conclusion.{Conclusion, labels_in}
-use Rattle.mm_check.specs.Verdict.{Verdict, Yes, HasFault, Obeys, AllObey, HasVerdict, AreAccepted, CanBeRead, sentences, labels_of, unproved_of, proofs_of, refusal_of, text_refusal}
-use Rattle.mm_check.specs.Answer.{verdict_of_fault, concluded, concluded_with, labels_at, IsVerdict, KeepsLabels, KeepsCounts}
+use Rattle.mm_check.specs.Conclusion.{Conclusion, ProofUses, labels_in}
+use Rattle.mm_check.specs.Verdict.{Verdict, HasFault, Obeys, AllObey, HasVerdict, AreAccepted, CanBeRead, sentences, labels_of, unproved_of, is_unproved, proofs_of, refusal_of}
+use Rattle.mm_check.specs.Answer.{verdict_of_fault, concluded, concluded_with, labels_at, IsVerdict, KeepsLabels, KeepsCounts, KeepsUses, IsKeptOf}
+use Rattle.mm_check.specs.Rests.{IsNumberOf, AreInOrder, AreUses}
 use Rattle.mm_check.specs.Judged.{IsUnderWay, IsAtEnd, Knows, Takes, RefusesAfter, RefusesEnd, RefusesLoad, TakesNext}
 use Rattle.mm_check.proofs.Unproved.{one_more}
 use Rattle.mm_check.proofs.Known.{ids, knows_more, labels_said, names_of_ids}
@@ -123,6 +123,8 @@ pub record Concludes (p : Progress) (c : Conclusion) : Type 0 where
   pub proofs : c.proofs ≡ p.proofs
   pub incomplete : c.incomplete ≡ ids p.incomplete.items
   pub labels : c.labels ≡ labels_in p.book.statements
+  pub sentences : c.sentences ≡ p.book.statements
+  pub uses : c.uses ≡ p.kept
 
 -- numbers that name these proofs tell yes where there are none, else these proofs
 concluded_as : (files : List PlainFile) (c : Conclusion) (statements : List PlainStatement) (numbers : List ℕ) (unproved : List (List ℕ))
@@ -165,6 +167,19 @@ counts_kept files p left c way none kept statements ending reads =
     let same : way.earlier ≡ statements =
     (one.only way.earlier left.ending (none_left files p left way none)).0 ∙ sym (one.only statements ending reads).0 in
     (kept.statements ∙ way.known.count ∙ ap length same, kept.proofs ∙ way.known.proofs ∙ ap proofs_of same)
+
+pub uses_kept : (files : List PlainFile) (p : Progress) (left : Remaining) (c : Conclusion) → IsUnderWay files p left
+    → left.statements ≡ [] → Concludes p c → KeepsUses files c
+uses_kept files p left c way none kept statements ending reads =
+    let one = each_has_one_reading files in
+    let same : way.earlier ≡ statements =
+    (one.only way.earlier left.ending (none_left files p left way none)).0 ∙ sym (one.only statements ending reads).0 in
+    let here : IsKeptOf way.earlier c = record {
+      sentences = kept.sentences ∙ way.known.book;
+      incomplete = subst (λ (ns : List ℕ). AreInOrder (IsNumberOf way.earlier (λ s. is_unproved s ≡ true)) ns) (sym kept.incomplete) way.known.noted;
+      uses = subst (λ (us : List ProofUses). AreUses way.earlier us) (sym kept.uses) way.known.kept;
+    } in
+    subst (λ (ss : List PlainStatement). IsKeptOf ss c) same here
 
 -- the numbers of the incomplete proofs are those of labels
 pub incomplete_within : (files : List PlainFile) (p : Progress) (left : Remaining) → IsUnderWay files p left

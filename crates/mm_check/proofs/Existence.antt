@@ -1,5 +1,5 @@
 -- Files of every kind have a verdict.
-use Rattle.std.proofs.Common.{◌≡◌, ◌≢◌, ℕ, zero, suc, ◌<◌, ◌≤◌, List, [], ◌∷◌, ◌++◌, map, length, slice_get, Bool, true, false, Option, Some, None, option_map, ◌⊎◌, inl, inr, refl, sym, ap, subst, ◌∙◌, arith, append_assoc, append-nil}
+use Rattle.std.proofs.Common.{◌≡◌, ◌≢◌, ℕ, zero, suc, ◌<◌, ◌≤◌, List, [], ◌∷◌, ◌++◌, length, slice_get, Bool, true, false, Option, Some, None, option_map, ◌⊎◌, inl, inr, refl, sym, ap, subst, arith, append_assoc, append-nil}
 use Rattle.std.proofs.lemmas.List.{length-map}
 use Rattle.std.specs.List.{AllByRecursion}
 use Rattle.mm_text.specs.declared.fault.LoadRule.{LoadRule}
@@ -12,14 +12,14 @@ use Rattle.mm_text.specs.Files.{PlainFile, BreaksLoad, HasTwins, total_bytes}
 use Rattle.mm_text.specs.Reading.{PlainFault, Reads}
 use Rattle.mm_text.proofs.ReaderLaws.{each_has_one_reading}
 use Rattle.mm_text.proofs.FormedLaws.{readings_are_formed_in_place}
-use Rattle.mm_frame.specs.Sentence.{Sentence, said}
+use Rattle.mm_frame.specs.Sentence.{said}
 use Rattle.mm_frame.specs.Rules.{IsMeant}
 use Rattle.mm_frame.specs.Form.{IsNamed, IsFormedSentence, AllFormed}
 use Rattle.mm_proof.specs.Proof.{expression_limit}
 use Rattle.mm_proof.proofs.Decisions.{dec_both, dec_as, dec_some, dec_le, symbol_dec}
 use Rattle.mm_proof.proofs.Judged.{some_verdict_holds}
 use Rattle.mm_check.specs.declared.rule.Rule.{Rule}
-use Rattle.mm_check.specs.Verdict.{PlainRefusal, Verdict, Load, Refused, Incomplete, Yes, Obeys, AllObey, AreAccepted, CanBeRead, HasFault, HasVerdict, RefusesStatement, RefusesText, sentences, load_rule, meaning_rule, proof_rule, refusal_of, text_refusal, proof_of, proofs_of, unproved_of, is_proof}
+use Rattle.mm_check.specs.Verdict.{PlainRefusal, Verdict, Load, Refused, Incomplete, Yes, Obeys, AllObey, AreAccepted, CanBeRead, HasFault, HasVerdict, RefusesStatement, sentences, load_rule, meaning_rule, proof_rule, refusal_of, text_refusal, proof_of, proofs_of, unproved_of, is_proof}
 use Rattle.mm_check.proofs.Meanings.{some_meaning}
 use Rattle.mm_check.proofs.Unproved.{all_meant, one_more}
 

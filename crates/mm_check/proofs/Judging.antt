@@ -1,23 +1,22 @@
 -- What is said of the last statement's proof, from what the parser and the verifier say.
-use Rattle.std.proofs.Common.{◌≡◌, ℕ, zero, suc, ◌+◌, ◌<◌, ◌≤◌, ◌==◌, List, [], ◌∷◌, ◌++◌, map, take, length, get_or, slice_get, is_some, Contains, Bool, true, false, not, ◌||◌, Option, Some, None, option_map, Result, Ok, Err, MatchResult, IsErrAnd, IfErr, ◌⊎◌, inl, inr, refl, sym, ap, subst, ◌∙◌, arith}
+use Rattle.std.proofs.Common.{◌≡◌, ℕ, zero, suc, ◌<◌, ◌≤◌, ◌==◌, List, [], ◌∷◌, ◌++◌, map, take, length, get_or, slice_get, is_some, Contains, Bool, true, false, ◌||◌, Option, Some, option_map, Result, Ok, Err, MatchResult, IsErrAnd, IfErr, inl, inr, refl, sym, ap, subst, ◌∙◌, arith}
 use Rattle.std.specs.List.{AllByRecursion, list_any}
-use Rattle.std.specs.Borrow.{Bor}
 use Rattle.std.proofs.lemmas.Bool.{eqb-true}
-use Rattle.std.proofs.lemmas.Option.{same_Some}
 use Rattle.mm_text.specs.declared.token.Token.{Token}
 use Rattle.mm_text.specs.declared.statement.Kind.{Kind}
 use Rattle.mm_text.specs.declared.statement.Kind.TheVariants.{Provable}
 use Rattle.mm_text.specs.Token.{PlainToken, plain_token}
 use Rattle.mm_text.specs.Statement.{PlainStatement, HasForm, HasLabel}
 use Rattle.mm_frame.specs.Sentence.{Sentence, said}
-use Rattle.mm_frame.specs.Numbers.{labelled, IsNumbered}
+use Rattle.mm_frame.specs.Numbers.{labelled}
 use Rattle.mm_proof.specs.declared.fault.ProofRule.{ProofRule}
 use Rattle.mm_proof.specs.declared.fault.ProofFault.{ProofFault}
 use Rattle.mm_proof.specs.declared.fault.ProofFault.TheVariants as faults
-use Rattle.mm_proof.specs.Answer.{OnRule}
 use Rattle.mm_proof.specs.Moves.{Move}
+use Rattle.mm_proof.specs.Tree.{none as no_trees, tree}
+use Rattle.mm_proof.specs.Used.{AreUsed}
 use Rattle.mm_proof.specs.Tokens.{IsIncomplete, SayMoves}
-use Rattle.mm_proof.specs.Proof.{IsProvedWithin, Prove, IsWhole, IsWithin, expression_limit, IsFault, IsWholeFault, IsMovesFault}
+use Rattle.mm_proof.specs.Proof.{Prove, IsWhole, IsWithin, expression_limit, IsWholeFault, IsMovesFault}
 use Rattle.mm_proof.specs.Steps.{IsProofNumber, AreNumberedMoves}
 use Rattle.mm_proof.proofs.Places.{one_split}
 use Rattle.mm_text.specs.Files.{PlainFile}
@@ -116,7 +115,7 @@ last_number statements id s formed last before e =
 -- ## The verdict on its proof
 
 -- what is said of a fault, said of an answer that passes it on
-pub of_fault : (before : List Sentence) (s : PlainStatement) (result : Result Bool ProofFault) (fault : ProofFault)
+pub of_fault : (before : List Sentence) (s : PlainStatement) (result : Result (Option (List ℕ)) ProofFault) (fault : ProofFault)
     → IsErrAnd result (λ e. e ≡ fault) → Fails before s fault → MatchResult result (IsJudged before s) (Fails before s)
 of_fault before s (Ok x) fault same q = absurd same
 of_fault before s (Err e) fault same q = subst (Fails before s) (sym same) q
@@ -143,14 +142,19 @@ SaysMoves statements id tokens steps =
     → IsWhole (take place statements) tokens
     × (moves : List (Move (List ℕ))) × SayMoves (take place statements) t tokens moves × AreNumberedMoves statements steps moves
 
+-- the moves prove the statement, by a tree in which just these assertions stand
+abbrev pub ProveUsing : List ℕ → List Sentence → Sentence → List (Move (List ℕ)) → Type 0
+ProveUsing used before t moves =
+    (p : Prove (IsWithin expression_limit) before t moves) × AreUsed before (tree p.label p.below no_trees) used
+
 -- the moves prove the last statement
-pub verified : (statements : List Sentence) (id : ℕ) (s : PlainStatement) (tokens : List (List ℕ)) (steps : List (Move ℕ)) → HasForm s → IsLastProof statements id s
+pub verified : (statements : List Sentence) (id : ℕ) (s : PlainStatement) (tokens : List (List ℕ)) (steps : List (Move ℕ)) (used : List ℕ) → HasForm s → IsLastProof statements id s
     → tokens ≡ proof_of s → ¬ (IsIncomplete tokens) → SaysMoves statements id tokens steps
     → ((place : ℕ) (t : Sentence) (moves : List (Move (List ℕ))) → IsProofNumber statements id place t → AreNumberedMoves statements steps moves
-    → Prove (IsWithin expression_limit) (take place statements) t moves)
+    → ProveUsing used (take place statements) t moves)
     → (before : List Sentence) → statements ≡ before ++ said s ∷ []
-    → IsJudged before s true
-verified statements id s tokens steps formed last same complete says proves before e =
+    → IsJudged before s (Some used)
+verified statements id s tokens steps used formed last same complete says proves before e =
     let number = last_number statements id s formed last before e in
     let said_moves = says (length before) (said s) number in
     let front = front_of statements before (said s) e in
@@ -159,10 +163,11 @@ verified statements id s tokens steps formed last same complete says proves befo
     let moves : List (Move (List ℕ)) = said_moves.1 in
     let say : SayMoves before (said s) (proof_of s) moves =
     subst (λ (ts : List (List ℕ)). SayMoves before (said s) ts moves) same (subst (λ (ss : List Sentence). SayMoves ss (said s) tokens moves) front said_moves.2) in
-    let prove : Prove (IsWithin expression_limit) before (said s) moves =
-    subst (λ (ss : List Sentence). Prove (IsWithin expression_limit) ss (said s) moves) front (proves (length before) (said s) moves number said_moves.3) in
-    let none : is_incomplete (proof_of s) ≡ false = subst (λ (ts : List (List ℕ)). is_incomplete ts ≡ false) same (complete_is tokens complete) in
-    (sym (ap not none), λ f. record { whole = whole; moves = moves; said = say; proves = prove })
+    let prove : ProveUsing used before (said s) moves =
+    subst (λ (ss : List Sentence). ProveUsing used ss (said s) moves) front (proves (length before) (said s) moves number said_moves.3) in (
+      subst (λ (ts : List (List ℕ)). is_incomplete ts ≡ false) same (complete_is tokens complete),
+      record { proof = record { whole = whole; moves = moves; said = say; proves = prove.0 }; all = prove.1 },
+    )
 
 -- the fault that the verifier names
 pub verifier_fault : (statements : List Sentence) (id : ℕ) (s : PlainStatement) (tokens : List (List ℕ)) (steps : List (Move ℕ)) (fault : ProofFault) → HasForm s → IsLastProof statements id s

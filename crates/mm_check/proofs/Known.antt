@@ -1,10 +1,10 @@
 -- What the progress knows of one statement more, and what it tells in the end.
-use Rattle.std.proofs.Common.{◌≡◌, ℕ, ◌+◌, ◌<◌, List, [], ◌∷◌, ◌++◌, map, filter, length, sum_by, slice_get, is_some, count_by, Bool, true, false, not, ◌&&◌, cond, Option, Some, None, refl, sym, ap, subst, ◌∙◌, arith, append-nil, length-append}
+use Rattle.std.proofs.Common.{◌≡◌, ℕ, ◌+◌, List, [], ◌∷◌, ◌++◌, map, filter, length, slice_get, is_some, count_by, Bool, true, false, not, ◌&&◌, cond, Option, Some, refl, sym, ap, subst, ◌∙◌, arith, append-nil, length-append}
 use Rattle.std.proofs.lemmas.List.{map-append}
 use Rattle.std.proofs.lemmas.List.Sums.{sum_by-append}
 use Rattle.std.proofs.lemmas.List.Elements.{filter-append}
 use Rattle.std.proofs.lemmas.Grind.{flat_map-append}
-use Rattle.std.specs.List.{flat_map, AllByRecursion}
+use Rattle.std.specs.List.{flat_map}
 use Rattle.std.specs.Option.{option_to_list, option_map}
 use Rattle.mm_text.specs.declared.statement.Kind.{Kind}
 use Rattle.mm_text.specs.declared.statement.Kind.TheVariants.{Constants, Variables, Distinct, Floating, Essential, Axiom, Provable, Opening, Closing}
@@ -15,9 +15,11 @@ use Rattle.mm_frame.specs.Numbers.{labelled}
 use Rattle.mm_frame.specs.declared.number.LabelId.{LabelId}
 use Rattle.mm_check.specs.declared.progress.Progress.{Progress}
 use Rattle.mm_check.specs.Conclusion.{labels_in}
-use Rattle.mm_check.specs.Verdict.{sentences, labels_of, label_of, unproved_of, proofs_of, is_proof, is_unproved, is_provable, proof_of, is_incomplete}
-use Rattle.mm_check.specs.Judged.{Knows, Takes}
-use Rattle.mm_check.proofs.Numbers.{named_more, last_name, count_by-append, count_by-one, count_labelled, numbers_within}
+use Rattle.mm_check.specs.Verdict.{sentences, labels_of, label_of, unproved_of, is_proof, is_unproved, is_provable, proof_of, is_incomplete}
+use Rattle.mm_check.specs.Judged.{Knows, Takes, KeepsProof}
+use Rattle.mm_check.specs.Rests.{IsNumberOf, AreInOrder}
+use Rattle.mm_check.proofs.Trees.{one_more_number, uses_more}
+use Rattle.mm_check.proofs.Numbers.{named_more, last_name, count_by-append, count_by-one, count_labelled}
 
 -- the labels of what statements say are theirs
 pub labels_said : (statements : List PlainStatement) → labels_in (sentences statements) ≡ labels_of statements
@@ -57,6 +59,12 @@ provable_label Closing label has e = absurd cc
 both_true : (a b : Bool) → (a && b) ≡ true → a ≡ true
 both_true true b e = refl
 both_true false b e = e
+
+-- a `$p` has a label
+labelled_provable : (s : PlainStatement) (rest : Bool) → HasForm s → (is_provable s.kind && rest) ≡ true → is_some (said s).label ≡ true
+labelled_provable s rest formed e =
+    let found = provable_label s.kind s.label formed.label (both_true (is_provable s.kind) rest e) in
+    ap (λ (o : Option PlainToken). is_some (option_map (λ (t : PlainToken). t.text) o)) found.1
 
 -- the numbers of the incomplete proofs, and that of one more where it is incomplete
 more_unproved : (names : List (List ℕ)) (numbers : List ℕ) (unproved : List (List ℕ)) (s : PlainStatement) (count : ℕ) → HasForm s
@@ -99,6 +107,14 @@ incomplete_more statements s p q formed known takes =
     ∙ more_unproved names numbers (unproved_of statements) s count formed counted named (is_unproved s) refl
     ∙ sym (ap (λ (ls : List (List ℕ)). map Some ls) (unproved_of-append statements (s ∷ [])))
 
+noted_more : (statements : List PlainStatement) (s : PlainStatement) (p q : Progress) → HasForm s → Knows statements p → Takes p s q
+    → AreInOrder (IsNumberOf (statements ++ s ∷ []) (λ t. is_unproved t ≡ true)) (ids q.incomplete.items)
+noted_more statements s p q formed known takes =
+    let same : ids p.incomplete.items ++ cond (is_unproved s) (length (labelled (sentences statements)) ∷ []) [] ≡ ids q.incomplete.items =
+    sym (takes.incomplete ∙ ap (λ (ss : List Sentence). ids p.incomplete.items ++ cond (is_unproved s) (length (labelled ss) ∷ []) []) known.book) in
+    subst (λ (ns : List ℕ). AreInOrder (IsNumberOf (statements ++ s ∷ []) (λ t. is_unproved t ≡ true)) ns) same
+    (one_more_number is_unproved statements s (ids p.incomplete.items) (labelled_provable s (is_incomplete (proof_of s)) formed) known.noted (is_unproved s) refl)
+
 pub knows_more : (statements : List PlainStatement) (s : PlainStatement) (p q : Progress) → HasForm s → Knows statements p → Takes p s q
     → Knows (statements ++ s ∷ []) q
 knows_more statements s p q formed known takes = record {
@@ -108,4 +124,7 @@ knows_more statements s p q formed known takes = record {
   proofs = takes.proofs ∙ ap (λ (n : ℕ). n + cond (is_proof s) 1 0) known.proofs
       ∙ sym (count_by-append is_proof statements (s ∷ []) ∙ ap (λ (n : ℕ). count_by is_proof statements + n) (count_by-one is_proof s));
   incomplete = incomplete_more statements s p q formed known takes;
+  noted = noted_more statements s p q formed known takes;
+  kept = uses_more statements s p.kept q.kept (labelled_provable s (not (is_incomplete (proof_of s))) formed) known.kept (is_proof s) refl
+      (subst (λ (ss : List Sentence). KeepsProof ss s (length (labelled ss)) (is_proof s) p.kept q.kept) known.book takes.kept);
 }

@@ -1,4 +1,7 @@
 pub mod Numbers
+pub mod Ranges
+pub mod Order
+pub mod Trees
 pub mod Known
 pub mod Unproved
 pub mod Judging
@@ -10,3 +13,4 @@ pub mod Replies
 pub mod Verdicts
 pub mod OnTheWay
 pub mod Course
+pub mod Handed

@@ -1,21 +1,19 @@
 -- What the next statement may ask of the progress: a block to close, and room.
-use Rattle.std.proofs.Common.{◌≡◌, ◌≢◌, ℕ, zero, suc, ◌+◌, ◌<◌, ◌≤◌, List, [], ◌∷◌, ◌++◌, map, take, length, sum_by, count_by, Bool, true, false, cond, inl, inr, refl, sym, ap, subst, ◌∙◌, arith, append_assoc, length-append}
+use Rattle.std.proofs.Common.{◌≡◌, ℕ, suc, ◌+◌, ◌<◌, ◌≤◌, List, [], ◌∷◌, ◌++◌, take, length, sum_by, count_by, Bool, true, cond, inl, inr, refl, sym, ap, subst, ◌∙◌, arith, length-append}
 use Rattle.std.proofs.lemmas.Bool.{cases_lt}
 use Rattle.std.proofs.lemmas.List.Sums.{sum_by-append, sum_by-cons, count_by-le-length}
-use Rattle.std.specs.List.{AllByRecursion}
 use Rattle.mm_text.specs.declared.fault.LoadRule.TheVariants.{F1, F2, F3}
 use Rattle.mm_text.specs.declared.statement.Kind.{Kind}
 use Rattle.mm_text.specs.declared.statement.Kind.TheVariants.{Constants, Variables, Distinct, Floating, Essential, Axiom, Provable, Opening, Closing}
-use Rattle.mm_text.specs.Statement.{PlainStatement, HasForm, bytes_in}
-use Rattle.mm_text.specs.Files.{PlainFile, HasTwins, total_bytes}
+use Rattle.mm_text.specs.Statement.{PlainStatement, bytes_in}
+use Rattle.mm_text.specs.Files.{PlainFile, total_bytes}
 use Rattle.mm_text.specs.Blocks as text
-use Rattle.mm_text.specs.Reading.{PlainFault, Reads}
 use Rattle.mm_text.specs.Remaining.{Remaining}
 use Rattle.mm_text.proofs.FormedLaws.{readings_are_balanced, readings_fit, readings_few}
 use Rattle.mm_frame.specs.Sentence.{Sentence, said}
 use Rattle.mm_frame.specs.Active as frame
 use Rattle.mm_check.specs.declared.progress.Progress.{Progress}
-use Rattle.mm_check.specs.Verdict.{CanBeRead, sentences, proofs_of, is_proof}
+use Rattle.mm_check.specs.Verdict.{CanBeRead, sentences, is_proof}
 use Rattle.mm_check.specs.Judged.{IsUnderWay, TakesNext}
 use Rattle.mm_check.proofs.Numbers.{count_by-append, count_by-one}
 

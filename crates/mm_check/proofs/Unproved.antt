@@ -1,5 +1,5 @@
 -- Statements one by one: those that are meant, and the `$p` whose proofs are incomplete.
-use Rattle.std.proofs.Common.{◌≡◌, ℕ, List, [], ◌∷◌, ◌++◌, map, filter, length, Bool, true, false, not, ◌&&◌, cond, Option, Some, None, refl, sym, ap, subst, ◌∙◌}
+use Rattle.std.proofs.Common.{◌≡◌, List, [], ◌∷◌, ◌++◌, map, filter, Bool, true, false, not, ◌&&◌, cond, Option, refl, sym, ap, subst, ◌∙◌}
 use Rattle.std.specs.List.{flat_map, AllByRecursion}
 use Rattle.std.specs.Option.{option_to_list, option_map}
 use Rattle.mm_text.specs.declared.statement.Kind.{Kind}

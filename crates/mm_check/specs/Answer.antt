@@ -1,5 +1,5 @@
 -- What `check` answers, as a verdict.
-use Rattle.std.specs.Prelude.{◌≡◌, ℕ, List, [], ◌∷◌, slice_get, length, Option, Some, None, option_map, Result, Ok, Err, ◌⊎◌}
+use Rattle.std.specs.Prelude.{◌≡◌, ℕ, ◌<◌, true, List, [], ◌∷◌, slice_get, length, Option, Some, None, option_map, Result, Ok, Err, ◌⊎◌}
 use Rattle.std.specs.List.{flat_map}
 use Rattle.std.specs.Option.{option_to_list}
 use Rattle.mm_check.specs.declared.fault.Refusal.{Refusal}
@@ -10,7 +10,8 @@ use Rattle.mm_text.specs.Statement.{PlainStatement}
 use Rattle.mm_text.specs.Files.{PlainFile}
 use Rattle.mm_text.specs.Reading.{PlainFault, Reads}
 use Rattle.mm_check.specs.declared.rule.Rule.TheVariants.{L1}
-use Rattle.mm_check.specs.Verdict.{PlainRefusal, Verdict, Load, Refused, Incomplete, Yes, HasVerdict, labels_of, proofs_of}
+use Rattle.mm_check.specs.Verdict.{PlainRefusal, Verdict, Load, Refused, Incomplete, Yes, HasVerdict, labels_of, proofs_of, is_unproved, sentences}
+use Rattle.mm_check.specs.Rests.{IsNumberOf, AreInOrder, AreUses}
 
 -- a refusal without where its label lies in memory
 abbrev pub plain_refusal : Refusal → PlainRefusal
@@ -78,3 +79,19 @@ abbrev pub KeepsCounts : List PlainFile → Conclusion → Type 0
 KeepsCounts files c =
     (statements : List PlainStatement) (ending : Option PlainFault) → Reads files statements ending
     → (c.statements ≡ length statements) × (c.proofs ≡ proofs_of statements)
+
+-- what is kept of these statements: what they say, the numbers of the incomplete proofs, and what the complete ones use
+pub record IsKeptOf (statements : List PlainStatement) (c : Conclusion) : Type 0 where
+  pub sentences : c.sentences ≡ sentences statements
+  pub incomplete : AreInOrder (IsNumberOf statements (λ s. is_unproved s ≡ true)) c.incomplete
+  pub uses : AreUses statements c.uses
+
+-- it is kept of the statements that the files hold
+abbrev pub KeepsUses : List PlainFile → Conclusion → Type 0
+KeepsUses files c =
+    (statements : List PlainStatement) (ending : Option PlainFault) → Reads files statements ending → IsKeptOf statements c
+
+-- the file in which a statement or a token is refused is one of the files
+abbrev pub NamesFile : List PlainFile → Result Conclusion CheckFault → Type 0
+NamesFile files answer =
+    (refusal : PlainRefusal) → answered answer ≡ Some (Refused refusal) → refusal.file < length files

@@ -11,12 +11,15 @@ use Rattle.mm_frame.specs.Numbers.{labelled}
 use Rattle.mm_proof.specs.declared.fault.ProofRule.{ProofRule}
 use Rattle.mm_proof.specs.declared.fault.ProofFault.{ProofFault}
 use Rattle.mm_proof.specs.Answer.{OnRule}
+use Rattle.mm_proof.specs.Used.{AreUsed}
 use Rattle.mm_proof.specs.Proof.{IsProvedWithin, IsWithin, expression_limit, IsFault}
 use Rattle.mm_check.specs.declared.rule.Rule.{Rule}
 use Rattle.mm_check.specs.declared.fault.CheckFault.{CheckFault}
 use Rattle.mm_check.specs.declared.progress.Progress.{Progress}
 use Rattle.mm_check.specs.Verdict.{Verdict, HasVerdict, Load, Refused, HasFault, Obeys, AllObey, CanBeRead, refusal_of, text_refusal, load_rule, proof_rule, sentences, proof_of, proofs_of, labels_of, unproved_of, is_incomplete, is_proof, is_unproved}
 use Rattle.mm_check.specs.Answer.{verdict_of_fault}
+use Rattle.mm_check.specs.Conclusion.{ProofUses}
+use Rattle.mm_check.specs.Rests.{tree_of, IsNumberOf, AreInOrder, AreUses}
 
 -- Memory was wanting, or the statement, which comes after so many others, is refused for its fault.
 abbrev pub RefusesAfter : List PlainFile → List Sentence → ℕ → PlainStatement → CheckFault → Type 0
@@ -50,11 +53,15 @@ pub record IsLastProof (statements : List Sentence) (id : ℕ) (s : PlainStateme
   pub number : id ≡ length (labelled before)
   pub provable : s.kind ≡ Provable
 
--- the proof of a `$p` after the statements before is complete, and proved, or incomplete
-abbrev pub IsJudged : List Sentence → PlainStatement → Bool → Type 0
-IsJudged before s complete =
-    (complete ≡ not (is_incomplete (proof_of s)))
-    × (complete ≡ true → IsProvedWithin (IsWithin expression_limit) before (said s) (proof_of s))
+-- the proof of a `$p` after the statements before is proved, and these are the numbers of the assertions in its tree
+pub record IsProvedUsing (before : List Sentence) (s : PlainStatement) (used : List ℕ) : Type 0 where
+  pub proof : IsProvedWithin (IsWithin expression_limit) before (said s) (proof_of s)
+  pub all : AreUsed before (tree_of proof) used
+
+-- the proof is incomplete; or it is complete, and proved
+abbrev pub IsJudged : List Sentence → PlainStatement → Option (List ℕ) → Type 0
+IsJudged before s None = is_incomplete (proof_of s) ≡ true
+IsJudged before s (Some used) = (is_incomplete (proof_of s) ≡ false) × IsProvedUsing before s used
 
 -- its proof is complete, and this is its fault; or memory was wanting
 abbrev pub Fails : List Sentence → PlainStatement → ProofFault → Type 0
@@ -62,11 +69,17 @@ Fails before s fault = OnRule fault (λ rule step.
     (is_incomplete (proof_of s) ≡ false) × IsFault (IsWithin expression_limit) before (said s) (proof_of s) rule step)
 
 -- the verdict on the proof of the last statement
-abbrev pub JudgesProof : List Sentence → PlainStatement → Result Bool ProofFault → Type 0
+abbrev pub JudgesProof : List Sentence → PlainStatement → Result (Option (List ℕ)) ProofFault → Type 0
 JudgesProof statements s result =
     (before : List Sentence) → statements ≡ before ++ said s ∷ [] → MatchResult result (IsJudged before s) (Fails before s)
 
--- the proof of the last statement was counted, or noted as incomplete
+-- of a statement with this number, after those before it, what its proof uses is kept, if that is complete
+pub record KeepsProof (before : List Sentence) (s : PlainStatement) (id : ℕ) (complete : Bool) (old new : List ProofUses) : Type 0 where
+  pub some : complete ≡ true
+      → (used : List ℕ) × IsProvedUsing before s used × (new ≡ old ++ record { number = id; used = used } ∷ [])
+  pub none : complete ≡ false → new ≡ old
+
+-- the proof of the last statement was counted, and what it uses kept, or it was noted as incomplete
 pub record CountsProof (old : Progress) (id : ℕ) (s : PlainStatement) (new : Progress) : Type 0 where
   pub proved : (before : List Sentence) → old.book.statements ≡ before ++ said s ∷ []
       → is_incomplete (proof_of s) ≡ false → IsProvedWithin (IsWithin expression_limit) before (said s) (proof_of s)
@@ -75,6 +88,8 @@ pub record CountsProof (old : Progress) (id : ℕ) (s : PlainStatement) (new : P
   pub proofs : new.proofs ≡ old.proofs + (if is_incomplete (proof_of s) then 0 else 1)
   pub incomplete : map (λ id. id.0) new.incomplete.items
       ≡ map (λ id. id.0) old.incomplete.items ++ (if is_incomplete (proof_of s) then id ∷ [] else [])
+  pub kept : (before : List Sentence) → old.book.statements ≡ before ++ said s ∷ []
+      → KeepsProof before s id (not (is_incomplete (proof_of s))) old.kept new.kept
 
 -- Memory was wanting, or the last statement is refused for the fault of its proof.
 abbrev pub RefusesProof : List PlainFile → Progress → PlainStatement → CheckFault → Type 0
@@ -94,6 +109,7 @@ pub record Takes (old : Progress) (s : PlainStatement) (new : Progress) : Type 0
   pub proofs : new.proofs ≡ old.proofs + (if is_proof s then 1 else 0)
   pub incomplete : map (λ id. id.0) new.incomplete.items
       ≡ map (λ id. id.0) old.incomplete.items ++ (if is_unproved s then length (labelled old.book.statements) ∷ [] else [])
+  pub kept : KeepsProof old.book.statements s (length (labelled old.book.statements)) (is_proof s) old.kept new.kept
 
 -- what the progress knows of the statements so far
 pub record Knows (statements : List PlainStatement) (p : Progress) : Type 0 where
@@ -102,6 +118,8 @@ pub record Knows (statements : List PlainStatement) (p : Progress) : Type 0 wher
   pub count : p.count ≡ length statements
   pub proofs : p.proofs ≡ proofs_of statements
   pub incomplete : map (λ id. slice_get (labels_of statements) id.0) p.incomplete.items ≡ map Some (unproved_of statements)
+  pub noted : AreInOrder (IsNumberOf statements (λ s. is_unproved s ≡ true)) (map (λ id. id.0) p.incomplete.items)
+  pub kept : AreUses statements p.kept
 
 -- The statements so far and those that are left are the reading of the files, and those so far obey the rules.
 pub record IsUnderWay (files : List PlainFile) (p : Progress) (left : Remaining) : Type 0 where

@@ -2,6 +2,8 @@ pub mod Verdict
 pub mod Reply
 pub mod Status
 pub mod Conclusion
+pub mod Ranges
+pub mod Rests
 pub mod Answer
 pub mod Judged
 pub mod Laws

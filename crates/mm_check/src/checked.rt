@@ -3,6 +3,7 @@
 ghost use Rattle.std.specs.Prelude.{◌≡◌, ◌<◌, ◌↔◌, [], map, length, slice_get, Some, IsTrue};
 ghost use Rattle.std.specs.List.{AllByRecursion};
 
+use crate::kept::Kept;
 use crate::progress::Progress;
 use mm_frame::{Book, LabelId};
 use std::marker::Model;
@@ -15,6 +16,7 @@ pub struct Checked<'a> {
     statements: usize,
     proofs: usize,
     incomplete: Vec<LabelId>,
+    kept: Kept,
 }
 
 impl<'a> Model for Checked<'a> {
@@ -29,6 +31,8 @@ impl<'a> Model for Checked<'a> {
       proofs = c.proofs;
       incomplete = map (λ id. id.0) c.incomplete.items;
       labels = labels_in c.book.statements;
+      sentences = c.book.statements;
+      uses = c.kept;
     } };
 
     // Each number is that of a label.
@@ -47,12 +51,15 @@ impl<'a> Checked<'a> {
         ensures proofs { result.proofs ≡ progress.entry.proofs }
         ensures incomplete { result.incomplete ≡ map (λ id. id.0) progress.entry.incomplete.items }
         ensures labels { result.labels ≡ labels_in progress.entry.book.statements }
+        ensures sentences { result.sentences ≡ progress.entry.book.statements }
+        ensures uses { result.uses ≡ progress.entry.kept }
     {
         Checked {
             book: progress.book,
             statements: progress.count,
             proofs: progress.proofs,
             incomplete: progress.incomplete,
+            kept: progress.kept,
         }
     }
 

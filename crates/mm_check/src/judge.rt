@@ -17,7 +17,7 @@ use crate::place::line_of;
 use crate::progress::Progress;
 use crate::rule::Rule;
 use mm_frame::{Book, LabelId, RuleFault, Taken};
-use mm_proof::{Flat, Parsed, ProofFault, Steps, verify};
+use mm_proof::{Flat, Parsed, ProofFault, Steps, Used, verify};
 use mm_text::{File, Kind, Statement};
 use std::alloc::{AllocError, Global};
 
@@ -64,13 +64,14 @@ fn proof_of<'a>(alloc: Global, statement: &Statement<'a>) -> Result<Vec<&'a [u8]
     Ok(tokens)
 }
 
-/// Whether the proof of a `$p`, which the book took last, is complete, and then proved.
-fn is_proved<'a>(
+/// The assertions that the proof of a `$p` uses, which the book took last; none where the proof is
+/// incomplete.
+fn judge_proof<'a>(
     alloc: Global,
     book: &Book<'a>,
     id: LabelId,
     statement: &Statement<'a>,
-) -> Result<bool, ProofFault>
+) -> Result<Option<Used>, ProofFault>
     requires formed { HasForm (plain_statement statement.now) }
     requires last { IsLastProof book.now.statements id.0 (plain_statement statement.now) }
     requires room { bytes_in (plain_statement statement.now) ≤ 1073741824 }
@@ -78,16 +79,16 @@ fn is_proved<'a>(
 {
     let tokens = proof_of(alloc, statement)?;
     match Steps::parse(alloc, book, id, &tokens)? {
-        Parsed::Incomplete => Ok(false),
+        Parsed::Incomplete => Ok(None),
         Parsed::Steps(steps) => {
-            let _used = verify(alloc, Flat::new(alloc), book, id, &steps)?;
-            Ok(true)
+            let used = verify(alloc, Flat::new(alloc), book, id, &steps)?;
+            Ok(Some(used))
         }
     }
 }
 
-/// Judges the proof of a `$p`, which the book took last, and counts it, or notes that it is
-/// incomplete.
+/// Judges the proof of a `$p`, which the book took last, counts it and keeps what it uses, or notes
+/// that it is incomplete.
 fn prove<'a>(
     alloc: Global,
     files: &[File<'a>],
@@ -103,9 +104,12 @@ fn prove<'a>(
     ensures ok { OnOk result (CountsProof progress.old id.0 (plain_statement statement.now) progress.new) }
     ensures refused { IfErr result (RefusesProof (map plain_file files.now) progress.old (plain_statement statement.now)) }
 {
-    match is_proved(alloc, &progress.book, id, statement) {
-        Ok(true) => progress.proofs += 1,
-        Ok(false) => progress.incomplete.push(id)?,
+    match judge_proof(alloc, &progress.book, id, statement) {
+        Ok(Some(used)) => {
+            progress.kept.push(id, used.ids())?;
+            progress.proofs += 1;
+        }
+        Ok(None) => progress.incomplete.push(id)?,
         Err(ProofFault::Rule { rule, step }) => {
             let refusal = refusal(files, progress.count, statement, Rule::from(rule), step);
             return Err(CheckFault::Refused(refusal));

@@ -5,6 +5,7 @@ mod checked;
 mod command;
 mod fault;
 mod judge;
+mod kept;
 mod laws;
 mod place;
 mod progress;

@@ -1,5 +1,6 @@
 //! What checking has come to.
 
+use crate::kept::Kept;
 use mm_frame::{Book, LabelId};
 
 /// The statements that were taken so far, all of which obey the rules.
@@ -12,4 +13,6 @@ pub(crate) struct Progress<'a> {
     pub(crate) proofs: usize,
     /// The `$p` whose proofs are incomplete, in their order.
     pub(crate) incomplete: Vec<LabelId>,
+    /// What the complete proofs use.
+    pub(crate) kept: Kept,
 }

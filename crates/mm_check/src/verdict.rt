@@ -6,12 +6,13 @@ ghost use Rattle.mm_text.specs.Statement.{plain_statement, HasForm};
 ghost use Rattle.mm_text.specs.Files.{plain_file};
 ghost use Rattle.mm_text.specs.Remaining.{IsUnread};
 ghost use Rattle.mm_check.specs.Verdict.{ObeyTheProfile, CanBeRead, text_refusal as text_refusal_at};
-ghost use Rattle.mm_check.specs.Answer.{IsYes, IsOverLimit, IsWantOfMemory, IsVerdict, IsOnlyVerdict, KeepsLabels, KeepsCounts, plain_refusal};
+ghost use Rattle.mm_check.specs.Answer.{IsYes, IsOverLimit, IsWantOfMemory, IsVerdict, IsOnlyVerdict, KeepsLabels, KeepsCounts, KeepsUses, NamesFile, plain_refusal};
 ghost use Rattle.mm_check.specs.Judged.{TakesNext, RefusesEnd, RefusesLoad, Knows, IsUnderWay, IsAtEnd, TellsVerdict};
 
 use crate::checked::Checked;
 use crate::fault::{CheckFault, Refusal};
 use crate::judge::judge;
+use crate::kept::Kept;
 use crate::place::line_of;
 use crate::progress::Progress;
 use crate::rule::Rule;
@@ -95,6 +96,7 @@ fn beginning<'a>(alloc: Global) -> Result<Progress<'a>, CheckFault<'a>>
             count: 0,
             proofs: 0,
             incomplete: Vec::new(alloc),
+            kept: Kept::new(alloc),
         }),
         // No statement was taken, so that no rule is broken.
         Err(RuleFault::Memory | RuleFault::Rule(_)) => Err(CheckFault::Memory),
@@ -124,6 +126,7 @@ fn judge_all<'a>(alloc: Global, files: &'a [File<'a>]) -> Result<Checked<'a>, Ch
     ensures verdict { IsVerdict (map plain_file files.now) result }
     ensures labels { IfOk result (KeepsLabels (map plain_file files.now)) }
     ensures counts { IfOk result (KeepsCounts (map plain_file files.now)) }
+    ensures uses { IfOk result (KeepsUses (map plain_file files.now)) }
 {
     let mut statements = load(alloc, files)?;
     let mut progress = beginning(alloc)?;
@@ -158,6 +161,12 @@ pub fn check<'a>(alloc: Global, files: &'a [File<'a>]) -> Result<Checked<'a>, Ch
     // proofs, also where proofs are incomplete.
     ensures labels { IfOk result (KeepsLabels (map plain_file files.now)) }
     ensures counts { IfOk result (KeepsCounts (map plain_file files.now)) }
+
+    // Of each complete proof the assertions of its tree are kept.
+    ensures uses { IfOk result (KeepsUses (map plain_file files.now)) }
+
+    // A refusal's file is one of those that were handed in.
+    ensures file { NamesFile (map plain_file files.now) result }
 {
     judge_all(alloc, files)
 }

@@ -1,11 +1,11 @@
 -- The refusal tells the fault of the statement.
-use Rattle.std.proofs.Common.{rules, ◌≡◌, ◌++◌, ◌∷◌, [], List, Some, Err, inl, inr, map, subst, sym, refl, ap, ◌∙◌}
+use Rattle.std.proofs.Common.{rules, ◌≡◌, Some, Err, inl, inr, map, refl, ap, ◌∙◌}
 use Rattle.mm_text.specs.declared.statement.Kind.TheVariants.{Provable}
 use Rattle.mm_text.specs.Statement.{PlainStatement, plain_statement}
 use Rattle.mm_text.specs.Files.{plain_file}
 use Rattle.mm_frame.specs.Database.{Database}
 use Rattle.mm_check.specs.declared.fault.CheckFault.{CheckFault}
-use Rattle.mm_check.specs.Verdict.{Refused, meaning_rule, refusal_of}
+use Rattle.mm_check.specs.Verdict.{Refused, meaning_rule}
 use Rattle.mm_check.specs.Judged.{RefusesAfter}
 use Rattle.mm_check.proofs.Judging.{refuses_after, passed_fault}
 use Rattle.mm_check.proofs.judge.judge.Goals as goal

@@ -1,5 +1,5 @@
 -- At the end all texts are there.
-use Rattle.std.proofs.Common.{◌≡◌, ◌≤◌, List, map, take, length, sym, ap, subst, ◌∙◌}
+use Rattle.std.proofs.Common.{◌≤◌, List, map, length, ap, subst, ◌∙◌}
 use Rattle.std.proofs.lemmas.List.{take_all}
 use Rattle.mm_text.specs.declared.token.Token.{Token}
 use Rattle.mm_check.proofs.Judging.{texts_of}

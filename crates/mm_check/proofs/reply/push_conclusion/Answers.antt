@@ -1,5 +1,5 @@
 -- Where a proof is incomplete the text is that of the list.
-use Rattle.std.proofs.Common.{◌≡◌, ◌++◌, ◌<◌, ℕ, List, map, length, OnOk, subst, sym, refl}
+use Rattle.std.proofs.Common.{◌≡◌, ◌++◌, ◌<◌, ℕ, List, length, OnOk, subst, sym, refl}
 use Rattle.std.specs.List.{AllByRecursion}
 use Rattle.mm_check.proofs.Lines.{text_of_some}
 use Rattle.mm_check.proofs.reply.push_conclusion.Goals as goal

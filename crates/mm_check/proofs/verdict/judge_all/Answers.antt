@@ -1,11 +1,11 @@
 -- What the progress tells in the end is the verdict.
-use Rattle.std.proofs.Common.{◌≡◌, List, Option, Some, map, subst, refl, sym}
+use Rattle.std.proofs.Common.{List, map, subst}
 use Rattle.std.proofs.lemmas.Option.{same_Some}
 use Rattle.mm_text.specs.Files.{PlainFile, plain_file}
-use Rattle.mm_check.specs.Verdict.{Verdict, HasVerdict}
+use Rattle.mm_check.specs.Verdict.{HasVerdict}
 use Rattle.mm_check.specs.Answer.{concluded}
 use Rattle.mm_check.specs.Judged.{IsAtEnd}
-use Rattle.mm_check.proofs.Course.{Concludes, starts, passed_on, end_concludes, labels_kept, counts_kept, incomplete_within}
+use Rattle.mm_check.proofs.Course.{Concludes, starts, passed_on, end_concludes, labels_kept, counts_kept, uses_kept, incomplete_within}
 use Rattle.mm_check.proofs.verdict.judge_all.Goals as goal
 
 pub judge_rest-requires : goal.judge_rest-requires
@@ -26,7 +26,7 @@ pub returns-clause-verdict : goal.returns-clause-verdict
 returns-clause-verdict c =
     let files : List PlainFile = map plain_file c.args.files.now in
     let kept : Concludes c.judge_rest.new.progress c.new.result =
-    record { statements = c.new.ensures.statements; proofs = c.new.ensures.proofs; incomplete = c.new.ensures.incomplete; labels = c.new.ensures.labels } in
+    record { statements = c.new.ensures.statements; proofs = c.new.ensures.proofs; incomplete = c.new.ensures.incomplete; labels = c.new.ensures.labels; sentences = c.new.ensures.sentences; uses = c.new.ensures.uses } in
     let end : IsAtEnd files c.judge_rest.new.progress c.judge_rest.new.statements = c.in_ok-judge_rest.ensures.done in
     λ verdict e. subst (HasVerdict files) (same_Some (concluded c.new.result) verdict e)
     (end_concludes files c.judge_rest.new.progress c.judge_rest.new.statements c.new.result end.way end.none end.ending kept)
@@ -34,13 +34,20 @@ returns-clause-verdict c =
 pub returns-clause-labels : goal.returns-clause-labels
 returns-clause-labels c =
     let kept : Concludes c.judge_rest.new.progress c.new.result =
-    record { statements = c.new.ensures.statements; proofs = c.new.ensures.proofs; incomplete = c.new.ensures.incomplete; labels = c.new.ensures.labels } in
+    record { statements = c.new.ensures.statements; proofs = c.new.ensures.proofs; incomplete = c.new.ensures.incomplete; labels = c.new.ensures.labels; sentences = c.new.ensures.sentences; uses = c.new.ensures.uses } in
     let end : IsAtEnd (map plain_file c.args.files.now) c.judge_rest.new.progress c.judge_rest.new.statements = c.in_ok-judge_rest.ensures.done in
     labels_kept (map plain_file c.args.files.now) c.judge_rest.new.progress c.judge_rest.new.statements c.new.result end.way end.none kept
 
 pub returns-clause-counts : goal.returns-clause-counts
 returns-clause-counts c =
     let kept : Concludes c.judge_rest.new.progress c.new.result =
-    record { statements = c.new.ensures.statements; proofs = c.new.ensures.proofs; incomplete = c.new.ensures.incomplete; labels = c.new.ensures.labels } in
+    record { statements = c.new.ensures.statements; proofs = c.new.ensures.proofs; incomplete = c.new.ensures.incomplete; labels = c.new.ensures.labels; sentences = c.new.ensures.sentences; uses = c.new.ensures.uses } in
     let end : IsAtEnd (map plain_file c.args.files.now) c.judge_rest.new.progress c.judge_rest.new.statements = c.in_ok-judge_rest.ensures.done in
     counts_kept (map plain_file c.args.files.now) c.judge_rest.new.progress c.judge_rest.new.statements c.new.result end.way end.none kept
+
+pub returns-clause-uses : goal.returns-clause-uses
+returns-clause-uses c =
+    let kept : Concludes c.judge_rest.new.progress c.new.result =
+    record { statements = c.new.ensures.statements; proofs = c.new.ensures.proofs; incomplete = c.new.ensures.incomplete; labels = c.new.ensures.labels; sentences = c.new.ensures.sentences; uses = c.new.ensures.uses } in
+    let end : IsAtEnd (map plain_file c.args.files.now) c.judge_rest.new.progress c.judge_rest.new.statements = c.in_ok-judge_rest.ensures.done in
+    uses_kept (map plain_file c.args.files.now) c.judge_rest.new.progress c.judge_rest.new.statements c.new.result end.way end.none kept

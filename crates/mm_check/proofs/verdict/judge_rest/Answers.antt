@@ -1,8 +1,7 @@
 -- The course of checking, turn by turn.
-use Rattle.std.proofs.Common.{◌≡◌, ◌≤◌, Bool, true, false, List, map, Ok, ap, subst, arith}
+use Rattle.std.proofs.Common.{◌≤◌, Bool, true, false, List, map, Ok, ap, subst, arith}
 use Rattle.mm_text.specs.Statement.{PlainStatement, plain_statement, HasForm}
 use Rattle.mm_text.specs.Files.{PlainFile, plain_file}
-use Rattle.mm_check.specs.declared.fault.CheckFault.{CheckFault}
 use Rattle.mm_check.specs.Judged.{TakesNext, TellsVerdict}
 use Rattle.mm_check.proofs.Judging.{passed_fault}
 use Rattle.mm_check.proofs.OnTheWay.{closes, has_room, count_small, proofs_small}

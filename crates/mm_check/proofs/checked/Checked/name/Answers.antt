@@ -1,5 +1,5 @@
 -- The book has the label with the number.
-use Rattle.std.proofs.Common.{◌≡◌, ℕ, ◌<◌, List, length, slice_get, Some, sym, subst, ap, ◌∙◌}
+use Rattle.std.proofs.Common.{◌≡◌, ℕ, ◌<◌, length, slice_get, Some, sym, subst}
 use Rattle.mm_frame.specs.Sentence.{Sentence}
 use Rattle.mm_check.specs.Conclusion.{Conclusion, labels_in}
 use Rattle.mm_check.proofs.Numbers.{count_labelled, label_named}

@@ -1,15 +1,14 @@
 -- The parser and the verifier judge the last statement at its place.
-use Rattle.std.proofs.Common.{rules, ◌≡◌, ℕ, ◌≤◌, List, map, length, Ok, Err, not, true, false, sym, ap, subst, refl, ◌∙◌}
+use Rattle.std.proofs.Common.{◌≡◌, ℕ, ◌≤◌, List, map, length, Ok, Err, sym, ap, subst, ◌∙◌}
 use Rattle.std.specs.List.{AllByRecursion}
 use Rattle.std.specs.Borrow.{Bor}
-use Rattle.mm_text.specs.Token.{PlainToken}
 use Rattle.mm_text.specs.Statement.{PlainStatement, plain_statement}
-use Rattle.mm_frame.specs.Sentence.{Sentence, said}
+use Rattle.mm_frame.specs.Sentence.{said}
 use Rattle.mm_proof.specs.Tokens.{IsIncomplete}
 use Rattle.mm_proof.specs.declared.moves.Parsed.TheVariants.{Incomplete, Steps}
 use Rattle.mm_check.specs.Verdict.{proof_of}
-use Rattle.mm_check.proofs.Judging.{filled_texts, last_number, of_fault, parser_fault, verified, verifier_fault, incomplete_is}
-use Rattle.mm_check.proofs.judge.is_proved.Goals as goal
+use Rattle.mm_check.proofs.Judging.{filled_texts, last_number, of_fault, parser_fault, verified, verifier_fault}
+use Rattle.mm_check.proofs.judge.judge_proof.Goals as goal
 
 pub parse-requires-clause-proof : goal.parse-requires-clause-proof
 parse-requires-clause-proof c =
@@ -35,8 +34,8 @@ returns-in_err-parse c =
     (parser_fault c.args.book.now.statements c.args.id.0 s tokens c.in_err-parse.field-0.0 c.requires.formed c.requires.last same complete
     (λ rule step f place t n. c.parse.ensures.fault rule step (c.in_err-parse.was ∙ ap Err f) place t n) before e)
 
-pub returns-in_err-_used-in-Steps : goal.returns-in_err-_used-in-Steps
-returns-in_err-_used-in-Steps c =
+pub returns-in_err-used-in-Steps : goal.returns-in_err-used-in-Steps
+returns-in_err-used-in-Steps c =
     let s : PlainStatement = plain_statement c.args.statement.now in
     let tokens : List (List ℕ) = map (λ (t : Bor (List ℕ)). t.now) c.deref.result.now in
     let same : tokens ≡ proof_of s =
@@ -44,10 +43,10 @@ returns-in_err-_used-in-Steps c =
     let parsed : c.parse.result ≡ Ok (Steps c.in-Steps.steps) = c.in_ok-parse.was ∙ ap Ok c.in-Steps.is in
     let complete : ¬ (IsIncomplete tokens) = λ h.
     let e : Ok (Steps c.in-Steps.steps) ≡ Ok Incomplete = sym parsed ∙ c.parse.ensures.complete h in absurd cc in
-    λ before e. of_fault before s c.from_residual-in_err-_used-in-Steps.result c.in_err-_used-in-Steps.field-0.0 c.from_residual-in_err-_used-in-Steps.ensures.1
-    (verifier_fault c.args.book.now.statements c.args.id.0 s tokens c.in-Steps.steps c.in_err-_used-in-Steps.field-0.0 c.requires.formed c.requires.last same complete
+    λ before e. of_fault before s c.from_residual-in_err-used-in-Steps.result c.in_err-used-in-Steps.field-0.0 c.from_residual-in_err-used-in-Steps.ensures.1
+    (verifier_fault c.args.book.now.statements c.args.id.0 s tokens c.in-Steps.steps c.in_err-used-in-Steps.field-0.0 c.requires.formed c.requires.last same complete
     (λ place t n. c.parse.ensures.steps c.in-Steps.steps parsed place t n)
-    (λ rule step f place t moves n m. c.verify.ensures.fault rule step (c.in_err-_used-in-Steps.was ∙ ap Err f) place t moves n m) before e)
+    (λ rule step f place t moves n m. c.verify.ensures.fault rule step (c.in_err-used-in-Steps.was ∙ ap Err f) place t moves n m) before e)
 
 pub returns : goal.returns
 returns c =
@@ -58,6 +57,6 @@ returns c =
     let parsed : c.parse.result ≡ Ok (Steps c.in-Steps.steps) = c.in_ok-parse.was ∙ ap Ok c.in-Steps.is in
     let complete : ¬ (IsIncomplete tokens) = λ h.
     let e : Ok (Steps c.in-Steps.steps) ≡ Ok Incomplete = sym parsed ∙ c.parse.ensures.complete h in absurd cc in
-    λ before e. verified c.args.book.now.statements c.args.id.0 s tokens c.in-Steps.steps c.requires.formed c.requires.last same complete
+    λ before e. verified c.args.book.now.statements c.args.id.0 s tokens c.in-Steps.steps c.in_ok-used-in-Steps.used c.requires.formed c.requires.last same complete
     (λ place t n. c.parse.ensures.steps c.in-Steps.steps parsed place t n)
-    (λ place t moves n m. (c.in_ok-_used-in-Steps.ensures.proved place t moves n m).0) before e
+    (λ place t moves n m. c.in_ok-used-in-Steps.ensures.proved place t moves n m) before e

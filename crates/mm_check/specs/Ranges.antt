@@ -1,0 +1,26 @@
+-- Lists of numbers as ranges of one list: it mirrors the code.
+use Rattle.std.specs.Prelude.{◌≡◌, ℕ, ◌≤◌, List, map, slice_get, slice_range, Some}
+use Rattle.mm_frame.specs.declared.number.LabelId.{LabelId}
+use Rattle.mm_check.specs.declared.kept.KeptProof.{KeptProof}
+use Rattle.mm_check.specs.Conclusion.{ProofUses}
+
+-- the numbers behind labels
+abbrev pub ids_in : List LabelId → List ℕ
+ids_in labels = map (λ l. l.0) labels
+
+-- what is kept of one proof
+abbrev pub uses_at : List LabelId → KeptProof → ProofUses
+uses_at labels p = record { number = p.id.0; used = ids_in (slice_range labels p.start p.end) }
+
+-- what is kept of all
+abbrev pub uses_in : List LabelId → List KeptProof → List ProofUses
+uses_in labels proofs = map (uses_at labels) proofs
+
+-- the proof has a range of what stands before a place
+pub record IsWithin (place : ℕ) (p : KeptProof) : Type 0 where
+  pub order : p.start ≤ p.end
+  pub within : p.end ≤ place
+
+-- each of them has
+abbrev pub AreWithin : ℕ → List KeptProof → Type 0
+AreWithin place proofs = (i : ℕ) (p : KeptProof) → slice_get proofs i ≡ Some p → IsWithin place p

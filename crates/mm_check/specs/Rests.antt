@@ -1,0 +1,83 @@
+-- What a theorem rests on: the axioms and the unproved theorems in the least set that is closed over the uses of proofs (the
+-- Metamath book, sections 4.2.6 and 4.3).
+use Rattle.std.specs.Prelude.{◌≡◌, ℕ, ◌<◌, List, take, slice_get, Contains, Bool, true, Some, ◌↔◌}
+use Rattle.mm_text.specs.declared.statement.Kind.TheVariants.{Axiom}
+use Rattle.mm_text.specs.Statement.{PlainStatement}
+use Rattle.mm_frame.specs.Sentence.{Sentence, said, IsLabelled}
+use Rattle.mm_frame.specs.Numbers.{IsNumbered}
+use Rattle.mm_proof.specs.Tree.{Trees, none, tree}
+use Rattle.mm_proof.specs.Proof.{IsProvedWithin, IsProved}
+use Rattle.mm_proof.specs.Used.{IsUsedNumber, AreUsed}
+use Rattle.mm_check.specs.Conclusion.{ProofUses, numbers_of}
+use Rattle.mm_check.specs.Verdict.{proof_of, is_proof, is_unproved, sentences}
+
+-- ---- numbers of statements
+
+-- the labelled statement with a number, and its place
+pub record IsAt (statements : List PlainStatement) (id place : ℕ) (s : PlainStatement) : Type 0 where
+  pub there : slice_get statements place ≡ Some s
+  pub numbered : IsNumbered (sentences statements) id place (said s)
+
+-- the statement with the number is so
+abbrev pub IsNumberOf : List PlainStatement → (PlainStatement → Type 0) → ℕ → Type 0
+IsNumberOf statements P id = (place : ℕ) × (s : PlainStatement) × IsAt statements id place s × P s
+
+-- each number is less than those after it: the order is that of the database, and none stands twice
+abbrev pub AreRising : List ℕ → Type 0
+AreRising ids = (i j a b : ℕ) → i < j → slice_get ids i ≡ Some a → slice_get ids j ≡ Some b → a < b
+
+-- these are the numbers that are so, in the order of the database
+pub record AreInOrder (P : ℕ → Type 0) (ids : List ℕ) : Type 0 where
+  pub rising : AreRising ids
+  pub each : (id : ℕ) → Contains ids id ↔ P id
+
+-- ---- what proofs use
+
+-- the tree that a proof spells
+abbrev pub tree_of : {Fits : List (List ℕ) → Type 0} {before : List Sentence} {s : Sentence} {tokens : List (List ℕ)}
+    → IsProvedWithin Fits before s tokens → Trees
+tree_of proof = tree proof.proves.label proof.proves.below none
+
+-- the number is that of a `$p` with a complete proof, which spells this tree
+pub record HasTree (statements : List PlainStatement) (id place : ℕ) (t : Trees) : Type 0 where
+  pub s : PlainStatement
+  pub at : IsAt statements id place s
+  pub complete : is_proof s ≡ true
+  pub proof : IsProved (sentences (take place statements)) (said s) (proof_of s)
+  pub spelled : t ≡ tree_of proof
+
+-- the second number is that of an assertion in the tree of the proof of the first
+abbrev pub Uses : List PlainStatement → ℕ → ℕ → Type 0
+Uses statements id used =
+    (place : ℕ) × (t : Trees) × HasTree statements id place t × IsUsedNumber (sentences (take place statements)) t used
+
+-- these are the uses of all complete proofs: of each its number, and those of the assertions in its tree
+pub record AreUses (statements : List PlainStatement) (uses : List ProofUses) : Type 0 where
+  pub proofs : AreInOrder (IsNumberOf statements (λ s. is_proof s ≡ true)) (numbers_of uses)
+  pub each : (u : ProofUses) → Contains uses u
+      → (place : ℕ) × (t : Trees) × HasTree statements u.number place t
+      × AreUsed (sentences (take place statements)) t u.used
+
+-- ---- the least set
+
+-- a set that holds what the proof of a theorem uses and, with each theorem in it, what that one's proof uses
+pub record IsClosed (Uses : ℕ → ℕ → Type 0) (theorem : ℕ) (set : ℕ → Bool) : Type 0 where
+  pub own : (used : ℕ) → Uses theorem used → set used ≡ true
+  pub others : (id used : ℕ) → set id ≡ true → Uses id used → set used ≡ true
+
+-- the theorem rests on it: it is in the least of these sets, and so in each
+abbrev pub RestsOn : (ℕ → ℕ → Type 0) → ℕ → ℕ → Type 0
+RestsOn Uses theorem id = (set : ℕ → Bool) → IsClosed Uses theorem set → set id ≡ true
+
+-- the number is that of a `$p` with a complete proof, which has the label
+abbrev pub IsTheorem : List PlainStatement → List ℕ → ℕ → Type 0
+IsTheorem statements label = IsNumberOf statements (λ s. IsLabelled label (said s) × (is_proof s ≡ true))
+
+-- the `$a` that the theorem with the label rests on, and the `$p` with incomplete proofs
+pub record IsReport (statements : List PlainStatement) (label : List ℕ) (axioms unproved : List ℕ) : Type 0 where
+  pub id : ℕ
+  pub theorem : IsTheorem statements label id
+  pub are_axioms : AreInOrder
+      (λ n. IsNumberOf statements (λ s. s.kind ≡ Axiom) n × RestsOn (Uses statements) id n) axioms
+  pub are_unproved : AreInOrder
+      (λ n. IsNumberOf statements (λ s. is_unproved s ≡ true) n × RestsOn (Uses statements) id n) unproved

@@ -1,0 +1,59 @@
+//! What is kept of the complete proofs, for the questions that come after the check.
+
+ghost use Rattle.std.specs.Prelude.{◌≡◌, ◌<◌, ◌++◌, [], ◌∷◌, map, length, slice_get, OnOk, Some};
+
+use mm_frame::LabelId;
+use std::alloc::{AllocError, Global};
+use std::marker::Model;
+
+/// The number of a `$p`, and where the numbers of the assertions that its proof uses stand.
+#[derive(Clone, Copy)]
+pub(crate) struct KeptProof {
+    pub(crate) id: LabelId,
+    pub(crate) start: usize,
+    pub(crate) end: usize,
+}
+
+/// Of each `$p` with a complete proof, in database order: its number, and those of the assertions
+/// that its proof uses. All of these stand in one list.
+#[derive(Drop)]
+pub(crate) struct Kept {
+    used: Vec<LabelId>,
+    proofs: Vec<KeptProof>,
+}
+
+impl Model for Kept {
+    ghost use Rattle.std.specs.Prelude.{List, length};
+    ghost use Rattle.mm_check.specs.Conclusion.{ProofUses};
+
+    ghost Value = { List ProofUses };
+
+    ghost use Rattle.mm_check.specs.Ranges.{uses_in, AreWithin};
+
+    ghost view = { λ k. uses_in k.used.items k.proofs.items };
+
+    ghost invariant = { λ k. AreWithin (length k.used.items) k.proofs.items };
+}
+
+impl Kept {
+    pub(crate) fn new(alloc: Global) -> Kept
+        ensures { result ≡ [] }
+    {
+        Kept {
+            used: Vec::new(alloc),
+            proofs: Vec::new(alloc),
+        }
+    }
+
+    /// Keeps what the proof of a `$p` uses.
+    pub(crate) fn push(&mut self, id: LabelId, used: &[LabelId]) -> Result<(), AllocError>
+        ensures { OnOk result (self.new ≡ self.old
+            ++ record { number = id.0; used = map (λ l. l.0) used.now } ∷ []) }
+    {
+        let start = self.used.len();
+        self.used.extend_from_slice(used)?;
+        let end = self.used.len();
+        self.proofs.push(KeptProof { id, start, end })?;
+        Ok(())
+    }
+}
