@@ -4,7 +4,7 @@ use Rattle.std.specs.List.{AllByRecursion, AllZip}
 use Rattle.std.proofs.lemmas.Option.{same_Some, none-some, slice_get_within, get_or_from_slice_get, slice_get-get_or, slice_get-map}
 use Rattle.std.proofs.lemmas.Bool.{false≢true, cases_lt}
 use Rattle.std.proofs.lemmas.List.{map-append, length-map}
-use Rattle.mm_text.specs.declared.statement.Kind.TheVariants.{Floating}
+use Rattle.mm_text.specs.declared.statement.Kind.TheVariants.{Floating, Essential}
 use Rattle.mm_frame.specs.Sentence.{Sentence}
 use Rattle.mm_frame.specs.Numbers.{symbols_of, labelled, IsNumberOf, AreNumbers}
 use Rattle.mm_text.specs.Statement.{FitsCount}
@@ -12,7 +12,7 @@ use Rattle.mm_frame.specs.Form.{AllFormed, IsFormedSentence}
 use Rattle.mm_frame.specs.Laws.{OneNumber}
 use Rattle.mm_frame.specs.declared.number.LabelId.{LabelId}
 use Rattle.mm_proof.specs.CodeSteps.{ids_in}
-use Rattle.mm_proof.specs.CodeVerify.{name_at, named, AreBelow, IsRightCode, IsWrongCode, IsVariableOf, AreHypothesesOf, AreVariablesOf, variables_in, all_named}
+use Rattle.mm_proof.specs.CodeVerify.{name_at, named, AreBelow, IsRightCode, IsWrongCode, IsEqual, IsVariableOf, AreHypothesesOf, AreVariablesOf, variables_in, all_named}
 use Rattle.mm_frame.specs.declared.number.Sym.{Sym}
 use Rattle.mm_proof.proofs.Places.{take_get}
 use Rattle.mm_proof.proofs.LabelLists.{zip_push}
@@ -173,3 +173,17 @@ as_many st [] [] are = refl
 as_many st [] (h ∷ hs) are = absurd cc
 as_many st (id ∷ ids) [] are = absurd cc
 as_many st (id ∷ ids) (h ∷ hs) are = let rest : AreHypothesesOf st (ids_in ids) hs = cc in ap suc (as_many st ids hs rest)
+
+-- the variable at a place is that of the hypothesis there
+pub variable_typed : (st : List Sentence) (vs : List (Option ℕ)) (hs : List Sentence) (i : ℕ) (h : Sentence) → AreVariablesOf st vs hs → slice_get hs i ≡ Some h
+    → IsVariableOf st (get_or vs i None) h
+variable_typed st [] [] i h all at = absurd (none-some h at)
+variable_typed st [] (g ∷ hs) i h all at = absurd all
+variable_typed st (v ∷ vs) [] i h all at = absurd all
+variable_typed st (v ∷ vs) (g ∷ hs) zero h all at = subst (IsVariableOf st v) (same_Some g h at) all.0
+variable_typed st (v ∷ vs) (g ∷ hs) (suc i) h all at = variable_typed st vs hs i h all.1 at
+
+-- nothing is asked of a `$f`
+pub floating_equal : (st : List Sentence) (σ : List ℕ → Option (List (List ℕ))) (h : Sentence) (entry : List (List ℕ)) (v : Option ℕ) → is_some v ≡ true → IsVariableOf st v h → IsEqual σ h entry
+floating_equal st σ h entry None is typed = absurd (false≢true is)
+floating_equal st σ h entry (Some n) is typed = λ essential. absurd (let both : Floating ≡ Essential = sym typed.2.0 ∙ essential in cc)

@@ -6,26 +6,28 @@ ghost use Rattle.mm_frame.specs.Form.{IsSound};
 ghost use Rattle.mm_frame.specs.Numbers.{IsNumbered};
 ghost use Rattle.mm_frame.specs.FramePlace.{ArePairs};
 ghost use Rattle.mm_proof.specs.CodeSteps.{ids_in};
-ghost use Rattle.mm_proof.specs.CodeVerify.{AreHypothesesOf, AreVariablesOf, AreEntries, pairs_in, variables_in};
+ghost use Rattle.mm_proof.specs.CodeVerify.{AreHypothesesOf, AreVariablesOf, AreEntries, EachEntry, IsRightCode, all_named, pairs_in, variables_in};
 ghost use Rattle.mm_proof.specs.CodeRun.{CarriesOn, StopsAt};
 ghost use Rattle.mm_proof.specs.CodeApply.{IsCalled, IsMatched, IsReady};
 
 use crate::fault::{ProofFault, ProofRule};
 use crate::pairs::{are_apart_pairs, has_shared_pair};
-use crate::step::{are_equal, are_right_codes, fill_variables};
+use crate::step::{are_equal, fill_variables};
 use crate::store::Store;
 use crate::substitution::substitute;
 use crate::variables::Variables;
 use mm_frame::{Book, Frame, LabelId, Sym, one_number};
 use std::alloc::Global;
 
-/// Lists that each step by an assertion fills anew.
+/// Lists that each step by an assertion, or each proof, fills anew.
 #[derive(Drop)]
 pub(crate) struct Scratch {
     /// The variable of each mandatory hypothesis, where it is a `$f`.
     variables: Variables,
     /// What the step makes.
     made: Vec<Sym>,
+    /// The assertions that the proof names.
+    pub(crate) ids: Vec<LabelId>,
 }
 
 impl Scratch {
@@ -33,12 +35,13 @@ impl Scratch {
         Scratch {
             variables: Variables::new(alloc),
             made: Vec::new(alloc),
+            ids: Vec::new(alloc),
         }
     }
 }
 
-// The first of P9 to P12 that the step breaks, where the entries from the base on are as many as
-// the hypotheses.
+// The first of P10 to P12 that the step breaks, where the entries from the base on are as many as
+// the hypotheses, and begin with their type codes.
 fn rule_broken<S: Store>(
     store: &S,
     base: usize,
@@ -58,15 +61,13 @@ fn rule_broken<S: Store>(
     ensures { (id at : ℕ) (hs : List Sentence) → IsCalled book.now.statements own.now.place id at (ids_in hypotheses.now) hs
         → AreVariablesOf book.now.statements (variables_in variables.now.list.items) hs
         → ArePairs (record { statements = book.now.statements; place = at }) (pairs_in pairs.now)
+        → EachEntry hs (all_named book.now.statements (drop base (S.stack store.now))) IsRightCode
         → MatchOption
         result
         (IsMatched book.now.statements own.now.place hs (variables_in variables.now.list.items) (drop base (S.stack store.now)) (pairs_in pairs.now))
         (λ rule. StopsAt book.now.statements own.now.place id (S.stack store.now) rule) }
 {
     one_number();
-    if !are_right_codes(store, base, book, hypotheses) {
-        return Some(ProofRule::P9);
-    }
     if !are_equal(store, base, variables, book, hypotheses) {
         return Some(ProofRule::P10);
     }
@@ -154,7 +155,13 @@ fn apply_frame<S: Store>(
         });
     }
     let base = count - hypotheses.len();
-    fill_variables(&mut scratch.variables, book, hypotheses)?;
+    let right = fill_variables(&mut scratch.variables, store, base, book, hypotheses)?;
+    if !right {
+        return Err(ProofFault::Rule {
+            rule: ProofRule::P9,
+            step: number,
+        });
+    }
     let rule = rule_broken(
         store,
         base,

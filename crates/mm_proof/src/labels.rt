@@ -57,7 +57,7 @@ pub(crate) fn numbers_of(
     ensures fault { IfErr result (λ e. OnRule e (λ rule step. (step ≡ 0)
         × BreaksLabels rule book.now.statements own.now.place (texts labels.now))) }
 {
-    let mut ids = Vec::new(alloc);
+    let mut ids = Vec::with_capacity(alloc, labels.len())?;
     let mut idle = false;
     for label in labels {
         match use_of(book, own, id, label) {

@@ -50,7 +50,7 @@ fn name_moves(alloc: Global, ids: &[LabelId]) -> Result<Vec<NumberedMove>, Proof
     ensures ok { IfOk result (λ v. moves_in v.items ≡ map name (ids_in ids.now)) }
     ensures fault { IfErr result (λ e. e ≡ ProofFault.Memory) }
 {
-    let mut moves = Vec::new(alloc);
+    let mut moves = Vec::with_capacity(alloc, ids.len())?;
     for id in ids {
         moves.push(NumberedMove::Name(*id))?;
     }
@@ -106,7 +106,7 @@ fn moves_of(
         AllZip (NumberSays (ids_in entries.now)) codes.now (moves_in v.items)) }
     ensures fault { IfErr result (λ e. e ≡ ProofFault.Memory) }
 {
-    let mut moves = Vec::new(alloc);
+    let mut moves = Vec::with_capacity(alloc, codes.len())?;
     for code in codes {
         moves.push(move_of(entries, *code))?;
     }

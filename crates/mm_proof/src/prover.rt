@@ -1,27 +1,29 @@
 //! What proves one proof after the other.
 
-ghost use Rattle.std.specs.Prelude.{◌≡◌, ℕ, List, take, Err, OnOk, IsOkUnless};
+ghost use Rattle.std.specs.Prelude.{◌≡◌, ℕ, List, take, Err, IfOk, IsOkUnless};
 ghost use Rattle.mm_frame.specs.Sentence.{Sentence};
-ghost use Rattle.mm_frame.specs.Form.{IsSound};
 ghost use Rattle.mm_proof.specs.Answer.{IsUnlessMemory};
+ghost use Rattle.mm_proof.specs.Tree.{tree, none};
 ghost use Rattle.mm_proof.specs.Moves.{Move};
 ghost use Rattle.mm_proof.specs.Proof.{Prove, IsWithin, expression_limit, IsMovesFault};
 ghost use Rattle.mm_proof.specs.Steps.{AreNumberedMoves, AreSteps, IsProofNumber};
+ghost use Rattle.mm_proof.specs.Used.{AreUsed};
 
 use crate::apply::Scratch;
 use crate::fault::{ProofFault, ProofRule};
 use crate::flat::Flat;
 use crate::moves::Steps;
-use crate::verdict::derive;
+use crate::used::Used;
+use crate::verdict::judged;
 use mm_frame::{Book, LabelId};
 use std::alloc::Global;
 
 /// Proves one proof after the other in the same memory.
 ///
-/// What it answers on a proof doesn't depend on those before it. Unlike `verify` it doesn't tell
-/// which assertions a proof uses.
+/// It answers what `verify` does: nothing of it depends on the proofs before.
 #[derive(Drop)]
 pub struct Prover {
+    alloc: Global,
     store: Flat,
     scratch: Scratch,
 }
@@ -30,20 +32,24 @@ impl Prover {
     /// A prover that has proved nothing yet.
     pub fn new(alloc: Global) -> Prover {
         Prover {
+            alloc,
             store: Flat::new(alloc),
             scratch: Scratch::new(alloc),
         }
     }
 
-    /// Whether the moves prove the `$p` with this number, or the first of P6 to P14 and L1 that they
-    /// break, with the number of the step.
-    pub fn prove(&mut self, book: &Book, id: LabelId, steps: &Steps) -> Result<(), ProofFault>
+    /// Whether the moves prove the `$p` with this number: the assertions of its tree, each once, in
+    /// database order; or the first of P6 to P14 and L1 that they break, with the number of the
+    /// step.
+    pub fn prove(&mut self, book: &Book, id: LabelId, steps: &Steps) -> Result<Used, ProofFault>
         requires { AreSteps book.now.statements id.0 steps.now }
-        // What is answered `Ok` is proved.
-        ensures proved { OnOk result ((place : ℕ) → (s : Sentence) → (moves : List (Move (List ℕ)))
+        // What is answered `Ok` is proved, and these are the assertions of its tree.
+        ensures proved { IfOk result (λ used. (place : ℕ) → (s : Sentence)
+            → (moves : List (Move (List ℕ)))
             → IsProofNumber book.now.statements id.0 place s
             → AreNumberedMoves book.now.statements steps.now moves
-            → Prove (IsWithin expression_limit) (take place book.now.statements) s moves) }
+            → (p : Prove (IsWithin expression_limit) (take place book.now.statements) s moves)
+            × AreUsed (take place book.now.statements) (tree p.label p.below none) used) }
 
         // The rule and the step are those of the first fault.
         ensures fault { (rule : ProofRule) → (step : ℕ)
@@ -52,7 +58,7 @@ impl Prover {
             → IsProofNumber book.now.statements id.0 place s
             → AreNumberedMoves book.now.statements steps.now moves
             → IsMovesFault (IsWithin expression_limit) (take place book.now.statements) s moves
-              rule step }
+            rule step }
 
         // What is proved is answered `Ok`, unless memory is refused.
         ensures accepts { (place : ℕ) → (s : Sentence) → (moves : List (Move (List ℕ)))
@@ -67,21 +73,20 @@ impl Prover {
             → AreNumberedMoves book.now.statements steps.now moves
             → (rule : ProofRule) → (step : ℕ)
             → IsMovesFault (IsWithin expression_limit) (take place book.now.statements) s moves
-              rule step
+            rule step
             → IsUnlessMemory result (Err (ProofFault.Rule rule step)) }
     {
         self.store.clear();
-        let own = book.frame(id);
-        let result = derive(
+        let moves = &steps.moves;
+        match judged(
+            self.alloc,
             &mut self.store,
             &mut self.scratch,
             book,
-            &own,
             id,
-            &steps.moves,
-        );
-        match result {
-            Ok(()) => Ok(()),
+            moves,
+        ) {
+            Ok(labels) => Ok(Used { labels }),
             Err(fault) => Err(fault),
         }
     }

@@ -1,6 +1,6 @@
 //! The variables of the hypotheses of a step, and where each of them stands.
 
-ghost use Rattle.std.specs.Prelude.{◌≡◌, ◌≤◌, [], ◌∷◌, ◌++◌, List, ℕ, length, slice_index_or, Some, None, MatchOption, OnOk, OnErr};
+ghost use Rattle.std.specs.Prelude.{◌≡◌, ◌≤◌, [], ◌∷◌, ◌++◌, List, ℕ, length, slice_index_or, is_some, Some, None, MatchOption, OnOk, OnErr};
 ghost use Rattle.mm_proof.specs.CodeVerify.{variables_in, is_of, ArePlaces, IsNowhere, IsFirstAt};
 
 use mm_frame::Sym;
@@ -110,6 +110,16 @@ impl Variables {
             (λ place. IsFirstAt symbol.0 (variables_in self.now.list.items) place) }
     {
         find_place(&self.places, &self.list, symbol)
+    }
+
+    /// Whether the hypothesis at the place is a `$f`.
+    pub(crate) fn is_floating(&self, place: usize) -> bool
+        ensures { result ≡ is_some (slice_index_or (variables_in self.now.list.items) place None) }
+    {
+        match self.list.get(place) {
+            Some(Some(_)) => true,
+            _ => false,
+        }
     }
 
     /// Adds the variable of the next hypothesis.

@@ -139,11 +139,11 @@ fn run<S: Store>(
 }
 
 // The assertions that the moves name, in the order of the moves.
-fn named_by(alloc: Global, book: &Book, moves: &[NumberedMove]) -> Result<Vec<LabelId>, AllocError>
+fn fill_named(ids: &mut Vec<LabelId>, book: &Book, moves: &[NumberedMove]) -> Result<(), AllocError>
     requires known { (place : ℕ) × AllByRecursion (MayBeMade book.now.statements place) (moves_in moves.now) }
-    ensures { IfOk result (λ v. (id : ℕ) → Contains (ids_in v.items) id ↔ IsNamed book.now.statements (moves_in moves.now) id) }
+    ensures { OnOk result ((id : ℕ) → Contains (ids_in ids.new.items) id ↔ IsNamed book.now.statements (moves_in moves.now) id) }
 {
-    let mut ids = Vec::new(alloc);
+    ids.clear();
     for one in moves {
         if let NumberedMove::Name(id) = one {
             match book.kind(*id) {
@@ -152,18 +152,23 @@ fn named_by(alloc: Global, book: &Book, moves: &[NumberedMove]) -> Result<Vec<La
             }
         }
     }
-    Ok(ids)
+    Ok(())
 }
 
 // The assertions that the moves name, each once, in database order.
-fn used_by(alloc: Global, book: &Book, moves: &[NumberedMove]) -> Result<Vec<LabelId>, AllocError>
+fn used_by(
+    alloc: Global,
+    ids: &mut Vec<LabelId>,
+    book: &Book,
+    moves: &[NumberedMove],
+) -> Result<Vec<LabelId>, AllocError>
     requires known { (place : ℕ) × AllByRecursion (MayBeMade book.now.statements place) (moves_in moves.now) }
     ensures { IfOk result (λ v. AreNamed book.now.statements (moves_in moves.now) (ids_in v.items)) }
 {
-    let mut ids = named_by(alloc, book, moves)?;
+    fill_named(ids, book, moves)?;
     ids.sort()?;
     ids.dedup();
-    Ok(ids)
+    Ok(Vec::from_slice(alloc, ids)?)
 }
 
 // What is on the stack at the end: only the expression, or P13 or P14.
@@ -187,7 +192,7 @@ pub(crate) fn ending<S: Store>(
 
 // Whether the moves derive the expression of the `$p`, whose frame is handed in, or their first
 // fault.
-pub(crate) fn derive<S: Store>(
+fn derive<S: Store>(
     store: &mut S,
     scratch: &mut Scratch,
     book: &Book,
@@ -217,6 +222,7 @@ pub(crate) fn derive<S: Store>(
 fn judged_frame<S: Store>(
     alloc: Global,
     store: &mut S,
+    scratch: &mut Scratch,
     book: &Book,
     own: &Frame,
     id: LabelId,
@@ -233,15 +239,15 @@ fn judged_frame<S: Store>(
     ensures fault { IfErr result (λ e. OnRule e (λ rule step. OfMoves book.now.statements id.0 (moves_in moves.now)
         (λ place s names. IsMovesFault (IsWithin expression_limit) (take place book.now.statements) s names rule step))) }
 {
-    let mut scratch = Scratch::new(alloc);
-    derive(store, &mut scratch, book, own, id, moves)?;
-    Ok(used_by(alloc, book, moves)?)
+    derive(store, scratch, book, own, id, moves)?;
+    Ok(used_by(alloc, &mut scratch.ids, book, moves)?)
 }
 
 // The assertions of the tree that the moves make, or their first fault.
-fn judged<S: Store>(
+pub(crate) fn judged<S: Store>(
     alloc: Global,
     store: &mut S,
+    scratch: &mut Scratch,
     book: &Book,
     id: LabelId,
     moves: &[NumberedMove],
@@ -256,7 +262,7 @@ fn judged<S: Store>(
     ensures sound { IsSound book.now.statements }
 {
     let own = book.frame(id);
-    judged_frame(alloc, store, book, &own, id, moves)
+    judged_frame(alloc, store, scratch, book, &own, id, moves)
 }
 
 /// Whether the moves prove the `$p` with this number: the assertions of its tree, each once, in
@@ -293,7 +299,8 @@ pub fn verify<S: Store + Drop>(
         → IsMovesFault (IsWithin expression_limit) (take place book.now.statements) s moves rule step
         → IsUnlessMemory result (Err (ProofFault.Rule rule step)) }
 {
-    match judged(alloc, &mut store, book, id, &steps.moves) {
+    let mut scratch = Scratch::new(alloc);
+    match judged(alloc, &mut store, &mut scratch, book, id, &steps.moves) {
         Ok(labels) => Ok(Used { labels }),
         Err(fault) => Err(fault),
     }

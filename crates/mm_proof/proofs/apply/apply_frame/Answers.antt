@@ -1,16 +1,16 @@
 use Rattle.std.proofs.Common.{◌≡◌, ◌<◌, List, option_map, ◌-◌, length, drop, take, sym, subst, arith}
-use Rattle.std.proofs.lemmas.List.{length-map}
+use Rattle.std.proofs.lemmas.List.{length-map, length-drop}
 use Rattle.std.proofs.lemmas.Result.{IfOk-weaker}
 use Rattle.mm_frame.specs.Sentence.{Sentence}
 use Rattle.mm_frame.specs.Form.{IsSound}
 use Rattle.mm_frame.specs.FramePlace.{ArePairs}
 use Rattle.mm_proof.specs.declared.fault.ProofRule.{ProofRule}
-use Rattle.mm_proof.specs.declared.fault.ProofRule.TheVariants.{P8}
+use Rattle.mm_proof.specs.declared.fault.ProofRule.TheVariants.{P8, P9}
 use Rattle.mm_proof.specs.CodeSteps.{ids_in}
 use Rattle.mm_proof.specs.CodeVerify.{AreHypothesesOf, AreEntries, variables_in, pairs_in}
 use Rattle.mm_proof.specs.CodeRun.{CarriesOn, StopsAt}
 use Rattle.mm_proof.proofs.Named.{as_many}
-use Rattle.mm_proof.proofs.Applying.{stops_P8, called_of, ready_of, typed_count}
+use Rattle.mm_proof.proofs.Applying.{stops_P8, called_of, ready_of, typed_count, match_true, match_false, stops_P9, entries_drop, entries_below}
 use Rattle.mm_proof.proofs.apply.apply_frame.Goals as goal
 
 pub returns-then-count-hypotheses-clause-fault : goal.returns-then-count-hypotheses-clause-fault
@@ -30,6 +30,37 @@ returns-then-count-hypotheses-clause-fault g c rule step is =
           subst (λ (r : ProofRule). StopsAt st c.args.own.now.place id stack r) same (stops_P8 st c.args.own.now.place id at ids h.hypotheses stack called short),
     )
 
+pub fill_variables-requires-clause-known : goal.fill_variables-requires-clause-known
+fill_variables-requires-clause-known g c =
+    let h = c.hypotheses-hypotheses.ensures in
+    (h.hypotheses, subst (λ (l : List Sentence). AreHypothesesOf l (ids_in c.hypotheses-hypotheses.result.now) h.hypotheses) c.requires.frame h.numbered)
+
+pub fill_variables-requires-clause-below : goal.fill_variables-requires-clause-below
+fill_variables-requires-clause-below g c =
+    let stack = g.S.Store.stack c.args.store.now in
+    let base = c.len-count.result - length c.hypotheses-hypotheses.result.now in
+    entries_below c.args.book.now.statements _ (drop base stack) (entries_drop c.args.book.now.statements _ base stack c.requires.entries)
+
+pub returns-then-not-right-clause-fault : goal.returns-then-not-right-clause-fault
+returns-then-not-right-clause-fault g c rule step is =
+    let same : P9 ≡ rule = cc in
+    let number : step ≡ c.args.number = cc in (
+      number,
+      λ id s n.
+          let st = c.args.book.now.statements in
+          let at = c.args.frame.now.place in
+          let stack = g.S.Store.stack c.args.store.now in
+          let h = c.hypotheses-hypotheses.ensures in
+          let ids = ids_in c.hypotheses-hypotheses.result.now in
+          let base = c.len-count.result - length c.hypotheses-hypotheses.result.now in
+          let called = called_of st c.args.frame.now.statements c.args.own.now.place id at ids c.requires.assertion.0 s c.requires.frame h c.requires.assertion.1 c.requires.assertion.2 c.requires.before n in
+          let count : length h.hypotheses ≡ length c.hypotheses-hypotheses.result.now = as_many st c.hypotheses-hypotheses.result.now h.hypotheses called.known in
+          let paired : length (drop base stack) ≡ length h.hypotheses = omega (arith, length-drop base stack, c.len-count.ensures, c.if-count-hypotheses.false) in
+          subst (λ (r : ProofRule). StopsAt st c.args.own.now.place id stack r) same
+          (stops_P9 st c.args.own.now.place id at ids h.hypotheses stack base c.requires.sound.0 called paired
+          (match_false c.in_ok-right.right _ _ c.if-not-right.true (c.in_ok-right.ensures h.hypotheses called.known))),
+    )
+
 pub rule_broken-rule-requires-clause-variables : goal.rule_broken-rule-requires-clause-variables
 rule_broken-rule-requires-clause-variables g c =
     let st = c.args.book.now.statements in
@@ -42,7 +73,8 @@ rule_broken-rule-requires-clause-variables g c =
     omega (
       arith,
       length-map c.fill_variables.new.variables.list.items (λ v. option_map (λ s. s.0) v),
-      typed_count st (variables_in c.fill_variables.new.variables.list.items) h.hypotheses (c.in_ok-fill_variables.ensures h.hypotheses known),
+      typed_count st (variables_in c.fill_variables.new.variables.list.items) h.hypotheses
+          (match_true c.in_ok-right.right _ _ c.if-not-right.false (c.in_ok-right.ensures h.hypotheses known)).0,
       as_many st c.hypotheses-hypotheses.result.now h.hypotheses known,
     ) in
     count
@@ -62,7 +94,8 @@ conclude-requires-clause-entries g c =
     omega (
       arith,
       length-map c.fill_variables.new.variables.list.items (λ v. option_map (λ s. s.0) v),
-      typed_count st (variables_in c.fill_variables.new.variables.list.items) h.hypotheses (c.in_ok-fill_variables.ensures h.hypotheses known),
+      typed_count st (variables_in c.fill_variables.new.variables.list.items) h.hypotheses
+          (match_true c.in_ok-right.right _ _ c.if-not-right.false (c.in_ok-right.ensures h.hypotheses known)).0,
       as_many st c.hypotheses-hypotheses.result.now h.hypotheses known,
     ) in
     omega (arith, count, c.len-count.ensures, c.if-count-hypotheses.false)
@@ -79,9 +112,10 @@ returns-in-Some-clause-fault g c rule step is =
           let h = c.hypotheses-hypotheses.ensures in
           let ids = ids_in c.hypotheses-hypotheses.result.now in
           let called = called_of st c.args.frame.now.statements c.args.own.now.place id at ids c.requires.assertion.0 s c.requires.frame h c.requires.assertion.1 c.requires.assertion.2 c.requires.before n in
-          let typed = c.in_ok-fill_variables.ensures h.hypotheses called.known in
+          let told = match_true c.in_ok-right.right _ _ c.if-not-right.false (c.in_ok-right.ensures h.hypotheses called.known) in
+          let typed = told.0 in
           let pairs = subst (λ (l : List Sentence). ArePairs (record { statements = l; place = at }) (pairs_in c.pairs.result.now)) c.requires.frame c.pairs.ensures in
-          subst (λ (r : ProofRule). StopsAt st c.args.own.now.place id stack r) same (c.in-Some.ensures id at h.hypotheses called typed pairs),
+          subst (λ (r : ProofRule). StopsAt st c.args.own.now.place id stack r) same (c.in-Some.ensures id at h.hypotheses called typed pairs told.1),
     )
 
 pub returns-in-None-clause-carried : goal.returns-in-None-clause-carried
@@ -92,9 +126,10 @@ returns-in-None-clause-carried g c = IfOk-weaker c.conclude.result _ _ (λ u car
     let h = c.hypotheses-hypotheses.ensures in
     let ids = ids_in c.hypotheses-hypotheses.result.now in
     let called = called_of st c.args.frame.now.statements c.args.own.now.place id at ids c.requires.assertion.0 s c.requires.frame h c.requires.assertion.1 c.requires.assertion.2 c.requires.before n in
-    let typed = c.in_ok-fill_variables.ensures h.hypotheses called.known in
+    let told = match_true c.in_ok-right.right _ _ c.if-not-right.false (c.in_ok-right.ensures h.hypotheses called.known) in
+    let typed = told.0 in
     let pairs = subst (λ (l : List Sentence). ArePairs (record { statements = l; place = at }) (pairs_in c.pairs.result.now)) c.requires.frame c.pairs.ensures in
-    let matched = c.in-None.ensures id at h.hypotheses called typed pairs in
+    let matched = c.in-None.ensures id at h.hypotheses called typed pairs told.1 in
     let base = c.len-count.result - length c.hypotheses-hypotheses.result.now in
     let ready = ready_of st c.args.frame.now.statements c.args.own.now.place id at (variables_in c.fill_variables.new.variables.list.items) (drop base stack) ids h.hypotheses (pairs_in c.pairs.result.now) c.requires.frame called typed pairs matched in
     subst (λ (l : List Sentence). CarriesOn l c.args.own.now.place id stack (g.S.Store.stack c.conclude.new.store)) c.requires.frame (carried c.args.own.now.place id ready)) c.conclude.ensures.carried
@@ -107,9 +142,10 @@ returns-in-None-clause-entries g c = IfOk-weaker c.conclude.result _ _ (λ u ent
     let h = c.hypotheses-hypotheses.ensures in
     let ids = ids_in c.hypotheses-hypotheses.result.now in
     let called = called_of st c.args.frame.now.statements c.args.own.now.place id at ids c.requires.assertion.0 s c.requires.frame h c.requires.assertion.1 c.requires.assertion.2 c.requires.before n in
-    let typed = c.in_ok-fill_variables.ensures h.hypotheses called.known in
+    let told = match_true c.in_ok-right.right _ _ c.if-not-right.false (c.in_ok-right.ensures h.hypotheses called.known) in
+    let typed = told.0 in
     let pairs = subst (λ (l : List Sentence). ArePairs (record { statements = l; place = at }) (pairs_in c.pairs.result.now)) c.requires.frame c.pairs.ensures in
-    let matched = c.in-None.ensures id at h.hypotheses called typed pairs in
+    let matched = c.in-None.ensures id at h.hypotheses called typed pairs told.1 in
     let base = c.len-count.result - length c.hypotheses-hypotheses.result.now in
     let ready = ready_of st c.args.frame.now.statements c.args.own.now.place id at (variables_in c.fill_variables.new.variables.list.items) (drop base stack) ids h.hypotheses (pairs_in c.pairs.result.now) c.requires.frame called typed pairs matched in
     let before = subst (λ (l : List Sentence). AreEntries l (take c.args.own.now.place l) stack) (sym c.requires.frame) c.requires.entries in
@@ -126,9 +162,10 @@ returns-in-None-clause-fault g c rule step is =
           let h = c.hypotheses-hypotheses.ensures in
           let ids = ids_in c.hypotheses-hypotheses.result.now in
           let called = called_of st c.args.frame.now.statements c.args.own.now.place id at ids c.requires.assertion.0 s c.requires.frame h c.requires.assertion.1 c.requires.assertion.2 c.requires.before n in
-          let typed = c.in_ok-fill_variables.ensures h.hypotheses called.known in
+          let told = match_true c.in_ok-right.right _ _ c.if-not-right.false (c.in_ok-right.ensures h.hypotheses called.known) in
+          let typed = told.0 in
           let pairs = subst (λ (l : List Sentence). ArePairs (record { statements = l; place = at }) (pairs_in c.pairs.result.now)) c.requires.frame c.pairs.ensures in
-          let matched = c.in-None.ensures id at h.hypotheses called typed pairs in
+          let matched = c.in-None.ensures id at h.hypotheses called typed pairs told.1 in
           let base = c.len-count.result - length c.hypotheses-hypotheses.result.now in
           let ready = ready_of st c.args.frame.now.statements c.args.own.now.place id at (variables_in c.fill_variables.new.variables.list.items) (drop base stack) ids h.hypotheses (pairs_in c.pairs.result.now) c.requires.frame called typed pairs matched in
           subst (λ (l : List Sentence). StopsAt l c.args.own.now.place id stack rule) c.requires.frame (fault.1 c.args.own.now.place id ready),

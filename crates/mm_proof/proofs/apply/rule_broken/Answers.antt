@@ -4,49 +4,41 @@ use Rattle.mm_proof.specs.CodeVerify.{variables_in, pairs_in, all_named}
 use Rattle.mm_proof.proofs.Named.{as_many}
 use Rattle.mm_proof.proofs.Replacements.{replaced_by}
 use Rattle.mm_proof.proofs.Replacing.{replaces_by}
-use Rattle.mm_proof.proofs.Applying.{stops_P9, stops_P10, stops_P11, stops_P12, entries_drop, entries_below}
+use Rattle.mm_proof.proofs.Applying.{stops_P10, stops_P11, stops_P12, entries_drop, entries_below}
 use Rattle.mm_proof.proofs.apply.rule_broken.Goals as goal
 
 pub are_equal-requires-clause-below : goal.are_equal-requires-clause-below
 are_equal-requires-clause-below g c =
     entries_below c.args.book.now.statements _ (drop c.args.base (g.S.Store.stack c.args.store.now)) (entries_drop c.args.book.now.statements _ c.args.base (g.S.Store.stack c.args.store.now) c.requires.symbols)
 
-pub returns-then-not-are_right_codes : goal.returns-then-not-are_right_codes
-returns-then-not-are_right_codes g c id at hs called typed mandatory =
-    let st = c.args.book.now.statements in
-    let stack = g.S.Store.stack c.args.store.now in
-    let paired : length (drop c.args.base stack) ≡ length hs =
-    omega (arith, length-drop c.args.base stack, c.requires.entries, as_many st c.args.hypotheses.now hs called.known) in
-    stops_P9 st c.args.own.now.place id at _ hs stack c.args.base c.requires.sound.0 called paired (c.if-not-are_right_codes.ensures hs called.known)
-
 pub returns-then-not-are_equal : goal.returns-then-not-are_equal
-returns-then-not-are_equal g c id at hs called typed mandatory =
+returns-then-not-are_equal g c id at hs called typed mandatory codes =
     let st = c.args.book.now.statements in
     let stack = g.S.Store.stack c.args.store.now in
     let paired : length (drop c.args.base stack) ≡ length hs =
     omega (arith, length-drop c.args.base stack, c.requires.entries, as_many st c.args.hypotheses.now hs called.known) in
     let r = replaces_by c.one_number.ensures st (variables_in c.args.variables.now.list.items) hs (drop c.args.base stack) typed in
-    stops_P10 st c.args.own.now.place id at _ hs stack c.args.base c.requires.sound.0 called paired (c.if-not-are_right_codes.ensures hs called.known)
-    (c.if-not-are_equal.ensures (replaced_by hs (all_named st (drop c.args.base stack))) r hs called.known)
+    stops_P10 st c.args.own.now.place id at _ hs stack c.args.base c.requires.sound.0 called paired codes
+    (c.if-not-are_equal.ensures (replaced_by hs (all_named st (drop c.args.base stack))) r hs called.known typed)
 
 pub returns-then-has_shared_pair : goal.returns-then-has_shared_pair
-returns-then-has_shared_pair g c id at hs called typed mandatory =
+returns-then-has_shared_pair g c id at hs called typed mandatory codes =
     let st = c.args.book.now.statements in
     let stack = g.S.Store.stack c.args.store.now in
     let paired : length (drop c.args.base stack) ≡ length hs =
     omega (arith, length-drop c.args.base stack, c.requires.entries, as_many st c.args.hypotheses.now hs called.known) in
     let r = replaces_by c.one_number.ensures st (variables_in c.args.variables.now.list.items) hs (drop c.args.base stack) typed in
     stops_P11 c.one_number.ensures st c.args.own.now.place id at _ hs stack c.args.base (variables_in c.args.variables.now.list.items) (pairs_in c.args.pairs.now) c.requires.sound.0 called paired typed mandatory
-    (c.if-not-are_right_codes.ensures hs called.known) (c.if-not-are_equal.ensures (replaced_by hs (all_named st (drop c.args.base stack))) r hs called.known)
+    codes (c.if-not-are_equal.ensures (replaced_by hs (all_named st (drop c.args.base stack))) r hs called.known typed)
     c.if-has_shared_pair.ensures
 
 pub returns-then-not-are_apart_pairs : goal.returns-then-not-are_apart_pairs
-returns-then-not-are_apart_pairs g c id at hs called typed mandatory =
+returns-then-not-are_apart_pairs g c id at hs called typed mandatory codes =
     let st = c.args.book.now.statements in
     let stack = g.S.Store.stack c.args.store.now in
     let paired : length (drop c.args.base stack) ≡ length hs =
     omega (arith, length-drop c.args.base stack, c.requires.entries, as_many st c.args.hypotheses.now hs called.known) in
     let r = replaces_by c.one_number.ensures st (variables_in c.args.variables.now.list.items) hs (drop c.args.base stack) typed in
     stops_P12 c.one_number.ensures st c.args.own.now.place id at _ hs stack c.args.base (variables_in c.args.variables.now.list.items) (pairs_in c.args.pairs.now) c.requires.sound.0 called paired typed mandatory
-    (c.if-not-are_right_codes.ensures hs called.known) (c.if-not-are_equal.ensures (replaced_by hs (all_named st (drop c.args.base stack))) r hs called.known)
+    codes (c.if-not-are_equal.ensures (replaced_by hs (all_named st (drop c.args.base stack))) r hs called.known typed)
     c.if-has_shared_pair.ensures c.if-not-are_apart_pairs.ensures

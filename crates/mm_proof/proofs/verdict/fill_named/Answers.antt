@@ -4,8 +4,8 @@ use Rattle.mm_proof.specs.CodeRun.{MayBeMade}
 use Rattle.mm_proof.proofs.Derived.{all_at}
 use Rattle.mm_proof.proofs.Running.{move_at}
 use Rattle.mm_proof.proofs.Naming.{is_assertion, gather_name, gather_other, gather_none, gathered_all}
-use Rattle.mm_proof.proofs.verdict.named_by.Goals as goal
-use Rattle.mm_proof.proofs.verdict.named_by.Goals.{in-Name+in-Axiom+in_ok-push-in-Axiom, in-Name+in_default-kind, in_default}
+use Rattle.mm_proof.proofs.verdict.fill_named.Goals as goal
+use Rattle.mm_proof.proofs.verdict.fill_named.Goals.{in-Name+in-Axiom+in_ok-push-in-Axiom, in-Name+in_default-kind, in_default}
 
 pub loop-one-preserved : goal.loop-one-preserved
 loop-one-preserved c = elim c.match-one.branch [
