@@ -5,11 +5,16 @@ use crate::tests::databases::{DEMO, DIST, LIMIT, TWICE};
 use crate::tests::questions::{Question, ask};
 use std::test::Fail;
 
-const BEFORE_TERMS: [Question; 1] = [Question::Nothing(b"tze")];
+const BEFORE_TERMS: [Question; 2] = [Question::Nothing(b"tze"), Question::Nothing(b"wff")];
 
-const WITH_TERM: [Question; 1] = [Question::Kind(b"tze", LabelKind::Axiom)];
+const WITH_TERM: [Question; 1] = [Question::Frame(b"tze", "", 0)];
 
-const IN_BLOCK: [Question; 2] = [Question::Depth(1), Question::Hypothesis(b"min", true)];
+const BLOCK_OPENED: [Question; 2] = [Question::Depth(1), Question::Nothing(b"min")];
+
+const IN_BLOCK: [Question; 2] = [
+    Question::Hypothesis(b"min", true),
+    Question::Nothing(b"wff"),
+];
 
 const AFTER_BLOCK: [Question; 2] = [Question::Depth(0), Question::Hypothesis(b"min", false)];
 
@@ -62,6 +67,11 @@ fn label_not_taken_yet(rt: HostRuntime) -> Result<(), Fail> {
 #[test]
 fn label_just_taken(rt: HostRuntime) -> Result<(), Fail> {
     ask(&rt, rt.alloc(), (&DEMO, 8), &WITH_TERM)
+}
+
+#[test]
+fn block_opened(rt: HostRuntime) -> Result<(), Fail> {
+    ask(&rt, rt.alloc(), (&DEMO, 14), &BLOCK_OPENED)
 }
 
 #[test]
