@@ -5,7 +5,7 @@ use Rattle.std.specs.List.{join_with_byte}
 use Rattle.std.proofs.lemmas.Bool.{lt-ltb, le-ltb, cases_lt}
 use Rattle.std.proofs.lemmas.List.{length-append, append-nil}
 use Rattle.mm_code.specs.declared.code.CodeFault.{CodeFault}
-use Rattle.mm_code.specs.Layout.{indent, line_of, width, IsLine, IsFull, LaidOut}
+use Rattle.mm_code.specs.Layout.{indent, token_line, width, IsLine, IsFull, LaidOut}
 use Rattle.mm_code.specs.Lines.{rest_of, room_after}
 
 pub rest_fits : (room : ℕ) (token : List ℕ) (tokens : List (List ℕ)) → length token < room → rest_of room (token ∷ tokens) ≡ (32 ∷ token) ++ rest_of (room - length token - 1) tokens
@@ -47,12 +47,12 @@ join-push first [] token = refl
 join-push first (next ∷ line) token =
     ap (λ (t : List ℕ). first ++ (32 ∷ t)) (join-push next line token) ∙ sym (append_assoc first (32 ∷ join_with_byte 32 (next ∷ line)) (32 ∷ token))
 
-pub line_of-push : (line : List (List ℕ)) (token : List ℕ) → 0 < length line → line_of (line ++ token ∷ []) ≡ line_of line ++ (32 ∷ token)
-line_of-push [] token lt = absurd (omega arith)
-line_of-push (first ∷ line) token lt = ap (λ (t : List ℕ). indent ++ t) (join-push first line token) ∙ sym (append_assoc indent (join_with_byte 32 (first ∷ line)) (32 ∷ token))
+pub token_line-push : (line : List (List ℕ)) (token : List ℕ) → 0 < length line → token_line (line ++ token ∷ []) ≡ token_line line ++ (32 ∷ token)
+token_line-push [] token lt = absurd (omega arith)
+token_line-push (first ∷ line) token lt = ap (λ (t : List ℕ). indent ++ t) (join-push first line token) ∙ sym (append_assoc indent (join_with_byte 32 (first ∷ line)) (32 ∷ token))
 
 pub width-push : (line : List (List ℕ)) (token : List ℕ) → 0 < length line → width (line ++ token ∷ []) ≡ width line + (1 + length token)
-width-push line token lt = ap length (line_of-push line token lt) ∙ length-append (line_of line) (32 ∷ token) ∙ omega arith
+width-push line token lt = ap length (token_line-push line token lt) ∙ length-append (token_line line) (32 ∷ token) ∙ omega arith
 
 -- a line has some token
 pub line_length : (line : List (List ℕ)) → IsLine line → 0 < length line
@@ -62,7 +62,7 @@ line_length line (inr more) = omega (arith, more.0)
 -- ---- the lines that are made
 
 -- one more line before those of a text
-laid-cons : (line tokens : List (List ℕ)) (text : List ℕ) → IsLine line → IsFull line tokens → LaidOut tokens text → LaidOut (line ++ tokens) ((line_of line ++ 10 ∷ []) ++ text)
+laid-cons : (line tokens : List (List ℕ)) (text : List ℕ) → IsLine line → IsFull line tokens → LaidOut tokens text → LaidOut (line ++ tokens) ((token_line line ++ 10 ∷ []) ++ text)
 laid-cons line tokens text is full laid =
     let Full : List (List ℕ) → Type 0 = IsFull line in
     record {
@@ -70,17 +70,17 @@ laid-cons line tokens text is full laid =
       in_order = ap (λ (ts : List (List ℕ)). line ++ ts) laid.in_order;
       each = (is, laid.each);
       greedy = (subst Full (sym laid.in_order) full, laid.greedy);
-      printed = ap (λ (t : List ℕ). (line_of line ++ 10 ∷ []) ++ t) laid.printed;
+      printed = ap (λ (t : List ℕ). (token_line line ++ 10 ∷ []) ++ t) laid.printed;
     }
 
 pub laid-nil : LaidOut [] []
 laid-nil = record { lines = []; in_order = refl; each = tt; greedy = tt; printed = refl }
 
 -- The open line holds some tokens, and its room is what it lacks of 79 bytes.
-pub laid_out_from : (more line : List (List ℕ)) (room : ℕ) → IsLine line → room ≡ 79 - width line → LaidOut (line ++ more) (line_of line ++ rest_of room more)
+pub laid_out_from : (more line : List (List ℕ)) (room : ℕ) → IsLine line → room ≡ 79 - width line → LaidOut (line ++ more) (token_line line ++ rest_of room more)
 laid_out_from [] line room is left =
     let Q : List ℕ → Type 0 = λ t. LaidOut (line ++ []) t in
-    let same : (line_of line ++ 10 ∷ []) ++ [] ≡ line_of line ++ rest_of room [] = append-nil (line_of line ++ 10 ∷ []) ∙ ap (λ (t : List ℕ). line_of line ++ t) (sym (rest_ends room)) in
+    let same : (token_line line ++ 10 ∷ []) ++ [] ≡ token_line line ++ rest_of room [] = append-nil (token_line line ++ 10 ∷ []) ∙ ap (λ (t : List ℕ). token_line line ++ t) (sym (rest_ends room)) in
     subst Q same (laid-cons line [] [] is tt laid-nil)
 laid_out_from (token ∷ more) line room is left =
     elim (cases_lt (length token) room) [
@@ -92,10 +92,10 @@ laid_out_from (token ∷ more) line room is left =
           let rest = rest_of (room - length token - 1) more in
           let laid = laid_out_from more grown (room - length token - 1) is_line (omega (arith, wider)) in
           let tokens_same : grown ++ more ≡ line ++ token ∷ more = append_assoc line (token ∷ []) more in
-          let text_same : line_of grown ++ rest ≡ line_of line ++ rest_of room (token ∷ more) =
-          ap (λ (t : List ℕ). t ++ rest) (line_of-push line token some) ∙ append_assoc (line_of line) (32 ∷ token) rest
-          ∙ ap (λ (t : List ℕ). line_of line ++ t) (sym (rest_fits room token more fits)) in
-          let P : List (List ℕ) → Type 0 = λ ts. LaidOut ts (line_of grown ++ rest) in
+          let text_same : token_line grown ++ rest ≡ token_line line ++ rest_of room (token ∷ more) =
+          ap (λ (t : List ℕ). t ++ rest) (token_line-push line token some) ∙ append_assoc (token_line line) (32 ∷ token) rest
+          ∙ ap (λ (t : List ℕ). token_line line ++ t) (sym (rest_fits room token more fits)) in
+          let P : List (List ℕ) → Type 0 = λ ts. LaidOut ts (token_line grown ++ rest) in
           let Q : List ℕ → Type 0 = λ t. LaidOut (line ++ token ∷ more) t in
           subst Q text_same (subst P tokens_same laid)
       | inr breaks ↦
@@ -104,10 +104,10 @@ laid_out_from (token ∷ more) line room is left =
           let rest = rest_of (room_after (length token)) more in
           let laid = laid_out_from more (token ∷ []) (room_after (length token)) (inl refl) (omega arith) in
           let full : IsFull line (token ∷ more) = omega (arith, wider) in
-          let text_same : (line_of line ++ 10 ∷ []) ++ (line_of (token ∷ []) ++ rest) ≡ line_of line ++ rest_of room (token ∷ more) =
-          append_assoc (line_of line) (10 ∷ []) (line_of (token ∷ []) ++ rest) ∙ ap (λ (t : List ℕ). line_of line ++ t) (sym (rest_breaks room token more breaks)) in
+          let text_same : (token_line line ++ 10 ∷ []) ++ (token_line (token ∷ []) ++ rest) ≡ token_line line ++ rest_of room (token ∷ more) =
+          append_assoc (token_line line) (10 ∷ []) (token_line (token ∷ []) ++ rest) ∙ ap (λ (t : List ℕ). token_line line ++ t) (sym (rest_breaks room token more breaks)) in
           let Q : List ℕ → Type 0 = λ t. LaidOut (line ++ token ∷ more) t in
-          subst Q text_same (laid-cons line (token ∷ more) (line_of (token ∷ []) ++ rest) is full laid)
+          subst Q text_same (laid-cons line (token ∷ more) (token_line (token ∷ []) ++ rest) is full laid)
     ]
 
 -- the lines that a first token begins

@@ -8,8 +8,8 @@ use Rattle.std.proofs.lemmas.List.Elements.{All-cons, All-nil, All-head, All-tai
 use Rattle.mm_code.specs.declared.code.Code.TheVariants.{Number, Tag}
 use Rattle.mm_code.specs.declared.code.CodeRule.{CodeRule}
 use Rattle.mm_code.specs.declared.code.CodeRule.TheVariants.{P4, P5}
-use Rattle.mm_code.specs.Letters.{IsLetter, IsLeadingLetter, IsEndOrTag, IsCut, Breaks}
-use Rattle.mm_code.specs.Reading.{with_front, reading, rule_behind, further, ended}
+use Rattle.mm_code.specs.Letters.{IsLetter, IsLeadingLetter, IsEndOrTag, IsCut, LettersBreak}
+use Rattle.mm_code.specs.Reading.{with_front, reading, rule_behind, leading_after, number_after}
 use Rattle.mm_code.proofs.Steps.{read_below, read_above, read_last, read_leading, read_tag, read_cut_by_tag, read_end, read_cut_by_end}
 use Rattle.mm_code.proofs.ByteKinds.{below, last, leading, tag, above, kind, with_front-err}
 
@@ -79,9 +79,9 @@ reads_other value (byte ∷ text) e =
       | below low ↦ read_below value byte text low
       | above high ↦ read_above value byte text high
       | last low high ↦
-          read_last value byte text low high ∙ ap (with_front (Number (ended value byte) ∷ [])) (reads_other 0 text (rest-test byte text false low (omega arith) e))
+          read_last value byte text low high ∙ ap (with_front (Number (number_after value byte) ∷ [])) (reads_other 0 text (rest-test byte text false low (omega arith) e))
       | leading low high ↦
-          read_leading value byte text low high ∙ reads_other (further value byte) text (rest-test byte text false (omega arith) (omega arith) e)
+          read_leading value byte text low high ∙ reads_other (leading_after value byte) text (rest-test byte text false (omega arith) (omega arith) e)
       | tag is ↦
           let rest = rest-test byte text false (omega arith) (omega arith) e in
           elim (cases_eq value 0) [
@@ -109,8 +109,8 @@ reads_P4 value (byte ∷ text) e =
     elim (kind byte) [
       | below low ↦ other-here byte text (λ is. absurd (omega (arith, is.0)))
       | above high ↦ other-here byte text (λ is. absurd (omega (arith, is.1)))
-      | last low high ↦ other-later byte text (reads_P4 0 text (with_front-err (Number (ended value byte) ∷ []) P4 (reading 0 text) (sym (read_last value byte text low high) ∙ e)))
-      | leading low high ↦ other-later byte text (reads_P4 (further value byte) text (sym (read_leading value byte text low high) ∙ e))
+      | last low high ↦ other-later byte text (reads_P4 0 text (with_front-err (Number (number_after value byte) ∷ []) P4 (reading 0 text) (sym (read_last value byte text low high) ∙ e)))
+      | leading low high ↦ other-later byte text (reads_P4 (leading_after value byte) text (sym (read_leading value byte text low high) ∙ e))
       | tag is ↦ elim (cases_eq value 0) [
         | inl none ↦ other-later byte text (reads_P4 0 text (with_front-err (Tag ∷ []) P4 (reading 0 text) (sym (read_tag value byte text is none) ∙ e)))
         | inr some ↦
@@ -154,8 +154,8 @@ reads_cut value (byte ∷ text) e =
     elim (kind byte) [
       | below low ↦ absurd (cc (read_below value byte text low, e))
       | above high ↦ absurd (cc (read_above value byte text high, e))
-      | last low high ↦ later-cut byte text (reads_cut 0 text (with_front-err (Number (ended value byte) ∷ []) P5 (reading 0 text) (sym (read_last value byte text low high) ∙ e)))
-      | leading low high ↦ here-cut byte (further value byte) text (low, omega arith) (reads_cut (further value byte) text (sym (read_leading value byte text low high) ∙ e))
+      | last low high ↦ later-cut byte text (reads_cut 0 text (with_front-err (Number (number_after value byte) ∷ []) P5 (reading 0 text) (sym (read_last value byte text low high) ∙ e)))
+      | leading low high ↦ here-cut byte (leading_after value byte) text (low, omega arith) (reads_cut (leading_after value byte) text (sym (read_leading value byte text low high) ∙ e))
       | tag is ↦ elim (cases_eq value 0) [
         | inl none ↦ later-cut byte text (reads_cut 0 text (with_front-err (Tag ∷ []) P5 (reading 0 text) (sym (read_tag value byte text is none) ∙ e)))
         | inr some ↦ inr (omega arith, is)
@@ -172,7 +172,7 @@ cut_read : (before : List ℕ) (value digit : ℕ) (after : List ℕ) → IsLead
     → reading value (before ++ digit ∷ after) ≡ Err P5
 cut_read [] value digit after is stops e =
     read_leading value digit after is.0 (omega (arith, is.1))
-    ∙ cut_there (further value digit) after (omega (arith, is.0)) stops (rest-test digit after true (omega (arith, is.0)) (omega (arith, is.1)) e)
+    ∙ cut_there (leading_after value digit) after (omega (arith, is.0)) stops (rest-test digit after true (omega (arith, is.0)) (omega (arith, is.1)) e)
 cut_read (byte ∷ before) value digit after is stops e =
     let text = before ++ digit ∷ after in
     let parts = and_parts (is_ascii_uppercase byte) (list_all is_ascii_uppercase text) e in
@@ -181,8 +181,8 @@ cut_read (byte ∷ before) value digit after is stops e =
     elim (kind byte) [
       | below low ↦ absurd (omega (arith, letter.0))
       | above high ↦ absurd (omega (arith, letter.1))
-      | last low high ↦ read_last value byte text low high ∙ ap (with_front (Number (ended value byte) ∷ [])) (cut_read before 0 digit after is stops rest)
-      | leading low high ↦ read_leading value byte text low high ∙ cut_read before (further value byte) digit after is stops rest
+      | last low high ↦ read_last value byte text low high ∙ ap (with_front (Number (number_after value byte) ∷ [])) (cut_read before 0 digit after is stops rest)
+      | leading low high ↦ read_leading value byte text low high ∙ cut_read before (leading_after value byte) digit after is stops rest
       | tag tagged ↦ elim (cases_eq value 0) [
         | inl none ↦ read_tag value byte text tagged none ∙ ap (with_front (Tag ∷ [])) (cut_read before 0 digit after is stops rest)
         | inr some ↦ let positive : 0 < value = omega arith in read_cut_by_tag value byte text tagged positive ∙ ap Err (rule_behind-letters text rest)
@@ -191,7 +191,7 @@ cut_read (byte ∷ before) value digit after is stops e =
 
 -- ---- the rules, both ways
 
-pub breaks_read : (rule : CodeRule) (text : List ℕ) → Breaks rule text → reading 0 text ≡ Err rule
+pub breaks_read : (rule : CodeRule) (text : List ℕ) → LettersBreak rule text → reading 0 text ≡ Err rule
 breaks_read P4 text broken = reads_other 0 text (other-test text broken)
 breaks_read P5 text broken =
     let cut = broken.1 in
@@ -202,6 +202,6 @@ cut_inside : (text : List ℕ) → IsCut text ⊎ ((0 < 0) × IsEndOrTag text) �
 cut_inside text (inl cut) = cut
 cut_inside text (inr none) = absurd (omega (arith, none.0))
 
-pub read_breaks : (rule : CodeRule) (text : List ℕ) → reading 0 text ≡ Err rule → Breaks rule text
+pub read_breaks : (rule : CodeRule) (text : List ℕ) → reading 0 text ≡ Err rule → LettersBreak rule text
 read_breaks P4 text e = reads_P4 0 text e
 read_breaks P5 text e = (letters-tested text (reads_letters 0 text e), cut_inside text (reads_cut 0 text e))

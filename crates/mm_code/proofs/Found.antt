@@ -6,16 +6,16 @@ use Rattle.std.proofs.lemmas.List.Sums.{fold-append}
 use Rattle.std.proofs.lemmas.Bool.{cases_eq}
 use Rattle.mm_code.specs.declared.code.Code.{Code}
 use Rattle.mm_code.specs.declared.code.Code.TheVariants.{Number, Tag}
-use Rattle.mm_code.specs.Letters.{last_letter, leading_letter, tag_letter, IsLeadingDigit, leading_value, IsSpelling, Says, Letters, held, largest}
-use Rattle.mm_code.specs.Reading.{reading, further, ended}
+use Rattle.mm_code.specs.Letters.{last_letter, leading_letter, tag_letter, IsLeadingDigit, leading_value, IsSpelling, SaysCode, Letters, code_for, largest}
+use Rattle.mm_code.specs.Reading.{reading, leading_after, number_after}
 use Rattle.mm_code.proofs.Steps.{read_below, read_above, read_last, read_leading, read_tag, read_cut_by_tag, read_end, read_cut_by_end}
 use Rattle.mm_code.proofs.ByteKinds.{below, last, leading, tag, above, kind, with_front-ok}
 
 pub letters-nil : Letters [] []
-letters-nil = record { spelled = []; spells = record { pieces = []; each = tt; joined = refl }; are_held = refl }
+letters-nil = record { spelled = []; spells = record { pieces = []; each = tt; joined = refl }; are_codes = refl }
 
 -- one more code before those of a text
-pub letters-cons : (piece text : List ℕ) (code : Code) (codes : List Code) → Says piece code → Letters text codes → Letters (piece ++ text) (held code ∷ codes)
+pub letters-cons : (piece text : List ℕ) (code : Code) (codes : List Code) → SaysCode piece code → Letters text codes → Letters (piece ++ text) (code_for code ∷ codes)
 letters-cons piece text code codes says letters = record {
   spelled = code ∷ letters.spelled;
   spells = record {
@@ -23,7 +23,7 @@ letters-cons piece text code codes says letters = record {
     each = (says, letters.spells.each);
     joined = ap (λ (t : List ℕ). piece ++ t) letters.spells.joined;
   };
-  are_held = ap (λ (cs : List Code). held code ∷ cs) letters.are_held;
+  are_codes = ap (λ (cs : List Code). code_for code ∷ cs) letters.are_codes;
 }
 
 -- a number's letters before those of a text
@@ -76,16 +76,16 @@ is_read (byte ∷ text) digits codes ok e =
       | below low ↦ absurd (cc (read_below value byte text low, e))
       | above high ↦ absurd (cc (read_above value byte text high, e))
       | last low high ↦
-          let rest = with_front-ok (Number (ended value byte) ∷ []) codes (reading 0 text) (sym (read_last value byte text low high) ∙ e) in
+          let rest = with_front-ok (Number (number_after value byte) ∷ []) codes (reading 0 text) (sym (read_last value byte text low high) ∙ e) in
           let letters = letters-number digits byte text rest.0 ok low high (is_read text [] rest.0 tt rest.1) in
-          let number : ended value byte ≡ min (20 * leading_value digits + (byte - 64)) largest = omega arith in
+          let number : number_after value byte ≡ min (20 * leading_value digits + (byte - 64)) largest = omega arith in
           let same : codes ≡ Number (min (20 * leading_value digits + (byte - 64)) largest) ∷ rest.0 = rest.2 ∙ ap (λ (n : ℕ). Number n ∷ rest.0) number in
           subst (λ (cs : List Code). Letters (map leading_letter digits ++ byte ∷ text) cs) (sym same) letters
       | leading low high ↦
           let digit = byte - 84 in
           let is_byte : leading_letter digit ≡ byte = omega arith in
           let worth : leading_value (digits ++ digit ∷ []) ≡ 5 * leading_value digits + digit = leading_value-push digits digit in
-          let next : further value byte ≡ min (leading_value (digits ++ digit ∷ [])) largest = omega arith in
+          let next : leading_after value byte ≡ min (leading_value (digits ++ digit ∷ [])) largest = omega arith in
           let read : reading (min (leading_value (digits ++ digit ∷ [])) largest) text ≡ Ok codes = ap (λ (v : ℕ). reading v text) (sym next) ∙ sym (read_leading value byte text low high) ∙ e in
           let letters = is_read text (digits ++ digit ∷ []) codes (leading-push digits digit ok (omega arith, omega arith)) read in
           let same : map leading_letter (digits ++ digit ∷ []) ++ text ≡ map leading_letter digits ++ byte ∷ text =

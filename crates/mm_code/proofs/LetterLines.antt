@@ -91,9 +91,9 @@ no_labels_laid_out labels text none empty =
     subst P (sym none) (subst Q (sym empty) laid-nil)
 
 -- labels, and one more token behind them
-pub closed : (begun added text token : List ℕ) (room left last : ℕ) (labels : List (List ℕ)) → ((more : List (List ℕ)) → added ++ rest_of left more ≡ begun ++ rest_of room (labels ++ more))
+pub list_closed : (begun added text token : List ℕ) (room left last : ℕ) (labels : List (List ℕ)) → ((more : List (List ℕ)) → added ++ rest_of left more ≡ begun ++ rest_of room (labels ++ more))
     → ((more : List (List ℕ)) → text ++ rest_of last more ≡ added ++ rest_of left (token ∷ more)) → (more : List (List ℕ)) → text ++ rest_of last more ≡ begun ++ rest_of room ((labels ++ token ∷ []) ++ more)
-closed begun added text token room left last labels listed ends more =
+list_closed begun added text token room left last labels listed ends more =
     ends more ∙ listed (token ∷ more) ∙ ap (λ (ts : List (List ℕ)). begun ++ rest_of room ts) (sym (append_assoc labels (token ∷ []) more))
 
 pub compressed_laid_out : (labels : List (List ℕ)) (letters list text : List ℕ) → LaidOut (in_parentheses labels) list → AppendsLetters list text letters → CompressedLaidOut labels letters text

@@ -2,7 +2,7 @@
 use Rattle.std.proofs.Common.{◌≡◌, ℕ, suc, ◌+◌, ◌<◌, ◌≤◌, inl, inr, List, [], ◌∷◌, ◌++◌, length, refl, sym, ap, subst, ◌∙◌, append_assoc, arith}
 use Rattle.std.specs.List.{flat_map, join_with_byte, AllByRecursion}
 use Rattle.std.proofs.lemmas.List.{length-append}
-use Rattle.mm_code.specs.Layout.{indent, line_of, width, IsLine, IsFull, IsGreedy, LaidOut, AreLetterLines, LettersLaidOut, in_parentheses, CompressedLaidOut}
+use Rattle.mm_code.specs.Layout.{indent, token_line, width, IsLine, IsFull, IsGreedy, LaidOut, AreLetterLines, LettersLaidOut, in_parentheses, CompressedLaidOut}
 use Rattle.mm_code.proofs.Added.{line_length}
 use Rattle.mm_code.proofs.LetterLines.{some_letters, other_letters}
 
@@ -70,7 +70,7 @@ one_lines (x ∷ a) (y ∷ b) p q g h e =
 pub one_text_of_tokens : (tokens : List (List ℕ)) (a b : List ℕ) → LaidOut tokens a → LaidOut tokens b → a ≡ b
 one_text_of_tokens tokens a b p q =
     let lines = one_lines p.lines q.lines p.each q.each p.greedy q.greedy (p.in_order ∙ sym q.in_order) in
-    p.printed ∙ ap (λ (ls : List (List (List ℕ))). flat_map (λ line. line_of line ++ 10 ∷ []) ls) lines ∙ sym q.printed
+    p.printed ∙ ap (λ (ls : List (List (List ℕ))). flat_map (λ line. token_line line ++ 10 ∷ []) ls) lines ∙ sym q.printed
 
 -- ---- lines of letters
 

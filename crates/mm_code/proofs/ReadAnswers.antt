@@ -6,7 +6,7 @@ use Rattle.mm_code.specs.declared.code.Code.{Code}
 use Rattle.mm_code.specs.declared.code.CodeRule.{CodeRule}
 use Rattle.mm_code.specs.declared.code.CodeFault.{CodeFault}
 use Rattle.mm_code.specs.declared.code.CodeFault.TheVariants.{Rule, Memory}
-use Rattle.mm_code.specs.Letters.{Letters, Answers, Breaks}
+use Rattle.mm_code.specs.Letters.{Letters, Answers, LettersBreak}
 use Rattle.mm_code.specs.Reading.{reading}
 use Rattle.mm_code.proofs.Found.{is_read}
 use Rattle.mm_code.proofs.Again.{is_read_again}
@@ -25,10 +25,10 @@ same_answer (Err Memory) a b e given = tt
 pub letters_answered : (text : List ℕ) (result : Result (Vec Code) CodeFault) (codes : List Code) → Answers result (reading 0 text) → Letters text codes → Answers result (Ok codes)
 letters_answered text result codes given letters = same_answer result (reading 0 text) (Ok codes) (is_read_again text codes letters) given
 
-pub broken_answered : (text : List ℕ) (result : Result (Vec Code) CodeFault) (rule : CodeRule) → Answers result (reading 0 text) → Breaks rule text → Answers result (Err rule)
+pub broken_answered : (text : List ℕ) (result : Result (Vec Code) CodeFault) (rule : CodeRule) → Answers result (reading 0 text) → LettersBreak rule text → Answers result (Err rule)
 broken_answered text result rule given broken = same_answer result (reading 0 text) (Err rule) (breaks_read rule text broken) given
 
-pub rule_broken : (text : List ℕ) (result : Result (Vec Code) CodeFault) (rule : CodeRule) → Answers result (reading 0 text) → IsErrOf result (Rule rule) → Breaks rule text
+pub rule_broken : (text : List ℕ) (result : Result (Vec Code) CodeFault) (rule : CodeRule) → Answers result (reading 0 text) → IsErrOf result (Rule rule) → LettersBreak rule text
 rule_broken text (Ok codes) rule given is = absurd cc
 rule_broken text (Err (Rule other)) rule given is = read_breaks rule text (given ∙ ap Err (cc))
 rule_broken text (Err Memory) rule given is = absurd cc

@@ -3,7 +3,7 @@ use Rattle.std.proofs.Common.{◌≡◌, ℕ, ◌+◌, ◌*◌, ◌/◌, ◌%◌
 use Rattle.std.specs.List.{flat_map, join_with_byte, AllByRecursion}
 use Rattle.std.proofs.lemmas.List.{length-append}
 use Rattle.std.proofs.lemmas.List.Sums.{sum_by-append, sum_by-cons}
-use Rattle.mm_code.specs.Layout.{indent, line_of, width, IsLine, IsFull, IsGreedy, LaidOut, AreLetterLines, LettersLaidOut, in_parentheses, CompressedLaidOut, size_of, lines_bound, letters_bound}
+use Rattle.mm_code.specs.Layout.{indent, token_line, width, IsLine, IsFull, IsGreedy, LaidOut, AreLetterLines, LettersLaidOut, in_parentheses, CompressedLaidOut, size_of, lines_bound, letters_bound}
 use Rattle.mm_code.proofs.Added.{line_length, width-push}
 
 size-append : (a b : List (List ℕ)) → size_of (a ++ b) ≡ size_of a + size_of b
@@ -23,13 +23,13 @@ width-size [] some = absurd (omega arith)
 width-size (first ∷ line) some = omega (arith, join-size first line)
 
 -- the bytes of lines, each with its end
-lines-length : (lines : List (List (List ℕ))) → AllByRecursion IsLine lines → length (flat_map (λ line. line_of line ++ 10 ∷ []) lines) ≡ 6 * length lines + size_of (flat_map (λ l. l) lines)
+lines-length : (lines : List (List (List ℕ))) → AllByRecursion IsLine lines → length (flat_map (λ line. token_line line ++ 10 ∷ []) lines) ≡ 6 * length lines + size_of (flat_map (λ l. l) lines)
 lines-length [] each = refl
 lines-length (line ∷ lines) each =
     omega (
       arith,
-      length-append (line_of line ++ 10 ∷ []) (flat_map (λ l. line_of l ++ 10 ∷ []) lines),
-      length-append (line_of line) (10 ∷ []),
+      length-append (token_line line ++ 10 ∷ []) (flat_map (λ l. token_line l ++ 10 ∷ []) lines),
+      length-append (token_line line) (10 ∷ []),
       width-size line (line_length line each.0),
       lines-length lines each.1,
       size-append line (flat_map (λ l. l) lines),

@@ -4,7 +4,7 @@ use Rattle.std.specs.List.{flat_map, AllByRecursion}
 use Rattle.std.proofs.Math.Nat.{le_of_lt, le_refl}
 use Rattle.std.proofs.lemmas.Bool.{cases_lt}
 use Rattle.std.proofs.lemmas.List.{length-append, length-take-le}
-use Rattle.mm_code.specs.Layout.{AreLetterLines, CompressedLaidOut, in_parentheses, indent, line_of, width, IsLine, IsFull, IsGreedy, LaidOut}
+use Rattle.mm_code.specs.Layout.{AreLetterLines, CompressedLaidOut, in_parentheses, indent, token_line, width, IsLine, IsFull, IsGreedy, LaidOut}
 
 -- the lines of a line that was begun, and of tokens that follow it
 record Continued (line tokens : List (List ℕ)) : Type 0 where
@@ -23,9 +23,9 @@ taken line token tokens rest = record {
 }
 
 -- The line is full before the next token, with which another line begins.
-ended : (line : List (List ℕ)) (token : List ℕ) (tokens : List (List ℕ)) → IsLine line → 79 < width (line ++ token ∷ [])
+ends_full : (line : List (List ℕ)) (token : List ℕ) (tokens : List (List ℕ)) → IsLine line → 79 < width (line ++ token ∷ [])
     → Continued (token ∷ []) tokens → Continued line (token ∷ tokens)
-ended line token tokens is full rest =
+ends_full line token tokens is full rest =
     let Full : List (List ℕ) → Type 0 = λ others. IsFull line others in
     record {
       lines = line ∷ rest.lines;
@@ -47,7 +47,7 @@ continued line [] is some = record {
   greedy = (tt, tt);
 }
 continued line (token ∷ tokens) is some = elim (cases_lt 79 (width (line ++ token ∷ []))) [
-  | inl full ↦ ended line token tokens is full (continued (token ∷ []) tokens (inl refl) (omega arith))
+  | inl full ↦ ends_full line token tokens is full (continued (token ∷ []) tokens (inl refl) (omega arith))
   | inr fits ↦ taken line token tokens
       (continued (line ++ token ∷ []) tokens (inr (more_than_one line token some, fits)) (le_of_lt (more_than_one line token some)))
 ]
@@ -84,7 +84,7 @@ pub some_layout : (tokens : List (List ℕ)) → (text : List ℕ) × LaidOut to
 some_layout [] = ([], record { lines = []; in_order = refl; each = tt; greedy = tt; printed = refl })
 some_layout (token ∷ tokens) =
     let rest = continued (token ∷ []) tokens (inl refl) (omega arith) in (
-      flat_map (λ line. line_of line ++ 10 ∷ []) rest.lines,
+      flat_map (λ line. token_line line ++ 10 ∷ []) rest.lines,
       record { lines = rest.lines; in_order = rest.in_order; each = rest.each; greedy = rest.greedy; printed = refl },
     )
 

@@ -12,7 +12,7 @@ use Rattle.mm_code.specs.declared.code.CodeRule.TheVariants.{P4, P5}
 use Rattle.mm_code.specs.declared.code.CodeFault.{CodeFault}
 use Rattle.mm_code.specs.declared.code.CodeFault.TheVariants.{Rule, Memory}
 use Rattle.mm_code.specs.Letters.{Answers}
-use Rattle.mm_code.specs.Reading.{with_front, reading, rule_behind, further, ended, FaultOf}
+use Rattle.mm_code.specs.Reading.{with_front, reading, rule_behind, leading_after, number_after, FaultOf}
 
 pub with_front-with_front : (a b : List Code) (read : Result (List Code) CodeRule) → with_front a (with_front b read) ≡ with_front (a ++ b) read
 with_front-with_front a b (Ok codes) = ap Ok (sym (append_assoc a b codes))
@@ -31,11 +31,11 @@ unfolding reading
 read_above value byte bytes h =
     rw (le-ltb byte 65 (omega arith), le-ltb byte 85 (omega arith), le-ltb byte 90 (omega arith), ne_eqb byte 90 (λ e. omega arith)) refl
 
-pub read_last : (value byte : ℕ) (bytes : List ℕ) → 65 ≤ byte → byte < 85 → reading value (byte ∷ bytes) ≡ with_front (Number (ended value byte) ∷ []) (reading 0 bytes)
+pub read_last : (value byte : ℕ) (bytes : List ℕ) → 65 ≤ byte → byte < 85 → reading value (byte ∷ bytes) ≡ with_front (Number (number_after value byte) ∷ []) (reading 0 bytes)
 unfolding reading
 read_last value byte bytes low high = rw (le-ltb byte 65 low, lt-ltb byte 85 high) refl
 
-pub read_leading : (value byte : ℕ) (bytes : List ℕ) → 85 ≤ byte → byte < 90 → reading value (byte ∷ bytes) ≡ reading (further value byte) bytes
+pub read_leading : (value byte : ℕ) (bytes : List ℕ) → 85 ≤ byte → byte < 90 → reading value (byte ∷ bytes) ≡ reading (leading_after value byte) bytes
 unfolding reading
 read_leading value byte bytes low high = rw (le-ltb byte 65 (omega arith), le-ltb byte 85 low, lt-ltb byte 90 high) refl
 
@@ -71,12 +71,12 @@ pub front_tag : (codes : List Code) (value byte : ℕ) (bytes : List ℕ) → by
 front_tag codes value byte bytes is h = rw (read_tag value byte bytes is h) (with_front-with_front codes (Tag ∷ []) (reading 0 bytes))
 
 pub front_last : (codes : List Code) (value byte : ℕ) (bytes : List ℕ) → 65 ≤ byte → byte < 85
-    → with_front codes (reading value (byte ∷ bytes)) ≡ with_front (codes ++ Number (ended value byte) ∷ []) (reading 0 bytes)
+    → with_front codes (reading value (byte ∷ bytes)) ≡ with_front (codes ++ Number (number_after value byte) ∷ []) (reading 0 bytes)
 front_last codes value byte bytes low high =
-    rw (read_last value byte bytes low high) (with_front-with_front codes (Number (ended value byte) ∷ []) (reading 0 bytes))
+    rw (read_last value byte bytes low high) (with_front-with_front codes (Number (number_after value byte) ∷ []) (reading 0 bytes))
 
 pub front_leading : (codes : List Code) (value byte : ℕ) (bytes : List ℕ) → 85 ≤ byte → byte < 90
-    → with_front codes (reading value (byte ∷ bytes)) ≡ with_front codes (reading (further value byte) bytes)
+    → with_front codes (reading value (byte ∷ bytes)) ≡ with_front codes (reading (leading_after value byte) bytes)
 front_leading codes value byte bytes low high = ap (with_front codes) (read_leading value byte bytes low high)
 
 pub ruleset reading_steps = (front_below, front_above, front_cut, front_tag, front_last, front_leading)

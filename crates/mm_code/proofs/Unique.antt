@@ -7,7 +7,7 @@ use Rattle.std.proofs.lemmas.Grind.{reverse_onto}
 use Rattle.std.proofs.lemmas.Bool.{cases_eq}
 use Rattle.mm_code.specs.declared.code.Code.{Code}
 use Rattle.mm_code.specs.declared.code.Code.TheVariants.{Number, Tag}
-use Rattle.mm_code.specs.Letters.{last_letter, leading_letter, tag_letter, IsLeadingDigit, leading_value, IsSpelling, Says, Spells, Letters, held, largest, HasSpelling, IsExact}
+use Rattle.mm_code.specs.Letters.{last_letter, leading_letter, tag_letter, IsLeadingDigit, leading_value, IsSpelling, SaysCode, SpellsCodes, Letters, code_for, largest, HasSpelling, IsExact}
 use Rattle.mm_code.proofs.Found.{leading_value-push, leading-push}
 use Rattle.mm_code.proofs.Again.{is_read_again}
 
@@ -111,11 +111,11 @@ one_number text m n p q =
 
 -- ---- one text
 
-one_piece : (a b : List ℕ) (code : Code) → Says a code → Says b code → a ≡ b
+one_piece : (a b : List ℕ) (code : Code) → SaysCode a code → SaysCode b code → a ≡ b
 one_piece a b (Number number) p q = one_spelling_only a b number p q
 one_piece a b Tag p q = p ∙ sym q
 
-one_pieces : (a b : List (List ℕ)) (codes : List Code) → AllZip Says a codes → AllZip Says b codes → flat_map (λ piece. piece) a ≡ flat_map (λ piece. piece) b
+one_pieces : (a b : List (List ℕ)) (codes : List Code) → AllZip SaysCode a codes → AllZip SaysCode b codes → flat_map (λ piece. piece) a ≡ flat_map (λ piece. piece) b
 one_pieces [] [] [] p q = refl
 one_pieces [] [] (code ∷ codes) p q = absurd p
 one_pieces [] (y ∷ b) [] p q = absurd q
@@ -125,21 +125,21 @@ one_pieces (x ∷ a) [] (code ∷ codes) p q = absurd q
 one_pieces (x ∷ a) (y ∷ b) (code ∷ codes) p q =
     ap (λ (t : List ℕ). t ++ flat_map (λ piece. piece) a) (one_piece x y code p.0 q.0) ∙ ap (λ (t : List ℕ). y ++ t) (one_pieces a b codes p.1 q.1)
 
-pub one_text_only : (a b : List ℕ) (codes : List Code) → Spells a codes → Spells b codes → a ≡ b
+pub one_text_only : (a b : List ℕ) (codes : List Code) → SpellsCodes a codes → SpellsCodes b codes → a ≡ b
 one_text_only a b codes p q = p.joined ∙ one_pieces p.pieces q.pieces codes p.each q.each ∙ sym q.joined
 
-some_piece : (code : Code) → HasSpelling code → (piece : List ℕ) × Says piece code
+some_piece : (code : Code) → HasSpelling code → (piece : List ℕ) × SaysCode piece code
 some_piece (Number number) has = some_spelling number has
 some_piece Tag has = (tag_letter ∷ [], refl)
 
-some_pieces : (codes : List Code) → All HasSpelling codes → (pieces : List (List ℕ)) × AllZip Says pieces codes
+some_pieces : (codes : List Code) → All HasSpelling codes → (pieces : List (List ℕ)) × AllZip SaysCode pieces codes
 some_pieces [] has = ([], tt)
 some_pieces (code ∷ codes) has =
     let first = some_piece code (All-head HasSpelling code codes has) in
     let others = some_pieces codes (All-tail HasSpelling code codes has) in
     (first.0 ∷ others.0, (first.1, others.1))
 
-pub some_text : (codes : List Code) → All HasSpelling codes → (text : List ℕ) × Spells text codes
+pub some_text : (codes : List Code) → All HasSpelling codes → (text : List ℕ) × SpellsCodes text codes
 some_text codes has = let pieces = some_pieces codes has in (_, record { pieces = pieces.0; each = pieces.1; joined = refl })
 
 -- ---- one list of codes
@@ -147,27 +147,27 @@ some_text codes has = let pieces = some_pieces codes has in (_, record { pieces 
 pub one_reading_only : (text : List ℕ) (a b : List Code) → Letters text a → Letters text b → a ≡ b
 one_reading_only text a b p q = cc (is_read_again text a p, is_read_again text b q)
 
-exact_held : (code spelled : Code) → IsExact code → code ≡ held spelled → code ≡ spelled
-exact_held (Number n) (Number m) exact e =
+exact_code : (code spelled : Code) → IsExact code → code ≡ code_for spelled → code ≡ spelled
+exact_code (Number n) (Number m) exact e =
     let number : n ≡ min m largest = cc in
     ap Number (omega (arith, number, exact))
-exact_held (Number n) Tag exact e = e
-exact_held Tag (Number m) exact e = absurd cc
-exact_held Tag Tag exact e = refl
+exact_code (Number n) Tag exact e = e
+exact_code Tag (Number m) exact e = absurd cc
+exact_code Tag Tag exact e = refl
 
-exact_all_held : (codes spelled : List Code) → All IsExact codes → codes ≡ map held spelled → codes ≡ spelled
-exact_all_held [] [] exact e = refl
-exact_all_held [] (s ∷ spelled) exact e = absurd cc
-exact_all_held (c ∷ codes) [] exact e = absurd cc
-exact_all_held (c ∷ codes) (s ∷ spelled) exact e =
-    let head : c ≡ held s = cc in
-    let tail : codes ≡ map held spelled = cc in
-    let first = exact_held c s (All-head IsExact c codes exact) head in
-    let others = exact_all_held codes spelled (All-tail IsExact c codes exact) tail in
+exact_codes : (codes spelled : List Code) → All IsExact codes → codes ≡ map code_for spelled → codes ≡ spelled
+exact_codes [] [] exact e = refl
+exact_codes [] (s ∷ spelled) exact e = absurd cc
+exact_codes (c ∷ codes) [] exact e = absurd cc
+exact_codes (c ∷ codes) (s ∷ spelled) exact e =
+    let head : c ≡ code_for s = cc in
+    let tail : codes ≡ map code_for spelled = cc in
+    let first = exact_code c s (All-head IsExact c codes exact) head in
+    let others = exact_codes codes spelled (All-tail IsExact c codes exact) tail in
     cc
 
 -- codes below the largest number are what their letters spell
-pub exact_spelled : (text : List ℕ) (codes : List Code) → All IsExact codes → Letters text codes → Spells text codes
+pub exact_spelled : (text : List ℕ) (codes : List Code) → All IsExact codes → Letters text codes → SpellsCodes text codes
 exact_spelled text codes exact letters =
-    let P : List Code → Type 0 = Spells text in
-    subst P (sym (exact_all_held codes letters.spelled exact letters.are_held)) letters.spells
+    let P : List Code → Type 0 = SpellsCodes text in
+    subst P (sym (exact_codes codes letters.spelled exact letters.are_codes)) letters.spells

@@ -5,7 +5,7 @@ use Rattle.std.proofs.lemmas.List.{map-append, append-nil, take_more, take_all, 
 use Rattle.std.proofs.lemmas.List.Concat.{flat_map-append}
 use Rattle.mm_code.specs.declared.code.Code.{Code}
 use Rattle.mm_code.specs.declared.code.Code.TheVariants.{Number}
-use Rattle.mm_code.specs.Letters.{last_letter, leading_letter, Says, Spells, Letters, held, IsExact}
+use Rattle.mm_code.specs.Letters.{last_letter, leading_letter, SaysCode, SpellsCodes, Letters, code_for, IsExact}
 use Rattle.mm_code.specs.Writing.{AppendsLeading, AppendsCode}
 use Rattle.mm_code.proofs.Unique.{HasLeading, grown-leading, grown-value, spelling-of, exact_spelled, one_text_only}
 
@@ -36,16 +36,16 @@ number-written old between new number rest byte had is quotient letter positive 
           ∙ ap (λ (b : ℕ). old ++ (map leading_letter had.digits ++ b ∷ [])) same;
     }
 
-each-push : (pieces : List (List ℕ)) (codes : List Code) (piece : List ℕ) (code : Code) → AllZip Says pieces codes → Says piece code → AllZip Says (pieces ++ piece ∷ []) (codes ++ code ∷ [])
+each-push : (pieces : List (List ℕ)) (codes : List Code) (piece : List ℕ) (code : Code) → AllZip SaysCode pieces codes → SaysCode piece code → AllZip SaysCode (pieces ++ piece ∷ []) (codes ++ code ∷ [])
 each-push [] [] piece code each says = (says, tt)
 each-push [] (c ∷ codes) piece code each says = absurd each
 each-push (p ∷ pieces) [] piece code each says = absurd each
 each-push (p ∷ pieces) (c ∷ codes) piece code each says = (each.0, each-push pieces codes piece code each.1 says)
 
 -- one more code's letters
-pub code-written : (old new : List ℕ) (codes : List Code) (i : ℕ) (d : Code) → i < length codes → Spells old (take i codes) → AppendsCode old new (get_or codes i d) → Spells new (take (i + 1) codes)
+pub code-written : (old new : List ℕ) (codes : List Code) (i : ℕ) (d : Code) → i < length codes → SpellsCodes old (take i codes) → AppendsCode old new (get_or codes i d) → SpellsCodes new (take (i + 1) codes)
 code-written old new codes i d lt spells more =
-    let P : List Code → Type 0 = Spells new in
+    let P : List Code → Type 0 = SpellsCodes new in
     subst P (sym (take_more codes i d lt)) (record {
       pieces = spells.pieces ++ more.piece ∷ [];
       each = each-push spells.pieces (take i codes) more.piece (get_or codes i d) spells.each more.says;
@@ -53,23 +53,23 @@ code-written old new codes i d lt spells more =
           ∙ sym (flat_map-append (λ (piece : List ℕ). piece) spells.pieces (more.piece ∷ []));
     })
 
-pub held-more : (codes : List Code) (i : ℕ) (d : Code) → i < length codes → map held (take i codes) ≡ take i codes → held (get_or codes i d) ≡ get_or codes i d → map held (take (i + 1) codes) ≡ take (i + 1) codes
-held-more codes i d lt before here =
+pub code_for-more : (codes : List Code) (i : ℕ) (d : Code) → i < length codes → map code_for (take i codes) ≡ take i codes → code_for (get_or codes i d) ≡ get_or codes i d → map code_for (take (i + 1) codes) ≡ take (i + 1) codes
+code_for-more codes i d lt before here =
     let code = get_or codes i d in
     let read = take_more codes i d lt in
-    ap (map held) read ∙ map_push held (take i codes) code ∙ ap (λ (cs : List Code). cs ++ held code ∷ []) before ∙ ap (λ (c : Code). take i codes ++ c ∷ []) here ∙ sym read
+    ap (map code_for) read ∙ map_push code_for (take i codes) code ∙ ap (λ (cs : List Code). cs ++ code_for code ∷ []) before ∙ ap (λ (c : Code). take i codes ++ c ∷ []) here ∙ sym read
 
-pub all_spelled : (text : List ℕ) (codes : List Code) (i : ℕ) → length codes ≤ i → Spells text (take i codes) → Spells text codes
+pub all_spelled : (text : List ℕ) (codes : List Code) (i : ℕ) → length codes ≤ i → SpellsCodes text (take i codes) → SpellsCodes text codes
 all_spelled text codes i le spells =
-    let P : List Code → Type 0 = Spells text in
+    let P : List Code → Type 0 = SpellsCodes text in
     subst P (take_all i codes le) spells
 
-pub all_letters : (text : List ℕ) (codes : List Code) (i : ℕ) → length codes ≤ i → Spells text (take i codes) → map held (take i codes) ≡ take i codes → Letters text codes
-all_letters text codes i le spells are_held = record {
+pub all_letters : (text : List ℕ) (codes : List Code) (i : ℕ) → length codes ≤ i → SpellsCodes text (take i codes) → map code_for (take i codes) ≡ take i codes → Letters text codes
+all_letters text codes i le spells are_codes = record {
   spelled = codes;
   spells = all_spelled text codes i le spells;
-  are_held = sym (ap (map held) (sym (take_all i codes le)) ∙ are_held ∙ take_all i codes le);
+  are_codes = sym (ap (map code_for) (sym (take_all i codes le)) ∙ are_codes ∙ take_all i codes le);
 }
 
-pub only_text : (text : List ℕ) (codes : List Code) → Spells text codes → All IsExact codes → (other : List ℕ) → Letters other codes → other ≡ text
+pub only_text : (text : List ℕ) (codes : List Code) → SpellsCodes text codes → All IsExact codes → (other : List ℕ) → Letters other codes → other ≡ text
 only_text text codes spells exact other letters = one_text_only other text codes (exact_spelled other codes exact letters) spells

@@ -42,31 +42,31 @@ pub record IsSpelling (text : List ℕ) (number : ℕ) : Type 0 where
   pub value : number ≡ 20 * leading_value leading + last
 
 -- the piece of text that says a code: a spelling of the number, or `Z`
-abbrev pub Says : List ℕ → Code → Type 0
-Says piece (Number number) = IsSpelling piece number
-Says piece Tag = piece ≡ tag_letter ∷ []
+abbrev pub SaysCode : List ℕ → Code → Type 0
+SaysCode piece (Number number) = IsSpelling piece number
+SaysCode piece Tag = piece ≡ tag_letter ∷ []
 
 -- The text is pieces joined, one for each code that says it: a spelling of each number, and `Z` for each tag. Here a
 -- number has no upper bound.
-pub record Spells (text : List ℕ) (codes : List Code) : Type 0 where
+pub record SpellsCodes (text : List ℕ) (codes : List Code) : Type 0 where
   pub pieces : List (List ℕ)
-  pub each : AllZip Says pieces codes
+  pub each : AllZip SaysCode pieces codes
   pub joined : text ≡ flat_map (λ piece. piece) pieces
 
 -- the largest number that a code holds
 abbrev pub largest : ℕ
 largest = 4294967295
 
--- as a number stands in the codes: itself up to the largest one, and that one for each above it
-abbrev pub held : Code → Code
-held (Number number) = Number (min number largest)
-held Tag = Tag
+-- the code for a number: itself up to the largest one, and that one for each above it
+abbrev pub code_for : Code → Code
+code_for (Number number) = Number (min number largest)
+code_for Tag = Tag
 
--- The text's letters are these codes: it spells numbers and tags, and the codes hold them.
+-- The text's letters are these codes: it spells numbers and tags, and these are the codes for them.
 pub record Letters (text : List ℕ) (codes : List Code) : Type 0 where
   pub spelled : List Code
-  pub spells : Spells text spelled
-  pub are_held : codes ≡ map held spelled
+  pub spells : SpellsCodes text spelled
+  pub are_codes : codes ≡ map code_for spelled
 
 -- `A` to `Z`
 abbrev pub IsLetter : ℕ → Type 0
@@ -107,9 +107,9 @@ Answers (Err (Rule rule)) answer = answer ≡ Err rule
 Answers (Err Memory) answer = Unit {0}
 
 -- The letters break this rule: a byte is no letter; or else leading digits are followed by `Z` or by the end.
-abbrev pub Breaks : CodeRule → List ℕ → Type 0
-Breaks P4 text = Any (λ byte. ¬ (IsLetter byte)) text
-Breaks P5 text = All IsLetter text × IsCut text
+abbrev pub LettersBreak : CodeRule → List ℕ → Type 0
+LettersBreak P4 text = Any (λ byte. ¬ (IsLetter byte)) text
+LettersBreak P5 text = All IsLetter text × IsCut text
 
 -- the letters of tokens that white space cut apart
 abbrev pub joined_tokens : List (Bor (List ℕ)) → List ℕ

@@ -21,19 +21,19 @@ unfoldable pub rule_behind : List ℕ → CodeRule
 rule_behind bytes = if list_all is_ascii_uppercase bytes then P5 else P4
 
 -- the leading value with one more leading digit, and the number that a last digit ends, up to the largest
-abbrev pub further : ℕ → ℕ → ℕ
-further value byte = min (5 * value + (byte - 84)) largest
+abbrev pub leading_after : ℕ → ℕ → ℕ
+leading_after value byte = min (5 * value + (byte - 84)) largest
 
-abbrev pub ended : ℕ → ℕ → ℕ
-ended value byte = min (20 * value + (byte - 64)) largest
+abbrev pub number_after : ℕ → ℕ → ℕ
+number_after value byte = min (20 * value + (byte - 64)) largest
 
 -- the codes of these bytes behind leading digits of this value, where 0 says that there are none
 unfoldable pub reading : ℕ → List ℕ → Result (List Code) CodeRule
 reading value [] = if value == 0 then Ok [] else Err P5
 reading value (byte ∷ bytes) =
     if nat_lt byte 65 then Err P4
-    else (if nat_lt byte 85 then with_front (Number (ended value byte) ∷ []) (reading 0 bytes)
-    else (if nat_lt byte 90 then reading (further value byte) bytes
+    else (if nat_lt byte 85 then with_front (Number (number_after value byte) ∷ []) (reading 0 bytes)
+    else (if nat_lt byte 90 then reading (leading_after value byte) bytes
     else (if byte == 90 then (if value == 0 then with_front (Tag ∷ []) (reading 0 bytes) else Err (rule_behind bytes))
     else Err P4)))
 
@@ -44,6 +44,6 @@ FaultOf (Rule P4) rest read = read ≡ Err P4
 FaultOf (Rule P5) rest read = read ≡ Err (rule_behind rest)
 
 -- What a part of the letters gave, a leading value or a fault, goes on to what the whole reading answers.
-abbrev pub GoesOn : List Code → Result ℕ CodeFault → List ℕ → Result (List Code) CodeRule → Type 0
-GoesOn codes (Ok value) rest read = with_front codes (reading value rest) ≡ read
-GoesOn codes (Err fault) rest read = FaultOf fault rest read
+abbrev pub ReadsOn : List Code → Result ℕ CodeFault → List ℕ → Result (List Code) CodeRule → Type 0
+ReadsOn codes (Ok value) rest read = with_front codes (reading value rest) ≡ read
+ReadsOn codes (Err fault) rest read = FaultOf fault rest read

@@ -1,4 +1,4 @@
--- What a reader of a text finds in it: the words that white space cuts apart.
+-- What a reader of a text finds in it: its tokens (the Metamath book, section 4.1.1).
 use Rattle.std.specs.Prelude.{◌≡◌, ℕ, ◌<◌, Bool, false, ◌||◌, List, [], ◌∷◌, length, if◌then◌else◌, ◌==◌}
 use Rattle.std.specs.List.{AllByRecursion, onto_first}
 
@@ -6,18 +6,18 @@ use Rattle.std.specs.List.{AllByRecursion, onto_first}
 abbrev pub is_white_space : ℕ → Bool
 is_white_space byte = byte == 32 || byte == 10 || byte == 9 || byte == 12 || byte == 13
 
--- the words of a text: the longest rows of bytes in it that are no white space
-unfoldable pub words : List ℕ → List (List ℕ)
-words [] = []
-words (byte ∷ []) = if is_white_space byte then [] else (byte ∷ []) ∷ []
-words (byte ∷ next ∷ bytes) =
-    if is_white_space byte then words (next ∷ bytes)
-    else (if is_white_space next then (byte ∷ []) ∷ words (next ∷ bytes) else onto_first byte (words (next ∷ bytes)))
+-- the tokens of a text: the maximal runs of non-white-space bytes in it
+unfoldable pub tokens_in : List ℕ → List (List ℕ)
+tokens_in [] = []
+tokens_in (byte ∷ []) = if is_white_space byte then [] else (byte ∷ []) ∷ []
+tokens_in (byte ∷ next ∷ bytes) =
+    if is_white_space byte then tokens_in (next ∷ bytes)
+    else (if is_white_space next then (byte ∷ []) ∷ tokens_in (next ∷ bytes) else onto_first byte (tokens_in (next ∷ bytes)))
 
 -- none of these bytes is white space
 abbrev pub LacksWhiteSpace : List ℕ → Type 0
 LacksWhiteSpace bytes = AllByRecursion (λ byte. is_white_space byte ≡ false) bytes
 
--- a word: some bytes, and no white space among them
-abbrev pub IsWord : List ℕ → Type 0
-IsWord bytes = (0 < length bytes) × LacksWhiteSpace bytes
+-- one token: some bytes, and no white space among them
+abbrev pub IsOneToken : List ℕ → Type 0
+IsOneToken bytes = (0 < length bytes) × LacksWhiteSpace bytes

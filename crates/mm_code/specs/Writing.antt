@@ -1,8 +1,8 @@
--- What the private writers of letters add to a text. Their contracts cite it; the public one speaks of `Spells`.
+-- What the private writers of letters add to a text. Their contracts cite it; the public one speaks of `SpellsCodes`.
 use Rattle.std.specs.Prelude.{◌≡◌, ℕ, List, ◌++◌, map}
 use Rattle.std.specs.List.{AllByRecursion}
 use Rattle.mm_code.specs.declared.code.Code.{Code}
-use Rattle.mm_code.specs.Letters.{leading_letter, IsLeadingDigit, leading_value, Says}
+use Rattle.mm_code.specs.Letters.{leading_letter, IsLeadingDigit, leading_value, SaysCode}
 
 -- new is old with the letters of leading digits of this value at its end
 pub record AppendsLeading (old new : List ℕ) (value : ℕ) : Type 0 where
@@ -14,5 +14,5 @@ pub record AppendsLeading (old new : List ℕ) (value : ℕ) : Type 0 where
 -- new is old with what says the code at its end
 pub record AppendsCode (old new : List ℕ) (code : Code) : Type 0 where
   pub piece : List ℕ
-  pub says : Says piece code
+  pub says : SaysCode piece code
   pub text : new ≡ old ++ piece

@@ -4,12 +4,13 @@ ghost use Rattle.std.specs.Prelude.{◌≡◌};
 ghost use Rattle.mm_code.specs.declared.code.CodeFault.TheVariants.{Memory};
 
 use std::alloc::{AllocError, AllocFailed};
+use thiserror::Error;
 
 /// What one piece of the letters says (the Metamath book, appendix B).
 #[derive(Clone, Copy, Debug, PartialEq, Eq)]
 pub enum Code {
-    /// A number, from 1 on: the place of a mandatory hypothesis, a listed label or a tagged step. The largest `u32`,
-    /// 4,294,967,295, stands for itself and for each number above it.
+    /// A number, from 1 on: the place of a mandatory hypothesis, a listed label or a tagged step.
+    /// The largest `u32`, 4,294,967,295, stands for itself and for each number above it.
     Number(u32),
     /// `Z`: the step before it is tagged.
     Tag,
@@ -25,11 +26,13 @@ pub enum CodeRule {
 }
 
 /// Why a call gave no answer.
-#[derive(Clone, Copy, Debug, PartialEq, Eq)]
+#[derive(Clone, Copy, Debug, PartialEq, Eq, Drop, Error)]
 pub enum CodeFault {
     /// The letters break this rule.
+    #[error("the letters break {0:?}")]
     Rule(CodeRule),
-    /// An allocation was refused.
+    /// A growth was refused.
+    #[error("out of memory")]
     Memory,
 }
 

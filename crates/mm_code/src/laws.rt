@@ -1,54 +1,64 @@
-//! Laws of the letter code and of the layouts. Each is the contract of a function that does nothing: to call it is to
-//! know the law.
+//! Laws of the letter code and of the layouts. Each is the contract of a function that does
+//! nothing: to call it is to know the law.
 
 ghost use Rattle.std.specs.Prelude.{◌≡◌, ℕ, ◌+◌, ◌≤◌, ◌++◌, List, length, All};
 ghost use Rattle.std.specs.List.{AllByRecursion, flat_map};
 ghost use Rattle.mm_code.specs.declared.code.Code.{Code};
-ghost use Rattle.mm_code.specs.Letters.{IsSpelling, HasSpelling, Spells, Letters};
-ghost use Rattle.mm_code.specs.Layout.{LaidOut, CompressedLaidOut, in_parentheses, size_of, lines_bound, letters_bound};
-ghost use Rattle.mm_code.specs.Words.{words, IsWord, LacksWhiteSpace};
+ghost use Rattle.mm_code.specs.Letters.{IsSpelling, HasSpelling, SpellsCodes, Letters};
+ghost use Rattle.mm_code.specs.Layout.{LaidOut, CompressedLaidOut, in_parentheses, size_of};
+ghost use Rattle.mm_code.specs.Layout.{lines_bound, letters_bound};
+ghost use Rattle.mm_code.specs.Words.{tokens_in, IsOneToken, LacksWhiteSpace};
 
-/// Each number from 1 on has exactly one spelling, and no text spells two numbers. The numbers have no upper bound.
+/// Each number from 1 on has exactly one spelling, and no text spells two numbers. The numbers have
+/// no upper bound.
 pub fn one_spelling()
     ensures some { (number : ℕ) → 1 ≤ number → (text : List ℕ) × IsSpelling text number }
     ensures only { (a b : List ℕ) (number : ℕ) → IsSpelling a number → IsSpelling b number → a ≡ b }
     ensures number { (text : List ℕ) (m n : ℕ) → IsSpelling text m → IsSpelling text n → m ≡ n }
 {}
 
-/// Codes whose numbers are at least 1 have exactly one text that spells them, and the letters of a text say at most one
-/// list of codes.
+/// Codes whose numbers are at least 1 have exactly one text that spells them, and the letters of a
+/// text say at most one list of codes.
 pub fn one_text()
-    ensures some { (codes : List Code) → All HasSpelling codes → (text : List ℕ) × Spells text codes }
-    ensures only { (a b : List ℕ) (codes : List Code) → Spells a codes → Spells b codes → a ≡ b }
+    ensures some { (codes : List Code) →
+        All HasSpelling codes → (text : List ℕ) × SpellsCodes text codes }
+    ensures only { (a b : List ℕ) (codes : List Code) →
+        SpellsCodes a codes → SpellsCodes b codes → a ≡ b }
     ensures codes { (text : List ℕ) (a b : List Code) → Letters text a → Letters text b → a ≡ b }
 {}
 
-/// Labels have exactly one layout, and so do labels with letters: where no line can take a token more, the lines can be
-/// cut in one way only.
+/// Labels have exactly one layout, and so do labels with letters: where no line can take a token
+/// more, the lines can be cut in one way only.
 pub fn one_layout()
     ensures some { (labels : List (List ℕ)) → (text : List ℕ) × LaidOut labels text }
     ensures some_compressed { (labels : List (List ℕ)) (letters : List ℕ) →
         (text : List ℕ) × CompressedLaidOut labels letters text }
-    ensures normal { (labels : List (List ℕ)) (a b : List ℕ) → LaidOut labels a → LaidOut labels b → a ≡ b }
+    ensures normal { (labels : List (List ℕ)) (a b : List ℕ) →
+        LaidOut labels a → LaidOut labels b → a ≡ b }
     ensures compressed { (labels : List (List ℕ)) (letters a b : List ℕ) →
         CompressedLaidOut labels letters a → CompressedLaidOut labels letters b → a ≡ b }
 {}
 
-/// How long a layout is at most: labels, each with a byte behind it, and a sixth of that and six bytes more; for a
-/// compressed proof also the parentheses, and for each 73 letters or less seven bytes besides the letters.
+/// How long a layout is at most: labels, each with a byte behind it, and a sixth of that and six
+/// bytes more; for a compressed proof also the parentheses, and for each 73 letters or less seven
+/// bytes besides the letters.
 pub fn layout_size()
-    ensures normal { (labels : List (List ℕ)) (text : List ℕ) → LaidOut labels text → length text ≤ lines_bound (size_of labels) }
-    ensures compressed { (labels : List (List ℕ)) (letters text : List ℕ) → CompressedLaidOut labels letters text →
+    ensures normal { (labels : List (List ℕ)) (text : List ℕ) →
+        LaidOut labels text → length text ≤ lines_bound (size_of labels) }
+    ensures compressed { (labels : List (List ℕ)) (letters text : List ℕ) →
+        CompressedLaidOut labels letters text →
         length text ≤ lines_bound (size_of labels + 4) + letters_bound (length letters) }
 {}
 
-/// What is laid out is found again: where labels are words, not empty and with no white space in them, the words of a
-/// normal layout are the labels, and those of a compressed one are `(`, the labels, `)` and then pieces of the letters
-/// that, joined, are the letters.
+/// What is laid out is found again: where each label is one token, not empty and with no white
+/// space in it, the tokens of a normal layout are the labels, and those of a compressed one are
+/// `(`, the labels, `)` and then pieces of the letters that, joined, are the letters.
 pub fn layout_reads_back()
     ensures normal { (labels : List (List ℕ)) (text : List ℕ) →
-        AllByRecursion IsWord labels → LaidOut labels text → words text ≡ labels }
+        AllByRecursion IsOneToken labels → LaidOut labels text → tokens_in text ≡ labels }
     ensures compressed { (labels : List (List ℕ)) (letters text : List ℕ) →
-        AllByRecursion IsWord labels → LacksWhiteSpace letters → CompressedLaidOut labels letters text →
-        (pieces : List (List ℕ)) × (words text ≡ in_parentheses labels ++ pieces) × (flat_map (λ piece. piece) pieces ≡ letters) }
+        AllByRecursion IsOneToken labels → LacksWhiteSpace letters →
+        CompressedLaidOut labels letters text → (pieces : List (List ℕ))
+        × (tokens_in text ≡ in_parentheses labels ++ pieces)
+        × (flat_map (λ piece. piece) pieces ≡ letters) }
 {}

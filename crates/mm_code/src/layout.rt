@@ -1,7 +1,9 @@
 //! The lines in which proofs are printed and saved.
 
-ghost use Rattle.std.specs.Prelude.{◌≡◌, ℕ, List, [], ◌∷◌, ◌++◌, ◌+◌, ◌-◌, min, vec_capacity, length, IfOk, OnOk, IsOkUnless};
-ghost use Rattle.mm_code.specs.Layout.{indent, LaidOut, LettersLaidOut, CompressedLaidOut, texts, size_of, lines_bound, letters_bound};
+ghost use Rattle.std.specs.Prelude.{◌≡◌, ℕ, List, [], ◌∷◌, ◌++◌, ◌+◌, ◌-◌, min, vec_capacity};
+ghost use Rattle.std.specs.Prelude.{length, IfOk, OnOk, IsOkUnless};
+ghost use Rattle.mm_code.specs.Layout.{indent, line_feed, LaidOut, LettersLaidOut};
+ghost use Rattle.mm_code.specs.Layout.{CompressedLaidOut, texts, size_of, lines_bound, letters_bound};
 ghost use Rattle.mm_code.specs.Lines.{rest_of, room_after, AppendsLetters};
 
 use crate::code::CodeFault;
@@ -16,7 +18,8 @@ const LINE_ROOM: usize = 73;
 /// How many letters a whole line of letters has.
 const LINE_LETTERS: usize = 73;
 
-/// Begins a line with its first token, whatever its length, and answers the room that is left on it.
+/// Begins a line with its first token, whatever its length, and answers the room that is left on
+/// it.
 fn begin_line(text: &mut Vec<u8>, token: &[u8]) -> Result<usize, CodeFault>
     ensures text { OnOk result (text.new.items ≡ text.old.items ++ (indent ++ token.now)) }
     ensures room { IfOk result (λ room. room ≡ room_after (length token.now)) }
@@ -27,8 +30,8 @@ fn begin_line(text: &mut Vec<u8>, token: &[u8]) -> Result<usize, CodeFault>
     Ok(LINE_ROOM.saturating_sub(token.len()))
 }
 
-/// Adds a token where a line has this room, a space and the token: on that line if it fits, or else on the next.
-/// Answers the room that is then left.
+/// Adds a token where a line has this room, a space and the token: on that line if it fits, or else
+/// on the next. Answers the room that is then left.
 fn add_token(text: &mut Vec<u8>, room: usize, token: &[u8]) -> Result<usize, CodeFault>
     ensures added { IfOk result (λ left. (more : List (List ℕ)) →
         text.new.items ++ rest_of left more ≡ text.old.items ++ rest_of room (token.now ∷ more)) }
@@ -46,7 +49,8 @@ fn add_token(text: &mut Vec<u8>, room: usize, token: &[u8]) -> Result<usize, Cod
 /// Adds tokens, one after the other.
 fn add_tokens(text: &mut Vec<u8>, room: usize, tokens: &[&[u8]]) -> Result<usize, CodeFault>
     ensures added { IfOk result (λ left. (more : List (List ℕ)) →
-        text.new.items ++ rest_of left more ≡ text.old.items ++ rest_of room (texts tokens.now ++ more)) }
+        text.new.items ++ rest_of left more
+        ≡ text.old.items ++ rest_of room (texts tokens.now ++ more)) }
     ensures memory { IsOkUnless result CodeFault.Memory }
 {
     let mut left = room;
@@ -67,8 +71,9 @@ fn size_of_tokens(tokens: &[&[u8]]) -> usize
     size
 }
 
-/// At least the bytes of the lines of tokens of this size, as the law `layout_size` says: two lines in a row have at
-/// least 75 bytes of tokens, so all indents but one take at most a sixth of the size.
+/// At least the bytes of the lines of tokens of this size, as the law `layout_size` says: two lines
+/// in a row have at least 75 bytes of tokens, so all indents but one take at most a sixth of the
+/// size.
 fn size_of_lines(size: usize) -> usize
     ensures { result ≡ min (lines_bound size) usize.MAX }
 {
@@ -85,7 +90,8 @@ fn size_of_letters(letters: &[u8]) -> usize
 
 /// Adds one line of letters.
 fn add_letter_line(text: &mut Vec<u8>, line: &[u8]) -> Result<(), CodeFault>
-    ensures added { OnOk result (text.new.items ≡ text.old.items ++ ((indent ++ line.now) ++ 10 ∷ [])) }
+    ensures added { OnOk result
+        (text.new.items ≡ text.old.items ++ ((indent ++ line.now) ++ line_feed ∷ [])) }
     ensures memory { IsOkUnless result CodeFault.Memory }
 {
     text.extend_from_slice(INDENT)?;
@@ -133,10 +139,12 @@ fn room_for_compressed(
     Ok(Vec::with_capacity(alloc, list.saturating_add(size_of_letters(letters)))?)
 }
 
-/// The lines of a normal proof: its labels in their order, greedily. A line begins with six spaces and has at most 79
-/// bytes before its 0x0A, unless its one label is longer. No labels are no line.
+/// The lines of a normal proof: its labels in their order, greedily. A line begins with six spaces
+/// and has at most 79 bytes before its 0x0A, unless its one label is longer. No labels are no line.
 ///
-/// Errors: `Memory` where the one allocation was refused.
+/// # Errors
+///
+/// `Memory` where the one growth was refused.
 pub fn lay_out_normal(alloc: Global, labels: &[&[u8]]) -> Result<Vec<u8>, CodeFault>
     ensures laid_out { IfOk result (λ text. LaidOut (texts labels.now) text.items) }
     ensures memory { IsOkUnless result CodeFault.Memory }
@@ -151,16 +159,20 @@ pub fn lay_out_normal(alloc: Global, labels: &[&[u8]]) -> Result<Vec<u8>, CodeFa
     Ok(text)
 }
 
-/// The lines of a compressed proof (the Metamath book, appendix B): `(`, the labels and `)` in lines like those of a
-/// normal proof, and then the letters on lines of their own, each six spaces and 73 letters, the last of 1 to 73.
+/// The lines of a compressed proof (the Metamath book, appendix B): `(`, the labels and `)` in
+/// lines like those of a normal proof, and then the letters on lines of their own, each six spaces
+/// and 73 letters, the last of 1 to 73.
 ///
-/// Errors: `Memory` where the one allocation was refused.
+/// # Errors
+///
+/// `Memory` where the one growth was refused.
 pub fn lay_out_compressed(
     alloc: Global,
     labels: &[&[u8]],
     letters: &[u8],
 ) -> Result<Vec<u8>, CodeFault>
-    ensures laid_out { IfOk result (λ text. CompressedLaidOut (texts labels.now) letters.now text.items) }
+    ensures laid_out { IfOk result (λ text.
+        CompressedLaidOut (texts labels.now) letters.now text.items) }
     ensures memory { IsOkUnless result CodeFault.Memory }
 {
     let mut text = room_for_compressed(alloc, labels, letters)?;

@@ -1,38 +1,43 @@
 //! The letters of compressed proofs, read and written.
 
 ghost use Rattle.std.specs.Prelude.{◌≡◌, ℕ, List, [], Result};
-ghost use Rattle.std.specs.Prelude.{◌+◌, ◌*◌, min, ◌∷◌, ◌++◌, ◌≤◌, All, IfOk, OnOk, IsErrOf, IsOkUnless};
+ghost use Rattle.std.specs.Prelude.{◌+◌, ◌*◌, min, ◌∷◌, ◌++◌, ◌≤◌, All, IfOk, OnOk, IsErrOf};
+ghost use Rattle.std.specs.Prelude.{IsOkUnless};
 ghost use Rattle.std.specs.List.{flat_map, list_all};
 ghost use Rattle.std.specs.Char.{is_ascii_uppercase};
-ghost use Rattle.mm_code.specs.Letters.{largest, Spells, Letters, held, HasSpelling, IsExact, Answers, Breaks, joined_tokens};
+ghost use Rattle.mm_code.specs.Letters.{largest, SpellsCodes, Letters, code_for, HasSpelling};
+ghost use Rattle.mm_code.specs.Letters.{IsExact, Answers, LettersBreak, joined_tokens};
 ghost use Rattle.mm_code.specs.Writing.{AppendsLeading, AppendsCode};
-ghost use Rattle.mm_code.specs.Reading.{with_front, reading, rule_behind, FaultOf, GoesOn};
+ghost use Rattle.mm_code.specs.Reading.{with_front, reading, rule_behind, FaultOf, ReadsOn};
 
 use crate::code::{Code, CodeFault, CodeRule};
 use std::alloc::Global;
 
-/// The leading value with one more leading digit, up to the largest `u32`: once a value is above it, it stays so.
-fn further(value: u32, digit: u8) -> u32
+/// The leading value with one more leading digit, up to the largest `u32`: once a value is above
+/// it, it stays so.
+fn leading_after(value: u32, digit: u8) -> u32
     ensures { result ≡ min (5 * value + digit) largest }
 {
     value.saturating_mul(5).saturating_add(u32::from(digit))
 }
 
 /// The number that a last digit ends, up to the largest `u32`.
-fn ended(value: u32, digit: u8) -> u32
+fn number_after(value: u32, digit: u8) -> u32
     ensures { result ≡ min (20 * value + digit) largest }
 {
     value.saturating_mul(20).saturating_add(u32::from(digit))
 }
 
-/// Takes one letter behind leading digits of this value (0 for none), and answers their value behind the letter.
+/// Takes one letter behind leading digits of this value (0 for none), and answers their value
+/// behind the letter.
 #[tactic(auto, using(crate::proofs::Steps::reading_steps))]
 fn read_letter(codes: &mut Vec<Code>, value: u32, byte: u8) -> Result<u32, CodeFault>
-    ensures { (rest : List ℕ) → GoesOn codes.new.items result rest (with_front codes.old.items (reading value (byte ∷ rest))) }
+    ensures { (rest : List ℕ) → ReadsOn codes.new.items result rest
+        (with_front codes.old.items (reading value (byte ∷ rest))) }
 {
     match byte {
-        b'A'..=b'T' => codes.push(Code::Number(ended(value, byte - b'A' + 1)))?,
-        b'U'..=b'Y' => return Ok(further(value, byte - b'U' + 1)),
+        b'A'..=b'T' => codes.push(Code::Number(number_after(value, byte - b'A' + 1)))?,
+        b'U'..=b'Y' => return Ok(leading_after(value, byte - b'U' + 1)),
         b'Z' if value == 0 => codes.push(Code::Tag)?,
         b'Z' => return Err(CodeFault::Rule(CodeRule::P5)),
         _ => return Err(CodeFault::Rule(CodeRule::P4)),
@@ -47,7 +52,8 @@ fn are_letters(bytes: &[u8]) -> bool
     bytes.iter().all(|byte| byte.is_ascii_uppercase())
 }
 
-/// The rule that is broken by a number that is cut before these bytes: a byte that is no letter comes first.
+/// The rule that is broken by a number that is cut before these bytes: a byte that is no letter
+/// comes first.
 #[tactic(auto, unfolding(crate::specs::Reading::rule_behind))]
 fn rule_behind_cut(bytes: &[u8]) -> CodeRule
     ensures { result ≡ rule_behind bytes.now }
@@ -72,9 +78,11 @@ fn fault_with(fault: CodeFault, bytes: &[u8]) -> CodeFault
     }
 }
 
-/// Takes a token's letters behind leading digits of this value, and answers their value behind the token.
+/// Takes a token's letters behind leading digits of this value, and answers their value behind the
+/// token.
 fn read_token(codes: &mut Vec<Code>, leading: u32, token: &[u8]) -> Result<u32, CodeFault>
-    ensures { (rest : List ℕ) → GoesOn codes.new.items result rest (with_front codes.old.items (reading leading (token.now ++ rest))) }
+    ensures { (rest : List ℕ) → ReadsOn codes.new.items result rest
+        (with_front codes.old.items (reading leading (token.now ++ rest))) }
 {
     let mut value = leading;
     for (at, byte) in token.iter().enumerate() {
@@ -116,24 +124,30 @@ fn read_tokens(alloc: Global, tokens: &[&[u8]]) -> Result<Vec<Code>, CodeFault>
     Ok(codes)
 }
 
-/// The codes that the letters of a compressed proof say (the Metamath book, appendix B). White space may cut the
-/// letters anywhere, inside a number too: the tokens are read as if they were joined.
+/// The codes that the letters of a compressed proof say (the Metamath book, appendix B). White
+/// space may cut the letters anywhere, inside a number too: the tokens are read as if they were
+/// joined.
 ///
-/// `A` to `T` are the last digits 1 to 20 of a number, `U` to `Y` its leading digits 1 to 5, and `Z` is a tag. A number
-/// is 20 times the base-5 value of its leading digits, plus its last digit. A spelled number above 4,294,967,295 is read
-/// as 4,294,967,295.
+/// `A` to `T` are the last digits 1 to 20 of a number, `U` to `Y` its leading digits 1 to 5, and
+/// `Z` is a tag. A number is 20 times the base-5 value of its leading digits, plus its last digit.
+/// A spelled number above 4,294,967,295 is read as 4,294,967,295.
 ///
-/// Errors: `Rule(P4)` where a byte is no letter `A` to `Z`; or else `Rule(P5)` where leading digits are followed by `Z`
-/// or by the end; `Memory` where an allocation was refused.
+/// # Errors
+///
+/// `Rule(P4)` where a byte is no letter `A` to `Z`; or else `Rule(P5)` where leading digits are
+/// followed by `Z` or by the end; `Memory` where a growth was refused.
 pub fn read_codes(alloc: Global, tokens: &[&[u8]]) -> Result<Vec<Code>, CodeFault>
     // What is read is what the letters say.
     ensures read { IfOk result (λ codes. Letters (joined_tokens tokens.now) codes.items) }
     // What the letters say is read.
-    ensures whole { (codes : List Code) → Letters (joined_tokens tokens.now) codes → Answers result (Ok codes) }
+    ensures whole { (codes : List Code) →
+        Letters (joined_tokens tokens.now) codes → Answers result (Ok codes) }
 
     // A rule is answered only where the letters break it, and where they break it.
-    ensures rule { (rule : CodeRule) → IsErrOf result (CodeFault.Rule rule) → Breaks rule (joined_tokens tokens.now) }
-    ensures broken { (rule : CodeRule) → Breaks rule (joined_tokens tokens.now) → Answers result (Err rule) }
+    ensures rule { (rule : CodeRule) →
+        IsErrOf result (CodeFault.Rule rule) → LettersBreak rule (joined_tokens tokens.now) }
+    ensures broken { (rule : CodeRule) →
+        LettersBreak rule (joined_tokens tokens.now) → Answers result (Err rule) }
 {
     read_tokens(alloc, tokens)
 }
@@ -165,7 +179,7 @@ fn push_number(text: &mut Vec<u8>, number: u32) -> Result<(), CodeFault>
 fn push_code(text: &mut Vec<u8>, code: Code) -> Result<(), CodeFault>
     requires { HasSpelling code }
     ensures appends { OnOk result (AppendsCode text.old.items text.new.items code) }
-    ensures is_held { held code ≡ code }
+    ensures same { code_for code ≡ code }
     ensures memory { IsOkUnless result CodeFault.Memory }
 {
     match code {
@@ -177,16 +191,20 @@ fn push_code(text: &mut Vec<u8>, code: Code) -> Result<(), CodeFault>
     }
 }
 
-/// The letters of codes: the one spelling of each number, and `Z` for each tag, joined (the Metamath book, appendix B).
+/// The letters of codes: the one spelling of each number, and `Z` for each tag, joined (the
+/// Metamath book, appendix B).
 ///
-/// Each number is at least 1. Reading the letters gives the codes back; below 4,294,967,295 no other letters do.
+/// Each number is at least 1. Reading the letters gives the codes back; below 4,294,967,295 no
+/// other letters do.
 ///
-/// Errors: `Memory` where an allocation was refused.
+/// # Errors
+///
+/// `Memory` where a growth was refused.
 pub fn write_codes(alloc: Global, codes: &[Code]) -> Result<Vec<u8>, CodeFault>
     requires { All HasSpelling codes.now }
 
     // The text is the spellings, and so reading it gives the codes.
-    ensures spelled { IfOk result (λ text. Spells text.items codes.now) }
+    ensures spelled { IfOk result (λ text. SpellsCodes text.items codes.now) }
     ensures letters { IfOk result (λ text. Letters text.items codes.now) }
     // No other text has these codes, where no number may stand for a larger one.
     ensures only { IfOk result (λ text.

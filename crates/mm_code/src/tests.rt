@@ -1,4 +1,4 @@
-//! Values of the letter code and lines of the layouts, by the rules of the Metamath book's appendix B.
+//! Values of the letter code and lines of the layouts, by appendix B of the Metamath book.
 
 ghost use Rattle.std.specs.Prelude.{◌≤◌};
 
@@ -110,8 +110,9 @@ fn broken_rules(rt: HostRuntime) {
 #[test]
 fn normal_lines(rt: HostRuntime) -> Result<(), Fail> {
     let text = lay_out_normal(rt.alloc(), &[b"tt".as_slice(); 25])?;
-    let wanted =
-        b"      tt tt tt tt tt tt tt tt tt tt tt tt tt tt tt tt tt tt tt tt tt tt tt tt\n      tt\n";
+    let wanted = b"\
+      \x20     tt tt tt tt tt tt tt tt tt tt tt tt tt tt tt tt tt tt tt tt tt tt tt tt\n\
+      \x20     tt\n";
     assert_eq!(rt; text.as_slice(), wanted.as_slice());
     assert!(rt; lay_out_normal(rt.alloc(), &[])?.is_empty());
     Ok(())
@@ -148,8 +149,9 @@ fn compressed_lines(rt: HostRuntime) -> Result<(), Fail> {
     assert_eq!(rt; none.as_slice(), b"      ( )\n".as_slice());
     let letters = [b'A'; 74];
     let one = lay_out_compressed(rt.alloc(), &[], &letters[..73])?;
-    let wanted =
-        b"      ( )\n      AAAAAAAAAAAAAAAAAAAAAAAAAAAAAAAAAAAAAAAAAAAAAAAAAAAAAAAAAAAAAAAAAAAAAAAAA\n";
+    let wanted = b"\
+      \x20     ( )\n\
+      \x20     AAAAAAAAAAAAAAAAAAAAAAAAAAAAAAAAAAAAAAAAAAAAAAAAAAAAAAAAAAAAAAAAAAAAAAAAA\n";
     assert_eq!(rt; one.as_slice(), wanted.as_slice());
     let two = lay_out_compressed(rt.alloc(), &[], &letters)?;
     assert_eq!(rt; two.len(), wanted.len() + 8);

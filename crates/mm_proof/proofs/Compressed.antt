@@ -7,7 +7,7 @@ use Rattle.std.proofs.lemmas.List.Elements.{Contains-append_right, All-from_recu
 use Rattle.mm_code.specs.declared.code.Code.{Code}
 use Rattle.mm_code.specs.declared.code.Code.TheVariants.{Number, Tag}
 use Rattle.mm_code.specs.Letters as letter
-use Rattle.mm_code.specs.Letters.{Letters, Breaks, HasSpelling}
+use Rattle.mm_code.specs.Letters.{Letters, LettersBreak as Breaks, HasSpelling}
 use Rattle.mm_code.specs.declared.code.CodeRule.{CodeRule}
 use Rattle.mm_code.specs.declared.code.CodeRule.TheVariants as code
 use Rattle.mm_code.specs.declared.code.CodeFault.{CodeFault}
@@ -43,7 +43,7 @@ codes_more ids codes i d moves m less all here =
     rw (take_more codes i d less, map-append move_in moves (m ∷ [])) (zip_push (NumberSays ids) (take i codes) (moves_in moves) (get_or codes i d) (move_in m) all here)
 
 -- each code that letters say is a number from 1 on, or a tag
-spelled_said : (pieces : List (List ℕ)) (spelled : List Code) → AllZip letter.Says pieces spelled → AllByRecursion HasSpelling (map letter.held spelled)
+spelled_said : (pieces : List (List ℕ)) (spelled : List Code) → AllZip letter.SaysCode pieces spelled → AllByRecursion HasSpelling (map letter.code_for spelled)
 spelled_said [] [] all = tt
 spelled_said [] (c ∷ spelled) all = absurd all
 spelled_said (p ∷ pieces) [] all = absurd all
@@ -57,7 +57,7 @@ spelled_said (p ∷ pieces) (Number n ∷ spelled) all =
 
 pub letters_spelled : (text : List ℕ) (codes : List Code) → Letters text codes → All HasSpelling codes
 letters_spelled text codes l =
-    subst (λ cs. All HasSpelling cs) (sym l.are_held) (All-from_recursion HasSpelling (map letter.held l.spelled) (spelled_said l.spells.pieces l.spelled l.spells.each))
+    subst (λ cs. All HasSpelling cs) (sym l.are_codes) (All-from_recursion HasSpelling (map letter.code_for l.spelled) (spelled_said l.spells.pieces l.spelled l.spells.each))
 
 -- ---- the one list of a compressed proof
 

@@ -5,7 +5,7 @@ use Rattle.mm_code.specs.declared.code.Code.{Code}
 use Rattle.mm_code.specs.declared.code.Code.TheVariants.{Number, Tag}
 use Rattle.mm_code.specs.declared.code.CodeRule.{CodeRule}
 use Rattle.mm_code.specs.declared.code.CodeRule.TheVariants.{P4, P5}
-use Rattle.mm_code.specs.Letters.{Letters, Says, Breaks, HasSpelling, held}
+use Rattle.mm_code.specs.Letters.{Letters, SaysCode, LettersBreak as Breaks, HasSpelling, code_for}
 use Rattle.mm_code.specs.Reading.{reading}
 use Rattle.mm_code.proofs.Found.{is_read}
 use Rattle.mm_code.proofs.Again.{is_read_again}
@@ -58,15 +58,15 @@ breaks_dec rule text = go (coded_or_broken text)
 
 -- ---- a number that letters say is at least 1
 
-held_from_one : (code : Code) (piece : List ℕ) → Says piece code → HasSpelling (held code)
+held_from_one : (code : Code) (piece : List ℕ) → SaysCode piece code → HasSpelling (code_for code)
 held_from_one (Number number) piece says = omega (arith, says.value, says.is_last.0)
 held_from_one Tag piece says = tt
 
-all_from_one : (pieces : List (List ℕ)) (codes : List Code) → AllZip Says pieces codes → AllByRecursion HasSpelling (map held codes)
+all_from_one : (pieces : List (List ℕ)) (codes : List Code) → AllZip SaysCode pieces codes → AllByRecursion HasSpelling (map code_for codes)
 all_from_one [] [] each = tt
 all_from_one [] (code ∷ codes) each = absurd each
 all_from_one (piece ∷ pieces) [] each = absurd each
 all_from_one (piece ∷ pieces) (code ∷ codes) each = (held_from_one code piece each.0, all_from_one pieces codes each.1)
 
 pub from_one : (text : List ℕ) (codes : List Code) → Letters text codes → AllByRecursion HasSpelling codes
-from_one text codes letters = subst (AllByRecursion HasSpelling) (sym letters.are_held) (all_from_one letters.spells.pieces letters.spelled letters.spells.each)
+from_one text codes letters = subst (AllByRecursion HasSpelling) (sym letters.are_codes) (all_from_one letters.spells.pieces letters.spelled letters.spells.each)

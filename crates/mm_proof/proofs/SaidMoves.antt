@@ -9,7 +9,7 @@ use Rattle.mm_code.specs.declared.code.Code.{Code}
 use Rattle.mm_code.specs.declared.code.Code.TheVariants.{Number, Tag}
 use Rattle.mm_code.specs.declared.code.CodeRule.{CodeRule}
 use Rattle.mm_code.specs.declared.code.CodeRule.TheVariants as code
-use Rattle.mm_code.specs.Letters.{Letters, Breaks, HasSpelling}
+use Rattle.mm_code.specs.Letters.{Letters, LettersBreak as Breaks, HasSpelling}
 use Rattle.mm_code.proofs.Unique.{one_reading_only}
 use Rattle.mm_frame.specs.Sentence.{Sentence, SomeSentence, IsHypothesis, IsAssertion, IsLabelled}
 use Rattle.mm_frame.specs.Active.{IsActive}

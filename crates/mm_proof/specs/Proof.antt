@@ -5,7 +5,7 @@ use Rattle.std.specs.Prelude.{slice_get, Contains, Option, Some, ◌⊎◌}
 use Rattle.std.specs.List.{AllZip}
 use Rattle.mm_text.specs.declared.statement.Kind.TheVariants.{Floating, Essential}
 use Rattle.mm_code.specs.declared.code.CodeRule.TheVariants as code
-use Rattle.mm_code.specs.Letters.{Breaks}
+use Rattle.mm_code.specs.Letters.{LettersBreak}
 use Rattle.mm_frame.specs.Sentence.{Sentence, SomeSentence, IsHypothesis, IsLabelled, Types}
 use Rattle.mm_frame.specs.Active.{IsActive, SomeActive}
 use Rattle.mm_frame.specs.Frame.{IsMandatory, IsMandatoryPair}
@@ -38,8 +38,8 @@ BreaksWhole P3 before tokens =
     × (label : List ℕ) × Contains labels label
     × (place : ℕ) × (h : Sentence) × (slice_get before place ≡ Some h) × IsLabelled label h
     × IsHypothesis h.kind × ¬ (IsActive before place)
-BreaksWhole P4 before tokens = (text : List ℕ) × AreLetters tokens text × Breaks code.P4 text
-BreaksWhole P5 before tokens = (text : List ℕ) × AreLetters tokens text × Breaks code.P5 text
+BreaksWhole P4 before tokens = (text : List ℕ) × AreLetters tokens text × LettersBreak code.P4 text
+BreaksWhole P5 before tokens = (text : List ℕ) × AreLetters tokens text × LettersBreak code.P5 text
 BreaksWhole rule before tokens = ⊥
 
 -- the place of a rule among those that are judged together

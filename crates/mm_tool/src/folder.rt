@@ -69,6 +69,10 @@ pub(crate) trait Arguments {
     ghost may_fail: { Self → Type 0 };
 
     /// The words, the program's name first.
+    ///
+    /// # Errors
+    ///
+    /// `NotText` only where the words may fail; `Memory` where a growth was refused.
     fn words(&self, alloc: Global) -> Result<Vec<String>, ArgumentFault>
         ensures all { IfOk result (λ list. IfSome (words self.now)
             (λ all. map string_bytes list.items ≡ all)) }

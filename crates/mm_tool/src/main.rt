@@ -14,6 +14,7 @@ use mm_text::Counted;
 use std::process::ExitCode;
 use texts::TEXTS;
 
+/// Serves the words that the program was started with, on its host's files and devices.
 fn main(rt: HostRuntime) -> ExitCode {
     let mut out = Counted::new(rt.stdout());
     let mut err = Counted::new(rt.stderr());

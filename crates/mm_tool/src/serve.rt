@@ -67,6 +67,12 @@ fn plain_files<'f>(alloc: Global, files: &'f [ReadFile<'_>]) -> Result<Vec<File<
 
 /// Checks the database in the files with these names, which may hold at most `max` bytes in all,
 /// and writes the reply.
+///
+/// # Errors
+///
+/// `CannotRead` where a file can't be opened or read; `CannotWrite` where standard output failed,
+/// after a beginning of the reply; `Memory` where a growth was refused, and then nothing is
+/// written.
 pub(crate) fn check<'a, F: Folder, O: Write>(
     alloc: Global,
     folder: &F,

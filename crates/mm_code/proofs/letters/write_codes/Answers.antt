@@ -1,15 +1,15 @@
 use Rattle.std.proofs.Common.{arith}
-use Rattle.mm_code.proofs.Written.{code-written, held-more, all_spelled, all_letters, only_text}
+use Rattle.mm_code.proofs.Written.{code-written, code_for-more, all_spelled, all_letters, only_text}
 use Rattle.mm_code.proofs.letters.write_codes.Goals as goal
 
 pub loop-code-preserved : goal.loop-code-preserved
 loop-code-preserved c = record {
   spelled = code-written c.loop-code.text.items c.push_code.new.text.items c.args.codes.now c.loop-code.code-index _ (omega arith) c.loop-code.invariant.spelled c.in_ok-push_code.ensures.appends;
-  are_held = held-more c.args.codes.now c.loop-code.code-index _ (omega arith) c.loop-code.invariant.are_held c.push_code.ensures.is_held;
+  are_codes = code_for-more c.args.codes.now c.loop-code.code-index _ (omega arith) c.loop-code.invariant.are_codes c.push_code.ensures.same;
 }
 
 pub returns-clause-letters : goal.returns-clause-letters
-returns-clause-letters c = all_letters c.loop-code.text.items c.args.codes.now c.loop-code.code-index (omega arith) c.loop-code.invariant.spelled c.loop-code.invariant.are_held
+returns-clause-letters c = all_letters c.loop-code.text.items c.args.codes.now c.loop-code.code-index (omega arith) c.loop-code.invariant.spelled c.loop-code.invariant.are_codes
 
 pub returns-clause-only : goal.returns-clause-only
 returns-clause-only c = only_text c.loop-code.text.items c.args.codes.now (all_spelled c.loop-code.text.items c.args.codes.now c.loop-code.code-index (omega arith) c.loop-code.invariant.spelled)

@@ -3,7 +3,7 @@ use Rattle.std.specs.List.{AllZip}
 use Rattle.std.proofs.lemmas.Result.{err_from_is_err_and, IfOk-weaker}
 use Rattle.std.proofs.lemmas.List.{map-append}
 use Rattle.mm_code.specs.declared.code.Code.{Code}
-use Rattle.mm_code.specs.Letters.{HasSpelling, Letters, Breaks}
+use Rattle.mm_code.specs.Letters.{HasSpelling, Letters, LettersBreak as Breaks}
 use Rattle.mm_code.specs.declared.code.CodeRule.TheVariants as code
 use Rattle.mm_frame.specs.Sentence.{Sentence}
 use Rattle.mm_frame.specs.FramePlace.{AreHypotheses}
