@@ -17,7 +17,7 @@ use crate::place::line_of;
 use crate::progress::Progress;
 use crate::rule::Rule;
 use mm_frame::{Book, LabelId, RuleFault, Taken};
-use mm_proof::{Flat, Parsed, ProofFault, Steps, Used, verify};
+use mm_proof::{Parsed, ProofFault, Prover, Steps, Used};
 use mm_text::{File, Kind, Statement};
 use std::alloc::{AllocError, Global};
 
@@ -68,6 +68,7 @@ fn proof_of<'a>(alloc: Global, statement: &Statement<'a>) -> Result<Vec<&'a [u8]
 /// incomplete.
 fn judge_proof<'a>(
     alloc: Global,
+    prover: &mut Prover,
     book: &Book<'a>,
     id: LabelId,
     statement: &Statement<'a>,
@@ -81,7 +82,7 @@ fn judge_proof<'a>(
     match Steps::parse(alloc, book, id, &tokens)? {
         Parsed::Incomplete => Ok(None),
         Parsed::Steps(steps) => {
-            let used = verify(alloc, Flat::new(alloc), book, id, &steps)?;
+            let used = prover.prove(book, id, &steps)?;
             Ok(Some(used))
         }
     }
@@ -92,6 +93,7 @@ fn judge_proof<'a>(
 fn prove<'a>(
     alloc: Global,
     files: &[File<'a>],
+    prover: &mut Prover,
     progress: &mut Progress<'a>,
     id: LabelId,
     statement: &Statement<'a>,
@@ -104,7 +106,7 @@ fn prove<'a>(
     ensures ok { OnOk result (CountsProof progress.old id.0 (plain_statement statement.now) progress.new) }
     ensures refused { IfErr result (RefusesProof (map plain_file files.now) progress.old (plain_statement statement.now)) }
 {
-    match judge_proof(alloc, &progress.book, id, statement) {
+    match judge_proof(alloc, prover, &progress.book, id, statement) {
         Ok(Some(used)) => {
             progress.kept.push(id, used.ids())?;
             progress.proofs += 1;
@@ -124,6 +126,7 @@ fn prove<'a>(
 pub(crate) fn judge<'a>(
     alloc: Global,
     files: &[File<'a>],
+    prover: &mut Prover,
     progress: &mut Progress<'a>,
     statement: &Statement<'a>,
 ) -> Result<(), CheckFault<'a>>
@@ -139,7 +142,7 @@ pub(crate) fn judge<'a>(
 {
     match progress.book.take(statement) {
         Ok(Taken::Assertion(id)) if statement.kind == Kind::Provable => {
-            prove(alloc, files, progress, id, statement)?
+            prove(alloc, files, prover, progress, id, statement)?
         }
         Ok(_) => {}
         Err(RuleFault::Rule(rule)) => {

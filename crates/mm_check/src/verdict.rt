@@ -17,6 +17,7 @@ use crate::place::line_of;
 use crate::progress::Progress;
 use crate::rule::Rule;
 use mm_frame::{Book, RuleFault};
+use mm_proof::Prover;
 use mm_text::{File, Statement, Statements, TextFault, TextRule, Token};
 use std::alloc::Global;
 
@@ -115,8 +116,9 @@ fn judge_rest<'a>(
     ensures refused { IfErr result (TellsVerdict (map plain_file files.now)) }
 {
     let mut statement = Statement::empty(alloc);
+    let mut prover = Prover::new(alloc);
     while next(files, statements, &mut statement)? {
-        judge(alloc, files, progress, &statement)?;
+        judge(alloc, files, &mut prover, progress, &statement)?;
     }
     Ok(())
 }

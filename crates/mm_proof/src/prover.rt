@@ -14,9 +14,10 @@ use crate::fault::{ProofFault, ProofRule};
 use crate::flat::Flat;
 use crate::moves::Steps;
 use crate::used::Used;
-use crate::verdict::judged;
+use crate::verdict::answer;
 use mm_frame::{Book, LabelId};
 use std::alloc::Global;
+use std::marker::Model;
 
 /// Proves one proof after the other in the same memory.
 ///
@@ -26,6 +27,13 @@ pub struct Prover {
     alloc: Global,
     store: Flat,
     scratch: Scratch,
+}
+
+// What it holds between two proofs is nothing that a caller can tell.
+impl Model for Prover {
+    ghost Value = { Unit {0} };
+
+    ghost view = { λ _. tt };
 }
 
 impl Prover {
@@ -77,17 +85,13 @@ impl Prover {
             → IsUnlessMemory result (Err (ProofFault.Rule rule step)) }
     {
         self.store.clear();
-        let moves = &steps.moves;
-        match judged(
+        answer(
             self.alloc,
             &mut self.store,
             &mut self.scratch,
             book,
             id,
-            moves,
-        ) {
-            Ok(labels) => Ok(Used { labels }),
-            Err(fault) => Err(fault),
-        }
+            steps,
+        )
     }
 }

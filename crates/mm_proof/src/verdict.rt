@@ -244,7 +244,7 @@ fn judged_frame<S: Store>(
 }
 
 // The assertions of the tree that the moves make, or their first fault.
-pub(crate) fn judged<S: Store>(
+fn judged<S: Store>(
     alloc: Global,
     store: &mut S,
     scratch: &mut Scratch,
@@ -263,6 +263,37 @@ pub(crate) fn judged<S: Store>(
 {
     let own = book.frame(id);
     judged_frame(alloc, store, scratch, book, &own, id, moves)
+}
+
+// The answer on the moves of a proof. The store is handed in empty.
+pub(crate) fn answer<S: Store>(
+    alloc: Global,
+    store: &mut S,
+    scratch: &mut Scratch,
+    book: &Book,
+    id: LabelId,
+    steps: &Steps,
+) -> Result<Used, ProofFault>
+    requires stack { S.stack store.old ≡ [] }
+    requires kept { S.kept store.old ≡ [] }
+    requires steps { AreSteps book.now.statements id.0 steps.now }
+    ensures proved { IfOk result (λ used. OfMoves book.now.statements id.0 steps.now
+        (λ place s names. ProvesWith book.now.statements place s names used)) }
+    ensures fault { (rule : ProofRule) → (step : ℕ) → result ≡ Err (ProofFault.Rule rule step)
+        → OfMoves book.now.statements id.0 steps.now (λ place s names.
+        IsMovesFault (IsWithin expression_limit) (take place book.now.statements) s names rule step) }
+    ensures accepts { OfMoves book.now.statements id.0 steps.now (λ place s names.
+        Prove (IsWithin expression_limit) (take place book.now.statements) s names
+        → IsOkUnless result ProofFault.Memory) }
+    ensures refuses { OfMoves book.now.statements id.0 steps.now (λ place s names.
+        (rule : ProofRule) → (step : ℕ)
+        → IsMovesFault (IsWithin expression_limit) (take place book.now.statements) s names rule step
+        → IsUnlessMemory result (Err (ProofFault.Rule rule step))) }
+{
+    match judged(alloc, store, scratch, book, id, &steps.moves) {
+        Ok(labels) => Ok(Used { labels }),
+        Err(fault) => Err(fault),
+    }
 }
 
 /// Whether the moves prove the `$p` with this number: the assertions of its tree, each once, in
@@ -300,8 +331,5 @@ pub fn verify<S: Store + Drop>(
         → IsUnlessMemory result (Err (ProofFault.Rule rule step)) }
 {
     let mut scratch = Scratch::new(alloc);
-    match judged(alloc, &mut store, &mut scratch, book, id, &steps.moves) {
-        Ok(labels) => Ok(Used { labels }),
-        Err(fault) => Err(fault),
-    }
+    answer(alloc, &mut store, &mut scratch, book, id, steps)
 }

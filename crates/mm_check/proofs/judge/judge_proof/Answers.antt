@@ -46,7 +46,7 @@ returns-in_err-used-in-Steps c =
     λ before e. of_fault before s c.from_residual-in_err-used-in-Steps.result c.in_err-used-in-Steps.field-0.0 c.from_residual-in_err-used-in-Steps.ensures.1
     (verifier_fault c.args.book.now.statements c.args.id.0 s tokens c.in-Steps.steps c.in_err-used-in-Steps.field-0.0 c.requires.formed c.requires.last same complete
     (λ place t n. c.parse.ensures.steps c.in-Steps.steps parsed place t n)
-    (λ rule step f place t moves n m. c.verify.ensures.fault rule step (c.in_err-used-in-Steps.was ∙ ap Err f) place t moves n m) before e)
+    (λ rule step f place t moves n m. c.prove.ensures.fault rule step (c.in_err-used-in-Steps.was ∙ ap Err f) place t moves n m) before e)
 
 pub returns : goal.returns
 returns c =

@@ -5,20 +5,24 @@ use Rattle.mm_proof.proofs.Ending.{same_moves}
 use Rattle.mm_proof.proofs.Answering.{on_rule_map}
 use Rattle.mm_proof.proofs.Meaning.{meant_front}
 use Rattle.mm_proof.proofs.Exact.{accepts, refuses}
-use Rattle.mm_proof.proofs.verdict.verify.Goals as goal
+use Rattle.mm_proof.proofs.verdict.answer.Goals as goal
 
 pub returns-in-Ok-clause-refuses : goal.returns-in-Ok-clause-refuses
 returns-in-Ok-clause-refuses g c place s moves proof numbered rule step fault =
     refuses (IsWithin expression_limit) (take place c.args.book.now.statements) s moves _ (meant_front c.args.book.now.statements place c.judged.ensures.sound.0)
     (λ x is. (c.in-Ok.ensures.proved place s moves proof (same_moves c.args.book.now.statements _ _ _ moves c.deref.ensures.value (sym c.steps.view_is) numbered)).0) tt rule step fault
 
-pub returns-clause-accepts : goal.returns-clause-accepts
-returns-clause-accepts g c place s moves proof numbered p =
+pub returns-in-Err-clause-accepts : goal.returns-in-Err-clause-accepts
+returns-in-Err-clause-accepts g c place s moves proof numbered p =
     let r : Result (List ℕ) ProofFault = Err c.in-Err.fault in
     accepts (IsWithin expression_limit) (take place c.args.book.now.statements) s moves r (meant_front c.args.book.now.statements place c.judged.ensures.sound.0)
     (on_rule_map c.in-Err.fault _ _ (λ rule step h. h place s moves proof (same_moves c.args.book.now.statements _ _ _ moves c.deref.ensures.value (sym c.steps.view_is) numbered)) c.in-Err.ensures.fault) p
 
-pub returns-clause-refuses : goal.returns-clause-refuses
-returns-clause-refuses g c place s moves proof numbered rule step fault =
+pub returns-in-Err-clause-refuses : goal.returns-in-Err-clause-refuses
+returns-in-Err-clause-refuses g c place s moves proof numbered rule step fault =
     refuses (IsWithin expression_limit) (take place c.args.book.now.statements) s moves (Err c.in-Err.fault) (meant_front c.args.book.now.statements place c.judged.ensures.sound.0)
     (λ x is. absurd cc) (on_rule_map c.in-Err.fault _ _ (λ r n h. h place s moves proof (same_moves c.args.book.now.statements _ _ _ moves c.deref.ensures.value (sym c.steps.view_is) numbered)) c.in-Err.ensures.fault) rule step fault
+
+pub returns-in-Ok-clause-proved : goal.returns-in-Ok-clause-proved
+returns-in-Ok-clause-proved g c place s moves proof numbered =
+    c.in-Ok.ensures.proved place s moves proof (same_moves c.args.book.now.statements _ _ _ moves c.deref.ensures.value (sym c.steps.view_is) numbered)
