@@ -15,6 +15,7 @@ pub mod SaidMoves
 pub mod Verdicts
 pub mod Judged
 pub mod Limits
+pub mod Marks
 pub mod Firsts
 pub mod Exact
 pub mod Grown

@@ -1,15 +1,16 @@
 -- Laws of verdicts on proofs, after statements that break no rule of meaning.
-use Rattle.std.specs.Prelude.{◌≡◌, ℕ, List, [], ◌∷◌, ◌⊎◌, ◌↔◌}
+use Rattle.std.specs.Prelude.{◌≡◌, ℕ, ◌+◌, ◌≤◌, List, [], ◌∷◌, ◌++◌, count_by, not, ◌⊎◌, ◌↔◌}
 use Rattle.mm_frame.specs.Sentence.{Sentence}
 use Rattle.mm_frame.specs.Rules.{AllMeant}
 use Rattle.mm_frame.specs.Form.{AllFormed}
 use Rattle.mm_proof.specs.declared.fault.ProofRule.{ProofRule}
-use Rattle.mm_proof.specs.declared.fault.ProofRule.TheVariants.{L1}
+use Rattle.mm_proof.specs.declared.fault.ProofRule.TheVariants.{P6, P7, L1}
 use Rattle.mm_proof.specs.Tree.{Trees, none, tree, spelling, Fit, DeriveAll, AnyExpression}
-use Rattle.mm_proof.specs.Moves.{Move}
+use Rattle.mm_proof.specs.Moves.{Move, again, mark, is_step, steps_in}
 use Rattle.mm_proof.specs.Tokens.{IsNormal}
 use Rattle.mm_proof.specs.Expansion.{IsWord}
 use Rattle.mm_proof.specs.Proof.{IsWithin, IsWhole, Prove, IsProvedWithin, IsProved, IsFault}
+use Rattle.mm_proof.specs.Proof.{Passed, IsMovesFault}
 
 -- Trees that fit are told by their spelling: no other trees that fit have it.
 abbrev pub OneFit : Type 0
@@ -94,3 +95,35 @@ BySpellingFor Fits =
 
 abbrev pub BySpelling : Type 0
 BySpelling = BySpellingFor AnyExpression × ((limit : ℕ) → BySpellingFor (IsWithin limit))
+
+-- P7 is the fault of moves exactly if they begin with a mark, whatever follows; and its step is 1.
+abbrev pub MarkBeforeAnyStep : Type 0
+MarkBeforeAnyStep =
+    (limit : ℕ) (before : List Sentence) (s : Sentence) (moves : List (Move (List ℕ))) (step : ℕ)
+    → IsMovesFault (IsWithin limit) before s moves P7 step
+    ↔ ((step ≡ 1) × (later : List (Move (List ℕ))) × (moves ≡ mark ∷ later))
+
+-- how many of the moves are marks
+abbrev pub marks_in : List (Move (List ℕ)) → ℕ
+marks_in moves = count_by (λ m. not (is_step m)) moves
+
+-- All moves before a tag passed, each step making an expression that fits, and the tag is over the
+-- marks among them.
+pub record IsOverMarks (Fits : List (List ℕ) → Type 0) (before : List Sentence)
+    (moves : List (Move (List ℕ))) (step : ℕ) : Type 0 where
+  pub earlier : List (Move (List ℕ))
+  pub tag : ℕ
+  pub later : List (Move (List ℕ))
+  pub parts : moves ≡ earlier ++ again tag ∷ later
+  pub number : step ≡ steps_in earlier + 1
+  pub stack : List (List (List ℕ))
+  pub kept : List (List (List ℕ))
+  pub passed : Passed Fits before earlier stack kept
+  pub over : marks_in earlier ≤ tag
+
+-- P6 is the fault of moves exactly if the first step that doesn't pass is a tag over the marks.
+abbrev pub TagOverMarks : Type 0
+TagOverMarks =
+    (limit : ℕ) (before : List Sentence) (s : Sentence) (moves : List (Move (List ℕ))) (step : ℕ)
+    → IsMovesFault (IsWithin limit) before s moves P6 step
+    ↔ IsOverMarks (IsWithin limit) before moves step

@@ -4,6 +4,7 @@ pub mod Moves
 pub mod Tokens
 pub mod Proof
 pub mod Steps
+pub mod Parsed
 pub mod Used
 pub mod Listing
 pub mod Expansion

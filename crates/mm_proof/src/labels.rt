@@ -1,6 +1,7 @@
 //! The labels of a proof: P2 and P3 (the Metamath book, section 4.3 and appendix B).
 
-ghost use Rattle.std.specs.Prelude.{◌≡◌, ◌↔◌, ◌⊎◌, ℕ, IsTrue, IfOk, IfErr, MatchOption, MatchBool, take};
+ghost use Rattle.std.specs.Prelude.{◌≡◌, ◌↔◌, ◌⊎◌, ℕ, take, IsTrue, IfOk, IfErr};
+ghost use Rattle.std.specs.Prelude.{MatchOption, MatchBool};
 ghost use Rattle.mm_frame.specs.Sentence.{Sentence, IsHypothesis, IsAssertion, IsLabelled};
 ghost use Rattle.mm_frame.specs.Active.{IsActive};
 ghost use Rattle.mm_frame.specs.Numbers.{IsNumbered};
@@ -40,8 +41,8 @@ fn use_of(book: &Book, own: &Frame, id: LabelId, label: &[u8]) -> Use
     }
 }
 
-/// The numbers of the labels, which are those of a proof: P2 where one is that of no statement before
-/// the proof's own, or else P3 where one is that of a hypothesis that isn't active.
+/// The numbers of the labels, which are those of a proof: P2 where one is that of no statement
+/// before the proof's own, or else P3 where one is that of a hypothesis that isn't active.
 pub(crate) fn numbers_of(
     alloc: Global,
     book: &Book,
@@ -51,8 +52,10 @@ pub(crate) fn numbers_of(
 ) -> Result<Vec<LabelId>, ProofFault>
     requires book { own.now.statements ≡ book.now.statements }
     requires own { (s : Sentence) × IsNumbered book.now.statements id.0 own.now.place s }
-    ensures ok { IfOk result (λ v. AreFor book.now.statements own.now.place (ids_in v.items) (texts labels.now)) }
-    ensures fault { IfErr result (λ e. OnRule e (λ rule step. (step ≡ 0) × BreaksLabels rule book.now.statements own.now.place (texts labels.now))) }
+    ensures ok { IfOk result (λ v.
+        AreFor book.now.statements own.now.place (ids_in v.items) (texts labels.now)) }
+    ensures fault { IfErr result (λ e. OnRule e (λ rule step. (step ≡ 0)
+        × BreaksLabels rule book.now.statements own.now.place (texts labels.now))) }
 {
     let mut ids = Vec::new(alloc);
     let mut idle = false;

@@ -2,6 +2,7 @@
 
 ghost use Rattle.mm_proof.specs.Laws.{OneFit, OneTree, OneWord, ByWord, BySpelling};
 ghost use Rattle.mm_proof.specs.Laws.{SomeVerdict, OneVerdict, LimitsAside};
+ghost use Rattle.mm_proof.specs.Laws.{MarkBeforeAnyStep, TagOverMarks};
 
 /// A spelling spells one tree.
 ///
@@ -76,4 +77,21 @@ pub fn one_verdict()
 /// where another rule is named, no derivation is made, however long expressions may be.
 pub fn limits_aside()
     ensures { LimitsAside }
+{}
+
+/// A `Z` before any step is told at once.
+///
+/// The fault of a proof's moves is `P7` exactly if they begin with a `Z`, whatever follows it; and
+/// its step is 1. This holds for each limit.
+pub fn mark_before_any_step()
+    ensures { MarkBeforeAnyStep }
+{}
+
+/// A number is over what there is.
+///
+/// The fault of a proof's moves is `P6` exactly if all moves before a tag pass and the tag is over
+/// the marks among them. Numbers of hypotheses and of listed labels are no tags, so a number is
+/// `P6` exactly where it is over these and the tags so far. This holds for each limit.
+pub fn tag_over_marks()
+    ensures { TagOverMarks }
 {}

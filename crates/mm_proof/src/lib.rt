@@ -14,13 +14,16 @@ mod rows;
 mod step;
 mod store;
 mod substitution;
+#[cfg(test)]
+mod tests;
 mod used;
 mod verdict;
 
 pub use fault::{ProofFault, ProofRule};
 pub use flat::Flat;
 pub use laws::{
-    by_spelling, by_word, limits_aside, one_fit, one_tree, one_verdict, one_word, some_verdict,
+    by_spelling, by_word, limits_aside, mark_before_any_step, one_fit, one_tree, one_verdict,
+    one_word, some_verdict, tag_over_marks,
 };
 pub use lines::{Line, Name, listing};
 pub use moves::{Parsed, Steps};

@@ -1,18 +1,23 @@
 //! The tokens of a proof: whether a step is unknown, P1 to P5, and the moves that they say (the
 //! Metamath book, section 4.3, section 4.4.4 and appendix B).
 
-ghost use Rattle.std.specs.Prelude.{◌≡◌, ◌≢◌, ◌↔◌, ◌+◌, ◌≤◌, ◌<◌, ◌∷◌, [], ℕ, IsTrue, IfOk, IfErr, MatchOption, length, map, take, drop, slice_get, Some, All, Contains, List};
+ghost use Rattle.std.specs.Prelude.{◌≡◌, ◌≢◌, ◌↔◌, ◌+◌, ◌≤◌, ◌<◌, ◌∷◌, [], ℕ, List, Contains, All};
+ghost use Rattle.std.specs.Prelude.{length, map, take, drop, slice_get, Some};
+ghost use Rattle.std.specs.Prelude.{IsTrue, IfOk, IfErr, MatchOption};
 ghost use Rattle.std.specs.List.{AllZip, AllByRecursion, sum_by};
 ghost use Rattle.mm_code.specs.Letters.{HasSpelling};
 ghost use Rattle.mm_frame.specs.Sentence.{Sentence};
 ghost use Rattle.mm_frame.specs.Form.{IsSound};
 ghost use Rattle.mm_frame.specs.Numbers.{IsNumbered};
 ghost use Rattle.mm_proof.specs.Answer.{OnRule};
-ghost use Rattle.mm_proof.specs.Tokens.{IsIncomplete, IsNormal, IsCompressed, SayMoves, opening_token, closing_token};
+ghost use Rattle.mm_proof.specs.Tokens.{IsIncomplete, IsNormal, IsCompressed};
+ghost use Rattle.mm_proof.specs.Tokens.{opening_token, closing_token};
 ghost use Rattle.mm_proof.specs.Moves.{Move, name};
-ghost use Rattle.mm_proof.specs.Proof.{IsWhole, IsWholeFault};
-ghost use Rattle.mm_proof.specs.Steps.{AreNumberedMoves, AreSteps, IsProofNumber};
-ghost use Rattle.mm_proof.specs.CodeSteps.{AreFor, IsReading, fault_behind, NumberSays, ids_in, move_in, moves_in, texts};
+ghost use Rattle.mm_proof.specs.Proof.{IsWholeFault};
+ghost use Rattle.mm_proof.specs.Steps.{AreSteps, IsProofNumber};
+ghost use Rattle.mm_proof.specs.Parsed.{OfProof, SaySteps};
+ghost use Rattle.mm_proof.specs.CodeSteps.{AreFor, IsReading, NumberSays, fault_behind};
+ghost use Rattle.mm_proof.specs.CodeSteps.{ids_in, move_in, moves_in, texts};
 
 use crate::fault::{ProofFault, ProofRule};
 use crate::labels::numbers_of;
@@ -64,8 +69,10 @@ pub(crate) fn normal_moves(
     requires own { (s : Sentence) × IsNumbered book.now.statements id.0 own.now.place s }
     requires sound { IsSound book.now.statements }
     requires normal { IsNormal (texts tokens.now) }
-    ensures ok { IfOk result (λ v. IsReading book.now.statements own.now.place (texts tokens.now) (moves_in v.items)) }
-    ensures fault { IfErr result (λ e. OnRule e (λ rule step. (step ≡ 0) × IsWholeFault (take own.now.place book.now.statements) (texts tokens.now) rule)) }
+    ensures ok { IfOk result (λ v.
+        IsReading book.now.statements own.now.place (texts tokens.now) (moves_in v.items)) }
+    ensures fault { IfErr result (λ e. OnRule e (λ rule step. (step ≡ 0)
+        × IsWholeFault (take own.now.place book.now.statements) (texts tokens.now) rule)) }
 {
     let ids = numbers_of(alloc, book, own, id, tokens)?;
     name_moves(alloc, &ids)
@@ -95,7 +102,8 @@ fn moves_of(
     codes: &[Code],
 ) -> Result<Vec<NumberedMove>, ProofFault>
     requires { All HasSpelling codes.now }
-    ensures ok { IfOk result (λ v. AllZip (NumberSays (ids_in entries.now)) codes.now (moves_in v.items)) }
+    ensures ok { IfOk result (λ v.
+        AllZip (NumberSays (ids_in entries.now)) codes.now (moves_in v.items)) }
     ensures fault { IfErr result (λ e. e ≡ ProofFault.Memory) }
 {
     let mut moves = Vec::new(alloc);
@@ -117,7 +125,12 @@ fn is_byte(token: &[u8], byte: u8) -> bool
 
 // The place of the first `)`.
 fn closing_place(tokens: &[&[u8]]) -> Option<usize>
-    ensures { MatchOption result (¬ (Contains (texts tokens.now) closing_token)) (λ place. (place < length tokens.now) × (slice_get (texts tokens.now) place ≡ Some closing_token) × ¬ (Contains (take place (texts tokens.now)) closing_token)) }
+    ensures { MatchOption
+        result
+        (¬ (Contains (texts tokens.now) closing_token))
+        (λ place. (place < length tokens.now)
+        × (slice_get (texts tokens.now) place ≡ Some closing_token)
+        × ¬ (Contains (take place (texts tokens.now)) closing_token)) }
 {
     for (place, token) in tokens.iter().enumerate() {
         if is_byte(token, b')') {
@@ -129,7 +142,10 @@ fn closing_place(tokens: &[&[u8]]) -> Option<usize>
 
 // The list and the letters of a compressed proof, whose tokens after the `(` are these.
 fn parts<'t, 'a>(rest: &'t [&'a [u8]]) -> Option<(&'t [&'a [u8]], &'t [&'a [u8]])>
-    ensures { MatchOption result (¬ (Contains (texts rest.now) closing_token)) (λ p. IsCompressed (opening_token ∷ texts rest.now) (texts p.0.now) (texts p.1.now)) }
+    ensures { MatchOption
+        result
+        (¬ (Contains (texts rest.now) closing_token))
+        (λ p. IsCompressed (opening_token ∷ texts rest.now) (texts p.0.now) (texts p.1.now)) }
 {
     let place = closing_place(rest)?;
     Some((&rest[..place], &rest[place + 1..]))
@@ -163,8 +179,11 @@ pub(crate) fn compressed_moves(
     requires book { own.now.statements ≡ book.now.statements }
     requires own { (s : Sentence) × IsNumbered book.now.statements id.0 own.now.place s }
     requires sound { IsSound book.now.statements }
-    ensures ok { IfOk result (λ v. IsReading book.now.statements own.now.place (opening_token ∷ texts rest.now) (moves_in v.items)) }
-    ensures fault { IfErr result (λ e. OnRule e (λ rule step. (step ≡ 0) × IsWholeFault (take own.now.place book.now.statements) (opening_token ∷ texts rest.now) rule)) }
+    ensures ok { let tokens = opening_token ∷ texts rest.now in IfOk result (λ v.
+        IsReading book.now.statements own.now.place tokens (moves_in v.items)) }
+    ensures fault { let tokens = opening_token ∷ texts rest.now in
+        IfErr result (λ e. OnRule e (λ rule step. (step ≡ 0)
+        × IsWholeFault (take own.now.place book.now.statements) tokens rule)) }
 {
     let Some((listed, letters)) = parts(rest) else {
         return Err(ProofFault::Rule {
@@ -193,8 +212,10 @@ fn whole_moves(
     requires book { own.now.statements ≡ book.now.statements }
     requires own { (s : Sentence) × IsNumbered book.now.statements id.0 own.now.place s }
     requires sound { IsSound book.now.statements }
-    ensures ok { IfOk result (λ v. IsReading book.now.statements own.now.place (texts tokens.now) (moves_in v.items)) }
-    ensures fault { IfErr result (λ e. OnRule e (λ rule step. (step ≡ 0) × IsWholeFault (take own.now.place book.now.statements) (texts tokens.now) rule)) }
+    ensures ok { IfOk result (λ v.
+        IsReading book.now.statements own.now.place (texts tokens.now) (moves_in v.items)) }
+    ensures fault { IfErr result (λ e. OnRule e (λ rule step. (step ≡ 0)
+        × IsWholeFault (take own.now.place book.now.statements) (texts tokens.now) rule)) }
 {
     match tokens {
         [first, rest @ ..] if is_byte(first, b'(') => {
@@ -223,14 +244,16 @@ fn parsed(
     ensures complete { IsIncomplete (texts tokens.now) → result ≡ Ok Parsed.Incomplete }
 
     // The moves are what the tokens say, and each may be made.
-    ensures steps { (steps : List (Move ℕ)) → result ≡ Ok (Parsed.Steps steps) → (place : ℕ) → (s : Sentence) → IsProofNumber book.now.statements id.0 place s
-        → IsWhole (take place book.now.statements) (texts tokens.now)
-        × (moves : List (Move (List ℕ))) × SayMoves (take place book.now.statements) s (texts tokens.now) moves × AreNumberedMoves book.now.statements steps moves }
-    ensures usable { (steps : List (Move ℕ)) → result ≡ Ok (Parsed.Steps steps) → AreSteps book.now.statements id.0 steps }
+    ensures steps { (steps : List (Move ℕ)) → result ≡ Ok (Parsed.Steps steps)
+        → OfProof book.now.statements id.0
+        (λ place s. SaySteps book.now.statements place s (texts tokens.now) steps) }
+    ensures usable { (steps : List (Move ℕ)) → result ≡ Ok (Parsed.Steps steps)
+        → AreSteps book.now.statements id.0 steps }
 
     // The rule is the first that is broken over the whole proof.
-    ensures fault { (rule : ProofRule) → (step : ℕ) → result ≡ Err (ProofFault.Rule rule step) → (place : ℕ) → (s : Sentence) → IsProofNumber book.now.statements id.0 place s
-        → (step ≡ 0) × IsWholeFault (take place book.now.statements) (texts tokens.now) rule }
+    ensures fault { (rule : ProofRule) → (step : ℕ) → result ≡ Err (ProofFault.Rule rule step)
+        → OfProof book.now.statements id.0 (λ place s. (step ≡ 0)
+        × IsWholeFault (take place book.now.statements) (texts tokens.now) rule) }
 {
     if is_incomplete(tokens) {
         return Ok(Parsed::Incomplete);
@@ -248,7 +271,8 @@ impl Steps {
         id: LabelId,
         tokens: &[&[u8]],
     ) -> Result<Parsed, ProofFault>
-        requires proof { (place : ℕ) × (s : Sentence) × IsProofNumber book.now.statements id.0 place s }
+        requires proof { (place : ℕ) × (s : Sentence)
+            × IsProofNumber book.now.statements id.0 place s }
         requires filled { AllByRecursion (λ t. 1 ≤ length t) (texts tokens.now) }
         requires room { sum_by length (texts tokens.now) ≤ 1073741824 }
         // A proof with an unknown step is told apart.
@@ -256,14 +280,16 @@ impl Steps {
         ensures complete { IsIncomplete (texts tokens.now) → result ≡ Ok Parsed.Incomplete }
 
         // The moves are what the tokens say, and each may be made.
-        ensures steps { (steps : List (Move ℕ)) → result ≡ Ok (Parsed.Steps steps) → (place : ℕ) → (s : Sentence) → IsProofNumber book.now.statements id.0 place s
-            → IsWhole (take place book.now.statements) (texts tokens.now)
-            × (moves : List (Move (List ℕ))) × SayMoves (take place book.now.statements) s (texts tokens.now) moves × AreNumberedMoves book.now.statements steps moves }
-        ensures usable { (steps : List (Move ℕ)) → result ≡ Ok (Parsed.Steps steps) → AreSteps book.now.statements id.0 steps }
+        ensures steps { (steps : List (Move ℕ)) → result ≡ Ok (Parsed.Steps steps)
+            → OfProof book.now.statements id.0
+            (λ place s. SaySteps book.now.statements place s (texts tokens.now) steps) }
+        ensures usable { (steps : List (Move ℕ)) → result ≡ Ok (Parsed.Steps steps)
+            → AreSteps book.now.statements id.0 steps }
 
         // The rule is the first that is broken over the whole proof.
-        ensures fault { (rule : ProofRule) → (step : ℕ) → result ≡ Err (ProofFault.Rule rule step) → (place : ℕ) → (s : Sentence) → IsProofNumber book.now.statements id.0 place s
-            → (step ≡ 0) × IsWholeFault (take place book.now.statements) (texts tokens.now) rule }
+        ensures fault { (rule : ProofRule) → (step : ℕ) → result ≡ Err (ProofFault.Rule rule step)
+            → OfProof book.now.statements id.0 (λ place s. (step ≡ 0)
+            × IsWholeFault (take place book.now.statements) (texts tokens.now) rule) }
     {
         parsed(alloc, book, &book.frame(id), id, tokens)
     }

@@ -7,7 +7,8 @@ use std::alloc::AllocError;
 ///
 /// Each call changes one of the two at most, and none where a growth was refused.
 pub trait Store {
-    ghost use Rattle.std.specs.Prelude.{◌≡◌, ℕ, ◌-◌, ◌<◌, ◌≤◌, List, [], ◌∷◌, ◌++◌, length, map, take, slice_get, OnOk, OnErr, Some};
+    ghost use Rattle.std.specs.Prelude.{◌≡◌, ℕ, ◌-◌, ◌<◌, ◌≤◌, List, [], ◌∷◌, ◌++◌, length, map};
+    ghost use Rattle.std.specs.Prelude.{take, slice_get, OnOk, OnErr, Some};
     ghost use Rattle.mm_proof.specs.Stores.{numbers_in};
 
     /// The expressions on the stack, the topmost one last.
@@ -27,21 +28,25 @@ pub trait Store {
 
     /// Puts an expression on the stack.
     fn push(&mut self, expression: &[Sym]) -> Result<(), AllocError>
-        ensures pushed { OnOk result (stack self.new ≡ stack self.old ++ numbers_in expression.now ∷ []) }
+        ensures pushed { OnOk result
+            (stack self.new ≡ stack self.old ++ numbers_in expression.now ∷ []) }
         ensures refused { OnErr result (stack self.new ≡ stack self.old) }
         ensures kept { kept self.new ≡ kept self.old };
 
     /// Puts a copy of the last expression on the stack at the end of the kept ones.
     fn keep(&mut self) -> Result<(), AllocError>
         requires { 0 < length (stack self.old) }
-        ensures kept { OnOk result ((e : List ℕ) → slice_get (stack self.old) (length (stack self.old) - 1) ≡ Some e → kept self.new ≡ kept self.old ++ e ∷ []) }
+        ensures kept { OnOk result ((e : List ℕ)
+            → slice_get (stack self.old) (length (stack self.old) - 1) ≡ Some e
+            → kept self.new ≡ kept self.old ++ e ∷ []) }
         ensures refused { OnErr result (kept self.new ≡ kept self.old) }
         ensures stack { stack self.new ≡ stack self.old };
 
     /// Puts a copy of the kept expression at a place on the stack.
     fn push_copy(&mut self, place: usize) -> Result<(), AllocError>
         requires { place < length (kept self.old) }
-        ensures pushed { OnOk result ((e : List ℕ) → slice_get (kept self.old) place ≡ Some e → stack self.new ≡ stack self.old ++ e ∷ []) }
+        ensures pushed { OnOk result ((e : List ℕ) → slice_get (kept self.old) place ≡ Some e
+            → stack self.new ≡ stack self.old ++ e ∷ []) }
         ensures refused { OnErr result (stack self.new ≡ stack self.old) }
         ensures kept { kept self.new ≡ kept self.old };
 

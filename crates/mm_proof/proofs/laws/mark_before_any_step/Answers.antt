@@ -1,0 +1,5 @@
+use Rattle.mm_proof.proofs.Marks.{mark_before_any_step_holds}
+use Rattle.mm_proof.proofs.laws.mark_before_any_step.Goals as goal
+
+pub returns : goal.returns
+returns c = mark_before_any_step_holds

@@ -1,0 +1,5 @@
+use Rattle.mm_proof.proofs.Marks.{tag_over_marks_holds}
+use Rattle.mm_proof.proofs.laws.tag_over_marks.Goals as goal
+
+pub returns : goal.returns
+returns c = tag_over_marks_holds
