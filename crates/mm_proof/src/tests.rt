@@ -9,7 +9,7 @@ ghost use Rattle.mm_proof.specs.Steps.{IsProofNumber};
 ghost use Rattle.mm_proof.specs.CodeSteps.{texts};
 
 use super::*;
-use mm_frame::{Book, LabelId, Sym, Taken};
+use mm_frame::{Book, Found, LabelId, Sym, Taken};
 use mm_text::{File, Kind, Statement, Statements, Token};
 use std::alloc::{AllocError, Global};
 use std::process::Abort;
@@ -70,6 +70,17 @@ BZVLBZVMBZVNBZVOBZVPBZVQBZVRBZVSBZVTBZWABZWBBZWCBZWDBZWEBZWF
 BZWGBZWHBZWIBZWJBZWKBZWLBZWMBZWNBZWOBZWPBZWQBZWRBZWSBZWTBZXA
 BZXBBZXCBZXDBZXEBZXFBZXGBZXHBZXIBZXJBZXKBZXLBZXMBZXNBZXOBZXP
 BZXQBZXRBZXSBZXTBZYAB $.
+";
+
+/// Strings, and the joining of two of them, with a proof that makes one joining and uses it twice.
+const SHARED: &[u8] = b"\
+$c e $.
+$v x y $.
+fx $f e x $.
+fy $f e y $.
+nil $a e $.
+cat $a e x y $.
+th $p e $= ( nil cat ) AABZCB $.
 ";
 
 /// The assertions of the proofs of `t = t`.
@@ -263,6 +274,56 @@ fn compressed_proof(rt: HostRuntime) -> Result<(), Fail> {
     expect_used(&rt, alloc, &[HEAD, theorem, whole], &REFLEXIVE)?;
     let cut = b"ABCZADZ AADZAE ZJJKF LIAAGHH $.";
     expect_used(&rt, alloc, &[HEAD, theorem, cut], &REFLEXIVE)
+}
+
+/// The steps of the proof; nothing where it is incomplete.
+fn listed(alloc: Global, theorem: &Theorem) -> Result<Option<Vec<Line>>, ProofFault>
+    requires proof { (place : ℕ) × (s : Sentence)
+        × IsProofNumber theorem.now.book.statements theorem.now.id.0 place s }
+    requires filled { AllByRecursion (λ x. 1 ≤ length x) (texts theorem.now.tokens.items) }
+    requires room { sum_by length (texts theorem.now.tokens.items) ≤ 1073741824 }
+{
+    match Steps::parse(alloc, &theorem.book, theorem.id, &theorem.tokens)? {
+        Parsed::Incomplete => Ok(None),
+        Parsed::Steps(steps) => {
+            let lines = listing(alloc, &theorem.book, theorem.id, &steps)?;
+            Ok(Some(lines))
+        }
+    }
+}
+
+/// The number of an assertion.
+fn assertion(book: &Book, label: &[u8]) -> Result<LabelId, Fail> {
+    match book.find(label) {
+        Found::Assertion(id) => Ok(id),
+        _ => Err(Fail::from("no assertion")),
+    }
+}
+
+#[test]
+fn steps_are_listed(rt: HostRuntime) -> Result<(), Fail> {
+    let alloc = rt.alloc();
+    let files = [File {
+        name: b"cat.mm",
+        bytes: SHARED,
+    }];
+    let theorem = first_theorem(alloc, &files)?;
+    let nil = assertion(&theorem.book, b"nil")?;
+    let cat = assertion(&theorem.book, b"cat")?;
+    let names = [
+        Name::Label(nil),
+        Name::Label(nil),
+        Name::Label(cat),
+        Name::Step(3),
+        Name::Label(cat),
+    ];
+    let lines = listed(alloc, &theorem)?.ok_or("incomplete")?;
+    assert_eq!(&rt; lines.len(), names.len());
+    for (line, name) in lines.iter().zip(names.iter()) {
+        assert_eq!(&rt; line.name, *name);
+        assert_eq!(&rt; line.expression.as_slice(), theorem.book.expression(nil));
+    }
+    Ok(())
 }
 
 #[test]
