@@ -1,9 +1,7 @@
 //! The labels of a proof: P2 and P3 (the Metamath book, section 4.3 and appendix B).
 
-ghost use Rattle.std.specs.Prelude.{◌≡◌, ◌↔◌, ◌⊎◌, ℕ, take, IsTrue, IfOk, IfErr};
-ghost use Rattle.std.specs.Prelude.{MatchOption, MatchBool};
-ghost use Rattle.mm_frame.specs.Sentence.{Sentence, IsHypothesis, IsAssertion, IsLabelled};
-ghost use Rattle.mm_frame.specs.Active.{IsActive};
+ghost use Rattle.std.specs.Prelude.{◌≡◌, IfOk, IfErr};
+ghost use Rattle.mm_frame.specs.Sentence.{Sentence};
 ghost use Rattle.mm_frame.specs.Numbers.{IsNumbered};
 ghost use Rattle.mm_proof.specs.Answer.{OnRule};
 ghost use Rattle.mm_proof.specs.CodeSteps.{IsUseOf, AreFor, BreaksLabels, ids_in, texts};

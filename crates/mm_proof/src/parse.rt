@@ -1,8 +1,8 @@
 //! The tokens of a proof: whether a step is unknown, P1 to P5, and the moves that they say (the
 //! Metamath book, section 4.3, section 4.4.4 and appendix B).
 
-ghost use Rattle.std.specs.Prelude.{◌≡◌, ◌≢◌, ◌↔◌, ◌+◌, ◌≤◌, ◌<◌, ◌∷◌, [], ℕ, List, Contains, All};
-ghost use Rattle.std.specs.Prelude.{length, map, take, drop, slice_get, Some};
+ghost use Rattle.std.specs.Prelude.{◌≡◌, ◌↔◌, ◌+◌, ◌≤◌, ◌<◌, ◌∷◌, [], ℕ, List, Contains, All};
+ghost use Rattle.std.specs.Prelude.{length, map, take, slice_get, Some};
 ghost use Rattle.std.specs.Prelude.{IsTrue, IfOk, IfErr, MatchOption};
 ghost use Rattle.std.specs.List.{AllZip, AllByRecursion, sum_by};
 ghost use Rattle.mm_code.specs.Letters.{HasSpelling};
@@ -16,7 +16,7 @@ ghost use Rattle.mm_proof.specs.Moves.{Move, name};
 ghost use Rattle.mm_proof.specs.Proof.{IsWholeFault};
 ghost use Rattle.mm_proof.specs.Steps.{AreSteps, IsProofNumber};
 ghost use Rattle.mm_proof.specs.Parsed.{OfProof, SaySteps};
-ghost use Rattle.mm_proof.specs.CodeSteps.{AreFor, IsReading, NumberSays, fault_behind};
+ghost use Rattle.mm_proof.specs.CodeSteps.{IsReading, NumberSays, fault_behind};
 ghost use Rattle.mm_proof.specs.CodeSteps.{ids_in, move_in, moves_in, texts};
 
 use crate::fault::{ProofFault, ProofRule};

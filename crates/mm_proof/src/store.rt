@@ -7,7 +7,7 @@ use std::alloc::AllocError;
 ///
 /// Each call changes one of the two at most, and none where a growth was refused.
 pub trait Store {
-    ghost use Rattle.std.specs.Prelude.{◌≡◌, ℕ, ◌-◌, ◌<◌, ◌≤◌, List, [], ◌∷◌, ◌++◌, length, map};
+    ghost use Rattle.std.specs.Prelude.{◌≡◌, ℕ, ◌-◌, ◌<◌, ◌≤◌, List, [], ◌∷◌, ◌++◌, length};
     ghost use Rattle.std.specs.Prelude.{take, slice_get, OnOk, OnErr, Some};
     ghost use Rattle.mm_proof.specs.Stores.{numbers_in};
 
