@@ -6,6 +6,7 @@ pub mod Proof
 pub mod Steps
 pub mod Parsed
 pub mod Used
+pub mod Verified
 pub mod Expansion
 pub mod Laws
 pub mod Answer

@@ -1,6 +1,8 @@
 //! One step of a proof by an assertion (the Metamath book, section 4.1.4 and appendix B).
 
-ghost use Rattle.std.specs.Prelude.{◌≡◌, ◌↔◌, ◌+◌, ◌≤◌, ◌<◌, ◌^◌, ℕ, List, length, drop, map, slice_get, option_map, All, Option, Some, IsTrue, OnOk, MatchBool};
+ghost use Rattle.std.specs.Prelude.{◌≡◌, ◌↔◌, ◌+◌, ◌<◌, ◌^◌, ℕ, List, length, drop};
+ghost use Rattle.std.specs.Prelude.{slice_get, option_map, Option, Some, IsTrue, OnOk};
+ghost use Rattle.std.specs.Prelude.{MatchBool};
 ghost use Rattle.std.specs.List.{AllByRecursion};
 ghost use Rattle.mm_text.specs.declared.statement.Kind.TheVariants.{Floating, Essential};
 ghost use Rattle.mm_frame.specs.Sentence.{Sentence};
@@ -8,7 +10,9 @@ ghost use Rattle.mm_frame.specs.Form.{IsSound};
 ghost use Rattle.mm_frame.specs.Numbers.{labelled};
 ghost use Rattle.mm_proof.specs.Stores.{numbers_in};
 ghost use Rattle.mm_proof.specs.CodeSteps.{ids_in};
-ghost use Rattle.mm_proof.specs.CodeVerify.{AreHypothesesOf, AreVariablesOf, IsVariableOf, AreBelow, variables_in, named, all_named, IsRightCode, IsWrongCode, IsEqual, IsUnequal, EachEntry, Replaces};
+ghost use Rattle.mm_proof.specs.CodeVerify.{AreHypothesesOf, AreVariablesOf, IsVariableOf};
+ghost use Rattle.mm_proof.specs.CodeVerify.{AreBelow, variables_in, named, all_named, IsRightCode};
+ghost use Rattle.mm_proof.specs.CodeVerify.{IsWrongCode, IsEqual, IsUnequal, EachEntry, Replaces};
 ghost use Rattle.mm_proof.specs.Proof.{SomePair};
 
 use crate::store::Store;
@@ -29,7 +33,8 @@ fn second(expression: &[Sym]) -> Option<Sym>
 fn variable_of(book: &Book, id: LabelId) -> Option<Sym>
     requires sound { IsSound book.now.statements }
     requires named { id.0 < length (labelled book.now.statements) }
-    ensures { (h : Sentence) → slice_get (labelled book.now.statements) id.0 ≡ Some h → IsVariableOf book.now.statements (option_map (λ s. s.0) result) h }
+    ensures { (h : Sentence) → slice_get (labelled book.now.statements) id.0 ≡ Some h
+        → IsVariableOf book.now.statements (option_map (λ s. s.0) result) h }
 {
     match book.kind(id) {
         LabelKind::Floating => second(book.expression(id)),
@@ -44,8 +49,11 @@ pub(crate) fn fill_variables(
     hypotheses: &[LabelId],
 ) -> Result<(), AllocError>
     requires sound { IsSound book.now.statements }
-    requires known { (hs : List Sentence) × AreHypothesesOf book.now.statements (ids_in hypotheses.now) hs }
-    ensures { OnOk result ((hs : List Sentence) → AreHypothesesOf book.now.statements (ids_in hypotheses.now) hs → AreVariablesOf book.now.statements (variables_in variables.new.items) hs) }
+    requires known { (hs : List Sentence)
+        × AreHypothesesOf book.now.statements (ids_in hypotheses.now) hs }
+    ensures { OnOk result
+        ((hs : List Sentence) → AreHypothesesOf book.now.statements (ids_in hypotheses.now) hs
+        → AreVariablesOf book.now.statements (variables_in variables.new.items) hs) }
 {
     variables.clear();
     for id in hypotheses {
@@ -59,7 +67,8 @@ fn is_right_code(book: &Book, id: LabelId, entry: &[Sym]) -> bool
     requires named { id.0 < length (labelled book.now.statements) }
     requires below { AreBelow book.now.statements (numbers_in entry.now) }
     ensures { (h : Sentence) → slice_get (labelled book.now.statements) id.0 ≡ Some h
-        → MatchBool result (IsRightCode h (named book.now.statements (numbers_in entry.now))) (IsWrongCode h (named book.now.statements (numbers_in entry.now))) }
+        → MatchBool result (IsRightCode h (named book.now.statements (numbers_in entry.now)))
+        (IsWrongCode h (named book.now.statements (numbers_in entry.now))) }
 {
     one_number();
     match book.kind(id) {
@@ -70,7 +79,8 @@ fn is_right_code(book: &Book, id: LabelId, entry: &[Sym]) -> bool
 
 // Whether both have the same first symbol, or none.
 fn is_first_same(expression: &[Sym], entry: &[Sym]) -> bool
-    ensures { IsTrue result ↔ (slice_get (numbers_in entry.now) 0 ≡ slice_get (numbers_in expression.now) 0) }
+    ensures { IsTrue result
+        ↔ (slice_get (numbers_in entry.now) 0 ≡ slice_get (numbers_in expression.now) 0) }
 {
     match (expression, entry) {
         ([code, ..], [first, ..]) => code.0 == first.0,
@@ -86,12 +96,15 @@ pub(crate) fn are_right_codes<S: Store>(
     book: &Book,
     hypotheses: &[LabelId],
 ) -> bool
-    requires known { (hs : List Sentence) × AreHypothesesOf book.now.statements (ids_in hypotheses.now) hs }
+    requires known { (hs : List Sentence)
+        × AreHypothesesOf book.now.statements (ids_in hypotheses.now) hs }
     requires entries { base + length hypotheses.now ≡ length (S.stack store.now) }
     requires fits { length (S.stack store.now) < 2 ^ 64 }
     requires below { AllByRecursion (AreBelow book.now.statements) (drop base (S.stack store.now)) }
     ensures { (hs : List Sentence) → AreHypothesesOf book.now.statements (ids_in hypotheses.now) hs
-        → MatchBool result (EachEntry hs (all_named book.now.statements (drop base (S.stack store.now))) IsRightCode) (SomePair hs (all_named book.now.statements (drop base (S.stack store.now))) IsWrongCode) }
+        → MatchBool result
+        (EachEntry hs (all_named book.now.statements (drop base (S.stack store.now))) IsRightCode)
+        (SomePair hs (all_named book.now.statements (drop base (S.stack store.now))) IsWrongCode) }
 {
     for (index, id) in hypotheses.iter().enumerate() {
         if !is_right_code(book, *id, store.at(base + index)) {
@@ -115,9 +128,12 @@ fn is_equal<S: Store>(
     requires fits { length (S.stack store.now) < 2 ^ 64 }
     requires below { AllByRecursion (AreBelow book.now.statements) (drop base (S.stack store.now)) }
     requires entry { AreBelow book.now.statements (numbers_in entry.now) }
-    ensures { (σ : List ℕ → Option (List (List ℕ))) → Replaces book.now.statements σ (variables_in variables.now) (drop base (S.stack store.now))
+    ensures { (σ : List ℕ → Option (List (List ℕ)))
+        → Replaces book.now.statements σ (variables_in variables.now)
+        (drop base (S.stack store.now))
         → (h : Sentence) → slice_get (labelled book.now.statements) id.0 ≡ Some h
-        → MatchBool result (IsEqual σ h (named book.now.statements (numbers_in entry.now))) (IsUnequal σ h (named book.now.statements (numbers_in entry.now))) }
+        → MatchBool result (IsEqual σ h (named book.now.statements (numbers_in entry.now)))
+        (IsUnequal σ h (named book.now.statements (numbers_in entry.now))) }
 {
     one_number();
     match book.kind(id) {
@@ -134,14 +150,20 @@ pub(crate) fn are_equal<S: Store>(
     book: &Book,
     hypotheses: &[LabelId],
 ) -> bool
-    requires known { (hs : List Sentence) × AreHypothesesOf book.now.statements (ids_in hypotheses.now) hs }
+    requires known { (hs : List Sentence)
+        × AreHypothesesOf book.now.statements (ids_in hypotheses.now) hs }
     requires entries { base + length hypotheses.now ≡ length (S.stack store.now) }
     requires variables { length variables.now ≡ length hypotheses.now }
     requires fits { length (S.stack store.now) < 2 ^ 64 }
     requires below { AllByRecursion (AreBelow book.now.statements) (drop base (S.stack store.now)) }
-    ensures { (σ : List ℕ → Option (List (List ℕ))) → Replaces book.now.statements σ (variables_in variables.now) (drop base (S.stack store.now))
+    ensures { (σ : List ℕ → Option (List (List ℕ)))
+        → Replaces book.now.statements σ (variables_in variables.now)
+        (drop base (S.stack store.now))
         → (hs : List Sentence) → AreHypothesesOf book.now.statements (ids_in hypotheses.now) hs
-        → MatchBool result (EachEntry hs (all_named book.now.statements (drop base (S.stack store.now))) (IsEqual σ)) (SomePair hs (all_named book.now.statements (drop base (S.stack store.now))) (IsUnequal σ)) }
+        → MatchBool result
+        (EachEntry hs (all_named book.now.statements (drop base (S.stack store.now))) (IsEqual σ))
+        (SomePair hs (all_named book.now.statements (drop base (S.stack store.now)))
+        (IsUnequal σ)) }
 {
     for (index, id) in hypotheses.iter().enumerate() {
         if !is_equal(store, base, variables, book, *id, store.at(base + index)) {
