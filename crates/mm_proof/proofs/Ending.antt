@@ -20,7 +20,8 @@ use Rattle.mm_proof.specs.Steps.{IsNumberedMove, AreNumberedMoves, IsUsable, IsU
 use Rattle.mm_proof.specs.CodeSteps.{MayBeUsed, moves_in}
 use Rattle.mm_proof.specs.declared.moves.NumberedMove.{NumberedMove}
 use Rattle.mm_proof.specs.CodeVerify.{IsSymbol, AreEntries, AreBelow, named, all_named}
-use Rattle.mm_proof.specs.CodeRun.{HasRun, MayBeMade, AreNamed, EndsWrong, ProvesWith, OfMoves}
+use Rattle.mm_proof.specs.Verified.{ProvesWith, OfMoves}
+use Rattle.mm_proof.specs.CodeRun.{HasRun, MayBeMade, AreNamed, EndsWrong}
 use Rattle.mm_proof.proofs.Places.{get_from_take}
 use Rattle.mm_proof.proofs.Meaning.{one_label}
 use Rattle.mm_proof.proofs.Named.{named_is, below_is, named_once}

@@ -5,11 +5,9 @@ use Rattle.mm_frame.specs.Sentence.{Sentence}
 use Rattle.mm_frame.specs.Numbers.{IsAssertionNumber}
 use Rattle.mm_proof.specs.declared.fault.ProofRule.{ProofRule}
 use Rattle.mm_proof.specs.declared.fault.ProofRule.TheVariants.{P13, P14}
-use Rattle.mm_proof.specs.Tree.{tree, none}
 use Rattle.mm_proof.specs.Moves.{Move, name, again, mark, steps_in}
-use Rattle.mm_proof.specs.Proof.{IsWithin, expression_limit, Passed, FirstAtMove, Prove}
-use Rattle.mm_proof.specs.Steps.{IsNumberedMove, AreNumberedMoves, IsProofNumber}
-use Rattle.mm_proof.specs.Used.{AreUsed}
+use Rattle.mm_proof.specs.Proof.{IsWithin, expression_limit, Passed, FirstAtMove}
+use Rattle.mm_proof.specs.Steps.{IsNumberedMove, AreNumberedMoves}
 use Rattle.mm_proof.specs.CodeSteps.{MayBeUsed}
 use Rattle.mm_proof.specs.CodeVerify.{all_named, AreEntries}
 
@@ -59,16 +57,3 @@ abbrev pub EndsWrong : ProofRule → List (List ℕ) → List ℕ → Type 0
 EndsWrong rule stack expression =
     ((rule ≡ P13) × (length stack ≢ 1))
     ⊎ ((rule ≡ P14) × (e : List ℕ) × (stack ≡ e ∷ []) × (e ≢ expression))
-
--- the moves prove the statement, and these are the assertions of its tree
-abbrev pub ProvesWith : List Sentence → ℕ → Sentence → List (Move (List ℕ)) → List ℕ → Type 0
-ProvesWith statements place s moves used =
-    (p : Prove (IsWithin expression_limit) (take place statements) s moves)
-    × AreUsed (take place statements) (tree p.label p.below none) used
-
--- of the `$p` with this number and its moves, by names, this holds
-abbrev pub OfMoves : List Sentence → ℕ → List (Move ℕ)
-    → (ℕ → Sentence → List (Move (List ℕ)) → Type 0) → Type 0
-OfMoves statements id steps P =
-    (place : ℕ) (s : Sentence) (moves : List (Move (List ℕ))) → IsProofNumber statements id place s
-    → AreNumberedMoves statements steps moves → P place s moves

@@ -7,6 +7,7 @@ pub mod Steps
 pub mod Parsed
 pub mod Used
 pub mod Listing
+pub mod Verified
 pub mod Expansion
 pub mod Laws
 pub mod Answer

@@ -1,12 +1,14 @@
 //! The step by an assertion.
 
-ghost use Rattle.std.specs.Prelude.{◌≡◌, ◌+◌, ◌<◌, ◌^◌, ℕ, List, length, map, take, drop, slice_get, Some, Err, OnOk, MatchOption};
+ghost use Rattle.std.specs.Prelude.{◌≡◌, ◌+◌, ◌<◌, ◌^◌, ℕ, List, length, take, drop};
+ghost use Rattle.std.specs.Prelude.{slice_get, Some, Err, OnOk, MatchOption};
 ghost use Rattle.mm_frame.specs.Sentence.{Sentence, IsAssertion};
 ghost use Rattle.mm_frame.specs.Form.{IsSound};
 ghost use Rattle.mm_frame.specs.Numbers.{IsNumbered};
 ghost use Rattle.mm_frame.specs.FramePlace.{ArePairs};
 ghost use Rattle.mm_proof.specs.CodeSteps.{ids_in};
-ghost use Rattle.mm_proof.specs.CodeVerify.{AreHypothesesOf, AreVariablesOf, AreEntries, EachEntry, IsRightCode, all_named, pairs_in, variables_in};
+ghost use Rattle.mm_proof.specs.CodeVerify.{AreHypothesesOf, AreVariablesOf, AreEntries, EachEntry};
+ghost use Rattle.mm_proof.specs.CodeVerify.{IsRightCode, all_named, pairs_in, variables_in};
 ghost use Rattle.mm_proof.specs.CodeRun.{CarriesOn, StopsAt};
 ghost use Rattle.mm_proof.specs.CodeApply.{IsCalled, IsMatched, IsReady};
 
@@ -53,18 +55,22 @@ fn rule_broken<S: Store>(
 ) -> Option<ProofRule>
     requires sound { IsSound book.now.statements }
     requires own { own.now.statements ≡ book.now.statements }
-    requires known { (hs : List Sentence) × AreHypothesesOf book.now.statements (ids_in hypotheses.now) hs }
+    requires known { (hs : List Sentence)
+        × AreHypothesesOf book.now.statements (ids_in hypotheses.now) hs }
     requires entries { base + length hypotheses.now ≡ length (S.stack store.now) }
     requires variables { length variables.now.list.items ≡ length hypotheses.now }
     requires fits { length (S.stack store.now) < 2 ^ 64 }
-    requires symbols { AreEntries book.now.statements (take own.now.place book.now.statements) (S.stack store.now) }
-    ensures { (id at : ℕ) (hs : List Sentence) → IsCalled book.now.statements own.now.place id at (ids_in hypotheses.now) hs
+    requires symbols { AreEntries book.now.statements (take own.now.place book.now.statements)
+        (S.stack store.now) }
+    ensures { (id at : ℕ) (hs : List Sentence)
+        → IsCalled book.now.statements own.now.place id at (ids_in hypotheses.now) hs
         → AreVariablesOf book.now.statements (variables_in variables.now.list.items) hs
         → ArePairs (record { statements = book.now.statements; place = at }) (pairs_in pairs.now)
         → EachEntry hs (all_named book.now.statements (drop base (S.stack store.now))) IsRightCode
         → MatchOption
         result
-        (IsMatched book.now.statements own.now.place hs (variables_in variables.now.list.items) (drop base (S.stack store.now)) (pairs_in pairs.now))
+        (IsMatched book.now.statements own.now.place hs (variables_in variables.now.list.items)
+        (drop base (S.stack store.now)) (pairs_in pairs.now))
         (λ rule. StopsAt book.now.statements own.now.place id (S.stack store.now) rule) }
 {
     one_number();
@@ -92,14 +98,23 @@ fn conclude<S: Store>(
     requires sound { IsSound frame.now.statements }
     requires entries { base + length scratch.old.variables.list.items ≡ length (S.stack store.old) }
     requires fits { length (S.stack store.old) < 2 ^ 64 }
-    ensures carried { OnOk result ((place id : ℕ) → IsReady frame.now.statements place id frame.now.place (variables_in scratch.old.variables.list.items) (drop base (S.stack store.old))
+    ensures carried { OnOk result
+        ((place id : ℕ)
+        → IsReady frame.now.statements place id frame.now.place
+        (variables_in scratch.old.variables.list.items) (drop base (S.stack store.old))
         → CarriesOn frame.now.statements place id (S.stack store.old) (S.stack store.new)) }
-    ensures entries { OnOk result ((place id : ℕ) → IsReady frame.now.statements place id frame.now.place (variables_in scratch.old.variables.list.items) (drop base (S.stack store.old))
+    ensures entries { OnOk result
+        ((place id : ℕ)
+        → IsReady frame.now.statements place id frame.now.place
+        (variables_in scratch.old.variables.list.items) (drop base (S.stack store.old))
         → AreEntries frame.now.statements (take place frame.now.statements) (S.stack store.old)
         → AreEntries frame.now.statements (take place frame.now.statements) (S.stack store.new)) }
     ensures kept { S.kept store.new ≡ S.kept store.old }
     ensures fault { (rule : ProofRule) → (at : ℕ) → result ≡ Err (ProofFault.Rule rule at)
-        → (at ≡ number) × ((place id : ℕ) → IsReady frame.now.statements place id frame.now.place (variables_in scratch.old.variables.list.items) (drop base (S.stack store.old))
+        → (at ≡ number)
+        × ((place id : ℕ)
+        → IsReady frame.now.statements place id frame.now.place
+        (variables_in scratch.old.variables.list.items) (drop base (S.stack store.old))
         → StopsAt frame.now.statements place id (S.stack store.old) rule) }
 {
     one_number();
@@ -134,16 +149,22 @@ fn apply_frame<S: Store>(
     requires own { own.now.statements ≡ book.now.statements }
     requires frame { frame.now.statements ≡ book.now.statements }
     requires sound { IsSound book.now.statements }
-    requires assertion { (s : Sentence) × (slice_get book.now.statements frame.now.place ≡ Some s) × IsAssertion s.kind }
+    requires assertion { (s : Sentence) × (slice_get book.now.statements frame.now.place ≡ Some s)
+        × IsAssertion s.kind }
     requires before { frame.now.place < own.now.place }
-    requires entries { AreEntries book.now.statements (take own.now.place book.now.statements) (S.stack store.old) }
-    ensures carried { OnOk result ((id : ℕ) (s : Sentence) → IsNumbered book.now.statements id frame.now.place s
+    requires entries { AreEntries book.now.statements (take own.now.place book.now.statements)
+        (S.stack store.old) }
+    ensures carried { OnOk result
+        ((id : ℕ) (s : Sentence) → IsNumbered book.now.statements id frame.now.place s
         → CarriesOn book.now.statements own.now.place id (S.stack store.old) (S.stack store.new)) }
-    ensures entries { OnOk result ((id : ℕ) (s : Sentence) → IsNumbered book.now.statements id frame.now.place s
-        → AreEntries book.now.statements (take own.now.place book.now.statements) (S.stack store.new)) }
+    ensures entries { OnOk result
+        ((id : ℕ) (s : Sentence) → IsNumbered book.now.statements id frame.now.place s
+        → AreEntries book.now.statements (take own.now.place book.now.statements)
+        (S.stack store.new)) }
     ensures kept { S.kept store.new ≡ S.kept store.old }
     ensures fault { (rule : ProofRule) → (at : ℕ) → result ≡ Err (ProofFault.Rule rule at)
-        → (at ≡ number) × ((id : ℕ) (s : Sentence) → IsNumbered book.now.statements id frame.now.place s
+        → (at ≡ number)
+        × ((id : ℕ) (s : Sentence) → IsNumbered book.now.statements id frame.now.place s
         → StopsAt book.now.statements own.now.place id (S.stack store.old) rule) }
 {
     let hypotheses = frame.hypotheses();
@@ -189,10 +210,15 @@ pub(crate) fn apply<S: Store>(
 ) -> Result<(), ProofFault>
     requires own { own.now.statements ≡ book.now.statements }
     requires sound { IsSound book.now.statements }
-    requires usable { (at : ℕ) × (s : Sentence) × IsNumbered book.now.statements id.0 at s × IsAssertion s.kind × (at < own.now.place) }
-    requires entries { AreEntries book.now.statements (take own.now.place book.now.statements) (S.stack store.old) }
-    ensures carried { OnOk result (CarriesOn book.now.statements own.now.place id.0 (S.stack store.old) (S.stack store.new)) }
-    ensures entries { OnOk result (AreEntries book.now.statements (take own.now.place book.now.statements) (S.stack store.new)) }
+    requires usable { (at : ℕ) × (s : Sentence) × IsNumbered book.now.statements id.0 at s
+        × IsAssertion s.kind × (at < own.now.place) }
+    requires entries { AreEntries book.now.statements (take own.now.place book.now.statements)
+        (S.stack store.old) }
+    ensures carried { OnOk result
+        (CarriesOn book.now.statements own.now.place id.0 (S.stack store.old) (S.stack store.new)) }
+    ensures entries { OnOk result
+        (AreEntries book.now.statements (take own.now.place book.now.statements)
+        (S.stack store.new)) }
     ensures kept { S.kept store.new ≡ S.kept store.old }
     ensures fault { (rule : ProofRule) → (at : ℕ) → result ≡ Err (ProofFault.Rule rule at)
         → (at ≡ number) × StopsAt book.now.statements own.now.place id.0 (S.stack store.old) rule }

@@ -153,8 +153,8 @@ fn listed(
 }
 
 /// The steps of the `$p` with this number, which these moves prove, in order: what each is called,
-/// and the expression that it puts on the stack. A step by a tag is called by the number of the step
-/// that the tag stands after; where that one is by a tag too, by that one's own number.
+/// and the expression that it puts on the stack. A step by a tag is called by the number of the
+/// step that the tag stands after; where that one is by a tag too, by that one's own number.
 ///
 /// # Errors
 ///

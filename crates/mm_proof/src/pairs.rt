@@ -1,12 +1,15 @@
 //! The distinct pairs of a step by an assertion: P11 and P12.
 
-ghost use Rattle.std.specs.Prelude.{◌≡◌, ◌↔◌, ◌+◌, ◌<◌, ◌^◌, length, drop, take, Contains, IsTrue, MatchBool};
+ghost use Rattle.std.specs.Prelude.{◌≡◌, ◌↔◌, ◌+◌, ◌<◌, ◌^◌, length, drop, take, Contains, IsTrue};
+ghost use Rattle.std.specs.Prelude.{MatchBool};
 ghost use Rattle.mm_frame.specs.Active.{IsVariable};
 ghost use Rattle.mm_frame.specs.Form.{IsSound};
 ghost use Rattle.mm_frame.specs.Numbers.{symbols_of};
 ghost use Rattle.mm_proof.specs.Tree.{ShareNoVariable, AreDistinct};
 ghost use Rattle.mm_proof.specs.Stores.{numbers_in};
-ghost use Rattle.mm_proof.specs.CodeVerify.{AreSymbols, AreEntries, SomeValues, EachValues, SomePairValues, EachPairValues, pairs_in, value_of, variables_in, IsApart, IsApartFromEach, name_at, named};
+ghost use Rattle.mm_proof.specs.CodeVerify.{AreSymbols, AreEntries, SomeValues, EachValues};
+ghost use Rattle.mm_proof.specs.CodeVerify.{SomePairValues, EachPairValues, pairs_in, value_of};
+ghost use Rattle.mm_proof.specs.CodeVerify.{variables_in, IsApart, IsApartFromEach, name_at, named};
 
 use crate::store::Store;
 use crate::substitution::value;
@@ -28,7 +31,11 @@ fn has_symbol(symbols: &[Sym], symbol: Sym) -> bool
 // Whether the symbol is a variable, and one of these.
 fn is_shared(book: &Book, symbol: Sym, f: &[Sym]) -> bool
     requires { symbol.0 < length (symbols_of book.now.statements) }
-    ensures { MatchBool result (IsVariable book.now.statements (name_at book.now.statements symbol.0) × Contains (numbers_in f.now) symbol.0) (IsVariable book.now.statements (name_at book.now.statements symbol.0) → ¬ (Contains (numbers_in f.now) symbol.0)) }
+    ensures { MatchBool result
+        (IsVariable book.now.statements (name_at book.now.statements symbol.0)
+        × Contains (numbers_in f.now) symbol.0)
+        (IsVariable book.now.statements (name_at book.now.statements symbol.0)
+        → ¬ (Contains (numbers_in f.now) symbol.0)) }
 {
     book.is_variable(symbol) && has_symbol(f, symbol)
 }
@@ -37,12 +44,18 @@ fn is_shared(book: &Book, symbol: Sym, f: &[Sym]) -> bool
 fn share_variable(book: &Book, own: &Frame, e: &[Sym], f: &[Sym]) -> bool
     requires sound { IsSound book.now.statements }
     requires book { own.now.statements ≡ book.now.statements }
-    requires first { AreSymbols book.now.statements (take own.now.place book.now.statements) (numbers_in e.now) }
-    requires second { AreSymbols book.now.statements (take own.now.place book.now.statements) (numbers_in f.now) }
+    requires first { AreSymbols book.now.statements (take own.now.place book.now.statements)
+        (numbers_in e.now) }
+    requires second { AreSymbols book.now.statements (take own.now.place book.now.statements)
+        (numbers_in f.now) }
     ensures { MatchBool
         result
-        (¬ (ShareNoVariable (take own.now.place book.now.statements) (named book.now.statements (numbers_in e.now)) (named book.now.statements (numbers_in f.now))))
-        (ShareNoVariable (take own.now.place book.now.statements) (named book.now.statements (numbers_in e.now)) (named book.now.statements (numbers_in f.now))) }
+        (¬ (ShareNoVariable (take own.now.place book.now.statements)
+        (named book.now.statements (numbers_in e.now))
+        (named book.now.statements (numbers_in f.now))))
+        (ShareNoVariable (take own.now.place book.now.statements)
+        (named book.now.statements (numbers_in e.now))
+        (named book.now.statements (numbers_in f.now))) }
 {
     one_number();
     for symbol in e {
@@ -70,7 +83,8 @@ fn is_apart(book: &Book, own: &Frame, variable: Sym, symbol: Sym) -> bool
 fn is_apart_from_each(book: &Book, own: &Frame, variable: Sym, f: &[Sym]) -> bool
     requires book { own.now.statements ≡ book.now.statements }
     requires first { variable.0 < length (symbols_of book.now.statements) }
-    requires second { AreSymbols book.now.statements (take own.now.place book.now.statements) (numbers_in f.now) }
+    requires second { AreSymbols book.now.statements (take own.now.place book.now.statements)
+        (numbers_in f.now) }
     ensures { MatchBool
         result
         (IsApartFromEach book.now.statements own.now.place (numbers_in f.now) variable.0)
@@ -91,12 +105,18 @@ fn is_apart_from_each(book: &Book, own: &Frame, variable: Sym, f: &[Sym]) -> boo
 fn are_apart(book: &Book, own: &Frame, e: &[Sym], f: &[Sym]) -> bool
     requires sound { IsSound book.now.statements }
     requires book { own.now.statements ≡ book.now.statements }
-    requires first { AreSymbols book.now.statements (take own.now.place book.now.statements) (numbers_in e.now) }
-    requires second { AreSymbols book.now.statements (take own.now.place book.now.statements) (numbers_in f.now) }
+    requires first { AreSymbols book.now.statements (take own.now.place book.now.statements)
+        (numbers_in e.now) }
+    requires second { AreSymbols book.now.statements (take own.now.place book.now.statements)
+        (numbers_in f.now) }
     ensures { MatchBool
         result
-        (AreDistinct (take own.now.place book.now.statements) (named book.now.statements (numbers_in e.now)) (named book.now.statements (numbers_in f.now)))
-        (¬ (AreDistinct (take own.now.place book.now.statements) (named book.now.statements (numbers_in e.now)) (named book.now.statements (numbers_in f.now)))) }
+        (AreDistinct (take own.now.place book.now.statements)
+        (named book.now.statements (numbers_in e.now))
+        (named book.now.statements (numbers_in f.now)))
+        (¬ (AreDistinct (take own.now.place book.now.statements)
+        (named book.now.statements (numbers_in e.now))
+        (named book.now.statements (numbers_in f.now)))) }
 {
     for symbol in e {
         if !is_apart_from_each(book, own, *symbol, f) {
@@ -119,11 +139,16 @@ fn is_shared_pair<S: Store>(
     requires book { own.now.statements ≡ book.now.statements }
     requires entries { base + length variables.now.list.items ≡ length (S.stack store.now) }
     requires fits { length (S.stack store.now) < 2 ^ 64 }
-    requires symbols { AreEntries book.now.statements (take own.now.place book.now.statements) (drop base (S.stack store.now)) }
-    ensures { let before = take own.now.place book.now.statements in let σ = value_of (variables_in variables.now.list.items) (drop base (S.stack store.now)) in MatchBool
+    requires symbols { AreEntries book.now.statements (take own.now.place book.now.statements)
+        (drop base (S.stack store.now)) }
+    ensures { let before = take own.now.place book.now.statements in
+        let σ = value_of (variables_in variables.now.list.items) (drop base (S.stack store.now)) in
+        MatchBool
         result
-        (SomeValues σ pair.0.0 pair.1.0 (λ e f. ¬ (ShareNoVariable before (named book.now.statements e) (named book.now.statements f))))
-        (EachValues σ pair.0.0 pair.1.0 (λ e f. ShareNoVariable before (named book.now.statements e) (named book.now.statements f))) }
+        (SomeValues σ pair.0.0 pair.1.0 (λ e f.
+        ¬ (ShareNoVariable before (named book.now.statements e) (named book.now.statements f))))
+        (EachValues σ pair.0.0 pair.1.0 (λ e f.
+        ShareNoVariable before (named book.now.statements e) (named book.now.statements f))) }
 {
     match value(store, base, variables, pair.0) {
         Some(e) => match value(store, base, variables, pair.1) {
@@ -147,11 +172,16 @@ fn is_apart_pair<S: Store>(
     requires book { own.now.statements ≡ book.now.statements }
     requires entries { base + length variables.now.list.items ≡ length (S.stack store.now) }
     requires fits { length (S.stack store.now) < 2 ^ 64 }
-    requires symbols { AreEntries book.now.statements (take own.now.place book.now.statements) (drop base (S.stack store.now)) }
-    ensures { let before = take own.now.place book.now.statements in let σ = value_of (variables_in variables.now.list.items) (drop base (S.stack store.now)) in MatchBool
+    requires symbols { AreEntries book.now.statements (take own.now.place book.now.statements)
+        (drop base (S.stack store.now)) }
+    ensures { let before = take own.now.place book.now.statements in
+        let σ = value_of (variables_in variables.now.list.items) (drop base (S.stack store.now)) in
+        MatchBool
         result
-        (EachValues σ pair.0.0 pair.1.0 (λ e f. AreDistinct before (named book.now.statements e) (named book.now.statements f)))
-        (SomeValues σ pair.0.0 pair.1.0 (λ e f. ¬ (AreDistinct before (named book.now.statements e) (named book.now.statements f)))) }
+        (EachValues σ pair.0.0 pair.1.0 (λ e f.
+        AreDistinct before (named book.now.statements e) (named book.now.statements f)))
+        (SomeValues σ pair.0.0 pair.1.0 (λ e f.
+        ¬ (AreDistinct before (named book.now.statements e) (named book.now.statements f)))) }
 {
     match value(store, base, variables, pair.0) {
         Some(e) => match value(store, base, variables, pair.1) {
@@ -175,11 +205,16 @@ pub(crate) fn has_shared_pair<S: Store>(
     requires book { own.now.statements ≡ book.now.statements }
     requires entries { base + length variables.now.list.items ≡ length (S.stack store.now) }
     requires fits { length (S.stack store.now) < 2 ^ 64 }
-    requires symbols { AreEntries book.now.statements (take own.now.place book.now.statements) (drop base (S.stack store.now)) }
-    ensures { let before = take own.now.place book.now.statements in let σ = value_of (variables_in variables.now.list.items) (drop base (S.stack store.now)) in MatchBool
+    requires symbols { AreEntries book.now.statements (take own.now.place book.now.statements)
+        (drop base (S.stack store.now)) }
+    ensures { let before = take own.now.place book.now.statements in
+        let σ = value_of (variables_in variables.now.list.items) (drop base (S.stack store.now)) in
+        MatchBool
         result
-        (SomePairValues σ (pairs_in pairs.now) (λ e f. ¬ (ShareNoVariable before (named book.now.statements e) (named book.now.statements f))))
-        (EachPairValues σ (pairs_in pairs.now) (λ e f. ShareNoVariable before (named book.now.statements e) (named book.now.statements f))) }
+        (SomePairValues σ (pairs_in pairs.now) (λ e f.
+        ¬ (ShareNoVariable before (named book.now.statements e) (named book.now.statements f))))
+        (EachPairValues σ (pairs_in pairs.now) (λ e f.
+        ShareNoVariable before (named book.now.statements e) (named book.now.statements f))) }
 {
     for pair in pairs {
         if is_shared_pair(store, base, variables, book, own, *pair) {
@@ -202,11 +237,16 @@ pub(crate) fn are_apart_pairs<S: Store>(
     requires book { own.now.statements ≡ book.now.statements }
     requires entries { base + length variables.now.list.items ≡ length (S.stack store.now) }
     requires fits { length (S.stack store.now) < 2 ^ 64 }
-    requires symbols { AreEntries book.now.statements (take own.now.place book.now.statements) (drop base (S.stack store.now)) }
-    ensures { let before = take own.now.place book.now.statements in let σ = value_of (variables_in variables.now.list.items) (drop base (S.stack store.now)) in MatchBool
+    requires symbols { AreEntries book.now.statements (take own.now.place book.now.statements)
+        (drop base (S.stack store.now)) }
+    ensures { let before = take own.now.place book.now.statements in
+        let σ = value_of (variables_in variables.now.list.items) (drop base (S.stack store.now)) in
+        MatchBool
         result
-        (EachPairValues σ (pairs_in pairs.now) (λ e f. AreDistinct before (named book.now.statements e) (named book.now.statements f)))
-        (SomePairValues σ (pairs_in pairs.now) (λ e f. ¬ (AreDistinct before (named book.now.statements e) (named book.now.statements f)))) }
+        (EachPairValues σ (pairs_in pairs.now) (λ e f.
+        AreDistinct before (named book.now.statements e) (named book.now.statements f)))
+        (SomePairValues σ (pairs_in pairs.now) (λ e f.
+        ¬ (AreDistinct before (named book.now.statements e) (named book.now.statements f)))) }
 {
     for pair in pairs {
         if !is_apart_pair(store, base, variables, book, own, *pair) {

@@ -1,13 +1,10 @@
 //! What proves one proof after the other.
 
-ghost use Rattle.std.specs.Prelude.{◌≡◌, ℕ, List, take, Err, IfOk, IsOkUnless};
-ghost use Rattle.mm_frame.specs.Sentence.{Sentence};
+ghost use Rattle.std.specs.Prelude.{◌≡◌, ℕ, take, Err, IfOk, IsOkUnless};
 ghost use Rattle.mm_proof.specs.Answer.{IsUnlessMemory};
-ghost use Rattle.mm_proof.specs.Tree.{tree, none};
-ghost use Rattle.mm_proof.specs.Moves.{Move};
-ghost use Rattle.mm_proof.specs.Proof.{Prove, IsWithin, expression_limit, IsMovesFault};
-ghost use Rattle.mm_proof.specs.Steps.{AreNumberedMoves, AreSteps, IsProofNumber};
-ghost use Rattle.mm_proof.specs.Used.{AreUsed};
+ghost use Rattle.mm_proof.specs.Proof.{Prove, IsWithin, expression_limit};
+ghost use Rattle.mm_proof.specs.Steps.{AreSteps};
+ghost use Rattle.mm_proof.specs.Verified.{OfMoves, ProvesWith, FailsWith};
 
 use crate::apply::Scratch;
 use crate::fault::{ProofFault, ProofRule};
@@ -52,37 +49,25 @@ impl Prover {
     pub fn prove(&mut self, book: &Book, id: LabelId, steps: &Steps) -> Result<Used, ProofFault>
         requires { AreSteps book.now.statements id.0 steps.now }
         // What is answered `Ok` is proved, and these are the assertions of its tree.
-        ensures proved { IfOk result (λ used. (place : ℕ) → (s : Sentence)
-            → (moves : List (Move (List ℕ)))
-            → IsProofNumber book.now.statements id.0 place s
-            → AreNumberedMoves book.now.statements steps.now moves
-            → (p : Prove (IsWithin expression_limit) (take place book.now.statements) s moves)
-            × AreUsed (take place book.now.statements) (tree p.label p.below none) used) }
+        ensures proved { IfOk result (λ used. OfMoves book.now.statements id.0 steps.now
+            (λ place s moves. ProvesWith book.now.statements place s moves used)) }
 
         // The rule and the step are those of the first fault.
         ensures fault { (rule : ProofRule) → (step : ℕ)
             → result ≡ Err (ProofFault.Rule rule step)
-            → (place : ℕ) → (s : Sentence) → (moves : List (Move (List ℕ)))
-            → IsProofNumber book.now.statements id.0 place s
-            → AreNumberedMoves book.now.statements steps.now moves
-            → IsMovesFault (IsWithin expression_limit) (take place book.now.statements) s moves
-            rule step }
+            → OfMoves book.now.statements id.0 steps.now
+            (λ place s moves. FailsWith book.now.statements place s moves rule step) }
 
         // What is proved is answered `Ok`, unless memory is refused.
-        ensures accepts { (place : ℕ) → (s : Sentence) → (moves : List (Move (List ℕ)))
-            → IsProofNumber book.now.statements id.0 place s
-            → AreNumberedMoves book.now.statements steps.now moves
-            → Prove (IsWithin expression_limit) (take place book.now.statements) s moves
-            → IsOkUnless result ProofFault.Memory }
+        ensures accepts { OfMoves book.now.statements id.0 steps.now (λ place s moves.
+            Prove (IsWithin expression_limit) (take place book.now.statements) s moves
+            → IsOkUnless result ProofFault.Memory) }
 
         // What has a fault is answered with it, unless memory is refused.
-        ensures refuses { (place : ℕ) → (s : Sentence) → (moves : List (Move (List ℕ)))
-            → IsProofNumber book.now.statements id.0 place s
-            → AreNumberedMoves book.now.statements steps.now moves
-            → (rule : ProofRule) → (step : ℕ)
-            → IsMovesFault (IsWithin expression_limit) (take place book.now.statements) s moves
-            rule step
-            → IsUnlessMemory result (Err (ProofFault.Rule rule step)) }
+        ensures refuses { OfMoves book.now.statements id.0 steps.now (λ place s moves.
+            (rule : ProofRule) → (step : ℕ)
+            → FailsWith book.now.statements place s moves rule step
+            → IsUnlessMemory result (Err (ProofFault.Rule rule step))) }
     {
         self.store.clear();
         answer(

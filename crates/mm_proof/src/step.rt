@@ -1,6 +1,8 @@
 //! One step of a proof by an assertion (the Metamath book, section 4.1.4 and appendix B).
 
-ghost use Rattle.std.specs.Prelude.{◌≡◌, ◌↔◌, ◌+◌, ◌≤◌, ◌<◌, ◌^◌, ℕ, List, length, drop, map, slice_get, slice_index_or, option_map, All, Option, Some, None, IsTrue, IfOk, MatchBool, MatchOption};
+ghost use Rattle.std.specs.Prelude.{◌≡◌, ◌↔◌, ◌+◌, ◌≤◌, ◌<◌, ◌^◌, ℕ, List, length, drop, map};
+ghost use Rattle.std.specs.Prelude.{slice_get, slice_index_or, option_map, All, Option, Some, None};
+ghost use Rattle.std.specs.Prelude.{IsTrue, IfOk, MatchBool, MatchOption};
 ghost use Rattle.std.specs.List.{AllByRecursion};
 ghost use Rattle.mm_text.specs.declared.statement.Kind.TheVariants.{Floating, Essential};
 ghost use Rattle.mm_frame.specs.Sentence.{Sentence};
@@ -8,7 +10,9 @@ ghost use Rattle.mm_frame.specs.Form.{IsSound};
 ghost use Rattle.mm_frame.specs.Numbers.{labelled};
 ghost use Rattle.mm_proof.specs.Stores.{numbers_in};
 ghost use Rattle.mm_proof.specs.CodeSteps.{ids_in};
-ghost use Rattle.mm_proof.specs.CodeVerify.{AreHypothesesOf, AreVariablesOf, IsVariableOf, AreBelow, variables_in, named, all_named, IsRightCode, IsWrongCode, IsEqual, IsUnequal, EachEntry, Replaces};
+ghost use Rattle.mm_proof.specs.CodeVerify.{AreHypothesesOf, AreVariablesOf, IsVariableOf};
+ghost use Rattle.mm_proof.specs.CodeVerify.{AreBelow, variables_in, named, all_named, IsRightCode};
+ghost use Rattle.mm_proof.specs.CodeVerify.{IsWrongCode, IsEqual, IsUnequal, EachEntry, Replaces};
 ghost use Rattle.mm_proof.specs.Proof.{SomePair};
 
 use crate::store::Store;
@@ -28,7 +32,8 @@ fn second(expression: &[Sym]) -> Option<Sym>
 
 // Whether both have the same first symbol, or none.
 fn is_first_same(expression: &[Sym], entry: &[Sym]) -> bool
-    ensures { IsTrue result ↔ (slice_get (numbers_in entry.now) 0 ≡ slice_get (numbers_in expression.now) 0) }
+    ensures { IsTrue result
+        ↔ (slice_get (numbers_in entry.now) 0 ≡ slice_get (numbers_in expression.now) 0) }
 {
     match (expression, entry) {
         ([code, ..], [first, ..]) => code.0 == first.0,
@@ -73,12 +78,14 @@ pub(crate) fn fill_variables<S: Store>(
     hypotheses: &[LabelId],
 ) -> Result<bool, AllocError>
     requires sound { IsSound book.now.statements }
-    requires known { (hs : List Sentence) × AreHypothesesOf book.now.statements (ids_in hypotheses.now) hs }
+    requires known { (hs : List Sentence)
+        × AreHypothesesOf book.now.statements (ids_in hypotheses.now) hs }
     requires entries { base + length hypotheses.now ≡ length (S.stack store.now) }
     requires fits { length (S.stack store.now) < 2 ^ 64 }
     requires below { AllByRecursion (AreBelow book.now.statements) (drop base (S.stack store.now)) }
-    ensures { IfOk result (λ right. (hs : List Sentence) → AreHypothesesOf book.now.statements (ids_in hypotheses.now) hs → MatchBool
-        right
+    ensures { IfOk result (λ right. (hs : List Sentence)
+        → AreHypothesesOf book.now.statements (ids_in hypotheses.now) hs
+        → MatchBool right
         (AreVariablesOf book.now.statements (variables_in variables.new.list.items) hs
         × EachEntry hs (all_named book.now.statements (drop base (S.stack store.now))) IsRightCode)
         (SomePair hs (all_named book.now.statements (drop base (S.stack store.now))) IsWrongCode)) }
@@ -108,10 +115,14 @@ fn is_equal<S: Store>(
     requires fits { length (S.stack store.now) < 2 ^ 64 }
     requires below { AllByRecursion (AreBelow book.now.statements) (drop base (S.stack store.now)) }
     requires entry { AreBelow book.now.statements (numbers_in entry.now) }
-    ensures { (σ : List ℕ → Option (List (List ℕ))) → Replaces book.now.statements σ (variables_in variables.now.list.items) (drop base (S.stack store.now))
+    ensures { (σ : List ℕ → Option (List (List ℕ)))
+        → Replaces book.now.statements σ (variables_in variables.now.list.items)
+        (drop base (S.stack store.now))
         → (h : Sentence) → slice_get (labelled book.now.statements) id.0 ≡ Some h
-        → IsVariableOf book.now.statements (slice_index_or (variables_in variables.now.list.items) place None) h
-        → MatchBool result (IsEqual σ h (named book.now.statements (numbers_in entry.now))) (IsUnequal σ h (named book.now.statements (numbers_in entry.now))) }
+        → IsVariableOf book.now.statements
+        (slice_index_or (variables_in variables.now.list.items) place None) h
+        → MatchBool result (IsEqual σ h (named book.now.statements (numbers_in entry.now)))
+        (IsUnequal σ h (named book.now.statements (numbers_in entry.now))) }
 {
     one_number();
     if variables.is_floating(place) {
@@ -131,15 +142,21 @@ pub(crate) fn are_equal<S: Store>(
     book: &Book,
     hypotheses: &[LabelId],
 ) -> bool
-    requires known { (hs : List Sentence) × AreHypothesesOf book.now.statements (ids_in hypotheses.now) hs }
+    requires known { (hs : List Sentence)
+        × AreHypothesesOf book.now.statements (ids_in hypotheses.now) hs }
     requires entries { base + length hypotheses.now ≡ length (S.stack store.now) }
     requires variables { length variables.now.list.items ≡ length hypotheses.now }
     requires fits { length (S.stack store.now) < 2 ^ 64 }
     requires below { AllByRecursion (AreBelow book.now.statements) (drop base (S.stack store.now)) }
-    ensures { (σ : List ℕ → Option (List (List ℕ))) → Replaces book.now.statements σ (variables_in variables.now.list.items) (drop base (S.stack store.now))
+    ensures { (σ : List ℕ → Option (List (List ℕ)))
+        → Replaces book.now.statements σ (variables_in variables.now.list.items)
+        (drop base (S.stack store.now))
         → (hs : List Sentence) → AreHypothesesOf book.now.statements (ids_in hypotheses.now) hs
         → AreVariablesOf book.now.statements (variables_in variables.now.list.items) hs
-        → MatchBool result (EachEntry hs (all_named book.now.statements (drop base (S.stack store.now))) (IsEqual σ)) (SomePair hs (all_named book.now.statements (drop base (S.stack store.now))) (IsUnequal σ)) }
+        → MatchBool result
+        (EachEntry hs (all_named book.now.statements (drop base (S.stack store.now))) (IsEqual σ))
+        (SomePair hs (all_named book.now.statements (drop base (S.stack store.now)))
+        (IsUnequal σ)) }
 {
     for (index, id) in hypotheses.iter().enumerate() {
         if !is_equal(

@@ -1,9 +1,12 @@
 //! Substitution by numbers: each mandatory variable is replaced by what follows the type code in
 //! the entry of its `$f` (the Metamath book, section 4.1.4).
 
-ghost use Rattle.std.specs.Prelude.{◌≡◌, ◌↔◌, ◌+◌, ◌≤◌, ◌<◌, ◌^◌, ◌∷◌, ◌++◌, [], ℕ, List, length, drop, unwrap_or, option_map, IsTrue, IfOk, MatchOption, MatchBool};
+ghost use Rattle.std.specs.Prelude.{◌≡◌, ◌↔◌, ◌+◌, ◌≤◌, ◌<◌, ◌^◌, ◌∷◌, ◌++◌, [], ℕ, List, length};
+ghost use Rattle.std.specs.Prelude.{drop, unwrap_or, option_map, IsTrue, IfOk, MatchOption};
+ghost use Rattle.std.specs.Prelude.{MatchBool};
 ghost use Rattle.mm_proof.specs.Stores.{numbers_in};
-ghost use Rattle.mm_proof.specs.CodeVerify.{variables_in, is_of, value_of, replaced_in, IsNowhere, IsFirstAt};
+ghost use Rattle.mm_proof.specs.CodeVerify.{variables_in, is_of, value_of, replaced_in, IsNowhere};
+ghost use Rattle.mm_proof.specs.CodeVerify.{IsFirstAt};
 
 use crate::store::Store;
 use crate::variables::Variables;
@@ -32,7 +35,8 @@ pub(crate) fn value<'s, S: Store>(
 ) -> Option<&'s [Sym]>
     requires entries { base + length variables.now.list.items ≡ length (S.stack store.now) }
     requires fits { length (S.stack store.now) < 2 ^ 64 }
-    ensures { option_map (λ v. numbers_in v.now) result ≡ value_of (variables_in variables.now.list.items) (drop base (S.stack store.now)) symbol.0 }
+    ensures { option_map (λ v. numbers_in v.now) result
+        ≡ value_of (variables_in variables.now.list.items) (drop base (S.stack store.now)) symbol.0 }
 {
     match variables.place_of(symbol) {
         Some(place) => Some(after_first(store.at(base + place))),
@@ -75,7 +79,9 @@ fn after_replaced<'e, S: Store>(
 ) -> Option<&'e [Sym]>
     requires entries { base + length variables.now.list.items ≡ length (S.stack store.now) }
     requires fits { length (S.stack store.now) < 2 ^ 64 }
-    ensures { let front = unwrap_or (value_of (variables_in variables.now.list.items) (drop base (S.stack store.now)) symbol.0) (symbol.0 ∷ []) in MatchOption
+    ensures { let front = unwrap_or
+        (value_of (variables_in variables.now.list.items) (drop base (S.stack store.now)) symbol.0)
+        (symbol.0 ∷ []) in MatchOption
         result
         ((rest : List ℕ) → ¬ (numbers_in symbols.now ≡ front ++ rest))
         (λ rest. numbers_in symbols.now ≡ front ++ numbers_in rest.now) }
@@ -96,7 +102,10 @@ pub(crate) fn is_replaced<S: Store>(
 ) -> bool
     requires entries { base + length variables.now.list.items ≡ length (S.stack store.now) }
     requires fits { length (S.stack store.now) < 2 ^ 64 }
-    ensures { IsTrue result ↔ (numbers_in symbols.now ≡ replaced_in (value_of (variables_in variables.now.list.items) (drop base (S.stack store.now))) (numbers_in pattern.now)) }
+    ensures { IsTrue result
+        ↔ (numbers_in symbols.now ≡ replaced_in
+        (value_of (variables_in variables.now.list.items) (drop base (S.stack store.now)))
+        (numbers_in pattern.now)) }
 {
     let mut rest = symbols;
     for symbol in pattern {
@@ -118,7 +127,10 @@ fn append_replaced<S: Store>(
 ) -> Result<(), AllocError>
     requires entries { base + length variables.now.list.items ≡ length (S.stack store.now) }
     requires fits { length (S.stack store.now) < 2 ^ 64 }
-    ensures { IfOk result (λ u. numbers_in made.new.items ≡ numbers_in made.old.items ++ unwrap_or (value_of (variables_in variables.now.list.items) (drop base (S.stack store.now)) symbol.0) (symbol.0 ∷ [])) }
+    ensures { IfOk result (λ u.
+        numbers_in made.new.items ≡ numbers_in made.old.items ++ unwrap_or
+        (value_of (variables_in variables.now.list.items) (drop base (S.stack store.now)) symbol.0)
+        (symbol.0 ∷ [])) }
 {
     match value(store, base, variables, symbol) {
         Some(value) => made.extend_from_slice(value)?,
@@ -137,7 +149,10 @@ pub(crate) fn substitute<S: Store>(
 ) -> Result<bool, AllocError>
     requires entries { base + length variables.now.list.items ≡ length (S.stack store.now) }
     requires fits { length (S.stack store.now) < 2 ^ 64 }
-    ensures { IfOk result (λ fits. let whole = replaced_in (value_of (variables_in variables.now.list.items) (drop base (S.stack store.now))) (numbers_in pattern.now) in MatchBool
+    ensures { IfOk result (λ fits.
+        let whole = replaced_in
+        (value_of (variables_in variables.now.list.items) (drop base (S.stack store.now)))
+        (numbers_in pattern.now) in MatchBool
         fits
         ((length whole ≤ 1048576) × (numbers_in made.new.items ≡ whole))
         (1048576 < length whole)) }

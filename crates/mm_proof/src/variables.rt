@@ -1,6 +1,7 @@
 //! The variables of the hypotheses of a step, and where each of them stands.
 
-ghost use Rattle.std.specs.Prelude.{◌≡◌, ◌≤◌, [], ◌∷◌, ◌++◌, List, ℕ, length, slice_index_or, is_some, Some, None, MatchOption, OnOk, OnErr};
+ghost use Rattle.std.specs.Prelude.{◌≡◌, ◌≤◌, [], ◌∷◌, ◌++◌, List, ℕ, length, slice_index_or};
+ghost use Rattle.std.specs.Prelude.{is_some, Some, None, MatchOption, OnOk, OnErr};
 ghost use Rattle.mm_proof.specs.CodeVerify.{variables_in, is_of, ArePlaces, IsNowhere, IsFirstAt};
 
 use mm_frame::Sym;
@@ -64,7 +65,8 @@ fn find_place(places: &[usize], list: &[Option<Sym>], symbol: Sym) -> Option<usi
 fn put_place(places: &mut Vec<usize>, list: &[Option<Sym>], symbol: Sym) -> Result<(), AllocError>
     requires { ArePlaces places.old.items (variables_in list.now) }
     ensures now { ArePlaces places.new.items (variables_in list.now) }
-    ensures then { OnOk result (ArePlaces places.new.items (variables_in list.now ++ Some symbol.0 ∷ [])) }
+    ensures then { OnOk result
+        (ArePlaces places.new.items (variables_in list.now ++ Some symbol.0 ∷ [])) }
 {
     let number = symbol.0 as usize;
     lengthen(places, number + 1)?;

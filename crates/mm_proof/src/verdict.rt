@@ -1,20 +1,21 @@
 //! The verdict on the moves of a proof.
 
-ghost use Rattle.std.specs.Prelude.{◌≡◌, ◌↔◌, ◌≤◌, ℕ, List, [], ◌∷◌, ◌++◌, take, length, slice_get, Contains, Some, Ok, Err, IfOk, IfErr, OnOk, IsOkUnless};
+ghost use Rattle.std.specs.Prelude.{◌≡◌, ◌↔◌, ◌≤◌, ℕ, List, [], ◌∷◌, ◌++◌, take, length, slice_get};
+ghost use Rattle.std.specs.Prelude.{Contains, Some, Ok, Err, IfOk, IfErr, OnOk, IsOkUnless};
 ghost use Rattle.std.specs.List.{AllByRecursion};
 ghost use Rattle.mm_frame.specs.Sentence.{Sentence};
 ghost use Rattle.mm_frame.specs.Numbers.{IsNumbered};
 ghost use Rattle.mm_proof.specs.Answer.{OnRule, IsUnlessMemory};
 ghost use Rattle.mm_proof.specs.Stores.{numbers_in};
-ghost use Rattle.mm_proof.specs.Tree.{tree, none};
 ghost use Rattle.mm_proof.specs.Moves.{Move};
-ghost use Rattle.mm_proof.specs.Proof.{Prove, IsWithin, expression_limit, IsMoveFault, IsMovesFault};
-ghost use Rattle.mm_proof.specs.Steps.{AreNumberedMoves, AreSteps, IsProofNumber};
-ghost use Rattle.mm_proof.specs.Used.{AreUsed};
+ghost use Rattle.mm_proof.specs.Proof.{Prove, IsWithin, expression_limit, IsMoveFault};
+ghost use Rattle.mm_proof.specs.Steps.{AreNumberedMoves, AreSteps};
 ghost use Rattle.mm_frame.specs.Form.{IsSound};
 ghost use Rattle.mm_proof.specs.CodeSteps.{MayBeUsed, ids_in, moves_in};
 ghost use Rattle.mm_proof.specs.CodeVerify.{AreEntries};
-ghost use Rattle.mm_proof.specs.CodeRun.{CarriesOn, StopsAt, MayBeMade, HasRun, IsNamed, AreNamed, EndsWrong, ProvesWith, OfMoves};
+ghost use Rattle.mm_proof.specs.CodeRun.{CarriesOn, StopsAt, MayBeMade, HasRun, IsNamed, AreNamed};
+ghost use Rattle.mm_proof.specs.CodeRun.{EndsWrong};
+ghost use Rattle.mm_proof.specs.Verified.{OfMoves, ProvesWith, FailsWith};
 
 use crate::apply::{Scratch, apply};
 use crate::fault::{ProofFault, ProofRule};
@@ -44,9 +45,13 @@ pub(crate) fn step<S: Store>(
     requires own { own.now.statements ≡ book.now.statements }
     requires sound { IsSound book.now.statements }
     requires usable { (label : List ℕ) × MayBeUsed book.now.statements own.now.place label id.0 }
-    requires entries { AreEntries book.now.statements (take own.now.place book.now.statements) (S.stack store.old) }
-    ensures carried { OnOk result (CarriesOn book.now.statements own.now.place id.0 (S.stack store.old) (S.stack store.new)) }
-    ensures entries { OnOk result (AreEntries book.now.statements (take own.now.place book.now.statements) (S.stack store.new)) }
+    requires entries { AreEntries book.now.statements (take own.now.place book.now.statements)
+        (S.stack store.old) }
+    ensures carried { OnOk result
+        (CarriesOn book.now.statements own.now.place id.0 (S.stack store.old) (S.stack store.new)) }
+    ensures entries { OnOk result
+        (AreEntries book.now.statements (take own.now.place book.now.statements)
+        (S.stack store.new)) }
     ensures kept { S.kept store.new ≡ S.kept store.old }
     ensures fault { (rule : ProofRule) → (at : ℕ) → result ≡ Err (ProofFault.Rule rule at)
         → (at ≡ number) × StopsAt book.now.statements own.now.place id.0 (S.stack store.old) rule }
@@ -72,7 +77,9 @@ pub(crate) fn step_again<S: Store>(
     number: usize,
 ) -> Result<(), ProofFault>
     requires { kept ≡ length (S.kept store.old) }
-    ensures ok { OnOk result ((e : List ℕ) × (slice_get (S.kept store.old) tag ≡ Some e) × (S.stack store.new ≡ S.stack store.old ++ e ∷ [])) }
+    ensures ok { OnOk result
+        ((e : List ℕ) × (slice_get (S.kept store.old) tag ≡ Some e)
+        × (S.stack store.new ≡ S.stack store.old ++ e ∷ [])) }
     ensures kept { S.kept store.new ≡ S.kept store.old }
     ensures fault { (rule : ProofRule) → (at : ℕ) → result ≡ Err (ProofFault.Rule rule at)
         → (at ≡ number) × (rule ≡ ProofRule.P6) × (length (S.kept store.old) ≤ tag) }
@@ -86,7 +93,9 @@ pub(crate) fn step_again<S: Store>(
 
 // A mark, where a step would have this number.
 pub(crate) fn mark<S: Store>(store: &mut S, number: usize) -> Result<(), ProofFault>
-    ensures ok { OnOk result ((rest : List (List ℕ)) × (e : List ℕ) × (S.stack store.old ≡ rest ++ e ∷ []) × (S.kept store.new ≡ S.kept store.old ++ e ∷ [])) }
+    ensures ok { OnOk result
+        ((rest : List (List ℕ)) × (e : List ℕ) × (S.stack store.old ≡ rest ++ e ∷ [])
+        × (S.kept store.new ≡ S.kept store.old ++ e ∷ [])) }
     ensures stack { S.stack store.new ≡ S.stack store.old }
     ensures fault { (rule : ProofRule) → (at : ℕ) → result ≡ Err (ProofFault.Rule rule at)
         → (at ≡ number) × (rule ≡ ProofRule.P7) × (S.stack store.old ≡ []) }
@@ -108,14 +117,19 @@ fn run<S: Store>(
 ) -> Result<usize, ProofFault>
     requires own { own.now.statements ≡ book.now.statements }
     requires sound { IsSound book.now.statements }
-    requires usable { AllByRecursion (MayBeMade book.now.statements own.now.place) (moves_in moves.now) }
+    requires usable { AllByRecursion (MayBeMade book.now.statements own.now.place)
+        (moves_in moves.now) }
     requires stack { S.stack store.old ≡ [] }
     requires kept { S.kept store.old ≡ [] }
-    ensures ok { IfOk result (λ count. HasRun book.now.statements own.now.place (moves_in moves.now) (S.stack store.new) (S.kept store.new) count) }
+    ensures ok { IfOk result (λ count.
+        HasRun book.now.statements own.now.place (moves_in moves.now) (S.stack store.new)
+        (S.kept store.new) count) }
     ensures count { IfOk result (λ count. count ≤ length moves.now) }
     ensures fault { (rule : ProofRule) → (at : ℕ) → result ≡ Err (ProofFault.Rule rule at)
-        → (names : List (Move (List ℕ))) → AreNumberedMoves book.now.statements (moves_in moves.now) names
-        → IsMoveFault (IsWithin expression_limit) (take own.now.place book.now.statements) names rule at }
+        → (names : List (Move (List ℕ)))
+        → AreNumberedMoves book.now.statements (moves_in moves.now) names
+        → IsMoveFault (IsWithin expression_limit)
+        (take own.now.place book.now.statements) names rule at }
 {
     let mut steps = 0;
     let mut kept = 0;
@@ -140,8 +154,10 @@ fn run<S: Store>(
 
 // The assertions that the moves name, in the order of the moves.
 fn fill_named(ids: &mut Vec<LabelId>, book: &Book, moves: &[NumberedMove]) -> Result<(), AllocError>
-    requires known { (place : ℕ) × AllByRecursion (MayBeMade book.now.statements place) (moves_in moves.now) }
-    ensures { OnOk result ((id : ℕ) → Contains (ids_in ids.new.items) id ↔ IsNamed book.now.statements (moves_in moves.now) id) }
+    requires known { (place : ℕ)
+        × AllByRecursion (MayBeMade book.now.statements place) (moves_in moves.now) }
+    ensures { OnOk result ((id : ℕ) → Contains (ids_in ids.new.items) id
+        ↔ IsNamed book.now.statements (moves_in moves.now) id) }
 {
     ids.clear();
     for one in moves {
@@ -162,8 +178,10 @@ fn used_by(
     book: &Book,
     moves: &[NumberedMove],
 ) -> Result<Vec<LabelId>, AllocError>
-    requires known { (place : ℕ) × AllByRecursion (MayBeMade book.now.statements place) (moves_in moves.now) }
-    ensures { IfOk result (λ v. AreNamed book.now.statements (moves_in moves.now) (ids_in v.items)) }
+    requires known { (place : ℕ)
+        × AllByRecursion (MayBeMade book.now.statements place) (moves_in moves.now) }
+    ensures { IfOk result (λ v.
+        AreNamed book.now.statements (moves_in moves.now) (ids_in v.items)) }
 {
     fill_named(ids, book, moves)?;
     ids.sort()?;
@@ -207,9 +225,11 @@ fn derive<S: Store>(
     requires kept { S.kept store.old ≡ [] }
     requires steps { AreSteps book.now.statements id.0 (moves_in moves.now) }
     ensures proved { OnOk result (OfMoves book.now.statements id.0 (moves_in moves.now)
-        (λ place s names. Prove (IsWithin expression_limit) (take place book.now.statements) s names)) }
-    ensures fault { IfErr result (λ e. OnRule e (λ rule step. OfMoves book.now.statements id.0 (moves_in moves.now)
-        (λ place s names. IsMovesFault (IsWithin expression_limit) (take place book.now.statements) s names rule step))) }
+        (λ place s names.
+        Prove (IsWithin expression_limit) (take place book.now.statements) s names)) }
+    ensures fault { IfErr result (λ e.
+        OnRule e (λ rule step. OfMoves book.now.statements id.0 (moves_in moves.now)
+        (λ place s names. FailsWith book.now.statements place s names rule step))) }
 {
     one_number();
     let count = run(store, scratch, book, own, moves)?;
@@ -236,8 +256,9 @@ fn judged_frame<S: Store>(
     requires steps { AreSteps book.now.statements id.0 (moves_in moves.now) }
     ensures proved { IfOk result (λ v. OfMoves book.now.statements id.0 (moves_in moves.now)
         (λ place s names. ProvesWith book.now.statements place s names (ids_in v.items))) }
-    ensures fault { IfErr result (λ e. OnRule e (λ rule step. OfMoves book.now.statements id.0 (moves_in moves.now)
-        (λ place s names. IsMovesFault (IsWithin expression_limit) (take place book.now.statements) s names rule step))) }
+    ensures fault { IfErr result (λ e.
+        OnRule e (λ rule step. OfMoves book.now.statements id.0 (moves_in moves.now)
+        (λ place s names. FailsWith book.now.statements place s names rule step))) }
 {
     derive(store, scratch, book, own, id, moves)?;
     Ok(used_by(alloc, &mut scratch.ids, book, moves)?)
@@ -257,8 +278,9 @@ fn judged<S: Store>(
     requires steps { AreSteps book.now.statements id.0 (moves_in moves.now) }
     ensures proved { IfOk result (λ v. OfMoves book.now.statements id.0 (moves_in moves.now)
         (λ place s names. ProvesWith book.now.statements place s names (ids_in v.items))) }
-    ensures fault { IfErr result (λ e. OnRule e (λ rule step. OfMoves book.now.statements id.0 (moves_in moves.now)
-        (λ place s names. IsMovesFault (IsWithin expression_limit) (take place book.now.statements) s names rule step))) }
+    ensures fault { IfErr result (λ e.
+        OnRule e (λ rule step. OfMoves book.now.statements id.0 (moves_in moves.now)
+        (λ place s names. FailsWith book.now.statements place s names rule step))) }
     ensures sound { IsSound book.now.statements }
 {
     let own = book.frame(id);
@@ -280,14 +302,14 @@ pub(crate) fn answer<S: Store>(
     ensures proved { IfOk result (λ used. OfMoves book.now.statements id.0 steps.now
         (λ place s names. ProvesWith book.now.statements place s names used)) }
     ensures fault { (rule : ProofRule) → (step : ℕ) → result ≡ Err (ProofFault.Rule rule step)
-        → OfMoves book.now.statements id.0 steps.now (λ place s names.
-        IsMovesFault (IsWithin expression_limit) (take place book.now.statements) s names rule step) }
+        → OfMoves book.now.statements id.0 steps.now
+        (λ place s names. FailsWith book.now.statements place s names rule step) }
     ensures accepts { OfMoves book.now.statements id.0 steps.now (λ place s names.
         Prove (IsWithin expression_limit) (take place book.now.statements) s names
         → IsOkUnless result ProofFault.Memory) }
     ensures refuses { OfMoves book.now.statements id.0 steps.now (λ place s names.
         (rule : ProofRule) → (step : ℕ)
-        → IsMovesFault (IsWithin expression_limit) (take place book.now.statements) s names rule step
+        → FailsWith book.now.statements place s names rule step
         → IsUnlessMemory result (Err (ProofFault.Rule rule step))) }
 {
     match judged(alloc, store, scratch, book, id, &steps.moves) {
@@ -310,25 +332,23 @@ pub fn verify<S: Store + Drop>(
     requires kept { S.kept store ≡ [] }
     requires steps { AreSteps book.now.statements id.0 steps.now }
     // What is answered `Ok` is proved, and these are the assertions of its tree.
-    ensures proved { IfOk result (λ used. (place : ℕ) → (s : Sentence) → (moves : List (Move (List ℕ))) → IsProofNumber book.now.statements id.0 place s
-        → AreNumberedMoves book.now.statements steps.now moves
-        → (p : Prove (IsWithin expression_limit) (take place book.now.statements) s moves) × AreUsed (take place book.now.statements) (tree p.label p.below none) used) }
+    ensures proved { IfOk result (λ used. OfMoves book.now.statements id.0 steps.now
+        (λ place s moves. ProvesWith book.now.statements place s moves used)) }
 
     // The rule and the step are those of the first fault.
-    ensures fault { (rule : ProofRule) → (step : ℕ) → result ≡ Err (ProofFault.Rule rule step) → (place : ℕ) → (s : Sentence) → (moves : List (Move (List ℕ)))
-        → IsProofNumber book.now.statements id.0 place s → AreNumberedMoves book.now.statements steps.now moves
-        → IsMovesFault (IsWithin expression_limit) (take place book.now.statements) s moves rule step }
+    ensures fault { (rule : ProofRule) → (step : ℕ) → result ≡ Err (ProofFault.Rule rule step)
+        → OfMoves book.now.statements id.0 steps.now
+        (λ place s moves. FailsWith book.now.statements place s moves rule step) }
 
     // What is proved is answered `Ok`, unless memory is refused.
-    ensures accepts { (place : ℕ) → (s : Sentence) → (moves : List (Move (List ℕ))) → IsProofNumber book.now.statements id.0 place s
-        → AreNumberedMoves book.now.statements steps.now moves
-        → Prove (IsWithin expression_limit) (take place book.now.statements) s moves → IsOkUnless result ProofFault.Memory }
+    ensures accepts { OfMoves book.now.statements id.0 steps.now (λ place s moves.
+        Prove (IsWithin expression_limit) (take place book.now.statements) s moves
+        → IsOkUnless result ProofFault.Memory) }
 
     // What has a fault is answered with it, unless memory is refused.
-    ensures refuses { (place : ℕ) → (s : Sentence) → (moves : List (Move (List ℕ))) → IsProofNumber book.now.statements id.0 place s
-        → AreNumberedMoves book.now.statements steps.now moves → (rule : ProofRule) → (step : ℕ)
-        → IsMovesFault (IsWithin expression_limit) (take place book.now.statements) s moves rule step
-        → IsUnlessMemory result (Err (ProofFault.Rule rule step)) }
+    ensures refuses { OfMoves book.now.statements id.0 steps.now (λ place s moves.
+        (rule : ProofRule) → (step : ℕ) → FailsWith book.now.statements place s moves rule step
+        → IsUnlessMemory result (Err (ProofFault.Rule rule step))) }
 {
     let mut scratch = Scratch::new(alloc);
     answer(alloc, &mut store, &mut scratch, book, id, steps)

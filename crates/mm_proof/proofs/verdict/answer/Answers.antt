@@ -7,6 +7,10 @@ use Rattle.mm_proof.proofs.Meaning.{meant_front}
 use Rattle.mm_proof.proofs.Exact.{accepts, refuses}
 use Rattle.mm_proof.proofs.verdict.answer.Goals as goal
 
+pub returns-in-Ok-clause-proved : goal.returns-in-Ok-clause-proved
+returns-in-Ok-clause-proved g c place s moves proof numbered =
+    c.in-Ok.ensures.proved place s moves proof (same_moves c.args.book.now.statements _ _ _ moves c.deref.ensures.value (sym c.steps.view_is) numbered)
+
 pub returns-in-Ok-clause-refuses : goal.returns-in-Ok-clause-refuses
 returns-in-Ok-clause-refuses g c place s moves proof numbered rule step fault =
     refuses (IsWithin expression_limit) (take place c.args.book.now.statements) s moves _ (meant_front c.args.book.now.statements place c.judged.ensures.sound.0)
@@ -22,7 +26,3 @@ pub returns-in-Err-clause-refuses : goal.returns-in-Err-clause-refuses
 returns-in-Err-clause-refuses g c place s moves proof numbered rule step fault =
     refuses (IsWithin expression_limit) (take place c.args.book.now.statements) s moves (Err c.in-Err.fault) (meant_front c.args.book.now.statements place c.judged.ensures.sound.0)
     (λ x is. absurd cc) (on_rule_map c.in-Err.fault _ _ (λ r n h. h place s moves proof (same_moves c.args.book.now.statements _ _ _ moves c.deref.ensures.value (sym c.steps.view_is) numbered)) c.in-Err.ensures.fault) rule step fault
-
-pub returns-in-Ok-clause-proved : goal.returns-in-Ok-clause-proved
-returns-in-Ok-clause-proved g c place s moves proof numbered =
-    c.in-Ok.ensures.proved place s moves proof (same_moves c.args.book.now.statements _ _ _ moves c.deref.ensures.value (sym c.steps.view_is) numbered)

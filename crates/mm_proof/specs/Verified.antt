@@ -1,0 +1,28 @@
+-- What is said of the moves of a proof, by numbers.
+use Rattle.std.specs.Prelude.{ℕ, List, take}
+use Rattle.mm_frame.specs.Sentence.{Sentence}
+use Rattle.mm_proof.specs.Tree.{tree, none}
+use Rattle.mm_proof.specs.Moves.{Move}
+use Rattle.mm_proof.specs.declared.fault.ProofRule.{ProofRule}
+use Rattle.mm_proof.specs.Proof.{IsWithin, expression_limit, Prove, IsMovesFault}
+use Rattle.mm_proof.specs.Steps.{AreNumberedMoves, IsProofNumber}
+use Rattle.mm_proof.specs.Used.{AreUsed}
+
+-- of the `$p` with this number and its moves, by names, this holds
+abbrev pub OfMoves : List Sentence → ℕ → List (Move ℕ)
+    → (ℕ → Sentence → List (Move (List ℕ)) → Type 0) → Type 0
+OfMoves statements id steps P =
+    (place : ℕ) (s : Sentence) (moves : List (Move (List ℕ))) → IsProofNumber statements id place s
+    → AreNumberedMoves statements steps moves → P place s moves
+
+-- the moves prove the statement, and these are the assertions of its tree
+abbrev pub ProvesWith : List Sentence → ℕ → Sentence → List (Move (List ℕ)) → List ℕ → Type 0
+ProvesWith statements place s moves used =
+    (p : Prove (IsWithin expression_limit) (take place statements) s moves)
+    × AreUsed (take place statements) (tree p.label p.below none) used
+
+-- the first fault of the moves, as a proof of the statement at the place, is this rule at this step
+abbrev pub FailsWith : List Sentence → (place : ℕ) → Sentence → List (Move (List ℕ)) → ProofRule
+    → (step : ℕ) → Type 0
+FailsWith statements place s moves rule step =
+    IsMovesFault (IsWithin expression_limit) (take place statements) s moves rule step
