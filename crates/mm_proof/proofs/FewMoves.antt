@@ -16,13 +16,13 @@ use Rattle.mm_proof.specs.Steps.{IsNumberedMove, AreNumberedMoves}
 use Rattle.mm_proof.specs.CodeSteps.{move_in, moves_in}
 
 -- a piece of text that says a code has a letter
-piece_letters : (piece : List ℕ) (code : Code) → letter.Says piece code → 1 ≤ length piece
+piece_letters : (piece : List ℕ) (code : Code) → letter.SaysCode piece code → 1 ≤ length piece
 piece_letters piece (Number number) s =
     omega (arith, ap length s.letters, length-append (map letter.leading_letter s.leading) (letter.last_letter s.last ∷ []))
 piece_letters piece Tag s = omega (arith, ap length s)
 
 -- as many codes as letters at most
-pieces_letters : (pieces : List (List ℕ)) (codes : List Code) → AllZip letter.Says pieces codes → length codes ≤ sum_by length pieces
+pieces_letters : (pieces : List (List ℕ)) (codes : List Code) → AllZip letter.SaysCode pieces codes → length codes ≤ sum_by length pieces
 pieces_letters [] [] z = omega arith
 pieces_letters [] (code ∷ codes) z = absurd z
 pieces_letters (piece ∷ pieces) [] z = absurd z
@@ -35,7 +35,7 @@ pieces_letters (piece ∷ pieces) (code ∷ codes) z =
 codes_letters : (text : List ℕ) (codes : List Code) → letter.Letters text codes → length codes ≤ length text
 codes_letters text codes l =
     let most = pieces_letters l.spells.pieces l.spelled l.spells.each in
-    omega (arith, most, ap length l.are_held, length-map l.spelled letter.held, ap length l.spells.joined, length-flat_map (λ (piece : List ℕ). piece) l.spells.pieces)
+    omega (arith, most, ap length l.are_codes, length-map l.spelled letter.code_for, ap length l.spells.joined, length-flat_map (λ (piece : List ℕ). piece) l.spells.pieces)
 
 -- as many tokens as bytes at most
 tokens_bytes : (tokens : List (List ℕ)) → AllByRecursion (λ t. 1 ≤ length t) tokens → length tokens ≤ sum_by length tokens
