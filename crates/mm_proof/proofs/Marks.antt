@@ -1,14 +1,14 @@
 -- Marks before any step, and tags over the marks.
-use Rattle.std.proofs.Common.{◌≡◌, ℕ, suc, ◌+◌, ◌<◌, ◌≤◌, List, [], ◌∷◌, ◌++◌, length, cond, not, Bool, true, false, slice_get, Some, ◌⊎◌, inl, inr, ◌↔◌, refl, sym, ap, subst, ◌∙◌, arith}
+use Rattle.std.proofs.Common.{◌≡◌, ℕ, suc, ◌+◌, ◌<◌, ◌≤◌, List, [], ◌∷◌, ◌++◌, length, cond, not, slice_get, Some, ◌⊎◌, inl, inr, refl, sym, ap, subst, ◌∙◌, arith}
 use Rattle.std.specs.List.{AllZip}
 use Rattle.std.proofs.lemmas.List.{length-append}
 use Rattle.std.proofs.lemmas.List.Sums.{sum_by-cons}
 use Rattle.mm_frame.specs.Sentence.{Sentence}
 use Rattle.mm_proof.specs.declared.fault.ProofRule.{ProofRule}
 use Rattle.mm_proof.specs.declared.fault.ProofRule.TheVariants.{P6, P7}
-use Rattle.mm_proof.specs.Tree.{Trees, none, tree, beside, roots, DeriveAll}
+use Rattle.mm_proof.specs.Tree.{Trees, none, tree, roots, DeriveAll}
 use Rattle.mm_proof.specs.Moves.{Move, name, again, mark, is_step, steps_in, MakesOne, Makes}
-use Rattle.mm_proof.specs.Proof.{IsWithin, rank, BreaksMove, FirstAtMove, Passed, IsMoveFault, IsEndFault, IsMovesFault}
+use Rattle.mm_proof.specs.Proof.{IsWithin, rank, BreaksMove, Passed, IsMovesFault}
 use Rattle.mm_proof.specs.Laws.{MarkBeforeAnyStep, IsOverMarks, TagOverMarks, marks_in}
 use Rattle.mm_proof.proofs.Making.{roots-beside, roots_derive}
 

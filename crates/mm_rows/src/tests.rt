@@ -1,11 +1,11 @@
 //! Each table of cases is one test.
 
 use crate::damaged::Span;
-use crate::databases::DEMO;
+use crate::databases::{DEMO, HEAD};
 use crate::{
     Part, Row, compressed, damaged, examples, files, incomplete, one_file, orders, proofs, scopes,
 };
-use mm_check::{Command, run};
+use mm_check::{Command, check, run};
 use mm_text::{Counted, File};
 use std::alloc::Global;
 use std::process::Abort;
@@ -135,6 +135,25 @@ fn whole_language(rt: HostRuntime) -> Result<(), Fail> {
 #[test]
 fn listed(rt: HostRuntime) -> Result<(), Fail> {
     compare(&rt, rt.alloc(), &incomplete::LISTED)
+}
+
+#[test]
+fn counted_beside_incomplete(rt: HostRuntime) -> Result<(), Fail> {
+    let mut bytes = Vec::from_slice(rt.alloc(), HEAD)?;
+    bytes.extend_from_slice(b"u1 $p |- t = t $= ? $. u2 $p |- t = t $= tt u1 $.\n")?;
+    let files = [File {
+        name: b"h.mm",
+        bytes: bytes.as_slice(),
+    }];
+    let checked = check(rt.alloc(), &files)?;
+    assert!(rt; !checked.is_complete());
+    assert_eq!(rt; checked.statements(), 20);
+    assert_eq!(rt; checked.proofs(), 1);
+    match checked.incomplete() {
+        [only] => assert_eq!(rt; checked.name(*only), b"u1".as_slice()),
+        _ => panic!(rt; "one proof is incomplete"),
+    }
+    Ok(())
 }
 
 #[test]
