@@ -1,6 +1,6 @@
 //! One happy path of each public call, and writers that fail in the middle of a reply.
 
-use super::{Command, Rule, RunFault, Status, check, run};
+use super::{CheckFault, Command, Rule, RunFault, Status, check, run};
 use mm_text::{Counted, File};
 use std::io;
 use std::io::{ErrorKind, Write};
@@ -103,6 +103,8 @@ fn writes_the_reply(rt: HostRuntime) -> Result<(), Fail> {
 
 #[test]
 fn refuses_no_files(rt: HostRuntime) -> Result<(), Fail> {
+    let fault = check(rt.alloc(), &[]).err();
+    assert!(rt; matches!(fault, Some(CheckFault::Load(Rule::F1))));
     let mut out = Counted::new(Vec::new(rt.alloc()));
     let status = run(rt.alloc(), &Command::Check, &[], &mut out)?;
     assert_eq!(rt; status, Status::Stopped);

@@ -1,10 +1,10 @@
 //! The acceptance cases of comments and inclusions.
 
-use crate::Part::Text;
+use crate::Part::{Text, Times};
 use crate::Row;
 
 /// Comments, wherever they stand.
-pub(crate) const COMMENTS: [Row; 13] = [
+pub(crate) const COMMENTS: [Row; 14] = [
     Row {
         name: "a comment alone with no byte after it",
         files: &[(b"e.mm", &[Text(b"$( only this $)")])],
@@ -36,6 +36,15 @@ pub(crate) const COMMENTS: [Row; 13] = [
         name: "a byte out of range in a comment",
         files: &[(b"c.mm", &[Text(b"$( a\n\xc3\xa9 $)\n")])],
         reply: b"no c.mm 2 - X1 0\n",
+        status: 1,
+    },
+    Row {
+        name: "a byte out of range far into a comment",
+        files: &[(
+            b"c.mm",
+            &[Text(b"$( "), Times(b"abc def\n", 100), Text(b"\x7f $)\n")],
+        )],
+        reply: b"no c.mm 101 - X1 0\n",
         status: 1,
     },
     Row {

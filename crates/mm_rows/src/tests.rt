@@ -6,7 +6,7 @@ use crate::{
     Part, Row, compressed, damaged, examples, files, incomplete, one_file, orders, proofs, scopes,
 };
 use mm_check::{Command, check, run};
-use mm_text::{Counted, File};
+use mm_text::{Counted, File, Statement, Statements};
 use std::alloc::Global;
 use std::process::Abort;
 use std::str::from_utf8;
@@ -281,6 +281,25 @@ fn cut(rt: HostRuntime) -> Result<(), Fail> {
 #[test]
 fn with_dollar(rt: HostRuntime) -> Result<(), Fail> {
     sweep(&rt, rt.alloc(), Damage::Put(b'$'), &damaged::WITH_DOLLAR)
+}
+
+#[test]
+fn span_of_the_demonstration(rt: HostRuntime) -> Result<(), Fail> {
+    let files = [File {
+        name: b"demo0.mm",
+        bytes: DEMO,
+    }];
+    let Ok(mut statements) = Statements::new(rt.alloc(), &files) else {
+        return Err(Fail::from("refused"));
+    };
+    let mut statement = Statement::empty(rt.alloc());
+    for _ in 0..19 {
+        assert!(rt; matches!(statements.read(&mut statement), Ok(true)));
+    }
+    assert_eq!(rt; statement.first.text, b"th1".as_slice());
+    assert_eq!(rt; statement.span, (390, 519));
+    assert!(rt; matches!(statements.read(&mut statement), Ok(false)));
+    Ok(())
 }
 
 /// Names of files, one for each number.

@@ -1,5 +1,6 @@
 mod Pieces
 pub mod TokenLaws
+pub mod LegalLaws
 pub mod CommentLaws
 pub mod NameLaws
 pub mod InclusionLaws

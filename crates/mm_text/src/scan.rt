@@ -2,6 +2,7 @@
 
 ghost use Rattle.std.specs.Prelude.{◌≡◌, ℕ, ◌<◌, ◌≤◌, ◌+◌, ◌∷◌, ◌⊎◌, true, false, length, drop};
 ghost use Rattle.std.specs.Prelude.{slice_index, slice_range};
+ghost use Rattle.std.specs.List.{list_all};
 ghost use Rattle.mm_text.specs.Token.{is_space, tokens_from};
 ghost use Rattle.mm_text.specs.Mirror.Place.{is_legal, IsLegalFront};
 
@@ -76,14 +77,44 @@ pub fn token_start(bytes: &[u8], low: usize, at: usize) -> usize
 fn is_legal(byte: u8) -> bool
     ensures { result ≡ is_legal byte }
 {
-    (byte >= b'!' && byte <= b'~') || is_space(byte)
+    (byte >= b' ' && byte <= b'~') || (byte >= b'\t' && byte <= b'\r' && byte != 11)
+}
+
+/// Whether all bytes may stand in a file. Each is looked at, whatever those before it are: without
+/// a branch for each, many are judged by one instruction.
+fn are_legal(bytes: &[u8]) -> bool
+    ensures { result ≡ list_all is_legal bytes.now }
+{
+    let mut so_far = true;
+    for at in 0..bytes.len() {
+        so_far &= is_legal(bytes[at]);
+    }
+    so_far
+}
+
+/// So many bytes are judged at once.
+const BLOCK: usize = 256;
+
+/// The end of the whole blocks at a file's front in which all bytes may stand in a file.
+fn legal_blocks(bytes: &[u8]) -> usize
+    ensures within { result ≤ length bytes.now }
+    ensures front { (k : ℕ) → k < result → is_legal (slice_index bytes.now k) ≡ true }
+{
+    let mut end = 0;
+    while bytes.len() - end >= BLOCK {
+        if !are_legal(&bytes[end..end + BLOCK]) {
+            return end;
+        }
+        end += BLOCK;
+    }
+    end
 }
 
 /// The place of the first byte that may not stand in a file, or the file's end.
 pub fn legal_end(bytes: &[u8]) -> usize
     ensures { IsLegalFront bytes.now result }
 {
-    for at in 0..bytes.len() {
+    for at in legal_blocks(bytes)..bytes.len() {
         if !is_legal(bytes[at]) {
             return at;
         }

@@ -46,6 +46,11 @@ fn reads_a_database(rt: HostRuntime) -> Result<(), Fail> {
         assert_eq!(rt; statement.span, span, "at {at}");
     }
     assert_eq!(rt; statement.proof.len(), 3);
+    let (start, end) = statement.span;
+    assert_eq!(rt;
+        FIRST.get(start as usize..end as usize),
+        Some(b" tze tze tpl ".as_slice())
+    );
     for _ in 0..3 {
         assert!(rt; matches!(statements.read(&mut statement), Ok(false)));
         assert!(rt; is_empty(&statement));
