@@ -13,7 +13,7 @@ use std::test::Fail;
 /// Statements of which the last one but for a `$}` breaks a rule.
 struct Case(&'static [u8], MeaningRule);
 
-/// The name of a label or symbol is found, or not, in both books.
+/// Whether the books find the same under each of the tokens.
 fn find_all_alike(a: &Book, b: &Book, tokens: &[Token]) -> bool {
     for token in tokens {
         if !find_alike(a, b, token.text) {
@@ -23,7 +23,7 @@ fn find_all_alike(a: &Book, b: &Book, tokens: &[Token]) -> bool {
     true
 }
 
-/// The books answer alike, what they find under the names in the statement too.
+/// Whether the books answer alike, what they find under the names in the statement too.
 fn are_alike(a: &Book, b: &Book, statement: &Statement) -> bool {
     are_books_alike(a, b)
         && find_alike(a, b, statement.first.text)
@@ -131,7 +131,7 @@ const FRONT: &[u8] = b"$c a b $. $v x y $. fx $f a x $. ";
 
 const END: &[u8] = b" fy $f a y $. h $e a x $. ${ $v z $. fz $f a z $. p $a a x z y $. $} $c d $. ";
 
-/// What breaks a rule after `FRONT`, and isn't missed by `END`.
+/// What breaks a rule after `FRONT`. `END` is taken all the same, which needs its names to be free.
 const CASES: [Case; 22] = [
     Case(b"$c x $.", MeaningRule::M2),
     Case(b"$v x $.", MeaningRule::M3),
