@@ -14,6 +14,7 @@ use crate::verdict::check;
 use mm_text::{Counted, File};
 use std::alloc::{AllocError, Global};
 use std::io::Write;
+use thiserror::Error;
 
 /// What the program is asked.
 #[derive(Clone, Copy, PartialEq, Eq, Debug)]
@@ -23,11 +24,13 @@ pub enum Command {
 }
 
 /// Why a reply wasn't written, or not to its end.
-#[derive(Clone, Copy, PartialEq, Eq, Debug)]
+#[derive(Clone, Copy, PartialEq, Eq, Debug, Drop, Error)]
 pub enum RunFault {
     /// The writer failed: a beginning of the reply is written.
+    #[error("the writer failed")]
     Device,
     /// A growth was refused: nothing is written.
+    #[error("out of memory")]
     Memory,
 }
 

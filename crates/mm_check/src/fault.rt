@@ -28,10 +28,10 @@ pub struct Refusal<'a> {
 #[derive(Debug, Drop, Error)]
 pub enum CheckFault<'a> {
     /// The handed files break F1, F2 or F3 as a whole.
-    #[error("the files cannot be taken")]
+    #[error("the files break {0:?}")]
     Load(Rule),
     /// A statement is at fault.
-    #[error("a statement is at fault")]
+    #[error("file {file}, line {line}: statement {statement} breaks {rule:?}, step {step}", file = .0.file, line = .0.line, statement = .0.statement, rule = .0.rule, step = .0.step)]
     Refused(Refusal<'a>),
     /// A growth was refused.
     #[error("out of memory")]

@@ -110,6 +110,28 @@ fn refuses_no_files(rt: HostRuntime) -> Result<(), Fail> {
     Ok(())
 }
 
+#[test]
+fn faults_have_messages(rt: HostRuntime) -> Result<(), Fail> {
+    let files = [File {
+        name: b"f.mm",
+        bytes: b"$c a $.\np $a b $.\n",
+    }];
+    let refused = match check(rt.alloc(), &files) {
+        Ok(_) => String::new(rt.alloc()),
+        Err(fault) => format!(in rt.alloc(); "{fault}")?,
+    };
+    assert!(rt;
+        refused.as_str() == "file 0, line 2: statement 2 breaks M7, step 0",
+        "{refused}"
+    );
+    let none = match check(rt.alloc(), &[]) {
+        Ok(_) => String::new(rt.alloc()),
+        Err(fault) => format!(in rt.alloc(); "{fault}")?,
+    };
+    assert!(rt; none.as_str() == "the files break F1", "{none}");
+    Ok(())
+}
+
 // The reply has 26 bytes, so a writer that takes one byte a call is called 26 times.
 #[test]
 fn stops_at_a_failed_write(rt: HostRuntime) -> Result<(), Fail> {

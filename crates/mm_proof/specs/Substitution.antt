@@ -1,4 +1,4 @@
--- Substitution (the Metamath book, section 4.2.5).
+-- Substitution (the Metamath book, section 4.1.4).
 use Rattle.std.specs.Prelude.{ℕ, List, [], ◌∷◌, Option, unwrap_or, IsSome, ◌↔◌}
 use Rattle.std.specs.List.{flat_map}
 

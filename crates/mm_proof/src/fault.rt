@@ -4,6 +4,7 @@ ghost use Rattle.std.specs.Prelude.{◌≡◌};
 ghost use Rattle.mm_proof.specs.declared.fault.ProofFault.TheVariants.{Memory};
 
 use std::alloc::{AllocError, AllocFailed};
+use thiserror::Error;
 
 /// What a proof may break. P1 to P5 are judged over the whole proof, P6 to P12 and L1 step by step,
 /// P13 and P14 at the end (the Metamath book, section 4.3 and appendix B).
@@ -42,12 +43,14 @@ pub enum ProofRule {
 }
 
 /// Why a proof isn't accepted.
-#[derive(Clone, Copy, PartialEq, Eq, Debug)]
+#[derive(Clone, Copy, PartialEq, Eq, Debug, Drop, Error)]
 pub enum ProofFault {
     /// The first rule that the proof breaks, and the number of its step: 0 for P1 to P5, else from
     /// 1 on; for P13 and P14 one more than the number of steps.
+    #[error("the proof breaks {rule:?} at step {step}")]
     Rule { rule: ProofRule, step: usize },
     /// A growth was refused.
+    #[error("out of memory")]
     Memory,
 }
 

@@ -1,5 +1,5 @@
 //! Substitution by numbers: each mandatory variable is replaced by what follows the type code in
-//! the entry of its `$f` (the Metamath book, section 4.2.5).
+//! the entry of its `$f` (the Metamath book, section 4.1.4).
 
 ghost use Rattle.std.specs.Prelude.{◌≡◌, ◌↔◌, ◌+◌, ◌≤◌, ◌<◌, ◌^◌, ◌∷◌, ◌++◌, [], ℕ, List, length, drop, unwrap_or, option_map, IsTrue, IfOk, MatchOption, MatchBool};
 ghost use Rattle.mm_proof.specs.Stores.{numbers_in};
