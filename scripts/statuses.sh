@@ -46,20 +46,20 @@ begins() {
 
 cp "$top/examples/"*.mm "$top/examples/folder/"*.mm .
 cp "$top/examples/first.mm" -- -first.mm
-cp "$top/examples/first.mm" -- -
 printf '$c a $.\n$c a $.\n' >twice.mm
 printf '$c a $.\np $a a $.\nq $p a $= ? $.\n' >open.mm
 : >empty.mm
+cp first.mm ./-
 
 ends 0 'yes 7 statements 1 proofs\n' '' check first.mm
 ends 0 'yes 7 statements 1 proofs\n' '' check -- -first.mm
-ends 0 'yes 7 statements 1 proofs\n' '' check -
 ends 0 'yes 19 statements 1 proofs\n' '' check demo0.mm
 ends 0 'yes 19 statements 1 proofs\n' '' check demo0c.mm
 ends 0 'yes 6 statements 1 proofs\n' '' check top.mm terms.mm rules.mm symbols.mm
 ends 0 'yes 6 statements 1 proofs\n' '' check top.mm symbols.mm rules.mm terms.mm
 ends 1 'no top.mm 2 - X7 0\n' '' check top.mm terms.mm symbols.mm
 ends 0 'yes 0 statements 0 proofs\n' '' check empty.mm
+ends 0 'yes 7 statements 1 proofs\n' '' check -
 begins 0 'Verifies databases of the Metamath language.' '' help
 begins 0 'Verifies databases of the Metamath language.' '' --help
 begins 0 'F1: no file was handed in (by the library alone: the program asks for one).' '' explain

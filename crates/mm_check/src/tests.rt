@@ -122,7 +122,10 @@ fn faults_have_messages(rt: HostRuntime) -> Result<(), Fail> {
         Ok(_) => String::new(rt.alloc()),
         Err(fault) => format!(in rt.alloc(); "{fault}")?,
     };
-    assert!(rt; refused.as_str() == "file 0, line 2: statement 2 breaks M7, step 0", "{refused}");
+    assert!(rt;
+        refused.as_str() == "file 0, line 2: statement 2 breaks M7, step 0",
+        "{refused}"
+    );
     let none = match check(rt.alloc(), &[]) {
         Ok(_) => String::new(rt.alloc()),
         Err(fault) => format!(in rt.alloc(); "{fault}")?,

@@ -3,7 +3,8 @@
 ghost use Rattle.std.specs.Prelude.{◌≡◌, ℕ, List, [], ◌∷◌, ◌++◌, ◌+◌, ◌-◌, min, vec_capacity};
 ghost use Rattle.std.specs.Prelude.{length, IfOk, OnOk, IsOkUnless};
 ghost use Rattle.mm_code.specs.Layout.{indent, line_feed, LaidOut, LettersLaidOut};
-ghost use Rattle.mm_code.specs.Layout.{CompressedLaidOut, texts, size_of, lines_bound, letters_bound};
+ghost use Rattle.mm_code.specs.Layout.{CompressedLaidOut, texts, size_of, lines_bound};
+ghost use Rattle.mm_code.specs.Layout.{letters_bound};
 ghost use Rattle.mm_code.specs.Lines.{rest_of, room_after, AppendsLetters};
 
 use crate::code::CodeFault;
