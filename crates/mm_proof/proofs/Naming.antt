@@ -42,7 +42,7 @@ same_number a b e = cc
 abbrev pub Gathered : List Sentence → List (Move ℕ) → List LabelId → Type 0
 Gathered st front ids = (n : ℕ) → Contains (ids_in ids) n ↔ IsNamed st front n
 
-named_more : (st : List Sentence) (front : List (Move ℕ)) (ids : List LabelId) (id : LabelId) → Gathered st front ids → IsAssertionNumber st id.0
+pub named_more : (st : List Sentence) (front : List (Move ℕ)) (ids : List LabelId) (id : LabelId) → Gathered st front ids → IsAssertionNumber st id.0
     → Gathered st (front ++ name id.0 ∷ []) (ids ++ id ∷ [])
 named_more st front ids id old assertion n = (to, from)
   where
@@ -65,6 +65,20 @@ named_skip st front ids x old none n = (
   λ h. ⊎_elim (λ there. (old n).1 ((h.0.0, there), h.1)) (λ same. absurd (none n same h.1)) (get_push front x (name n) h.0.0 h.0.1),
 )
 
+-- what is there already
+pub named_again : (st : List Sentence) (front : List (Move ℕ)) (ids : List LabelId) (id : LabelId) → Contains (ids_in ids) id.0 → Gathered st front ids
+    → Gathered st (front ++ name id.0 ∷ []) ids
+named_again st front ids id there old n = (
+  (λ c. let o = (old n).0 c in ((o.0.0, get_append front (name id.0 ∷ []) o.0.0 (name n) o.0.1), o.1)),
+  λ h. ⊎_elim (λ before. (old n).1 ((h.0.0, before), h.1)) (λ same. subst (Contains (ids_in ids)) (same_number id.0 n same) there) (get_push front (name id.0) (name n) h.0.0 h.0.1),
+)
+
+-- no assertion
+pub named_other : (st : List Sentence) (front : List (Move ℕ)) (ids : List LabelId) (id : LabelId) → (IsAssertionNumber st id.0 → ⊥) → Gathered st front ids
+    → Gathered st (front ++ name id.0 ∷ []) ids
+named_other st front ids id none old =
+    named_skip st front ids (name id.0) old (λ n same assertion. none (subst (IsAssertionNumber st) (sym (same_number id.0 n same)) assertion))
+
 -- ---- what the kind of a label says
 
 pub is_assertion : (st : List Sentence) (place id : ℕ) (r : LabelKind) → (label : List ℕ) × MayBeUsed st place label id
@@ -82,7 +96,7 @@ only_assertions label_kinds.Essential (inr e) a p = absurd cc
 only_assertions label_kinds.Axiom k a p = a refl
 only_assertions label_kinds.Proof k a p = p refl
 
-no_assertion : (st : List Sentence) (id : ℕ) (r : LabelKind) → ((s : Sentence) → slice_get (labelled st) id ≡ Some s → s.kind ≡ kind_behind r)
+pub no_assertion : (st : List Sentence) (id : ℕ) (r : LabelKind) → ((s : Sentence) → slice_get (labelled st) id ≡ Some s → s.kind ≡ kind_behind r)
     → (r ≡ label_kinds.Axiom → ⊥) → (r ≡ label_kinds.Proof → ⊥) → IsAssertionNumber st id → ⊥
 no_assertion st id r kind a p h =
     only_assertions r (subst IsAssertion (kind h.1 (numbered_at st id h.0 h.1 h.2)) h.3) a p
@@ -92,16 +106,10 @@ label_known st place id used = let m = used.1 in numbered_below st id m.at m.s m
 
 -- ---- the loop
 
-pub gather_name : (st : List Sentence) (moves : List NumberedMove) (i : ℕ) (d : NumberedMove) (id : LabelId) (ids : List LabelId) → i < length moves → get_or moves i d ≡ code.Name id
-    → Gathered st (take i (moves_in moves)) ids → IsAssertionNumber st id.0 → Gathered st (take (i + 1) (moves_in moves)) (ids ++ id ∷ [])
-gather_name st moves i d id ids less is old assertion = rw (front_more moves i d less, is) (named_more st (take i (moves_in moves)) ids id old assertion)
-
-pub gather_other : (st : List Sentence) (moves : List NumberedMove) (i : ℕ) (d : NumberedMove) (id : LabelId) (ids : List LabelId) (r : LabelKind) → i < length moves → get_or moves i d ≡ code.Name id
-    → Gathered st (take i (moves_in moves)) ids → ((s : Sentence) → slice_get (labelled st) id.0 ≡ Some s → s.kind ≡ kind_behind r)
-    → (r ≡ label_kinds.Axiom → ⊥) → (r ≡ label_kinds.Proof → ⊥) → Gathered st (take (i + 1) (moves_in moves)) ids
-gather_other st moves i d id ids r less is old kind a p =
-    rw (front_more moves i d less, is) (named_skip st (take i (moves_in moves)) ids (name id.0) old
-    (λ n same assertion. no_assertion st id.0 r kind a p (subst (IsAssertionNumber st) (sym (same_number id.0 n same)) assertion)))
+pub gather_added : (st : List Sentence) (moves : List NumberedMove) (i : ℕ) (d : NumberedMove) (id : LabelId) (ids new : List LabelId) → i < length moves → get_or moves i d ≡ code.Name id
+    → Gathered st (take i (moves_in moves)) ids → ((front : List (Move ℕ)) → Gathered st front ids → Gathered st (front ++ name id.0 ∷ []) new)
+    → Gathered st (take (i + 1) (moves_in moves)) new
+gather_added st moves i d id ids new less is old added = rw (front_more moves i d less, is) (added (take i (moves_in moves)) old)
 
 no_name : (m : NumberedMove) → ((id : LabelId) → m ≡ code.Name id → ⊥) → (n : ℕ) → move_in m ≡ name n → ⊥
 no_name (code.Name id) not n e = not id refl

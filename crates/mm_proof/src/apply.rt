@@ -29,7 +29,17 @@ pub(crate) struct Scratch {
     /// What the step makes.
     made: Vec<Sym>,
     /// The assertions that the proof names.
+    pub(crate) named: Named,
+}
+
+/// Labels, and for each a place at which the list may have it.
+///
+/// What earlier proofs left in the places is never cleared: a place counts only where the list has
+/// the label there.
+#[derive(Drop)]
+pub(crate) struct Named {
     pub(crate) ids: Vec<LabelId>,
+    pub(crate) places: Vec<usize>,
 }
 
 impl Scratch {
@@ -37,7 +47,10 @@ impl Scratch {
         Scratch {
             variables: Variables::new(alloc),
             made: Vec::new(alloc),
-            ids: Vec::new(alloc),
+            named: Named {
+                ids: Vec::new(alloc),
+                places: Vec::new(alloc),
+            },
         }
     }
 }

@@ -29,8 +29,8 @@ fn is_variable_at(list: &[Option<Sym>], place: usize, symbol: Sym) -> bool
     }
 }
 
-// Makes the list at least so long.
-fn lengthen(places: &mut Vec<usize>, count: usize) -> Result<(), AllocError>
+/// Makes the list at least so long.
+pub(crate) fn lengthen(places: &mut Vec<usize>, count: usize) -> Result<(), AllocError>
     ensures long { OnOk result (count ≤ length places.new.items) }
     ensures kept { (rest : List ℕ) × (places.new.items ≡ places.old.items ++ rest) }
 {

@@ -1,7 +1,7 @@
 //! The verdict on the moves of a proof.
 
 ghost use Rattle.std.specs.Prelude.{◌≡◌, ◌↔◌, ◌≤◌, ℕ, List, [], ◌∷◌, ◌++◌, take, length, slice_get};
-ghost use Rattle.std.specs.Prelude.{Contains, Some, Ok, Err, IfOk, IfErr, OnOk, IsOkUnless};
+ghost use Rattle.std.specs.Prelude.{Contains, IsTrue, Some, Ok, Err, IfOk, IfErr, OnOk, IsOkUnless};
 ghost use Rattle.std.specs.List.{AllByRecursion};
 ghost use Rattle.mm_frame.specs.Sentence.{Sentence};
 ghost use Rattle.mm_frame.specs.Numbers.{IsNumbered};
@@ -17,12 +17,13 @@ ghost use Rattle.mm_proof.specs.CodeRun.{CarriesOn, StopsAt, MayBeMade, HasRun, 
 ghost use Rattle.mm_proof.specs.CodeRun.{EndsWrong};
 ghost use Rattle.mm_proof.specs.Verified.{OfMoves, ProvesWith, FailsWith};
 
-use crate::apply::{Scratch, apply};
+use crate::apply::{Named, Scratch, apply};
 use crate::fault::{ProofFault, ProofRule};
 use crate::moves::{NumberedMove, Steps};
 use crate::store::Store;
 use crate::substitution::{EXPRESSION_LIMIT, is_same};
 use crate::used::Used;
+use crate::variables::lengthen;
 use mm_frame::{Book, Frame, LabelId, LabelKind, Sym, one_number};
 use std::alloc::{AllocError, Global};
 
@@ -152,20 +153,59 @@ fn run<S: Store>(
     Ok(steps)
 }
 
+// Whether the list has the label at the place under its number, so that it needn't be added again.
+fn is_listed(places: &[usize], ids: &[LabelId], id: LabelId) -> bool
+    ensures { IsTrue result → Contains (ids_in ids.now) id.0 }
+{
+    let number = id.0 as usize;
+    if number >= places.len() {
+        return false;
+    }
+    let place = places[number];
+    place < ids.len() && ids[place].0 == id.0
+}
+
+// Notes the place under the label's number.
+fn note_place(places: &mut Vec<usize>, id: LabelId, place: usize) -> Result<(), AllocError> {
+    let number = id.0 as usize;
+    lengthen(places, number + 1)?;
+    places[number] = place;
+    Ok(())
+}
+
+// Adds the label that a move names, if it is that of an assertion and isn't known to be listed.
+fn add_named(named: &mut Named, book: &Book, id: LabelId) -> Result<(), AllocError>
+    requires used { (place : ℕ) × (label : List ℕ)
+        × MayBeUsed book.now.statements place label id.0 }
+    ensures { OnOk result ((moves : List (Move ℕ))
+        → ((n : ℕ) → Contains (ids_in named.old.ids.items) n ↔ IsNamed book.now.statements moves n)
+        → (n : ℕ) → Contains (ids_in named.new.ids.items) n
+        ↔ IsNamed book.now.statements (moves ++ Move.name id.0 ∷ []) n) }
+{
+    if is_listed(&named.places, &named.ids, id) {
+        return Ok(());
+    }
+    match book.kind(id) {
+        LabelKind::Axiom | LabelKind::Proof => {
+            note_place(&mut named.places, id, named.ids.len())?;
+            named.ids.push(id)?;
+            Ok(())
+        }
+        _ => Ok(()),
+    }
+}
+
 // The assertions that the moves name, in the order of the moves.
-fn fill_named(ids: &mut Vec<LabelId>, book: &Book, moves: &[NumberedMove]) -> Result<(), AllocError>
+fn fill_named(named: &mut Named, book: &Book, moves: &[NumberedMove]) -> Result<(), AllocError>
     requires known { (place : ℕ)
         × AllByRecursion (MayBeMade book.now.statements place) (moves_in moves.now) }
-    ensures { OnOk result ((id : ℕ) → Contains (ids_in ids.new.items) id
+    ensures { OnOk result ((id : ℕ) → Contains (ids_in named.new.ids.items) id
         ↔ IsNamed book.now.statements (moves_in moves.now) id) }
 {
-    ids.clear();
+    named.ids.clear();
     for one in moves {
         if let NumberedMove::Name(id) = one {
-            match book.kind(*id) {
-                LabelKind::Axiom | LabelKind::Proof => ids.push(*id)?,
-                _ => {}
-            }
+            add_named(named, book, *id)?;
         }
     }
     Ok(())
@@ -174,7 +214,7 @@ fn fill_named(ids: &mut Vec<LabelId>, book: &Book, moves: &[NumberedMove]) -> Re
 // The assertions that the moves name, each once, in database order.
 fn used_by(
     alloc: Global,
-    ids: &mut Vec<LabelId>,
+    named: &mut Named,
     book: &Book,
     moves: &[NumberedMove],
 ) -> Result<Vec<LabelId>, AllocError>
@@ -183,10 +223,11 @@ fn used_by(
     ensures { IfOk result (λ v.
         AreNamed book.now.statements (moves_in moves.now) (ids_in v.items)) }
 {
-    fill_named(ids, book, moves)?;
+    fill_named(named, book, moves)?;
+    let mut ids = Vec::from_slice(alloc, &named.ids)?;
     ids.sort()?;
     ids.dedup();
-    Ok(Vec::from_slice(alloc, ids)?)
+    Ok(ids)
 }
 
 // What is on the stack at the end: only the expression, or P13 or P14.
@@ -261,7 +302,7 @@ fn judged_frame<S: Store>(
         (λ place s names. FailsWith book.now.statements place s names rule step))) }
 {
     derive(store, scratch, book, own, id, moves)?;
-    Ok(used_by(alloc, &mut scratch.ids, book, moves)?)
+    Ok(used_by(alloc, &mut scratch.named, book, moves)?)
 }
 
 // The assertions of the tree that the moves make, or their first fault.

@@ -5,4 +5,4 @@ use Rattle.mm_proof.proofs.verdict.fill_named.Given as goal
 
 abbrev pub invariant-loop-one : goal.invariant-loop-one
 invariant-loop-one l =
-    (id : ℕ) → Contains (ids_in l.ids.items) id ↔ IsNamed l.fn.book.statements (take l.one-index (moves_in l.moves)) id
+    (id : ℕ) → Contains (ids_in l.named.ids.items) id ↔ IsNamed l.fn.book.statements (take l.one-index (moves_in l.moves)) id
