@@ -12,5 +12,7 @@ pub mod Lines
 pub mod Replies
 pub mod Verdicts
 pub mod OnTheWay
+pub mod Marking
+pub mod Asked
 pub mod Course
 pub mod Handed
