@@ -1,5 +1,5 @@
 -- From what is kept, by number, to the statements of which it is kept.
-use Rattle.std.proofs.Common.{◌≡◌, ◌≢◌, ◌↔◌, ℕ, zero, suc, ◌<◌, ◌≤◌, List, [], ◌∷◌, ◌++◌, map, take, length, slice_get, Contains, Bool, true, false, IsTrue, nat_eq, eq-eqb, not, ◌&&◌, ◌||◌, Option, Some, ◌⊎◌, inl, inr, refl, sym, ap, subst, ◌∙◌, arith}
+use Rattle.std.proofs.Common.{◌≡◌, ◌≢◌, ◌↔◌, ℕ, zero, suc, ◌<◌, List, [], ◌∷◌, take, length, slice_get, Contains, Bool, true, false, IsTrue, nat_eq, eq-eqb, not, ◌&&◌, ◌||◌, Some, inl, inr, refl, sym, ap, subst, ◌∙◌}
 use Rattle.std.specs.List.{AllByRecursion, list_any}
 use Rattle.std.proofs.lemmas.Bool.{or_cases, eqb-true}
 use Rattle.mm_text.specs.declared.statement.Kind.{Kind}
@@ -13,21 +13,20 @@ use Rattle.mm_frame.specs.Sentence.{Sentence, SomeSentence, IsHypothesis, said, 
 use Rattle.mm_frame.specs.Rules.{AllMeant}
 use Rattle.mm_frame.specs.Numbers.{labelled, IsNumbered}
 use Rattle.mm_frame.proofs.Numbered.{at_from_contains, contains_from_at}
-use Rattle.mm_frame.proofs.NameLists.{get_mapped}
 use Rattle.mm_frame.proofs.Labelled.{numbered_get, numbered_some, numbered_unique, numbered_within}
 use Rattle.mm_frame.proofs.Meant.{allmeant_front}
-use Rattle.mm_proof.specs.Tree.{Trees, none as no_trees, tree}
+use Rattle.mm_proof.specs.Tree.{Trees, none as no_trees}
 use Rattle.mm_proof.specs.Moves.{Move, Makes}
-use Rattle.mm_proof.specs.Proof.{IsProved, IsProvedWithin}
-use Rattle.mm_proof.specs.Used.{IsUsedNumber, AreUsed}
+use Rattle.mm_proof.specs.Proof.{IsProved}
+use Rattle.mm_proof.specs.Used.{IsUsedNumber}
 use Rattle.mm_proof.proofs.SaidMoves.{moves_once}
 use Rattle.mm_proof.proofs.Making.{makes_once}
 use Rattle.mm_check.specs.Conclusion.{Conclusion, ProofUses, numbers_of, labels_in}
 use Rattle.mm_check.specs.Verdict.{sentences, proof_of, is_proof, is_unproved, is_provable, is_incomplete}
-use Rattle.mm_check.specs.Rests.{IsAt, IsNumberOf, AreRising, AreInOrder, tree_of, HasTree, Uses, AreUses, IsClosed, RestsOn, IsNamed, IsReport}
+use Rattle.mm_check.specs.Rests.{IsAt, IsNumberOf, AreInOrder, tree_of, HasTree, Uses, AreUses, RestsOn, IsNamed, IsReport}
 use Rattle.mm_check.specs.Answer.{IsKeptOf}
 use Rattle.mm_check.specs.Ranges.{ids_in}
-use Rattle.mm_check.specs.Marks.{IsMarked, UsedIn, AreBackward, IsKeptWell, IsAxiomNumber}
+use Rattle.mm_check.specs.Marks.{IsMarked, UsedIn, AreBackward, IsAxiomNumber}
 use Rattle.mm_check.proofs.Numbers.{count_labelled}
 use Rattle.mm_check.proofs.Order.{in_order_same}
 use Rattle.mm_check.proofs.Trees.{Spells, AreUsesOf}

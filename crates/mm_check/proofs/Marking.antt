@@ -1,5 +1,5 @@
 -- The marks of what a theorem rests on, proof after proof from the last one down.
-use Rattle.std.proofs.Common.{◌≡◌, ◌↔◌, ℕ, zero, suc, ◌+◌, ◌-◌, ◌<◌, ◌≤◌, List, [], ◌∷◌, ◌++◌, map, take, length, add-one, get_or, set, replicate, slice_get, Contains, Bool, true, false, Option, Some, ◌⊎◌, inl, inr, refl, sym, ap, subst, ◌∙◌, arith}
+use Rattle.std.proofs.Common.{◌≡◌, ◌↔◌, ℕ, zero, suc, ◌+◌, ◌<◌, ◌≤◌, List, [], ◌∷◌, ◌++◌, take, length, add-one, get_or, set, replicate, slice_get, Contains, Bool, true, false, Some, ◌⊎◌, inl, inr, refl, sym, ap, subst, ◌∙◌, arith}
 use Rattle.std.proofs.lemmas.List.{get_or-set_same, get_or-set_other, get_or-replicate, length-replicate, length-set}
 use Rattle.std.proofs.lemmas.List.Elements.{Contains-append_left}
 use Rattle.std.proofs.lemmas.Bool.{cases_eq}
@@ -10,8 +10,8 @@ use Rattle.std.proofs.lemmas.List.{map-append}
 use Rattle.mm_frame.specs.declared.number.LabelId.{LabelId}
 use Rattle.mm_frame.proofs.Pushed.{take_next, get_from_front}
 use Rattle.mm_check.specs.Ranges.{ids_in}
-use Rattle.mm_check.specs.Conclusion.{ProofUses, numbers_of}
-use Rattle.mm_check.specs.Rests.{AreRising, AreInOrder, IsClosed, RestsOn}
+use Rattle.mm_check.specs.Conclusion.{ProofUses}
+use Rattle.mm_check.specs.Rests.{AreRising, AreInOrder, RestsOn}
 use Rattle.mm_check.specs.Marks.{IsMarked, UsedIn, AreBackward}
 use Rattle.mm_check.proofs.Order.{holds_last, holds_cases, in_order_push, in_order_same}
 

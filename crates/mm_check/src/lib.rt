@@ -10,6 +10,7 @@ mod kept;
 mod laws;
 mod place;
 mod progress;
+mod question;
 mod reply;
 mod report;
 mod rule;

@@ -134,6 +134,30 @@ fn writes_the_reply(rt: HostRuntime) -> Result<(), Fail> {
 }
 
 #[test]
+fn writes_what_a_theorem_rests_on(rt: HostRuntime) -> Result<(), Fail> {
+    let files = first();
+    let mut out = Counted::new(Vec::new(rt.alloc()));
+    let status = run(
+        rt.alloc(),
+        &Command::Axioms { label: b"th" },
+        &files,
+        &mut out,
+    )?;
+    assert_eq!(rt; status, Status::Done);
+    assert_eq!(rt; out.into_inner().as_slice(), b"tze\ntpl\n".as_slice());
+    let mut out = Counted::new(Vec::new(rt.alloc()));
+    let status = run(
+        rt.alloc(),
+        &Command::Axioms { label: b"tt" },
+        &files,
+        &mut out,
+    )?;
+    assert_eq!(rt; status, Status::Refused);
+    assert_eq!(rt; out.into_inner().as_slice(), b"ask A2 tt\n".as_slice());
+    Ok(())
+}
+
+#[test]
 fn refuses_no_files(rt: HostRuntime) -> Result<(), Fail> {
     let mut out = Counted::new(Vec::new(rt.alloc()));
     let status = run(rt.alloc(), &Command::Check, &[], &mut out)?;

@@ -1,7 +1,5 @@
 -- One more number, which is taken or passed over.
-use Rattle.std.proofs.Common.{◌≡◌, ℕ, ◌<◌, List, map, length, refl, sym, subst, ◌∙◌, arith}
-use Rattle.mm_frame.specs.Sentence.{Sentence}
-use Rattle.mm_frame.specs.declared.number.LabelId.{LabelId}
+use Rattle.std.proofs.Common.{ℕ, ◌<◌, length, refl, arith}
 use Rattle.mm_check.specs.Marks.{IsMarked, IsAxiomNumber}
 use Rattle.mm_check.proofs.Marking.{marked_within, up_to_taken, up_to_passed, up_to_ended}
 use Rattle.mm_check.proofs.report.axioms_among.Goals as goal

@@ -1,6 +1,5 @@
 -- One more number is marked.
-use Rattle.std.proofs.Common.{◌≡◌, ◌<◌, List, map, take, length, get_or, sym, subst, ap, ◌∙◌, refl, arith}
-use Rattle.std.proofs.lemmas.List.{take_all}
+use Rattle.std.proofs.Common.{◌<◌, List, map, length, get_or, sym, subst}
 use Rattle.std.proofs.lemmas.Option.{slice_get-get_or}
 use Rattle.mm_frame.specs.declared.number.LabelId.{LabelId}
 use Rattle.mm_frame.proofs.NameLists.{get_mapped}

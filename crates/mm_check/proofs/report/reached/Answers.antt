@@ -1,12 +1,12 @@
 -- The proofs are passed from the last one down.
-use Rattle.std.proofs.Common.{◌≡◌, ℕ, suc, ◌+◌, ◌-◌, ◌<◌, ◌≤◌, ◌⊎◌, inl, inr, List, map, length, replicate, slice_get, get_or, Contains, Bool, true, false, Some, sym, subst, ap, ◌∙◌, refl, arith}
+use Rattle.std.proofs.Common.{◌≡◌, ℕ, suc, ◌+◌, ◌-◌, ◌<◌, ◌≤◌, ◌⊎◌, inl, inr, List, map, length, slice_get, Contains, Bool, Some, sym, subst, ◌∙◌, arith}
 use Rattle.std.proofs.lemmas.List.{with_items_is}
 use Rattle.mm_frame.specs.declared.number.LabelId.{LabelId}
 use Rattle.mm_frame.proofs.Numbered.{contains_from_at}
 use Rattle.mm_frame.proofs.Pushed.{get_within}
 use Rattle.mm_check.specs.Conclusion.{ProofUses}
 use Rattle.mm_check.specs.Marks.{IsMarked}
-use Rattle.mm_check.proofs.Marking.{IsMarking, IsMarkedBy, marked_within, marking_starts, marking_passes, marking_marks, marking_ends}
+use Rattle.mm_check.proofs.Marking.{IsMarkedBy, marked_within, marking_starts, marking_passes, marking_marks, marking_ends}
 use Rattle.mm_check.proofs.report.reached.Goals as goal
 use Rattle.mm_check.proofs.report.reached.Goals.{then-is_reached, else-is_reached}
 

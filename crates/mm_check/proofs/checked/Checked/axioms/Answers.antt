@@ -1,6 +1,5 @@
 -- The marks are those of what the theorem rests on.
-use Rattle.std.proofs.Common.{◌≡◌, ◌↔◌, ℕ, ◌<◌, List, length, map, Contains, Bool, sym, ap, subst, ◌∙◌}
-use Rattle.mm_frame.specs.declared.number.LabelId.{LabelId}
+use Rattle.std.proofs.Common.{◌≡◌, ◌↔◌, ℕ, ◌<◌, List, length, Contains, Bool, ap, subst, ◌∙◌}
 use Rattle.mm_frame.specs.Sentence.{Sentence}
 use Rattle.mm_check.specs.Conclusion.{Conclusion, ProofUses, labels_in}
 use Rattle.mm_check.specs.Rests.{AreInOrder, RestsOn}
