@@ -14,7 +14,9 @@ use Rattle.mm_check.specs.Verdict.{Verdict, HasFault, Obeys, AllObey, HasVerdict
 use Rattle.mm_check.specs.Answer.{verdict_of_fault, concluded, concluded_with, labels_at, IsVerdict, KeepsLabels, KeepsCounts, KeepsUses, IsKeptOf}
 use Rattle.mm_check.specs.Rests.{IsNumberOf, AreInOrder, AreUses}
 use Rattle.mm_check.specs.Judged.{IsUnderWay, IsAtEnd, Knows, Takes, RefusesAfter, RefusesEnd, RefusesLoad, TakesNext}
+use Rattle.mm_check.specs.Marks.{IsKeptWell}
 use Rattle.mm_check.proofs.Unproved.{one_more}
+use Rattle.mm_check.proofs.Asked.{backward}
 use Rattle.mm_check.proofs.Known.{ids, knows_more, labels_said, names_of_ids}
 use Rattle.mm_check.proofs.Numbers.{names_at, numbers_within}
 
@@ -182,7 +184,7 @@ uses_kept files p left c way none kept statements ending reads =
     subst (λ (ss : List PlainStatement). IsKeptOf ss c) same here
 
 -- the numbers of the incomplete proofs are those of labels
-pub incomplete_within : (files : List PlainFile) (p : Progress) (left : Remaining) → IsUnderWay files p left
+incomplete_within : (files : List PlainFile) (p : Progress) (left : Remaining) → IsUnderWay files p left
     → AllByRecursion (λ n. n < length (labels_in p.book.statements)) (ids p.incomplete.items)
 incomplete_within files p left way =
     let labels : labels_in p.book.statements ≡ labels_of way.earlier = ap labels_in way.known.book ∙ labels_said way.earlier in
@@ -190,6 +192,15 @@ incomplete_within files p left way =
     sym (names_of_ids (labels_of way.earlier) p.incomplete.items) ∙ way.known.incomplete in
     subst (λ (ls : List (List ℕ)). AllByRecursion (λ n. n < length ls) (ids p.incomplete.items)) (sym labels)
     (numbers_within (labels_of way.earlier) (ids p.incomplete.items) (unproved_of way.earlier) named)
+
+-- what is kept at the end
+pub kept_well : (files : List PlainFile) (p : Progress) (left : Remaining) → IsUnderWay files p left
+    → IsKeptWell (length (labels_in p.book.statements)) (ids p.incomplete.items) p.kept
+kept_well files p left way = record {
+  in_range = incomplete_within files p left way;
+  rising = way.known.noted.rising;
+  backward = backward way.earlier p.kept way.known.kept;
+}
 
 -- where nothing is left, the progress is at its end
 pub at_end : (files : List PlainFile) (p : Progress) (old new : Remaining) (s : PlainStatement) → IsUnderWay files p old → TakesNext old false s new

@@ -13,5 +13,7 @@ pub mod ShownLines
 pub mod Replies
 pub mod Verdicts
 pub mod OnTheWay
+pub mod Marking
+pub mod Asked
 pub mod Course
 pub mod Handed

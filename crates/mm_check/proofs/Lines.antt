@@ -1,5 +1,5 @@
 -- A line that is written word by word.
-use Rattle.std.proofs.Common.{Bool, false, IsTrue, ◌↔◌, ◌≡◌, ℕ, zero, suc, ◌+◌, ◌<◌, decimal, arith, length-append, List, [], ◌∷◌, ◌++◌, codes, map, take, get_or, slice_get, length, append_assoc, refl, ap, sym, subst, ◌∙◌}
+use Rattle.std.proofs.Common.{Bool, false, IsTrue, ◌↔◌, ◌≡◌, ℕ, zero, suc, ◌+◌, ◌<◌, decimal, arith, length-append, List, [], ◌∷◌, ◌++◌, codes, map, take, get_or, slice_get, length, Option, append_assoc, refl, ap, sym, subst, ◌∙◌}
 use Rattle.std.specs.Option.{option_to_list}
 use Rattle.std.proofs.lemmas.List.{take_more, map-append, length-map}
 use Rattle.std.proofs.lemmas.Grind.{flat_map-append}
@@ -9,6 +9,7 @@ use Rattle.mm_check.specs.Conclusion.{Conclusion}
 use Rattle.mm_check.specs.Verdict.{Yes}
 use Rattle.std.specs.List.{AllByRecursion}
 use Rattle.mm_check.specs.Reply.{line_with, lines_of, text_of}
+use Rattle.mm_check.proofs.Numbers.{get_there}
 
 -- a word and five others
 pub six_words : (out w a b c d e o₁ o₂ o₃ o₄ o₅ o₆ o₇ : List ℕ)
@@ -101,3 +102,34 @@ text_of_some c b labels ids e h same_labels same_numbers all =
     ∙ ap (λ (ns : List ℕ). lines_of (labels_at c.labels ns)) same_numbers in
     ap (λ (k : ℕ). line_with (codes "incomplete") (decimal k ∷ []) ++ lines_of (labels_at labels (map (λ (id : LabelId). id.0) ids))) count
     ∙ ap (λ (ls : List ℕ). line_with (codes "incomplete") (decimal (length c.incomplete) ∷ []) ++ ls) lines ∙ sym text
+
+-- lines after question marks, and one more
+pub one_more_question : (labels : List (List ℕ)) (ids : List LabelId) (k : ℕ) (d : LabelId) → k < length ids → (get_or ids k d).0 < length labels
+    → lines_of (map (λ (label : List ℕ). codes "? " ++ label) (labels_at labels (map (λ id. id.0) (take (k + 1) ids))))
+    ≡ lines_of (map (λ (label : List ℕ). codes "? " ++ label) (labels_at labels (map (λ id. id.0) (take k ids))))
+    ++ (codes "? " ++ lines_of (labels_at labels ((get_or ids k d).0 ∷ [])))
+one_more_question labels ids k d h within =
+    let question : List ℕ → List ℕ = λ label. codes "? " ++ label in
+    let front : List ℕ = map (λ (id : LabelId). id.0) (take k ids) in
+    let n : ℕ = (get_or ids k d).0 in
+    let last : List ℕ = n ∷ [] in
+    let e : map (λ (id : LabelId). id.0) (take (k + 1) ids) ≡ front ++ last = rw (take_more ids k d h) (rw map-append refl) in
+    let named : labels_at labels (front ++ last) ≡ labels_at labels front ++ labels_at labels last =
+    flat_map-append (λ (m : ℕ). option_to_list (slice_get labels m)) front last in
+    let asked : map question (labels_at labels front ++ labels_at labels last) ≡ map question (labels_at labels front) ++ map question (labels_at labels last) =
+    map-append question (labels_at labels front) (labels_at labels last) in
+    let laid : lines_of (map question (labels_at labels front) ++ map question (labels_at labels last))
+    ≡ lines_of (map question (labels_at labels front)) ++ lines_of (map question (labels_at labels last)) =
+    flat_map-append (λ (l : List ℕ). l ++ codes "\n") (map question (labels_at labels front)) (map question (labels_at labels last)) in
+    let there = get_there labels n within in
+    let One : Option (List ℕ) → Type 0 = λ o. lines_of (map question (option_to_list o ++ [])) ≡ codes "? " ++ lines_of (option_to_list o ++ []) in
+    let one : lines_of (map question (labels_at labels last)) ≡ codes "? " ++ lines_of (labels_at labels last) =
+    subst One (sym there.1) refl in
+    ap (λ (ns : List ℕ). lines_of (map question (labels_at labels ns))) e ∙ ap (λ (ls : List (List ℕ)). lines_of (map question ls)) named
+    ∙ ap (λ (ls : List (List ℕ)). lines_of ls) asked ∙ laid
+    ∙ ap (λ (ls : List ℕ). lines_of (map question (labels_at labels front)) ++ ls) one
+
+-- a word and two others
+pub three_words : (out w a b o₁ o₂ o₃ o₄ : List ℕ) → o₁ ≡ out ++ w → o₂ ≡ o₁ ++ codes " " ++ a → o₃ ≡ o₂ ++ codes " " ++ b → o₄ ≡ o₃ ++ 10 ∷ []
+    → o₄ ≡ out ++ line_with w (a ∷ b ∷ [])
+three_words out w a b o₁ o₂ o₃ o₄ h₁ h₂ h₃ h₄ = rw (h₄, h₃, h₂, h₁) (simp append_assoc)

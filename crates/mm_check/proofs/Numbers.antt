@@ -91,7 +91,7 @@ label_at label (t ∷ ss) n s l e h =
     label_first label t s l (filter (λ s. is_some (label s)) ss) (flat_map (λ s. option_to_list (label s)) ss)
     (λ k f. label_at label ss k s l f h) h (label t) refl n e
 
-get_there : {X : Type 0} (xs : List X) (n : ℕ) → n < length xs → (x : X) × (slice_get xs n ≡ Some x)
+pub get_there : {X : Type 0} (xs : List X) (n : ℕ) → n < length xs → (x : X) × (slice_get xs n ≡ Some x)
 get_there [] n less = absurd (omega arith)
 get_there (x ∷ xs) zero less = (x, refl)
 get_there (x ∷ xs) (suc n) less = get_there xs n (omega arith)

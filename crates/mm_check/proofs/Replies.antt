@@ -1,11 +1,13 @@
 -- The text and the status that tell a verdict are those of the reply.
-use Rattle.std.proofs.Common.{◌≡◌, ℕ, List, Option, Some, None, Result, MatchOption, IfSome, refl}
+use Rattle.std.proofs.Common.{◌≡◌, ℕ, List, [], ◌∷◌, Option, Some, None, Result, Ok, Err, MatchOption, IfSome, IfOk, inl, inr, refl, ap, subst}
+use Rattle.mm_text.specs.Statement.{PlainStatement}
 use Rattle.mm_text.specs.Files.{PlainFile}
 use Rattle.mm_check.specs.declared.fault.CheckFault.{CheckFault}
 use Rattle.mm_check.specs.Conclusion.{Conclusion}
-use Rattle.mm_check.specs.Verdict.{Verdict, HasVerdict}
-use Rattle.mm_check.specs.Answer.{answered, IsVerdict}
-use Rattle.mm_check.specs.Reply.{IsReply, Tells, text_of, status_of}
+use Rattle.mm_check.specs.declared.fault.CheckFault.TheVariants as fault
+use Rattle.mm_check.specs.Verdict.{Verdict, Load, Refused, HasVerdict, AreAccepted, labels_of}
+use Rattle.mm_check.specs.Answer.{answered, concluded, concluded_with, plain_refusal, verdict_of_fault, IsVerdict, KeepsLabels, KeepsUses, IsKeptOf}
+use Rattle.mm_check.specs.Reply.{IsReply, IsRefused, IsQuestionReply, Tells, text_of, status_of}
 
 reply_at : (files : List PlainFile) (told : Option Verdict) (text : List ℕ) (status : ℕ)
     → ((verdict : Verdict) → told ≡ Some verdict → HasVerdict files verdict)
@@ -19,3 +21,53 @@ pub reply_of : (files : List PlainFile) (answer : Result Conclusion CheckFault) 
     → IsVerdict files answer → Tells files answer text → IfSome (answered answer) (λ verdict. status ≡ status_of verdict)
     → IsReply files text status
 reply_of files answer text status holds said ends = reply_at files (answered answer) text status holds said ends
+
+-- ---- questions
+
+-- nothing is at fault in what is kept
+accepted_with : (files : List PlainFile) (c : Conclusion) (numbers : List ℕ) → HasVerdict files (concluded_with c numbers) → (statements : List PlainStatement) × AreAccepted files statements
+accepted_with files c [] h = (h.0, h.1)
+accepted_with files c (n ∷ numbers) h = (h.0, h.1)
+
+-- the answer over the statements of the files
+pub question_answered : (files : List PlainFile) (answer : Result Conclusion CheckFault) (c : Conclusion) (Answers : List PlainStatement → List ℕ → ℕ → Type 0) (text : List ℕ) (status : ℕ)
+    → answer ≡ Ok c → IsVerdict files answer → KeepsUses files c → KeepsLabels files c
+    → ((statements : List PlainStatement) → IsKeptOf statements c → c.labels ≡ labels_of statements → Answers statements text status)
+    → IsQuestionReply files Answers text status
+question_answered files answer c Answers text status is holds uses labels answers =
+    let told : answered answer ≡ Some (concluded c) = ap answered is in
+    let found = accepted_with files c c.incomplete (holds (concluded c) told) in
+    inr (found.0, found.1, answers found.0 (uses found.0 None found.1.reads) (labels found.0 None found.1.reads))
+
+-- the refusal of the files
+refused_at : (files : List PlainFile) (fault : CheckFault) (text : List ℕ) (status : ℕ)
+    → ((verdict : Verdict) → verdict_of_fault fault ≡ Some verdict → HasVerdict files verdict)
+    → MatchOption (verdict_of_fault fault) ⊥ (λ verdict. text ≡ text_of files verdict) → IfSome (verdict_of_fault fault) (λ verdict. status ≡ status_of verdict)
+    → IsRefused files text status
+refused_at files (fault.Load rule) text status holds said ends =
+    record { verdict = Load rule; holds = holds (Load rule) refl; refuses = tt; said = said; ends = ends }
+refused_at files (fault.Refused r) text status holds said ends =
+    record { verdict = Refused (plain_refusal r); holds = holds (Refused (plain_refusal r)) refl; refuses = tt; said = said; ends = ends }
+refused_at files fault.Memory text status holds said ends = absurd said
+
+pub question_refused : (files : List PlainFile) (answer : Result Conclusion CheckFault) (fault : CheckFault) (Answers : List PlainStatement → List ℕ → ℕ → Type 0) (text : List ℕ) (status : ℕ)
+    → answer ≡ Err fault → IsVerdict files answer → Tells files answer text → IfSome (answered answer) (λ verdict. status ≡ status_of verdict)
+    → IsQuestionReply files Answers text status
+question_refused files answer fault Answers text status is holds said ends =
+    let Holds : Result Conclusion CheckFault → Type 0 = λ a. IsVerdict files a in
+    let Said : Result Conclusion CheckFault → Type 0 = λ a. Tells files a text in
+    let Ends : Result Conclusion CheckFault → Type 0 = λ a. IfSome (answered a) (λ verdict. status ≡ status_of verdict) in
+    inl (refused_at files fault text status (subst Holds is holds) (subst Said is said) (subst Ends is ends))
+
+-- what holds of a reply that was made
+pub made : {X E : Type 0} (r : Result X E) (P Q : X → Type 0) → ((x : X) → P x → Q x) → IfOk r P → IfOk r Q
+made (Ok x) P Q f h = f x h
+made (Err e) P Q f h = tt
+
+pub made_both : {X E : Type 0} (r : Result X E) (P Q R : X → Type 0) → ((x : X) → P x → Q x → R x) → IfOk r P → IfOk r Q → IfOk r R
+made_both (Ok x) P Q R f h k = f x h k
+made_both (Err e) P Q R f h k = tt
+
+-- what is said of an answer, at the value that it has
+pub at_ok : {X E : Type 0} (r : Result X E) (x : X) (P : X → Type 0) → r ≡ Ok x → IfOk r P → P x
+at_ok {X} {E} r x P e h = subst (λ (q : Result X E). IfOk q P) e h

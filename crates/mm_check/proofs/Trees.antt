@@ -113,7 +113,7 @@ any_proof before s tokens p = record {
 }
 
 -- what is said of the tree of a proof after these statements
-abbrev Spells : PlainStatement → Trees → List PlainStatement → Type 0
+abbrev pub Spells : PlainStatement → Trees → List PlainStatement → Type 0
 Spells s t front = (proof : IsProved (sentences front) (said s) (proof_of s)) × (t ≡ tree_of proof)
 
 pub tree_grow : (statements more : List PlainStatement) (id place : ℕ) (t : Trees) → HasTree statements id place t → HasTree (statements ++ more) id place t

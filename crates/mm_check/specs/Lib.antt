@@ -5,6 +5,7 @@ pub mod Status
 pub mod Conclusion
 pub mod Ranges
 pub mod Rests
+pub mod Marks
 pub mod Answer
 pub mod Judged
 pub mod Laws

@@ -1,15 +1,21 @@
 -- The reply to a command: its text and its status.
-use Rattle.std.specs.Prelude.{◌≡◌, ℕ, List, [], ◌∷◌, ◌++◌, length, slice_get, Option, option_map, unwrap_or, Result, MatchOption, codes, decimal}
+use Rattle.std.specs.Prelude.{◌≡◌, ℕ, List, [], ◌∷◌, ◌++◌, map, length, slice_get, Option, option_map, unwrap_or, Result, MatchOption, ◌⊎◌, codes, decimal}
 use Rattle.std.specs.List.{flat_map}
 use Rattle.std.specs.Io.KnownBytes.{Appends}
+use Rattle.mm_text.specs.Statement.{PlainStatement}
 use Rattle.mm_text.specs.Files.{PlainFile}
 use Rattle.mm_text.specs.Device.{AppendsBeginning}
 use Rattle.mm_check.specs.declared.rule.Rule.{Rule}
 use Rattle.mm_check.specs.declared.rule.Rule.TheVariants.{F1, F2, F3, X1, X2, X3, X4, X5, X6, X7, X8, X9, S1, S2, S3, S4, S5, S6, S7, M1, M2, M3, M4, M5, M6, M7, M8, M9, M10, M11, M12, M13, M14, M15, P1, P2, P3, P4, P5, P6, P7, P8, P9, P10, P11, P12, P13, P14, L1, L2, A1, A2, A3}
 use Rattle.mm_check.specs.declared.fault.CheckFault.{CheckFault}
 use Rattle.mm_check.specs.Conclusion.{Conclusion}
-use Rattle.mm_check.specs.Answer.{answered}
-use Rattle.mm_check.specs.Verdict.{Verdict, Load, Refused, Incomplete, Yes, HasVerdict}
+use Rattle.mm_check.specs.Answer.{answered, labels_at}
+use Rattle.mm_check.specs.declared.ask.AskFault.{AskFault}
+use Rattle.mm_check.specs.declared.ask.AskFault.TheVariants as ask
+use Rattle.mm_check.specs.declared.command.Command.{Command}
+use Rattle.mm_check.specs.declared.command.Command.TheVariants.{Check, Axioms}
+use Rattle.mm_check.specs.Rests.{IsAskFault, IsReport}
+use Rattle.mm_check.specs.Verdict.{Verdict, Load, Refused, Incomplete, Yes, HasVerdict, AreAccepted, labels_of}
 
 -- the printed code of a rule
 abbrev pub code_of : Rule → List ℕ
@@ -119,11 +125,69 @@ pub record IsReply (files : List PlainFile) (text : List ℕ) (status : ℕ) : T
   pub said : text ≡ text_of files verdict
   pub ends : status ≡ status_of verdict
 
+-- ---- questions
+
+-- the verdict is that the files are refused
+abbrev pub IsRefusal : Verdict → Type 0
+IsRefusal (Load rule) = Unit {0}
+IsRefusal (Refused refusal) = Unit {0}
+IsRefusal (Incomplete labels) = ⊥
+IsRefusal (Yes statements proofs) = ⊥
+
+-- The files are refused, and this is the text and the status of the refusal.
+pub record IsRefused (files : List PlainFile) (text : List ℕ) (status : ℕ) : Type 0 where
+  pub verdict : Verdict
+  pub holds : HasVerdict files verdict
+  pub refuses : IsRefusal verdict
+  pub said : text ≡ text_of files verdict
+  pub ends : status ≡ status_of verdict
+
+-- the text and the status where a question about a label has no answer
+abbrev pub IsAskReply : AskFault → List ℕ → List ℕ → ℕ → Type 0
+IsAskReply ask.A1 label text status = (text ≡ line_with (codes "ask") (codes "A1" ∷ label ∷ [])) × (status ≡ 1)
+IsAskReply ask.A2 label text status = (text ≡ line_with (codes "ask") (codes "A2" ∷ label ∷ [])) × (status ≡ 1)
+IsAskReply ask.A3 label text status = (text ≡ line_with (codes "ask") (codes "A3" ∷ label ∷ [])) × (status ≡ 3)
+IsAskReply ask.Memory label text status = ⊥
+
+-- the text of a report: a line for each axiom, and then one for each unproved theorem, after a question mark
+abbrev pub report_text : List (List ℕ) → List ℕ → List ℕ → List ℕ
+report_text labels axioms unproved =
+    lines_of (labels_at labels axioms) ++ lines_of (map (λ label. codes "? " ++ label) (labels_at labels unproved))
+
+-- the status of a report: 3 where a theorem is unproved
+abbrev pub report_status : List ℕ → ℕ
+report_status [] = 0
+report_status (id ∷ unproved) = 3
+
+-- the reply to the question what the theorem with a label rests on
+abbrev pub IsAxiomsReply : List ℕ → List PlainStatement → List ℕ → ℕ → Type 0
+IsAxiomsReply label statements text status =
+    ((fault : AskFault) × IsAskFault statements label fault × IsAskReply fault label text status)
+    ⊎ ((axioms : List ℕ) × (unproved : List ℕ) × IsReport statements label axioms unproved
+    × (text ≡ report_text (labels_of statements) axioms unproved) × (status ≡ report_status unproved))
+
+-- The reply to a question about the database: the refusal, if it is refused, else the answer over its statements.
+abbrev pub IsQuestionReply : List PlainFile → (List PlainStatement → List ℕ → ℕ → Type 0) → List ℕ → ℕ → Type 0
+IsQuestionReply files Answers text status =
+    IsRefused files text status
+    ⊎ ((statements : List PlainStatement) × AreAccepted files statements × Answers statements text status)
+
+-- ---- commands
+
+-- This is the text and the status of the reply to a command.
+abbrev pub IsReplyTo : List PlainFile → Command → List ℕ → ℕ → Type 0
+IsReplyTo files Check text status = IsReply files text status
+IsReplyTo files (Axioms label) text status = IsQuestionReply files (IsAxiomsReply label.now) text status
+
 -- The reply's text was put after what the writer held, where that is known.
-abbrev pub Writes : List PlainFile → ℕ → Option (List ℕ) → Option (List ℕ) → Type 0
-Writes files status old new = (text : List ℕ) × IsReply files text status × Appends old new text
+abbrev pub Writes : List PlainFile → Command → ℕ → Option (List ℕ) → Option (List ℕ) → Type 0
+Writes files command status old new = (text : List ℕ) × IsReplyTo files command text status × Appends old new text
 
 -- A proper beginning of the reply's text was.
+abbrev pub WritesBeginningOf : List PlainFile → Command → Option (List ℕ) → Option (List ℕ) → Type 0
+WritesBeginningOf files command old new =
+    (text : List ℕ) × (status : ℕ) × IsReplyTo files command text status × AppendsBeginning old new text
+
+-- A proper beginning of the text of the reply to `check` was.
 abbrev pub WritesBeginning : List PlainFile → Option (List ℕ) → Option (List ℕ) → Type 0
-WritesBeginning files old new =
-    (text : List ℕ) × (status : ℕ) × IsReply files text status × AppendsBeginning old new text
+WritesBeginning files old new = WritesBeginningOf files Check old new

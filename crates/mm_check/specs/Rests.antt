@@ -1,7 +1,7 @@
 -- What a theorem rests on: the axioms and the unproved theorems in the least set that is closed over the uses of proofs (the
 -- Metamath book, sections 4.2.6 and 4.3).
-use Rattle.std.specs.Prelude.{◌≡◌, ℕ, ◌<◌, List, take, slice_get, Contains, Bool, true, Some, ◌↔◌}
-use Rattle.mm_text.specs.declared.statement.Kind.TheVariants.{Axiom}
+use Rattle.std.specs.Prelude.{◌≡◌, ◌≢◌, ℕ, ◌<◌, List, take, slice_get, Contains, Bool, true, Some, ◌↔◌}
+use Rattle.mm_text.specs.declared.statement.Kind.TheVariants.{Axiom, Provable}
 use Rattle.mm_text.specs.Statement.{PlainStatement}
 use Rattle.mm_frame.specs.Sentence.{Sentence, said, IsLabelled}
 use Rattle.mm_frame.specs.Numbers.{IsNumbered}
@@ -9,6 +9,8 @@ use Rattle.mm_proof.specs.Tree.{Trees, none, tree}
 use Rattle.mm_proof.specs.Proof.{IsProvedWithin, IsProved}
 use Rattle.mm_proof.specs.Used.{IsUsedNumber, AreUsed}
 use Rattle.mm_check.specs.Conclusion.{ProofUses, numbers_of}
+use Rattle.mm_check.specs.declared.ask.AskFault.{AskFault}
+use Rattle.mm_check.specs.declared.ask.AskFault.TheVariants.{A1, A2, A3, Memory}
 use Rattle.mm_check.specs.Verdict.{proof_of, is_proof, is_unproved, sentences}
 
 -- ---- numbers of statements
@@ -69,14 +71,24 @@ pub record IsClosed (Uses : ℕ → ℕ → Type 0) (theorem : ℕ) (set : ℕ �
 abbrev pub RestsOn : (ℕ → ℕ → Type 0) → ℕ → ℕ → Type 0
 RestsOn Uses theorem id = (set : ℕ → Bool) → IsClosed Uses theorem set → set id ≡ true
 
--- the number is that of a `$p` with a complete proof, which has the label
-abbrev pub IsTheorem : List PlainStatement → List ℕ → ℕ → Type 0
-IsTheorem statements label = IsNumberOf statements (λ s. IsLabelled label (said s) × (is_proof s ≡ true))
+-- ---- questions by label
+
+-- a statement with this number has the label, and is so
+abbrev pub IsNamed : List PlainStatement → List ℕ → (PlainStatement → Type 0) → ℕ → Type 0
+IsNamed statements label P = IsNumberOf statements (λ s. IsLabelled label (said s) × P s)
+
+-- why a question about the theorem with a label has no answer: no statement has it; it isn't that of a `$p`; the proof is
+-- incomplete
+abbrev pub IsAskFault : List PlainStatement → List ℕ → AskFault → Type 0
+IsAskFault statements label A1 = (id : ℕ) → ¬ (IsNamed statements label (λ s. Unit {0}) id)
+IsAskFault statements label A2 = (id : ℕ) × IsNamed statements label (λ s. s.kind ≢ Provable) id
+IsAskFault statements label A3 = (id : ℕ) × IsNamed statements label (λ s. is_unproved s ≡ true) id
+IsAskFault statements label Memory = Unit {0}
 
 -- the `$a` that the theorem with the label rests on, and the `$p` with incomplete proofs
 pub record IsReport (statements : List PlainStatement) (label : List ℕ) (axioms unproved : List ℕ) : Type 0 where
   pub id : ℕ
-  pub theorem : IsTheorem statements label id
+  pub theorem : IsNamed statements label (λ s. is_proof s ≡ true) id
   pub are_axioms : AreInOrder
       (λ n. IsNumberOf statements (λ s. s.kind ≡ Axiom) n × RestsOn (Uses statements) id n) axioms
   pub are_unproved : AreInOrder

@@ -1,11 +1,14 @@
 //! A database in which nothing is at fault.
 
-ghost use Rattle.std.specs.Prelude.{◌≡◌, ◌<◌, ◌↔◌, [], map, length, slice_get, Some, IsTrue};
+ghost use Rattle.std.specs.Prelude.{◌≡◌, ◌<◌, ◌↔◌, List, [], map, length, slice_get, Contains, true, Some, IsTrue, IfOk, IfErr};
 ghost use Rattle.std.specs.List.{AllByRecursion};
 
+use crate::ask::AskFault;
 use crate::kept::Kept;
 use crate::progress::Progress;
-use mm_frame::{Book, LabelId};
+use crate::report::{Report, axioms_among, marked_among, reached};
+use mm_frame::{Book, Found, LabelId, LabelKind};
+use std::alloc::Global;
 use std::marker::Model;
 
 /// A database in which nothing is at fault: each statement obeys the rules, and each proof that
@@ -20,9 +23,9 @@ pub struct Checked<'a> {
 }
 
 impl<'a> Model for Checked<'a> {
-    ghost use Rattle.std.specs.Prelude.{map, length, ◌<◌};
-    ghost use Rattle.std.specs.List.{AllByRecursion};
+    ghost use Rattle.std.specs.Prelude.{map, length};
     ghost use Rattle.mm_check.specs.Conclusion.{Conclusion, labels_in};
+    ghost use Rattle.mm_check.specs.Marks.{IsKeptWell};
 
     ghost Value = { Conclusion };
 
@@ -35,18 +38,32 @@ impl<'a> Model for Checked<'a> {
       uses = c.kept;
     } };
 
-    // Each number is that of a label.
-    ghost invariant = { λ c. AllByRecursion (λ n. n < length (labels_in c.book.statements))
-        (map (λ id. id.0) c.incomplete.items) };
+    // Each number is that of a label; what comes later in the database has a greater one.
+    ghost invariant = { λ c. IsKeptWell (length (labels_in c.book.statements))
+        (map (λ id. id.0) c.incomplete.items) c.kept };
+}
+
+/// Whether a number is one of these.
+fn is_among(numbers: &[LabelId], id: LabelId) -> bool
+    ensures { IsTrue result ↔ Contains (map (λ l. l.0) numbers.now) id.0 }
+{
+    numbers.contains(&id)
 }
 
 impl<'a> Checked<'a> {
+    ghost use Rattle.mm_text.specs.Statement.{PlainStatement};
+    ghost use Rattle.mm_frame.specs.Numbers.{labelled};
+    ghost use Rattle.mm_frame.specs.Form.{IsSound};
     ghost use Rattle.mm_check.specs.Conclusion.{labels_in};
+    ghost use Rattle.mm_check.specs.Marks.{IsKeptWell, UsedIn};
+    ghost use Rattle.mm_check.specs.Verdict.{is_proof};
+    ghost use Rattle.mm_check.specs.Rests.{IsNamed, IsAskFault, IsReport, RestsOn};
+    ghost use Rattle.mm_check.specs.Answer.{IsKeptOf};
 
     /// What the progress has come to, once nothing is left.
     pub(crate) fn new(progress: Progress<'a>) -> Checked<'a>
-        requires { AllByRecursion (λ n. n < length (labels_in progress.book.statements))
-            (map (λ id. id.0) progress.incomplete.items) }
+        requires { IsKeptWell (length (labels_in progress.book.statements))
+            (map (λ id. id.0) progress.incomplete.items) progress.kept }
         ensures statements { result.statements ≡ progress.entry.count }
         ensures proofs { result.proofs ≡ progress.entry.proofs }
         ensures incomplete { result.incomplete ≡ map (λ id. id.0) progress.entry.incomplete.items }
@@ -98,5 +115,55 @@ impl<'a> Checked<'a> {
         ensures { slice_get self.now.labels id.0 ≡ Some result.now }
     {
         self.book.label(id)
+    }
+
+    /// The number of the `$p` with a complete proof that has this label.
+    fn theorem(&self, label: &[u8]) -> Result<LabelId, AskFault>
+        ensures within { IfOk result (λ id. id.0 < length (labelled self.now.sentences)) }
+        ensures found { IfOk result (λ id. (statements : List PlainStatement)
+            → IsKeptOf statements self.now
+            → IsNamed statements label.now (λ s. is_proof s ≡ true) id.0) }
+        ensures fault { IfErr result (λ fault. (statements : List PlainStatement)
+            → IsKeptOf statements self.now → IsAskFault statements label.now fault) }
+        ensures sound { IsSound self.now.sentences }
+    {
+        match self.book.find(label) {
+            Found::None => Err(AskFault::A1),
+            Found::Hypothesis { .. } => Err(AskFault::A2),
+            Found::Assertion(id) => match self.book.kind(id) {
+                LabelKind::Proof if is_among(&self.incomplete, id) => Err(AskFault::A3),
+                LabelKind::Proof => Ok(id),
+                _ => Err(AskFault::A2),
+            },
+        }
+    }
+
+    /// What the `$p` with this label rests on.
+    ///
+    /// It rests on the assertions in the tree that its proof spells and, with each `$p` among them
+    /// whose proof is complete, on those that this one rests on. Axioms of syntax are axioms too.
+    ///
+    /// # Errors
+    ///
+    /// `A1` where no statement has the label, `A2` where it isn't that of a `$p`, `A3` where the
+    /// proof is incomplete; `Memory` where a growth was refused.
+    pub fn axioms(&self, alloc: Global, label: &[u8]) -> Result<Report, AskFault>
+        // The lists are those of the statements of which this was kept: the `$a`, and the
+        // incomplete `$p`, in the least set that is closed over the uses of proofs.
+        ensures report { IfOk result (λ report. (statements : List PlainStatement)
+            → IsKeptOf statements self.now → IsReport statements label.now
+            (map (λ id. id.0) report.axioms.items) (map (λ id. id.0) report.unproved.items)) }
+        ensures fault { IfErr result (λ fault. (statements : List PlainStatement)
+            → IsKeptOf statements self.now → IsAskFault statements label.now fault) }
+        // Each number is that of a label.
+        ensures in_range { IfOk result (λ report.
+            AllByRecursion (λ n. n < length self.now.labels) (map (λ id. id.0) report.axioms.items)
+            × AllByRecursion (λ n. n < length self.now.labels) (map (λ id. id.0) report.unproved.items)) }
+    {
+        let theorem = self.theorem(label)?;
+        let marks = reached(alloc, &self.kept, theorem)?;
+        let axioms = axioms_among(alloc, &self.book, &marks, theorem)?;
+        let unproved = marked_among(alloc, &self.incomplete, &marks)?;
+        Ok(Report { axioms, unproved })
     }
 }

@@ -4,13 +4,12 @@ ghost use Rattle.std.specs.Prelude.{◌≡◌, ◌+◌, ◌<◌, ◌↔◌, map,
 ghost use Rattle.mm_text.specs.Files.{plain_file};
 ghost use Rattle.mm_text.specs.Device.{faults_of, inner_of};
 ghost use Rattle.mm_check.specs.Status.{number_of};
-ghost use Rattle.mm_check.specs.Reply.{Writes, WritesBeginning};
+ghost use Rattle.mm_check.specs.Reply.{IsReplyTo, Writes, WritesBeginningOf};
 ghost use Rattle.mm_check.specs.declared.command.RunFault.TheVariants.{Memory};
 
 use crate::fault::CheckFault;
-use crate::reply::{status_of, text_of};
+use crate::question::{Reply, axioms_reply, check_reply};
 use crate::status::Status;
-use crate::verdict::check;
 use mm_text::{Counted, File};
 use std::alloc::{AllocError, Global};
 use std::io::Write;
@@ -18,9 +17,11 @@ use thiserror::Error;
 
 /// What the program is asked.
 #[derive(Clone, Copy, PartialEq, Eq, Debug)]
-pub enum Command {
+pub enum Command<'a> {
     /// Whether the database is accepted.
     Check,
+    /// What the theorem with this label rests on.
+    Axioms { label: &'a [u8] },
 }
 
 /// Why a reply wasn't written, or not to its end.
@@ -42,6 +43,17 @@ impl From<AllocError> for RunFault {
     }
 }
 
+/// The reply to a command over the files.
+fn reply_to(alloc: Global, command: &Command, files: &[File]) -> Result<Reply, AllocError>
+    ensures { IfOk result (λ reply. IsReplyTo (map plain_file files.now) command.now
+        reply.text.items (number_of reply.status)) }
+{
+    match command {
+        Command::Check => check_reply(alloc, files),
+        Command::Axioms { label } => axioms_reply(alloc, files, label),
+    }
+}
+
 /// Runs a command over the files, the first of which is the top file: writes the text of the reply
 /// and answers its status. The whole reply is made before its first byte is written.
 ///
@@ -56,23 +68,17 @@ pub fn run<W: Write>(
     out: &mut Counted<W>,
 ) -> Result<Status, RunFault>
     requires { faults_of out.old < u64.MAX }
-    ensures reply { IfOk result (λ status. Writes (map plain_file files.now) (number_of status)
-        (W.contents (inner_of out.old)) (W.contents (inner_of out.new))) }
-    ensures device { IsErrOf result RunFault.Device → WritesBeginning (map plain_file files.now)
-        (W.contents (inner_of out.old)) (W.contents (inner_of out.new)) }
+    ensures reply { IfOk result (λ status. Writes (map plain_file files.now) command.now
+        (number_of status) (W.contents (inner_of out.old)) (W.contents (inner_of out.new))) }
+    ensures device { IsErrOf result RunFault.Device → WritesBeginningOf
+        (map plain_file files.now) command.now (W.contents (inner_of out.old)) (W.contents (inner_of out.new)) }
     ensures memory { IsErrOf result RunFault.Memory → inner_of out.new ≡ inner_of out.old }
     ensures counted { IsErrOf result RunFault.Device ↔ (faults_of out.new ≡ faults_of out.old + 1) }
     ensures uncounted { ¬ IsErrOf result RunFault.Device → faults_of out.new ≡ faults_of out.old }
 {
-    match command {
-        Command::Check => {
-            let answer = check(alloc, files);
-            let text = text_of(alloc, files, &answer)?;
-            let status = status_of(&answer);
-            match out.write_all(&text) {
-                Ok(()) => Ok(status),
-                Err(_) => Err(RunFault::Device),
-            }
-        }
+    let reply = reply_to(alloc, command, files)?;
+    match out.write_all(&reply.text) {
+        Ok(()) => Ok(reply.status),
+        Err(_) => Err(RunFault::Device),
     }
 }

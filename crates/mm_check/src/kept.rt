@@ -1,6 +1,7 @@
 //! What is kept of the complete proofs, for the questions that come after the check.
 
 ghost use Rattle.std.specs.Prelude.{◌≡◌, ◌<◌, ◌++◌, [], ◌∷◌, map, length, slice_get, OnOk, Some};
+ghost use Rattle.mm_check.specs.Conclusion.{ProofUses};
 
 use mm_frame::LabelId;
 use std::alloc::{AllocError, Global};
@@ -55,5 +56,30 @@ impl Kept {
         let end = self.used.len();
         self.proofs.push(KeptProof { id, start, end })?;
         Ok(())
+    }
+
+    /// How many proofs are kept.
+    pub(crate) fn len(&self) -> usize
+        ensures { result ≡ length self.now }
+    {
+        self.proofs.len()
+    }
+
+    /// The number of the `$p` whose proof is at a place.
+    pub(crate) fn proof(&self, at: usize) -> LabelId
+        requires { at < length self.now }
+        ensures { (u : ProofUses) → slice_get self.now at ≡ Some u → result.0 ≡ u.number }
+    {
+        self.proofs[at].id
+    }
+
+    /// The numbers of the assertions that the proof at a place uses.
+    pub(crate) fn used(&self, at: usize) -> &[LabelId]
+        requires { at < length self.now }
+        ensures { (u : ProofUses) → slice_get self.now at ≡ Some u
+            → map (λ l. l.0) result.now ≡ u.used }
+    {
+        let proof = self.proofs[at];
+        &self.used[proof.start..proof.end]
     }
 }

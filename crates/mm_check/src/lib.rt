@@ -1,6 +1,7 @@
 //! The verdict over a database, and the replies of the program.
 #![tactic(auto)]
 
+mod ask;
 mod checked;
 mod command;
 mod fault;
@@ -9,7 +10,9 @@ mod kept;
 mod laws;
 mod place;
 mod progress;
+mod question;
 mod reply;
+mod report;
 mod rule;
 mod shown;
 mod status;
@@ -17,11 +20,13 @@ mod status;
 mod tests;
 mod verdict;
 
+pub use ask::AskFault;
 pub use checked::Checked;
 pub use command::{Command, RunFault, run};
 pub use fault::{CheckFault, Refusal};
 pub use laws::{one_verdict, some_verdict};
 pub use mm_frame::LabelId;
+pub use report::Report;
 pub use rule::Rule;
 pub use status::Status;
 pub use verdict::check;

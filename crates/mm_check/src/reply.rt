@@ -89,7 +89,11 @@ fn push_yes(out: &mut Vec<u8>, statements: usize, proofs: usize) -> Result<(), A
 }
 
 /// A line for the label with this number.
-fn push_label(out: &mut Vec<u8>, checked: &Checked, number: LabelId) -> Result<(), AllocError>
+pub(crate) fn push_label(
+    out: &mut Vec<u8>,
+    checked: &Checked,
+    number: LabelId,
+) -> Result<(), AllocError>
     requires { number.0 < length checked.now.labels }
     ensures { OnOk result (out.new.items ≡ out.old.items
         ++ lines_of (labels_at checked.now.labels (number.0 ∷ []))) }
@@ -101,7 +105,11 @@ fn push_label(out: &mut Vec<u8>, checked: &Checked, number: LabelId) -> Result<(
 
 /// A line for the label of each of these numbers.
 #[tactic(auto, using(crate::proofs::Lines::one_more_line))]
-fn push_labels(out: &mut Vec<u8>, checked: &Checked, numbers: &[LabelId]) -> Result<(), AllocError>
+pub(crate) fn push_labels(
+    out: &mut Vec<u8>,
+    checked: &Checked,
+    numbers: &[LabelId],
+) -> Result<(), AllocError>
     requires { AllByRecursion (λ n. n < length checked.now.labels) (map (λ id. id.0) numbers.now) }
     ensures { OnOk result (out.new.items ≡ out.old.items
         ++ lines_of (labels_at checked.now.labels (map (λ id. id.0) numbers.now))) }

@@ -1,6 +1,6 @@
 //! One happy path of each public call, and writers that fail in the middle of a reply.
 
-use super::{CheckFault, Command, Rule, RunFault, Status, check, run};
+use super::{AskFault, CheckFault, Command, Rule, RunFault, Status, check, run};
 use mm_text::{Counted, File};
 use std::io;
 use std::io::{ErrorKind, Write};
@@ -17,6 +17,10 @@ th $p term ( 0 + 0 ) $= tze tze tpl $.
 
 // The proofs of q and s are incomplete.
 const OPEN: &[u8] = b"$c a $. p $a a $. q $p a $= ? $. r $p a $= p $. s $p a $= q ? $.";
+
+// t rests on p, through s and r; u rests on the incomplete q.
+const DEEP: &[u8] = b"$c a $. p $a a $. q $p a $= ? $. r $p a $= p $. s $p a $= r $. \
+t $p a $= s $. u $p a $= q $.";
 
 const REPLY: &[u8] = b"yes 7 statements 1 proofs\n";
 
@@ -90,6 +94,34 @@ fn names_incomplete_proofs(rt: HostRuntime) -> Result<(), Fail> {
 }
 
 #[test]
+fn reports_what_theorems_rest_on(rt: HostRuntime) -> Result<(), Fail> {
+    let files = [File {
+        name: b"deep.mm",
+        bytes: DEEP,
+    }];
+    let checked = check(rt.alloc(), &files)?;
+    let report = checked.axioms(rt.alloc(), b"t")?;
+    match report.axioms.as_slice() {
+        [axiom] => assert_eq!(rt; checked.name(*axiom), b"p".as_slice()),
+        _ => panic!(rt; "one axiom"),
+    }
+    assert!(rt; report.unproved.is_empty());
+    let report = checked.axioms(rt.alloc(), b"u")?;
+    assert!(rt; report.axioms.is_empty());
+    match report.unproved.as_slice() {
+        [theorem] => assert_eq!(rt; checked.name(*theorem), b"q".as_slice()),
+        _ => panic!(rt; "one unproved theorem"),
+    }
+    assert_eq!(rt;
+        checked.axioms(rt.alloc(), b"none").err(),
+        Some(AskFault::A1)
+    );
+    assert_eq!(rt; checked.axioms(rt.alloc(), b"p").err(), Some(AskFault::A2));
+    assert_eq!(rt; checked.axioms(rt.alloc(), b"q").err(), Some(AskFault::A3));
+    Ok(())
+}
+
+#[test]
 fn writes_the_reply(rt: HostRuntime) -> Result<(), Fail> {
     let files = first();
     let mut out = Counted::new(Vec::new(rt.alloc()));
@@ -98,6 +130,30 @@ fn writes_the_reply(rt: HostRuntime) -> Result<(), Fail> {
     assert_eq!(rt; status.number(), 0);
     assert_eq!(rt; out.into_inner().as_slice(), REPLY);
     assert_eq!(rt; Rule::M15.code(), b"M15".as_slice());
+    Ok(())
+}
+
+#[test]
+fn writes_what_a_theorem_rests_on(rt: HostRuntime) -> Result<(), Fail> {
+    let files = first();
+    let mut out = Counted::new(Vec::new(rt.alloc()));
+    let status = run(
+        rt.alloc(),
+        &Command::Axioms { label: b"th" },
+        &files,
+        &mut out,
+    )?;
+    assert_eq!(rt; status, Status::Done);
+    assert_eq!(rt; out.into_inner().as_slice(), b"tze\ntpl\n".as_slice());
+    let mut out = Counted::new(Vec::new(rt.alloc()));
+    let status = run(
+        rt.alloc(),
+        &Command::Axioms { label: b"tt" },
+        &files,
+        &mut out,
+    )?;
+    assert_eq!(rt; status, Status::Refused);
+    assert_eq!(rt; out.into_inner().as_slice(), b"ask A2 tt\n".as_slice());
     Ok(())
 }
 

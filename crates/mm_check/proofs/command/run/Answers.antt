@@ -1,25 +1,18 @@
 -- What is written is the text of the reply, or a beginning of it.
-use Rattle.std.proofs.Common.{ℕ, List, map, subst}
+use Rattle.std.proofs.Common.{ℕ, List, subst}
 use Rattle.std.specs.Io.KnownBytes.{Appends}
-use Rattle.mm_text.specs.Files.{plain_file}
 use Rattle.mm_text.specs.Device.{inner_of, AppendsBeginning}
 use Rattle.mm_check.specs.Status.{number_of}
-use Rattle.mm_check.specs.Reply.{IsReply}
-use Rattle.mm_check.proofs.Replies.{reply_of}
 use Rattle.mm_check.proofs.command.run.Goals as goal
 
 pub returns-in-Ok-clause-reply : goal.returns-in-Ok-clause-reply
 returns-in-Ok-clause-reply g c =
-    let reply : IsReply (map plain_file c.args.files.now) c.in_ok-text.text.items (number_of c.status_of-status.result) =
-    reply_of _ c.check-answer.result _ _ c.check-answer.ensures.verdict c.in_ok-text.ensures c.status_of-status.ensures in
     let Written : List ℕ → Type 0 = λ text.
     Appends (g.W.Write.contents (inner_of c.args.out.now)) (g.W.Write.contents (inner_of c.write_all.new.self)) text in
-    (c.in_ok-text.text.items, reply, subst Written c.deref.ensures.value c.in-Ok.ensures.all)
+    (c.in_ok-reply.reply.text.items, c.in_ok-reply.ensures, subst Written c.deref.ensures.value c.in-Ok.ensures.all)
 
 pub returns-clause-device : goal.returns-clause-device
 returns-clause-device g c = λ failed.
-    let reply : IsReply (map plain_file c.args.files.now) c.in_ok-text.text.items (number_of c.status_of-status.result) =
-    reply_of _ c.check-answer.result _ _ c.check-answer.ensures.verdict c.in_ok-text.ensures c.status_of-status.ensures in
     let Written : List ℕ → Type 0 = λ text.
     AppendsBeginning (g.W.Write.contents (inner_of c.args.out.now)) (g.W.Write.contents (inner_of c.write_all.new.self)) text in
-    (c.in_ok-text.text.items, number_of c.status_of-status.result, reply, subst Written c.deref.ensures.value c.in-Err.ensures.beginning)
+    (c.in_ok-reply.reply.text.items, number_of c.in_ok-reply.reply.status, c.in_ok-reply.ensures, subst Written c.deref.ensures.value c.in-Err.ensures.beginning)

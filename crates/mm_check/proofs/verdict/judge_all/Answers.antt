@@ -5,7 +5,7 @@ use Rattle.mm_text.specs.Files.{PlainFile, plain_file}
 use Rattle.mm_check.specs.Verdict.{HasVerdict}
 use Rattle.mm_check.specs.Answer.{concluded}
 use Rattle.mm_check.specs.Judged.{IsAtEnd}
-use Rattle.mm_check.proofs.Course.{Concludes, starts, passed_on, end_concludes, labels_kept, counts_kept, uses_kept, incomplete_within}
+use Rattle.mm_check.proofs.Course.{Concludes, starts, passed_on, end_concludes, labels_kept, counts_kept, uses_kept, kept_well}
 use Rattle.mm_check.proofs.verdict.judge_all.Goals as goal
 
 pub judge_rest-requires : goal.judge_rest-requires
@@ -15,7 +15,7 @@ judge_rest-requires c =
 
 pub new-requires : goal.new-requires
 new-requires c =
-    incomplete_within (map plain_file c.args.files.now) c.judge_rest.new.progress c.judge_rest.new.statements c.in_ok-judge_rest.ensures.done.way
+    kept_well (map plain_file c.args.files.now) c.judge_rest.new.progress c.judge_rest.new.statements c.in_ok-judge_rest.ensures.done.way
 
 pub returns-in_err-judge_rest-clause-verdict : goal.returns-in_err-judge_rest-clause-verdict
 returns-in_err-judge_rest-clause-verdict c =

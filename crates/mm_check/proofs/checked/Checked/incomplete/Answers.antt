@@ -7,4 +7,4 @@ use Rattle.mm_check.proofs.checked.Checked.incomplete.Goals as goal
 pub returns-clause-in_range : goal.returns-clause-in_range
 returns-clause-in_range c =
     let InRange : Conclusion → Type 0 = λ v. AllByRecursion (λ n. n < length v.labels) v.incomplete in
-    subst InRange c.self.view_is c.self.invariant
+    subst InRange c.self.view_is c.self.invariant.in_range

@@ -1,0 +1,296 @@
+-- From what is kept, by number, to the statements of which it is kept.
+use Rattle.std.proofs.Common.{◌≡◌, ◌≢◌, ◌↔◌, ℕ, zero, suc, ◌<◌, List, [], ◌∷◌, take, length, slice_get, Contains, Bool, true, false, IsTrue, nat_eq, eq-eqb, not, ◌&&◌, ◌||◌, Some, inl, inr, refl, sym, ap, subst, ◌∙◌}
+use Rattle.std.specs.List.{AllByRecursion, list_any}
+use Rattle.std.proofs.lemmas.Bool.{or_cases, eqb-true}
+use Rattle.mm_text.specs.declared.statement.Kind.{Kind}
+use Rattle.mm_text.specs.declared.statement.Kind.TheVariants.{Axiom, Provable}
+use Rattle.mm_text.specs.Statement.{PlainStatement}
+use Rattle.mm_frame.specs.declared.number.LabelId.{LabelId}
+use Rattle.mm_frame.specs.declared.number.LabelKind.{LabelKind}
+use Rattle.mm_frame.specs.declared.number.LabelKind.TheVariants as label_kinds
+use Rattle.mm_frame.specs.Taken.{kind_behind}
+use Rattle.mm_frame.specs.Sentence.{Sentence, SomeSentence, IsHypothesis, said, IsLabelled}
+use Rattle.mm_frame.specs.Rules.{AllMeant}
+use Rattle.mm_frame.specs.Numbers.{labelled, IsNumbered}
+use Rattle.mm_frame.proofs.Numbered.{at_from_contains, contains_from_at}
+use Rattle.mm_frame.proofs.Labelled.{numbered_get, numbered_some, numbered_unique, numbered_within}
+use Rattle.mm_frame.proofs.Meant.{allmeant_front}
+use Rattle.mm_proof.specs.Tree.{Trees, none as no_trees}
+use Rattle.mm_proof.specs.Moves.{Move, Makes}
+use Rattle.mm_proof.specs.Proof.{IsProved}
+use Rattle.mm_proof.specs.Used.{IsUsedNumber}
+use Rattle.mm_proof.proofs.SaidMoves.{moves_once}
+use Rattle.mm_proof.proofs.Making.{makes_once}
+use Rattle.mm_check.specs.Conclusion.{Conclusion, ProofUses, numbers_of, labels_in}
+use Rattle.mm_check.specs.Verdict.{sentences, proof_of, is_proof, is_unproved, is_provable, is_incomplete}
+use Rattle.mm_check.specs.Rests.{IsAt, IsNumberOf, AreInOrder, tree_of, HasTree, Uses, AreUses, RestsOn, IsNamed, IsReport}
+use Rattle.mm_check.specs.Answer.{IsKeptOf}
+use Rattle.mm_check.specs.Ranges.{ids_in}
+use Rattle.mm_check.specs.Marks.{IsMarked, UsedIn, AreBackward, IsAxiomNumber}
+use Rattle.mm_check.proofs.Numbers.{count_labelled}
+use Rattle.mm_check.proofs.Order.{in_order_same}
+use Rattle.mm_check.proofs.Trees.{Spells, AreUsesOf}
+
+-- ---- numbers of what statements say, and of statements
+
+said_at : (statements : List PlainStatement) (place : ℕ) (t : Sentence) → slice_get (sentences statements) place ≡ Some t
+    → (s : PlainStatement) × (slice_get statements place ≡ Some s) × (said s ≡ t)
+said_at [] place t e = absurd cc
+said_at (s ∷ statements) zero t e = (s, refl, cc)
+said_at (s ∷ statements) (suc place) t e = said_at statements place t e
+
+pub numbered_as : (statements : List PlainStatement) (id place : ℕ) (t : Sentence) → IsNumbered (sentences statements) id place t
+    → (s : PlainStatement) × IsAt statements id place s × (said s ≡ t)
+numbered_as statements id place t numbered =
+    let found = said_at statements place t numbered.there in (
+      found.0,
+      record {
+        there = found.1;
+        numbered = subst (λ (u : Sentence). IsNumbered (sentences statements) id place u) (sym found.2) numbered;
+      },
+      found.2,
+    )
+
+pub at_unique : (statements : List PlainStatement) (id p q : ℕ) (s t : PlainStatement) → IsAt statements id p s → IsAt statements id q t → (p ≡ q) × (s ≡ t)
+at_unique statements id p q s t one other =
+    let place : p ≡ q = (numbered_unique (sentences statements) id p q (said s) (said t) one.numbered other.numbered).0 in
+    let there : slice_get statements q ≡ Some s = subst (λ (n : ℕ). slice_get statements n ≡ Some s) place one.there in
+    let here : slice_get statements q ≡ Some t = other.there in
+    (place, cc)
+
+-- ---- the theorem with a label
+
+-- a statement by its number, its label and its kind
+named_as : (statements : List PlainStatement) (label : List ℕ) (P : PlainStatement → Type 0) (id place : ℕ) (t : Sentence) → IsNumbered (sentences statements) id place t → IsLabelled label t
+    → ((s : PlainStatement) → IsAt statements id place s → s.kind ≡ t.kind → P s) → IsNamed statements label P id
+named_as statements label P id place t numbered labelled holds =
+    let found = numbered_as statements id place t numbered in (
+      place,
+      found.0,
+      found.1,
+      (subst (λ (u : Sentence). IsLabelled label u) (sym found.2) labelled, holds found.0 found.1 (ap (λ (u : Sentence). u.kind) found.2)),
+    )
+
+provable_is : (kind : Kind) → kind ≡ Provable → is_provable kind ≡ true
+provable_is kind e = ap is_provable e
+
+-- one statement has the number
+same_proof : (statements : List PlainStatement) (test : PlainStatement → Bool) (id place : ℕ) (s : PlainStatement) → IsAt statements id place s
+    → IsNumberOf statements (λ t. test t ≡ true) id → test s ≡ true
+same_proof statements test id place s at other =
+    let same : s ≡ other.1 = (at_unique statements id place other.0 s other.1 at other.2).1 in
+    ap test same ∙ other.3
+
+proof_or_not : (kind : Kind) (incomplete : Bool) → kind ≡ Provable → ¬ ((is_provable kind && incomplete) ≡ true) → (is_provable kind && not incomplete) ≡ true
+proof_or_not kind false e h = rw e refl
+proof_or_not kind true e h = absurd (h (rw e refl))
+
+pub found_theorem : (statements : List PlainStatement) (c : Conclusion) (label : List ℕ) (id place : ℕ) (t : Sentence) → IsKeptOf statements c → IsNumbered c.sentences id place t → IsLabelled label t
+    → t.kind ≡ Provable → ¬ (Contains c.incomplete id) → IsNamed statements label (λ s. is_proof s ≡ true) id
+found_theorem statements c label id place t kept numbered labelled provable complete =
+    named_as statements label (λ s. is_proof s ≡ true) id place t
+    (subst (λ (ss : List Sentence). IsNumbered ss id place t) kept.sentences numbered) labelled
+    (λ s at kind. proof_or_not s.kind (is_incomplete (proof_of s)) (kind ∙ provable)
+    (λ unproved. complete ((kept.incomplete.each id).1 (place, s, at, unproved))))
+
+pub found_incomplete : (statements : List PlainStatement) (c : Conclusion) (label : List ℕ) (id place : ℕ) (t : Sentence) → IsKeptOf statements c → IsNumbered c.sentences id place t → IsLabelled label t
+    → Contains c.incomplete id → IsNamed statements label (λ s. is_unproved s ≡ true) id
+found_incomplete statements c label id place t kept numbered labelled among =
+    named_as statements label (λ s. is_unproved s ≡ true) id place t
+    (subst (λ (ss : List Sentence). IsNumbered ss id place t) kept.sentences numbered) labelled
+    (λ s at kind. same_proof statements is_unproved id place s at ((kept.incomplete.each id).0 among))
+
+pub found_other : (statements : List PlainStatement) (c : Conclusion) (label : List ℕ) (id place : ℕ) (t : Sentence) → IsKeptOf statements c → IsNumbered c.sentences id place t → IsLabelled label t
+    → t.kind ≢ Provable → IsNamed statements label (λ s. s.kind ≢ Provable) id
+found_other statements c label id place t kept numbered labelled other =
+    named_as statements label (λ s. s.kind ≢ Provable) id place t
+    (subst (λ (ss : List Sentence). IsNumbered ss id place t) kept.sentences numbered) labelled
+    (λ s at kind e. other (sym kind ∙ e))
+
+pub found_none : (statements : List PlainStatement) (c : Conclusion) (label : List ℕ) → IsKeptOf statements c → ¬ (SomeSentence c.sentences (IsLabelled label))
+    → (id : ℕ) → ¬ (IsNamed statements label (λ s. Unit {0}) id)
+found_none statements c label kept none id named =
+    none (subst (λ (ss : List Sentence). SomeSentence ss (IsLabelled label)) (sym kept.sentences) (named.0, said named.1, named.2.numbered.there, named.3.0))
+
+-- what a hypothesis is not, and what a kind that isn't that of a `$p` is not
+pub hypothesis_other : (kind : Kind) → IsHypothesis kind → kind ≢ Provable
+hypothesis_other kind (inl e) f = cc
+hypothesis_other kind (inr e) f = cc
+
+pub other_kind : (k : LabelKind) (kind : Kind) → kind ≡ kind_behind k → ¬ (k ≡ label_kinds.Proof) → kind ≢ Provable
+other_kind label_kinds.Floating kind e other f = cc
+other_kind label_kinds.Essential kind e other f = cc
+other_kind label_kinds.Axiom kind e other f = cc
+other_kind label_kinds.Proof kind e other f = other refl
+
+or_true : (a c : Bool) → c ≡ true → (a || c) ≡ true
+or_true true c k = refl
+or_true false c k = k
+
+-- a number among labels, as a test finds it
+pub any_among : (xs : List LabelId) (x : LabelId) (b : Bool) → b ≡ list_any (λ y. nat_eq y.0 x.0) xs → IsTrue b ↔ Contains (ids_in xs) x.0
+any_among xs x b e = (
+  (λ t. contains_from_at (ids_in xs) x.0 (there xs (sym e ∙ t))),
+  λ h. let at = at_from_contains (ids_in xs) x.0 h in e ∙ found xs at.0 at.1,
+)
+  where
+    there : (ls : List LabelId) → list_any (λ y. nat_eq y.0 x.0) ls ≡ true → (i : ℕ) × (slice_get (ids_in ls) i ≡ Some x.0)
+    there [] t = absurd cc
+    there (l ∷ ls) t = elim (or_cases (nat_eq l.0 x.0) (list_any (λ y. nat_eq y.0 x.0) ls) t) [
+      | inl here ↦ (0, ap (λ (n : ℕ). Some n) (eqb-true l.0 x.0 here))
+      | inr later ↦ let rest = there ls later in (suc rest.0, rest.1)
+    ]
+
+    found : (ls : List LabelId) (i : ℕ) → slice_get (ids_in ls) i ≡ Some x.0 → list_any (λ y. nat_eq y.0 x.0) ls ≡ true
+    found [] i f = absurd cc
+    found (l ∷ ls) zero f = let same : l.0 ≡ x.0 = cc in ap (λ (c : Bool). c || list_any (λ y. nat_eq y.0 x.0) ls) (eq-eqb l.0 x.0 same)
+    found (l ∷ ls) (suc i) f = or_true (nat_eq l.0 x.0) (list_any (λ y. nat_eq y.0 x.0) ls) (found ls i f)
+
+-- whether the statement with a number is a `$a`
+pub axiom_kind : (statements : List Sentence) (id : ℕ) (k : LabelKind) → id < length (labelled statements)
+    → ((s : Sentence) → slice_get (labelled statements) id ≡ Some s → s.kind ≡ kind_behind k) → k ≡ label_kinds.Axiom → IsAxiomNumber statements id
+axiom_kind statements id k less told e =
+    let found = numbered_some statements id less in
+    (found.0, found.1, found.2, told found.1 (numbered_get statements id found.0 found.1 found.2) ∙ ap kind_behind e)
+
+pub no_axiom_kind : (statements : List Sentence) (id : ℕ) (k : LabelKind)
+    → ((s : Sentence) → slice_get (labelled statements) id ≡ Some s → s.kind ≡ kind_behind k) → ¬ (k ≡ label_kinds.Axiom) → ¬ (IsAxiomNumber statements id)
+no_axiom_kind statements id k told other (place, s, numbered, kind) =
+    by_kind k (sym (told s (numbered_get statements id place s numbered)) ∙ kind) other
+  where
+    by_kind : (j : LabelKind) → kind_behind j ≡ Axiom → ¬ (j ≡ label_kinds.Axiom) → ⊥
+    by_kind label_kinds.Floating e h = cc
+    by_kind label_kinds.Essential e h = cc
+    by_kind label_kinds.Axiom e h = h refl
+    by_kind label_kinds.Proof e h = cc
+
+-- ---- the tree of a proof is one
+
+same_tree : (before : List Sentence) (s : Sentence) (tokens : List (List ℕ)) (p q : IsProved before s tokens) → AllMeant before → tree_of p ≡ tree_of q
+same_tree before s tokens p q all =
+    let moves : p.moves ≡ q.moves = moves_once before s tokens p.moves q.moves p.said q.said in
+    let made : Makes before q.moves no_trees [] (tree_of p) p.proves.kept =
+    subst (λ (ms : List (Move (List ℕ))). Makes before ms no_trees [] (tree_of p) p.proves.kept) moves p.proves.made in
+    (makes_once before q.moves no_trees (tree_of p) (tree_of q) [] p.proves.kept q.proves.kept all made q.proves.made).0
+
+map-take : (n : ℕ) (statements : List PlainStatement) → sentences (take n statements) ≡ take n (sentences statements)
+map-take zero statements = refl
+map-take (suc n) [] = refl
+map-take (suc n) (s ∷ statements) = ap (λ (ss : List Sentence). said s ∷ ss) (map-take n statements)
+
+pub one_tree : (statements : List PlainStatement) (id p q : ℕ) (t u : Trees) → AllMeant (sentences statements) → HasTree statements id p t → HasTree statements id q u
+    → (p ≡ q) × (t ≡ u)
+one_tree statements id p q t u all one other =
+    let same = at_unique statements id q p other.s one.s other.at one.at in
+    let front : List PlainStatement = take p statements in
+    let moved : Spells one.s u front =
+    subst (λ (n : ℕ). Spells one.s u (take n statements)) same.0
+    (subst (λ (s : PlainStatement). Spells s u (take q statements)) same.1 (other.proof, other.spelled)) in
+    let meant : AllMeant (sentences front) = subst AllMeant (sym (map-take p statements)) (allmeant_front (sentences statements) p all) in
+    (sym same.0, one.spelled ∙ same_tree (sentences front) (said one.s) (proof_of one.s) one.proof moved.0 meant ∙ sym moved.1)
+
+-- ---- what is kept of proofs is what they use
+
+-- a number among those of proofs is that of one
+number_among : (uses : List ProofUses) (id : ℕ) → Contains (numbers_of uses) id → (u : ProofUses) × Contains uses u × (u.number ≡ id)
+number_among uses id h =
+    let at = at_from_contains (numbers_of uses) id h in
+    let found = find uses at.0 at.1 in
+    (found.0, contains_from_at uses found.0 (at.0, found.1), found.2)
+  where
+    find : (us : List ProofUses) (i : ℕ) → slice_get (numbers_of us) i ≡ Some id → (u : ProofUses) × (slice_get us i ≡ Some u) × (u.number ≡ id)
+    find [] i e = absurd cc
+    find (u ∷ us) zero e = (u, refl, cc)
+    find (u ∷ us) (suc i) e = find us i e
+
+pub used_is : (statements : List PlainStatement) (uses : List ProofUses) → AllMeant (sentences statements) → AreUses statements uses
+    → (id used : ℕ) → UsedIn uses id used ↔ Uses statements id used
+used_is statements uses all kept id used = (
+  (λ (u, among, number, holds).
+      let of : AreUsesOf statements u = kept.each u among in
+      (of.0, of.1, subst (λ (n : ℕ). HasTree statements n of.0 of.1) number of.2, (of.3.each used).0 holds)),
+  λ (place, t, has, stands).
+      let found = number_among uses id ((kept.proofs.each id).1 (place, has.s, has.at, has.complete)) in
+      let of : AreUsesOf statements found.0 = kept.each found.0 found.1 in
+      let same = one_tree statements id place of.0 t of.1 all has (subst (λ (n : ℕ). HasTree statements n of.0 of.1) found.2 of.2) in
+      let there : IsUsedNumber (sentences (take of.0 statements)) of.1 used =
+      subst (λ (n : ℕ). IsUsedNumber (sentences (take n statements)) of.1 used) same.0
+      (subst (λ (v : Trees). IsUsedNumber (sentences (take place statements)) v used) same.1 stands) in
+      (found.0, found.1, found.2, (of.3.each used).1 there),
+)
+
+rests_as : (R S : ℕ → ℕ → Type 0) → ((id used : ℕ) → R id used ↔ S id used) → (theorem n : ℕ) → RestsOn R theorem n → RestsOn S theorem n
+rests_as R S same theorem n rests set closed =
+    rests set (record { own = λ used h. closed.own used ((same theorem used).0 h); others = λ id used k h. closed.others id used k ((same id used).0 h) })
+
+pub rests_same : (R S : ℕ → ℕ → Type 0) → ((id used : ℕ) → R id used ↔ S id used) → (theorem n : ℕ) → RestsOn R theorem n ↔ RestsOn S theorem n
+rests_same R S same theorem n = (rests_as R S same theorem n, rests_as S R (λ id used. ((same id used).1, (same id used).0)) theorem n)
+
+-- ---- the report
+
+axiom_is : (statements : List PlainStatement) (n : ℕ) → IsAxiomNumber (sentences statements) n ↔ IsNumberOf statements (λ s. s.kind ≡ Axiom) n
+axiom_is statements n = (
+  (λ (place, t, numbered, kind). let found = numbered_as statements n place t numbered in (place, found.0, found.1, ap (λ (u : Sentence). u.kind) found.2 ∙ kind)),
+  λ (place, s, at, kind). (place, said s, at.numbered, kind),
+)
+
+pub report_of : (statements : List PlainStatement) (c : Conclusion) (label : List ℕ) (id : ℕ) (marks : List Bool) (axioms unproved : List ℕ)
+    → IsKeptOf statements c → AllMeant c.sentences → IsNamed statements label (λ s. is_proof s ≡ true) id
+    → ((n : ℕ) → IsMarked marks n ↔ RestsOn (UsedIn c.uses) id n)
+    → AreInOrder (λ n. IsAxiomNumber c.sentences n × IsMarked marks n) axioms
+    → AreInOrder (λ n. Contains c.incomplete n × IsMarked marks n) unproved
+    → IsReport statements label axioms unproved
+report_of statements c label id marks axioms unproved kept all named marked are_axioms are_unproved =
+    let meant : AllMeant (sentences statements) = subst AllMeant kept.sentences all in
+    let rests : (n : ℕ) → RestsOn (UsedIn c.uses) id n ↔ RestsOn (Uses statements) id n =
+    rests_same (UsedIn c.uses) (Uses statements) (used_is statements c.uses meant kept.uses) id in
+    let placed : AreInOrder (λ n. IsAxiomNumber (sentences statements) n × IsMarked marks n) axioms =
+    subst (λ (ss : List Sentence). AreInOrder (λ n. IsAxiomNumber ss n × IsMarked marks n) axioms) kept.sentences are_axioms in
+    record {
+      id = id;
+      theorem = named;
+      are_axioms = in_order_same _ _ axioms placed (λ n. (
+        (λ h. ((axiom_is statements n).0 h.0, (rests n).0 ((marked n).0 h.1))),
+        λ h. ((axiom_is statements n).1 h.0, (marked n).1 ((rests n).1 h.1)),
+      ));
+      are_unproved = in_order_same _ _ unproved are_unproved (λ n. (
+        (λ h. ((kept.incomplete.each n).0 h.0, (rests n).0 ((marked n).0 h.1))),
+        λ h. ((kept.incomplete.each n).1 h.0, (marked n).1 ((rests n).1 h.1)),
+      ));
+    }
+
+-- ---- ranges of numbers
+
+pub all_within : (P : ℕ → Type 0) (ids : List ℕ) → ((n : ℕ) → Contains ids n → P n) → AllByRecursion P ids
+all_within P ids h = each ids (λ i n at. h n (contains_from_at ids n (i, at)))
+  where
+    each : (ns : List ℕ) → ((i n : ℕ) → slice_get ns i ≡ Some n → P n) → AllByRecursion P ns
+    each [] k = tt
+    each (n ∷ ns) k = (k 0 n refl, each ns (λ i m at. k (suc i) m at))
+
+pub all_among : (P : ℕ → Type 0) (ids : List ℕ) (n : ℕ) → AllByRecursion P ids → Contains ids n → P n
+all_among P ids n all h = let at = at_from_contains ids n h in each ids at.0 all at.1
+  where
+    each : (ns : List ℕ) (i : ℕ) → AllByRecursion P ns → slice_get ns i ≡ Some n → P n
+    each [] i k e = absurd cc
+    each (m ∷ ns) zero k e = let same : m ≡ n = cc in subst P same k.0
+    each (m ∷ ns) (suc i) k e = each ns i k.1 e
+
+-- a `$a` has a label
+pub axiom_within : (statements : List Sentence) (n : ℕ) → IsAxiomNumber statements n → n < length (labels_in statements)
+axiom_within statements n h =
+    subst (λ (k : ℕ). n < k) (count_labelled (λ (s : Sentence). s.label) statements) (numbered_within statements n h.0 h.1 h.2)
+
+-- the uses of statements are of earlier ones
+pub backward : (statements : List PlainStatement) (uses : List ProofUses) → AreUses statements uses → AreBackward uses
+backward statements uses kept = record {
+  rising = kept.proofs.rising;
+  below = λ u used among holds.
+      let of : AreUsesOf statements u = kept.each u among in
+      let stands : IsUsedNumber (sentences (take of.0 statements)) of.1 used = (of.3.each used).0 holds in
+      let less : used < length (labelled (sentences (take of.0 statements))) =
+      numbered_within (sentences (take of.0 statements)) used stands.0 stands.1 stands.3 in
+      let number : length (labelled (sentences (take of.0 statements))) ≡ u.number =
+      ap (λ (ss : List Sentence). length (labelled ss)) (map-take of.0 statements) ∙ of.2.at.numbered.number in
+      subst (λ (k : ℕ). used < k) number less;
+}

@@ -1,0 +1,253 @@
+-- The marks of what a theorem rests on, proof after proof from the last one down.
+use Rattle.std.proofs.Common.{◌≡◌, ◌↔◌, ℕ, zero, suc, ◌+◌, ◌<◌, ◌≤◌, List, [], ◌∷◌, ◌++◌, take, length, add-one, get_or, set, replicate, slice_get, Contains, Bool, true, false, Some, ◌⊎◌, inl, inr, refl, sym, ap, subst, ◌∙◌, arith}
+use Rattle.std.proofs.lemmas.List.{get_or-set_same, get_or-set_other, get_or-replicate, length-replicate, length-set}
+use Rattle.std.proofs.lemmas.List.Elements.{Contains-append_left}
+use Rattle.std.proofs.lemmas.Bool.{cases_eq}
+use Rattle.std.proofs.lemmas.Option.{slice_get_within}
+use Rattle.mm_frame.proofs.Numbered.{at_from_contains, contains_from_at}
+use Rattle.mm_frame.proofs.NameLists.{get_mapped}
+use Rattle.std.proofs.lemmas.List.{map-append}
+use Rattle.mm_frame.specs.declared.number.LabelId.{LabelId}
+use Rattle.mm_frame.proofs.Pushed.{take_next, get_from_front}
+use Rattle.mm_check.specs.Ranges.{ids_in}
+use Rattle.mm_check.specs.Conclusion.{ProofUses}
+use Rattle.mm_check.specs.Rests.{AreRising, AreInOrder, RestsOn}
+use Rattle.mm_check.specs.Marks.{IsMarked, UsedIn, AreBackward}
+use Rattle.mm_check.proofs.Order.{holds_last, holds_cases, in_order_push, in_order_same}
+
+-- ---- marks of some numbers
+
+-- these numbers were marked, and no others
+pub record IsMarkedBy (old new : List Bool) (numbers : List ℕ) : Type 0 where
+  pub same : length new ≡ length old
+  pub kept : (n : ℕ) → IsMarked old n → IsMarked new n
+  pub marked : (n : ℕ) → Contains numbers n → IsMarked new n
+  pub only : (n : ℕ) → IsMarked new n → IsMarked old n ⊎ Contains numbers n
+
+pub marked_none : (old : List Bool) → IsMarkedBy old old []
+marked_none old = record {
+  same = refl;
+  kept = λ n h. h;
+  marked = λ n h. absurd (let at = at_from_contains [] n h in let there = at.1 in cc);
+  only = λ n h. inl h;
+}
+
+-- a number that is marked is one of a mark
+pub marked_within : (marks : List Bool) (n : ℕ) → IsMarked marks n → n < length marks
+marked_within [] n h = absurd cc
+marked_within (m ∷ marks) zero h = omega arith
+marked_within (m ∷ marks) (suc n) h = let rest : n < length marks = marked_within marks n h in omega arith
+
+marked_set : (marks : List Bool) (x n : ℕ) → x < length marks → IsMarked marks n ⊎ (n ≡ x) → IsMarked (set marks x true) n
+marked_set marks x n less h = elim (cases_eq n x) [
+  | inl same ↦ subst (λ (m : ℕ). get_or (set marks x true) m false ≡ true) (sym same) (get_or-set_same marks x true false less)
+  | inr other ↦ elim h [
+    | inl old ↦ get_or-set_other marks x n true false other ∙ old
+    | inr same ↦ absurd (other same)
+  ]
+]
+
+marked_set_only : (marks : List Bool) (x n : ℕ) → IsMarked (set marks x true) n → IsMarked marks n ⊎ (n ≡ x)
+marked_set_only marks x n h = elim (cases_eq n x) [
+  | inl same ↦ inr same
+  | inr other ↦ inl (sym (get_or-set_other marks x n true false other) ∙ h)
+]
+
+-- one more number
+pub marked_more : (old mid : List Bool) (numbers : List ℕ) (x : ℕ) → IsMarkedBy old mid numbers → x < length mid
+    → IsMarkedBy old (set mid x true) (numbers ++ x ∷ [])
+marked_more old mid numbers x h less = record {
+  same = length-set mid x true ∙ h.same;
+  kept = λ n k. marked_set mid x n less (inl (h.kept n k));
+  marked = λ n k. elim (holds_cases numbers x n k) [
+    | inl before ↦ marked_set mid x n less (inl (h.marked n before))
+    | inr last ↦ marked_set mid x n less (inr last)
+  ];
+  only = λ n k. elim (marked_set_only mid x n k) [
+    | inl before ↦ elim (h.only n before) [ inl was ↦ inl was | inr among ↦ inr (Contains-append_left numbers (x ∷ []) n among) ]
+    | inr last ↦ inr (subst (λ (m : ℕ). Contains (numbers ++ x ∷ []) m) (sym last) (holds_last numbers x))
+  ];
+}
+
+-- ---- marks of what a theorem rests on
+
+-- The proofs from a place on were passed: what is marked is what the theorem rests on, and the set of the marks is closed
+-- over the uses of these proofs.
+pub record IsMarking (uses : List ProofUses) (theorem left : ℕ) (marks : List Bool) : Type 0 where
+  pub long : length marks ≡ theorem
+  pub sound : (n : ℕ) → IsMarked marks n → RestsOn (UsedIn uses) theorem n
+  pub closed : (i : ℕ) (u : ProofUses) → left ≤ i → slice_get uses i ≡ Some u
+      → (u.number ≡ theorem) ⊎ IsMarked marks u.number → (n : ℕ) → Contains u.used n → IsMarked marks n
+
+unmarked : (k n : ℕ) → IsMarked (replicate k false) n → ⊥
+unmarked k n h =
+    let marks : List Bool = replicate k false in
+    let less : n < length marks = marked_within marks n h in
+    let here : n < k = subst (λ (m : ℕ). n < m) (length-replicate k false) less in
+    let e : get_or marks n false ≡ false = get_or-replicate k n false false here in
+    cc
+
+pub marking_starts : (uses : List ProofUses) (theorem left : ℕ) (marks : List Bool) → left ≡ length uses → marks ≡ replicate theorem false → IsMarking uses theorem left marks
+marking_starts uses theorem left marks whole e = subst (λ (ms : List Bool). IsMarking uses theorem left ms) (sym e) (record {
+  long = length-replicate theorem false;
+  sound = λ n h. absurd (unmarked theorem n h);
+  closed = λ i u within there reached n h. absurd (let less : i < length uses = slice_get_within uses i u there in omega arith);
+})
+
+-- the proof at the next place down isn't of what the theorem rests on
+pub marking_passes : (uses : List ProofUses) (theorem left next : ℕ) (marks : List Bool) (u : ProofUses) → IsMarking uses theorem left marks → left ≡ suc next
+    → slice_get uses next ≡ Some u → ¬ (u.number ≡ theorem) → ¬ (IsMarked marks u.number) → IsMarking uses theorem next marks
+marking_passes uses theorem left next marks u h step at other unreached = record {
+  long = h.long;
+  sound = h.sound;
+  closed = λ i v within there reached n k. elim (cases_eq i next) [
+    | inl same ↦
+        let one : v ≡ u = let e : slice_get uses next ≡ Some v = subst (λ (j : ℕ). slice_get uses j ≡ Some v) same there in cc in
+        absurd (elim reached [ inl own ↦ other (sym (ap (λ (w : ProofUses). w.number) one) ∙ own) | inr marked ↦ unreached (subst (λ (w : ProofUses). IsMarked marks w.number) one marked) ])
+    | inr apart ↦ h.closed i v (omega arith) there reached n k
+  ];
+}
+
+-- it is
+pub marking_marks : (uses : List ProofUses) (theorem left next : ℕ) (marks new : List Bool) (u : ProofUses) → AreBackward uses → IsMarking uses theorem left marks → left ≡ suc next
+    → slice_get uses next ≡ Some u → (u.number ≡ theorem) ⊎ IsMarked marks u.number → IsMarkedBy marks new u.used → IsMarking uses theorem next new
+marking_marks uses theorem left next marks new u backward h step at reached more =
+    let among : Contains uses u = contains_from_at uses u (next, at) in
+    record {
+      long = more.same ∙ h.long;
+      sound = λ n k. elim (more.only n k) [
+        | inl old ↦ h.sound n old
+        | inr used ↦ elim reached [
+          | inl own ↦ λ set closed. closed.own n (u, among, own, used)
+          | inr marked ↦ λ set closed. closed.others u.number n (h.sound u.number marked set closed) (u, among, refl, used)
+        ]
+      ];
+      closed = λ i v within there again n k. elim (cases_eq i next) [
+        | inl same ↦
+            let one : v ≡ u = let e : slice_get uses next ≡ Some v = subst (λ (j : ℕ). slice_get uses j ≡ Some v) same there in cc in
+            more.marked n (subst (λ (w : ProofUses). Contains w.used n) one k)
+        | inr apart ↦
+            let later : u.number < v.number =
+            backward.rising next i u.number v.number (omega arith) (get_mapped (λ (w : ProofUses). w.number) uses next u at) (get_mapped (λ (w : ProofUses). w.number) uses i v there) in
+            let before : (v.number ≡ theorem) ⊎ IsMarked marks v.number = elim again [
+              | inl own ↦ inl own
+              | inr marked ↦ elim (more.only v.number marked) [
+                | inl old ↦ inr old
+                | inr used ↦ absurd (let less : v.number < u.number = backward.below u v.number among used in omega arith)
+              ]
+            ] in
+            more.kept n (h.closed i v (omega arith) there before n k)
+      ];
+    }
+
+-- all proofs were passed: what is marked is what the theorem rests on
+pub marking_ends : (uses : List ProofUses) (theorem left : ℕ) (marks : List Bool) → IsMarking uses theorem left marks → left ≡ 0
+    → (n : ℕ) → IsMarked marks n ↔ RestsOn (UsedIn uses) theorem n
+marking_ends uses theorem left marks h end n = (
+  h.sound n,
+  λ rests. rests (λ m. get_or marks m false) (record {
+    own = λ used k. let at = at_from_contains uses k.0 k.1 in
+        h.closed at.0 k.0 (omega arith) at.1 (inl k.2) used k.3;
+    others = λ id used marked k. let at = at_from_contains uses k.0 k.1 in
+        h.closed at.0 k.0 (omega arith) at.1 (inr (subst (λ (m : ℕ). IsMarked marks m) (sym k.2) marked)) used k.3;
+  }),
+)
+
+-- ---- lists of marked numbers
+
+-- one more number was looked at, which is taken
+pub taken : (P Q : ℕ → Type 0) (ids : List ℕ) (x : ℕ) → AreInOrder P ids → ((n : ℕ) → P n → n < x) → Q x → ((n : ℕ) → P n → Q n) → ((n : ℕ) → Q n → P n ⊎ (n ≡ x))
+    → AreInOrder Q (ids ++ x ∷ [])
+taken P Q ids x order less holds keeps cases =
+    in_order_push P Q ids x order less
+    (λ n. (cases n, λ h. elim h [ inl p ↦ keeps n p | inr same ↦ subst Q (sym same) holds ]))
+
+-- or it is passed over
+pub passed : (P Q : ℕ → Type 0) (ids : List ℕ) (x : ℕ) → AreInOrder P ids → ¬ (Q x) → ((n : ℕ) → P n → Q n) → ((n : ℕ) → Q n → P n ⊎ (n ≡ x))
+    → AreInOrder Q ids
+passed P Q ids x order none keeps cases =
+    in_order_same P Q ids order
+    (λ n. (keeps n, λ q. elim (cases n q) [ inl p ↦ p | inr same ↦ absurd (none (subst Q same q)) ]))
+
+-- numbers up to one, which is put in where it is so
+pub up_to_taken : (P : ℕ → Type 0) (ids new : List LabelId) (x : LabelId) (k : ℕ) → AreInOrder (λ n. (n < k) × P n) (ids_in ids) → x.0 ≡ k → P k → new ≡ ids ++ x ∷ []
+    → AreInOrder (λ n. (n < k + 1) × P n) (ids_in new)
+up_to_taken P ids new x k order is holds e =
+    let there : P x.0 = subst P (sym is) holds in
+    subst (λ (ls : List LabelId). AreInOrder (λ n. (n < k + 1) × P n) (ids_in ls)) (sym e)
+    (subst (λ (ns : List ℕ). AreInOrder (λ n. (n < k + 1) × P n) ns) (sym (map-append (λ (l : LabelId). l.0) ids (x ∷ [])))
+    (taken (λ n. (n < k) × P n) (λ n. (n < k + 1) × P n) (ids_in ids) x.0 order
+    (λ n h. let less : n < k = h.0 in omega arith)
+    (omega arith, there)
+    (λ n h. (let less : n < k = h.0 in omega arith, h.1))
+    (λ n h. elim (cases_eq n k) [
+      | inl same ↦ inr (same ∙ sym is)
+      | inr other ↦ inl (let less : n < k + 1 = h.0 in omega arith, h.1)
+    ])))
+
+pub up_to_passed : (P : ℕ → Type 0) (ids : List LabelId) (k : ℕ) → AreInOrder (λ n. (n < k) × P n) (ids_in ids) → ¬ (P k)
+    → AreInOrder (λ n. (n < k + 1) × P n) (ids_in ids)
+up_to_passed P ids k order none =
+    passed (λ n. (n < k) × P n) (λ n. (n < k + 1) × P n) (ids_in ids) k order (λ h. none h.1)
+    (λ n h. (let less : n < k = h.0 in omega arith, h.1))
+    (λ n h. elim (cases_eq n k) [
+      | inl same ↦ inr same
+      | inr other ↦ inl (let less : n < k + 1 = h.0 in omega arith, h.1)
+    ])
+
+pub up_to_ended : (P : ℕ → Type 0) (ids : List LabelId) (k : ℕ) → AreInOrder (λ n. (n < k) × P n) (ids_in ids) → ((n : ℕ) → P n → n < k)
+    → AreInOrder P (ids_in ids)
+up_to_ended P ids k order below =
+    in_order_same (λ n. (n < k) × P n) P (ids_in ids) order (λ n. ((λ h. h.1), λ p. (below n p, p)))
+
+-- numbers of a list up to a place
+among_more : (xs : List LabelId) (i : ℕ) (x : LabelId) → slice_get xs i ≡ Some x → ids_in (take (i + 1) xs) ≡ ids_in (take i xs) ++ x.0 ∷ []
+among_more xs i x at =
+    ap (λ (n : ℕ). ids_in (take n xs)) (add-one i) ∙ ap ids_in (take_next xs i x at) ∙ map-append (λ (l : LabelId). l.0) (take i xs) (x ∷ [])
+
+-- those before a place are less than the one there
+before_less : (xs : List LabelId) (i : ℕ) (x : LabelId) → AreRising (ids_in xs) → slice_get xs i ≡ Some x → (n : ℕ) → Contains (ids_in (take i xs)) n → n < x.0
+before_less xs i x rising at n h =
+    let there = at_from_contains (ids_in (take i xs)) n h in
+    let front : slice_get (take i (ids_in xs)) there.0 ≡ Some n = subst (λ (ns : List ℕ). slice_get ns there.0 ≡ Some n) (ids-take i xs) there.1 in
+    let less : there.0 < i = front_within (ids_in xs) i there.0 n front in
+    rising there.0 i n x.0 less (get_from_front (ids_in xs) i there.0 n front) (get_mapped (λ (l : LabelId). l.0) xs i x at)
+  where
+    ids-take : (k : ℕ) (ls : List LabelId) → ids_in (take k ls) ≡ take k (ids_in ls)
+    ids-take zero ls = refl
+    ids-take (suc k) [] = refl
+    ids-take (suc k) (l ∷ ls) = ap (λ (ns : List ℕ). l.0 ∷ ns) (ids-take k ls)
+
+    front_within : (ns : List ℕ) (k j m : ℕ) → slice_get (take k ns) j ≡ Some m → j < k
+    front_within ns zero j m e = absurd cc
+    front_within [] (suc k) j m e = absurd cc
+    front_within (y ∷ ns) (suc k) zero m e = omega arith
+    front_within (y ∷ ns) (suc k) (suc j) m e = let rest : j < k = front_within ns k j m e in omega arith
+
+pub among_taken : (M : ℕ → Type 0) (xs ids new : List LabelId) (i : ℕ) (x : LabelId) → AreRising (ids_in xs) → slice_get xs i ≡ Some x
+    → AreInOrder (λ n. Contains (ids_in (take i xs)) n × M n) (ids_in ids) → M x.0 → new ≡ ids ++ x ∷ []
+    → AreInOrder (λ n. Contains (ids_in (take (i + 1) xs)) n × M n) (ids_in new)
+among_taken M xs ids new i x rising at order holds e =
+    subst (λ (ns : List ℕ). AreInOrder (λ n. Contains ns n × M n) (ids_in new)) (sym (among_more xs i x at))
+    (subst (λ (ls : List LabelId). AreInOrder (λ n. Contains (ids_in (take i xs) ++ x.0 ∷ []) n × M n) (ids_in ls)) (sym e)
+    (subst (λ (ns : List ℕ). AreInOrder (λ n. Contains (ids_in (take i xs) ++ x.0 ∷ []) n × M n) ns) (sym (map-append (λ (l : LabelId). l.0) ids (x ∷ [])))
+    (taken (λ n. Contains (ids_in (take i xs)) n × M n) (λ n. Contains (ids_in (take i xs) ++ x.0 ∷ []) n × M n) (ids_in ids) x.0 order
+    (λ n h. before_less xs i x rising at n h.0)
+    (holds_last (ids_in (take i xs)) x.0, holds)
+    (λ n h. (Contains-append_left (ids_in (take i xs)) (x.0 ∷ []) n h.0, h.1))
+    (λ n h. elim (holds_cases (ids_in (take i xs)) x.0 n h.0) [ inl before ↦ inl (before, h.1) | inr same ↦ inr same ]))))
+
+pub among_passed : (M : ℕ → Type 0) (xs ids : List LabelId) (i : ℕ) (x : LabelId) → slice_get xs i ≡ Some x
+    → AreInOrder (λ n. Contains (ids_in (take i xs)) n × M n) (ids_in ids) → ¬ (M x.0)
+    → AreInOrder (λ n. Contains (ids_in (take (i + 1) xs)) n × M n) (ids_in ids)
+among_passed M xs ids i x at order none =
+    subst (λ (ns : List ℕ). AreInOrder (λ n. Contains ns n × M n) (ids_in ids)) (sym (among_more xs i x at))
+    (passed (λ n. Contains (ids_in (take i xs)) n × M n) (λ n. Contains (ids_in (take i xs) ++ x.0 ∷ []) n × M n) (ids_in ids) x.0 order
+    (λ h. none h.1)
+    (λ n h. (Contains-append_left (ids_in (take i xs)) (x.0 ∷ []) n h.0, h.1))
+    (λ n h. elim (holds_cases (ids_in (take i xs)) x.0 n h.0) [ inl before ↦ inl (before, h.1) | inr same ↦ inr same ]))
+
+pub marked_next : (old mid : List Bool) (xs : List LabelId) (i : ℕ) (x : LabelId) → IsMarkedBy old mid (ids_in (take i xs)) → slice_get xs i ≡ Some x → x.0 < length mid
+    → IsMarkedBy old (set mid x.0 true) (ids_in (take (i + 1) xs))
+marked_next old mid xs i x h at less =
+    subst (λ (ns : List ℕ). IsMarkedBy old (set mid x.0 true) ns) (sym (among_more xs i x at)) (marked_more old mid (ids_in (take i xs)) x.0 h less)

@@ -1,0 +1,19 @@
+-- What is told is the verdict.
+use Rattle.std.proofs.Common.{◌≡◌, List, map, IfSome}
+use Rattle.mm_text.specs.Files.{PlainFile, plain_file}
+use Rattle.mm_check.specs.declared.question.Reply.{Reply}
+use Rattle.mm_check.specs.Status.{number_of}
+use Rattle.mm_check.specs.Answer.{answered}
+use Rattle.mm_check.specs.Reply.{IsReply, Tells, status_of}
+use Rattle.mm_check.proofs.Replies.{made_both, reply_of}
+use Rattle.mm_check.proofs.question.check_reply.Goals as goal
+
+pub returns : goal.returns
+returns c =
+    let files : List PlainFile = map plain_file c.args.files.now in
+    made_both c.verdict_reply.result
+    (λ (reply : Reply). Tells files c.check.result reply.text.items)
+    (λ (reply : Reply). IfSome (answered c.check.result) (λ verdict. number_of reply.status ≡ status_of verdict))
+    (λ (reply : Reply). IsReply files reply.text.items (number_of reply.status))
+    (λ reply said ends. reply_of files c.check.result reply.text.items (number_of reply.status) c.check.ensures.verdict said ends)
+    c.verdict_reply.ensures.text c.verdict_reply.ensures.status

@@ -1,0 +1,129 @@
+//! What a theorem rests on.
+
+ghost use Rattle.std.specs.Prelude.{◌≡◌, ◌↔◌, ◌⊎◌, ◌<◌, ◌≤◌, ℕ, map, length, slice_index_or, slice_get, Contains, true, false, IfOk, IsTrue, Some};
+ghost use Rattle.std.specs.List.{AllByRecursion};
+ghost use Rattle.mm_frame.specs.Numbers.{labelled};
+ghost use Rattle.mm_check.specs.Conclusion.{ProofUses};
+ghost use Rattle.mm_check.specs.Rests.{AreRising, AreInOrder, RestsOn};
+ghost use Rattle.mm_check.specs.Marks.{IsMarked, UsedIn, AreBackward, IsAxiomNumber};
+
+use crate::kept::Kept;
+use mm_frame::{Book, LabelId, LabelKind};
+use std::alloc::{AllocError, Global};
+
+/// What a theorem rests on: its proof, and the proofs of the theorems that it uses, and so on.
+#[derive(Debug, Drop)]
+pub struct Report {
+    /// The `$a`, in database order.
+    pub axioms: Vec<LabelId>,
+    /// The `$p` whose proofs are incomplete, in database order.
+    pub unproved: Vec<LabelId>,
+}
+
+/// Whether a number is marked.
+fn is_marked(marks: &[bool], id: LabelId) -> bool
+    ensures { result ≡ slice_index_or marks.now id.0 false }
+{
+    match marks.get(id.0 as usize) {
+        Some(mark) => *mark,
+        None => false,
+    }
+}
+
+/// Whether a number is a theorem's own, or marked.
+fn is_reached(marks: &[bool], theorem: LabelId, id: LabelId) -> bool
+    ensures { IsTrue result ↔ ((id.0 ≡ theorem.0) ⊎ IsMarked marks.now id.0) }
+{
+    id == theorem || is_marked(marks, id)
+}
+
+/// Marks these numbers.
+fn mark(marks: &mut [bool], numbers: &[LabelId])
+    requires { (n : ℕ) → Contains (map (λ l. l.0) numbers.now) n → n < length marks.old }
+    ensures length { length marks.new ≡ length marks.old }
+    ensures kept { (n : ℕ) → IsMarked marks.old n → IsMarked marks.new n }
+    ensures marked { (n : ℕ) → Contains (map (λ l. l.0) numbers.now) n → IsMarked marks.new n }
+    ensures only { (n : ℕ) → IsMarked marks.new n
+        → IsMarked marks.old n ⊎ Contains (map (λ l. l.0) numbers.now) n }
+{
+    for number in numbers {
+        marks[number.0 as usize] = true;
+    }
+}
+
+/// Marks, among the numbers before a theorem, those of the assertions that it rests on.
+///
+/// Each proof uses earlier assertions alone. So once all proofs from the last one down to some
+/// place were passed, it is settled for each number from there on whether it is marked.
+pub(crate) fn reached(alloc: Global, kept: &Kept, theorem: LabelId) -> Result<Vec<bool>, AllocError>
+    requires { AreBackward kept.now }
+    ensures length { IfOk result (λ marks. length marks.items ≡ theorem.0) }
+    ensures marks { IfOk result (λ marks. (n : ℕ)
+        → IsMarked marks.items n ↔ RestsOn (UsedIn kept.now) theorem.0 n) }
+{
+    let mut marks = vec![in alloc; false; theorem.0 as usize]?;
+    let count = kept.len();
+    for step in 0..count {
+        let at = count - 1 - step;
+        let id = kept.proof(at);
+        if is_reached(&marks, theorem, id) {
+            mark(&mut marks, kept.used(at));
+        }
+    }
+    Ok(marks)
+}
+
+/// Whether a number is marked and that of a `$a`.
+fn is_marked_axiom(book: &Book, marks: &[bool], id: LabelId) -> bool
+    requires { id.0 < length (labelled book.now.statements) }
+    ensures { IsTrue result
+        ↔ (IsAxiomNumber book.now.statements id.0 × IsMarked marks.now id.0) }
+{
+    match book.kind(id) {
+        LabelKind::Axiom => is_marked(marks, id),
+        _ => false,
+    }
+}
+
+/// The marked numbers of `$a`, in their order. All marks are of numbers before the end.
+pub(crate) fn axioms_among(
+    alloc: Global,
+    book: &Book,
+    marks: &[bool],
+    end: LabelId,
+) -> Result<Vec<LabelId>, AllocError>
+    requires marks { length marks.now ≡ end.0 }
+    requires within { end.0 ≤ length (labelled book.now.statements) }
+    ensures { IfOk result (λ ids. AreInOrder
+        (λ n. IsAxiomNumber book.now.statements n × IsMarked marks.now n)
+        (map (λ l. l.0) ids.items)) }
+{
+    let mut axioms = Vec::new(alloc);
+    for number in 0..end.0 {
+        let id = LabelId(number);
+        if is_marked_axiom(book, marks, id) {
+            axioms.push(id)?;
+        }
+    }
+    Ok(axioms)
+}
+
+/// The marked ones of these numbers, in their order.
+pub(crate) fn marked_among(
+    alloc: Global,
+    numbers: &[LabelId],
+    marks: &[bool],
+) -> Result<Vec<LabelId>, AllocError>
+    requires { AreRising (map (λ l. l.0) numbers.now) }
+    ensures { IfOk result (λ ids. AreInOrder
+        (λ n. Contains (map (λ l. l.0) numbers.now) n × IsMarked marks.now n)
+        (map (λ l. l.0) ids.items)) }
+{
+    let mut marked = Vec::new(alloc);
+    for number in numbers {
+        if is_marked(marks, *number) {
+            marked.push(*number)?;
+        }
+    }
+    Ok(marked)
+}
