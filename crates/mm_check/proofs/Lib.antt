@@ -9,7 +9,6 @@ pub mod Ranks
 pub mod Meanings
 pub mod Existence
 pub mod Lines
-pub mod ShownLines
 pub mod Replies
 pub mod Verdicts
 pub mod OnTheWay

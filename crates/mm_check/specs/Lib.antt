@@ -1,6 +1,5 @@
 pub mod Verdict
 pub mod Reply
-pub mod Shown
 pub mod Status
 pub mod Conclusion
 pub mod Ranges

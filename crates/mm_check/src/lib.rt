@@ -14,7 +14,6 @@ mod question;
 mod reply;
 mod report;
 mod rule;
-mod shown;
 mod status;
 #[cfg(test)]
 mod tests;
