@@ -1,7 +1,8 @@
 //! One happy path of each public call, and writers that fail in the middle of a reply.
 
-use super::{AskFault, CheckFault, Command, Rule, RunFault, Status, check, run};
+use super::{AskFault, CheckFault, Command, Report, Rule, RunFault, Status, check, run};
 use mm_text::{Counted, File};
+use std::alloc::Global;
 use std::io;
 use std::io::{ErrorKind, Write};
 use std::test::Fail;
@@ -93,31 +94,47 @@ fn names_incomplete_proofs(rt: HostRuntime) -> Result<(), Fail> {
     Ok(())
 }
 
-#[test]
-fn reports_what_theorems_rest_on(rt: HostRuntime) -> Result<(), Fail> {
+// What a theorem of a database with deeper proofs rests on.
+fn report(alloc: Global, label: &[u8]) -> Result<Report, Fail> {
     let files = [File {
         name: b"deep.mm",
         bytes: DEEP,
     }];
-    let checked = check(rt.alloc(), &files)?;
-    let report = checked.axioms(rt.alloc(), b"t")?;
-    match report.axioms.as_slice() {
-        [axiom] => assert_eq!(rt; checked.name(*axiom), b"p".as_slice()),
-        _ => panic!(rt; "one axiom"),
-    }
+    let checked = check(alloc, &files)?;
+    Ok(checked.axioms(alloc, label)?)
+}
+
+#[test]
+fn reports_an_axiom(rt: HostRuntime) -> Result<(), Fail> {
+    let report = report(rt.alloc(), b"t")?;
+    assert_eq!(rt; report.axioms.len(), 1);
     assert!(rt; report.unproved.is_empty());
-    let report = checked.axioms(rt.alloc(), b"u")?;
+    Ok(())
+}
+
+#[test]
+fn reports_an_unproved_theorem(rt: HostRuntime) -> Result<(), Fail> {
+    let report = report(rt.alloc(), b"u")?;
     assert!(rt; report.axioms.is_empty());
-    match report.unproved.as_slice() {
-        [theorem] => assert_eq!(rt; checked.name(*theorem), b"q".as_slice()),
-        _ => panic!(rt; "one unproved theorem"),
-    }
-    assert_eq!(rt;
-        checked.axioms(rt.alloc(), b"none").err(),
-        Some(AskFault::A1)
-    );
-    assert_eq!(rt; checked.axioms(rt.alloc(), b"p").err(), Some(AskFault::A2));
-    assert_eq!(rt; checked.axioms(rt.alloc(), b"q").err(), Some(AskFault::A3));
+    assert_eq!(rt; report.unproved.len(), 1);
+    Ok(())
+}
+
+// Why a question about a label has no answer.
+fn question_fault(alloc: Global, label: &[u8]) -> Result<Option<AskFault>, Fail> {
+    let files = [File {
+        name: b"deep.mm",
+        bytes: DEEP,
+    }];
+    let checked = check(alloc, &files)?;
+    Ok(checked.axioms(alloc, label).err())
+}
+
+#[test]
+fn refuses_questions(rt: HostRuntime) -> Result<(), Fail> {
+    assert_eq!(rt; question_fault(rt.alloc(), b"none")?, Some(AskFault::A1));
+    assert_eq!(rt; question_fault(rt.alloc(), b"p")?, Some(AskFault::A2));
+    assert_eq!(rt; question_fault(rt.alloc(), b"q")?, Some(AskFault::A3));
     Ok(())
 }
 
@@ -145,6 +162,12 @@ fn writes_what_a_theorem_rests_on(rt: HostRuntime) -> Result<(), Fail> {
     )?;
     assert_eq!(rt; status, Status::Done);
     assert_eq!(rt; out.into_inner().as_slice(), b"tze\ntpl\n".as_slice());
+    Ok(())
+}
+
+#[test]
+fn writes_why_a_question_has_no_answer(rt: HostRuntime) -> Result<(), Fail> {
+    let files = first();
     let mut out = Counted::new(Vec::new(rt.alloc()));
     let status = run(
         rt.alloc(),
