@@ -1,5 +1,6 @@
--- What a theorem rests on: the axioms and the unproved theorems in the least set that is closed over the uses of proofs (the
--- Metamath book, sections 4.2.6 and 4.3).
+-- What a theorem rests on: the axioms and the unproved theorems in the least set that holds what its proof uses and, with
+-- each theorem in it whose proof is complete, what that one's proof uses. The proofs are those of the Metamath book, sections
+-- 4.2.6 and 4.3; the set is this project's own.
 use Rattle.std.specs.Prelude.{◌≡◌, ◌≢◌, ℕ, ◌<◌, List, take, slice_get, Contains, Bool, true, Some, ◌↔◌}
 use Rattle.mm_text.specs.declared.statement.Kind.TheVariants.{Axiom, Provable}
 use Rattle.mm_text.specs.Statement.{PlainStatement}
@@ -67,7 +68,7 @@ pub record IsClosed (Uses : ℕ → ℕ → Type 0) (theorem : ℕ) (set : ℕ �
   pub own : (used : ℕ) → Uses theorem used → set used ≡ true
   pub others : (id used : ℕ) → set id ≡ true → Uses id used → set used ≡ true
 
--- the theorem rests on it: it is in the least of these sets, and so in each
+-- the theorem rests on it: it is in each of these sets, and so in the least of them
 abbrev pub RestsOn : (ℕ → ℕ → Type 0) → ℕ → ℕ → Type 0
 RestsOn Uses theorem id = (set : ℕ → Bool) → IsClosed Uses theorem set → set id ≡ true
 
@@ -85,7 +86,7 @@ IsAskFault statements label A2 = (id : ℕ) × IsNamed statements label (λ s. s
 IsAskFault statements label A3 = (id : ℕ) × IsNamed statements label (λ s. is_unproved s ≡ true) id
 IsAskFault statements label Memory = Unit {0}
 
--- the `$a` that the theorem with the label rests on, and the `$p` with incomplete proofs
+-- of what the theorem with the label rests on: the `$a`, and the `$p` with incomplete proofs
 pub record IsReport (statements : List PlainStatement) (label : List ℕ) (axioms unproved : List ℕ) : Type 0 where
   pub id : ℕ
   pub theorem : IsNamed statements label (λ s. is_proof s ≡ true) id

@@ -149,7 +149,7 @@ impl<'a> Checked<'a> {
     /// proof is incomplete; `Memory` where a growth was refused.
     pub fn axioms(&self, alloc: Global, label: &[u8]) -> Result<Report, AskFault>
         // The lists are those of the statements of which this was kept: the `$a`, and the
-        // incomplete `$p`, in the least set that is closed over the uses of proofs.
+        // incomplete `$p`, among what the theorem rests on.
         ensures report { IfOk result (λ report. (statements : List PlainStatement)
             → IsKeptOf statements self.now → IsReport statements label.now
             (map (λ id. id.0) report.axioms.items) (map (λ id. id.0) report.unproved.items)) }

@@ -53,8 +53,8 @@ pub record IsListed (before : List Sentence) (earlier : List (Move (List ℕ)))
   pub called : IsCalled earlier move step.called
   pub pushed : MakeLast before (earlier ++ move ∷ []) step.expression
 
--- The steps of the moves are listed, each once and in order: of the step by the move at a place, as
--- many are listed before it as steps are made before it.
+-- The steps of the moves are listed, each once and in order: the step by the move at a place has as
+-- many steps listed before it as there are steps before that place.
 pub record AreListed (before : List Sentence) (moves : List (Move (List ℕ)))
     (steps : List ListedStep) : Type 0 where
   pub count : length steps ≡ steps_in moves

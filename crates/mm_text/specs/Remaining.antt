@@ -18,8 +18,8 @@ pub record Remaining : Type 0 where
   pub refused : Bool
   pub told : Bool
 
--- Nothing of the files was given yet: all that their reading says is left. No `$}` of it lacks its `${`, and its tokens have
--- no more bytes than the files.
+-- Nothing of the files was given yet: all that their reading says is left. No `$}` of it lacks its `${`, and the first
+-- tokens, symbols and proofs of its statements have no more bytes than the files.
 pub record IsUnread (files : List PlainFile) (s : Remaining) : Type 0 where
   pub same : s.files ≡ files
   pub reads : Reads files s.statements s.ending
