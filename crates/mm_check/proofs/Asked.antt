@@ -9,9 +9,9 @@ use Rattle.mm_frame.specs.declared.number.LabelId.{LabelId}
 use Rattle.mm_frame.specs.declared.number.LabelKind.{LabelKind}
 use Rattle.mm_frame.specs.declared.number.LabelKind.TheVariants as label_kinds
 use Rattle.mm_frame.specs.Taken.{kind_behind}
-use Rattle.mm_frame.specs.Sentence.{Sentence, SomeSentence, IsHypothesis, said, IsLabelled}
+use Rattle.mm_frame.specs.Sentence.{Sentence, SomeSentence, IsHypothesis, sentence_of, IsLabelled}
 use Rattle.mm_frame.specs.Rules.{AllMeant}
-use Rattle.mm_frame.specs.Numbers.{labelled, IsNumbered}
+use Rattle.mm_frame.specs.Numbers.{labelled_sentences, IsNumbered}
 use Rattle.mm_frame.proofs.Numbered.{at_from_contains, contains_from_at}
 use Rattle.mm_frame.proofs.Labelled.{numbered_get, numbered_some, numbered_unique, numbered_within}
 use Rattle.mm_frame.proofs.Meant.{allmeant_front}
@@ -23,7 +23,7 @@ use Rattle.mm_proof.proofs.SaidMoves.{moves_once}
 use Rattle.mm_proof.proofs.Making.{makes_once}
 use Rattle.mm_check.specs.Conclusion.{Conclusion, ProofUses, numbers_of, labels_in}
 use Rattle.mm_check.specs.Verdict.{sentences, proof_of, is_proof, is_unproved, is_provable, is_incomplete}
-use Rattle.mm_check.specs.Rests.{IsAt, IsNumberOf, AreInOrder, tree_of, HasTree, Uses, AreUses, RestsOn, IsNamed, IsReport}
+use Rattle.mm_check.specs.Rests.{IsAt, IsNumberWhere, AreInOrder, tree_of, HasTree, Uses, AreUses, RestsOn, IsNamed, IsReport}
 use Rattle.mm_check.specs.Answer.{IsKeptOf}
 use Rattle.mm_check.specs.Ranges.{ids_in}
 use Rattle.mm_check.specs.Marks.{IsMarked, UsedIn, AreBackward, IsAxiomNumber}
@@ -34,13 +34,13 @@ use Rattle.mm_check.proofs.Trees.{Spells, AreUsesOf}
 -- ---- numbers of what statements say, and of statements
 
 said_at : (statements : List PlainStatement) (place : ℕ) (t : Sentence) → slice_get (sentences statements) place ≡ Some t
-    → (s : PlainStatement) × (slice_get statements place ≡ Some s) × (said s ≡ t)
+    → (s : PlainStatement) × (slice_get statements place ≡ Some s) × (sentence_of s ≡ t)
 said_at [] place t e = absurd cc
 said_at (s ∷ statements) zero t e = (s, refl, cc)
 said_at (s ∷ statements) (suc place) t e = said_at statements place t e
 
 pub numbered_as : (statements : List PlainStatement) (id place : ℕ) (t : Sentence) → IsNumbered (sentences statements) id place t
-    → (s : PlainStatement) × IsAt statements id place s × (said s ≡ t)
+    → (s : PlainStatement) × IsAt statements id place s × (sentence_of s ≡ t)
 numbered_as statements id place t numbered =
     let found = said_at statements place t numbered.there in (
       found.0,
@@ -53,7 +53,7 @@ numbered_as statements id place t numbered =
 
 pub at_unique : (statements : List PlainStatement) (id p q : ℕ) (s t : PlainStatement) → IsAt statements id p s → IsAt statements id q t → (p ≡ q) × (s ≡ t)
 at_unique statements id p q s t one other =
-    let place : p ≡ q = (numbered_unique (sentences statements) id p q (said s) (said t) one.numbered other.numbered).0 in
+    let place : p ≡ q = (numbered_unique (sentences statements) id p q (sentence_of s) (sentence_of t) one.numbered other.numbered).0 in
     let there : slice_get statements q ≡ Some s = subst (λ (n : ℕ). slice_get statements n ≡ Some s) place one.there in
     let here : slice_get statements q ≡ Some t = other.there in
     (place, cc)
@@ -63,12 +63,12 @@ at_unique statements id p q s t one other =
 -- a statement by its number, its label and its kind
 named_as : (statements : List PlainStatement) (label : List ℕ) (P : PlainStatement → Type 0) (id place : ℕ) (t : Sentence) → IsNumbered (sentences statements) id place t → IsLabelled label t
     → ((s : PlainStatement) → IsAt statements id place s → s.kind ≡ t.kind → P s) → IsNamed statements label P id
-named_as statements label P id place t numbered labelled holds =
+named_as statements label P id place t numbered labelled_sentences holds =
     let found = numbered_as statements id place t numbered in (
       place,
       found.0,
       found.1,
-      (subst (λ (u : Sentence). IsLabelled label u) (sym found.2) labelled, holds found.0 found.1 (ap (λ (u : Sentence). u.kind) found.2)),
+      (subst (λ (u : Sentence). IsLabelled label u) (sym found.2) labelled_sentences, holds found.0 found.1 (ap (λ (u : Sentence). u.kind) found.2)),
     )
 
 provable_is : (kind : Kind) → kind ≡ Provable → is_provable kind ≡ true
@@ -76,7 +76,7 @@ provable_is kind e = ap is_provable e
 
 -- one statement has the number
 same_proof : (statements : List PlainStatement) (test : PlainStatement → Bool) (id place : ℕ) (s : PlainStatement) → IsAt statements id place s
-    → IsNumberOf statements (λ t. test t ≡ true) id → test s ≡ true
+    → IsNumberWhere statements (λ t. test t ≡ true) id → test s ≡ true
 same_proof statements test id place s at other =
     let same : s ≡ other.1 = (at_unique statements id place other.0 s other.1 at other.2).1 in
     ap test same ∙ other.3
@@ -87,30 +87,30 @@ proof_or_not kind true e h = absurd (h (rw e refl))
 
 pub found_theorem : (statements : List PlainStatement) (c : Conclusion) (label : List ℕ) (id place : ℕ) (t : Sentence) → IsKeptOf statements c → IsNumbered c.sentences id place t → IsLabelled label t
     → t.kind ≡ Provable → ¬ (Contains c.incomplete id) → IsNamed statements label (λ s. is_proof s ≡ true) id
-found_theorem statements c label id place t kept numbered labelled provable complete =
+found_theorem statements c label id place t kept numbered labelled_sentences provable complete =
     named_as statements label (λ s. is_proof s ≡ true) id place t
-    (subst (λ (ss : List Sentence). IsNumbered ss id place t) kept.sentences numbered) labelled
+    (subst (λ (ss : List Sentence). IsNumbered ss id place t) kept.sentences numbered) labelled_sentences
     (λ s at kind. proof_or_not s.kind (is_incomplete (proof_of s)) (kind ∙ provable)
     (λ unproved. complete ((kept.incomplete.each id).1 (place, s, at, unproved))))
 
 pub found_incomplete : (statements : List PlainStatement) (c : Conclusion) (label : List ℕ) (id place : ℕ) (t : Sentence) → IsKeptOf statements c → IsNumbered c.sentences id place t → IsLabelled label t
     → Contains c.incomplete id → IsNamed statements label (λ s. is_unproved s ≡ true) id
-found_incomplete statements c label id place t kept numbered labelled among =
+found_incomplete statements c label id place t kept numbered labelled_sentences among =
     named_as statements label (λ s. is_unproved s ≡ true) id place t
-    (subst (λ (ss : List Sentence). IsNumbered ss id place t) kept.sentences numbered) labelled
+    (subst (λ (ss : List Sentence). IsNumbered ss id place t) kept.sentences numbered) labelled_sentences
     (λ s at kind. same_proof statements is_unproved id place s at ((kept.incomplete.each id).0 among))
 
 pub found_other : (statements : List PlainStatement) (c : Conclusion) (label : List ℕ) (id place : ℕ) (t : Sentence) → IsKeptOf statements c → IsNumbered c.sentences id place t → IsLabelled label t
     → t.kind ≢ Provable → IsNamed statements label (λ s. s.kind ≢ Provable) id
-found_other statements c label id place t kept numbered labelled other =
+found_other statements c label id place t kept numbered labelled_sentences other =
     named_as statements label (λ s. s.kind ≢ Provable) id place t
-    (subst (λ (ss : List Sentence). IsNumbered ss id place t) kept.sentences numbered) labelled
+    (subst (λ (ss : List Sentence). IsNumbered ss id place t) kept.sentences numbered) labelled_sentences
     (λ s at kind e. other (sym kind ∙ e))
 
 pub found_none : (statements : List PlainStatement) (c : Conclusion) (label : List ℕ) → IsKeptOf statements c → ¬ (SomeSentence c.sentences (IsLabelled label))
     → (id : ℕ) → ¬ (IsNamed statements label (λ s. Unit {0}) id)
 found_none statements c label kept none id named =
-    none (subst (λ (ss : List Sentence). SomeSentence ss (IsLabelled label)) (sym kept.sentences) (named.0, said named.1, named.2.numbered.there, named.3.0))
+    none (subst (λ (ss : List Sentence). SomeSentence ss (IsLabelled label)) (sym kept.sentences) (named.0, sentence_of named.1, named.2.numbered.there, named.3.0))
 
 -- what a hypothesis is not, and what a kind that isn't that of a `$p` is not
 pub hypothesis_other : (kind : Kind) → IsHypothesis kind → kind ≢ Provable
@@ -147,14 +147,14 @@ any_among xs x b e = (
     found (l ∷ ls) (suc i) f = or_true (nat_eq l.0 x.0) (list_any (λ y. nat_eq y.0 x.0) ls) (found ls i f)
 
 -- whether the statement with a number is a `$a`
-pub axiom_kind : (statements : List Sentence) (id : ℕ) (k : LabelKind) → id < length (labelled statements)
-    → ((s : Sentence) → slice_get (labelled statements) id ≡ Some s → s.kind ≡ kind_behind k) → k ≡ label_kinds.Axiom → IsAxiomNumber statements id
+pub axiom_kind : (statements : List Sentence) (id : ℕ) (k : LabelKind) → id < length (labelled_sentences statements)
+    → ((s : Sentence) → slice_get (labelled_sentences statements) id ≡ Some s → s.kind ≡ kind_behind k) → k ≡ label_kinds.Axiom → IsAxiomNumber statements id
 axiom_kind statements id k less told e =
     let found = numbered_some statements id less in
     (found.0, found.1, found.2, told found.1 (numbered_get statements id found.0 found.1 found.2) ∙ ap kind_behind e)
 
 pub no_axiom_kind : (statements : List Sentence) (id : ℕ) (k : LabelKind)
-    → ((s : Sentence) → slice_get (labelled statements) id ≡ Some s → s.kind ≡ kind_behind k) → ¬ (k ≡ label_kinds.Axiom) → ¬ (IsAxiomNumber statements id)
+    → ((s : Sentence) → slice_get (labelled_sentences statements) id ≡ Some s → s.kind ≡ kind_behind k) → ¬ (k ≡ label_kinds.Axiom) → ¬ (IsAxiomNumber statements id)
 no_axiom_kind statements id k told other (place, s, numbered, kind) =
     by_kind k (sym (told s (numbered_get statements id place s numbered)) ∙ kind) other
   where
@@ -176,7 +176,7 @@ same_tree before s tokens p q all =
 map-take : (n : ℕ) (statements : List PlainStatement) → sentences (take n statements) ≡ take n (sentences statements)
 map-take zero statements = refl
 map-take (suc n) [] = refl
-map-take (suc n) (s ∷ statements) = ap (λ (ss : List Sentence). said s ∷ ss) (map-take n statements)
+map-take (suc n) (s ∷ statements) = ap (λ (ss : List Sentence). sentence_of s ∷ ss) (map-take n statements)
 
 pub one_tree : (statements : List PlainStatement) (id p q : ℕ) (t u : Trees) → AllMeant (sentences statements) → HasTree statements id p t → HasTree statements id q u
     → (p ≡ q) × (t ≡ u)
@@ -187,7 +187,7 @@ one_tree statements id p q t u all one other =
     subst (λ (n : ℕ). Spells one.s u (take n statements)) same.0
     (subst (λ (s : PlainStatement). Spells s u (take q statements)) same.1 (other.proof, other.spelled)) in
     let meant : AllMeant (sentences front) = subst AllMeant (sym (map-take p statements)) (allmeant_front (sentences statements) p all) in
-    (sym same.0, one.spelled ∙ same_tree (sentences front) (said one.s) (proof_of one.s) one.proof moved.0 meant ∙ sym moved.1)
+    (sym same.0, one.spelled ∙ same_tree (sentences front) (sentence_of one.s) (proof_of one.s) one.proof moved.0 meant ∙ sym moved.1)
 
 -- ---- what is kept of proofs is what they use
 
@@ -228,10 +228,10 @@ rests_same R S same theorem n = (rests_as R S same theorem n, rests_as S R (λ i
 
 -- ---- the report
 
-axiom_is : (statements : List PlainStatement) (n : ℕ) → IsAxiomNumber (sentences statements) n ↔ IsNumberOf statements (λ s. s.kind ≡ Axiom) n
+axiom_is : (statements : List PlainStatement) (n : ℕ) → IsAxiomNumber (sentences statements) n ↔ IsNumberWhere statements (λ s. s.kind ≡ Axiom) n
 axiom_is statements n = (
   (λ (place, t, numbered, kind). let found = numbered_as statements n place t numbered in (place, found.0, found.1, ap (λ (u : Sentence). u.kind) found.2 ∙ kind)),
-  λ (place, s, at, kind). (place, said s, at.numbered, kind),
+  λ (place, s, at, kind). (place, sentence_of s, at.numbered, kind),
 )
 
 pub report_of : (statements : List PlainStatement) (c : Conclusion) (label : List ℕ) (id : ℕ) (marks : List Bool) (axioms unproved : List ℕ)
@@ -288,9 +288,9 @@ backward statements uses kept = record {
   below = λ u used among holds.
       let of : AreUsesOf statements u = kept.each u among in
       let stands : IsUsedNumber (sentences (take of.0 statements)) of.1 used = (of.3.each used).0 holds in
-      let less : used < length (labelled (sentences (take of.0 statements))) =
+      let less : used < length (labelled_sentences (sentences (take of.0 statements))) =
       numbered_within (sentences (take of.0 statements)) used stands.0 stands.1 stands.3 in
-      let number : length (labelled (sentences (take of.0 statements))) ≡ u.number =
-      ap (λ (ss : List Sentence). length (labelled ss)) (map-take of.0 statements) ∙ of.2.at.numbered.number in
+      let number : length (labelled_sentences (sentences (take of.0 statements))) ≡ u.number =
+      ap (λ (ss : List Sentence). length (labelled_sentences ss)) (map-take of.0 statements) ∙ of.2.at.numbered.number in
       subst (λ (k : ℕ). used < k) number less;
 }

@@ -11,8 +11,8 @@ use Rattle.mm_check.specs.declared.fault.CheckFault.{CheckFault}
 use Rattle.mm_check.specs.declared.progress.Progress.{Progress}
 use Rattle.mm_check.specs.Conclusion.{Conclusion, ProofUses, labels_in}
 use Rattle.mm_check.specs.Verdict.{Verdict, HasFault, Obeys, AllObey, HasVerdict, AreAccepted, CanBeRead, sentences, labels_of, unproved_of, is_unproved, proofs_of, refusal_of}
-use Rattle.mm_check.specs.Answer.{verdict_of_fault, concluded, concluded_with, labels_at, IsVerdict, KeepsLabels, KeepsCounts, KeepsUses, IsKeptOf}
-use Rattle.mm_check.specs.Rests.{IsNumberOf, AreInOrder, AreUses}
+use Rattle.mm_check.specs.Answer.{verdict_of_fault, verdict_of_conclusion, verdict_where_incomplete, labels_at, IsVerdict, KeepsLabels, KeepsCounts, KeepsUses, IsKeptOf}
+use Rattle.mm_check.specs.Rests.{IsNumberWhere, AreInOrder, AreUses}
 use Rattle.mm_check.specs.Judged.{IsUnderWay, IsAtEnd, Knows, Takes, RefusesAfter, RefusesEnd, RefusesLoad, TakesNext}
 use Rattle.mm_check.specs.Marks.{IsKeptWell}
 use Rattle.mm_check.proofs.Unproved.{one_more}
@@ -132,7 +132,7 @@ pub record Concludes (p : Progress) (c : Conclusion) : Type 0 where
 concluded_as : (files : List PlainFile) (c : Conclusion) (statements : List PlainStatement) (numbers : List ℕ) (unproved : List (List ℕ))
     → AreAccepted files statements → unproved ≡ unproved_of statements → map (slice_get c.labels) numbers ≡ map Some unproved
     → c.statements ≡ length statements → c.proofs ≡ proofs_of statements
-    → HasVerdict files (concluded_with c numbers)
+    → HasVerdict files (verdict_where_incomplete c numbers)
 concluded_as files c statements [] [] accepted same named count proofs = (statements, accepted, sym same, count, proofs)
 concluded_as files c statements [] (u ∷ unproved) accepted same named count proofs = absurd cc
 concluded_as files c statements (n ∷ numbers) [] accepted same named count proofs = absurd cc
@@ -142,7 +142,7 @@ concluded_as files c statements (n ∷ numbers) (u ∷ unproved) accepted same n
 
 -- what is kept of a database that is read to its end tells its verdict
 pub end_concludes : (files : List PlainFile) (p : Progress) (left : Remaining) (c : Conclusion) → IsUnderWay files p left
-    → left.statements ≡ [] → left.ending ≡ None → Concludes p c → HasVerdict files (concluded c)
+    → left.statements ≡ [] → left.ending ≡ None → Concludes p c → HasVerdict files (verdict_of_conclusion c)
 end_concludes files p left c way none ending kept =
     let plain : List PlainStatement = way.earlier in
     let reads : Reads files plain None =
@@ -178,7 +178,7 @@ uses_kept files p left c way none kept statements ending reads =
     (one.only way.earlier left.ending (none_left files p left way none)).0 ∙ sym (one.only statements ending reads).0 in
     let here : IsKeptOf way.earlier c = record {
       sentences = kept.sentences ∙ way.known.book;
-      incomplete = subst (λ (ns : List ℕ). AreInOrder (IsNumberOf way.earlier (λ s. is_unproved s ≡ true)) ns) (sym kept.incomplete) way.known.noted;
+      incomplete = subst (λ (ns : List ℕ). AreInOrder (IsNumberWhere way.earlier (λ s. is_unproved s ≡ true)) ns) (sym kept.incomplete) way.known.noted;
       uses = subst (λ (us : List ProofUses). AreUses way.earlier us) (sym kept.uses) way.known.kept;
     } in
     subst (λ (ss : List PlainStatement). IsKeptOf ss c) same here

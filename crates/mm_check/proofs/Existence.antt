@@ -12,9 +12,9 @@ use Rattle.mm_text.specs.Files.{PlainFile, BreaksLoad, HasTwins, total_bytes}
 use Rattle.mm_text.specs.Reading.{PlainFault, Reads}
 use Rattle.mm_text.proofs.ReaderLaws.{each_has_one_reading}
 use Rattle.mm_text.proofs.FormedLaws.{readings_are_formed_in_place}
-use Rattle.mm_frame.specs.Sentence.{said}
+use Rattle.mm_frame.specs.Sentence.{sentence_of}
 use Rattle.mm_frame.specs.Rules.{IsMeant}
-use Rattle.mm_frame.specs.Form.{IsNamed, IsFormedSentence, AllFormed}
+use Rattle.mm_frame.specs.Form.{HasItsLabel, IsFormedSentence, AllFormed}
 use Rattle.mm_proof.specs.Proof.{expression_limit}
 use Rattle.mm_proof.proofs.Decisions.{dec_both, dec_as, dec_some, dec_le, symbol_dec}
 use Rattle.mm_proof.proofs.Judged.{some_verdict_holds}
@@ -59,7 +59,7 @@ judged_load (f ∷ files) = some_load (f ∷ files) (λ e. absurd cc) (twins_dec
 
 -- ## The statements, one after the other
 
-named_of : (kind : Kind) (label : Option PlainToken) → HasLabel kind label → IsNamed kind (option_map (λ t. t.text) label)
+named_of : (kind : Kind) (label : Option PlainToken) → HasLabel kind label → HasItsLabel kind (option_map (λ t. t.text) label)
 named_of Floating label has = (has.0.text, ap (option_map (λ t. t.text)) has.1, has.2)
 named_of Essential label has = (has.0.text, ap (option_map (λ t. t.text)) has.1, has.2)
 named_of Axiom label has = (has.0.text, ap (option_map (λ t. t.text)) has.1, has.2)
@@ -70,7 +70,7 @@ named_of Distinct label has = ap (option_map (λ t. t.text)) has
 named_of Opening label has = ap (option_map (λ t. t.text)) has
 named_of Closing label has = ap (option_map (λ t. t.text)) has
 
-formed_said : (s : PlainStatement) → HasForm s → IsFormedSentence (said s)
+formed_said : (s : PlainStatement) → HasForm s → IsFormedSentence (sentence_of s)
 formed_said s formed = record {
   count = subst (λ (n : ℕ). FitsCount s.kind n) (sym (length-map s.symbols (λ (t : PlainToken). t.text))) formed.count;
   label = named_of s.kind s.label formed.label;
@@ -78,22 +78,22 @@ formed_said s formed = record {
 
 formed_sentences : (statements : List PlainStatement) → AllByRecursion HasForm statements → AllFormed (sentences statements)
 formed_sentences [] all place s e = absurd cc
-formed_sentences (t ∷ statements) all zero s e = let same : said t ≡ s = cc in subst IsFormedSentence same (formed_said t all.0)
+formed_sentences (t ∷ statements) all zero s e = let same : sentence_of t ≡ s = cc in subst IsFormedSentence same (formed_said t all.0)
 formed_sentences (t ∷ statements) all (suc place) s e = formed_sentences statements all.1 place s e
 
 -- a statement obeys the rules, or has a fault
 obeys_or_fails : (before : List PlainStatement) (s : PlainStatement) → AllObey before → AllFormed (sentences before) → (b : Bool) → is_proof s ≡ b
-    → IsMeant (sentences before) (said s) → Obeys (sentences before) s ⊎ ((rule : Rule) × (step : ℕ) × HasFault (sentences before) s rule step)
+    → IsMeant (sentences before) (sentence_of s) → Obeys (sentences before) s ⊎ ((rule : Rule) × (step : ℕ) × HasFault (sentences before) s rule step)
 obeys_or_fails before s obeyed formed false e meant = inl (record { meant = meant; proved = λ f. absurd cc })
 obeys_or_fails before s obeyed formed true e meant =
-    elim (some_verdict_holds expression_limit (sentences before) (said s) (proof_of s) (all_meant before obeyed) formed) [
+    elim (some_verdict_holds expression_limit (sentences before) (sentence_of s) (proof_of s) (all_meant before obeyed) formed) [
       | inl proved ↦ inl (record { meant = meant; proved = λ f. proved })
       | inr fault ↦ inr (proof_rule fault.0, fault.1, inr (meant, e, fault.0, fault.2, refl))
     ]
 
 judged_statement : (before : List PlainStatement) (s : PlainStatement) → AllObey before → AllFormed (sentences before)
     → Obeys (sentences before) s ⊎ ((rule : Rule) × (step : ℕ) × HasFault (sentences before) s rule step)
-judged_statement before s obeyed formed = elim (some_meaning (sentences before) (said s)) [
+judged_statement before s obeyed formed = elim (some_meaning (sentences before) (sentence_of s)) [
   | inl meant ↦ obeys_or_fails before s obeyed formed (is_proof s) refl meant
   | inr broken ↦ inr (meaning_rule broken.0, 0, inl (broken.0, broken.1, refl, refl))
 ]

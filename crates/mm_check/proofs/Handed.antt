@@ -9,7 +9,7 @@ use Rattle.mm_text.specs.declared.fault.TextRule.TheVariants.{X7}
 use Rattle.mm_text.specs.Token.{PlainToken, is_printable, tokens_from}
 use Rattle.mm_text.specs.Statement.{PlainStatement}
 use Rattle.mm_text.specs.Files.{PlainFile}
-use Rattle.mm_text.specs.Items.{Item, Plain, Wrong, Inclusion, End, Shown, Clear, Broken, uncommented, spells, holds_dollar, holds_mark, Spot, Outside, Naming, Closing, Piece, Met, Named, broken_outside, pieces, pieces_of, number_of, spliced, put_before, put_in, plain_tokens, items}
+use Rattle.mm_text.specs.Items.{Item, Plain, Wrong, Inclusion, End, Shown, Clear, Broken, without_comments, spells, holds_dollar, holds_mark, Spot, Outside, Naming, Closing, Piece, Met, Named, broken_outside, pieces, pieces_of, file_number, with_inclusions, put_before, put_in, plain_tokens, items}
 use Rattle.mm_text.specs.Reading.{PlainFault, Reads, EndsAt, IsSliceOf, IsInPlace}
 use Rattle.mm_text.proofs.PlaceLaws.{StandsIn, tokens_in_place}
 use Rattle.mm_text.proofs.FormedLaws.{readings_are_formed_in_place}
@@ -53,8 +53,8 @@ abbrev IsBegun : (PlainToken → Type 0) → Option PlainToken → Type 0
 IsBegun P None = Unit {0}
 IsBegun P (Some begin) = P begin
 
-shown_all : (P : PlainToken → Type 0) (begin : Option PlainToken) (tokens : List PlainToken) → IsBegun P begin → AllByRecursion P tokens → AllShown P (uncommented begin tokens)
-unfolding uncommented
+shown_all : (P : PlainToken → Type 0) (begin : Option PlainToken) (tokens : List PlainToken) → IsBegun P begin → AllByRecursion P tokens → AllShown P (without_comments begin tokens)
+unfolding without_comments
 shown_all P None [] b h = tt
 shown_all P (Some begin) [] b h = (b, tt)
 shown_all P None (t ∷ tokens) b h =
@@ -112,17 +112,17 @@ put_before_all P files n rest all h = go (slice_get files n) refl
 
 spliced_all : (P : PlainToken → Type 0) (files : List PlainFile) (named : List Bool) (next : ℕ → List Piece → List Item)
     → ((n : ℕ) (rest : List Piece) → AllPieces P rest → AllTokens P (next n rest))
-    → (ps : List Piece) → AllPieces P ps → AllTokens P (spliced files named next ps)
-unfolding spliced
+    → (ps : List Piece) → AllPieces P ps → AllTokens P (with_inclusions files named next ps)
+unfolding with_inclusions
 spliced_all P files named next goes [] h = tt
 spliced_all P files named next goes (Met (Plain t) ∷ rest) h = (h.0, spliced_all P files named next goes rest h.1)
 spliced_all P files named next goes (Met (Wrong rule t) ∷ rest) h = (h.0, tt)
 spliced_all P files named next goes (Met (Inclusion t) ∷ rest) h = (h.0, spliced_all P files named next goes rest h.1)
 spliced_all P files named next goes (Met (End n) ∷ rest) h = spliced_all P files named next goes rest h
-spliced_all P files named next goes (Named name ∷ rest) h = go (number_of files name.text) (spliced_all P files named next goes rest h.1)
+spliced_all P files named next goes (Named name ∷ rest) h = go (file_number files name.text) (spliced_all P files named next goes rest h.1)
   where
-    go : (o : Option ℕ) → AllTokens P (spliced files named next rest)
-        → AllTokens P (elim o [ None ↦ Wrong X7 name ∷ [] | Some n ↦ cond (slice_index_or named n true) (spliced files named next rest) (next n rest) ])
+    go : (o : Option ℕ) → AllTokens P (with_inclusions files named next rest)
+        → AllTokens P (elim o [ None ↦ Wrong X7 name ∷ [] | Some n ↦ cond (slice_index_or named n true) (with_inclusions files named next rest) (next n rest) ])
     go None inner = (h.0, tt)
     go (Some n) inner = cond_both (slice_index_or named n true) _ _ (AllTokens P) (λ _. inner) (λ _. goes n rest h.1)
 
@@ -138,7 +138,7 @@ all_tokens : (P : PlainToken → Type 0) (files : List PlainFile) → ((n : ℕ)
     → AllTokens P (items files)
 all_tokens P [] each = tt
 all_tokens P (top ∷ others) each =
-    let all : AllFiles P (top ∷ others) = λ n f there. pieces_all P n Outside (uncommented None (tokens_from n 0 f.bytes)) tt (shown_all P None (tokens_from n 0 f.bytes) tt (each n f there)) in
+    let all : AllFiles P (top ∷ others) = λ n f there. pieces_all P n Outside (without_comments None (tokens_from n 0 f.bytes)) tt (shown_all P None (tokens_from n 0 f.bytes) tt (each n f there)) in
     put_in_all P (top ∷ others) (length others) (true ∷ replicate (length others) false) (pieces_of 0 top) all (all 0 top refl)
 
 -- ---- the file of each token was handed in

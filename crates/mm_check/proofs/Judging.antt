@@ -7,8 +7,8 @@ use Rattle.mm_text.specs.declared.statement.Kind.{Kind}
 use Rattle.mm_text.specs.declared.statement.Kind.TheVariants.{Provable}
 use Rattle.mm_text.specs.Token.{PlainToken, plain_token}
 use Rattle.mm_text.specs.Statement.{PlainStatement, HasForm, HasLabel}
-use Rattle.mm_frame.specs.Sentence.{Sentence, said}
-use Rattle.mm_frame.specs.Numbers.{labelled}
+use Rattle.mm_frame.specs.Sentence.{Sentence, sentence_of}
+use Rattle.mm_frame.specs.Numbers.{labelled_sentences}
 use Rattle.mm_proof.specs.declared.fault.ProofRule.{ProofRule}
 use Rattle.mm_proof.specs.declared.fault.ProofFault.{ProofFault}
 use Rattle.mm_proof.specs.declared.fault.ProofFault.TheVariants as faults
@@ -100,14 +100,14 @@ labelled_said kind label has e = absurd cc
 
 -- the last statement has its number at the place after those before it
 pub last_number : (statements : List Sentence) (id : ℕ) (s : PlainStatement) → HasForm s → IsLastProof statements id s
-    → (before : List Sentence) → statements ≡ before ++ said s ∷ [] → IsProofNumber statements id (length before) (said s)
+    → (before : List Sentence) → statements ≡ before ++ sentence_of s ∷ [] → IsProofNumber statements id (length before) (sentence_of s)
 last_number statements id s formed last before e =
-    let same : before ≡ last.before = (one_split before (said s ∷ []) last.before (said s ∷ []) (sym e ∙ last.whole) refl).0 in
+    let same : before ≡ last.before = (one_split before (sentence_of s ∷ []) last.before (sentence_of s ∷ []) (sym e ∙ last.whole) refl).0 in
     record {
       numbered = record {
-        there = ap (λ (ss : List Sentence). slice_get ss (length before)) e ∙ get_last before (said s);
+        there = ap (λ (ss : List Sentence). slice_get ss (length before)) e ∙ get_last before (sentence_of s);
         named = labelled_said s.kind s.label formed.label last.provable;
-        number = ap (λ (ss : List Sentence). length (labelled ss)) (front_of statements before (said s) e ∙ same) ∙ sym last.number;
+        number = ap (λ (ss : List Sentence). length (labelled_sentences ss)) (front_of statements before (sentence_of s) e ∙ same) ∙ sym last.number;
       };
       provable = last.provable;
     }
@@ -125,14 +125,14 @@ pub parser_fault : (statements : List Sentence) (id : ℕ) (s : PlainStatement) 
     → tokens ≡ proof_of s → ¬ (IsIncomplete tokens)
     → ((rule : ProofRule) (step : ℕ) → fault ≡ faults.Rule rule step → (place : ℕ) (t : Sentence) → IsProofNumber statements id place t
     → (step ≡ 0) × IsWholeFault (take place statements) tokens rule)
-    → (before : List Sentence) → statements ≡ before ++ said s ∷ []
+    → (before : List Sentence) → statements ≡ before ++ sentence_of s ∷ []
     → Fails before s fault
 parser_fault statements id s tokens faults.Memory formed last same complete told before e = tt
 parser_fault statements id s tokens (faults.Rule rule step) formed last same complete told before e =
-    let at = told rule step refl (length before) (said s) (last_number statements id s formed last before e) in
+    let at = told rule step refl (length before) (sentence_of s) (last_number statements id s formed last before e) in
     let Whole : List Sentence → List (List ℕ) → Type 0 = λ ss ts. IsWholeFault ss ts rule in
     let whole : IsWholeFault before (proof_of s) rule =
-    subst (λ (ts : List (List ℕ)). Whole before ts) same (subst (λ (ss : List Sentence). Whole ss tokens) (front_of statements before (said s) e) at.1) in
+    subst (λ (ts : List (List ℕ)). Whole before ts) same (subst (λ (ss : List Sentence). Whole ss tokens) (front_of statements before (sentence_of s) e) at.1) in
     (subst (λ (ts : List (List ℕ)). is_incomplete ts ≡ false) same (complete_is tokens complete), inl (at.0, whole))
 
 -- what the parser says of the moves of the statement with the number, wherever it stands
@@ -152,19 +152,19 @@ pub verified : (statements : List Sentence) (id : ℕ) (s : PlainStatement) (tok
     → tokens ≡ proof_of s → ¬ (IsIncomplete tokens) → SaysMoves statements id tokens steps
     → ((place : ℕ) (t : Sentence) (moves : List (Move (List ℕ))) → IsProofNumber statements id place t → AreNumberedMoves statements steps moves
     → ProveUsing used (take place statements) t moves)
-    → (before : List Sentence) → statements ≡ before ++ said s ∷ []
+    → (before : List Sentence) → statements ≡ before ++ sentence_of s ∷ []
     → IsJudged before s (Some used)
 verified statements id s tokens steps used formed last same complete says proves before e =
     let number = last_number statements id s formed last before e in
-    let said_moves = says (length before) (said s) number in
-    let front = front_of statements before (said s) e in
+    let said_moves = says (length before) (sentence_of s) number in
+    let front = front_of statements before (sentence_of s) e in
     let whole : IsWhole before (proof_of s) =
     subst (λ (ts : List (List ℕ)). IsWhole before ts) same (subst (λ (ss : List Sentence). IsWhole ss tokens) front said_moves.0) in
     let moves : List (Move (List ℕ)) = said_moves.1 in
-    let say : SayMoves before (said s) (proof_of s) moves =
-    subst (λ (ts : List (List ℕ)). SayMoves before (said s) ts moves) same (subst (λ (ss : List Sentence). SayMoves ss (said s) tokens moves) front said_moves.2) in
-    let prove : ProveUsing used before (said s) moves =
-    subst (λ (ss : List Sentence). ProveUsing used ss (said s) moves) front (proves (length before) (said s) moves number said_moves.3) in (
+    let say : SayMoves before (sentence_of s) (proof_of s) moves =
+    subst (λ (ts : List (List ℕ)). SayMoves before (sentence_of s) ts moves) same (subst (λ (ss : List Sentence). SayMoves ss (sentence_of s) tokens moves) front said_moves.2) in
+    let prove : ProveUsing used before (sentence_of s) moves =
+    subst (λ (ss : List Sentence). ProveUsing used ss (sentence_of s) moves) front (proves (length before) (sentence_of s) moves number said_moves.3) in (
       subst (λ (ts : List (List ℕ)). is_incomplete ts ≡ false) same (complete_is tokens complete),
       record { proof = record { whole = whole; moves = moves; said = say; proves = prove.0 }; all = prove.1 },
     )
@@ -175,26 +175,26 @@ pub verifier_fault : (statements : List Sentence) (id : ℕ) (s : PlainStatement
     → ((rule : ProofRule) (step : ℕ) → fault ≡ faults.Rule rule step → (place : ℕ) (t : Sentence) (moves : List (Move (List ℕ)))
     → IsProofNumber statements id place t → AreNumberedMoves statements steps moves
     → IsMovesFault (IsWithin expression_limit) (take place statements) t moves rule step)
-    → (before : List Sentence) → statements ≡ before ++ said s ∷ []
+    → (before : List Sentence) → statements ≡ before ++ sentence_of s ∷ []
     → Fails before s fault
 verifier_fault statements id s tokens steps faults.Memory formed last same complete says told before e = tt
 verifier_fault statements id s tokens steps (faults.Rule rule step) formed last same complete says told before e =
     let number = last_number statements id s formed last before e in
-    let said_moves = says (length before) (said s) number in
-    let front = front_of statements before (said s) e in
+    let said_moves = says (length before) (sentence_of s) number in
+    let front = front_of statements before (sentence_of s) e in
     let whole : IsWhole before (proof_of s) =
     subst (λ (ts : List (List ℕ)). IsWhole before ts) same (subst (λ (ss : List Sentence). IsWhole ss tokens) front said_moves.0) in
     let moves : List (Move (List ℕ)) = said_moves.1 in
-    let say : SayMoves before (said s) (proof_of s) moves =
-    subst (λ (ts : List (List ℕ)). SayMoves before (said s) ts moves) same (subst (λ (ss : List Sentence). SayMoves ss (said s) tokens moves) front said_moves.2) in
-    let fault : IsMovesFault (IsWithin expression_limit) before (said s) moves rule step =
-    subst (λ (ss : List Sentence). IsMovesFault (IsWithin expression_limit) ss (said s) moves rule step) front
-    (told rule step refl (length before) (said s) moves number said_moves.3) in
+    let say : SayMoves before (sentence_of s) (proof_of s) moves =
+    subst (λ (ts : List (List ℕ)). SayMoves before (sentence_of s) ts moves) same (subst (λ (ss : List Sentence). SayMoves ss (sentence_of s) tokens moves) front said_moves.2) in
+    let fault : IsMovesFault (IsWithin expression_limit) before (sentence_of s) moves rule step =
+    subst (λ (ss : List Sentence). IsMovesFault (IsWithin expression_limit) ss (sentence_of s) moves rule step) front
+    (told rule step refl (length before) (sentence_of s) moves number said_moves.3) in
     (subst (λ (ts : List (List ℕ)). is_incomplete ts ≡ false) same (complete_is tokens complete), inr (whole, moves, say, fault))
 
 -- a refusal for the proof of the last statement is one of the statement
-pub refuses_after : (files : List PlainFile) (p q : Progress) (s : PlainStatement) (fault : CheckFault) → IsMeant p.book.statements (said s) → s.kind ≡ Provable
-    → q.book.statements ≡ p.book.statements ++ said s ∷ [] → q.count ≡ p.count → RefusesProof files q s fault
+pub refuses_after : (files : List PlainFile) (p q : Progress) (s : PlainStatement) (fault : CheckFault) → IsMeant p.book.statements (sentence_of s) → s.kind ≡ Provable
+    → q.book.statements ≡ p.book.statements ++ sentence_of s ∷ [] → q.count ≡ p.count → RefusesProof files q s fault
     → RefusesAfter files p.book.statements p.count s fault
 refuses_after files p q s fault meant provable book count (inl none) = inl none
 refuses_after files p q s fault meant provable book count (inr at) = inr (

@@ -10,14 +10,14 @@ use Rattle.mm_text.specs.declared.statement.Kind.{Kind}
 use Rattle.mm_text.specs.declared.statement.Kind.TheVariants.{Constants, Variables, Distinct, Floating, Essential, Axiom, Provable, Opening, Closing}
 use Rattle.mm_text.specs.Token.{PlainToken}
 use Rattle.mm_text.specs.Statement.{PlainStatement, HasForm, HasLabel, bytes_in}
-use Rattle.mm_frame.specs.Sentence.{Sentence, said}
-use Rattle.mm_frame.specs.Numbers.{labelled}
+use Rattle.mm_frame.specs.Sentence.{Sentence, sentence_of}
+use Rattle.mm_frame.specs.Numbers.{labelled_sentences}
 use Rattle.mm_frame.specs.declared.number.LabelId.{LabelId}
 use Rattle.mm_check.specs.declared.progress.Progress.{Progress}
 use Rattle.mm_check.specs.Conclusion.{labels_in}
 use Rattle.mm_check.specs.Verdict.{sentences, labels_of, label_of, unproved_of, is_proof, is_unproved, is_provable, proof_of, is_incomplete}
 use Rattle.mm_check.specs.Judged.{Knows, Takes, KeepsProof}
-use Rattle.mm_check.specs.Rests.{IsNumberOf, AreInOrder}
+use Rattle.mm_check.specs.Rests.{IsNumberWhere, AreInOrder}
 use Rattle.mm_check.proofs.Trees.{one_more_number, uses_more}
 use Rattle.mm_check.proofs.Numbers.{named_more, last_name, count_by-append, count_by-one, count_labelled}
 
@@ -61,7 +61,7 @@ both_true true b e = refl
 both_true false b e = e
 
 -- a `$p` has a label
-labelled_provable : (s : PlainStatement) (rest : Bool) → HasForm s → (is_provable s.kind && rest) ≡ true → is_some (said s).label ≡ true
+labelled_provable : (s : PlainStatement) (rest : Bool) → HasForm s → (is_provable s.kind && rest) ≡ true → is_some (sentence_of s).label ≡ true
 labelled_provable s rest formed e =
     let found = provable_label s.kind s.label formed.label (both_true (is_provable s.kind) rest e) in
     ap (λ (o : Option PlainToken). is_some (option_map (λ (t : PlainToken). t.text) o)) found.1
@@ -93,7 +93,7 @@ incomplete_more : (statements : List PlainStatement) (s : PlainStatement) (p q :
 incomplete_more statements s p q formed known takes =
     let names : List (List ℕ) = labels_of statements in
     let numbers : List ℕ = ids p.incomplete.items in
-    let count : ℕ = length (labelled p.book.statements) in
+    let count : ℕ = length (labelled_sentences p.book.statements) in
     let counted : count ≡ length names =
     count_labelled (λ (t : Sentence). t.label) p.book.statements
     ∙ ap length (ap labels_in known.book ∙ labels_said statements) in
@@ -108,17 +108,17 @@ incomplete_more statements s p q formed known takes =
     ∙ sym (ap (λ (ls : List (List ℕ)). map Some ls) (unproved_of-append statements (s ∷ [])))
 
 noted_more : (statements : List PlainStatement) (s : PlainStatement) (p q : Progress) → HasForm s → Knows statements p → Takes p s q
-    → AreInOrder (IsNumberOf (statements ++ s ∷ []) (λ t. is_unproved t ≡ true)) (ids q.incomplete.items)
+    → AreInOrder (IsNumberWhere (statements ++ s ∷ []) (λ t. is_unproved t ≡ true)) (ids q.incomplete.items)
 noted_more statements s p q formed known takes =
-    let same : ids p.incomplete.items ++ cond (is_unproved s) (length (labelled (sentences statements)) ∷ []) [] ≡ ids q.incomplete.items =
-    sym (takes.incomplete ∙ ap (λ (ss : List Sentence). ids p.incomplete.items ++ cond (is_unproved s) (length (labelled ss) ∷ []) []) known.book) in
-    subst (λ (ns : List ℕ). AreInOrder (IsNumberOf (statements ++ s ∷ []) (λ t. is_unproved t ≡ true)) ns) same
+    let same : ids p.incomplete.items ++ cond (is_unproved s) (length (labelled_sentences (sentences statements)) ∷ []) [] ≡ ids q.incomplete.items =
+    sym (takes.incomplete ∙ ap (λ (ss : List Sentence). ids p.incomplete.items ++ cond (is_unproved s) (length (labelled_sentences ss) ∷ []) []) known.book) in
+    subst (λ (ns : List ℕ). AreInOrder (IsNumberWhere (statements ++ s ∷ []) (λ t. is_unproved t ≡ true)) ns) same
     (one_more_number is_unproved statements s (ids p.incomplete.items) (labelled_provable s (is_incomplete (proof_of s)) formed) known.noted (is_unproved s) refl)
 
 pub knows_more : (statements : List PlainStatement) (s : PlainStatement) (p q : Progress) → HasForm s → Knows statements p → Takes p s q
     → Knows (statements ++ s ∷ []) q
 knows_more statements s p q formed known takes = record {
-  book = takes.statements ∙ ap (λ (ss : List Sentence). ss ++ said s ∷ []) known.book ∙ sym (map-append said statements (s ∷ []));
+  book = takes.statements ∙ ap (λ (ss : List Sentence). ss ++ sentence_of s ∷ []) known.book ∙ sym (map-append sentence_of statements (s ∷ []));
   bytes = omega (arith, takes.bytes, known.bytes, sum_by-append bytes_in statements (s ∷ []));
   count = omega (arith, takes.count, known.count, length-append statements (s ∷ []));
   proofs = takes.proofs ∙ ap (λ (n : ℕ). n + cond (is_proof s) 1 0) known.proofs
@@ -126,5 +126,5 @@ knows_more statements s p q formed known takes = record {
   incomplete = incomplete_more statements s p q formed known takes;
   noted = noted_more statements s p q formed known takes;
   kept = uses_more statements s p.kept q.kept (labelled_provable s (not (is_incomplete (proof_of s))) formed) known.kept (is_proof s) refl
-      (subst (λ (ss : List Sentence). KeepsProof ss s (length (labelled ss)) (is_proof s) p.kept q.kept) known.book takes.kept);
+      (subst (λ (ss : List Sentence). KeepsProof ss s (length (labelled_sentences ss)) (is_proof s) p.kept q.kept) known.book takes.kept);
 }

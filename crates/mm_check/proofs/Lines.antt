@@ -4,7 +4,7 @@ use Rattle.std.specs.Option.{option_to_list}
 use Rattle.std.proofs.lemmas.List.{take_more, map-append, length-map}
 use Rattle.std.proofs.lemmas.Grind.{flat_map-append}
 use Rattle.mm_frame.specs.declared.number.LabelId.{LabelId}
-use Rattle.mm_check.specs.Answer.{labels_at, concluded}
+use Rattle.mm_check.specs.Answer.{labels_at, verdict_of_conclusion}
 use Rattle.mm_check.specs.Conclusion.{Conclusion}
 use Rattle.mm_check.specs.Verdict.{Yes}
 use Rattle.std.specs.List.{AllByRecursion}
@@ -58,10 +58,10 @@ length-labels_at labels (n ∷ numbers) h =
 -- the text of a database with incomplete proofs
 pub text_of_incomplete : (c : Conclusion) (n : ℕ) (numbers : List ℕ) → c.incomplete ≡ n ∷ numbers
     → AllByRecursion (λ k. k < length c.labels) c.incomplete
-    → text_of [] (concluded c)
+    → text_of [] (verdict_of_conclusion c)
     ≡ line_with (codes "incomplete") (decimal (length c.incomplete) ∷ []) ++ lines_of (labels_at c.labels c.incomplete)
 text_of_incomplete c n numbers e all =
-    let Text : List ℕ → Type 0 = λ ns. text_of [] (concluded (record c { incomplete = ns }))
+    let Text : List ℕ → Type 0 = λ ns. text_of [] (verdict_of_conclusion (record c { incomplete = ns }))
     ≡ line_with (codes "incomplete") (decimal (length ns) ∷ []) ++ lines_of (labels_at c.labels ns) in
     let All : List ℕ → Type 0 = λ ns. AllByRecursion (λ k. k < length c.labels) ns in
     let here : AllByRecursion (λ k. k < length c.labels) (n ∷ numbers) = subst All e all in
@@ -71,9 +71,9 @@ text_of_incomplete c n numbers e all =
 
 -- the text of a database with none
 pub text_of_complete : (c : Conclusion) → c.incomplete ≡ []
-    → text_of [] (concluded c) ≡ text_of [] (Yes c.statements c.proofs)
+    → text_of [] (verdict_of_conclusion c) ≡ text_of [] (Yes c.statements c.proofs)
 text_of_complete c e =
-    let Text : List ℕ → Type 0 = λ ns. text_of [] (concluded (record c { incomplete = ns })) ≡ text_of [] (Yes c.statements c.proofs) in
+    let Text : List ℕ → Type 0 = λ ns. text_of [] (verdict_of_conclusion (record c { incomplete = ns })) ≡ text_of [] (Yes c.statements c.proofs) in
     subst Text (sym e) refl
 
 -- its line, word by word, and the lines of the labels
@@ -91,10 +91,10 @@ pub text_of_some : (c : Conclusion) (b : Bool) (labels : List (List ℕ)) (ids :
     → (IsTrue b ↔ (c.incomplete ≡ [])) → b ≡ false → labels ≡ c.labels → map (λ id. id.0) ids ≡ c.incomplete
     → AllByRecursion (λ k. k < length c.labels) c.incomplete
     → line_with (codes "incomplete") (decimal (length ids) ∷ []) ++ lines_of (labels_at labels (map (λ id. id.0) ids))
-    ≡ text_of [] (concluded c)
+    ≡ text_of [] (verdict_of_conclusion c)
 text_of_some c b labels ids e h same_labels same_numbers all =
     let found = some_first b c.incomplete e h in
-    let text : text_of [] (concluded c) ≡ line_with (codes "incomplete") (decimal (length c.incomplete) ∷ []) ++ lines_of (labels_at c.labels c.incomplete) =
+    let text : text_of [] (verdict_of_conclusion c) ≡ line_with (codes "incomplete") (decimal (length c.incomplete) ∷ []) ++ lines_of (labels_at c.labels c.incomplete) =
     text_of_incomplete c found.0 found.1 found.2 all in
     let count : length ids ≡ length c.incomplete = sym (length-map ids (λ (id : LabelId). id.0)) ∙ ap length same_numbers in
     let lines : lines_of (labels_at labels (map (λ (id : LabelId). id.0) ids)) ≡ lines_of (labels_at c.labels c.incomplete) =

@@ -10,7 +10,7 @@ use Rattle.mm_text.specs.Files.{PlainFile, total_bytes}
 use Rattle.mm_text.specs.Blocks as text
 use Rattle.mm_text.specs.Remaining.{Remaining}
 use Rattle.mm_text.proofs.FormedLaws.{readings_are_balanced, readings_fit, readings_few}
-use Rattle.mm_frame.specs.Sentence.{Sentence, said}
+use Rattle.mm_frame.specs.Sentence.{Sentence, sentence_of}
 use Rattle.mm_frame.specs.Active as frame
 use Rattle.mm_check.specs.declared.progress.Progress.{Progress}
 use Rattle.mm_check.specs.Verdict.{CanBeRead, sentences, is_proof}
@@ -57,7 +57,7 @@ counted_alike p q same (s ∷ statements) =
     let rest = counted_alike p q same statements in
     let one : ℕ = 1 in
     let first : cond (p s.kind) one 0 ≡ cond (q s.kind) one 0 = ap (λ (b : Bool). cond b one 0) (same s.kind) in
-    omega (arith, first, rest, sum_by-cons (λ (t : Sentence). cond (p t.kind) 1 0) (said s) (sentences statements), sum_by-cons (λ (t : PlainStatement). cond (q t.kind) 1 0) s statements)
+    omega (arith, first, rest, sum_by-cons (λ (t : Sentence). cond (p t.kind) 1 0) (sentence_of s) (sentences statements), sum_by-cons (λ (t : PlainStatement). cond (q t.kind) 1 0) s statements)
 
 take_next : {X : Type 0} (xs : List X) (x : X) (ys : List X) → take (suc (length xs)) (xs ++ x ∷ ys) ≡ xs ++ x ∷ []
 take_next [] x ys = refl
@@ -65,7 +65,7 @@ take_next {X} (z ∷ xs) x ys = ap (λ (zs : List X). z ∷ zs) (take_next xs x 
 
 -- a `$}` that is next has a block to close
 pub closes : (files : List PlainFile) (p : Progress) (old new : Remaining) (s : PlainStatement) → IsUnderWay files p old → TakesNext old true s new
-    → s.kind ≡ Closing → frame.closings p.book.statements < frame.openings p.book.statements
+    → s.kind ≡ Closing → frame.close_marks p.book.statements < frame.open_marks p.book.statements
 closes files p old new s way taken closing =
     let earlier : List PlainStatement = way.earlier in
     let whole : earlier ++ old.statements ≡ earlier ++ s ∷ new.statements = ap (λ (ss : List PlainStatement). earlier ++ ss) taken.0 in
@@ -82,10 +82,10 @@ closes files p old new s way taken closing =
     let same : text.openings (earlier ++ s ∷ []) ≡ text.openings earlier + text.openings (s ∷ []) =
     count_by-append (λ (t : PlainStatement). text.is_opening t.kind) earlier (s ∷ []) in
     let less : text.closings earlier < text.openings earlier = omega (arith, here, one, none, more, same) in
-    let closed : frame.closings (sentences earlier) ≡ text.closings earlier = counted_alike frame.is_closing text.is_closing same_closing earlier in
-    let opened : frame.openings (sentences earlier) ≡ text.openings earlier = counted_alike frame.is_opening text.is_opening same_opening earlier in
-    let plain : frame.closings (sentences earlier) < frame.openings (sentences earlier) = omega (arith, less, closed, opened) in
-    subst (λ (ss : List Sentence). frame.closings ss < frame.openings ss) (sym way.known.book) plain
+    let closed : frame.close_marks (sentences earlier) ≡ text.closings earlier = counted_alike frame.is_closing text.is_closing same_closing earlier in
+    let opened : frame.open_marks (sentences earlier) ≡ text.openings earlier = counted_alike frame.is_opening text.is_opening same_opening earlier in
+    let plain : frame.close_marks (sentences earlier) < frame.open_marks (sentences earlier) = omega (arith, less, closed, opened) in
+    subst (λ (ss : List Sentence). frame.close_marks ss < frame.open_marks ss) (sym way.known.book) plain
 
 -- ## Room
 

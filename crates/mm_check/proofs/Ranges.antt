@@ -6,9 +6,9 @@ use Rattle.mm_frame.specs.declared.number.LabelId.{LabelId}
 use Rattle.mm_proof.proofs.Parts.{part-append, part-new}
 use Rattle.mm_check.specs.declared.kept.KeptProof.{KeptProof}
 use Rattle.mm_check.specs.Conclusion.{ProofUses}
-use Rattle.mm_check.specs.Ranges.{ids_in, uses_at, uses_in, AreWithin}
+use Rattle.mm_check.specs.Ranges.{ids_in, uses_at, uses_in, AreRangesWithin}
 
-uses_grow : (xs ys : List LabelId) (proofs : List KeptProof) → AreWithin (length xs) proofs → uses_in (xs ++ ys) proofs ≡ uses_in xs proofs
+uses_grow : (xs ys : List LabelId) (proofs : List KeptProof) → AreRangesWithin (length xs) proofs → uses_in (xs ++ ys) proofs ≡ uses_in xs proofs
 uses_grow xs ys [] h = refl
 uses_grow xs ys (p ∷ proofs) h =
     let range : slice_range (xs ++ ys) p.start p.end ≡ slice_range xs p.start p.end =
@@ -17,7 +17,7 @@ uses_grow xs ys (p ∷ proofs) h =
     let others : uses_in (xs ++ ys) proofs ≡ uses_in xs proofs = uses_grow xs ys proofs (λ i q at. h (suc i) q at) in
     cc
 
-pub uses_push : (xs ys : List LabelId) (proofs : List KeptProof) (p : KeptProof) → AreWithin (length xs) proofs
+pub uses_push : (xs ys : List LabelId) (proofs : List KeptProof) (p : KeptProof) → AreRangesWithin (length xs) proofs
     → p.start ≡ length xs → p.end ≡ length (xs ++ ys)
     → uses_in (xs ++ ys) (proofs ++ p ∷ []) ≡ uses_in xs proofs ++ record { number = p.id.0; used = ids_in ys } ∷ []
 uses_push xs ys proofs p h from to =

@@ -6,7 +6,7 @@ use Rattle.mm_check.specs.declared.fault.CheckFault.{CheckFault}
 use Rattle.mm_check.specs.Conclusion.{Conclusion}
 use Rattle.mm_check.specs.declared.fault.CheckFault.TheVariants as fault
 use Rattle.mm_check.specs.Verdict.{Verdict, Load, Refused, HasVerdict, AreAccepted, labels_of}
-use Rattle.mm_check.specs.Answer.{answered, concluded, concluded_with, plain_refusal, verdict_of_fault, IsVerdict, KeepsLabels, KeepsUses, IsKeptOf}
+use Rattle.mm_check.specs.Answer.{verdict_of_answer, verdict_of_conclusion, verdict_where_incomplete, plain_refusal, verdict_of_fault, IsVerdict, KeepsLabels, KeepsUses, IsKeptOf}
 use Rattle.mm_check.specs.Reply.{IsReply, IsRefused, IsQuestionReply, Tells, text_of, status_of}
 
 reply_at : (files : List PlainFile) (told : Option Verdict) (text : List ℕ) (status : ℕ)
@@ -18,14 +18,14 @@ reply_at files (Some verdict) text status holds said ends =
     record { verdict = verdict; holds = holds verdict refl; said = said; ends = ends }
 
 pub reply_of : (files : List PlainFile) (answer : Result Conclusion CheckFault) (text : List ℕ) (status : ℕ)
-    → IsVerdict files answer → Tells files answer text → IfSome (answered answer) (λ verdict. status ≡ status_of verdict)
+    → IsVerdict files answer → Tells files answer text → IfSome (verdict_of_answer answer) (λ verdict. status ≡ status_of verdict)
     → IsReply files text status
-reply_of files answer text status holds said ends = reply_at files (answered answer) text status holds said ends
+reply_of files answer text status holds said ends = reply_at files (verdict_of_answer answer) text status holds said ends
 
 -- ---- questions
 
 -- nothing is at fault in what is kept
-accepted_with : (files : List PlainFile) (c : Conclusion) (numbers : List ℕ) → HasVerdict files (concluded_with c numbers) → (statements : List PlainStatement) × AreAccepted files statements
+accepted_with : (files : List PlainFile) (c : Conclusion) (numbers : List ℕ) → HasVerdict files (verdict_where_incomplete c numbers) → (statements : List PlainStatement) × AreAccepted files statements
 accepted_with files c [] h = (h.0, h.1)
 accepted_with files c (n ∷ numbers) h = (h.0, h.1)
 
@@ -35,8 +35,8 @@ pub question_answered : (files : List PlainFile) (answer : Result Conclusion Che
     → ((statements : List PlainStatement) → IsKeptOf statements c → c.labels ≡ labels_of statements → Answers statements text status)
     → IsQuestionReply files Answers text status
 question_answered files answer c Answers text status is holds uses labels answers =
-    let told : answered answer ≡ Some (concluded c) = ap answered is in
-    let found = accepted_with files c c.incomplete (holds (concluded c) told) in
+    let told : verdict_of_answer answer ≡ Some (verdict_of_conclusion c) = ap verdict_of_answer is in
+    let found = accepted_with files c c.incomplete (holds (verdict_of_conclusion c) told) in
     inr (found.0, found.1, answers found.0 (uses found.0 None found.1.reads) (labels found.0 None found.1.reads))
 
 -- the refusal of the files
@@ -51,12 +51,12 @@ refused_at files (fault.Refused r) text status holds said ends =
 refused_at files fault.Memory text status holds said ends = absurd said
 
 pub question_refused : (files : List PlainFile) (answer : Result Conclusion CheckFault) (fault : CheckFault) (Answers : List PlainStatement → List ℕ → ℕ → Type 0) (text : List ℕ) (status : ℕ)
-    → answer ≡ Err fault → IsVerdict files answer → Tells files answer text → IfSome (answered answer) (λ verdict. status ≡ status_of verdict)
+    → answer ≡ Err fault → IsVerdict files answer → Tells files answer text → IfSome (verdict_of_answer answer) (λ verdict. status ≡ status_of verdict)
     → IsQuestionReply files Answers text status
 question_refused files answer fault Answers text status is holds said ends =
     let Holds : Result Conclusion CheckFault → Type 0 = λ a. IsVerdict files a in
     let Said : Result Conclusion CheckFault → Type 0 = λ a. Tells files a text in
-    let Ends : Result Conclusion CheckFault → Type 0 = λ a. IfSome (answered a) (λ verdict. status ≡ status_of verdict) in
+    let Ends : Result Conclusion CheckFault → Type 0 = λ a. IfSome (verdict_of_answer a) (λ verdict. status ≡ status_of verdict) in
     inl (refused_at files fault text status (subst Holds is holds) (subst Said is said) (subst Ends is ends))
 
 -- what holds of a reply that was made

@@ -4,8 +4,8 @@ use Rattle.std.proofs.lemmas.Option.{slice_get_within}
 use Rattle.std.proofs.lemmas.List.{map-append, length-map, take-append-le}
 use Rattle.std.proofs.Math.Seq.{take-append_seam}
 use Rattle.mm_text.specs.Statement.{PlainStatement}
-use Rattle.mm_frame.specs.Sentence.{Sentence, said}
-use Rattle.mm_frame.specs.Numbers.{labelled, IsNumbered}
+use Rattle.mm_frame.specs.Sentence.{Sentence, sentence_of}
+use Rattle.mm_frame.specs.Numbers.{labelled_sentences, IsNumbered}
 use Rattle.mm_frame.proofs.Pushed.{get_kept, get_pushed, pushed_cases}
 use Rattle.mm_frame.proofs.Labelled.{numbered_grow, numbered_fall, numbered_last, numbered_within}
 use Rattle.mm_proof.specs.Tree.{Trees, none, tree}
@@ -14,7 +14,7 @@ use Rattle.mm_proof.specs.Used.{AreUsed}
 use Rattle.mm_proof.proofs.Limits.{derive_any}
 use Rattle.mm_check.specs.Conclusion.{ProofUses, numbers_of}
 use Rattle.mm_check.specs.Verdict.{sentences, proof_of, is_proof}
-use Rattle.mm_check.specs.Rests.{IsAt, IsNumberOf, AreInOrder, tree_of, HasTree, AreUses}
+use Rattle.mm_check.specs.Rests.{IsAt, IsNumberWhere, AreInOrder, tree_of, HasTree, AreUses}
 use Rattle.mm_check.specs.Judged.{IsProvedUsing, KeepsProof}
 use Rattle.mm_frame.proofs.Numbered.{at_from_contains}
 use Rattle.mm_check.proofs.Order.{holds_cases, in_order_none, in_order_push, in_order_same}
@@ -22,57 +22,57 @@ use Rattle.mm_check.proofs.Order.{holds_cases, in_order_none, in_order_push, in_
 -- ---- numbers
 
 sentences_more : (statements more : List PlainStatement) → sentences (statements ++ more) ≡ sentences statements ++ sentences more
-sentences_more statements more = map-append said statements more
+sentences_more statements more = map-append sentence_of statements more
 
 -- a statement keeps its number and its place
 pub at_grow : (statements more : List PlainStatement) (id place : ℕ) (s : PlainStatement) → IsAt statements id place s → IsAt (statements ++ more) id place s
 at_grow statements more id place s at = record {
   there = get_kept statements more place s at.there;
-  numbered = subst (λ (ss : List Sentence). IsNumbered ss id place (said s)) (sym (sentences_more statements more))
-      (numbered_grow (sentences statements) (sentences more) id place (said s) at.numbered);
+  numbered = subst (λ (ss : List Sentence). IsNumbered ss id place (sentence_of s)) (sym (sentences_more statements more))
+      (numbered_grow (sentences statements) (sentences more) id place (sentence_of s) at.numbered);
 }
 
-pub at_within : (statements : List PlainStatement) (id place : ℕ) (s : PlainStatement) → IsAt statements id place s → id < length (labelled (sentences statements))
-at_within statements id place s at = numbered_within (sentences statements) id place (said s) at.numbered
+pub at_within : (statements : List PlainStatement) (id place : ℕ) (s : PlainStatement) → IsAt statements id place s → id < length (labelled_sentences (sentences statements))
+at_within statements id place s at = numbered_within (sentences statements) id place (sentence_of s) at.numbered
 
 -- a statement with a label, put at the end, has the next number
-pub at_last : (statements : List PlainStatement) (s : PlainStatement) → is_some (said s).label ≡ true
-    → IsAt (statements ++ s ∷ []) (length (labelled (sentences statements))) (length statements) s
+pub at_last : (statements : List PlainStatement) (s : PlainStatement) → is_some (sentence_of s).label ≡ true
+    → IsAt (statements ++ s ∷ []) (length (labelled_sentences (sentences statements))) (length statements) s
 at_last statements s named =
-    let last = numbered_last (sentences statements) (said s) named in
-    let placed = subst (λ (n : ℕ). IsNumbered (sentences statements ++ said s ∷ []) (length (labelled (sentences statements))) n (said s)) (length-map statements said) last in
+    let last = numbered_last (sentences statements) (sentence_of s) named in
+    let placed = subst (λ (n : ℕ). IsNumbered (sentences statements ++ sentence_of s ∷ []) (length (labelled_sentences (sentences statements))) n (sentence_of s)) (length-map statements sentence_of) last in
     record {
       there = get_pushed statements s;
-      numbered = subst (λ (ss : List Sentence). IsNumbered ss (length (labelled (sentences statements))) (length statements) (said s)) (sym (sentences_more statements (s ∷ []))) placed;
+      numbered = subst (λ (ss : List Sentence). IsNumbered ss (length (labelled_sentences (sentences statements))) (length statements) (sentence_of s)) (sym (sentences_more statements (s ∷ []))) placed;
     }
 
 -- a statement with a number, where one more is put at the end, had it, or is the last
 pub at_cases : (statements : List PlainStatement) (s : PlainStatement) (id place : ℕ) (t : PlainStatement) → IsAt (statements ++ s ∷ []) id place t
-    → IsAt statements id place t ⊎ ((s ≡ t) × (id ≡ length (labelled (sentences statements))))
+    → IsAt statements id place t ⊎ ((s ≡ t) × (id ≡ length (labelled_sentences (sentences statements))))
 at_cases statements s id place t at =
-    let numbered : IsNumbered (sentences statements ++ said s ∷ []) id place (said t) =
-    subst (λ (ss : List Sentence). IsNumbered ss id place (said t)) (sentences_more statements (s ∷ [])) at.numbered in
+    let numbered : IsNumbered (sentences statements ++ sentence_of s ∷ []) id place (sentence_of t) =
+    subst (λ (ss : List Sentence). IsNumbered ss id place (sentence_of t)) (sentences_more statements (s ∷ [])) at.numbered in
     elim (pushed_cases statements s place t at.there) [
       | inl before ↦
           let within : place < length statements = slice_get_within statements place t before in
-          let room : place < length (sentences statements) = subst (λ (n : ℕ). place < n) (sym (length-map statements said)) within in
-          inl (record { there = before; numbered = numbered_fall (sentences statements) (said s ∷ []) id place (said t) room numbered })
+          let room : place < length (sentences statements) = subst (λ (n : ℕ). place < n) (sym (length-map statements sentence_of)) within in
+          inl (record { there = before; numbered = numbered_fall (sentences statements) (sentence_of s ∷ []) id place (sentence_of t) room numbered })
       | inr last ↦
-          let front : take place (sentences statements ++ said s ∷ []) ≡ sentences statements =
-          ap (λ (n : ℕ). take n (sentences statements ++ said s ∷ [])) (last.0 ∙ sym (length-map statements said))
-          ∙ take-append_seam (sentences statements) (said s ∷ []) in
-          inr (last.1, sym numbered.number ∙ ap (λ (ss : List Sentence). length (labelled ss)) front)
+          let front : take place (sentences statements ++ sentence_of s ∷ []) ≡ sentences statements =
+          ap (λ (n : ℕ). take n (sentences statements ++ sentence_of s ∷ [])) (last.0 ∙ sym (length-map statements sentence_of))
+          ∙ take-append_seam (sentences statements) (sentence_of s ∷ []) in
+          inr (last.1, sym numbered.number ∙ ap (λ (ss : List Sentence). length (labelled_sentences ss)) front)
     ]
 
 -- ---- the numbers of the statements for which a test holds
 
 -- one more statement
 pub one_more_number : (test : PlainStatement → Bool) (statements : List PlainStatement) (s : PlainStatement) (ids : List ℕ)
-    → (test s ≡ true → is_some (said s).label ≡ true)
-    → AreInOrder (IsNumberOf statements (λ t. test t ≡ true)) ids → (b : Bool) → test s ≡ b
-    → AreInOrder (IsNumberOf (statements ++ s ∷ []) (λ t. test t ≡ true)) (ids ++ cond b (length (labelled (sentences statements)) ∷ []) [])
+    → (test s ≡ true → is_some (sentence_of s).label ≡ true)
+    → AreInOrder (IsNumberWhere statements (λ t. test t ≡ true)) ids → (b : Bool) → test s ≡ b
+    → AreInOrder (IsNumberWhere (statements ++ s ∷ []) (λ t. test t ≡ true)) (ids ++ cond b (length (labelled_sentences (sentences statements)) ∷ []) [])
 one_more_number test statements s ids named order true e =
-    in_order_push (IsNumberOf statements (λ t. test t ≡ true)) (IsNumberOf (statements ++ s ∷ []) (λ t. test t ≡ true)) ids (length (labelled (sentences statements))) order
+    in_order_push (IsNumberWhere statements (λ t. test t ≡ true)) (IsNumberWhere (statements ++ s ∷ []) (λ t. test t ≡ true)) ids (length (labelled_sentences (sentences statements))) order
     (λ n p. at_within statements n p.0 p.1 p.2)
     (λ n. (
       (λ q. elim (at_cases statements s n q.0 q.1 q.2) [ inl old ↦ inl (q.0, q.1, old, q.3) | inr last ↦ inr last.1 ]),
@@ -82,8 +82,8 @@ one_more_number test statements s ids named order true e =
       ],
     ))
 one_more_number test statements s ids named order false e =
-    subst (λ (ns : List ℕ). AreInOrder (IsNumberOf (statements ++ s ∷ []) (λ t. test t ≡ true)) ns) (sym (append-nil ids))
-    (in_order_same (IsNumberOf statements (λ t. test t ≡ true)) (IsNumberOf (statements ++ s ∷ []) (λ t. test t ≡ true)) ids order
+    subst (λ (ns : List ℕ). AreInOrder (IsNumberWhere (statements ++ s ∷ []) (λ t. test t ≡ true)) ns) (sym (append-nil ids))
+    (in_order_same (IsNumberWhere statements (λ t. test t ≡ true)) (IsNumberWhere (statements ++ s ∷ []) (λ t. test t ≡ true)) ids order
     (λ n. (
       (λ p. (p.0, p.1, at_grow statements (s ∷ []) n p.0 p.1 p.2, p.3)),
       λ q. elim (at_cases statements s n q.0 q.1 q.2) [
@@ -114,7 +114,7 @@ any_proof before s tokens p = record {
 
 -- what is said of the tree of a proof after these statements
 abbrev pub Spells : PlainStatement → Trees → List PlainStatement → Type 0
-Spells s t front = (proof : IsProved (sentences front) (said s) (proof_of s)) × (t ≡ tree_of proof)
+Spells s t front = (proof : IsProved (sentences front) (sentence_of s) (proof_of s)) × (t ≡ tree_of proof)
 
 pub tree_grow : (statements more : List PlainStatement) (id place : ℕ) (t : Trees) → HasTree statements id place t → HasTree (statements ++ more) id place t
 tree_grow statements more id place t has =
@@ -137,14 +137,14 @@ uses_grow statements more u (place, t, has, used) =
       subst (λ (front : List PlainStatement). AreUsed (sentences front) t u.used) (sym (front_kept statements more place (omega arith))) used,
     )
 
-uses_last : (statements : List PlainStatement) (s : PlainStatement) (used : List ℕ) → is_some (said s).label ≡ true → is_proof s ≡ true
+uses_last : (statements : List PlainStatement) (s : PlainStatement) (used : List ℕ) → is_some (sentence_of s).label ≡ true → is_proof s ≡ true
     → IsProvedUsing (sentences statements) s used
-    → AreUsesOf (statements ++ s ∷ []) (record { number = length (labelled (sentences statements)); used = used })
+    → AreUsesOf (statements ++ s ∷ []) (record { number = length (labelled_sentences (sentences statements)); used = used })
 unfolding any_proof
 uses_last statements s used named complete proved =
     let front : statements ≡ take (length statements) (statements ++ s ∷ []) = sym (take-append_seam statements (s ∷ [])) in
     let proof : Spells s (tree_of proved.proof) (take (length statements) (statements ++ s ∷ [])) =
-    subst (Spells s (tree_of proved.proof)) front (any_proof (sentences statements) (said s) (proof_of s) proved.proof, refl) in (
+    subst (Spells s (tree_of proved.proof)) front (any_proof (sentences statements) (sentence_of s) (proof_of s) proved.proof, refl) in (
       length statements,
       tree_of proved.proof,
       record { s = s; at = at_last statements s named; complete = complete; proof = proof.0; spelled = proof.1 },
@@ -152,16 +152,16 @@ uses_last statements s used named complete proved =
     )
 
 -- what is kept of one statement more
-pub uses_more : (statements : List PlainStatement) (s : PlainStatement) (old new : List ProofUses) → (is_proof s ≡ true → is_some (said s).label ≡ true)
+pub uses_more : (statements : List PlainStatement) (s : PlainStatement) (old new : List ProofUses) → (is_proof s ≡ true → is_some (sentence_of s).label ≡ true)
     → AreUses statements old → (b : Bool) → is_proof s ≡ b
-    → KeepsProof (sentences statements) s (length (labelled (sentences statements))) b old new
+    → KeepsProof (sentences statements) s (length (labelled_sentences (sentences statements))) b old new
     → AreUses (statements ++ s ∷ []) new
 uses_more statements s old new named uses true e keeps =
     let one = keeps.some refl in
-    let u : ProofUses = record { number = length (labelled (sentences statements)); used = one.0 } in
+    let u : ProofUses = record { number = length (labelled_sentences (sentences statements)); used = one.0 } in
     let numbers : numbers_of old ++ u.number ∷ [] ≡ numbers_of (old ++ u ∷ []) = sym (map-append (λ (v : ProofUses). v.number) old (u ∷ [])) in
     let whole : AreUses (statements ++ s ∷ []) (old ++ u ∷ []) = record {
-      proofs = subst (λ (ns : List ℕ). AreInOrder (IsNumberOf (statements ++ s ∷ []) (λ t. is_proof t ≡ true)) ns) numbers
+      proofs = subst (λ (ns : List ℕ). AreInOrder (IsNumberWhere (statements ++ s ∷ []) (λ t. is_proof t ≡ true)) ns) numbers
           (one_more_number is_proof statements s (numbers_of old) named uses.proofs true e);
       each = λ v h. elim (holds_cases old u v h) [
         | inl before ↦ uses_grow statements (s ∷ []) v (uses.each v before)
@@ -171,18 +171,18 @@ uses_more statements s old new named uses true e keeps =
     subst (λ (us : List ProofUses). AreUses (statements ++ s ∷ []) us) (sym one.2) whole
 uses_more statements s old new named uses false e keeps =
     let whole : AreUses (statements ++ s ∷ []) old = record {
-      proofs = subst (λ (ns : List ℕ). AreInOrder (IsNumberOf (statements ++ s ∷ []) (λ t. is_proof t ≡ true)) ns) (append-nil (numbers_of old))
+      proofs = subst (λ (ns : List ℕ). AreInOrder (IsNumberWhere (statements ++ s ∷ []) (λ t. is_proof t ≡ true)) ns) (append-nil (numbers_of old))
           (one_more_number is_proof statements s (numbers_of old) named uses.proofs false e);
       each = λ v h. uses_grow statements (s ∷ []) v (uses.each v h);
     } in
     subst (λ (us : List ProofUses). AreUses (statements ++ s ∷ []) us) (sym (keeps.none refl)) whole
 
 -- before any statement nothing is kept
-none_numbered : (P : PlainStatement → Type 0) (n : ℕ) → ¬ (IsNumberOf [] P n)
+none_numbered : (P : PlainStatement → Type 0) (n : ℕ) → ¬ (IsNumberWhere [] P n)
 none_numbered P n p = let there = p.2.there in cc
 
-pub none_noted : (P : PlainStatement → Type 0) → AreInOrder (IsNumberOf [] P) []
-none_noted P = in_order_none (IsNumberOf [] P) (none_numbered P)
+pub none_noted : (P : PlainStatement → Type 0) → AreInOrder (IsNumberWhere [] P) []
+none_noted P = in_order_none (IsNumberWhere [] P) (none_numbered P)
 
 pub no_uses : AreUses [] []
 no_uses = record { proofs = none_noted (λ s. is_proof s ≡ true); each = λ u h. absurd (let at = at_from_contains [] u h in let there = at.1 in cc) }

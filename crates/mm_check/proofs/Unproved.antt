@@ -6,7 +6,7 @@ use Rattle.mm_text.specs.declared.statement.Kind.{Kind}
 use Rattle.mm_text.specs.declared.statement.Kind.TheVariants.{Constants, Variables, Distinct, Floating, Essential, Axiom, Provable, Opening, Closing}
 use Rattle.mm_text.specs.Token.{PlainToken}
 use Rattle.mm_text.specs.Statement.{PlainStatement, HasForm}
-use Rattle.mm_frame.specs.Sentence.{Sentence, said}
+use Rattle.mm_frame.specs.Sentence.{Sentence, sentence_of}
 use Rattle.mm_frame.specs.Rules.{AllMeant, IsMeant}
 use Rattle.mm_check.specs.Verdict.{AllObey, Obeys, sentences, proof_of, label_of, unproved_of, is_provable, is_incomplete, is_proof, is_unproved}
 use Rattle.mm_check.proofs.Known.{provable_label, unproved_of-append}
@@ -39,9 +39,9 @@ map_split {X} f (x ∷ xs) (z ∷ b) y a e =
 -- what obeys the rules breaks no rule of meaning
 pub all_meant : (statements : List PlainStatement) → AllObey statements → AllMeant (sentences statements)
 all_meant statements obeyed before after s e =
-    let split = map_split said statements before s after e in
+    let split = map_split sentence_of statements before s after e in
     subst (λ (t : Sentence). IsMeant before t) split.image
-    (subst (λ (b : List Sentence). IsMeant b (said split.x)) split.front (obeyed split.before split.after split.x split.whole).meant)
+    (subst (λ (b : List Sentence). IsMeant b (sentence_of split.x)) split.front (obeyed split.before split.after split.x split.whole).meant)
 
 -- a kind that is that of a `$p`
 pub provable_kind : (kind : Kind) → is_provable kind ≡ true → kind ≡ Provable

@@ -9,7 +9,7 @@ use Rattle.mm_text.specs.Reading.{PlainFault, Reads}
 use Rattle.mm_text.proofs.ReaderLaws.{each_has_one_reading}
 use Rattle.mm_text.proofs.FormedLaws.{readings_are_formed_in_place}
 use Rattle.mm_frame.specs.declared.rule.MeaningRule.{MeaningRule}
-use Rattle.mm_frame.specs.Sentence.{Sentence, said}
+use Rattle.mm_frame.specs.Sentence.{Sentence, sentence_of}
 use Rattle.mm_frame.specs.Rules.{FirstBroken, AllMeant, rank}
 use Rattle.mm_proof.specs.Proof.{expression_limit}
 use Rattle.mm_proof.specs.declared.fault.ProofRule.TheVariants as proof
@@ -17,7 +17,7 @@ use Rattle.mm_proof.proofs.Verdicts.{one_verdict_holds}
 use Rattle.mm_proof.proofs.Limits.{limits_aside_holds}
 use Rattle.mm_check.specs.declared.fault.CheckFault.{CheckFault}
 use Rattle.mm_check.specs.Conclusion.{Conclusion}
-use Rattle.mm_check.specs.Answer.{answered, IsVerdict, IsOnlyVerdict, IsYes, IsOverLimit, IsWantOfMemory}
+use Rattle.mm_check.specs.Answer.{verdict_of_answer, IsVerdict, IsOnlyVerdict, IsYes, IsOverLimit, IsWantOfMemory}
 use Rattle.mm_check.specs.declared.rule.Rule.{Rule}
 use Rattle.mm_check.specs.declared.rule.Rule.TheVariants.{L1}
 use Rattle.mm_check.specs.Verdict.{Verdict, Load, Refused, Incomplete, Yes, PlainRefusal, Obeys, AllObey, AreAccepted, HasFault, HasVerdict, RefusesStatement, RefusesText, ObeyTheProfile, sentences, load_rule, meaning_rule, proof_rule, refusal_of, text_refusal, proof_of, proofs_of, unproved_of, is_incomplete}
@@ -54,17 +54,17 @@ obeying_faultless : (before : List Sentence) (s : PlainStatement) (rule : Rule) 
     → HasFault before s rule step → ⊥
 obeying_faultless before s rule step meant obeyed (inl f) = obeyed.meant f.0 f.1.broken
 obeying_faultless before s rule step meant obeyed (inr f) =
-    (one_verdict_holds expression_limit before (said s) (proof_of s) meant).0 (obeyed.proved f.1) f.2 step f.3
+    (one_verdict_holds expression_limit before (sentence_of s) (proof_of s) meant).0 (obeyed.proved f.1) f.2 step f.3
 
 -- the fault of a statement is one
 one_statement_fault : (before : List Sentence) (s : PlainStatement) (rule rule' : Rule) (step step' : ℕ) → AllMeant before
     → HasFault before s rule step → HasFault before s rule' step' → (rule ≡ rule') × (step ≡ step')
 one_statement_fault before s rule rule' step step' meant (inl f) (inl g) =
-    (f.2 ∙ ap meaning_rule (one_first before (said s) f.0 g.0 f.1 g.1) ∙ sym g.2, f.3 ∙ sym g.3)
+    (f.2 ∙ ap meaning_rule (one_first before (sentence_of s) f.0 g.0 f.1 g.1) ∙ sym g.2, f.3 ∙ sym g.3)
 one_statement_fault before s rule rule' step step' meant (inl f) (inr g) = absurd (g.0 f.0 f.1.broken)
 one_statement_fault before s rule rule' step step' meant (inr f) (inl g) = absurd (f.0 g.0 g.1.broken)
 one_statement_fault before s rule rule' step step' meant (inr f) (inr g) =
-    let same = (one_verdict_holds expression_limit before (said s) (proof_of s) meant).1 f.2 g.2 step step' f.3 g.3 in
+    let same = (one_verdict_holds expression_limit before (sentence_of s) (proof_of s) meant).1 f.2 g.2 step step' f.3 g.3 in
     (f.4 ∙ ap proof_rule same.0 ∙ sym g.4, same.1)
 
 -- ## The first statement at fault
@@ -198,7 +198,7 @@ yes_obeys files n p h = record {
       complete_where_none before after s (subst (λ (ss : List PlainStatement). AllByRecursion HasForm ss) split (readings_are_formed_in_place files h.0 None h.1.reads).formed)
       (sym (ap unproved_of split) ∙ h.2) provable in (
         complete,
-        (limits_aside_holds expression_limit (sentences before) (said s) (proof_of s)
+        (limits_aside_holds expression_limit (sentences before) (sentence_of s) (proof_of s)
             (all_meant before (λ earlier later t e. h.1.obeyed earlier (later ++ s ∷ after) t
             (split ∙ ap (λ (xs : List PlainStatement). xs ++ s ∷ after) e ∙ append_assoc earlier (t ∷ later) (s ∷ after))))).0
             ((h.1.obeyed before after s split).proved (proof_there s provable complete)),
@@ -211,7 +211,7 @@ over_the_limit : (files : List PlainFile) (profile : ObeyTheProfile files) (refu
 over_the_limit files profile refusal r = elim (r.fault) [
   | inl f ↦ absurd (profile.meant r.before r.after r.s r.split f.0 f.1.broken)
   | inr f ↦
-      let law = limits_aside_holds expression_limit (sentences r.before) (said r.s) (proof_of r.s) (all_meant _ r.obeyed) in
+      let law = limits_aside_holds expression_limit (sentences r.before) (sentence_of r.s) (proof_of r.s) (all_meant _ r.obeyed) in
       let proved = profile.proved r.before r.after r.s r.split (provable_proof r.s.kind (is_incomplete (proof_of r.s)) f.1) in
       let over : f.2 ≡ proof.L1 = law.2 proved.1 f.2 r.step f.3 in
       ap (λ (q : PlainRefusal). q.rule) r.refused ∙ f.4 ∙ ap proof_rule over
@@ -241,7 +241,7 @@ only_told files None holds w h = inl refl
 only_told files (Some v) holds w h = inr (ap Some (one_verdict files v w (holds v refl) h))
 
 pub only_answer : (files : List PlainFile) (answer : Result Conclusion CheckFault) → IsVerdict files answer → IsOnlyVerdict files answer
-only_answer files answer holds w h = only_told files (answered answer) holds w h
+only_answer files answer holds w h = only_told files (verdict_of_answer answer) holds w h
 
 pub yes_answer : (files : List PlainFile) (answer : Result Conclusion CheckFault) → IsVerdict files answer → IsYes answer → ObeyTheProfile files
 yes_answer files answer holds told = yes_obeys files told.0 told.1 (holds (Yes told.0 told.1) told.2)
@@ -256,4 +256,4 @@ accepted_told files (Some v) holds profile = elim (profile_verdict files profile
 
 pub accepted_answer : (files : List PlainFile) (answer : Result Conclusion CheckFault) → IsVerdict files answer → ObeyTheProfile files
     → IsYes answer ⊎ IsOverLimit answer ⊎ IsWantOfMemory answer
-accepted_answer files answer holds profile = accepted_told files (answered answer) holds profile
+accepted_answer files answer holds profile = accepted_told files (verdict_of_answer answer) holds profile

@@ -11,7 +11,7 @@ use Rattle.mm_text.specs.Files.{PlainFile}
 use Rattle.mm_text.specs.Reading.{PlainFault, Reads}
 use Rattle.mm_check.specs.declared.rule.Rule.TheVariants.{L1}
 use Rattle.mm_check.specs.Verdict.{PlainRefusal, Verdict, Load, Refused, Incomplete, Yes, HasVerdict, labels_of, proofs_of, is_unproved, sentences}
-use Rattle.mm_check.specs.Rests.{IsNumberOf, AreInOrder, AreUses}
+use Rattle.mm_check.specs.Rests.{IsNumberWhere, AreInOrder, AreUses}
 
 -- a refusal without where its label lies in memory
 abbrev pub plain_refusal : Refusal → PlainRefusal
@@ -29,13 +29,13 @@ abbrev pub labels_at : List (List ℕ) → List ℕ → List (List ℕ)
 labels_at labels numbers = flat_map (λ number. option_to_list (slice_get labels number)) numbers
 
 -- the verdict where these proofs are incomplete: yes, if there are none
-abbrev pub concluded_with : Conclusion → List ℕ → Verdict
-concluded_with c [] = Yes c.statements c.proofs
-concluded_with c (number ∷ numbers) = Incomplete (labels_at c.labels (number ∷ numbers))
+abbrev pub verdict_where_incomplete : Conclusion → List ℕ → Verdict
+verdict_where_incomplete c [] = Yes c.statements c.proofs
+verdict_where_incomplete c (number ∷ numbers) = Incomplete (labels_at c.labels (number ∷ numbers))
 
 -- a database in which nothing is at fault: yes, unless proofs are incomplete
-abbrev pub concluded : Conclusion → Verdict
-concluded c = concluded_with c c.incomplete
+abbrev pub verdict_of_conclusion : Conclusion → Verdict
+verdict_of_conclusion c = verdict_where_incomplete c c.incomplete
 
 -- the verdict of a fault; none for want of memory
 abbrev pub verdict_of_fault : CheckFault → Option Verdict
@@ -44,30 +44,30 @@ verdict_of_fault (fault.Refused r) = Some (Refused (plain_refusal r))
 verdict_of_fault fault.Memory = None
 
 -- the verdict that an answer tells; none for want of memory
-abbrev pub answered : Result Conclusion CheckFault → Option Verdict
-answered (Ok c) = Some (concluded c)
-answered (Err e) = verdict_of_fault e
+abbrev pub verdict_of_answer : Result Conclusion CheckFault → Option Verdict
+verdict_of_answer (Ok c) = Some (verdict_of_conclusion c)
+verdict_of_answer (Err e) = verdict_of_fault e
 
 -- the answer is yes
 abbrev pub IsYes : Result Conclusion CheckFault → Type 0
-IsYes answer = (statements proofs : ℕ) × (answered answer ≡ Some (Yes statements proofs))
+IsYes answer = (statements proofs : ℕ) × (verdict_of_answer answer ≡ Some (Yes statements proofs))
 
 -- the answer is that a step of a proof passes the limit on expressions
 abbrev pub IsOverLimit : Result Conclusion CheckFault → Type 0
-IsOverLimit answer = (refusal : PlainRefusal) × (answered answer ≡ Some (Refused refusal)) × (refusal.rule ≡ L1)
+IsOverLimit answer = (refusal : PlainRefusal) × (verdict_of_answer answer ≡ Some (Refused refusal)) × (refusal.rule ≡ L1)
 
 -- memory was wanting
 abbrev pub IsWantOfMemory : Result Conclusion CheckFault → Type 0
-IsWantOfMemory answer = answered answer ≡ None
+IsWantOfMemory answer = verdict_of_answer answer ≡ None
 
 -- The answer is the verdict over the files, unless memory was wanting.
 abbrev pub IsVerdict : List PlainFile → Result Conclusion CheckFault → Type 0
-IsVerdict files answer = (verdict : Verdict) → answered answer ≡ Some verdict → HasVerdict files verdict
+IsVerdict files answer = (verdict : Verdict) → verdict_of_answer answer ≡ Some verdict → HasVerdict files verdict
 
 -- A verdict that holds of the files is the one answered, unless memory was wanting.
 abbrev pub IsOnlyVerdict : List PlainFile → Result Conclusion CheckFault → Type 0
 IsOnlyVerdict files answer =
-    (verdict : Verdict) → HasVerdict files verdict → IsWantOfMemory answer ⊎ (answered answer ≡ Some verdict)
+    (verdict : Verdict) → HasVerdict files verdict → IsWantOfMemory answer ⊎ (verdict_of_answer answer ≡ Some verdict)
 
 -- the labels kept are those of the statements that the files hold
 abbrev pub KeepsLabels : List PlainFile → Conclusion → Type 0
@@ -83,7 +83,7 @@ KeepsCounts files c =
 -- what is kept of these statements: what they say, the numbers of the incomplete proofs, and what the complete ones use
 pub record IsKeptOf (statements : List PlainStatement) (c : Conclusion) : Type 0 where
   pub sentences : c.sentences ≡ sentences statements
-  pub incomplete : AreInOrder (IsNumberOf statements (λ s. is_unproved s ≡ true)) c.incomplete
+  pub incomplete : AreInOrder (IsNumberWhere statements (λ s. is_unproved s ≡ true)) c.incomplete
   pub uses : AreUses statements c.uses
 
 -- it is kept of the statements that the files hold
@@ -94,4 +94,4 @@ KeepsUses files c =
 -- the file in which a statement or a token is refused is one of the files
 abbrev pub NamesFile : List PlainFile → Result Conclusion CheckFault → Type 0
 NamesFile files answer =
-    (refusal : PlainRefusal) → answered answer ≡ Some (Refused refusal) → refusal.file < length files
+    (refusal : PlainRefusal) → verdict_of_answer answer ≡ Some (Refused refusal) → refusal.file < length files

@@ -6,8 +6,8 @@ use Rattle.mm_text.specs.Statement.{PlainStatement, bytes_in}
 use Rattle.mm_text.specs.Files.{PlainFile, BreaksLoad}
 use Rattle.mm_text.specs.Reading.{PlainFault, Reads}
 use Rattle.mm_text.specs.Remaining.{Remaining}
-use Rattle.mm_frame.specs.Sentence.{Sentence, said}
-use Rattle.mm_frame.specs.Numbers.{labelled}
+use Rattle.mm_frame.specs.Sentence.{Sentence, sentence_of}
+use Rattle.mm_frame.specs.Numbers.{labelled_sentences}
 use Rattle.mm_proof.specs.declared.fault.ProofRule.{ProofRule}
 use Rattle.mm_proof.specs.declared.fault.ProofFault.{ProofFault}
 use Rattle.mm_proof.specs.Answer.{OnRule}
@@ -19,7 +19,7 @@ use Rattle.mm_check.specs.declared.progress.Progress.{Progress}
 use Rattle.mm_check.specs.Verdict.{Verdict, HasVerdict, Load, Refused, HasFault, Obeys, AllObey, CanBeRead, refusal_of, text_refusal, load_rule, proof_rule, sentences, proof_of, proofs_of, labels_of, unproved_of, is_incomplete, is_proof, is_unproved}
 use Rattle.mm_check.specs.Answer.{verdict_of_fault}
 use Rattle.mm_check.specs.Conclusion.{ProofUses}
-use Rattle.mm_check.specs.Rests.{tree_of, IsNumberOf, AreInOrder, AreUses}
+use Rattle.mm_check.specs.Rests.{tree_of, IsNumberWhere, AreInOrder, AreUses}
 
 -- Memory was wanting, or the statement, which comes after so many others, is refused for its fault.
 abbrev pub RefusesAfter : List PlainFile → List Sentence → ℕ → PlainStatement → CheckFault → Type 0
@@ -49,13 +49,13 @@ TakesNext old false s new = (old.statements ≡ []) × (old.ending ≡ None) × 
 -- the last of the statements is this `$p`, which has the number
 pub record IsLastProof (statements : List Sentence) (id : ℕ) (s : PlainStatement) : Type 0 where
   pub before : List Sentence
-  pub whole : statements ≡ before ++ said s ∷ []
-  pub number : id ≡ length (labelled before)
+  pub whole : statements ≡ before ++ sentence_of s ∷ []
+  pub number : id ≡ length (labelled_sentences before)
   pub provable : s.kind ≡ Provable
 
 -- the proof of a `$p` after the statements before is proved, and these are the numbers of the assertions in its tree
 pub record IsProvedUsing (before : List Sentence) (s : PlainStatement) (used : List ℕ) : Type 0 where
-  pub proof : IsProvedWithin (IsWithin expression_limit) before (said s) (proof_of s)
+  pub proof : IsProvedWithin (IsWithin expression_limit) before (sentence_of s) (proof_of s)
   pub all : AreUsed before (tree_of proof) used
 
 -- the proof is incomplete; or it is complete, and proved
@@ -66,12 +66,12 @@ IsJudged before s (Some used) = (is_incomplete (proof_of s) ≡ false) × IsProv
 -- its proof is complete, and this is its fault; or memory was wanting
 abbrev pub Fails : List Sentence → PlainStatement → ProofFault → Type 0
 Fails before s fault = OnRule fault (λ rule step.
-    (is_incomplete (proof_of s) ≡ false) × IsFault (IsWithin expression_limit) before (said s) (proof_of s) rule step)
+    (is_incomplete (proof_of s) ≡ false) × IsFault (IsWithin expression_limit) before (sentence_of s) (proof_of s) rule step)
 
 -- the verdict on the proof of the last statement
 abbrev pub JudgesProof : List Sentence → PlainStatement → Result (Option (List ℕ)) ProofFault → Type 0
 JudgesProof statements s result =
-    (before : List Sentence) → statements ≡ before ++ said s ∷ [] → MatchResult result (IsJudged before s) (Fails before s)
+    (before : List Sentence) → statements ≡ before ++ sentence_of s ∷ [] → MatchResult result (IsJudged before s) (Fails before s)
 
 -- of a statement with this number, after those before it, what its proof uses is kept, if that is complete
 pub record KeepsProof (before : List Sentence) (s : PlainStatement) (id : ℕ) (complete : Bool) (old new : List ProofUses) : Type 0 where
@@ -81,14 +81,14 @@ pub record KeepsProof (before : List Sentence) (s : PlainStatement) (id : ℕ) (
 
 -- the proof of the last statement was counted, and what it uses kept, or it was noted as incomplete
 pub record CountsProof (old : Progress) (id : ℕ) (s : PlainStatement) (new : Progress) : Type 0 where
-  pub proved : (before : List Sentence) → old.book.statements ≡ before ++ said s ∷ []
-      → is_incomplete (proof_of s) ≡ false → IsProvedWithin (IsWithin expression_limit) before (said s) (proof_of s)
+  pub proved : (before : List Sentence) → old.book.statements ≡ before ++ sentence_of s ∷ []
+      → is_incomplete (proof_of s) ≡ false → IsProvedWithin (IsWithin expression_limit) before (sentence_of s) (proof_of s)
   pub book : new.book ≡ old.book
   pub count : new.count ≡ old.count
   pub proofs : new.proofs ≡ old.proofs + (if is_incomplete (proof_of s) then 0 else 1)
   pub incomplete : map (λ id. id.0) new.incomplete.items
       ≡ map (λ id. id.0) old.incomplete.items ++ (if is_incomplete (proof_of s) then id ∷ [] else [])
-  pub kept : (before : List Sentence) → old.book.statements ≡ before ++ said s ∷ []
+  pub kept : (before : List Sentence) → old.book.statements ≡ before ++ sentence_of s ∷ []
       → KeepsProof before s id (not (is_incomplete (proof_of s))) old.kept new.kept
 
 -- Memory was wanting, or the last statement is refused for the fault of its proof.
@@ -96,20 +96,20 @@ abbrev pub RefusesProof : List PlainFile → Progress → PlainStatement → Che
 RefusesProof files old s fault =
     (verdict_of_fault fault ≡ None)
     ⊎ ((rule : ProofRule) × (step : ℕ) × (is_incomplete (proof_of s) ≡ false)
-    × ((before : List Sentence) → old.book.statements ≡ before ++ said s ∷ []
-    → IsFault (IsWithin expression_limit) before (said s) (proof_of s) rule step)
+    × ((before : List Sentence) → old.book.statements ≡ before ++ sentence_of s ∷ []
+    → IsFault (IsWithin expression_limit) before (sentence_of s) (proof_of s) rule step)
     × (verdict_of_fault fault ≡ Some (Refused (refusal_of files old.count s (proof_rule rule) step))))
 
 -- The statement obeys the rules, and is taken into the progress.
 pub record Takes (old : Progress) (s : PlainStatement) (new : Progress) : Type 0 where
   pub obeys : Obeys old.book.statements s
-  pub statements : new.book.statements ≡ old.book.statements ++ said s ∷ []
+  pub statements : new.book.statements ≡ old.book.statements ++ sentence_of s ∷ []
   pub bytes : new.book.bytes ≡ old.book.bytes + bytes_in s
   pub count : new.count ≡ old.count + 1
   pub proofs : new.proofs ≡ old.proofs + (if is_proof s then 1 else 0)
   pub incomplete : map (λ id. id.0) new.incomplete.items
-      ≡ map (λ id. id.0) old.incomplete.items ++ (if is_unproved s then length (labelled old.book.statements) ∷ [] else [])
-  pub kept : KeepsProof old.book.statements s (length (labelled old.book.statements)) (is_proof s) old.kept new.kept
+      ≡ map (λ id. id.0) old.incomplete.items ++ (if is_unproved s then length (labelled_sentences old.book.statements) ∷ [] else [])
+  pub kept : KeepsProof old.book.statements s (length (labelled_sentences old.book.statements)) (is_proof s) old.kept new.kept
 
 -- what the progress knows of the statements so far
 pub record Knows (statements : List PlainStatement) (p : Progress) : Type 0 where
@@ -118,7 +118,7 @@ pub record Knows (statements : List PlainStatement) (p : Progress) : Type 0 wher
   pub count : p.count ≡ length statements
   pub proofs : p.proofs ≡ proofs_of statements
   pub incomplete : map (λ id. slice_get (labels_of statements) id.0) p.incomplete.items ≡ map Some (unproved_of statements)
-  pub noted : AreInOrder (IsNumberOf statements (λ s. is_unproved s ≡ true)) (map (λ id. id.0) p.incomplete.items)
+  pub noted : AreInOrder (IsNumberWhere statements (λ s. is_unproved s ≡ true)) (map (λ id. id.0) p.incomplete.items)
   pub kept : AreUses statements p.kept
 
 -- The statements so far and those that are left are the reading of the files, and those so far obey the rules.

@@ -17,10 +17,10 @@ abbrev pub uses_in : List LabelId → List KeptProof → List ProofUses
 uses_in labels proofs = map (uses_at labels) proofs
 
 -- the proof has a range of what stands before a place
-pub record IsWithin (place : ℕ) (p : KeptProof) : Type 0 where
+pub record IsRangeWithin (place : ℕ) (p : KeptProof) : Type 0 where
   pub order : p.start ≤ p.end
   pub within : p.end ≤ place
 
 -- each of them has
-abbrev pub AreWithin : ℕ → List KeptProof → Type 0
-AreWithin place proofs = (i : ℕ) (p : KeptProof) → slice_get proofs i ≡ Some p → IsWithin place p
+abbrev pub AreRangesWithin : ℕ → List KeptProof → Type 0
+AreRangesWithin place proofs = (i : ℕ) (p : KeptProof) → slice_get proofs i ≡ Some p → IsRangeWithin place p

@@ -9,7 +9,7 @@ use Rattle.mm_check.specs.declared.rule.Rule.{Rule}
 use Rattle.mm_check.specs.declared.rule.Rule.TheVariants.{F1, F2, F3, X1, X2, X3, X4, X5, X6, X7, X8, X9, S1, S2, S3, S4, S5, S6, S7, M1, M2, M3, M4, M5, M6, M7, M8, M9, M10, M11, M12, M13, M14, M15, P1, P2, P3, P4, P5, P6, P7, P8, P9, P10, P11, P12, P13, P14, L1, L2, A1, A2, A3}
 use Rattle.mm_check.specs.declared.fault.CheckFault.{CheckFault}
 use Rattle.mm_check.specs.Conclusion.{Conclusion}
-use Rattle.mm_check.specs.Answer.{answered, labels_at}
+use Rattle.mm_check.specs.Answer.{verdict_of_answer, labels_at}
 use Rattle.mm_check.specs.declared.ask.AskFault.{AskFault}
 use Rattle.mm_check.specs.declared.ask.AskFault.TheVariants as ask
 use Rattle.mm_check.specs.declared.command.Command.{Command}
@@ -116,7 +116,7 @@ status_of (Yes statements proofs) = 0
 
 -- The text is that of the verdict that the answer tells.
 abbrev pub Tells : List PlainFile → Result Conclusion CheckFault → List ℕ → Type 0
-Tells files answer text = MatchOption (answered answer) ⊥ (λ verdict. text ≡ text_of files verdict)
+Tells files answer text = MatchOption (verdict_of_answer answer) ⊥ (λ verdict. text ≡ text_of files verdict)
 
 -- This is the text and the status of the reply to `check`.
 pub record IsReply (files : List PlainFile) (text : List ℕ) (status : ℕ) : Type 0 where

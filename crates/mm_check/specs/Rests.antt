@@ -4,7 +4,7 @@
 use Rattle.std.specs.Prelude.{◌≡◌, ◌≢◌, ℕ, ◌<◌, List, take, slice_get, Contains, Bool, true, Some, ◌↔◌}
 use Rattle.mm_text.specs.declared.statement.Kind.TheVariants.{Axiom, Provable}
 use Rattle.mm_text.specs.Statement.{PlainStatement}
-use Rattle.mm_frame.specs.Sentence.{Sentence, said, IsLabelled}
+use Rattle.mm_frame.specs.Sentence.{Sentence, sentence_of, IsLabelled}
 use Rattle.mm_frame.specs.Numbers.{IsNumbered}
 use Rattle.mm_proof.specs.Tree.{Trees, none, tree}
 use Rattle.mm_proof.specs.Proof.{IsProvedWithin, IsProved}
@@ -19,11 +19,11 @@ use Rattle.mm_check.specs.Verdict.{proof_of, is_proof, is_unproved, sentences}
 -- the labelled statement with a number, and its place
 pub record IsAt (statements : List PlainStatement) (id place : ℕ) (s : PlainStatement) : Type 0 where
   pub there : slice_get statements place ≡ Some s
-  pub numbered : IsNumbered (sentences statements) id place (said s)
+  pub numbered : IsNumbered (sentences statements) id place (sentence_of s)
 
 -- the statement with the number is so
-abbrev pub IsNumberOf : List PlainStatement → (PlainStatement → Type 0) → ℕ → Type 0
-IsNumberOf statements P id = (place : ℕ) × (s : PlainStatement) × IsAt statements id place s × P s
+abbrev pub IsNumberWhere : List PlainStatement → (PlainStatement → Type 0) → ℕ → Type 0
+IsNumberWhere statements P id = (place : ℕ) × (s : PlainStatement) × IsAt statements id place s × P s
 
 -- each number is less than those after it: the order is that of the database, and none stands twice
 abbrev pub AreRising : List ℕ → Type 0
@@ -46,7 +46,7 @@ pub record HasTree (statements : List PlainStatement) (id place : ℕ) (t : Tree
   pub s : PlainStatement
   pub at : IsAt statements id place s
   pub complete : is_proof s ≡ true
-  pub proof : IsProved (sentences (take place statements)) (said s) (proof_of s)
+  pub proof : IsProved (sentences (take place statements)) (sentence_of s) (proof_of s)
   pub spelled : t ≡ tree_of proof
 
 -- the second number is that of an assertion in the tree of the proof of the first
@@ -56,7 +56,7 @@ Uses statements id used =
 
 -- these are the uses of all complete proofs: of each its number, and those of the assertions in its tree
 pub record AreUses (statements : List PlainStatement) (uses : List ProofUses) : Type 0 where
-  pub proofs : AreInOrder (IsNumberOf statements (λ s. is_proof s ≡ true)) (numbers_of uses)
+  pub proofs : AreInOrder (IsNumberWhere statements (λ s. is_proof s ≡ true)) (numbers_of uses)
   pub each : (u : ProofUses) → Contains uses u
       → (place : ℕ) × (t : Trees) × HasTree statements u.number place t
       × AreUsed (sentences (take place statements)) t u.used
@@ -76,7 +76,7 @@ RestsOn Uses theorem id = (set : ℕ → Bool) → IsClosed Uses theorem set →
 
 -- a statement with this number has the label, and is so
 abbrev pub IsNamed : List PlainStatement → List ℕ → (PlainStatement → Type 0) → ℕ → Type 0
-IsNamed statements label P = IsNumberOf statements (λ s. IsLabelled label (said s) × P s)
+IsNamed statements label P = IsNumberWhere statements (λ s. IsLabelled label (sentence_of s) × P s)
 
 -- why a question about the theorem with a label has no answer: no statement has it; it isn't that of a `$p`; the proof is
 -- incomplete
@@ -91,6 +91,6 @@ pub record IsReport (statements : List PlainStatement) (label : List ℕ) (axiom
   pub id : ℕ
   pub theorem : IsNamed statements label (λ s. is_proof s ≡ true) id
   pub are_axioms : AreInOrder
-      (λ n. IsNumberOf statements (λ s. s.kind ≡ Axiom) n × RestsOn (Uses statements) id n) axioms
+      (λ n. IsNumberWhere statements (λ s. s.kind ≡ Axiom) n × RestsOn (Uses statements) id n) axioms
   pub are_unproved : AreInOrder
-      (λ n. IsNumberOf statements (λ s. is_unproved s ≡ true) n × RestsOn (Uses statements) id n) unproved
+      (λ n. IsNumberWhere statements (λ s. is_unproved s ≡ true) n × RestsOn (Uses statements) id n) unproved

@@ -13,7 +13,7 @@ use Rattle.mm_text.specs.Files.{PlainFile, BreaksLoad}
 use Rattle.mm_text.specs.Reading.{PlainFault, Reads}
 use Rattle.mm_frame.specs.declared.rule.MeaningRule.{MeaningRule}
 use Rattle.mm_frame.specs.declared.rule.MeaningRule.TheVariants as meaning
-use Rattle.mm_frame.specs.Sentence.{Sentence, said}
+use Rattle.mm_frame.specs.Sentence.{Sentence, sentence_of}
 use Rattle.mm_frame.specs.Rules.{FirstBroken, IsMeant}
 use Rattle.mm_proof.specs.declared.fault.ProofRule.{ProofRule}
 use Rattle.mm_proof.specs.declared.fault.ProofRule.TheVariants as proof
@@ -145,13 +145,13 @@ abbrev pub is_proof : PlainStatement → Bool
 is_proof s = is_provable s.kind && not (is_incomplete (proof_of s))
 
 abbrev pub sentences : List PlainStatement → List Sentence
-sentences statements = map said statements
+sentences statements = map sentence_of statements
 
 -- The statement obeys the rules after those before it: it breaks no rule of meaning, and as a `$p` with a complete proof it
 -- is proved, each step within the limit.
 pub record Obeys (before : List Sentence) (s : PlainStatement) : Type 0 where
-  pub meant : IsMeant before (said s)
-  pub proved : is_proof s ≡ true → IsProvedWithin (IsWithin expression_limit) before (said s) (proof_of s)
+  pub meant : IsMeant before (sentence_of s)
+  pub proved : is_proof s ≡ true → IsProvedWithin (IsWithin expression_limit) before (sentence_of s) (proof_of s)
 
 -- each of the statements does
 abbrev pub AllObey : List PlainStatement → Type 0
@@ -161,9 +161,9 @@ AllObey statements =
 -- The fault of a statement: the first rule of meaning that it breaks, else the first fault of its proof, if that is complete.
 abbrev pub HasFault : List Sentence → PlainStatement → Rule → ℕ → Type 0
 HasFault before s rule step =
-    ((broken : MeaningRule) × FirstBroken broken before (said s) × (rule ≡ meaning_rule broken) × (step ≡ 0))
-    ⊎ (IsMeant before (said s) × (is_proof s ≡ true)
-    × (broken : ProofRule) × IsFault (IsWithin expression_limit) before (said s) (proof_of s) broken step × (rule ≡ proof_rule broken))
+    ((broken : MeaningRule) × FirstBroken broken before (sentence_of s) × (rule ≡ meaning_rule broken) × (step ≡ 0))
+    ⊎ (IsMeant before (sentence_of s) × (is_proof s ≡ true)
+    × (broken : ProofRule) × IsFault (IsWithin expression_limit) before (sentence_of s) (proof_of s) broken step × (rule ≡ proof_rule broken))
 
 -- The first statement at fault, after statements that obey the rules.
 pub record RefusesStatement (files : List PlainFile) (statements : List PlainStatement) (refusal : PlainRefusal) : Type 0 where
@@ -230,6 +230,6 @@ pub record ObeyTheProfile (files : List PlainFile) : Type 0 where
   pub statements : List PlainStatement
   pub reading : Reads files statements None
   pub meant : (before after : List PlainStatement) (s : PlainStatement) → statements ≡ before ++ s ∷ after
-      → IsMeant (sentences before) (said s)
+      → IsMeant (sentences before) (sentence_of s)
   pub proved : (before after : List PlainStatement) (s : PlainStatement) → statements ≡ before ++ s ∷ after → s.kind ≡ Provable
-      → (is_incomplete (proof_of s) ≡ false) × IsProved (sentences before) (said s) (proof_of s)
+      → (is_incomplete (proof_of s) ≡ false) × IsProved (sentences before) (sentence_of s) (proof_of s)

@@ -1,12 +1,13 @@
 //! A database in which nothing is at fault.
 
-ghost use Rattle.std.specs.Prelude.{◌≡◌, ◌<◌, ◌↔◌, List, [], map, length, slice_get, Contains, true, Some, IsTrue, IfOk, IfErr};
+ghost use Rattle.std.specs.Prelude.{◌≡◌, ◌<◌, ◌↔◌, List, [], map, length, slice_get, Contains};
+ghost use Rattle.std.specs.Prelude.{true, Some, IsTrue, IfOk, IfErr};
 ghost use Rattle.std.specs.List.{AllByRecursion};
 
 use crate::ask::AskFault;
 use crate::kept::Kept;
 use crate::progress::Progress;
-use crate::report::{Report, axioms_among, marked_among, reached};
+use crate::report::{Report, axioms_among, marked_among, reach};
 use mm_frame::{Book, Found, LabelId, LabelKind};
 use std::alloc::Global;
 use std::marker::Model;
@@ -52,7 +53,7 @@ fn is_among(numbers: &[LabelId], id: LabelId) -> bool
 
 impl<'a> Checked<'a> {
     ghost use Rattle.mm_text.specs.Statement.{PlainStatement};
-    ghost use Rattle.mm_frame.specs.Numbers.{labelled};
+    ghost use Rattle.mm_frame.specs.Numbers.{labelled_sentences};
     ghost use Rattle.mm_frame.specs.Form.{IsSound};
     ghost use Rattle.mm_check.specs.Conclusion.{labels_in};
     ghost use Rattle.mm_check.specs.Marks.{IsKeptWell, UsedIn};
@@ -119,7 +120,7 @@ impl<'a> Checked<'a> {
 
     /// The number of the `$p` with a complete proof that has this label.
     fn theorem(&self, label: &[u8]) -> Result<LabelId, AskFault>
-        ensures within { IfOk result (λ id. id.0 < length (labelled self.now.sentences)) }
+        ensures within { IfOk result (λ id. id.0 < length (labelled_sentences self.now.sentences)) }
         ensures found { IfOk result (λ id. (statements : List PlainStatement)
             → IsKeptOf statements self.now
             → IsNamed statements label.now (λ s. is_proof s ≡ true) id.0) }
@@ -158,10 +159,11 @@ impl<'a> Checked<'a> {
         // Each number is that of a label.
         ensures in_range { IfOk result (λ report.
             AllByRecursion (λ n. n < length self.now.labels) (map (λ id. id.0) report.axioms.items)
-            × AllByRecursion (λ n. n < length self.now.labels) (map (λ id. id.0) report.unproved.items)) }
+            × AllByRecursion (λ n. n < length self.now.labels)
+            (map (λ id. id.0) report.unproved.items)) }
     {
         let theorem = self.theorem(label)?;
-        let marks = reached(alloc, &self.kept, theorem)?;
+        let marks = reach(alloc, &self.kept, theorem)?;
         let axioms = axioms_among(alloc, &self.book, &marks, theorem)?;
         let unproved = marked_among(alloc, &self.incomplete, &marks)?;
         Ok(Report { axioms, unproved })

@@ -71,7 +71,8 @@ pub fn run<W: Write>(
     ensures reply { IfOk result (λ status. Writes (map plain_file files.now) command.now
         (number_of status) (W.contents (inner_of out.old)) (W.contents (inner_of out.new))) }
     ensures device { IsErrOf result RunFault.Device → WritesBeginningOf
-        (map plain_file files.now) command.now (W.contents (inner_of out.old)) (W.contents (inner_of out.new)) }
+        (map plain_file files.now) command.now (W.contents (inner_of out.old))
+        (W.contents (inner_of out.new)) }
     ensures memory { IsErrOf result RunFault.Memory → inner_of out.new ≡ inner_of out.old }
     ensures counted { IsErrOf result RunFault.Device ↔ (faults_of out.new ≡ faults_of out.old + 1) }
     ensures uncounted { ¬ IsErrOf result RunFault.Device → faults_of out.new ≡ faults_of out.old }

@@ -8,7 +8,8 @@ use std::alloc::{AllocError, AllocFailed};
 use thiserror::Error;
 
 /// The first statement at fault, and its rule.
-#[derive(Clone, Copy, Debug, Drop)]
+#[derive(Clone, Copy, Debug, Drop, Error)]
+#[error("file {file}, line {line}: statement {statement} breaks {rule:?}, step {step}")]
 pub struct Refusal<'a> {
     /// The number of the handed file, from 0.
     pub file: usize,
@@ -31,7 +32,7 @@ pub enum CheckFault<'a> {
     #[error("the files break {0:?}")]
     Load(Rule),
     /// A statement is at fault.
-    #[error("file {file}, line {line}: statement {statement} breaks {rule:?}, step {step}", file = .0.file, line = .0.line, statement = .0.statement, rule = .0.rule, step = .0.step)]
+    #[error("{0}")]
     Refused(Refusal<'a>),
     /// A growth was refused.
     #[error("out of memory")]

@@ -1,15 +1,17 @@
 //! The verdict over one statement.
 
-ghost use Rattle.std.specs.Prelude.{◌≡◌, ◌+◌, ◌<◌, ◌≤◌, ◌^◌, ℕ, true, false, map, length, take, OnOk, IfOk, IfErr, Some, option_map};
+ghost use Rattle.std.specs.Prelude.{◌≡◌, ◌+◌, ◌<◌, ◌≤◌, ◌^◌, ℕ, true, false, map, length, take};
+ghost use Rattle.std.specs.Prelude.{OnOk, IfOk, IfErr, Some, option_map};
 ghost use Rattle.mm_text.specs.declared.statement.Kind.TheVariants.{Closing};
 ghost use Rattle.mm_text.specs.Statement.{plain_statement, HasForm, bytes_in};
 ghost use Rattle.mm_text.specs.Files.{plain_file};
-ghost use Rattle.mm_frame.specs.Sentence.{Sentence, said, said_by};
-ghost use Rattle.mm_frame.specs.Active.{openings, closings};
+ghost use Rattle.mm_frame.specs.Sentence.{Sentence, sentence_of, sentence_in};
+ghost use Rattle.mm_frame.specs.Active.{open_marks, close_marks};
 ghost use Rattle.mm_frame.specs.Rules.{IsMeant};
 ghost use Rattle.mm_proof.specs.Steps.{IsProofNumber};
 ghost use Rattle.mm_check.specs.Verdict.{refusal_of, proof_of, is_incomplete};
-ghost use Rattle.mm_check.specs.Judged.{Takes, RefusesAfter, IsLastProof, JudgesProof, CountsProof, RefusesProof};
+ghost use Rattle.mm_check.specs.Judged.{Takes, RefusesAfter, IsLastProof, JudgesProof, CountsProof};
+ghost use Rattle.mm_check.specs.Judged.{RefusesProof};
 ghost use Rattle.mm_check.specs.Answer.{plain_refusal};
 
 use crate::fault::{CheckFault, Refusal};
@@ -23,7 +25,8 @@ use std::alloc::{AllocError, Global};
 
 /// The text of the statement's label, if it has one.
 fn label_of<'a>(statement: &Statement<'a>) -> Option<&'a [u8]>
-    ensures { option_map (λ l. l.now) result ≡ option_map (λ t. t.text) (plain_statement statement.now).label }
+    ensures { option_map (λ l. l.now) result
+        ≡ option_map (λ t. t.text) (plain_statement statement.now).label }
 {
     match &statement.label {
         Some(label) => Some(label.text),
@@ -55,7 +58,8 @@ fn refusal<'a>(
 
 /// The texts of the tokens of a statement's proof.
 fn proof_of<'a>(alloc: Global, statement: &Statement<'a>) -> Result<Vec<&'a [u8]>, AllocError>
-    ensures { IfOk result (λ v. map (λ t. t.now) v.items ≡ proof_of (plain_statement statement.now)) }
+    ensures { IfOk result (λ v. map (λ t. t.now) v.items
+        ≡ proof_of (plain_statement statement.now)) }
 {
     let mut tokens = Vec::with_capacity(alloc, statement.proof.len())?;
     for token in &statement.proof {
@@ -103,8 +107,10 @@ fn prove<'a>(
     requires room { bytes_in (plain_statement statement.now) ≤ 1073741824 }
     requires count { progress.old.count < 2 ^ 63 }
     requires proofs { progress.old.proofs < 2 ^ 63 }
-    ensures ok { OnOk result (CountsProof progress.old id.0 (plain_statement statement.now) progress.new) }
-    ensures refused { IfErr result (RefusesProof (map plain_file files.now) progress.old (plain_statement statement.now)) }
+    ensures ok { OnOk result (CountsProof progress.old id.0
+        (plain_statement statement.now) progress.new) }
+    ensures refused { IfErr result (RefusesProof (map plain_file files.now) progress.old
+        (plain_statement statement.now)) }
 {
     match judge_proof(alloc, prover, &progress.book, id, statement) {
         Ok(Some(used)) => {
@@ -132,12 +138,14 @@ pub(crate) fn judge<'a>(
 ) -> Result<(), CheckFault<'a>>
     requires formed { HasForm (plain_statement statement.now) }
     requires closes { statement.now.kind ≡ Closing
-        → closings progress.old.book.statements < openings progress.old.book.statements }
-    requires room { progress.old.book.bytes + bytes_in (plain_statement statement.now) ≤ 1073741824 }
+        → close_marks progress.old.book.statements < open_marks progress.old.book.statements }
+    requires room { progress.old.book.bytes
+        + bytes_in (plain_statement statement.now) ≤ 1073741824 }
     requires count { progress.old.count < 2 ^ 62 }
     requires proofs { progress.old.proofs < 2 ^ 62 }
     ensures ok { OnOk result (Takes progress.old (plain_statement statement.now) progress.new) }
-    ensures refused { IfErr result (RefusesAfter (map plain_file files.now) progress.old.book.statements
+    ensures refused { IfErr result (RefusesAfter
+        (map plain_file files.now) progress.old.book.statements
         progress.old.count (plain_statement statement.now)) }
 {
     match progress.book.take(statement) {

@@ -29,11 +29,11 @@ impl Model for Kept {
 
     ghost Value = { List ProofUses };
 
-    ghost use Rattle.mm_check.specs.Ranges.{uses_in, AreWithin};
+    ghost use Rattle.mm_check.specs.Ranges.{uses_in, AreRangesWithin};
 
     ghost view = { λ k. uses_in k.used.items k.proofs.items };
 
-    ghost invariant = { λ k. AreWithin (length k.used.items) k.proofs.items };
+    ghost invariant = { λ k. AreRangesWithin (length k.used.items) k.proofs.items };
 }
 
 impl Kept {

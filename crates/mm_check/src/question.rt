@@ -1,13 +1,17 @@
 //! Whole replies: to `check`, and to questions about a theorem.
 
-ghost use Rattle.std.specs.Prelude.{◌≡◌, ◌<◌, ◌++◌, [], ◌∷◌, List, ℕ, map, length, OnOk, IfOk, IfSome, codes};
+ghost use Rattle.std.specs.Prelude.{◌≡◌, ◌<◌, ◌++◌, [], ◌∷◌, List, ℕ, map, length, OnOk, IfOk};
+ghost use Rattle.std.specs.Prelude.{IfSome, codes};
 ghost use Rattle.std.specs.List.{AllByRecursion};
 ghost use Rattle.mm_text.specs.Statement.{PlainStatement};
 ghost use Rattle.mm_text.specs.Files.{plain_file};
-ghost use Rattle.mm_check.specs.Answer.{answered, labels_at, IsKeptOf};
+ghost use Rattle.mm_check.specs.Answer.{verdict_of_answer, labels_at, IsKeptOf};
 ghost use Rattle.mm_check.specs.Verdict.{labels_of};
 ghost use Rattle.mm_check.specs.Status.{number_of};
-ghost use Rattle.mm_check.specs.Reply.{code_of, line_with, lines_of, status_of as status_at, Tells, IsReply, IsAskReply, IsAxiomsReply, IsQuestionReply, report_text as report_text_at, report_status as report_status_at};
+ghost use Rattle.mm_check.specs.Reply.{code_of, line_with, lines_of, status_of as status_at, Tells};
+ghost use Rattle.mm_check.specs.Reply.{IsReply, IsAskReply, IsAxiomsReply, IsQuestionReply};
+ghost use Rattle.mm_check.specs.Reply.{report_text as report_text_at};
+ghost use Rattle.mm_check.specs.Reply.{report_status as report_status_at};
 
 use crate::ask::AskFault;
 use crate::checked::Checked;
@@ -133,7 +137,8 @@ fn verdict_reply(
     ensures text { IfOk result (λ reply.
         Tells (map plain_file files.now) answer.now reply.text.items) }
     ensures status { IfOk result (λ reply.
-        IfSome (answered answer.now) (λ verdict. number_of reply.status ≡ status_at verdict)) }
+        IfSome (verdict_of_answer answer.now) (λ verdict. number_of reply.status
+        ≡ status_at verdict)) }
 {
     let text = text_of(alloc, files, answer)?;
     let status = status_of(answer);

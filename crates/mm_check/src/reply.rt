@@ -1,11 +1,15 @@
 //! The text of a reply.
 
-ghost use Rattle.std.specs.Prelude.{◌≡◌, ◌<◌, ◌++◌, [], ◌∷◌, map, OnOk, IfOk, IfSome, codes, decimal, length, unwrap_or};
+ghost use Rattle.std.specs.Prelude.{◌≡◌, ◌<◌, ◌++◌, [], ◌∷◌, map, OnOk, IfOk, IfSome, codes};
+ghost use Rattle.std.specs.Prelude.{decimal, length, unwrap_or};
 ghost use Rattle.std.specs.List.{AllByRecursion};
 ghost use Rattle.mm_text.specs.Files.{plain_file};
-ghost use Rattle.mm_check.specs.Reply.{text_of as text_at, status_of as status_at, refusal_status as refusal_status_at, refusal_word, name_of as name_at, code_of, line_with, lines_of, Tells};
+ghost use Rattle.mm_check.specs.Reply.{text_of as text_at, status_of as status_at};
+ghost use Rattle.mm_check.specs.Reply.{refusal_status as refusal_status_at, refusal_word};
+ghost use Rattle.mm_check.specs.Reply.{name_of as name_at, code_of, line_with, lines_of, Tells};
 ghost use Rattle.mm_check.specs.Verdict.{Refused};
-ghost use Rattle.mm_check.specs.Answer.{plain_refusal, labels_at, concluded, answered};
+ghost use Rattle.mm_check.specs.Answer.{plain_refusal, labels_at, verdict_of_conclusion};
+ghost use Rattle.mm_check.specs.Answer.{verdict_of_answer};
 ghost use Rattle.mm_check.specs.Status.{number_of};
 
 use crate::checked::Checked;
@@ -65,7 +69,8 @@ fn label_of<'a>(refusal: &Refusal<'a>) -> &'a [u8]
 
 /// The line that says that the files can't be taken as a whole.
 fn push_load(out: &mut Vec<u8>, rule: Rule) -> Result<(), AllocError>
-    ensures { OnOk result (out.new.items ≡ out.old.items ++ line_with (codes "load") (code_of rule ∷ [])) }
+    ensures { OnOk result (out.new.items ≡ out.old.items
+        ++ line_with (codes "load") (code_of rule ∷ [])) }
 {
     out.extend_from_slice(b"load")?;
     push_word(out, rule.code())?;
@@ -77,7 +82,8 @@ fn push_load(out: &mut Vec<u8>, rule: Rule) -> Result<(), AllocError>
 #[tactic(auto, using(crate::proofs::Lines::five_words))]
 fn push_yes(out: &mut Vec<u8>, statements: usize, proofs: usize) -> Result<(), AllocError>
     ensures { OnOk result (out.new.items ≡ out.old.items
-        ++ line_with (codes "yes") (decimal statements ∷ codes "statements" ∷ decimal proofs ∷ codes "proofs" ∷ [])) }
+        ++ line_with (codes "yes") (decimal statements ∷ codes "statements"
+        ∷ decimal proofs ∷ codes "proofs" ∷ [])) }
 {
     out.extend_from_slice(b"yes")?;
     push_number(out, statements)?;
@@ -140,7 +146,8 @@ fn push_incomplete(
 
 /// The lines of a database in which nothing is at fault.
 fn push_conclusion(out: &mut Vec<u8>, checked: &Checked) -> Result<(), AllocError>
-    ensures { OnOk result (out.new.items ≡ out.old.items ++ text_at [] (concluded checked.now)) }
+    ensures { OnOk result (out.new.items ≡ out.old.items
+        ++ text_at [] (verdict_of_conclusion checked.now)) }
 {
     if checked.is_complete() {
         push_yes(out, checked.statements(), checked.proofs())
@@ -162,7 +169,8 @@ fn refusal_status(rule: Rule) -> Status
 /// The line of a refusal.
 #[tactic(auto, using(crate::proofs::Lines::six_words))]
 fn push_refusal(out: &mut Vec<u8>, files: &[File], refusal: &Refusal) -> Result<(), AllocError>
-    ensures { OnOk result (out.new.items ≡ out.old.items ++ text_at (map plain_file files.now) (Refused (plain_refusal refusal.now))) }
+    ensures { OnOk result (out.new.items ≡ out.old.items
+        ++ text_at (map plain_file files.now) (Refused (plain_refusal refusal.now))) }
 {
     out.extend_from_slice(word_of(refusal.rule))?;
     push_word(out, name_of(files, refusal.file))?;
@@ -194,7 +202,8 @@ pub(crate) fn text_of(
 
 /// The status of the reply that tells an answer.
 pub(crate) fn status_of(answer: &Result<Checked, CheckFault>) -> Status
-    ensures { IfSome (answered answer.now) (λ verdict. number_of result ≡ status_at verdict) }
+    ensures { IfSome (verdict_of_answer answer.now) (λ verdict. number_of result
+        ≡ status_at verdict) }
 {
     match answer {
         Ok(checked) if checked.is_complete() => Status::Done,

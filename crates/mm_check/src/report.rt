@@ -1,8 +1,9 @@
 //! What a theorem rests on.
 
-ghost use Rattle.std.specs.Prelude.{◌≡◌, ◌↔◌, ◌⊎◌, ◌<◌, ◌≤◌, ℕ, map, length, slice_index_or, slice_get, Contains, true, false, IfOk, IsTrue, Some};
+ghost use Rattle.std.specs.Prelude.{◌≡◌, ◌↔◌, ◌⊎◌, ◌<◌, ◌≤◌, ℕ, map, length, slice_index_or};
+ghost use Rattle.std.specs.Prelude.{slice_get, Contains, true, false, IfOk, IsTrue, Some};
 ghost use Rattle.std.specs.List.{AllByRecursion};
-ghost use Rattle.mm_frame.specs.Numbers.{labelled};
+ghost use Rattle.mm_frame.specs.Numbers.{labelled_sentences};
 ghost use Rattle.mm_check.specs.Conclusion.{ProofUses};
 ghost use Rattle.mm_check.specs.Rests.{AreRising, AreInOrder, RestsOn};
 ghost use Rattle.mm_check.specs.Marks.{IsMarked, UsedIn, AreBackward, IsAxiomNumber};
@@ -55,7 +56,7 @@ fn mark(marks: &mut [bool], numbers: &[LabelId])
 ///
 /// Each proof uses earlier assertions alone. So once all proofs from the last one down to some
 /// place were passed, it is settled for each number from there on whether it is marked.
-pub(crate) fn reached(alloc: Global, kept: &Kept, theorem: LabelId) -> Result<Vec<bool>, AllocError>
+pub(crate) fn reach(alloc: Global, kept: &Kept, theorem: LabelId) -> Result<Vec<bool>, AllocError>
     requires { AreBackward kept.now }
     ensures length { IfOk result (λ marks. length marks.items ≡ theorem.0) }
     ensures marks { IfOk result (λ marks. (n : ℕ)
@@ -75,7 +76,7 @@ pub(crate) fn reached(alloc: Global, kept: &Kept, theorem: LabelId) -> Result<Ve
 
 /// Whether a number is marked and that of a `$a`.
 fn is_marked_axiom(book: &Book, marks: &[bool], id: LabelId) -> bool
-    requires { id.0 < length (labelled book.now.statements) }
+    requires { id.0 < length (labelled_sentences book.now.statements) }
     ensures { IsTrue result
         ↔ (IsAxiomNumber book.now.statements id.0 × IsMarked marks.now id.0) }
 {
@@ -93,7 +94,7 @@ pub(crate) fn axioms_among(
     end: LabelId,
 ) -> Result<Vec<LabelId>, AllocError>
     requires marks { length marks.now ≡ end.0 }
-    requires within { end.0 ≤ length (labelled book.now.statements) }
+    requires within { end.0 ≤ length (labelled_sentences book.now.statements) }
     ensures { IfOk result (λ ids. AreInOrder
         (λ n. IsAxiomNumber book.now.statements n × IsMarked marks.now n)
         (map (λ l. l.0) ids.items)) }

@@ -1,13 +1,18 @@
 //! The verdict over a database.
 
-ghost use Rattle.std.specs.Prelude.{◌≡◌, ◌⊎◌, true, map, option_map, [], IfOk, IfErr, OnOk, Ok, IsOkUnless};
+ghost use Rattle.std.specs.Prelude.{◌≡◌, ◌⊎◌, true, map, option_map, [], IfOk, IfErr, OnOk, Ok};
+ghost use Rattle.std.specs.Prelude.{IsOkUnless};
 ghost use Rattle.mm_text.specs.Token.{plain_token};
 ghost use Rattle.mm_text.specs.Statement.{plain_statement, HasForm};
 ghost use Rattle.mm_text.specs.Files.{plain_file};
 ghost use Rattle.mm_text.specs.Remaining.{IsUnread};
-ghost use Rattle.mm_check.specs.Verdict.{ObeyTheProfile, CanBeRead, text_refusal as text_refusal_at};
-ghost use Rattle.mm_check.specs.Answer.{IsYes, IsOverLimit, IsWantOfMemory, IsVerdict, IsOnlyVerdict, KeepsLabels, KeepsCounts, KeepsUses, NamesFile, plain_refusal};
-ghost use Rattle.mm_check.specs.Judged.{TakesNext, RefusesEnd, RefusesLoad, Knows, IsUnderWay, IsAtEnd, TellsVerdict};
+ghost use Rattle.mm_check.specs.Verdict.{ObeyTheProfile, CanBeRead};
+ghost use Rattle.mm_check.specs.Verdict.{text_refusal as text_refusal_at};
+ghost use Rattle.mm_check.specs.Answer.{IsYes, IsOverLimit, IsWantOfMemory, IsVerdict};
+ghost use Rattle.mm_check.specs.Answer.{IsOnlyVerdict, KeepsLabels, KeepsCounts, KeepsUses};
+ghost use Rattle.mm_check.specs.Answer.{NamesFile, plain_refusal};
+ghost use Rattle.mm_check.specs.Judged.{TakesNext, RefusesEnd, RefusesLoad, Knows, IsUnderWay};
+ghost use Rattle.mm_check.specs.Judged.{IsAtEnd, TellsVerdict};
 
 use crate::checked::Checked;
 use crate::fault::{CheckFault, Refusal};
@@ -45,7 +50,13 @@ fn text_refusal<'a>(
     label: Option<Token<'a>>,
 ) -> Refusal<'a>
     ensures { plain_refusal result ≡ text_refusal_at (map plain_file files.now)
-        (record { rule = rule; file = file; at = at; statement = statement; label = option_map plain_token label.entry }) }
+        (record {
+          rule = rule;
+          file = file;
+          at = at;
+          statement = statement;
+          label = option_map plain_token label.entry;
+        }) }
 {
     Refusal {
         file,
@@ -63,7 +74,8 @@ fn next<'a>(
     statements: &mut Statements<'a>,
     into: &mut Statement<'a>,
 ) -> Result<bool, CheckFault<'a>>
-    ensures taken { IfOk result (λ more. TakesNext statements.old more (plain_statement into.new) statements.new) }
+    ensures taken { IfOk result (λ more. TakesNext statements.old more
+        (plain_statement into.new) statements.new) }
     ensures formed { result ≡ Ok true → HasForm (plain_statement into.new) }
     ensures refused { IfErr result (RefusesEnd (map plain_file files.now) statements.old) }
 {

@@ -9,7 +9,7 @@ use Rattle.mm_frame.specs.Sentence.{Sentence}
 use Rattle.mm_frame.specs.Rules.{IsMeant}
 use Rattle.mm_frame.specs.Form.{IsFormedSentence, IsSound}
 use Rattle.mm_frame.specs.ScopesOf.{HaveScopes}
-use Rattle.mm_frame.specs.Layout.{AreTables, AreInfos, AreLabels, AreEntries, AreEssentials, AreFrames, AreStated, IsWithin, sentence_by, statements_of}
+use Rattle.mm_frame.specs.Layout.{AreTables, AreInfos, AreLabelInfos, AreEntries, AreEssentials, AreFrames, AreStated, IsPartWithin, sentence_by, statements_of}
 use Rattle.mm_frame.specs.Grows.{Grows}
 use Rattle.mm_frame.proofs.Meant.{allmeant_push, allformed_push}
 use Rattle.mm_frame.proofs.Entries.{sentences_push, entries_push}
@@ -17,7 +17,7 @@ use Rattle.mm_frame.proofs.Entries.{sentences_push, entries_push}
 -- the lists that are looked up by statement, once they hold one statement more
 pub record AreGrown (t v : Tables) (s : Sentence) : Type 0 where
   pub infos : AreInfos (statements_of t ++ s ∷ []) v.symbols.names v.infos.items
-  pub labels : AreLabels (statements_of t ++ s ∷ []) v.labels.names v.named.items v.log.items
+  pub labels : AreLabelInfos (statements_of t ++ s ∷ []) v.labels.names v.named.items v.log.items
   pub scopes : HaveScopes (statements_of t ++ s ∷ []) v.scopes
   pub essentials : AreEssentials (statements_of t ++ s ∷ []) v.essentials.items
   pub frames : AreFrames (statements_of t ++ s ∷ []) v.hypotheses.items v.pairs.items v.named.items
@@ -30,7 +30,7 @@ pub record AreAppended (t v : Tables) (a b : List (List ℕ)) (c : List Sym) (ne
   pub flat : v.flat.items ≡ t.flat.items ++ c
   pub log : v.log.items ≡ t.log.items ++ new ∷ []
   pub said : sentence_by (t.symbols.names ++ a) (t.labels.names ++ b) (t.flat.items ++ c) new ≡ s
-  pub within : IsWithin new.symbols (length (t.flat.items ++ c))
+  pub within : IsPartWithin new.symbols (length (t.flat.items ++ c))
   pub numbers : (i : ℕ) (n : Sym) → slice_get c i ≡ Some n → n.0 < length (t.symbols.names ++ a)
   pub label : (id : LabelId) → new.label ≡ Some id → id.0 < length (t.labels.names ++ b)
 
@@ -44,7 +44,7 @@ assembled t v s new a b c bytes tables meant formed app grown counted enough roo
     let n : AreEntries v.symbols.names v.labels.names v.flat.items v.log.items = rw (app.symbols, app.labels, app.flat, app.log)
     (entries_push t.symbols.names t.labels.names t.flat.items t.log.items a b c new tables.entries app.within app.numbers app.label) in
     let i : AreInfos (statements_of v) v.symbols.names v.infos.items = rw st grown.infos in
-    let l : AreLabels (statements_of v) v.labels.names v.named.items v.log.items = rw st grown.labels in
+    let l : AreLabelInfos (statements_of v) v.labels.names v.named.items v.log.items = rw st grown.labels in
     let h : HaveScopes (statements_of v) v.scopes = rw st grown.scopes in
     let e : AreEssentials (statements_of v) v.essentials.items = rw st grown.essentials in
     let f : AreFrames (statements_of v) v.hypotheses.items v.pairs.items v.named.items = rw st grown.frames in

@@ -7,12 +7,12 @@ use Rattle.mm_text.specs.declared.statement.Kind.TheVariants.{Opening, Closing, 
 use Rattle.mm_frame.specs.declared.number.Sym.{Sym}
 use Rattle.mm_frame.specs.declared.tables.Tables.{Tables}
 use Rattle.mm_frame.specs.Sentence.{Sentence}
-use Rattle.mm_frame.specs.Active.{openings, closings}
+use Rattle.mm_frame.specs.Active.{open_marks, close_marks}
 use Rattle.mm_frame.specs.Rules.{IsMeant}
 use Rattle.mm_frame.specs.Form.{IsFormedSentence}
 use Rattle.mm_frame.specs.Numbers.{symbols_of, declared_by}
 use Rattle.mm_frame.specs.ScopesOf.{HaveScopes}
-use Rattle.mm_frame.specs.Layout.{AreTables, AreInfos, AreLabels, AreEssentials, AreFrames, AreStated, sentence_by, names_by, statements_of}
+use Rattle.mm_frame.specs.Layout.{AreTables, AreInfos, AreLabelInfos, AreEssentials, AreFrames, AreStated, sentence_by, names_by, statements_of}
 use Rattle.mm_frame.specs.Forgotten.{AreForgotten}
 use Rattle.mm_frame.specs.Grows.{Grows, IsSame, SameLists, Entered, entry_of}
 use Rattle.std.proofs.lemmas.Option.{slice_get_within}
@@ -35,7 +35,7 @@ pub record AddsBlock (t v : Tables) (kind : Kind) (bytes : ℕ) : Type 0 where
   pub flat : v.flat.items ≡ t.flat.items
   pub scopes :
       (statements : List Sentence) (s : Sentence) → HaveScopes statements t.scopes → s.kind ≡ kind
-      → (kind ≡ Closing → closings statements < openings statements) → HaveScopes (statements ++ s ∷ []) v.scopes
+      → (kind ≡ Closing → close_marks statements < open_marks statements) → HaveScopes (statements ++ s ∷ []) v.scopes
   pub hypotheses : v.hypotheses.items ≡ t.hypotheses.items
   pub pairs : v.pairs.items ≡ t.pairs.items
   pub stated : v.distinct.stated ≡ t.distinct.stated
@@ -83,7 +83,7 @@ block_said symbols labels flat kind n s is unlabelled bare =
     ∙ ap (λ k. said_of k None []) (sym is) ∙ ap (λ l. said_of s.kind l []) (sym unlabelled) ∙ ap (λ xs. said_of s.kind s.label xs) (sym bare)
 
 pub block_grows : (t v : Tables) (s : Sentence) (kind : Kind) (bytes : ℕ) → AreTables t → AddsBlock t v kind bytes → s.kind ≡ kind → s.label ≡ None → s.symbols ≡ []
-    → declared_by s ≡ [] → ¬ (s.kind ≡ Floating) → ¬ (s.kind ≡ Distinct) → (kind ≡ Closing → closings (statements_of t) < openings (statements_of t))
+    → declared_by s ≡ [] → ¬ (s.kind ≡ Floating) → ¬ (s.kind ≡ Distinct) → (kind ≡ Closing → close_marks (statements_of t) < open_marks (statements_of t))
     → AreEssentials (statements_of t ++ s ∷ []) v.essentials.items → 1 ≤ bytes → t.bytes + bytes ≤ 1073741824
     → IsMeant (statements_of t) s → IsFormedSentence s → Grows t v s bytes
 block_grows t v s kind bytes tables adds is unlabelled bare none no_float no_distinct more essentials some room meant formed =
@@ -98,7 +98,7 @@ block_grows t v s kind bytes tables adds is unlabelled bare none no_float no_dis
     let ps : v.pairs.items ≡ t.pairs.items ++ [] = adds.pairs ∙ sym (append-nil t.pairs.items) in
     let flat_size : length (t.flat.items ++ []) ≡ n = ap length (append-nil t.flat.items) in
     let i : AreInfos (st ++ s ∷ []) v.symbols.names v.infos.items = rw (adds.symbols, adds.infos) (infos_other st t.symbols.names t.infos.items s tables.infos none no_float) in
-    let l : AreLabels (st ++ s ∷ []) v.labels.names v.named.items v.log.items = rw (adds.labels, adds.named, adds.log)
+    let l : AreLabelInfos (st ++ s ∷ []) v.labels.names v.named.items v.log.items = rw (adds.labels, adds.named, adds.log)
     (labels_none st t.labels.names t.named.items t.log.items s new tables.labels unlabelled refl size) in
     let f : AreFrames (st ++ s ∷ []) v.hypotheses.items v.pairs.items v.named.items = rw (hs, ps, adds.named)
     (frames_other st s t.hypotheses.items [] t.pairs.items [] t.named.items (placed st t.labels.names t.named.items t.log.items tables.labels) tables.frames) in
@@ -127,7 +127,7 @@ open_grows t v s bytes tables adds same is unlabelled bare some room meant forme
     block_grows t v s Opening bytes tables adds is unlabelled bare (rw is refl) (λ k. absurd (cc)) (λ k. absurd (cc)) (λ k. absurd (cc)) e some room meant formed
 
 pub close_grows : (t v : Tables) (s : Sentence) (bytes : ℕ) → AreTables t → AddsBlock t v Closing bytes → AreForgotten (statements_of t ++ s ∷ []) t.essentials.items v.essentials.items
-    → s.kind ≡ Closing → s.label ≡ None → s.symbols ≡ [] → closings (statements_of t) < openings (statements_of t)
+    → s.kind ≡ Closing → s.label ≡ None → s.symbols ≡ [] → close_marks (statements_of t) < open_marks (statements_of t)
     → 1 ≤ bytes → t.bytes + bytes ≤ 1073741824 → IsMeant (statements_of t) s → IsFormedSentence s → Grows t v s bytes
 close_grows t v s bytes tables adds left is unlabelled bare more some room meant formed =
     let before : AreEssentials (statements_of t) (v.essentials.items ++ left.gone) = subst (λ ps. AreEssentials (statements_of t) ps) left.parted tables.essentials in
@@ -136,7 +136,7 @@ close_grows t v s bytes tables adds left is unlabelled bare more some room meant
 
 -- the active `$e` after a `$}`
 pub closing_left : (t w : Tables) (s : Sentence) (bytes at : ℕ) (after : List ℕ) → AreTables t → AddsBlock t w Closing bytes → w.essentials.items ≡ t.essentials.items → s.kind ≡ Closing
-    → closings (statements_of t) < openings (statements_of t) → at ≡ length w.log.items
+    → close_marks (statements_of t) < open_marks (statements_of t) → at ≡ length w.log.items
     → ((statements : List Sentence) → HaveScopes statements w.scopes → length statements ≤ NEVER → at ≡ length statements
     → ((i p : ℕ) → slice_get w.essentials.items i ≡ Some p → p < at) → AreForgotten statements w.essentials.items after)
     → AreForgotten (statements_of t ++ s ∷ []) t.essentials.items after

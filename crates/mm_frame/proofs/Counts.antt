@@ -5,16 +5,16 @@ use Rattle.std.proofs.Math.Seq.{take-append_seam, take-add, take-length}
 use Rattle.std.proofs.lemmas.List.Sums.{sum_by-append}
 use Rattle.std.proofs.lemmas.Bool.{cases_lt}
 use Rattle.mm_frame.specs.Sentence.{Sentence}
-use Rattle.mm_frame.specs.Active.{is_opening, is_closing, openings, closings}
+use Rattle.mm_frame.specs.Active.{is_opening, is_closing, open_marks, close_marks}
 use Rattle.mm_frame.specs.Scopes.{IsUnclosed}
 
 pub count_append : {X : Type 0} (p : X → Bool) (xs ys : List X) → count_by p (xs ++ ys) ≡ count_by p xs + count_by p ys
 count_append p xs ys = sum_by-append (λ x. cond (p x) 1 0) xs ys
 
-pub openings-append : (xs ys : List Sentence) → openings (xs ++ ys) ≡ openings xs + openings ys
+pub openings-append : (xs ys : List Sentence) → open_marks (xs ++ ys) ≡ open_marks xs + open_marks ys
 openings-append xs ys = count_append (λ s. is_opening s.kind) xs ys
 
-pub closings-append : (xs ys : List Sentence) → closings (xs ++ ys) ≡ closings xs + closings ys
+pub closings-append : (xs ys : List Sentence) → close_marks (xs ++ ys) ≡ close_marks xs + close_marks ys
 closings-append xs ys = count_append (λ s. is_closing s.kind) xs ys
 
 -- a front of what lies past a place of a front lies so in the whole list
@@ -31,7 +31,7 @@ pub unclosed_front : (xs : List Sentence) (p x : ℕ) → IsUnclosed xs x → Is
 unclosed_front xs p x open_still n =
     let (m, e) = front_of_front n x p xs in
     let h = open_still m in
-    subst (λ (ys : List Sentence). closings ys ≤ openings ys) (sym e) h
+    subst (λ (ys : List Sentence). close_marks ys ≤ open_marks ys) (sym e) h
 
 -- a front of a list and one more is a front of the list, or is all
 front_cases : {X : Type 0} (xs : List X) (y : X) (n : ℕ) → (take n (xs ++ y ∷ []) ≡ take n xs) ⊎ (take n (xs ++ y ∷ []) ≡ xs ++ y ∷ [])
@@ -42,10 +42,10 @@ front_cases (x ∷ xs) y (suc n) = elim (front_cases xs y n) [ inl e ↦ inl (ap
 
 -- a block stays open after one statement more, if the `$}` are no more than the `${` then
 pub unclosed_pushed : (xs : List Sentence) (e : Sentence) (x : ℕ) → x ≤ length xs → IsUnclosed xs x
-    → closings (drop x xs ++ e ∷ []) ≤ openings (drop x xs ++ e ∷ []) → IsUnclosed (xs ++ e ∷ []) x
+    → close_marks (drop x xs ++ e ∷ []) ≤ open_marks (drop x xs ++ e ∷ []) → IsUnclosed (xs ++ e ∷ []) x
 unclosed_pushed xs e x le open_still last n =
     let same : drop x (xs ++ e ∷ []) ≡ drop x xs ++ e ∷ [] = drop-append-le x xs (e ∷ []) le in
-    let P : List Sentence → Type 0 = λ ys. closings ys ≤ openings ys in
+    let P : List Sentence → Type 0 = λ ys. close_marks ys ≤ open_marks ys in
     elim (front_cases (drop x xs) e n) [
       | inl front ↦ subst P (sym (ap (take n) same ∙ front)) (open_still n)
       | inr all ↦ subst P (sym (ap (take n) same ∙ all)) last
@@ -56,10 +56,10 @@ pub unclosed_before : (xs ys : List Sentence) (x : ℕ) → IsUnclosed (xs ++ ys
 unclosed_before xs ys x open_still = subst (λ zs. IsUnclosed zs x) (take-append_seam xs ys) (unclosed_front (xs ++ ys) (length xs) x open_still)
 
 -- all that lies past the place where an open block begins has no more `$}` than `${`
-pub unclosed_all : (xs : List Sentence) (x : ℕ) → IsUnclosed xs x → closings (drop x xs) ≤ openings (drop x xs)
+pub unclosed_all : (xs : List Sentence) (x : ℕ) → IsUnclosed xs x → close_marks (drop x xs) ≤ open_marks (drop x xs)
 unclosed_all xs x open_still =
     let e : take (length (drop x xs)) (drop x xs) ≡ drop x xs = take-length (drop x xs) in
-    let P : List Sentence → Type 0 = λ ys. closings ys ≤ openings ys in
+    let P : List Sentence → Type 0 = λ ys. close_marks ys ≤ open_marks ys in
     subst P e (open_still (length (drop x xs)))
 
 -- past the end there is nothing
@@ -73,7 +73,7 @@ past_end xs x n le = ap (take n) (drop_of_length-le xs le) ∙ nothing n
 -- what begins at the end is open
 pub unclosed_new : (xs : List Sentence) (x : ℕ) → length xs ≤ x → IsUnclosed xs x
 unclosed_new xs x le n =
-    let P : List Sentence → Type 0 = λ ys. closings ys ≤ openings ys in
+    let P : List Sentence → Type 0 = λ ys. close_marks ys ≤ open_marks ys in
     subst P (sym (past_end xs x n le)) (omega arith)
 
 -- the fronts past a place: those up to a further place, and those that go past it
@@ -91,7 +91,7 @@ front_past xs y d m =
 -- a block that was open where another began inside it, which is open, is open
 pub unclosed_outer : (xs : List Sentence) (x y : ℕ) → y ≤ x → IsUnclosed (take x xs) y → IsUnclosed xs x → IsUnclosed xs y
 unclosed_outer xs x y le outer inner n =
-    let P : List Sentence → Type 0 = λ ys. closings ys ≤ openings ys in
+    let P : List Sentence → Type 0 = λ ys. close_marks ys ≤ open_marks ys in
     let d = x - y in
     let e : y + d ≡ x = omega arith in
     let outer' : IsUnclosed (take (y + d) xs) y = subst (λ k. IsUnclosed (take k xs) y) (sym e) outer in

@@ -9,7 +9,7 @@ use mathlib.Core.List.{List-discrete}
 use Rattle.mm_text.specs.declared.statement.Kind.{Kind}
 use Rattle.mm_text.specs.declared.statement.Kind.TheVariants.{Constants, Variables, Distinct, Floating, Essential, Axiom, Provable, Opening, Closing}
 use Rattle.mm_frame.specs.Sentence.{Sentence, SomeSentence, IsLabelled, Declares, Types}
-use Rattle.mm_frame.specs.Active.{openings, closings, IsOpen, IsActive, SomeActive, IsConstant, IsVariable, IsTyped}
+use Rattle.mm_frame.specs.Active.{open_marks, close_marks, IsOpen, IsActive, SomeActive, IsConstant, IsVariable, IsTyped}
 use Rattle.mm_frame.specs.Frame.{IsMandatory, IsMandatoryAt, IsDistinct}
 
 -- ---- of parts
@@ -105,11 +105,11 @@ contains_dec (y ∷ xs) x = go (symbol_dec y x) (contains_dec xs x)
 -- ---- blocks
 
 -- fronts past the end are the whole
-unclosed_all : (d : List Sentence) → ((n : ℕ) → n < suc (length d) → closings (take n d) ≤ openings (take n d)) → (n : ℕ) → closings (take n d) ≤ openings (take n d)
+unclosed_all : (d : List Sentence) → ((n : ℕ) → n < suc (length d) → close_marks (take n d) ≤ open_marks (take n d)) → (n : ℕ) → close_marks (take n d) ≤ open_marks (take n d)
 unclosed_all d h n = elim (cases_lt n (suc (length d))) [
   | inl less ↦ h n less
   | inr more ↦
-      subst (λ l. closings l ≤ openings l) (take_all (length d) d (omega arith) ∙ sym (take_all n d (omega arith))) (h (length d) (omega arith))
+      subst (λ l. close_marks l ≤ open_marks l) (take_all (length d) d (omega arith) ∙ sym (take_all n d (omega arith))) (h (length d) (omega arith))
 ]
 
 pub open_dec : (before : List Sentence) (place : ℕ) → Dec (IsOpen before place)
@@ -124,8 +124,8 @@ open_dec before place = go (slice_get before place) refl
         (λ h. record { opening = s; there = e; opened = h.0; unclosed = unclosed_all (drop (suc place) before) h.1 })
         (λ o. (ap (λ (t : Sentence). t.kind) (same_Some s o.opening (sym e ∙ o.there)) ∙ o.opened, λ n less. o.unclosed n))
         (dec_both (kind_dec s.kind Opening)
-        (dec_below (suc (length (drop (suc place) before))) (λ n. closings (take n (drop (suc place) before)) ≤ openings (take n (drop (suc place) before)))
-        (λ n. dec_le (closings (take n (drop (suc place) before))) (openings (take n (drop (suc place) before))))))
+        (dec_below (suc (length (drop (suc place) before))) (λ n. close_marks (take n (drop (suc place) before)) ≤ open_marks (take n (drop (suc place) before)))
+        (λ n. dec_le (close_marks (take n (drop (suc place) before))) (open_marks (take n (drop (suc place) before))))))
 
 pub active_dec : (before : List Sentence) (place : ℕ) → Dec (IsActive before place)
 active_dec before place = dec_as

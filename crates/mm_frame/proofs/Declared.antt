@@ -14,12 +14,12 @@ use Rattle.mm_frame.specs.declared.tables.Entry.{Entry}
 use Rattle.mm_frame.specs.declared.tables.Tables.{Tables}
 use Rattle.mm_text.specs.Token.{PlainToken}
 use Rattle.mm_text.specs.Statement.{PlainStatement, HasForm, HasLabel, FitsCount, bytes_in}
-use Rattle.mm_frame.specs.Sentence.{Sentence, said}
+use Rattle.mm_frame.specs.Sentence.{Sentence, sentence_of}
 use Rattle.mm_frame.specs.Active.{IsConstant, IsVariable}
 use Rattle.mm_frame.specs.Numbers.{symbols_of}
 use Rattle.mm_frame.specs.Database.{Database}
 use Rattle.mm_frame.specs.Rules.{IsMeant}
-use Rattle.mm_frame.specs.Form.{IsFormedSentence, IsNamed}
+use Rattle.mm_frame.specs.Form.{IsFormedSentence, HasItsLabel}
 use Rattle.mm_frame.specs.ScopesOf.{HaveScopes}
 use Rattle.mm_frame.specs.Layout.{AreTables, AreInfos, names_by, statements_of}
 use Rattle.mm_frame.specs.Declaring.{IsDeclaration, TakesSymbols}
@@ -164,22 +164,22 @@ pub bytes_enough : (p : PlainStatement) → HasForm p → 1 + length p.symbols �
 bytes_enough p form = let small = symbols_small p.symbols form.symbols in let first = form.first in omega arith
 
 -- a `$c` or `$v` has no label
-declares_unlabelled : (p : PlainStatement) → HasForm p → IsDeclaration p.kind → (said p).label ≡ None
+declares_unlabelled : (p : PlainStatement) → HasForm p → IsDeclaration p.kind → (sentence_of p).label ≡ None
 declares_unlabelled p form which = ap (option_map (λ (t : PlainToken). t.text)) none
   where
     none : p.label ≡ None
     none = elim which [ inl c ↦ subst (λ (k : Kind). HasLabel k p.label) c form.label | inr v ↦ subst (λ (k : Kind). HasLabel k p.label) v form.label ]
 
-declares_formed : (p : PlainStatement) → HasForm p → IsDeclaration p.kind → IsFormedSentence (said p)
+declares_formed : (p : PlainStatement) → HasForm p → IsDeclaration p.kind → IsFormedSentence (sentence_of p)
 declares_formed p form which = record {
   count = subst (FitsCount p.kind) (sym (length-map p.symbols (λ (t : PlainToken). t.text))) form.count;
   label = elim which [
-    | inl c ↦ subst (λ (k : Kind). IsNamed k (said p).label) (sym c) none
-    | inr v ↦ subst (λ (k : Kind). IsNamed k (said p).label) (sym v) none
+    | inl c ↦ subst (λ (k : Kind). HasItsLabel k (sentence_of p).label) (sym c) none
+    | inr v ↦ subst (λ (k : Kind). HasItsLabel k (sentence_of p).label) (sym v) none
   ];
 }
   where
-    none : (said p).label ≡ None
+    none : (sentence_of p).label ≡ None
     none = declares_unlabelled p form which
 
 -- all symbols of the statement will have numbers
@@ -191,14 +191,14 @@ names_fit t p bytes tables form is room =
     omega arith
 
 -- room is made, the symbols are taken in, and the entry is written
-pub declares : (t m d v : Tables) (p : PlainStatement) (start bytes : ℕ) → AreTables t → SameLists t m → IsMeant (statements_of t) (said p) → HasForm p → IsDeclaration p.kind
-    → bytes ≡ bytes_in p → t.bytes + bytes ≤ 1073741824 → TakesSymbols m d p.kind (said p).symbols → start ≡ length m.flat.items → Entered d v p.kind None start bytes → Grows t v (said p) bytes
+pub declares : (t m d v : Tables) (p : PlainStatement) (start bytes : ℕ) → AreTables t → SameLists t m → IsMeant (statements_of t) (sentence_of p) → HasForm p → IsDeclaration p.kind
+    → bytes ≡ bytes_in p → t.bytes + bytes ≤ 1073741824 → TakesSymbols m d p.kind (sentence_of p).symbols → start ≡ length m.flat.items → Entered d v p.kind None start bytes → Grows t v (sentence_of p) bytes
 declares t m d v p start bytes tables lists meant form which is room taken begins entered =
     let same = same_tables t m tables lists in
     let st : statements_of t ≡ statements_of m = sym (ap (λ (d : Database). d.statements) same.same) in
     let count = lists.bytes in
     let size = length-map p.symbols (λ (t : PlainToken). t.text) in
     let enough = bytes_enough p form in
-    grows_from t m v (said p) bytes same
-    (declared m d v (said p) bytes same.tables (subst (λ (xs : List Sentence). IsMeant xs (said p)) st meant) (declares_formed p form which) which (declares_unlabelled p form which) taken
+    grows_from t m v (sentence_of p) bytes same
+    (declared m d v (sentence_of p) bytes same.tables (subst (λ (xs : List Sentence). IsMeant xs (sentence_of p)) st meant) (declares_formed p form which) which (declares_unlabelled p form which) taken
     (subst (λ (n : ℕ). Entered d v p.kind None n bytes) begins entered) (omega arith) (omega arith))

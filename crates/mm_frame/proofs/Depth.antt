@@ -3,7 +3,7 @@ use Rattle.std.proofs.Common.{◌≡◌, ◌↔◌, ℕ, zero, suc, ◌+◌, ◌
 use Rattle.std.specs.List.{slice_get}
 use Rattle.std.proofs.lemmas.Option.{slice_get_within}
 use Rattle.mm_frame.specs.Sentence.{Sentence}
-use Rattle.mm_frame.specs.Active.{openings, closings, IsOpen, IsActive}
+use Rattle.mm_frame.specs.Active.{open_marks, close_marks, IsOpen, IsActive}
 use Rattle.mm_frame.specs.Scopes.{IsUnclosed, AreScopes}
 use Rattle.mm_frame.proofs.Pushed.{get_within}
 use Rattle.mm_frame.proofs.Counts.{unclosed_front}
@@ -11,14 +11,14 @@ use Rattle.mm_frame.proofs.ScopeLaws.{start_within}
 use Rattle.mm_frame.proofs.Actives.{scope_active_now}
 
 -- the open blocks are one more than the `${` that no `$}` has closed
-pub scope_sum : (never : ℕ) (st : List Sentence) (blocks ends stack : List ℕ) → AreScopes never st blocks ends stack → openings st + 1 ≡ closings st + length stack
+pub scope_sum : (never : ℕ) (st : List Sentence) (blocks ends stack : List ℕ) → AreScopes never st blocks ends stack → open_marks st + 1 ≡ close_marks st + length stack
 scope_sum never st blocks ends stack a =
     let h = a.on_stack 0 0 a.bottom in
     let first = a.outermost in
     let same : h.start ≡ 0 = let there = h.there in cc in
-    subst (λ x. openings (drop x st) + 1 ≡ closings (drop x st) + length stack) same h.above
+    subst (λ x. open_marks (drop x st) + 1 ≡ close_marks (drop x st) + length stack) same h.above
 
-pub scope_depth : (never : ℕ) (st : List Sentence) (blocks ends stack : List ℕ) → AreScopes never st blocks ends stack → (length stack ≡ suc (openings st - closings st)) × (closings st ≤ openings st)
+pub scope_depth : (never : ℕ) (st : List Sentence) (blocks ends stack : List ℕ) → AreScopes never st blocks ends stack → (length stack ≡ suc (open_marks st - close_marks st)) × (close_marks st ≤ open_marks st)
 scope_depth never st blocks ends stack a =
     let sum = scope_sum never st blocks ends stack a in
     let lt = slice_get_within stack 0 0 a.bottom in

@@ -2,13 +2,13 @@
 use Rattle.std.proofs.Common.{◌≡◌, ℕ, List, [], refl, arith}
 use Rattle.mm_frame.specs.declared.tables.Tables.{Tables}
 use Rattle.mm_frame.specs.ScopesOf.{HaveScopes}
-use Rattle.mm_frame.specs.Layout.{AreTables, AreInfos, AreLabels, AreEntries, AreEssentials, AreStated, statements_of, database_of}
+use Rattle.mm_frame.specs.Layout.{AreTables, AreInfos, AreLabelInfos, AreEntries, AreEssentials, AreStated, statements_of, database_of}
 use Rattle.mm_frame.proofs.Meant.{allmeant_none, allformed_none}
 use Rattle.mm_frame.proofs.Entries.{sentences_none}
 use Rattle.mm_frame.proofs.Infos.{infos_none}
 use Rattle.mm_frame.proofs.Labels.{essentials_none}
 
-labels_empty : AreLabels [] [] [] []
+labels_empty : AreLabelInfos [] [] [] []
 labels_empty = record { all = refl; informed = refl; each = λ id info there. absurd (cc); logged = λ p e id there named. absurd (cc) }
 
 entries_empty : AreEntries [] [] [] []
@@ -23,7 +23,7 @@ pub empty_tables : (t : Tables) → t.symbols.names ≡ [] → t.infos.items ≡
 empty_tables t e1 e2 e3 e4 e5 e6 scopes e7 e8 e9 =
     let none : statements_of t ≡ [] = rw (e1, e3, e6, e5) sentences_none in
     let i : AreInfos (statements_of t) t.symbols.names t.infos.items = rw (none, e1, e2) infos_none in
-    let l : AreLabels (statements_of t) t.labels.names t.named.items t.log.items = rw (none, e3, e4, e5) labels_empty in
+    let l : AreLabelInfos (statements_of t) t.labels.names t.named.items t.log.items = rw (none, e3, e4, e5) labels_empty in
     let n : AreEntries t.symbols.names t.labels.names t.flat.items t.log.items = rw (e1, e3, e5, e6) entries_empty in
     let h : HaveScopes (statements_of t) t.scopes = rw none scopes in
     let s : AreEssentials (statements_of t) t.essentials.items = rw (none, e7) essentials_none in

@@ -9,7 +9,7 @@ use Rattle.mm_frame.specs.declared.number.LabelId.{LabelId}
 use Rattle.mm_frame.specs.declared.number.Sym.{Sym}
 use Rattle.mm_frame.specs.declared.tables.Entry.{Entry}
 use Rattle.mm_frame.specs.Sentence.{Sentence}
-use Rattle.mm_frame.specs.Layout.{names_by, label_by, sentence_by, sentences, IsWithin, AreEntries}
+use Rattle.mm_frame.specs.Layout.{names_by, label_by, sentence_by, sentences, IsPartWithin, AreEntries}
 use Rattle.mm_frame.proofs.Pushed.{pushed_cases, get_from_front, get_within}
 use Rattle.mm_frame.proofs.Numbered.{At}
 
@@ -110,7 +110,7 @@ pub longer : {X : Type 0} (xs ys : List X) → length xs ≤ length (xs ++ ys)
 longer xs ys = let e = length-append xs ys in omega arith
 
 pub entries_push : (symbols labels : List (List ℕ)) (flat : List Sym) (log : List Entry) (a b : List (List ℕ)) (c : List Sym) (new : Entry) → AreEntries symbols labels flat log
-    → IsWithin new.symbols (length (flat ++ c)) → ((i : ℕ) (n : Sym) → slice_get c i ≡ Some n → n.0 < length (symbols ++ a)) → ((id : LabelId) → new.label ≡ Some id → id.0 < length (labels ++ b))
+    → IsPartWithin new.symbols (length (flat ++ c)) → ((i : ℕ) (n : Sym) → slice_get c i ≡ Some n → n.0 < length (symbols ++ a)) → ((id : LabelId) → new.label ≡ Some id → id.0 < length (labels ++ b))
     → AreEntries (symbols ++ a) (labels ++ b) (flat ++ c) (log ++ new ∷ [])
 entries_push symbols labels flat log a b c new entries within numbers label =
     let flats = longer flat c in
@@ -119,7 +119,7 @@ entries_push symbols labels flat log a b c new entries within numbers label =
     record {
       within = λ place e there. elim (pushed_cases log new place e there) [
         | inl before ↦ let old = entries.within place e before in let inside = old.within in record { ordered = old.ordered; within = omega arith }
-        | inr (last, same) ↦ subst (λ (d : Entry). IsWithin d.symbols (length (flat ++ c))) same within
+        | inr (last, same) ↦ subst (λ (d : Entry). IsPartWithin d.symbols (length (flat ++ c))) same within
       ];
       numbered = λ i n there. elim (append_cases flat c i n there) [
         | inl before ↦ let lt = entries.numbered i n before in omega arith

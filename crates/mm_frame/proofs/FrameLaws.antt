@@ -14,7 +14,7 @@ use Rattle.mm_frame.specs.Rules.{AllMeant}
 use Rattle.mm_frame.specs.Frame.{AreMandatory, IsMandatoryPair}
 use Rattle.mm_frame.specs.Numbers.{symbols_of}
 use Rattle.mm_frame.specs.FramePlace.{FramePlace, AreHypotheses, ArePairs, AreItsSymbols}
-use Rattle.mm_frame.specs.Layout.{IsWithin, IsFrameInfo, AreFrames, AreLabels, AreStated}
+use Rattle.mm_frame.specs.Layout.{IsPartWithin, IsFrameInfo, AreFrames, AreLabelInfos, AreStated}
 use Rattle.mm_frame.specs.Stated.{Stated}
 use Rattle.mm_frame.proofs.Pushed.{get_kept, get_pushed, pushed_cases, get_before}
 use Rattle.mm_frame.proofs.Numbered.{symbols_grow, numbers_grow, symbols_unique, number_from_declared}
@@ -60,7 +60,7 @@ its_symbols_grow st more place numbers are = record {
   numbered = numbers_grow st more numbers are.assertion.symbols are.numbered;
 }
 
-part_grow : {X : Type 0} (xs ys : List X) (part : Part) → IsWithin part (length xs) → IsWithin part (length (xs ++ ys))
+part_grow : {X : Type 0} (xs ys : List X) (part : Part) → IsPartWithin part (length xs) → IsPartWithin part (length (xs ++ ys))
 part_grow xs ys part within = let inside = within.within in let more = longer xs ys in record { ordered = within.ordered; within = omega arith }
 
 pub frame_grow : (st more : List Sentence) (hs a : List LabelId) (pairs b : List (Sym × Sym)) (info : LabelInfo) → IsFrameInfo st hs pairs info → IsFrameInfo (st ++ more) (hs ++ a) (pairs ++ b) info
@@ -80,7 +80,7 @@ frame_grow st more hs a pairs b info is =
 abbrev pub ArePlaced : List Sentence → List LabelInfo → Type 0
 ArePlaced st named = (id : ℕ) (info : LabelInfo) → slice_get named id ≡ Some info → info.place < length st
 
-pub placed : (st : List Sentence) (labels : List (List ℕ)) (named : List LabelInfo) (log : List _) → AreLabels st labels named log → ArePlaced st named
+pub placed : (st : List Sentence) (labels : List (List ℕ)) (named : List LabelInfo) (log : List _) → AreLabelInfos st labels named log → ArePlaced st named
 placed st labels named log are id info there = let (s, numbered) = are.each id info there in slice_get_within st info.place s numbered.there
 
 pub frames_none : AreFrames [] [] [] []

@@ -5,9 +5,9 @@ use Rattle.std.proofs.lemmas.Option.{slice_get_within}
 use Rattle.std.proofs.Math.Seq.{take-append_seam}
 use Rattle.mm_frame.specs.Sentence.{Sentence, IsStated}
 use Rattle.mm_frame.specs.Rules.{IsMeant, AllMeant}
-use Rattle.mm_frame.specs.Form.{AllFormed, IsNamed}
+use Rattle.mm_frame.specs.Form.{AllFormed, HasItsLabel}
 use Rattle.mm_frame.specs.Frame.{IsMandatoryAt, AreMandatory}
-use Rattle.mm_frame.specs.Numbers.{labelled}
+use Rattle.mm_frame.specs.Numbers.{labelled_sentences}
 use Rattle.mm_frame.specs.FramePlace.{AreHypotheses}
 use Rattle.mm_frame.specs.Layout.{AreEssentials}
 use Rattle.mm_frame.specs.Gathered.{IsGathered, AreGathered, ArePlaces}
@@ -62,22 +62,22 @@ hypothesis_named : (st : List Sentence) (s : Sentence) (p : ℕ) (h : Sentence) 
 hypothesis_named st s p h formed there (active, which) =
     let named = (formed p h there).label in
     elim which [
-      | inl essential ↦ let (l, is, label) = subst (λ k. IsNamed k h.label) essential named in ap is_some is
-      | inr (code, x, types, mandatory) ↦ let (l, is, label) = subst (λ k. IsNamed k h.label) types.0 named in ap is_some is
+      | inl essential ↦ let (l, is, label) = subst (λ k. HasItsLabel k h.label) essential named in ap is_some is
+      | inr (code, x, types, mandatory) ↦ let (l, is, label) = subst (λ k. HasItsLabel k h.label) types.0 named in ap is_some is
     ]
 
 -- the numbers of the labels of the statements at places
 abbrev pub numbers_at : List Sentence → List ℕ → List ℕ
-numbers_at st places = map (λ p. length (labelled (take p st))) places
+numbers_at st places = map (λ p. length (labelled_sentences (take p st))) places
 
 numbered_all : (st more : List Sentence) (places : List ℕ) (hs : List Sentence) → map (slice_get st) places ≡ map (λ h. Some h) hs → ((i p : ℕ) (h : Sentence) → slice_get places i ≡ Some p → slice_get st p ≡ Some h → is_some h.label ≡ true)
-    → map (slice_get (labelled (st ++ more))) (numbers_at st places) ≡ map (λ h. Some h) hs
+    → map (slice_get (labelled_sentences (st ++ more))) (numbers_at st places) ≡ map (λ h. Some h) hs
 numbered_all st more [] hs are named = are
 numbered_all st more (p ∷ places) [] are named = absurd (cc)
 numbered_all st more (p ∷ places) (h ∷ hs) are named =
     let here : slice_get st p ≡ Some h = cc in
     let rest : map (slice_get st) places ≡ map (λ h. Some h) hs = cc in
-    let first = labelled_grow st more (length (labelled (take p st))) h (numbered_get st (length (labelled (take p st))) p h (numbered_at st p h here (named 0 p h refl here))) in
+    let first = labelled_grow st more (length (labelled_sentences (take p st))) h (numbered_get st (length (labelled_sentences (take p st))) p h (numbered_at st p h here (named 0 p h refl here))) in
     let others = numbered_all st more places hs rest (λ i q g at there. named (suc i) q g at there) in
     cc
 

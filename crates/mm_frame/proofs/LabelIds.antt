@@ -10,8 +10,8 @@ use Rattle.mm_frame.specs.declared.tables.Entry.{Entry}
 use Rattle.mm_frame.specs.declared.tables.LabelInfo.{LabelInfo}
 use Rattle.mm_frame.specs.Sentence.{Sentence}
 use Rattle.mm_frame.specs.Form.{AllFormed}
-use Rattle.mm_frame.specs.Numbers.{labelled}
-use Rattle.mm_frame.specs.Layout.{sentences, label_by, AreLabels}
+use Rattle.mm_frame.specs.Numbers.{labelled_sentences}
+use Rattle.mm_frame.specs.Layout.{sentences, label_by, AreLabelInfos}
 use Rattle.mm_frame.specs.Gathered.{ArePlaces}
 use Rattle.mm_frame.proofs.Pushed.{get_within}
 use Rattle.mm_frame.proofs.Entries.{entry_at}
@@ -23,9 +23,9 @@ entry_labelled labels None named = absurd (cc)
 entry_labelled labels (Some id) named = (id, refl)
 
 -- the label's number at the place of a mandatory hypothesis
-pub id_at : (symbols labels : List (List ℕ)) (flat : List Sym) (log : List Entry) (named : List LabelInfo) (s : Sentence) (places : List ℕ) (i p : ℕ) → AreLabels (sentences symbols labels flat log) labels named log
+pub id_at : (symbols labels : List (List ℕ)) (flat : List Sym) (log : List Entry) (named : List LabelInfo) (s : Sentence) (places : List ℕ) (i p : ℕ) → AreLabelInfos (sentences symbols labels flat log) labels named log
     → AllFormed (sentences symbols labels flat log) → ArePlaces (sentences symbols labels flat log) s places → slice_get places i ≡ Some p
-    → (id : LabelId) × (option_and_then (λ e. e.label) (slice_get log p) ≡ Some id) × (id.0 ≡ length (labelled (take p (sentences symbols labels flat log))))
+    → (id : LabelId) × (option_and_then (λ e. e.label) (slice_get log p) ≡ Some id) × (id.0 ≡ length (labelled_sentences (take p (sentences symbols labels flat log))))
 id_at symbols labels flat log named s places i p are formed are_places there =
     let st = sentences symbols labels flat log in
     let (h, at) = get_within st p (are_places.within i p there) in
@@ -36,13 +36,13 @@ id_at symbols labels flat log named s places i p are formed are_places there =
 
 -- one place more
 pub ids_step : (symbols labels : List (List ℕ)) (flat : List Sym) (log : List Entry) (named : List LabelInfo) (s : Sentence) (places : List ℕ) (i : ℕ) (id : LabelId) (ids : List LabelId)
-    → AreLabels (sentences symbols labels flat log) labels named log → AllFormed (sentences symbols labels flat log) → ArePlaces (sentences symbols labels flat log) s places → i < length places
+    → AreLabelInfos (sentences symbols labels flat log) labels named log → AllFormed (sentences symbols labels flat log) → ArePlaces (sentences symbols labels flat log) s places → i < length places
     → option_and_then (λ e. e.label) (slice_get log (get_or places i 0)) ≡ Some id
-    → map (λ id. id.0) ids ≡ map (λ p. length (labelled (take p (sentences symbols labels flat log)))) (take i places)
-    → map (λ id. id.0) (ids ++ id ∷ []) ≡ map (λ p. length (labelled (take p (sentences symbols labels flat log)))) (take (i + 1) places)
+    → map (λ id. id.0) ids ≡ map (λ p. length (labelled_sentences (take p (sentences symbols labels flat log)))) (take i places)
+    → map (λ id. id.0) (ids ++ id ∷ []) ≡ map (λ p. length (labelled_sentences (take p (sentences symbols labels flat log)))) (take (i + 1) places)
 ids_step symbols labels flat log named s places i id ids are formed are_places lt found so_far =
     let st = sentences symbols labels flat log in
-    let number : ℕ → ℕ = λ p. length (labelled (take p st)) in
+    let number : ℕ → ℕ = λ p. length (labelled_sentences (take p st)) in
     let p = get_or places i 0 in
     let (other, is, value) = id_at symbols labels flat log named s places i p are formed are_places (slice_get-get_or places i 0 lt) in
     let same : id.0 ≡ number p = let e : other ≡ id = cc in ap (λ (j : LabelId). j.0) (sym e) ∙ value in
@@ -50,7 +50,7 @@ ids_step symbols labels flat log named s places i id ids are formed are_places l
     ∙ sym (ap (map number) (take_more places i 0 lt) ∙ map-append number (take i places) (p ∷ []))
 
 pub ids_never : (symbols labels : List (List ℕ)) (flat : List Sym) (log : List Entry) (named : List LabelInfo) (s : Sentence) (places : List ℕ) (i : ℕ)
-    → AreLabels (sentences symbols labels flat log) labels named log → AllFormed (sentences symbols labels flat log) → ArePlaces (sentences symbols labels flat log) s places → i < length places
+    → AreLabelInfos (sentences symbols labels flat log) labels named log → AllFormed (sentences symbols labels flat log) → ArePlaces (sentences symbols labels flat log) s places → i < length places
     → option_and_then (λ e. e.label) (slice_get log (get_or places i 0)) ≡ None → ⊥
 ids_never symbols labels flat log named s places i are formed are_places lt none =
     let (other, is, value) = id_at symbols labels flat log named s places i (get_or places i 0) are formed are_places (slice_get-get_or places i 0 lt) in

@@ -7,37 +7,37 @@ use Rattle.std.proofs.lemmas.List.Elements.{filter-append}
 use Rattle.std.proofs.lemmas.List.{take-append-le}
 use Rattle.std.proofs.Math.Seq.{take-append_seam}
 use Rattle.mm_frame.specs.Sentence.{Sentence}
-use Rattle.mm_frame.specs.Numbers.{labelled, IsNumbered}
+use Rattle.mm_frame.specs.Numbers.{labelled_sentences, IsNumbered}
 use Rattle.mm_frame.proofs.Pushed.{get_kept, get_pushed, get_before, get_in_front}
 use Rattle.mm_frame.proofs.Actives.{fronts}
 use Rattle.mm_frame.proofs.Meant.{parts_at, get_parted}
 
-pub labelled_append : (st more : List Sentence) → labelled (st ++ more) ≡ labelled st ++ labelled more
+pub labelled_append : (st more : List Sentence) → labelled_sentences (st ++ more) ≡ labelled_sentences st ++ labelled_sentences more
 labelled_append st more = filter-append (λ (s : Sentence). is_some s.label) st more
 
-one_labelled : (e : Sentence) (b : Bool) → is_some e.label ≡ b → labelled (e ∷ []) ≡ cond b (e ∷ []) []
+one_labelled : (e : Sentence) (b : Bool) → is_some e.label ≡ b → labelled_sentences (e ∷ []) ≡ cond b (e ∷ []) []
 one_labelled e b is = ap (λ c. cond c (e ∷ []) []) is
 
 -- one statement more, with a label or without
-pub labelled_push : (st : List Sentence) (e : Sentence) → is_some e.label ≡ true → labelled (st ++ e ∷ []) ≡ labelled st ++ e ∷ []
-labelled_push st e is = labelled_append st (e ∷ []) ∙ ap (λ ys. labelled st ++ ys) (one_labelled e true is)
+pub labelled_push : (st : List Sentence) (e : Sentence) → is_some e.label ≡ true → labelled_sentences (st ++ e ∷ []) ≡ labelled_sentences st ++ e ∷ []
+labelled_push st e is = labelled_append st (e ∷ []) ∙ ap (λ ys. labelled_sentences st ++ ys) (one_labelled e true is)
 
-pub labelled_pass : (st : List Sentence) (e : Sentence) → is_some e.label ≡ false → labelled (st ++ e ∷ []) ≡ labelled st
-labelled_pass st e is = labelled_append st (e ∷ []) ∙ ap (λ ys. labelled st ++ ys) (one_labelled e false is) ∙ append-nil (labelled st)
+pub labelled_pass : (st : List Sentence) (e : Sentence) → is_some e.label ≡ false → labelled_sentences (st ++ e ∷ []) ≡ labelled_sentences st
+labelled_pass st e is = labelled_append st (e ∷ []) ∙ ap (λ ys. labelled_sentences st ++ ys) (one_labelled e false is) ∙ append-nil (labelled_sentences st)
 
 -- the labelled statements before one, it, and those after it
-labelled_parts : (st : List Sentence) (p : ℕ) (s : Sentence) → slice_get st p ≡ Some s → is_some s.label ≡ true → labelled st ≡ labelled (take p st) ++ s ∷ labelled (drop (suc p) st)
+labelled_parts : (st : List Sentence) (p : ℕ) (s : Sentence) → slice_get st p ≡ Some s → is_some s.label ≡ true → labelled_sentences st ≡ labelled_sentences (take p st) ++ s ∷ labelled_sentences (drop (suc p) st)
 labelled_parts st p s there named =
-    let rest : labelled (s ∷ drop (suc p) st) ≡ s ∷ labelled (drop (suc p) st) = ap (λ c. cond c (s ∷ labelled (drop (suc p) st)) (labelled (drop (suc p) st))) named in
-    ap labelled (parts_at st p s there) ∙ labelled_append (take p st) (s ∷ drop (suc p) st) ∙ ap (λ ys. labelled (take p st) ++ ys) rest
+    let rest : labelled_sentences (s ∷ drop (suc p) st) ≡ s ∷ labelled_sentences (drop (suc p) st) = ap (λ c. cond c (s ∷ labelled_sentences (drop (suc p) st)) (labelled_sentences (drop (suc p) st))) named in
+    ap labelled_sentences (parts_at st p s there) ∙ labelled_append (take p st) (s ∷ drop (suc p) st) ∙ ap (λ ys. labelled_sentences (take p st) ++ ys) rest
 
-pub numbered_get : (st : List Sentence) (id p : ℕ) (s : Sentence) → IsNumbered st id p s → slice_get (labelled st) id ≡ Some s
+pub numbered_get : (st : List Sentence) (id p : ℕ) (s : Sentence) → IsNumbered st id p s → slice_get (labelled_sentences st) id ≡ Some s
 numbered_get st id p s numbered =
-    subst (λ n. slice_get (labelled st) n ≡ Some s) numbered.number
-    (subst (λ ys. slice_get ys (length (labelled (take p st))) ≡ Some s) (sym (labelled_parts st p s numbered.there numbered.named)) (get_parted (labelled (take p st)) (labelled (drop (suc p) st)) s))
+    subst (λ n. slice_get (labelled_sentences st) n ≡ Some s) numbered.number
+    (subst (λ ys. slice_get ys (length (labelled_sentences (take p st))) ≡ Some s) (sym (labelled_parts st p s numbered.there numbered.named)) (get_parted (labelled_sentences (take p st)) (labelled_sentences (drop (suc p) st)) s))
 
-pub numbered_within : (st : List Sentence) (id p : ℕ) (s : Sentence) → IsNumbered st id p s → id < length (labelled st)
-numbered_within st id p s numbered = slice_get_within (labelled st) id s (numbered_get st id p s numbered)
+pub numbered_within : (st : List Sentence) (id p : ℕ) (s : Sentence) → IsNumbered st id p s → id < length (labelled_sentences st)
+numbered_within st id p s numbered = slice_get_within (labelled_sentences st) id s (numbered_get st id p s numbered)
 
 pub numbered_grow : (st more : List Sentence) (id p : ℕ) (s : Sentence) → IsNumbered st id p s → IsNumbered (st ++ more) id p s
 numbered_grow st more id p s numbered =
@@ -45,22 +45,22 @@ numbered_grow st more id p s numbered =
     record {
       there = get_kept st more p s numbered.there;
       named = numbered.named;
-      number = subst (λ ys. length (labelled ys) ≡ id) (sym (take-append-le p st more (omega arith))) numbered.number;
+      number = subst (λ ys. length (labelled_sentences ys) ≡ id) (sym (take-append-le p st more (omega arith))) numbered.number;
     }
 
 pub numbered_fall : (st more : List Sentence) (id p : ℕ) (s : Sentence) → p < length st → IsNumbered (st ++ more) id p s → IsNumbered st id p s
 numbered_fall st more id p s lt numbered = record {
   there = get_before st more p s lt numbered.there;
   named = numbered.named;
-  number = subst (λ ys. length (labelled ys) ≡ id) (take-append-le p st more (omega arith)) numbered.number;
+  number = subst (λ ys. length (labelled_sentences ys) ≡ id) (take-append-le p st more (omega arith)) numbered.number;
 }
 
 -- the last statement's number
-pub numbered_last : (st : List Sentence) (e : Sentence) → is_some e.label ≡ true → IsNumbered (st ++ e ∷ []) (length (labelled st)) (length st) e
+pub numbered_last : (st : List Sentence) (e : Sentence) → is_some e.label ≡ true → IsNumbered (st ++ e ∷ []) (length (labelled_sentences st)) (length st) e
 numbered_last st e named = record {
   there = get_pushed st e;
   named = named;
-  number = ap (λ ys. length (labelled ys)) (take-append_seam st (e ∷ []));
+  number = ap (λ ys. length (labelled_sentences ys)) (take-append_seam st (e ∷ []));
 }
 
 -- a number is smaller than that of a labelled statement further on
@@ -69,7 +69,7 @@ numbered_rise st i j p q s t first second lt =
     let front : IsNumbered (take q st) i p s = record {
       there = get_in_front st q p s lt first.there;
       named = first.named;
-      number = subst (λ ys. length (labelled ys) ≡ i) (sym (fronts st p q (omega arith))) first.number;
+      number = subst (λ ys. length (labelled_sentences ys) ≡ i) (sym (fronts st p q (omega arith))) first.number;
     } in
     let h = numbered_within (take q st) i p s front in
     let number = second.number in
@@ -88,7 +88,7 @@ numbered_unique st id p q s t first second =
     (place, cc)
 
 -- each labelled statement has a number
-pub numbered_at : (st : List Sentence) (p : ℕ) (s : Sentence) → slice_get st p ≡ Some s → is_some s.label ≡ true → IsNumbered st (length (labelled (take p st))) p s
+pub numbered_at : (st : List Sentence) (p : ℕ) (s : Sentence) → slice_get st p ≡ Some s → is_some s.label ≡ true → IsNumbered st (length (labelled_sentences (take p st))) p s
 numbered_at st p s there named = record { there = there; named = named; number = refl }
 
 -- each number below how many labelled statements there are is that of one
@@ -96,50 +96,50 @@ step : (x : Sentence) (st : List Sentence) (i p : ℕ) (s : Sentence) (b : Bool)
 step x st i p s b is numbered = record {
   there = numbered.there;
   named = numbered.named;
-  number = ap (λ c. length (cond c (x ∷ labelled (take p st)) (labelled (take p st)))) is ∙ counted b;
+  number = ap (λ c. length (cond c (x ∷ labelled_sentences (take p st)) (labelled_sentences (take p st)))) is ∙ counted b;
 }
   where
-    counted : (b : Bool) → length (cond b (x ∷ labelled (take p st)) (labelled (take p st))) ≡ cond b (suc i) i
+    counted : (b : Bool) → length (cond b (x ∷ labelled_sentences (take p st)) (labelled_sentences (take p st))) ≡ cond b (suc i) i
     counted true = ap suc numbered.number
     counted false = numbered.number
 
-some_by : (x : Sentence) (st : List Sentence) → ((i : ℕ) → i < length (labelled st) → (p : ℕ) × (s : Sentence) × IsNumbered st i p s) → (b : Bool) → is_some x.label ≡ b
-    → (i : ℕ) → i < length (cond b (x ∷ labelled st) (labelled st)) → (p : ℕ) × (s : Sentence) × IsNumbered (x ∷ st) i p s
+some_by : (x : Sentence) (st : List Sentence) → ((i : ℕ) → i < length (labelled_sentences st) → (p : ℕ) × (s : Sentence) × IsNumbered st i p s) → (b : Bool) → is_some x.label ≡ b
+    → (i : ℕ) → i < length (cond b (x ∷ labelled_sentences st) (labelled_sentences st)) → (p : ℕ) × (s : Sentence) × IsNumbered (x ∷ st) i p s
 some_by x st rest true is zero lt = (0, x, record { there = refl; named = is; number = refl })
 some_by x st rest true is (suc i) lt = let (p, s, numbered) = rest i (omega arith) in (suc p, s, step x st i p s true is numbered)
 some_by x st rest false is i lt = let (p, s, numbered) = rest i lt in (suc p, s, step x st i p s false is numbered)
 
-pub numbered_some : (st : List Sentence) (i : ℕ) → i < length (labelled st) → (p : ℕ) × (s : Sentence) × IsNumbered st i p s
+pub numbered_some : (st : List Sentence) (i : ℕ) → i < length (labelled_sentences st) → (p : ℕ) × (s : Sentence) × IsNumbered st i p s
 numbered_some [] i lt = absurd (omega arith)
 numbered_some (x ∷ st) i lt = some_by x st (numbered_some st) (is_some x.label) refl i lt
 
 -- what stands among the labelled statements at a number
-pub numbered_from_get : (st : List Sentence) (i : ℕ) (s : Sentence) → slice_get (labelled st) i ≡ Some s → (p : ℕ) × IsNumbered st i p s
+pub numbered_from_get : (st : List Sentence) (i : ℕ) (s : Sentence) → slice_get (labelled_sentences st) i ≡ Some s → (p : ℕ) × IsNumbered st i p s
 numbered_from_get st i s there =
-    let (p, t, numbered) = numbered_some st i (slice_get_within (labelled st) i s there) in
+    let (p, t, numbered) = numbered_some st i (slice_get_within (labelled_sentences st) i s there) in
     let same : t ≡ s = let at = numbered_get st i p t numbered in cc in
     (p, subst (IsNumbered st i p) same numbered)
 
 -- the labelled statements stay at their places
-pub labelled_grow : (st more : List Sentence) (i : ℕ) (s : Sentence) → slice_get (labelled st) i ≡ Some s → slice_get (labelled (st ++ more)) i ≡ Some s
-labelled_grow st more i s there = subst (λ ys. slice_get ys i ≡ Some s) (sym (labelled_append st more)) (get_kept (labelled st) (labelled more) i s there)
+pub labelled_grow : (st more : List Sentence) (i : ℕ) (s : Sentence) → slice_get (labelled_sentences st) i ≡ Some s → slice_get (labelled_sentences (st ++ more)) i ≡ Some s
+labelled_grow st more i s there = subst (λ ys. slice_get ys i ≡ Some s) (sym (labelled_append st more)) (get_kept (labelled_sentences st) (labelled_sentences more) i s there)
 
 -- there are no more labelled statements than statements
-pub labelled_few : (st : List Sentence) → length (labelled st) ≤ length st
+pub labelled_few : (st : List Sentence) → length (labelled_sentences st) ≤ length st
 labelled_few [] = omega arith
 labelled_few (x ∷ st) = few (is_some x.label) (labelled_few st)
   where
-    few : (b : Bool) → length (labelled st) ≤ length st → length (cond b (x ∷ labelled st) (labelled st)) ≤ length (x ∷ st)
+    few : (b : Bool) → length (labelled_sentences st) ≤ length st → length (cond b (x ∷ labelled_sentences st) (labelled_sentences st)) ≤ length (x ∷ st)
     few true le = omega arith
     few false le = omega arith
 
 -- numbers of labelled statements stay theirs
-pub labels_grow : (st more : List Sentence) (numbers : List ℕ) (hs : List Sentence) → map (slice_get (labelled st)) numbers ≡ map (λ h. Some h) hs → map (slice_get (labelled (st ++ more))) numbers ≡ map (λ h. Some h) hs
+pub labels_grow : (st more : List Sentence) (numbers : List ℕ) (hs : List Sentence) → map (slice_get (labelled_sentences st)) numbers ≡ map (λ h. Some h) hs → map (slice_get (labelled_sentences (st ++ more))) numbers ≡ map (λ h. Some h) hs
 labels_grow st more [] hs are = are
 labels_grow st more (n ∷ numbers) [] are = absurd (cc)
 labels_grow st more (n ∷ numbers) (h ∷ hs) are =
-    let here : slice_get (labelled st) n ≡ Some h = cc in
-    let rest : map (slice_get (labelled st)) numbers ≡ map (λ h. Some h) hs = cc in
+    let here : slice_get (labelled_sentences st) n ≡ Some h = cc in
+    let rest : map (slice_get (labelled_sentences st)) numbers ≡ map (λ h. Some h) hs = cc in
     let here' = labelled_grow st more n h here in
     let rest' = labels_grow st more numbers hs rest in
     cc

@@ -11,8 +11,8 @@ use Rattle.mm_frame.specs.declared.tables.Entry.{Entry}
 use Rattle.mm_frame.specs.declared.tables.LabelInfo.{LabelInfo}
 use Rattle.mm_frame.specs.Sentence.{Sentence}
 use Rattle.mm_frame.specs.Active.{IsActive}
-use Rattle.mm_frame.specs.Numbers.{labelled, IsNumbered}
-use Rattle.mm_frame.specs.Layout.{AreLabels, AreEssentials}
+use Rattle.mm_frame.specs.Numbers.{labelled_sentences, IsNumbered}
+use Rattle.mm_frame.specs.Layout.{AreLabelInfos, AreEssentials}
 use Rattle.mm_frame.proofs.Pushed.{get_kept, get_pushed, pushed_cases, get_before, get_within}
 use Rattle.mm_frame.proofs.Entries.{append_cases}
 use Rattle.mm_frame.proofs.ScopeLaws.{length_pushed}
@@ -21,18 +21,18 @@ use Rattle.mm_frame.proofs.Meant.{active_in_front}
 use Rattle.mm_frame.proofs.Labelled.{labelled_push, labelled_pass, numbered_grow, numbered_last}
 
 -- how many labels there are
-pub labels_counted : (st : List Sentence) (labels : List (List ℕ)) (named : List LabelInfo) (log : List Entry) → AreLabels st labels named log → length (labelled st) ≡ length labels
+pub labels_counted : (st : List Sentence) (labels : List (List ℕ)) (named : List LabelInfo) (log : List Entry) → AreLabelInfos st labels named log → length (labelled_sentences st) ≡ length labels
 labels_counted st labels named log are =
-    sym (length-map (labelled st) (λ (s : Sentence). s.label)) ∙ ap length are.all ∙ length-map labels (λ l. Some l)
+    sym (length-map (labelled_sentences st) (λ (s : Sentence). s.label)) ∙ ap length are.all ∙ length-map labels (λ l. Some l)
 
-front_count : (st : List Sentence) (e : Sentence) (place : ℕ) → place ≤ length st → length (labelled (take place (st ++ e ∷ []))) ≡ length (labelled (take place st))
-front_count st e place le = ap (λ ys. length (labelled ys)) (take-append-le place st (e ∷ []) le)
+front_count : (st : List Sentence) (e : Sentence) (place : ℕ) → place ≤ length st → length (labelled_sentences (take place (st ++ e ∷ []))) ≡ length (labelled_sentences (take place st))
+front_count st e place le = ap (λ ys. length (labelled_sentences ys)) (take-append-le place st (e ∷ []) le)
 
 named_grow : (st : List Sentence) (e : Sentence) (id : ℕ) (info : LabelInfo) → (s : Sentence) × IsNumbered st id info.place s → (s : Sentence) × IsNumbered (st ++ e ∷ []) id info.place s
 named_grow st e id info (s, numbered) = (s, numbered_grow st (e ∷ []) id info.place s numbered)
 
-pub labels_none : (st : List Sentence) (labels : List (List ℕ)) (named : List LabelInfo) (log : List Entry) (e : Sentence) (new : Entry) → AreLabels st labels named log
-    → e.label ≡ None → new.label ≡ None → length log ≡ length st → AreLabels (st ++ e ∷ []) labels named (log ++ new ∷ [])
+pub labels_none : (st : List Sentence) (labels : List (List ℕ)) (named : List LabelInfo) (log : List Entry) (e : Sentence) (new : Entry) → AreLabelInfos st labels named log
+    → e.label ≡ None → new.label ≡ None → length log ≡ length st → AreLabelInfos (st ++ e ∷ []) labels named (log ++ new ∷ [])
 labels_none st labels named log e new are none no_id size = record {
   all = ap (map (λ s. s.label)) (labelled_pass st e (ap is_some none)) ∙ are.all;
   informed = are.informed;
@@ -45,21 +45,21 @@ labels_none st labels named log e new are none no_id size = record {
   ];
 }
 
-pub labels_some : (st : List Sentence) (labels : List (List ℕ)) (named : List LabelInfo) (log : List Entry) (e : Sentence) (new : Entry) (l : List ℕ) (id : LabelId) (info : LabelInfo) → AreLabels st labels named log
+pub labels_some : (st : List Sentence) (labels : List (List ℕ)) (named : List LabelInfo) (log : List Entry) (e : Sentence) (new : Entry) (l : List ℕ) (id : LabelId) (info : LabelInfo) → AreLabelInfos st labels named log
     → e.label ≡ Some l → new.label ≡ Some id → id.0 ≡ length labels → info.place ≡ length st → length log ≡ length st
-    → AreLabels (st ++ e ∷ []) (labels ++ l ∷ []) (named ++ info ∷ []) (log ++ new ∷ [])
+    → AreLabelInfos (st ++ e ∷ []) (labels ++ l ∷ []) (named ++ info ∷ []) (log ++ new ∷ [])
 labels_some st labels named log e new l id info are has has_id number placed size =
     let count = labels_counted st labels named log are in
     let informed = are.informed in
     record {
       all =
-          ap (map (λ s. s.label)) (labelled_push st e (ap is_some has)) ∙ map-append (λ (s : Sentence). s.label) (labelled st) (e ∷ [])
+          ap (map (λ s. s.label)) (labelled_push st e (ap is_some has)) ∙ map-append (λ (s : Sentence). s.label) (labelled_sentences st) (e ∷ [])
           ∙ ap (λ ys. ys ++ e.label ∷ []) are.all ∙ ap (λ o. map (λ l. Some l) labels ++ o ∷ []) has ∙ sym (map-append (λ l. Some l) labels (l ∷ []));
       informed = length_pushed named info ∙ ap suc informed ∙ sym (length_pushed labels l);
       each = λ n other there. elim (pushed_cases named info n other there) [
         | inl before ↦ named_grow st e n other (are.each n other before)
         | inr (last, same) ↦
-            let at : n ≡ length (labelled st) = omega arith in
+            let at : n ≡ length (labelled_sentences st) = omega arith in
             let place : other.place ≡ length st = ap (λ (i : LabelInfo). i.place) (sym same) ∙ placed in
             (e, subst (λ p. IsNumbered (st ++ e ∷ []) n p e) (sym place) (subst (λ k. IsNumbered (st ++ e ∷ []) k (length st) e) (sym at) (numbered_last st e (ap is_some has))))
       ];
@@ -70,7 +70,7 @@ labels_some st labels named log e new l id info are has has_id number placed siz
         | inr (last, same) ↦
             let at : place ≡ length st = last ∙ size in
             let same_id : id ≡ i = let h = ap (λ (d : Entry). d.label) same in cc in
-            ap (λ p. length (labelled (take p (st ++ e ∷ [])))) at ∙ ap (λ ys. length (labelled ys)) (take-append_seam st (e ∷ [])) ∙ count ∙ sym number ∙ ap (λ (j : LabelId). j.0) same_id
+            ap (λ p. length (labelled_sentences (take p (st ++ e ∷ [])))) at ∙ ap (λ ys. length (labelled_sentences ys)) (take-append_seam st (e ∷ [])) ∙ count ∙ sym number ∙ ap (λ (j : LabelId). j.0) same_id
       ];
     }
 

@@ -7,7 +7,7 @@ use Rattle.mm_frame.specs.declared.tables.SymbolInfo.{SymbolInfo}
 use Rattle.mm_frame.specs.Sentence.{Sentence, SomeSentence, Declares, Types, IsLabelled}
 use Rattle.mm_frame.specs.Active.{IsActive, SomeActive, IsConstant, IsVariable, IsActiveSymbol, IsTyped}
 use Rattle.mm_frame.specs.Rules.{AllMeant}
-use Rattle.mm_frame.specs.Numbers.{symbols_of, labelled}
+use Rattle.mm_frame.specs.Numbers.{symbols_of, labelled_sentences}
 use Rattle.mm_frame.specs.Latest.{IsLatest}
 use Rattle.mm_frame.specs.Layout.{IsLatestIn, IsKnown, IsDeclared, GivesType, AreInfos}
 use Rattle.mm_frame.proofs.Meant.{latest_variable, latest_typed, constant_active, one_role, meant_at, one_code}
@@ -76,7 +76,7 @@ untyped st x meant missing (p, f, there, (code, types)) =
     missing (inr (some_later st p (Declares Variables x) (typed_variable (take p st) f code x (meant_at st p f meant there) types)))
 
 -- a label is one of the names of the labelled statements
-pub label_number : (st : List Sentence) (labels : List (List ℕ)) (label : List ℕ) → map (λ s. s.label) (labelled st) ≡ map (λ l. Some l) labels
+pub label_number : (st : List Sentence) (labels : List (List ℕ)) (label : List ℕ) → map (λ s. s.label) (labelled_sentences st) ≡ map (λ l. Some l) labels
     → SomeSentence st (IsLabelled label) ↔ Contains labels label
 label_number st labels label all = (to, from)
   where
@@ -84,8 +84,8 @@ label_number st labels label all = (to, from)
     to (p, s, there, named) =
         let some : is_some s.label ≡ true = rw named refl in
         let numbered = numbered_at st p s there some in
-        let n : ℕ = length (labelled (take p st)) in
-        let mapped : slice_get (map (λ t. t.label) (labelled st)) n ≡ Some s.label = get_mapped (λ (t : Sentence). t.label) (labelled st) n s (numbered_get st n p s numbered) in
+        let n : ℕ = length (labelled_sentences (take p st)) in
+        let mapped : slice_get (map (λ t. t.label) (labelled_sentences st)) n ≡ Some s.label = get_mapped (λ (t : Sentence). t.label) (labelled_sentences st) n s (numbered_get st n p s numbered) in
         let other : slice_get (map (λ l. Some l) labels) n ≡ Some (Some label) = rw (← all) (mapped ∙ ap Some named) in
         let (l, at, same) = get_unmapped (λ (l : List ℕ). Some l) labels n (Some label) other in
         let is : l ≡ label = cc in
@@ -95,8 +95,8 @@ label_number st labels label all = (to, from)
     from c =
         let (n, at) = at_from_contains labels label c in
         let mapped : slice_get (map (λ l. Some l) labels) n ≡ Some (Some label) = get_mapped (λ (l : List ℕ). Some l) labels n label at in
-        let other : slice_get (map (λ t. t.label) (labelled st)) n ≡ Some (Some label) = rw all mapped in
-        let (s, there, same) = get_unmapped (λ (t : Sentence). t.label) (labelled st) n (Some label) other in
+        let other : slice_get (map (λ t. t.label) (labelled_sentences st)) n ≡ Some (Some label) = rw all mapped in
+        let (s, there, same) = get_unmapped (λ (t : Sentence). t.label) (labelled_sentences st) n (Some label) other in
         let (p, numbered) = numbered_from_get st n s there in
         (p, s, numbered.there, same)
 

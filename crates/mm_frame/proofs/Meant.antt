@@ -13,7 +13,7 @@ use Rattle.mm_frame.specs.declared.rule.MeaningRule.TheVariants.{M1, M2, M3, M4,
 use Rattle.mm_frame.specs.Sentence.{Sentence, SomeSentence, Declares, IsLabelled, Types}
 use Rattle.mm_frame.specs.Active.{IsActive, SomeActive, IsConstant, IsVariable, IsTyped}
 use Rattle.mm_frame.specs.Rules.{IsMeant, AllMeant}
-use Rattle.mm_frame.specs.Form.{IsFormedSentence, AllFormed, IsNamed}
+use Rattle.mm_frame.specs.Form.{IsFormedSentence, AllFormed, HasItsLabel}
 use Rattle.mm_frame.specs.Latest.{IsLatest}
 use Rattle.mm_frame.proofs.Pushed.{pushed_cases, get_from_front, get_in_front}
 use Rattle.mm_frame.proofs.Actives.{unclosed_shorter}
@@ -177,8 +177,8 @@ undeclared : (s : Sentence) (l : List ℕ) → IsFormedSentence s → (s.kind �
 undeclared s l formed kind label =
     let named = formed.label in
     elim kind [
-      | inl is ↦ let none : s.label ≡ None = subst (λ k. IsNamed k s.label) is named in absurd (cc)
-      | inr is ↦ let none : s.label ≡ None = subst (λ k. IsNamed k s.label) is named in absurd (cc)
+      | inl is ↦ let none : s.label ≡ None = subst (λ k. HasItsLabel k s.label) is named in absurd (cc)
+      | inr is ↦ let none : s.label ≡ None = subst (λ k. HasItsLabel k s.label) is named in absurd (cc)
     ]
 
 same_label : (st : List Sentence) (i j : ℕ) (s t : Sentence) (l : List ℕ) → i ≡ j → slice_get st i ≡ Some s → slice_get st j ≡ Some t → IsLabelled l s → IsLabelled l t

@@ -21,7 +21,7 @@ use Rattle.mm_frame.specs.Numbers.{AreNumbers, symbols_of, with_name, declared_b
 use Rattle.mm_frame.specs.ScopesOf.{HaveScopes, HaveSameLists}
 use Rattle.mm_frame.specs.Taken.{next_id, TakenAs}
 use Rattle.mm_frame.specs.declared.answer.Taken.TheVariants.{Assertion}
-use Rattle.mm_frame.specs.Layout.{AreTables, AreInfos, AreLabels, AreEssentials, AreFrames, IsFrameInfo, names_by, statements_of}
+use Rattle.mm_frame.specs.Layout.{AreTables, AreInfos, AreLabelInfos, AreEssentials, AreFrames, IsFrameInfo, names_by, statements_of}
 use Rattle.mm_frame.specs.Grows.{Grows, SameLists, entry_of}
 use Rattle.mm_frame.specs.Naming.{Named, label_info, part_after}
 use Rattle.mm_frame.specs.FramePlace.{AreHypotheses, ArePairs}
@@ -54,7 +54,7 @@ next_number t id are is =
     ap (λ (n : ℕ). let i : LabelId = record { 0 = n } in i) (is ∙ sym counted)
 
 -- a label that breaks no rule is new
-pub label_new : (st : List Sentence) (labels : List (List ℕ)) (named : List LabelInfo) (log : List Entry) (s : Sentence) (l : List ℕ) → AreLabels st labels named log → IsMeant st s → s.label ≡ Some l
+pub label_new : (st : List Sentence) (labels : List (List ℕ)) (named : List LabelInfo) (log : List Entry) (s : Sentence) (l : List ℕ) → AreLabelInfos st labels named log → IsMeant st s → s.label ≡ Some l
     → with_name labels l ≡ labels ++ l ∷ []
 label_new st labels named log s l are meant has = elim (with_name_cases labels l) [
   | inl (at, same) ↦ absurd (meant M5 (l, has, (label_number st labels l are.all).1 (contains_from_at labels l at)))

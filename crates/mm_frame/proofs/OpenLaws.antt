@@ -6,9 +6,9 @@ use Rattle.std.proofs.lemmas.Option.{slice_get_within}
 use Rattle.std.proofs.lemmas.List.{drop-append-le, drop-drop, take-append-le}
 use Rattle.mm_text.specs.declared.statement.Kind.TheVariants.{Opening, Closing}
 use Rattle.mm_frame.specs.Sentence.{Sentence}
-use Rattle.mm_frame.specs.Active.{is_opening, is_closing, openings, closings, IsOpen, Holds, IsActive}
+use Rattle.mm_frame.specs.Active.{is_opening, is_closing, open_marks, close_marks, IsOpen, Holds, IsActive}
 use Rattle.mm_frame.specs.Scopes.{IsUnclosed}
-use Rattle.mm_frame.specs.Laws.{IsInnermost, OpenBlocks, ActiveStatements}
+use Rattle.mm_frame.specs.Laws.{IsInnermostOpen, OpenBlocks, ActiveStatements}
 use Rattle.mm_frame.proofs.Pushed.{get_kept, get_pushed, get_in_front, pushed_cases}
 use Rattle.mm_frame.proofs.Counts.{openings-append, closings-append, unclosed_pushed, unclosed_all, unclosed_new, unclosed_front}
 use Rattle.mm_frame.proofs.ScopeLaws.{openings_one, closings_one, length_pushed, open_before}
@@ -57,13 +57,13 @@ get_dropped (suc n) (y ∷ xs) k x there =
 
 -- the two parts of a list at an element of it
 part_counts : (st : List Sentence) (m : ℕ) (x : Sentence) → slice_get st m ≡ Some x
-    → (openings st ≡ openings (take m st) + (openings (x ∷ []) + openings (drop (suc m) st)))
-    × (closings st ≡ closings (take m st) + (closings (x ∷ []) + closings (drop (suc m) st)))
+    → (open_marks st ≡ open_marks (take m st) + (open_marks (x ∷ []) + open_marks (drop (suc m) st)))
+    × (close_marks st ≡ close_marks (take m st) + (close_marks (x ∷ []) + close_marks (drop (suc m) st)))
 part_counts [] m x there = absurd (cc)
 part_counts (y ∷ st) zero x there =
     let same : y ≡ x = cc in
-    let os = subst (λ z. openings (y ∷ st) ≡ openings (z ∷ []) + openings st) same (openings-append (y ∷ []) st) in
-    let cs = subst (λ z. closings (y ∷ st) ≡ closings (z ∷ []) + closings st) same (closings-append (y ∷ []) st) in
+    let os = subst (λ z. open_marks (y ∷ st) ≡ open_marks (z ∷ []) + open_marks st) same (openings-append (y ∷ []) st) in
+    let cs = subst (λ z. close_marks (y ∷ st) ≡ close_marks (z ∷ []) + close_marks st) same (closings-append (y ∷ []) st) in
     (omega arith, omega arith)
 part_counts (y ∷ st) (suc m) x there =
     let (os, cs) = part_counts st m x there in
@@ -74,7 +74,7 @@ part_counts (y ∷ st) (suc m) x there =
     (omega arith, omega arith)
 
 -- past an open block's `${` there is one `${` more than `$}` where another open block begins there
-outer_counts : (st : List Sentence) (p m : ℕ) → p < m → IsOpen st p → IsOpen st m → closings (drop (suc p) st) + 1 ≤ openings (drop (suc p) st)
+outer_counts : (st : List Sentence) (p m : ℕ) → p < m → IsOpen st p → IsOpen st m → close_marks (drop (suc p) st) + 1 ≤ open_marks (drop (suc p) st)
 outer_counts st p m lt outer inner =
     let d = m - suc p in
     let e : suc p + d ≡ m = omega arith in
@@ -83,7 +83,7 @@ outer_counts st p m lt outer inner =
     let (os, cs) = part_counts (drop (suc p) st) d inner.opening there in
     let front = outer.unclosed d in
     let rest : drop (suc d) (drop (suc p) st) ≡ drop (suc m) st = drop-drop (suc d) (suc p) st ∙ ap (λ k. drop k st) f in
-    let all = subst (λ (ys : List Sentence). closings ys ≤ openings ys) (sym rest) (unclosed_all st (suc m) inner.unclosed) in
+    let all = subst (λ (ys : List Sentence). close_marks ys ≤ open_marks ys) (sym rest) (unclosed_all st (suc m) inner.unclosed) in
     let o1 = openings_one inner.opening true (ap is_opening inner.opened) in
     let c1 = closings_one inner.opening false (ap is_closing inner.opened) in
     omega arith
@@ -103,18 +103,18 @@ open_past st n k still = record {
   opened = still.opened;
   unclosed = subst (λ x. IsUnclosed st x) (e) (λ j.
       let same : drop (suc k) (drop n st) ≡ drop (n + suc k) st = drop-drop (suc k) n st in
-      subst (λ (ys : List Sentence). closings (take j ys) ≤ openings (take j ys)) same (still.unclosed j));
+      subst (λ (ys : List Sentence). close_marks (take j ys) ≤ open_marks (take j ys)) same (still.unclosed j));
 }
   where
     e : n + suc k ≡ suc (n + k)
     e = omega arith
 
 -- a `$}` closes the innermost block
-innermost_closed : (st : List Sentence) (e : Sentence) (m : ℕ) → e.kind ≡ Closing → IsInnermost st m → ¬ (IsOpen (st ++ e ∷ []) m)
+innermost_closed : (st : List Sentence) (e : Sentence) (m : ℕ) → e.kind ≡ Closing → IsInnermostOpen st m → ¬ (IsOpen (st ++ e ∷ []) m)
 innermost_closed st e m kind innermost still =
     let lt = open_within st m innermost.still in
     let same : drop (suc m) (st ++ e ∷ []) ≡ drop (suc m) st ++ e ∷ [] = drop-append-le (suc m) st (e ∷ []) (omega arith) in
-    let all = subst (λ (ys : List Sentence). closings ys ≤ openings ys) same (unclosed_all (st ++ e ∷ []) (suc m) still.unclosed) in
+    let all = subst (λ (ys : List Sentence). close_marks ys ≤ open_marks ys) same (unclosed_all (st ++ e ∷ []) (suc m) still.unclosed) in
     let os = openings-append (drop (suc m) st) (e ∷ []) in
     let cs = closings-append (drop (suc m) st) (e ∷ []) in
     let o1 = openings_one e false (ap is_opening kind) in
@@ -123,7 +123,7 @@ innermost_closed st e m kind innermost still =
     let le = innermost.last (suc m + k) (open_past st (suc m) k inner) in
     omega arith
 
-pub closing_law : (st : List Sentence) (e : Sentence) (p m : ℕ) → e.kind ≡ Closing → IsInnermost st m
+pub closing_law : (st : List Sentence) (e : Sentence) (p m : ℕ) → e.kind ≡ Closing → IsInnermostOpen st m
     → (IsOpen (st ++ e ∷ []) p ↔ (IsOpen st p × p < m))
 closing_law st e p m kind innermost = (
   (λ still. elim (cases_lt p (length st)) [
@@ -183,7 +183,7 @@ active_kept st e p active = elim (cases_lt p (length st)) [
 active_again : (st : List Sentence) (e : Sentence) (p : ℕ) → p ≡ length st → IsActive (st ++ e ∷ []) p
 active_again st e p last = subst (λ q. IsActive (st ++ e ∷ []) q) (sym last) (active_last st e)
 
-active_closed : (st : List Sentence) (e : Sentence) (p m : ℕ) → e.kind ≡ Closing → IsInnermost st m → IsActive st p → p ≤ m → IsActive (st ++ e ∷ []) p
+active_closed : (st : List Sentence) (e : Sentence) (p m : ℕ) → e.kind ≡ Closing → IsInnermostOpen st m → IsActive st p → p ≤ m → IsActive (st ++ e ∷ []) p
 active_closed st e p m kind innermost active le = record {
   within = let h = length_pushed st e in let lt = active.within in omega arith;
   kept = λ outer holds.
@@ -215,7 +215,7 @@ active_statements_hold st e p = (
     holds_more : (st : List Sentence) (e : Sentence) (p outer : ℕ) → p < length st → Holds st outer p → Holds (st ++ e ∷ []) outer p
     holds_more st e p outer lt (before, still) = (before, subst (λ ys. IsOpen ys outer) (sym (take-append-le (suc p) st (e ∷ []) (omega arith))) still)
 
-    up_to : (m : ℕ) → e.kind ≡ Closing → IsInnermost st m → IsActive (st ++ e ∷ []) p → IsActive st p → p ≤ m
+    up_to : (m : ℕ) → e.kind ≡ Closing → IsInnermostOpen st m → IsActive (st ++ e ∷ []) p → IsActive st p → p ≤ m
     up_to m kind innermost active before = elim (cases_lt m p) [
       | inl lt ↦ absurd (innermost_closed st e m kind innermost (active.kept m
           (holds_more st e p m before.within (holds_open st p m lt innermost.still))))

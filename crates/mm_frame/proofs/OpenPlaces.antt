@@ -7,8 +7,8 @@ use Rattle.std.proofs.lemmas.List.{length-take-le}
 use Rattle.std.proofs.Math.Seq.{take-length}
 use Rattle.mm_text.specs.declared.statement.Kind.TheVariants.{Opening, Closing}
 use Rattle.mm_frame.specs.Sentence.{Sentence}
-use Rattle.mm_frame.specs.Active.{openings, closings}
-use Rattle.mm_frame.specs.Laws.{IsInnermost, AreOpen, OpenCount}
+use Rattle.mm_frame.specs.Active.{open_marks, close_marks}
+use Rattle.mm_frame.specs.Laws.{IsInnermostOpen, AreOpen, OpenCount}
 use Rattle.mm_frame.proofs.Pushed.{get_kept, get_pushed, get_within, get_from_front, get_in_front, pushed_cases, take_next}
 use Rattle.mm_frame.proofs.Counts.{openings-append, closings-append}
 use Rattle.mm_frame.proofs.ScopeLaws.{openings_one, closings_one, length_pushed}
@@ -18,7 +18,7 @@ use Rattle.mm_frame.proofs.OpenLaws.{opening_law, closing_law}
 
 -- the open blocks, and as many of them as the counts say
 abbrev Counted : List Sentence → Type 0
-Counted st = (places : List ℕ) × AreOpen st places × (closings st + length places ≡ openings st)
+Counted st = (places : List ℕ) × AreOpen st places × (close_marks st + length places ≡ open_marks st)
 
 open_stay : (st : List Sentence) (e : Sentence) (places : List ℕ) → ¬ (e.kind ≡ Closing) → ¬ (e.kind ≡ Opening) → AreOpen st places → AreOpen (st ++ e ∷ []) places
 open_stay st e places other ordinary a = record {
@@ -69,7 +69,7 @@ open_more st e places other kind a = record {
     ]
 
 -- the last of the places is that of the innermost block
-last_innermost : (st : List Sentence) (places : List ℕ) (k m : ℕ) → length places ≡ suc k → slice_get places k ≡ Some m → AreOpen st places → IsInnermost st m
+last_innermost : (st : List Sentence) (places : List ℕ) (k m : ℕ) → length places ≡ suc k → slice_get places k ≡ Some m → AreOpen st places → IsInnermostOpen st m
 last_innermost st places k m size at a = record {
   still = (a.each m).1 (contains_from_at places m (k, at));
   last = λ other still.
@@ -112,7 +112,7 @@ open_fewer st e places k m kind size at a =
           absurd (omega arith)
     ]
 
-counted_push : (st : List Sentence) (e : Sentence) → closings (st ++ e ∷ []) ≤ openings (st ++ e ∷ []) → Counted st → Counted (st ++ e ∷ [])
+counted_push : (st : List Sentence) (e : Sentence) → close_marks (st ++ e ∷ []) ≤ open_marks (st ++ e ∷ []) → Counted st → Counted (st ++ e ∷ [])
 counted_push st e le (places, a, count) =
     let os = openings-append st (e ∷ []) in
     let cs = closings-append st (e ∷ []) in
@@ -146,12 +146,12 @@ none_open = (
   omega arith,
 )
 
-counted_front : (st : List Sentence) → ((n : ℕ) → closings (take n st) ≤ openings (take n st)) → (n : ℕ) → n ≤ length st → Counted (take n st)
+counted_front : (st : List Sentence) → ((n : ℕ) → close_marks (take n st) ≤ open_marks (take n st)) → (n : ℕ) → n ≤ length st → Counted (take n st)
 counted_front st enough zero le = none_open
 counted_front st enough (suc n) le =
     let (e, there) = get_within st n (omega arith) in
     let next : take (suc n) st ≡ take n st ++ e ∷ [] = take_next st n e there in
-    let h = subst (λ (ys : List Sentence). closings ys ≤ openings ys) next (enough (suc n)) in
+    let h = subst (λ (ys : List Sentence). close_marks ys ≤ open_marks ys) next (enough (suc n)) in
     subst (λ ys. Counted ys) (sym next) (counted_push (take n st) e h (counted_front st enough n (omega arith)))
 
 pub open_count_holds : OpenCount

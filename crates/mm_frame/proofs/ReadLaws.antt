@@ -7,10 +7,10 @@ use Rattle.mm_frame.specs.declared.number.Sym.{Sym}
 use Rattle.mm_frame.specs.declared.tables.Entry.{Entry}
 use Rattle.mm_frame.specs.declared.tables.LabelInfo.{LabelInfo}
 use Rattle.mm_frame.specs.Sentence.{Sentence, IsLabelled, IsAssertion}
-use Rattle.mm_frame.specs.Form.{IsNamed, AllFormed}
-use Rattle.mm_frame.specs.Numbers.{labelled, IsNumbered}
+use Rattle.mm_frame.specs.Form.{HasItsLabel, AllFormed}
+use Rattle.mm_frame.specs.Numbers.{labelled_sentences, IsNumbered}
 use Rattle.mm_frame.specs.FramePlace.{AreHypotheses, ArePairs}
-use Rattle.mm_frame.specs.Layout.{sentences, sentence_by, AreLabels, AreFrames}
+use Rattle.mm_frame.specs.Layout.{sentences, sentence_by, AreLabelInfos, AreFrames}
 use Rattle.mm_frame.proofs.Pushed.{get_within}
 use Rattle.mm_frame.proofs.NameLists.{get_mapped, get_unmapped}
 use Rattle.mm_frame.proofs.Labelled.{numbered_get, numbered_within, numbered_unique, numbered_from_get}
@@ -19,14 +19,14 @@ use Rattle.mm_frame.proofs.Entries.{sentence_at}
 use Rattle.mm_frame.proofs.FrameLaws.{at_place}
 
 -- what is known of a label has its statement's place
-pub same_place : (st : List Sentence) (labels : List (List ℕ)) (named : List LabelInfo) (log : List Entry) (id place : ℕ) (s : Sentence) (info : LabelInfo) → AreLabels st labels named log
+pub same_place : (st : List Sentence) (labels : List (List ℕ)) (named : List LabelInfo) (log : List Entry) (id place : ℕ) (s : Sentence) (info : LabelInfo) → AreLabelInfos st labels named log
     → slice_get named id ≡ Some info → IsNumbered st id place s → info.place ≡ place
 same_place st labels named log id place s info are there numbered =
     let (t, other) = are.each id info there in
     (numbered_unique st id info.place place t s other numbered).0
 
 -- something is known of each label
-pub no_info : (st : List Sentence) (labels : List (List ℕ)) (named : List LabelInfo) (log : List Entry) (id place : ℕ) (s : Sentence) → AreLabels st labels named log
+pub no_info : (st : List Sentence) (labels : List (List ℕ)) (named : List LabelInfo) (log : List Entry) (id place : ℕ) (s : Sentence) → AreLabelInfos st labels named log
     → slice_get named id ≡ None → IsNumbered st id place s → ⊥
 no_info st labels named log id place s are none numbered =
     let within = numbered_within st id place s numbered in
@@ -37,21 +37,21 @@ no_info st labels named log id place s are none numbered =
     absurd (cc)
 
 -- the label with a number
-pub label_at : (st : List Sentence) (labels : List (List ℕ)) (named : List LabelInfo) (log : List Entry) (id place : ℕ) (s : Sentence) → AreLabels st labels named log
+pub label_at : (st : List Sentence) (labels : List (List ℕ)) (named : List LabelInfo) (log : List Entry) (id place : ℕ) (s : Sentence) → AreLabelInfos st labels named log
     → IsNumbered st id place s → (l : List ℕ) × (slice_get labels id ≡ Some l) × IsLabelled l s
 label_at st labels named log id place s are numbered =
-    let mapped = get_mapped (λ (t : Sentence). t.label) (labelled st) id s (numbered_get st id place s numbered) in
+    let mapped = get_mapped (λ (t : Sentence). t.label) (labelled_sentences st) id s (numbered_get st id place s numbered) in
     let other : slice_get (map (λ l. Some l) labels) id ≡ Some s.label = subst (λ (ls : List (Option (List ℕ))). slice_get ls id ≡ Some s.label) are.all mapped in
     let (l, at, same) = get_unmapped (λ (l : List ℕ). Some l) labels id s.label other in
     (l, at, sym same)
 
 -- the statement of a label's number
-pub labelled_at : (st : List Sentence) (labels : List (List ℕ)) (named : List LabelInfo) (log : List Entry) (id : ℕ) (l : List ℕ) → AreLabels st labels named log
+pub labelled_at : (st : List Sentence) (labels : List (List ℕ)) (named : List LabelInfo) (log : List Entry) (id : ℕ) (l : List ℕ) → AreLabelInfos st labels named log
     → slice_get labels id ≡ Some l → (place : ℕ) × (s : Sentence) × IsNumbered st id place s × IsLabelled l s
 labelled_at st labels named log id l are at =
     let mapped = get_mapped (λ (l : List ℕ). Some l) labels id l at in
-    let other : slice_get (map (λ (t : Sentence). t.label) (labelled st)) id ≡ Some (Some l) = subst (λ (ls : List (Option (List ℕ))). slice_get ls id ≡ Some (Some l)) (sym are.all) mapped in
-    let (s, there, same) = get_unmapped (λ (t : Sentence). t.label) (labelled st) id (Some l) other in
+    let other : slice_get (map (λ (t : Sentence). t.label) (labelled_sentences st)) id ≡ Some (Some l) = subst (λ (ls : List (Option (List ℕ))). slice_get ls id ≡ Some (Some l)) (sym are.all) mapped in
+    let (s, there, same) = get_unmapped (λ (t : Sentence). t.label) (labelled_sentences st) id (Some l) other in
     let (p, numbered) = numbered_from_get st id s there in
     (p, s, numbered, same)
 
@@ -64,12 +64,12 @@ entry_kind symbols labels flat log place e s there said =
     ap (λ (t : Sentence). t.kind) is
 
 -- a labelled statement's kind is one with a label
-pub named_kind : (st : List Sentence) (place : ℕ) (s : Sentence) (l : List ℕ) → AllFormed st → slice_get st place ≡ Some s → IsLabelled l s → IsNamed s.kind (Some l)
-named_kind st place s l formed there named = subst (λ (o : Option (List ℕ)). IsNamed s.kind o) named (formed place s there).label
+pub named_kind : (st : List Sentence) (place : ℕ) (s : Sentence) (l : List ℕ) → AllFormed st → slice_get st place ≡ Some s → IsLabelled l s → HasItsLabel s.kind (Some l)
+named_kind st place s l formed there named = subst (λ (o : Option (List ℕ)). HasItsLabel s.kind o) named (formed place s there).label
 
 -- a part of the hypotheses of all assertions
 pub frame_hypotheses : (st : List Sentence) (labels : List (List ℕ)) (named : List LabelInfo) (log : List Entry) (hs : List LabelId) (pairs : List (Sym × Sym)) (id place : ℕ) (s : Sentence) (info : LabelInfo) (part : List LabelId)
-    → AreLabels st labels named log → AreFrames st hs pairs named → slice_get named id ≡ Some info
+    → AreLabelInfos st labels named log → AreFrames st hs pairs named → slice_get named id ≡ Some info
     → (info.hypotheses.start ≤ info.hypotheses.end → info.hypotheses.end ≤ length hs → part ≡ slice_range hs info.hypotheses.start info.hypotheses.end)
     → IsNumbered st id place s → IsAssertion s.kind → AreHypotheses (at_place st place) (map (λ h. h.0) part)
 frame_hypotheses st labels named log hs pairs id place s info part are frames there is numbered asserts =
@@ -82,7 +82,7 @@ frame_hypotheses st labels named log hs pairs id place s info part are frames th
 
 -- a part of the distinct pairs of all assertions
 pub frame_pairs : (st : List Sentence) (labels : List (List ℕ)) (named : List LabelInfo) (log : List Entry) (hs : List LabelId) (pairs : List (Sym × Sym)) (id place : ℕ) (s : Sentence) (info : LabelInfo) (part : List (Sym × Sym))
-    → AreLabels st labels named log → AreFrames st hs pairs named → slice_get named id ≡ Some info
+    → AreLabelInfos st labels named log → AreFrames st hs pairs named → slice_get named id ≡ Some info
     → (info.pairs.start ≤ info.pairs.end → info.pairs.end ≤ length pairs → part ≡ slice_range pairs info.pairs.start info.pairs.end)
     → IsNumbered st id place s → IsAssertion s.kind → ArePairs (at_place st place) (map (λ pair. (pair.0.0, pair.1.0)) part)
 frame_pairs st labels named log hs pairs id place s info part are frames there is numbered asserts =
@@ -95,7 +95,7 @@ frame_pairs st labels named log hs pairs id place s info part are frames there i
 
 -- a labelled statement's entry has its kind, which is one with a label
 pub entry_named : (symbols labels : List (List ℕ)) (flat : List Sym) (log : List Entry) (place : ℕ) (e : Entry) (s : Sentence) (l : List ℕ) → AllFormed (sentences symbols labels flat log)
-    → slice_get log place ≡ Some e → slice_get (sentences symbols labels flat log) place ≡ Some s → IsLabelled l s → (s.kind ≡ e.kind) × IsNamed e.kind (Some l)
+    → slice_get log place ≡ Some e → slice_get (sentences symbols labels flat log) place ≡ Some s → IsLabelled l s → (s.kind ≡ e.kind) × HasItsLabel e.kind (Some l)
 entry_named symbols labels flat log place e s l formed there said named =
     let same = entry_kind symbols labels flat log place e s there said in
-    (sym same, subst (λ (k : Kind). IsNamed k (Some l)) (sym same) (named_kind (sentences symbols labels flat log) place s l formed said named))
+    (sym same, subst (λ (k : Kind). HasItsLabel k (Some l)) (sym same) (named_kind (sentences symbols labels flat log) place s l formed said named))

@@ -4,14 +4,14 @@ use Rattle.std.specs.Result.{OnErr}
 use Rattle.mm_frame.specs.declared.tables.Tables.{Tables}
 use Rattle.mm_frame.specs.ScopesOf.{HaveScopes}
 use Rattle.mm_frame.specs.Form.{IsSound}
-use Rattle.mm_frame.specs.Layout.{AreTables, AreInfos, AreLabels, AreEntries, AreEssentials, AreFrames, AreStated, statements_of}
+use Rattle.mm_frame.specs.Layout.{AreTables, AreInfos, AreLabelInfos, AreEntries, AreEssentials, AreFrames, AreStated, statements_of}
 use Rattle.mm_frame.specs.Grows.{SameLists, IsSame}
 
 pub same_tables : (t u : Tables) → AreTables t → SameLists t u → IsSame t u
 same_tables t u a s =
     let st : statements_of u ≡ statements_of t = rw (s.symbols, s.labels, s.flat, s.log) refl in
     let i : AreInfos (statements_of u) u.symbols.names u.infos.items = rw (st, s.symbols, s.infos) a.infos in
-    let l : AreLabels (statements_of u) u.labels.names u.named.items u.log.items = rw (st, s.labels, s.named, s.log) a.labels in
+    let l : AreLabelInfos (statements_of u) u.labels.names u.named.items u.log.items = rw (st, s.labels, s.named, s.log) a.labels in
     let n : AreEntries u.symbols.names u.labels.names u.flat.items u.log.items = rw (s.symbols, s.labels, s.flat, s.log) a.entries in
     let h : HaveScopes (statements_of u) u.scopes = rw (st, s.scopes.blocks, s.scopes.ends, s.scopes.open_blocks) a.scopes in
     let e : AreEssentials (statements_of u) u.essentials.items = rw (st, s.essentials) a.essentials in

@@ -4,7 +4,7 @@ use Rattle.std.specs.List.{slice_get}
 use Rattle.mm_text.specs.declared.statement.Kind.{Kind}
 use Rattle.mm_text.specs.declared.statement.Kind.TheVariants.{Constants, Variables, Distinct, Floating, Essential, Axiom, Provable, Opening, Closing}
 use Rattle.mm_frame.specs.Sentence.{Sentence}
-use Rattle.mm_frame.specs.Active.{IsActive, openings, closings, is_opening}
+use Rattle.mm_frame.specs.Active.{IsActive, open_marks, close_marks, is_opening}
 use Rattle.mm_frame.specs.Scopes.{AreScopes}
 use Rattle.mm_frame.proofs.Actives.{scope_active}
 use Rattle.mm_frame.proofs.Depth.{scope_depth, scope_block_within, scope_stack_within}
@@ -81,7 +81,7 @@ split_last stack below (Some top) some e = (top, e, rw e (get_pushed below top),
 pub closed : (never : ℕ) (st : List Sentence) (e : Sentence) (blocks ends stack below : List ℕ) (popped : Option ℕ) (top under : ℕ)
     → ((k : ℕ) → length stack ≡ suc k → slice_get stack k ≡ Some top) → ((k : ℕ) → length below ≡ suc k → slice_get below k ≡ Some under)
     → stack ≡ below ++ option_to_list popped → (1 ≤ length stack → IsSome popped)
-    → AreScopes never st blocks ends stack → e.kind ≡ Closing → closings st < openings st
+    → AreScopes never st blocks ends stack → e.kind ≡ Closing → close_marks st < open_marks st
     → (top < length ends) × AreScopes never (st ++ e ∷ []) (blocks ++ under ∷ []) (set ends top (length blocks)) below
 closed never st e blocks ends stack below popped top under inner outer split len a is_close more =
     let d = scope_depth never st blocks ends stack a in

@@ -7,19 +7,19 @@ use Rattle.std.proofs.lemmas.List.{drop-append-le, take-append-le, take_all}
 use Rattle.std.proofs.Math.Seq.{take-append_seam}
 use Rattle.mm_text.specs.declared.statement.Kind.TheVariants.{Opening, Closing}
 use Rattle.mm_frame.specs.Sentence.{Sentence}
-use Rattle.mm_frame.specs.Active.{is_opening, is_closing, openings, closings, IsOpen}
+use Rattle.mm_frame.specs.Active.{is_opening, is_closing, open_marks, close_marks, IsOpen}
 use Rattle.mm_frame.specs.Scopes.{IsUnclosed, IsBegun, IsEnd, IsOnStack, DirectlyHolds, AreScopes}
 use Rattle.mm_frame.proofs.Pushed.{get_kept, get_pushed, pushed_cases, get_before, get_set_cases}
 use Rattle.mm_frame.proofs.Counts.{openings-append, closings-append, unclosed_pushed, unclosed_before, unclosed_all, unclosed_new}
 
 -- what one statement opens and closes
-pub openings_one : (e : Sentence) (b : Bool) → is_opening e.kind ≡ b → openings (e ∷ []) ≡ cond b 1 0
+pub openings_one : (e : Sentence) (b : Bool) → is_opening e.kind ≡ b → open_marks (e ∷ []) ≡ cond b 1 0
 openings_one e b is = ap (λ c. 0 + cond c 1 0) is ∙ same
   where
     same : 0 + cond b 1 0 ≡ cond b 1 0
     same = omega arith
 
-pub closings_one : (e : Sentence) (b : Bool) → is_closing e.kind ≡ b → closings (e ∷ []) ≡ cond b 1 0
+pub closings_one : (e : Sentence) (b : Bool) → is_closing e.kind ≡ b → close_marks (e ∷ []) ≡ cond b 1 0
 closings_one e b is = ap (λ c. 0 + cond c 1 0) is ∙ same
   where
     same : 0 + cond b 1 0 ≡ cond b 1 0
@@ -81,19 +81,19 @@ holder_grown xs e starts others b i kept lt h =
 
 -- a block on the stack stays there, where the statement's opening and closing is what the stack grows by
 on_stack_grown : (xs : List Sentence) (e : Sentence) (starts others stack next : List ℕ) (k b : ℕ) → (h : IsOnStack xs starts stack k b) → h.start ≤ length xs → AreKept starts others
-    → openings (e ∷ []) + length stack ≡ closings (e ∷ []) + length next → k < length next → IsOnStack (xs ++ e ∷ []) others next k b
+    → open_marks (e ∷ []) + length stack ≡ close_marks (e ∷ []) + length next → k < length next → IsOnStack (xs ++ e ∷ []) others next k b
 on_stack_grown xs e starts others stack next k b h le kept balance lt =
     let x = h.start in
     let o = openings-append (drop x xs) (e ∷ []) in
     let c = closings-append (drop x xs) (e ∷ []) in
     let same : drop x (xs ++ e ∷ []) ≡ drop x xs ++ e ∷ [] = drop-append-le x xs (e ∷ []) le in
     let above = h.above in
-    let sum : openings (drop x xs ++ e ∷ []) + suc k ≡ closings (drop x xs ++ e ∷ []) + length next = omega arith in
+    let sum : open_marks (drop x xs ++ e ∷ []) + suc k ≡ close_marks (drop x xs ++ e ∷ []) + length next = omega arith in
     record {
       start = x;
       there = kept b x h.there;
       unclosed = unclosed_pushed xs e x le h.unclosed (omega arith);
-      above = subst (λ ys. openings ys + suc k ≡ closings ys + length next) (sym same) sum;
+      above = subst (λ ys. open_marks ys + suc k ≡ close_marks ys + length next) (sym same) sum;
     }
 
 -- each start lies within
@@ -186,7 +186,7 @@ scopes_ordinary never xs e blocks ends stack k top a size last not_opening not_c
     let o = openings_one e false not_opening in
     let c = closings_one e false not_closing in
     let within = start_within never xs blocks ends stack a in
-    let balance : openings (e ∷ []) + length stack ≡ closings (e ∷ []) + length stack = omega arith in
+    let balance : open_marks (e ∷ []) + length stack ≡ close_marks (e ∷ []) + length stack = omega arith in
     let grown : (k b : ℕ) → slice_get stack k ≡ Some b → IsOnStack (xs ++ e ∷ []) a.starts stack k b = λ k b there.
     let h = a.on_stack k b there in
     on_stack_grown xs e a.starts a.starts stack stack k b h (within b h.start h.there) same balance (slice_get_within stack k b there) in
@@ -239,7 +239,7 @@ on_stack_new xs e starts next k b there size =
       start = suc (length xs);
       there = there;
       unclosed = unclosed_new (xs ++ e ∷ []) (suc (length xs)) (omega arith);
-      above = subst (λ ys. openings ys + suc k ≡ closings ys + length next) (sym past) (ap (λ m. 0 + m) (sym size));
+      above = subst (λ ys. open_marks ys + suc k ≡ close_marks ys + length next) (sym past) (ap (λ m. 0 + m) (sym size));
     }
 
 ended_new : (never : ℕ) (xs : List Sentence) (e : Sentence) (blocks ends stack : List ℕ) (a : AreScopes never xs blocks ends stack) (new b x c : ℕ) → slice_get (a.starts ++ new ∷ []) b ≡ Some x → slice_get (ends ++ never ∷ []) b ≡ Some c
@@ -274,7 +274,7 @@ scopes_opening never xs e blocks ends stack k top a size last opens =
     let longer = length_pushed xs e in
     let within = start_within never xs blocks ends stack a in
     let new_start : slice_get starts (length ends) ≡ Some (suc n) = subst (λ i. slice_get starts i ≡ Some (suc n)) (sym sized) (get_pushed a.starts (suc n)) in
-    let balance : openings (e ∷ []) + length stack ≡ closings (e ∷ []) + length next = omega arith in
+    let balance : open_marks (e ∷ []) + length stack ≡ close_marks (e ∷ []) + length next = omega arith in
     let old : (k b : ℕ) → slice_get stack k ≡ Some b → IsOnStack (xs ++ e ∷ []) starts next k b = λ k b there.
     let h = a.on_stack k b there in
     let lt = slice_get_within stack k b there in
@@ -324,7 +324,7 @@ closed_by xs e starts stack k b h le size closes still =
     let x = h.start in
     let all = unclosed_all (xs ++ e ∷ []) x still in
     let same : drop x (xs ++ e ∷ []) ≡ drop x xs ++ e ∷ [] = drop-append-le x xs (e ∷ []) le in
-    let all' : closings (drop x xs ++ e ∷ []) ≤ openings (drop x xs ++ e ∷ []) = subst (λ ys. closings ys ≤ openings ys) same all in
+    let all' : close_marks (drop x xs ++ e ∷ []) ≤ open_marks (drop x xs ++ e ∷ []) = subst (λ ys. close_marks ys ≤ open_marks ys) same all in
     let above = h.above in
     let o = openings_one e false (ap is_opening closes) in
     let c = closings_one e true (ap is_closing closes) in
@@ -351,7 +351,7 @@ scopes_closing never xs e blocks ends below k top under a size last closes =
     let c = closings_one e true (ap is_closing closes) in
     let within = start_within never xs blocks ends stack a in
     let up : (k b : ℕ) → slice_get below k ≡ Some b → slice_get stack k ≡ Some b = λ k b there. get_kept below (top ∷ []) k b there in
-    let balance : openings (e ∷ []) + length stack ≡ closings (e ∷ []) + length below = omega arith in
+    let balance : open_marks (e ∷ []) + length stack ≡ close_marks (e ∷ []) + length below = omega arith in
     let grown : (k b : ℕ) → slice_get below k ≡ Some b → IsOnStack (xs ++ e ∷ []) a.starts below k b = λ k b there.
     let h = a.on_stack k b (up k b there) in
     on_stack_grown xs e a.starts a.starts stack below k b h (within b h.start h.there) same balance (slice_get_within below k b there) in

@@ -13,7 +13,7 @@ use Rattle.mm_frame.specs.Numbers.{symbols_of, AreNumbers, IsNumberOf}
 use Rattle.mm_frame.specs.Rules.{IsMeant}
 use Rattle.mm_frame.specs.declared.rule.MeaningRule.TheVariants.{M9}
 use Rattle.mm_frame.specs.Stated.{Stated}
-use Rattle.mm_frame.specs.Separated.{ordered, stated_at, IsOld, IsFresh, IsPassed, ArePaired}
+use Rattle.mm_frame.specs.Separated.{ordered_pair, stated_at, IsOld, IsFresh, IsPassed, ArePaired}
 use Rattle.mm_frame.proofs.Pushed.{get_kept, get_pushed, pushed_cases}
 use Rattle.mm_frame.proofs.NameLists.{get_mapped, get_unmapped}
 use Rattle.mm_frame.proofs.Numbered.{At, StandOnce, once_pushed, at_from_contains, contains_from_at, symbols_unique}
@@ -21,14 +21,14 @@ use Rattle.mm_frame.proofs.Repeats.{twice_some}
 use Rattle.mm_frame.proofs.Those.{distinct_other}
 use Rattle.mm_frame.proofs.DistinctAt.{AreNew}
 
-ordered_less : (a b : ℕ) → a < b → ordered a b ≡ (a, b)
+ordered_less : (a b : ℕ) → a < b → ordered_pair a b ≡ (a, b)
 ordered_less a b lt = ap (λ c. if c then (a, b) else (b, a)) (lt-ltb a b lt)
 
-ordered_more : (a b : ℕ) → b ≤ a → ordered a b ≡ (b, a)
+ordered_more : (a b : ℕ) → b ≤ a → ordered_pair a b ≡ (b, a)
 ordered_more a b le = ap (λ c. if c then (a, b) else (b, a)) (le-ltb a b le)
 
 -- a pair in order is of the same two numbers
-same_two : (a b c d : ℕ) → ordered a b ≡ ordered c d → ((a ≡ c) × (b ≡ d)) ⊎ ((a ≡ d) × (b ≡ c))
+same_two : (a b c d : ℕ) → ordered_pair a b ≡ ordered_pair c d → ((a ≡ c) × (b ≡ d)) ⊎ ((a ≡ d) × (b ≡ c))
 same_two a b c d same = elim (cases_lt a b) [
   | inl lt ↦ elim (cases_lt c d) [
     | inl lt' ↦ let e = sym (ordered_less a b lt) ∙ same ∙ ordered_less c d lt' in inl (ap (λ p. p.0) e, ap (λ p. p.1) e)
@@ -99,28 +99,28 @@ paired_pass st members i j a b pairs at_j at_i old are = record {
 
 -- One pair of members more, that isn't distinct yet.
 pub paired_push : (st : List Sentence) (members : List Sym) (i j : ℕ) (a b : Sym) (pairs : List (ℕ × ℕ)) → j < i → slice_get members j ≡ Some a → slice_get members i ≡ Some b → IsFresh st b.0 a.0
-    → ArePaired st members i j pairs → ArePaired st members i (j + 1) (pairs ++ ordered b.0 a.0 ∷ [])
+    → ArePaired st members i j pairs → ArePaired st members i (j + 1) (pairs ++ ordered_pair b.0 a.0 ∷ [])
 paired_push st members i j a b pairs less at_j at_i fresh are = record {
-  only = λ k pair there. elim (pushed_cases pairs (ordered b.0 a.0) k pair there) [
+  only = λ k pair there. elim (pushed_cases pairs (ordered_pair b.0 a.0) k pair there) [
     | inl before ↦ let (u, v, c, d, passed, at_u, at_v, is, none) = are.only k pair before in (u, v, c, d, passed_more i j u v passed, at_u, at_v, is, none)
     | inr (last, is) ↦ (j, i, a, b, (less, inr (refl, omega arith)), at_j, at_i, sym is, fresh)
   ];
-  once = λ stand. once_pushed pairs (ordered b.0 a.0) (are.once stand) (absent stand);
+  once = λ stand. once_pushed pairs (ordered_pair b.0 a.0) (are.once stand) (absent stand);
   each = λ u v c d passed at_u at_v. elim (passed_cases i j u v passed) [
     | inl before ↦ elim (are.each u v c d before at_u at_v) [
-      | inl (k, at) ↦ inl (k, get_kept pairs (ordered b.0 a.0 ∷ []) k (ordered d.0 c.0) at)
+      | inl (k, at) ↦ inl (k, get_kept pairs (ordered_pair b.0 a.0 ∷ []) k (ordered_pair d.0 c.0) at)
       | inr old ↦ inr old
     ]
     | inr (is_j, is_i) ↦
         let first : a ≡ c = let at = subst (λ n. slice_get members n ≡ Some c) is_j at_u in cc in
         let second : b ≡ d = let at = subst (λ n. slice_get members n ≡ Some d) is_i at_v in cc in
-        inl (length pairs, get_pushed pairs (ordered b.0 a.0) ∙ ap (λ (n : Sym). Some (ordered n.0 a.0)) second ∙ ap (λ (n : Sym). Some (ordered d.0 n.0)) first)
+        inl (length pairs, get_pushed pairs (ordered_pair b.0 a.0) ∙ ap (λ (n : Sym). Some (ordered_pair n.0 a.0)) second ∙ ap (λ (n : Sym). Some (ordered_pair d.0 n.0)) first)
   ];
 }
   where
-    absent : StandOnce members → ¬ (At pairs (ordered b.0 a.0))
+    absent : StandOnce members → ¬ (At pairs (ordered_pair b.0 a.0))
     absent stand (k, there) =
-        let (u, v, c, d, passed, at_u, at_v, is, none) = are.only k (ordered b.0 a.0) there in
+        let (u, v, c, d, passed, at_u, at_v, is, none) = are.only k (ordered_pair b.0 a.0) there in
         elim (same_two b.0 a.0 d.0 c.0 is) [
           | inl (same_b, same_a) ↦
               let e = stand i v b at_i (at_v ∙ ap (λ n. Some n) (sym (same_number b d same_b))) in
@@ -192,7 +192,7 @@ IsAdded st s symbols p =
     (p.0 < p.1) × (x : List ℕ) × (y : List ℕ) × (slice_get symbols p.0 ≡ Some x) × (slice_get symbols p.1 ≡ Some y) × Contains s.symbols x × Contains s.symbols y × ¬ (IsDistinct st x y)
 
 added : (st : List Sentence) (s : Sentence) (symbols : List (List ℕ)) (members : List Sym) (u v : ℕ) (a b : Sym) → symbols ≡ symbols_of st → AreNumbers st (map (λ n. n.0) members) s.symbols → StandOnce members → u < v
-    → slice_get members u ≡ Some a → slice_get members v ≡ Some b → IsFresh st b.0 a.0 → IsAdded st s symbols (ordered b.0 a.0)
+    → slice_get members u ≡ Some a → slice_get members v ≡ Some b → IsFresh st b.0 a.0 → IsAdded st s symbols (ordered_pair b.0 a.0)
 added st s symbols members u v a b all numbers stand lt at_u at_v fresh =
     let (x, in_u, name_u) = member_name (symbols_of st) members s.symbols u a numbers at_u in
     let (y, in_v, name_v) = member_name (symbols_of st) members s.symbols v b numbers at_v in
@@ -234,13 +234,13 @@ new_from_paired st s symbols members pairs all kind meant numbers are = record {
             absurd (omega arith)
         | inr (inl before) ↦ elim (are.each u v m n (before, inl (slice_get_within members v n n_at)) m_at n_at) [
           | inl (k, at) ↦
-              let pair : ordered n.0 m.0 ≡ (a, b) = ordered_more n.0 m.0 (omega arith) ∙ ap (λ p. (p, n.0)) is_a ∙ ap (λ q. (a, q)) is_b in
+              let pair : ordered_pair n.0 m.0 ≡ (a, b) = ordered_more n.0 m.0 (omega arith) ∙ ap (λ p. (p, n.0)) is_a ∙ ap (λ q. (a, q)) is_b in
               inl (k, stated_at (length st) (a, b), get_mapped (stated_at (length st)) pairs k (a, b) (at ∙ ap (λ z. Some z) pair), refl)
           | inr old ↦ inr (distinct_other st y x (old y x n_name m_name))
         ]
         | inr (inr after) ↦ elim (are.each v u n m (after, inl (slice_get_within members u m m_at)) n_at m_at) [
           | inl (k, at) ↦
-              let pair : ordered m.0 n.0 ≡ (a, b) = ordered_less m.0 n.0 (omega arith) ∙ ap (λ p. (p, n.0)) is_a ∙ ap (λ q. (a, q)) is_b in
+              let pair : ordered_pair m.0 n.0 ≡ (a, b) = ordered_less m.0 n.0 (omega arith) ∙ ap (λ p. (p, n.0)) is_a ∙ ap (λ q. (a, q)) is_b in
               inl (k, stated_at (length st) (a, b), get_mapped (stated_at (length st)) pairs k (a, b) (at ∙ ap (λ z. Some z) pair), refl)
           | inr old ↦ inr (old x y m_name n_name)
         ]

@@ -11,7 +11,7 @@ use Rattle.mm_frame.specs.Rules.{IsMeant}
 use Rattle.mm_frame.specs.Form.{IsFormedSentence}
 use Rattle.mm_frame.specs.Numbers.{AreNumbers, declared_by, declared_in}
 use Rattle.mm_frame.specs.ScopesOf.{HaveScopes}
-use Rattle.mm_frame.specs.Layout.{AreTables, AreInfos, AreLabels, AreEssentials, AreFrames, AreStated, names_by, statements_of}
+use Rattle.mm_frame.specs.Layout.{AreTables, AreInfos, AreLabelInfos, AreEssentials, AreFrames, AreStated, names_by, statements_of}
 use Rattle.mm_frame.specs.Grows.{Grows, entry_of}
 use Rattle.mm_frame.specs.Separated.{ArePaired, stated_at}
 use Rattle.mm_frame.proofs.Labels.{labels_none, essentials_other}
@@ -81,7 +81,7 @@ grown t v s members pairs bytes tables are new paired =
     let supposes : ¬ (s.kind ≡ Essential) = λ is. absurd (let k = new.kind in cc) in
     let closes : ¬ (s.kind ≡ Closing) = λ is. absurd (let k = new.kind in cc) in
     let infos : AreInfos (st ++ s ∷ []) v.symbols.names v.infos.items = rw (are.symbols, are.infos) (infos_other st t.symbols.names t.infos.items s tables.infos declares types) in
-    let labels : AreLabels (st ++ s ∷ []) v.labels.names v.named.items v.log.items = rw (are.labels, are.named, are.log) (labels_none st t.labels.names t.named.items t.log.items s _ tables.labels new.label refl size) in
+    let labels : AreLabelInfos (st ++ s ∷ []) v.labels.names v.named.items v.log.items = rw (are.labels, are.named, are.log) (labels_none st t.labels.names t.named.items t.log.items s _ tables.labels new.label refl size) in
     let essentials : AreEssentials (st ++ s ∷ []) v.essentials.items = rw are.essentials (essentials_other st t.essentials.items s tables.essentials supposes closes) in
     let others : AreFrames (st ++ s ∷ []) (t.hypotheses.items ++ []) (t.pairs.items ++ []) t.named.items =
     frames_other st s t.hypotheses.items [] t.pairs.items [] t.named.items (placed st t.labels.names t.named.items t.log.items tables.labels) tables.frames in

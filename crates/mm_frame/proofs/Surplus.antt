@@ -3,7 +3,7 @@ use Rattle.std.proofs.Common.{◌≡◌, ℕ, zero, suc, ◌+◌, ◌<◌, ◌�
 use Rattle.mm_text.specs.declared.statement.Kind.{Kind}
 use Rattle.mm_text.specs.declared.statement.Kind.TheVariants.{Constants, Variables, Distinct, Floating, Essential, Axiom, Provable, Opening, Closing}
 use Rattle.mm_frame.specs.Sentence.{Sentence}
-use Rattle.mm_frame.specs.Active.{is_opening, is_closing, openings, closings, IsOpen}
+use Rattle.mm_frame.specs.Active.{is_opening, is_closing, open_marks, close_marks, IsOpen}
 use Rattle.mm_frame.proofs.Counts.{openings-append, closings-append}
 use Rattle.mm_frame.proofs.ScopeLaws.{openings_one, closings_one}
 
@@ -23,7 +23,7 @@ block_cases Provable = inr (inr ((λ e. absurd (cc)), (λ e. absurd (cc)), refl,
 
 -- no front has more `$}` than `${` and so many
 abbrev FrontsWithin : List Sentence → ℕ → Type 0
-FrontsWithin xs d = (n : ℕ) → closings (take n xs) ≤ openings (take n xs) + d
+FrontsWithin xs d = (n : ℕ) → close_marks (take n xs) ≤ open_marks (take n xs) + d
 
 -- some block is open
 abbrev SomeOpen : List Sentence → Type 0
@@ -31,7 +31,7 @@ SomeOpen xs = (p : ℕ) × IsOpen xs p
 
 -- the counts of a list by its first element
 counts : (x : Sentence) (xs : List Sentence) (o c : Bool) → is_opening x.kind ≡ o → is_closing x.kind ≡ c
-    → (openings (x ∷ xs) ≡ cond o 1 0 + openings xs) × (closings (x ∷ xs) ≡ cond c 1 0 + closings xs)
+    → (open_marks (x ∷ xs) ≡ cond o 1 0 + open_marks xs) × (close_marks (x ∷ xs) ≡ cond c 1 0 + close_marks xs)
 counts x xs o c is_o is_c =
     let os = openings-append (x ∷ []) xs in
     let cs = closings-append (x ∷ []) xs in
@@ -53,10 +53,10 @@ fronts_step x xs o c d k is_o is_c le within (suc n) =
 
 -- Either some block is open or no front has too many `$}`; and with more `${` than `$}` some block is open.
 surplus : (xs : List Sentence)
-    → ((d : ℕ) → closings xs ≤ openings xs + d → SomeOpen xs ⊎ FrontsWithin xs d) × (closings xs < openings xs → SomeOpen xs)
+    → ((d : ℕ) → close_marks xs ≤ open_marks xs + d → SomeOpen xs ⊎ FrontsWithin xs d) × (close_marks xs < open_marks xs → SomeOpen xs)
 surplus [] = ((λ d le. inr (λ n. nothing d n)), (λ lt. absurd (omega arith)))
   where
-    nothing : (d n : ℕ) → closings (take n []) ≤ openings (take n []) + d
+    nothing : (d n : ℕ) → close_marks (take n []) ≤ open_marks (take n []) + d
     nothing d zero = omega arith
     nothing d (suc n) = omega arith
 surplus (x ∷ xs) = elim (block_cases x.kind) [
@@ -84,8 +84,8 @@ surplus (x ∷ xs) = elim (block_cases x.kind) [
       )
 ]
   where
-    closed : (x : Sentence) (xs : List Sentence) (d : ℕ) → is_opening x.kind ≡ false → is_closing x.kind ≡ true → suc (closings xs) ≤ openings xs + d
-        → ((d : ℕ) → closings xs ≤ openings xs + d → SomeOpen xs ⊎ FrontsWithin xs d) × (closings xs < openings xs → SomeOpen xs)
+    closed : (x : Sentence) (xs : List Sentence) (d : ℕ) → is_opening x.kind ≡ false → is_closing x.kind ≡ true → suc (close_marks xs) ≤ open_marks xs + d
+        → ((d : ℕ) → close_marks xs ≤ open_marks xs + d → SomeOpen xs ⊎ FrontsWithin xs d) × (close_marks xs < open_marks xs → SomeOpen xs)
         → SomeOpen (x ∷ xs) ⊎ FrontsWithin (x ∷ xs) d
     closed x xs zero is_o is_c le (either, some) = inl (later x xs (some (omega arith)))
     closed x xs (suc d) is_o is_c le (either, some) = elim (either d (omega arith)) [
@@ -93,5 +93,5 @@ surplus (x ∷ xs) = elim (block_cases x.kind) [
       | inr within ↦ inr (fronts_step x xs false true (suc d) d is_o is_c (omega arith) within)
     ]
 
-pub some_open : (xs : List Sentence) → closings xs < openings xs → (p : ℕ) × IsOpen xs p
+pub some_open : (xs : List Sentence) → close_marks xs < open_marks xs → (p : ℕ) × IsOpen xs p
 some_open xs lt = (surplus xs).1 lt

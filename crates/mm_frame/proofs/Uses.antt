@@ -15,9 +15,9 @@ use Rattle.mm_frame.specs.declared.answer.Taken.{Taken}
 use Rattle.mm_frame.specs.declared.answer.Taken.TheVariants.{Declared}
 use Rattle.mm_frame.specs.declared.number.Sym.{Sym}
 use Rattle.mm_frame.specs.declared.tables.Tables.{Tables}
-use Rattle.mm_frame.specs.Sentence.{Sentence, said, said_by, IsUse}
+use Rattle.mm_frame.specs.Sentence.{Sentence, sentence_of, sentence_in, IsUse}
 use Rattle.mm_frame.specs.Rules.{IsMeant}
-use Rattle.mm_frame.specs.Form.{IsNamed, IsFormedSentence}
+use Rattle.mm_frame.specs.Form.{HasItsLabel, IsFormedSentence}
 use Rattle.mm_frame.specs.Numbers.{symbols_of, AreNumbers, IsNumberOf}
 use Rattle.mm_frame.specs.Layout.{IsDeclared, statements_of}
 use Rattle.mm_frame.specs.Taken.{TakenAs}
@@ -48,11 +48,11 @@ numbers_length st numbers symbols are =
     sym (length-map (map (λ (n : Sym). n.0) numbers) (slice_get (symbols_of st)) ∙ length-map numbers (λ (n : Sym). n.0)) ∙ ap length are ∙ length-map symbols (λ x. Some x)
 
 -- what a statement uses is declared
-pub uses_declared : (st : List Sentence) (s : Statement) → IsMeant st (said_by s) → IsUse s.kind → (x : List ℕ) → Contains (texts_of s.symbols.items) x → IsDeclared st x
-uses_declared st s meant used x there = used_declared st (said_by s) x meant used (subst (λ xs. Contains xs x) (sym (texts s.symbols.items)) there)
+pub uses_declared : (st : List Sentence) (s : Statement) → IsMeant st (sentence_in s) → IsUse s.kind → (x : List ℕ) → Contains (texts_of s.symbols.items) x → IsDeclared st x
+uses_declared st s meant used x there = used_declared st (sentence_in s) x meant used (subst (λ xs. Contains xs x) (sym (texts s.symbols.items)) there)
 
 -- the numbers of what a statement says
-pub numbers_said : (st : List Sentence) (s : Statement) (numbers : List Sym) → AreNumbers st (map (λ n. n.0) numbers) (texts_of s.symbols.items) → AreNumbers st (map (λ n. n.0) numbers) (said_by s).symbols
+pub numbers_said : (st : List Sentence) (s : Statement) (numbers : List Sym) → AreNumbers st (map (λ n. n.0) numbers) (texts_of s.symbols.items) → AreNumbers st (map (λ n. n.0) numbers) (sentence_in s).symbols
 numbers_said st s numbers are = subst (λ xs. AreNumbers st (map (λ n. n.0) numbers) xs) (sym (texts s.symbols.items)) are
 
 pub numbers_enough : (st : List Sentence) (s : Statement) (numbers : List Sym) (bytes : ℕ) → AreNumbers st (map (λ n. n.0) numbers) (texts_of s.symbols.items) → HasForm (plain_statement s)
@@ -64,7 +64,7 @@ numbers_enough st s numbers bytes are form counted =
     let two = length-map s.symbols.items (λ (t : Token). t.text.now) in
     omega arith
 
-named_said : (kind : Kind) (label : Option PlainToken) → HasLabel kind label → IsNamed kind (option_map (λ t. t.text) label)
+named_said : (kind : Kind) (label : Option PlainToken) → HasLabel kind label → HasItsLabel kind (option_map (λ t. t.text) label)
 named_said Floating label (l, is, good) = (l.text, ap (option_map (λ (t : PlainToken). t.text)) is, good)
 named_said Essential label (l, is, good) = (l.text, ap (option_map (λ (t : PlainToken). t.text)) is, good)
 named_said Axiom label (l, is, good) = (l.text, ap (option_map (λ (t : PlainToken). t.text)) is, good)
@@ -76,7 +76,7 @@ named_said Opening label none = ap (option_map (λ (t : PlainToken). t.text)) no
 named_said Closing label none = ap (option_map (λ (t : PlainToken). t.text)) none
 
 -- what a statement of good form says is formed
-pub formed_said : (p : PlainStatement) → HasForm p → IsFormedSentence (said p)
+pub formed_said : (p : PlainStatement) → HasForm p → IsFormedSentence (sentence_of p)
 formed_said p form = record {
   count = subst (FitsCount p.kind) (sym (length-map p.symbols (λ (t : PlainToken). t.text))) form.count;
   label = named_said p.kind p.label form.label;
@@ -95,7 +95,7 @@ unlabelled_use Opening label has used none = absurd (elim used [ inl a ↦ (cc) 
 unlabelled_use Closing label has used none = absurd (elim used [ inl a ↦ (cc) | inr b ↦ elim b [ inl c ↦ (cc) | inr d ↦ elim d [ inl e ↦ (cc) | inr f ↦ elim f [ inl g ↦ (cc) | inr h ↦ (cc) ] ] ] ])
 
 -- the label that a statement says
-label_said : (s : Statement) (label : Token) → s.label ≡ Some label → (said_by s).label ≡ Some label.text.now
+label_said : (s : Statement) (label : Token) → s.label ≡ Some label → (sentence_in s).label ≡ Some label.text.now
 label_said s label is = ap (λ o. option_map (λ (t : PlainToken). t.text) (option_map plain_token o)) is
 
 -- what growth by a statement given by numbers says of it
@@ -105,25 +105,25 @@ GrowsBy t v kind label numbers bytes =
     → IsMeant (statements_of t) s → IsFormedSentence s → Grows t v s bytes
 
 pub labelled_use : {E : Type 0} (r : Result Taken E) (t v : Tables) (s : Statement) (label : Token) (numbers : List Sym) (bytes : ℕ) → s.label ≡ Some label
-    → AreNumbers (statements_of t) (map (λ n. n.0) numbers) (texts_of s.symbols.items) → IsMeant (statements_of t) (said_by s) → HasForm (plain_statement s)
+    → AreNumbers (statements_of t) (map (λ n. n.0) numbers) (texts_of s.symbols.items) → IsMeant (statements_of t) (sentence_in s) → HasForm (plain_statement s)
     → IfOk r (λ taken. TakenAs (statements_of t) s.kind taken × GrowsBy t v s.kind (Some label.text.now) numbers bytes)
-    → IfOk r (λ taken. Grows t v (said_by s) bytes × TakenAs (statements_of t) s.kind taken)
+    → IfOk r (λ taken. Grows t v (sentence_in s) bytes × TakenAs (statements_of t) s.kind taken)
 labelled_use r t v s label numbers bytes is are meant form ok = IfOk-weaker r _ _
-    (λ taken (said_as, grows). (grows (said_by s) refl (label_said s label is) (numbers_said (statements_of t) s numbers are) meant (formed_said (plain_statement s) form), said_as)) ok
+    (λ taken (said_as, grows). (grows (sentence_in s) refl (label_said s label is) (numbers_said (statements_of t) s numbers are) meant (formed_said (plain_statement s) form), said_as)) ok
 
 taken_distinct : (st : List Sentence) (kind : Kind) (taken : Taken) → kind ≡ Distinct → taken ≡ Declared → TakenAs st kind taken
 taken_distinct st kind taken is said_as = subst (λ k. TakenAs st k taken) (sym is) said_as
 
 pub unlabelled_uses : {E : Type 0} (r : Result Taken E) (t v : Tables) (s : Statement) (numbers : List Sym) (bytes : ℕ) → s.label ≡ None → IsUse s.kind
-    → AreNumbers (statements_of t) (map (λ n. n.0) numbers) (texts_of s.symbols.items) → IsMeant (statements_of t) (said_by s) → HasForm (plain_statement s)
+    → AreNumbers (statements_of t) (map (λ n. n.0) numbers) (texts_of s.symbols.items) → IsMeant (statements_of t) (sentence_in s) → HasForm (plain_statement s)
     → IfOk r (λ taken. (taken ≡ Declared) × GrowsBy t v Distinct None numbers bytes)
-    → IfOk r (λ taken. Grows t v (said_by s) bytes × TakenAs (statements_of t) s.kind taken)
+    → IfOk r (λ taken. Grows t v (sentence_in s) bytes × TakenAs (statements_of t) s.kind taken)
 unlabelled_uses r t v s numbers bytes none used are meant form ok =
     let bare : (plain_statement s).label ≡ None = ap (option_map plain_token) none in
     let is : s.kind ≡ Distinct = unlabelled_use s.kind (plain_statement s).label form.label used bare in
     IfOk-weaker r _ _
     (λ taken (said_as, grows). (
-      grows (said_by s) is (ap (option_map (λ (t : PlainToken). t.text)) bare) (numbers_said (statements_of t) s numbers are) meant (formed_said (plain_statement s) form),
+      grows (sentence_in s) is (ap (option_map (λ (t : PlainToken). t.text)) bare) (numbers_said (statements_of t) s numbers are) meant (formed_said (plain_statement s) form),
       taken_distinct (statements_of t) s.kind taken is said_as,
     )) ok
 

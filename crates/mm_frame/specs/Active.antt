@@ -13,11 +13,11 @@ is_closing Closing = true
 is_closing kind = false
 
 -- how many `${`, and how many `$}`
-abbrev pub openings : List Sentence → ℕ
-openings statements = count_by (λ s. is_opening s.kind) statements
+abbrev pub open_marks : List Sentence → ℕ
+open_marks statements = count_by (λ s. is_opening s.kind) statements
 
-abbrev pub closings : List Sentence → ℕ
-closings statements = count_by (λ s. is_closing s.kind) statements
+abbrev pub close_marks : List Sentence → ℕ
+close_marks statements = count_by (λ s. is_closing s.kind) statements
 
 -- The block that the statement at a place opens is open after these statements: no front of the statements after it has
 -- more `$}` than `${`.
@@ -25,7 +25,7 @@ pub record IsOpen (statements : List Sentence) (place : ℕ) : Type 0 where
   pub opening : Sentence
   pub there : slice_get statements place ≡ Some opening
   pub opened : opening.kind ≡ Opening
-  pub unclosed : (n : ℕ) → closings (take n (drop (suc place) statements)) ≤ openings (take n (drop (suc place) statements))
+  pub unclosed : (n : ℕ) → close_marks (take n (drop (suc place) statements)) ≤ open_marks (take n (drop (suc place) statements))
 
 -- The block that is opened at one place holds another: the other comes after its `${` and before its `$}`.
 abbrev pub Holds : List Sentence → ℕ → ℕ → Type 0

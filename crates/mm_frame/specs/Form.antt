@@ -8,17 +8,17 @@ use Rattle.mm_frame.specs.Sentence.{Sentence}
 use Rattle.mm_frame.specs.Rules.{AllMeant}
 
 -- a label, for the kinds that have one
-abbrev pub IsNamed : Kind → Option (List ℕ) → Type 0
-IsNamed Floating label = (l : List ℕ) × (label ≡ Some l) × IsLabel l
-IsNamed Essential label = (l : List ℕ) × (label ≡ Some l) × IsLabel l
-IsNamed Axiom label = (l : List ℕ) × (label ≡ Some l) × IsLabel l
-IsNamed Provable label = (l : List ℕ) × (label ≡ Some l) × IsLabel l
-IsNamed kind label = label ≡ None
+abbrev pub HasItsLabel : Kind → Option (List ℕ) → Type 0
+HasItsLabel Floating label = (l : List ℕ) × (label ≡ Some l) × IsLabel l
+HasItsLabel Essential label = (l : List ℕ) × (label ≡ Some l) × IsLabel l
+HasItsLabel Axiom label = (l : List ℕ) × (label ≡ Some l) × IsLabel l
+HasItsLabel Provable label = (l : List ℕ) × (label ≡ Some l) × IsLabel l
+HasItsLabel kind label = label ≡ None
 
 -- the statement has as many symbols as its kind asks for, and a label where its kind has one
 pub record IsFormedSentence (s : Sentence) : Type 0 where
   pub count : FitsCount s.kind (length s.symbols)
-  pub label : IsNamed s.kind s.label
+  pub label : HasItsLabel s.kind s.label
 
 -- each of the statements has
 abbrev pub AllFormed : List Sentence → Type 0

@@ -2,7 +2,7 @@
 use Rattle.std.specs.Prelude.{◌≡◌, ℕ, List, map, take, slice_get, Some, Contains, ◌⊎◌}
 use Rattle.mm_frame.specs.Sentence.{Sentence}
 use Rattle.mm_frame.specs.Frame.{AreMandatory, IsMandatoryPair}
-use Rattle.mm_frame.specs.Numbers.{labelled, IsNumberOf, AreNumbers}
+use Rattle.mm_frame.specs.Numbers.{labelled_sentences, IsNumberOf, AreNumbers}
 
 -- the statements of a book, and the place of the assertion
 pub record FramePlace : Type 0 where
@@ -19,7 +19,7 @@ pub record AreHypotheses (frame : FramePlace) (numbers : List ℕ) : Type 0 wher
   pub there : slice_get frame.statements frame.place ≡ Some assertion
   pub hypotheses : List Sentence
   pub mandatory : AreMandatory (before_it frame) assertion hypotheses
-  pub numbered : map (slice_get (labelled frame.statements)) numbers ≡ map Some hypotheses
+  pub numbered : map (slice_get (labelled_sentences frame.statements)) numbers ≡ map Some hypotheses
 
 -- the same pair in one order or the other
 abbrev pub IsSamePair : ℕ × ℕ → ℕ × ℕ → Type 0

@@ -3,7 +3,7 @@ use Rattle.std.specs.Prelude.{◌≡◌, ℕ, ◌+◌, ◌<◌, ◌≤◌, vec_l
 use Rattle.mm_frame.specs.declared.tables.Tables.{Tables}
 use Rattle.mm_frame.specs.Sentence.{Sentence}
 use Rattle.mm_frame.specs.ScopesOf.{HaveScopes, HasRoom, HaveSameLists}
-use Rattle.mm_frame.specs.Active.{openings, closings}
+use Rattle.mm_frame.specs.Active.{open_marks, close_marks}
 use Rattle.mm_text.specs.declared.statement.Kind.{Kind}
 use Rattle.mm_text.specs.declared.statement.Kind.TheVariants.{Closing}
 use Rattle.mm_frame.specs.declared.number.LabelId.{LabelId}
@@ -58,7 +58,7 @@ pub record Entered (old new : Tables) (kind : Kind) (tag : Option LabelId) (star
   pub flat : new.flat.items ≡ old.flat.items
   pub scopes :
       (statements : List Sentence) (s : Sentence) → HaveScopes statements old.scopes → s.kind ≡ kind
-      → (kind ≡ Closing → closings statements < openings statements) → HaveScopes (statements ++ s ∷ []) new.scopes
+      → (kind ≡ Closing → close_marks statements < open_marks statements) → HaveScopes (statements ++ s ∷ []) new.scopes
   pub essentials : new.essentials.items ≡ old.essentials.items
   pub hypotheses : new.hypotheses.items ≡ old.hypotheses.items
   pub pairs : new.pairs.items ≡ old.pairs.items

@@ -2,7 +2,7 @@
 use Rattle.std.specs.Prelude.{◌≡◌, ◌↔◌, ℕ, ◌+◌, ◌<◌, ◌≤◌, List, [], ◌∷◌, ◌++◌, length, take, slice_get, Contains, is_some, true, Some, ◌⊎◌}
 use Rattle.mm_text.specs.declared.statement.Kind.TheVariants.{Opening, Closing}
 use Rattle.mm_frame.specs.Sentence.{Sentence}
-use Rattle.mm_frame.specs.Active.{IsConstant, IsVariable, IsOpen, IsActive, openings, closings}
+use Rattle.mm_frame.specs.Active.{IsConstant, IsVariable, IsOpen, IsActive, open_marks, close_marks}
 use Rattle.mm_frame.specs.Frame.{AreMandatory}
 use Rattle.mm_frame.specs.Numbers.{IsNumberOf, IsNumbered}
 
@@ -25,7 +25,7 @@ OneLabelNumber =
     × ((n : ℕ) → IsNumbered statements n p s → IsNumbered (statements ++ more) n p s)
 
 -- the innermost open block
-pub record IsInnermost (statements : List Sentence) (place : ℕ) : Type 0 where
+pub record IsInnermostOpen (statements : List Sentence) (place : ℕ) : Type 0 where
   pub still : IsOpen statements place
   pub last : (other : ℕ) → IsOpen statements other → other ≤ place
 
@@ -35,7 +35,7 @@ OpenBlocks =
     (before : List Sentence) (s : Sentence) (p : ℕ)
     → (¬ (s.kind ≡ Closing)
     → (IsOpen (before ++ s ∷ []) p ↔ (IsOpen before p ⊎ ((s.kind ≡ Opening) × (p ≡ length before)))))
-    × ((m : ℕ) → s.kind ≡ Closing → IsInnermost before m → (IsOpen (before ++ s ∷ []) p ↔ (IsOpen before p × p < m)))
+    × ((m : ℕ) → s.kind ≡ Closing → IsInnermostOpen before m → (IsOpen (before ++ s ∷ []) p ↔ (IsOpen before p × p < m)))
 
 -- A statement is active from its place on. A `$}` ends all that is active and comes after the `${` of the innermost block;
 -- nothing else ends, and nothing begins again.
@@ -43,7 +43,7 @@ abbrev pub ActiveStatements : Type 0
 ActiveStatements =
     (before : List Sentence) (s : Sentence) (p : ℕ)
     → (¬ (s.kind ≡ Closing) → (IsActive (before ++ s ∷ []) p ↔ (IsActive before p ⊎ (p ≡ length before))))
-    × ((m : ℕ) → s.kind ≡ Closing → IsInnermost before m
+    × ((m : ℕ) → s.kind ≡ Closing → IsInnermostOpen before m
     → (IsActive (before ++ s ∷ []) p ↔ ((IsActive before p × p ≤ m) ⊎ (p ≡ length before))))
 
 -- these are the places of the open blocks, the outermost first
@@ -55,8 +55,8 @@ pub record AreOpen (statements : List Sentence) (places : List ℕ) : Type 0 whe
 abbrev pub OpenCount : Type 0
 OpenCount =
     (statements : List Sentence)
-    → ((n : ℕ) → closings (take n statements) ≤ openings (take n statements))
-    → (places : List ℕ) × AreOpen statements places × (closings statements + length places ≡ openings statements)
+    → ((n : ℕ) → close_marks (take n statements) ≤ open_marks (take n statements))
+    → (places : List ℕ) × AreOpen statements places × (close_marks statements + length places ≡ open_marks statements)
 
 -- An assertion has one list of mandatory hypotheses.
 abbrev pub OneFrame : Type 0

@@ -11,7 +11,7 @@ use Rattle.mm_frame.specs.declared.tables.Tables.{Tables}
 use Rattle.mm_frame.specs.Sentence.{Sentence, SomeSentence, Declares, Types, IsAssertion}
 use Rattle.mm_frame.specs.Active.{IsActive, IsConstant, IsVariable}
 use Rattle.mm_frame.specs.Form.{IsSound}
-use Rattle.mm_frame.specs.Numbers.{symbols_of, labelled, IsNumbered}
+use Rattle.mm_frame.specs.Numbers.{symbols_of, labelled_sentences, IsNumbered}
 use Rattle.mm_frame.specs.FramePlace.{AreHypotheses, ArePairs}
 use Rattle.mm_frame.specs.Database.{Database}
 use Rattle.mm_frame.specs.Latest.{IsLatest}
@@ -69,7 +69,7 @@ pub record IsKnown (statements : List Sentence) (x : List ℕ) (info : SymbolInf
   pub known : IsInfo statements x info
 
 -- the part lies in a list
-pub record IsWithin (part : Part) (len : ℕ) : Type 0 where
+pub record IsPartWithin (part : Part) (len : ℕ) : Type 0 where
   pub ordered : part.start ≤ part.end
   pub within : part.end ≤ len
 
@@ -81,17 +81,17 @@ pub record AreInfos (statements : List Sentence) (symbols : List (List ℕ)) (in
       → IsInfo statements x info
 
 -- what is known of each label
-pub record AreLabels (statements : List Sentence) (labels : List (List ℕ)) (named : List LabelInfo) (log : List Entry) : Type 0 where
-  pub all : map (λ s. s.label) (labelled statements) ≡ map Some labels
+pub record AreLabelInfos (statements : List Sentence) (labels : List (List ℕ)) (named : List LabelInfo) (log : List Entry) : Type 0 where
+  pub all : map (λ s. s.label) (labelled_sentences statements) ≡ map Some labels
   pub informed : length named ≡ length labels
   pub each : (id : ℕ) (info : LabelInfo) → slice_get named id ≡ Some info
       → (s : Sentence) × IsNumbered statements id info.place s
   pub logged : (place : ℕ) (e : Entry) (id : LabelId) → slice_get log place ≡ Some e → e.label ≡ Some id
-      → length (labelled (take place statements)) ≡ id.0
+      → length (labelled_sentences (take place statements)) ≡ id.0
 
 -- where the symbols of each statement stand
 pub record AreEntries (symbols : List (List ℕ)) (labels : List (List ℕ)) (flat : List Sym) (log : List Entry) : Type 0 where
-  pub within : (place : ℕ) (e : Entry) → slice_get log place ≡ Some e → IsWithin e.symbols (length flat)
+  pub within : (place : ℕ) (e : Entry) → slice_get log place ≡ Some e → IsPartWithin e.symbols (length flat)
   pub numbered : (n : ℕ) (symbol : Sym) → slice_get flat n ≡ Some symbol → symbol.0 < length symbols
   pub named : (place : ℕ) (e : Entry) (id : LabelId) → slice_get log place ≡ Some e → e.label ≡ Some id → id.0 < length labels
 
@@ -105,8 +105,8 @@ pub record AreEssentials (statements : List Sentence) (places : List ℕ) : Type
 
 -- the frame of an assertion
 pub record IsFrameInfo (statements : List Sentence) (hypotheses : List LabelId) (pairs : List (Sym × Sym)) (info : LabelInfo) : Type 0 where
-  pub hypotheses_in : IsWithin info.hypotheses (length hypotheses)
-  pub pairs_in : IsWithin info.pairs (length pairs)
+  pub hypotheses_in : IsPartWithin info.hypotheses (length hypotheses)
+  pub pairs_in : IsPartWithin info.pairs (length pairs)
   pub are_hypotheses : AreHypotheses (record { statements = statements; place = info.place })
       (map (λ id. id.0) (slice_range hypotheses info.hypotheses.start info.hypotheses.end))
   pub are_pairs : ArePairs (record { statements = statements; place = info.place })
@@ -137,7 +137,7 @@ pub record AreTables (t : Tables) : Type 0 where
   pub counted : length t.log.items + length t.flat.items ≤ 2 * t.bytes
   pub small : t.bytes ≤ 1073741824
   pub infos : AreInfos (statements_of t) t.symbols.names t.infos.items
-  pub labels : AreLabels (statements_of t) t.labels.names t.named.items t.log.items
+  pub labels : AreLabelInfos (statements_of t) t.labels.names t.named.items t.log.items
   pub entries : AreEntries t.symbols.names t.labels.names t.flat.items t.log.items
   pub scopes : HaveScopes (statements_of t) t.scopes
   pub essentials : AreEssentials (statements_of t) t.essentials.items

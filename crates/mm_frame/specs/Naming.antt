@@ -8,7 +8,7 @@ use Rattle.mm_frame.specs.declared.tables.LabelInfo.{LabelInfo}
 use Rattle.mm_frame.specs.declared.tables.Part.{Part}
 use Rattle.mm_frame.specs.declared.tables.Tables.{Tables}
 use Rattle.mm_frame.specs.Sentence.{Sentence}
-use Rattle.mm_frame.specs.Active.{openings, closings}
+use Rattle.mm_frame.specs.Active.{open_marks, close_marks}
 use Rattle.mm_frame.specs.Numbers.{with_name}
 use Rattle.mm_frame.specs.ScopesOf.{HaveScopes, HasRoom}
 use Rattle.mm_frame.specs.Grows.{entry_of}
@@ -39,7 +39,7 @@ pub record Named (old new : Tables) (kind : Kind) (label : List ℕ) (numbers : 
   pub flat : new.flat.items ≡ old.flat.items ++ numbers
   pub scopes :
       (statements : List Sentence) (s : Sentence) → HaveScopes statements old.scopes → s.kind ≡ kind
-      → (kind ≡ Closing → closings statements < openings statements) → HaveScopes (statements ++ s ∷ []) new.scopes
+      → (kind ≡ Closing → close_marks statements < open_marks statements) → HaveScopes (statements ++ s ∷ []) new.scopes
   pub essentials : new.essentials.items ≡ old.essentials.items
   pub hypotheses : new.hypotheses.items ≡ old.hypotheses.items
   pub pairs : new.pairs.items ≡ old.pairs.items

@@ -32,14 +32,14 @@ abbrev pub AreNumbers : List Sentence → List ℕ → List (List ℕ) → Type 
 AreNumbers statements numbers symbols = map (slice_get (symbols_of statements)) numbers ≡ map Some symbols
 
 -- the labelled statements in their order: a label's number is its statement's place here
-abbrev pub labelled : List Sentence → List Sentence
-labelled statements = filter (λ s. is_some s.label) statements
+abbrev pub labelled_sentences : List Sentence → List Sentence
+labelled_sentences statements = filter (λ s. is_some s.label) statements
 
 -- the labelled statement with a number, and its place
 pub record IsNumbered (statements : List Sentence) (id place : ℕ) (s : Sentence) : Type 0 where
   pub there : slice_get statements place ≡ Some s
   pub named : is_some s.label ≡ true
-  pub number : length (labelled (take place statements)) ≡ id
+  pub number : length (labelled_sentences (take place statements)) ≡ id
 
 -- the number is that of an assertion
 abbrev pub IsAssertionNumber : List Sentence → ℕ → Type 0

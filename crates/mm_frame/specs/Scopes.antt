@@ -3,12 +3,12 @@
 use Rattle.std.specs.Prelude.{◌≡◌, ℕ, suc, ◌+◌, ◌<◌, ◌≤◌, List, length, take, drop, slice_get, Some, ◌⊎◌}
 use Rattle.mm_text.specs.declared.statement.Kind.TheVariants.{Opening}
 use Rattle.mm_frame.specs.Sentence.{Sentence}
-use Rattle.mm_frame.specs.Active.{IsOpen, Holds, openings, closings}
+use Rattle.mm_frame.specs.Active.{IsOpen, Holds, open_marks, close_marks}
 
 -- a block whose inside begins at the place is open: no front of the statements from there on has more `$}` than `${`
 abbrev pub IsUnclosed : List Sentence → ℕ → Type 0
 IsUnclosed statements start =
-    (n : ℕ) → closings (take n (drop start statements)) ≤ openings (take n (drop start statements))
+    (n : ℕ) → close_marks (take n (drop start statements)) ≤ open_marks (take n (drop start statements))
 
 -- the inside of a block begins there, right after its `${`
 pub record IsBegun (statements : List Sentence) (start : ℕ) : Type 0 where
@@ -29,7 +29,7 @@ pub record IsOnStack (statements : List Sentence) (starts open_blocks : List ℕ
   pub start : ℕ
   pub there : slice_get starts block ≡ Some start
   pub unclosed : IsUnclosed statements start
-  pub above : openings (drop start statements) + suc k ≡ closings (drop start statements) + length open_blocks
+  pub above : open_marks (drop start statements) + suc k ≡ close_marks (drop start statements) + length open_blocks
 
 -- the block directly holds the statement at the place: no block that holds the statement begins later
 pub record DirectlyHolds (statements : List Sentence) (starts : List ℕ) (block place : ℕ) : Type 0 where

@@ -11,15 +11,15 @@ pub record Sentence : Type 0 where
   pub label : Option (List ℕ)
   pub symbols : List (List ℕ)
 
-abbrev pub said : PlainStatement → Sentence
-said s = record {
+abbrev pub sentence_of : PlainStatement → Sentence
+sentence_of s = record {
   kind = s.kind;
   label = option_map (λ t. t.text) s.label;
   symbols = map (λ t. t.text) s.symbols;
 }
 
-abbrev pub said_by : Statement → Sentence
-said_by s = said (plain_statement s)
+abbrev pub sentence_in : Statement → Sentence
+sentence_in s = sentence_of (plain_statement s)
 
 -- some of the statements is so
 abbrev pub SomeSentence : List Sentence → (Sentence → Type 0) → Type 0

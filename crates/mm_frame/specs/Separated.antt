@@ -7,8 +7,8 @@ use Rattle.mm_frame.specs.Numbers.{IsNumberOf}
 use Rattle.mm_frame.specs.Stated.{Stated}
 
 -- the pair of two numbers, the lesser one first
-abbrev pub ordered : ℕ → ℕ → ℕ × ℕ
-ordered a b = if nat_lt a b then (a, b) else (b, a)
+abbrev pub ordered_pair : ℕ → ℕ → ℕ × ℕ
+ordered_pair a b = if nat_lt a b then (a, b) else (b, a)
 
 -- a `$d` at the place states the pair
 abbrev pub stated_at : ℕ → ℕ × ℕ → Stated
@@ -30,8 +30,8 @@ IsPassed i j u v = (u < v) × ((v < i) ⊎ ((v ≡ i) × (u < j)))
 pub record ArePaired (statements : List Sentence) (members : List Sym) (i j : ℕ) (pairs : List (ℕ × ℕ)) : Type 0 where
   pub only : (k : ℕ) (pair : ℕ × ℕ) → slice_get pairs k ≡ Some pair
       → (u : ℕ) × (v : ℕ) × (a : Sym) × (b : Sym) × IsPassed i j u v × (slice_get members u ≡ Some a) × (slice_get members v ≡ Some b)
-      × (pair ≡ ordered b.0 a.0) × IsFresh statements b.0 a.0
+      × (pair ≡ ordered_pair b.0 a.0) × IsFresh statements b.0 a.0
   pub once : ((u v : ℕ) (a : Sym) → slice_get members u ≡ Some a → slice_get members v ≡ Some a → u ≡ v)
       → (k l : ℕ) (pair : ℕ × ℕ) → slice_get pairs k ≡ Some pair → slice_get pairs l ≡ Some pair → k ≡ l
   pub each : (u v : ℕ) (a b : Sym) → IsPassed i j u v → slice_get members u ≡ Some a → slice_get members v ≡ Some b
-      → ((k : ℕ) × (slice_get pairs k ≡ Some (ordered b.0 a.0))) ⊎ IsOld statements b.0 a.0
+      → ((k : ℕ) × (slice_get pairs k ≡ Some (ordered_pair b.0 a.0))) ⊎ IsOld statements b.0 a.0

@@ -8,11 +8,11 @@ use Rattle.mm_frame.specs.declared.number.LabelKind.{LabelKind}
 use Rattle.mm_frame.specs.declared.number.LabelKind.TheVariants as label_kinds
 use Rattle.mm_frame.specs.declared.number.LabelId.{LabelId}
 use Rattle.mm_frame.specs.Sentence.{Sentence}
-use Rattle.mm_frame.specs.Numbers.{labelled}
+use Rattle.mm_frame.specs.Numbers.{labelled_sentences}
 
 -- the number of the label that comes after these statements
 abbrev pub next_id : List Sentence → LabelId
-next_id before = record { 0 = length (labelled before) }
+next_id before = record { 0 = length (labelled_sentences before) }
 
 -- the answer to a statement of a kind after these: for one with a label, the label's number
 abbrev pub TakenAs : List Sentence → Kind → Taken → Type 0

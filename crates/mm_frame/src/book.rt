@@ -7,12 +7,13 @@ ghost use Rattle.mm_text.specs.declared.statement.Kind.TheVariants.{Closing};
 ghost use Rattle.mm_text.specs.Statement.{plain_statement, HasForm, bytes_in};
 ghost use Rattle.mm_frame.specs.declared.rule.MeaningRule.{MeaningRule};
 ghost use Rattle.mm_frame.specs.declared.answer.RuleFault.TheVariants.{Rule, Memory};
-ghost use Rattle.mm_frame.specs.Sentence.{Sentence, said_by, IsLabelled, IsAssertion};
-ghost use Rattle.mm_frame.specs.Active.{IsActive, IsVariable, openings, closings};
+ghost use Rattle.mm_frame.specs.Sentence.{Sentence, sentence_in, IsLabelled, IsAssertion};
+ghost use Rattle.mm_frame.specs.Active.{IsActive, IsVariable, open_marks, close_marks};
 ghost use Rattle.mm_frame.specs.Rules.{IsMeant, FirstBroken};
 ghost use Rattle.mm_frame.specs.Form.{IsSound};
 ghost use Rattle.mm_frame.specs.Frame.{IsDistinct};
-ghost use Rattle.mm_frame.specs.Numbers.{symbols_of, labelled, IsNumberOf, AreNumbers, IsNumbered};
+ghost use Rattle.mm_frame.specs.Numbers.{symbols_of, labelled_sentences, IsNumberOf, AreNumbers};
+ghost use Rattle.mm_frame.specs.Numbers.{IsNumbered};
 ghost use Rattle.mm_frame.specs.Numbers.{IsAssertionNumber};
 ghost use Rattle.mm_frame.specs.Found.{Finds};
 ghost use Rattle.mm_frame.specs.Taken.{TakenAs, kind_behind};
@@ -88,16 +89,16 @@ impl<'a> Book<'a> {
     pub fn take(&mut self, statement: &Statement<'a>) -> Result<Taken, RuleFault>
         requires formed { HasForm (plain_statement statement.now) }
         requires closes { statement.now.kind ≡ Closing
-            → closings self.old.statements < openings self.old.statements }
+            → close_marks self.old.statements < open_marks self.old.statements }
         requires room { self.old.bytes + bytes_in (plain_statement statement.now) ≤ 1073741824 }
-        ensures ok { IfOk result (λ taken. IsMeant self.old.statements (said_by statement.now)
+        ensures ok { IfOk result (λ taken. IsMeant self.old.statements (sentence_in statement.now)
             × (self.new ≡ record {
-              statements = self.old.statements ++ said_by statement.now ∷ [];
+              statements = self.old.statements ++ sentence_in statement.now ∷ [];
               bytes = self.old.bytes + bytes_in (plain_statement statement.now);
             })
             × TakenAs self.old.statements statement.now.kind taken) }
         ensures rule { (broken : MeaningRule) → result ≡ Err (Rule broken)
-            → FirstBroken broken self.old.statements (said_by statement.now) }
+            → FirstBroken broken self.old.statements (sentence_in statement.now) }
         ensures unchanged { OnErr result (self.new ≡ self.old) }
     {
         match first_broken(&self.tables, statement) {
@@ -113,7 +114,7 @@ impl<'a> Book<'a> {
 
     /// How many blocks are open.
     pub fn depth(&self) -> usize
-        ensures { result ≡ openings self.now.statements - closings self.now.statements }
+        ensures { result ≡ open_marks self.now.statements - close_marks self.now.statements }
     {
         self.tables.scopes.depth()
     }
@@ -163,7 +164,7 @@ impl<'a> Book<'a> {
 
     /// A label.
     pub fn label(&self, id: LabelId) -> &'a [u8]
-        ensures { (s : Sentence) → slice_get (labelled self.now.statements) id.0 ≡ Some s
+        ensures { (s : Sentence) → slice_get (labelled_sentences self.now.statements) id.0 ≡ Some s
             → IsLabelled result.now s }
     {
         label_text(&self.tables, id)
@@ -171,7 +172,7 @@ impl<'a> Book<'a> {
 
     /// The symbols of a labelled statement.
     pub fn expression(&self, id: LabelId) -> &[Sym]
-        ensures { (s : Sentence) → slice_get (labelled self.now.statements) id.0 ≡ Some s
+        ensures { (s : Sentence) → slice_get (labelled_sentences self.now.statements) id.0 ≡ Some s
             → AreNumbers self.now.statements (map (λ n. n.0) result.now) s.symbols }
     {
         label_symbols(&self.tables, id)
@@ -179,7 +180,7 @@ impl<'a> Book<'a> {
 
     /// The kind of a labelled statement.
     pub fn kind(&self, id: LabelId) -> LabelKind
-        ensures { (s : Sentence) → slice_get (labelled self.now.statements) id.0 ≡ Some s
+        ensures { (s : Sentence) → slice_get (labelled_sentences self.now.statements) id.0 ≡ Some s
             → s.kind ≡ kind_behind result }
     {
         label_kind(&self.tables, id)

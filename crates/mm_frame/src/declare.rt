@@ -6,7 +6,7 @@ ghost use Rattle.std.specs.Prelude.{IfOk, OnErr, OnOk, ℕ, suc};
 ghost use Rattle.mm_text.specs.Statement.{plain_statement, HasForm, bytes_in};
 ghost use Rattle.mm_frame.specs.declared.tables.SymbolInfo.{SymbolInfo};
 ghost use Rattle.mm_frame.specs.declared.answer.Taken.TheVariants.{Declared};
-ghost use Rattle.mm_frame.specs.Sentence.{said_by};
+ghost use Rattle.mm_frame.specs.Sentence.{sentence_in};
 ghost use Rattle.mm_frame.specs.Rules.{IsMeant};
 ghost use Rattle.mm_frame.specs.Layout.{AreTables, statements_of};
 ghost use Rattle.mm_frame.specs.Grows.{Grows, IsSame, SameLists, HaveRoom};
@@ -116,13 +116,13 @@ impl<'a> Tables<'a> {
         bytes: u64,
     ) -> Result<Taken, AllocError>
         requires tables { AreTables self.old }
-        requires meant { IsMeant (statements_of self.old) (said_by statement.now) }
+        requires meant { IsMeant (statements_of self.old) (sentence_in statement.now) }
         requires formed { HasForm (plain_statement statement.now) }
         requires kind { IsDeclaration statement.now.kind }
         requires counted { bytes ≡ bytes_in (plain_statement statement.now) }
         requires room { self.old.bytes + bytes ≤ 1073741824 }
         ensures ok { IfOk result (λ taken.
-            (taken ≡ Declared) × Grows self.old self.new (said_by statement.now) bytes) }
+            (taken ≡ Declared) × Grows self.old self.new (sentence_in statement.now) bytes) }
         ensures err { OnErr result (IsSame self.old self.new) }
     {
         self.make_room(statement.symbols.len())?;

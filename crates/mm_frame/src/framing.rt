@@ -5,7 +5,7 @@ ghost use Rattle.std.specs.Prelude.{slice_get, OnOk, IfOk};
 ghost use Rattle.std.specs.Option.{option_and_then};
 ghost use Rattle.mm_frame.specs.Sentence.{Sentence, IsStated};
 ghost use Rattle.mm_frame.specs.Rules.{IsMeant};
-ghost use Rattle.mm_frame.specs.Numbers.{AreNumbers, labelled};
+ghost use Rattle.mm_frame.specs.Numbers.{AreNumbers, labelled_sentences};
 ghost use Rattle.mm_frame.specs.FramePlace.{ArePairs};
 ghost use Rattle.mm_frame.specs.declared.number.Sym.{Sym};
 ghost use Rattle.mm_frame.specs.Layout.{AreTables, statements_of};
@@ -90,7 +90,7 @@ pub(crate) fn label_ids(tables: &Tables, places: &[usize]) -> Result<Vec<LabelId
     requires { AreTables tables.now }
     ensures { (s : Sentence) → ArePlaces (statements_of tables.now) s places.now
         → IfOk result (λ ids. map (λ id. id.0) ids.items
-        ≡ map (λ p. length (labelled (take p (statements_of tables.now)))) places.now) }
+        ≡ map (λ p. length (labelled_sentences (take p (statements_of tables.now)))) places.now) }
 {
     let mut ids = Vec::new(tables.alloc);
     for place in places {

@@ -6,9 +6,9 @@ ghost use Rattle.std.specs.Prelude.{slice_get, Contains, None, Some, IsTrue, IfO
 ghost use Rattle.std.specs.Prelude.{vec_len, vec_capacity};
 ghost use Rattle.mm_text.specs.declared.statement.Kind.TheVariants.{Opening, Closing};
 ghost use Rattle.mm_text.specs.Statement.{plain_statement, HasForm, bytes_in};
-ghost use Rattle.mm_frame.specs.Sentence.{Sentence, said_by, IsHypothesis, IsAssertion, IsUse};
+ghost use Rattle.mm_frame.specs.Sentence.{Sentence, sentence_in, IsHypothesis, IsAssertion, IsUse};
 ghost use Rattle.mm_frame.specs.Numbers.{AreNumbers, IsNumberOf};
-ghost use Rattle.mm_frame.specs.Active.{IsActive, openings, closings};
+ghost use Rattle.mm_frame.specs.Active.{IsActive, open_marks, close_marks};
 ghost use Rattle.mm_frame.specs.Rules.{IsMeant};
 ghost use Rattle.mm_frame.specs.Taken.{TakenAs};
 ghost use Rattle.mm_frame.specs.Layout.{AreTables, IsDeclared, statements_of};
@@ -113,7 +113,8 @@ impl<'a> Tables<'a> {
     // Takes a `$}` in: the active `$e` of its block aren't active any more.
     fn close(&mut self, bytes: u64) -> Result<Taken, AllocError>
         requires tables { AreTables self.old }
-        requires closes { closings (statements_of self.old) < openings (statements_of self.old) }
+        requires closes { close_marks (statements_of self.old)
+            < open_marks (statements_of self.old) }
         requires room { self.old.bytes + bytes ≤ 1073741824 }
         requires some { 1 ≤ bytes }
         ensures ok { IfOk result (λ taken. (taken ≡ Closed) × ((s : Sentence)
@@ -159,11 +160,11 @@ impl<'a> Tables<'a> {
     fn take_use(&mut self, statement: &Statement<'a>, bytes: u64) -> Result<Taken, AllocError>
         requires tables { AreTables self.old }
         requires kind { IsUse statement.now.kind }
-        requires meant { IsMeant (statements_of self.old) (said_by statement.now) }
+        requires meant { IsMeant (statements_of self.old) (sentence_in statement.now) }
         requires formed { HasForm (plain_statement statement.now) }
         requires counted { bytes ≡ bytes_in (plain_statement statement.now) }
         requires room { self.old.bytes + bytes ≤ 1073741824 }
-        ensures ok { IfOk result (λ taken. Grows self.old self.new (said_by statement.now) bytes
+        ensures ok { IfOk result (λ taken. Grows self.old self.new (sentence_in statement.now) bytes
             × TakenAs (statements_of self.old) statement.now.kind taken) }
         ensures err { OnErr result (IsSame self.old self.new) }
     {
@@ -181,13 +182,13 @@ impl<'a> Tables<'a> {
         bytes: u64,
     ) -> Result<Taken, AllocError>
         requires tables { AreTables self.old }
-        requires meant { IsMeant (statements_of self.old) (said_by statement.now) }
+        requires meant { IsMeant (statements_of self.old) (sentence_in statement.now) }
         requires formed { HasForm (plain_statement statement.now) }
         requires closes { statement.now.kind ≡ Closing
-            → closings (statements_of self.old) < openings (statements_of self.old) }
+            → close_marks (statements_of self.old) < open_marks (statements_of self.old) }
         requires counted { bytes ≡ bytes_in (plain_statement statement.now) }
         requires room { self.old.bytes + bytes ≤ 1073741824 }
-        ensures ok { IfOk result (λ taken. Grows self.old self.new (said_by statement.now) bytes
+        ensures ok { IfOk result (λ taken. Grows self.old self.new (sentence_in statement.now) bytes
             × TakenAs (statements_of self.old) statement.now.kind taken) }
         ensures err { OnErr result (IsSame self.old self.new) }
     {

@@ -23,7 +23,7 @@ pub(crate) fn is_constant(tables: &Tables, symbol: &[u8]) -> bool
     requires { AreTables tables.now }
     ensures { IsTrue result ↔ IsConstant (statements_of tables.now) symbol.now }
 {
-    match tables.known(symbol) {
+    match tables.symbol_info(symbol) {
         Some(info) => info.variable.is_none(),
         None => false,
     }
@@ -34,7 +34,7 @@ pub(crate) fn is_variable(tables: &Tables, symbol: &[u8]) -> bool
     requires { AreTables tables.now }
     ensures { IsTrue result ↔ IsVariable (statements_of tables.now) symbol.now }
 {
-    match tables.known(symbol) {
+    match tables.symbol_info(symbol) {
         Some(info) => info.variable.is_some(),
         None => false,
     }
@@ -46,7 +46,7 @@ pub(crate) fn is_active_variable(tables: &Tables, symbol: &[u8]) -> bool
     ensures { IsTrue result
         ↔ SomeActive (statements_of tables.now) (Declares Variables symbol.now) }
 {
-    match tables.known(symbol) {
+    match tables.symbol_info(symbol) {
         Some(info) => match info.variable {
             Some(place) => tables.is_active_now(place),
             None => false,
@@ -69,7 +69,7 @@ pub(crate) fn is_typed(tables: &Tables, variable: &[u8]) -> bool
     requires { AreTables tables.now }
     ensures { IsTrue result ↔ IsTyped (statements_of tables.now) variable.now }
 {
-    match tables.known(variable) {
+    match tables.symbol_info(variable) {
         Some(info) => match info.floating {
             Some(place) => tables.is_active_now(place),
             None => false,
@@ -86,7 +86,7 @@ fn latest_code<'a>(tables: &Tables<'a>, variable: &[u8]) -> Option<&'a [u8]>
         (¬ (SomeSentence (statements_of tables.now) (GivesType variable.now)))
         (λ code. SomeSentence (statements_of tables.now) (Types code.now variable.now)) }
 {
-    match tables.known(variable) {
+    match tables.symbol_info(variable) {
         Some(info) => match info.floating {
             Some(place) => match at(tables.symbols_at(place), 0) {
                 Some(code) => tables.symbols.name(code.0),

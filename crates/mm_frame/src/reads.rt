@@ -4,7 +4,7 @@ ghost use Rattle.std.specs.Prelude.{◌≡◌, ◌↔◌, ℕ, ◌≤◌, List, 
 ghost use Rattle.mm_text.specs.declared.statement.Kind.{Kind};
 ghost use Rattle.mm_frame.specs.Sentence.{Sentence, IsLabelled, IsAssertion};
 ghost use Rattle.mm_frame.specs.Active.{IsActive};
-ghost use Rattle.mm_frame.specs.Form.{IsNamed};
+ghost use Rattle.mm_frame.specs.Form.{HasItsLabel};
 ghost use Rattle.mm_frame.specs.Numbers.{AreNumbers, IsNumbered};
 ghost use Rattle.mm_frame.specs.Found.{Finds};
 ghost use Rattle.mm_frame.specs.Taken.{kind_behind};
@@ -52,7 +52,7 @@ pub(crate) fn label_symbols<'b>(tables: &'b Tables, id: LabelId) -> &'b [Sym]
 
 // A kind of statements that have labels.
 fn kind_of(kind: Kind) -> LabelKind
-    ensures { (label : List ℕ) → IsNamed kind (Some label) → kind ≡ kind_behind result }
+    ensures { (label : List ℕ) → HasItsLabel kind (Some label) → kind ≡ kind_behind result }
 {
     match kind {
         Kind::Floating => LabelKind::Floating,

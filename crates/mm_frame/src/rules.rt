@@ -5,7 +5,7 @@ ghost use Rattle.std.specs.Prelude.{vec_len};
 ghost use Rattle.mm_frame.specs.declared.rule.MeaningRule.TheVariants.{M1, M2, M3, M4, M5, M6, M7};
 ghost use Rattle.mm_frame.specs.declared.rule.MeaningRule.TheVariants.{M8, M9, M10, M11, M12, M13};
 ghost use Rattle.mm_frame.specs.declared.rule.MeaningRule.TheVariants.{M14, M15};
-ghost use Rattle.mm_frame.specs.Sentence.{Sentence, said_by, StandsTwice};
+ghost use Rattle.mm_frame.specs.Sentence.{Sentence, sentence_in, StandsTwice};
 ghost use Rattle.mm_frame.specs.Rules.{Breaks, IsMeant, FirstBroken};
 ghost use Rattle.mm_frame.specs.Layout.{AreTables, statements_of};
 ghost use Rattle.mm_frame.specs.Told.{IsTold, StatesOnce};
@@ -24,7 +24,7 @@ use std::alloc::{AllocError, Global};
 // A `$c` stands in a block.
 fn breaks_m1(tables: &Tables, statement: &Statement) -> bool
     requires { AreTables tables.now }
-    ensures { IsTrue result ↔ Breaks M1 (statements_of tables.now) (said_by statement.now) }
+    ensures { IsTrue result ↔ Breaks M1 (statements_of tables.now) (sentence_in statement.now) }
 {
     statement.kind == Kind::Constants && tables.scopes.has_open()
 }
@@ -32,8 +32,8 @@ fn breaks_m1(tables: &Tables, statement: &Statement) -> bool
 // A symbol of a `$c` was declared before, or stands twice in it.
 fn breaks_m2(tables: &Tables, statement: &Statement, repeats: bool) -> bool
     requires tables { AreTables tables.now }
-    requires told { IsTold repeats (said_by statement.now) }
-    ensures { IsTrue result ↔ Breaks M2 (statements_of tables.now) (said_by statement.now) }
+    requires told { IsTold repeats (sentence_in statement.now) }
+    ensures { IsTrue result ↔ Breaks M2 (statements_of tables.now) (sentence_in statement.now) }
 {
     statement.kind == Kind::Constants
         && (repeats
@@ -45,8 +45,8 @@ fn breaks_m2(tables: &Tables, statement: &Statement, repeats: bool) -> bool
 // A symbol of a `$v` is an active variable, was declared a constant, or stands twice in it.
 fn breaks_m3(tables: &Tables, statement: &Statement, repeats: bool) -> bool
     requires tables { AreTables tables.now }
-    requires told { IsTold repeats (said_by statement.now) }
-    ensures { IsTrue result ↔ Breaks M3 (statements_of tables.now) (said_by statement.now) }
+    requires told { IsTold repeats (sentence_in statement.now) }
+    ensures { IsTrue result ↔ Breaks M3 (statements_of tables.now) (sentence_in statement.now) }
 {
     statement.kind == Kind::Variables
         && (repeats
@@ -58,7 +58,7 @@ fn breaks_m3(tables: &Tables, statement: &Statement, repeats: bool) -> bool
 // A symbol of a `$c` or `$v` equals an earlier label.
 fn breaks_m4(tables: &Tables, statement: &Statement) -> bool
     requires { AreTables tables.now }
-    ensures { IsTrue result ↔ Breaks M4 (statements_of tables.now) (said_by statement.now) }
+    ensures { IsTrue result ↔ Breaks M4 (statements_of tables.now) (sentence_in statement.now) }
 {
     (statement.kind == Kind::Constants || statement.kind == Kind::Variables)
         && statement
@@ -70,7 +70,7 @@ fn breaks_m4(tables: &Tables, statement: &Statement) -> bool
 // The label equals an earlier label.
 fn breaks_m5(tables: &Tables, statement: &Statement) -> bool
     requires { AreTables tables.now }
-    ensures { IsTrue result ↔ Breaks M5 (statements_of tables.now) (said_by statement.now) }
+    ensures { IsTrue result ↔ Breaks M5 (statements_of tables.now) (sentence_in statement.now) }
 {
     match label_of(statement) {
         Some(label) => is_label(tables, label),
@@ -81,7 +81,7 @@ fn breaks_m5(tables: &Tables, statement: &Statement) -> bool
 // The label equals a symbol declared before.
 fn breaks_m6(tables: &Tables, statement: &Statement) -> bool
     requires { AreTables tables.now }
-    ensures { IsTrue result ↔ Breaks M6 (statements_of tables.now) (said_by statement.now) }
+    ensures { IsTrue result ↔ Breaks M6 (statements_of tables.now) (sentence_in statement.now) }
 {
     match label_of(statement) {
         Some(label) => is_constant(tables, label) || is_variable(tables, label),
@@ -92,7 +92,7 @@ fn breaks_m6(tables: &Tables, statement: &Statement) -> bool
 // A symbol that is used isn't active.
 fn breaks_m7(tables: &Tables, statement: &Statement) -> bool
     requires { AreTables tables.now }
-    ensures { IsTrue result ↔ Breaks M7 (statements_of tables.now) (said_by statement.now) }
+    ensures { IsTrue result ↔ Breaks M7 (statements_of tables.now) (sentence_in statement.now) }
 {
     is_use(statement.kind)
         && statement
@@ -104,7 +104,7 @@ fn breaks_m7(tables: &Tables, statement: &Statement) -> bool
 // A member of a `$d` is a constant.
 fn breaks_m8(tables: &Tables, statement: &Statement) -> bool
     requires { AreTables tables.now }
-    ensures { IsTrue result ↔ Breaks M8 (statements_of tables.now) (said_by statement.now) }
+    ensures { IsTrue result ↔ Breaks M8 (statements_of tables.now) (sentence_in statement.now) }
 {
     statement.kind == Kind::Distinct
         && statement
@@ -115,9 +115,9 @@ fn breaks_m8(tables: &Tables, statement: &Statement) -> bool
 
 // A member stands twice in a `$d`.
 fn breaks_m9(statement: &Statement, repeats: bool) -> bool
-    requires { IsTold repeats (said_by statement.now) }
+    requires { IsTold repeats (sentence_in statement.now) }
     ensures { (before : List Sentence)
-        → (IsTrue result ↔ Breaks M9 before (said_by statement.now)) }
+        → (IsTrue result ↔ Breaks M9 before (sentence_in statement.now)) }
 {
     statement.kind == Kind::Distinct && repeats
 }
@@ -125,7 +125,7 @@ fn breaks_m9(statement: &Statement, repeats: bool) -> bool
 // The type code of a `$f` is a variable.
 fn breaks_m10(tables: &Tables, statement: &Statement) -> bool
     requires { AreTables tables.now }
-    ensures { IsTrue result ↔ Breaks M10 (statements_of tables.now) (said_by statement.now) }
+    ensures { IsTrue result ↔ Breaks M10 (statements_of tables.now) (sentence_in statement.now) }
 {
     match typing(statement) {
         Some((code, _)) => is_variable(tables, code),
@@ -136,7 +136,7 @@ fn breaks_m10(tables: &Tables, statement: &Statement) -> bool
 // The second symbol of a `$f` is a constant.
 fn breaks_m11(tables: &Tables, statement: &Statement) -> bool
     requires { AreTables tables.now }
-    ensures { IsTrue result ↔ Breaks M11 (statements_of tables.now) (said_by statement.now) }
+    ensures { IsTrue result ↔ Breaks M11 (statements_of tables.now) (sentence_in statement.now) }
 {
     match typing(statement) {
         Some((_, variable)) => is_constant(tables, variable),
@@ -147,7 +147,7 @@ fn breaks_m11(tables: &Tables, statement: &Statement) -> bool
 // The variable of a `$f` has an active `$f`.
 fn breaks_m12(tables: &Tables, statement: &Statement) -> bool
     requires { AreTables tables.now }
-    ensures { IsTrue result ↔ Breaks M12 (statements_of tables.now) (said_by statement.now) }
+    ensures { IsTrue result ↔ Breaks M12 (statements_of tables.now) (sentence_in statement.now) }
 {
     match typing(statement) {
         Some((_, variable)) => is_typed(tables, variable),
@@ -158,7 +158,7 @@ fn breaks_m12(tables: &Tables, statement: &Statement) -> bool
 // An earlier `$f` gave the variable another type code.
 fn breaks_m13(tables: &Tables, statement: &Statement) -> bool
     requires { AreTables tables.now }
-    ensures { IsTrue result ↔ Breaks M13 (statements_of tables.now) (said_by statement.now) }
+    ensures { IsTrue result ↔ Breaks M13 (statements_of tables.now) (sentence_in statement.now) }
 {
     match typing(statement) {
         Some((code, variable)) => has_other_type(tables, code, variable),
@@ -169,7 +169,7 @@ fn breaks_m13(tables: &Tables, statement: &Statement) -> bool
 // The first symbol of an expression is a variable.
 fn breaks_m14(tables: &Tables, statement: &Statement) -> bool
     requires { AreTables tables.now }
-    ensures { IsTrue result ↔ Breaks M14 (statements_of tables.now) (said_by statement.now) }
+    ensures { IsTrue result ↔ Breaks M14 (statements_of tables.now) (sentence_in statement.now) }
 {
     match first_of(statement) {
         Some(first) => is_stated(statement.kind) && is_variable(tables, first),
@@ -180,7 +180,7 @@ fn breaks_m14(tables: &Tables, statement: &Statement) -> bool
 // A variable in an expression has no active `$f`.
 fn breaks_m15(tables: &Tables, statement: &Statement) -> bool
     requires { AreTables tables.now }
-    ensures { IsTrue result ↔ Breaks M15 (statements_of tables.now) (said_by statement.now) }
+    ensures { IsTrue result ↔ Breaks M15 (statements_of tables.now) (sentence_in statement.now) }
 {
     is_stated(statement.kind)
         && statement.symbols.iter().any(|token| is_variable(tables, token.text)
@@ -190,8 +190,8 @@ fn breaks_m15(tables: &Tables, statement: &Statement) -> bool
 // Whether the statement breaks the rule.
 fn breaks(rule: MeaningRule, tables: &Tables, statement: &Statement, repeats: bool) -> bool
     requires tables { AreTables tables.now }
-    requires told { IsTold repeats (said_by statement.now) }
-    ensures { IsTrue result ↔ Breaks rule (statements_of tables.now) (said_by statement.now) }
+    requires told { IsTold repeats (sentence_in statement.now) }
+    ensures { IsTrue result ↔ Breaks rule (statements_of tables.now) (sentence_in statement.now) }
 {
     match rule {
         MeaningRule::M1 => breaks_m1(tables, statement),
@@ -258,7 +258,7 @@ fn has_repeats(alloc: Global, symbols: &[Token]) -> Result<bool, AllocError>
 // Whether a symbol stands twice in a statement that states each symbol once.
 fn repeats(alloc: Global, statement: &Statement) -> Result<bool, AllocError>
     requires { vec_len statement.now.symbols < 2147483648 }
-    ensures { IfOk result (λ repeats. IsTold repeats (said_by statement.now)) }
+    ensures { IfOk result (λ repeats. IsTold repeats (sentence_in statement.now)) }
 {
     if is_list(statement.kind) {
         has_repeats(alloc, &statement.symbols)
@@ -277,8 +277,8 @@ pub(crate) fn first_broken(
     requires few { vec_len statement.now.symbols < 2147483648 }
     ensures { IfOk result (λ first. MatchOption
         first
-        (IsMeant (statements_of tables.now) (said_by statement.now))
-        (λ rule. FirstBroken rule (statements_of tables.now) (said_by statement.now))) }
+        (IsMeant (statements_of tables.now) (sentence_in statement.now))
+        (λ rule. FirstBroken rule (statements_of tables.now) (sentence_in statement.now))) }
 {
     let repeats = repeats(tables.alloc, statement)?;
     for rule in ORDER {

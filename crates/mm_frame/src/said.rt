@@ -1,7 +1,7 @@
 //! What a statement says.
 
 ghost use Rattle.std.specs.Prelude.{◌≡◌, ◌↔◌, ℕ, IsTrue, MatchOption, Contains, List, [], ◌∷◌, map};
-ghost use Rattle.mm_frame.specs.Sentence.{said_by, IsUse, IsStated, IsLabelled, Types};
+ghost use Rattle.mm_frame.specs.Sentence.{sentence_in, IsUse, IsStated, IsLabelled, Types};
 
 use mm_text::{Kind, Statement};
 
@@ -23,8 +23,8 @@ pub(crate) fn is_use(kind: Kind) -> bool
 pub(crate) fn label_of<'a>(statement: &Statement<'a>) -> Option<&'a [u8]>
     ensures { MatchOption
         result
-        ((label : List ℕ) → ¬ (IsLabelled label (said_by statement.now)))
-        (λ label. IsLabelled label.now (said_by statement.now)) }
+        ((label : List ℕ) → ¬ (IsLabelled label (sentence_in statement.now)))
+        (λ label. IsLabelled label.now (sentence_in statement.now)) }
 {
     match &statement.label {
         Some(token) => Some(token.text),
@@ -36,9 +36,9 @@ pub(crate) fn label_of<'a>(statement: &Statement<'a>) -> Option<&'a [u8]>
 pub(crate) fn first_of<'a>(statement: &Statement<'a>) -> Option<&'a [u8]>
     ensures { MatchOption
         result
-        ((said_by statement.now).symbols ≡ [])
+        ((sentence_in statement.now).symbols ≡ [])
         (λ first. (others : List (List ℕ))
-        × ((said_by statement.now).symbols ≡ first.now ∷ others)) }
+        × ((sentence_in statement.now).symbols ≡ first.now ∷ others)) }
 {
     match statement.symbols.as_slice() {
         [first, ..] => Some(first.text),
@@ -50,8 +50,8 @@ pub(crate) fn first_of<'a>(statement: &Statement<'a>) -> Option<&'a [u8]>
 pub(crate) fn typing<'a>(statement: &Statement<'a>) -> Option<(&'a [u8], &'a [u8])>
     ensures { MatchOption
         result
-        ((code x : List ℕ) → ¬ (Types code x (said_by statement.now)))
-        (λ t. Types t.0.now t.1.now (said_by statement.now)) }
+        ((code x : List ℕ) → ¬ (Types code x (sentence_in statement.now)))
+        (λ t. Types t.0.now t.1.now (sentence_in statement.now)) }
 {
     match statement.symbols.as_slice() {
         [code, variable] if statement.kind == Kind::Floating => Some((code.text, variable.text)),

@@ -4,7 +4,7 @@ ghost use Rattle.std.specs.Prelude.{◌≡◌, ◌↔◌, ℕ, suc, ◌-◌, ◌
 ghost use Rattle.std.specs.Prelude.{take, slice_get, Some, IsTrue, IfOk, OnOk};
 ghost use Rattle.mm_text.specs.declared.statement.Kind.TheVariants.{Opening, Closing};
 ghost use Rattle.mm_frame.specs.Sentence.{Sentence};
-ghost use Rattle.mm_frame.specs.Active.{IsOpen, IsActive, openings, closings};
+ghost use Rattle.mm_frame.specs.Active.{IsOpen, IsActive, open_marks, close_marks};
 ghost use Rattle.mm_frame.specs.ScopesOf.{HaveScopes, HasRoom, HaveSameLists};
 
 use crate::lists::{at as at_place, put, write};
@@ -60,7 +60,7 @@ impl Scopes {
     /// How many blocks are open.
     pub(crate) fn depth(&self) -> usize
         ensures { (statements : List Sentence) → HaveScopes statements self.now
-            → result ≡ openings statements - closings statements }
+            → result ≡ open_marks statements - close_marks statements }
     {
         self.open.len().saturating_sub(1)
     }
@@ -98,7 +98,7 @@ impl Scopes {
     fn close(&mut self)
         requires { HasRoom self.old }
         ensures { (statements : List Sentence) (e : Sentence) → HaveScopes statements self.old
-            → e.kind ≡ Closing → closings statements < openings statements
+            → e.kind ≡ Closing → close_marks statements < open_marks statements
             → HaveScopes (statements ++ e ∷ []) self.new }
     {
         let place = self.blocks.len();
@@ -136,7 +136,7 @@ impl Scopes {
     pub(crate) fn push(&mut self, kind: Kind)
         requires { HasRoom self.old }
         ensures { (statements : List Sentence) (e : Sentence) → HaveScopes statements self.old
-            → e.kind ≡ kind → (kind ≡ Closing → closings statements < openings statements)
+            → e.kind ≡ kind → (kind ≡ Closing → close_marks statements < open_marks statements)
             → HaveScopes (statements ++ e ∷ []) self.new }
     {
         if kind == Kind::Opening {

@@ -119,7 +119,7 @@ impl<'a> Tables<'a> {
     }
 
     /// What is known of a symbol by its name.
-    pub(crate) fn known(&self, symbol: &[u8]) -> Option<SymbolInfo>
+    pub(crate) fn symbol_info(&self, symbol: &[u8]) -> Option<SymbolInfo>
         requires { AreTables self.now }
         ensures { MatchOption
             result

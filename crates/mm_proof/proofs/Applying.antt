@@ -17,12 +17,12 @@ use Rattle.mm_frame.specs.declared.number.LabelKind.TheVariants as kinds
 use Rattle.mm_text.specs.declared.statement.Kind.{Kind}
 use Rattle.mm_frame.specs.Laws.{OneNumber}
 use Rattle.mm_proof.specs.declared.fault.ProofRule.TheVariants.{P8, P9, P10, P11, P12, L1}
-use Rattle.mm_proof.specs.Substitution.{substituted}
+use Rattle.mm_proof.specs.Substitution.{instance_of}
 use Rattle.mm_proof.specs.Tree.{Names, ShareNoVariable, AreDistinct}
 use Rattle.mm_proof.specs.Moves.{name}
-use Rattle.mm_proof.specs.Proof.{Meets, SomePair, Passed, IsWithin, expression_limit}
+use Rattle.mm_proof.specs.Proof.{MeetsHypotheses, SomePair, Passed, IsWithin, expression_limit}
 use Rattle.mm_proof.specs.Steps.{IsNumberedMove}
-use Rattle.mm_proof.specs.CodeVerify.{name_at, named, all_named, value_of, replaced_in, IsSymbol, AreSymbols, AreEntries, AreBelow, IsRightCode, IsWrongCode, IsEqual, IsUnequal, EachEntry, EachPairValues, SomePairValues, Replaces, AreHypothesesOf, AreVariablesOf}
+use Rattle.mm_proof.specs.CodeVerify.{name_at, names_at, all_names_at, value_of, replaced_in, IsSymbol, AreDeclaredSymbols, AreStackEntries, AreBelow, IsRightCode, IsWrongCode, IsEqual, IsUnequal, EachEntry, EachPairValues, SomePairValues, Replaces, AreHypothesesOf, AreVariablesOf}
 use Rattle.mm_proof.specs.CodeSteps.{MayBeUsed}
 use Rattle.mm_proof.specs.CodeRun.{CarriesOn, StopsAt}
 use Rattle.mm_proof.specs.CodeApply.{IsCalled, IsMatched, IsReady}
@@ -58,46 +58,46 @@ names_of st place id at ids hs label c move =
     }
 
 -- the stack by names is cut where the one by numbers is
-named_split : (st : List Sentence) (stack : List (List ℕ)) (base : ℕ) → all_named st stack ≡ all_named st (take base stack) ++ all_named st (drop base stack)
+named_split : (st : List Sentence) (stack : List (List ℕ)) (base : ℕ) → all_names_at st stack ≡ all_names_at st (take base stack) ++ all_names_at st (drop base stack)
 named_split st stack base =
-    ap (λ l. all_named st l) (sym (take-append-drop base stack)) ∙ map-append (λ (e : List ℕ). map (name_at st) e) (take base stack) (drop base stack)
+    ap (λ l. all_names_at st l) (sym (take-append-drop base stack)) ∙ map-append (λ (e : List ℕ). map (name_at st) e) (take base stack) (drop base stack)
 
-named_count : (st : List Sentence) (entries : List (List ℕ)) → length (all_named st entries) ≡ length entries
+named_count : (st : List Sentence) (entries : List (List ℕ)) → length (all_names_at st entries) ≡ length entries
 named_count st entries = length-map entries (λ (e : List ℕ). map (name_at st) e)
 
 -- what the step meets
 abbrev met : (st : List Sentence) (place id at : ℕ) (ids : List ℕ) (hs : List Sentence) (label : List ℕ) (stack : List (List ℕ)) (base : ℕ) → AllMeant st
-    → IsCalled st place id at ids hs → IsNumberedMove st (name id) (name label) → length (drop base stack) ≡ length hs → Meets (take place st) (all_named st stack) label
+    → IsCalled st place id at ids hs → IsNumberedMove st (name id) (name label) → length (drop base stack) ≡ length hs → MeetsHypotheses (take place st) (all_names_at st stack) label
 met st place id at ids hs label stack base all c move paired =
-    meets_of (take place st) (all_named st stack) label at c.s hs (all_named st (take base stack)) (all_named st (drop base stack)) (meant_front st place all)
+    meets_of (take place st) (all_names_at st stack) label at c.s hs (all_names_at st (take base stack)) (all_names_at st (drop base stack)) (meant_front st place all)
     (names_of st place id at ids hs label c move) (named_split st stack base) (named_count st (drop base stack) ∙ paired)
 
 -- ---- pairs
 
 -- what replaces the names of a pair's numbers
 value_at : (st : List Sentence) (σ : List ℕ → Option (List (List ℕ))) (vs : List (Option ℕ)) (es : List (List ℕ)) (x : List ℕ) (n : ℕ) (e : List ℕ) → Replaces st σ vs es
-    → IsNumberOf st x n → value_of vs es n ≡ Some e → σ x ≡ Some (named st e)
+    → IsNumberOf st x n → value_of vs es n ≡ Some e → σ x ≡ Some (names_at st e)
 value_at st σ vs es x n e r number value =
-    ap σ (sym (name_is st n x number)) ∙ r n (slice_get_within (symbols_of st) n x number) ∙ ap (option_map (named st)) value
+    ap σ (sym (name_is st n x number)) ∙ r n (slice_get_within (symbols_of st) n x number) ∙ ap (option_map (names_at st)) value
 
 -- ---- the rules
 
 pub stops_P8 : (st : List Sentence) (place id at : ℕ) (ids : List ℕ) (hs : List Sentence) (stack : List (List ℕ)) → IsCalled st place id at ids hs → length stack < length hs
     → StopsAt st place id stack P8
 stops_P8 st place id at ids hs stack c short label kept move =
-    first_P8 (IsWithin expression_limit) (take place st) (all_named st stack) kept label at c.s hs (names_of st place id at ids hs label c move)
+    first_P8 (IsWithin expression_limit) (take place st) (all_names_at st stack) kept label at c.s hs (names_of st place id at ids hs label c move)
     (omega (arith, short, named_count st stack))
 
 pub stops_P9 : (st : List Sentence) (place id at : ℕ) (ids : List ℕ) (hs : List Sentence) (stack : List (List ℕ)) (base : ℕ) → AllMeant st → IsCalled st place id at ids hs
-    → length (drop base stack) ≡ length hs → SomePair hs (all_named st (drop base stack)) IsWrongCode → StopsAt st place id stack P9
+    → length (drop base stack) ≡ length hs → SomePair hs (all_names_at st (drop base stack)) IsWrongCode → StopsAt st place id stack P9
 stops_P9 st place id at ids hs stack base all c paired pair label kept move =
-    first_P9 (IsWithin expression_limit) (take place st) (all_named st stack) kept label (met st place id at ids hs label stack base all c move paired) (meant_front st place all) pair
+    first_P9 (IsWithin expression_limit) (take place st) (all_names_at st stack) kept label (met st place id at ids hs label stack base all c move paired) (meant_front st place all) pair
 
 pub stops_P10 : (st : List Sentence) (place id at : ℕ) (ids : List ℕ) (hs : List Sentence) (stack : List (List ℕ)) (base : ℕ) → AllMeant st → IsCalled st place id at ids hs
-    → length (drop base stack) ≡ length hs → EachEntry hs (all_named st (drop base stack)) IsRightCode
-    → SomePair hs (all_named st (drop base stack)) (IsUnequal (replaced_by hs (all_named st (drop base stack)))) → StopsAt st place id stack P10
+    → length (drop base stack) ≡ length hs → EachEntry hs (all_names_at st (drop base stack)) IsRightCode
+    → SomePair hs (all_names_at st (drop base stack)) (IsUnequal (replaced_by hs (all_names_at st (drop base stack)))) → StopsAt st place id stack P10
 stops_P10 st place id at ids hs stack base all c paired codes pair label kept move =
-    first_P10 (IsWithin expression_limit) (take place st) (all_named st stack) kept label (met st place id at ids hs label stack base all c move paired) (meant_front st place all) codes pair
+    first_P10 (IsWithin expression_limit) (take place st) (all_names_at st stack) kept label (met st place id at ids hs label stack base all c move paired) (meant_front st place all) codes pair
 
 -- the pair of names behind a pair of numbers, with what replaces it
 pair_found : (st : List Sentence) (place id at : ℕ) (ids : List ℕ) (hs : List Sentence) (pairs : List (ℕ × ℕ)) → (c : IsCalled st place id at ids hs)
@@ -112,58 +112,58 @@ pair_found st place id at ids hs pairs c mand k p there =
 
 -- what replaces a name is what replaces its number
 value_back : (st : List Sentence) (σ : List ℕ → Option (List (List ℕ))) (vs : List (Option ℕ)) (es : List (List ℕ)) (x : List ℕ) (n : ℕ) (e : List (List ℕ)) → Replaces st σ vs es
-    → IsNumberOf st x n → σ x ≡ Some e → (l : List ℕ) × (value_of vs es n ≡ Some l) × (named st l ≡ e)
+    → IsNumberOf st x n → σ x ≡ Some e → (l : List ℕ) × (value_of vs es n ≡ Some l) × (names_at st l ≡ e)
 value_back st σ vs es x n e r number is = go (value_of vs es n) refl
   where
-    mapped : option_map (named st) (value_of vs es n) ≡ Some e
+    mapped : option_map (names_at st) (value_of vs es n) ≡ Some e
     mapped = sym (r n (slice_get_within (symbols_of st) n x number)) ∙ ap σ (name_is st n x number) ∙ is
 
-    go : (o : Option (List ℕ)) → value_of vs es n ≡ o → (l : List ℕ) × (value_of vs es n ≡ Some l) × (named st l ≡ e)
-    go None p = absurd (let q : None ≡ Some e = sym (ap (option_map (named st)) p) ∙ mapped in cc)
-    go (Some l) p = (l, p, same_Some (named st l) e (sym (ap (option_map (named st)) p) ∙ mapped))
+    go : (o : Option (List ℕ)) → value_of vs es n ≡ o → (l : List ℕ) × (value_of vs es n ≡ Some l) × (names_at st l ≡ e)
+    go None p = absurd (let q : None ≡ Some e = sym (ap (option_map (names_at st)) p) ∙ mapped in cc)
+    go (Some l) p = (l, p, same_Some (names_at st l) e (sym (ap (option_map (names_at st)) p) ∙ mapped))
 
 each_pair : OneNumber → (st : List Sentence) (place id at : ℕ) (ids : List ℕ) (hs : List Sentence) (label : List ℕ) (stack : List (List ℕ)) (base : ℕ) (vs : List (Option ℕ)) (pairs : List (ℕ × ℕ))
     (P : List (List ℕ) → List (List ℕ) → Type 0) → ((e f : List (List ℕ)) → P e f → P f e) → (all : AllMeant st) → (c : IsCalled st place id at ids hs) → (move : IsNumberedMove st (name id) (name label))
     → (paired : length (drop base stack) ≡ length hs) → AreVariablesOf st vs hs → ArePairs (record { statements = st; place = at }) pairs
-    → EachPairValues (value_of vs (drop base stack)) pairs (λ e f. P (named st e) (named st f))
-    → EachPair (take place st) (all_named st stack) label (met st place id at ids hs label stack base all c move paired) P
+    → EachPairValues (value_of vs (drop base stack)) pairs (λ e f. P (names_at st e) (names_at st f))
+    → EachPair (take place st) (all_names_at st stack) label (met st place id at ids hs label stack base all c move paired) P
 each_pair one st place id at ids hs label stack base vs pairs P turned all c move paired typed mand each x y e f pair at_x at_y =
     let r = replaces_by one st vs hs (drop base stack) typed in
     let same : c.s ≡ mand.assertion = same_Some c.s mand.assertion (sym c.numbered.there ∙ mand.there) in
     let front : IsMandatoryPair (take at st) c.s x y =
     subst (λ (l : List Sentence). IsMandatoryPair l c.s x y) (take-take at place st (omega (arith, c.before))) pair in
     let m = mand.each x y (subst (λ (s : Sentence). IsMandatoryPair (take at st) s x y) same front) in
-    let a = value_back st (replaced_by hs (all_named st (drop base stack))) vs (drop base stack) x m.0.0 e r m.1 at_x in
-    let b = value_back st (replaced_by hs (all_named st (drop base stack))) vs (drop base stack) y m.0.1 f r m.2 at_y in
-    let so : P (named st a.0) (named st b.0) = ⊎_elim
+    let a = value_back st (replaced_by hs (all_names_at st (drop base stack))) vs (drop base stack) x m.0.0 e r m.1 at_x in
+    let b = value_back st (replaced_by hs (all_names_at st (drop base stack))) vs (drop base stack) y m.0.1 f r m.2 at_y in
+    let so : P (names_at st a.0) (names_at st b.0) = ⊎_elim
     (λ h. each h.0 m.0 (slice_get-get_or pairs h.0 m.0 h.1 ∙ ap Some h.2) a.0 b.0 a.1 b.1)
-    (λ h. turned (named st b.0) (named st a.0) (each h.0 (m.0.1, m.0.0) (slice_get-get_or pairs h.0 (m.0.1, m.0.0) h.1 ∙ ap Some h.2) b.0 a.0 b.1 a.1)) m.3 in
-    subst (λ l. P l f) a.2 (subst (λ l. P (named st a.0) l) b.2 so)
+    (λ h. turned (names_at st b.0) (names_at st a.0) (each h.0 (m.0.1, m.0.0) (slice_get-get_or pairs h.0 (m.0.1, m.0.0) h.1 ∙ ap Some h.2) b.0 a.0 b.1 a.1)) m.3 in
+    subst (λ l. P l f) a.2 (subst (λ l. P (names_at st a.0) l) b.2 so)
 
 pub stops_P11 : OneNumber → (st : List Sentence) (place id at : ℕ) (ids : List ℕ) (hs : List Sentence) (stack : List (List ℕ)) (base : ℕ) (vs : List (Option ℕ)) (pairs : List (ℕ × ℕ)) → AllMeant st
     → IsCalled st place id at ids hs → length (drop base stack) ≡ length hs → AreVariablesOf st vs hs → ArePairs (record { statements = st; place = at }) pairs
-    → EachEntry hs (all_named st (drop base stack)) IsRightCode → EachEntry hs (all_named st (drop base stack)) (IsEqual (replaced_by hs (all_named st (drop base stack))))
-    → SomePairValues (value_of vs (drop base stack)) pairs (λ e f. ¬ (ShareNoVariable (take place st) (named st e) (named st f))) → StopsAt st place id stack P11
+    → EachEntry hs (all_names_at st (drop base stack)) IsRightCode → EachEntry hs (all_names_at st (drop base stack)) (IsEqual (replaced_by hs (all_names_at st (drop base stack))))
+    → SomePairValues (value_of vs (drop base stack)) pairs (λ e f. ¬ (ShareNoVariable (take place st) (names_at st e) (names_at st f))) → StopsAt st place id stack P11
 stops_P11 one st place id at ids hs stack base vs pairs all c paired typed mand codes equal found label kept move =
     let r = replaces_by one st vs hs (drop base stack) typed in
-    let σ = replaced_by hs (all_named st (drop base stack)) in
+    let σ = replaced_by hs (all_names_at st (drop base stack)) in
     let p = pair_found st place id at ids hs pairs c mand found.0 found.1 found.2 in
-    first_P11 (IsWithin expression_limit) (take place st) (all_named st stack) kept label (met st place id at ids hs label stack base all c move paired) (meant_front st place all) codes equal
-    p.0 p.1 (named st found.3.0) (named st found.3.1) p.4
+    first_P11 (IsWithin expression_limit) (take place st) (all_names_at st stack) kept label (met st place id at ids hs label stack base all c move paired) (meant_front st place all) codes equal
+    p.0 p.1 (names_at st found.3.0) (names_at st found.3.1) p.4
     (value_at st σ vs (drop base stack) p.0 found.1.0 found.3.0 r p.2 found.3.2) (value_at st σ vs (drop base stack) p.1 found.1.1 found.3.1 r p.3 found.3.3) found.3.4
 
 pub stops_P12 : OneNumber → (st : List Sentence) (place id at : ℕ) (ids : List ℕ) (hs : List Sentence) (stack : List (List ℕ)) (base : ℕ) (vs : List (Option ℕ)) (pairs : List (ℕ × ℕ)) → AllMeant st
     → IsCalled st place id at ids hs → length (drop base stack) ≡ length hs → AreVariablesOf st vs hs → ArePairs (record { statements = st; place = at }) pairs
-    → EachEntry hs (all_named st (drop base stack)) IsRightCode → EachEntry hs (all_named st (drop base stack)) (IsEqual (replaced_by hs (all_named st (drop base stack))))
-    → EachPairValues (value_of vs (drop base stack)) pairs (λ e f. ShareNoVariable (take place st) (named st e) (named st f))
-    → SomePairValues (value_of vs (drop base stack)) pairs (λ e f. ¬ (AreDistinct (take place st) (named st e) (named st f))) → StopsAt st place id stack P12
+    → EachEntry hs (all_names_at st (drop base stack)) IsRightCode → EachEntry hs (all_names_at st (drop base stack)) (IsEqual (replaced_by hs (all_names_at st (drop base stack))))
+    → EachPairValues (value_of vs (drop base stack)) pairs (λ e f. ShareNoVariable (take place st) (names_at st e) (names_at st f))
+    → SomePairValues (value_of vs (drop base stack)) pairs (λ e f. ¬ (AreDistinct (take place st) (names_at st e) (names_at st f))) → StopsAt st place id stack P12
 stops_P12 one st place id at ids hs stack base vs pairs all c paired typed mand codes equal share found label kept move =
     let r = replaces_by one st vs hs (drop base stack) typed in
-    let σ = replaced_by hs (all_named st (drop base stack)) in
+    let σ = replaced_by hs (all_names_at st (drop base stack)) in
     let p = pair_found st place id at ids hs pairs c mand found.0 found.1 found.2 in
-    first_P12 (IsWithin expression_limit) (take place st) (all_named st stack) kept label (met st place id at ids hs label stack base all c move paired) (meant_front st place all) codes equal
+    first_P12 (IsWithin expression_limit) (take place st) (all_names_at st stack) kept label (met st place id at ids hs label stack base all c move paired) (meant_front st place all) codes equal
     (each_pair one st place id at ids hs label stack base vs pairs (ShareNoVariable (take place st)) (share_turned (take place st)) all c move paired typed mand share)
-    p.0 p.1 (named st found.3.0) (named st found.3.1) p.4
+    p.0 p.1 (names_at st found.3.0) (names_at st found.3.1) p.4
     (value_at st σ vs (drop base stack) p.0 found.1.0 found.3.0 r p.2 found.3.2) (value_at st σ vs (drop base stack) p.1 found.1.1 found.3.1 r p.3 found.3.3) found.3.4
 
 -- ---- what the step makes
@@ -181,19 +181,19 @@ its_symbols st place id at ids hs pattern c its =
 
 -- what is made, by names
 made_named : OneNumber → (st : List Sentence) (hs : List Sentence) (vs : List (Option ℕ)) (es : List (List ℕ)) (pattern : List ℕ) (symbols : List (List ℕ)) → AreVariablesOf st vs hs
-    → AreNumbers st pattern symbols → named st (replaced_in (value_of vs es) pattern) ≡ substituted (replaced_by hs (all_named st es)) symbols
+    → AreNumbers st pattern symbols → names_at st (replaced_in (value_of vs es) pattern) ≡ instance_of (replaced_by hs (all_names_at st es)) symbols
 made_named one st hs vs es pattern symbols typed numbers =
-    replaced_named st (replaced_by hs (all_named st es)) vs es pattern (replaces_by one st vs hs es typed) (below_is st pattern symbols numbers)
-    ∙ ap (substituted (replaced_by hs (all_named st es))) (named_is st pattern symbols numbers)
+    replaced_named st (replaced_by hs (all_names_at st es)) vs es pattern (replaces_by one st vs hs es typed) (below_is st pattern symbols numbers)
+    ∙ ap (instance_of (replaced_by hs (all_names_at st es))) (named_is st pattern symbols numbers)
 
 step_to : OneNumber → (st : List Sentence) (place id at : ℕ) (label : List ℕ) (stack : List (List ℕ)) (base : ℕ) (vs : List (Option ℕ)) → AllMeant st
     → (ready : IsReady st place id at vs (drop base stack)) → length (drop base stack) ≡ length vs → IsNumberedMove st (name id) (name label)
-    → StepTo (take place st) (all_named st stack) label (all_named st (take base stack)) (substituted (replaced_by ready.hs (all_named st (drop base stack))) ready.called.s.symbols)
+    → StepTo (take place st) (all_names_at st stack) label (all_names_at st (take base stack)) (instance_of (replaced_by ready.hs (all_names_at st (drop base stack))) ready.called.s.symbols)
 step_to one st place id at label stack base vs all ready as_many move =
     let paired = as_many ∙ typed_count st vs ready.hs ready.typed in
     let r = replaces_by one st vs ready.hs (drop base stack) ready.typed in
-    step_of_meets (take place st) (all_named st stack) label (met st place id at ready.ids ready.hs label stack base all ready.called move paired)
-    ready.matched.codes (ready.matched.equal (replaced_by ready.hs (all_named st (drop base stack))) r)
+    step_of_meets (take place st) (all_names_at st stack) label (met st place id at ready.ids ready.hs label stack base all ready.called move paired)
+    ready.matched.codes (ready.matched.equal (replaced_by ready.hs (all_names_at st (drop base stack))) r)
     (each_pair one st place id at ready.ids ready.hs label stack base vs ready.pairs (ShareNoVariable (take place st)) (share_turned (take place st)) all ready.called move paired ready.typed ready.mandatory ready.matched.share)
     (each_pair one st place id at ready.ids ready.hs label stack base vs ready.pairs (AreDistinct (take place st)) (apart_turned (take place st)) all ready.called move paired ready.typed ready.mandatory ready.matched.apart)
 
@@ -202,25 +202,25 @@ pub stops_L1 : OneNumber → (st : List Sentence) (place id at : ℕ) (stack : L
     → expression_limit < length (replaced_in (value_of vs (drop base stack)) pattern) → StopsAt st place id stack L1
 stops_L1 one st place id at stack base vs pattern all ready as_many its over label kept move =
     let made = made_named one st ready.hs vs (drop base stack) pattern ready.called.s.symbols ready.typed (its_symbols st place id at ready.ids ready.hs pattern ready.called its) in
-    let size : length (named st (replaced_in (value_of vs (drop base stack)) pattern)) ≡ length (replaced_in (value_of vs (drop base stack)) pattern) = length-map _ (name_at st) in
-    first_L1 (IsWithin expression_limit) (take place st) (all_named st stack) kept label (all_named st (take base stack)) _ (meant_front st place all)
+    let size : length (names_at st (replaced_in (value_of vs (drop base stack)) pattern)) ≡ length (replaced_in (value_of vs (drop base stack)) pattern) = length-map _ (name_at st) in
+    first_L1 (IsWithin expression_limit) (take place st) (all_names_at st stack) kept label (all_names_at st (take base stack)) _ (meant_front st place all)
     (λ within. let w = subst (IsWithin expression_limit) (sym made) within in omega (arith, w, size, over)) (step_to one st place id at label stack base vs all ready as_many move)
 
-pushed_named : (st : List Sentence) (rest : List (List ℕ)) (made : List ℕ) → all_named st (rest ++ made ∷ []) ≡ all_named st rest ++ named st made ∷ []
+pushed_named : (st : List Sentence) (rest : List (List ℕ)) (made : List ℕ) → all_names_at st (rest ++ made ∷ []) ≡ all_names_at st rest ++ names_at st made ∷ []
 pushed_named st rest made = map-append (λ (e : List ℕ). map (name_at st) e) rest (made ∷ [])
 
 pub carries : OneNumber → (st : List Sentence) (place id at : ℕ) (stack : List (List ℕ)) (base : ℕ) (vs : List (Option ℕ)) (pattern made : List ℕ) → AllMeant st
     → IsReady st place id at vs (drop base stack) → length (drop base stack) ≡ length vs → AreItsSymbols (record { statements = st; place = at }) pattern
     → made ≡ replaced_in (value_of vs (drop base stack)) pattern → length made ≤ expression_limit → CarriesOn st place id stack (take base stack ++ made ∷ [])
 carries one st place id at stack base vs pattern made all ready as_many its is within label moves kept move passed =
-    let e = substituted (replaced_by ready.hs (all_named st (drop base stack))) ready.called.s.symbols in
-    let whole : named st made ≡ e = ap (named st) is
+    let e = instance_of (replaced_by ready.hs (all_names_at st (drop base stack))) ready.called.s.symbols in
+    let whole : names_at st made ≡ e = ap (names_at st) is
     ∙ made_named one st ready.hs vs (drop base stack) pattern ready.called.s.symbols ready.typed (its_symbols st place id at ready.ids ready.hs pattern ready.called its) in
-    let size : length (named st made) ≡ length made = length-map made (name_at st) in
-    let fits : IsWithin expression_limit (named st made) = omega (arith, within, size) in
-    let next = passed_name (IsWithin expression_limit) (take place st) moves (all_named st stack) kept label (all_named st (take base stack)) e (meant_front st place all) passed
+    let size : length (names_at st made) ≡ length made = length-map made (name_at st) in
+    let fits : IsWithin expression_limit (names_at st made) = omega (arith, within, size) in
+    let next = passed_name (IsWithin expression_limit) (take place st) moves (all_names_at st stack) kept label (all_names_at st (take base stack)) e (meant_front st place all) passed
     (step_to one st place id at label stack base vs all ready as_many move) (subst (IsWithin expression_limit) whole fits) in
-    subst (λ l. Passed (IsWithin expression_limit) (take place st) (moves ++ name label ∷ []) l kept) (sym (pushed_named st (take base stack) made ∙ ap (λ x. all_named st (take base stack) ++ x ∷ []) whole)) next
+    subst (λ l. Passed (IsWithin expression_limit) (take place st) (moves ++ name label ∷ []) l kept) (sym (pushed_named st (take base stack) made ∙ ap (λ x. all_names_at st (take base stack) ++ x ∷ []) whole)) next
 
 -- ---- the symbols of what is made
 
@@ -232,7 +232,7 @@ declared_here st place at x less a =
     ⊎_elim (λ c. inl (a.0, a.1, there, c)) (λ v. inr (a.0, a.1, there, v)) a.4
 
 known_from : (st : List Sentence) (place : ℕ) (ns : List ℕ) (xs : List (List ℕ)) → AreNumbers st ns xs
-    → ((x : List ℕ) → Contains xs x → ¬ (¬ (IsConstant (take place st) x ⊎ IsVariable (take place st) x))) → AreSymbols st (take place st) ns
+    → ((x : List ℕ) → Contains xs x → ¬ (¬ (IsConstant (take place st) x ⊎ IsVariable (take place st) x))) → AreDeclaredSymbols st (take place st) ns
 known_from st place [] xs are known = tt
 known_from st place (n ∷ ns) [] are known = absurd cc
 known_from st place (n ∷ ns) (x ∷ xs) are known =
@@ -247,50 +247,50 @@ known_from st place (n ∷ ns) (x ∷ xs) are known =
 
 -- the symbols of a statement before the place were declared before it
 pub known_symbols : (st : List Sentence) (place at : ℕ) (s : Sentence) (pattern : List ℕ) → AllMeant st → slice_get st at ≡ Some s → at < place → IsUse s.kind → AreNumbers st pattern s.symbols
-    → AreSymbols st (take place st) pattern
+    → AreDeclaredSymbols st (take place st) pattern
 known_symbols st place at s pattern all there less in_use numbers =
     known_from st place pattern s.symbols numbers (λ x has none. meant_at st at s all there M7 (in_use, (x, has, (λ active. none (declared_here st place at x less active)))))
 
-symbols_append : (st before : List Sentence) (a b : List ℕ) → AreSymbols st before a → AreSymbols st before b → AreSymbols st before (a ++ b)
+symbols_append : (st before : List Sentence) (a b : List ℕ) → AreDeclaredSymbols st before a → AreDeclaredSymbols st before b → AreDeclaredSymbols st before (a ++ b)
 symbols_append st before [] b x y = y
 symbols_append st before (n ∷ a) b x y = (x.0, symbols_append st before a b x.1 y)
 
-piece_symbols : (st before : List Sentence) (n : ℕ) (o : Option (List ℕ)) → IsSymbol st before n → ((v : List ℕ) → o ≡ Some v → AreSymbols st before v) → AreSymbols st before (unwrap_or o (n ∷ []))
+piece_symbols : (st before : List Sentence) (n : ℕ) (o : Option (List ℕ)) → IsSymbol st before n → ((v : List ℕ) → o ≡ Some v → AreDeclaredSymbols st before v) → AreDeclaredSymbols st before (unwrap_or o (n ∷ []))
 piece_symbols st before n None is some = (is, tt)
 piece_symbols st before n (Some v) is some = some v refl
 
-replaced_symbols : (st before : List Sentence) (vs : List (Option ℕ)) (es : List (List ℕ)) (ns : List ℕ) → AreEntries st before es → AreSymbols st before ns
-    → AreSymbols st before (replaced_in (value_of vs es) ns)
+replaced_symbols : (st before : List Sentence) (vs : List (Option ℕ)) (es : List (List ℕ)) (ns : List ℕ) → AreStackEntries st before es → AreDeclaredSymbols st before ns
+    → AreDeclaredSymbols st before (replaced_in (value_of vs es) ns)
 replaced_symbols st before vs es [] all are = tt
 replaced_symbols st before vs es (n ∷ ns) all are =
     symbols_append st before _ _ (piece_symbols st before n (value_of vs es n) are.0 (λ v is. value_symbols st before vs es n v all is)) (replaced_symbols st before vs es ns all are.1)
 
-pub entries_push : (st before : List Sentence) (rest : List (List ℕ)) (made : List ℕ) → AreEntries st before rest → AreSymbols st before made → AreEntries st before (rest ++ made ∷ [])
+pub entries_push : (st before : List Sentence) (rest : List (List ℕ)) (made : List ℕ) → AreStackEntries st before rest → AreDeclaredSymbols st before made → AreStackEntries st before (rest ++ made ∷ [])
 entries_push st before [] made all are = (are, tt)
 entries_push st before (e ∷ rest) made all are = (all.0, entries_push st before rest made all.1 are)
 
-pub entries_drop : (st before : List Sentence) (n : ℕ) (entries : List (List ℕ)) → AreEntries st before entries → AreEntries st before (drop n entries)
+pub entries_drop : (st before : List Sentence) (n : ℕ) (entries : List (List ℕ)) → AreStackEntries st before entries → AreStackEntries st before (drop n entries)
 entries_drop st before zero entries all = all
 entries_drop st before (suc n) [] all = tt
 entries_drop st before (suc n) (e ∷ entries) all = entries_drop st before n entries all.1
 
-pub entries_take : (st before : List Sentence) (n : ℕ) (entries : List (List ℕ)) → AreEntries st before entries → AreEntries st before (take n entries)
+pub entries_take : (st before : List Sentence) (n : ℕ) (entries : List (List ℕ)) → AreStackEntries st before entries → AreStackEntries st before (take n entries)
 entries_take st before zero entries all = tt
 entries_take st before (suc n) [] all = tt
 entries_take st before (suc n) (e ∷ entries) all = (all.0, entries_take st before n entries all.1)
 
-pub entries_below : (st before : List Sentence) (entries : List (List ℕ)) → AreEntries st before entries → AllByRecursion (AreBelow st) entries
+pub entries_below : (st before : List Sentence) (entries : List (List ℕ)) → AreStackEntries st before entries → AllByRecursion (AreBelow st) entries
 entries_below st before [] all = tt
 entries_below st before (e ∷ entries) all = (symbols_below st before e all.0, entries_below st before entries all.1)
 
 pub made_entries : (st : List Sentence) (place id at : ℕ) (stack : List (List ℕ)) (base : ℕ) (vs : List (Option ℕ)) (pattern made : List ℕ) → AllMeant st
     → IsReady st place id at vs (drop base stack) → AreItsSymbols (record { statements = st; place = at }) pattern
-    → made ≡ replaced_in (value_of vs (drop base stack)) pattern → AreEntries st (take place st) stack → AreEntries st (take place st) (take base stack ++ made ∷ [])
+    → made ≡ replaced_in (value_of vs (drop base stack)) pattern → AreStackEntries st (take place st) stack → AreStackEntries st (take place st) (take base stack ++ made ∷ [])
 made_entries st place id at stack base vs pattern made all ready its is entries =
     let numbers = its_symbols st place id at ready.ids ready.hs pattern ready.called its in
     let known = known_symbols st place at ready.called.s pattern all ready.called.numbered.there ready.called.before (inr (inr (inr ready.called.kind))) numbers in
     entries_push st (take place st) (take base stack) made (entries_take st (take place st) base stack entries)
-    (subst (AreSymbols st (take place st)) (sym is) (replaced_symbols st (take place st) vs (drop base stack) pattern (entries_drop st (take place st) base stack entries) known))
+    (subst (AreDeclaredSymbols st (take place st)) (sym is) (replaced_symbols st (take place st) vs (drop base stack) pattern (entries_drop st (take place st) base stack entries) known))
 
 -- one side of a test
 pub match_true : (b : Bool) (P Q : Type 0) → b ≡ true → MatchBool b P Q → P
@@ -339,35 +339,35 @@ pub is_active_hypothesis : (st : List Sentence) (place : ℕ) (label : List ℕ)
 is_active_hypothesis st place label id u kind = ⊎_elim (λ h. h.1) (λ a. absurd (not_both_kinds u.s.kind kind a)) u.kind
 
 hypothesis_step : (st : List Sentence) (place id : ℕ) (used label : List ℕ) (stack : List (List ℕ)) → (u : MayBeUsed st place used id) → IsHypothesis u.s.kind
-    → IsNumberedMove st (name id) (name label) → StepTo (take place st) (all_named st stack) label (all_named st stack) u.s.symbols
+    → IsNumberedMove st (name id) (name label) → StepTo (take place st) (all_names_at st stack) label (all_names_at st stack) u.s.symbols
 hypothesis_step st place id used label stack u kind move =
-    step_of_hypothesis (take place st) (all_named st stack) label u.at u.s (get_take st place u.at u.before ∙ u.numbered.there) (is_active_hypothesis st place used id u kind)
+    step_of_hypothesis (take place st) (all_names_at st stack) label u.at u.s (get_take st place u.at u.before ∙ u.numbered.there) (is_active_hypothesis st place used id u kind)
     (label_of st id u.at u.s label u.numbered move) kind
 
 pub stops_long : (st : List Sentence) (place id : ℕ) (used : List ℕ) (stack : List (List ℕ)) (expression : List ℕ) → AllMeant st → (u : MayBeUsed st place used id) → IsHypothesis u.s.kind
     → AreNumbers st expression u.s.symbols → expression_limit < length expression → StopsAt st place id stack L1
 stops_long st place id used stack expression all u kind numbers over label kept move =
     let is = named_is st expression u.s.symbols numbers in
-    let size : length (named st expression) ≡ length expression = length-map expression (name_at st) in
-    first_L1 (IsWithin expression_limit) (take place st) (all_named st stack) kept label (all_named st stack) u.s.symbols (meant_front st place all)
+    let size : length (names_at st expression) ≡ length expression = length-map expression (name_at st) in
+    first_L1 (IsWithin expression_limit) (take place st) (all_names_at st stack) kept label (all_names_at st stack) u.s.symbols (meant_front st place all)
     (λ within. let w = subst (IsWithin expression_limit) (sym is) within in omega (arith, w, size, over)) (hypothesis_step st place id used label stack u kind move)
 
 pub pushes : (st : List Sentence) (place id : ℕ) (used : List ℕ) (stack : List (List ℕ)) (expression : List ℕ) → AllMeant st → (u : MayBeUsed st place used id) → IsHypothesis u.s.kind
     → AreNumbers st expression u.s.symbols → length expression ≤ expression_limit → CarriesOn st place id stack (stack ++ expression ∷ [])
 pushes st place id used stack expression all u kind numbers within label moves kept move passed =
     let is = named_is st expression u.s.symbols numbers in
-    let size : length (named st expression) ≡ length expression = length-map expression (name_at st) in
-    let fits : IsWithin expression_limit (named st expression) = omega (arith, within, size) in
-    let next = passed_name (IsWithin expression_limit) (take place st) moves (all_named st stack) kept label (all_named st stack) u.s.symbols (meant_front st place all) passed
+    let size : length (names_at st expression) ≡ length expression = length-map expression (name_at st) in
+    let fits : IsWithin expression_limit (names_at st expression) = omega (arith, within, size) in
+    let next = passed_name (IsWithin expression_limit) (take place st) moves (all_names_at st stack) kept label (all_names_at st stack) u.s.symbols (meant_front st place all) passed
     (hypothesis_step st place id used label stack u kind move) (subst (IsWithin expression_limit) is fits) in
-    subst (λ l. Passed (IsWithin expression_limit) (take place st) (moves ++ name label ∷ []) l kept) (sym (pushed_named st stack expression ∙ ap (λ x. all_named st stack ++ x ∷ []) is)) next
+    subst (λ l. Passed (IsWithin expression_limit) (take place st) (moves ++ name label ∷ []) l kept) (sym (pushed_named st stack expression ∙ ap (λ x. all_names_at st stack ++ x ∷ []) is)) next
 
 hypothesis_use : (k : Kind) → IsHypothesis k → IsUse k
 hypothesis_use k (inl f) = inr (inl f)
 hypothesis_use k (inr e) = inr (inr (inl e))
 
 pub pushed_entries : (st : List Sentence) (place id : ℕ) (used : List ℕ) (stack : List (List ℕ)) (expression : List ℕ) → AllMeant st → (u : MayBeUsed st place used id) → IsHypothesis u.s.kind
-    → AreNumbers st expression u.s.symbols → AreEntries st (take place st) stack → AreEntries st (take place st) (stack ++ expression ∷ [])
+    → AreNumbers st expression u.s.symbols → AreStackEntries st (take place st) stack → AreStackEntries st (take place st) (stack ++ expression ∷ [])
 pushed_entries st place id used stack expression all u kind numbers entries =
     entries_push st (take place st) stack expression entries
     (known_symbols st place u.at u.s expression all u.numbered.there u.before (hypothesis_use u.s.kind kind) numbers)

@@ -6,9 +6,9 @@ use Rattle.mm_text.specs.declared.statement.Kind.TheVariants.{Floating, Essentia
 use Rattle.mm_frame.specs.Sentence.{Sentence}
 use Rattle.mm_frame.specs.Frame.{IsDistinct, IsMandatoryPair}
 use Rattle.mm_frame.specs.Rules.{AllMeant}
-use Rattle.mm_proof.specs.Substitution.{substituted}
+use Rattle.mm_proof.specs.Substitution.{instance_of}
 use Rattle.mm_proof.specs.Tree.{ShareNoVariable, AreDistinct}
-use Rattle.mm_proof.specs.Proof.{Meets, SomePair}
+use Rattle.mm_proof.specs.Proof.{MeetsHypotheses, SomePair}
 use Rattle.mm_proof.proofs.Runs.{not_essential}
 use Rattle.mm_proof.proofs.Derived.{zip_left, zip_right, all_at}
 use Rattle.mm_proof.proofs.Firsts.{HasCodes, HasEqual}
@@ -16,14 +16,14 @@ use Rattle.mm_proof.proofs.Renamed.{replaced_in}
 use Rattle.mm_proof.proofs.Ties.{IsVariableOf, IsByNumber, same_numbers, same_firsts, same_substitution}
 
 -- the patterns are the expressions of the hypotheses, and their numbers and those of the entries are known
-pub record HasPatterns (P : ℕ → Type 0) (nm : ℕ → List ℕ) (before : List Sentence) (stack : List (List (List ℕ))) (label : List ℕ) (m : Meets before stack label)
+pub record HasPatterns (P : ℕ → Type 0) (nm : ℕ → List ℕ) (before : List Sentence) (stack : List (List (List ℕ))) (label : List ℕ) (m : MeetsHypotheses before stack label)
     (patterns entries : List (List ℕ)) : Type 0 where
   pub spelled : AllZip (λ pattern (h : Sentence). h.symbols ≡ map nm pattern) patterns m.hypotheses
   pub patterns_known : AllByRecursion (AllByRecursion P) patterns
   pub entries_known : AllByRecursion (AllByRecursion P) entries
 
 -- the entry at a place, by number
-entry_at : (P : ℕ → Type 0) (nm : ℕ → List ℕ) (before : List Sentence) (stack : List (List (List ℕ))) (label : List ℕ) (m : Meets before stack label)
+entry_at : (P : ℕ → Type 0) (nm : ℕ → List ℕ) (before : List Sentence) (stack : List (List (List ℕ))) (label : List ℕ) (m : MeetsHypotheses before stack label)
     (variables : List (Option ℕ)) (entries : List (List ℕ)) (τ : ℕ → Option (List ℕ)) → IsByNumber P nm before stack label m variables entries τ
     → (i : ℕ) (entry : List (List ℕ)) → slice_get m.entries i ≡ Some entry → (e : List ℕ) × (slice_get entries i ≡ Some e) × (entry ≡ map nm e)
 entry_at P nm before stack label m variables entries τ b i entry at = go (slice_get entries i) refl
@@ -35,7 +35,7 @@ entry_at P nm before stack label m variables entries τ b i entry at = go (slice
     go None p = absurd (none-some entry (sym (named ∙ ap (λ o. option_map (λ (e : List ℕ). map nm e) o) p) ∙ at))
     go (Some e) p = (e, p, same_Some entry (map nm e) (sym at ∙ named ∙ ap (λ o. option_map (λ (e : List ℕ). map nm e) o) p))
 
-entry_named : (P : ℕ → Type 0) (nm : ℕ → List ℕ) (before : List Sentence) (stack : List (List (List ℕ))) (label : List ℕ) (m : Meets before stack label)
+entry_named : (P : ℕ → Type 0) (nm : ℕ → List ℕ) (before : List Sentence) (stack : List (List (List ℕ))) (label : List ℕ) (m : MeetsHypotheses before stack label)
     (variables : List (Option ℕ)) (entries : List (List ℕ)) (τ : ℕ → Option (List ℕ)) → IsByNumber P nm before stack label m variables entries τ
     → (i : ℕ) (e : List ℕ) → slice_get entries i ≡ Some e → slice_get m.entries i ≡ Some (map nm e)
 entry_named P nm before stack label m variables entries τ b i e there =
@@ -53,7 +53,7 @@ essential_variable nm (Some n) h is essential = absurd (not_essential h.kind ess
 -- ---- type codes
 
 -- each `$f` has its type code by number, so by name
-pub codes_by_number : (P : ℕ → Type 0) (nm : ℕ → List ℕ) (before : List Sentence) (stack : List (List (List ℕ))) (label : List ℕ) (m : Meets before stack label)
+pub codes_by_number : (P : ℕ → Type 0) (nm : ℕ → List ℕ) (before : List Sentence) (stack : List (List (List ℕ))) (label : List ℕ) (m : MeetsHypotheses before stack label)
     (variables : List (Option ℕ)) (patterns entries : List (List ℕ)) (τ : ℕ → Option (List ℕ)) → IsByNumber P nm before stack label m variables entries τ
     → HasPatterns P nm before stack label m patterns entries
     → ((i n : ℕ) (pattern e : List ℕ) → slice_get variables i ≡ Some (Some n) → slice_get patterns i ≡ Some pattern → slice_get entries i ≡ Some e → slice_get e 0 ≡ slice_get pattern 0)
@@ -69,7 +69,7 @@ codes_by_number P nm before stack label m variables patterns entries τ b p each
     ∙ ap (λ l. slice_get l 0) (sym q.2)
 
 -- some `$f` hasn't
-pub code_by_number : (P : ℕ → Type 0) (nm : ℕ → List ℕ) (before : List Sentence) (stack : List (List (List ℕ))) (label : List ℕ) (m : Meets before stack label)
+pub code_by_number : (P : ℕ → Type 0) (nm : ℕ → List ℕ) (before : List Sentence) (stack : List (List (List ℕ))) (label : List ℕ) (m : MeetsHypotheses before stack label)
     (variables : List (Option ℕ)) (patterns entries : List (List ℕ)) (τ : ℕ → Option (List ℕ)) → IsByNumber P nm before stack label m variables entries τ
     → HasPatterns P nm before stack label m patterns entries
     → (i n : ℕ) (pattern e : List ℕ) → slice_get variables i ≡ Some (Some n) → slice_get patterns i ≡ Some pattern → slice_get entries i ≡ Some e → slice_get e 0 ≢ slice_get pattern 0
@@ -94,7 +94,7 @@ code_by_number P nm before stack label m variables patterns entries τ b p i n p
 
 -- ---- `$e`s
 
-pub equal_by_number : (P : ℕ → Type 0) (nm : ℕ → List ℕ) (before : List Sentence) (stack : List (List (List ℕ))) (label : List ℕ) (m : Meets before stack label)
+pub equal_by_number : (P : ℕ → Type 0) (nm : ℕ → List ℕ) (before : List Sentence) (stack : List (List (List ℕ))) (label : List ℕ) (m : MeetsHypotheses before stack label)
     (variables : List (Option ℕ)) (patterns entries : List (List ℕ)) (τ : ℕ → Option (List ℕ)) → AllMeant before → IsByNumber P nm before stack label m variables entries τ
     → HasPatterns P nm before stack label m patterns entries
     → ((i : ℕ) (pattern e : List ℕ) → slice_get variables i ≡ Some None → slice_get patterns i ≡ Some pattern → slice_get entries i ≡ Some e → e ≡ replaced_in τ pattern)
@@ -106,21 +106,21 @@ equal_by_number P nm before stack label m variables patterns entries τ all b p 
     let e = entry_at P nm before stack label m variables entries τ b i entry at in
     e.2 ∙ ap (λ l. map nm l) (each i q.0 e.0 (v.1 ∙ ap Some none) q.1 e.1)
     ∙ sym (same_substitution P nm before stack label m variables entries τ all b q.0 (all_at (AllByRecursion P) patterns i q.0 p.patterns_known q.1))
-    ∙ ap (λ l. substituted m.σ l) (sym q.2)
+    ∙ ap (λ l. instance_of m.σ l) (sym q.2)
 
-pub differ_by_number : (P : ℕ → Type 0) (nm : ℕ → List ℕ) (before : List Sentence) (stack : List (List (List ℕ))) (label : List ℕ) (m : Meets before stack label)
+pub differ_by_number : (P : ℕ → Type 0) (nm : ℕ → List ℕ) (before : List Sentence) (stack : List (List (List ℕ))) (label : List ℕ) (m : MeetsHypotheses before stack label)
     (variables : List (Option ℕ)) (patterns entries : List (List ℕ)) (τ : ℕ → Option (List ℕ)) → AllMeant before → IsByNumber P nm before stack label m variables entries τ
     → HasPatterns P nm before stack label m patterns entries
     → (i : ℕ) (pattern e : List ℕ) → slice_get variables i ≡ Some None → slice_get patterns i ≡ Some pattern → slice_get entries i ≡ Some e
     → AllByRecursion P (replaced_in τ pattern) → e ≢ replaced_in τ pattern
-    → SomePair m.hypotheses m.entries (λ h entry. (h.kind ≡ Essential) × (entry ≢ substituted m.σ h.symbols))
+    → SomePair m.hypotheses m.entries (λ h entry. (h.kind ≡ Essential) × (entry ≢ instance_of m.σ h.symbols))
 differ_by_number P nm before stack label m variables patterns entries τ all b p i pattern e v there at known differ =
     let h = zip_left (IsVariableOf nm) variables m.hypotheses i None b.typed v in
     let q = zip_left (λ pattern (g : Sentence). g.symbols ≡ map nm pattern) patterns m.hypotheses i pattern p.spelled there in
     let same : q.0 ≡ h.0 = same_Some q.0 h.0 (sym q.1 ∙ h.1) in
     let spelled : h.0.symbols ≡ map nm pattern = ap (λ (s : Sentence). s.symbols) (sym same) ∙ q.2 in
-    let made : substituted m.σ h.0.symbols ≡ map nm (replaced_in τ pattern) =
-    ap (λ l. substituted m.σ l) spelled ∙ same_substitution P nm before stack label m variables entries τ all b pattern (all_at (AllByRecursion P) patterns i pattern p.patterns_known there) in (
+    let made : instance_of m.σ h.0.symbols ≡ map nm (replaced_in τ pattern) =
+    ap (λ l. instance_of m.σ l) spelled ∙ same_substitution P nm before stack label m variables entries τ all b pattern (all_at (AllByRecursion P) patterns i pattern p.patterns_known there) in (
       i,
       h.0,
       map nm e,

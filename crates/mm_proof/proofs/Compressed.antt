@@ -15,16 +15,16 @@ use Rattle.mm_code.specs.declared.code.CodeFault.TheVariants as code_fault
 use Rattle.mm_frame.specs.Sentence.{Sentence, IsLabelled, IsHypothesis}
 use Rattle.mm_frame.specs.Active.{IsActive}
 use Rattle.mm_frame.specs.Rules.{AllMeant}
-use Rattle.mm_frame.specs.Form.{AllFormed, IsNamed}
+use Rattle.mm_frame.specs.Form.{AllFormed, HasItsLabel}
 use Rattle.mm_frame.specs.Frame.{AreMandatory, IsMandatoryAt}
-use Rattle.mm_frame.specs.Numbers.{labelled}
+use Rattle.mm_frame.specs.Numbers.{labelled_sentences}
 use Rattle.mm_frame.specs.FramePlace.{AreHypotheses}
 use Rattle.mm_proof.specs.declared.fault.ProofRule.{ProofRule}
 use Rattle.mm_proof.specs.declared.fault.ProofRule.TheVariants.{P1, P2, P3, P4, P5}
 use Rattle.mm_proof.specs.declared.moves.NumberedMove.{NumberedMove}
 use Rattle.mm_proof.specs.Moves.{Move}
 use Rattle.mm_proof.specs.Tokens.{IsCompressed, AreLetters, opening_token, closing_token}
-use Rattle.mm_proof.specs.Proof.{rank, BreaksWhole, IsWholeFault}
+use Rattle.mm_proof.specs.Proof.{proof_rank, BreaksWhole, IsWholeFault}
 use Rattle.mm_proof.specs.Steps.{IsUsable}
 use Rattle.mm_proof.specs.CodeSteps.{AreFor, NumberSays, IsReading, move_in, moves_in, texts, fault_behind}
 use Rattle.mm_proof.specs.Answer.{OnRule}
@@ -88,7 +88,7 @@ compressed_labels tokens listed letters c = record {
 pub no_end_fault : (before : List (Sentence)) (rest : List (List ℕ)) → ¬ (Contains rest closing_token) → IsWholeFault before (opening_token ∷ rest) P1
 no_end_fault before rest none = record { broken = (refl, none); first = λ other less. absurd (none_below other less) }
   where
-    none_below : (other : ProofRule) → rank other < rank P1 → ⊥
+    none_below : (other : ProofRule) → proof_rank other < proof_rank P1 → ⊥
     none_below P1 less = omega arith
     none_below other less = omega arith
 
@@ -113,10 +113,10 @@ pub cut_fault : (statements : List Sentence) (place : ℕ) (tokens : List (List 
 cut_fault statements place tokens ids listed letters all c each b =
     record { broken = (flat_map (λ p. p) letters, (listed, letters, c, refl), b); first = first }
   where
-    low : (other : ProofRule) → rank other < rank P4 → ¬ (BreaksWhole other (take place statements) tokens)
+    low : (other : ProofRule) → proof_rank other < proof_rank P4 → ¬ (BreaksWhole other (take place statements) tokens)
     low = labels_pass statements place tokens ids listed all (compressed_labels tokens listed letters c) each
 
-    first : (other : ProofRule) → rank other < rank P5 → ¬ (BreaksWhole other (take place statements) tokens)
+    first : (other : ProofRule) → proof_rank other < proof_rank P5 → ¬ (BreaksWhole other (take place statements) tokens)
     first P1 less = low P1 (omega arith)
     first P2 less = low P2 (omega arith)
     first P3 less = low P3 (omega arith)
@@ -132,7 +132,7 @@ record HypothesisLabels (statements : List Sentence) (place : ℕ) (ids : List �
   stand : AllZip (Stands statements place) ids labels
 
 hypotheses_labels : (statements : List Sentence) (place : ℕ) (ids : List ℕ) (hypotheses : List Sentence)
-    → map (slice_get (labelled statements)) ids ≡ map Some hypotheses
+    → map (slice_get (labelled_sentences statements)) ids ≡ map Some hypotheses
     → ((i : ℕ) (h : Sentence) → slice_get hypotheses i ≡ Some h → (label : List ℕ) × IsLabelled label h × IsUsable (take place statements) label)
     → HypothesisLabels statements place ids hypotheses
 hypotheses_labels statements place [] [] numbered each = record { labels = []; are = refl; stand = tt }
@@ -140,8 +140,8 @@ hypotheses_labels statements place [] (h ∷ hypotheses) numbered each = absurd 
 hypotheses_labels statements place (id ∷ ids) [] numbered each = absurd cc
 hypotheses_labels statements place (id ∷ ids) (h ∷ hypotheses) numbered each =
     let first = each 0 h refl in
-    let there : slice_get (labelled statements) id ≡ Some h = cc in
-    let others : map (slice_get (labelled statements)) ids ≡ map Some hypotheses = cc in
+    let there : slice_get (labelled_sentences statements) id ≡ Some h = cc in
+    let others : map (slice_get (labelled_sentences statements)) ids ≡ map Some hypotheses = cc in
     let rest = hypotheses_labels statements place ids hypotheses others (λ i g at. each (suc i) g at) in
     let label = first.1 in
     let tail = rest.are in
@@ -163,9 +163,9 @@ mandatory_usable statements place assertion hypotheses formed mandatory i h at =
     let label = hypothesis_label h kind (formed p.0 h (get_from_take statements place p.0 h p.1).1).label in
     (label.0, label.1, inl (p.0, h, p.1, active, (label.1, kind)))
   where
-    hypothesis_label : (s : Sentence) → IsHypothesis s.kind → IsNamed s.kind s.label → (label : List ℕ) × IsLabelled label s
-    hypothesis_label s (inl f) named = let n = subst (λ k. IsNamed k s.label) f named in (n.0, n.1)
-    hypothesis_label s (inr e) named = let n = subst (λ k. IsNamed k s.label) e named in (n.0, n.1)
+    hypothesis_label : (s : Sentence) → IsHypothesis s.kind → HasItsLabel s.kind s.label → (label : List ℕ) × IsLabelled label s
+    hypothesis_label s (inl f) named = let n = subst (λ k. HasItsLabel k s.label) f named in (n.0, n.1)
+    hypothesis_label s (inr e) named = let n = subst (λ k. HasItsLabel k s.label) e named in (n.0, n.1)
 
 -- ---- what a compressed proof says
 

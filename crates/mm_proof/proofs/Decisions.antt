@@ -8,7 +8,7 @@ use mathlib.Core.List.{List-discrete}
 use Rattle.mm_text.specs.declared.statement.Kind.{Kind}
 use Rattle.mm_text.specs.declared.statement.Kind.TheVariants.{Constants, Variables, Distinct, Floating, Essential, Axiom, Provable, Opening, Closing}
 use Rattle.mm_frame.specs.Sentence.{Sentence}
-use Rattle.mm_frame.specs.Active.{openings, closings, IsOpen, IsActive}
+use Rattle.mm_frame.specs.Active.{open_marks, close_marks, IsOpen, IsActive}
 use Rattle.mm_proof.proofs.Places.{get_take}
 
 -- ---- of parts
@@ -104,11 +104,11 @@ contains_dec (y ∷ xs) x = go (symbol_dec y x) (contains_dec xs x)
 -- ---- blocks
 
 -- fronts past the end are the whole
-unclosed_all : (d : List Sentence) → ((n : ℕ) → n < suc (length d) → closings (take n d) ≤ openings (take n d)) → (n : ℕ) → closings (take n d) ≤ openings (take n d)
+unclosed_all : (d : List Sentence) → ((n : ℕ) → n < suc (length d) → close_marks (take n d) ≤ open_marks (take n d)) → (n : ℕ) → close_marks (take n d) ≤ open_marks (take n d)
 unclosed_all d h n = elim (cases_lt n (suc (length d))) [
   | inl less ↦ h n less
   | inr more ↦
-      subst (λ l. closings l ≤ openings l) (take_all (length d) d (omega arith) ∙ sym (take_all n d (omega arith))) (h (length d) (omega arith))
+      subst (λ l. close_marks l ≤ open_marks l) (take_all (length d) d (omega arith) ∙ sym (take_all n d (omega arith))) (h (length d) (omega arith))
 ]
 
 pub open_dec : (before : List Sentence) (place : ℕ) → Dec (IsOpen before place)
@@ -123,8 +123,8 @@ open_dec before place = go (slice_get before place) refl
         (λ h. record { opening = s; there = e; opened = h.0; unclosed = unclosed_all (drop (suc place) before) h.1 })
         (λ o. (ap (λ (t : Sentence). t.kind) (same_Some s o.opening (sym e ∙ o.there)) ∙ o.opened, λ n less. o.unclosed n))
         (dec_both (kind_dec s.kind Opening)
-        (dec_below (suc (length (drop (suc place) before))) (λ n. closings (take n (drop (suc place) before)) ≤ openings (take n (drop (suc place) before)))
-        (λ n. dec_le (closings (take n (drop (suc place) before))) (openings (take n (drop (suc place) before))))))
+        (dec_below (suc (length (drop (suc place) before))) (λ n. close_marks (take n (drop (suc place) before)) ≤ open_marks (take n (drop (suc place) before)))
+        (λ n. dec_le (close_marks (take n (drop (suc place) before))) (open_marks (take n (drop (suc place) before))))))
 
 pub active_dec : (before : List Sentence) (place : ℕ) → Dec (IsActive before place)
 active_dec before place = dec_as
@@ -146,10 +146,10 @@ active_earlier before i place less active =
           (active.kept outer (holds.0, subst (λ l. IsOpen l outer) (take-take (suc place) i before less) holds.1));
     }
   where
-    unclosed_before : (d : List Sentence) (m n : ℕ) → ((n : ℕ) → closings (take n d) ≤ openings (take n d)) → closings (take n (take m d)) ≤ openings (take n (take m d))
+    unclosed_before : (d : List Sentence) (m n : ℕ) → ((n : ℕ) → close_marks (take n d) ≤ open_marks (take n d)) → close_marks (take n (take m d)) ≤ open_marks (take n (take m d))
     unclosed_before d m n all = elim (cases_lt m n) [
-      | inl more ↦ subst (λ l. closings l ≤ openings l) (sym (take_all n (take m d) (omega (arith, length-take m d)))) (all m)
-      | inr less ↦ subst (λ l. closings l ≤ openings l) (sym (take-take n m d less)) (all n)
+      | inl more ↦ subst (λ l. close_marks l ≤ open_marks l) (sym (take_all n (take m d) (omega (arith, length-take m d)))) (all m)
+      | inr less ↦ subst (λ l. close_marks l ≤ open_marks l) (sym (take-take n m d less)) (all n)
     ]
 
     open_before : (before : List Sentence) (i outer : ℕ) → outer < i → IsOpen before outer → IsOpen (take i before) outer
@@ -161,5 +161,5 @@ active_earlier before i place less active =
           opening = o.opening;
           there = get_take before i outer less ∙ o.there;
           opened = o.opened;
-          unclosed = λ n. subst (λ l. closings (take n l) ≤ openings (take n l)) (sym part) (unclosed_before (drop (suc outer) before) (i - suc outer) n o.unclosed);
+          unclosed = λ n. subst (λ l. close_marks (take n l) ≤ open_marks (take n l)) (sym part) (unclosed_before (drop (suc outer) before) (i - suc outer) n o.unclosed);
         }

@@ -6,7 +6,7 @@ use Rattle.std.proofs.lemmas.List.{length-map}
 use Rattle.mm_frame.specs.Sentence.{Sentence, IsHypothesis, IsAssertion, IsLabelled}
 use Rattle.mm_frame.specs.Active.{IsActive}
 use Rattle.mm_frame.specs.Rules.{AllMeant}
-use Rattle.mm_frame.specs.Numbers.{symbols_of, labelled, IsNumbered}
+use Rattle.mm_frame.specs.Numbers.{symbols_of, labelled_sentences, IsNumbered}
 use Rattle.mm_frame.specs.FramePlace.{AreItsSymbols}
 use Rattle.mm_frame.specs.Laws.{OneNumber}
 use Rattle.mm_proof.specs.declared.fault.ProofRule.{ProofRule}
@@ -19,7 +19,7 @@ use Rattle.mm_proof.specs.Proof.{IsWithin, expression_limit, Passed, Prove, Brea
 use Rattle.mm_proof.specs.Steps.{IsNumberedMove, AreNumberedMoves, IsUsable, IsUsableMove, AreSteps}
 use Rattle.mm_proof.specs.CodeSteps.{MayBeUsed, moves_in}
 use Rattle.mm_proof.specs.declared.moves.NumberedMove.{NumberedMove}
-use Rattle.mm_proof.specs.CodeVerify.{IsSymbol, AreEntries, AreBelow, named, all_named}
+use Rattle.mm_proof.specs.CodeVerify.{IsSymbol, AreStackEntries, AreBelow, names_at, all_names_at}
 use Rattle.mm_proof.specs.Verified.{ProvesWith, OfMoves}
 use Rattle.mm_proof.specs.CodeRun.{HasRun, MayBeMade, AreNamed, EndsWrong}
 use Rattle.mm_proof.proofs.Places.{get_from_take}
@@ -57,7 +57,7 @@ usable_names st id xs place s names a n numbered =
     let same : a.moves ≡ names = zip_once (IsNumberedMove st) (IsNumberedMove st) xs a.moves names (one_move st) a.numbered numbered in
     subst (λ p. AllByRecursion (IsUsableMove (take p st)) names) here (subst (λ l. AllByRecursion (IsUsableMove (take a.place st)) l) same a.usable)
 
-may_be_used : (st : List Sentence) (place id : ℕ) (s : Sentence) (label : List ℕ) → AllMeant st → slice_get (labelled st) id ≡ Some s → IsLabelled label s → IsUsable (take place st) label
+may_be_used : (st : List Sentence) (place id : ℕ) (s : Sentence) (label : List ℕ) → AllMeant st → slice_get (labelled_sentences st) id ≡ Some s → IsLabelled label s → IsUsable (take place st) label
     → MayBeUsed st place label id
 may_be_used st place id s label all there is (inl h) =
     let p = placed st id s there in
@@ -105,7 +105,7 @@ steps_made st id xs place s all a n = all_made st place xs a.moves all a.numbere
 -- ---- the verdict
 
 pub its_symbols : (st : List Sentence) (own place : ℕ) (s : Sentence) (numbers : List ℕ) → own ≡ place → slice_get st place ≡ Some s
-    → AreItsSymbols (record { statements = st; place = own }) numbers → (named st numbers ≡ s.symbols) × AreBelow st numbers
+    → AreItsSymbols (record { statements = st; place = own }) numbers → (names_at st numbers ≡ s.symbols) × AreBelow st numbers
 its_symbols st own place s numbers here there i =
     let same : i.assertion ≡ s = same_Some i.assertion s (sym i.there ∙ ap (slice_get st) here ∙ there) in
     (named_is st numbers i.assertion.symbols i.numbered ∙ ap (λ (x : Sentence). x.symbols) same, below_is st numbers i.assertion.symbols i.numbered)
@@ -118,9 +118,9 @@ proved_end st id own t xs stack kept count numbers n symbols run is place s name
     let here : own ≡ place = one_place st id own place t s n proof.numbered in
     let moved = subst (λ p. HasRun st p xs stack kept count) here run in
     let expression = (its_symbols st own place s numbers here proof.numbered.there symbols).0 in
-    let passed = subst (λ l. Passed (IsWithin expression_limit) (take place st) names l (all_named st kept))
-    (ap (all_named st) is ∙ ap (λ e. e ∷ []) expression) (moved.passed names numbered) in
-    prove_at_end (IsWithin expression_limit) (take place st) s names (all_named st kept) passed
+    let passed = subst (λ l. Passed (IsWithin expression_limit) (take place st) names l (all_names_at st kept))
+    (ap (all_names_at st) is ∙ ap (λ e. e ∷ []) expression) (moved.passed names numbered) in
+    prove_at_end (IsWithin expression_limit) (take place st) s names (all_names_at st kept) passed
 
 -- what is proved, with the assertions that the moves name
 pub proved_with : (st : List Sentence) (id : ℕ) (xs : List (Move ℕ)) (used : List ℕ) → AllMeant st → AreSteps st id xs → AreNamed st xs used
@@ -144,16 +144,16 @@ wrong_end st id own t xs stack kept count numbers rule at one n symbols run wron
     let here : own ≡ place = one_place st id own place t s n proof.numbered in
     let moved = subst (λ p. HasRun st p xs stack kept count) here run in
     let expression = its_symbols st own place s numbers here proof.numbered.there symbols in
-    end_fault (IsWithin expression_limit) (take place st) s names (all_named st stack) (all_named st kept) rule at (moved.passed names numbered)
+    end_fault (IsWithin expression_limit) (take place st) s names (all_names_at st stack) (all_names_at st kept) rule at (moved.passed names numbered)
     (broken expression.0 expression.1 moved.entries wrong.1) (wrong.0 ∙ ap (λ k. k + 1) (moved.count ∙ same_steps st xs names numbered))
   where
-    broken : named st numbers ≡ s.symbols → AreBelow st numbers → AreEntries st (take place st) stack → EndsWrong rule stack numbers → BreaksEnd rule (all_named st stack) s.symbols
-    broken symbols_are below entries (inl w) = rw w.0 (λ e. w.1 (sym (length-map stack (named st)) ∙ e))
+    broken : names_at st numbers ≡ s.symbols → AreBelow st numbers → AreStackEntries st (take place st) stack → EndsWrong rule stack numbers → BreaksEnd rule (all_names_at st stack) s.symbols
+    broken symbols_are below entries (inl w) = rw w.0 (λ e. w.1 (sym (length-map stack (names_at st)) ∙ e))
     broken symbols_are below entries (inr w) =
-        let entry = (subst (AreEntries st (take place st)) w.2 entries).0 in
+        let entry = (subst (AreStackEntries st (take place st)) w.2 entries).0 in
         rw w.0 (
-          named st w.1,
-          ap (all_named st) w.2,
+          names_at st w.1,
+          ap (all_names_at st) w.2,
           λ same. w.3 (named_once one st w.1 numbers (all_mapped (IsSymbol st (take place st)) (λ k. k < length (symbols_of st)) w.1 (λ k i. i.below) entry) below (same ∙ sym symbols_are)),
         )
 

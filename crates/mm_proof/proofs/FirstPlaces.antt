@@ -7,7 +7,7 @@ use Rattle.std.proofs.lemmas.List.{map-append, length-append, length-set, get_or
 use Rattle.std.proofs.Math.Seq.{get_or-append_seam}
 use Rattle.mm_frame.proofs.Pushed.{get_set_same}
 use Rattle.mm_frame.specs.declared.number.Sym.{Sym}
-use Rattle.mm_proof.specs.CodeVerify.{variables_in, is_of, IsNowhere, IsFirstAt, ArePlaces}
+use Rattle.mm_proof.specs.CodeVerify.{variables_in, is_of, IsNowhere, IsFirstAt, AreFirstPlaces}
 use Rattle.mm_proof.proofs.Values.{nowhere_past}
 
 -- a symbol is nowhere, or it has a first place
@@ -40,14 +40,14 @@ somewhere n (v ∷ variables) = go (is_of n v) refl (somewhere n variables)
     go false e (inr f) = inr (suc f.0, later e f.0 f.1)
 
 -- what the place under a number tells
-pub placed_none : (n : ℕ) (places : List ℕ) (variables : List (Option ℕ)) → ArePlaces places variables → slice_get places n ≡ None → IsNowhere n variables
+pub placed_none : (n : ℕ) (places : List ℕ) (variables : List (Option ℕ)) → AreFirstPlaces places variables → slice_get places n ≡ None → IsNowhere n variables
 placed_none n places variables placed there = go (somewhere n variables)
   where
     go : IsNowhere n variables ⊎ ((place : ℕ) × IsFirstAt n variables place) → IsNowhere n variables
     go (inl h) = h
     go (inr f) = absurd (none-some f.0 (sym there ∙ placed n f.0 f.1))
 
-pub placed_other : (n place : ℕ) (places : List ℕ) (variables : List (Option ℕ)) → ArePlaces places variables → slice_get places n ≡ Some place
+pub placed_other : (n place : ℕ) (places : List ℕ) (variables : List (Option ℕ)) → AreFirstPlaces places variables → slice_get places n ≡ Some place
     → is_of n (get_or variables place None) ≡ false → IsNowhere n variables
 placed_other n place places variables placed there other = go (somewhere n variables)
   where
@@ -57,7 +57,7 @@ placed_other n place places variables placed there other = go (somewhere n varia
         let same : place ≡ f.0 = same_Some place f.0 (sym there ∙ placed n f.0 f.1) in
         absurd (false≢true (sym other ∙ ap (λ k. is_of n (get_or variables k None)) same ∙ f.1.is))
 
-pub placed_here : (n place : ℕ) (places : List ℕ) (variables : List (Option ℕ)) → ArePlaces places variables → slice_get places n ≡ Some place
+pub placed_here : (n place : ℕ) (places : List ℕ) (variables : List (Option ℕ)) → AreFirstPlaces places variables → slice_get places n ≡ Some place
     → is_of n (get_or variables place None) ≡ true → IsFirstAt n variables place
 placed_here n place places variables placed there is = go (somewhere n variables)
   where
@@ -67,7 +67,7 @@ placed_here n place places variables placed there is = go (somewhere n variables
 
 -- ---- the places of a longer list
 
-pub placed_longer : (places rest : List ℕ) (variables : List (Option ℕ)) → ArePlaces places variables → ArePlaces (places ++ rest) variables
+pub placed_longer : (places rest : List ℕ) (variables : List (Option ℕ)) → AreFirstPlaces places variables → AreFirstPlaces (places ++ rest) variables
 placed_longer places rest variables placed n place f =
     let there = placed n place f in
     let within = slice_get_within places n place there in
@@ -106,7 +106,7 @@ last_of n variables v place f = go (cases_lt place (length variables))
           ap (is_of n) (sym (get_or-append_seam variables v [] None) ∙ ap (λ k. get_or (variables ++ v ∷ []) k None) (sym at)) ∙ f.is,
         )
 
-pub placed_nothing : (places : List ℕ) (variables : List (Option ℕ)) → ArePlaces places variables → ArePlaces places (variables ++ None ∷ [])
+pub placed_nothing : (places : List ℕ) (variables : List (Option ℕ)) → AreFirstPlaces places variables → AreFirstPlaces places (variables ++ None ∷ [])
 placed_nothing places variables placed n place f = go (last_of n variables None place f)
   where
     go : IsFirstAt n variables place ⊎ ((place ≡ length variables) × IsNowhere n variables × (is_of n None ≡ true)) → slice_get places n ≡ Some place
@@ -117,7 +117,7 @@ same_symbol : (n m : ℕ) → is_of n (Some m) ≡ true → m ≡ n
 same_symbol n m is = (Decides-eqb m n).0 is
 
 -- the symbol has a place before
-pub placed_again : (places : List ℕ) (variables : List (Option ℕ)) (m at : ℕ) → ArePlaces places variables → IsFirstAt m variables at → ArePlaces places (variables ++ Some m ∷ [])
+pub placed_again : (places : List ℕ) (variables : List (Option ℕ)) (m at : ℕ) → AreFirstPlaces places variables → IsFirstAt m variables at → AreFirstPlaces places (variables ++ Some m ∷ [])
 placed_again places variables m at placed there n place f = go (last_of n variables (Some m) place f)
   where
     go : IsFirstAt n variables place ⊎ ((place ≡ length variables) × IsNowhere n variables × (is_of n (Some m) ≡ true)) → slice_get places n ≡ Some place
@@ -125,7 +125,7 @@ placed_again places variables m at placed there n place f = go (last_of n variab
     go (inr h) = absurd (false≢true (sym (h.1 at) ∙ ap (λ k. is_of k (get_or variables at None)) (sym (same_symbol n m h.2)) ∙ there.is))
 
 -- the symbol has none before
-pub placed_kept : (places : List ℕ) (variables : List (Option ℕ)) (m at : ℕ) → ArePlaces places variables → IsNowhere m variables → ArePlaces (set places m at) variables
+pub placed_kept : (places : List ℕ) (variables : List (Option ℕ)) (m at : ℕ) → AreFirstPlaces places variables → IsNowhere m variables → AreFirstPlaces (set places m at) variables
 placed_kept places variables m at placed none n place f =
     let there = placed n place f in
     let other : n ≢ m = λ e. false≢true (sym (none place) ∙ ap (λ k. is_of k (get_or variables place None)) (sym e) ∙ f.is) in
@@ -133,8 +133,8 @@ placed_kept places variables m at placed none n place f =
     slice_get-get_or (set places m at) n 0 (omega (arith, within, length-set places m at))
     ∙ ap Some (get_or-set_other places m n at 0 other ∙ get_or_from_slice_get places n place 0 there)
 
-pub placed_new : (places : List ℕ) (variables : List (Option ℕ)) (m at : ℕ) → ArePlaces places variables → IsNowhere m variables → m < length places → at ≡ length variables
-    → ArePlaces (set places m at) (variables ++ Some m ∷ [])
+pub placed_new : (places : List ℕ) (variables : List (Option ℕ)) (m at : ℕ) → AreFirstPlaces places variables → IsNowhere m variables → m < length places → at ≡ length variables
+    → AreFirstPlaces (set places m at) (variables ++ Some m ∷ [])
 placed_new places variables m at placed none within end n place f = go (last_of n variables (Some m) place f)
   where
     go : IsFirstAt n variables place ⊎ ((place ≡ length variables) × IsNowhere n variables × (is_of n (Some m) ≡ true)) → slice_get (set places m at) n ≡ Some place
@@ -143,7 +143,7 @@ placed_new places variables m at placed none within end n place f = go (last_of 
 
 -- the list was pushed to, or memory was refused
 pub placed_pushed : (places : List ℕ) (items new : List (Option Sym)) (v : Option Sym) (b : Bool) → new ≡ (if b then (items ++ v ∷ []) else items)
-    → ArePlaces places (variables_in items) → ArePlaces places (variables_in items ++ option_map (λ s. s.0) v ∷ []) → ArePlaces places (variables_in new)
+    → AreFirstPlaces places (variables_in items) → AreFirstPlaces places (variables_in items ++ option_map (λ s. s.0) v ∷ []) → AreFirstPlaces places (variables_in new)
 placed_pushed places items new v true is before after =
-    subst (λ l. ArePlaces places l) (sym (ap variables_in is ∙ map-append (λ (w : Option Sym). option_map (λ s. s.0) w) items (v ∷ []))) after
-placed_pushed places items new v false is before after = subst (λ l. ArePlaces places l) (sym (ap variables_in is)) before
+    subst (λ l. AreFirstPlaces places l) (sym (ap variables_in is ∙ map-append (λ (w : Option Sym). option_map (λ s. s.0) w) items (v ∷ []))) after
+placed_pushed places items new v false is before after = subst (λ l. AreFirstPlaces places l) (sym (ap variables_in is)) before

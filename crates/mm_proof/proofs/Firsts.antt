@@ -11,10 +11,10 @@ use Rattle.mm_frame.specs.Frame.{IsMandatoryPair}
 use Rattle.mm_frame.specs.Rules.{AllMeant}
 use Rattle.mm_proof.specs.declared.fault.ProofRule.{ProofRule}
 use Rattle.mm_proof.specs.declared.fault.ProofRule.TheVariants.{P6, P7, P8, P9, P10, P11, P12, L1}
-use Rattle.mm_proof.specs.Substitution.{substituted}
+use Rattle.mm_proof.specs.Substitution.{instance_of}
 use Rattle.mm_proof.specs.Tree.{Names, ShareNoVariable, AreDistinct}
 use Rattle.mm_proof.specs.Moves.{Move, name, again, mark, is_step, steps_in}
-use Rattle.mm_proof.specs.Proof.{rank, Meets, SomePair, SomeReplacedPair, BreaksStep, FirstAtMove, Passed, BreaksEnd, IsMovesFault}
+use Rattle.mm_proof.specs.Proof.{proof_rank, MeetsHypotheses, SomePair, SomeReplacedPair, BreaksStep, FirstAtMove, Passed, BreaksEnd, IsMovesFault}
 use Rattle.mm_proof.proofs.OneStep.{StepTo, agree, meets_enough, same_substituted}
 use Rattle.mm_proof.proofs.Verdicts.{ranked, at_rank}
 use Rattle.mm_proof.proofs.Judged.{limit_first, only_P6, only_P7}
@@ -22,37 +22,37 @@ use Rattle.mm_proof.proofs.Judged.{limit_first, only_P6, only_P7}
 -- ---- what a step meets is in order
 
 -- each `$f` has its type code
-abbrev pub HasCodes : (before : List Sentence) → (stack : List (List (List ℕ))) → (label : List ℕ) → Meets before stack label → Type 0
+abbrev pub HasCodes : (before : List Sentence) → (stack : List (List (List ℕ))) → (label : List ℕ) → MeetsHypotheses before stack label → Type 0
 HasCodes before stack label m =
     (i : ℕ) (h : Sentence) (entry : List (List ℕ)) → slice_get m.hypotheses i ≡ Some h → slice_get m.entries i ≡ Some entry
     → h.kind ≡ Floating → slice_get entry 0 ≡ slice_get h.symbols 0
 
 -- each `$e` is its entry
-abbrev pub HasEqual : (before : List Sentence) → (stack : List (List (List ℕ))) → (label : List ℕ) → Meets before stack label → Type 0
+abbrev pub HasEqual : (before : List Sentence) → (stack : List (List (List ℕ))) → (label : List ℕ) → MeetsHypotheses before stack label → Type 0
 HasEqual before stack label m =
     (i : ℕ) (h : Sentence) (entry : List (List ℕ)) → slice_get m.hypotheses i ≡ Some h → slice_get m.entries i ≡ Some entry
-    → h.kind ≡ Essential → entry ≡ substituted m.σ h.symbols
+    → h.kind ≡ Essential → entry ≡ instance_of m.σ h.symbols
 
 -- what replaces the members of each mandatory pair is so
-abbrev pub EachPair : (before : List Sentence) → (stack : List (List (List ℕ))) → (label : List ℕ) → Meets before stack label → (List (List ℕ) → List (List ℕ) → Type 0) → Type 0
+abbrev pub EachPair : (before : List Sentence) → (stack : List (List (List ℕ))) → (label : List ℕ) → MeetsHypotheses before stack label → (List (List ℕ) → List (List ℕ) → Type 0) → Type 0
 EachPair before stack label m P =
     (x y : List ℕ) (e f : List (List ℕ)) → IsMandatoryPair (take m.place before) m.assertion x y → m.σ x ≡ Some e → m.σ y ≡ Some f → P e f
 
-no_P9 : (Fits : List (List ℕ) → Type 0) (before : List Sentence) (stack : List (List (List ℕ))) (label : List ℕ) (m : Meets before stack label) → AllMeant before
+no_P9 : (Fits : List (List ℕ) → Type 0) (before : List Sentence) (stack : List (List (List ℕ))) (label : List ℕ) (m : MeetsHypotheses before stack label) → AllMeant before
     → HasCodes before stack label m → ¬ (BreaksStep Fits P9 before stack label)
 no_P9 Fits before stack label m all codes b =
     let a = agree before stack label all m b.0 in
     let x = b.1 in
     x.5.1 (codes x.0 x.1 x.2 (rw a.hypotheses x.3) (rw a.entries x.4) x.5.0)
 
-no_P10 : (Fits : List (List ℕ) → Type 0) (before : List Sentence) (stack : List (List (List ℕ))) (label : List ℕ) (m : Meets before stack label) → AllMeant before
+no_P10 : (Fits : List (List ℕ) → Type 0) (before : List Sentence) (stack : List (List (List ℕ))) (label : List ℕ) (m : MeetsHypotheses before stack label) → AllMeant before
     → HasEqual before stack label m → ¬ (BreaksStep Fits P10 before stack label)
 no_P10 Fits before stack label m all equal b =
     let a = agree before stack label all m b.0 in
     let x = b.1 in
     x.5.1 (equal x.0 x.1 x.2 (rw a.hypotheses x.3) (rw a.entries x.4) x.5.0 ∙ same_substituted m.σ b.0.σ x.1.symbols a.replacement)
 
-no_pair : (before : List Sentence) (stack : List (List (List ℕ))) (label : List ℕ) (m : Meets before stack label) (P : List (List ℕ) → List (List ℕ) → Type 0) → AllMeant before
+no_pair : (before : List Sentence) (stack : List (List (List ℕ))) (label : List ℕ) (m : MeetsHypotheses before stack label) (P : List (List ℕ) → List (List ℕ) → Type 0) → AllMeant before
     → EachPair before stack label m P → ¬ (SomeReplacedPair before stack label (λ e f. ¬ (P e f)))
 no_pair before stack label m P all each b =
     let a = agree before stack label all m b.0 in
@@ -62,7 +62,7 @@ no_pair before stack label m P all each b =
 
 -- ---- the first rule, by the rank below which none is broken
 
-below_8 : (Fits : List (List ℕ) → Type 0) (before : List Sentence) (stack : List (List (List ℕ))) (label : List ℕ) (other : ProofRule) → rank other < 8 → ¬ (BreaksStep Fits other before stack label)
+below_8 : (Fits : List (List ℕ) → Type 0) (before : List Sentence) (stack : List (List (List ℕ))) (label : List ℕ) (other : ProofRule) → proof_rank other < 8 → ¬ (BreaksStep Fits other before stack label)
 below_8 Fits before stack label P8 less = absurd (omega arith)
 below_8 Fits before stack label P9 less = absurd (omega arith)
 below_8 Fits before stack label P10 less = absurd (omega arith)
@@ -71,33 +71,33 @@ below_8 Fits before stack label P12 less = absurd (omega arith)
 below_8 Fits before stack label L1 less = absurd (omega arith)
 below_8 Fits before stack label rule less = λ b. b
 
-one_more : (Fits : List (List ℕ) → Type 0) (before : List Sentence) (stack : List (List (List ℕ))) (label : List ℕ) (rule : ProofRule) (n : ℕ) → ((other : ProofRule) → rank other ≡ n → other ≡ rule)
-    → ¬ (BreaksStep Fits rule before stack label) → ((other : ProofRule) → rank other < n → ¬ (BreaksStep Fits other before stack label))
-    → (other : ProofRule) → rank other < n + 1 → ¬ (BreaksStep Fits other before stack label)
-one_more Fits before stack label rule n one none below other less b = elim (cases_lt (rank other) n) [
+one_more : (Fits : List (List ℕ) → Type 0) (before : List Sentence) (stack : List (List (List ℕ))) (label : List ℕ) (rule : ProofRule) (n : ℕ) → ((other : ProofRule) → proof_rank other ≡ n → other ≡ rule)
+    → ¬ (BreaksStep Fits rule before stack label) → ((other : ProofRule) → proof_rank other < n → ¬ (BreaksStep Fits other before stack label))
+    → (other : ProofRule) → proof_rank other < n + 1 → ¬ (BreaksStep Fits other before stack label)
+one_more Fits before stack label rule n one none below other less b = elim (cases_lt (proof_rank other) n) [
   | inl l ↦ below other l b
   | inr m ↦ none (subst (λ r. BreaksStep Fits r before stack label) (one other (omega arith)) b)
 ]
 
-of_rank : (rule other : ProofRule) → rank other ≡ rank rule → other ≡ rule
+of_rank : (rule other : ProofRule) → proof_rank other ≡ proof_rank rule → other ≡ rule
 of_rank rule other same = same_Some other rule (sym (at_rank other) ∙ ap (slice_get ranked) same ∙ at_rank rule)
 
-below_9 : (Fits : List (List ℕ) → Type 0) (before : List Sentence) (stack : List (List (List ℕ))) (label : List ℕ) (m : Meets before stack label) → AllMeant before
-    → (other : ProofRule) → rank other < 9 → ¬ (BreaksStep Fits other before stack label)
+below_9 : (Fits : List (List ℕ) → Type 0) (before : List Sentence) (stack : List (List (List ℕ))) (label : List ℕ) (m : MeetsHypotheses before stack label) → AllMeant before
+    → (other : ProofRule) → proof_rank other < 9 → ¬ (BreaksStep Fits other before stack label)
 below_9 Fits before stack label m all = one_more Fits before stack label P8 8 (of_rank P8) (meets_enough Fits before stack label all m) (below_8 Fits before stack label)
 
-below_10 : (Fits : List (List ℕ) → Type 0) (before : List Sentence) (stack : List (List (List ℕ))) (label : List ℕ) (m : Meets before stack label) → AllMeant before → HasCodes before stack label m
-    → (other : ProofRule) → rank other < 10 → ¬ (BreaksStep Fits other before stack label)
+below_10 : (Fits : List (List ℕ) → Type 0) (before : List Sentence) (stack : List (List (List ℕ))) (label : List ℕ) (m : MeetsHypotheses before stack label) → AllMeant before → HasCodes before stack label m
+    → (other : ProofRule) → proof_rank other < 10 → ¬ (BreaksStep Fits other before stack label)
 below_10 Fits before stack label m all codes =
     one_more Fits before stack label P9 9 (of_rank P9) (no_P9 Fits before stack label m all codes) (below_9 Fits before stack label m all)
 
-below_11 : (Fits : List (List ℕ) → Type 0) (before : List Sentence) (stack : List (List (List ℕ))) (label : List ℕ) (m : Meets before stack label) → AllMeant before → HasCodes before stack label m
-    → HasEqual before stack label m → (other : ProofRule) → rank other < 11 → ¬ (BreaksStep Fits other before stack label)
+below_11 : (Fits : List (List ℕ) → Type 0) (before : List Sentence) (stack : List (List (List ℕ))) (label : List ℕ) (m : MeetsHypotheses before stack label) → AllMeant before → HasCodes before stack label m
+    → HasEqual before stack label m → (other : ProofRule) → proof_rank other < 11 → ¬ (BreaksStep Fits other before stack label)
 below_11 Fits before stack label m all codes equal =
     one_more Fits before stack label P10 10 (of_rank P10) (no_P10 Fits before stack label m all equal) (below_10 Fits before stack label m all codes)
 
-below_12 : (Fits : List (List ℕ) → Type 0) (before : List Sentence) (stack : List (List (List ℕ))) (label : List ℕ) (m : Meets before stack label) → AllMeant before → HasCodes before stack label m
-    → HasEqual before stack label m → EachPair before stack label m (ShareNoVariable before) → (other : ProofRule) → rank other < 12 → ¬ (BreaksStep Fits other before stack label)
+below_12 : (Fits : List (List ℕ) → Type 0) (before : List Sentence) (stack : List (List (List ℕ))) (label : List ℕ) (m : MeetsHypotheses before stack label) → AllMeant before → HasCodes before stack label m
+    → HasEqual before stack label m → EachPair before stack label m (ShareNoVariable before) → (other : ProofRule) → proof_rank other < 12 → ¬ (BreaksStep Fits other before stack label)
 below_12 Fits before stack label m all codes equal share =
     one_more Fits before stack label P11 11 (of_rank P11) (no_pair before stack label m (ShareNoVariable before) all share) (below_11 Fits before stack label m all codes equal)
 
@@ -110,18 +110,18 @@ first_P8 Fits before stack kept label place assertion hypotheses names short =
     record { broken = (place, assertion, hypotheses, names, short); first = below_8 Fits before stack label }
 
 -- a type code differs
-pub first_P9 : (Fits : List (List ℕ) → Type 0) (before : List Sentence) (stack kept : List (List (List ℕ))) (label : List ℕ) (m : Meets before stack label) → AllMeant before
+pub first_P9 : (Fits : List (List ℕ) → Type 0) (before : List Sentence) (stack kept : List (List (List ℕ))) (label : List ℕ) (m : MeetsHypotheses before stack label) → AllMeant before
     → SomePair m.hypotheses m.entries (λ h entry. (h.kind ≡ Floating) × (slice_get entry 0 ≢ slice_get h.symbols 0)) → FirstAtMove Fits P9 before stack kept (name label)
 first_P9 Fits before stack kept label m all pair = record { broken = (m, pair); first = below_9 Fits before stack label m all }
 
 -- the type codes don't, but a `$e` does
-pub first_P10 : (Fits : List (List ℕ) → Type 0) (before : List Sentence) (stack kept : List (List (List ℕ))) (label : List ℕ) (m : Meets before stack label) → AllMeant before
+pub first_P10 : (Fits : List (List ℕ) → Type 0) (before : List Sentence) (stack kept : List (List (List ℕ))) (label : List ℕ) (m : MeetsHypotheses before stack label) → AllMeant before
     → HasCodes before stack label m
-    → SomePair m.hypotheses m.entries (λ h entry. (h.kind ≡ Essential) × (entry ≢ substituted m.σ h.symbols)) → FirstAtMove Fits P10 before stack kept (name label)
+    → SomePair m.hypotheses m.entries (λ h entry. (h.kind ≡ Essential) × (entry ≢ instance_of m.σ h.symbols)) → FirstAtMove Fits P10 before stack kept (name label)
 first_P10 Fits before stack kept label m all codes pair = record { broken = (m, pair); first = below_10 Fits before stack label m all codes }
 
 -- the hypotheses match, but what replaces a pair shares a variable
-pub first_P11 : (Fits : List (List ℕ) → Type 0) (before : List Sentence) (stack kept : List (List (List ℕ))) (label : List ℕ) (m : Meets before stack label) → AllMeant before
+pub first_P11 : (Fits : List (List ℕ) → Type 0) (before : List Sentence) (stack kept : List (List (List ℕ))) (label : List ℕ) (m : MeetsHypotheses before stack label) → AllMeant before
     → HasCodes before stack label m → HasEqual before stack label m
     → (x y : List ℕ) (e f : List (List ℕ)) → IsMandatoryPair (take m.place before) m.assertion x y → m.σ x ≡ Some e → m.σ y ≡ Some f → ¬ (ShareNoVariable before e f)
     → FirstAtMove Fits P11 before stack kept (name label)
@@ -129,7 +129,7 @@ first_P11 Fits before stack kept label m all codes equal x y e f pair at_x at_y 
     record { broken = (m, x, y, e, f, pair, at_x, at_y, shared); first = below_11 Fits before stack label m all codes equal }
 
 -- it never does, but variables of it are no active pair
-pub first_P12 : (Fits : List (List ℕ) → Type 0) (before : List Sentence) (stack kept : List (List (List ℕ))) (label : List ℕ) (m : Meets before stack label) → AllMeant before
+pub first_P12 : (Fits : List (List ℕ) → Type 0) (before : List Sentence) (stack kept : List (List (List ℕ))) (label : List ℕ) (m : MeetsHypotheses before stack label) → AllMeant before
     → HasCodes before stack label m → HasEqual before stack label m → EachPair before stack label m (ShareNoVariable before)
     → (x y : List ℕ) (e f : List (List ℕ)) → IsMandatoryPair (take m.place before) m.assertion x y → m.σ x ≡ Some e → m.σ y ≡ Some f → ¬ (AreDistinct before e f)
     → FirstAtMove Fits P12 before stack kept (name label)
@@ -137,9 +137,9 @@ first_P12 Fits before stack kept label m all codes equal share x y e f pair at_x
     record { broken = (m, x, y, e, f, pair, at_x, at_y, near); first = below_12 Fits before stack label m all codes equal share }
 
 -- the step by the assertion breaks no rule but the limit
-pub step_of_meets : (before : List Sentence) (stack : List (List (List ℕ))) (label : List ℕ) (m : Meets before stack label) → HasCodes before stack label m → HasEqual before stack label m
+pub step_of_meets : (before : List Sentence) (stack : List (List (List ℕ))) (label : List ℕ) (m : MeetsHypotheses before stack label) → HasCodes before stack label m → HasEqual before stack label m
     → EachPair before stack label m (ShareNoVariable before) → EachPair before stack label m (AreDistinct before)
-    → StepTo before stack label m.rest (substituted m.σ m.assertion.symbols)
+    → StepTo before stack label m.rest (instance_of m.σ m.assertion.symbols)
 step_of_meets before stack label m codes equal share near = inr (record {
   meets = m;
   kept = refl;

@@ -5,7 +5,7 @@ use Rattle.std.proofs.lemmas.List.{length-map}
 use Rattle.mm_frame.specs.Sentence.{Sentence}
 use Rattle.mm_frame.specs.Frame.{IsMandatoryAt}
 use Rattle.mm_frame.specs.Rules.{AllMeant}
-use Rattle.mm_proof.specs.Substitution.{substituted}
+use Rattle.mm_proof.specs.Substitution.{instance_of}
 use Rattle.mm_proof.specs.Tree.{Trees, none, tree, beside, MayStandOver, DeriveAll}
 use Rattle.mm_proof.specs.Moves.{Move, name, again, mark, Makes}
 use Rattle.mm_proof.specs.Proof.{Prove, Passed}
@@ -32,7 +32,7 @@ front_is (a ∷ entry) code e = ap (λ x. x ∷ entry) (same_Some a code e)
 
 entry_is : (before : List Sentence) (stack : List (List (List ℕ))) (label : List ℕ) (rest : List (List (List ℕ))) (e : List (List ℕ)) → AllMeant before
     → (p : Applies before stack label rest e) (i : ℕ) (h : Sentence) (entry : List (List ℕ)) → slice_get p.meets.hypotheses i ≡ Some h → slice_get p.meets.entries i ≡ Some entry
-    → entry ≡ substituted p.meets.σ h.symbols
+    → entry ≡ instance_of p.meets.σ h.symbols
 entry_is before stack label rest e all p i h entry there at =
     let m = p.meets in
     let front : List Sentence = take m.place before in
@@ -41,13 +41,13 @@ entry_is before stack label rest e all p i h entry there at =
     (λ t.
     let constant : m.σ t.0 ≡ None = absent (m.σ t.0) (λ some. code_is_constant front k.0 h t.0 t.1 (meant_front before m.place all) k.1 t.2 ((m.on t.0).0 some).0) in
     let first : slice_get entry 0 ≡ Some t.0 = p.typed i h entry there at t.2.0 ∙ ap (λ l. slice_get l 0) t.2.1 in
-    front_is entry t.0 first ∙ sym (ap (substituted m.σ) t.2.1 ∙ typing_entry m.σ t.0 t.1 (drop 1 entry) constant (m.replaced i h entry t.0 t.1 there at t.2)))
+    front_is entry t.0 first ∙ sym (ap (instance_of m.σ) t.2.1 ∙ typing_entry m.σ t.0 t.1 (drop 1 entry) constant (m.replaced i h entry t.0 t.1 there at t.2)))
     k.2.1
 
 entries_are : (before : List Sentence) (stack : List (List (List ℕ))) (label : List ℕ) (rest : List (List (List ℕ))) (e : List (List ℕ)) → AllMeant before
-    → (p : Applies before stack label rest e) → p.meets.entries ≡ map (λ (h : Sentence). substituted p.meets.σ h.symbols) p.meets.hypotheses
+    → (p : Applies before stack label rest e) → p.meets.entries ≡ map (λ (h : Sentence). instance_of p.meets.σ h.symbols) p.meets.hypotheses
 entries_are before stack label rest e all p =
-    let f : Sentence → List (List ℕ) = λ h. substituted p.meets.σ h.symbols in
+    let f : Sentence → List (List ℕ) = λ h. instance_of p.meets.σ h.symbols in
     same_by_places p.meets.entries (map f p.meets.hypotheses) (p.meets.paired ∙ sym (length-map p.meets.hypotheses f))
     (λ i entry made at there.
     let h = get_beside p.meets.entries p.meets.hypotheses i entry (sym p.meets.paired) at in
@@ -82,7 +82,7 @@ step_stands Fits before trees stack label rest e all derived (inl p) fits = reco
 step_stands Fits before trees stack label rest e all derived (inr p) fits =
     let m = p.meets in
     let h = derive_halves Fits before trees m.rest m.entries (subst (DeriveAll Fits before trees) m.split derived) in
-    let f : Sentence → List (List ℕ) = λ t. substituted m.σ t.symbols in
+    let f : Sentence → List (List ℕ) = λ t. instance_of m.σ t.symbols in
     let children : DeriveAll Fits before h.right (map f m.hypotheses) =
     subst (DeriveAll Fits before h.right) (entries_are before stack label rest e all p) h.derive_right in
     record {

@@ -6,7 +6,7 @@ use Rattle.mm_frame.specs.Sentence.{Sentence}
 use Rattle.mm_frame.specs.Rules.{AllMeant}
 use Rattle.mm_proof.specs.declared.fault.ProofRule.{ProofRule}
 use Rattle.mm_proof.specs.declared.fault.ProofRule.TheVariants.{L1}
-use Rattle.mm_proof.specs.Substitution.{substituted}
+use Rattle.mm_proof.specs.Substitution.{instance_of}
 use Rattle.mm_proof.specs.Tree.{Trees, none, tree, beside, DeriveAll}
 use Rattle.mm_proof.specs.Moves.{Move, name, again, mark, MakesOne, Makes}
 use Rattle.mm_proof.specs.Proof.{Prove, BreaksMove, FirstAtMove, Passed}
@@ -57,10 +57,10 @@ step_of_tree Fits before rest label below es all derived =
       after = after;
     })
     (λ n. record {
-      stack = parts.0 ++ map (λ (h : Sentence). substituted n.3 h.symbols) n.2;
+      stack = parts.0 ++ map (λ (h : Sentence). instance_of n.3 h.symbols) n.2;
       rest = parts.0;
       e = d.0;
-      derived = derive_beside Fits before rest below parts.0 (map (λ (h : Sentence). substituted n.3 h.symbols) n.2) parts.3 n.6;
+      derived = derive_beside Fits before rest below parts.0 (map (λ (h : Sentence). instance_of n.3 h.symbols) n.2) parts.3 n.6;
       step = tree_step before label n.0 n.1 n.2 n.3 parts.0 d.0 all n.4 n.5 n.7 n.8;
       fits = d.3;
       after = after;

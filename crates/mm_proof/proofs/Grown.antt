@@ -5,13 +5,13 @@ use Rattle.std.proofs.lemmas.Option.{slice_get_within}
 use Rattle.std.proofs.lemmas.List.{take-append-le}
 use Rattle.std.proofs.lemmas.List.Elements.{filter-append}
 use Rattle.mm_frame.specs.Sentence.{Sentence}
-use Rattle.mm_frame.specs.Numbers.{labelled, IsNumbered}
+use Rattle.mm_frame.specs.Numbers.{labelled_sentences, IsNumbered}
 use Rattle.mm_proof.specs.Moves.{Move, name, again, mark}
 use Rattle.mm_proof.specs.Steps.{IsNumberedMove, AreNumberedMoves, IsUsableMove, AreSteps}
 use Rattle.mm_proof.proofs.Places.{get_append}
 
 -- the labelled statements of more statements go on
-pub labelled-append : (a b : List Sentence) → labelled (a ++ b) ≡ labelled a ++ labelled b
+pub labelled-append : (a b : List Sentence) → labelled_sentences (a ++ b) ≡ labelled_sentences a ++ labelled_sentences b
 labelled-append a b = filter-append (λ (s : Sentence). is_some s.label) a b
 
 front_same : (statements more : List Sentence) (place : ℕ) (s : Sentence) → slice_get statements place ≡ Some s → take place (statements ++ more) ≡ take place statements
@@ -21,12 +21,12 @@ pub numbered_more : (statements more : List Sentence) (id place : ℕ) (s : Sent
 numbered_more statements more id place s n = record {
   there = get_append statements more place s n.there;
   named = n.named;
-  number = ap (λ (l : List Sentence). length (labelled l)) (front_same statements more place s n.there) ∙ n.number;
+  number = ap (λ (l : List Sentence). length (labelled_sentences l)) (front_same statements more place s n.there) ∙ n.number;
 }
 
 move_more : (statements more : List Sentence) (x : Move ℕ) (move : Move (List ℕ)) → IsNumberedMove statements x move → IsNumberedMove (statements ++ more) x move
 move_more statements more (name id) move n =
-    (n.0, n.1, ap (λ (l : List Sentence). slice_get l id) (labelled-append statements more) ∙ get_append (labelled statements) (labelled more) id n.0 n.2, n.3, n.4)
+    (n.0, n.1, ap (λ (l : List Sentence). slice_get l id) (labelled-append statements more) ∙ get_append (labelled_sentences statements) (labelled_sentences more) id n.0 n.2, n.3, n.4)
 move_more statements more (again tag) move n = n
 move_more statements more mark move n = n
 

@@ -12,12 +12,12 @@ use Rattle.mm_frame.specs.Frame.{IsMandatoryAt, AreMandatory, IsMandatoryPair}
 use Rattle.mm_frame.specs.Rules.{AllMeant}
 use Rattle.mm_proof.specs.declared.fault.ProofRule.{ProofRule}
 use Rattle.mm_proof.specs.declared.fault.ProofRule.TheVariants.{P1, P2, P3, P4, P5, P6, P7, P8, P9, P10, P11, P12, P13, P14, L1}
-use Rattle.mm_proof.specs.Substitution.{substituted}
+use Rattle.mm_proof.specs.Substitution.{instance_of}
 use Rattle.mm_proof.specs.Tree.{Names, ShareNoVariable, AreDistinct}
 use Rattle.mm_proof.specs.Moves.{Move, name, again, mark, steps_in}
 use Rattle.mm_proof.specs.Steps.{IsUsable, IsUsableMove}
-use Rattle.mm_proof.specs.Proof.{IsWithin, rank, BreaksWhole, Prove, Meets, SomePair, SomeReplacedPair, BreaksStep, BreaksMove, FirstAtMove, Passed, IsMovesFault}
-use Rattle.mm_proof.specs.Laws.{SomeVerdict}
+use Rattle.mm_proof.specs.Proof.{IsWithin, proof_rank, BreaksWhole, Prove, MeetsHypotheses, SomePair, SomeReplacedPair, BreaksStep, BreaksMove, FirstAtMove, Passed, IsMovesFault}
+use Rattle.mm_proof.specs.Laws.{SomeProofVerdict}
 use Rattle.mm_proof.proofs.OneStep.{StepTo, hypothesis_or_assertion, meets_enough, Agree, agree, same_substituted, step_breaks_none, step_breaks_limit}
 use Rattle.mm_proof.proofs.Decisions.{dec_both, dec_as, dec_some, kind_dec, symbol_dec, expression_dec}
 use Rattle.mm_proof.proofs.Searches.{dec_not, mandatory_at_dec, those_of, share_dec, apart_dec, BothReplaced, some_pair_dec}
@@ -28,7 +28,7 @@ use Rattle.mm_proof.proofs.Verdicts.{ranked, at_rank}
 
 -- ---- the first of the rules that are broken
 
-rank_below : (rule : ProofRule) → rank rule < 16
+rank_below : (rule : ProofRule) → proof_rank rule < 16
 rank_below P1 = omega arith
 rank_below P2 = omega arith
 rank_below P3 = omega arith
@@ -48,30 +48,30 @@ rank_below L1 = omega arith
 record First (Broken : ProofRule → Type 0) : Type 0 where
   rule : ProofRule
   broken : Broken rule
-  first : (other : ProofRule) → rank other < rank rule → ¬ (Broken other)
+  first : (other : ProofRule) → proof_rank other < proof_rank rule → ¬ (Broken other)
 
-first_below : (Broken : ProofRule → Type 0) → ((rule : ProofRule) → Dec (Broken rule)) → (n : ℕ) → First Broken ⊎ ((rule : ProofRule) → rank rule < n → ¬ (Broken rule))
+first_below : (Broken : ProofRule → Type 0) → ((rule : ProofRule) → Dec (Broken rule)) → (n : ℕ) → First Broken ⊎ ((rule : ProofRule) → proof_rank rule < n → ¬ (Broken rule))
 first_below Broken each zero = inr (λ rule h. absurd (omega arith))
 first_below Broken each (suc n) = go (first_below Broken each n) (slice_get ranked n) refl
   where
     -- the rule of this rank, if there is one
-    here : ((rule : ProofRule) → rank rule < n → ¬ (Broken rule)) → ((rule : ProofRule) → rank rule ≡ n → ¬ (Broken rule)) → (rule : ProofRule) → rank rule < suc n → ¬ (Broken rule)
-    here below at rule less = elim (cases_lt (rank rule) n) [ inl l ↦ below rule l | inr m ↦ at rule (omega arith) ]
+    here : ((rule : ProofRule) → proof_rank rule < n → ¬ (Broken rule)) → ((rule : ProofRule) → proof_rank rule ≡ n → ¬ (Broken rule)) → (rule : ProofRule) → proof_rank rule < suc n → ¬ (Broken rule)
+    here below at rule less = elim (cases_lt (proof_rank rule) n) [ inl l ↦ below rule l | inr m ↦ at rule (omega arith) ]
 
-    one : (q : ProofRule) → slice_get ranked n ≡ Some q → (rule : ProofRule) → rank rule ≡ n → q ≡ rule
+    one : (q : ProofRule) → slice_get ranked n ≡ Some q → (rule : ProofRule) → proof_rank rule ≡ n → q ≡ rule
     one q e rule r = same_Some q rule (sym e ∙ ap (slice_get ranked) (sym r) ∙ at_rank rule)
 
-    at_q : ((rule : ProofRule) → rank rule < n → ¬ (Broken rule)) → (q : ProofRule) → slice_get ranked n ≡ Some q → Dec (rank q ≡ n) → Dec (Broken q)
-        → First Broken ⊎ ((rule : ProofRule) → rank rule < suc n → ¬ (Broken rule))
-    at_q below q e (no m) b = inr (here below (λ rule r broken. m (ap rank (one q e rule r) ∙ r)))
+    at_q : ((rule : ProofRule) → proof_rank rule < n → ¬ (Broken rule)) → (q : ProofRule) → slice_get ranked n ≡ Some q → Dec (proof_rank q ≡ n) → Dec (Broken q)
+        → First Broken ⊎ ((rule : ProofRule) → proof_rank rule < suc n → ¬ (Broken rule))
+    at_q below q e (no m) b = inr (here below (λ rule r broken. m (ap proof_rank (one q e rule r) ∙ r)))
     at_q below q e (yes m) (yes b) = inl (record { rule = q; broken = b; first = λ other less. below other (omega arith) })
     at_q below q e (yes m) (no b) = inr (here below (λ rule r broken. b (subst Broken (sym (one q e rule r)) broken)))
 
-    go : First Broken ⊎ ((rule : ProofRule) → rank rule < n → ¬ (Broken rule)) → (o : Option ProofRule) → slice_get ranked n ≡ o
-        → First Broken ⊎ ((rule : ProofRule) → rank rule < suc n → ¬ (Broken rule))
+    go : First Broken ⊎ ((rule : ProofRule) → proof_rank rule < n → ¬ (Broken rule)) → (o : Option ProofRule) → slice_get ranked n ≡ o
+        → First Broken ⊎ ((rule : ProofRule) → proof_rank rule < suc n → ¬ (Broken rule))
     go (inl f) o e = inl f
     go (inr below) None e = inr (here below (λ rule r. absurd (none-some rule (sym e ∙ ap (slice_get ranked) (sym r) ∙ at_rank rule))))
-    go (inr below) (Some q) e = at_q below q e (ℕ_discrete (rank q) n) (each q)
+    go (inr below) (Some q) e = at_q below q e (ℕ_discrete (proof_rank q) n) (each q)
 
 first_or_none : (Broken : ProofRule → Type 0) → ((rule : ProofRule) → Dec (Broken rule)) → First Broken ⊎ ((rule : ProofRule) → ¬ (Broken rule))
 first_or_none Broken each = ⊎_elim (λ f. inl f) (λ none. inr (λ rule. none rule (rank_below rule))) (first_below Broken each 16)
@@ -81,14 +81,14 @@ first_or_none Broken each = ⊎_elim (λ f. inl f) (λ none. inr (λ rule. none 
 -- the first rule that the step breaks
 abbrev pub FirstAtStep : (List (List ℕ) → Type 0) → ProofRule → List Sentence → List (List (List ℕ)) → List ℕ → Type 0
 FirstAtStep Fits rule before stack label =
-    BreaksStep Fits rule before stack label × ((other : ProofRule) → rank other < rank rule → ¬ (BreaksStep Fits other before stack label))
+    BreaksStep Fits rule before stack label × ((other : ProofRule) → proof_rank other < proof_rank rule → ¬ (BreaksStep Fits other before stack label))
 
 -- a step over the limit that breaks no rule breaks the limit first
 pub limit_first : (Fits : List (List ℕ) → Type 0) (before : List Sentence) (stack : List (List (List ℕ))) (label : List ℕ) (rest : List (List (List ℕ))) (e : List (List ℕ)) → AllMeant before
     → ¬ (Fits e) → StepTo before stack label rest e → FirstAtStep Fits L1 before stack label
 limit_first Fits before stack label rest e all over step = (
   step_breaks_limit Fits before stack label rest e over step,
-  λ other less. step_breaks_none Fits other before stack label rest e all (λ same. absurd (lt_irrefl (rank L1) (subst (λ r. rank r < rank L1) same less))) step,
+  λ other less. step_breaks_none Fits other before stack label rest e all (λ same. absurd (lt_irrefl (proof_rank L1) (subst (λ r. proof_rank r < proof_rank L1) same less))) step,
 )
 
 within_or_over : (Fits : List (List ℕ) → Type 0) (each : (e : List (List ℕ)) → Dec (Fits e)) (e : List (List ℕ)) → Fits e ⊎ (¬ (Fits e))
@@ -110,11 +110,11 @@ pair_dec hypotheses entries P each = dec_as (λ h. (h.0, h.1, h.3.0, h.2, h.3.1,
     at i h (Some entry) e = dec_as (λ p. (entry, e, p)) (λ b. subst (P h) (same_Some b.0 entry (sym b.1 ∙ e)) b.2) (each h entry)
 
 -- the pair of what a step meets is one of what it meets otherwise
-pair_moved : (before : List Sentence) (stack : List (List (List ℕ))) (label : List ℕ) (m n : Meets before stack label) (P : Sentence → List (List ℕ) → Type 0) → Agree before stack label m n
+pair_moved : (before : List Sentence) (stack : List (List (List ℕ))) (label : List ℕ) (m n : MeetsHypotheses before stack label) (P : Sentence → List (List ℕ) → Type 0) → Agree before stack label m n
     → SomePair n.hypotheses n.entries P → SomePair m.hypotheses m.entries P
 pair_moved before stack label m n P a x = (x.0, x.1, x.2, rw a.hypotheses x.3, rw a.entries x.4, x.5)
 
-replaced_moved : (before : List Sentence) (stack : List (List (List ℕ))) (label : List ℕ) (m : Meets before stack label) (P : List (List ℕ) → List (List ℕ) → Type 0) → AllMeant before
+replaced_moved : (before : List Sentence) (stack : List (List (List ℕ))) (label : List ℕ) (m : MeetsHypotheses before stack label) (P : List (List ℕ) → List (List ℕ) → Type 0) → AllMeant before
     → SomeReplacedPair before stack label P → (x : List ℕ) × (y : List ℕ) × IsMandatoryPair (take m.place before) m.assertion x y × BothReplaced m.σ P x y
 replaced_moved before stack label m P all b =
     let a = agree before stack label all m b.0 in (
@@ -124,50 +124,50 @@ replaced_moved before stack label m P all b =
       (b.3, b.4, a.replacement b.1 ∙ b.6, a.replacement b.2 ∙ b.7, b.8),
     )
 
-replaced_dec : (before : List Sentence) (stack : List (List (List ℕ))) (label : List ℕ) (m : Meets before stack label) (P : List (List ℕ) → List (List ℕ) → Type 0) → AllMeant before
+replaced_dec : (before : List Sentence) (stack : List (List (List ℕ))) (label : List ℕ) (m : MeetsHypotheses before stack label) (P : List (List ℕ) → List (List ℕ) → Type 0) → AllMeant before
     → ((e f : List (List ℕ)) → Dec (P e f)) → Dec (SomeReplacedPair before stack label P)
 replaced_dec before stack label m P all each = dec_as (λ h. (m, h.0, h.1, h.3.0, h.3.1, h.2, h.3.2, h.3.3, h.3.4)) (replaced_moved before stack label m P all)
     (some_pair_dec (take m.place before) m.assertion m.σ P each)
 
-over_of : (Fits : List (List ℕ) → Type 0) (before : List Sentence) (stack : List (List (List ℕ))) (label : List ℕ) → AllMeant before → (m : Meets before stack label) → BreaksStep Fits L1 before stack label
-    → ¬ (Fits (substituted m.σ m.assertion.symbols))
+over_of : (Fits : List (List ℕ) → Type 0) (before : List Sentence) (stack : List (List (List ℕ))) (label : List ℕ) → AllMeant before → (m : MeetsHypotheses before stack label) → BreaksStep Fits L1 before stack label
+    → ¬ (Fits (instance_of m.σ m.assertion.symbols))
 over_of Fits before stack label all m (inl b) within =
     absurd (hypothesis_or_assertion before b.0 m.place b.1 m.assertion label all b.2 m.names.there b.4.0 m.names.named b.4.1 m.names.kind)
 over_of Fits before stack label all m (inr b) within =
     let a = agree before stack label all m b.0 in
-    let same : substituted m.σ m.assertion.symbols ≡ substituted b.0.σ b.0.assertion.symbols =
-    same_substituted m.σ b.0.σ m.assertion.symbols a.replacement ∙ ap (λ (t : Sentence). substituted b.0.σ t.symbols) a.assertion in
+    let same : instance_of m.σ m.assertion.symbols ≡ instance_of b.0.σ b.0.assertion.symbols =
+    same_substituted m.σ b.0.σ m.assertion.symbols a.replacement ∙ ap (λ (t : Sentence). instance_of b.0.σ t.symbols) a.assertion in
     b.1 (subst (λ l. Fits l) same within)
 
 -- at a step that meets its hypotheses
-meets_dec : (Fits : List (List ℕ) → Type 0) (each : (e : List (List ℕ)) → Dec (Fits e)) (before : List Sentence) (stack : List (List (List ℕ))) (label : List ℕ) → AllMeant before → Meets before stack label → (rule : ProofRule) → Dec (BreaksStep Fits rule before stack label)
+meets_dec : (Fits : List (List ℕ) → Type 0) (each : (e : List (List ℕ)) → Dec (Fits e)) (before : List Sentence) (stack : List (List (List ℕ))) (label : List ℕ) → AllMeant before → MeetsHypotheses before stack label → (rule : ProofRule) → Dec (BreaksStep Fits rule before stack label)
 meets_dec Fits each before stack label all m P8 = no (meets_enough Fits before stack label all m)
 meets_dec Fits each before stack label all m P9 = dec_as (λ x. (m, x)) (λ b. pair_moved before stack label m b.0 (λ h entry. (h.kind ≡ Floating) × (slice_get entry 0 ≢ slice_get h.symbols 0)) (agree before stack label all m b.0) b.1)
     (pair_dec m.hypotheses m.entries (λ h entry. (h.kind ≡ Floating) × (slice_get entry 0 ≢ slice_get h.symbols 0))
     (λ h entry. dec_both (kind_dec h.kind Floating) (dec_not (first_symbol_dec (slice_get entry 0) (slice_get h.symbols 0)))))
 meets_dec Fits each before stack label all m P10 = dec_as (λ x. (m, x))
     (λ b. let a = agree before stack label all m b.0 in
-    let x = pair_moved before stack label m b.0 (λ h entry. (h.kind ≡ Essential) × (entry ≢ substituted b.0.σ h.symbols)) a b.1 in
+    let x = pair_moved before stack label m b.0 (λ h entry. (h.kind ≡ Essential) × (entry ≢ instance_of b.0.σ h.symbols)) a b.1 in
     (x.0, x.1, x.2, x.3, x.4, (x.5.0, λ e. x.5.1 (e ∙ same_substituted m.σ b.0.σ x.1.symbols a.replacement))))
-    (pair_dec m.hypotheses m.entries (λ h entry. (h.kind ≡ Essential) × (entry ≢ substituted m.σ h.symbols))
-    (λ h entry. dec_both (kind_dec h.kind Essential) (dec_not (expression_dec entry (substituted m.σ h.symbols)))))
+    (pair_dec m.hypotheses m.entries (λ h entry. (h.kind ≡ Essential) × (entry ≢ instance_of m.σ h.symbols))
+    (λ h entry. dec_both (kind_dec h.kind Essential) (dec_not (expression_dec entry (instance_of m.σ h.symbols)))))
 meets_dec Fits each before stack label all m P11 = replaced_dec before stack label m (λ e f. ¬ (ShareNoVariable before e f)) all (λ e f. dec_not (share_dec before e f))
 meets_dec Fits each before stack label all m P12 = replaced_dec before stack label m (λ e f. ¬ (AreDistinct before e f)) all (λ e f. dec_not (apart_dec before e f))
-meets_dec Fits each before stack label all m L1 = dec_as (λ over. inr (m, over)) (over_of Fits before stack label all m) (dec_not (each (substituted m.σ m.assertion.symbols)))
+meets_dec Fits each before stack label all m L1 = dec_as (λ over. inr (m, over)) (over_of Fits before stack label all m) (dec_not (each (instance_of m.σ m.assertion.symbols)))
 meets_dec Fits each before stack label all m rule = no (λ b. b)
 
 -- ---- a step that breaks no rule
 
 -- the step that meets its hypotheses and breaks no rule
-step_of : (Fits : List (List ℕ) → Type 0) (before : List Sentence) (stack : List (List (List ℕ))) (label : List ℕ) (m : Meets before stack label) → ((rule : ProofRule) → ¬ (BreaksStep Fits rule before stack label))
-    → StepTo before stack label m.rest (substituted m.σ m.assertion.symbols)
+step_of : (Fits : List (List ℕ) → Type 0) (before : List Sentence) (stack : List (List (List ℕ))) (label : List ℕ) (m : MeetsHypotheses before stack label) → ((rule : ProofRule) → ¬ (BreaksStep Fits rule before stack label))
+    → StepTo before stack label m.rest (instance_of m.σ m.assertion.symbols)
 step_of Fits before stack label m none = inr (record {
   meets = m;
   kept = refl;
   typed = λ i h entry there at floating.
       unless (first_symbol_dec (slice_get entry 0) (slice_get h.symbols 0)) (λ differ. none P9 (m, (i, h, entry, there, at, (floating, differ))));
   equal = λ i h entry there at essential.
-      unless (expression_dec entry (substituted m.σ h.symbols)) (λ differ. none P10 (m, (i, h, entry, there, at, (essential, differ))));
+      unless (expression_dec entry (instance_of m.σ h.symbols)) (λ differ. none P10 (m, (i, h, entry, there, at, (essential, differ))));
   apart = λ x y e f pair at_x at_y. (
     unless (share_dec before e f) (λ share. none P11 (m, x, y, e, f, pair, at_x, at_y, share)),
     unless (apart_dec before e f) (λ near. none P12 (m, x, y, e, f, pair, at_x, at_y, near)),
@@ -191,13 +191,13 @@ made_outcome Fits each before stack label rest e all step = elim (within_or_over
 ]
 
 -- an assertion's step with entries for all its hypotheses
-meets_outcome : (Fits : List (List ℕ) → Type 0) (each : (e : List (List ℕ)) → Dec (Fits e)) (before : List Sentence) (stack : List (List (List ℕ))) (label : List ℕ) → AllMeant before → Meets before stack label → Outcome Fits before stack label
+meets_outcome : (Fits : List (List ℕ) → Type 0) (each : (e : List (List ℕ)) → Dec (Fits e)) (before : List Sentence) (stack : List (List (List ℕ))) (label : List ℕ) → AllMeant before → MeetsHypotheses before stack label → Outcome Fits before stack label
 meets_outcome Fits each before stack label all m = ⊎_elim (λ f. inr (f.rule, (f.broken, f.first)))
-    (λ none. made_outcome Fits each before stack label m.rest (substituted m.σ m.assertion.symbols) all (step_of Fits before stack label m none))
+    (λ none. made_outcome Fits each before stack label m.rest (instance_of m.σ m.assertion.symbols) all (step_of Fits before stack label m none))
     (first_or_none (λ rule. BreaksStep Fits rule before stack label) (meets_dec Fits each before stack label all m))
 
 -- below the entries that an assertion wants, P8 is the first rule broken
-below_P8 : (Fits : List (List ℕ) → Type 0) (before : List Sentence) (stack : List (List (List ℕ))) (label : List ℕ) (other : ProofRule) → rank other < rank P8 → ¬ (BreaksStep Fits other before stack label)
+below_P8 : (Fits : List (List ℕ) → Type 0) (before : List Sentence) (stack : List (List (List ℕ))) (label : List ℕ) (other : ProofRule) → proof_rank other < proof_rank P8 → ¬ (BreaksStep Fits other before stack label)
 below_P8 Fits before stack label P8 less = absurd (omega arith)
 below_P8 Fits before stack label P9 less = absurd (omega arith)
 below_P8 Fits before stack label P10 less = absurd (omega arith)
@@ -247,11 +247,11 @@ last_entry [] = inl refl
 last_entry (x ∷ []) = inr ([], x, refl)
 last_entry (x ∷ y ∷ stack) = ⊎_elim (λ e. absurd (let p : y ∷ stack ≡ [] = e in cc)) (λ l. inr (x ∷ l.0, l.1, ap (λ s. x ∷ s) l.2)) (last_entry (y ∷ stack))
 
-pub only_P6 : (Fits : List (List ℕ) → Type 0) (before : List Sentence) (stack kept : List (List (List ℕ))) (tag : ℕ) (other : ProofRule) → rank other < rank P6 → ¬ (BreaksMove Fits other before stack kept (again tag))
-only_P6 Fits before stack kept tag other less b = absurd (lt_irrefl (rank P6) (subst (λ r. rank r < rank P6) b.0 less))
+pub only_P6 : (Fits : List (List ℕ) → Type 0) (before : List Sentence) (stack kept : List (List (List ℕ))) (tag : ℕ) (other : ProofRule) → proof_rank other < proof_rank P6 → ¬ (BreaksMove Fits other before stack kept (again tag))
+only_P6 Fits before stack kept tag other less b = absurd (lt_irrefl (proof_rank P6) (subst (λ r. proof_rank r < proof_rank P6) b.0 less))
 
-pub only_P7 : (Fits : List (List ℕ) → Type 0) (before : List Sentence) (stack kept : List (List (List ℕ))) (other : ProofRule) → rank other < rank P7 → ¬ (BreaksMove Fits other before stack kept mark)
-only_P7 Fits before stack kept other less b = absurd (lt_irrefl (rank P7) (subst (λ r. rank r < rank P7) b.0 less))
+pub only_P7 : (Fits : List (List ℕ) → Type 0) (before : List Sentence) (stack kept : List (List (List ℕ))) (other : ProofRule) → proof_rank other < proof_rank P7 → ¬ (BreaksMove Fits other before stack kept mark)
+only_P7 Fits before stack kept other less b = absurd (lt_irrefl (proof_rank P7) (subst (λ r. proof_rank r < proof_rank P7) b.0 less))
 
 pub move_outcome : (Fits : List (List ℕ) → Type 0) (each : (e : List (List ℕ)) → Dec (Fits e)) (before : List Sentence) (earlier : List (Move (List ℕ))) (stack kept : List (List (List ℕ))) (move : Move (List ℕ))
     → AllMeant before → IsUsableMove before move → Passed Fits before earlier stack kept → Passes Fits before earlier stack kept move
@@ -306,7 +306,7 @@ pub within_dec : (limit : ℕ) (e : List (List ℕ)) → Dec (IsWithin limit e)
 within_dec limit e = elim (cases_lt limit (length e)) [ inl over ↦ no (λ within. absurd (omega arith)) | inr within ↦ yes within ]
 
 -- each proof is proved within the limit or has a fault
-pub some_verdict_holds : SomeVerdict
+pub some_verdict_holds : SomeProofVerdict
 some_verdict_holds limit before s tokens all formed = ⊎_elim
     (λ f. inr (f.rule, 0, inl (refl, record { broken = f.broken; first = f.first })))
     (λ whole.

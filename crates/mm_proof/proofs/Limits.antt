@@ -6,7 +6,7 @@ use Rattle.mm_frame.specs.Frame.{IsMandatory}
 use Rattle.mm_frame.specs.Rules.{AllMeant}
 use Rattle.mm_proof.specs.declared.fault.ProofRule.{ProofRule}
 use Rattle.mm_proof.specs.declared.fault.ProofRule.TheVariants.{L1}
-use Rattle.mm_proof.specs.Substitution.{IsOn, substituted}
+use Rattle.mm_proof.specs.Substitution.{IsOn, instance_of}
 use Rattle.mm_proof.specs.Tree.{Trees, none, tree, Names, KeepsApart, DeriveAll, AnyExpression}
 use Rattle.mm_proof.specs.Moves.{Move, name, again, mark, steps_in, Makes}
 use Rattle.mm_proof.specs.Proof.{IsWithin, Prove, IsProvedWithin, IsProved, FirstAtMove, Passed, IsMovesFault, IsFault}
@@ -24,16 +24,16 @@ DeriveOne Fits before label below e =
     ⊎ ((place : ℕ) × (assertion : Sentence) × (hypotheses : List Sentence) × (σ : List ℕ → Option (List (List ℕ)))
     × Names before label place assertion hypotheses
     × IsOn (IsMandatory (take place before) assertion) σ
-    × DeriveAll Fits before below (map (λ h. substituted σ h.symbols) hypotheses)
+    × DeriveAll Fits before below (map (λ h. instance_of σ h.symbols) hypotheses)
     × KeepsApart before place assertion σ
-    × (e ≡ substituted σ assertion.symbols))
+    × (e ≡ instance_of σ assertion.symbols))
 
 -- what trees derive within the limit they derive
 pub derive_any : (Fits : List (List ℕ) → Type 0) (before : List Sentence) (trees : Trees) (es : List (List (List ℕ))) → DeriveAll Fits before trees es → DeriveAll AnyExpression before trees es
 derive_any Fits before none es d = d
 derive_any Fits before (tree label below right) es d =
     let one : DeriveOne AnyExpression before label below d.0 = ⊎_elim (λ leaf. inl leaf)
-    (λ n. inr (n.0, n.1, n.2, n.3, n.4, n.5, derive_any Fits before below (map (λ (h : Sentence). substituted n.3 h.symbols) n.2) n.6, n.7, n.8)) d.4 in
+    (λ n. inr (n.0, n.1, n.2, n.3, n.4, n.5, derive_any Fits before below (map (λ (h : Sentence). instance_of n.3 h.symbols) n.2) n.6, n.7, n.8)) d.4 in
     (d.0, d.1, d.2, tt, one, derive_any Fits before right d.1 d.5)
 
 prove_any : (Fits : List (List ℕ) → Type 0) (before : List Sentence) (s : Sentence) (moves : List (Move (List ℕ))) → Prove Fits before s moves → Prove AnyExpression before s moves

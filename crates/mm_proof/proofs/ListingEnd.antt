@@ -10,7 +10,7 @@ use Rattle.mm_proof.specs.declared.fault.ProofFault.TheVariants.{Rule}
 use Rattle.mm_proof.specs.Answer.{OnRule}
 use Rattle.mm_proof.specs.Moves.{Move}
 use Rattle.mm_proof.specs.Proof.{IsWithin, expression_limit, Passed}
-use Rattle.mm_proof.specs.CodeVerify.{all_named}
+use Rattle.mm_proof.specs.CodeVerify.{all_names_at}
 use Rattle.mm_proof.specs.CodeRun.{HasRun}
 use Rattle.mm_proof.specs.CodeLines.{AreLinesFor, ListsProof}
 use Rattle.mm_proof.proofs.Answering.{on_rule_map}
@@ -26,9 +26,9 @@ lists_end st id own t xs stack kept count numbers lines n symbols run is lines_s
     let here : own ≡ place = one_place st id own place t s n proof.numbered in
     let moved = subst (λ p. HasRun st p xs stack kept count) here run in
     let expression = (its_symbols st own place s numbers here proof.numbered.there symbols).0 in
-    let passed = subst (λ l. Passed (IsWithin expression_limit) (take place st) names l (all_named st kept))
-    (ap (all_named st) is ∙ ap (λ e. e ∷ []) expression) (moved.passed names numbered) in (
-      prove_at_end (IsWithin expression_limit) (take place st) s names (all_named st kept) passed,
+    let passed = subst (λ l. Passed (IsWithin expression_limit) (take place st) names l (all_names_at st kept))
+    (ap (all_names_at st) is ∙ ap (λ e. e ∷ []) expression) (moved.passed names numbered) in (
+      prove_at_end (IsWithin expression_limit) (take place st) s names (all_names_at st kept) passed,
       subst (λ p. AreLinesFor st p xs lines) here lines_so names numbered,
     )
 

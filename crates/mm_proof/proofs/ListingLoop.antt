@@ -16,7 +16,7 @@ use Rattle.mm_proof.specs.Proof.{IsWithin, expression_limit, Passed}
 use Rattle.mm_proof.specs.Steps.{IsNumberedMove, AreNumberedMoves}
 use Rattle.mm_proof.specs.Listing.{StepName, by_label, by_step, ListedStep, StandsAfter, IsCalled, MakeLast, AreListed, IsNameOf, TellsStep}
 use Rattle.mm_proof.specs.CodeSteps.{move_in, moves_in}
-use Rattle.mm_proof.specs.CodeVerify.{IsSymbol, AreSymbols, AreEntries, AreBelow, named, all_named}
+use Rattle.mm_proof.specs.CodeVerify.{IsSymbol, AreDeclaredSymbols, AreStackEntries, AreBelow, names_at, all_names_at}
 use Rattle.mm_proof.specs.CodeRun.{CarriesOn, HasRun}
 use Rattle.mm_proof.specs.CodeLines.{AreLinesFor}
 use Rattle.mm_proof.proofs.Derived.{zip_push, zip_front, all_mapped, all_at}
@@ -27,11 +27,11 @@ use Rattle.mm_proof.proofs.Listed.{old_or_new, stands_later, stands_new, listed_
 -- ---- numbers and names
 
 -- the names of symbols by their numbers
-pub numbers_named : (st : List Sentence) (ns : List ℕ) → AreBelow st ns → AreNumbers st ns (named st ns)
+pub numbers_named : (st : List Sentence) (ns : List ℕ) → AreBelow st ns → AreNumbers st ns (names_at st ns)
 numbers_named st [] below = refl
 numbers_named st (n ∷ ns) below =
     let here = number_of_name st n below.0 in
-    let rest : AreNumbers st ns (named st ns) = numbers_named st ns below.1 in
+    let rest : AreNumbers st ns (names_at st ns) = numbers_named st ns below.1 in
     cc
 
 step_kind : (st : List Sentence) (x : Move ℕ) (move : Move (List ℕ)) → IsNumberedMove st x move → is_step x ≡ true → is_step move ≡ true
@@ -87,19 +87,19 @@ line_more st place front x stack kept count lines line run last is calls old mov
     let parts = last_split stack (omega arith) in
     let top : parts.1 ≡ e = same_Some parts.1 e (sym parts.3 ∙ last) in
     let split : stack ≡ parts.0 ++ e ∷ [] = parts.2 ∙ ap (λ x. parts.0 ++ x ∷ []) top in
-    let names : all_named st stack ≡ all_named st parts.0 ++ named st e ∷ [] = ap (all_named st) split ∙ map-append (named st) parts.0 (e ∷ []) in
-    let passed : Passed (IsWithin expression_limit) before moves (all_named st parts.0 ++ named st e ∷ []) (all_named st kept) =
-    subst (λ l. Passed (IsWithin expression_limit) before moves l (all_named st kept)) names (run.passed moves numbered) in
-    let made : MakeLast before moves (named st e) = last_made (IsWithin expression_limit) before moves (all_named st parts.0) (all_named st kept) (named st e) passed in
-    let entry : AreSymbols st before e = all_at (AreSymbols st before) stack (length stack - 1) e run.entries last in
+    let names : all_names_at st stack ≡ all_names_at st parts.0 ++ names_at st e ∷ [] = ap (all_names_at st) split ∙ map-append (names_at st) parts.0 (e ∷ []) in
+    let passed : Passed (IsWithin expression_limit) before moves (all_names_at st parts.0 ++ names_at st e ∷ []) (all_names_at st kept) =
+    subst (λ l. Passed (IsWithin expression_limit) before moves l (all_names_at st kept)) names (run.passed moves numbered) in
+    let made : MakeLast before moves (names_at st e) = last_made (IsWithin expression_limit) before moves (all_names_at st parts.0) (all_names_at st kept) (names_at st e) passed in
+    let entry : AreDeclaredSymbols st before e = all_at (AreDeclaredSymbols st before) stack (length stack - 1) e run.entries last in
     let below : AreBelow st e = all_mapped (IsSymbol st before) (λ k. k < length (symbols_of st)) e (λ k i. i.below) entry in
     let call = calls h.0 h.1 h.3 h.4 in
-    let new : ListedStep = record { called = call.0; expression = named st e } in
+    let new : ListedStep = record { called = call.0; expression = names_at st e } in
     let was = old h.0 h.3 in (
       was.0 ++ new ∷ [],
       subst (λ l. AreListed before l (was.0 ++ new ∷ [])) (sym h.2)
           (listed_step before h.0 h.1 was.0 new was.1 (step_kind st x h.1 h.4 is)
-          (record { called = call.2; pushed = subst (λ l. MakeLast before l (named st e)) h.2 made })),
+          (record { called = call.2; pushed = subst (λ l. MakeLast before l (names_at st e)) h.2 made })),
       zip_push (TellsStep st) lines was.0 line new was.2 (record { called = call.1; pushed = numbers_named st e below }),
     )
 
@@ -130,21 +130,21 @@ listing_none st place moves stack kept empty none_kept = record {
 pub name_stands : (st : List Sentence) (place : ℕ) (moves : List NumberedMove) (i : ℕ) (d : NumberedMove) (id : LabelId) (stack kept stack' kept' : List (List ℕ)) (lines : List Line) (tags : List ℕ)
     → (names : List (Move (List ℕ))) × AreNumberedMoves st (moves_in moves) names
     → i < length moves → get_or moves i d ≡ code.Name id → Listing st place moves i stack kept lines tags
-    → CarriesOn st place id.0 stack stack' → AreEntries st (take place st) stack' → kept' ≡ kept → 0 < length stack'
+    → CarriesOn st place id.0 stack stack' → AreStackEntries st (take place st) stack' → kept' ≡ kept → 0 < length stack'
 name_stands st place moves i d id stack kept stack' kept' lines tags named_so less is l carries entries same =
     let turn = more_name st place moves i d id stack kept stack' kept' (length lines) (length tags) less is l.turn carries entries same in
     let front = zip_take (IsNumberedMove st) (moves_in moves) named_so.0 (i + 1) named_so.1 in
     let one : take (i + 1) (moves_in moves) ≡ take i (moves_in moves) ++ name id.0 ∷ [] = front_more moves i d less ∙ ap (λ m. take i (moves_in moves) ++ move_in m ∷ []) is in
     let h = zip_front (IsNumberedMove st) (take i (moves_in moves)) (name id.0) (take (i + 1) named_so.0) (subst (λ l. AreNumberedMoves st l (take (i + 1) named_so.0)) one front) in
     let passed = turn.0.passed (take (i + 1) named_so.0) front in
-    let deep : 0 < length (all_named st stack') = name_leaves (IsWithin expression_limit) (take place st) h.0 h.4.1 (all_named st stack') (all_named st kept')
-    (subst (λ l. Passed (IsWithin expression_limit) (take place st) l (all_named st stack') (all_named st kept')) (h.2 ∙ ap (λ m. h.0 ++ m ∷ []) h.4.4) passed) in
-    omega (arith, length-map stack' (named st))
+    let deep : 0 < length (all_names_at st stack') = name_leaves (IsWithin expression_limit) (take place st) h.0 h.4.1 (all_names_at st stack') (all_names_at st kept')
+    (subst (λ l. Passed (IsWithin expression_limit) (take place st) l (all_names_at st stack') (all_names_at st kept')) (h.2 ∙ ap (λ m. h.0 ++ m ∷ []) h.4.4) passed) in
+    omega (arith, length-map stack' (names_at st))
 
 -- a step by a label
 pub listing_name : (st : List Sentence) (place : ℕ) (moves : List NumberedMove) (i : ℕ) (d : NumberedMove) (id : LabelId) (stack kept stack' kept' : List (List ℕ)) (lines : List Line) (tags : List ℕ) (line : Line)
     → i < length moves → get_or moves i d ≡ code.Name id → Listing st place moves i stack kept lines tags
-    → CarriesOn st place id.0 stack stack' → AreEntries st (take place st) stack' → kept' ≡ kept
+    → CarriesOn st place id.0 stack stack' → AreStackEntries st (take place st) stack' → kept' ≡ kept
     → line.name ≡ names.Label id → slice_get stack' (length stack' - 1) ≡ Some (numbers_in line.expression.items)
     → Listing st place moves (i + 1) stack' kept' (lines ++ line ∷ []) tags
 listing_name st place moves i d id stack kept stack' kept' lines tags line less is l carries entries same called last =

@@ -2,7 +2,7 @@
 use Rattle.std.proofs.Common.{◌≡◌, ℕ, List, drop, slice_get, Some, None, ◌⊎◌, inl, inr}
 use Rattle.mm_frame.specs.Sentence.{Sentence, Types}
 use Rattle.mm_frame.specs.Rules.{AllMeant}
-use Rattle.mm_proof.specs.Proof.{Meets}
+use Rattle.mm_proof.specs.Proof.{MeetsHypotheses}
 use Rattle.mm_proof.proofs.Places.{get_beside}
 use Rattle.mm_proof.proofs.Meaning.{mandatory_typed}
 use Rattle.mm_proof.proofs.OneStep.{typing_among}
@@ -11,7 +11,7 @@ use Rattle.mm_proof.proofs.Decisions.{dec_some}
 use Rattle.mm_proof.proofs.Replacements.{typing_dec}
 
 -- the symbol is the variable of a mandatory `$f`, which gives its replacement
-pub record IsReplaced (before : List Sentence) (stack : List (List (List ℕ))) (label : List ℕ) (m : Meets before stack label) (x : List ℕ) : Type 0 where
+pub record IsReplaced (before : List Sentence) (stack : List (List (List ℕ))) (label : List ℕ) (m : MeetsHypotheses before stack label) (x : List ℕ) : Type 0 where
   pub i : ℕ
   pub f : Sentence
   pub entry : List (List ℕ)
@@ -22,11 +22,11 @@ pub record IsReplaced (before : List Sentence) (stack : List (List (List ℕ))) 
   pub replaced : m.σ x ≡ Some (drop 1 entry)
 
 -- it is the variable of none, and stays
-pub record IsKept (before : List Sentence) (stack : List (List (List ℕ))) (label : List ℕ) (m : Meets before stack label) (x : List ℕ) : Type 0 where
+pub record IsKept (before : List Sentence) (stack : List (List (List ℕ))) (label : List ℕ) (m : MeetsHypotheses before stack label) (x : List ℕ) : Type 0 where
   pub untyped : (i : ℕ) (f : Sentence) (code : List ℕ) → slice_get m.hypotheses i ≡ Some f → ¬ (Types code x f)
   pub kept : m.σ x ≡ None
 
-pub replaced_or_kept : (before : List Sentence) (stack : List (List (List ℕ))) (label : List ℕ) (m : Meets before stack label) (x : List ℕ) → AllMeant before
+pub replaced_or_kept : (before : List Sentence) (stack : List (List (List ℕ))) (label : List ℕ) (m : MeetsHypotheses before stack label) (x : List ℕ) → AllMeant before
     → IsReplaced before stack label m x ⊎ IsKept before stack label m x
 replaced_or_kept before stack label m x all = go (dec_some (λ i (f : Sentence). (code : List ℕ) × Types code x f) (λ i f. typing_dec x f) m.hypotheses)
   where

@@ -4,7 +4,7 @@ use Rattle.std.proofs.lemmas.Option.{same_Some}
 use Rattle.std.proofs.lemmas.List.{length-map, map-append}
 use Rattle.mm_frame.specs.Sentence.{Sentence}
 use Rattle.mm_frame.specs.Rules.{AllMeant}
-use Rattle.mm_proof.specs.Substitution.{substituted}
+use Rattle.mm_proof.specs.Substitution.{instance_of}
 use Rattle.mm_proof.specs.Tree.{Trees, none, tree, spelling, beside, roots, MayStandOver, Fit, DeriveAll}
 use Rattle.mm_proof.specs.Moves.{Move, name, again, mark, MakesOne, Makes}
 use Rattle.mm_proof.proofs.Meaning.{one_label, one_labelled}
@@ -144,8 +144,8 @@ derive_fits Fits before (tree label below right) es d = ⊎_elim
       derive_fits Fits before right d.1 d.5,
     ))
     (λ n. (
-      inr (n.0, n.1, n.2, n.4, roots_derive Fits before below (map (λ (h : Sentence). substituted n.3 h.symbols) n.2) n.6 ∙ length-map n.2 (λ (h : Sentence). substituted n.3 h.symbols)),
-      derive_fits Fits before below (map (λ (h : Sentence). substituted n.3 h.symbols) n.2) n.6,
+      inr (n.0, n.1, n.2, n.4, roots_derive Fits before below (map (λ (h : Sentence). instance_of n.3 h.symbols) n.2) n.6 ∙ length-map n.2 (λ (h : Sentence). instance_of n.3 h.symbols)),
+      derive_fits Fits before below (map (λ (h : Sentence). instance_of n.3 h.symbols) n.2) n.6,
       derive_fits Fits before right d.1 d.5,
     )) d.4
 

@@ -8,7 +8,7 @@ use Rattle.mm_proof.specs.declared.fault.ProofRule.{ProofRule}
 use Rattle.mm_proof.specs.declared.fault.ProofRule.TheVariants.{P6, P7}
 use Rattle.mm_proof.specs.Tree.{Trees, none, tree, roots, DeriveAll}
 use Rattle.mm_proof.specs.Moves.{Move, name, again, mark, is_step, steps_in, MakesOne, Makes}
-use Rattle.mm_proof.specs.Proof.{IsWithin, rank, BreaksMove, Passed, IsMovesFault}
+use Rattle.mm_proof.specs.Proof.{IsWithin, proof_rank, BreaksMove, Passed, IsMovesFault}
 use Rattle.mm_proof.specs.Laws.{MarkBeforeAnyStep, IsOverMarks, TagOverMarks, marks_in}
 use Rattle.mm_proof.proofs.Making.{roots-beside, roots_derive}
 
@@ -71,8 +71,8 @@ mark_told Fits before s moves step (inr f) = absurd f.broken
 nothing_before : (Fits : List (List ℕ) → Type 0) (before : List Sentence) → Passed Fits before [] [] []
 nothing_before Fits before = record { trees = none; shelf = []; made = (refl, refl); derived = refl; kept_derived = tt }
 
-mark_first : (Fits : List (List ℕ) → Type 0) (before : List Sentence) (other : ProofRule) → rank other < rank P7 → ¬ (BreaksMove Fits other before [] [] mark)
-mark_first Fits before other less broken = let same : rank other ≡ rank P7 = ap rank broken.0 in omega (arith, less, same)
+mark_first : (Fits : List (List ℕ) → Type 0) (before : List Sentence) (other : ProofRule) → proof_rank other < proof_rank P7 → ¬ (BreaksMove Fits other before [] [] mark)
+mark_first Fits before other less broken = let same : proof_rank other ≡ proof_rank P7 = ap proof_rank broken.0 in omega (arith, less, same)
 
 mark_faulty : (Fits : List (List ℕ) → Type 0) (before : List Sentence) (s : Sentence) (moves later : List (Move (List ℕ))) (step : ℕ) → step ≡ 1
     → moves ≡ mark ∷ later → IsMovesFault Fits before s moves P7 step
@@ -154,8 +154,8 @@ tag_told Fits before s moves step (inl f) =
 tag_told Fits before s moves step (inr f) = absurd f.broken
 
 tag_first : (Fits : List (List ℕ) → Type 0) (before : List Sentence) (stack kept : List (List (List ℕ))) (tag : ℕ) (other : ProofRule)
-    → rank other < rank P6 → ¬ (BreaksMove Fits other before stack kept (again tag))
-tag_first Fits before stack kept tag other less broken = let same : rank other ≡ rank P6 = ap rank broken.0 in omega (arith, less, same)
+    → proof_rank other < proof_rank P6 → ¬ (BreaksMove Fits other before stack kept (again tag))
+tag_first Fits before stack kept tag other less broken = let same : proof_rank other ≡ proof_rank P6 = ap proof_rank broken.0 in omega (arith, less, same)
 
 tag_faulty : (Fits : List (List ℕ) → Type 0) (before : List Sentence) (s : Sentence) (moves : List (Move (List ℕ))) (step : ℕ)
     → IsOverMarks Fits before moves step → IsMovesFault Fits before s moves P6 step

@@ -8,7 +8,7 @@ use Rattle.std.proofs.lemmas.List.Sums.{sum_by-append}
 use Rattle.mm_text.specs.declared.statement.Kind.TheVariants.{Constants, Variables, Essential}
 use Rattle.mm_frame.specs.declared.rule.MeaningRule.TheVariants.{M2, M3, M5, M7, M10, M15}
 use Rattle.mm_frame.specs.Sentence.{Sentence, SomeSentence, IsStated, IsUse, Declares, IsLabelled, Types}
-use Rattle.mm_frame.specs.Active.{is_opening, is_closing, openings, closings, IsOpen, IsActive, SomeActive, IsConstant, IsVariable, IsTyped}
+use Rattle.mm_frame.specs.Active.{is_opening, is_closing, open_marks, close_marks, IsOpen, IsActive, SomeActive, IsConstant, IsVariable, IsTyped}
 use Rattle.mm_frame.specs.Rules.{IsMeant, AllMeant}
 use Rattle.mm_frame.specs.Frame.{IsMandatory}
 use Rattle.mm_proof.proofs.Places.{split_at, get_take, get_from_take, get_append, take_get}
@@ -87,17 +87,17 @@ code_is_constant before i f code x all there types variable =
 count-append : (p : Sentence → Bool) (xs ys : List Sentence) → count_by p (xs ++ ys) ≡ count_by p xs + count_by p ys
 count-append p xs ys = sum_by-append (λ x. cond (p x) 1 0) xs ys
 
-unclosed_then : (ys : List Sentence) (e : Sentence) → ((n : ℕ) → closings (take n ys) ≤ openings (take n ys)) → is_closing e.kind ≡ false
-    → (n : ℕ) → closings (take n (ys ++ e ∷ [])) ≤ openings (take n (ys ++ e ∷ []))
+unclosed_then : (ys : List Sentence) (e : Sentence) → ((n : ℕ) → close_marks (take n ys) ≤ open_marks (take n ys)) → is_closing e.kind ≡ false
+    → (n : ℕ) → close_marks (take n (ys ++ e ∷ [])) ≤ open_marks (take n (ys ++ e ∷ []))
 unclosed_then ys e all h n = elim (cases_lt (length ys) n) [
   | inl more ↦
       let whole : take n (ys ++ e ∷ []) ≡ ys ++ e ∷ [] = take_all n (ys ++ e ∷ []) (omega (arith, length-append ys (e ∷ []))) in
-      let c : closings (ys ++ e ∷ []) ≡ closings ys + closings (e ∷ []) = count-append (λ s. is_closing s.kind) ys (e ∷ []) in
-      let o : openings (ys ++ e ∷ []) ≡ openings ys + openings (e ∷ []) = count-append (λ s. is_opening s.kind) ys (e ∷ []) in
-      let here : closings (e ∷ []) ≡ 0 = rw h refl in
-      let so_far : closings ys ≤ openings ys = subst (λ l. closings l ≤ openings l) (take_all (length ys) ys (omega arith)) (all (length ys)) in
-      subst (λ l. closings l ≤ openings l) (sym whole) (omega (arith, c, o, here, so_far))
-  | inr less ↦ subst (λ l. closings l ≤ openings l) (sym (take-append-le n ys (e ∷ []) less)) (all n)
+      let c : close_marks (ys ++ e ∷ []) ≡ close_marks ys + close_marks (e ∷ []) = count-append (λ s. is_closing s.kind) ys (e ∷ []) in
+      let o : open_marks (ys ++ e ∷ []) ≡ open_marks ys + open_marks (e ∷ []) = count-append (λ s. is_opening s.kind) ys (e ∷ []) in
+      let here : close_marks (e ∷ []) ≡ 0 = rw h refl in
+      let so_far : close_marks ys ≤ open_marks ys = subst (λ l. close_marks l ≤ open_marks l) (take_all (length ys) ys (omega arith)) (all (length ys)) in
+      subst (λ l. close_marks l ≤ open_marks l) (sym whole) (omega (arith, c, o, here, so_far))
+  | inr less ↦ subst (λ l. close_marks l ≤ open_marks l) (sym (take-append-le n ys (e ∷ []) less)) (all n)
 ]
 
 -- a statement that is no `$}` closes no block
@@ -108,7 +108,7 @@ open_then before e outer h o =
       opening = o.opening;
       there = get_append before (e ∷ []) outer o.opening o.there;
       opened = o.opened;
-      unclosed = λ n. subst (λ l. closings (take n l) ≤ openings (take n l)) (sym (drop-append-le (suc outer) before (e ∷ []) within))
+      unclosed = λ n. subst (λ l. close_marks (take n l) ≤ open_marks (take n l)) (sym (drop-append-le (suc outer) before (e ∷ []) within))
           (unclosed_then (drop (suc outer) before) e o.unclosed h n);
     }
 

@@ -6,13 +6,13 @@ use Rattle.std.proofs.lemmas.Bool.{false≢true, cases_lt}
 use Rattle.std.proofs.lemmas.List.{map-append, length-map}
 use Rattle.mm_text.specs.declared.statement.Kind.TheVariants.{Floating, Essential}
 use Rattle.mm_frame.specs.Sentence.{Sentence}
-use Rattle.mm_frame.specs.Numbers.{symbols_of, labelled, IsNumberOf, AreNumbers}
+use Rattle.mm_frame.specs.Numbers.{symbols_of, labelled_sentences, IsNumberOf, AreNumbers}
 use Rattle.mm_text.specs.Statement.{FitsCount}
 use Rattle.mm_frame.specs.Form.{AllFormed, IsFormedSentence}
 use Rattle.mm_frame.specs.Laws.{OneNumber}
 use Rattle.mm_frame.specs.declared.number.LabelId.{LabelId}
 use Rattle.mm_proof.specs.CodeSteps.{ids_in}
-use Rattle.mm_proof.specs.CodeVerify.{name_at, named, AreBelow, IsRightCode, IsWrongCode, IsEqual, IsVariableOf, AreHypothesesOf, AreVariablesOf, variables_in, all_named}
+use Rattle.mm_proof.specs.CodeVerify.{name_at, names_at, AreBelow, IsRightCode, IsWrongCode, IsEqual, IsVariableOf, AreHypothesesOf, AreVariablesOf, variables_in, all_names_at}
 use Rattle.mm_frame.specs.declared.number.Sym.{Sym}
 use Rattle.mm_proof.proofs.Places.{take_get}
 use Rattle.mm_proof.proofs.LabelLists.{zip_push}
@@ -21,7 +21,7 @@ use Rattle.mm_proof.proofs.Values.{drop_get}
 pub name_is : (st : List Sentence) (n : ℕ) (x : List ℕ) → IsNumberOf st x n → name_at st n ≡ x
 name_is st n x there = get_or_from_slice_get (symbols_of st) n x [] there
 
-pub named_is : (st : List Sentence) (ns : List ℕ) (xs : List (List ℕ)) → AreNumbers st ns xs → named st ns ≡ xs
+pub named_is : (st : List Sentence) (ns : List ℕ) (xs : List (List ℕ)) → AreNumbers st ns xs → names_at st ns ≡ xs
 named_is st [] [] are = refl
 named_is st [] (x ∷ xs) are = absurd cc
 named_is st (n ∷ ns) [] are = absurd cc
@@ -49,20 +49,20 @@ pub one_name : OneNumber → (st : List Sentence) (m n : ℕ) → m < length (sy
 one_name one st m n bm bn same =
     (one st [] (name_at st n)).1 m n (subst (λ x. IsNumberOf st x m) same (number_of_name st m bm)) (number_of_name st n bn)
 
-pub named_once : OneNumber → (st : List Sentence) (ms ns : List ℕ) → AreBelow st ms → AreBelow st ns → named st ms ≡ named st ns → ms ≡ ns
+pub named_once : OneNumber → (st : List Sentence) (ms ns : List ℕ) → AreBelow st ms → AreBelow st ns → names_at st ms ≡ names_at st ns → ms ≡ ns
 named_once one st [] [] bm bn same = refl
 named_once one st [] (n ∷ ns) bm bn same = absurd cc
 named_once one st (m ∷ ms) [] bm bn same = absurd cc
 named_once one st (m ∷ ms) (n ∷ ns) bm bn same =
     let first : name_at st m ≡ name_at st n = cc in
-    let rest : named st ms ≡ named st ns = cc in
+    let rest : names_at st ms ≡ names_at st ns = cc in
     let head = one_name one st m n bm.0 bn.0 first in
     let tail = named_once one st ms ns bm.1 bn.1 rest in
     cc
 
 -- the first symbols are told by their numbers
 pub first_named : OneNumber → (st : List Sentence) (ms ns : List ℕ) → AreBelow st ms → AreBelow st ns
-    → slice_get (named st ms) 0 ≡ slice_get (named st ns) 0 → slice_get ms 0 ≡ slice_get ns 0
+    → slice_get (names_at st ms) 0 ≡ slice_get (names_at st ns) 0 → slice_get ms 0 ≡ slice_get ns 0
 first_named one st [] [] bm bn same = refl
 first_named one st [] (n ∷ ns) bm bn same = absurd cc
 first_named one st (m ∷ ms) [] bm bn same = absurd cc
@@ -70,14 +70,14 @@ first_named one st (m ∷ ms) (n ∷ ns) bm bn same =
     let first : name_at st m ≡ name_at st n = cc in
     ap Some (one_name one st m n bm.0 bn.0 first)
 
-pub firsts_named : (st : List Sentence) (ms ns : List ℕ) → slice_get ms 0 ≡ slice_get ns 0 → slice_get (named st ms) 0 ≡ slice_get (named st ns) 0
+pub firsts_named : (st : List Sentence) (ms ns : List ℕ) → slice_get ms 0 ≡ slice_get ns 0 → slice_get (names_at st ms) 0 ≡ slice_get (names_at st ns) 0
 firsts_named st ms ns same = slice_get-map (name_at st) ms 0 ∙ ap (option_map (name_at st)) same ∙ sym (slice_get-map (name_at st) ns 0)
 
 -- ---- type codes
 
 pub code_told : OneNumber → (st : List Sentence) (h : Sentence) (expression entry : List ℕ) (r : Bool) → AreBelow st entry → AreNumbers st expression h.symbols → h.kind ≡ Floating
     → (IsTrue r → slice_get entry 0 ≡ slice_get expression 0) → (slice_get entry 0 ≡ slice_get expression 0 → IsTrue r)
-    → MatchBool r (IsRightCode h (named st entry)) (IsWrongCode h (named st entry))
+    → MatchBool r (IsRightCode h (names_at st entry)) (IsWrongCode h (names_at st entry))
 code_told one st h expression entry true below are kind to from =
     λ k. firsts_named st entry expression (to refl) ∙ ap (λ l. slice_get l 0) (named_is st expression h.symbols are)
 code_told one st h expression entry false below are kind to from =
@@ -85,11 +85,11 @@ code_told one st h expression entry false below are kind to from =
 
 -- ---- variables
 
-filtered_formed : (st : List Sentence) (id : ℕ) (h : Sentence) → AllFormed st → slice_get (labelled st) id ≡ Some h → IsFormedSentence h
+filtered_formed : (st : List Sentence) (id : ℕ) (h : Sentence) → AllFormed st → slice_get (labelled_sentences st) id ≡ Some h → IsFormedSentence h
 filtered_formed [] id h formed there = absurd (none-some h there)
 filtered_formed (s ∷ st) id h formed there = go (is_some s.label) id there (λ i at. filtered_formed st i h (λ p a t. formed (suc p) a t) at)
   where
-    go : (b : Bool) (i : ℕ) → slice_get (cond b (s ∷ labelled st) (labelled st)) i ≡ Some h → ((k : ℕ) → slice_get (labelled st) k ≡ Some h → IsFormedSentence h) → IsFormedSentence h
+    go : (b : Bool) (i : ℕ) → slice_get (cond b (s ∷ labelled_sentences st) (labelled_sentences st)) i ≡ Some h → ((k : ℕ) → slice_get (labelled_sentences st) k ≡ Some h → IsFormedSentence h) → IsFormedSentence h
     go true zero at later = subst IsFormedSentence (same_Some s h at) (formed 0 s refl)
     go true (suc i) at later = later i at
     go false i at later = later i at
@@ -106,7 +106,7 @@ two_in st (n ∷ m ∷ ns) (x ∷ y ∷ []) o are two is =
     (m, x, y, is, refl, there)
 two_in st (n ∷ m ∷ ns) (x ∷ y ∷ z ∷ xs) o are two is = absurd (omega arith)
 
-pub variable_told : (st : List Sentence) (id : ℕ) (h : Sentence) (ns : List ℕ) (o : Option ℕ) → AllFormed st → slice_get (labelled st) id ≡ Some h → h.kind ≡ Floating
+pub variable_told : (st : List Sentence) (id : ℕ) (h : Sentence) (ns : List ℕ) (o : Option ℕ) → AllFormed st → slice_get (labelled_sentences st) id ≡ Some h → h.kind ≡ Floating
     → AreNumbers st ns h.symbols → o ≡ slice_get ns 1 → IsVariableOf st o h
 variable_told st id h ns o formed there kind are is =
     let two = subst (λ k. FitsCount k (length h.symbols)) kind (filtered_formed st id h formed there).count in
@@ -120,17 +120,17 @@ no_variable st h other = other
 
 -- the hypothesis with the number at a place
 pub hypothesis_at : (st : List Sentence) (ids : List LabelId) (hs : List Sentence) (i : ℕ) (d : LabelId) → AreHypothesesOf st (ids_in ids) hs → i < length ids
-    → (h : Sentence) × (slice_get hs i ≡ Some h) × (slice_get (labelled st) (get_or ids i d).0 ≡ Some h)
+    → (h : Sentence) × (slice_get hs i ≡ Some h) × (slice_get (labelled_sentences st) (get_or ids i d).0 ≡ Some h)
 hypothesis_at st [] hs i d are less = absurd (omega arith)
 hypothesis_at st (id ∷ ids) [] i d are less = absurd cc
-hypothesis_at st (id ∷ ids) (h ∷ hs) zero d are less = (h, refl, (let e : slice_get (labelled st) id.0 ≡ Some h = cc in e))
+hypothesis_at st (id ∷ ids) (h ∷ hs) zero d are less = (h, refl, (let e : slice_get (labelled_sentences st) id.0 ≡ Some h = cc in e))
 hypothesis_at st (id ∷ ids) (h ∷ hs) (suc i) d are less =
     let rest : AreHypothesesOf st (ids_in ids) hs = cc in
     hypothesis_at st ids hs i d rest (omega arith)
 
 pub id_below : (st : List Sentence) (ids : List LabelId) (hs : List Sentence) (i : ℕ) (d : LabelId) → AreHypothesesOf st (ids_in ids) hs → i < length ids
-    → (get_or ids i d).0 < length (labelled st)
-id_below st ids hs i d are less = let h = hypothesis_at st ids hs i d are less in slice_get_within (labelled st) (get_or ids i d).0 h.0 h.2
+    → (get_or ids i d).0 < length (labelled_sentences st)
+id_below st ids hs i d are less = let h = hypothesis_at st ids hs i d are less in slice_get_within (labelled_sentences st) (get_or ids i d).0 h.0 h.2
 
 pub variables_more : (st : List Sentence) (variables : List (Option Sym)) (v : Option Sym) (hs : List Sentence) (i : ℕ) (h : Sentence) → slice_get hs i ≡ Some h
     → AreVariablesOf st (variables_in variables) (take i hs) → IsVariableOf st (option_map (λ s. s.0) v) h → AreVariablesOf st (variables_in (variables ++ v ∷ [])) (take (i + 1) hs)
@@ -147,7 +147,7 @@ all_get P (y ∷ xs) zero x all at = subst P (same_Some y x at) all.0
 all_get P (y ∷ xs) (suc i) x all at = all_get P xs i x all.1 at
 
 -- the entry at a place, by names
-pub entry_at : (st : List Sentence) (stack : List (List ℕ)) (base i : ℕ) (e : List ℕ) → slice_get stack (base + i) ≡ Some e → slice_get (all_named st (drop base stack)) i ≡ Some (named st e)
+pub entry_at : (st : List Sentence) (stack : List (List ℕ)) (base i : ℕ) (e : List ℕ) → slice_get stack (base + i) ≡ Some e → slice_get (all_names_at st (drop base stack)) i ≡ Some (names_at st e)
 entry_at st stack base i e at =
     slice_get-map (λ (l : List ℕ). map (name_at st) l) (drop base stack) i ∙ ap (option_map (λ (l : List ℕ). map (name_at st) l)) (drop_get stack base i ∙ at)
 

@@ -10,13 +10,13 @@ use Rattle.mm_frame.specs.declared.number.LabelId.{LabelId}
 use Rattle.mm_frame.specs.declared.number.LabelKind.{LabelKind}
 use Rattle.mm_frame.specs.declared.number.LabelKind.TheVariants as label_kinds
 use Rattle.mm_frame.specs.Sentence.{Sentence, IsAssertion}
-use Rattle.mm_frame.specs.Numbers.{labelled, IsAssertionNumber}
+use Rattle.mm_frame.specs.Numbers.{labelled_sentences, IsAssertionNumber}
 use Rattle.mm_frame.specs.Taken.{kind_behind}
 use Rattle.mm_proof.specs.declared.moves.NumberedMove.{NumberedMove}
 use Rattle.mm_proof.specs.declared.moves.NumberedMove.TheVariants as code
 use Rattle.mm_proof.specs.Moves.{Move, name}
 use Rattle.mm_proof.specs.CodeSteps.{MayBeUsed, ids_in, move_in, moves_in}
-use Rattle.mm_proof.specs.CodeRun.{IsNamed, AreNamed}
+use Rattle.mm_proof.specs.CodeRun.{IsNamedByMove, AreNamed}
 use Rattle.mm_proof.proofs.Places.{get_append}
 use Rattle.mm_proof.proofs.Numbered.{numbered_at, numbered_below}
 use Rattle.mm_proof.proofs.Running.{front_more}
@@ -40,19 +40,19 @@ same_number a b e = cc
 
 -- the numbers are those of the assertions that a front names
 abbrev pub Gathered : List Sentence → List (Move ℕ) → List LabelId → Type 0
-Gathered st front ids = (n : ℕ) → Contains (ids_in ids) n ↔ IsNamed st front n
+Gathered st front ids = (n : ℕ) → Contains (ids_in ids) n ↔ IsNamedByMove st front n
 
 pub named_more : (st : List Sentence) (front : List (Move ℕ)) (ids : List LabelId) (id : LabelId) → Gathered st front ids → IsAssertionNumber st id.0
     → Gathered st (front ++ name id.0 ∷ []) (ids ++ id ∷ [])
 named_more st front ids id old assertion n = (to, from)
   where
-    to : Contains (ids_in (ids ++ id ∷ [])) n → IsNamed st (front ++ name id.0 ∷ []) n
+    to : Contains (ids_in (ids ++ id ∷ [])) n → IsNamedByMove st (front ++ name id.0 ∷ []) n
     to h = elim (Contains-push_cases (ids_in ids) id.0 n (subst (λ l. Contains l n) (map-append (λ (i : LabelId). i.0) ids (id ∷ [])) h)) [
       | inl c ↦ let o = (old n).0 c in ((o.0.0, get_append front (name id.0 ∷ []) o.0.0 (name n) o.0.1), o.1)
       | inr same ↦ ((length front, get_last front (name id.0) ∙ ap (λ k. Some (name k)) same), subst (IsAssertionNumber st) same assertion)
     ]
 
-    from : IsNamed st (front ++ name id.0 ∷ []) n → Contains (ids_in (ids ++ id ∷ [])) n
+    from : IsNamedByMove st (front ++ name id.0 ∷ []) n → Contains (ids_in (ids ++ id ∷ [])) n
     from h = subst (λ l. Contains l n) (sym (map-append (λ (i : LabelId). i.0) ids (id ∷ []))) (elim (get_push front (name id.0) (name n) h.0.0 h.0.1) [
       | inl there ↦ Contains-append_left (ids_in ids) (id.0 ∷ []) n ((old n).1 ((h.0.0, there), h.1))
       | inr same ↦ subst (Contains (ids_in ids ++ id.0 ∷ [])) (same_number id.0 n same) (Contains-push (ids_in ids) id.0)
@@ -82,7 +82,7 @@ named_other st front ids id none old =
 -- ---- what the kind of a label says
 
 pub is_assertion : (st : List Sentence) (place id : ℕ) (r : LabelKind) → (label : List ℕ) × MayBeUsed st place label id
-    → ((s : Sentence) → slice_get (labelled st) id ≡ Some s → s.kind ≡ kind_behind r) → (r ≡ label_kinds.Axiom) ⊎ (r ≡ label_kinds.Proof) → IsAssertionNumber st id
+    → ((s : Sentence) → slice_get (labelled_sentences st) id ≡ Some s → s.kind ≡ kind_behind r) → (r ≡ label_kinds.Axiom) ⊎ (r ≡ label_kinds.Proof) → IsAssertionNumber st id
 is_assertion st place id r used kind is =
     let m = used.1 in
     let told = kind m.s (numbered_at st id m.at m.s m.numbered) in
@@ -96,12 +96,12 @@ only_assertions label_kinds.Essential (inr e) a p = absurd cc
 only_assertions label_kinds.Axiom k a p = a refl
 only_assertions label_kinds.Proof k a p = p refl
 
-pub no_assertion : (st : List Sentence) (id : ℕ) (r : LabelKind) → ((s : Sentence) → slice_get (labelled st) id ≡ Some s → s.kind ≡ kind_behind r)
+pub no_assertion : (st : List Sentence) (id : ℕ) (r : LabelKind) → ((s : Sentence) → slice_get (labelled_sentences st) id ≡ Some s → s.kind ≡ kind_behind r)
     → (r ≡ label_kinds.Axiom → ⊥) → (r ≡ label_kinds.Proof → ⊥) → IsAssertionNumber st id → ⊥
 no_assertion st id r kind a p h =
     only_assertions r (subst IsAssertion (kind h.1 (numbered_at st id h.0 h.1 h.2)) h.3) a p
 
-pub label_known : (st : List Sentence) (place id : ℕ) → (label : List ℕ) × MayBeUsed st place label id → id < length (labelled st)
+pub label_known : (st : List Sentence) (place id : ℕ) → (label : List ℕ) × MayBeUsed st place label id → id < length (labelled_sentences st)
 label_known st place id used = let m = used.1 in numbered_below st id m.at m.s m.numbered
 
 -- ---- the loop

@@ -3,7 +3,7 @@ use Rattle.std.proofs.Common.{◌≡◌, ℕ, zero, suc, ◌<◌, ◌≤◌, Lis
 use Rattle.std.proofs.lemmas.Option.{same_Some, none-some, slice_get_within}
 use Rattle.std.proofs.lemmas.Bool.{cases_order, cases_lt}
 use Rattle.mm_frame.specs.Sentence.{Sentence, IsLabelled}
-use Rattle.mm_frame.specs.Numbers.{labelled, IsNumbered}
+use Rattle.mm_frame.specs.Numbers.{labelled_sentences, IsNumbered}
 use Rattle.mm_frame.specs.Rules.{AllMeant}
 use Rattle.mm_proof.specs.CodeSteps.{IsUnknown}
 use Rattle.mm_proof.proofs.Places.{get_from_take}
@@ -23,7 +23,7 @@ more_reads false x xs ys = refl
 
 -- past a labelled statement there are more labels
 labels_rise : (statements : List Sentence) (p q : ℕ) (s : Sentence) → slice_get statements p ≡ Some s → is_some s.label ≡ true → p < q
-    → length (labelled (take p statements)) < length (labelled (take q statements))
+    → length (labelled_sentences (take p statements)) < length (labelled_sentences (take q statements))
 labels_rise [] p q s there named less = absurd (none-some s there)
 labels_rise (t ∷ statements) zero zero s there named less = absurd (omega arith)
 labels_rise (t ∷ statements) zero (suc q) s there named less =
@@ -34,27 +34,27 @@ labels_rise (t ∷ statements) (suc p) (suc q) s there named less =
     more_rises (is_some t.label) t _ _ (labels_rise statements p q s there named (omega arith))
 
 labelled_there : (statements : List Sentence) (p : ℕ) (s : Sentence) → slice_get statements p ≡ Some s → is_some s.label ≡ true
-    → slice_get (labelled statements) (length (labelled (take p statements))) ≡ Some s
+    → slice_get (labelled_sentences statements) (length (labelled_sentences (take p statements))) ≡ Some s
 labelled_there [] p s there named = absurd (none-some s there)
 labelled_there (t ∷ statements) zero s there named =
     let first : is_some t.label ≡ true = ap (λ (a : Sentence). is_some a.label) (same_Some t s there) ∙ named in
     rw first there
 labelled_there (t ∷ statements) (suc p) s there named =
-    more_reads (is_some t.label) t (labelled (take p statements)) (labelled statements) ∙ labelled_there statements p s there named
+    more_reads (is_some t.label) t (labelled_sentences (take p statements)) (labelled_sentences statements) ∙ labelled_there statements p s there named
 
 -- the statement with a number stands at it among the labelled ones
-pub numbered_at : (statements : List Sentence) (id p : ℕ) (s : Sentence) → IsNumbered statements id p s → slice_get (labelled statements) id ≡ Some s
+pub numbered_at : (statements : List Sentence) (id p : ℕ) (s : Sentence) → IsNumbered statements id p s → slice_get (labelled_sentences statements) id ≡ Some s
 numbered_at statements id p s n =
-    subst (λ k. slice_get (labelled statements) k ≡ Some s) n.number (labelled_there statements p s n.there n.named)
+    subst (λ k. slice_get (labelled_sentences statements) k ≡ Some s) n.number (labelled_there statements p s n.there n.named)
 
 -- so a number is below the count of labels
-pub numbered_below : (statements : List Sentence) (id p : ℕ) (s : Sentence) → IsNumbered statements id p s → id < length (labelled statements)
-numbered_below statements id p s n = slice_get_within (labelled statements) id s (numbered_at statements id p s n)
+pub numbered_below : (statements : List Sentence) (id p : ℕ) (s : Sentence) → IsNumbered statements id p s → id < length (labelled_sentences statements)
+numbered_below statements id p s n = slice_get_within (labelled_sentences statements) id s (numbered_at statements id p s n)
 
 -- a lesser number is that of an earlier statement
 pub numbers_order : (statements : List Sentence) (i j p q : ℕ) (s t : Sentence) → IsNumbered statements i p s → IsNumbered statements j q t → i < j → p < q
 numbers_order statements i j p q s t n m less = elim (cases_order p q) [
-  | inl same ↦ absurd (let e : i ≡ j = sym n.number ∙ ap (λ k. length (labelled (take k statements))) same ∙ m.number in omega arith)
+  | inl same ↦ absurd (let e : i ≡ j = sym n.number ∙ ap (λ k. length (labelled_sentences (take k statements))) same ∙ m.number in omega arith)
   | inr (inl before) ↦ before
   | inr (inr after) ↦ absurd (let r = labels_rise statements q p t m.there m.named after in omega (arith, r, n.number, m.number))
 ]

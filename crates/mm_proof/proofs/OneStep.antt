@@ -9,9 +9,9 @@ use Rattle.mm_frame.specs.Frame.{IsMandatory, IsMandatoryAt, AreMandatory, IsMan
 use Rattle.mm_frame.specs.Rules.{AllMeant}
 use Rattle.mm_proof.specs.declared.fault.ProofRule.{ProofRule}
 use Rattle.mm_proof.specs.declared.fault.ProofRule.TheVariants.{P1, P2, P3, P4, P5, P6, P7, P8, P9, P10, P11, P12, P13, P14, L1}
-use Rattle.mm_proof.specs.Substitution.{IsOn, substituted}
+use Rattle.mm_proof.specs.Substitution.{IsOn, instance_of}
 use Rattle.mm_proof.specs.Tree.{Names, KeepsApart}
-use Rattle.mm_proof.specs.Proof.{Meets, BreaksStep}
+use Rattle.mm_proof.specs.Proof.{MeetsHypotheses, BreaksStep}
 use Rattle.mm_proof.proofs.Places.{get_beside, one_split, same_replacement}
 use Rattle.mm_proof.proofs.Meaning.{one_label, one_labelled, mandatory_typed}
 use Rattle.mm_proof.proofs.Frames.{those_once, those_have}
@@ -29,14 +29,14 @@ pub record Pushes (before : List Sentence) (stack : List (List (List ℕ))) (lab
 
 -- the label is that of an earlier assertion, whose substituted expression replaces the entries of its hypotheses
 pub record Applies (before : List Sentence) (stack : List (List (List ℕ))) (label : List ℕ) (rest : List (List (List ℕ))) (e : List (List ℕ)) : Type 0 where
-  pub meets : Meets before stack label
+  pub meets : MeetsHypotheses before stack label
   pub kept : rest ≡ meets.rest
   pub typed : (i : ℕ) (h : Sentence) (entry : List (List ℕ)) → slice_get meets.hypotheses i ≡ Some h → slice_get meets.entries i ≡ Some entry
       → h.kind ≡ Floating → slice_get entry 0 ≡ slice_get h.symbols 0
   pub equal : (i : ℕ) (h : Sentence) (entry : List (List ℕ)) → slice_get meets.hypotheses i ≡ Some h → slice_get meets.entries i ≡ Some entry
-      → h.kind ≡ Essential → entry ≡ substituted meets.σ h.symbols
+      → h.kind ≡ Essential → entry ≡ instance_of meets.σ h.symbols
   pub apart : KeepsApart before meets.place meets.assertion meets.σ
-  pub made : e ≡ substituted meets.σ meets.assertion.symbols
+  pub made : e ≡ instance_of meets.σ meets.assertion.symbols
 
 -- The step by this label on the stack breaks no rule: it keeps the rest of the stack and puts the expression on it.
 abbrev pub StepTo : List Sentence → List (List (List ℕ)) → List ℕ → List (List (List ℕ)) → List (List ℕ) → Type 0
@@ -112,7 +112,7 @@ one_frame before place place' a a' hypotheses hypotheses' p s m m' =
     those_once (IsMandatoryAt (take place' before) a') 0 (take place' before) hypotheses hypotheses'
     (subst (λ b. AreMandatory (take place' before) b hypotheses) s (subst (λ k. AreMandatory (take k before) a hypotheses) p m)) m'
 
-pub record Agree (before : List Sentence) (stack : List (List (List ℕ))) (label : List ℕ) (m n : Meets before stack label) : Type 0 where
+pub record Agree (before : List Sentence) (stack : List (List (List ℕ))) (label : List ℕ) (m n : MeetsHypotheses before stack label) : Type 0 where
   pub place : m.place ≡ n.place
   pub assertion : m.assertion ≡ n.assertion
   pub hypotheses : m.hypotheses ≡ n.hypotheses
@@ -120,7 +120,7 @@ pub record Agree (before : List Sentence) (stack : List (List (List ℕ))) (labe
   pub entries : m.entries ≡ n.entries
   pub replacement : (x : List ℕ) → m.σ x ≡ n.σ x
 
-pub agree : (before : List Sentence) (stack : List (List (List ℕ))) (label : List ℕ) → AllMeant before → (m n : Meets before stack label) → Agree before stack label m n
+pub agree : (before : List Sentence) (stack : List (List (List ℕ))) (label : List ℕ) → AllMeant before → (m n : MeetsHypotheses before stack label) → Agree before stack label m n
 agree before stack label all m n =
     let place : m.place ≡ n.place = one_label before m.place n.place m.assertion n.assertion label all m.names.there n.names.there m.names.named n.names.named in
     let assertion : m.assertion ≡ n.assertion = one_labelled before m.place n.place m.assertion n.assertion label all m.names.there n.names.there m.names.named n.names.named in
@@ -139,8 +139,8 @@ agree before stack label all m n =
       replacement = one_replacement before label n.place n.assertion n.hypotheses n.entries m.σ n.σ all n.names n.paired on n.on replaced n.replaced;
     }
 
-pub same_substituted : (σ τ : List ℕ → Option (List (List ℕ))) (e : List (List ℕ)) → ((x : List ℕ) → σ x ≡ τ x) → substituted σ e ≡ substituted τ e
-same_substituted σ τ e same = ap (λ ρ. substituted ρ e) (λ i x. same x i)
+pub same_substituted : (σ τ : List ℕ → Option (List (List ℕ))) (e : List (List ℕ)) → ((x : List ℕ) → σ x ≡ τ x) → instance_of σ e ≡ instance_of τ e
+same_substituted σ τ e same = ap (λ ρ. instance_of ρ e) (λ i x. same x i)
 
 -- a step makes one thing only
 pub step_once : (before : List Sentence) (stack : List (List (List ℕ))) (label : List ℕ) (rest rest' : List (List (List ℕ))) (e e' : List (List ℕ)) → AllMeant before
@@ -156,7 +156,7 @@ step_once before stack label rest rest' e e' all (inr p) (inl q) =
 step_once before stack label rest rest' e e' all (inr p) (inr q) =
     let a = agree before stack label all p.meets q.meets in (
       p.kept ∙ a.rest ∙ sym q.kept,
-      p.made ∙ same_substituted p.meets.σ q.meets.σ p.meets.assertion.symbols a.replacement ∙ ap (λ (s : Sentence). substituted q.meets.σ s.symbols) a.assertion ∙ sym q.made,
+      p.made ∙ same_substituted p.meets.σ q.meets.σ p.meets.assertion.symbols a.replacement ∙ ap (λ (s : Sentence). instance_of q.meets.σ s.symbols) a.assertion ∙ sym q.made,
     )
 
 -- ---- a step that breaks no rule breaks no rule
@@ -169,7 +169,7 @@ one_names before label place place' a a' hypotheses hypotheses' all n n' =
     (one_labelled before place place' a a' label all n.there n'.there n.named n'.named) n.mandatory n'.mandatory
 
 -- where the step meets all hypotheses, the stack isn't too short
-pub meets_enough : (Fits : List (List ℕ) → Type 0) (before : List Sentence) (stack : List (List (List ℕ))) (label : List ℕ) → AllMeant before → Meets before stack label → ¬ (BreaksStep Fits P8 before stack label)
+pub meets_enough : (Fits : List (List ℕ) → Type 0) (before : List Sentence) (stack : List (List (List ℕ))) (label : List ℕ) → AllMeant before → MeetsHypotheses before stack label → ¬ (BreaksStep Fits P8 before stack label)
 meets_enough Fits before stack label all m b =
     let same = one_names before label m.place b.0 m.assertion b.1 m.hypotheses b.2 all m.names b.3 in
     let l : length stack ≡ length m.rest + length m.entries = ap length m.split ∙ length-append m.rest m.entries in
@@ -186,13 +186,13 @@ too_short Fits before stack label rest e all (inl p) b =
 too_short Fits before stack label rest e all (inr p) b = meets_enough Fits before stack label all p.meets b
 
 -- a step that meets something else is that step
-same_meets : (before : List Sentence) (stack : List (List (List ℕ))) (label : List ℕ) (rest : List (List (List ℕ))) (e : List (List ℕ)) (m : Meets before stack label) → AllMeant before
+same_meets : (before : List Sentence) (stack : List (List (List ℕ))) (label : List ℕ) (rest : List (List (List ℕ))) (e : List (List ℕ)) (m : MeetsHypotheses before stack label) → AllMeant before
     → StepTo before stack label rest e → (p : Applies before stack label rest e) × Agree before stack label p.meets m
 same_meets before stack label rest e m all (inl p) =
     absurd (hypothesis_or_assertion before p.place m.place p.hypothesis m.assertion label all p.there m.names.there p.named m.names.named p.kind m.names.kind)
 same_meets before stack label rest e m all (inr p) = (p, agree before stack label all p.meets m)
 
-apart_of : (before : List Sentence) (stack : List (List (List ℕ))) (label : List ℕ) (rest : List (List (List ℕ))) (e : List (List ℕ)) (m : Meets before stack label) → AllMeant before
+apart_of : (before : List Sentence) (stack : List (List (List ℕ))) (label : List ℕ) (rest : List (List (List ℕ))) (e : List (List ℕ)) (m : MeetsHypotheses before stack label) → AllMeant before
     → StepTo before stack label rest e → KeepsApart before m.place m.assertion m.σ
 apart_of before stack label rest e m all step x y e' f pair at_x at_y =
     let s = same_meets before stack label rest e m all step in
@@ -225,7 +225,7 @@ step_breaks_none Fits L1 before stack label rest e all within (inr p) (inl b) =
     hypothesis_or_assertion before b.0 p.meets.place b.1 p.meets.assertion label all b.2 p.meets.names.there b.4.0 p.meets.names.named b.4.1 p.meets.names.kind
 step_breaks_none Fits L1 before stack label rest e all within step (inr b) =
     let s = same_meets before stack label rest e b.0 all step in
-    let same : e ≡ substituted b.0.σ b.0.assertion.symbols = s.0.made ∙ same_substituted s.0.meets.σ b.0.σ s.0.meets.assertion.symbols s.1.replacement ∙ ap (λ (a : Sentence). substituted b.0.σ a.symbols) s.1.assertion in
+    let same : e ≡ instance_of b.0.σ b.0.assertion.symbols = s.0.made ∙ same_substituted s.0.meets.σ b.0.σ s.0.meets.assertion.symbols s.1.replacement ∙ ap (λ (a : Sentence). instance_of b.0.σ a.symbols) s.1.assertion in
     b.1 (subst (λ l. Fits l) same (within refl))
 step_breaks_none Fits P1 before stack label rest e all within step b = b
 step_breaks_none Fits P2 before stack label rest e all within step b = b

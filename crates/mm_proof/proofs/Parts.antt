@@ -4,7 +4,7 @@ use Rattle.std.specs.List.{slice_range}
 use Rattle.mm_frame.specs.declared.number.Sym.{Sym}
 use Rattle.mm_proof.specs.declared.flat.Entry.{Entry}
 use Rattle.mm_proof.specs.Stores.{numbers_in}
-use Rattle.mm_proof.specs.Buffer.{parts_of, AreWithin}
+use Rattle.mm_proof.specs.Buffer.{parts_of, AreParts}
 use Rattle.std.proofs.lemmas.List.{drop-append-le, take-append-le, drop_at, length-drop, take_all, drop-take, take-take, length-append, map-append}
 
 -- a range of a list stays as it is where the list grows
@@ -31,7 +31,7 @@ part-new xs ys n is =
     ap (take (n - length xs)) (drop_at xs ys (length xs) refl) ∙ take_all (n - length xs) ys room
 
 -- entries name what they did where the buffer grows
-pub parts-grow : (xs ys : List Sym) (entries : List Entry) → AreWithin (length xs) entries → parts_of (xs ++ ys) entries ≡ parts_of xs entries
+pub parts-grow : (xs ys : List Sym) (entries : List Entry) → AreParts (length xs) entries → parts_of (xs ++ ys) entries ≡ parts_of xs entries
 parts-grow xs ys [] h = refl
 parts-grow xs ys (e ∷ entries) h =
     let first = ap numbers_in (part-append xs ys e.start e.end (h 0 e refl).order (h 0 e refl).within) in
@@ -39,7 +39,7 @@ parts-grow xs ys (e ∷ entries) h =
     cc
 
 -- entries name what they did where the buffer is cut behind them
-pub parts-cut : (n : ℕ) (xs : List Sym) (entries : List Entry) → AreWithin n entries → parts_of (take n xs) entries ≡ parts_of xs entries
+pub parts-cut : (n : ℕ) (xs : List Sym) (entries : List Entry) → AreParts n entries → parts_of (take n xs) entries ≡ parts_of xs entries
 parts-cut n xs [] h = refl
 parts-cut n xs (e ∷ entries) h =
     let first = ap numbers_in (part-take n xs e.start e.end (h 0 e refl).order (h 0 e refl).within) in
@@ -47,13 +47,13 @@ parts-cut n xs (e ∷ entries) h =
     cc
 
 -- what stands before a place stands before a later one
-pub within-later : (m n : ℕ) (entries : List Entry) → m ≤ n → AreWithin m entries → AreWithin n entries
+pub within-later : (m n : ℕ) (entries : List Entry) → m ≤ n → AreParts m entries → AreParts n entries
 within-later m n entries le h i e at =
     let here = h i e at in
     record { order = here.order; within = omega (arith, here.within) }
 
 -- what is pushed on the stack, and what was there, are what the entries name then
-pub parts-push : (xs ys : List Sym) (entries : List Entry) (e : Entry) → AreWithin (length xs) entries → e.start ≡ length xs → e.end ≡ length (xs ++ ys)
+pub parts-push : (xs ys : List Sym) (entries : List Entry) (e : Entry) → AreParts (length xs) entries → e.start ≡ length xs → e.end ≡ length (xs ++ ys)
     → parts_of (xs ++ ys) (entries ++ e ∷ []) ≡ parts_of xs entries ++ numbers_in ys ∷ []
 parts-push xs ys entries e h from to =
     let whole = map-append (λ (a : Entry). numbers_in (slice_range (xs ++ ys) a.start a.end)) entries (e ∷ []) in

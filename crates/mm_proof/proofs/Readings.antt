@@ -6,12 +6,12 @@ use Rattle.mm_code.specs.declared.code.Code.{Code}
 use Rattle.mm_code.specs.declared.code.Code.TheVariants.{Number, Tag}
 use Rattle.mm_frame.specs.Sentence.{Sentence, IsLabelled}
 use Rattle.mm_frame.specs.Rules.{AllMeant}
-use Rattle.mm_frame.specs.Numbers.{labelled}
+use Rattle.mm_frame.specs.Numbers.{labelled_sentences}
 use Rattle.mm_proof.specs.declared.fault.ProofRule.{ProofRule}
 use Rattle.mm_proof.specs.declared.fault.ProofRule.TheVariants.{P1, P2, P3, P4, P5}
 use Rattle.mm_proof.specs.Moves.{Move, name, again, mark}
 use Rattle.mm_proof.specs.Tokens.{IsNormal, Says}
-use Rattle.mm_proof.specs.Proof.{rank, BreaksWhole, IsWhole}
+use Rattle.mm_proof.specs.Proof.{proof_rank, BreaksWhole, IsWhole}
 use Rattle.mm_proof.specs.Steps.{IsNumberedMove, AreNumberedMoves, IsUsable, IsUsableMove}
 use Rattle.mm_proof.specs.CodeSteps.{AreFor, MayBeUsed, NumberSays, IsReading}
 use Rattle.mm_proof.proofs.Places.{get_take}
@@ -23,7 +23,7 @@ use Rattle.mm_proof.proofs.TokenFacts.{labels_pass, normal_labels}
 -- the number is that of the label, which may be used after the statements before the place
 pub record Stands (statements : List Sentence) (place id : ℕ) (label : List ℕ) : Type 0 where
   pub s : Sentence
-  pub there : slice_get (labelled statements) id ≡ Some s
+  pub there : slice_get (labelled_sentences statements) id ≡ Some s
   pub named : IsLabelled label s
   pub usable : IsUsable (take place statements) label
 
@@ -117,7 +117,7 @@ names_named statements place (id ∷ ids) (l ∷ labels) all =
 
 -- ---- a proof that breaks no rule over the whole of it
 
-pub whole_of : (before : List Sentence) (tokens : List (List ℕ)) → ((rule : ProofRule) → rank rule < rank P4 → ¬ (BreaksWhole rule before tokens))
+pub whole_of : (before : List Sentence) (tokens : List (List ℕ)) → ((rule : ProofRule) → proof_rank rule < proof_rank P4 → ¬ (BreaksWhole rule before tokens))
     → ¬ (BreaksWhole P4 before tokens) → ¬ (BreaksWhole P5 before tokens) → IsWhole before tokens
 whole_of before tokens low p4 p5 P1 = low P1 (omega arith)
 whole_of before tokens low p4 p5 P2 = low P2 (omega arith)

@@ -4,7 +4,7 @@ use Rattle.std.proofs.Common.{◌≡◌, ℕ, zero, suc, List, [], ◌∷◌, �
 use Rattle.std.specs.List.{flat_map}
 use Rattle.std.proofs.lemmas.Option.{same_Some, none-some, slice_get_within, get_or_from_slice_get, slice_get-get_or}
 use Rattle.std.proofs.lemmas.List.{map-append, length-map}
-use Rattle.mm_proof.specs.Substitution.{substituted}
+use Rattle.mm_proof.specs.Substitution.{instance_of}
 
 -- these are the numbers of these symbols
 abbrev pub Named : (ℕ → Option (List ℕ)) → List ℕ → List (List ℕ) → Type 0
@@ -136,11 +136,11 @@ one_replaced naming (Some numbers) None n x is same = absurd same
 
 -- the numbers of a substituted expression are the substituted numbers
 pub named_replaced : (naming τ : ℕ → Option (List ℕ)) (σ : List ℕ → Option (List (List ℕ))) (numbers : List ℕ) (symbols : List (List ℕ)) → ReplaceSame naming τ σ → Named naming numbers symbols
-    → Named naming (replaced_in τ numbers) (substituted σ symbols)
+    → Named naming (replaced_in τ numbers) (instance_of σ symbols)
 named_replaced naming τ σ [] [] same e = refl
 named_replaced naming τ σ [] (x ∷ symbols) same e = absurd (let p : [] ≡ Some x ∷ map Some symbols = e in cc)
 named_replaced naming τ σ (n ∷ numbers) [] same e = absurd (let p : naming n ∷ map naming numbers ≡ [] = e in cc)
 named_replaced naming τ σ (n ∷ numbers) (x ∷ symbols) same e =
     let h = named_parts naming n numbers x symbols e in
-    named_append naming (unwrap_or (τ n) (n ∷ [])) (replaced_in τ numbers) (unwrap_or (σ x) (x ∷ [])) (substituted σ symbols)
+    named_append naming (unwrap_or (τ n) (n ∷ [])) (replaced_in τ numbers) (unwrap_or (σ x) (x ∷ [])) (instance_of σ symbols)
     (one_replaced naming (τ n) (σ x) n x h.0 (same n x h.0)) (named_replaced naming τ σ numbers symbols same h.1)

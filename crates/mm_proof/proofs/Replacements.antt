@@ -7,7 +7,7 @@ use Rattle.mm_frame.specs.Sentence.{Sentence, Types}
 use Rattle.mm_frame.specs.Frame.{IsMandatory, IsMandatoryAt, AreThose, AreMandatory}
 use Rattle.mm_frame.specs.Rules.{AllMeant}
 use Rattle.mm_proof.specs.Tree.{Names}
-use Rattle.mm_proof.specs.Proof.{Meets}
+use Rattle.mm_proof.specs.Proof.{MeetsHypotheses}
 use Rattle.mm_proof.proofs.Places.{get_take, get_beside}
 use Rattle.mm_proof.proofs.Meaning.{meant_at, meant_front, mandatory_typed}
 use Rattle.mm_proof.proofs.Frames.{those_hold}
@@ -138,7 +138,7 @@ names_once before label place assertion hypotheses all names = typed_once (take 
 -- Where there are as many entries as mandatory hypotheses, the step meets them.
 abbrev pub meets_of : (before : List Sentence) (stack : List (List (List ℕ))) (label : List ℕ) (place : ℕ) (assertion : Sentence) (hypotheses : List Sentence)
     (rest entries : List (List (List ℕ))) → AllMeant before → Names before label place assertion hypotheses → stack ≡ rest ++ entries
-    → length entries ≡ length hypotheses → Meets before stack label
+    → length entries ≡ length hypotheses → MeetsHypotheses before stack label
 meets_of before stack label place assertion hypotheses rest entries all names split paired =
     record {
       place = place;

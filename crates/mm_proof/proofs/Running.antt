@@ -15,7 +15,7 @@ use Rattle.mm_proof.specs.Moves.{Move, name, again, mark, is_step, steps_in}
 use Rattle.mm_proof.specs.Proof.{IsWithin, expression_limit, Passed, FirstAtMove, IsMoveFault}
 use Rattle.mm_proof.specs.Steps.{IsNumberedMove, AreNumberedMoves}
 use Rattle.mm_proof.specs.CodeSteps.{move_in, moves_in}
-use Rattle.mm_proof.specs.CodeVerify.{AreSymbols, AreEntries, named, all_named}
+use Rattle.mm_proof.specs.CodeVerify.{AreDeclaredSymbols, AreStackEntries, names_at, all_names_at}
 use Rattle.mm_proof.specs.CodeRun.{CarriesOn, StopsAt, HasRun}
 use Rattle.mm_proof.proofs.Places.{split_at}
 use Rattle.mm_proof.proofs.Derived.{zip_front, zip_left, all_push, all_at}
@@ -77,36 +77,36 @@ run_none st place stack kept empty none_kept = rw (empty, none_kept) (record {
 -- a move that carries on what passed
 run_more : (st : List Sentence) (place : ℕ) (front : List (Move ℕ)) (x : Move ℕ) (stack kept stack' kept' : List (List ℕ)) (steps steps' : ℕ) → HasRun st place front stack kept steps
     → ((move : Move (List ℕ)) (moves : List (Move (List ℕ))) → IsNumberedMove st x move
-    → Passed (IsWithin expression_limit) (take place st) moves (all_named st stack) (all_named st kept)
-    → Passed (IsWithin expression_limit) (take place st) (moves ++ move ∷ []) (all_named st stack') (all_named st kept'))
-    → AreEntries st (take place st) stack' → AreEntries st (take place st) kept' → steps' ≡ steps + steps_in (x ∷ [])
+    → Passed (IsWithin expression_limit) (take place st) moves (all_names_at st stack) (all_names_at st kept)
+    → Passed (IsWithin expression_limit) (take place st) (moves ++ move ∷ []) (all_names_at st stack') (all_names_at st kept'))
+    → AreStackEntries st (take place st) stack' → AreStackEntries st (take place st) kept' → steps' ≡ steps + steps_in (x ∷ [])
     → HasRun st place (front ++ x ∷ []) stack' kept' steps'
 run_more st place front x stack kept stack' kept' steps steps' run carried entries kept_entries count = record {
   count = count ∙ ap (λ n. n + steps_in (x ∷ [])) run.count ∙ sym (steps_in-append front (x ∷ []));
   passed = λ moves numbered.
       let h = zip_front (IsNumberedMove st) front x moves numbered in
-      subst (λ l. Passed (IsWithin expression_limit) (take place st) l (all_named st stack') (all_named st kept')) (sym h.2) (carried h.1 h.0 h.4 (run.passed h.0 h.3));
+      subst (λ l. Passed (IsWithin expression_limit) (take place st) l (all_names_at st stack') (all_names_at st kept')) (sym h.2) (carried h.1 h.0 h.4 (run.passed h.0 h.3));
   entries = entries;
   kept_entries = kept_entries;
 }
 
 -- a step by a label
 pub run_name : (st : List Sentence) (place : ℕ) (front : List (Move ℕ)) (id : ℕ) (stack kept stack' : List (List ℕ)) (steps : ℕ) → HasRun st place front stack kept steps
-    → CarriesOn st place id stack stack' → AreEntries st (take place st) stack' → HasRun st place (front ++ name id ∷ []) stack' kept (steps + 1)
+    → CarriesOn st place id stack stack' → AreStackEntries st (take place st) stack' → HasRun st place (front ++ name id ∷ []) stack' kept (steps + 1)
 run_name st place front id stack kept stack' steps run carries entries =
     run_more st place front (name id) stack kept stack' kept steps (steps + 1) run
     (λ move moves n passed.
-    subst (λ m. Passed (IsWithin expression_limit) (take place st) (moves ++ m ∷ []) (all_named st stack') (all_named st kept)) (sym n.4)
-    (carries n.1 moves (all_named st kept) (n.0, n.1, n.2, n.3, refl) passed))
+    subst (λ m. Passed (IsWithin expression_limit) (take place st) (moves ++ m ∷ []) (all_names_at st stack') (all_names_at st kept)) (sym n.4)
+    (carries n.1 moves (all_names_at st kept) (n.0, n.1, n.2, n.3, refl) passed))
     entries run.kept_entries refl
 
-named_there : (st : List Sentence) (entries : List (List ℕ)) (i : ℕ) (e : List ℕ) → slice_get entries i ≡ Some e → slice_get (all_named st entries) i ≡ Some (named st e)
+named_there : (st : List Sentence) (entries : List (List ℕ)) (i : ℕ) (e : List ℕ) → slice_get entries i ≡ Some e → slice_get (all_names_at st entries) i ≡ Some (names_at st e)
 named_there st [] i e there = absurd cc
-named_there st (x ∷ entries) zero e there = let same : x ≡ e = cc in ap (λ (l : List ℕ). Some (named st l)) same
+named_there st (x ∷ entries) zero e there = let same : x ≡ e = cc in ap (λ (l : List ℕ). Some (names_at st l)) same
 named_there st (x ∷ entries) (suc i) e there = named_there st entries i e there
 
-named_push : (st : List Sentence) (entries : List (List ℕ)) (e : List ℕ) → all_named st (entries ++ e ∷ []) ≡ all_named st entries ++ named st e ∷ []
-named_push st entries e = map-append (named st) entries (e ∷ [])
+named_push : (st : List Sentence) (entries : List (List ℕ)) (e : List ℕ) → all_names_at st (entries ++ e ∷ []) ≡ all_names_at st entries ++ names_at st e ∷ []
+named_push st entries e = map-append (names_at st) entries (e ∷ [])
 
 -- a step by a tag
 pub run_again : (st : List Sentence) (place : ℕ) (front : List (Move ℕ)) (tag : ℕ) (stack kept stack' : List (List ℕ)) (steps : ℕ) (e : List ℕ) → HasRun st place front stack kept steps
@@ -114,8 +114,8 @@ pub run_again : (st : List Sentence) (place : ℕ) (front : List (Move ℕ)) (ta
 run_again st place front tag stack kept stack' steps e run there is =
     run_more st place front (again tag) stack kept stack' kept steps (steps + 1) run
     (λ move moves n passed. rw (n, is, named_push st stack e)
-    (passed_again (IsWithin expression_limit) (take place st) moves (all_named st stack) (all_named st kept) tag (named st e) passed (named_there st kept tag e there)))
-    (rw is (all_push (AreSymbols st (take place st)) stack e run.entries (all_at (AreSymbols st (take place st)) kept tag e run.kept_entries there)))
+    (passed_again (IsWithin expression_limit) (take place st) moves (all_names_at st stack) (all_names_at st kept) tag (names_at st e) passed (named_there st kept tag e there)))
+    (rw is (all_push (AreDeclaredSymbols st (take place st)) stack e run.entries (all_at (AreDeclaredSymbols st (take place st)) kept tag e run.kept_entries there)))
     run.kept_entries refl
 
 last_is : {X : Type 0} (P : X → Type 0) (rest : List X) (e : X) → AllByRecursion P (rest ++ e ∷ []) → P e
@@ -128,18 +128,18 @@ pub run_mark : (st : List Sentence) (place : ℕ) (front : List (Move ℕ)) (sta
 run_mark st place front stack kept stack' kept' steps rest e run split same is =
     run_more st place front mark stack kept stack' kept' steps steps run
     (λ move moves n passed. rw (n, same, is, split, named_push st rest e, named_push st kept e)
-    (passed_mark (IsWithin expression_limit) (take place st) moves (all_named st rest) (all_named st kept) (named st e)
-    (subst (λ l. Passed (IsWithin expression_limit) (take place st) moves l (all_named st kept)) (ap (all_named st) split ∙ named_push st rest e) passed)))
+    (passed_mark (IsWithin expression_limit) (take place st) moves (all_names_at st rest) (all_names_at st kept) (names_at st e)
+    (subst (λ l. Passed (IsWithin expression_limit) (take place st) moves l (all_names_at st kept)) (ap (all_names_at st) split ∙ named_push st rest e) passed)))
     (rw same run.entries)
-    (rw is (all_push (AreSymbols st (take place st)) kept e run.kept_entries
-    (last_is (AreSymbols st (take place st)) rest e (subst (AreEntries st (take place st)) split run.entries))))
+    (rw is (all_push (AreDeclaredSymbols st (take place st)) kept e run.kept_entries
+    (last_is (AreDeclaredSymbols st (take place st)) rest e (subst (AreStackEntries st (take place st)) split run.entries))))
     (omega arith)
 
 -- ---- a move that breaks a rule
 
 pub run_fault : (st : List Sentence) (place : ℕ) (xs : List (Move ℕ)) (i : ℕ) (x : Move ℕ) (stack kept : List (List ℕ)) (steps : ℕ) (rule : ProofRule) (at : ℕ)
     → slice_get xs i ≡ Some x → HasRun st place (take i xs) stack kept steps
-    → ((move : Move (List ℕ)) → IsNumberedMove st x move → FirstAtMove (IsWithin expression_limit) rule (take place st) (all_named st stack) (all_named st kept) move)
+    → ((move : Move (List ℕ)) → IsNumberedMove st x move → FirstAtMove (IsWithin expression_limit) rule (take place st) (all_names_at st stack) (all_names_at st kept) move)
     → at ≡ steps + 1 → (names : List (Move (List ℕ))) → AreNumberedMoves st xs names → IsMoveFault (IsWithin expression_limit) (take place st) names rule at
 run_fault st place xs i x stack kept steps rule at there run first number names numbered =
     let here = zip_left (IsNumberedMove st) xs names i x numbered there in
@@ -150,29 +150,29 @@ run_fault st place xs i x stack kept steps rule at there run first number names 
       later = drop (suc i) names;
       parts = split_at names i here.0 here.1;
       number = number ∙ ap (λ n. n + 1) (run.count ∙ same_steps st (take i xs) (take i names) front);
-      stack = all_named st stack;
-      kept = all_named st kept;
+      stack = all_names_at st stack;
+      kept = all_names_at st kept;
       passed = run.passed (take i names) front;
       fault = first here.0 here.2;
     }
 
 -- a step by a label
 pub stops_first : (st : List Sentence) (place id : ℕ) (stack kept : List (List ℕ)) (rule : ProofRule) → StopsAt st place id stack rule
-    → (move : Move (List ℕ)) → IsNumberedMove st (name id) move → FirstAtMove (IsWithin expression_limit) rule (take place st) (all_named st stack) (all_named st kept) move
+    → (move : Move (List ℕ)) → IsNumberedMove st (name id) move → FirstAtMove (IsWithin expression_limit) rule (take place st) (all_names_at st stack) (all_names_at st kept) move
 stops_first st place id stack kept rule stops move n =
-    subst (λ m. FirstAtMove (IsWithin expression_limit) rule (take place st) (all_named st stack) (all_named st kept) m) (sym n.4)
-    (stops n.1 (all_named st kept) (n.0, n.1, n.2, n.3, refl))
+    subst (λ m. FirstAtMove (IsWithin expression_limit) rule (take place st) (all_names_at st stack) (all_names_at st kept) m) (sym n.4)
+    (stops n.1 (all_names_at st kept) (n.0, n.1, n.2, n.3, refl))
 
 -- a tag of nothing kept
 pub again_first : (st : List Sentence) (place tag : ℕ) (stack kept : List (List ℕ)) (rule : ProofRule) → rule ≡ P6 → length kept ≤ tag
-    → (move : Move (List ℕ)) → IsNumberedMove st (again tag) move → FirstAtMove (IsWithin expression_limit) rule (take place st) (all_named st stack) (all_named st kept) move
+    → (move : Move (List ℕ)) → IsNumberedMove st (again tag) move → FirstAtMove (IsWithin expression_limit) rule (take place st) (all_names_at st stack) (all_names_at st kept) move
 again_first st place tag stack kept rule is over move n =
-    rw (is, n) (first_P6 (IsWithin expression_limit) (take place st) (all_named st stack) (all_named st kept) tag (omega (arith, length-map kept (named st))))
+    rw (is, n) (first_P6 (IsWithin expression_limit) (take place st) (all_names_at st stack) (all_names_at st kept) tag (omega (arith, length-map kept (names_at st))))
 
 -- a mark on nothing
 pub mark_first : (st : List Sentence) (place : ℕ) (stack kept : List (List ℕ)) (rule : ProofRule) → rule ≡ P7 → stack ≡ []
-    → (move : Move (List ℕ)) → IsNumberedMove st mark move → FirstAtMove (IsWithin expression_limit) rule (take place st) (all_named st stack) (all_named st kept) move
-mark_first st place stack kept rule is empty move n = rw (is, n, empty) (first_P7 (IsWithin expression_limit) (take place st) (all_named st kept))
+    → (move : Move (List ℕ)) → IsNumberedMove st mark move → FirstAtMove (IsWithin expression_limit) rule (take place st) (all_names_at st stack) (all_names_at st kept) move
+mark_first st place stack kept rule is empty move n = rw (is, n, empty) (first_P7 (IsWithin expression_limit) (take place st) (all_names_at st kept))
 
 -- a fault that is handed on is the one of the call
 pub refused : {X : Type 0} (r : Result X ProofFault) (e f : ProofFault) → IsErrAnd r (λ x. x ≡ e) → r ≡ Err f → e ≡ f
@@ -191,7 +191,7 @@ Turn st place moves i stack kept steps count =
 
 pub more_name : (st : List Sentence) (place : ℕ) (moves : List NumberedMove) (i : ℕ) (d : NumberedMove) (id : LabelId) (stack kept stack' kept' : List (List ℕ)) (steps count : ℕ)
     → i < length moves → get_or moves i d ≡ code.Name id → Turn st place moves i stack kept steps count
-    → CarriesOn st place id.0 stack stack' → AreEntries st (take place st) stack' → kept' ≡ kept → Turn st place moves (i + 1) stack' kept' (steps + 1) count
+    → CarriesOn st place id.0 stack stack' → AreStackEntries st (take place st) stack' → kept' ≡ kept → Turn st place moves (i + 1) stack' kept' (steps + 1) count
 more_name st place moves i d id stack kept stack' kept' steps count less is turn carries entries same =
     rw (same, front_more moves i d less, is) (
       run_name st place (take i (moves_in moves)) id.0 stack kept stack' steps turn.0 carries entries,

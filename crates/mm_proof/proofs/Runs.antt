@@ -8,7 +8,7 @@ use Rattle.mm_frame.specs.Sentence.{Sentence, IsHypothesis, IsLabelled, Types}
 use Rattle.mm_frame.specs.Active.{SomeActive}
 use Rattle.mm_frame.specs.Frame.{IsMandatory, IsMandatoryAt}
 use Rattle.mm_frame.specs.Rules.{AllMeant}
-use Rattle.mm_proof.specs.Substitution.{IsOn, substituted}
+use Rattle.mm_proof.specs.Substitution.{IsOn, instance_of}
 use Rattle.mm_proof.specs.Tree.{Trees, none, tree, spelling, Names, KeepsApart, DeriveAll}
 use Rattle.mm_proof.proofs.Meaning.{meant_front, code_is_constant}
 use Rattle.mm_proof.proofs.Frames.{those_hold}
@@ -45,7 +45,7 @@ runs_once Fits Gits before (label ∷ labels) a b c all r q =
 -- ---- a tree's own step
 
 -- what a substitution makes of the `$f` of a mandatory variable
-pub typing_entry : (σ : List ℕ → Option (List (List ℕ))) (code x : List ℕ) (e : List (List ℕ)) → σ code ≡ None → σ x ≡ Some e → substituted σ (code ∷ x ∷ []) ≡ code ∷ e
+pub typing_entry : (σ : List ℕ → Option (List (List ℕ))) (code x : List ℕ) (e : List (List ℕ)) → σ code ≡ None → σ x ≡ Some e → instance_of σ (code ∷ x ∷ []) ≡ code ∷ e
 typing_entry σ code x e p q = rw (p, q) (ap (λ l. code ∷ l) (append-nil e))
 
 pub absent : (o : Option (List (List ℕ))) → ¬ (IsSome o) → o ≡ None
@@ -80,7 +80,7 @@ typing_of before label place assertion hypotheses i f names there floating =
 entry_of : (before : List Sentence) (label : List ℕ) (place : ℕ) (assertion : Sentence) (hypotheses : List Sentence) (σ : List ℕ → Option (List (List ℕ)))
     (i : ℕ) (f : Sentence) (entry : List (List ℕ)) (code x : List ℕ) → AllMeant before → Names before label place assertion hypotheses
     → IsOn (IsMandatory (take place before) assertion) σ → slice_get hypotheses i ≡ Some f
-    → slice_get (map (λ (h : Sentence). substituted σ h.symbols) hypotheses) i ≡ Some entry → Types code x f → IsTypingEntry σ code x entry
+    → slice_get (map (λ (h : Sentence). instance_of σ h.symbols) hypotheses) i ≡ Some entry → Types code x f → IsTypingEntry σ code x entry
 entry_of before label place assertion hypotheses σ i f entry code x all names on there at types =
     let t = typing_of before label place assertion hypotheses i f names there types.0 in
     let same = same_typing f t.0 t.1 code x t.2 types in
@@ -88,16 +88,16 @@ entry_of before label place assertion hypotheses σ i f entry code x all names o
     let constant : σ code ≡ None = absent (σ code) (λ some.
     code_is_constant (take place before) t.4 f code x (meant_front before place all) t.5 types ((on code).0 some).0) in
     let r = present (σ x) ((on x).1 mandatory) in
-    let made : entry ≡ substituted σ f.symbols =
-    same_Some entry (substituted σ f.symbols) (sym at ∙ slice_get-map (λ (h : Sentence). substituted σ h.symbols) hypotheses i ∙ rw there refl) in
-    record { replacement = r.0; replaced = r.1; is = made ∙ ap (substituted σ) types.1 ∙ typing_entry σ code x r.0 constant r.1 }
+    let made : entry ≡ instance_of σ f.symbols =
+    same_Some entry (instance_of σ f.symbols) (sym at ∙ slice_get-map (λ (h : Sentence). instance_of σ h.symbols) hypotheses i ∙ rw there refl) in
+    record { replacement = r.0; replaced = r.1; is = made ∙ ap (instance_of σ) types.1 ∙ typing_entry σ code x r.0 constant r.1 }
 
 pub tree_step : (before : List Sentence) (label : List ℕ) (place : ℕ) (assertion : Sentence) (hypotheses : List Sentence) (σ : List ℕ → Option (List (List ℕ)))
     (stack : List (List (List ℕ))) (e : List (List ℕ)) → AllMeant before → Names before label place assertion hypotheses
-    → IsOn (IsMandatory (take place before) assertion) σ → KeepsApart before place assertion σ → e ≡ substituted σ assertion.symbols
-    → StepTo before (stack ++ map (λ (h : Sentence). substituted σ h.symbols) hypotheses) label stack e
+    → IsOn (IsMandatory (take place before) assertion) σ → KeepsApart before place assertion σ → e ≡ instance_of σ assertion.symbols
+    → StepTo before (stack ++ map (λ (h : Sentence). instance_of σ h.symbols) hypotheses) label stack e
 tree_step before label place assertion hypotheses σ stack e all names on apart made =
-    let entries : List (List (List ℕ)) = map (λ (h : Sentence). substituted σ h.symbols) hypotheses in
+    let entries : List (List (List ℕ)) = map (λ (h : Sentence). instance_of σ h.symbols) hypotheses in
     let typed : (i : ℕ) (f : Sentence) (entry : List (List ℕ)) (code x : List ℕ) → slice_get hypotheses i ≡ Some f → slice_get entries i ≡ Some entry
     → Types code x f → IsTypingEntry σ code x entry =
     λ i f entry code x there at types. entry_of before label place assertion hypotheses σ i f entry code x all names on there at types in
@@ -110,7 +110,7 @@ tree_step before label place assertion hypotheses σ stack e all names on apart 
         rest = stack;
         entries = entries;
         split = refl;
-        paired = length-map hypotheses (λ (h : Sentence). substituted σ h.symbols);
+        paired = length-map hypotheses (λ (h : Sentence). instance_of σ h.symbols);
         σ = σ;
         on = on;
         replaced = λ i f entry code x there at types. let t = typed i f entry code x there at types in t.replaced ∙ ap (λ l. Some (drop 1 l)) (sym t.is);
@@ -121,7 +121,7 @@ tree_step before label place assertion hypotheses σ stack e all names on apart 
           let t = typed i f entry k.0 k.1 there at k.2 in
           ap (λ l. slice_get l 0) t.is ∙ sym (ap (λ l. slice_get l 0) k.2.1);
       equal = λ i f entry there at essential.
-          same_Some entry (substituted σ f.symbols) (sym at ∙ slice_get-map (λ (h : Sentence). substituted σ h.symbols) hypotheses i ∙ rw there refl);
+          same_Some entry (instance_of σ f.symbols) (sym at ∙ slice_get-map (λ (h : Sentence). instance_of σ h.symbols) hypotheses i ∙ rw there refl);
       apart = apart;
       made = made;
     })
@@ -143,7 +143,7 @@ derive_runs Fits before (tree label below right) es stack all d =
     let one : Runs Fits before (spelling below ++ label ∷ []) stack (stack ++ d.0 ∷ []) = ⊎_elim
     (λ leaf. leaf_runs Fits before label below d.0 stack d.3 leaf.0 leaf.1)
     (λ n.
-    let entries : List (List (List ℕ)) = map (λ (h : Sentence). substituted n.3 h.symbols) n.2 in
+    let entries : List (List (List ℕ)) = map (λ (h : Sentence). instance_of n.3 h.symbols) n.2 in
     let children : Runs Fits before (spelling below) stack (stack ++ entries) = derive_runs Fits before below entries stack all n.6 in
     runs_join Fits before (spelling below) (label ∷ []) stack (stack ++ entries) (stack ++ d.0 ∷ []) children
     (stack, d.0, tree_step before label n.0 n.1 n.2 n.3 stack d.0 all n.4 n.5 n.7 n.8, d.3, refl)) d.4 in

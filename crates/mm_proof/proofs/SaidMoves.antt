@@ -14,7 +14,7 @@ use Rattle.mm_code.proofs.Unique.{one_reading_only}
 use Rattle.mm_frame.specs.Sentence.{Sentence, SomeSentence, IsHypothesis, IsAssertion, IsLabelled}
 use Rattle.mm_frame.specs.Active.{IsActive}
 use Rattle.mm_frame.specs.Frame.{IsMandatoryAt, AreMandatory}
-use Rattle.mm_frame.specs.Form.{IsNamed, AllFormed}
+use Rattle.mm_frame.specs.Form.{HasItsLabel, AllFormed}
 use Rattle.mm_proof.specs.declared.fault.ProofRule.{ProofRule}
 use Rattle.mm_proof.specs.declared.fault.ProofRule.TheVariants.{P1, P2, P3, P4, P5}
 use Rattle.mm_proof.specs.Moves.{Move, name, again, mark}
@@ -219,9 +219,9 @@ labels_of before s (h ∷ hypotheses) formed are =
     let others = labels_of before s hypotheses formed (λ i g e. are (suc i) g e) in
     (l.0 ∷ others.0, ap (λ o. o ∷ map (λ (g : Sentence). g.label) hypotheses) l.1 ∙ ap (λ r. Some l.0 ∷ r) others.1)
   where
-    label_of : (k : Kind) (o : Option (List ℕ)) → IsHypothesis k → IsNamed k o → (l : List ℕ) × (o ≡ Some l)
-    label_of k o (inl e) n = let m : IsNamed Floating o = subst (λ j. IsNamed j o) e n in (m.0, m.1)
-    label_of k o (inr e) n = let m : IsNamed Essential o = subst (λ j. IsNamed j o) e n in (m.0, m.1)
+    label_of : (k : Kind) (o : Option (List ℕ)) → IsHypothesis k → HasItsLabel k o → (l : List ℕ) × (o ≡ Some l)
+    label_of k o (inl e) n = let m : HasItsLabel Floating o = subst (λ j. HasItsLabel j o) e n in (m.0, m.1)
+    label_of k o (inr e) n = let m : HasItsLabel Essential o = subst (λ j. HasItsLabel j o) e n in (m.0, m.1)
 
 -- a mandatory hypothesis is an active one
 pub mandatory_active : (before : List Sentence) (s : Sentence) (hypotheses : List Sentence) (i : ℕ) (h : Sentence) → AreMandatory before s hypotheses → slice_get hypotheses i ≡ Some h
@@ -294,7 +294,7 @@ some_moves before s tokens formed whole = go (form_of before tokens)
 -- ---- and their labels may be used
 
 -- what has a label is a hypothesis or an assertion
-labelled_kind : (k : Kind) (o : Option (List ℕ)) (label : List ℕ) → IsNamed k o → o ≡ Some label → IsHypothesis k ⊎ IsAssertion k
+labelled_kind : (k : Kind) (o : Option (List ℕ)) (label : List ℕ) → HasItsLabel k o → o ≡ Some label → IsHypothesis k ⊎ IsAssertion k
 labelled_kind Floating o label n e = inl (inl refl)
 labelled_kind Essential o label n e = inl (inr refl)
 labelled_kind Axiom o label n e = inr (inl refl)

@@ -11,7 +11,7 @@ use Rattle.mm_frame.specs.Numbers.{symbols_of}
 use Rattle.mm_frame.specs.Laws.{OneNumber}
 use Rattle.mm_proof.specs.Tree.{ShareNoVariable, AreDistinct}
 use Rattle.mm_proof.specs.Stores.{numbers_in}
-use Rattle.mm_proof.specs.CodeVerify.{name_at, named, IsSymbol, AreSymbols, AreBelow, IsApartFromEach, AreEntries, is_of, value_of, EachValues, SomeValues, pairs_in}
+use Rattle.mm_proof.specs.CodeVerify.{name_at, names_at, IsSymbol, AreDeclaredSymbols, AreBelow, IsApartFromEach, AreStackEntries, is_of, value_of, EachValues, SomeValues, pairs_in}
 use Rattle.std.proofs.lemmas.Option.{same_Some}
 use Rattle.mm_frame.specs.Frame.{IsDistinct}
 use Rattle.mm_proof.proofs.Meaning.{not_both, some_in_front}
@@ -24,11 +24,11 @@ number_at (s ∷ symbols) zero d less = refl
 number_at (s ∷ symbols) (suc k) d less = number_at symbols k d (omega arith)
 
 -- numbers of symbols are below the count
-pub symbols_below : (st before : List Sentence) (ns : List ℕ) → AreSymbols st before ns → AreBelow st ns
+pub symbols_below : (st before : List Sentence) (ns : List ℕ) → AreDeclaredSymbols st before ns → AreBelow st ns
 symbols_below st before [] all = tt
 symbols_below st before (n ∷ ns) all = (all.0.below, symbols_below st before ns all.1)
 
-pub symbol_at : (st before : List Sentence) (ns : List ℕ) (k : ℕ) → AreSymbols st before ns → k < length ns → IsSymbol st before (get_or ns k 0)
+pub symbol_at : (st before : List Sentence) (ns : List ℕ) (k : ℕ) → AreDeclaredSymbols st before ns → k < length ns → IsSymbol st before (get_or ns k 0)
 symbol_at st before [] k all less = absurd (omega arith)
 symbol_at st before (n ∷ ns) zero all less = all.0
 symbol_at st before (n ∷ ns) (suc k) all less = symbol_at st before ns k all.1 (omega arith)
@@ -39,18 +39,18 @@ variable_before st place n all s variable none =
     s.declared (λ d. ⊎_elim (λ c. not_both st (name_at st n) all (some_in_front st place (Declares Constants (name_at st n)) c) variable) none d)
 
 -- a name stands among the names as the number does among the numbers
-pub named_has : (st : List Sentence) (ns : List ℕ) (n : ℕ) → Contains ns n → Contains (named st ns) (name_at st n)
+pub named_has : (st : List Sentence) (ns : List ℕ) (n : ℕ) → Contains ns n → Contains (names_at st ns) (name_at st n)
 named_has st [] n has = absurd (let l : has.0 < 0 = has.1 in omega arith)
 named_has st (m ∷ ns) n (zero, less, is) = (0, omega arith, ap (name_at st) is)
 named_has st (m ∷ ns) n (suc k, less, is) =
     let rest = named_has st ns n (k, (let l : suc k < suc (length ns) = less in omega arith), is) in
-    (suc rest.0, (let l : rest.0 < length (named st ns) = rest.1 in omega arith), rest.2)
+    (suc rest.0, (let l : rest.0 < length (names_at st ns) = rest.1 in omega arith), rest.2)
 
-pub has_named : (st : List Sentence) (ns : List ℕ) (u : List ℕ) → Contains (named st ns) u → (k : ℕ) × (k < length ns) × (name_at st (get_or ns k 0) ≡ u)
+pub has_named : (st : List Sentence) (ns : List ℕ) (u : List ℕ) → Contains (names_at st ns) u → (k : ℕ) × (k < length ns) × (name_at st (get_or ns k 0) ≡ u)
 has_named st [] u has = absurd (let l : has.0 < 0 = has.1 in omega arith)
 has_named st (n ∷ ns) u (zero, less, is) = (0, omega arith, is)
 has_named st (n ∷ ns) u (suc k, less, is) =
-    let rest = has_named st ns u (k, (let l : suc k < suc (length (named st ns)) = less in omega arith), is) in
+    let rest = has_named st ns u (k, (let l : suc k < suc (length (names_at st ns)) = less in omega arith), is) in
     (suc rest.0, (let l : rest.0 < length ns = rest.1 in omega arith), rest.2)
 
 -- the number at a place is one of the numbers
@@ -58,15 +58,15 @@ pub number_among : (ns : List ℕ) (k : ℕ) → k < length ns → Contains ns (
 number_among ns k less = (k, less, get_or_default ns k (get_or ns k 0) 0 less)
 
 -- a shared variable
-pub shared_told : (st : List Sentence) (place : ℕ) (e f : List ℕ) (k : ℕ) → AllMeant st → AreSymbols st (take place st) e → k < length e
-    → IsVariable st (name_at st (get_or e k 0)) → Contains f (get_or e k 0) → ¬ (ShareNoVariable (take place st) (named st e) (named st f))
+pub shared_told : (st : List Sentence) (place : ℕ) (e f : List ℕ) (k : ℕ) → AllMeant st → AreDeclaredSymbols st (take place st) e → k < length e
+    → IsVariable st (name_at st (get_or e k 0)) → Contains f (get_or e k 0) → ¬ (ShareNoVariable (take place st) (names_at st e) (names_at st f))
 shared_told st place e f k all symbols less variable has none =
     variable_before st place (get_or e k 0) all (symbol_at st (take place st) e k symbols less) variable
     (λ v. none (name_at st (get_or e k 0)) v (named_has st e (get_or e k 0) (number_among e k less)) (named_has st f (get_or e k 0) has))
 
 -- no variable is shared
-pub not_shared_told : OneNumber → (st : List Sentence) (place : ℕ) (e f : List ℕ) → AreSymbols st (take place st) e → AreSymbols st (take place st) f
-    → ((k : ℕ) → k < length e → IsVariable st (name_at st (get_or e k 0)) → ¬ (Contains f (get_or e k 0))) → ShareNoVariable (take place st) (named st e) (named st f)
+pub not_shared_told : OneNumber → (st : List Sentence) (place : ℕ) (e f : List ℕ) → AreDeclaredSymbols st (take place st) e → AreDeclaredSymbols st (take place st) f
+    → ((k : ℕ) → k < length e → IsVariable st (name_at st (get_or e k 0)) → ¬ (Contains f (get_or e k 0))) → ShareNoVariable (take place st) (names_at st e) (names_at st f)
 not_shared_told one st place e f se sf none u variable in_e in_f =
     let i = has_named st e u in_e in
     let j = has_named st f u in_f in
@@ -89,7 +89,7 @@ none_has ns n i all none has =
     let within : has.0 < length ns = has.1 in
     none has.0 (omega arith) (get_or_default ns has.0 0 n within ∙ has.2)
 
-pub symbol_below : (st before : List Sentence) (e : List Sym) (k : ℕ) (d : Sym) → AreSymbols st before (numbers_in e) → k < length e → (get_or e k d).0 < length (symbols_of st)
+pub symbol_below : (st before : List Sentence) (e : List Sym) (k : ℕ) (d : Sym) → AreDeclaredSymbols st before (numbers_in e) → k < length e → (get_or e k d).0 < length (symbols_of st)
 symbol_below st before e k d all less =
     subst (λ n. n < length (symbols_of st)) (number_at e k d less) (symbol_at st before (numbers_in e) k all (omega (arith, length-map e (λ s. s.0)))).below
 
@@ -102,7 +102,7 @@ apart_told V D true to from v = λ w. to refl
 apart_told V D false to from v = λ f. false≢true (from (f v))
 
 -- each of the one is apart from each of the other: the expressions are distinct
-pub distinct_told : (st : List Sentence) (place : ℕ) (e f : List ℕ) → ((k : ℕ) → k < length e → IsApartFromEach st place f (get_or e k 0)) → AreDistinct (take place st) (named st e) (named st f)
+pub distinct_told : (st : List Sentence) (place : ℕ) (e f : List ℕ) → ((k : ℕ) → k < length e → IsApartFromEach st place f (get_or e k 0)) → AreDistinct (take place st) (names_at st e) (names_at st f)
 distinct_told st place e f each u v var_u var_v in_e in_f =
     let i = has_named st e u in_e in
     let j = has_named st f v in_f in
@@ -110,8 +110,8 @@ distinct_told st place e f each u v var_u var_v in_e in_f =
     subst (λ (x : List ℕ). IsDistinct (take place st) x v) i.2 (subst (λ (y : List ℕ). IsDistinct (take place st) (name_at st (get_or e i.0 0)) y) j.2 d)
 
 -- one that isn't: they aren't
-pub near_told : (st : List Sentence) (place : ℕ) (e f : List ℕ) (k : ℕ) → AllMeant st → AreSymbols st (take place st) e → AreSymbols st (take place st) f → k < length e
-    → ¬ (IsApartFromEach st place f (get_or e k 0)) → ¬ (AreDistinct (take place st) (named st e) (named st f))
+pub near_told : (st : List Sentence) (place : ℕ) (e f : List ℕ) (k : ℕ) → AllMeant st → AreDeclaredSymbols st (take place st) e → AreDeclaredSymbols st (take place st) f → k < length e
+    → ¬ (IsApartFromEach st place f (get_or e k 0)) → ¬ (AreDistinct (take place st) (names_at st e) (names_at st f))
 near_told st place e f k all se sf less near distinct =
     near (λ var_u j in_f var_v.
     decided (distinct_dec (take place st) (name_at st (get_or e k 0)) (name_at st (get_or f j 0)))
@@ -124,17 +124,17 @@ near_told st place e f k all se sf less near distinct =
     decided (no n) u v f = absurd (u (λ x. v (λ y. n (f x y))))
 
 -- what replaces a symbol has symbols
-pub value_symbols : (st before : List Sentence) (vs : List (Option ℕ)) (es : List (List ℕ)) (n : ℕ) (v : List ℕ) → AreEntries st before es → value_of vs es n ≡ Some v → AreSymbols st before v
+pub value_symbols : (st before : List Sentence) (vs : List (Option ℕ)) (es : List (List ℕ)) (n : ℕ) (v : List ℕ) → AreStackEntries st before es → value_of vs es n ≡ Some v → AreDeclaredSymbols st before v
 value_symbols st before [] es n v all is = absurd cc
 value_symbols st before (x ∷ vs) [] n v all is = absurd cc
 value_symbols st before (x ∷ vs) (e ∷ es) n v all is = go (is_of n x) is (value_symbols st before vs es n v all.1)
   where
-    tail : (l : List ℕ) → AreSymbols st before l → AreSymbols st before (drop 1 l)
+    tail : (l : List ℕ) → AreDeclaredSymbols st before l → AreDeclaredSymbols st before (drop 1 l)
     tail [] a = tt
     tail (y ∷ l) a = a.1
 
-    go : (b : Bool) → cond b (Some (drop 1 e)) (value_of vs es n) ≡ Some v → (value_of vs es n ≡ Some v → AreSymbols st before v) → AreSymbols st before v
-    go true s later = subst (AreSymbols st before) (same_Some (drop 1 e) v s) (tail e all.0)
+    go : (b : Bool) → cond b (Some (drop 1 e)) (value_of vs es n) ≡ Some v → (value_of vs es n ≡ Some v → AreDeclaredSymbols st before v) → AreDeclaredSymbols st before v
+    go true s later = subst (AreDeclaredSymbols st before) (same_Some (drop 1 e) v s) (tail e all.0)
     go false s later = later s
 
 -- the one pair of values is so or not

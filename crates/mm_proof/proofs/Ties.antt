@@ -7,8 +7,8 @@ use Rattle.std.proofs.lemmas.List.{map-append, length-map, drop-map}
 use Rattle.mm_text.specs.declared.statement.Kind.TheVariants.{Essential}
 use Rattle.mm_frame.specs.Sentence.{Sentence, Types}
 use Rattle.mm_frame.specs.Rules.{AllMeant}
-use Rattle.mm_proof.specs.Substitution.{substituted}
-use Rattle.mm_proof.specs.Proof.{Meets}
+use Rattle.mm_proof.specs.Substitution.{instance_of}
+use Rattle.mm_proof.specs.Proof.{MeetsHypotheses}
 use Rattle.mm_proof.proofs.Runs.{same_typing, not_essential}
 use Rattle.mm_proof.proofs.Derived.{zip_left, zip_right}
 use Rattle.mm_proof.proofs.Renamed.{replaced_in}
@@ -75,7 +75,7 @@ IsLookup variables entries τ =
     ⊎ ((j : ℕ) × (e : List ℕ) × (slice_get variables j ≡ Some (Some n)) × (slice_get entries j ≡ Some e) × (τ n ≡ Some (drop 1 e)))
 
 -- what a step has found by numbers: the variables of its hypotheses, their entries, and what replaces a number
-pub record IsByNumber (P : ℕ → Type 0) (nm : ℕ → List ℕ) (before : List Sentence) (stack : List (List (List ℕ))) (label : List ℕ) (m : Meets before stack label)
+pub record IsByNumber (P : ℕ → Type 0) (nm : ℕ → List ℕ) (before : List Sentence) (stack : List (List (List ℕ))) (label : List ℕ) (m : MeetsHypotheses before stack label)
     (variables : List (Option ℕ)) (entries : List (List ℕ)) (τ : ℕ → Option (List ℕ)) : Type 0 where
   pub one : IsOneToOneOn P nm
   pub typed : AllZip (IsVariableOf nm) variables m.hypotheses
@@ -84,7 +84,7 @@ pub record IsByNumber (P : ℕ → Type 0) (nm : ℕ → List ℕ) (before : Lis
   pub lookup : IsLookup variables entries τ
 
 -- what replaces the name is what replaces the number
-pub same_replaced : (P : ℕ → Type 0) (nm : ℕ → List ℕ) (before : List Sentence) (stack : List (List (List ℕ))) (label : List ℕ) (m : Meets before stack label)
+pub same_replaced : (P : ℕ → Type 0) (nm : ℕ → List ℕ) (before : List Sentence) (stack : List (List (List ℕ))) (label : List ℕ) (m : MeetsHypotheses before stack label)
     (variables : List (Option ℕ)) (entries : List (List ℕ)) (τ : ℕ → Option (List ℕ)) → AllMeant before → IsByNumber P nm before stack label m variables entries τ
     → (n : ℕ) → P n → m.σ (nm n) ≡ option_map (λ (e : List ℕ). map nm e) (τ n)
 same_replaced P nm before stack label m variables entries τ all b n p = ⊎_elim found_none found_one (b.lookup n)
@@ -113,13 +113,13 @@ one_piece nm None n = refl
 one_piece nm (Some e) n = refl
 
 -- the names of a substituted expression are those of the substituted numbers
-pub same_substitution : (P : ℕ → Type 0) (nm : ℕ → List ℕ) (before : List Sentence) (stack : List (List (List ℕ))) (label : List ℕ) (m : Meets before stack label)
+pub same_substitution : (P : ℕ → Type 0) (nm : ℕ → List ℕ) (before : List Sentence) (stack : List (List (List ℕ))) (label : List ℕ) (m : MeetsHypotheses before stack label)
     (variables : List (Option ℕ)) (entries : List (List ℕ)) (τ : ℕ → Option (List ℕ)) → AllMeant before → IsByNumber P nm before stack label m variables entries τ
-    → (ns : List ℕ) → AllByRecursion P ns → substituted m.σ (map nm ns) ≡ map nm (replaced_in τ ns)
+    → (ns : List ℕ) → AllByRecursion P ns → instance_of m.σ (map nm ns) ≡ map nm (replaced_in τ ns)
 same_substitution P nm before stack label m variables entries τ all b [] p = refl
 same_substitution P nm before stack label m variables entries τ all b (n ∷ ns) p =
-    ap (λ o. unwrap_or o (nm n ∷ []) ++ substituted m.σ (map nm ns)) (same_replaced P nm before stack label m variables entries τ all b n p.0)
-    ∙ ap (λ l. l ++ substituted m.σ (map nm ns)) (one_piece nm (τ n) n)
+    ap (λ o. unwrap_or o (nm n ∷ []) ++ instance_of m.σ (map nm ns)) (same_replaced P nm before stack label m variables entries τ all b n p.0)
+    ∙ ap (λ l. l ++ instance_of m.σ (map nm ns)) (one_piece nm (τ n) n)
     ∙ ap (λ l. map nm (unwrap_or (τ n) (n ∷ [])) ++ l) (same_substitution P nm before stack label m variables entries τ all b ns p.1)
     ∙ sym (map-append nm (unwrap_or (τ n) (n ∷ [])) (replaced_in τ ns))
 

@@ -9,7 +9,7 @@ use Rattle.mm_frame.specs.Rules.{AllMeant}
 use Rattle.mm_proof.specs.declared.fault.ProofRule.{ProofRule}
 use Rattle.mm_proof.specs.declared.fault.ProofRule.TheVariants.{P1, P2, P3, P4}
 use Rattle.mm_proof.specs.Tokens.{IsNormal, AreLabels, opening_token, closing_token}
-use Rattle.mm_proof.specs.Proof.{rank, BreaksWhole, IsWholeFault}
+use Rattle.mm_proof.specs.Proof.{proof_rank, BreaksWhole, IsWholeFault}
 use Rattle.mm_proof.specs.CodeSteps.{AreFor, MayBeUsed, BreaksLabels, texts}
 use Rattle.mm_proof.proofs.Places.{get_take, get_from_take}
 use Rattle.mm_proof.proofs.Meaning.{one_label, one_labelled}
@@ -73,7 +73,7 @@ pub record HasLabels (tokens labels : List (List ℕ)) : Type 0 where
 
 -- labels that may be used break no rule that is judged of labels
 pub labels_pass : (statements : List Sentence) (place : ℕ) (tokens : List (List ℕ)) (ids : List ℕ) (labels : List (List ℕ)) → AllMeant statements
-    → HasLabels tokens labels → AreFor statements place ids labels → (rule : ProofRule) → rank rule < rank P4 → ¬ (BreaksWhole rule (take place statements) tokens)
+    → HasLabels tokens labels → AreFor statements place ids labels → (rule : ProofRule) → proof_rank rule < proof_rank P4 → ¬ (BreaksWhole rule (take place statements) tokens)
 labels_pass statements place tokens ids labels all has each P1 less b = has.ends b
 labels_pass statements place tokens ids labels all has each P2 less b =
     let known = for_known statements place ids labels b.2 each (subst (λ l. Contains l b.2) (has.one b.0 b.1) b.3) in
@@ -88,7 +88,7 @@ pub labels_fault : (statements : List Sentence) (place : ℕ) (tokens labels : L
     → BreaksLabels rule statements place labels → IsWholeFault (take place statements) tokens rule
 labels_fault statements place tokens labels P2 has b = record { broken = (labels, has.are, b.0, b.1, b.2); first = first }
   where
-    first : (other : ProofRule) → rank other < rank P2 → ¬ (BreaksWhole other (take place statements) tokens)
+    first : (other : ProofRule) → proof_rank other < proof_rank P2 → ¬ (BreaksWhole other (take place statements) tokens)
     first P1 less broken = has.ends broken
     first other less broken = absurd (omega arith)
 labels_fault statements place tokens labels P3 has b = record {
@@ -96,7 +96,7 @@ labels_fault statements place tokens labels P3 has b = record {
   first = first;
 }
   where
-    first : (other : ProofRule) → rank other < rank P3 → ¬ (BreaksWhole other (take place statements) tokens)
+    first : (other : ProofRule) → proof_rank other < proof_rank P3 → ¬ (BreaksWhole other (take place statements) tokens)
     first P1 less broken = has.ends broken
     first P2 less broken = b.0 broken.2 (subst (λ l. Contains l broken.2) (has.one broken.0 broken.1) broken.3) broken.4
     first other less broken = absurd (omega arith)

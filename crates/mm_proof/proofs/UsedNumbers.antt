@@ -5,7 +5,7 @@ use Rattle.std.proofs.lemmas.Option.{same_Some, none-some}
 use Rattle.std.proofs.lemmas.List.{take-take}
 use Rattle.mm_frame.specs.Sentence.{Sentence, IsAssertion, IsLabelled}
 use Rattle.mm_frame.specs.Rules.{AllMeant}
-use Rattle.mm_frame.specs.Numbers.{labelled, IsNumbered, IsAssertionNumber}
+use Rattle.mm_frame.specs.Numbers.{labelled_sentences, IsNumbered, IsAssertionNumber}
 use Rattle.mm_proof.specs.Tree.{Trees, none}
 use Rattle.mm_proof.specs.Moves.{Move, name, again, mark, Makes}
 use Rattle.mm_proof.specs.Steps.{IsNumberedMove, AreNumberedMoves, IsUsable, IsUsableMove}
@@ -19,12 +19,12 @@ use Rattle.mm_proof.proofs.Uses.{labels_of_moves}
 -- ---- numbers and places
 
 -- the labelled statement with a number has a place
-pub placed : (statements : List Sentence) (id : ℕ) (s : Sentence) → slice_get (labelled statements) id ≡ Some s → (place : ℕ) × IsNumbered statements id place s
+pub placed : (statements : List Sentence) (id : ℕ) (s : Sentence) → slice_get (labelled_sentences statements) id ≡ Some s → (place : ℕ) × IsNumbered statements id place s
 placed [] id s e = absurd (none-some s e)
 placed (t ∷ statements) id s e = go (is_some t.label) refl id e (placed statements)
   where
-    go : (b : Bool) → is_some t.label ≡ b → (i : ℕ) → slice_get (cond b (t ∷ labelled statements) (labelled statements)) i ≡ Some s
-        → ((j : ℕ) (u : Sentence) → slice_get (labelled statements) j ≡ Some u → (place : ℕ) × IsNumbered statements j place u)
+    go : (b : Bool) → is_some t.label ≡ b → (i : ℕ) → slice_get (cond b (t ∷ labelled_sentences statements) (labelled_sentences statements)) i ≡ Some s
+        → ((j : ℕ) (u : Sentence) → slice_get (labelled_sentences statements) j ≡ Some u → (place : ℕ) × IsNumbered statements j place u)
         → (place : ℕ) × IsNumbered (t ∷ statements) i place s
     go true is zero h rest =
         (0, record { there = h; named = ap (λ (x : Sentence). is_some x.label) (sym (same_Some t s h)) ∙ is; number = refl })
@@ -34,7 +34,7 @@ placed (t ∷ statements) id s e = go (is_some t.label) refl id e (placed statem
           record {
             there = p.1.there;
             named = p.1.named;
-            number = ap (λ b. length (cond b (t ∷ labelled (take p.0 statements)) (labelled (take p.0 statements)))) is ∙ ap suc p.1.number;
+            number = ap (λ b. length (cond b (t ∷ labelled_sentences (take p.0 statements)) (labelled_sentences (take p.0 statements)))) is ∙ ap suc p.1.number;
           },
         )
     go false is i h rest =
@@ -43,31 +43,31 @@ placed (t ∷ statements) id s e = go (is_some t.label) refl id e (placed statem
           record {
             there = p.1.there;
             named = p.1.named;
-            number = ap (λ b. length (cond b (t ∷ labelled (take p.0 statements)) (labelled (take p.0 statements)))) is ∙ p.1.number;
+            number = ap (λ b. length (cond b (t ∷ labelled_sentences (take p.0 statements)) (labelled_sentences (take p.0 statements)))) is ∙ p.1.number;
           },
         )
 
 -- a number is that of one statement
-numbered_reads : (statements : List Sentence) (id place : ℕ) (s : Sentence) → IsNumbered statements id place s → slice_get (labelled statements) id ≡ Some s
-numbered_reads statements id place s n = subst (λ k. slice_get (labelled statements) k ≡ Some s) n.number (reads statements place n.there n.named)
+numbered_reads : (statements : List Sentence) (id place : ℕ) (s : Sentence) → IsNumbered statements id place s → slice_get (labelled_sentences statements) id ≡ Some s
+numbered_reads statements id place s n = subst (λ k. slice_get (labelled_sentences statements) k ≡ Some s) n.number (reads statements place n.there n.named)
   where
     more : (b : Bool) (t : Sentence) (front whole : List Sentence) → slice_get (cond b (t ∷ whole) whole) (length (cond b (t ∷ front) front)) ≡ slice_get whole (length front)
     more true t front whole = refl
     more false t front whole = refl
 
     reads : (statements : List Sentence) (place : ℕ) → slice_get statements place ≡ Some s → is_some s.label ≡ true
-        → slice_get (labelled statements) (length (labelled (take place statements))) ≡ Some s
+        → slice_get (labelled_sentences statements) (length (labelled_sentences (take place statements))) ≡ Some s
     reads [] place there named = absurd (none-some s there)
     reads (t ∷ statements) zero there named =
         let is : is_some t.label ≡ true = ap (λ (x : Sentence). is_some x.label) (same_Some t s there) ∙ named in rw is there
-    reads (t ∷ statements) (suc place) there named = more (is_some t.label) t (labelled (take place statements)) (labelled statements) ∙ reads statements place there named
+    reads (t ∷ statements) (suc place) there named = more (is_some t.label) t (labelled_sentences (take place statements)) (labelled_sentences statements) ∙ reads statements place there named
 
 -- in a front it has the same number
 numbered_front : (statements : List Sentence) (id place end : ℕ) (s : Sentence) → place < end → IsNumbered statements id place s → IsNumbered (take end statements) id place s
 numbered_front statements id place end s less n = record {
   there = get_take statements end place less ∙ n.there;
   named = n.named;
-  number = ap (λ (l : List Sentence). length (labelled l)) (take-take place end statements (omega arith)) ∙ n.number;
+  number = ap (λ (l : List Sentence). length (labelled_sentences l)) (take-take place end statements (omega arith)) ∙ n.number;
 }
 
 numbered_whole : (statements : List Sentence) (id place end : ℕ) (s : Sentence) → IsNumbered (take end statements) id place s → (place < end) × IsNumbered statements id place s
@@ -78,7 +78,7 @@ numbered_whole statements id place end s n =
       record {
         there = there.1;
         named = n.named;
-        number = ap (λ (l : List Sentence). length (labelled l)) (sym (take-take place end statements (omega arith))) ∙ n.number;
+        number = ap (λ (l : List Sentence). length (labelled_sentences l)) (sym (take-take place end statements (omega arith))) ∙ n.number;
       },
     )
 
@@ -95,7 +95,7 @@ name_not_mark label e = absurd cc
 
 -- a numbered step by a label has the label's number
 named_by : (statements : List Sentence) (x : Move ℕ) (label : List ℕ) → IsNumberedMove statements x (name label)
-    → (id : ℕ) × (t : Sentence) × (x ≡ name id) × (slice_get (labelled statements) id ≡ Some t) × IsLabelled label t
+    → (id : ℕ) × (t : Sentence) × (x ≡ name id) × (slice_get (labelled_sentences statements) id ≡ Some t) × IsLabelled label t
 named_by statements (name id) label n = (id, n.0, refl, n.2, subst (λ l. IsLabelled l n.0) (sym (same_name label n.1 n.4)) n.3)
 named_by statements (again tag) label n = absurd (name_or label tag n)
 named_by statements mark label n = absurd (name_not_mark label n)
@@ -114,7 +114,7 @@ used_numbers statements place xs moves row kept all numbered usable made id = (u
         let by = named_by statements z.0 u.2 z.2 in
         let p = placed statements by.0 by.1 by.3 in
         let one : u.0 ≡ p.0 = one_label statements u.0 p.0 u.1 by.1 u.2 all n.there p.1.there u.5 by.4 in
-        let same : by.0 ≡ id = sym p.1.number ∙ ap (λ k. length (labelled (take k statements))) (sym one) ∙ n.number in
+        let same : by.0 ≡ id = sym p.1.number ∙ ap (λ k. length (labelled_sentences (take k statements))) (sym one) ∙ n.number in
         ((step.0, z.1 ∙ ap Some (by.2 ∙ ap name same)), (u.0, u.1, n, u.4))
 
     of_usable : (p : ℕ) (a : Sentence) (label : List ℕ) → IsNumbered statements id p a → IsAssertion a.kind → IsLabelled label a → IsUsable (take place statements) label → p < place

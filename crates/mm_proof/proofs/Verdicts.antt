@@ -8,8 +8,8 @@ use Rattle.mm_proof.specs.declared.fault.ProofRule.{ProofRule}
 use Rattle.mm_proof.specs.declared.fault.ProofRule.TheVariants.{P1, P2, P3, P4, P5, P6, P7, P8, P9, P10, P11, P12, P13, P14, L1}
 use Rattle.mm_proof.specs.Tree.{AnyExpression}
 use Rattle.mm_proof.specs.Moves.{Move, steps_in}
-use Rattle.mm_proof.specs.Proof.{IsWithin, rank, BreaksWhole, Prove, IsProvedWithin, BreaksMove, FirstAtMove, Passed, IsMoveFault, BreaksEnd, IsEndFault, IsMovesFault, IsFault}
-use Rattle.mm_proof.specs.Laws.{OneTree, OneFit, OneVerdict}
+use Rattle.mm_proof.specs.Proof.{IsWithin, proof_rank, BreaksWhole, Prove, IsProvedWithin, BreaksMove, FirstAtMove, Passed, IsMoveFault, BreaksEnd, IsEndFault, IsMovesFault, IsFault}
+use Rattle.mm_proof.specs.Laws.{OneTree, OneFit, OneProofVerdict}
 use Rattle.mm_proof.proofs.Runs.{derived_once}
 use Rattle.mm_proof.proofs.Making.{one_fit_holds, one_row}
 use Rattle.mm_proof.proofs.Fronts.{passed_once, proof_passed, no_fault_within}
@@ -20,7 +20,7 @@ use Rattle.mm_proof.proofs.SaidMoves.{moves_once}
 abbrev pub ranked : List ProofRule
 ranked = P1 ∷ P1 ∷ P2 ∷ P3 ∷ P4 ∷ P5 ∷ P6 ∷ P7 ∷ P8 ∷ P9 ∷ P10 ∷ P11 ∷ P12 ∷ L1 ∷ P13 ∷ P14 ∷ []
 
-pub at_rank : (rule : ProofRule) → slice_get ranked (rank rule) ≡ Some rule
+pub at_rank : (rule : ProofRule) → slice_get ranked (proof_rank rule) ≡ Some rule
 at_rank P1 = refl
 at_rank P2 = refl
 at_rank P3 = refl
@@ -38,9 +38,9 @@ at_rank P14 = refl
 at_rank L1 = refl
 
 -- two rules that are the first broken are one
-first_once : (Broken : ProofRule → Type 0) (r q : ProofRule) → Broken r → Broken q → ((other : ProofRule) → rank other < rank r → ¬ (Broken other))
-    → ((other : ProofRule) → rank other < rank q → ¬ (Broken other)) → r ≡ q
-first_once Broken r q br bq fr fq = elim (cases_order (rank r) (rank q)) [
+first_once : (Broken : ProofRule → Type 0) (r q : ProofRule) → Broken r → Broken q → ((other : ProofRule) → proof_rank other < proof_rank r → ¬ (Broken other))
+    → ((other : ProofRule) → proof_rank other < proof_rank q → ¬ (Broken other)) → r ≡ q
+first_once Broken r q br bq fr fq = elim (cases_order (proof_rank r) (proof_rank q)) [
   | inl same ↦ same_Some r q (sym (at_rank r) ∙ ap (slice_get ranked) same ∙ at_rank q)
   | inr (inl less) ↦ absurd (fq r less br)
   | inr (inr more) ↦ absurd (fr q more bq)
@@ -174,6 +174,6 @@ one_tree_holds before t u es fs all d g same =
 pub one_fit_law : OneFit
 one_fit_law before t u all f g same = one_fit_holds before t u all f g same
 
-pub one_verdict_holds : OneVerdict
+pub one_verdict_holds : OneProofVerdict
 one_verdict_holds limit before s tokens all =
     (λ p rule step. proved_no_fault (IsWithin limit) before s tokens rule step all p, λ rule rule' step step'. one_fault (IsWithin limit) before s tokens rule rule' step step' all)

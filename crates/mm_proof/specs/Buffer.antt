@@ -14,10 +14,10 @@ pub record IsPart (place : ℕ) (e : Entry) : Type 0 where
   pub within : e.end ≤ place
 
 -- each of the entries is
-abbrev pub AreWithin : ℕ → List Entry → Type 0
-AreWithin place entries = (i : ℕ) (e : Entry) → slice_get entries i ≡ Some e → IsPart place e
+abbrev pub AreParts : ℕ → List Entry → Type 0
+AreParts place entries = (i : ℕ) (e : Entry) → slice_get entries i ≡ Some e → IsPart place e
 
 -- An entry that ends above the floor stands in what the buffer held when any later entry came.
-abbrev pub AreApart : ℕ → List Entry → Type 0
-AreApart floor entries =
+abbrev pub AreSeparateParts : ℕ → List Entry → Type 0
+AreSeparateParts floor entries =
     (i j : ℕ) (a b : Entry) → i < j → slice_get entries i ≡ Some a → slice_get entries j ≡ Some b → floor < a.end → a.end ≤ b.before

@@ -5,7 +5,7 @@ use Rattle.mm_frame.specs.Frame.{AreMandatory}
 use Rattle.mm_frame.specs.Numbers.{IsNumbered}
 use Rattle.mm_frame.specs.FramePlace.{ArePairs}
 use Rattle.mm_proof.specs.Tree.{ShareNoVariable, AreDistinct}
-use Rattle.mm_proof.specs.CodeVerify.{named, all_named, value_of, IsRightCode, IsEqual, EachEntry}
+use Rattle.mm_proof.specs.CodeVerify.{names_at, all_names_at, value_of, IsRightCode, IsEqual, EachEntry}
 use Rattle.mm_proof.specs.CodeVerify.{Replaces, EachPairValues, AreHypothesesOf, AreVariablesOf}
 
 -- the number is that of an assertion before the place of the proof, and these are its hypotheses,
@@ -22,13 +22,13 @@ pub record IsCalled (statements : List Sentence) (place id at : ℕ) (ids : List
 -- the entries match the hypotheses, and the pairs stay apart
 pub record IsMatched (statements : List Sentence) (place : ℕ) (hs : List Sentence)
     (variables : List (Option ℕ)) (entries : List (List ℕ)) (pairs : List (ℕ × ℕ)) : Type 0 where
-  pub codes : EachEntry hs (all_named statements entries) IsRightCode
+  pub codes : EachEntry hs (all_names_at statements entries) IsRightCode
   pub equal : (σ : List ℕ → Option (List (List ℕ))) → Replaces statements σ variables entries
-      → EachEntry hs (all_named statements entries) (IsEqual σ)
+      → EachEntry hs (all_names_at statements entries) (IsEqual σ)
   pub share : EachPairValues (value_of variables entries) pairs
-      (λ e f. ShareNoVariable (take place statements) (named statements e) (named statements f))
+      (λ e f. ShareNoVariable (take place statements) (names_at statements e) (names_at statements f))
   pub apart : EachPairValues (value_of variables entries) pairs
-      (λ e f. AreDistinct (take place statements) (named statements e) (named statements f))
+      (λ e f. AreDistinct (take place statements) (names_at statements e) (names_at statements f))
 
 -- only the limit is left to judge
 pub record IsReady (statements : List Sentence) (place id at : ℕ) (variables : List (Option ℕ))

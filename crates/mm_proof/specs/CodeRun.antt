@@ -9,20 +9,20 @@ use Rattle.mm_proof.specs.Moves.{Move, name, again, mark, steps_in}
 use Rattle.mm_proof.specs.Proof.{IsWithin, expression_limit, Passed, FirstAtMove}
 use Rattle.mm_proof.specs.Steps.{IsNumberedMove, AreNumberedMoves}
 use Rattle.mm_proof.specs.CodeSteps.{MayBeUsed}
-use Rattle.mm_proof.specs.CodeVerify.{all_named, AreEntries}
+use Rattle.mm_proof.specs.CodeVerify.{all_names_at, AreStackEntries}
 
 -- the step by the label with a number carries passed moves on: from the one stack to the other
 abbrev pub CarriesOn : List Sentence → (place id : ℕ) → (old new : List (List ℕ)) → Type 0
 CarriesOn statements place id old new =
     (label : List ℕ) (moves : List (Move (List ℕ))) (kept : List (List (List ℕ))) → IsNumberedMove statements (name id) (name label)
-    → Passed (IsWithin expression_limit) (take place statements) moves (all_named statements old) kept
-    → Passed (IsWithin expression_limit) (take place statements) (moves ++ name label ∷ []) (all_named statements new) kept
+    → Passed (IsWithin expression_limit) (take place statements) moves (all_names_at statements old) kept
+    → Passed (IsWithin expression_limit) (take place statements) (moves ++ name label ∷ []) (all_names_at statements new) kept
 
 -- the step by the label with a number breaks this rule first, on this stack
 abbrev pub StopsAt : List Sentence → (place id : ℕ) → List (List ℕ) → ProofRule → Type 0
 StopsAt statements place id stack rule =
     (label : List ℕ) (kept : List (List (List ℕ))) → IsNumberedMove statements (name id) (name label)
-    → FirstAtMove (IsWithin expression_limit) rule (take place statements) (all_named statements stack) kept (name label)
+    → FirstAtMove (IsWithin expression_limit) rule (take place statements) (all_names_at statements stack) kept (name label)
 
 -- what the move by number stands for may be made at the place
 abbrev pub MayBeMade : List Sentence → ℕ → Move ℕ → Type 0
@@ -38,19 +38,19 @@ pub record HasRun (statements : List Sentence) (place : ℕ) (front : List (Move
   pub passed :
       (moves : List (Move (List ℕ))) → AreNumberedMoves statements front moves
       → Passed (IsWithin expression_limit) (take place statements) moves
-      (all_named statements stack) (all_named statements kept)
-  pub entries : AreEntries statements (take place statements) stack
-  pub kept_entries : AreEntries statements (take place statements) kept
+      (all_names_at statements stack) (all_names_at statements kept)
+  pub entries : AreStackEntries statements (take place statements) stack
+  pub kept_entries : AreStackEntries statements (take place statements) kept
 
 -- one of the moves names the assertion with this number
-abbrev pub IsNamed : List Sentence → List (Move ℕ) → ℕ → Type 0
-IsNamed statements moves id =
+abbrev pub IsNamedByMove : List Sentence → List (Move ℕ) → ℕ → Type 0
+IsNamedByMove statements moves id =
     ((i : ℕ) × (slice_get moves i ≡ Some (name id))) × IsAssertionNumber statements id
 
 -- the numbers of the assertions that the moves name, rising
 pub record AreNamed (statements : List Sentence) (moves : List (Move ℕ)) (ids : List ℕ) : Type 0 where
   pub rising : (i j a b : ℕ) → i < j → slice_get ids i ≡ Some a → slice_get ids j ≡ Some b → a < b
-  pub each : (id : ℕ) → Contains ids id ↔ IsNamed statements moves id
+  pub each : (id : ℕ) → Contains ids id ↔ IsNamedByMove statements moves id
 
 -- what is on the stack at the end breaks this rule, where the statement's expression is the second
 abbrev pub EndsWrong : ProofRule → List (List ℕ) → List ℕ → Type 0

@@ -2,33 +2,33 @@
 use Rattle.std.specs.Prelude.{◌≡◌, ◌≢◌, ℕ, ◌<◌, ◌==◌, List, [], ◌∷◌, map, take, drop, length, slice_get, slice_index_or, Bool, true, false, Option, Some, None, option_map, unwrap_or, if◌then◌else◌, ◌⊎◌}
 use Rattle.std.specs.List.{flat_map, AllByRecursion, AllZip}
 use Rattle.mm_text.specs.declared.statement.Kind.TheVariants.{Floating, Essential}
-use Rattle.mm_proof.specs.Substitution.{substituted}
+use Rattle.mm_proof.specs.Substitution.{instance_of}
 use Rattle.mm_frame.specs.declared.number.Sym.{Sym}
 use Rattle.mm_frame.specs.Sentence.{Sentence, Types}
 use Rattle.mm_frame.specs.Active.{IsConstant, IsVariable}
 use Rattle.mm_frame.specs.Frame.{IsDistinct}
-use Rattle.mm_frame.specs.Numbers.{symbols_of, labelled, IsNumberOf}
+use Rattle.mm_frame.specs.Numbers.{symbols_of, labelled_sentences, IsNumberOf}
 
 -- the symbol with a number, and the symbols with these numbers
 abbrev pub name_at : List Sentence → ℕ → List ℕ
 name_at statements n = slice_index_or (symbols_of statements) n []
 
-abbrev pub named : List Sentence → List ℕ → List (List ℕ)
-named statements ns = map (name_at statements) ns
+abbrev pub names_at : List Sentence → List ℕ → List (List ℕ)
+names_at statements ns = map (name_at statements) ns
 
-abbrev pub all_named : List Sentence → List (List ℕ) → List (List (List ℕ))
-all_named statements entries = map (λ e. map (name_at statements) e) entries
+abbrev pub all_names_at : List Sentence → List (List ℕ) → List (List (List ℕ))
+all_names_at statements entries = map (λ e. map (name_at statements) e) entries
 
 -- the number is that of a symbol that was declared before
 pub record IsSymbol (statements before : List Sentence) (n : ℕ) : Type 0 where
   pub below : n < length (symbols_of statements)
   pub declared : ¬ (¬ (IsConstant before (name_at statements n) ⊎ IsVariable before (name_at statements n)))
 
-abbrev pub AreSymbols : List Sentence → List Sentence → List ℕ → Type 0
-AreSymbols statements before ns = AllByRecursion (IsSymbol statements before) ns
+abbrev pub AreDeclaredSymbols : List Sentence → List Sentence → List ℕ → Type 0
+AreDeclaredSymbols statements before ns = AllByRecursion (IsSymbol statements before) ns
 
-abbrev pub AreEntries : List Sentence → List Sentence → List (List ℕ) → Type 0
-AreEntries statements before entries = AllByRecursion (AreSymbols statements before) entries
+abbrev pub AreStackEntries : List Sentence → List Sentence → List (List ℕ) → Type 0
+AreStackEntries statements before entries = AllByRecursion (AreDeclaredSymbols statements before) entries
 
 -- the variables of hypotheses, where they are `$f`
 abbrev pub variables_in : List (Option Sym) → List (Option ℕ)
@@ -58,13 +58,13 @@ pub record IsFirstAt (n : ℕ) (variables : List (Option ℕ)) (place : ℕ) : T
   pub first : (k : ℕ) → k < place → is_of n (slice_index_or variables k None) ≡ false
 
 -- each symbol that is a variable of these has its first place under its number
-abbrev pub ArePlaces : List ℕ → List (Option ℕ) → Type 0
-ArePlaces places variables =
+abbrev pub AreFirstPlaces : List ℕ → List (Option ℕ) → Type 0
+AreFirstPlaces places variables =
     (n place : ℕ) → IsFirstAt n variables place → slice_get places n ≡ Some place
 
 -- the numbers of the hypotheses
 abbrev pub AreHypothesesOf : List Sentence → List ℕ → List Sentence → Type 0
-AreHypothesesOf statements ids hypotheses = map (slice_get (labelled statements)) ids ≡ map Some hypotheses
+AreHypothesesOf statements ids hypotheses = map (slice_get (labelled_sentences statements)) ids ≡ map Some hypotheses
 
 -- the number of the variable of a `$f`, and none for another statement
 abbrev pub IsVariableOf : List Sentence → Option ℕ → Sentence → Type 0
@@ -93,16 +93,16 @@ IsWrongCode h entry = (h.kind ≡ Floating) × (slice_get entry 0 ≢ slice_get 
 
 -- the entry is the `$e` with each variable replaced
 abbrev pub IsEqual : (List ℕ → Option (List (List ℕ))) → Sentence → List (List ℕ) → Type 0
-IsEqual σ h entry = h.kind ≡ Essential → entry ≡ substituted σ h.symbols
+IsEqual σ h entry = h.kind ≡ Essential → entry ≡ instance_of σ h.symbols
 
 -- it isn't
 abbrev pub IsUnequal : (List ℕ → Option (List (List ℕ))) → Sentence → List (List ℕ) → Type 0
-IsUnequal σ h entry = (h.kind ≡ Essential) × (entry ≢ substituted σ h.symbols)
+IsUnequal σ h entry = (h.kind ≡ Essential) × (entry ≢ instance_of σ h.symbols)
 
 -- what replaces symbols by names is what does by numbers
 abbrev pub Replaces : List Sentence → (List ℕ → Option (List (List ℕ))) → List (Option ℕ) → List (List ℕ) → Type 0
 Replaces statements σ variables entries =
-    (n : ℕ) → n < length (symbols_of statements) → σ (name_at statements n) ≡ option_map (named statements) (value_of variables entries n)
+    (n : ℕ) → n < length (symbols_of statements) → σ (name_at statements n) ≡ option_map (names_at statements) (value_of variables entries n)
 
 -- if the second is a variable, both are an active pair at the place
 abbrev pub IsApart : List Sentence → ℕ → ℕ → ℕ → Type 0

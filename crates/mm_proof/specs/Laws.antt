@@ -25,16 +25,16 @@ OneTree =
     → spelling t ≡ spelling u → (t ≡ u) × (es ≡ fs)
 
 -- After statements in form the tokens of each proof are a proof within the limit, or have a fault.
-abbrev pub SomeVerdict : Type 0
-SomeVerdict =
+abbrev pub SomeProofVerdict : Type 0
+SomeProofVerdict =
     (limit : ℕ) (before : List Sentence) (s : Sentence) (tokens : List (List ℕ)) → AllMeant before
     → AllFormed before
     → IsProvedWithin (IsWithin limit) before s tokens
     ⊎ ((rule : ProofRule) × (step : ℕ) × IsFault (IsWithin limit) before s tokens rule step)
 
 -- What is proved within the limit has no fault; and what has a fault has one rule and one step.
-abbrev pub OneVerdict : Type 0
-OneVerdict =
+abbrev pub OneProofVerdict : Type 0
+OneProofVerdict =
     (limit : ℕ) (before : List Sentence) (s : Sentence) (tokens : List (List ℕ)) → AllMeant before
     → (IsProvedWithin (IsWithin limit) before s tokens → (rule : ProofRule) (step : ℕ)
     → ¬ (IsFault (IsWithin limit) before s tokens rule step))

@@ -3,7 +3,7 @@
 use Rattle.std.specs.Prelude.{◌≡◌, ℕ, ◌+◌, List, [], ◌∷◌, ◌++◌, length, take, slice_get, Some, true}
 use Rattle.std.specs.List.{AllZip}
 use Rattle.mm_frame.specs.Sentence.{Sentence, IsLabelled}
-use Rattle.mm_frame.specs.Numbers.{labelled, AreNumbers}
+use Rattle.mm_frame.specs.Numbers.{labelled_sentences, AreNumbers}
 use Rattle.mm_proof.specs.Substitution.{Expression}
 use Rattle.mm_proof.specs.Tree.{Trees, none, tree, beside, Derives}
 use Rattle.mm_proof.specs.Moves.{Move, name, again, mark, is_step, steps_in, Makes}
@@ -66,7 +66,7 @@ pub record AreListed (before : List Sentence) (moves : List (Move (List ℕ)))
 -- the name by numbers is the step's name
 abbrev pub IsNameOf : List Sentence → Name → StepName → Type 0
 IsNameOf statements (names.Label id) called =
-    (s : Sentence) × (label : List ℕ) × (slice_get (labelled statements) id.0 ≡ Some s)
+    (s : Sentence) × (label : List ℕ) × (slice_get (labelled_sentences statements) id.0 ≡ Some s)
     × IsLabelled label s × (called ≡ by_label label)
 IsNameOf statements (names.Step number) called = called ≡ by_step number
 

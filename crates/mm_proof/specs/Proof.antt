@@ -12,7 +12,7 @@ use Rattle.mm_frame.specs.Frame.{IsMandatory, IsMandatoryPair}
 use Rattle.mm_proof.specs.declared.fault.ProofRule.{ProofRule}
 use Rattle.mm_proof.specs.declared.fault.ProofRule.TheVariants.{P1, P2, P3, P4, P5, P6, P7, P8, P9}
 use Rattle.mm_proof.specs.declared.fault.ProofRule.TheVariants.{P10, P11, P12, P13, P14, L1}
-use Rattle.mm_proof.specs.Substitution.{Expression, IsOn, substituted}
+use Rattle.mm_proof.specs.Substitution.{Expression, IsOn, instance_of}
 use Rattle.mm_proof.specs.Tree.{Trees, none, tree, Names, ShareNoVariable, AreDistinct, DeriveAll}
 use Rattle.mm_proof.specs.Tree.{AnyExpression}
 use Rattle.mm_proof.specs.Moves.{Move, name, again, mark, steps_in, Makes}
@@ -43,22 +43,22 @@ BreaksWhole P5 before tokens = (text : List ℕ) × AreLetters tokens text × Le
 BreaksWhole rule before tokens = ⊥
 
 -- the place of a rule among those that are judged together
-abbrev pub rank : ProofRule → ℕ
-rank P1 = 1
-rank P2 = 2
-rank P3 = 3
-rank P4 = 4
-rank P5 = 5
-rank P6 = 6
-rank P7 = 7
-rank P8 = 8
-rank P9 = 9
-rank P10 = 10
-rank P11 = 11
-rank P12 = 12
-rank L1 = 13
-rank P13 = 14
-rank P14 = 15
+abbrev pub proof_rank : ProofRule → ℕ
+proof_rank P1 = 1
+proof_rank P2 = 2
+proof_rank P3 = 3
+proof_rank P4 = 4
+proof_rank P5 = 5
+proof_rank P6 = 6
+proof_rank P7 = 7
+proof_rank P8 = 8
+proof_rank P9 = 9
+proof_rank P10 = 10
+proof_rank P11 = 11
+proof_rank P12 = 12
+proof_rank L1 = 13
+proof_rank P13 = 14
+proof_rank P14 = 15
 
 -- the proof breaks none of the rules that are judged over the whole of it
 abbrev pub IsWhole : List Sentence → List (List ℕ) → Type 0
@@ -91,7 +91,7 @@ IsProved before s tokens = IsProvedWithin AnyExpression before s tokens
 -- The step by the assertion at a place meets this on a stack: there are enough entries, the topmost
 -- of which stand for the mandatory hypotheses, the last for the topmost; σ replaces each mandatory
 -- variable by what follows the first symbol of the entry of its `$f`.
-pub record Meets (before : List Sentence) (stack : List Expression) (label : List ℕ) : Type 0 where
+pub record MeetsHypotheses (before : List Sentence) (stack : List Expression) (label : List ℕ) : Type 0 where
   pub place : ℕ
   pub assertion : Sentence
   pub hypotheses : List Sentence
@@ -116,7 +116,7 @@ SomePair hypotheses entries P =
 abbrev pub SomeReplacedPair : List Sentence → (stack : List Expression) → (label : List ℕ)
     → (Expression → Expression → Type 0) → Type 0
 SomeReplacedPair before stack label P =
-    (m : Meets before stack label) × (x : List ℕ) × (y : List ℕ) × (e : List (List ℕ))
+    (m : MeetsHypotheses before stack label) × (x : List ℕ) × (y : List ℕ) × (e : List (List ℕ))
     × (f : List (List ℕ))
     × IsMandatoryPair (take m.place before) m.assertion x y × (m.σ x ≡ Some e) × (m.σ y ≡ Some f)
     × P e f
@@ -129,20 +129,20 @@ BreaksStep Fits P8 before stack label =
     × Names before label place assertion hypotheses
     × (length stack < length hypotheses)
 BreaksStep Fits P9 before stack label =
-    (m : Meets before stack label)
+    (m : MeetsHypotheses before stack label)
     × SomePair m.hypotheses m.entries
     (λ h entry. (h.kind ≡ Floating) × (slice_get entry 0 ≢ slice_get h.symbols 0))
 BreaksStep Fits P10 before stack label =
-    (m : Meets before stack label)
+    (m : MeetsHypotheses before stack label)
     × SomePair m.hypotheses m.entries
-    (λ h entry. (h.kind ≡ Essential) × (entry ≢ substituted m.σ h.symbols))
+    (λ h entry. (h.kind ≡ Essential) × (entry ≢ instance_of m.σ h.symbols))
 BreaksStep Fits P11 before stack label =
     SomeReplacedPair before stack label (λ e f. ¬ (ShareNoVariable before e f))
 BreaksStep Fits P12 before stack label =
     SomeReplacedPair before stack label (λ e f. ¬ (AreDistinct before e f))
 BreaksStep Fits L1 before stack label =
     SomeActive before (λ h. IsLabelled label h × IsHypothesis h.kind × ¬ (Fits h.symbols))
-    ⊎ ((m : Meets before stack label) × ¬ (Fits (substituted m.σ m.assertion.symbols)))
+    ⊎ ((m : MeetsHypotheses before stack label) × ¬ (Fits (instance_of m.σ m.assertion.symbols)))
 BreaksStep Fits rule before stack label = ⊥
 
 -- The move breaks the rule where this is on the stack and this is kept. A mark does before any
@@ -157,7 +157,7 @@ BreaksMove Fits rule before stack kept mark = (rule ≡ P7) × (stack ≡ [])
 pub record FirstAtMove (Fits : Expression → Type 0) (rule : ProofRule) (before : List Sentence)
     (stack kept : List Expression) (move : Move (List ℕ)) : Type 0 where
   pub broken : BreaksMove Fits rule before stack kept move
-  pub first : (other : ProofRule) → rank other < rank rule
+  pub first : (other : ProofRule) → proof_rank other < proof_rank rule
       → ¬ (BreaksMove Fits other before stack kept move)
 
 -- A front of the moves passed: it makes trees that derive the expressions on the stack, each step
@@ -174,7 +174,7 @@ pub record Passed (Fits : Expression → Type 0) (before : List Sentence)
 pub record IsWholeFault (before : List Sentence) (tokens : List (List ℕ))
     (rule : ProofRule) : Type 0 where
   pub broken : BreaksWhole rule before tokens
-  pub first : (other : ProofRule) → rank other < rank rule → ¬ (BreaksWhole other before tokens)
+  pub first : (other : ProofRule) → proof_rank other < proof_rank rule → ¬ (BreaksWhole other before tokens)
 
 -- all moves before this one passed, and it breaks this rule first
 pub record IsMoveFault (Fits : Expression → Type 0) (before : List Sentence)

@@ -4,13 +4,13 @@ use Rattle.std.specs.List.{AllZip, AllByRecursion}
 use Rattle.mm_text.specs.declared.statement.Kind.TheVariants.{Provable}
 use Rattle.mm_frame.specs.Sentence.{Sentence, SomeSentence, IsHypothesis, IsAssertion, IsLabelled}
 use Rattle.mm_frame.specs.Active.{SomeActive}
-use Rattle.mm_frame.specs.Numbers.{labelled, IsNumbered}
+use Rattle.mm_frame.specs.Numbers.{labelled_sentences, IsNumbered}
 use Rattle.mm_proof.specs.Moves.{Move, name, again, mark}
 
 -- the first move is the second, with its label's number
 abbrev pub IsNumberedMove : List Sentence → Move ℕ → Move (List ℕ) → Type 0
 IsNumberedMove statements (name id) move =
-    (s : Sentence) × (label : List ℕ) × (slice_get (labelled statements) id ≡ Some s)
+    (s : Sentence) × (label : List ℕ) × (slice_get (labelled_sentences statements) id ≡ Some s)
     × IsLabelled label s × (move ≡ name label)
 IsNumberedMove statements (again tag) move = move ≡ again tag
 IsNumberedMove statements mark move = move ≡ mark

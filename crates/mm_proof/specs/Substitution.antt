@@ -19,5 +19,5 @@ abbrev pub IsOn : (List ℕ → Type 0) → (List ℕ → Option (List (List ℕ
 IsOn P σ = (x : List ℕ) → IsSome (σ x) ↔ P x
 
 -- the expression with each variable replaced, all at once
-abbrev pub substituted : (List ℕ → Option (List (List ℕ))) → List (List ℕ) → List (List ℕ)
-substituted σ expression = flat_map (λ x. unwrap_or (σ x) (x ∷ [])) expression
+abbrev pub instance_of : (List ℕ → Option (List (List ℕ))) → List (List ℕ) → List (List ℕ)
+instance_of σ expression = flat_map (λ x. unwrap_or (σ x) (x ∷ [])) expression

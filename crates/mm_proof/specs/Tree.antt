@@ -4,7 +4,7 @@ use Rattle.std.specs.Prelude.{Contains, Option, Some, ◌⊎◌}
 use Rattle.mm_frame.specs.Sentence.{Sentence, IsHypothesis, IsAssertion, IsLabelled}
 use Rattle.mm_frame.specs.Active.{SomeActive, IsVariable}
 use Rattle.mm_frame.specs.Frame.{IsMandatory, AreMandatory, IsDistinct, IsMandatoryPair}
-use Rattle.mm_proof.specs.Substitution.{IsOn, substituted}
+use Rattle.mm_proof.specs.Substitution.{IsOn, instance_of}
 
 -- Trees side by side. A tree is a label with the trees below it; a tree with none below is a leaf,
 -- or an assertion that has no hypotheses: its label tells.
@@ -84,9 +84,9 @@ DeriveAll Fits before (tree label below right) expressions =
     × (σ : List ℕ → Option (List (List ℕ)))
     × Names before label place assertion hypotheses
     × IsOn (IsMandatory (take place before) assertion) σ
-    × DeriveAll Fits before below (map (λ h. substituted σ h.symbols) hypotheses)
+    × DeriveAll Fits before below (map (λ h. instance_of σ h.symbols) hypotheses)
     × KeepsApart before place assertion σ
-    × (e ≡ substituted σ assertion.symbols)))
+    × (e ≡ instance_of σ assertion.symbols)))
     × DeriveAll Fits before right others
 
 -- any expression fits

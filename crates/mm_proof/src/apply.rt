@@ -7,8 +7,9 @@ ghost use Rattle.mm_frame.specs.Form.{IsSound};
 ghost use Rattle.mm_frame.specs.Numbers.{IsNumbered};
 ghost use Rattle.mm_frame.specs.FramePlace.{ArePairs};
 ghost use Rattle.mm_proof.specs.CodeSteps.{ids_in};
-ghost use Rattle.mm_proof.specs.CodeVerify.{AreHypothesesOf, AreVariablesOf, AreEntries, EachEntry};
-ghost use Rattle.mm_proof.specs.CodeVerify.{IsRightCode, all_named, pairs_in, variables_in};
+ghost use Rattle.mm_proof.specs.CodeVerify.{AreHypothesesOf, AreVariablesOf, AreStackEntries};
+ghost use Rattle.mm_proof.specs.CodeVerify.{EachEntry};
+ghost use Rattle.mm_proof.specs.CodeVerify.{IsRightCode, all_names_at, pairs_in, variables_in};
 ghost use Rattle.mm_proof.specs.CodeRun.{CarriesOn, StopsAt};
 ghost use Rattle.mm_proof.specs.CodeApply.{IsCalled, IsMatched, IsReady};
 
@@ -73,13 +74,14 @@ fn rule_broken<S: Store>(
     requires entries { base + length hypotheses.now ≡ length (S.stack store.now) }
     requires variables { length variables.now.list.items ≡ length hypotheses.now }
     requires fits { length (S.stack store.now) < 2 ^ 64 }
-    requires symbols { AreEntries book.now.statements (take own.now.place book.now.statements)
+    requires symbols { AreStackEntries book.now.statements (take own.now.place book.now.statements)
         (S.stack store.now) }
     ensures { (id at : ℕ) (hs : List Sentence)
         → IsCalled book.now.statements own.now.place id at (ids_in hypotheses.now) hs
         → AreVariablesOf book.now.statements (variables_in variables.now.list.items) hs
         → ArePairs (record { statements = book.now.statements; place = at }) (pairs_in pairs.now)
-        → EachEntry hs (all_named book.now.statements (drop base (S.stack store.now))) IsRightCode
+        → EachEntry hs (all_names_at book.now.statements
+        (drop base (S.stack store.now))) IsRightCode
         → MatchOption
         result
         (IsMatched book.now.statements own.now.place hs (variables_in variables.now.list.items)
@@ -120,8 +122,9 @@ fn conclude<S: Store>(
         ((place id : ℕ)
         → IsReady frame.now.statements place id frame.now.place
         (variables_in scratch.old.variables.list.items) (drop base (S.stack store.old))
-        → AreEntries frame.now.statements (take place frame.now.statements) (S.stack store.old)
-        → AreEntries frame.now.statements (take place frame.now.statements) (S.stack store.new)) }
+        → AreStackEntries frame.now.statements (take place frame.now.statements) (S.stack store.old)
+        → AreStackEntries frame.now.statements (take place frame.now.statements)
+        (S.stack store.new)) }
     ensures kept { S.kept store.new ≡ S.kept store.old }
     ensures fault { (rule : ProofRule) → (at : ℕ) → result ≡ Err (ProofFault.Rule rule at)
         → (at ≡ number)
@@ -165,14 +168,14 @@ fn apply_frame<S: Store>(
     requires assertion { (s : Sentence) × (slice_get book.now.statements frame.now.place ≡ Some s)
         × IsAssertion s.kind }
     requires before { frame.now.place < own.now.place }
-    requires entries { AreEntries book.now.statements (take own.now.place book.now.statements)
+    requires entries { AreStackEntries book.now.statements (take own.now.place book.now.statements)
         (S.stack store.old) }
     ensures carried { OnOk result
         ((id : ℕ) (s : Sentence) → IsNumbered book.now.statements id frame.now.place s
         → CarriesOn book.now.statements own.now.place id (S.stack store.old) (S.stack store.new)) }
     ensures entries { OnOk result
         ((id : ℕ) (s : Sentence) → IsNumbered book.now.statements id frame.now.place s
-        → AreEntries book.now.statements (take own.now.place book.now.statements)
+        → AreStackEntries book.now.statements (take own.now.place book.now.statements)
         (S.stack store.new)) }
     ensures kept { S.kept store.new ≡ S.kept store.old }
     ensures fault { (rule : ProofRule) → (at : ℕ) → result ≡ Err (ProofFault.Rule rule at)
@@ -225,12 +228,12 @@ pub(crate) fn apply<S: Store>(
     requires sound { IsSound book.now.statements }
     requires usable { (at : ℕ) × (s : Sentence) × IsNumbered book.now.statements id.0 at s
         × IsAssertion s.kind × (at < own.now.place) }
-    requires entries { AreEntries book.now.statements (take own.now.place book.now.statements)
+    requires entries { AreStackEntries book.now.statements (take own.now.place book.now.statements)
         (S.stack store.old) }
     ensures carried { OnOk result
         (CarriesOn book.now.statements own.now.place id.0 (S.stack store.old) (S.stack store.new)) }
     ensures entries { OnOk result
-        (AreEntries book.now.statements (take own.now.place book.now.statements)
+        (AreStackEntries book.now.statements (take own.now.place book.now.statements)
         (S.stack store.new)) }
     ensures kept { S.kept store.new ≡ S.kept store.old }
     ensures fault { (rule : ProofRule) → (at : ℕ) → result ≡ Err (ProofFault.Rule rule at)

@@ -1,7 +1,7 @@
 //! A store that has one buffer for the symbols of all its expressions.
 
 ghost use Rattle.std.specs.Prelude.{◌≡◌, [], ◌≤◌, length, take};
-ghost use Rattle.mm_proof.specs.Buffer.{AreWithin, AreApart};
+ghost use Rattle.mm_proof.specs.Buffer.{AreParts, AreSeparateParts};
 
 use crate::store::Store;
 use mm_frame::Sym;
@@ -26,10 +26,10 @@ pub struct Flat {
     stack: Vec<Entry>,
     kept: Vec<Entry>,
     floor: usize,
-    ghost stacked: { AreWithin (length symbols.items) stack.items },
-    ghost saved: { AreWithin floor kept.items },
+    ghost stacked: { AreParts (length symbols.items) stack.items },
+    ghost saved: { AreParts floor kept.items },
     ghost grounded: { floor ≤ length symbols.items },
-    ghost ordered: { AreApart floor stack.items },
+    ghost ordered: { AreSeparateParts floor stack.items },
 }
 
 impl Flat {
@@ -59,11 +59,11 @@ impl Flat {
 }
 
 // How much of the buffer the first entries of the stack and the kept ones need.
-fn needed(stack: &[Entry], left: usize, floor: usize, used: usize) -> usize
-    requires within { AreWithin used stack.now }
-    requires apart { AreApart floor stack.now }
+fn needed_length(stack: &[Entry], left: usize, floor: usize, used: usize) -> usize
+    requires within { AreParts used stack.now }
+    requires apart { AreSeparateParts floor stack.now }
     ensures floor { floor ≤ result }
-    ensures stack { AreWithin result (take left stack.now) }
+    ensures stack { AreParts result (take left stack.now) }
 {
     match stack.get(left) {
         Some(first) => floor.max(first.before),
@@ -119,7 +119,7 @@ impl Store for Flat {
 
     fn drop_last(&mut self, count: usize) {
         let left = self.stack.len() - count;
-        let used = needed(&self.stack, left, self.floor, self.symbols.len());
+        let used = needed_length(&self.stack, left, self.floor, self.symbols.len());
         self.symbols.truncate(used);
         self.stack.truncate(left);
     }

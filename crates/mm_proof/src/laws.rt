@@ -1,7 +1,7 @@
 //! Laws of verdicts on proofs. The functions do nothing: their contracts are the laws.
 
 ghost use Rattle.mm_proof.specs.Laws.{OneFit, OneTree, OneWord, ByWord, BySpelling};
-ghost use Rattle.mm_proof.specs.Laws.{SomeVerdict, OneVerdict, LimitsAside};
+ghost use Rattle.mm_proof.specs.Laws.{SomeProofVerdict, OneProofVerdict, LimitsAside};
 ghost use Rattle.mm_proof.specs.Laws.{MarkBeforeAnyStep, TagOverMarks};
 
 /// A spelling spells one tree.
@@ -56,7 +56,7 @@ pub fn by_spelling()
 /// the limit, or they have a fault: the rules leave no case out. So where the verdict isn't that
 /// it's proved, a rule and a step tell why. This holds for each limit.
 pub fn some_verdict()
-    ensures { SomeVerdict }
+    ensures { SomeProofVerdict }
 {}
 
 /// The verdict on a proof is one.
@@ -66,7 +66,7 @@ pub fn some_verdict()
 /// fault has one rule and one step. So it can't be told to be proved and at fault, nor to be at
 /// fault in two ways. This holds for each limit.
 pub fn one_verdict()
-    ensures { OneVerdict }
+    ensures { OneProofVerdict }
 {}
 
 /// What the limit on an expression's length changes, and that it changes nothing else.

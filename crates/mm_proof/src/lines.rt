@@ -108,7 +108,7 @@ fn lines_of<S: Store>(
 }
 
 // The lines of the moves, or their first fault, where the frame is that of the `$p`.
-fn listed_frame<S: Store>(
+fn lines_in_frame<S: Store>(
     alloc: Global,
     store: &mut S,
     book: &Book,
@@ -134,7 +134,7 @@ fn listed_frame<S: Store>(
 }
 
 // The lines of the moves, or their first fault.
-fn listed(
+fn lines_of_proof(
     alloc: Global,
     book: &Book,
     id: LabelId,
@@ -149,7 +149,7 @@ fn listed(
 {
     let own = book.frame(id);
     let mut store = Flat::new(alloc);
-    listed_frame(alloc, &mut store, book, &own, id, moves)
+    lines_in_frame(alloc, &mut store, book, &own, id, moves)
 }
 
 /// The steps of the `$p` with this number, which these moves prove, in order: what each is called,
@@ -188,5 +188,5 @@ pub fn listing(
         → IsMovesFault (IsWithin expression_limit) before s moves rule step
         → IsUnlessMemory result (Err (ProofFault.Rule rule step))) }
 {
-    listed(alloc, book, id, &steps.moves)
+    lines_of_proof(alloc, book, id, &steps.moves)
 }

@@ -7,9 +7,11 @@ ghost use Rattle.mm_frame.specs.Form.{IsSound};
 ghost use Rattle.mm_frame.specs.Numbers.{symbols_of};
 ghost use Rattle.mm_proof.specs.Tree.{ShareNoVariable, AreDistinct};
 ghost use Rattle.mm_proof.specs.Stores.{numbers_in};
-ghost use Rattle.mm_proof.specs.CodeVerify.{AreSymbols, AreEntries, SomeValues, EachValues};
+ghost use Rattle.mm_proof.specs.CodeVerify.{AreDeclaredSymbols, AreStackEntries, SomeValues};
+ghost use Rattle.mm_proof.specs.CodeVerify.{EachValues};
 ghost use Rattle.mm_proof.specs.CodeVerify.{SomePairValues, EachPairValues, pairs_in, value_of};
-ghost use Rattle.mm_proof.specs.CodeVerify.{variables_in, IsApart, IsApartFromEach, name_at, named};
+ghost use Rattle.mm_proof.specs.CodeVerify.{variables_in, IsApart, IsApartFromEach, name_at};
+ghost use Rattle.mm_proof.specs.CodeVerify.{names_at};
 
 use crate::store::Store;
 use crate::substitution::value;
@@ -44,18 +46,19 @@ fn is_shared(book: &Book, symbol: Sym, f: &[Sym]) -> bool
 fn share_variable(book: &Book, own: &Frame, e: &[Sym], f: &[Sym]) -> bool
     requires sound { IsSound book.now.statements }
     requires book { own.now.statements ≡ book.now.statements }
-    requires first { AreSymbols book.now.statements (take own.now.place book.now.statements)
+    requires first { AreDeclaredSymbols book.now.statements (take own.now.place book.now.statements)
         (numbers_in e.now) }
-    requires second { AreSymbols book.now.statements (take own.now.place book.now.statements)
+    requires second { AreDeclaredSymbols book.now.statements
+        (take own.now.place book.now.statements)
         (numbers_in f.now) }
     ensures { MatchBool
         result
         (¬ (ShareNoVariable (take own.now.place book.now.statements)
-        (named book.now.statements (numbers_in e.now))
-        (named book.now.statements (numbers_in f.now))))
+        (names_at book.now.statements (numbers_in e.now))
+        (names_at book.now.statements (numbers_in f.now))))
         (ShareNoVariable (take own.now.place book.now.statements)
-        (named book.now.statements (numbers_in e.now))
-        (named book.now.statements (numbers_in f.now))) }
+        (names_at book.now.statements (numbers_in e.now))
+        (names_at book.now.statements (numbers_in f.now))) }
 {
     one_number();
     for symbol in e {
@@ -83,7 +86,8 @@ fn is_apart(book: &Book, own: &Frame, variable: Sym, symbol: Sym) -> bool
 fn is_apart_from_each(book: &Book, own: &Frame, variable: Sym, f: &[Sym]) -> bool
     requires book { own.now.statements ≡ book.now.statements }
     requires first { variable.0 < length (symbols_of book.now.statements) }
-    requires second { AreSymbols book.now.statements (take own.now.place book.now.statements)
+    requires second { AreDeclaredSymbols book.now.statements
+        (take own.now.place book.now.statements)
         (numbers_in f.now) }
     ensures { MatchBool
         result
@@ -105,18 +109,19 @@ fn is_apart_from_each(book: &Book, own: &Frame, variable: Sym, f: &[Sym]) -> boo
 fn are_apart(book: &Book, own: &Frame, e: &[Sym], f: &[Sym]) -> bool
     requires sound { IsSound book.now.statements }
     requires book { own.now.statements ≡ book.now.statements }
-    requires first { AreSymbols book.now.statements (take own.now.place book.now.statements)
+    requires first { AreDeclaredSymbols book.now.statements (take own.now.place book.now.statements)
         (numbers_in e.now) }
-    requires second { AreSymbols book.now.statements (take own.now.place book.now.statements)
+    requires second { AreDeclaredSymbols book.now.statements
+        (take own.now.place book.now.statements)
         (numbers_in f.now) }
     ensures { MatchBool
         result
         (AreDistinct (take own.now.place book.now.statements)
-        (named book.now.statements (numbers_in e.now))
-        (named book.now.statements (numbers_in f.now)))
+        (names_at book.now.statements (numbers_in e.now))
+        (names_at book.now.statements (numbers_in f.now)))
         (¬ (AreDistinct (take own.now.place book.now.statements)
-        (named book.now.statements (numbers_in e.now))
-        (named book.now.statements (numbers_in f.now)))) }
+        (names_at book.now.statements (numbers_in e.now))
+        (names_at book.now.statements (numbers_in f.now)))) }
 {
     for symbol in e {
         if !is_apart_from_each(book, own, *symbol, f) {
@@ -139,16 +144,17 @@ fn is_shared_pair<S: Store>(
     requires book { own.now.statements ≡ book.now.statements }
     requires entries { base + length variables.now.list.items ≡ length (S.stack store.now) }
     requires fits { length (S.stack store.now) < 2 ^ 64 }
-    requires symbols { AreEntries book.now.statements (take own.now.place book.now.statements)
+    requires symbols { AreStackEntries book.now.statements (take own.now.place book.now.statements)
         (drop base (S.stack store.now)) }
     ensures { let before = take own.now.place book.now.statements in
         let σ = value_of (variables_in variables.now.list.items) (drop base (S.stack store.now)) in
         MatchBool
         result
         (SomeValues σ pair.0.0 pair.1.0 (λ e f.
-        ¬ (ShareNoVariable before (named book.now.statements e) (named book.now.statements f))))
+        ¬ (ShareNoVariable before (names_at book.now.statements e)
+        (names_at book.now.statements f))))
         (EachValues σ pair.0.0 pair.1.0 (λ e f.
-        ShareNoVariable before (named book.now.statements e) (named book.now.statements f))) }
+        ShareNoVariable before (names_at book.now.statements e) (names_at book.now.statements f))) }
 {
     match value(store, base, variables, pair.0) {
         Some(e) => match value(store, base, variables, pair.1) {
@@ -172,16 +178,16 @@ fn is_apart_pair<S: Store>(
     requires book { own.now.statements ≡ book.now.statements }
     requires entries { base + length variables.now.list.items ≡ length (S.stack store.now) }
     requires fits { length (S.stack store.now) < 2 ^ 64 }
-    requires symbols { AreEntries book.now.statements (take own.now.place book.now.statements)
+    requires symbols { AreStackEntries book.now.statements (take own.now.place book.now.statements)
         (drop base (S.stack store.now)) }
     ensures { let before = take own.now.place book.now.statements in
         let σ = value_of (variables_in variables.now.list.items) (drop base (S.stack store.now)) in
         MatchBool
         result
         (EachValues σ pair.0.0 pair.1.0 (λ e f.
-        AreDistinct before (named book.now.statements e) (named book.now.statements f)))
+        AreDistinct before (names_at book.now.statements e) (names_at book.now.statements f)))
         (SomeValues σ pair.0.0 pair.1.0 (λ e f.
-        ¬ (AreDistinct before (named book.now.statements e) (named book.now.statements f)))) }
+        ¬ (AreDistinct before (names_at book.now.statements e) (names_at book.now.statements f)))) }
 {
     match value(store, base, variables, pair.0) {
         Some(e) => match value(store, base, variables, pair.1) {
@@ -205,16 +211,17 @@ pub(crate) fn has_shared_pair<S: Store>(
     requires book { own.now.statements ≡ book.now.statements }
     requires entries { base + length variables.now.list.items ≡ length (S.stack store.now) }
     requires fits { length (S.stack store.now) < 2 ^ 64 }
-    requires symbols { AreEntries book.now.statements (take own.now.place book.now.statements)
+    requires symbols { AreStackEntries book.now.statements (take own.now.place book.now.statements)
         (drop base (S.stack store.now)) }
     ensures { let before = take own.now.place book.now.statements in
         let σ = value_of (variables_in variables.now.list.items) (drop base (S.stack store.now)) in
         MatchBool
         result
         (SomePairValues σ (pairs_in pairs.now) (λ e f.
-        ¬ (ShareNoVariable before (named book.now.statements e) (named book.now.statements f))))
+        ¬ (ShareNoVariable before (names_at book.now.statements e)
+        (names_at book.now.statements f))))
         (EachPairValues σ (pairs_in pairs.now) (λ e f.
-        ShareNoVariable before (named book.now.statements e) (named book.now.statements f))) }
+        ShareNoVariable before (names_at book.now.statements e) (names_at book.now.statements f))) }
 {
     for pair in pairs {
         if is_shared_pair(store, base, variables, book, own, *pair) {
@@ -237,16 +244,16 @@ pub(crate) fn are_apart_pairs<S: Store>(
     requires book { own.now.statements ≡ book.now.statements }
     requires entries { base + length variables.now.list.items ≡ length (S.stack store.now) }
     requires fits { length (S.stack store.now) < 2 ^ 64 }
-    requires symbols { AreEntries book.now.statements (take own.now.place book.now.statements)
+    requires symbols { AreStackEntries book.now.statements (take own.now.place book.now.statements)
         (drop base (S.stack store.now)) }
     ensures { let before = take own.now.place book.now.statements in
         let σ = value_of (variables_in variables.now.list.items) (drop base (S.stack store.now)) in
         MatchBool
         result
         (EachPairValues σ (pairs_in pairs.now) (λ e f.
-        AreDistinct before (named book.now.statements e) (named book.now.statements f)))
+        AreDistinct before (names_at book.now.statements e) (names_at book.now.statements f)))
         (SomePairValues σ (pairs_in pairs.now) (λ e f.
-        ¬ (AreDistinct before (named book.now.statements e) (named book.now.statements f)))) }
+        ¬ (AreDistinct before (names_at book.now.statements e) (names_at book.now.statements f)))) }
 {
     for pair in pairs {
         if !is_apart_pair(store, base, variables, book, own, *pair) {

@@ -226,7 +226,7 @@ fn whole_moves(
 }
 
 // The moves that the tokens say as a proof of the `$p` of the frame.
-fn parsed(
+fn parse_in_frame(
     alloc: Global,
     book: &Book,
     own: &Frame,
@@ -291,6 +291,6 @@ impl Steps {
             → OfProof book.now.statements id.0 (λ place s. (step ≡ 0)
             × IsWholeFault (take place book.now.statements) (texts tokens.now) rule) }
     {
-        parsed(alloc, book, &book.frame(id), id, tokens)
+        parse_in_frame(alloc, book, &book.frame(id), id, tokens)
     }
 }

@@ -7,11 +7,12 @@ ghost use Rattle.std.specs.List.{AllByRecursion};
 ghost use Rattle.mm_text.specs.declared.statement.Kind.TheVariants.{Floating, Essential};
 ghost use Rattle.mm_frame.specs.Sentence.{Sentence};
 ghost use Rattle.mm_frame.specs.Form.{IsSound};
-ghost use Rattle.mm_frame.specs.Numbers.{labelled};
+ghost use Rattle.mm_frame.specs.Numbers.{labelled_sentences};
 ghost use Rattle.mm_proof.specs.Stores.{numbers_in};
 ghost use Rattle.mm_proof.specs.CodeSteps.{ids_in};
 ghost use Rattle.mm_proof.specs.CodeVerify.{AreHypothesesOf, AreVariablesOf, IsVariableOf};
-ghost use Rattle.mm_proof.specs.CodeVerify.{AreBelow, variables_in, named, all_named, IsRightCode};
+ghost use Rattle.mm_proof.specs.CodeVerify.{AreBelow, variables_in, names_at, all_names_at};
+ghost use Rattle.mm_proof.specs.CodeVerify.{IsRightCode};
 ghost use Rattle.mm_proof.specs.CodeVerify.{IsWrongCode, IsEqual, IsUnequal, EachEntry, Replaces};
 ghost use Rattle.mm_proof.specs.Proof.{SomePair};
 
@@ -46,13 +47,14 @@ fn is_first_same(expression: &[Sym], entry: &[Sym]) -> bool
 // than its entry.
 fn variable_of(book: &Book, id: LabelId, entry: &[Sym]) -> Option<Option<Sym>>
     requires sound { IsSound book.now.statements }
-    requires named { id.0 < length (labelled book.now.statements) }
+    requires named { id.0 < length (labelled_sentences book.now.statements) }
     requires below { AreBelow book.now.statements (numbers_in entry.now) }
-    ensures { (h : Sentence) → slice_get (labelled book.now.statements) id.0 ≡ Some h → MatchOption
+    ensures { (h : Sentence) → slice_get (labelled_sentences book.now.statements) id.0 ≡ Some h
+        → MatchOption
         result
-        (IsWrongCode h (named book.now.statements (numbers_in entry.now)))
+        (IsWrongCode h (names_at book.now.statements (numbers_in entry.now)))
         (λ variable. IsVariableOf book.now.statements (option_map (λ s. s.0) variable) h
-        × IsRightCode h (named book.now.statements (numbers_in entry.now))) }
+        × IsRightCode h (names_at book.now.statements (numbers_in entry.now))) }
 {
     one_number();
     match book.kind(id) {
@@ -87,8 +89,10 @@ pub(crate) fn fill_variables<S: Store>(
         → AreHypothesesOf book.now.statements (ids_in hypotheses.now) hs
         → MatchBool right
         (AreVariablesOf book.now.statements (variables_in variables.new.list.items) hs
-        × EachEntry hs (all_named book.now.statements (drop base (S.stack store.now))) IsRightCode)
-        (SomePair hs (all_named book.now.statements (drop base (S.stack store.now))) IsWrongCode)) }
+        × EachEntry hs (all_names_at book.now.statements
+        (drop base (S.stack store.now))) IsRightCode)
+        (SomePair hs (all_names_at book.now.statements
+        (drop base (S.stack store.now))) IsWrongCode)) }
 {
     variables.clear();
     for (index, id) in hypotheses.iter().enumerate() {
@@ -110,7 +114,7 @@ fn is_equal<S: Store>(
     id: LabelId,
     entry: &[Sym],
 ) -> bool
-    requires named { id.0 < length (labelled book.now.statements) }
+    requires named { id.0 < length (labelled_sentences book.now.statements) }
     requires entries { base + length variables.now.list.items ≡ length (S.stack store.now) }
     requires fits { length (S.stack store.now) < 2 ^ 64 }
     requires below { AllByRecursion (AreBelow book.now.statements) (drop base (S.stack store.now)) }
@@ -118,11 +122,11 @@ fn is_equal<S: Store>(
     ensures { (σ : List ℕ → Option (List (List ℕ)))
         → Replaces book.now.statements σ (variables_in variables.now.list.items)
         (drop base (S.stack store.now))
-        → (h : Sentence) → slice_get (labelled book.now.statements) id.0 ≡ Some h
+        → (h : Sentence) → slice_get (labelled_sentences book.now.statements) id.0 ≡ Some h
         → IsVariableOf book.now.statements
         (slice_index_or (variables_in variables.now.list.items) place None) h
-        → MatchBool result (IsEqual σ h (named book.now.statements (numbers_in entry.now)))
-        (IsUnequal σ h (named book.now.statements (numbers_in entry.now))) }
+        → MatchBool result (IsEqual σ h (names_at book.now.statements (numbers_in entry.now)))
+        (IsUnequal σ h (names_at book.now.statements (numbers_in entry.now))) }
 {
     one_number();
     if variables.is_floating(place) {
@@ -154,8 +158,9 @@ pub(crate) fn are_equal<S: Store>(
         → (hs : List Sentence) → AreHypothesesOf book.now.statements (ids_in hypotheses.now) hs
         → AreVariablesOf book.now.statements (variables_in variables.now.list.items) hs
         → MatchBool result
-        (EachEntry hs (all_named book.now.statements (drop base (S.stack store.now))) (IsEqual σ))
-        (SomePair hs (all_named book.now.statements (drop base (S.stack store.now)))
+        (EachEntry hs (all_names_at book.now.statements (drop base (S.stack store.now)))
+        (IsEqual σ))
+        (SomePair hs (all_names_at book.now.statements (drop base (S.stack store.now)))
         (IsUnequal σ)) }
 {
     for (index, id) in hypotheses.iter().enumerate() {

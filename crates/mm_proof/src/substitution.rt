@@ -36,7 +36,8 @@ pub(crate) fn value<'s, S: Store>(
     requires entries { base + length variables.now.list.items ≡ length (S.stack store.now) }
     requires fits { length (S.stack store.now) < 2 ^ 64 }
     ensures { option_map (λ v. numbers_in v.now) result
-        ≡ value_of (variables_in variables.now.list.items) (drop base (S.stack store.now)) symbol.0 }
+        ≡ value_of (variables_in variables.now.list.items)
+        (drop base (S.stack store.now)) symbol.0 }
 {
     match variables.place_of(symbol) {
         Some(place) => Some(after_first(store.at(base + place))),

@@ -3,7 +3,7 @@
 ghost use Rattle.std.specs.Prelude.{◌≡◌, ◌≤◌, ◌++◌, ◌∷◌, [], ℕ, map, length, IfOk, IfSome};
 ghost use Rattle.std.specs.List.{AllByRecursion, sum_by};
 ghost use Rattle.mm_text.specs.Statement.{plain_statement, HasForm, bytes_in};
-ghost use Rattle.mm_frame.specs.Sentence.{Sentence, said_by};
+ghost use Rattle.mm_frame.specs.Sentence.{Sentence, sentence_in};
 ghost use Rattle.mm_frame.specs.Taken.{TakenAs};
 ghost use Rattle.mm_proof.specs.Steps.{IsProofNumber};
 ghost use Rattle.mm_proof.specs.CodeSteps.{texts};
@@ -123,7 +123,7 @@ fn take<'a>(book: &mut Book<'a>, statement: &Statement<'a>) -> Result<Taken, Fai
     requires { HasForm (plain_statement statement.now) }
     ensures taken { IfOk result (λ taken. TakenAs book.old.statements statement.now.kind taken) }
     ensures book { IfOk result (λ taken. book.new.statements
-        ≡ book.old.statements ++ said_by statement.now ∷ []) }
+        ≡ book.old.statements ++ sentence_in statement.now ∷ []) }
     ensures formed { IfOk result (λ taken. HasForm (plain_statement statement.now)) }
     ensures room { IfOk result (λ taken. bytes_in (plain_statement statement.now) ≤ 1073741824) }
 {
@@ -277,7 +277,7 @@ fn compressed_proof(rt: HostRuntime) -> Result<(), Fail> {
 }
 
 /// The steps of the proof; nothing where it is incomplete.
-fn listed(alloc: Global, theorem: &Theorem) -> Result<Option<Vec<Line>>, ProofFault>
+fn listing_of(alloc: Global, theorem: &Theorem) -> Result<Option<Vec<Line>>, ProofFault>
     requires proof { (place : ℕ) × (s : Sentence)
         × IsProofNumber theorem.now.book.statements theorem.now.id.0 place s }
     requires filled { AllByRecursion (λ x. 1 ≤ length x) (texts theorem.now.tokens.items) }
@@ -317,7 +317,7 @@ fn steps_are_listed(rt: HostRuntime) -> Result<(), Fail> {
         Name::Step(3),
         Name::Label(cat),
     ];
-    let lines = listed(alloc, &theorem)?.ok_or("incomplete")?;
+    let lines = listing_of(alloc, &theorem)?.ok_or("incomplete")?;
     assert_eq!(&rt; lines.len(), names.len());
     for (line, name) in lines.iter().zip(names.iter()) {
         assert_eq!(&rt; line.name, *name);

@@ -2,7 +2,8 @@
 
 ghost use Rattle.std.specs.Prelude.{◌≡◌, ◌≤◌, [], ◌∷◌, ◌++◌, List, ℕ, length, slice_index_or};
 ghost use Rattle.std.specs.Prelude.{is_some, Some, None, MatchOption, OnOk, OnErr};
-ghost use Rattle.mm_proof.specs.CodeVerify.{variables_in, is_of, ArePlaces, IsNowhere, IsFirstAt};
+ghost use Rattle.mm_proof.specs.CodeVerify.{variables_in, is_of, AreFirstPlaces, IsNowhere};
+ghost use Rattle.mm_proof.specs.CodeVerify.{IsFirstAt};
 
 use mm_frame::Sym;
 use std::alloc::{AllocError, Global};
@@ -16,7 +17,7 @@ pub(crate) struct Variables {
     list: Vec<Option<Sym>>,
     /// By the number of a symbol, the first place at which the list has it.
     places: Vec<usize>,
-    ghost placed: { ArePlaces places.items (variables_in list.items) },
+    ghost placed: { AreFirstPlaces places.items (variables_in list.items) },
 }
 
 // Whether the list has the symbol at the place.
@@ -43,7 +44,7 @@ pub(crate) fn lengthen(places: &mut Vec<usize>, count: usize) -> Result<(), Allo
 
 // The place of the symbol in the list, where the places are those of its variables.
 fn find_place(places: &[usize], list: &[Option<Sym>], symbol: Sym) -> Option<usize>
-    requires { ArePlaces places.now (variables_in list.now) }
+    requires { AreFirstPlaces places.now (variables_in list.now) }
     ensures { MatchOption
         result
         (IsNowhere symbol.0 (variables_in list.now))
@@ -63,10 +64,10 @@ fn find_place(places: &[usize], list: &[Option<Sym>], symbol: Sym) -> Option<usi
 
 // Makes the places ready for the symbol as the next variable of the list.
 fn put_place(places: &mut Vec<usize>, list: &[Option<Sym>], symbol: Sym) -> Result<(), AllocError>
-    requires { ArePlaces places.old.items (variables_in list.now) }
-    ensures now { ArePlaces places.new.items (variables_in list.now) }
+    requires { AreFirstPlaces places.old.items (variables_in list.now) }
+    ensures now { AreFirstPlaces places.new.items (variables_in list.now) }
     ensures then { OnOk result
-        (ArePlaces places.new.items (variables_in list.now ++ Some symbol.0 ∷ [])) }
+        (AreFirstPlaces places.new.items (variables_in list.now ++ Some symbol.0 ∷ [])) }
 {
     let number = symbol.0 as usize;
     lengthen(places, number + 1)?;

@@ -12,8 +12,9 @@ ghost use Rattle.mm_proof.specs.Proof.{Prove, IsWithin, expression_limit, IsMove
 ghost use Rattle.mm_proof.specs.Steps.{AreNumberedMoves, AreSteps};
 ghost use Rattle.mm_frame.specs.Form.{IsSound};
 ghost use Rattle.mm_proof.specs.CodeSteps.{MayBeUsed, ids_in, moves_in};
-ghost use Rattle.mm_proof.specs.CodeVerify.{AreEntries};
-ghost use Rattle.mm_proof.specs.CodeRun.{CarriesOn, StopsAt, MayBeMade, HasRun, IsNamed, AreNamed};
+ghost use Rattle.mm_proof.specs.CodeVerify.{AreStackEntries};
+ghost use Rattle.mm_proof.specs.CodeRun.{CarriesOn, StopsAt, MayBeMade, HasRun, IsNamedByMove};
+ghost use Rattle.mm_proof.specs.CodeRun.{AreNamed};
 ghost use Rattle.mm_proof.specs.CodeRun.{EndsWrong};
 ghost use Rattle.mm_proof.specs.Verified.{OfMoves, ProvesWith, FailsWith};
 
@@ -28,7 +29,7 @@ use mm_frame::{Book, Frame, LabelId, LabelKind, Sym, one_number};
 use std::alloc::{AllocError, Global};
 
 // The proof breaks a rule at a step.
-fn broken(rule: ProofRule, step: usize) -> Result<(), ProofFault>
+fn fault_at_step(rule: ProofRule, step: usize) -> Result<(), ProofFault>
     ensures { result ≡ Err (ProofFault.Rule rule step) }
 {
     Err(ProofFault::Rule { rule, step })
@@ -46,12 +47,12 @@ pub(crate) fn step<S: Store>(
     requires own { own.now.statements ≡ book.now.statements }
     requires sound { IsSound book.now.statements }
     requires usable { (label : List ℕ) × MayBeUsed book.now.statements own.now.place label id.0 }
-    requires entries { AreEntries book.now.statements (take own.now.place book.now.statements)
+    requires entries { AreStackEntries book.now.statements (take own.now.place book.now.statements)
         (S.stack store.old) }
     ensures carried { OnOk result
         (CarriesOn book.now.statements own.now.place id.0 (S.stack store.old) (S.stack store.new)) }
     ensures entries { OnOk result
-        (AreEntries book.now.statements (take own.now.place book.now.statements)
+        (AreStackEntries book.now.statements (take own.now.place book.now.statements)
         (S.stack store.new)) }
     ensures kept { S.kept store.new ≡ S.kept store.old }
     ensures fault { (rule : ProofRule) → (at : ℕ) → result ≡ Err (ProofFault.Rule rule at)
@@ -61,7 +62,7 @@ pub(crate) fn step<S: Store>(
         LabelKind::Floating | LabelKind::Essential => {
             let expression = book.expression(id);
             if expression.len() > EXPRESSION_LIMIT {
-                return broken(ProofRule::L1, number);
+                return fault_at_step(ProofRule::L1, number);
             }
             store.push(expression)?;
             Ok(())
@@ -86,7 +87,7 @@ pub(crate) fn step_again<S: Store>(
         → (at ≡ number) × (rule ≡ ProofRule.P6) × (length (S.kept store.old) ≤ tag) }
 {
     if tag as usize >= kept {
-        return broken(ProofRule::P6, number);
+        return fault_at_step(ProofRule::P6, number);
     }
     store.push_copy(tag as usize)?;
     Ok(())
@@ -102,7 +103,7 @@ pub(crate) fn mark<S: Store>(store: &mut S, number: usize) -> Result<(), ProofFa
         → (at ≡ number) × (rule ≡ ProofRule.P7) × (S.stack store.old ≡ []) }
 {
     if store.len() == 0 {
-        return broken(ProofRule::P7, number);
+        return fault_at_step(ProofRule::P7, number);
     }
     store.keep()?;
     Ok(())
@@ -178,9 +179,10 @@ fn add_named(named: &mut Named, book: &Book, id: LabelId) -> Result<(), AllocErr
     requires used { (place : ℕ) × (label : List ℕ)
         × MayBeUsed book.now.statements place label id.0 }
     ensures { OnOk result ((moves : List (Move ℕ))
-        → ((n : ℕ) → Contains (ids_in named.old.ids.items) n ↔ IsNamed book.now.statements moves n)
+        → ((n : ℕ) → Contains (ids_in named.old.ids.items) n
+        ↔ IsNamedByMove book.now.statements moves n)
         → (n : ℕ) → Contains (ids_in named.new.ids.items) n
-        ↔ IsNamed book.now.statements (moves ++ Move.name id.0 ∷ []) n) }
+        ↔ IsNamedByMove book.now.statements (moves ++ Move.name id.0 ∷ []) n) }
 {
     if is_listed(&named.places, &named.ids, id) {
         return Ok(());
@@ -200,7 +202,7 @@ fn fill_named(named: &mut Named, book: &Book, moves: &[NumberedMove]) -> Result<
     requires known { (place : ℕ)
         × AllByRecursion (MayBeMade book.now.statements place) (moves_in moves.now) }
     ensures { OnOk result ((id : ℕ) → Contains (ids_in named.new.ids.items) id
-        ↔ IsNamed book.now.statements (moves_in moves.now) id) }
+        ↔ IsNamedByMove book.now.statements (moves_in moves.now) id) }
 {
     named.ids.clear();
     for one in moves {
@@ -241,10 +243,10 @@ pub(crate) fn ending<S: Store>(
         → (at ≡ number) × EndsWrong rule (S.stack store.now) (numbers_in expression.now) }
 {
     if store.len() != 1 {
-        return broken(ProofRule::P13, number);
+        return fault_at_step(ProofRule::P13, number);
     }
     if !is_same(store.at(0), expression) {
-        return broken(ProofRule::P14, number);
+        return fault_at_step(ProofRule::P14, number);
     }
     Ok(())
 }
@@ -280,7 +282,7 @@ fn derive<S: Store>(
 
 // The assertions of the tree that the moves make, or their first fault, where the frame is that of
 // the `$p`.
-fn judged_frame<S: Store>(
+fn judgement_in_frame<S: Store>(
     alloc: Global,
     store: &mut S,
     scratch: &mut Scratch,
@@ -306,7 +308,7 @@ fn judged_frame<S: Store>(
 }
 
 // The assertions of the tree that the moves make, or their first fault.
-fn judged<S: Store>(
+fn judgement<S: Store>(
     alloc: Global,
     store: &mut S,
     scratch: &mut Scratch,
@@ -325,7 +327,7 @@ fn judged<S: Store>(
     ensures sound { IsSound book.now.statements }
 {
     let own = book.frame(id);
-    judged_frame(alloc, store, scratch, book, &own, id, moves)
+    judgement_in_frame(alloc, store, scratch, book, &own, id, moves)
 }
 
 // The answer on the moves of a proof. The store is handed in empty.
@@ -353,7 +355,7 @@ pub(crate) fn answer<S: Store>(
         → FailsWith book.now.statements place s names rule step
         → IsUnlessMemory result (Err (ProofFault.Rule rule step))) }
 {
-    match judged(alloc, store, scratch, book, id, &steps.moves) {
+    match judgement(alloc, store, scratch, book, id, &steps.moves) {
         Ok(labels) => Ok(Used { labels }),
         Err(fault) => Err(fault),
     }

@@ -9,7 +9,7 @@ use Rattle.mm_text.specs.declared.statement.Kind.{Kind}
 use Rattle.mm_text.specs.declared.statement.Kind.TheVariants.{Constants, Variables, Distinct, Floating, Essential, Axiom, Provable, Opening, Closing}
 use Rattle.mm_text.specs.Statement.{PlainStatement, HasBody}
 use Rattle.mm_text.specs.Blocks.{is_opening, is_closing, openings, closings, AreBalanced, AreClosed, IsInnermost}
-use Rattle.mm_text.specs.Mirror.Reader.{PlainScope, outermost, passed, opened, closed, has_none}
+use Rattle.mm_text.specs.Mirror.Reader.{PlainScope, outermost, scope_after_statement, scope_after_opening, scope_after_closing, has_none}
 use Rattle.mm_text.proofs.Fronts.{two_cuts}
 
 -- ---- counts
@@ -108,7 +108,7 @@ pub balanced_whole : (a : List PlainStatement) → AreBalanced a → closings a 
 balanced_whole a h = subst (λ (x : List PlainStatement). closings x ≤ openings x) (take-length a) (h (length a))
 
 balanced_append : (a b : List PlainStatement) → AreBalanced a → AreClosed a → AreBalanced b → AreBalanced (a ++ b)
-balanced_append a b h closed k = keeps_balanced (a ++ b) (keeps_append 0 0 a b (balanced_keeps a h) (balanced_keeps b k) (omega (arith, closed)))
+balanced_append a b h scope_after_closing k = keeps_balanced (a ++ b) (keeps_append 0 0 a b (balanced_keeps a h) (balanced_keeps b k) (omega (arith, scope_after_closing)))
 
 closed_append : (a b : List PlainStatement) → AreClosed a → AreClosed b → AreClosed (a ++ b)
 closed_append a b h k = omega (arith, openings-append a b, closings-append a b, h, k)
@@ -136,10 +136,10 @@ balanced_closing a s h k some_open =
 
 -- after closed blocks there is no `$}`
 pub closing_unbalanced : (a : List PlainStatement) (s : PlainStatement) → AreClosed a → s.kind ≡ Closing → AreBalanced (a ++ s ∷ []) → ⊥
-closing_unbalanced a s closed k h =
+closing_unbalanced a s scope_after_closing k h =
     let c = closing_count s k in
     let le = balanced_whole (a ++ s ∷ []) h in
-    omega (arith, openings-append a (s ∷ []), closings-append a (s ∷ []), c.0, c.1, closed, le)
+    omega (arith, openings-append a (s ∷ []), closings-append a (s ∷ []), c.0, c.1, scope_after_closing, le)
 
 -- ---- open blocks
 
@@ -193,9 +193,9 @@ open_closing statements s block blocks h k =
     keeps_append 1 1 inner.within (s ∷ []) (keeps_more 0 1 inner.within (omega arith) (balanced_keeps inner.within inner.balanced)) (keeps_one 1 s (omega (arith, c.0, c.1))) (omega (arith, inner.closed)) in
     let segment : List PlainStatement = (h.1 ∷ []) ++ after in
     let balanced : AreBalanced segment = keeps_balanced segment (keeps_append 0 1 (h.1 ∷ []) after (keeps_one 0 h.1 (omega (arith, o.0, o.1))) kept (omega (arith, o.0, o.1))) in
-    let closed : AreClosed segment =
+    let scope_after_closing : AreClosed segment =
     omega (arith, openings-append (h.1 ∷ []) after, closings-append (h.1 ∷ []) after, openings-append inner.within (s ∷ []), closings-append inner.within (s ∷ []), o.0, o.1, c.0, c.1, inner.closed) in
-    subst (λ (x : List PlainStatement). AreOpen x blocks) (sym (ap (λ (x : List PlainStatement). x ++ s ∷ []) inner.whole ∙ append_assoc h.0 (h.1 ∷ inner.within) (s ∷ []))) (open_segment h.0 segment blocks h.4 balanced closed)
+    subst (λ (x : List PlainStatement). AreOpen x blocks) (sym (ap (λ (x : List PlainStatement). x ++ s ∷ []) inner.whole ∙ append_assoc h.0 (h.1 ∷ inner.within) (s ∷ []))) (open_segment h.0 segment blocks h.4 balanced scope_after_closing)
 
 -- ---- what the first open block tells
 
@@ -205,10 +205,10 @@ open_balanced statements (block ∷ blocks) h e = absurd (false≢true e)
 
 -- a block that is open isn't closed
 pub innermost_unclosed : (statements before : List PlainStatement) (opening : PlainStatement) → AreBalanced statements → IsInnermost statements before opening → ¬ (AreClosed statements)
-innermost_unclosed statements before opening h inner closed =
+innermost_unclosed statements before opening h inner scope_after_closing =
     let o = opening_count opening inner.opened in
     let le = balanced_whole before (balanced_front before (opening ∷ inner.within) (subst AreBalanced inner.whole h)) in
-    let all : AreClosed (before ++ opening ∷ inner.within) = subst AreClosed inner.whole closed in
+    let all : AreClosed (before ++ opening ∷ inner.within) = subst AreClosed inner.whole scope_after_closing in
     omega (arith, openings-append before (opening ∷ inner.within), closings-append before (opening ∷ inner.within), openings-append (opening ∷ []) inner.within, closings-append (opening ∷ []) inner.within, o.0, o.1, le, inner.closed, all)
 
 open_unclosed : (statements : List PlainStatement) (blocks : List OpenBlock) → AreBalanced statements → AreOpen statements blocks → has_none blocks ≡ false → ¬ (AreClosed statements)
@@ -217,10 +217,10 @@ open_unclosed statements (block ∷ blocks) b h e = innermost_unclosed statement
 
 -- a `${` within closed blocks isn't closed there
 closed_within : (mid within other : List PlainStatement) (opening : PlainStatement) → opening.kind ≡ Opening → AreClosed within → AreBalanced other → AreClosed other → other ≡ mid ++ opening ∷ within → ⊥
-closed_within mid within other opening k c b closed e =
+closed_within mid within other opening k c b scope_after_closing e =
     let o = opening_count opening k in
     let le = balanced_whole mid (balanced_front mid (opening ∷ within) (subst AreBalanced e b)) in
-    let all : AreClosed (mid ++ opening ∷ within) = subst AreClosed e closed in
+    let all : AreClosed (mid ++ opening ∷ within) = subst AreClosed e scope_after_closing in
     omega (arith, openings-append mid (opening ∷ within), closings-append mid (opening ∷ within), openings-append (opening ∷ []) within, closings-append (opening ∷ []) within, o.0, o.1, le, c, all)
 
 -- there is one innermost block
@@ -235,9 +235,9 @@ one_innermost statements a b x y h k =
 -- ---- the scope after statements
 
 abbrev pub after_kind : PlainScope → PlainStatement → Kind → PlainScope
-after_kind scope s Opening = opened scope s.first
-after_kind scope s Closing = closed scope
-after_kind scope s kind = passed scope
+after_kind scope s Opening = scope_after_opening scope s.first
+after_kind scope s Closing = scope_after_closing scope
+after_kind scope s kind = scope_after_statement scope
 
 -- the scope after these statements, from one on
 unfoldable pub scope_after : PlainScope → List PlainStatement → PlainScope
@@ -271,12 +271,12 @@ pub scope_more : (statements : List PlainStatement) (s : PlainStatement) → sco
 unfolding scope_after
 scope_more statements s = after-append outermost statements (s ∷ [])
 
-body_kind : (scope : PlainScope) (s : PlainStatement) (kind : Kind) → HasBody kind → after_kind scope s kind ≡ passed scope
+body_kind : (scope : PlainScope) (s : PlainStatement) (kind : Kind) → HasBody kind → after_kind scope s kind ≡ scope_after_statement scope
 body_kind scope s Opening h = absurd h
 body_kind scope s Closing h = absurd h
 body_kind scope s _ h = refl
 
-pub scope_body : (statements : List PlainStatement) (s : PlainStatement) → HasBody s.kind → scope_of (statements ++ s ∷ []) ≡ passed (scope_of statements)
+pub scope_body : (statements : List PlainStatement) (s : PlainStatement) → HasBody s.kind → scope_of (statements ++ s ∷ []) ≡ scope_after_statement (scope_of statements)
 scope_body statements s long = scope_more statements s ∙ body_kind (scope_of statements) s s.kind long
 
 open_step : (before : List PlainStatement) (s : PlainStatement) (scope : PlainScope) (kind : Kind) → s.kind ≡ kind → AreOpen before scope.blocks → scope.count ≡ length before → AreBalanced (before ++ s ∷ [])
@@ -317,7 +317,7 @@ pub scope_unclosed : (statements : List PlainStatement) → AreBalanced statemen
 scope_unclosed statements b e = open_unclosed statements (scope_of statements).blocks b (scope_open statements b) e
 
 pub closed_scope : (statements : List PlainStatement) → AreBalanced statements → AreClosed statements → has_none (scope_of statements).blocks ≡ true
-closed_scope statements b closed = true_from_ne_false _ (λ e. scope_unclosed statements b e closed)
+closed_scope statements b scope_after_closing = true_from_ne_false _ (λ e. scope_unclosed statements b e scope_after_closing)
 
 pub unclosed_scope : (statements : List PlainStatement) → AreBalanced statements → ¬ (AreClosed statements) → has_none (scope_of statements).blocks ≡ false
 unclosed_scope statements b open_yet = false_from_ne_true _ (λ e. open_yet (scope_closed statements b e))

@@ -9,8 +9,8 @@ use Rattle.std.proofs.lemmas.List.Folds.{list_all_at}
 use Rattle.memchr.specs.Find.{Nowhere, Passes, is_byte}
 use Rattle.mm_text.specs.declared.fault.TextRule.TheVariants.{X1, X2, X3, X4}
 use Rattle.mm_text.specs.Token.{PlainToken, is_space, is_printable, with_byte, tokens_from}
-use Rattle.mm_text.specs.Items.{Clear, Broken, uncommented, spells, holds_mark}
-use Rattle.mm_text.specs.Mirror.Place.{is_legal, is_quiet, IsLegalFront, IsPlace, IsLater, moved, comment_at, shown_at}
+use Rattle.mm_text.specs.Items.{Clear, Broken, without_comments, spells, holds_mark}
+use Rattle.mm_text.specs.Mirror.Place.{is_legal, is_quiet, IsLegalFront, IsPlace, IsLater, place_at, comment_at, shown_at}
 use Rattle.std.specs.Cmp.Lexicographic.{bytes_decides}
 use Rattle.mm_text.specs.declared.comments.Place.{Place}
 use Rattle.mm_text.proofs.TokenLaws.{tokens_from-space, tokens_from-byte, tokens_from-nil, tokens_from-step, BeginFrom, tokens_from_begin, with_byte_apart, BeginsWithSpace, space_from_place}
@@ -96,24 +96,24 @@ quiet_front file at (b ∷ front) rest q after =
 
 -- ---- tokens in a comment
 
-pub in_comment-illegal : (begin t : PlainToken) (tokens : List PlainToken) → list_all is_printable t.text ≡ false → uncommented (Some begin) (t ∷ tokens) ≡ Broken X1 t ∷ []
-unfolding uncommented
+pub in_comment-illegal : (begin t : PlainToken) (tokens : List PlainToken) → list_all is_printable t.text ≡ false → without_comments (Some begin) (t ∷ tokens) ≡ Broken X1 t ∷ []
+unfolding without_comments
 in_comment-illegal begin t tokens e = simp e
 
-pub in_comment-close : (begin t : PlainToken) (tokens : List PlainToken) → list_all is_printable t.text ≡ true → spells t.text (codes "$)") ≡ true → uncommented (Some begin) (t ∷ tokens) ≡ uncommented None tokens
-unfolding uncommented
+pub in_comment-close : (begin t : PlainToken) (tokens : List PlainToken) → list_all is_printable t.text ≡ true → spells t.text (codes "$)") ≡ true → without_comments (Some begin) (t ∷ tokens) ≡ without_comments None tokens
+unfolding without_comments
 in_comment-close begin t tokens e f = simp (e, f)
 
-pub in_comment-mark : (begin t : PlainToken) (tokens : List PlainToken) → list_all is_printable t.text ≡ true → spells t.text (codes "$)") ≡ false → holds_mark t.text ≡ true → uncommented (Some begin) (t ∷ tokens) ≡ Broken X3 t ∷ []
-unfolding uncommented
+pub in_comment-mark : (begin t : PlainToken) (tokens : List PlainToken) → list_all is_printable t.text ≡ true → spells t.text (codes "$)") ≡ false → holds_mark t.text ≡ true → without_comments (Some begin) (t ∷ tokens) ≡ Broken X3 t ∷ []
+unfolding without_comments
 in_comment-mark begin t tokens e f g = simp (e, f, g)
 
-pub in_comment-more : (begin t : PlainToken) (tokens : List PlainToken) → list_all is_printable t.text ≡ true → spells t.text (codes "$)") ≡ false → holds_mark t.text ≡ false → uncommented (Some begin) (t ∷ tokens) ≡ uncommented (Some begin) tokens
-unfolding uncommented
+pub in_comment-more : (begin t : PlainToken) (tokens : List PlainToken) → list_all is_printable t.text ≡ true → spells t.text (codes "$)") ≡ false → holds_mark t.text ≡ false → without_comments (Some begin) (t ∷ tokens) ≡ without_comments (Some begin) tokens
+unfolding without_comments
 in_comment-more begin t tokens e f g = simp (e, f, g)
 
-pub in_comment-end : (begin : PlainToken) → uncommented (Some begin) [] ≡ Broken X2 begin ∷ []
-unfolding uncommented
+pub in_comment-end : (begin : PlainToken) → without_comments (Some begin) [] ≡ Broken X2 begin ∷ []
+unfolding without_comments
 in_comment-end begin = refl
 
 no_dollar-mark : (text : List ℕ) → list_any (λ b. b == 36) text ≡ false → holds_mark text ≡ false
@@ -128,17 +128,17 @@ no_dollar-spells [] c h = refl
 no_dollar-spells (b ∷ text) c h =
     ap (λ d. d && spells text (c ∷ [])) (or_parts (b == 36) (list_any (λ x. x == 36) text) h).0
 
-quiet_passed : (begin : PlainToken) (quiet rest : List PlainToken) → AllByRecursion IsQuiet quiet → uncommented (Some begin) (quiet ++ rest) ≡ uncommented (Some begin) rest
+quiet_passed : (begin : PlainToken) (quiet rest : List PlainToken) → AllByRecursion IsQuiet quiet → without_comments (Some begin) (quiet ++ rest) ≡ without_comments (Some begin) rest
 quiet_passed begin [] rest each = refl
 quiet_passed begin (t ∷ quiet) rest each =
     in_comment-more begin t (quiet ++ rest) each.0.0 (no_dollar-spells t.text 41 each.0.1) (no_dollar-mark t.text each.0.1)
     ∙ quiet_passed begin quiet rest each.1
 
 -- in a comment quiet bytes before white space or the file's end are passed over
-front_passed : (begin : PlainToken) (file at : ℕ) (front rest : List ℕ) → AreQuiet front → BeginsWithSpace rest → uncommented (Some begin) (tokens_from file at (front ++ rest)) ≡ uncommented (Some begin) (tokens_from file (at + length front) rest)
+front_passed : (begin : PlainToken) (file at : ℕ) (front rest : List ℕ) → AreQuiet front → BeginsWithSpace rest → without_comments (Some begin) (tokens_from file at (front ++ rest)) ≡ without_comments (Some begin) (tokens_from file (at + length front) rest)
 front_passed begin file at front rest q after =
     let split = quiet_front file at front rest q after in
-    ap (uncommented (Some begin)) split.whole ∙ quiet_passed begin split.quiet _ split.each
+    ap (without_comments (Some begin)) split.whole ∙ quiet_passed begin split.quiet _ split.each
 
 -- ---- the same, of the bytes of a file by their places
 
@@ -148,7 +148,7 @@ quiet_from_places (b ∷ bytes) h = (h 0 (omega arith), quiet_from_places bytes 
 
 -- before the place after white space
 passed_space : (begin : PlainToken) (bytes : List ℕ) (file at n : ℕ) → at + n + 1 ≤ length bytes → ((k : ℕ) → at ≤ k → k < at + n → is_quiet (get_or bytes k 0) ≡ true) → is_space (get_or bytes (at + n) 0) ≡ true
-    → uncommented (Some begin) (tokens_from file at (drop at bytes)) ≡ uncommented (Some begin) (tokens_from file (at + n + 1) (drop (at + n + 1) bytes))
+    → without_comments (Some begin) (tokens_from file at (drop at bytes)) ≡ without_comments (Some begin) (tokens_from file (at + n + 1) (drop (at + n + 1) bytes))
 passed_space begin bytes file at n within quiet space =
     let front = take n (drop at bytes) in
     let long : length front ≡ n = length-take-le n (drop at bytes) (omega (arith, length-drop at bytes)) in
@@ -156,34 +156,34 @@ passed_space begin bytes file at n within quiet space =
     ap (λ m. front ++ drop m bytes) (omega arith) ∙ ap (λ l. front ++ l) (sym (drop-drop n at bytes)) ∙ take-append-drop n (drop at bytes) in
     let each : AreQuiet front = quiet_from_places front (λ k lt. ap is_quiet (get_or-take n (drop at bytes) k 0 (omega arith) ∙ get_or-drop at bytes k 0) ∙ quiet (at + k) (omega arith) (omega arith)) in
     let after : BeginsWithSpace (drop (at + n) bytes) = space_from_place (drop (at + n) bytes) (λ lt. ap is_space (get_or-drop (at + n) bytes 0 0 ∙ ap (λ m. get_or bytes m 0) (omega arith)) ∙ space) in
-    ap (λ l. uncommented (Some begin) (tokens_from file at l)) (sym split)
+    ap (λ l. without_comments (Some begin) (tokens_from file at l)) (sym split)
     ∙ front_passed begin file at front (drop (at + n) bytes) each after
-    ∙ ap (λ m. uncommented (Some begin) (tokens_from file m (drop (at + n) bytes))) (omega arith)
-    ∙ ap (uncommented (Some begin)) (tokens_from-step bytes file (at + n) (omega arith) space)
+    ∙ ap (λ m. without_comments (Some begin) (tokens_from file m (drop (at + n) bytes))) (omega arith)
+    ∙ ap (without_comments (Some begin)) (tokens_from-step bytes file (at + n) (omega arith) space)
 
 -- in a comment quiet bytes are passed over, up to a place after white space
 pub passed_to : (begin : PlainToken) (bytes : List ℕ) (file at start : ℕ) → at ≤ start → start ≤ length bytes → ((k : ℕ) → at ≤ k → k < start → is_quiet (get_or bytes k 0) ≡ true)
     → (start ≡ at) ⊎ ((k : ℕ) → k + 1 ≡ start → is_space (get_or bytes k 0) ≡ true)
-    → uncommented (Some begin) (tokens_from file at (drop at bytes)) ≡ uncommented (Some begin) (tokens_from file start (drop start bytes))
-passed_to begin bytes file at start from within quiet (inl same) = ap (λ n. uncommented (Some begin) (tokens_from file n (drop n bytes))) (sym same)
+    → without_comments (Some begin) (tokens_from file at (drop at bytes)) ≡ without_comments (Some begin) (tokens_from file start (drop start bytes))
+passed_to begin bytes file at start from within quiet (inl same) = ap (λ n. without_comments (Some begin) (tokens_from file n (drop n bytes))) (sym same)
 passed_to begin bytes file at start from within quiet (inr space) = go (start - at) (omega arith)
   where
-    go : (n : ℕ) → at + n ≡ start → uncommented (Some begin) (tokens_from file at (drop at bytes)) ≡ uncommented (Some begin) (tokens_from file start (drop start bytes))
-    go zero e = ap (λ n. uncommented (Some begin) (tokens_from file n (drop n bytes))) (omega arith)
+    go : (n : ℕ) → at + n ≡ start → without_comments (Some begin) (tokens_from file at (drop at bytes)) ≡ without_comments (Some begin) (tokens_from file start (drop start bytes))
+    go zero e = ap (λ n. without_comments (Some begin) (tokens_from file n (drop n bytes))) (omega arith)
     go (suc n) e =
         let last : at + n + 1 ≡ start = omega arith in
         passed_space begin bytes file at n (omega arith) (λ k low high. quiet k low (omega arith)) (space (at + n) last)
-        ∙ ap (λ m. uncommented (Some begin) (tokens_from file m (drop m bytes))) last
+        ∙ ap (λ m. without_comments (Some begin) (tokens_from file m (drop m bytes))) last
 
 -- and up to the file's end, where the comment is open
 pub passed_all : (begin : PlainToken) (bytes : List ℕ) (file at : ℕ) → at ≤ length bytes → ((k : ℕ) → at ≤ k → k < length bytes → is_quiet (get_or bytes k 0) ≡ true)
-    → uncommented (Some begin) (tokens_from file at (drop at bytes)) ≡ Broken X2 begin ∷ []
+    → without_comments (Some begin) (tokens_from file at (drop at bytes)) ≡ Broken X2 begin ∷ []
 passed_all begin bytes file at within quiet =
     let front = drop at bytes in
     let each : AreQuiet front = quiet_from_places front (λ k lt. ap is_quiet (get_or-drop at bytes k 0) ∙ quiet (at + k) (omega arith) (omega (arith, length-drop at bytes))) in
-    ap (λ l. uncommented (Some begin) (tokens_from file at l)) (sym (append-nil front))
+    ap (λ l. without_comments (Some begin) (tokens_from file at l)) (sym (append-nil front))
     ∙ front_passed begin file at front [] each tt
-    ∙ ap (uncommented (Some begin)) (tokens_from-nil file (at + length front))
+    ∙ ap (without_comments (Some begin)) (tokens_from-nil file (at + length front))
     ∙ in_comment-end begin
 
 -- no `$` was found, and no byte that may not stand there
@@ -237,31 +237,31 @@ pub comment_token : (begin : PlainToken) (p : Place) (stop start end : ℕ) (t :
     → (start ≡ p.at) ⊎ ((k : ℕ) → k + 1 ≡ start → is_space (get_or p.bytes.now k 0) ≡ true)
     → ((file : ℕ) → tokens_from file start (drop start p.bytes.now) ≡ record { text = slice_range p.bytes.now start end; file = file; at = start } ∷ tokens_from file end (drop end p.bytes.now))
     → t ≡ record { text = slice_range p.bytes.now start end; file = p.file; at = start }
-    → comment_at begin p ≡ uncommented (Some begin) (t ∷ tokens_from p.file end (drop end p.bytes.now))
+    → comment_at begin p ≡ without_comments (Some begin) (t ∷ tokens_from p.file end (drop end p.bytes.now))
 comment_token begin p stop start end t place from before within quiet apart token same =
     passed_to begin p.bytes.now p.file p.at start from (omega (arith, place.front.within)) (λ k low high. quiet k low (omega arith)) apart
-    ∙ ap (uncommented (Some begin)) (token p.file ∙ ap (λ (u : PlainToken). u ∷ tokens_from p.file end (drop end p.bytes.now)) (sym same))
+    ∙ ap (without_comments (Some begin)) (token p.file ∙ ap (λ (u : PlainToken). u ∷ tokens_from p.file end (drop end p.bytes.now)) (sym same))
 
 -- ---- tokens outside comments
 
-pub outside-end : uncommented None [] ≡ []
-unfolding uncommented
+pub outside-end : without_comments None [] ≡ []
+unfolding without_comments
 outside-end = refl
 
-pub outside-illegal : (t : PlainToken) (tokens : List PlainToken) → list_all is_printable t.text ≡ false → uncommented None (t ∷ tokens) ≡ Broken X1 t ∷ []
-unfolding uncommented
+pub outside-illegal : (t : PlainToken) (tokens : List PlainToken) → list_all is_printable t.text ≡ false → without_comments None (t ∷ tokens) ≡ Broken X1 t ∷ []
+unfolding without_comments
 outside-illegal t tokens e = simp e
 
-pub outside-begin : (t : PlainToken) (tokens : List PlainToken) → list_all is_printable t.text ≡ true → spells t.text (codes "$(") ≡ true → uncommented None (t ∷ tokens) ≡ uncommented (Some t) tokens
-unfolding uncommented
+pub outside-begin : (t : PlainToken) (tokens : List PlainToken) → list_all is_printable t.text ≡ true → spells t.text (codes "$(") ≡ true → without_comments None (t ∷ tokens) ≡ without_comments (Some t) tokens
+unfolding without_comments
 outside-begin t tokens e f = simp (e, f)
 
-pub outside-close : (t : PlainToken) (tokens : List PlainToken) → list_all is_printable t.text ≡ true → spells t.text (codes "$(") ≡ false → spells t.text (codes "$)") ≡ true → uncommented None (t ∷ tokens) ≡ Broken X4 t ∷ []
-unfolding uncommented
+pub outside-close : (t : PlainToken) (tokens : List PlainToken) → list_all is_printable t.text ≡ true → spells t.text (codes "$(") ≡ false → spells t.text (codes "$)") ≡ true → without_comments None (t ∷ tokens) ≡ Broken X4 t ∷ []
+unfolding without_comments
 outside-close t tokens e f g = simp (e, f, g)
 
-pub outside-clear : (t : PlainToken) (tokens : List PlainToken) → list_all is_printable t.text ≡ true → spells t.text (codes "$(") ≡ false → spells t.text (codes "$)") ≡ false → uncommented None (t ∷ tokens) ≡ Clear t ∷ uncommented None tokens
-unfolding uncommented
+pub outside-clear : (t : PlainToken) (tokens : List PlainToken) → list_all is_printable t.text ≡ true → spells t.text (codes "$(") ≡ false → spells t.text (codes "$)") ≡ false → without_comments None (t ∷ tokens) ≡ Clear t ∷ without_comments None tokens
+unfolding without_comments
 outside-clear t tokens e f g = simp (e, f, g)
 
 -- a text is spelled in one way
@@ -273,12 +273,12 @@ pub outside_token : (p : Place) (start end : ℕ) (t : PlainToken)
     → ((file : ℕ) → tokens_from file p.at (drop p.at p.bytes.now) ≡ tokens_from file start (drop start p.bytes.now))
     → ((file : ℕ) → tokens_from file start (drop start p.bytes.now) ≡ record { text = slice_range p.bytes.now start end; file = file; at = start } ∷ tokens_from file end (drop end p.bytes.now))
     → t ≡ record { text = slice_range p.bytes.now start end; file = p.file; at = start }
-    → shown_at p ≡ uncommented None (t ∷ tokens_from p.file end (drop end p.bytes.now))
+    → shown_at p ≡ without_comments None (t ∷ tokens_from p.file end (drop end p.bytes.now))
 outside_token p start end t skipped token same =
-    ap (uncommented None) (skipped p.file ∙ token p.file ∙ ap (λ (u : PlainToken). u ∷ tokens_from p.file end (drop end p.bytes.now)) (sym same))
+    ap (without_comments None) (skipped p.file ∙ token p.file ∙ ap (λ (u : PlainToken). u ∷ tokens_from p.file end (drop end p.bytes.now)) (sym same))
 
 -- a later place of a file
-pub later_place : (p : Place) (after : ℕ) → IsPlace p → IsLater p after → IsPlace (moved p after)
+pub later_place : (p : Place) (after : ℕ) → IsPlace p → IsLater p after → IsPlace (place_at p after)
 later_place p after place later = record { within = later.1; front = place.front; small = place.small }
 
 -- what holds from one place up to another, and there

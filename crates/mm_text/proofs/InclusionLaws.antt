@@ -11,10 +11,10 @@ use Rattle.mm_text.specs.declared.class.Class.{Class}
 use Rattle.mm_text.specs.declared.class.Class.TheVariants as class
 use Rattle.mm_text.specs.declared.comments.Place.{Place}
 use Rattle.mm_text.specs.Token.{PlainToken, HoldsNoDollar}
-use Rattle.mm_text.specs.Mirror.Class.{spelling, ClassIs}
+use Rattle.mm_text.specs.Mirror.Class.{keyword_bytes, ClassIs}
 use Rattle.mm_text.specs.Statement.{keywords}
 use Rattle.mm_text.specs.Files.{PlainFile}
-use Rattle.mm_text.specs.Items.{Item, Plain, Wrong, Inclusion, End, Shown, Clear, Broken, Piece, Met, Named, Spot, Outside, Naming, Closing, pieces, broken_outside, holds_dollar, spells, number_of, spliced, put_before, put_in}
+use Rattle.mm_text.specs.Items.{Item, Plain, Wrong, Inclusion, End, Shown, Clear, Broken, Piece, Met, Named, Spot, Outside, Naming, Closing, pieces, broken_outside, holds_dollar, spells, file_number, with_inclusions, put_before, put_in}
 use Rattle.mm_text.specs.Mirror.Place.{shown_at}
 use Rattle.mm_text.specs.Mirror.Next.{IsOfClass}
 use Rattle.mm_text.specs.Mirror.Nest.{pieces_with, waiting}
@@ -48,7 +48,7 @@ pieces-plain file t rest e b =
     ∙ ap (λ o. elim o [ Some r ↦ Met (Wrong r t) ∷ [] | None ↦ Met (Plain t) ∷ pieces file Outside rest ]) b
 
 -- a keyword of statements breaks no rule by itself
-keyword_stands : (keyword : Keyword) → broken_outside (spelling keyword) ≡ None
+keyword_stands : (keyword : Keyword) → broken_outside (keyword_bytes keyword) ≡ None
 keyword_stands Constants = refl
 keyword_stands Variables = refl
 keyword_stands Distinct = refl
@@ -107,57 +107,57 @@ closing-close file begin name t rest e = simp e
 -- ---- all files
 
 pub put_in-plain : (files : List PlainFile) (left : ℕ) (named : List Bool) (t : PlainToken) (rest : List Piece) → put_in files left named (Met (Plain t) ∷ rest) ≡ Plain t ∷ put_in files left named rest
-unfolding put_in spliced
+unfolding put_in with_inclusions
 put_in-plain files zero named t rest = refl
 put_in-plain files (suc left) named t rest = refl
 
 pub put_in-wrong : (files : List PlainFile) (left : ℕ) (named : List Bool) (rule : TextRule) (t : PlainToken) (rest : List Piece) → put_in files left named (Met (Wrong rule t) ∷ rest) ≡ Wrong rule t ∷ []
-unfolding put_in spliced
+unfolding put_in with_inclusions
 put_in-wrong files zero named rule t rest = refl
 put_in-wrong files (suc left) named rule t rest = refl
 
 pub put_in-inclusion : (files : List PlainFile) (left : ℕ) (named : List Bool) (t : PlainToken) (rest : List Piece) → put_in files left named (Met (Inclusion t) ∷ rest) ≡ Inclusion t ∷ put_in files left named rest
-unfolding put_in spliced
+unfolding put_in with_inclusions
 put_in-inclusion files zero named t rest = refl
 put_in-inclusion files (suc left) named t rest = refl
 
 pub put_in-end : (files : List PlainFile) (left : ℕ) (named : List Bool) (file : ℕ) (rest : List Piece) → put_in files left named (Met (End file) ∷ rest) ≡ End file ∷ put_in files left named rest
-unfolding put_in spliced
+unfolding put_in with_inclusions
 put_in-end files zero named file rest = refl
 put_in-end files (suc left) named file rest = refl
 
 pub put_in-nil : (files : List PlainFile) (left : ℕ) (named : List Bool) → put_in files left named [] ≡ []
-unfolding put_in spliced
+unfolding put_in with_inclusions
 put_in-nil files zero named = refl
 put_in-nil files (suc left) named = refl
 
 module _ (files : List PlainFile) (named : List Bool) (next : ℕ → List Piece → List Item) (name : PlainToken) (rest : List Piece) where
-  spliced-unknown : number_of files name.text ≡ None → spliced files named next (Named name ∷ rest) ≡ Wrong X7 name ∷ []
-  unfolding spliced
-  spliced-unknown e = ap (λ o. elim o [ None ↦ Wrong X7 name ∷ [] | Some n ↦ cond (slice_index_or named n true) (spliced files named next rest) (next n rest) ]) e
+  spliced-unknown : file_number files name.text ≡ None → with_inclusions files named next (Named name ∷ rest) ≡ Wrong X7 name ∷ []
+  unfolding with_inclusions
+  spliced-unknown e = ap (λ o. elim o [ None ↦ Wrong X7 name ∷ [] | Some n ↦ cond (slice_index_or named n true) (with_inclusions files named next rest) (next n rest) ]) e
 
-  spliced-known : (n : ℕ) → number_of files name.text ≡ Some n → spliced files named next (Named name ∷ rest) ≡ cond (slice_index_or named n true) (spliced files named next rest) (next n rest)
-  unfolding spliced
-  spliced-known n e = ap (λ o. elim o [ None ↦ Wrong X7 name ∷ [] | Some n ↦ cond (slice_index_or named n true) (spliced files named next rest) (next n rest) ]) e
+  spliced-known : (n : ℕ) → file_number files name.text ≡ Some n → with_inclusions files named next (Named name ∷ rest) ≡ cond (slice_index_or named n true) (with_inclusions files named next rest) (next n rest)
+  unfolding with_inclusions
+  spliced-known n e = ap (λ o. elim o [ None ↦ Wrong X7 name ∷ [] | Some n ↦ cond (slice_index_or named n true) (with_inclusions files named next rest) (next n rest) ]) e
 
-  spliced-again : (n : ℕ) → number_of files name.text ≡ Some n → slice_index_or named n true ≡ true → spliced files named next (Named name ∷ rest) ≡ spliced files named next rest
-  spliced-again n e f = spliced-known n e ∙ ap (λ b. cond b (spliced files named next rest) (next n rest)) f
+  spliced-again : (n : ℕ) → file_number files name.text ≡ Some n → slice_index_or named n true ≡ true → with_inclusions files named next (Named name ∷ rest) ≡ with_inclusions files named next rest
+  spliced-again n e f = spliced-known n e ∙ ap (λ b. cond b (with_inclusions files named next rest) (next n rest)) f
 
-  spliced-first : (n : ℕ) → number_of files name.text ≡ Some n → slice_index_or named n true ≡ false → spliced files named next (Named name ∷ rest) ≡ next n rest
-  spliced-first n e f = spliced-known n e ∙ ap (λ b. cond b (spliced files named next rest) (next n rest)) f
+  spliced-first : (n : ℕ) → file_number files name.text ≡ Some n → slice_index_or named n true ≡ false → with_inclusions files named next (Named name ∷ rest) ≡ next n rest
+  spliced-first n e f = spliced-known n e ∙ ap (λ b. cond b (with_inclusions files named next rest) (next n rest)) f
 
-pub put_in-unknown : (files : List PlainFile) (left : ℕ) (named : List Bool) (name : PlainToken) (rest : List Piece) → number_of files name.text ≡ None → put_in files left named (Named name ∷ rest) ≡ Wrong X7 name ∷ []
+pub put_in-unknown : (files : List PlainFile) (left : ℕ) (named : List Bool) (name : PlainToken) (rest : List Piece) → file_number files name.text ≡ None → put_in files left named (Named name ∷ rest) ≡ Wrong X7 name ∷ []
 unfolding put_in
 put_in-unknown files zero named name rest e = spliced-unknown files named _ name rest e
 put_in-unknown files (suc left) named name rest e = spliced-unknown files named _ name rest e
 
-pub put_in-again : (files : List PlainFile) (left : ℕ) (named : List Bool) (name : PlainToken) (rest : List Piece) (n : ℕ) → number_of files name.text ≡ Some n → slice_index_or named n true ≡ true
+pub put_in-again : (files : List PlainFile) (left : ℕ) (named : List Bool) (name : PlainToken) (rest : List Piece) (n : ℕ) → file_number files name.text ≡ Some n → slice_index_or named n true ≡ true
     → put_in files left named (Named name ∷ rest) ≡ put_in files left named rest
 unfolding put_in
 put_in-again files zero named name rest n e f = spliced-again files named _ name rest n e f
 put_in-again files (suc left) named name rest n e f = spliced-again files named _ name rest n e f
 
-pub put_in-first : (files : List PlainFile) (left : ℕ) (named : List Bool) (name : PlainToken) (rest : List Piece) (n : ℕ) → number_of files name.text ≡ Some n → slice_index_or named n true ≡ false
+pub put_in-first : (files : List PlainFile) (left : ℕ) (named : List Bool) (name : PlainToken) (rest : List Piece) (n : ℕ) → file_number files name.text ≡ Some n → slice_index_or named n true ≡ false
     → put_in files (suc left) named (Named name ∷ rest) ≡ put_in files left (slice_set named n true) (put_before files n rest)
 unfolding put_in
 put_in-first files left named name rest n e f = spliced-first files named _ name rest n e f

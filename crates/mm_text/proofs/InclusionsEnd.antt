@@ -4,7 +4,7 @@ use Rattle.std.specs.Prelude.{slice_index_or, slice_set}
 use Rattle.mm_text.specs.declared.fault.TextRule.TheVariants.{X7}
 use Rattle.mm_text.specs.Token.{PlainToken}
 use Rattle.mm_text.specs.Files.{PlainFile}
-use Rattle.mm_text.specs.Items.{Item, Plain, Wrong, Inclusion, End, Piece, Met, Named, number_of, pieces_of, spliced, put_before, put_in}
+use Rattle.mm_text.specs.Items.{Item, Plain, Wrong, Inclusion, End, Piece, Met, Named, file_number, pieces_of, with_inclusions, put_before, put_in}
 use Rattle.mm_text.specs.ItemLaws.{InclusionsEnd}
 use Rattle.mm_text.proofs.NestLaws.{count_named, count_top}
 
@@ -21,21 +21,21 @@ at_name named name rest next inner (Some n) = cond (slice_index_or named n true)
 -- what happens at a file that is named for the first time decides all
 spliced_same : (files : List PlainFile) (named : List Bool) (one other : ℕ → List Piece → List Item)
     → ((n : ℕ) (rest : List Piece) → slice_index_or named n true ≡ false → one n rest ≡ other n rest)
-    → (ps : List Piece) → spliced files named one ps ≡ spliced files named other ps
-unfolding spliced
+    → (ps : List Piece) → with_inclusions files named one ps ≡ with_inclusions files named other ps
+unfolding with_inclusions
 spliced_same files named one other same [] = refl
 spliced_same files named one other same (Met (Wrong rule t) ∷ rest) = refl
 spliced_same files named one other same (Met (Plain t) ∷ rest) = ap (λ (l : List Item). Plain t ∷ l) (spliced_same files named one other same rest)
 spliced_same files named one other same (Met (Inclusion t) ∷ rest) = ap (λ (l : List Item). Inclusion t ∷ l) (spliced_same files named one other same rest)
 spliced_same files named one other same (Met (End file) ∷ rest) = ap (λ (l : List Item). End file ∷ l) (spliced_same files named one other same rest)
-spliced_same files named one other same (Named name ∷ rest) = go (spliced_same files named one other same rest) (number_of files name.text)
+spliced_same files named one other same (Named name ∷ rest) = go (spliced_same files named one other same rest) (file_number files name.text)
   where
-    known : spliced files named one rest ≡ spliced files named other rest → (n : ℕ) (b : Bool) → slice_index_or named n true ≡ b
-        → cond b (spliced files named one rest) (one n rest) ≡ cond b (spliced files named other rest) (other n rest)
+    known : with_inclusions files named one rest ≡ with_inclusions files named other rest → (n : ℕ) (b : Bool) → slice_index_or named n true ≡ b
+        → cond b (with_inclusions files named one rest) (one n rest) ≡ cond b (with_inclusions files named other rest) (other n rest)
     known inner n true e = inner
     known inner n false e = same n rest e
 
-    go : spliced files named one rest ≡ spliced files named other rest → (o : Option ℕ) → at_name named name rest one (spliced files named one rest) o ≡ at_name named name rest other (spliced files named other rest) o
+    go : with_inclusions files named one rest ≡ with_inclusions files named other rest → (o : Option ℕ) → at_name named name rest one (with_inclusions files named one rest) o ≡ at_name named name rest other (with_inclusions files named other rest) o
     go inner None = refl
     go inner (Some n) = known inner n (slice_index_or named n true) refl
 

@@ -8,7 +8,7 @@ use Rattle.mm_text.specs.declared.fault.TextRule.TheVariants.{X4, X7, X9}
 use Rattle.mm_text.specs.Token.{PlainToken, HoldsNoDollar, is_printable, is_space, with_byte, tokens_from}
 use Rattle.mm_text.specs.Statement.{IsKeyword, keywords}
 use Rattle.mm_text.specs.Files.{PlainFile, total_bytes}
-use Rattle.mm_text.specs.Items.{Item, Plain, Wrong, Inclusion, End, Shown, Clear, Broken, uncommented, spells, holds_dollar, holds_mark, Spot, Outside, Naming, Closing, Piece, Met, Named, broken_outside, pieces, pieces_of, number_of, spliced, put_before, put_in, plain_tokens, items}
+use Rattle.mm_text.specs.Items.{Item, Plain, Wrong, Inclusion, End, Shown, Clear, Broken, without_comments, spells, holds_dollar, holds_mark, Spot, Outside, Naming, Closing, Piece, Met, Named, broken_outside, pieces, pieces_of, file_number, with_inclusions, put_before, put_in, plain_tokens, items}
 use Rattle.mm_text.specs.Reading.{IsSliceOf}
 use Rattle.mm_text.proofs.TextFacts.{IsSigned, is_keyword-true}
 use Rattle.mm_text.proofs.PlaceLaws.{StandsIn, tokens_in_place}
@@ -60,8 +60,8 @@ met-append P (Met (Inclusion t) ∷ a) b h k = met-append P a b h k
 met-append P (Met (End n) ∷ a) b h k = met-append P a b h k
 met-append P (Named name ∷ a) b h k = met-append P a b h k
 
-clear_all : (P : PlainToken → Type 0) (begin : Option PlainToken) (tokens : List PlainToken) → AllByRecursion P tokens → AllClear P (uncommented begin tokens)
-unfolding uncommented
+clear_all : (P : PlainToken → Type 0) (begin : Option PlainToken) (tokens : List PlainToken) → AllByRecursion P tokens → AllClear P (without_comments begin tokens)
+unfolding without_comments
 clear_all P None [] h = tt
 clear_all P (Some begin) [] h = tt
 clear_all P None (t ∷ tokens) h =
@@ -127,17 +127,17 @@ put_before_met P files n rest all h = go (slice_get files n) refl
 
 spliced_met : (P : PlainToken → Type 0) (files : List PlainFile) (named : List Bool) (next : ℕ → List Piece → List Item)
     → ((n : ℕ) (rest : List Piece) → AllMet P rest → AllByRecursion P (plain_tokens (next n rest)))
-    → (ps : List Piece) → AllMet P ps → AllByRecursion P (plain_tokens (spliced files named next ps))
-unfolding spliced
+    → (ps : List Piece) → AllMet P ps → AllByRecursion P (plain_tokens (with_inclusions files named next ps))
+unfolding with_inclusions
 spliced_met P files named next goes [] h = tt
 spliced_met P files named next goes (Met (Plain t) ∷ rest) h = (h.0, spliced_met P files named next goes rest h.1)
 spliced_met P files named next goes (Met (Wrong rule t) ∷ rest) h = tt
 spliced_met P files named next goes (Met (Inclusion t) ∷ rest) h = spliced_met P files named next goes rest h
 spliced_met P files named next goes (Met (End n) ∷ rest) h = spliced_met P files named next goes rest h
-spliced_met P files named next goes (Named name ∷ rest) h = go (number_of files name.text) (spliced_met P files named next goes rest h)
+spliced_met P files named next goes (Named name ∷ rest) h = go (file_number files name.text) (spliced_met P files named next goes rest h)
   where
-    go : (o : Option ℕ) → AllByRecursion P (plain_tokens (spliced files named next rest))
-        → AllByRecursion P (plain_tokens (elim o [ None ↦ Wrong X7 name ∷ [] | Some n ↦ cond (slice_index_or named n true) (spliced files named next rest) (next n rest) ]))
+    go : (o : Option ℕ) → AllByRecursion P (plain_tokens (with_inclusions files named next rest))
+        → AllByRecursion P (plain_tokens (elim o [ None ↦ Wrong X7 name ∷ [] | Some n ↦ cond (slice_index_or named n true) (with_inclusions files named next rest) (next n rest) ]))
     go None inner = tt
     go (Some n) inner = cond_both (slice_index_or named n true) _ _ (λ (l : List Item). AllByRecursion P (plain_tokens l)) (λ _. inner) (λ _. goes n rest h)
 
@@ -153,7 +153,7 @@ all_items : (P : PlainToken → Type 0) (files : List PlainFile) → ((n : ℕ) 
     → AllByRecursion (λ t. P t × IsSigned t) (plain_tokens (items files))
 all_items P [] each = tt
 all_items P (top ∷ others) each =
-    let all : AllFiles (λ t. P t × IsSigned t) (top ∷ others) = λ n f there. met_all P n Outside (uncommented None (tokens_from n 0 f.bytes)) (clear_all P None (tokens_from n 0 f.bytes) (each n f there)) in
+    let all : AllFiles (λ t. P t × IsSigned t) (top ∷ others) = λ n f there. met_all P n Outside (without_comments None (tokens_from n 0 f.bytes)) (clear_all P None (tokens_from n 0 f.bytes) (each n f there)) in
     put_in_met (λ t. P t × IsSigned t) (top ∷ others) (length others) (true ∷ replicate (length others) false) (pieces_of 0 top) all (all 0 top refl)
 
 slice_of : (files : List PlainFile) (n : ℕ) (f : PlainFile) (t : PlainToken) → slice_get files n ≡ Some f → StandsIn n f.bytes t → IsSliceOf files t

@@ -7,7 +7,7 @@ use Rattle.mm_text.specs.Token.{PlainToken}
 use Rattle.mm_text.specs.Statement.{PlainStatement}
 use Rattle.mm_text.specs.Items.{Item, Plain, Wrong, Inclusion, End}
 use Rattle.mm_text.specs.Reading.{PlainFault, TellsMore}
-use Rattle.mm_text.specs.Mirror.Reader.{Part, Between, Labelled, InBody, InProof, Step, More, Whole, Opened, Closed, Faulty, step, same_text, is_keyword, has_count, is_full, is_provable, begun, PlainScope, passed, opened, closed, has_none, fault_in, unfinished_fault, end_fault, inclusion_fault, unless, PlainReading, ended, with_statement, reading_of}
+use Rattle.mm_text.specs.Mirror.Reader.{Part, Between, Labelled, InBody, InProof, Step, More, Whole, Opened, Closed, Faulty, step, same_text, is_keyword, has_count, is_full, is_provable, bare_statement, PlainScope, scope_after_statement, scope_after_opening, scope_after_closing, has_none, fault_in, unfinished_fault, end_fault, inclusion_fault, unless, PlainReading, only_ending, with_statement, reading_of}
 
 abbrev pub HasMore : PlainReading → Type 0
 HasMore reading = TellsMore reading.statements reading.ending
@@ -18,7 +18,7 @@ some_none fault e = cc
 cons_nil : (s : PlainStatement) (statements : List PlainStatement) → (s ∷ statements) ≢ []
 cons_nil s statements e = cc
 
-fault_more : (fault : PlainFault) → HasMore (ended (Some fault))
+fault_more : (fault : PlainFault) → HasMore (only_ending (Some fault))
 fault_more fault = inr (some_none fault)
 
 pub statement_more : (s : PlainStatement) (reading : PlainReading) → HasMore (with_statement s reading)
@@ -65,7 +65,7 @@ stays_or_ends (InProof s) t h =
     (λ _. cond_both (same_text t.text (codes "$.")) _ _ StaysOrEnds (λ _. tt) (λ _. tt))
     (λ _. tt)
 
-nothing_more : (scope : PlainScope) (part : Part) → IsUnfinished part → HasMore (ended (unfinished_fault scope part))
+nothing_more : (scope : PlainScope) (part : Part) → IsUnfinished part → HasMore (only_ending (unfinished_fault scope part))
 nothing_more scope Between h = absurd h
 nothing_more scope (Labelled label) h = fault_more _
 nothing_more scope (InBody s) h = fault_more _
@@ -82,10 +82,10 @@ more_left scope part (Plain t ∷ items) h = go (λ next. more_left scope next i
   where
     go : ((next : Part) → IsUnfinished next → HasMore (reading_of scope next items)) → (s : Step) → StaysOrEnds s → HasMore (elim s [
       | More next ↦ reading_of scope next items
-      | Whole whole ↦ with_statement whole (reading_of (passed scope) Between items)
-      | Opened ↦ with_statement (begun Opening t None) (reading_of (opened scope t) Between items)
-      | Closed ↦ if has_none scope.blocks then ended (Some (fault_in scope part S6 t)) else with_statement (begun Closing t None) (reading_of (closed scope) Between items)
-      | Faulty rule ↦ ended (Some (fault_in scope part rule t))
+      | Whole whole ↦ with_statement whole (reading_of (scope_after_statement scope) Between items)
+      | Opened ↦ with_statement (bare_statement Opening t None) (reading_of (scope_after_opening scope t) Between items)
+      | Closed ↦ if has_none scope.blocks then only_ending (Some (fault_in scope part S6 t)) else with_statement (bare_statement Closing t None) (reading_of (scope_after_closing scope) Between items)
+      | Faulty rule ↦ only_ending (Some (fault_in scope part rule t))
     ])
     go on (More next) k = on next k
     go on (Whole whole) k = statement_more whole _

@@ -15,7 +15,7 @@ use Rattle.mm_text.specs.declared.token.Token.{Token}
 use Rattle.mm_text.specs.Token.{PlainToken, plain_token, tokens_from}
 use Rattle.mm_text.specs.Files.{PlainFile, plain_file, total_bytes}
 use Rattle.mm_text.specs.Items as items
-use Rattle.mm_text.specs.Items.{Item, Plain, Inclusion, End, Piece, Met, Named, Outside, Naming, pieces, pieces_of, uncommented, spells, number_of, put_before, put_in}
+use Rattle.mm_text.specs.Items.{Item, Plain, Inclusion, End, Piece, Met, Named, Outside, Naming, pieces, pieces_of, without_comments, spells, file_number, put_before, put_in}
 use Rattle.mm_text.specs.Mirror.Names.{number_among}
 use Rattle.mm_text.specs.Mirror.Place.{IsSameFile, shown_at}
 use Rattle.mm_text.specs.Mirror.Next.{items_with}
@@ -91,12 +91,12 @@ includes_name n q begin name over naming same e =
     ∙ ap (λ f. put_into n (Named name ∷ pieces f Outside (shown_at q) ++ waiting n.«open».items)) (sym (same_file n.place q same))
 
 -- no file has it
-pub includes_unknown : (n : Nest) (name : PlainToken) (rest : List Piece) → number_of (map plain_file n.files.now) name.text ≡ None → put_into n (Named name ∷ rest) ≡ items.Wrong X7 name ∷ []
+pub includes_unknown : (n : Nest) (name : PlainToken) (rest : List Piece) → file_number (map plain_file n.files.now) name.text ≡ None → put_into n (Named name ∷ rest) ≡ items.Wrong X7 name ∷ []
 includes_unknown n name rest e = put_in-unknown (map plain_file n.files.now) (count_by not n.named.items) n.named.items name rest e
 
 -- its file was named before
 pub includes_again : (n : Nest) (q : Place) (name : PlainToken) (number : ℕ) → n.is_over ≡ false
-    → number_of (map plain_file n.files.now) name.text ≡ Some number → slice_index_or n.named.items number true ≡ true
+    → file_number (map plain_file n.files.now) name.text ≡ Some number → slice_index_or n.named.items number true ≡ true
     → items_left (record n { place = q; naming = None }) ≡ put_into n (Named name ∷ pieces q.file Outside (shown_at q) ++ waiting n.«open».items)
 includes_again n q name number over e again =
     left_outside (record n { place = q; naming = None }) over refl
@@ -104,12 +104,12 @@ includes_again n q name number over e again =
 
 -- ---- numbers
 
-pub number_told : (n : Nest) (name : List ℕ) → IsNest n → number_among n.names name ≡ number_of (map plain_file n.files.now) name
+pub number_told : (n : Nest) (name : List ℕ) → IsNest n → number_among n.names name ≡ file_number (map plain_file n.files.now) name
 number_told n name nest =
     ap (λ names. number_among names name) nest.names
     ∙ sym (position-names (λ (f : PlainFile). f.name) (spells name) (map plain_file n.files.now))
 
-pub number_within : (files : List File) (name : List ℕ) (number : ℕ) → number_of (map plain_file files) name ≡ Some number → number < length files
+pub number_within : (files : List File) (name : List ℕ) (number : ℕ) → file_number (map plain_file files) name ≡ Some number → number < length files
 number_within files name number e =
     omega (arith, (position-Some (λ (f : PlainFile). spells name f.name) (map plain_file files) number (record { name = []; bytes = [] }) e).0, length-map files plain_file)
 
@@ -135,7 +135,7 @@ count_named named n lt e =
 -- ---- a file is gone into
 
 pub enters : (n : Nest) (q begin : Place) (name : PlainToken) (number : ℕ) (d : File) → number < length n.files.now → IsNest n
-    → number_of (map plain_file n.files.now) name.text ≡ Some number → slice_index_or n.named.items number true ≡ false
+    → file_number (map plain_file n.files.now) name.text ≡ Some number → slice_index_or n.named.items number true ≡ false
     → begin.bytes.now ≡ (get_or n.files.now number d).bytes.now → begin.file ≡ number → begin.at ≡ 0
     → put_in (map plain_file n.files.now) (count_by not (slice_set n.named.items number true)) (slice_set n.named.items number true)
     (pieces begin.file Outside (shown_at begin) ++ waiting (n.«open».items ++ q ∷ []))
@@ -148,9 +148,9 @@ enters n q begin name number d lt nest e first bytes file at =
     let before : put_before files number rest ≡ pieces_of number (plain_file (get_or n.files.now number d)) ++ rest =
     ap (λ o. elim o [ None ↦ rest | Some f ↦ pieces_of number f ++ rest ]) (file_there n.files.now number d lt) in
     let fresh : pieces begin.file Outside (shown_at begin) ≡ pieces_of number (plain_file (get_or n.files.now number d)) =
-    ap (λ f. pieces f Outside (uncommented None (tokens_from f begin.at (drop begin.at begin.bytes.now)))) file
-    ∙ ap (λ k. pieces number Outside (uncommented None (tokens_from number k (drop k begin.bytes.now)))) at
-    ∙ ap (λ bs. pieces number Outside (uncommented None (tokens_from number 0 bs))) bytes in
+    ap (λ f. pieces f Outside (without_comments None (tokens_from f begin.at (drop begin.at begin.bytes.now)))) file
+    ∙ ap (λ k. pieces number Outside (without_comments None (tokens_from number k (drop k begin.bytes.now)))) at
+    ∙ ap (λ bs. pieces number Outside (without_comments None (tokens_from number 0 bs))) bytes in
     ap (λ l. put_in files (count_by not named) named (pieces begin.file Outside (shown_at begin) ++ l)) (waiting-push n.«open».items q)
     ∙ ap (λ l. put_in files (count_by not named) named (l ++ rest)) fresh
     ∙ ap (put_in files (count_by not named) named) (sym before)
@@ -204,9 +204,9 @@ begins (f ∷ files) d named p places some e bytes file at none =
     let all = map plain_file (f ∷ files) in
     let first : slice_set named 0 true ≡ true ∷ replicate (length files) false = ap (λ l. slice_set l 0 true) e in
     let fresh : pieces p.file Outside (shown_at p) ≡ pieces_of 0 (plain_file f) =
-    ap (λ n. pieces n Outside (uncommented None (tokens_from n p.at (drop p.at p.bytes.now)))) file
-    ∙ ap (λ k. pieces 0 Outside (uncommented None (tokens_from 0 k (drop k p.bytes.now)))) at
-    ∙ ap (λ bs. pieces 0 Outside (uncommented None (tokens_from 0 0 bs))) bytes in
+    ap (λ n. pieces n Outside (without_comments None (tokens_from n p.at (drop p.at p.bytes.now)))) file
+    ∙ ap (λ k. pieces 0 Outside (without_comments None (tokens_from 0 k (drop k p.bytes.now)))) at
+    ∙ ap (λ bs. pieces 0 Outside (without_comments None (tokens_from 0 0 bs))) bytes in
     ap (λ l. put_in all (count_by not l) l (pieces p.file Outside (shown_at p) ++ waiting places)) first
     ∙ ap (λ k. put_in all k (true ∷ replicate (length files) false) (pieces p.file Outside (shown_at p) ++ waiting places)) (count_top (length files))
     ∙ ap (λ l. put_in all (length files) (true ∷ replicate (length files) false) (pieces p.file Outside (shown_at p) ++ waiting l)) none

@@ -13,7 +13,7 @@ use Rattle.mm_text.specs.Statement.{PlainStatement, HasBody, SpellsAll, IsKeywor
 use Rattle.mm_text.specs.Items.{Item, Plain, Wrong, Inclusion, End, plain_tokens, HoldNoFault}
 use Rattle.mm_text.specs.Blocks.{AreBalanced, AreClosed, IsInnermost}
 use Rattle.mm_text.specs.Reading.{PlainFault, closes_symbols, IsBody, IsInProof, IsBeginning, AreOutside, Viable, Meets, MeetsS1, MeetsS2, MeetsS3, MeetsS6, fault_at, EndsInX8, EndsInS7, EndsAt, ReadsAs}
-use Rattle.mm_text.specs.Mirror.Reader.{Part, Between, Labelled, InBody, InProof, Step, More, Whole, Opened, Closed, Faulty, step, at_start, after_label, in_body, in_proof, begun, same_text, is_keyword, has_count, is_full, is_provable, PlainScope, outermost, passed, opened, closed, has_none, fault_in, block_fault, end_fault, inclusion_fault, unless, PlainReading, ended, with_statement, reading_of}
+use Rattle.mm_text.specs.Mirror.Reader.{Part, Between, Labelled, InBody, InProof, Step, More, Whole, Opened, Closed, Faulty, step, at_start, after_label, in_body, in_proof, bare_statement, same_text, is_keyword, has_count, is_full, is_provable, PlainScope, outermost, scope_after_statement, scope_after_opening, scope_after_closing, has_none, fault_in, block_fault, end_fault, inclusion_fault, unless, PlainReading, only_ending, with_statement, reading_of}
 use Rattle.mm_text.proofs.TextFacts.{same_text-ne, is_keyword-ne, is_keyword_from, symbol-is_keyword}
 use Rattle.mm_text.proofs.Fronts.{cons_parts, plain_tokens-append, clean_behind}
 use Rattle.mm_text.proofs.PartFacts.{Describes, part_of_body, part_of_proof, part_of_beginning, first_of_part}
@@ -113,13 +113,13 @@ breaks_S5 tokens t kind symbols b (inr m) =
 pub record EndsThere (statements : List PlainStatement) (tokens : List PlainToken) (item : Item) (rest : List Item) (fault : PlainFault) : Type 0 where
   pub part : Part
   pub described : Describes part tokens
-  pub last : reading_of (scope_of statements) part (item ∷ rest) ≡ ended (Some fault)
+  pub last : reading_of (scope_of statements) part (item ∷ rest) ≡ only_ending (Some fault)
 
 breaks_ends : (statements : List PlainStatement) (tokens : List PlainToken) (t : PlainToken) (rule : TextRule) (rest : List Item) (fault : PlainFault) → fault ≡ fault_at rule t statements tokens → Breaks tokens t rule → EndsThere statements tokens (Plain t) rest fault
 breaks_ends statements tokens t rule rest fault e b = record {
   part = b.part;
   described = b.described;
-  last = read_faulty (scope_of statements) b.part t rest rule b.faulty ∙ ap (λ (f : PlainFault). ended (Some f)) (fault_is rule t b.part statements tokens b.described ∙ sym e);
+  last = read_faulty (scope_of statements) b.part t rest rule b.faulty ∙ ap (λ (f : PlainFault). only_ending (Some f)) (fault_is rule t b.part statements tokens b.described ∙ sym e);
 }
 
 meets_S6 : (statements : List PlainStatement) (tokens : List PlainToken) (t : PlainToken) (rest : List Item) (fault : PlainFault) → fault ≡ fault_at S6 t statements tokens → AreBalanced statements → MeetsS6 statements tokens t → EndsThere statements tokens (Plain t) rest fault
@@ -127,7 +127,7 @@ meets_S6 statements tokens t rest fault e b m = record {
   part = Between;
   described = m.0;
   last = read_closing (scope_of statements) Between t rest (start_closing t m.1) ∙ cond-true (has_none (scope_of statements).blocks) _ _ (closed_scope statements b m.2)
-      ∙ ap (λ (f : PlainFault). ended (Some f)) (fault_is S6 t Between statements tokens m.0 ∙ sym e);
+      ∙ ap (λ (f : PlainFault). only_ending (Some f)) (fault_is S6 t Between statements tokens m.0 ∙ sym e);
 }
 
 meets_ends : (statements : List PlainStatement) (tokens : List PlainToken) (t : PlainToken) (rule : TextRule) (rest : List Item) (fault : PlainFault) → fault ≡ fault_at rule t statements tokens → AreBalanced statements → Meets statements tokens t rule
@@ -143,7 +143,7 @@ meets_ends statements tokens t _ rest fault e b m = absurd m
 wrong_ends : (statements : List PlainStatement) (tokens : List PlainToken) (rule : TextRule) (t : PlainToken) (rest : List Item) (fault : PlainFault) → IsBeginning tokens → fault ≡ fault_at rule t statements tokens → EndsThere statements tokens (Wrong rule t) rest fault
 wrong_ends statements tokens rule t rest fault b e =
     let found = part_of_beginning tokens b in
-    record { part = found.0; described = found.1; last = read_wrong (scope_of statements) found.0 rule t rest ∙ ap (λ (f : PlainFault). ended (Some f)) (fault_is rule t found.0 statements tokens found.1 ∙ sym e) }
+    record { part = found.0; described = found.1; last = read_wrong (scope_of statements) found.0 rule t rest ∙ ap (λ (f : PlainFault). only_ending (Some f)) (fault_is rule t found.0 statements tokens found.1 ∙ sym e) }
 
 -- an inclusion in a statement or in a block is a fault
 inclusion_is_fault : (statements : List PlainStatement) (tokens : List PlainToken) (part : Part) (t : PlainToken) → AreBalanced statements → Describes part tokens → (tokens ≢ []) ⊎ ¬ (AreClosed statements)
@@ -167,7 +167,7 @@ inclusion_ends statements tokens t rest fault begins b why e =
       part = found.0;
       described = found.1;
       last = read_inclusion (scope_of statements) found.0 t rest ∙ ap (λ (f : Option PlainFault). unless f (reading_of (scope_of statements) found.0 rest)) (inclusion_is_fault statements tokens found.0 t b found.1 why)
-          ∙ ap (λ (f : PlainFault). ended (Some f)) (fault_is X6 t found.0 statements tokens found.1 ∙ sym e);
+          ∙ ap (λ (f : PlainFault). only_ending (Some f)) (fault_is X6 t found.0 statements tokens found.1 ∙ sym e);
     }
 
 none_first : (first : PlainToken) (others tokens : List PlainToken) → tokens ≡ [] → tokens ≡ first ∷ others → ⊥
@@ -185,7 +185,7 @@ end_X8 statements tokens file rest fault begins e =
             part = found.0;
             described = found.1;
             last = read_end (scope_of statements) found.0 file rest ∙ ap (λ (f : Option PlainFault). unless f (reading_of (scope_of statements) found.0 rest)) unfinished
-                ∙ ap (λ (f : PlainFault). ended (Some f)) (fault_is X8 some.0 found.0 statements tokens found.1 ∙ ap (λ (x : PlainToken). fault_at X8 x statements tokens) same ∙ sym e.3);
+                ∙ ap (λ (f : PlainFault). only_ending (Some f)) (fault_is X8 some.0 found.0 statements tokens found.1 ∙ ap (λ (x : PlainToken). fault_at X8 x statements tokens) same ∙ sym e.3);
           }
     ]
 
@@ -203,7 +203,7 @@ end_S7 statements tokens file rest fault b e = record {
   described = e.0;
   last = read_end (scope_of statements) Between file rest
       ∙ ap (λ (f : Option PlainFault). unless f (reading_of (scope_of statements) Between rest)) (ap (end_fault (scope_of statements) Between) e.1 ∙ block_is statements e.2 e.3 (scope_of statements).blocks b e.4 (scope_open statements b))
-      ∙ ap (λ (f : PlainFault). ended (Some f)) (sym e.5);
+      ∙ ap (λ (f : PlainFault). only_ending (Some f)) (sym e.5);
 }
 
 -- a fault ends what the reader computes
@@ -347,11 +347,11 @@ along_statement whole pre front rest all statements last part t s scope inner w 
 along_closing : (whole pre front rest : List Item) (all statements : List PlainStatement) (last part : Part) (t : PlainToken) → AllowsAll whole all → GoesAlong whole all last front rest → IsUnderWay whole all last pre statements part (Plain t ∷ front)
     → step part t ≡ Closed → with_statements statements (reading_of (scope_of statements) part (Plain t ∷ front ++ rest)) ≡ with_statements all (reading_of (scope_of all) last rest)
 along_closing whole pre front rest all statements last part t v inner w e =
-    along_statement whole pre front rest all statements last part t s (closed (scope_of statements)) inner after (scope_more statements s)
+    along_statement whole pre front rest all statements last part t s (scope_after_closing (scope_of statements)) inner after (scope_more statements s)
     (read_closing (scope_of statements) part t (front ++ rest) e ∙ cond-false (has_none (scope_of statements).blocks) _ _ some_open)
   where
     s : PlainStatement
-    s = begun Closing t None
+    s = bare_statement Closing t None
 
     after : IsUnderWay whole all last (pre ++ Plain t ∷ []) (statements ++ s ∷ []) Between front
     after = moved whole pre front (Plain t) all statements (s ∷ []) (statements ++ s ∷ []) last part Between w (run-closed part t [] e ∙ ap (with_first s) (run-nil Between)) refl tt
@@ -367,12 +367,12 @@ along_token whole pre front rest all statements last part t v inner w (More next
     ap (with_statements statements) (read_more (scope_of statements) part t (front ++ rest) next e)
     ∙ inner (pre ++ Plain t ∷ []) statements next (moved whole pre front (Plain t) all statements [] statements last part next w (run-more part next t [] e ∙ run-nil next) (append-nil statements) long)
 along_token whole pre front rest all statements last part t v inner w (Whole s) e long =
-    along_statement whole pre front rest all statements last part t s (passed (scope_of statements)) inner
+    along_statement whole pre front rest all statements last part t s (scope_after_statement (scope_of statements)) inner
     (moved whole pre front (Plain t) all statements (s ∷ []) (statements ++ s ∷ []) last part Between w (run-whole part s t [] e ∙ ap (with_first s) (run-nil Between)) refl tt)
     (scope_body statements s long) (read_whole (scope_of statements) part t (front ++ rest) s e)
 along_token whole pre front rest all statements last part t v inner w Opened e long =
-    let s : PlainStatement = begun Opening t None in
-    along_statement whole pre front rest all statements last part t s (opened (scope_of statements) t) inner
+    let s : PlainStatement = bare_statement Opening t None in
+    along_statement whole pre front rest all statements last part t s (scope_after_opening (scope_of statements) t) inner
     (moved whole pre front (Plain t) all statements (s ∷ []) (statements ++ s ∷ []) last part Between w (run-opened part t [] e ∙ ap (with_first s) (run-nil Between)) refl tt)
     (scope_more statements s) (read_opened (scope_of statements) part t (front ++ rest) e)
 along_token whole pre front rest all statements last part t v inner w Closed e long = along_closing whole pre front rest all statements last part t v inner w e
@@ -437,7 +437,7 @@ front_reading front rest statements unfinished part v d =
 
 -- ---- one reading
 
-with_ended : (statements : List PlainStatement) (ending : Option PlainFault) → with_statements statements (ended ending) ≡ record { statements = statements; ending = ending }
+with_ended : (statements : List PlainStatement) (ending : Option PlainFault) → with_statements statements (only_ending ending) ≡ record { statements = statements; ending = ending }
 with_ended [] ending = refl
 with_ended (s ∷ statements) ending = ap (with_statement s) (with_ended statements ending)
 

@@ -13,43 +13,43 @@ use Rattle.mm_text.specs.declared.class.Class.{Class}
 use Rattle.mm_text.specs.declared.class.Class.TheVariants as class
 use Rattle.mm_text.specs.declared.next.Next.{Next}
 use Rattle.mm_text.specs.declared.next.Next.TheVariants as next
-use Rattle.mm_text.specs.Mirror.Class.{spelling}
+use Rattle.mm_text.specs.Mirror.Class.{keyword_bytes}
 use Rattle.mm_text.specs.Token.{PlainToken, plain_token}
 use Rattle.mm_text.specs.Statement.{PlainStatement}
 use Rattle.mm_text.specs.Items.{Item, Plain, Wrong, Inclusion, End}
-use Rattle.mm_text.specs.Mirror.Next.{items_with, IsOfClass, TakesToken, TakesNext}
+use Rattle.mm_text.specs.Mirror.Next.{items_with, IsOfClass, TakesToken, TakesItem}
 use Rattle.mm_text.specs.Reading.{PlainFault}
-use Rattle.mm_text.specs.Mirror.Reader.{Part, step, More, Whole, Faulty, PlainScope, opened, fault_in, unfinished_fault, end_fault, inclusion_fault, has_none, unless, part_label, part_first, Between, begun, PlainReading, ended, with_statement, reading_of}
+use Rattle.mm_text.specs.Mirror.Reader.{Part, step, More, Whole, Faulty, PlainScope, scope_after_opening, fault_in, unfinished_fault, end_fault, inclusion_fault, has_none, unless, part_label, part_first, Between, bare_statement, PlainReading, only_ending, with_statement, reading_of}
 use Rattle.mm_text.specs.Mirror.Steps.{fault_of, TakesPlain, AnswersFault, GivesPart, GivesFirst, TakesFirst, TellsFault, Opens, Closes, StepsTo}
 use Rattle.mm_text.proofs.StepLaws.{read_nothing, read_end, read_inclusion, read_wrong, read_more, read_whole, read_opened, read_closing, read_faulty, step_opens, step_closes}
 use Rattle.mm_text.proofs.MoreLeft.{HasMore, IsUnfinished, more_left, statement_more}
 
 -- ---- what was taken, where it is known
 
-pub takes_token : (old new : List Item) (n : Next) (t : Token) (kind : Class) → TakesNext old n new → n ≡ next.Token t kind → TakesToken old (plain_token t) kind new
-takes_token old new n t kind h e = subst (λ n. TakesNext old n new) e h
+pub takes_token : (old new : List Item) (n : Next) (t : Token) (kind : Class) → TakesItem old n new → n ≡ next.Token t kind → TakesToken old (plain_token t) kind new
+takes_token old new n t kind h e = subst (λ n. TakesItem old n new) e h
 
-pub takes_wrong : (old new : List Item) (n : Next) (t : Token) (kind : Class) (rule : TextRule) → TakesNext old n new → n ≡ next.Token t kind → kind ≡ class.Wrong rule → old ≡ Wrong rule (plain_token t) ∷ []
+pub takes_wrong : (old new : List Item) (n : Next) (t : Token) (kind : Class) (rule : TextRule) → TakesItem old n new → n ≡ next.Token t kind → kind ≡ class.Wrong rule → old ≡ Wrong rule (plain_token t) ∷ []
 takes_wrong old new n t kind rule h e k = (takes_token old new n t kind h e).first ∙ ap (λ k. items_with (plain_token t) k new) k
 
-pub takes_keyword : (old new : List Item) (n : Next) (t : Token) (kind : Class) (keyword : Keyword) → TakesNext old n new → n ≡ next.Token t kind → kind ≡ class.Keyword keyword → TakesPlain old (plain_token t) (Some keyword) new
+pub takes_keyword : (old new : List Item) (n : Next) (t : Token) (kind : Class) (keyword : Keyword) → TakesItem old n new → n ≡ next.Token t kind → kind ≡ class.Keyword keyword → TakesPlain old (plain_token t) (Some keyword) new
 takes_keyword old new n t kind keyword h e k =
     let taken = takes_token old new n t kind h e in
     record { first = taken.first ∙ ap (λ k. items_with (plain_token t) k new) k; text = subst (IsOfClass (plain_token t)) k taken.text; at = taken.at }
 
-pub takes_word : (old new : List Item) (n : Next) (t : Token) (kind : Class) → TakesNext old n new → n ≡ next.Token t kind → kind ≡ class.Word → TakesPlain old (plain_token t) None new
+pub takes_word : (old new : List Item) (n : Next) (t : Token) (kind : Class) → TakesItem old n new → n ≡ next.Token t kind → kind ≡ class.Word → TakesPlain old (plain_token t) None new
 takes_word old new n t kind h e k =
     let taken = takes_token old new n t kind h e in
     record { first = taken.first ∙ ap (λ k. items_with (plain_token t) k new) k; text = subst (IsOfClass (plain_token t)) k taken.text; at = taken.at }
 
-pub takes_inclusion : (old new : List Item) (n : Next) (t : Token) → TakesNext old n new → n ≡ next.Inclusion t → old ≡ Inclusion (plain_token t) ∷ new
-takes_inclusion old new n t h e = subst (λ n. TakesNext old n new) e h
+pub takes_inclusion : (old new : List Item) (n : Next) (t : Token) → TakesItem old n new → n ≡ next.Inclusion t → old ≡ Inclusion (plain_token t) ∷ new
+takes_inclusion old new n t h e = subst (λ n. TakesItem old n new) e h
 
-pub takes_end : (old new : List Item) (n : Next) (file : ℕ) → TakesNext old n new → n ≡ next.End file → old ≡ End file ∷ new
-takes_end old new n file h e = subst (λ n. TakesNext old n new) e h
+pub takes_end : (old new : List Item) (n : Next) (file : ℕ) → TakesItem old n new → n ≡ next.End file → old ≡ End file ∷ new
+takes_end old new n file h e = subst (λ n. TakesItem old n new) e h
 
-pub takes_nothing : (old new : List Item) (n : Next) → TakesNext old n new → n ≡ next.Nothing → old ≡ []
-takes_nothing old new n h e = let nothing : (old ≡ []) × (new ≡ []) = subst (λ n. TakesNext old n new) e h in nothing.0
+pub takes_nothing : (old new : List Item) (n : Next) → TakesItem old n new → n ≡ next.Nothing → old ≡ []
+takes_nothing old new n h e = let nothing : (old ≡ []) × (new ≡ []) = subst (λ n. TakesItem old n new) e h in nothing.0
 
 pub sign_is : (old new : List Item) (t : PlainToken) (sign other : Option Keyword) → TakesPlain old t sign new → sign ≡ other → TakesPlain old t other new
 sign_is old new t sign other h e = subst (λ sign. TakesPlain old t sign new) e h
@@ -62,9 +62,9 @@ fault_with scope part t rule label e = λ i. record { rule = rule; file = t.file
 
 -- a fault of a token is answered where the reading ends so
 pub answers_at : (scope : PlainScope) (part : Part) (t : PlainToken) (rule : TextRule) (label : Option Token) (reading : PlainReading) (fault : TextFault) → part_label part ≡ option_map plain_token label
-    → fault ≡ Fault rule t.file t.at (scope.count + 1) label → reading ≡ ended (Some (fault_in scope part rule t)) → AnswersFault reading fault
+    → fault ≡ Fault rule t.file t.at (scope.count + 1) label → reading ≡ only_ending (Some (fault_in scope part rule t)) → AnswersFault reading fault
 answers_at scope part t rule label reading fault named e h =
-    subst (AnswersFault reading) (sym e) (h ∙ ap (λ (f : PlainFault). ended (Some f)) (fault_with scope part t rule label named))
+    subst (AnswersFault reading) (sym e) (h ∙ ap (λ (f : PlainFault). only_ending (Some f)) (fault_with scope part t rule label named))
 
 -- the next token breaks a rule by itself
 pub answers_wrong : (scope : PlainScope) (part : Part) (items : List Item) (t : PlainToken) (rule : TextRule) (label : Option Token) (fault : TextFault) → items ≡ Wrong rule t ∷ [] → part_label part ≡ option_map plain_token label
@@ -81,23 +81,23 @@ answers_faulty scope part items rest t rule label fault first faulty named e =
 -- a file is included in a statement
 pub answers_inclusion : (scope : PlainScope) (part : Part) (items rest : List Item) (t first : PlainToken) (label : Option Token) (fault : TextFault) → items ≡ Inclusion t ∷ rest → part_first part ≡ Some first → part_label part ≡ option_map plain_token label
     → fault ≡ Fault X6 t.file t.at (scope.count + 1) label → AnswersFault (reading_of scope part items) fault
-answers_inclusion scope part items rest t first label fault next begun named e =
-    let wrong : inclusion_fault scope part t ≡ Some (fault_in scope part X6 t) = rw begun refl in
+answers_inclusion scope part items rest t first label fault next bare_statement named e =
+    let wrong : inclusion_fault scope part t ≡ Some (fault_in scope part X6 t) = rw bare_statement refl in
     answers_at scope part t X6 label _ fault named e (ap (reading_of scope part) next ∙ read_inclusion scope part t rest ∙ ap (λ (f : Option PlainFault). unless f (reading_of scope part rest)) wrong)
 
 -- a file ends in a statement
 pub answers_end : (scope : PlainScope) (part : Part) (items rest : List Item) (file : ℕ) (first : PlainToken) (label : Option Token) (fault : TextFault) → items ≡ End file ∷ rest → part_first part ≡ Some first → part_label part ≡ option_map plain_token label
     → fault ≡ Fault X8 first.file first.at (scope.count + 1) label → AnswersFault (reading_of scope part items) fault
-answers_end scope part items rest file first label fault next begun named e =
-    let wrong : end_fault scope part file ≡ Some (fault_in scope part X8 first) = rw (end_fault, begun) refl in
+answers_end scope part items rest file first label fault next bare_statement named e =
+    let wrong : end_fault scope part file ≡ Some (fault_in scope part X8 first) = rw (end_fault, bare_statement) refl in
     answers_at scope part first X8 label _ fault named e (ap (reading_of scope part) next ∙ read_end scope part file rest ∙ ap (λ (f : Option PlainFault). unless f (reading_of scope part rest)) wrong)
 
 -- nothing is left in a statement
 pub answers_nothing : (scope : PlainScope) (part : Part) (items : List Item) (first : PlainToken) (label : Option Token) (fault : TextFault) → items ≡ [] → part_first part ≡ Some first → part_label part ≡ option_map plain_token label
     → fault ≡ Fault X8 first.file first.at (scope.count + 1) label → AnswersFault (reading_of scope part items) fault
-answers_nothing scope part items first label fault next begun named e =
-    let wrong : unfinished_fault scope part ≡ Some (fault_in scope part X8 first) = rw begun refl in
-    answers_at scope part first X8 label _ fault named e (ap (reading_of scope part) next ∙ read_nothing scope part ∙ ap ended wrong)
+answers_nothing scope part items first label fault next bare_statement named e =
+    let wrong : unfinished_fault scope part ≡ Some (fault_in scope part X8 first) = rw bare_statement refl in
+    answers_at scope part first X8 label _ fault named e (ap (reading_of scope part) next ∙ read_nothing scope part ∙ ap only_ending wrong)
 
 -- a fault of a token
 pub steps_to_fault : (scope : PlainScope) (part : Part) (t : PlainToken) (fault : TextFault) (rule : TextRule) (label : Option Token) (next : Part) → fault ≡ Fault rule t.file t.at (scope.count + 1) label → step part t ≡ Faulty rule
@@ -109,7 +109,7 @@ steps_to_fault scope part t fault rule label next e faulty named =
 pub answers_refused : (scope : PlainScope) (part next : Part) (items rest : List Item) (t : PlainToken) (fault : TextFault) → IsUnfinished part → items ≡ Plain t ∷ rest → StepsTo scope part t (Err fault) next
     → AnswersFault (reading_of scope part items) fault
 answers_refused scope part next items rest t (Fault rule file at statement label) some first h =
-    ap (reading_of scope part) first ∙ read_faulty scope part t rest rule h.0 ∙ ap (λ (f : PlainFault). ended (Some f)) h.1
+    ap (reading_of scope part) first ∙ read_faulty scope part t rest rule h.0 ∙ ap (λ (f : PlainFault). only_ending (Some f)) h.1
 answers_refused scope part next items rest t Memory some first h = more_left scope part items some
 answers_refused scope part next items rest t (Load rule) some first h = absurd h
 
@@ -166,33 +166,33 @@ same_ended scope items rest file next none =
     ap (reading_of scope Between) next ∙ read_end scope Between file rest ∙ ap (λ (f : Option PlainFault). unless f (reading_of scope Between rest)) none
 
 -- a token is the first one of a statement
-pub takes_first : (scope : PlainScope) (whole old new : List Item) (n : Next) (t : Token) (kind : Class) → reading_of scope Between whole ≡ reading_of scope Between old → TakesNext old n new → n ≡ next.Token t kind
+pub takes_first : (scope : PlainScope) (whole old new : List Item) (n : Next) (t : Token) (kind : Class) → reading_of scope Between whole ≡ reading_of scope Between old → TakesItem old n new → n ≡ next.Token t kind
     → TakesFirst scope whole (Ok (Some (t, kind))) new
 takes_first scope whole old new n t kind same h e =
     let taken = takes_token old new n t kind h e in
     (same ∙ ap (reading_of scope Between) taken.first, taken.text)
 
 -- nothing is left
-pub nothing_left : (scope : PlainScope) (items : List Item) → items ≡ [] → reading_of scope Between items ≡ ended None
+pub nothing_left : (scope : PlainScope) (items : List Item) → items ≡ [] → reading_of scope Between items ≡ only_ending None
 nothing_left scope items e = ap (reading_of scope Between) e ∙ read_nothing scope Between
 
 -- ---- whole statements
 
 -- what is told of a keyword of which the class is known
-pub is_keyword_first : (t : PlainToken) (rest : List Item) (kind : Class) (keyword : Keyword) → IsOfClass t kind → kind ≡ class.Keyword keyword → (items_with t kind rest ≡ Plain t ∷ rest) × (t.text ≡ spelling keyword)
+pub is_keyword_first : (t : PlainToken) (rest : List Item) (kind : Class) (keyword : Keyword) → IsOfClass t kind → kind ≡ class.Keyword keyword → (items_with t kind rest ≡ Plain t ∷ rest) × (t.text ≡ keyword_bytes keyword)
 is_keyword_first t rest kind keyword h e = (ap (λ k. items_with t k rest) e, subst (IsOfClass t) e h)
 
 -- a `${`
-pub gives_opening : (scope later : PlainScope) (items rest : List Item) (t : PlainToken) (into : PlainStatement) (r : Result Unit TextFault) → items ≡ Plain t ∷ rest → t.text ≡ codes "${" → into ≡ begun Opening t None → Opens scope t r later
+pub gives_opening : (scope later : PlainScope) (items rest : List Item) (t : PlainToken) (into : PlainStatement) (r : Result Unit TextFault) → items ≡ Plain t ∷ rest → t.text ≡ codes "${" → into ≡ bare_statement Opening t None → Opens scope t r later
     → GivesFirst scope items r into later rest
 gives_opening scope later items rest t into (Ok unit) first sign is h =
     (ap (reading_of scope Between) first ∙ read_opened scope Between t rest (step_opens t sign) ∙ (λ i. with_statement (sym is i) (reading_of (sym h i) Between rest)), ap (λ (x : PlainScope). x.count) h)
 gives_opening scope later items rest t into (Err fault) first sign is h =
     subst (AnswersFault (reading_of scope Between items)) (sym h)
-    (subst HasMore (sym (ap (reading_of scope Between) first ∙ read_opened scope Between t rest (step_opens t sign))) (statement_more (begun Opening t None) (reading_of (opened scope t) Between rest)))
+    (subst HasMore (sym (ap (reading_of scope Between) first ∙ read_opened scope Between t rest (step_opens t sign))) (statement_more (bare_statement Opening t None) (reading_of (scope_after_opening scope t) Between rest)))
 
 -- a `$}`
-pub closes_block : (scope later : PlainScope) (items rest : List Item) (t : PlainToken) (into : PlainStatement) → items ≡ Plain t ∷ rest → t.text ≡ codes "$}" → into ≡ begun Closing t None → Closes scope true later
+pub closes_block : (scope later : PlainScope) (items rest : List Item) (t : PlainToken) (into : PlainStatement) → items ≡ Plain t ∷ rest → t.text ≡ codes "$}" → into ≡ bare_statement Closing t None → Closes scope true later
     → GivesFirst scope items (Ok tt) into later rest
 closes_block scope later items rest t into first sign is h = (
   ap (reading_of scope Between) first ∙ read_closing scope Between t rest (step_closes t sign) ∙ cond-false (has_none scope.blocks) _ _ h.0

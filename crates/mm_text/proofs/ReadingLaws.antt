@@ -13,7 +13,7 @@ use Rattle.mm_text.specs.Statement.{PlainStatement, Spells, SpellsAll}
 use Rattle.mm_text.specs.Items.{Item, Plain, Wrong, Inclusion, End, plain_tokens, HoldNoFault}
 use Rattle.mm_text.specs.Blocks.{AreBalanced, AreClosed}
 use Rattle.mm_text.specs.Reading.{PlainFault, IsBeginning, AreOutside, Viable, fault_at, EndsAt, ReadsAs}
-use Rattle.mm_text.specs.Mirror.Reader.{Part, Between, Step, More, Whole, Opened, Closed, Faulty, step, begun, part_first, PlainScope, outermost, passed, opened, closed, has_none, fault_in, block_fault, unfinished_fault, end_fault, inclusion_fault, unless, PlainReading, ended, with_statement, reading_of}
+use Rattle.mm_text.specs.Mirror.Reader.{Part, Between, Step, More, Whole, Opened, Closed, Faulty, step, bare_statement, part_first, PlainScope, outermost, scope_after_statement, scope_after_opening, scope_after_closing, has_none, fault_in, block_fault, unfinished_fault, end_fault, inclusion_fault, unless, PlainReading, only_ending, with_statement, reading_of}
 use Rattle.mm_text.proofs.TextFacts.{IsSigned}
 use Rattle.mm_text.proofs.Fronts.{nil_append, last_cut, plain_tokens-append, clean_append}
 use Rattle.mm_text.proofs.PartFacts.{Describes, Describes-label, beginning_of_part, first_of_part}
@@ -55,12 +55,12 @@ record Follows (pre : List Item) (item : Item) : Type 0 where
 
 extended : (pre : List Item) (item : Item) (statements more : List PlainStatement) (unfinished left finished : List PlainToken) → Viable pre statements unfinished → Follows pre item
     → plain_tokens pre ++ plain_tokens (item ∷ []) ≡ finished ++ left → SpellsAll finished more → IsBeginning left → AreBalanced more → Viable (pre ++ item ∷ []) more left
-extended pre item statements more unfinished left finished v f whole spelled begun balanced = record {
+extended pre item statements more unfinished left finished v f whole spelled bare_statement balanced = record {
   clean = clean_append pre (item ∷ []) v.clean f.clean;
   finished = finished;
   whole = plain_tokens-append pre (item ∷ []) ∙ whole;
   spelled = spelled;
-  begun = begun;
+  begun = bare_statement;
   balanced = balanced;
   included = λ before after token cut. elim (last_cut pre item before (Inclusion token) after cut) [
     | inl h ↦ v.included before h.0 token h.1
@@ -111,7 +111,7 @@ ReadsOn whole statements reading = ReadsAs whole (statements ++ reading.statemen
 
 -- a fault at the very next item
 fault_here : (pre : List Item) (item : Item) (rest : List Item) (statements : List PlainStatement) (unfinished : List PlainToken) (fault : PlainFault) → Viable pre statements unfinished → EndsAt statements unfinished item fault
-    → ReadsOn (pre ++ item ∷ rest) statements (ended (Some fault))
+    → ReadsOn (pre ++ item ∷ rest) statements (only_ending (Some fault))
 fault_here pre item rest statements unfinished fault v e =
     subst (λ (x : List PlainStatement). ReadsAs (pre ++ item ∷ rest) x (Some fault)) (sym (append-nil statements)) (pre, item, rest, unfinished, refl, v, e)
 
@@ -147,14 +147,14 @@ GoesOn rest =
 token_wrong : (pre rest : List Item) (statements : List PlainStatement) (unfinished : List PlainToken) (part : Part) (rule : TextRule) (t : PlainToken) → Course pre statements unfinished part
     → ReadsOn (pre ++ Wrong rule t ∷ rest) statements (reading_of (scope_of statements) part (Wrong rule t ∷ rest))
 token_wrong pre rest statements unfinished part rule t c =
-    same_reading _ statements _ _ (read_wrong (scope_of statements) part rule t rest ∙ ap (λ (f : PlainFault). ended (Some f)) (fault_is rule t part statements unfinished c.described))
+    same_reading _ statements _ _ (read_wrong (scope_of statements) part rule t rest ∙ ap (λ (f : PlainFault). only_ending (Some f)) (fault_is rule t part statements unfinished c.described))
     (fault_here pre (Wrong rule t) rest statements unfinished (fault_at rule t statements unfinished) c.viable refl)
 
 -- a token that breaks a rule
 token_faulty : (pre rest : List Item) (statements : List PlainStatement) (unfinished : List PlainToken) (part : Part) (t : PlainToken) (rule : TextRule) → Course pre statements unfinished part → step part t ≡ Faulty rule
     → StepsTo unfinished t (Faulty rule) → ReadsOn (pre ++ Plain t ∷ rest) statements (reading_of (scope_of statements) part (Plain t ∷ rest))
 token_faulty pre rest statements unfinished part t rule c e so =
-    same_reading _ statements _ _ (read_faulty (scope_of statements) part t rest rule e ∙ ap (λ (f : PlainFault). ended (Some f)) (fault_is rule t part statements unfinished c.described))
+    same_reading _ statements _ _ (read_faulty (scope_of statements) part t rest rule e ∙ ap (λ (f : PlainFault). only_ending (Some f)) (fault_is rule t part statements unfinished c.described))
     (fault_here pre (Plain t) rest statements unfinished (fault_at rule t statements unfinished) c.viable (rule, so statements, refl))
 
 token_more : (pre rest : List Item) (statements : List PlainStatement) (unfinished : List PlainToken) (part : Part) (t : PlainToken) (next : Part) → GoesOn rest → ComesToStop rest → Course pre statements unfinished part → step part t ≡ More next
@@ -177,13 +177,13 @@ token_ends pre rest statements unfinished part t s scope inner c e is h b =
 token_whole : (pre rest : List Item) (statements : List PlainStatement) (unfinished : List PlainToken) (part : Part) (t : PlainToken) (s : PlainStatement) → GoesOn rest → Course pre statements unfinished part → step part t ≡ Whole s
     → StepsTo unfinished t (Whole s) → ReadsOn (pre ++ Plain t ∷ rest) statements (reading_of (scope_of statements) part (Plain t ∷ rest))
 token_whole pre rest statements unfinished part t s inner c e so =
-    token_ends pre rest statements unfinished part t s (passed (scope_of statements)) inner c (read_whole (scope_of statements) part t rest s e) (scope_body statements s so.1) so.0 (balanced_body statements s c.viable.balanced so.1)
+    token_ends pre rest statements unfinished part t s (scope_after_statement (scope_of statements)) inner c (read_whole (scope_of statements) part t rest s e) (scope_body statements s so.1) so.0 (balanced_body statements s c.viable.balanced so.1)
 
 token_opened : (pre rest : List Item) (statements : List PlainStatement) (unfinished : List PlainToken) (part : Part) (t : PlainToken) → GoesOn rest → Course pre statements unfinished part → step part t ≡ Opened
     → StepsTo unfinished t Opened → ReadsOn (pre ++ Plain t ∷ rest) statements (reading_of (scope_of statements) part (Plain t ∷ rest))
 token_opened pre rest statements unfinished part t inner c e so =
-    let s : PlainStatement = begun Opening t None in
-    token_ends pre rest statements unfinished part t s (opened (scope_of statements) t) inner c (read_opened (scope_of statements) part t rest e) (scope_more statements s)
+    let s : PlainStatement = bare_statement Opening t None in
+    token_ends pre rest statements unfinished part t s (scope_after_opening (scope_of statements) t) inner c (read_opened (scope_of statements) part t rest e) (scope_more statements s)
     (spells_sign Opening unfinished t so.0 so.1 refl (record { keyword = t; tokens = refl; sign = so.1 }) refl (refl, refl, refl)) (balanced_opening statements s c.viable.balanced refl)
 
 token_closed : (pre rest : List Item) (statements : List PlainStatement) (unfinished : List PlainToken) (part : Part) (t : PlainToken) → GoesOn rest → Course pre statements unfinished part → step part t ≡ Closed
@@ -191,14 +191,14 @@ token_closed : (pre rest : List Item) (statements : List PlainStatement) (unfini
 token_closed pre rest statements unfinished part t inner c e so = go (has_none (scope_of statements).blocks) refl
   where
     s : PlainStatement
-    s = begun Closing t None
+    s = bare_statement Closing t None
 
     go : (none : Bool) → has_none (scope_of statements).blocks ≡ none → ReadsOn (pre ++ Plain t ∷ rest) statements (reading_of (scope_of statements) part (Plain t ∷ rest))
     go true none =
-        same_reading _ statements _ _ (read_closing (scope_of statements) part t rest e ∙ cond-true (has_none (scope_of statements).blocks) _ _ none ∙ ap (λ (f : PlainFault). ended (Some f)) (fault_is S6 t part statements unfinished c.described))
+        same_reading _ statements _ _ (read_closing (scope_of statements) part t rest e ∙ cond-true (has_none (scope_of statements).blocks) _ _ none ∙ ap (λ (f : PlainFault). only_ending (Some f)) (fault_is S6 t part statements unfinished c.described))
         (fault_here pre (Plain t) rest statements unfinished (fault_at S6 t statements unfinished) c.viable (S6, (so.0, so.1, scope_closed statements c.viable.balanced none), refl))
     go false some =
-        token_ends pre rest statements unfinished part t s (closed (scope_of statements)) inner c (read_closing (scope_of statements) part t rest e ∙ cond-false (has_none (scope_of statements).blocks) _ _ some) (scope_more statements s)
+        token_ends pre rest statements unfinished part t s (scope_after_closing (scope_of statements)) inner c (read_closing (scope_of statements) part t rest e ∙ cond-false (has_none (scope_of statements).blocks) _ _ some) (scope_more statements s)
         (spells_sign Closing unfinished t so.0 so.1 refl (record { keyword = t; tokens = refl; sign = so.1 }) refl (refl, refl, refl)) (balanced_closing statements s c.viable.balanced refl (scope_unclosed statements c.viable.balanced some))
 
 token_next : (pre rest : List Item) (statements : List PlainStatement) (unfinished : List PlainToken) (part : Part) (t : PlainToken) → GoesOn rest → ComesToStop rest → Course pre statements unfinished part
@@ -223,14 +223,14 @@ inclusion_faulty : (pre rest : List Item) (statements : List PlainStatement) (un
     → ReadsOn (pre ++ Inclusion t ∷ rest) statements (reading_of (scope_of statements) part (Inclusion t ∷ rest))
 inclusion_faulty pre rest statements unfinished part t c e why =
     same_reading _ statements _ _
-    (read_inclusion (scope_of statements) part t rest ∙ ap (λ (f : Option PlainFault). unless f (reading_of (scope_of statements) part rest)) e ∙ ap (λ (f : PlainFault). ended (Some f)) (fault_is X6 t part statements unfinished c.described))
+    (read_inclusion (scope_of statements) part t rest ∙ ap (λ (f : Option PlainFault). unless f (reading_of (scope_of statements) part rest)) e ∙ ap (λ (f : PlainFault). only_ending (Some f)) (fault_is X6 t part statements unfinished c.described))
     (fault_here pre (Inclusion t) rest statements unfinished (fault_at X6 t statements unfinished) c.viable (why, refl))
 
 -- or outside
 inclusion_passed : (pre rest : List Item) (statements : List PlainStatement) (unfinished : List PlainToken) (part : Part) (t : PlainToken) → GoesOn rest → Course pre statements unfinished part → part ≡ Between → unfinished ≡ []
     → inclusion_fault (scope_of statements) part t ≡ None → AreClosed statements → ReadsOn (pre ++ Inclusion t ∷ rest) statements (reading_of (scope_of statements) part (Inclusion t ∷ rest))
-inclusion_passed pre rest statements unfinished part t inner c between_now none e closed =
-    let follows : Follows pre (Inclusion t) = record { clean = tt; included = λ token is. outside pre statements unfinished c.viable none closed; ended = λ file is. absurd cc; top_ended = λ is. absurd cc } in
+inclusion_passed pre rest statements unfinished part t inner c between_now none e scope_after_closing =
+    let follows : Follows pre (Inclusion t) = record { clean = tt; included = λ token is. outside pre statements unfinished c.viable none scope_after_closing; ended = λ file is. absurd cc; top_ended = λ is. absurd cc } in
     same_reading _ statements _ _
     (read_inclusion (scope_of statements) part t rest ∙ ap (λ (f : Option PlainFault). unless f (reading_of (scope_of statements) part rest)) e)
     (item_before pre (Inclusion t) rest statements (reading_of (scope_of statements) part rest)
@@ -245,9 +245,9 @@ inclusion_next pre rest statements unfinished part t inner c =
     ]
   where
     go : part ≡ Between → unfinished ≡ [] → (b : Bool) → has_none (scope_of statements).blocks ≡ b → ReadsOn (pre ++ Inclusion t ∷ rest) statements (reading_of (scope_of statements) part (Inclusion t ∷ rest))
-    go between_now none true closed =
+    go between_now none true scope_after_closing =
         inclusion_passed pre rest statements unfinished part t inner c between_now none
-        (ap (λ (x : Part). inclusion_fault (scope_of statements) x t) between_now ∙ cond-true (has_none (scope_of statements).blocks) _ _ closed) (scope_closed statements c.viable.balanced closed)
+        (ap (λ (x : Part). inclusion_fault (scope_of statements) x t) between_now ∙ cond-true (has_none (scope_of statements).blocks) _ _ scope_after_closing) (scope_closed statements c.viable.balanced scope_after_closing)
     go between_now none false some_open =
         inclusion_faulty pre rest statements unfinished part t c
         (ap (λ (x : Part). inclusion_fault (scope_of statements) x t) between_now ∙ cond-false (has_none (scope_of statements).blocks) _ _ some_open ∙ ap (λ (x : Part). Some (fault_in (scope_of statements) x X6 t)) (sym between_now))
@@ -260,7 +260,7 @@ end_unfinished : (pre rest : List Item) (statements : List PlainStatement) (unfi
 end_unfinished pre rest statements unfinished others part file first c begun_by is =
     let e : end_fault (scope_of statements) part file ≡ Some (fault_in (scope_of statements) part X8 first) = rw (end_fault, begun_by) refl in
     same_reading _ statements _ _
-    (read_end (scope_of statements) part file rest ∙ ap (λ (f : Option PlainFault). unless f (reading_of (scope_of statements) part rest)) e ∙ ap (λ (f : PlainFault). ended (Some f)) (fault_is X8 first part statements unfinished c.described))
+    (read_end (scope_of statements) part file rest ∙ ap (λ (f : Option PlainFault). unless f (reading_of (scope_of statements) part rest)) e ∙ ap (λ (f : PlainFault). only_ending (Some f)) (fault_is X8 first part statements unfinished c.described))
     (fault_here pre (End file) rest statements unfinished (fault_at X8 first statements unfinished) c.viable (inl (first, others, is, refl)))
 
 -- the top file ends in a block
@@ -277,12 +277,12 @@ end_in_block pre rest statements unfinished part file block blocks c between_now
 
 end_passed : (pre rest : List Item) (statements : List PlainStatement) (unfinished : List PlainToken) (part : Part) (file : ℕ) → GoesOn rest → Course pre statements unfinished part → part ≡ Between → unfinished ≡ []
     → end_fault (scope_of statements) Between file ≡ None → (file ≡ 0 → AreClosed statements) → ReadsOn (pre ++ End file ∷ rest) statements (reading_of (scope_of statements) part (End file ∷ rest))
-end_passed pre rest statements unfinished part file inner c between_now none e closed =
+end_passed pre rest statements unfinished part file inner c between_now none e scope_after_closing =
     let follows : Follows pre (End file) = record {
       clean = tt;
       included = λ token is. absurd cc;
       ended = λ other is. (statements, subst (λ (x : List PlainToken). SpellsAll x statements) (sym (nothing_left pre statements unfinished c.viable none)) c.viable.spelled);
-      top_ended = λ is. outside pre statements unfinished c.viable none (closed (end_number file 0 is));
+      top_ended = λ is. outside pre statements unfinished c.viable none (scope_after_closing (end_number file 0 is));
     } in
     same_reading _ statements _ _
     (read_end (scope_of statements) part file rest ∙ ap (λ (f : Option PlainFault). unless f (reading_of (scope_of statements) part rest)) (ap (λ (x : Part). end_fault (scope_of statements) x file) between_now ∙ e))
@@ -316,7 +316,7 @@ nothing_next : (pre : List Item) (statements : List PlainStatement) (unfinished 
 nothing_next pre statements unfinished part c none =
     elim (first_of_part part unfinished c.described) [
       | inl is ↦
-          same_reading _ statements _ _ (read_nothing (scope_of statements) part ∙ ap (λ (x : Part). ended (unfinished_fault (scope_of statements) x)) is.0)
+          same_reading _ statements _ _ (read_nothing (scope_of statements) part ∙ ap (λ (x : Part). only_ending (unfinished_fault (scope_of statements) x)) is.0)
           (transport (λ i. Viable (sym (append-nil pre) i) (sym (append-nil statements) i) (is.1 i)) c.viable)
       | inr some ↦ absurd (no_first part some.0 some.2 none)
     ]

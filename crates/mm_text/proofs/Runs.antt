@@ -4,7 +4,7 @@ use Rattle.mm_text.specs.declared.fault.TextRule.{TextRule}
 use Rattle.mm_text.specs.declared.statement.Kind.TheVariants.{Opening, Closing}
 use Rattle.mm_text.specs.Token.{PlainToken}
 use Rattle.mm_text.specs.Statement.{PlainStatement}
-use Rattle.mm_text.specs.Mirror.Reader.{Part, Between, Step, More, Whole, Opened, Closed, Faulty, step, begun}
+use Rattle.mm_text.specs.Mirror.Reader.{Part, Between, Step, More, Whole, Opened, Closed, Faulty, step, bare_statement}
 
 pub data Run : Type 0 where
   Fails : Run
@@ -24,8 +24,8 @@ run part [] = Runs [] part
 run part (t ∷ tokens) = elim (step part t) [
   | More next ↦ run next tokens
   | Whole s ↦ with_first s (run Between tokens)
-  | Opened ↦ with_first (begun Opening t None) (run Between tokens)
-  | Closed ↦ with_first (begun Closing t None) (run Between tokens)
+  | Opened ↦ with_first (bare_statement Opening t None) (run Between tokens)
+  | Closed ↦ with_first (bare_statement Closing t None) (run Between tokens)
   | Faulty rule ↦ Fails
 ]
 
@@ -33,8 +33,8 @@ run_by : PlainToken → List PlainToken → Step → Run
 run_by t tokens s = elim s [
   | More next ↦ run next tokens
   | Whole s ↦ with_first s (run Between tokens)
-  | Opened ↦ with_first (begun Opening t None) (run Between tokens)
-  | Closed ↦ with_first (begun Closing t None) (run Between tokens)
+  | Opened ↦ with_first (bare_statement Opening t None) (run Between tokens)
+  | Closed ↦ with_first (bare_statement Closing t None) (run Between tokens)
   | Faulty rule ↦ Fails
 ]
 
@@ -54,11 +54,11 @@ pub run-whole : (part : Part) (s : PlainStatement) (t : PlainToken) (tokens : Li
 unfolding run_by
 run-whole part s t tokens e = run_next part t tokens ∙ ap (run_by t tokens) e
 
-pub run-opened : (part : Part) (t : PlainToken) (tokens : List PlainToken) → step part t ≡ Opened → run part (t ∷ tokens) ≡ with_first (begun Opening t None) (run Between tokens)
+pub run-opened : (part : Part) (t : PlainToken) (tokens : List PlainToken) → step part t ≡ Opened → run part (t ∷ tokens) ≡ with_first (bare_statement Opening t None) (run Between tokens)
 unfolding run_by
 run-opened part t tokens e = run_next part t tokens ∙ ap (run_by t tokens) e
 
-pub run-closed : (part : Part) (t : PlainToken) (tokens : List PlainToken) → step part t ≡ Closed → run part (t ∷ tokens) ≡ with_first (begun Closing t None) (run Between tokens)
+pub run-closed : (part : Part) (t : PlainToken) (tokens : List PlainToken) → step part t ≡ Closed → run part (t ∷ tokens) ≡ with_first (bare_statement Closing t None) (run Between tokens)
 unfolding run_by
 run-closed part t tokens e = run_next part t tokens ∙ ap (run_by t tokens) e
 
@@ -92,8 +92,8 @@ append_run part (t ∷ a) b = go (λ next. append_run next a b) (step part t) re
     go : ((next : Part) → run next (a ++ b) ≡ then_run (run next a) b) → (st : Step) → step part t ≡ st → run part (t ∷ a ++ b) ≡ then_run (run part (t ∷ a)) b
     go inner (More next) e = run-more part next t (a ++ b) e ∙ inner next ∙ ap (λ (r : Run). then_run r b) (sym (run-more part next t a e))
     go inner (Whole s) e = run-whole part s t (a ++ b) e ∙ ap (with_first s) (inner Between) ∙ then_first s (run Between a) b ∙ ap (λ (r : Run). then_run r b) (sym (run-whole part s t a e))
-    go inner Opened e = run-opened part t (a ++ b) e ∙ ap (with_first (begun Opening t None)) (inner Between) ∙ then_first (begun Opening t None) (run Between a) b ∙ ap (λ (r : Run). then_run r b) (sym (run-opened part t a e))
-    go inner Closed e = run-closed part t (a ++ b) e ∙ ap (with_first (begun Closing t None)) (inner Between) ∙ then_first (begun Closing t None) (run Between a) b ∙ ap (λ (r : Run). then_run r b) (sym (run-closed part t a e))
+    go inner Opened e = run-opened part t (a ++ b) e ∙ ap (with_first (bare_statement Opening t None)) (inner Between) ∙ then_first (bare_statement Opening t None) (run Between a) b ∙ ap (λ (r : Run). then_run r b) (sym (run-opened part t a e))
+    go inner Closed e = run-closed part t (a ++ b) e ∙ ap (with_first (bare_statement Closing t None)) (inner Between) ∙ then_first (bare_statement Closing t None) (run Between a) b ∙ ap (λ (r : Run). then_run r b) (sym (run-closed part t a e))
     go inner (Faulty rule) e = run-faulty part rule t (a ++ b) e ∙ ap (λ (r : Run). then_run r b) (sym (run-faulty part rule t a e))
 
 -- after tokens that make statements and a part, more tokens go on from there

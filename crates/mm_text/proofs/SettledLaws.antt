@@ -6,7 +6,7 @@ use Rattle.mm_text.specs.declared.fault.TextRule.{TextRule}
 use Rattle.mm_text.specs.declared.fault.TextRule.TheVariants.{X7}
 use Rattle.mm_text.specs.Token.{tokens_from}
 use Rattle.mm_text.specs.Files.{PlainFile}
-use Rattle.mm_text.specs.Items.{Item, Plain, Wrong, Inclusion, End, Shown, Clear, Broken, uncommented, spells, holds_dollar, Spot, Outside, Naming, Closing, Piece, Met, Named, broken_outside, pieces, pieces_of, number_of, spliced, put_before, put_in, items}
+use Rattle.mm_text.specs.Items.{Item, Plain, Wrong, Inclusion, End, Shown, Clear, Broken, without_comments, spells, holds_dollar, Spot, Outside, Naming, Closing, Piece, Met, Named, broken_outside, pieces, pieces_of, file_number, with_inclusions, put_before, put_in, items}
 use Rattle.mm_text.proofs.NestLaws.{count_named, count_top}
 use Rattle.mm_text.proofs.ReadingLaws.{ComesToStop, AreSettled}
 
@@ -76,46 +76,46 @@ put_before_stops files n rest h = go (slice_get files n)
   where
     go : (o : Option PlainFile) → StopsSoon (elim o [ None ↦ rest | Some file ↦ pieces_of n file ++ rest ])
     go None = h
-    go (Some f) = stops-append (pieces_of n f) rest (pieces_stop n Outside (uncommented None (tokens_from n 0 f.bytes))).0
+    go (Some f) = stops-append (pieces_of n f) rest (pieces_stop n Outside (without_comments None (tokens_from n 0 f.bytes))).0
 
 put_before_all : (files : List PlainFile) (n : ℕ) (rest : List Piece) → AllStop rest → AllStop (put_before files n rest)
 put_before_all files n rest h = go (slice_get files n)
   where
     go : (o : Option PlainFile) → AllStop (elim o [ None ↦ rest | Some file ↦ pieces_of n file ++ rest ])
     go None = h
-    go (Some f) = all_stop-append (pieces_of n f) rest (pieces_stop n Outside (uncommented None (tokens_from n 0 f.bytes))).1 h
+    go (Some f) = all_stop-append (pieces_of n f) rest (pieces_stop n Outside (without_comments None (tokens_from n 0 f.bytes))).1 h
 
 -- ---- items
 
 spliced_stops : (files : List PlainFile) (named : List Bool) (next : ℕ → List Piece → List Item)
-    → ((n : ℕ) (rest : List Piece) → slice_index_or named n true ≡ false → StopsSoon rest → ComesToStop (next n rest)) → (ps : List Piece) → StopsSoon ps → ComesToStop (spliced files named next ps)
-unfolding spliced
+    → ((n : ℕ) (rest : List Piece) → slice_index_or named n true ≡ false → StopsSoon rest → ComesToStop (next n rest)) → (ps : List Piece) → StopsSoon ps → ComesToStop (with_inclusions files named next ps)
+unfolding with_inclusions
 spliced_stops files named next goes [] h = absurd h
 spliced_stops files named next goes (Met (Plain t) ∷ rest) h = spliced_stops files named next goes rest h
 spliced_stops files named next goes (Met (Wrong rule t) ∷ rest) h = tt
 spliced_stops files named next goes (Met (Inclusion t) ∷ rest) h = spliced_stops files named next goes rest h
 spliced_stops files named next goes (Met (End n) ∷ rest) h = tt
-spliced_stops files named next goes (Named name ∷ rest) h = go (number_of files name.text) (spliced_stops files named next goes rest h)
+spliced_stops files named next goes (Named name ∷ rest) h = go (file_number files name.text) (spliced_stops files named next goes rest h)
   where
-    go : (o : Option ℕ) → ComesToStop (spliced files named next rest)
-        → ComesToStop (elim o [ None ↦ Wrong X7 name ∷ [] | Some n ↦ cond (slice_index_or named n true) (spliced files named next rest) (next n rest) ])
+    go : (o : Option ℕ) → ComesToStop (with_inclusions files named next rest)
+        → ComesToStop (elim o [ None ↦ Wrong X7 name ∷ [] | Some n ↦ cond (slice_index_or named n true) (with_inclusions files named next rest) (next n rest) ])
     go None inner = tt
     go (Some n) inner = cond_both (slice_index_or named n true) _ _ ComesToStop (λ _. inner) (λ first. goes n rest first h)
 
 spliced_settles : (files : List PlainFile) (named : List Bool) (next : ℕ → List Piece → List Item)
     → ((n : ℕ) (rest : List Piece) → slice_index_or named n true ≡ false → StopsSoon rest → ComesToStop (next n rest))
     → ((n : ℕ) (rest : List Piece) → slice_index_or named n true ≡ false → AllStop rest → AreSettled (next n rest))
-    → (ps : List Piece) → AllStop ps → AreSettled (spliced files named next ps)
-unfolding spliced
+    → (ps : List Piece) → AllStop ps → AreSettled (with_inclusions files named next ps)
+unfolding with_inclusions
 spliced_settles files named next goes settles [] h = tt
 spliced_settles files named next goes settles (Met (Plain t) ∷ rest) h = (spliced_stops files named next goes rest h.0, spliced_settles files named next goes settles rest h.1)
 spliced_settles files named next goes settles (Met (Wrong rule t) ∷ rest) h = tt
 spliced_settles files named next goes settles (Met (Inclusion t) ∷ rest) h = spliced_settles files named next goes settles rest h
 spliced_settles files named next goes settles (Met (End n) ∷ rest) h = spliced_settles files named next goes settles rest h
-spliced_settles files named next goes settles (Named name ∷ rest) h = go (number_of files name.text) (spliced_settles files named next goes settles rest h)
+spliced_settles files named next goes settles (Named name ∷ rest) h = go (file_number files name.text) (spliced_settles files named next goes settles rest h)
   where
-    go : (o : Option ℕ) → AreSettled (spliced files named next rest)
-        → AreSettled (elim o [ None ↦ Wrong X7 name ∷ [] | Some n ↦ cond (slice_index_or named n true) (spliced files named next rest) (next n rest) ])
+    go : (o : Option ℕ) → AreSettled (with_inclusions files named next rest)
+        → AreSettled (elim o [ None ↦ Wrong X7 name ∷ [] | Some n ↦ cond (slice_index_or named n true) (with_inclusions files named next rest) (next n rest) ])
     go None inner = tt
     go (Some n) inner = cond_both (slice_index_or named n true) _ _ AreSettled (λ _. inner) (λ first. settles n rest first h)
 
@@ -147,4 +147,4 @@ put_in_settles files (suc left) named ps le h =
 pub items_settled : (files : List PlainFile) → AreSettled (items files)
 items_settled [] = tt
 items_settled (top ∷ others) =
-    put_in_settles (top ∷ others) (length others) (true ∷ replicate (length others) false) (pieces_of 0 top) (omega (arith, count_top (length others))) (pieces_stop 0 Outside (uncommented None (tokens_from 0 0 top.bytes))).1
+    put_in_settles (top ∷ others) (length others) (true ∷ replicate (length others) false) (pieces_of 0 top) (omega (arith, count_top (length others))) (pieces_stop 0 Outside (without_comments None (tokens_from 0 0 top.bytes))).1

@@ -9,7 +9,7 @@ use Rattle.mm_text.specs.declared.statement.Kind.TheVariants.{Constants, Variabl
 use Rattle.mm_text.specs.Token.{PlainToken, IsLabel, is_label_byte, HoldsNoDollar}
 use Rattle.mm_text.specs.Statement.{PlainStatement, IsHead, HasBody, IsBareHead, IsLabelledHead, AreSymbols, FitsCount, label_in, keyword_of, Spells, SpellsAll, IsTail, EndsAtOnce, EndsInProof}
 use Rattle.mm_text.specs.Reading.{closes_symbols}
-use Rattle.mm_text.specs.Mirror.Reader.{Part, Between, Labelled, InBody, InProof, More, Whole, Opened, Closed, Faulty, step, same_text, is_keyword, begun, has_count, is_full, is_provable}
+use Rattle.mm_text.specs.Mirror.Reader.{Part, Between, Labelled, InBody, InProof, More, Whole, Opened, Closed, Faulty, step, same_text, is_keyword, bare_statement, has_count, is_full, is_provable}
 use Rattle.mm_text.proofs.TextFacts.{same_text_from, symbol-is_keyword, label-is_keyword, label_ne}
 use Rattle.mm_text.proofs.Fronts.{cons_parts}
 use Rattle.mm_text.proofs.PartFacts.{IsPartBody, IsPartProof, Describes}
@@ -18,15 +18,15 @@ use Rattle.mm_text.proofs.Runs.{Runs, with_first, with_all, with_all-runs, run, 
 
 -- ---- single steps
 
-start_constants : (t : PlainToken) → t.text ≡ codes "$c" → step Between t ≡ More (InBody (begun Constants t None))
+start_constants : (t : PlainToken) → t.text ≡ codes "$c" → step Between t ≡ More (InBody (bare_statement Constants t None))
 unfolding step
 start_constants t e = rw e refl
 
-start_variables : (t : PlainToken) → t.text ≡ codes "$v" → step Between t ≡ More (InBody (begun Variables t None))
+start_variables : (t : PlainToken) → t.text ≡ codes "$v" → step Between t ≡ More (InBody (bare_statement Variables t None))
 unfolding step
 start_variables t e = rw e refl
 
-start_distinct : (t : PlainToken) → t.text ≡ codes "$d" → step Between t ≡ More (InBody (begun Distinct t None))
+start_distinct : (t : PlainToken) → t.text ≡ codes "$d" → step Between t ≡ More (InBody (bare_statement Distinct t None))
 unfolding step
 start_distinct t e = rw e refl
 
@@ -49,19 +49,19 @@ start_label t h =
     ∙ cond-false (is_keyword t.text) _ _ (label-is_keyword t.text h)
     ∙ cond-true (list_all is_label_byte t.text) _ _ h
 
-label_floating : (label t : PlainToken) → t.text ≡ codes "$f" → step (Labelled label) t ≡ More (InBody (begun Floating label (Some label)))
+label_floating : (label t : PlainToken) → t.text ≡ codes "$f" → step (Labelled label) t ≡ More (InBody (bare_statement Floating label (Some label)))
 unfolding step
 label_floating label t e = rw e refl
 
-label_essential : (label t : PlainToken) → t.text ≡ codes "$e" → step (Labelled label) t ≡ More (InBody (begun Essential label (Some label)))
+label_essential : (label t : PlainToken) → t.text ≡ codes "$e" → step (Labelled label) t ≡ More (InBody (bare_statement Essential label (Some label)))
 unfolding step
 label_essential label t e = rw e refl
 
-label_axiom : (label t : PlainToken) → t.text ≡ codes "$a" → step (Labelled label) t ≡ More (InBody (begun Axiom label (Some label)))
+label_axiom : (label t : PlainToken) → t.text ≡ codes "$a" → step (Labelled label) t ≡ More (InBody (bare_statement Axiom label (Some label)))
 unfolding step
 label_axiom label t e = rw e refl
 
-label_provable : (label t : PlainToken) → t.text ≡ codes "$p" → step (Labelled label) t ≡ More (InBody (begun Provable label (Some label)))
+label_provable : (label t : PlainToken) → t.text ≡ codes "$p" → step (Labelled label) t ≡ More (InBody (bare_statement Provable label (Some label)))
 unfolding step
 label_provable label t e = rw e refl
 
@@ -125,7 +125,7 @@ proof_run s (t ∷ proof) rest h =
 
 -- a statement with no symbols yet
 abbrev fresh : Kind → PlainToken → Option PlainToken → Part
-fresh kind first label = InBody (begun kind first label)
+fresh kind first label = InBody (bare_statement kind first label)
 
 bare_run : (kind : Kind) (head : List PlainToken) (first : PlainToken) (others : List PlainToken) (label : Option PlainToken) (rest : List PlainToken)
     → ((t : PlainToken) → t.text ≡ keyword_of kind → step Between t ≡ More (fresh kind t None)) → list_all is_label_byte (keyword_of kind) ≡ false
@@ -167,7 +167,7 @@ body_run s tokens rest d =
     ap (λ (x : List PlainToken). run Between (x ++ rest)) d.whole
     ∙ ap (run Between) (append_assoc d.head s.symbols rest)
     ∙ head_run s.kind d.head s.first d.others s.label (s.symbols ++ rest) d.long d.begins d.first d.label
-    ∙ symbols_run (begun s.kind s.first s.label) s.symbols rest d.spelled (λ k. let le = d.room k in omega arith)
+    ∙ symbols_run (bare_statement s.kind s.first s.label) s.symbols rest d.spelled (λ k. let le = d.room k in omega arith)
     ∙ (λ i. run (InBody (record s { proof = sym d.proof i; span = sym d.span i })) rest)
 
 -- the body of a `$p`, as it was before its `$=`
@@ -271,7 +271,7 @@ pub record IsBlockSign (tokens : List PlainToken) (s : PlainStatement) (kind : K
   pub sign : PlainToken
   pub alone : tokens ≡ sign ∷ []
   pub text : sign.text ≡ keyword_of kind
-  pub same : s ≡ begun kind sign None
+  pub same : s ≡ bare_statement kind sign None
 
 no_symbols : (symbols : List PlainToken) → length symbols ≡ 0 → symbols ≡ []
 no_symbols [] e = refl
@@ -338,7 +338,7 @@ whole_run tokens statements h = spelled_run tokens tokens [] statements Between 
 
 -- a `${` or a `$}` alone
 pub spells_sign : (kind : Kind) (tokens : List PlainToken) (t : PlainToken) → tokens ≡ [] → t.text ≡ keyword_of kind → list_all is_label_byte (keyword_of kind) ≡ false
-    → IsHead kind (t ∷ []) → FitsCount kind 0 → IsTail (begun kind t None) kind [] → Spells (tokens ++ t ∷ []) (begun kind t None)
+    → IsHead kind (t ∷ []) → FitsCount kind 0 → IsTail (bare_statement kind t None) kind [] → Spells (tokens ++ t ∷ []) (bare_statement kind t None)
 spells_sign kind tokens t none sign no_label begins count ends = record {
   head = t ∷ [];
   tail = [];

@@ -8,7 +8,7 @@ use Rattle.mm_text.specs.declared.statement.Kind.TheVariants.{Constants, Variabl
 use Rattle.mm_text.specs.Token.{PlainToken, IsLabel, is_label_byte, HoldsNoDollar}
 use Rattle.mm_text.specs.Statement.{PlainStatement, IsHead, HasBody, AreSymbols, FitsCount, keyword_of, Spells, IsTail, EndsAtOnce}
 use Rattle.mm_text.specs.Reading.{closes_symbols, Meets}
-use Rattle.mm_text.specs.Mirror.Reader.{Part, Between, Labelled, InBody, InProof, Step, More, Whole, Opened, Closed, Faulty, step, at_start, after_label, in_body, in_proof, same_text, is_keyword, begun, has_count, is_full, is_provable}
+use Rattle.mm_text.specs.Mirror.Reader.{Part, Between, Labelled, InBody, InProof, Step, More, Whole, Opened, Closed, Faulty, step, at_start, after_label, in_body, in_proof, same_text, is_keyword, bare_statement, has_count, is_full, is_provable}
 use Rattle.mm_text.proofs.TextFacts.{same_text-true, same_text-false, is_keyword-true, is_keyword-false, IsSigned, signed_word}
 use Rattle.mm_text.proofs.PartFacts.{IsPartBody, IsPartProof, Describes, symbols-append, body_of_part, proof_of_part}
 
@@ -75,7 +75,7 @@ StepsTo tokens t Closed = (tokens ≡ []) × (t.text ≡ codes "$}")
 StepsTo tokens t (Faulty rule) = (statements : List PlainStatement) → Meets statements tokens t rule
 
 begun_bare : (kind : Kind) (tokens : List PlainToken) (t : PlainToken) → tokens ≡ [] → IsHead kind (t ∷ []) → HasBody kind → list_all is_label_byte t.text ≡ false
-    → IsPartBody (begun kind t None) (tokens ++ t ∷ [])
+    → IsPartBody (bare_statement kind t None) (tokens ++ t ∷ [])
 begun_bare kind tokens t d h long e = record {
   head = t ∷ [];
   others = [];
@@ -91,7 +91,7 @@ begun_bare kind tokens t d h long e = record {
 }
 
 begun_labelled : (kind : Kind) (label : PlainToken) (tokens : List PlainToken) (t : PlainToken) → tokens ≡ label ∷ [] → IsHead kind (label ∷ t ∷ []) → HasBody kind → IsLabel label.text
-    → IsPartBody (begun kind label (Some label)) (tokens ++ t ∷ [])
+    → IsPartBody (bare_statement kind label (Some label)) (tokens ++ t ∷ [])
 begun_labelled kind label tokens t d h long e = record {
   head = label ∷ t ∷ [];
   others = t ∷ [];
@@ -107,7 +107,7 @@ begun_labelled kind label tokens t d h long e = record {
 }
 
 -- `$c`, `$v` and `$d`
-bare_right : (kind : Kind) (tokens : List PlainToken) (t : PlainToken) → tokens ≡ [] → t.text ≡ keyword_of kind → HasBody kind → IsHead kind (t ∷ []) → list_all is_label_byte (keyword_of kind) ≡ false → StepsTo tokens t (More (InBody (begun kind t None)))
+bare_right : (kind : Kind) (tokens : List PlainToken) (t : PlainToken) → tokens ≡ [] → t.text ≡ keyword_of kind → HasBody kind → IsHead kind (t ∷ []) → list_all is_label_byte (keyword_of kind) ≡ false → StepsTo tokens t (More (InBody (bare_statement kind t None)))
 bare_right kind tokens t d e long h none = begun_bare kind tokens t d h long (ap (list_all is_label_byte) e ∙ none)
 
 at_start_right : (tokens : List PlainToken) (t : PlainToken) → tokens ≡ [] → StepsTo tokens t (at_start t)
@@ -128,7 +128,7 @@ at_start_right tokens t d =
     (λ l. (ap (λ (x : List PlainToken). x ++ t ∷ []) d, l))
     (λ none statements. (d, is_keyword-false t.text nk, λ l. both_ways _ none l))))))))
 
-labelled_right : (kind : Kind) (label : PlainToken) (tokens : List PlainToken) (t : PlainToken) → tokens ≡ label ∷ [] → IsLabel label.text → HasBody kind → IsHead kind (label ∷ t ∷ []) → StepsTo tokens t (More (InBody (begun kind label (Some label))))
+labelled_right : (kind : Kind) (label : PlainToken) (tokens : List PlainToken) (t : PlainToken) → tokens ≡ label ∷ [] → IsLabel label.text → HasBody kind → IsHead kind (label ∷ t ∷ []) → StepsTo tokens t (More (InBody (bare_statement kind label (Some label))))
 labelled_right kind label tokens t d l long h = begun_labelled kind label tokens t d h long l
 
 after_label_right : (label : PlainToken) (tokens : List PlainToken) (t : PlainToken) → tokens ≡ label ∷ [] → IsLabel label.text → StepsTo tokens t (after_label label t)

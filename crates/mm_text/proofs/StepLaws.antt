@@ -12,13 +12,13 @@ use Rattle.mm_text.specs.declared.class.Keyword.TheVariants as keyword
 use Rattle.mm_text.specs.Token.{PlainToken, HoldsNoDollar, is_label_byte}
 use Rattle.mm_text.specs.Statement.{PlainStatement}
 use Rattle.mm_text.specs.Items.{Item, Plain, Wrong, Inclusion, End}
-use Rattle.mm_text.specs.Mirror.Class.{spelling}
-use Rattle.mm_text.specs.Mirror.Reader.{same_text, is_keyword, begun, Part, Between, Labelled, InBody, InProof, Step, More, Whole, Opened, Closed, Faulty, has_count, is_full, is_provable, step, PlainScope, passed, opened, closed, has_none, fault_in, unfinished_fault, end_fault, inclusion_fault, unless, PlainReading, ended, with_statement, reading_of}
+use Rattle.mm_text.specs.Mirror.Class.{keyword_bytes}
+use Rattle.mm_text.specs.Mirror.Reader.{same_text, is_keyword, bare_statement, Part, Between, Labelled, InBody, InProof, Step, More, Whole, Opened, Closed, Faulty, has_count, is_full, is_provable, step, PlainScope, scope_after_statement, scope_after_opening, scope_after_closing, has_none, fault_in, unfinished_fault, end_fault, inclusion_fault, unless, PlainReading, only_ending, with_statement, reading_of}
 use Rattle.mm_text.specs.Mirror.Steps.{is_block_sign, bare_kind, labelled_kind, ends_symbols}
 
 -- ---- the reading of items, by the first
 
-pub read_nothing : (scope : PlainScope) (part : Part) → reading_of scope part [] ≡ ended (unfinished_fault scope part)
+pub read_nothing : (scope : PlainScope) (part : Part) → reading_of scope part [] ≡ only_ending (unfinished_fault scope part)
 unfolding reading_of
 read_nothing scope part = refl
 
@@ -30,22 +30,22 @@ pub read_inclusion : (scope : PlainScope) (part : Part) (t : PlainToken) (items 
 unfolding reading_of
 read_inclusion scope part t items = refl
 
-pub read_wrong : (scope : PlainScope) (part : Part) (rule : TextRule) (t : PlainToken) (items : List Item) → reading_of scope part (Wrong rule t ∷ items) ≡ ended (Some (fault_in scope part rule t))
+pub read_wrong : (scope : PlainScope) (part : Part) (rule : TextRule) (t : PlainToken) (items : List Item) → reading_of scope part (Wrong rule t ∷ items) ≡ only_ending (Some (fault_in scope part rule t))
 unfolding reading_of
 read_wrong scope part rule t items = refl
 
 -- what follows a `$}`
 abbrev pub read_closed : PlainScope → Part → PlainToken → List Item → PlainReading
 read_closed scope part t items =
-    if has_none scope.blocks then ended (Some (fault_in scope part S6 t)) else with_statement (begun Closing t None) (reading_of (closed scope) Between items)
+    if has_none scope.blocks then only_ending (Some (fault_in scope part S6 t)) else with_statement (bare_statement Closing t None) (reading_of (scope_after_closing scope) Between items)
 
 read_by : PlainScope → Part → PlainToken → List Item → Step → PlainReading
 read_by scope part t items s = elim s [
   | More next ↦ reading_of scope next items
-  | Whole s ↦ with_statement s (reading_of (passed scope) Between items)
-  | Opened ↦ with_statement (begun Opening t None) (reading_of (opened scope t) Between items)
+  | Whole s ↦ with_statement s (reading_of (scope_after_statement scope) Between items)
+  | Opened ↦ with_statement (bare_statement Opening t None) (reading_of (scope_after_opening scope t) Between items)
   | Closed ↦ read_closed scope part t items
-  | Faulty rule ↦ ended (Some (fault_in scope part rule t))
+  | Faulty rule ↦ only_ending (Some (fault_in scope part rule t))
 ]
 
 read_plain : (scope : PlainScope) (part : Part) (t : PlainToken) (items : List Item) → reading_of scope part (Plain t ∷ items) ≡ read_by scope part t items (step part t)
@@ -56,11 +56,11 @@ pub read_more : (scope : PlainScope) (part : Part) (t : PlainToken) (items : Lis
 unfolding read_by
 read_more scope part t items next e = read_plain scope part t items ∙ ap (read_by scope part t items) e
 
-pub read_whole : (scope : PlainScope) (part : Part) (t : PlainToken) (items : List Item) (s : PlainStatement) → step part t ≡ Whole s → reading_of scope part (Plain t ∷ items) ≡ with_statement s (reading_of (passed scope) Between items)
+pub read_whole : (scope : PlainScope) (part : Part) (t : PlainToken) (items : List Item) (s : PlainStatement) → step part t ≡ Whole s → reading_of scope part (Plain t ∷ items) ≡ with_statement s (reading_of (scope_after_statement scope) Between items)
 unfolding read_by
 read_whole scope part t items s e = read_plain scope part t items ∙ ap (read_by scope part t items) e
 
-pub read_opened : (scope : PlainScope) (part : Part) (t : PlainToken) (items : List Item) → step part t ≡ Opened → reading_of scope part (Plain t ∷ items) ≡ with_statement (begun Opening t None) (reading_of (opened scope t) Between items)
+pub read_opened : (scope : PlainScope) (part : Part) (t : PlainToken) (items : List Item) → step part t ≡ Opened → reading_of scope part (Plain t ∷ items) ≡ with_statement (bare_statement Opening t None) (reading_of (scope_after_opening scope t) Between items)
 unfolding read_by
 read_opened scope part t items e = read_plain scope part t items ∙ ap (read_by scope part t items) e
 
@@ -68,7 +68,7 @@ pub read_closing : (scope : PlainScope) (part : Part) (t : PlainToken) (items : 
 unfolding read_by
 read_closing scope part t items e = read_plain scope part t items ∙ ap (read_by scope part t items) e
 
-pub read_faulty : (scope : PlainScope) (part : Part) (t : PlainToken) (items : List Item) (rule : TextRule) → step part t ≡ Faulty rule → reading_of scope part (Plain t ∷ items) ≡ ended (Some (fault_in scope part rule t))
+pub read_faulty : (scope : PlainScope) (part : Part) (t : PlainToken) (items : List Item) (rule : TextRule) → step part t ≡ Faulty rule → reading_of scope part (Plain t ∷ items) ≡ only_ending (Some (fault_in scope part rule t))
 unfolding read_by
 read_faulty scope part t items rule e = read_plain scope part t items ∙ ap (read_by scope part t items) e
 
@@ -102,7 +102,7 @@ word_is_no_keyword text word = simp (
   other_text text (codes "$}") word refl,
 )
 
-pub keyword_is_one : (k : Keyword) → is_keyword (spelling k) ≡ true
+pub keyword_is_one : (k : Keyword) → is_keyword (keyword_bytes k) ≡ true
 keyword_is_one keyword.Constants = refl
 keyword_is_one keyword.Variables = refl
 keyword_is_one keyword.Distinct = refl
@@ -119,7 +119,7 @@ keyword_is_one keyword.Closing = refl
 
 start_by : PlainToken → Option Kind → Step
 start_by t None = Faulty S1
-start_by t (Some kind) = More (InBody (begun kind t None))
+start_by t (Some kind) = More (InBody (bare_statement kind t None))
 
 pub step_opens : (t : PlainToken) → t.text ≡ codes "${" → step Between t ≡ Opened
 unfolding step
@@ -129,7 +129,7 @@ pub step_closes : (t : PlainToken) → t.text ≡ codes "$}" → step Between t 
 unfolding step
 step_closes t e = rw e refl
 
-start_keyword : (t : PlainToken) (k : Keyword) → t.text ≡ spelling k → is_block_sign k ≡ false → step Between t ≡ start_by t (bare_kind k)
+start_keyword : (t : PlainToken) (k : Keyword) → t.text ≡ keyword_bytes k → is_block_sign k ≡ false → step Between t ≡ start_by t (bare_kind k)
 unfolding step start_by
 start_keyword t keyword.Constants e b = rw e refl
 start_keyword t keyword.Variables e b = rw e refl
@@ -143,11 +143,11 @@ start_keyword t keyword.Equals e b = rw e refl
 start_keyword t keyword.Opening e b = absurd (false≢true (sym b))
 start_keyword t keyword.Closing e b = absurd (false≢true (sym b))
 
-pub step_begins : (t : PlainToken) (k : Keyword) (kind : Kind) → t.text ≡ spelling k → is_block_sign k ≡ false → bare_kind k ≡ Some kind → step Between t ≡ More (InBody (begun kind t None))
+pub step_begins : (t : PlainToken) (k : Keyword) (kind : Kind) → t.text ≡ keyword_bytes k → is_block_sign k ≡ false → bare_kind k ≡ Some kind → step Between t ≡ More (InBody (bare_statement kind t None))
 unfolding start_by
 step_begins t k kind e b begins = start_keyword t k e b ∙ ap (start_by t) begins
 
-pub step_begins_none : (t : PlainToken) (k : Keyword) → t.text ≡ spelling k → is_block_sign k ≡ false → bare_kind k ≡ None → step Between t ≡ Faulty S1
+pub step_begins_none : (t : PlainToken) (k : Keyword) → t.text ≡ keyword_bytes k → is_block_sign k ≡ false → bare_kind k ≡ None → step Between t ≡ Faulty S1
 unfolding start_by
 step_begins_none t k e b begins = start_keyword t k e b ∙ ap (start_by t) begins
 
@@ -172,9 +172,9 @@ step_no_label t word named = start_word t word ∙ ap (λ b. cond b (More (Label
 
 labelled_by : PlainToken → Option Kind → Step
 labelled_by label None = Faulty S3
-labelled_by label (Some kind) = More (InBody (begun kind label (Some label)))
+labelled_by label (Some kind) = More (InBody (bare_statement kind label (Some label)))
 
-label_keyword : (label t : PlainToken) (k : Keyword) → t.text ≡ spelling k → step (Labelled label) t ≡ labelled_by label (labelled_kind k)
+label_keyword : (label t : PlainToken) (k : Keyword) → t.text ≡ keyword_bytes k → step (Labelled label) t ≡ labelled_by label (labelled_kind k)
 unfolding step labelled_by
 label_keyword label t keyword.Constants e = rw e refl
 label_keyword label t keyword.Variables e = rw e refl
@@ -188,11 +188,11 @@ label_keyword label t keyword.Equals e = rw e refl
 label_keyword label t keyword.Opening e = rw e refl
 label_keyword label t keyword.Closing e = rw e refl
 
-pub step_after_label : (label t : PlainToken) (k : Keyword) (kind : Kind) → t.text ≡ spelling k → labelled_kind k ≡ Some kind → step (Labelled label) t ≡ More (InBody (begun kind label (Some label)))
+pub step_after_label : (label t : PlainToken) (k : Keyword) (kind : Kind) → t.text ≡ keyword_bytes k → labelled_kind k ≡ Some kind → step (Labelled label) t ≡ More (InBody (bare_statement kind label (Some label)))
 unfolding labelled_by
 step_after_label label t k kind e begins = label_keyword label t k e ∙ ap (labelled_by label) begins
 
-pub step_after_label_none : (label t : PlainToken) (k : Keyword) → t.text ≡ spelling k → labelled_kind k ≡ None → step (Labelled label) t ≡ Faulty S3
+pub step_after_label_none : (label t : PlainToken) (k : Keyword) → t.text ≡ keyword_bytes k → labelled_kind k ≡ None → step (Labelled label) t ≡ Faulty S3
 unfolding labelled_by
 step_after_label_none label t k e begins = label_keyword label t k e ∙ ap (labelled_by label) begins
 
@@ -207,7 +207,7 @@ step_label_word label t word =
 
 -- ---- the token after symbols
 
-body_keyword : (s : PlainStatement) (t : PlainToken) (k : Keyword) → t.text ≡ spelling k → step (InBody s) t ≡
+body_keyword : (s : PlainStatement) (t : PlainToken) (k : Keyword) → t.text ≡ keyword_bytes k → step (InBody s) t ≡
     (if ends_symbols s.kind k
     then (if has_count s.kind (length s.symbols)
     then (if is_provable s.kind then More (InProof (record s { span = (t.at + 2, 0) })) else Whole s)
@@ -216,16 +216,16 @@ body_keyword : (s : PlainStatement) (t : PlainToken) (k : Keyword) → t.text �
 unfolding step
 body_keyword s t k e = let one = keyword_is_one k in simp (e, one)
 
-pub step_not_ended : (s : PlainStatement) (t : PlainToken) (k : Keyword) → t.text ≡ spelling k → ends_symbols s.kind k ≡ false → step (InBody s) t ≡ Faulty S4
+pub step_not_ended : (s : PlainStatement) (t : PlainToken) (k : Keyword) → t.text ≡ keyword_bytes k → ends_symbols s.kind k ≡ false → step (InBody s) t ≡ Faulty S4
 step_not_ended s t k e ends = body_keyword s t k e ∙ simp ends
 
-pub step_too_few : (s : PlainStatement) (t : PlainToken) (k : Keyword) → t.text ≡ spelling k → ends_symbols s.kind k ≡ true → has_count s.kind (length s.symbols) ≡ false → step (InBody s) t ≡ Faulty S5
+pub step_too_few : (s : PlainStatement) (t : PlainToken) (k : Keyword) → t.text ≡ keyword_bytes k → ends_symbols s.kind k ≡ true → has_count s.kind (length s.symbols) ≡ false → step (InBody s) t ≡ Faulty S5
 step_too_few s t k e ends count = body_keyword s t k e ∙ simp (ends, count)
 
-pub step_whole : (s : PlainStatement) (t : PlainToken) (k : Keyword) → t.text ≡ spelling k → ends_symbols s.kind k ≡ true → has_count s.kind (length s.symbols) ≡ true → is_provable s.kind ≡ false → step (InBody s) t ≡ Whole s
+pub step_whole : (s : PlainStatement) (t : PlainToken) (k : Keyword) → t.text ≡ keyword_bytes k → ends_symbols s.kind k ≡ true → has_count s.kind (length s.symbols) ≡ true → is_provable s.kind ≡ false → step (InBody s) t ≡ Whole s
 step_whole s t k e ends count plain = body_keyword s t k e ∙ rw ends (simp (count, plain))
 
-pub step_to_proof : (s : PlainStatement) (t : PlainToken) (k : Keyword) → t.text ≡ spelling k → ends_symbols s.kind k ≡ true → has_count s.kind (length s.symbols) ≡ true → is_provable s.kind ≡ true → step (InBody s) t ≡ More (InProof (record s { span = (t.at + 2, 0) }))
+pub step_to_proof : (s : PlainStatement) (t : PlainToken) (k : Keyword) → t.text ≡ keyword_bytes k → ends_symbols s.kind k ≡ true → has_count s.kind (length s.symbols) ≡ true → is_provable s.kind ≡ true → step (InBody s) t ≡ More (InProof (record s { span = (t.at + 2, 0) }))
 step_to_proof s t k e ends count proved = body_keyword s t k e ∙ rw ends (simp (count, proved))
 
 pub step_symbol : (s : PlainStatement) (t : PlainToken) → HoldsNoDollar t.text → is_full s.kind (length s.symbols) ≡ false → step (InBody s) t ≡ More (InBody (record s { symbols = s.symbols ++ t ∷ [] }))
@@ -238,15 +238,15 @@ step_too_many s t word full = let none = word_is_no_keyword t.text word in simp 
 
 -- ---- the token after steps of a proof
 
-proof_keyword : (s : PlainStatement) (t : PlainToken) (k : Keyword) → t.text ≡ spelling k → step (InProof s) t ≡
-    (if same_text (spelling k) (codes "$.") then Whole (record s { span = (s.span.0, t.at) }) else Faulty S4)
+proof_keyword : (s : PlainStatement) (t : PlainToken) (k : Keyword) → t.text ≡ keyword_bytes k → step (InProof s) t ≡
+    (if same_text (keyword_bytes k) (codes "$.") then Whole (record s { span = (s.span.0, t.at) }) else Faulty S4)
 unfolding step
 proof_keyword s t k e = let one = keyword_is_one k in simp (e, one)
 
-pub step_ends_proof : (s : PlainStatement) (t : PlainToken) (k : Keyword) → t.text ≡ spelling k → same_text (spelling k) (codes "$.") ≡ true → step (InProof s) t ≡ Whole (record s { span = (s.span.0, t.at) })
+pub step_ends_proof : (s : PlainStatement) (t : PlainToken) (k : Keyword) → t.text ≡ keyword_bytes k → same_text (keyword_bytes k) (codes "$.") ≡ true → step (InProof s) t ≡ Whole (record s { span = (s.span.0, t.at) })
 step_ends_proof s t k e stop = proof_keyword s t k e ∙ simp stop
 
-pub step_in_proof : (s : PlainStatement) (t : PlainToken) (k : Keyword) → t.text ≡ spelling k → same_text (spelling k) (codes "$.") ≡ false → step (InProof s) t ≡ Faulty S4
+pub step_in_proof : (s : PlainStatement) (t : PlainToken) (k : Keyword) → t.text ≡ keyword_bytes k → same_text (keyword_bytes k) (codes "$.") ≡ false → step (InProof s) t ≡ Faulty S4
 step_in_proof s t k e stop = proof_keyword s t k e ∙ simp stop
 
 pub step_proof_token : (s : PlainStatement) (t : PlainToken) → HoldsNoDollar t.text → step (InProof s) t ≡ More (InProof (record s { proof = s.proof ++ t ∷ [] }))

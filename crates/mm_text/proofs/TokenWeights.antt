@@ -7,7 +7,7 @@ use Rattle.mm_text.specs.declared.fault.TextRule.{TextRule}
 use Rattle.mm_text.specs.declared.fault.TextRule.TheVariants.{X1, X3, X4, X5}
 use Rattle.mm_text.specs.Token.{PlainToken, is_printable, is_space, with_byte, tokens_from}
 use Rattle.mm_text.specs.Files.{PlainFile, total_bytes}
-use Rattle.mm_text.specs.Items.{Item, Plain, Wrong, Inclusion, End, Shown, Clear, Broken, uncommented, spells, holds_dollar, holds_mark, Spot, Outside, Naming, Closing, Met, Named, broken_outside, pieces, pieces_of, plain_tokens, items}
+use Rattle.mm_text.specs.Items.{Item, Plain, Wrong, Inclusion, End, Shown, Clear, Broken, without_comments, spells, holds_dollar, holds_mark, Spot, Outside, Naming, Closing, Met, Named, broken_outside, pieces, pieces_of, plain_tokens, items}
 use Rattle.mm_text.proofs.Weights.{weigh, weigh_pieces, each_once, items_weight}
 
 -- what is counted of a token, and of the end of a file
@@ -27,15 +27,15 @@ module _ (v : PlainToken → ℕ) where
   weigh_tokens [] = 0
   weigh_tokens (t ∷ rest) = v t + weigh_tokens rest
 
-  pub uncommented_weight : (begin : Option PlainToken) (tokens : List PlainToken) → weigh_shown (uncommented begin tokens) ≤ weigh_tokens tokens
-  unfolding uncommented
+  pub uncommented_weight : (begin : Option PlainToken) (tokens : List PlainToken) → weigh_shown (without_comments begin tokens) ≤ weigh_tokens tokens
+  unfolding without_comments
   uncommented_weight None [] = omega arith
   uncommented_weight (Some begin) [] = omega arith
   uncommented_weight None (t ∷ tokens) =
       go (list_all is_printable t.text) (spells t.text (codes "$(")) (spells t.text (codes "$)")) (uncommented_weight (Some t) tokens) (uncommented_weight None tokens)
     where
-      go : (a b c : Bool) → weigh_shown (uncommented (Some t) tokens) ≤ weigh_tokens tokens → weigh_shown (uncommented None tokens) ≤ weigh_tokens tokens
-          → weigh_shown (cond (not a) (Broken X1 t ∷ []) (cond b (uncommented (Some t) tokens) (cond c (Broken X4 t ∷ []) (Clear t ∷ uncommented None tokens)))) ≤ v t + weigh_tokens tokens
+      go : (a b c : Bool) → weigh_shown (without_comments (Some t) tokens) ≤ weigh_tokens tokens → weigh_shown (without_comments None tokens) ≤ weigh_tokens tokens
+          → weigh_shown (cond (not a) (Broken X1 t ∷ []) (cond b (without_comments (Some t) tokens) (cond c (Broken X4 t ∷ []) (Clear t ∷ without_comments None tokens)))) ≤ v t + weigh_tokens tokens
       go false b c one two = omega arith
       go true true c one two = omega arith
       go true false true one two = omega arith
@@ -43,8 +43,8 @@ module _ (v : PlainToken → ℕ) where
   uncommented_weight (Some begin) (t ∷ tokens) =
       go (list_all is_printable t.text) (spells t.text (codes "$)")) (holds_mark t.text) (uncommented_weight (Some begin) tokens) (uncommented_weight None tokens)
     where
-      go : (a b c : Bool) → weigh_shown (uncommented (Some begin) tokens) ≤ weigh_tokens tokens → weigh_shown (uncommented None tokens) ≤ weigh_tokens tokens
-          → weigh_shown (cond (not a) (Broken X1 t ∷ []) (cond b (uncommented None tokens) (cond c (Broken X3 t ∷ []) (uncommented (Some begin) tokens)))) ≤ v t + weigh_tokens tokens
+      go : (a b c : Bool) → weigh_shown (without_comments (Some begin) tokens) ≤ weigh_tokens tokens → weigh_shown (without_comments None tokens) ≤ weigh_tokens tokens
+          → weigh_shown (cond (not a) (Broken X1 t ∷ []) (cond b (without_comments None tokens) (cond c (Broken X3 t ∷ []) (without_comments (Some begin) tokens)))) ≤ v t + weigh_tokens tokens
       go false b c one two = omega arith
       go true true c one two = omega arith
       go true false true one two = omega arith
@@ -81,7 +81,7 @@ module _ (v : PlainToken → ℕ) where
 
     -- a file counts at most its tokens and its end
     pub file_weight : (number : ℕ) (file : PlainFile) → weigh_pieces (weight_of v e) (pieces_of number file) ≤ weigh_tokens (tokens_from number 0 file.bytes) + e number
-    file_weight number file = omega (arith, pieces_weight number Outside (uncommented None (tokens_from number 0 file.bytes)), uncommented_weight None (tokens_from number 0 file.bytes))
+    file_weight number file = omega (arith, pieces_weight number Outside (without_comments None (tokens_from number 0 file.bytes)), uncommented_weight None (tokens_from number 0 file.bytes))
 
 -- ---- bytes
 

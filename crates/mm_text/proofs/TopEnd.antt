@@ -6,7 +6,7 @@ use Rattle.mm_text.specs.declared.fault.TextRule.{TextRule}
 use Rattle.mm_text.specs.declared.fault.TextRule.TheVariants.{X5, X7}
 use Rattle.mm_text.specs.Token.{tokens_from}
 use Rattle.mm_text.specs.Files.{PlainFile}
-use Rattle.mm_text.specs.Items.{Item, Plain, Wrong, Inclusion, End, Shown, Clear, Broken, uncommented, spells, holds_dollar, Spot, Outside, Naming, Closing, Piece, Met, Named, broken_outside, pieces, pieces_of, number_of, spliced, put_before, put_in, items}
+use Rattle.mm_text.specs.Items.{Item, Plain, Wrong, Inclusion, End, Shown, Clear, Broken, without_comments, spells, holds_dollar, Spot, Outside, Naming, Closing, Piece, Met, Named, broken_outside, pieces, pieces_of, file_number, with_inclusions, put_before, put_in, items}
 use Rattle.mm_text.specs.ItemLaws.{TopFileEndsLast}
 
 abbrev LastEnd : List Item → Type 0
@@ -50,29 +50,29 @@ before_last files n rest other h = go (slice_get files n)
   where
     go : (o : Option PlainFile) → LastPiece (elim o [ None ↦ rest | Some f ↦ pieces_of n f ++ rest ])
     go None = h
-    go (Some f) = pieces_last n rest (λ e. absurd (other e)) h Outside (uncommented None (tokens_from n 0 f.bytes))
+    go (Some f) = pieces_last n rest (λ e. absurd (other e)) h Outside (without_comments None (tokens_from n 0 f.bytes))
 
 module _ (files : List PlainFile) (named : List Bool) (next : ℕ → List Piece → List Item)
     (on : (n : ℕ) (rest : List Piece) → slice_index_or named n true ≡ false → LastPiece rest → LastEnd (next n rest)) where
-  spliced_nil : spliced files named next [] ≡ []
-  unfolding spliced
+  spliced_nil : with_inclusions files named next [] ≡ []
+  unfolding with_inclusions
   spliced_nil = refl
 
-  spliced_last : (ps : List Piece) → LastPiece ps → LastEnd (spliced files named next ps)
-  unfolding spliced
+  spliced_last : (ps : List Piece) → LastPiece ps → LastEnd (with_inclusions files named next ps)
+  unfolding with_inclusions
   spliced_last [] h = tt
   spliced_last (Met (Plain t) ∷ rest) h = spliced_last rest h
   spliced_last (Met (Inclusion t) ∷ rest) h = spliced_last rest h
   spliced_last (Met (Wrong rule t) ∷ rest) h = tt
-  spliced_last (Met (End n) ∷ rest) h = (λ e. ap (spliced files named next) (h.0 e) ∙ spliced_nil, spliced_last rest h.1)
-  spliced_last (Named name ∷ rest) h = go (spliced_last rest h) (number_of files name.text)
+  spliced_last (Met (End n) ∷ rest) h = (λ e. ap (with_inclusions files named next) (h.0 e) ∙ spliced_nil, spliced_last rest h.1)
+  spliced_last (Named name ∷ rest) h = go (spliced_last rest h) (file_number files name.text)
     where
-      known : LastEnd (spliced files named next rest) → (n : ℕ) (b : Bool) → slice_index_or named n true ≡ b → LastEnd (cond b (spliced files named next rest) (next n rest))
+      known : LastEnd (with_inclusions files named next rest) → (n : ℕ) (b : Bool) → slice_index_or named n true ≡ b → LastEnd (cond b (with_inclusions files named next rest) (next n rest))
       known inner n true e = inner
       known inner n false e = on n rest e h
 
-      go : LastEnd (spliced files named next rest) → (o : Option ℕ)
-          → LastEnd (elim o [ None ↦ Wrong X7 name ∷ [] | Some n ↦ cond (slice_index_or named n true) (spliced files named next rest) (next n rest) ])
+      go : LastEnd (with_inclusions files named next rest) → (o : Option ℕ)
+          → LastEnd (elim o [ None ↦ Wrong X7 name ∷ [] | Some n ↦ cond (slice_index_or named n true) (with_inclusions files named next rest) (next n rest) ])
       go inner None = tt
       go inner (Some n) = known inner n (slice_index_or named n true) refl
 
@@ -94,7 +94,7 @@ items_last : (files : List PlainFile) → LastEnd (items files)
 items_last [] = tt
 items_last (top ∷ others) =
     put_in_last (top ∷ others) (length others) (true ∷ replicate (length others) false) (pieces_of 0 top) refl
-    (subst LastPiece (append-nil (pieces_of 0 top)) (pieces_last 0 [] (λ e. refl) tt Outside (uncommented None (tokens_from 0 0 top.bytes))))
+    (subst LastPiece (append-nil (pieces_of 0 top)) (pieces_last 0 [] (λ e. refl) tt Outside (without_comments None (tokens_from 0 0 top.bytes))))
 
 after_last : (before after : List Item) → LastEnd (before ++ End 0 ∷ after) → after ≡ []
 after_last [] after h = h.0 refl

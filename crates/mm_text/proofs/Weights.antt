@@ -5,7 +5,7 @@ use Rattle.mm_text.specs.declared.fault.TextRule.{TextRule}
 use Rattle.mm_text.specs.declared.fault.TextRule.TheVariants.{X7}
 use Rattle.mm_text.specs.Token.{PlainToken}
 use Rattle.mm_text.specs.Files.{PlainFile}
-use Rattle.mm_text.specs.Items.{Item, Plain, Wrong, Inclusion, End, Piece, Met, Named, number_of, pieces_of, spliced, put_before, put_in, items}
+use Rattle.mm_text.specs.Items.{Item, Plain, Wrong, Inclusion, End, Piece, Met, Named, file_number, pieces_of, with_inclusions, put_before, put_in, items}
 
 module _ (w : Item → ℕ) where
   abbrev pub weigh : List Item → ℕ
@@ -83,22 +83,22 @@ module _ (w : Item → ℕ) where
   module _ (faults : (rule : TextRule) (t : PlainToken) → w (Wrong rule t) ≡ 0) where
     spliced_weight : (files : List PlainFile) (named : List Bool) (next : ℕ → List Piece → List Item)
         → ((n : ℕ) (rest : List Piece) → slice_index_or named n true ≡ false → weigh (next n rest) ≤ weigh_pieces rest + unnamed 0 files named)
-        → (ps : List Piece) → weigh (spliced files named next ps) ≤ weigh_pieces ps + unnamed 0 files named
-    unfolding spliced
+        → (ps : List Piece) → weigh (with_inclusions files named next ps) ≤ weigh_pieces ps + unnamed 0 files named
+    unfolding with_inclusions
     spliced_weight files named next bound [] = omega arith
     spliced_weight files named next bound (Met (Wrong rule t) ∷ rest) = omega (arith, faults rule t)
     spliced_weight files named next bound (Met (Plain t) ∷ rest) = omega (arith, spliced_weight files named next bound rest)
     spliced_weight files named next bound (Met (Inclusion t) ∷ rest) = omega (arith, spliced_weight files named next bound rest)
     spliced_weight files named next bound (Met (End file) ∷ rest) = omega (arith, spliced_weight files named next bound rest)
-    spliced_weight files named next bound (Named name ∷ rest) = go (spliced_weight files named next bound rest) (number_of files name.text)
+    spliced_weight files named next bound (Named name ∷ rest) = go (spliced_weight files named next bound rest) (file_number files name.text)
       where
-        known : weigh (spliced files named next rest) ≤ weigh_pieces rest + unnamed 0 files named → (n : ℕ) (b : Bool) → slice_index_or named n true ≡ b
-            → weigh (cond b (spliced files named next rest) (next n rest)) ≤ weigh_pieces rest + unnamed 0 files named
+        known : weigh (with_inclusions files named next rest) ≤ weigh_pieces rest + unnamed 0 files named → (n : ℕ) (b : Bool) → slice_index_or named n true ≡ b
+            → weigh (cond b (with_inclusions files named next rest) (next n rest)) ≤ weigh_pieces rest + unnamed 0 files named
         known inner n true e = inner
         known inner n false e = bound n rest e
 
-        go : weigh (spliced files named next rest) ≤ weigh_pieces rest + unnamed 0 files named
-            → (o : Option ℕ) → weigh (elim o [ None ↦ Wrong X7 name ∷ [] | Some n ↦ cond (slice_index_or named n true) (spliced files named next rest) (next n rest) ]) ≤ weigh_pieces rest + unnamed 0 files named
+        go : weigh (with_inclusions files named next rest) ≤ weigh_pieces rest + unnamed 0 files named
+            → (o : Option ℕ) → weigh (elim o [ None ↦ Wrong X7 name ∷ [] | Some n ↦ cond (slice_index_or named n true) (with_inclusions files named next rest) (next n rest) ]) ≤ weigh_pieces rest + unnamed 0 files named
         go inner None = omega (arith, faults X7 name)
         go inner (Some n) = known inner n (slice_index_or named n true) refl
 

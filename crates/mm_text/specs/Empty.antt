@@ -15,5 +15,5 @@ no_statement = record {
 }
 
 -- a statement with its lists emptied
-abbrev pub emptied : PlainStatement → PlainStatement
-emptied s = record s { symbols = []; proof = [] }
+abbrev pub without_tokens : PlainStatement → PlainStatement
+without_tokens s = record s { symbols = []; proof = [] }

@@ -39,19 +39,19 @@ pub data Shown : Type 0 where
 
 -- The tokens outside comments, where a comment is open since its `$(` or none is: the first one of X1, X2, X3 and of X4 for
 -- `$)` ends them.
-unfoldable pub uncommented : Option PlainToken → List PlainToken → List Shown
-uncommented None [] = []
-uncommented (Some begin) [] = Broken X2 begin ∷ []
-uncommented None (t ∷ tokens) =
+unfoldable pub without_comments : Option PlainToken → List PlainToken → List Shown
+without_comments None [] = []
+without_comments (Some begin) [] = Broken X2 begin ∷ []
+without_comments None (t ∷ tokens) =
     if not (list_all is_printable t.text) then Broken X1 t ∷ []
-    else (if spells t.text (codes "$(") then uncommented (Some t) tokens
+    else (if spells t.text (codes "$(") then without_comments (Some t) tokens
     else (if spells t.text (codes "$)") then Broken X4 t ∷ []
-    else Clear t ∷ uncommented None tokens))
-uncommented (Some begin) (t ∷ tokens) =
+    else Clear t ∷ without_comments None tokens))
+without_comments (Some begin) (t ∷ tokens) =
     if not (list_all is_printable t.text) then Broken X1 t ∷ []
-    else (if spells t.text (codes "$)") then uncommented None tokens
+    else (if spells t.text (codes "$)") then without_comments None tokens
     else (if holds_mark t.text then Broken X3 t ∷ []
-    else uncommented (Some begin) tokens))
+    else without_comments (Some begin) tokens))
 
 -- ---- inclusions in one file
 
@@ -92,23 +92,23 @@ pieces file (Closing begin name) (Clear t ∷ rest) =
 
 -- the pieces of a file from its begin
 abbrev pub pieces_of : ℕ → PlainFile → List Piece
-pieces_of number file = pieces number Outside (uncommented None (tokens_from number 0 file.bytes))
+pieces_of number file = pieces number Outside (without_comments None (tokens_from number 0 file.bytes))
 
 -- ---- putting in
 
 -- the number of the file that was handed in under a name
-abbrev pub number_of : List PlainFile → List ℕ → Option ℕ
-number_of files name = position (λ f. spells name f.name) files
+abbrev pub file_number : List PlainFile → List ℕ → Option ℕ
+file_number files name = position (λ f. spells name f.name) files
 
 -- The items of pieces, up to the first file that is named for the first time: there `next` goes on, with the number of that
 -- file and the pieces after its name. For each file `named` tells whether it was named before.
-unfoldable pub spliced : List PlainFile → List Bool → (ℕ → List Piece → List Item) → List Piece → List Item
-spliced files named next [] = []
-spliced files named next (Met (Wrong rule t) ∷ rest) = Wrong rule t ∷ []
-spliced files named next (Met item ∷ rest) = item ∷ spliced files named next rest
-spliced files named next (Named name ∷ rest) = elim (number_of files name.text) [
+unfoldable pub with_inclusions : List PlainFile → List Bool → (ℕ → List Piece → List Item) → List Piece → List Item
+with_inclusions files named next [] = []
+with_inclusions files named next (Met (Wrong rule t) ∷ rest) = Wrong rule t ∷ []
+with_inclusions files named next (Met item ∷ rest) = item ∷ with_inclusions files named next rest
+with_inclusions files named next (Named name ∷ rest) = elim (file_number files name.text) [
   | None ↦ Wrong X7 name ∷ []
-  | Some n ↦ if slice_index_or named n true then spliced files named next rest else next n rest
+  | Some n ↦ if slice_index_or named n true then with_inclusions files named next rest else next n rest
 ]
 
 -- the file with a number, in pieces, and the pieces after it
@@ -117,9 +117,9 @@ put_before files n rest = elim (slice_get files n) [ None ↦ rest | Some file �
 
 -- the items of pieces, with so many more files put in, each where it is named for the first time
 unfoldable pub put_in : List PlainFile → ℕ → List Bool → List Piece → List Item
-put_in files zero named rest = spliced files named (λ n after. []) rest
+put_in files zero named rest = with_inclusions files named (λ n after. []) rest
 put_in files (suc left) named rest =
-    spliced files named (λ n after. put_in files left (slice_set named n true) (put_before files n after)) rest
+    with_inclusions files named (λ n after. put_in files left (slice_set named n true) (put_before files n after)) rest
 
 -- The items of the handed files: those of the first, the top file, with each of the others put in where it is first named.
 -- So many files as there are others can be put in; that more would change nothing is a law.

@@ -2,7 +2,7 @@
 
 ghost use Rattle.std.specs.Prelude.{◌≡◌, map};
 ghost use Rattle.mm_text.specs.Files.{plain_file};
-ghost use Rattle.mm_text.specs.Mirror.Next.{TakesNext, IsFirstCursor};
+ghost use Rattle.mm_text.specs.Mirror.Next.{TakesItem, IsFirstCursor};
 
 use crate::fault::{LoadRule, TextFault};
 use crate::file::File;
@@ -55,7 +55,7 @@ impl<'a> Cursor<'a> {
 
     /// Takes the next item. It takes no memory.
     pub fn next(&mut self) -> Next<'a>
-        ensures { TakesNext self.old result self.new }
+        ensures { TakesItem self.old result self.new }
     {
         self.nest.next()
     }

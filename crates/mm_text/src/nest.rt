@@ -6,7 +6,7 @@ ghost use Rattle.mm_text.specs.Token.{plain_token};
 ghost use Rattle.mm_text.specs.Files.{plain_file, total_bytes};
 ghost use Rattle.mm_text.specs.Items.{spells, items};
 ghost use Rattle.mm_text.specs.Mirror.Place.{IsPlace, IsSameFile};
-ghost use Rattle.mm_text.specs.Mirror.Next.{TakesNext};
+ghost use Rattle.mm_text.specs.Mirror.Next.{TakesItem};
 ghost use Rattle.mm_text.specs.Mirror.Nest.{TakesPiece, TakesInner, TakesName, Enters, Includes};
 ghost use Rattle.mm_text.specs.Mirror.Nest.{IsNest, items_left, items_after};
 
@@ -205,7 +205,7 @@ impl<'a> Nest<'a> {
         requires naming { self.old.naming ≡ None }
         requires over { self.old.is_over ≡ false }
         ensures nest { IsNest self.new }
-        ensures takes { TakesNext (items_left self.old) result (items_left self.new) }
+        ensures takes { TakesItem (items_left self.old) result (items_left self.new) }
     {
         let next = take_piece(&mut self.place);
         match next {
@@ -221,7 +221,7 @@ impl<'a> Nest<'a> {
     pub fn next(&mut self) -> Next<'a>
         requires { IsNest self.old }
         ensures nest { IsNest self.new }
-        ensures takes { TakesNext (items_left self.old) result (items_left self.new) }
+        ensures takes { TakesItem (items_left self.old) result (items_left self.new) }
     {
         if self.is_over {
             return Next::Nothing;

@@ -3,12 +3,13 @@
 ghost use Rattle.std.specs.Prelude.{◌≡◌, ◌≤◌, ◌<◌, ◌∷◌, true, false, Some, None, option_map};
 ghost use Rattle.std.specs.Prelude.{length, codes};
 ghost use Rattle.mm_text.specs.Token.{plain_token, HoldsNoDollar};
-ghost use Rattle.mm_text.specs.Mirror.Class.{spelling};
+ghost use Rattle.mm_text.specs.Mirror.Class.{keyword_bytes};
 ghost use Rattle.mm_text.specs.Statement.{plain_statement};
 ghost use Rattle.mm_text.specs.Items.{Plain};
 ghost use Rattle.mm_text.specs.Mirror.Next.{items_with, IsOfClass};
 ghost use Rattle.mm_text.specs.Mirror.Reader.{Between, Labelled, InBody, InProof, reading_of};
-ghost use Rattle.mm_text.specs.Mirror.Reader.{has_count, is_full, is_provable, begun, same_text};
+ghost use Rattle.mm_text.specs.Mirror.Reader.{has_count, is_full, is_provable, bare_statement};
+ghost use Rattle.mm_text.specs.Mirror.Reader.{same_text};
 ghost use Rattle.mm_text.specs.Mirror.Steps.{plain_scope, TakesWithin, TakesFirst, GivesPart};
 ghost use Rattle.mm_text.specs.Mirror.Steps.{GivesFirst, GivesStatement, StepsTo, is_block_sign};
 ghost use Rattle.mm_text.specs.Mirror.Steps.{bare_kind, labelled_kind, ends_symbols};
@@ -48,7 +49,7 @@ fn labelled_kind(keyword: Keyword) -> Option<Kind>
 
 /// Whether a keyword is `$.`.
 fn is_stop(keyword: Keyword) -> bool
-    ensures { result ≡ same_text (spelling keyword) (codes "$.") }
+    ensures { result ≡ same_text (keyword_bytes keyword) (codes "$.") }
 {
     matches!(keyword, Keyword::Stop)
 }
@@ -179,7 +180,7 @@ fn after_symbols<'a>(
     token: Token<'a>,
     keyword: Keyword,
 ) -> Result<(), TextFault<'a>>
-    requires sign { token.text.now ≡ spelling keyword }
+    requires sign { token.text.now ≡ keyword_bytes keyword }
     requires at { token.at < 1073741824 }
     requires room { scope.now.count ≤ 1073741824 }
     ensures { GivesPart (plain_scope scope.now)
@@ -254,7 +255,7 @@ fn from_keyword<'a>(
     first: Token<'a>,
     keyword: Keyword,
 ) -> Result<(), TextFault<'a>>
-    requires sign { first.text.now ≡ spelling keyword }
+    requires sign { first.text.now ≡ keyword_bytes keyword }
     requires symbols { is_block_sign keyword ≡ false }
     requires room { scope.now.count ≤ 1073741824 }
     ensures { GivesPart (plain_scope scope.now)

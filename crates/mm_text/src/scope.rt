@@ -2,7 +2,8 @@
 
 ghost use Rattle.std.specs.Prelude.{◌≡◌, ◌+◌, ◌≤◌};
 ghost use Rattle.mm_text.specs.Token.{plain_token};
-ghost use Rattle.mm_text.specs.Mirror.Reader.{Between, passed, has_none, end_fault, outermost};
+ghost use Rattle.mm_text.specs.Mirror.Reader.{Between, scope_after_statement, has_none, end_fault};
+ghost use Rattle.mm_text.specs.Mirror.Reader.{outermost};
 ghost use Rattle.mm_text.specs.Mirror.Steps.{plain_scope, Opens, Closes, TellsFault};
 
 use crate::fault::{TextFault, TextRule};
@@ -83,7 +84,7 @@ impl Scope {
     /// Takes in a statement with symbols.
     pub fn pass(&mut self)
         requires { self.now.count ≤ 1073741824 }
-        ensures { plain_scope self.new ≡ passed (plain_scope self.old) }
+        ensures { plain_scope self.new ≡ scope_after_statement (plain_scope self.old) }
     {
         self.count += 1;
     }

@@ -48,8 +48,8 @@ pub struct Statement<'a> {
 impl<'a> Statement<'a> {
     ghost use Rattle.mm_text.specs.Token.{plain_token};
     ghost use Rattle.mm_text.specs.Statement.{plain_statement};
-    ghost use Rattle.mm_text.specs.Mirror.Reader.{begun};
-    ghost use Rattle.mm_text.specs.Empty.{no_statement, emptied};
+    ghost use Rattle.mm_text.specs.Mirror.Reader.{bare_statement};
+    ghost use Rattle.mm_text.specs.Empty.{no_statement, without_tokens};
 
     /// A statement to read into, with empty lists. It takes no memory.
     pub fn empty(alloc: Global) -> Statement<'a>
@@ -71,7 +71,7 @@ impl<'a> Statement<'a> {
 
     /// Empties the lists, which keep their room.
     pub(crate) fn clear(&mut self)
-        ensures { plain_statement self.new ≡ emptied (plain_statement self.old) }
+        ensures { plain_statement self.new ≡ without_tokens (plain_statement self.old) }
     {
         self.symbols.clear();
         self.proof.clear();
@@ -80,7 +80,7 @@ impl<'a> Statement<'a> {
     /// Begins a statement, with no symbols yet. The lists keep their room.
     pub(crate) fn begin(&mut self, kind: Kind, first: Token<'a>, label: Option<Token<'a>>)
         ensures { plain_statement self.new
-            ≡ begun kind (plain_token first.entry) (option_map plain_token label.entry) }
+            ≡ bare_statement kind (plain_token first.entry) (option_map plain_token label.entry) }
     {
         self.clear();
         self.kind = kind;

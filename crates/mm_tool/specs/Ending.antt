@@ -13,7 +13,7 @@ use Rattle.mm_check.specs.declared.status.Status.{Status}
 use Rattle.mm_check.specs.declared.status.Status.TheVariants as status
 use Rattle.clap.specs.Words.{Text}
 use Rattle.mm_tool.specs.Folder.{AreHeld, AreTooLong, IsUnreadable}
-use Rattle.mm_tool.specs.Words.{AsksHelp, AsksVersion, AsksExplain, AsksCheck, IsRefused}
+use Rattle.mm_tool.specs.Words.{AsksHelp, AsksVersion, AsksExplain, AsksCheck, AreRefusedWords}
 use Rattle.mm_tool.specs.declared.folder.ArgumentFault.{ArgumentFault}
 use Rattle.mm_tool.specs.declared.folder.ArgumentFault.TheVariants as argument
 use Rattle.mm_tool.specs.declared.texts.RuleText.{RuleText}
@@ -111,7 +111,7 @@ StopsCheck contents holds may_fail names max other old new = ⊥
 abbrev pub Stops : {O : Type 0} → (O → Option (List ℕ)) → (List ℕ → Option (List ℕ)) → (List ℕ → Type 0) → Texts → ℕ → List Text
     → Stop → Counted O → Counted O → Type 0
 Stops contents holds may_fail texts max words (Usage text) old new =
-    (IsRefused words ⊎ ((asked : List Text) × AsksExplain words asked × IsUnknownCode texts asked)) × IsUntouched old new
+    (AreRefusedWords words ⊎ ((asked : List Text) × AsksExplain words asked × IsUnknownCode texts asked)) × IsUntouched old new
 Stops contents holds may_fail texts max words NotText old new = ⊥
 Stops contents holds may_fail texts max words (CannotRead name) old new =
     (names : List Text) × AsksCheck words names × IsUnreadable holds may_fail names max name.now × IsUntouched old new

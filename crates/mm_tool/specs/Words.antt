@@ -96,12 +96,12 @@ NamesNoCommand words =
     (rows : List Row) → ¬ Commands words (codes "check") rows × ¬ Commands words (codes "explain") rows × ¬ Commands words (codes "help") rows
 
 -- The words aren't understood.
-abbrev pub IsRefused : List Text → Type 0
-IsRefused words = IsFaulty words ⊎ NamesNoCommand words
+abbrev pub AreRefusedWords : List Text → Type 0
+AreRefusedWords words = IsFaulty words ⊎ NamesNoCommand words
 
 -- why there is no request
 abbrev pub IsWordFault : List Text → Stop → Type 0
-IsWordFault words (stop.Usage text) = IsRefused words
+IsWordFault words (stop.Usage text) = AreRefusedWords words
 IsWordFault words stop.Memory = Unit {0}
 IsWordFault words other = ⊥
 

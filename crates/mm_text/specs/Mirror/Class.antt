@@ -8,18 +8,18 @@ use Rattle.mm_text.specs.Token.{HoldsNoDollar}
 use Rattle.mm_text.specs.Items.{broken_outside}
 
 -- the bytes of a keyword
-abbrev pub spelling : Keyword → List ℕ
-spelling Constants = codes "$c"
-spelling Variables = codes "$v"
-spelling Distinct = codes "$d"
-spelling Floating = codes "$f"
-spelling Essential = codes "$e"
-spelling Axiom = codes "$a"
-spelling Provable = codes "$p"
-spelling Stop = codes "$."
-spelling Equals = codes "$="
-spelling Opening = codes "${"
-spelling Closing = codes "$}"
+abbrev pub keyword_bytes : Keyword → List ℕ
+keyword_bytes Constants = codes "$c"
+keyword_bytes Variables = codes "$v"
+keyword_bytes Distinct = codes "$d"
+keyword_bytes Floating = codes "$f"
+keyword_bytes Essential = codes "$e"
+keyword_bytes Axiom = codes "$a"
+keyword_bytes Provable = codes "$p"
+keyword_bytes Stop = codes "$."
+keyword_bytes Equals = codes "$="
+keyword_bytes Opening = codes "${"
+keyword_bytes Closing = codes "$}"
 
 -- the keywords that are met before a token has a class: `$(`, `$)` and `$[`
 abbrev pub IsReadApart : List ℕ → Type 0
@@ -28,5 +28,5 @@ IsReadApart text = (text ≡ codes "$(") ⊎ (text ≡ codes "$)") ⊎ (text ≡
 -- a text that stands outside comments and inclusions, and is no `$[`, is of a class
 abbrev pub ClassIs : List ℕ → Class → Type 0
 ClassIs text (class.Wrong rule) = broken_outside text ≡ Some rule
-ClassIs text (class.Keyword keyword) = text ≡ spelling keyword
+ClassIs text (class.Keyword keyword) = text ≡ keyword_bytes keyword
 ClassIs text class.Word = HoldsNoDollar text

@@ -13,7 +13,7 @@ use Rattle.mm_text.specs.declared.class.Class.TheVariants as class
 use Rattle.mm_text.specs.Token.{PlainToken, plain_token}
 use Rattle.mm_text.specs.Files.{plain_file, total_bytes}
 use Rattle.mm_text.specs.Items as items
-use Rattle.mm_text.specs.Items.{Item, Plain, Inclusion, End, Piece, Met, Named, Spot, Outside, Naming, Closing, Clear, pieces, put_in, number_of}
+use Rattle.mm_text.specs.Items.{Item, Plain, Inclusion, End, Piece, Met, Named, Spot, Outside, Naming, Closing, Clear, pieces, put_in, file_number}
 use Rattle.mm_text.specs.Mirror.Place.{IsPlace, IsClear, shown_at}
 use Rattle.mm_text.specs.Mirror.Next.{IsOfClass}
 
@@ -96,7 +96,7 @@ pub record IsNest (n : Nest) : Type 0 where
 
 -- the file with a number is gone into, where it is named before the rest of a file
 pub record Enters (old : Nest) (place : Place) (number : ℕ) (new : Nest) : Type 0 where
-  pub left : (name : PlainToken) → number_of (map plain_file old.files.now) name.text ≡ Some number
+  pub left : (name : PlainToken) → file_number (map plain_file old.files.now) name.text ≡ Some number
       → items_left new ≡ put_into old (Named name ∷ pieces place.file Outside (shown_at place) ++ waiting old.«open».items)
   pub naming : new.naming ≡ None
   pub over : new.is_over ≡ false

@@ -6,7 +6,7 @@ use Rattle.mm_text.specs.declared.next.Next.{Next}
 use Rattle.mm_text.specs.declared.next.Next.TheVariants as next
 use Rattle.mm_text.specs.declared.fault.TextFault.{TextFault}
 use Rattle.mm_text.specs.declared.fault.TextFault.TheVariants.{Load, Fault, Memory}
-use Rattle.mm_text.specs.Mirror.Class.{spelling}
+use Rattle.mm_text.specs.Mirror.Class.{keyword_bytes}
 use Rattle.mm_text.specs.Token.{PlainToken, plain_token, HoldsNoDollar}
 use Rattle.mm_text.specs.Files.{PlainFile, BreaksLoad}
 use Rattle.mm_text.specs.declared.fault.LoadRule.{LoadRule}
@@ -21,7 +21,7 @@ items_with t class.Word rest = Plain t ∷ rest
 -- what its class tells of a token that breaks no rule by itself
 abbrev pub IsOfClass : PlainToken → Class → Type 0
 IsOfClass t (class.Wrong rule) = Unit {0}
-IsOfClass t (class.Keyword keyword) = t.text ≡ spelling keyword
+IsOfClass t (class.Keyword keyword) = t.text ≡ keyword_bytes keyword
 IsOfClass t class.Word = HoldsNoDollar t.text
 
 -- the next token is the first of the items, and those after it are left
@@ -31,11 +31,11 @@ pub record TakesToken (old : List Item) (t : PlainToken) (kind : Class) (new : L
   pub at : t.at < 1073741824
 
 -- the first of the items is taken, and those after it are left
-abbrev pub TakesNext : List Item → Next → List Item → Type 0
-TakesNext old (next.Token t kind) new = TakesToken old (plain_token t) kind new
-TakesNext old (next.Inclusion t) new = old ≡ Inclusion (plain_token t) ∷ new
-TakesNext old (next.End file) new = old ≡ End file ∷ new
-TakesNext old next.Nothing new = (old ≡ []) × (new ≡ [])
+abbrev pub TakesItem : List Item → Next → List Item → Type 0
+TakesItem old (next.Token t kind) new = TakesToken old (plain_token t) kind new
+TakesItem old (next.Inclusion t) new = old ≡ Inclusion (plain_token t) ∷ new
+TakesItem old (next.End file) new = old ≡ End file ∷ new
+TakesItem old next.Nothing new = (old ≡ []) × (new ≡ [])
 
 -- The items of the files are left, and no rule is broken by the files as a whole; or one is, or memory is wanting.
 abbrev pub IsFirstCursor : List PlainFile → Result (List Item) TextFault → Type 0

@@ -9,7 +9,7 @@ use Rattle.mm_text.specs.declared.comments.Found.TheVariants as found
 use Rattle.mm_text.specs.declared.comments.Wrong.{Wrong}
 use Rattle.mm_text.specs.declared.token.Token.{Token}
 use Rattle.mm_text.specs.Token.{PlainToken, plain_token, tokens_from, is_space, is_printable}
-use Rattle.mm_text.specs.Items.{Shown, Clear, Broken, uncommented, spells}
+use Rattle.mm_text.specs.Items.{Shown, Clear, Broken, without_comments, spells}
 
 -- a byte may stand in a file
 abbrev pub is_legal : ℕ → Bool
@@ -33,19 +33,19 @@ pub record IsPlace (p : Place) : Type 0 where
 
 -- what is left of a file outside comments, from outside one on
 abbrev pub shown_at : Place → List Shown
-shown_at p = uncommented None (tokens_from p.file p.at (drop p.at p.bytes.now))
+shown_at p = without_comments None (tokens_from p.file p.at (drop p.at p.bytes.now))
 
 -- what is left of a file where a comment is open since a `$(`
 abbrev pub comment_at : PlainToken → Place → List Shown
-comment_at begin p = uncommented (Some begin) (tokens_from p.file p.at (drop p.at p.bytes.now))
+comment_at begin p = without_comments (Some begin) (tokens_from p.file p.at (drop p.at p.bytes.now))
 
 -- a file from another place on
-abbrev pub moved : Place → ℕ → Place
-moved p at = record p { at = at }
+abbrev pub place_at : Place → ℕ → Place
+place_at p at = record p { at = at }
 
 -- nothing but the place in the file is another
 abbrev pub IsSameFile : Place → Place → Type 0
-IsSameFile old new = new ≡ moved old new.at
+IsSameFile old new = new ≡ place_at old new.at
 
 -- a later place of a file, before which no byte stands that may not
 abbrev pub IsLater : Place → ℕ → Type 0
@@ -63,13 +63,13 @@ pub record IsClear (t : Token) : Type 0 where
 
 -- what a part of a comment comes to
 abbrev pub GoesOn : Place → PlainToken → Result Comment Wrong → Type 0
-GoesOn p begin (Ok (Open after)) = IsLater p after × (comment_at begin p ≡ comment_at begin (moved p after))
-GoesOn p begin (Ok (Closed after)) = IsLater p after × (comment_at begin p ≡ shown_at (moved p after))
+GoesOn p begin (Ok (Open after)) = IsLater p after × (comment_at begin p ≡ comment_at begin (place_at p after))
+GoesOn p begin (Ok (Closed after)) = IsLater p after × (comment_at begin p ≡ shown_at (place_at p after))
 GoesOn p begin (Err w) = IsBroken (comment_at begin p) w
 
 -- what the whole comment comes to
 abbrev pub Closes : Place → PlainToken → Result ℕ Wrong → Type 0
-Closes p begin (Ok after) = IsLater p after × (comment_at begin p ≡ shown_at (moved p after))
+Closes p begin (Ok after) = IsLater p after × (comment_at begin p ≡ shown_at (place_at p after))
 Closes p begin (Err w) = IsBroken (comment_at begin p) w
 
 -- one token or comment is taken

@@ -36,15 +36,15 @@ abbrev pub is_keyword : List ℕ → Bool
 is_keyword text = list_any (same_text text) keywords
 
 -- a statement with no symbols yet
-abbrev pub begun : Kind → PlainToken → Option PlainToken → PlainStatement
-begun kind first label = record { kind = kind; first = first; label = label; symbols = []; proof = []; span = (0, 0) }
+abbrev pub bare_statement : Kind → PlainToken → Option PlainToken → PlainStatement
+bare_statement kind first label = record { kind = kind; first = first; label = label; symbols = []; proof = []; span = (0, 0) }
 
 -- the token that begins a statement
 abbrev pub at_start : PlainToken → Step
 at_start t =
-    if same_text t.text (codes "$c") then More (InBody (begun Constants t None))
-    else (if same_text t.text (codes "$v") then More (InBody (begun Variables t None))
-    else (if same_text t.text (codes "$d") then More (InBody (begun Distinct t None))
+    if same_text t.text (codes "$c") then More (InBody (bare_statement Constants t None))
+    else (if same_text t.text (codes "$v") then More (InBody (bare_statement Variables t None))
+    else (if same_text t.text (codes "$d") then More (InBody (bare_statement Distinct t None))
     else (if same_text t.text (codes "${") then Opened
     else (if same_text t.text (codes "$}") then Closed
     else (if is_keyword t.text then Faulty S1
@@ -53,10 +53,10 @@ at_start t =
 -- the token after a label
 abbrev pub after_label : PlainToken → PlainToken → Step
 after_label label t =
-    if same_text t.text (codes "$f") then More (InBody (begun Floating label (Some label)))
-    else (if same_text t.text (codes "$e") then More (InBody (begun Essential label (Some label)))
-    else (if same_text t.text (codes "$a") then More (InBody (begun Axiom label (Some label)))
-    else (if same_text t.text (codes "$p") then More (InBody (begun Provable label (Some label)))
+    if same_text t.text (codes "$f") then More (InBody (bare_statement Floating label (Some label)))
+    else (if same_text t.text (codes "$e") then More (InBody (bare_statement Essential label (Some label)))
+    else (if same_text t.text (codes "$a") then More (InBody (bare_statement Axiom label (Some label)))
+    else (if same_text t.text (codes "$p") then More (InBody (bare_statement Provable label (Some label)))
     else Faulty S3)))
 
 -- whether a statement of a kind may have so many symbols
@@ -122,8 +122,8 @@ pub record PlainReading : Type 0 where
   pub statements : List PlainStatement
   pub ending : Option PlainFault
 
-abbrev pub ended : Option PlainFault → PlainReading
-ended ending = record { statements = []; ending = ending }
+abbrev pub only_ending : Option PlainFault → PlainReading
+only_ending ending = record { statements = []; ending = ending }
 
 abbrev pub with_statement : PlainStatement → PlainReading → PlainReading
 with_statement s reading = record { statements = s ∷ reading.statements; ending = reading.ending }
@@ -137,15 +137,15 @@ abbrev pub outermost : PlainScope
 outermost = record { count = 0; blocks = [] }
 
 -- one more statement was read: one with symbols, a `${` or a `$}`
-abbrev pub passed : PlainScope → PlainScope
-passed scope = record { count = scope.count + 1; blocks = scope.blocks }
+abbrev pub scope_after_statement : PlainScope → PlainScope
+scope_after_statement scope = record { count = scope.count + 1; blocks = scope.blocks }
 
-abbrev pub opened : PlainScope → PlainToken → PlainScope
-opened scope t =
+abbrev pub scope_after_opening : PlainScope → PlainToken → PlainScope
+scope_after_opening scope t =
     record { count = scope.count + 1; blocks = record { file = t.file; at = t.at; statement = scope.count + 1 } ∷ scope.blocks }
 
-abbrev pub closed : PlainScope → PlainScope
-closed scope = record { count = scope.count + 1; blocks = drop 1 scope.blocks }
+abbrev pub scope_after_closing : PlainScope → PlainScope
+scope_after_closing scope = record { count = scope.count + 1; blocks = drop 1 scope.blocks }
 
 -- the fault of a token after what is unfinished
 abbrev pub fault_in : PlainScope → Part → TextRule → PlainToken → PlainFault
@@ -182,21 +182,21 @@ inclusion_fault scope part t = if is_outside scope part then None else Some (fau
 -- what follows, where there is no fault
 abbrev pub unless : Option PlainFault → PlainReading → PlainReading
 unless None reading = reading
-unless (Some fault) reading = ended (Some fault)
+unless (Some fault) reading = only_ending (Some fault)
 
 -- what the items that are left give, after these statements and what is unfinished
 unfoldable pub reading_of : PlainScope → Part → List Item → PlainReading
-reading_of scope part [] = ended (unfinished_fault scope part)
+reading_of scope part [] = only_ending (unfinished_fault scope part)
 reading_of scope part (End file ∷ items) = unless (end_fault scope part file) (reading_of scope part items)
-reading_of scope part (Wrong rule t ∷ items) = ended (Some (fault_in scope part rule t))
+reading_of scope part (Wrong rule t ∷ items) = only_ending (Some (fault_in scope part rule t))
 reading_of scope part (Inclusion t ∷ items) = unless (inclusion_fault scope part t) (reading_of scope part items)
 reading_of scope part (Plain t ∷ items) = elim (step part t) [
   | More next ↦ reading_of scope next items
-  | Whole s ↦ with_statement s (reading_of (passed scope) Between items)
-  | Opened ↦ with_statement (begun Opening t None) (reading_of (opened scope t) Between items)
+  | Whole s ↦ with_statement s (reading_of (scope_after_statement scope) Between items)
+  | Opened ↦ with_statement (bare_statement Opening t None) (reading_of (scope_after_opening scope t) Between items)
   | Closed ↦
       if has_none scope.blocks
-      then ended (Some (fault_in scope part S6 t))
-      else with_statement (begun Closing t None) (reading_of (closed scope) Between items)
-  | Faulty rule ↦ ended (Some (fault_in scope part rule t))
+      then only_ending (Some (fault_in scope part S6 t))
+      else with_statement (bare_statement Closing t None) (reading_of (scope_after_closing scope) Between items)
+  | Faulty rule ↦ only_ending (Some (fault_in scope part rule t))
 ]

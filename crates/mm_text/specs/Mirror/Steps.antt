@@ -10,17 +10,17 @@ use Rattle.mm_text.specs.declared.fault.TextFault.{TextFault}
 use Rattle.mm_text.specs.declared.fault.TextFault.TheVariants.{Load, Fault, Memory}
 use Rattle.mm_text.specs.declared.statement.Kind.{Kind}
 use Rattle.mm_text.specs.declared.statement.Kind.TheVariants as kind
-use Rattle.mm_text.specs.Mirror.Class.{spelling}
+use Rattle.mm_text.specs.Mirror.Class.{keyword_bytes}
 use Rattle.mm_text.specs.Token.{PlainToken, plain_token, HoldsNoDollar}
 use Rattle.mm_text.specs.Statement.{PlainStatement}
 use Rattle.mm_text.specs.Items.{Item, Plain}
 use Rattle.mm_text.specs.Mirror.Next.{items_with, IsOfClass}
 use Rattle.mm_text.specs.Reading.{PlainFault, TellsMore}
-use Rattle.mm_text.specs.Mirror.Reader.{PlainReading, PlainScope, Part, Between, step, More, Faulty, part_first, part_label, fault_in, has_none, passed, opened, closed, same_text, is_provable, reading_of, ended, with_statement}
+use Rattle.mm_text.specs.Mirror.Reader.{PlainReading, PlainScope, Part, Between, step, More, Faulty, part_first, part_label, fault_in, has_none, scope_after_statement, scope_after_opening, scope_after_closing, same_text, is_provable, reading_of, only_ending, with_statement}
 
 -- what its keyword, or that it is none, tells of a token
 abbrev pub IsSign : PlainToken → Option Keyword → Type 0
-IsSign t (Some keyword) = t.text ≡ spelling keyword
+IsSign t (Some keyword) = t.text ≡ keyword_bytes keyword
 IsSign t None = HoldsNoDollar t.text
 
 -- the next token, which breaks no rule by itself, is the first of the items, and those after it are left
@@ -37,7 +37,7 @@ fault_of rule file at statement label =
 -- A fault that a part of the reader answers ends the reading. Want of memory may be answered of any reading that has
 -- something to tell.
 abbrev pub AnswersFault : PlainReading → TextFault → Type 0
-AnswersFault reading (Fault rule file at statement label) = reading ≡ ended (Some (fault_of rule file at statement label))
+AnswersFault reading (Fault rule file at statement label) = reading ≡ only_ending (Some (fault_of rule file at statement label))
 AnswersFault reading Memory = TellsMore reading.statements reading.ending
 AnswersFault reading (Load rule) = ⊥
 
@@ -49,7 +49,7 @@ TakesWithin scope first label old (Err fault) new =
 
 -- what a part of the reader answers of the reading that it is in, by its result
 abbrev pub AnswersPart : PlainScope → PlainReading → Result Unit TextFault → PlainStatement → List Item → Type 0
-AnswersPart scope reading (Ok unit) into new = reading ≡ with_statement into (reading_of (passed scope) Between new)
+AnswersPart scope reading (Ok unit) into new = reading ≡ with_statement into (reading_of (scope_after_statement scope) Between new)
 AnswersPart scope reading (Err fault) into new = AnswersFault reading fault
 
 -- A part of the reader read on in the items up to the end of a statement, and those are left; or it met the fault that
@@ -62,7 +62,7 @@ abbrev pub TakesFirst : PlainScope → List Item → Result (Option (Token × Cl
 TakesFirst scope old (Ok (Some found)) new =
     (reading_of scope Between old ≡ reading_of scope Between (items_with (plain_token found.0) found.1 new))
     × IsOfClass (plain_token found.0) found.1
-TakesFirst scope old (Ok None) new = reading_of scope Between old ≡ ended None
+TakesFirst scope old (Ok None) new = reading_of scope Between old ≡ only_ending None
 TakesFirst scope old (Err fault) new = AnswersFault (reading_of scope Between old) fault
 
 -- the statement that the items begin with, and what follows it
@@ -75,7 +75,7 @@ GivesFirst scope old (Err fault) into later new = AnswersFault (reading_of scope
 abbrev pub GivesStatement : PlainScope → List Item → Result Bool TextFault → PlainStatement → PlainScope → List Item → Type 0
 GivesStatement scope old (Ok true) into later new =
     (reading_of scope Between old ≡ with_statement into (reading_of later Between new)) × (later.count ≡ scope.count + 1)
-GivesStatement scope old (Ok false) into later new = reading_of scope Between old ≡ ended None
+GivesStatement scope old (Ok false) into later new = reading_of scope Between old ≡ only_ending None
 GivesStatement scope old (Err fault) into later new = AnswersFault (reading_of scope Between old) fault
 
 -- what one token makes of an unfinished statement
@@ -92,13 +92,13 @@ plain_scope scope = record { count = scope.count; blocks = reverse scope.blocks.
 
 -- what a block that is opened, or closed, makes of a scope
 abbrev pub Opens : PlainScope → PlainToken → Result Unit TextFault → PlainScope → Type 0
-Opens old t (Ok unit) new = new ≡ opened old t
+Opens old t (Ok unit) new = new ≡ scope_after_opening old t
 Opens old t (Err fault) new = fault ≡ Memory
 
 abbrev pub Closes : PlainScope → Bool → PlainScope → Type 0
 Closes old false new = (has_none old.blocks ≡ true) × (new ≡ old)
 Closes old true new =
-    (has_none old.blocks ≡ false) × (new ≡ closed old)
+    (has_none old.blocks ≡ false) × (new ≡ scope_after_closing old)
 
 -- a fault that is answered, or none
 abbrev pub TellsFault : Option PlainFault → Option TextFault → Type 0
@@ -130,4 +130,4 @@ labelled_kind other = None
 
 -- whether a keyword ends the symbols of a kind of statement
 abbrev pub ends_symbols : Kind → Keyword → Bool
-ends_symbols kind keyword = same_text (spelling keyword) (if is_provable kind then codes "$=" else codes "$.")
+ends_symbols kind keyword = same_text (keyword_bytes keyword) (if is_provable kind then codes "$=" else codes "$.")

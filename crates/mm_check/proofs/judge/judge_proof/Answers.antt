@@ -3,7 +3,7 @@ use Rattle.std.proofs.Common.{◌≡◌, ℕ, ◌≤◌, List, map, length, Ok, 
 use Rattle.std.specs.List.{AllByRecursion}
 use Rattle.std.specs.Borrow.{Bor}
 use Rattle.mm_text.specs.Statement.{PlainStatement, plain_statement}
-use Rattle.mm_frame.specs.Sentence.{said}
+use Rattle.mm_frame.specs.Sentence.{sentence_of}
 use Rattle.mm_proof.specs.Tokens.{IsIncomplete}
 use Rattle.mm_proof.specs.declared.moves.Parsed.TheVariants.{Incomplete, Steps}
 use Rattle.mm_check.specs.Verdict.{proof_of}
@@ -13,7 +13,7 @@ use Rattle.mm_check.proofs.judge.judge_proof.Goals as goal
 pub parse-requires-clause-proof : goal.parse-requires-clause-proof
 parse-requires-clause-proof c =
     let s : PlainStatement = plain_statement c.args.statement.now in
-    (length c.requires.last.before, said s, last_number c.args.book.now.statements c.args.id.0 s c.requires.formed c.requires.last c.requires.last.before c.requires.last.whole)
+    (length c.requires.last.before, sentence_of s, last_number c.args.book.now.statements c.args.id.0 s c.requires.formed c.requires.last c.requires.last.before c.requires.last.whole)
 
 pub parse-requires-clause-filled : goal.parse-requires-clause-filled
 parse-requires-clause-filled c =

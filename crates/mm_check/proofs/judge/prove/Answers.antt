@@ -1,7 +1,7 @@
 -- The refusal tells the fault of the proof.
 use Rattle.std.proofs.Common.{◌≡◌, ◌++◌, ◌∷◌, [], List, Some, inr, map, subst, ap, ◌∙◌}
 use Rattle.mm_text.specs.Statement.{PlainStatement, plain_statement}
-use Rattle.mm_frame.specs.Sentence.{Sentence, said}
+use Rattle.mm_frame.specs.Sentence.{Sentence, sentence_of}
 use Rattle.mm_proof.specs.declared.fault.ProofFault.TheVariants.{Rule}
 use Rattle.mm_text.specs.Files.{plain_file}
 use Rattle.mm_check.specs.Verdict.{Refused, proof_rule}
@@ -12,7 +12,7 @@ use Rattle.mm_check.proofs.judge.prove.Goals as goal
 pub returns-in-Err-Rule-clause-refused : goal.returns-in-Err-Rule-clause-refused
 returns-in-Err-Rule-clause-refused c =
     let s : PlainStatement = plain_statement c.args.statement.now in
-    let fails : (before : List Sentence) → c.args.progress.now.book.statements ≡ before ++ said s ∷ [] → Fails before s (Rule c.in-Err-Rule.rule c.in-Err-Rule.step) =
+    let fails : (before : List Sentence) → c.args.progress.now.book.statements ≡ before ++ sentence_of s ∷ [] → Fails before s (Rule c.in-Err-Rule.rule c.in-Err-Rule.step) =
     λ before e. subst (Fails before s) c.in-Err-Rule.field-0-is (c.in-Err-Rule.ensures before e) in
     let rule : c.from.result ≡ proof_rule c.in-Err-Rule.rule = c.from.ensures ∙ ap proof_rule c.in-Err-Rule.rule-is in
     let first = fails c.requires.last.before c.requires.last.whole in

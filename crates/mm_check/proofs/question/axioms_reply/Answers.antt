@@ -6,7 +6,7 @@ use Rattle.mm_check.specs.declared.question.Reply.{Reply}
 use Rattle.mm_check.specs.Conclusion.{Conclusion}
 use Rattle.mm_check.specs.Status.{number_of}
 use Rattle.mm_check.specs.Verdict.{labels_of}
-use Rattle.mm_check.specs.Answer.{answered, IsKeptOf, KeepsUses, KeepsLabels}
+use Rattle.mm_check.specs.Answer.{verdict_of_answer, IsKeptOf, KeepsUses, KeepsLabels}
 use Rattle.mm_check.specs.Reply.{IsAxiomsReply, IsQuestionReply, Tells, status_of}
 use Rattle.mm_check.proofs.Replies.{made, made_both, at_ok, question_answered, question_refused}
 use Rattle.mm_check.proofs.question.axioms_reply.Goals as goal
@@ -29,7 +29,7 @@ returns c =
     let files : List PlainFile = map plain_file c.args.files.now in
     made_both c.verdict_reply.result
     (λ (reply : Reply). Tells files c.check-answer.result reply.text.items)
-    (λ (reply : Reply). IfSome (answered c.check-answer.result) (λ verdict. number_of reply.status ≡ status_of verdict))
+    (λ (reply : Reply). IfSome (verdict_of_answer c.check-answer.result) (λ verdict. number_of reply.status ≡ status_of verdict))
     (λ (reply : Reply). IsQuestionReply files (IsAxiomsReply c.args.label.now) reply.text.items (number_of reply.status))
     (λ reply said ends. question_refused files c.check-answer.result c.in-Err.field-0 (IsAxiomsReply c.args.label.now) reply.text.items (number_of reply.status)
     c.in-Err.is c.check-answer.ensures.verdict said ends)

@@ -3,7 +3,7 @@ use Rattle.std.proofs.Common.{◌≡◌, List, map, IfSome}
 use Rattle.mm_text.specs.Files.{PlainFile, plain_file}
 use Rattle.mm_check.specs.declared.question.Reply.{Reply}
 use Rattle.mm_check.specs.Status.{number_of}
-use Rattle.mm_check.specs.Answer.{answered}
+use Rattle.mm_check.specs.Answer.{verdict_of_answer}
 use Rattle.mm_check.specs.Reply.{IsReply, Tells, status_of}
 use Rattle.mm_check.proofs.Replies.{made_both, reply_of}
 use Rattle.mm_check.proofs.question.check_reply.Goals as goal
@@ -13,7 +13,7 @@ returns c =
     let files : List PlainFile = map plain_file c.args.files.now in
     made_both c.verdict_reply.result
     (λ (reply : Reply). Tells files c.check.result reply.text.items)
-    (λ (reply : Reply). IfSome (answered c.check.result) (λ verdict. number_of reply.status ≡ status_of verdict))
+    (λ (reply : Reply). IfSome (verdict_of_answer c.check.result) (λ verdict. number_of reply.status ≡ status_of verdict))
     (λ (reply : Reply). IsReply files reply.text.items (number_of reply.status))
     (λ reply said ends. reply_of files c.check.result reply.text.items (number_of reply.status) c.check.ensures.verdict said ends)
     c.verdict_reply.ensures.text c.verdict_reply.ensures.status

@@ -3,7 +3,7 @@ use Rattle.std.proofs.Common.{List, map, subst}
 use Rattle.std.proofs.lemmas.Option.{same_Some}
 use Rattle.mm_text.specs.Files.{PlainFile, plain_file}
 use Rattle.mm_check.specs.Verdict.{HasVerdict}
-use Rattle.mm_check.specs.Answer.{concluded}
+use Rattle.mm_check.specs.Answer.{verdict_of_conclusion}
 use Rattle.mm_check.specs.Judged.{IsAtEnd}
 use Rattle.mm_check.proofs.Course.{Concludes, starts, passed_on, end_concludes, labels_kept, counts_kept, uses_kept, kept_well}
 use Rattle.mm_check.proofs.verdict.judge_all.Goals as goal
@@ -28,7 +28,7 @@ returns-clause-verdict c =
     let kept : Concludes c.judge_rest.new.progress c.new.result =
     record { statements = c.new.ensures.statements; proofs = c.new.ensures.proofs; incomplete = c.new.ensures.incomplete; labels = c.new.ensures.labels; sentences = c.new.ensures.sentences; uses = c.new.ensures.uses } in
     let end : IsAtEnd files c.judge_rest.new.progress c.judge_rest.new.statements = c.in_ok-judge_rest.ensures.done in
-    λ verdict e. subst (HasVerdict files) (same_Some (concluded c.new.result) verdict e)
+    λ verdict e. subst (HasVerdict files) (same_Some (verdict_of_conclusion c.new.result) verdict e)
     (end_concludes files c.judge_rest.new.progress c.judge_rest.new.statements c.new.result end.way end.none end.ending kept)
 
 pub returns-clause-labels : goal.returns-clause-labels

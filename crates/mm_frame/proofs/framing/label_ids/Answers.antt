@@ -1,6 +1,6 @@
 use Rattle.std.proofs.Common.{sym, ◌∙◌, ap, map, take, length}
 use Rattle.std.proofs.lemmas.List.{take_all}
-use Rattle.mm_frame.specs.Numbers.{labelled}
+use Rattle.mm_frame.specs.Numbers.{labelled_sentences}
 use Rattle.mm_frame.specs.Layout.{statements_of}
 use Rattle.mm_frame.proofs.LabelIds.{ids_step, ids_never}
 use Rattle.mm_frame.proofs.framing.label_ids.Goals as goal
@@ -22,4 +22,4 @@ loop-place-preserved c s are =
 pub returns : goal.returns
 returns c s are =
     let st = statements_of c.args.tables.now in
-    c.loop-place.invariant s are ∙ ap (map (λ p. length (labelled (take p st)))) (take_all c.loop-place.place-index c.args.places.now c.loop-place-test.false)
+    c.loop-place.invariant s are ∙ ap (map (λ p. length (labelled_sentences (take p st)))) (take_all c.loop-place.place-index c.args.places.now c.loop-place-test.false)

@@ -6,10 +6,10 @@ pub returns-in-Some-floating : goal.returns-in-Some-floating
 returns-in-Some-floating c =
     let t = c.args.tables.now in
     typed_says (statements_of t) c.args.variable.now c.in-Some.info c.in-Some-floating.place c.is_active_now.result c.requires.sound.0
-    (rw c.in-Some.is at c.known.ensures) c.in-Some-floating.is c.is_active_now.ensures
+    (rw c.in-Some.is at c.symbol_info.ensures) c.in-Some-floating.is c.is_active_now.ensures
 
 pub returns-in-None : goal.returns-in-None
 returns-in-None c =
     let st = statements_of c.args.tables.now in
     let x = c.args.variable.now in
-    ((λ h. absurd (cc h)), (λ typed. absurd (untyped st x c.requires.sound.0 (rw c.in-None.is at c.known.ensures) (some_of_active st (GivesType x) typed))))
+    ((λ h. absurd (cc h)), (λ typed. absurd (untyped st x c.requires.sound.0 (rw c.in-None.is at c.symbol_info.ensures) (some_of_active st (GivesType x) typed))))

@@ -10,7 +10,7 @@ returns-in-Some-at c =
     let t = c.args.tables.now in
     let st = statements_of t in
     let x = c.args.variable.now in
-    let latest = known_latest st x c.in-Some.info c.in-Some-floating.place (rw c.in-Some.is at c.known.ensures) c.in-Some-floating.is in
+    let latest = known_latest st x c.in-Some.info c.in-Some-floating.place (rw c.in-Some.is at c.symbol_info.ensures) c.in-Some-floating.is in
     code_match (λ text. text.now) _ (λ code. SomeSentence st (Types code x)) c.name.result
     (latest_code_says st t.symbols.names c.symbols_at.result.now x c.in-Some-floating.place c.in-Some-at.code _ c.requires.infos.all latest c.symbols_at.ensures (search rules) c.name.ensures)
 
@@ -19,9 +19,9 @@ returns-in-None-at c =
     let t = c.args.tables.now in
     let st = statements_of t in
     let x = c.args.variable.now in
-    let latest = known_latest st x c.in-Some.info c.in-Some-floating.place (rw c.in-Some.is at c.known.ensures) c.in-Some-floating.is in
+    let latest = known_latest st x c.in-Some.info c.in-Some-floating.place (rw c.in-Some.is at c.symbol_info.ensures) c.in-Some-floating.is in
     absurd (no_first st c.symbols_at.result.now x c.in-Some-floating.place latest c.symbols_at.ensures (search rules))
 
 pub returns-in-None : goal.returns-in-None
 returns-in-None c =
-    untyped (statements_of c.args.tables.now) c.args.variable.now c.requires.sound.0 (rw c.in-None.is at c.known.ensures)
+    untyped (statements_of c.args.tables.now) c.args.variable.now c.requires.sound.0 (rw c.in-None.is at c.symbol_info.ensures)

@@ -2,7 +2,7 @@ use Rattle.std.proofs.Common.{rules, ℕ, List, ◌⊎◌, inl}
 use Rattle.std.proofs.lemmas.Iterator.{YieldsList-from_slice}
 use borrow.Author.Tests.{tests}
 use Rattle.mm_frame.specs.Layout.{statements_of}
-use Rattle.mm_frame.specs.Sentence.{said_by, StandsTwice}
+use Rattle.mm_frame.specs.Sentence.{sentence_in, StandsTwice}
 use Rattle.mm_frame.specs.Active.{IsConstant, IsVariable}
 use Rattle.mm_frame.proofs.Symbols.{symbol_says, with_test, none_twice, not_so}
 use Rattle.mm_frame.proofs.rules.breaks_m2.Goals as goal
@@ -10,7 +10,7 @@ use Rattle.mm_frame.proofs.rules.breaks_m2.Goals as goal
 pub returns-else-repeats : goal.returns-else-repeats
 returns-else-repeats c =
     let before = statements_of c.args.tables.now in
-    let s = said_by c.args.statement.now in
+    let s = sentence_in c.args.statement.now in
     let A : List ℕ → Type 0 = λ x. IsConstant before x in
     let B : List ℕ → Type 0 = λ x. IsVariable before x in
     let P : List ℕ → Type 0 = λ x. A x ⊎ B x in

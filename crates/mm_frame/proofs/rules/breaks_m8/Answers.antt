@@ -2,7 +2,7 @@ use Rattle.std.proofs.Common.{rules, ℕ, List}
 use Rattle.std.proofs.lemmas.Iterator.{YieldsList-from_slice}
 use borrow.Author.Tests.{tests}
 use Rattle.mm_frame.specs.Layout.{statements_of}
-use Rattle.mm_frame.specs.Sentence.{said_by}
+use Rattle.mm_frame.specs.Sentence.{sentence_in}
 use Rattle.mm_frame.specs.Active.{IsConstant}
 use Rattle.mm_frame.proofs.Symbols.{symbol_says, with_test}
 use Rattle.mm_frame.proofs.rules.breaks_m8.Goals as goal
@@ -10,6 +10,6 @@ use Rattle.mm_frame.proofs.rules.breaks_m8.Goals as goal
 pub returns-then-eq : goal.returns-then-eq
 returns-then-eq c =
     let before = statements_of c.args.tables.now in
-    let s = said_by c.args.statement.now in
+    let s = sentence_in c.args.statement.now in
     let P : List ℕ → Type 0 = λ x. IsConstant before x in
     with_test _ (search (rules, tests)) (symbol_says P _ _ _ c.any.ensures.ran (YieldsList-from_slice c.args.statement.now.symbols.items cc) (λ x b q k. search (rules, tests)))

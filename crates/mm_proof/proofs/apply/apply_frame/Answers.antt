@@ -7,7 +7,7 @@ use Rattle.mm_frame.specs.FramePlace.{ArePairs}
 use Rattle.mm_proof.specs.declared.fault.ProofRule.{ProofRule}
 use Rattle.mm_proof.specs.declared.fault.ProofRule.TheVariants.{P8, P9}
 use Rattle.mm_proof.specs.CodeSteps.{ids_in}
-use Rattle.mm_proof.specs.CodeVerify.{AreHypothesesOf, AreEntries, variables_in, pairs_in}
+use Rattle.mm_proof.specs.CodeVerify.{AreHypothesesOf, AreStackEntries, variables_in, pairs_in}
 use Rattle.mm_proof.specs.CodeRun.{CarriesOn, StopsAt}
 use Rattle.mm_proof.proofs.Named.{as_many}
 use Rattle.mm_proof.proofs.Applying.{stops_P8, called_of, ready_of, typed_count, match_true, match_false, stops_P9, entries_drop, entries_below}
@@ -148,8 +148,8 @@ returns-in-None-clause-entries g c = IfOk-weaker c.conclude.result _ _ (λ u ent
     let matched = c.in-None.ensures id at h.hypotheses called typed pairs told.1 in
     let base = c.len-count.result - length c.hypotheses-hypotheses.result.now in
     let ready = ready_of st c.args.frame.now.statements c.args.own.now.place id at (variables_in c.fill_variables.new.variables.list.items) (drop base stack) ids h.hypotheses (pairs_in c.pairs.result.now) c.requires.frame called typed pairs matched in
-    let before = subst (λ (l : List Sentence). AreEntries l (take c.args.own.now.place l) stack) (sym c.requires.frame) c.requires.entries in
-    subst (λ (l : List Sentence). AreEntries l (take c.args.own.now.place l) (g.S.Store.stack c.conclude.new.store)) c.requires.frame (entries c.args.own.now.place id ready before)) c.conclude.ensures.entries
+    let before = subst (λ (l : List Sentence). AreStackEntries l (take c.args.own.now.place l) stack) (sym c.requires.frame) c.requires.entries in
+    subst (λ (l : List Sentence). AreStackEntries l (take c.args.own.now.place l) (g.S.Store.stack c.conclude.new.store)) c.requires.frame (entries c.args.own.now.place id ready before)) c.conclude.ensures.entries
 
 pub returns-in-None-clause-fault : goal.returns-in-None-clause-fault
 returns-in-None-clause-fault g c rule step is =

@@ -4,7 +4,7 @@ use Rattle.mm_proof.specs.declared.fault.ProofRule.{ProofRule}
 use Rattle.mm_proof.specs.declared.fault.ProofRule.TheVariants.{L1}
 use Rattle.mm_proof.specs.Stores.{numbers_in}
 use Rattle.mm_proof.specs.CodeRun.{CarriesOn, StopsAt}
-use Rattle.mm_proof.specs.CodeVerify.{AreEntries, variables_in}
+use Rattle.mm_proof.specs.CodeVerify.{AreStackEntries, variables_in}
 use Rattle.mm_proof.proofs.Applying.{stops_L1, carries, made_entries, match_true, match_false}
 use Rattle.mm_proof.proofs.apply.conclude.Goals as goal
 
@@ -54,6 +54,6 @@ returns-clause-entries g c place id ready entries =
     let whole : g.S.Store.stack c.push.new.self ≡ take c.args.base stack ++ numbers_in c.substitute.new.made.items ∷ [] =
     c.in_ok-push.ensures.pushed ∙ ap (λ l. l ++ numbers_in c.deref.result.now ∷ []) (c.drop_last.ensures.stack ∙ ap (λ k. take k stack) cut)
     ∙ ap (λ n. take c.args.base stack ++ n ∷ []) pushed in
-    subst (λ (l : List (List ℕ)). AreEntries st (take place st) l) (sym whole)
+    subst (λ (l : List (List ℕ)). AreStackEntries st (take place st) l) (sym whole)
     (made_entries st place id c.args.frame.now.place stack c.args.base vs (numbers_in c.expression.result.now) (numbers_in c.substitute.new.made.items)
     c.requires.sound.0 typed c.expression.ensures made.1 entries)

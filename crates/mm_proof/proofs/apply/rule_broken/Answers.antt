@@ -1,6 +1,6 @@
 use Rattle.std.proofs.Common.{◌≡◌, length, drop, arith}
 use Rattle.std.proofs.lemmas.List.{length-drop}
-use Rattle.mm_proof.specs.CodeVerify.{variables_in, pairs_in, all_named}
+use Rattle.mm_proof.specs.CodeVerify.{variables_in, pairs_in, all_names_at}
 use Rattle.mm_proof.proofs.Named.{as_many}
 use Rattle.mm_proof.proofs.Replacements.{replaced_by}
 use Rattle.mm_proof.proofs.Replacing.{replaces_by}
@@ -19,7 +19,7 @@ returns-then-not-are_equal g c id at hs called typed mandatory codes =
     omega (arith, length-drop c.args.base stack, c.requires.entries, as_many st c.args.hypotheses.now hs called.known) in
     let r = replaces_by c.one_number.ensures st (variables_in c.args.variables.now.list.items) hs (drop c.args.base stack) typed in
     stops_P10 st c.args.own.now.place id at _ hs stack c.args.base c.requires.sound.0 called paired codes
-    (c.if-not-are_equal.ensures (replaced_by hs (all_named st (drop c.args.base stack))) r hs called.known typed)
+    (c.if-not-are_equal.ensures (replaced_by hs (all_names_at st (drop c.args.base stack))) r hs called.known typed)
 
 pub returns-then-has_shared_pair : goal.returns-then-has_shared_pair
 returns-then-has_shared_pair g c id at hs called typed mandatory codes =
@@ -29,7 +29,7 @@ returns-then-has_shared_pair g c id at hs called typed mandatory codes =
     omega (arith, length-drop c.args.base stack, c.requires.entries, as_many st c.args.hypotheses.now hs called.known) in
     let r = replaces_by c.one_number.ensures st (variables_in c.args.variables.now.list.items) hs (drop c.args.base stack) typed in
     stops_P11 c.one_number.ensures st c.args.own.now.place id at _ hs stack c.args.base (variables_in c.args.variables.now.list.items) (pairs_in c.args.pairs.now) c.requires.sound.0 called paired typed mandatory
-    codes (c.if-not-are_equal.ensures (replaced_by hs (all_named st (drop c.args.base stack))) r hs called.known typed)
+    codes (c.if-not-are_equal.ensures (replaced_by hs (all_names_at st (drop c.args.base stack))) r hs called.known typed)
     c.if-has_shared_pair.ensures
 
 pub returns-then-not-are_apart_pairs : goal.returns-then-not-are_apart_pairs
@@ -40,5 +40,5 @@ returns-then-not-are_apart_pairs g c id at hs called typed mandatory codes =
     omega (arith, length-drop c.args.base stack, c.requires.entries, as_many st c.args.hypotheses.now hs called.known) in
     let r = replaces_by c.one_number.ensures st (variables_in c.args.variables.now.list.items) hs (drop c.args.base stack) typed in
     stops_P12 c.one_number.ensures st c.args.own.now.place id at _ hs stack c.args.base (variables_in c.args.variables.now.list.items) (pairs_in c.args.pairs.now) c.requires.sound.0 called paired typed mandatory
-    codes (c.if-not-are_equal.ensures (replaced_by hs (all_named st (drop c.args.base stack))) r hs called.known typed)
+    codes (c.if-not-are_equal.ensures (replaced_by hs (all_names_at st (drop c.args.base stack))) r hs called.known typed)
     c.if-has_shared_pair.ensures c.if-not-are_apart_pairs.ensures

@@ -1,6 +1,6 @@
 use Rattle.std.proofs.Common.{drop, take, sym}
 use Rattle.mm_proof.specs.Tree.{ShareNoVariable}
-use Rattle.mm_proof.specs.CodeVerify.{named, variables_in, value_of}
+use Rattle.mm_proof.specs.CodeVerify.{names_at, variables_in, value_of}
 use Rattle.mm_proof.proofs.Shared.{value_symbols, values_told}
 use Rattle.mm_proof.proofs.pairs.is_shared_pair.Goals as goal
 
@@ -15,5 +15,5 @@ share_variable-requires-clause-second g c =
 pub returns-in-Some-value : goal.returns-in-Some-value
 returns-in-Some-value g c =
     values_told (value_of (variables_in c.args.variables.now.list.items) (drop c.args.base (g.S.Store.stack c.args.store.now))) c.args.pair.0.0 c.args.pair.1.0 _ _
-    (λ e f. ShareNoVariable (take c.args.own.now.place c.args.book.now.statements) (named c.args.book.now.statements e) (named c.args.book.now.statements f))
+    (λ e f. ShareNoVariable (take c.args.own.now.place c.args.book.now.statements) (names_at c.args.book.now.statements e) (names_at c.args.book.now.statements f))
     c.share_variable.result (sym c.in-Some.ensures) (sym c.in-Some-value.ensures) c.share_variable.ensures

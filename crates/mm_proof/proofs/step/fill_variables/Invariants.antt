@@ -1,7 +1,7 @@
 use Rattle.std.proofs.Common.{ℕ, ◌<◌, ◌≡◌, List, Some, take, drop, slice_get}
 use Rattle.mm_frame.specs.Sentence.{Sentence}
 use Rattle.mm_proof.specs.CodeSteps.{ids_in}
-use Rattle.mm_proof.specs.CodeVerify.{AreHypothesesOf, AreVariablesOf, IsRightCode, variables_in, all_named}
+use Rattle.mm_proof.specs.CodeVerify.{AreHypothesesOf, AreVariablesOf, IsRightCode, variables_in, all_names_at}
 use Rattle.mm_proof.proofs.step.fill_variables.Given as goal
 
 abbrev pub invariant-loop-index : goal.invariant-loop-index
@@ -9,4 +9,4 @@ invariant-loop-index g l =
     (hs : List Sentence) → AreHypothesesOf l.fn.book.statements (ids_in l.hypotheses) hs
     → AreVariablesOf l.fn.book.statements (variables_in l.variables.list.items) (take l.index hs)
     × ((i : ℕ) (h : Sentence) (entry : List (List ℕ)) → i < l.index → slice_get hs i ≡ Some h
-    → slice_get (all_named l.fn.book.statements (drop l.base (g.S.Store.stack l.store))) i ≡ Some entry → IsRightCode h entry)
+    → slice_get (all_names_at l.fn.book.statements (drop l.base (g.S.Store.stack l.store))) i ≡ Some entry → IsRightCode h entry)

@@ -10,8 +10,8 @@ use Rattle.mm_text.specs.Statement.{PlainStatement, plain_statement, HasForm, Ha
 use Rattle.mm_frame.specs.declared.number.LabelId.{LabelId}
 use Rattle.mm_frame.specs.declared.answer.Taken.{Taken}
 use Rattle.mm_frame.specs.declared.answer.Taken.TheVariants.{Assertion}
-use Rattle.mm_frame.specs.Sentence.{Sentence, said}
-use Rattle.mm_frame.specs.Numbers.{labelled}
+use Rattle.mm_frame.specs.Sentence.{Sentence, sentence_of}
+use Rattle.mm_frame.specs.Numbers.{labelled_sentences}
 use Rattle.mm_frame.specs.Taken.{TakenAs, next_id}
 use Rattle.mm_proof.specs.Steps.{IsProofNumber}
 use Rattle.mm_proof.specs.CodeSteps.{texts}
@@ -35,13 +35,13 @@ number_of before Provable taken id was e f = cc
 number_of before kind taken id was e f = absurd cc
 
 -- The last statement, a `$p`, has the number that it was taken with.
-last_number : (statements before : List Sentence) (s : PlainStatement) (taken : Taken) (id : LabelId) → HasForm s → statements ≡ before ++ said s ∷ []
-    → s.kind ≡ Provable → TakenAs before s.kind taken → taken ≡ Assertion id → IsProofNumber statements id.0 (length before) (said s)
+last_number : (statements before : List Sentence) (s : PlainStatement) (taken : Taken) (id : LabelId) → HasForm s → statements ≡ before ++ sentence_of s ∷ []
+    → s.kind ≡ Provable → TakenAs before s.kind taken → taken ≡ Assertion id → IsProofNumber statements id.0 (length before) (sentence_of s)
 last_number statements before s taken id formed e provable was f = record {
   numbered = record {
-    there = ap (λ (ss : List Sentence). slice_get ss (length before)) e ∙ get_last before (said s);
+    there = ap (λ (ss : List Sentence). slice_get ss (length before)) e ∙ get_last before (sentence_of s);
     named = is_labelled s.kind s.label formed.label provable;
-    number = ap (λ (ss : List Sentence). length (labelled ss)) (ap (λ (ss : List Sentence). take (length before) ss) e ∙ take_front before (said s ∷ []))
+    number = ap (λ (ss : List Sentence). length (labelled_sentences ss)) (ap (λ (ss : List Sentence). take (length before) ss) e ∙ take_front before (sentence_of s ∷ []))
         ∙ sym (ap (λ (i : LabelId). i.0) (number_of before s.kind taken id was provable f));
   };
   provable = provable;
@@ -69,7 +69,7 @@ returns-then-eq-clause-proof c =
     let formed : HasForm s = c.in_ok-taken.ensures.formed in
     let provable : s.kind ≡ Provable = search (rules, c.eq.ensures, c.if-eq.ensures, c.if-eq.true) in (
       length c.loop.book.statements,
-      said s,
+      sentence_of s,
       last_number c.take.new.book.statements c.loop.book.statements s c.in_ok-taken.taken c.in-Assertion.id formed c.in_ok-taken.ensures.book
           provable c.in_ok-taken.ensures.taken c.in-Assertion.is,
     )

@@ -13,16 +13,16 @@ returns-in-Ok-clause-proved g c place s moves proof numbered =
 
 pub returns-in-Ok-clause-refuses : goal.returns-in-Ok-clause-refuses
 returns-in-Ok-clause-refuses g c place s moves proof numbered rule step fault =
-    refuses (IsWithin expression_limit) (take place c.args.book.now.statements) s moves _ (meant_front c.args.book.now.statements place c.judged.ensures.sound.0)
+    refuses (IsWithin expression_limit) (take place c.args.book.now.statements) s moves _ (meant_front c.args.book.now.statements place c.judgement.ensures.sound.0)
     (λ x is. (c.in-Ok.ensures.proved place s moves proof (same_moves c.args.book.now.statements _ _ _ moves c.deref.ensures.value (sym c.steps.view_is) numbered)).0) tt rule step fault
 
 pub returns-in-Err-clause-accepts : goal.returns-in-Err-clause-accepts
 returns-in-Err-clause-accepts g c place s moves proof numbered p =
     let r : Result (List ℕ) ProofFault = Err c.in-Err.fault in
-    accepts (IsWithin expression_limit) (take place c.args.book.now.statements) s moves r (meant_front c.args.book.now.statements place c.judged.ensures.sound.0)
+    accepts (IsWithin expression_limit) (take place c.args.book.now.statements) s moves r (meant_front c.args.book.now.statements place c.judgement.ensures.sound.0)
     (on_rule_map c.in-Err.fault _ _ (λ rule step h. h place s moves proof (same_moves c.args.book.now.statements _ _ _ moves c.deref.ensures.value (sym c.steps.view_is) numbered)) c.in-Err.ensures.fault) p
 
 pub returns-in-Err-clause-refuses : goal.returns-in-Err-clause-refuses
 returns-in-Err-clause-refuses g c place s moves proof numbered rule step fault =
-    refuses (IsWithin expression_limit) (take place c.args.book.now.statements) s moves (Err c.in-Err.fault) (meant_front c.args.book.now.statements place c.judged.ensures.sound.0)
+    refuses (IsWithin expression_limit) (take place c.args.book.now.statements) s moves (Err c.in-Err.fault) (meant_front c.args.book.now.statements place c.judgement.ensures.sound.0)
     (λ x is. absurd cc) (on_rule_map c.in-Err.fault _ _ (λ r n h. h place s moves proof (same_moves c.args.book.now.statements _ _ _ moves c.deref.ensures.value (sym c.steps.view_is) numbered)) c.in-Err.ensures.fault) rule step fault

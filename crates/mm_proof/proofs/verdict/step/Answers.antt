@@ -5,13 +5,13 @@ use Rattle.mm_proof.specs.declared.fault.ProofRule.{ProofRule}
 use Rattle.mm_proof.specs.declared.fault.ProofRule.TheVariants.{L1}
 use Rattle.mm_proof.specs.Stores.{numbers_in}
 use Rattle.mm_proof.specs.CodeRun.{CarriesOn, StopsAt}
-use Rattle.mm_proof.specs.CodeVerify.{AreEntries}
+use Rattle.mm_proof.specs.CodeVerify.{AreStackEntries}
 use Rattle.mm_proof.proofs.Numbered.{numbered_at}
 use Rattle.mm_proof.proofs.Applying.{is_hypothesis_kind, is_assertion_kind, stops_long, pushes, pushed_entries}
 use Rattle.mm_proof.proofs.verdict.step.Goals as goal
 
 pub returns-then-expression-gt-EXPRESSION_LIMIT-clause-carried : goal.returns-then-expression-gt-EXPRESSION_LIMIT-clause-carried
-returns-then-expression-gt-EXPRESSION_LIMIT-clause-carried g c = rw c.broken.ensures tt
+returns-then-expression-gt-EXPRESSION_LIMIT-clause-carried g c = rw c.fault_at_step.ensures tt
 
 pub returns-then-expression-gt-EXPRESSION_LIMIT-clause-fault : goal.returns-then-expression-gt-EXPRESSION_LIMIT-clause-fault
 returns-then-expression-gt-EXPRESSION_LIMIT-clause-fault g c rule at is =
@@ -19,7 +19,7 @@ returns-then-expression-gt-EXPRESSION_LIMIT-clause-fault g c rule at is =
     let u = c.requires.usable.1 in
     let there = numbered_at st c.args.id.0 u.at u.s u.numbered in
     let kind = subst IsHypothesis (sym (c.kind.ensures u.s there)) (is_hypothesis_kind c.kind.result c.in-Floating.is) in
-    let both = sym c.broken.ensures ∙ is in
+    let both = sym c.fault_at_step.ensures ∙ is in
     let same : L1 ≡ rule = cc in
     let number : at ≡ c.args.number = cc in
     let over : 1048576 < length (numbers_in c.expression-expression.result.now) = omega (arith, c.if-expression-gt-EXPRESSION_LIMIT.true, length-map c.expression-expression.result.now (λ s. s.0)) in (
@@ -52,6 +52,6 @@ returns-in_ok-push-in-Floating-clause-entries g c =
     let u = c.requires.usable.1 in
     let there = numbered_at st c.args.id.0 u.at u.s u.numbered in
     let kind = subst IsHypothesis (sym (c.kind.ensures u.s there)) (is_hypothesis_kind c.kind.result c.in-Floating.is) in
-    subst (λ (l : List (List ℕ)). AreEntries st (take c.args.own.now.place st) l) (sym c.in_ok-push-in-Floating.ensures.pushed)
+    subst (λ (l : List (List ℕ)). AreStackEntries st (take c.args.own.now.place st) l) (sym c.in_ok-push-in-Floating.ensures.pushed)
     (pushed_entries st c.args.own.now.place c.args.id.0 c.requires.usable.0 (g.S.Store.stack c.args.store.now) (numbers_in c.expression-expression.result.now) c.requires.sound.0 u kind
     (c.expression-expression.ensures u.s there) c.requires.entries)

@@ -6,7 +6,7 @@ use Rattle.std.proofs.lemmas.List.Sorted.{Contains-permutation, IsPermutation-sy
 use Rattle.std.proofs.Common.{List, ℕ, Contains, ◌↔◌, arith, sym, subst, ◌∙◌}
 use Rattle.mm_frame.specs.declared.number.LabelId.{LabelId}
 use Rattle.mm_proof.specs.CodeSteps.{ids_in, moves_in}
-use Rattle.mm_proof.specs.CodeRun.{IsNamed}
+use Rattle.mm_proof.specs.CodeRun.{IsNamedByMove}
 use Rattle.mm_proof.proofs.Naming.{named_sorted}
 use Rattle.mm_proof.proofs.verdict.used_by.Goals as goal
 
@@ -14,7 +14,7 @@ pub returns : goal.returns
 returns c =
     let is = dedup_is _ _ _ c.dedup.ensures.filtered in
     let moved = c.in_ok-sort.ensures.permutation in
-    let copied = subst (λ (l : List LabelId). (n : ℕ) → Contains (ids_in l) n ↔ IsNamed c.args.book.now.statements (moves_in c.args.moves.now) n)
+    let copied = subst (λ (l : List LabelId). (n : ℕ) → Contains (ids_in l) n ↔ IsNamedByMove c.args.book.now.statements (moves_in c.args.moves.now) n)
     (sym (c.in_ok-ids.ensures.items ∙ c.deref.ensures.value)) c.in_ok-fill_named.ensures in
     named_sorted _ _ c.in_ok-ids.ids.items _ copied
     (rw is (IsStrictlySortedBy-dedup (on_total (λ (x : LabelId). x.0) nat_cmp_total) (λ x y. grind (arith, nat_tests)) _ c.in_ok-sort.ensures.sorted))

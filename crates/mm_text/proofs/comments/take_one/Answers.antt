@@ -2,7 +2,7 @@ use Rattle.std.proofs.Common.{sym, ap, ◌∙◌, arith, refl}
 use Rattle.std.specs.List.{list_all}
 use Rattle.std.proofs.lemmas.Result.{err_from_is_err_and}
 use Rattle.mm_text.specs.Token.{PlainToken, plain_token, is_printable}
-use Rattle.mm_text.specs.Items.{uncommented}
+use Rattle.mm_text.specs.Items.{without_comments}
 use Rattle.mm_text.proofs.TokenLaws.{tokens_from-end}
 use Rattle.mm_text.proofs.CommentLaws.{outside_token, outside-end, outside-illegal, outside-close, outside-begin, outside-clear, spells_other, token_printable, token_illegal, skipped_legal}
 use Rattle.mm_text.proofs.comments.take_one.Goals as goal
@@ -11,7 +11,7 @@ use Rattle.mm_text.proofs.comments.take_one.Goals as goal
 pub returns-then-start-place-clause-takes : goal.returns-then-start-place-clause-takes
 returns-then-start-place-clause-takes c =
     let p = c.args.place.now in
-    ap (uncommented _) (c.skip_space-start.ensures.same_tokens p.file ∙ tokens_from-end p.bytes.now p.file c.skip_space-start.result (omega arith))
+    ap (without_comments _) (c.skip_space-start.ensures.same_tokens p.file ∙ tokens_from-end p.bytes.now p.file c.skip_space-start.result (omega arith))
     ∙ outside-end
 
 pub returns-then-place-end-clause-takes : goal.returns-then-place-end-clause-takes

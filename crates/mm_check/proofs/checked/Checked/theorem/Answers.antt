@@ -4,7 +4,7 @@ use Rattle.mm_frame.specs.declared.number.LabelId.{LabelId}
 use Rattle.mm_frame.specs.Sentence.{Sentence}
 use Rattle.mm_frame.specs.Taken.{kind_behind}
 use Rattle.mm_frame.specs.Form.{IsSound}
-use Rattle.mm_frame.specs.Numbers.{labelled, IsNumbered}
+use Rattle.mm_frame.specs.Numbers.{labelled_sentences, IsNumbered}
 use Rattle.mm_frame.proofs.Labelled.{numbered_get, numbered_within}
 use Rattle.mm_check.specs.Conclusion.{Conclusion}
 use Rattle.mm_check.proofs.Asked.{found_theorem, found_incomplete, found_other, hypothesis_other, other_kind}
@@ -35,7 +35,7 @@ pub returns-in-Proof-2-clause-within : goal.returns-in-Proof-2-clause-within
 returns-in-Proof-2-clause-within c =
     let (place, s, numbered, named, kind) = c.in-Assertion.ensures.found in
     let same : c.self.inside.book.statements ≡ c.args.self.now.sentences = ap (λ (v : Conclusion). v.sentences) c.self.view_is in
-    subst (λ (ss : List Sentence). c.in-Assertion.id.0 < length (labelled ss)) same (numbered_within c.self.inside.book.statements c.in-Assertion.id.0 place s numbered)
+    subst (λ (ss : List Sentence). c.in-Assertion.id.0 < length (labelled_sentences ss)) same (numbered_within c.self.inside.book.statements c.in-Assertion.id.0 place s numbered)
 
 pub returns-in-Proof-2-clause-found : goal.returns-in-Proof-2-clause-found
 returns-in-Proof-2-clause-found c = λ statements kept.

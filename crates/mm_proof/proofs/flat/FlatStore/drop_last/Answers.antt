@@ -8,9 +8,9 @@ use Rattle.mm_proof.proofs.flat.FlatStore.drop_last.Goals as goal
 pub returns-clause-stack : goal.returns-clause-stack
 returns-clause-stack c =
     rw (c.truncate.ensures.items, c.truncate-2.ensures.items)
-    (parts-cut _ c.args.self.now.symbols.items _ (rw c.deref.ensures.value at c.needed-used.ensures.stack)
+    (parts-cut _ c.args.self.now.symbols.items _ (rw c.deref.ensures.value at c.needed_length-used.ensures.stack)
     ∙ take-seen (λ e. numbers_in (slice_range c.args.self.now.symbols.items e.start e.end)) c.args.self.now.stack.items _ c.args.count (omega arith))
 
 pub returns-clause-kept : goal.returns-clause-kept
 returns-clause-kept c =
-    rw c.truncate.ensures.items (parts-cut _ c.args.self.now.symbols.items _ (within-later _ _ _ c.needed-used.ensures.floor c.args.self.now.saved))
+    rw c.truncate.ensures.items (parts-cut _ c.args.self.now.symbols.items _ (within-later _ _ _ c.needed_length-used.ensures.floor c.args.self.now.saved))

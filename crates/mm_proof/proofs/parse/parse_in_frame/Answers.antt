@@ -13,7 +13,7 @@ use Rattle.mm_proof.specs.Tokens.{SayMoves}
 use Rattle.mm_proof.specs.CodeSteps.{texts, moves_in}
 use Rattle.mm_proof.proofs.Numbered.{one_place}
 use Rattle.mm_proof.proofs.FewMoves.{moves_bytes}
-use Rattle.mm_proof.proofs.parse.parsed.Goals as goal
+use Rattle.mm_proof.proofs.parse.parse_in_frame.Goals as goal
 
 pub invariant_of-result : goal.invariant_of-result
 invariant_of-result c =

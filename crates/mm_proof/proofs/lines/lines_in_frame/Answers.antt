@@ -7,7 +7,7 @@ use Rattle.mm_proof.specs.Stores.{numbers_in}
 use Rattle.mm_proof.specs.CodeSteps.{moves_in}
 use Rattle.mm_proof.proofs.Ending.{steps_made, wrong_end, wrong_move, on_rule_from}
 use Rattle.mm_proof.proofs.ListingEnd.{lists_end}
-use Rattle.mm_proof.proofs.lines.listed_frame.Goals as goal
+use Rattle.mm_proof.proofs.lines.lines_in_frame.Goals as goal
 
 pub lines_of-requires-clause-usable : goal.lines_of-requires-clause-usable
 lines_of-requires-clause-usable g c =

@@ -7,8 +7,8 @@ use Rattle.mm_frame.proofs.Pushed.{get_within}
 use Rattle.mm_check.specs.Conclusion.{ProofUses}
 use Rattle.mm_check.specs.Marks.{IsMarked}
 use Rattle.mm_check.proofs.Marking.{IsMarkedBy, marked_within, marking_starts, marking_passes, marking_marks, marking_ends}
-use Rattle.mm_check.proofs.report.reached.Goals as goal
-use Rattle.mm_check.proofs.report.reached.Goals.{then-is_reached, else-is_reached}
+use Rattle.mm_check.proofs.report.reach.Goals as goal
+use Rattle.mm_check.proofs.report.reach.Goals.{then-is_reached, else-is_reached}
 
 pub loop-step-init : goal.loop-step-init
 loop-step-init c =

@@ -1,6 +1,6 @@
 use Rattle.mm_proof.specs.CodeSteps.{moves_in}
 use Rattle.mm_proof.proofs.Ending.{steps_made, proved_with}
-use Rattle.mm_proof.proofs.verdict.judged_frame.Goals as goal
+use Rattle.mm_proof.proofs.verdict.judgement_in_frame.Goals as goal
 
 pub returns-clause-proved : goal.returns-clause-proved
 returns-clause-proved g c =

@@ -1,6 +1,6 @@
 use Rattle.mm_frame.specs.Layout.{statements_of}
 use Rattle.mm_frame.proofs.LookupLaws.{known_match, unknown}
-use Rattle.mm_frame.proofs.tables.Tables.known.Goals as goal
+use Rattle.mm_frame.proofs.tables.Tables.symbol_info.Goals as goal
 
 pub returns-in-Some : goal.returns-in-Some
 returns-in-Some c =
