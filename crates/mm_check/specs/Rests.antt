@@ -78,8 +78,8 @@ RestsOn Uses theorem id = (set : ℕ → Bool) → IsClosed Uses theorem set →
 abbrev pub IsNamed : List PlainStatement → List ℕ → (PlainStatement → Type 0) → ℕ → Type 0
 IsNamed statements label P = IsNumberWhere statements (λ s. IsLabelled label (sentence_of s) × P s)
 
--- why a question about the theorem with a label has no answer: no statement has it; it isn't that of a `$p`; the proof is
--- incomplete
+-- Why a question about the theorem with a label has no answer: no statement has it; it is that of a statement other than a
+-- `$p`; it is that of a `$p` whose proof is incomplete. A refused growth says nothing of the statements.
 abbrev pub IsAskFault : List PlainStatement → List ℕ → AskFault → Type 0
 IsAskFault statements label A1 = (id : ℕ) → ¬ (IsNamed statements label (λ s. Unit {0}) id)
 IsAskFault statements label A2 = (id : ℕ) × IsNamed statements label (λ s. s.kind ≢ Provable) id

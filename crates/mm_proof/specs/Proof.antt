@@ -1,4 +1,4 @@
--- When a `$p` is proved, and the first fault of a proof (the Metamath book, section 4.3 and
+-- When a `$p` is proved, and the first fault of a proof (the Metamath book, sections 4.1.4 and 4.3,
 -- appendix B).
 use Rattle.std.specs.Prelude.{◌≡◌, ◌≢◌, ℕ, ◌+◌, ◌<◌, ◌≤◌, List, [], ◌∷◌, ◌++◌, take, drop, length}
 use Rattle.std.specs.Prelude.{slice_get, Contains, Option, Some, ◌⊎◌}
