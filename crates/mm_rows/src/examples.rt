@@ -2,6 +2,7 @@
 
 use crate::Part::Text;
 use crate::Row;
+use mm_check::Command::{self, Axioms};
 
 /// The examples of `docs/LANGUAGE.md`.
 pub(crate) const LANGUAGE: [Row; 9] = [
@@ -471,7 +472,10 @@ pub(crate) const RULES: [Row; 69] = [
         name: "P1, in docs/RULES.md",
         files: &[(
             b"f.mm",
-            &[Text(b"$c a $. one $a a $.\np $p a $= ( one A $.\n")],
+            &[Text(
+                b"$c a $. one $a a $.\np $p a $=
+    ( one A $.\n",
+            )],
         )],
         reply: b"no f.mm 2 p P1 0\n",
         status: 1,
@@ -486,7 +490,10 @@ pub(crate) const RULES: [Row; 69] = [
         name: "P2, in docs/RULES.md",
         files: &[(
             b"f.mm",
-            &[Text(b"$c a $. one $a a $.\np $p a $= ( one two ) A $.\n")],
+            &[Text(
+                b"$c a $. one $a a $.\np $p a $=
+    ( one two ) A $.\n",
+            )],
         )],
         reply: b"no f.mm 2 p P2 0\n",
         status: 1,
@@ -504,7 +511,10 @@ pub(crate) const RULES: [Row; 69] = [
         name: "P4, in docs/RULES.md",
         files: &[(
             b"f.mm",
-            &[Text(b"$c a $. one $a a $.\np $p a $= ( one ) Aa $.\n")],
+            &[Text(
+                b"$c a $. one $a a $.\np $p a $=
+    ( one ) Aa $.\n",
+            )],
         )],
         reply: b"no f.mm 2 p P4 0\n",
         status: 1,
@@ -513,7 +523,10 @@ pub(crate) const RULES: [Row; 69] = [
         name: "P5, in docs/RULES.md",
         files: &[(
             b"f.mm",
-            &[Text(b"$c a $. one $a a $.\np $p a $= ( one ) UZ $.\n")],
+            &[Text(
+                b"$c a $. one $a a $.\np $p a $=
+    ( one ) UZ $.\n",
+            )],
         )],
         reply: b"no f.mm 2 p P5 0\n",
         status: 1,
@@ -522,7 +535,10 @@ pub(crate) const RULES: [Row; 69] = [
         name: "P5, in docs/RULES.md",
         files: &[(
             b"f.mm",
-            &[Text(b"$c a $. one $a a $.\np $p a $= ( one ) AU $.\n")],
+            &[Text(
+                b"$c a $. one $a a $.\np $p a $=
+    ( one ) AU $.\n",
+            )],
         )],
         reply: b"no f.mm 2 p P5 0\n",
         status: 1,
@@ -531,7 +547,10 @@ pub(crate) const RULES: [Row; 69] = [
         name: "P6, in docs/RULES.md",
         files: &[(
             b"f.mm",
-            &[Text(b"$c a $. one $a a $.\np $p a $= ( one ) B $.\n")],
+            &[Text(
+                b"$c a $. one $a a $.\np $p a $=
+    ( one ) B $.\n",
+            )],
         )],
         reply: b"no f.mm 2 p P6 1\n",
         status: 1,
@@ -540,7 +559,10 @@ pub(crate) const RULES: [Row; 69] = [
         name: "P6, in docs/RULES.md",
         files: &[(
             b"f.mm",
-            &[Text(b"$c a $. one $a a $.\np $p a $= ( one ) AZB $.\n")],
+            &[Text(
+                b"$c a $. one $a a $.\np $p a $=
+    ( one ) AZB $.\n",
+            )],
         )],
         reply: b"no f.mm 2 p P13 3\n",
         status: 1,
@@ -549,7 +571,10 @@ pub(crate) const RULES: [Row; 69] = [
         name: "P7, in docs/RULES.md",
         files: &[(
             b"f.mm",
-            &[Text(b"$c a $. one $a a $.\np $p a $= ( one ) ZT $.\n")],
+            &[Text(
+                b"$c a $. one $a a $.\np $p a $=
+    ( one ) ZT $.\n",
+            )],
         )],
         reply: b"no f.mm 2 p P7 1\n",
         status: 1,
@@ -691,4 +716,44 @@ pub(crate) const RULES: [Row; 69] = [
         reply: b"no f.mm 3 q P13 3\n",
         status: 1,
     },
+];
+
+/// The questions among these examples.
+pub(crate) const QUESTIONS: [(Command<'static>, Row); 3] = [
+    (
+        Axioms { label: b"b" },
+        Row {
+            name: "A1, in docs/RULES.md",
+            files: &[(
+                b"f.mm",
+                &[Text(b"$c a b $. one $a a $.\np $p a $= one $.\n")],
+            )],
+            reply: b"ask A1 b\n",
+            status: 1,
+        },
+    ),
+    (
+        Axioms { label: b"one" },
+        Row {
+            name: "A2, in docs/RULES.md",
+            files: &[(
+                b"f.mm",
+                &[Text(b"$c a b $. one $a a $.\np $p a $= one $.\n")],
+            )],
+            reply: b"ask A2 one\n",
+            status: 1,
+        },
+    ),
+    (
+        Axioms { label: b"p" },
+        Row {
+            name: "A3, in docs/RULES.md",
+            files: &[(
+                b"f.mm",
+                &[Text(b"$c a b $. one $a a $.\np $p a $= one ? $.\n")],
+            )],
+            reply: b"ask A3 p\n",
+            status: 3,
+        },
+    ),
 ];
