@@ -2,7 +2,7 @@
 
 use crate::Part::Text;
 use crate::Row;
-use mm_check::Command::{self, Axioms};
+use mm_check::Command::{self, Axioms, Show};
 
 /// The examples of `docs/LANGUAGE.md`.
 pub(crate) const LANGUAGE: [Row; 9] = [
@@ -472,10 +472,7 @@ pub(crate) const RULES: [Row; 69] = [
         name: "P1, in docs/RULES.md",
         files: &[(
             b"f.mm",
-            &[Text(
-                b"$c a $. one $a a $.\np $p a $=
-    ( one A $.\n",
-            )],
+            &[Text(b"$c a $. one $a a $.\np $p a $= ( one A $.\n")],
         )],
         reply: b"no f.mm 2 p P1 0\n",
         status: 1,
@@ -490,10 +487,7 @@ pub(crate) const RULES: [Row; 69] = [
         name: "P2, in docs/RULES.md",
         files: &[(
             b"f.mm",
-            &[Text(
-                b"$c a $. one $a a $.\np $p a $=
-    ( one two ) A $.\n",
-            )],
+            &[Text(b"$c a $. one $a a $.\np $p a $= ( one two ) A $.\n")],
         )],
         reply: b"no f.mm 2 p P2 0\n",
         status: 1,
@@ -511,10 +505,7 @@ pub(crate) const RULES: [Row; 69] = [
         name: "P4, in docs/RULES.md",
         files: &[(
             b"f.mm",
-            &[Text(
-                b"$c a $. one $a a $.\np $p a $=
-    ( one ) Aa $.\n",
-            )],
+            &[Text(b"$c a $. one $a a $.\np $p a $= ( one ) Aa $.\n")],
         )],
         reply: b"no f.mm 2 p P4 0\n",
         status: 1,
@@ -523,10 +514,7 @@ pub(crate) const RULES: [Row; 69] = [
         name: "P5, in docs/RULES.md",
         files: &[(
             b"f.mm",
-            &[Text(
-                b"$c a $. one $a a $.\np $p a $=
-    ( one ) UZ $.\n",
-            )],
+            &[Text(b"$c a $. one $a a $.\np $p a $= ( one ) UZ $.\n")],
         )],
         reply: b"no f.mm 2 p P5 0\n",
         status: 1,
@@ -535,10 +523,7 @@ pub(crate) const RULES: [Row; 69] = [
         name: "P5, in docs/RULES.md",
         files: &[(
             b"f.mm",
-            &[Text(
-                b"$c a $. one $a a $.\np $p a $=
-    ( one ) AU $.\n",
-            )],
+            &[Text(b"$c a $. one $a a $.\np $p a $= ( one ) AU $.\n")],
         )],
         reply: b"no f.mm 2 p P5 0\n",
         status: 1,
@@ -547,10 +532,7 @@ pub(crate) const RULES: [Row; 69] = [
         name: "P6, in docs/RULES.md",
         files: &[(
             b"f.mm",
-            &[Text(
-                b"$c a $. one $a a $.\np $p a $=
-    ( one ) B $.\n",
-            )],
+            &[Text(b"$c a $. one $a a $.\np $p a $= ( one ) B $.\n")],
         )],
         reply: b"no f.mm 2 p P6 1\n",
         status: 1,
@@ -559,10 +541,7 @@ pub(crate) const RULES: [Row; 69] = [
         name: "P6, in docs/RULES.md",
         files: &[(
             b"f.mm",
-            &[Text(
-                b"$c a $. one $a a $.\np $p a $=
-    ( one ) AZB $.\n",
-            )],
+            &[Text(b"$c a $. one $a a $.\np $p a $= ( one ) AZB $.\n")],
         )],
         reply: b"no f.mm 2 p P13 3\n",
         status: 1,
@@ -571,10 +550,7 @@ pub(crate) const RULES: [Row; 69] = [
         name: "P7, in docs/RULES.md",
         files: &[(
             b"f.mm",
-            &[Text(
-                b"$c a $. one $a a $.\np $p a $=
-    ( one ) ZT $.\n",
-            )],
+            &[Text(b"$c a $. one $a a $.\np $p a $= ( one ) ZT $.\n")],
         )],
         reply: b"no f.mm 2 p P7 1\n",
         status: 1,
@@ -745,7 +721,7 @@ pub(crate) const QUESTIONS: [(Command<'static>, Row); 3] = [
         },
     ),
     (
-        Axioms { label: b"p" },
+        Show { label: b"p" },
         Row {
             name: "A3, in docs/RULES.md",
             files: &[(

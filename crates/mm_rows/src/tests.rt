@@ -283,6 +283,16 @@ fn unanswered_axioms(rt: HostRuntime) -> Result<(), Fail> {
 }
 
 #[test]
+fn steps_of_proofs(rt: HostRuntime) -> Result<(), Fail> {
+    compare_questions(&rt, rt.alloc(), &questions::STEPS)
+}
+
+#[test]
+fn unanswered_steps(rt: HostRuntime) -> Result<(), Fail> {
+    compare_questions(&rt, rt.alloc(), &questions::STEPS_UNANSWERED)
+}
+
+#[test]
 fn axioms_of_refused_files(rt: HostRuntime) -> Result<(), Fail> {
     compare_questions(&rt, rt.alloc(), &questions::AXIOMS_REFUSED)
 }

@@ -7,7 +7,7 @@ use Rattle.clap.specs.declared.builder.action.ArgAction.TheVariants.{Append, Set
 use Rattle.clap.specs.declared.error.kind.ErrorKind.{ErrorKind}
 use Rattle.clap.specs.declared.error.kind.ErrorKind.TheVariants.{DisplayHelp, DisplayVersion, OutOfMemory}
 use Rattle.mm_check.specs.declared.command.Command.{Command}
-use Rattle.mm_check.specs.declared.command.Command.TheVariants.{Check, Axioms}
+use Rattle.mm_check.specs.declared.command.Command.TheVariants.{Check, Axioms, Show}
 use Rattle.mm_tool.specs.declared.words.Request.{Request}
 use Rattle.mm_tool.specs.declared.words.Request.TheVariants.{Help, Version, Explain, Run}
 use Rattle.mm_tool.specs.declared.stop.Stop.{Stop}
@@ -47,6 +47,10 @@ question_line name = with_rule (with_rule (new_app name) label_rule) files_rule
 abbrev pub axioms_line : App
 axioms_line = question_line (codes "axioms")
 
+-- `show LABEL FILES..`
+abbrev pub show_line : App
+show_line = question_line (codes "show")
+
 -- `explain [CODE]`
 abbrev pub explain_line : App
 explain_line = with_rule (new_app (codes "explain")) code_rule
@@ -67,9 +71,10 @@ bare_line = record (new_app (codes "mm")) {
 
 -- the commands that ask something of a database
 abbrev pub database_line : App
-database_line = with_subcommand (with_subcommand bare_line check_line.top) axioms_line.top
+database_line = with_subcommand (with_subcommand (with_subcommand bare_line check_line.top) axioms_line.top) show_line.top
 
--- `mm check FILES..`, `mm axioms LABEL FILES..`, `mm explain [CODE]`, `mm help`, `mm --version`, and everywhere `--help`
+-- `mm check FILES..`, `mm axioms LABEL FILES..`, `mm show LABEL FILES..`, `mm explain [CODE]`, `mm help`, `mm --version`, and
+-- everywhere `--help`
 abbrev pub command_line : App
 command_line = with_subcommand (with_subcommand database_line explain_line.top) help_line.top
 
@@ -109,6 +114,7 @@ AsksQuestion name words label names =
 abbrev pub AsksRun : List Text → Command → List Text → Type 0
 AsksRun words Check names = AsksCheck words names
 AsksRun words (Axioms label) names = AsksQuestion (codes "axioms") words label.now names
+AsksRun words (Show label) names = AsksQuestion (codes "show") words label.now names
 
 -- They ask for what the request says.
 abbrev pub Asks : List Text → Request → Type 0
@@ -126,7 +132,7 @@ IsFaulty words =
 abbrev pub NamesNoCommand : List Text → Type 0
 NamesNoCommand words =
     (rows : List Row) → ¬ Commands words (codes "check") rows × ¬ Commands words (codes "axioms") rows
-    × ¬ Commands words (codes "explain") rows × ¬ Commands words (codes "help") rows
+    × ¬ Commands words (codes "show") rows × ¬ Commands words (codes "explain") rows × ¬ Commands words (codes "help") rows
 
 -- The words aren't understood.
 abbrev pub AreRefusedWords : List Text → Type 0

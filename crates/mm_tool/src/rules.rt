@@ -808,7 +808,7 @@ A file:
     $c a b $. one $a a $.
     p $p a $= one ? $.
 
-The reply to `mm axioms p f.mm`:
+The reply to `mm show p f.mm`:
     ask A3 p
 ",
     },

@@ -53,6 +53,7 @@ fn tells_the_usage(rt: HostRuntime) -> Result<(), Fail> {
     let unknown = ["mm", "prove", "first.mm"];
     let no_file = ["mm", "check"];
     let no_label = ["mm", "axioms"];
+    let no_label_to_show = ["mm", "show"];
     let label_alone = ["mm", "axioms", "th"];
     let label_with_a_hyphen = ["mm", "axioms", "-th", "first.mm"];
     let unknown_option = ["mm", "check", "--strict", "first.mm"];
@@ -65,6 +66,7 @@ fn tells_the_usage(rt: HostRuntime) -> Result<(), Fail> {
         unknown.as_slice(),
         no_file.as_slice(),
         no_label.as_slice(),
+        no_label_to_show.as_slice(),
         label_alone.as_slice(),
         label_with_a_hyphen.as_slice(),
         unknown_option.as_slice(),
@@ -90,6 +92,7 @@ fn prints_help_and_the_version(rt: HostRuntime) {
         ["mm", "help"].as_slice(),
         ["mm", "check", "--help"].as_slice(),
         ["mm", "axioms", "--help"].as_slice(),
+        ["mm", "show", "-h"].as_slice(),
         ["mm", "explain", "-h"].as_slice(),
     ] {
         let (status, out, err) = outcome_of(rt.alloc(), words);
@@ -205,6 +208,17 @@ fn answer_to(alloc: Global, words: &[&str]) -> Result<(String, u8), Fail> {
 fn lists_axioms(rt: HostRuntime) -> Result<(), Fail> {
     let (text, status) = answer_to(rt.alloc(), &["mm", "axioms", "th", "first.mm"])?;
     assert_eq!(rt; text.as_str(), "tze\ntpl\n");
+    assert_eq!(rt; status, 0);
+    Ok(())
+}
+
+#[test]
+fn lists_steps(rt: HostRuntime) -> Result<(), Fail> {
+    let (text, status) = answer_to(rt.alloc(), &["mm", "show", "th", "first.mm"])?;
+    assert_eq!(rt;
+        text.as_str(),
+        "1 tze term 0\n2 tze term 0\n3 tpl term ( 0 + 0 )\n"
+    );
     assert_eq!(rt; status, 0);
     Ok(())
 }

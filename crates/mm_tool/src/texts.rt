@@ -30,6 +30,8 @@ Commands:
                          stands in its `$[ NAME $]`
   axioms LABEL FILES..   checks the database, and lists the axioms that the theorem with this
                          label rests on
+  show LABEL FILES..     checks the database, and lists the steps of the proof of the theorem with
+                         this label
   explain [CODE]         says what the rule with this code is; without a code, lists all codes
   help                   prints this help, as does --help
 
@@ -53,11 +55,18 @@ Replies of check, on standard output:
   load F3
       The files hold more than 1073741824 bytes in all. Status 4.
 
-Replies of axioms, where that of check would be yes or incomplete; else they are that of check:
+Replies of axioms, on standard output:
   LABEL, one on each line
       The axioms that the theorem rests on, in the order of the database. Status 0.
   ? LABEL, one on each line, after the axioms
       The theorems that it rests on and whose proofs hold a `?`. Status 3.
+
+Reply of show, on standard output:
+  STEP NAME EXPRESSION, one on each line
+      A step of the proof: its number, from 1; the label that it names, or @N where it repeats the
+      expression of step N; and the symbols of its expression. Status 0.
+
+Other replies of axioms and show: that of check, where it is no, limit or load; and
   ask A1 LABEL
       No statement has this label. Status 1.
   ask A2 LABEL
@@ -66,7 +75,7 @@ Replies of axioms, where that of check would be yes or incomplete; else they are
       The proof of this theorem holds a `?`. Status 3.
 
 Statuses:
-  0  yes; or a list of axioms; or help, the version or an explanation was asked for
+  0  yes; or axioms or steps; or help, the version or an explanation was asked for
   1  no: a statement is at fault; or the label is not that of a theorem
   2  the words are not understood
   3  incomplete: a proof is unfinished, in the database or among those that are asked about
@@ -77,6 +86,7 @@ Where there is no reply, a line on standard error says why.
 Examples:
   mm check set.mm
   mm axioms id set.mm
+  mm show id set.mm
   mm explain P8
 ";
 

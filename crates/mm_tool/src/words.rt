@@ -6,7 +6,7 @@ ghost use Rattle.clap.specs.declared.builder.command.Command.TheViews.{out-Comma
 ghost use Rattle.mm_tool.specs.Words.{Asks, IsOfKind, IsFaultOfKind, IsWordFault, axioms_line};
 ghost use Rattle.mm_tool.specs.Words.{bare_line, check_line, code_rule, command_line};
 ghost use Rattle.mm_tool.specs.Words.{database_line, explain_line, files_rule, help_line};
-ghost use Rattle.mm_tool.specs.Words.{label_rule, question_line};
+ghost use Rattle.mm_tool.specs.Words.{label_rule, question_line, show_line};
 
 use crate::stop::Stop;
 use clap::error::ErrorKind;
@@ -18,6 +18,8 @@ const PROGRAM: &str = "mm";
 const CHECK: &str = "check";
 
 const AXIOMS: &str = "axioms";
+
+const SHOW: &str = "show";
 
 const EXPLAIN: &str = "explain";
 
@@ -107,6 +109,14 @@ fn axioms_command<'a>(alloc: Global) -> Result<Command<'a>, AllocError>
     question_command(alloc, AXIOMS, "lists the axioms that a theorem rests on")
 }
 
+/// The command `show`, for `clap`.
+fn show_command<'a>(alloc: Global) -> Result<Command<'a>, AllocError>
+    ensures shape { IfOk result (λ command. app_of command ≡ show_line) }
+    ensures local { IfOk result (λ command. (out-Command command).has_globals ≡ false) }
+{
+    question_command(alloc, SHOW, "lists the steps of the proof of a theorem")
+}
+
 /// The command `explain`, for `clap`.
 fn explain_command<'a>(alloc: Global) -> Result<Command<'a>, AllocError>
     ensures shape { IfOk result (λ command. app_of command ≡ explain_line) }
@@ -145,7 +155,8 @@ fn database_command<'a>(alloc: Global) -> Result<Command<'a>, AllocError>
 {
     bare_command(alloc)?
         .subcommand(check_command(alloc)?)?
-        .subcommand(axioms_command(alloc)?)
+        .subcommand(axioms_command(alloc)?)?
+        .subcommand(show_command(alloc)?)
 }
 
 /// The program's command line, for `clap`.
@@ -223,6 +234,14 @@ pub(crate) fn request_of<'a>(alloc: Global, words: &'a [&'a str]) -> Result<Requ
                 label: asked_label(axioms).as_bytes(),
             },
             names: values_of(alloc, axioms, FILES)?,
+        });
+    }
+    if let Some(show) = matches.subcommand_matches(SHOW) {
+        return Ok(Request::Run {
+            command: mm_check::Command::Show {
+                label: asked_label(show).as_bytes(),
+            },
+            names: values_of(alloc, show, FILES)?,
         });
     }
     if let Some(explain) = matches.subcommand_matches(EXPLAIN) {

@@ -37,17 +37,26 @@ returns-in-Some-subcommand_matches-2-clause-request c = (
   _,
   commands_met (app_of c.in_ok-command.command) _ c.in-Ok.matches _ _ c.in_ok-command.ensures c.in-Ok.ensures.kinds c.in-Ok.ensures.ok.2
       (c.in-Some-subcommand_matches-2.ensures.found.0 refl) c.in-Some-subcommand_matches-2.ensures.rows,
+  sym (c.as_bytes-in-Some-subcommand_matches-2.ensures.value ∙ c.asked_label-in-Some-subcommand_matches-2.ensures),
   sym c.in_ok-values_of-3.ensures,
+)
+
+pub returns-in-Some-subcommand_matches-3-clause-request : goal.returns-in-Some-subcommand_matches-3-clause-request
+returns-in-Some-subcommand_matches-3-clause-request c = (
+  _,
+  commands_met (app_of c.in_ok-command.command) _ c.in-Ok.matches _ _ c.in_ok-command.ensures c.in-Ok.ensures.kinds c.in-Ok.ensures.ok.2
+      (c.in-Some-subcommand_matches-3.ensures.found.0 refl) c.in-Some-subcommand_matches-3.ensures.rows,
+  sym c.in_ok-values_of-4.ensures,
 )
 
 pub returns-then-is_some-clause-request : goal.returns-then-is_some-clause-request
 returns-then-is_some-clause-request c =
-    let there : IsSome c.subcommand_matches-4.result = search rules in
-    let met = rows_there (λ (m : Bor ArgMatches). rows_of (found_of m.now)) c.subcommand_matches-4.result _ there c.subcommand_matches-4.ensures.rows in
+    let there : IsSome c.subcommand_matches-5.result = search rules in
+    let met = rows_there (λ (m : Bor ArgMatches). rows_of (found_of m.now)) c.subcommand_matches-5.result _ there c.subcommand_matches-5.ensures.rows in
     inr (
       met.0,
       commands_met (app_of c.in_ok-command.command) _ c.in-Ok.matches _ met.0 c.in_ok-command.ensures c.in-Ok.ensures.kinds
-          c.in-Ok.ensures.ok.2 (c.subcommand_matches-4.ensures.found.0 there) met.1,
+          c.in-Ok.ensures.ok.2 (c.subcommand_matches-5.ensures.found.0 there) met.1,
     )
 
 pub returns-clause-fault : goal.returns-clause-fault
@@ -55,11 +64,13 @@ returns-clause-fault c =
     let none : IsSome c.subcommand_matches.result → ⊥ = λ there. absurd (cc) in
     let none_2 : IsSome c.subcommand_matches-2.result → ⊥ = λ there. absurd (cc) in
     let none_3 : IsSome c.subcommand_matches-3.result → ⊥ = λ there. absurd (cc) in
-    let none_4 : IsSome c.subcommand_matches-4.result → ⊥ = λ there. absurd (search rules) in
+    let none_4 : IsSome c.subcommand_matches-4.result → ⊥ = λ there. absurd (cc) in
+    let none_5 : IsSome c.subcommand_matches-5.result → ⊥ = λ there. absurd (search rules) in
     let other = not_commanded (app_of c.in_ok-command.command) _ c.in-Ok.matches in
     inr (λ rows. (
       λ asked. other _ rows c.in_ok-command.ensures c.in-Ok.ensures.ok.2 (λ named. none (c.subcommand_matches.ensures.found.1 named)) asked,
       λ asked. other _ rows c.in_ok-command.ensures c.in-Ok.ensures.ok.2 (λ named. none_2 (c.subcommand_matches-2.ensures.found.1 named)) asked,
       λ asked. other _ rows c.in_ok-command.ensures c.in-Ok.ensures.ok.2 (λ named. none_3 (c.subcommand_matches-3.ensures.found.1 named)) asked,
       λ asked. other _ rows c.in_ok-command.ensures c.in-Ok.ensures.ok.2 (λ named. none_4 (c.subcommand_matches-4.ensures.found.1 named)) asked,
+      λ asked. other _ rows c.in_ok-command.ensures c.in-Ok.ensures.ok.2 (λ named. none_5 (c.subcommand_matches-5.ensures.found.1 named)) asked,
     ))
