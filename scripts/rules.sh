@@ -79,8 +79,10 @@ made() {
         next
     }
     code == "" { next }
-    /^```mm$/ { body = body "\nThis file breaks it:\n"; fenced = 1; next }
+    # A question is no part of its file: the file alone breaks no rule of questions.
+    /^```mm$/ { body = body (code ~ /^A/ ? "\nA file:\n" : "\nThis file breaks it:\n"); fenced = 1; next }
     /^```reply$/ { body = body "\nThe reply:\n"; fenced = 1; next }
+    /^```reply / { sub(/^```reply /, ""); body = body "\nThe reply to `mm " $0 " f.mm`:\n"; fenced = 1; next }
     /^```$/ { fenced = 0; next }
     fenced { body = body "    " $0 "\n"; next }
     /^$/ { finish() }

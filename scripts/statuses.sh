@@ -47,7 +47,7 @@ begins() {
 cp "$top/examples/"*.mm "$top/examples/folder/"*.mm .
 cp "$top/examples/first.mm" -- -first.mm
 printf '$c a $.\n$c a $.\n' >twice.mm
-printf '$c a $.\np $a a $.\nq $p a $= ? $.\n' >open.mm
+printf '$c a $.\np $a a $.\nq $p a $= ? $.\nr $p a $= q $.\n' >open.mm
 : >empty.mm
 cp first.mm ./-
 
@@ -60,6 +60,9 @@ ends 0 'yes 6 statements 1 proofs\n' '' check top.mm symbols.mm rules.mm terms.m
 ends 1 'no top.mm 2 - X7 0\n' '' check top.mm terms.mm symbols.mm
 ends 0 'yes 0 statements 0 proofs\n' '' check empty.mm
 ends 0 'yes 7 statements 1 proofs\n' '' check -
+ends 0 'tze\ntpl\n' '' axioms th first.mm
+ends 0 'tze\ntpl\nweq\nwim\na1\na2\nmp\n' '' axioms th1 demo0c.mm
+ends 0 '1 tze term 0\n2 tze term 0\n3 tpl term ( 0 + 0 )\n' '' show th first.mm
 begins 0 'Verifies databases of the Metamath language.' '' help
 begins 0 'Verifies databases of the Metamath language.' '' --help
 begins 0 'F1: no file was handed in (by the library alone: the program asks for one).' '' explain
@@ -68,14 +71,33 @@ if command -v rt >/dev/null 2>&1; then
     begins 0 "mm 0.1.0, proved with $(rt version)" '' --version
 fi
 ends 1 'no twice.mm 2 - M2 0\n' '' check twice.mm
+ends 1 'no twice.mm 2 - M2 0\n' '' axioms p twice.mm
+ends 1 'ask A1 none\n' '' axioms none first.mm
+ends 1 'ask A1 -\n' '' axioms - first.mm
+ends 1 'ask A1 -th\n' '' axioms -- -th first.mm
+ends 1 'ask A2 tze\n' '' axioms tze first.mm
+ends 1 'no twice.mm 2 - M2 0\n' '' show p twice.mm
+ends 1 'ask A1 -\n' '' show - first.mm
+ends 1 'ask A2 tt\n' '' show tt first.mm
 begins 2 '' 'Usage: mm <COMMAND>'
+begins 2 '' 'error: the following required arguments were not provided:' show th
+begins 2 '' 'error: the following required arguments were not provided:' axioms th
+begins 2 '' 'error: unexpected argument '"'-t'"' found' axioms -th first.mm
 begins 2 '' 'error: unexpected argument '"'--strict'"' found' check --strict first.mm
 begins 2 '' 'error: unexpected argument '"'-f'"' found' check -first.mm
 begins 2 '' 'mm: no rule has the code M222; the nearest is M2' explain M222
 ends 2 '' 'mm: a word is not UTF-8\n' check "$(printf '\377')"
 ends 3 'incomplete 1\nq\n' '' check open.mm
+ends 3 '? q\n' '' axioms r open.mm
+ends 3 'ask A3 q\n' '' axioms q open.mm
+ends 0 '1 q a\n' '' show r open.mm
+ends 3 'ask A3 q\n' '' show q open.mm
 ends 4 'load F2\n' '' check first.mm first.mm
+ends 4 'load F2\n' '' show th first.mm first.mm
+ends 4 'load F2\n' '' axioms th first.mm first.mm
 ends 4 '' 'mm: cannot read none.mm\n' check none.mm
+ends 4 '' 'mm: cannot read none.mm\n' axioms th none.mm
+ends 4 '' 'mm: cannot read none.mm\n' show th none.mm
 ends 4 '' 'mm: cannot read .\n' check .
 ends 4 '' 'mm: cannot read none.mm\n' check first.mm none.mm other.mm
 

@@ -173,7 +173,7 @@ same_tree before s tokens p q all =
     subst (λ (ms : List (Move (List ℕ))). Makes before ms no_trees [] (tree_of p) p.proves.kept) moves p.proves.made in
     (makes_once before q.moves no_trees (tree_of p) (tree_of q) [] p.proves.kept q.proves.kept all made q.proves.made).0
 
-map-take : (n : ℕ) (statements : List PlainStatement) → sentences (take n statements) ≡ take n (sentences statements)
+pub map-take : (n : ℕ) (statements : List PlainStatement) → sentences (take n statements) ≡ take n (sentences statements)
 map-take zero statements = refl
 map-take (suc n) [] = refl
 map-take (suc n) (s ∷ statements) = ap (λ (ss : List Sentence). sentence_of s ∷ ss) (map-take n statements)

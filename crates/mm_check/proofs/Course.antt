@@ -194,12 +194,23 @@ incomplete_within files p left way =
     (numbers_within (labels_of way.earlier) (ids p.incomplete.items) (unproved_of way.earlier) named)
 
 -- what is kept at the end
-pub kept_well : (files : List PlainFile) (p : Progress) (left : Remaining) → IsUnderWay files p left
-    → IsKeptWell (length (labels_in p.book.statements)) (ids p.incomplete.items) p.kept
-kept_well files p left way = record {
+pub kept_well : (files : List PlainFile) (p : Progress) (left : Remaining) → IsUnderWay files p left → left.statements ≡ [] → left.ending ≡ None
+    → IsKeptWell files p.book.statements (ids p.incomplete.items) p.kept
+kept_well files p left way none ending = record {
   in_range = incomplete_within files p left way;
   rising = way.known.noted.rising;
   backward = backward way.earlier p.kept way.known.kept;
+  origin = record {
+    statements = way.earlier;
+    accepted = record {
+      readable = way.readable;
+      reads = subst (λ (e : Option PlainFault). Reads files way.earlier e) ending (none_left files p left way none);
+      obeyed = way.obeyed;
+    };
+    sentences = way.known.book;
+    incomplete = way.known.noted;
+    uses = way.known.kept;
+  };
 }
 
 -- where nothing is left, the progress is at its end

@@ -16,3 +16,5 @@ pub mod Marking
 pub mod Asked
 pub mod Course
 pub mod Handed
+pub mod Rereading
+pub mod Listings

@@ -19,7 +19,7 @@ use Rattle.mm_check.proofs.Numbers.{count_by-append, count_by-one}
 
 -- ## The limit
 
-within_limit : (files : List PlainFile) → CanBeRead files → total_bytes files ≤ 1073741824
+pub within_limit : (files : List PlainFile) → CanBeRead files → total_bytes files ≤ 1073741824
 within_limit files readable = elim (cases_lt 1073741824 (total_bytes files)) [
   | inl more ↦ absurd (readable F3 (readable F1, (λ twins. readable F2 (readable F1, twins)), more))
   | inr less ↦ less

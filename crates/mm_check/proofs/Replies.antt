@@ -1,12 +1,13 @@
 -- The text and the status that tell a verdict are those of the reply.
-use Rattle.std.proofs.Common.{◌≡◌, ℕ, List, [], ◌∷◌, Option, Some, None, Result, Ok, Err, MatchOption, IfSome, IfOk, inl, inr, refl, ap, subst}
+use Rattle.std.proofs.Common.{◌≡◌, ℕ, List, [], ◌∷◌, Option, Some, None, Result, Ok, Err, MatchOption, IfSome, IfOk, inl, inr, refl, sym, ap, subst}
 use Rattle.mm_text.specs.Statement.{PlainStatement}
 use Rattle.mm_text.specs.Files.{PlainFile}
+use Rattle.mm_text.specs.Reading.{Reads}
 use Rattle.mm_check.specs.declared.fault.CheckFault.{CheckFault}
 use Rattle.mm_check.specs.Conclusion.{Conclusion}
 use Rattle.mm_check.specs.declared.fault.CheckFault.TheVariants as fault
 use Rattle.mm_check.specs.Verdict.{Verdict, Load, Refused, HasVerdict, AreAccepted, labels_of}
-use Rattle.mm_check.specs.Answer.{verdict_of_answer, verdict_of_conclusion, verdict_where_incomplete, plain_refusal, verdict_of_fault, IsVerdict, KeepsLabels, KeepsUses, IsKeptOf}
+use Rattle.mm_check.specs.Answer.{verdict_of_answer, verdict_of_conclusion, verdict_where_incomplete, plain_refusal, verdict_of_fault, IsVerdict, KeepsLabels, KeepsUses, KeepsFiles, IsKeptOf}
 use Rattle.mm_check.specs.Reply.{IsReply, IsRefused, IsQuestionReply, Tells, text_of, status_of}
 
 reply_at : (files : List PlainFile) (told : Option Verdict) (text : List ℕ) (status : ℕ)
@@ -38,6 +39,16 @@ question_answered files answer c Answers text status is holds uses labels answer
     let told : verdict_of_answer answer ≡ Some (verdict_of_conclusion c) = ap verdict_of_answer is in
     let found = accepted_with files c c.incomplete (holds (verdict_of_conclusion c) told) in
     inr (found.0, found.1, answers found.0 (uses found.0 None found.1.reads) (labels found.0 None found.1.reads))
+
+-- the answer over the statements of the files that are kept
+pub question_read : (files : List PlainFile) (answer : Result Conclusion CheckFault) (c : Conclusion) (Answers : List PlainStatement → List ℕ → ℕ → Type 0) (text : List ℕ) (status : ℕ)
+    → answer ≡ Ok c → IsVerdict files answer → KeepsFiles files c
+    → ((statements : List PlainStatement) → Reads c.files statements None → Answers statements text status)
+    → IsQuestionReply files Answers text status
+question_read files answer c Answers text status is holds same answers =
+    let told : verdict_of_answer answer ≡ Some (verdict_of_conclusion c) = ap verdict_of_answer is in
+    let found = accepted_with files c c.incomplete (holds (verdict_of_conclusion c) told) in
+    inr (found.0, found.1, answers found.0 (subst (λ (fs : List PlainFile). Reads fs found.0 None) (sym same) found.1.reads))
 
 -- the refusal of the files
 refused_at : (files : List PlainFile) (fault : CheckFault) (text : List ℕ) (status : ℕ)

@@ -91,6 +91,10 @@ abbrev pub KeepsUses : List PlainFile → Conclusion → Type 0
 KeepsUses files c =
     (statements : List PlainStatement) (ending : Option PlainFault) → Reads files statements ending → IsKeptOf statements c
 
+-- the files kept are those that were handed in
+abbrev pub KeepsFiles : List PlainFile → Conclusion → Type 0
+KeepsFiles files c = c.files ≡ files
+
 -- the file in which a statement or a token is refused is one of the files
 abbrev pub NamesFile : List PlainFile → Result Conclusion CheckFault → Type 0
 NamesFile files answer =

@@ -4,6 +4,8 @@ pub mod Status
 pub mod Conclusion
 pub mod Ranges
 pub mod Rests
+pub mod Shown
+pub mod CodeShown
 pub mod Marks
 pub mod Answer
 pub mod Judged

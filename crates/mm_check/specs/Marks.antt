@@ -1,11 +1,14 @@
 -- Marks of what a theorem rests on, by number, and what is known of what is kept: it mirrors the code.
-use Rattle.std.specs.Prelude.{◌≡◌, ℕ, ◌<◌, List, slice_index_or, Contains, Bool, true, false}
+use Rattle.std.specs.Prelude.{◌≡◌, ℕ, ◌<◌, List, length, slice_index_or, Contains, Bool, true, false}
 use Rattle.std.specs.List.{AllByRecursion}
 use Rattle.mm_text.specs.declared.statement.Kind.TheVariants.{Axiom}
+use Rattle.mm_text.specs.Statement.{PlainStatement}
+use Rattle.mm_text.specs.Files.{PlainFile}
 use Rattle.mm_frame.specs.Sentence.{Sentence}
 use Rattle.mm_frame.specs.Numbers.{IsNumbered}
-use Rattle.mm_check.specs.Conclusion.{ProofUses, numbers_of}
-use Rattle.mm_check.specs.Rests.{AreRising}
+use Rattle.mm_check.specs.Conclusion.{ProofUses, numbers_of, labels_in}
+use Rattle.mm_check.specs.Verdict.{AreAccepted, sentences, is_unproved}
+use Rattle.mm_check.specs.Rests.{IsNumberWhere, AreInOrder, AreRising, AreUses}
 
 -- the number is marked
 abbrev pub IsMarked : List Bool → ℕ → Type 0
@@ -20,11 +23,21 @@ pub record AreBackward (uses : List ProofUses) : Type 0 where
   pub rising : AreRising (numbers_of uses)
   pub below : (u : ProofUses) (used : ℕ) → Contains uses u → Contains u.used used → used < u.number
 
--- what is kept of statements with so many labels
-pub record IsKeptWell (labels : ℕ) (incomplete : List ℕ) (uses : List ProofUses) : Type 0 where
-  pub in_range : AllByRecursion (λ n. n < labels) incomplete
+-- accepted statements of the files, of which this is kept: what they say, the numbers of the incomplete proofs, and what the
+-- complete ones use
+pub record IsKeptFrom (files : List PlainFile) (told : List Sentence) (noted : List ℕ) (kept : List ProofUses) : Type 0 where
+  pub statements : List PlainStatement
+  pub accepted : AreAccepted files statements
+  pub sentences : told ≡ sentences statements
+  pub incomplete : AreInOrder (IsNumberWhere statements (λ s. is_unproved s ≡ true)) noted
+  pub uses : AreUses statements kept
+
+-- what is kept of the statements of the files
+pub record IsKeptWell (files : List PlainFile) (told : List Sentence) (incomplete : List ℕ) (uses : List ProofUses) : Type 0 where
+  pub in_range : AllByRecursion (λ n. n < length (labels_in told)) incomplete
   pub rising : AreRising incomplete
   pub backward : AreBackward uses
+  pub origin : IsKeptFrom files told incomplete uses
 
 -- the number is that of a `$a`
 abbrev pub IsAxiomNumber : List Sentence → ℕ → Type 0

@@ -13,8 +13,9 @@ use Rattle.mm_check.specs.Answer.{verdict_of_answer, labels_at}
 use Rattle.mm_check.specs.declared.ask.AskFault.{AskFault}
 use Rattle.mm_check.specs.declared.ask.AskFault.TheVariants as ask
 use Rattle.mm_check.specs.declared.command.Command.{Command}
-use Rattle.mm_check.specs.declared.command.Command.TheVariants.{Check, Axioms}
+use Rattle.mm_check.specs.declared.command.Command.TheVariants.{Check, Axioms, Show}
 use Rattle.mm_check.specs.Rests.{IsAskFault, IsReport}
+use Rattle.mm_check.specs.Shown.{IsShown}
 use Rattle.mm_check.specs.Verdict.{Verdict, Load, Refused, Incomplete, Yes, HasVerdict, AreAccepted, labels_of}
 
 -- the printed code of a rule
@@ -166,6 +167,12 @@ IsAxiomsReply label statements text status =
     ⊎ ((axioms : List ℕ) × (unproved : List ℕ) × IsReport statements label axioms unproved
     × (text ≡ report_text (labels_of statements) axioms unproved) × (status ≡ report_status unproved))
 
+-- the reply to the question how the theorem with a label is proved
+abbrev pub IsShowReply : List ℕ → List PlainStatement → List ℕ → ℕ → Type 0
+IsShowReply label statements text status =
+    ((fault : AskFault) × IsAskFault statements label fault × IsAskReply fault label text status)
+    ⊎ (IsShown statements label text × (status ≡ 0))
+
 -- The reply to a question about the database: the refusal, if it is refused, else the answer over its statements.
 abbrev pub IsQuestionReply : List PlainFile → (List PlainStatement → List ℕ → ℕ → Type 0) → List ℕ → ℕ → Type 0
 IsQuestionReply files Answers text status =
@@ -178,6 +185,7 @@ IsQuestionReply files Answers text status =
 abbrev pub IsReplyTo : List PlainFile → Command → List ℕ → ℕ → Type 0
 IsReplyTo files Check text status = IsReply files text status
 IsReplyTo files (Axioms label) text status = IsQuestionReply files (IsAxiomsReply label.now) text status
+IsReplyTo files (Show label) text status = IsQuestionReply files (IsShowReply label.now) text status
 
 -- The reply's text was put after what the writer held, where that is known.
 abbrev pub Writes : List PlainFile → Command → ℕ → Option (List ℕ) → Option (List ℕ) → Type 0

@@ -1,14 +1,18 @@
 //! A database in which nothing is at fault.
 
 ghost use Rattle.std.specs.Prelude.{◌≡◌, ◌<◌, ◌↔◌, List, [], map, length, slice_get, Contains};
-ghost use Rattle.std.specs.Prelude.{true, Some, IsTrue, IfOk, IfErr};
+ghost use Rattle.std.specs.Prelude.{true, Some, None, IsTrue, IfOk, IfErr};
 ghost use Rattle.std.specs.List.{AllByRecursion};
 
 use crate::ask::AskFault;
+use crate::judge::proof_of;
 use crate::kept::Kept;
 use crate::progress::Progress;
 use crate::report::{Report, axioms_among, marked_among, reach};
+use crate::reread::reread;
+use crate::shown::listing_text;
 use mm_frame::{Book, Found, LabelId, LabelKind};
+use mm_text::File;
 use std::alloc::Global;
 use std::marker::Model;
 
@@ -16,6 +20,7 @@ use std::marker::Model;
 /// isn't incomplete is accepted.
 #[derive(Drop)]
 pub struct Checked<'a> {
+    files: &'a [File<'a>],
     book: Book<'a>,
     statements: usize,
     proofs: usize,
@@ -24,13 +29,15 @@ pub struct Checked<'a> {
 }
 
 impl<'a> Model for Checked<'a> {
-    ghost use Rattle.std.specs.Prelude.{map, length};
+    ghost use Rattle.std.specs.Prelude.{map};
+    ghost use Rattle.mm_text.specs.Files.{plain_file};
     ghost use Rattle.mm_check.specs.Conclusion.{Conclusion, labels_in};
     ghost use Rattle.mm_check.specs.Marks.{IsKeptWell};
 
     ghost Value = { Conclusion };
 
     ghost view = { λ c. record {
+      files = map plain_file c.files.now;
       statements = c.statements;
       proofs = c.proofs;
       incomplete = map (λ id. id.0) c.incomplete.items;
@@ -39,8 +46,9 @@ impl<'a> Model for Checked<'a> {
       uses = c.kept;
     } };
 
-    // Each number is that of a label; what comes later in the database has a greater one.
-    ghost invariant = { λ c. IsKeptWell (length (labels_in c.book.statements))
+    // The statements of the files are accepted, and this is kept of them. Each number is that of a
+    // label; what comes later in the database has a greater one.
+    ghost invariant = { λ c. IsKeptWell (map plain_file c.files.now) c.book.statements
         (map (λ id. id.0) c.incomplete.items) c.kept };
 }
 
@@ -53,18 +61,22 @@ fn is_among(numbers: &[LabelId], id: LabelId) -> bool
 
 impl<'a> Checked<'a> {
     ghost use Rattle.mm_text.specs.Statement.{PlainStatement};
+    ghost use Rattle.mm_text.specs.Files.{plain_file};
+    ghost use Rattle.mm_text.specs.Reading.{Reads};
     ghost use Rattle.mm_frame.specs.Numbers.{labelled_sentences};
     ghost use Rattle.mm_frame.specs.Form.{IsSound};
     ghost use Rattle.mm_check.specs.Conclusion.{labels_in};
     ghost use Rattle.mm_check.specs.Marks.{IsKeptWell, UsedIn};
     ghost use Rattle.mm_check.specs.Verdict.{is_proof};
     ghost use Rattle.mm_check.specs.Rests.{IsNamed, IsAskFault, IsReport, RestsOn};
+    ghost use Rattle.mm_check.specs.Shown.{IsShown};
     ghost use Rattle.mm_check.specs.Answer.{IsKeptOf};
 
-    /// What the progress has come to, once nothing is left.
-    pub(crate) fn new(progress: Progress<'a>) -> Checked<'a>
-        requires { IsKeptWell (length (labels_in progress.book.statements))
+    /// What the progress over the files has come to, once nothing is left.
+    pub(crate) fn new(files: &'a [File<'a>], progress: Progress<'a>) -> Checked<'a>
+        requires { IsKeptWell (map plain_file files.now) progress.book.statements
             (map (λ id. id.0) progress.incomplete.items) progress.kept }
+        ensures files { result.files ≡ map plain_file files.now }
         ensures statements { result.statements ≡ progress.entry.count }
         ensures proofs { result.proofs ≡ progress.entry.proofs }
         ensures incomplete { result.incomplete ≡ map (λ id. id.0) progress.entry.incomplete.items }
@@ -73,6 +85,7 @@ impl<'a> Checked<'a> {
         ensures uses { result.uses ≡ progress.entry.kept }
     {
         Checked {
+            files,
             book: progress.book,
             statements: progress.count,
             proofs: progress.proofs,
@@ -167,5 +180,29 @@ impl<'a> Checked<'a> {
         let axioms = axioms_among(alloc, &self.book, &marks, theorem)?;
         let unproved = marked_among(alloc, &self.incomplete, &marks)?;
         Ok(Report { axioms, unproved })
+    }
+    /// The listing of the proof of the `$p` with this label, a line for each step in order: its
+    /// number, its name, and the symbols of the expression that it puts on the stack, with one
+    /// space between each two. The name is the label of the hypothesis or of the assertion; for a
+    /// step by a tag it is `@` and the number of the step that the tag stands after.
+    ///
+    /// No proof is kept by `check`, so the files are read again up to the `$p`.
+    ///
+    /// # Errors
+    ///
+    /// As for `axioms`.
+    pub fn show(&self, alloc: Global, label: &[u8]) -> Result<Vec<u8>, AskFault>
+        // The text is that of the listing of its proof, among the statements of the files.
+        ensures shown { IfOk result (λ text. (statements : List PlainStatement)
+            → Reads self.now.files statements None
+            → IsShown statements label.now text.items) }
+        ensures fault { IfErr result (λ fault. (statements : List PlainStatement)
+            → Reads self.now.files statements None → IsAskFault statements label.now fault) }
+    {
+        let files = self.files;
+        let theorem = self.theorem(label)?;
+        let statement = reread(alloc, files, label)?;
+        let tokens = proof_of(alloc, &statement)?;
+        listing_text(alloc, &self.book, theorem, &tokens)
     }
 }

@@ -8,7 +8,7 @@ ghost use Rattle.mm_check.specs.Reply.{IsReplyTo, Writes, WritesBeginningOf};
 ghost use Rattle.mm_check.specs.declared.command.RunFault.TheVariants.{Memory};
 
 use crate::fault::CheckFault;
-use crate::question::{Reply, axioms_reply, check_reply};
+use crate::question::{Reply, axioms_reply, check_reply, show_reply};
 use crate::status::Status;
 use mm_text::{Counted, File};
 use std::alloc::{AllocError, Global};
@@ -22,6 +22,8 @@ pub enum Command<'a> {
     Check,
     /// What the theorem with this label rests on.
     Axioms { label: &'a [u8] },
+    /// How the theorem with this label is proved, step by step.
+    Show { label: &'a [u8] },
 }
 
 /// Why a reply wasn't written, or not to its end.
@@ -51,6 +53,7 @@ fn reply_to(alloc: Global, command: &Command, files: &[File]) -> Result<Reply, A
     match command {
         Command::Check => check_reply(alloc, files),
         Command::Axioms { label } => axioms_reply(alloc, files, label),
+        Command::Show { label } => show_reply(alloc, files, label),
     }
 }
 

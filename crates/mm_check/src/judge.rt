@@ -57,7 +57,10 @@ fn refusal<'a>(
 }
 
 /// The texts of the tokens of a statement's proof.
-fn proof_of<'a>(alloc: Global, statement: &Statement<'a>) -> Result<Vec<&'a [u8]>, AllocError>
+pub(crate) fn proof_of<'a>(
+    alloc: Global,
+    statement: &Statement<'a>,
+) -> Result<Vec<&'a [u8]>, AllocError>
     ensures { IfOk result (λ v. map (λ t. t.now) v.items
         ≡ proof_of (plain_statement statement.now)) }
 {

@@ -13,7 +13,9 @@ mod progress;
 mod question;
 mod reply;
 mod report;
+mod reread;
 mod rule;
+mod shown;
 mod status;
 #[cfg(test)]
 mod tests;

@@ -1,16 +1,17 @@
 //! Whole replies: to `check`, and to questions about a theorem.
 
 ghost use Rattle.std.specs.Prelude.{◌≡◌, ◌<◌, ◌++◌, [], ◌∷◌, List, ℕ, map, length, OnOk, IfOk};
-ghost use Rattle.std.specs.Prelude.{IfSome, codes};
+ghost use Rattle.std.specs.Prelude.{IfSome, None, codes};
 ghost use Rattle.std.specs.List.{AllByRecursion};
 ghost use Rattle.mm_text.specs.Statement.{PlainStatement};
 ghost use Rattle.mm_text.specs.Files.{plain_file};
+ghost use Rattle.mm_text.specs.Reading.{Reads};
 ghost use Rattle.mm_check.specs.Answer.{verdict_of_answer, labels_at, IsKeptOf};
 ghost use Rattle.mm_check.specs.Verdict.{labels_of};
 ghost use Rattle.mm_check.specs.Status.{number_of};
 ghost use Rattle.mm_check.specs.Reply.{code_of, line_with, lines_of, status_of as status_at, Tells};
-ghost use Rattle.mm_check.specs.Reply.{IsReply, IsAskReply, IsAxiomsReply, IsQuestionReply};
-ghost use Rattle.mm_check.specs.Reply.{report_text as report_text_at};
+ghost use Rattle.mm_check.specs.Reply.{IsReply, IsAskReply, IsAxiomsReply, IsShowReply};
+ghost use Rattle.mm_check.specs.Reply.{IsQuestionReply, report_text as report_text_at};
 ghost use Rattle.mm_check.specs.Reply.{report_status as report_status_at};
 
 use crate::ask::AskFault;
@@ -128,6 +129,21 @@ fn axioms_answer(alloc: Global, checked: &Checked, label: &[u8]) -> Result<Reply
     }
 }
 
+/// The reply of a database in which nothing is at fault to the question how a theorem is proved.
+fn show_answer(alloc: Global, checked: &Checked, label: &[u8]) -> Result<Reply, AllocError>
+    ensures { IfOk result (λ reply. (statements : List PlainStatement)
+        → Reads checked.now.files statements None
+        → IsShowReply label.now statements reply.text.items (number_of reply.status)) }
+{
+    match checked.show(alloc, label) {
+        Ok(text) => Ok(Reply {
+            text,
+            status: Status::Done,
+        }),
+        Err(fault) => ask_reply(alloc, label, fault),
+    }
+}
+
 /// The reply that tells the verdict.
 fn verdict_reply(
     alloc: Global,
@@ -161,6 +177,18 @@ pub(crate) fn axioms_reply(alloc: Global, files: &[File], label: &[u8]) -> Resul
     let answer = check(alloc, files);
     match &answer {
         Ok(checked) => axioms_answer(alloc, checked, label),
+        Err(_) => verdict_reply(alloc, files, &answer),
+    }
+}
+
+/// The reply to the question how the theorem with a label is proved.
+pub(crate) fn show_reply(alloc: Global, files: &[File], label: &[u8]) -> Result<Reply, AllocError>
+    ensures { IfOk result (λ reply. IsQuestionReply (map plain_file files.now)
+        (IsShowReply label.now) reply.text.items (number_of reply.status)) }
+{
+    let answer = check(alloc, files);
+    match &answer {
+        Ok(checked) => show_answer(alloc, checked, label),
         Err(_) => verdict_reply(alloc, files, &answer),
     }
 }

@@ -23,6 +23,10 @@ const OPEN: &[u8] = b"$c a $. p $a a $. q $p a $= ? $. r $p a $= p $. s $p a $= 
 const DEEP: &[u8] = b"$c a $. p $a a $. q $p a $= ? $. r $p a $= p $. s $p a $= r $. \
 t $p a $= s $. u $p a $= q $.";
 
+// The proof of th makes the tree of its third step once, and uses it twice.
+const SHARED: &[u8] = b"$c e $. $v x y $. fx $f e x $. fy $f e y $. nil $a e $. cat $a e x y $. \
+th $p e $= ( nil cat ) AABZCB $.";
+
 const REPLY: &[u8] = b"yes 7 statements 1 proofs\n";
 
 /// Takes one byte a call, but fails at one of its calls, the first of which is number 1.
@@ -120,6 +124,20 @@ fn reports_an_unproved_theorem(rt: HostRuntime) -> Result<(), Fail> {
     Ok(())
 }
 
+#[test]
+fn shows_a_shared_step(rt: HostRuntime) -> Result<(), Fail> {
+    let files = [File {
+        name: b"cat.mm",
+        bytes: SHARED,
+    }];
+    let text = check(rt.alloc(), &files)?.show(rt.alloc(), b"th")?;
+    assert_eq!(rt;
+        text.as_slice(),
+        b"1 nil e\n2 nil e\n3 cat e\n4 @3 e\n5 cat e\n".as_slice()
+    );
+    Ok(())
+}
+
 // Why a question about a label has no answer.
 fn question_fault(alloc: Global, label: &[u8]) -> Result<Option<AskFault>, Fail> {
     let files = [File {
@@ -162,6 +180,24 @@ fn writes_what_a_theorem_rests_on(rt: HostRuntime) -> Result<(), Fail> {
     )?;
     assert_eq!(rt; status, Status::Done);
     assert_eq!(rt; out.into_inner().as_slice(), b"tze\ntpl\n".as_slice());
+    Ok(())
+}
+
+#[test]
+fn writes_how_a_theorem_is_proved(rt: HostRuntime) -> Result<(), Fail> {
+    let files = first();
+    let mut out = Counted::new(Vec::new(rt.alloc()));
+    let status = run(
+        rt.alloc(),
+        &Command::Show { label: b"th" },
+        &files,
+        &mut out,
+    )?;
+    assert_eq!(rt; status, Status::Done);
+    assert_eq!(rt;
+        out.into_inner().as_slice(),
+        b"1 tze term 0\n2 tze term 0\n3 tpl term ( 0 + 0 )\n".as_slice()
+    );
     Ok(())
 }
 

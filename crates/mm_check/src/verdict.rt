@@ -10,7 +10,7 @@ ghost use Rattle.mm_check.specs.Verdict.{ObeyTheProfile, CanBeRead};
 ghost use Rattle.mm_check.specs.Verdict.{text_refusal as text_refusal_at};
 ghost use Rattle.mm_check.specs.Answer.{IsYes, IsOverLimit, IsWantOfMemory, IsVerdict};
 ghost use Rattle.mm_check.specs.Answer.{IsOnlyVerdict, KeepsLabels, KeepsCounts, KeepsUses};
-ghost use Rattle.mm_check.specs.Answer.{NamesFile, plain_refusal};
+ghost use Rattle.mm_check.specs.Answer.{KeepsFiles, NamesFile, plain_refusal};
 ghost use Rattle.mm_check.specs.Judged.{TakesNext, RefusesEnd, RefusesLoad, Knows, IsUnderWay};
 ghost use Rattle.mm_check.specs.Judged.{IsAtEnd, TellsVerdict};
 
@@ -141,11 +141,12 @@ fn judge_all<'a>(alloc: Global, files: &'a [File<'a>]) -> Result<Checked<'a>, Ch
     ensures labels { IfOk result (KeepsLabels (map plain_file files.now)) }
     ensures counts { IfOk result (KeepsCounts (map plain_file files.now)) }
     ensures uses { IfOk result (KeepsUses (map plain_file files.now)) }
+    ensures files { IfOk result (KeepsFiles (map plain_file files.now)) }
 {
     let mut statements = load(alloc, files)?;
     let mut progress = beginning(alloc)?;
     judge_rest(alloc, files, &mut statements, &mut progress)?;
-    Ok(Checked::new(progress))
+    Ok(Checked::new(files, progress))
 }
 
 /// Checks the database that the files hold; the first one is the top file.
@@ -178,6 +179,9 @@ pub fn check<'a>(alloc: Global, files: &'a [File<'a>]) -> Result<Checked<'a>, Ch
 
     // Of each complete proof the assertions of its tree are kept.
     ensures uses { IfOk result (KeepsUses (map plain_file files.now)) }
+
+    // So are the files, which questions read again.
+    ensures files { IfOk result (KeepsFiles (map plain_file files.now)) }
 
     // A refusal's file is one of those that were handed in.
     ensures file { NamesFile (map plain_file files.now) result }

@@ -2,6 +2,7 @@
 
 use crate::Part::Text;
 use crate::Row;
+use mm_check::Command::{self, Axioms, Show};
 
 /// The examples of `docs/LANGUAGE.md`.
 pub(crate) const LANGUAGE: [Row; 9] = [
@@ -691,4 +692,44 @@ pub(crate) const RULES: [Row; 69] = [
         reply: b"no f.mm 3 q P13 3\n",
         status: 1,
     },
+];
+
+/// The questions among these examples.
+pub(crate) const QUESTIONS: [(Command<'static>, Row); 3] = [
+    (
+        Axioms { label: b"b" },
+        Row {
+            name: "A1, in docs/RULES.md",
+            files: &[(
+                b"f.mm",
+                &[Text(b"$c a b $. one $a a $.\np $p a $= one $.\n")],
+            )],
+            reply: b"ask A1 b\n",
+            status: 1,
+        },
+    ),
+    (
+        Axioms { label: b"one" },
+        Row {
+            name: "A2, in docs/RULES.md",
+            files: &[(
+                b"f.mm",
+                &[Text(b"$c a b $. one $a a $.\np $p a $= one $.\n")],
+            )],
+            reply: b"ask A2 one\n",
+            status: 1,
+        },
+    ),
+    (
+        Show { label: b"p" },
+        Row {
+            name: "A3, in docs/RULES.md",
+            files: &[(
+                b"f.mm",
+                &[Text(b"$c a b $. one $a a $.\np $p a $= one ? $.\n")],
+            )],
+            reply: b"ask A3 p\n",
+            status: 3,
+        },
+    ),
 ];

@@ -21,6 +21,8 @@ mod orders;
 #[cfg(test)]
 mod proofs;
 #[cfg(test)]
+mod questions;
+#[cfg(test)]
 mod scopes;
 #[cfg(test)]
 mod tests;

@@ -3,7 +3,8 @@
 use crate::damaged::Span;
 use crate::databases::{DEMO, HEAD};
 use crate::{
-    Part, Row, compressed, damaged, examples, files, incomplete, one_file, orders, proofs, scopes,
+    Part, Row, compressed, damaged, examples, files, incomplete, one_file, orders, proofs,
+    questions, scopes,
 };
 use mm_check::{Command, check, run};
 use mm_text::{Counted, File, Statement, Statements};
@@ -28,16 +29,17 @@ fn joined(alloc: Global, parts: &[Part]) -> Result<Vec<u8>, Fail> {
     Ok(bytes)
 }
 
-/// What `check` replies to the files is this text, with this status.
+/// What a command replies to the files is this text, with this status.
 fn expect_reply(
     rt: &impl Abort,
     alloc: Global,
+    command: &Command,
     files: &[File<'_>],
     (reply, status): (&[u8], u8),
     name: &str,
 ) -> Result<(), Fail> {
     let mut out = Counted::new(Vec::new(alloc));
-    let answered = run(alloc, &Command::Check, files, &mut out)?;
+    let answered = run(alloc, command, files, &mut out)?;
     let written = out.into_inner();
     assert_eq!(rt;
         from_utf8(&written)?,
@@ -48,21 +50,45 @@ fn expect_reply(
     Ok(())
 }
 
-/// Runs the cases of a table, and compares the text and the status of each reply.
+/// Runs a case, and compares the text and the status of the reply.
+fn compare_case(rt: &impl Abort, alloc: Global, command: &Command, row: &Row) -> Result<(), Fail> {
+    let mut contents = Vec::new(alloc);
+    for (_, parts) in row.files {
+        contents.push(joined(alloc, parts)?)?;
+    }
+    let mut files = Vec::new(alloc);
+    for ((name, _), bytes) in row.files.iter().zip(contents.iter()) {
+        files.push(File {
+            name,
+            bytes: bytes.as_slice(),
+        })?;
+    }
+    expect_reply(
+        rt,
+        alloc,
+        command,
+        &files,
+        (row.reply, row.status),
+        row.name,
+    )
+}
+
+/// Runs the cases of a table of `check`.
 fn compare(rt: &impl Abort, alloc: Global, rows: &[Row]) -> Result<(), Fail> {
     for row in rows {
-        let mut contents = Vec::new(alloc);
-        for (_, parts) in row.files {
-            contents.push(joined(alloc, parts)?)?;
-        }
-        let mut files = Vec::new(alloc);
-        for ((name, _), bytes) in row.files.iter().zip(contents.iter()) {
-            files.push(File {
-                name,
-                bytes: bytes.as_slice(),
-            })?;
-        }
-        expect_reply(rt, alloc, &files, (row.reply, row.status), row.name)?;
+        compare_case(rt, alloc, &Command::Check, row)?;
+    }
+    Ok(())
+}
+
+/// Runs the cases of a table of questions.
+fn compare_questions(
+    rt: &impl Abort,
+    alloc: Global,
+    rows: &[(Command<'static>, Row)],
+) -> Result<(), Fail> {
+    for (command, row) in rows {
+        compare_case(rt, alloc, command, row)?;
     }
     Ok(())
 }
@@ -236,6 +262,41 @@ fn rules(rt: HostRuntime) -> Result<(), Fail> {
     compare(&rt, rt.alloc(), &examples::RULES)
 }
 
+#[test]
+fn questions_of_the_documents(rt: HostRuntime) -> Result<(), Fail> {
+    compare_questions(&rt, rt.alloc(), &examples::QUESTIONS)
+}
+
+#[test]
+fn axioms(rt: HostRuntime) -> Result<(), Fail> {
+    compare_questions(&rt, rt.alloc(), &questions::AXIOMS)
+}
+
+#[test]
+fn unproved_theorems(rt: HostRuntime) -> Result<(), Fail> {
+    compare_questions(&rt, rt.alloc(), &questions::UNPROVED)
+}
+
+#[test]
+fn unanswered_axioms(rt: HostRuntime) -> Result<(), Fail> {
+    compare_questions(&rt, rt.alloc(), &questions::AXIOMS_UNANSWERED)
+}
+
+#[test]
+fn steps_of_proofs(rt: HostRuntime) -> Result<(), Fail> {
+    compare_questions(&rt, rt.alloc(), &questions::STEPS)
+}
+
+#[test]
+fn unanswered_steps(rt: HostRuntime) -> Result<(), Fail> {
+    compare_questions(&rt, rt.alloc(), &questions::STEPS_UNANSWERED)
+}
+
+#[test]
+fn axioms_of_refused_files(rt: HostRuntime) -> Result<(), Fail> {
+    compare_questions(&rt, rt.alloc(), &questions::AXIOMS_REFUSED)
+}
+
 /// What is done to the byte in a place.
 #[derive(Clone, Copy)]
 enum Damage {
@@ -267,7 +328,8 @@ fn sweep(rt: &impl Abort, alloc: Global, damage: Damage, spans: &[Span]) -> Resu
                 bytes: bytes.as_slice(),
             }];
             let name = format!(in alloc; "place {place} damaged")?;
-            expect_reply(rt, alloc, &files, (reply, *status), name.as_str())?;
+            let wanted = (*reply, *status);
+            expect_reply(rt, alloc, &Command::Check, &files, wanted, name.as_str())?;
         }
     }
     Ok(())
@@ -337,6 +399,7 @@ fn ten_thousand_files(rt: HostRuntime) -> Result<(), Fail> {
     expect_reply(
         &rt,
         alloc,
+        &Command::Check,
         &files,
         (yes, 0),
         "files that include each other",

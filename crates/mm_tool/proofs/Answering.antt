@@ -2,9 +2,10 @@
 use Rattle.std.proofs.Common.{◌≡◌, ℕ, List, Option, Result, Ok, Err, IfOk, IfErr, OnErr, inl, inr, refl, sym, subst}
 use Rattle.mm_text.specs.declared.counted.Counted.{Counted}
 use Rattle.mm_check.specs.Status.{number_of}
+use Rattle.mm_check.specs.declared.command.Command.{Command}
 use Rattle.mm_check.specs.declared.status.Status.{Status}
-use Rattle.mm_tool.specs.Words.{AsksCheck}
-use Rattle.mm_tool.specs.Ending.{BreaksOff, Ends, AnswersWords, IsCheckReply, Stops, StopsCheck, TakesWhole}
+use Rattle.mm_tool.specs.Words.{AsksRun}
+use Rattle.mm_tool.specs.Ending.{BreaksOff, Ends, AnswersWords, IsReplyOver, Stops, StopsRun, TakesWhole}
 use Rattle.mm_tool.specs.declared.texts.Texts.{Texts}
 use Rattle.mm_tool.specs.declared.stop.Stop.{Stop}
 use Rattle.mm_tool.specs.declared.stop.Stop.TheVariants.{Usage, NotText, CannotRead, CannotWrite, Memory}
@@ -19,27 +20,27 @@ stops_answer contents holds may_fail texts max words (Err s) text status old new
     let Stopped : Stop → Type 0 = λ s. Stops contents holds may_fail texts max words s old new in
     subst Stopped (sym stop) (text, status, answers, broke)
 
--- The check that the words ask for answers them.
-pub answers_check : {O E : Type 0} (contents : O → Option (List ℕ)) (holds : List ℕ → Option (List ℕ)) (texts : Texts) (max : ℕ)
-    (words names : List (List ℕ)) (r : Result Status E) (old new : Counted O) → AsksCheck words names
-    → IfOk r (λ status. (text : List ℕ) × IsCheckReply holds names max text (number_of status) × TakesWhole contents text old new)
+-- The command that the words ask for answers them.
+pub answers_command : {O E : Type 0} (contents : O → Option (List ℕ)) (holds : List ℕ → Option (List ℕ)) (texts : Texts) (max : ℕ)
+    (words : List (List ℕ)) (command : Command) (names : List (List ℕ)) (r : Result Status E) (old new : Counted O) → AsksRun words command names
+    → IfOk r (λ status. (text : List ℕ) × IsReplyOver holds command names max text (number_of status) × TakesWhole contents text old new)
     → IfOk r (λ status. (text : List ℕ) × AnswersWords holds texts max words text (number_of status) × TakesWhole contents text old new)
-answers_check contents holds texts max words names (Ok status) old new asked (text, reply, taken) =
-    (text, inr (inr (inr (names, asked, reply))), taken)
-answers_check contents holds texts max words names (Err e) old new asked h = tt
+answers_command contents holds texts max words command names (Ok status) old new asked (text, reply, taken) =
+    (text, inr (inr (inr (command, names, asked, reply))), taken)
+answers_command contents holds texts max words command names (Err e) old new asked h = tt
 
--- Where that check ended without a reply, the words have no answer.
-pub stops_check : {O T : Type 0} (contents : O → Option (List ℕ)) (holds : List ℕ → Option (List ℕ)) (may_fail : List ℕ → Type 0)
-    (texts : Texts) (max : ℕ) (words names : List (List ℕ)) (r : Result T Stop) (old new : Counted O) → AsksCheck words names
-    → IfErr r (λ stop. StopsCheck contents holds may_fail names max stop old new)
+-- Where that command ended without a reply, the words have no answer.
+pub stops_command : {O T : Type 0} (contents : O → Option (List ℕ)) (holds : List ℕ → Option (List ℕ)) (may_fail : List ℕ → Type 0)
+    (texts : Texts) (max : ℕ) (words : List (List ℕ)) (command : Command) (names : List (List ℕ)) (r : Result T Stop) (old new : Counted O) → AsksRun words command names
+    → IfErr r (λ stop. StopsRun contents holds may_fail command names max stop old new)
     → IfErr r (λ stop. Stops contents holds may_fail texts max words stop old new)
-stops_check contents holds may_fail texts max words names (Ok v) old new asked h = tt
-stops_check contents holds may_fail texts max words names (Err (Usage text)) old new asked h = absurd h
-stops_check contents holds may_fail texts max words names (Err NotText) old new asked h = absurd h
-stops_check contents holds may_fail texts max words names (Err (CannotRead name)) old new asked h = (names, asked, h.0, h.1)
-stops_check contents holds may_fail texts max words names (Err CannotWrite) old new asked (text, status, reply, broke) =
-    (text, status, inr (inr (inr (names, asked, reply))), broke)
-stops_check contents holds may_fail texts max words names (Err Memory) old new asked h = h
+stops_command contents holds may_fail texts max words command names (Ok v) old new asked h = tt
+stops_command contents holds may_fail texts max words command names (Err (Usage text)) old new asked h = absurd h
+stops_command contents holds may_fail texts max words command names (Err NotText) old new asked h = absurd h
+stops_command contents holds may_fail texts max words command names (Err (CannotRead name)) old new asked h = (command, names, asked, h.0, h.1)
+stops_command contents holds may_fail texts max words command names (Err CannotWrite) old new asked (text, status, reply, broke) =
+    (text, status, inr (inr (inr (command, names, asked, reply))), broke)
+stops_command contents holds may_fail texts max words command names (Err Memory) old new asked h = h
 
 -- The words were answered, and standard error left alone.
 pub ends_answered : {O E : Type 0} (contents : O → Option (List ℕ)) (said : E → Option (List ℕ)) (holds : List ℕ → Option (List ℕ))

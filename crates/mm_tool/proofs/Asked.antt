@@ -1,6 +1,6 @@
 -- From what `clap` ensures of a parse to what the words ask for.
 use Rattle.std.proofs.Common.{◌≡◌, ◌≢◌, List, [], Option, Some, None, option_map, Result, Ok, Err, IfOk, IfErr, IsSome, IfSome, inl, inr, refl, ap, subst, sym, ◌∙◌, true, unwrap_or}
-use Rattle.clap.specs.Words.{App, HasKind, HasMatchesOf, IsAmong, Row, Text, all_of, fault_of, is_simple, is_simple_and_free, kind_of, matched_of, raw_values, rows_of, subcommand_name_of, subcommand_of, subcommand_rows_of}
+use Rattle.clap.specs.Words.{App, HasKind, HasMatchesOf, IsAmong, Row, Text, all_of, fault_of, first_of, first_value, is_simple, is_simple_and_free, kind_of, matched_of, raw_values, rows_of, subcommand_name_of, subcommand_of, subcommand_rows_of}
 use Rattle.clap.specs.declared.error.Error.{Error}
 use Rattle.clap.specs.declared.error.kind.ErrorKind.{ErrorKind}
 use Rattle.clap.specs.declared.error.kind.ErrorKind.TheVariants.{DisplayHelp, DisplayVersion, OutOfMemory}
@@ -8,10 +8,10 @@ use Rattle.clap.specs.declared.parser.matches.ArgMatches.{ArgMatches}
 use Rattle.clap.specs.declared.parser.matches.ArgMatches.TheViews.{out-ArgMatches}
 use Rattle.clap.specs.declared.parser.matches.Found.{Found}
 use Rattle.clap.proofs.OnLiterals.{clap_on_literals}
-use Rattle.clap.proofs.WalkLemmas.{raw_values-rows}
+use Rattle.clap.proofs.WalkLemmas.{first_value-rows, raw_values-rows}
 use Rattle.mm_tool.specs.Words.{Asks, Commands, IsAccepted, IsFaultOfKind, IsOfKind, IsWordFault, command_line}
 use Rattle.mm_tool.specs.declared.words.Request.{Request}
-use Rattle.mm_tool.specs.declared.words.Request.TheVariants.{Help, Version, Explain, Check}
+use Rattle.mm_tool.specs.declared.words.Request.TheVariants.{Help, Version, Explain, Run}
 use Rattle.mm_tool.specs.declared.stop.Stop.{Stop}
 use Rattle.mm_tool.specs.declared.stop.Stop.TheVariants.{Usage, NotText, CannotRead, CannotWrite, Memory}
 
@@ -29,6 +29,13 @@ pub values_are : (f : Found) (id : Text) (values : Option (List Text)) → value
 values_are f id values e =
     let given : Option (List Text) → List Text = λ o. unwrap_or o [] in
     ap given (e ∙ raw_values-rows f id)
+
+-- The first value of an argument is that of its row.
+pub value_is : (f : Found) (id : Text) (value : Option Text) → value ≡ first_value f id
+    → unwrap_or value [] ≡ unwrap_or (first_of id (rows_of f)) []
+value_is f id value e =
+    let given : Option Text → Text = λ o. unwrap_or o [] in
+    ap given (e ∙ first_value-rows f id)
 
 -- the kind of an error is wanting memory, or one of the faults of the words
 kind_among : (app : App) (words : List Text) (e : Error) → app ≡ command_line
@@ -52,7 +59,7 @@ pub request_asked : (app : App) (words : List Text) (e : Error) (r : Result Requ
 request_asked app words e (Ok Help) is kinds h = inl (among_faults words e DisplayHelp (kind_among app words e is kinds) h (λ same. absurd (cc)))
 request_asked app words e (Ok Version) is kinds h = among_faults words e DisplayVersion (kind_among app words e is kinds) h (λ same. absurd (cc))
 request_asked app words e (Ok (Explain asked)) is kinds h = absurd h
-request_asked app words e (Ok (Check names)) is kinds h = absurd h
+request_asked app words e (Ok (Run command names)) is kinds h = absurd h
 request_asked app words e (Err fault) is kinds h = h
 
 -- Else the words are refused, or memory was wanting.

@@ -1,5 +1,5 @@
 pub mod Answering
 pub mod Asked
-pub mod Checks
 pub mod FilesRead
+pub mod Runs
 pub mod Tellings

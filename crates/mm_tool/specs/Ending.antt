@@ -5,15 +5,16 @@ use Rattle.std.specs.Io.KnownBytes.{Appends}
 use Rattle.mm_text.specs.Files.{PlainFile, total_bytes}
 use Rattle.mm_text.specs.Device.{faults_of, inner_of, AppendsBeginning}
 use Rattle.mm_text.specs.declared.counted.Counted.{Counted}
-use Rattle.mm_check.specs.Reply.{IsReply}
+use Rattle.mm_check.specs.Reply.{IsReplyTo}
 use Rattle.mm_check.specs.Status.{number_of}
+use Rattle.mm_check.specs.declared.command.Command.{Command}
 use Rattle.mm_check.specs.declared.command.RunFault.{RunFault}
 use Rattle.mm_check.specs.declared.command.RunFault.TheVariants as run
 use Rattle.mm_check.specs.declared.status.Status.{Status}
 use Rattle.mm_check.specs.declared.status.Status.TheVariants as status
 use Rattle.clap.specs.Words.{Text}
 use Rattle.mm_tool.specs.Folder.{AreHeld, AreTooLong, IsUnreadable}
-use Rattle.mm_tool.specs.Words.{AsksHelp, AsksVersion, AsksExplain, AsksCheck, AreRefusedWords}
+use Rattle.mm_tool.specs.Words.{AsksHelp, AsksVersion, AsksExplain, AsksRun, AreRefusedWords}
 use Rattle.mm_tool.specs.declared.folder.ArgumentFault.{ArgumentFault}
 use Rattle.mm_tool.specs.declared.folder.ArgumentFault.TheVariants as argument
 use Rattle.mm_tool.specs.declared.texts.RuleText.{RuleText}
@@ -39,10 +40,10 @@ IsUntouched old new = (inner_of new ≡ inner_of old) × (faults_of new ≡ faul
 
 -- ---- answers
 
--- This is the reply to `check` over the files with these names, or the one that says that they hold too many bytes.
-abbrev pub IsCheckReply : (List ℕ → Option (List ℕ)) → List Text → ℕ → List ℕ → ℕ → Type 0
-IsCheckReply holds names max text status =
-    ((files : List PlainFile) × AreHeld holds names files × (total_bytes files ≤ max) × IsReply files text status)
+-- This is the reply to the command over the files with these names, or the one that says that they hold too many bytes.
+abbrev pub IsReplyOver : (List ℕ → Option (List ℕ)) → Command → List Text → ℕ → List ℕ → ℕ → Type 0
+IsReplyOver holds command names max text status =
+    ((files : List PlainFile) × AreHeld holds names files × (total_bytes files ≤ max) × IsReplyTo files command text status)
     ⊎ (AreTooLong holds names max × (text ≡ codes "load F3\n") × (status ≡ 4))
 
 -- This is the text of the rule with the asked code; where none is asked for, the list of the codes.
@@ -68,7 +69,8 @@ AnswersWords holds texts max words text status =
     (AsksHelp words × (text ≡ texts.help.now) × (status ≡ 0))
     ⊎ ((AsksVersion words × (text ≡ texts.version.now) × (status ≡ 0))
     ⊎ (((asked : List Text) × AsksExplain words asked × IsExplanation texts asked text × (status ≡ 0))
-    ⊎ ((names : List Text) × AsksCheck words names × IsCheckReply holds names max text status)))
+    ⊎ ((command : Command) × (names : List Text) × AsksRun words command names
+    × IsReplyOver holds command names max text status)))
 
 -- ---- ends without an answer
 
@@ -98,14 +100,15 @@ error_line (CannotRead name) = codes "mm: cannot read " ++ (name.now ++ codes "\
 error_line CannotWrite = codes "mm: cannot write\n"
 error_line Memory = codes "mm: out of memory\n"
 
--- The check of the files with these names ended so, and that is what standard output shows of it.
-abbrev pub StopsCheck : {O : Type 0} → (O → Option (List ℕ)) → (List ℕ → Option (List ℕ)) → (List ℕ → Type 0) → List Text → ℕ
+-- The command over the files with these names ended so, and that is what standard output shows of it.
+abbrev pub StopsRun : {O : Type 0} → (O → Option (List ℕ)) → (List ℕ → Option (List ℕ)) → (List ℕ → Type 0) → Command → List Text → ℕ
     → Stop → Counted O → Counted O → Type 0
-StopsCheck contents holds may_fail names max (CannotRead name) old new = IsUnreadable holds may_fail names max name.now × IsUntouched old new
-StopsCheck contents holds may_fail names max CannotWrite old new =
-    (text : List ℕ) × (status : ℕ) × IsCheckReply holds names max text status × BreaksOff contents text old new
-StopsCheck contents holds may_fail names max Memory old new = IsUntouched old new
-StopsCheck contents holds may_fail names max other old new = ⊥
+StopsRun contents holds may_fail command names max (CannotRead name) old new =
+    IsUnreadable holds may_fail names max name.now × IsUntouched old new
+StopsRun contents holds may_fail command names max CannotWrite old new =
+    (text : List ℕ) × (status : ℕ) × IsReplyOver holds command names max text status × BreaksOff contents text old new
+StopsRun contents holds may_fail command names max Memory old new = IsUntouched old new
+StopsRun contents holds may_fail command names max other old new = ⊥
 
 -- The words have no answer, and that is what standard output shows of it.
 abbrev pub Stops : {O : Type 0} → (O → Option (List ℕ)) → (List ℕ → Option (List ℕ)) → (List ℕ → Type 0) → Texts → ℕ → List Text
@@ -114,7 +117,8 @@ Stops contents holds may_fail texts max words (Usage text) old new =
     (AreRefusedWords words ⊎ ((asked : List Text) × AsksExplain words asked × IsUnknownCode texts asked)) × IsUntouched old new
 Stops contents holds may_fail texts max words NotText old new = ⊥
 Stops contents holds may_fail texts max words (CannotRead name) old new =
-    (names : List Text) × AsksCheck words names × IsUnreadable holds may_fail names max name.now × IsUntouched old new
+    (command : Command) × (names : List Text) × AsksRun words command names × IsUnreadable holds may_fail names max name.now
+    × IsUntouched old new
 Stops contents holds may_fail texts max words CannotWrite old new =
     (text : List ℕ) × (status : ℕ) × AnswersWords holds texts max words text status × BreaksOff contents text old new
 Stops contents holds may_fail texts max words Memory old new = IsUntouched old new

@@ -2,12 +2,14 @@
 -- the program's name.
 use Rattle.std.specs.Prelude.{◌≡◌, ◌≢◌, List, [], map, Some, true, codes, unwrap_or, ◌⊎◌}
 use Rattle.clap.specs.Lexer.{usize_max}
-use Rattle.clap.specs.Words.{App, Row, Rule, Text, IsAmong, all_of, fault_of, new_app, new_rule, subcommand_of, with_rule, with_subcommand}
-use Rattle.clap.specs.declared.builder.action.ArgAction.TheVariants.{Append}
+use Rattle.clap.specs.Words.{App, Row, Rule, Text, IsAmong, all_of, fault_of, first_of, new_app, new_rule, subcommand_of, with_rule, with_subcommand}
+use Rattle.clap.specs.declared.builder.action.ArgAction.TheVariants.{Append, Set}
 use Rattle.clap.specs.declared.error.kind.ErrorKind.{ErrorKind}
 use Rattle.clap.specs.declared.error.kind.ErrorKind.TheVariants.{DisplayHelp, DisplayVersion, OutOfMemory}
+use Rattle.mm_check.specs.declared.command.Command.{Command}
+use Rattle.mm_check.specs.declared.command.Command.TheVariants.{Check, Axioms, Show}
 use Rattle.mm_tool.specs.declared.words.Request.{Request}
-use Rattle.mm_tool.specs.declared.words.Request.TheVariants.{Help, Version, Explain, Check}
+use Rattle.mm_tool.specs.declared.words.Request.TheVariants.{Help, Version, Explain, Run}
 use Rattle.mm_tool.specs.declared.stop.Stop.{Stop}
 use Rattle.mm_tool.specs.declared.stop.Stop.TheVariants as stop
 
@@ -17,6 +19,13 @@ files_rule = record (new_rule (codes "FILES")) {
   required = true;
   range = Some (record { start_inclusive = 1; end_inclusive = usize_max });
   action = Some Append;
+}
+
+-- `LABEL`: one
+abbrev pub label_rule : Rule
+label_rule = record (new_rule (codes "LABEL")) {
+  required = true;
+  action = Some Set;
 }
 
 -- `[CODE]`: at most one
@@ -29,6 +38,18 @@ code_rule = record (new_rule (codes "CODE")) {
 -- `check FILES..`
 abbrev pub check_line : App
 check_line = with_rule (new_app (codes "check")) files_rule
+
+-- a question about the theorem with a label: the command's name, and then `LABEL FILES..`
+abbrev pub question_line : Text → App
+question_line name = with_rule (with_rule (new_app name) label_rule) files_rule
+
+-- `axioms LABEL FILES..`
+abbrev pub axioms_line : App
+axioms_line = question_line (codes "axioms")
+
+-- `show LABEL FILES..`
+abbrev pub show_line : App
+show_line = question_line (codes "show")
 
 -- `explain [CODE]`
 abbrev pub explain_line : App
@@ -48,9 +69,14 @@ bare_line = record (new_app (codes "mm")) {
   };
 }
 
--- `mm check FILES..`, `mm explain [CODE]`, `mm help`, `mm --version`, and everywhere `--help`
+-- the commands that ask something of a database
+abbrev pub database_line : App
+database_line = with_subcommand (with_subcommand (with_subcommand bare_line check_line.top) axioms_line.top) show_line.top
+
+-- `mm check FILES..`, `mm axioms LABEL FILES..`, `mm show LABEL FILES..`, `mm explain [CODE]`, `mm help`, `mm --version`, and
+-- everywhere `--help`
 abbrev pub command_line : App
-command_line = with_subcommand (with_subcommand (with_subcommand bare_line check_line.top) explain_line.top) help_line.top
+command_line = with_subcommand (with_subcommand database_line explain_line.top) help_line.top
 
 -- The words are accepted.
 abbrev pub IsAccepted : List Text → Type 0
@@ -78,12 +104,24 @@ abbrev pub AsksCheck : List Text → List Text → Type 0
 AsksCheck words names =
     (rows : List Row) × Commands words (codes "check") rows × (unwrap_or (all_of (codes "FILES") rows) [] ≡ names)
 
+-- They ask, by the command with this name, about the theorem with this label in the files with these names.
+abbrev pub AsksQuestion : Text → List Text → Text → List Text → Type 0
+AsksQuestion name words label names =
+    (rows : List Row) × Commands words name rows × (unwrap_or (first_of (codes "LABEL") rows) [] ≡ label)
+    × (unwrap_or (all_of (codes "FILES") rows) [] ≡ names)
+
+-- They ask to run this command over the files with these names.
+abbrev pub AsksRun : List Text → Command → List Text → Type 0
+AsksRun words Check names = AsksCheck words names
+AsksRun words (Axioms label) names = AsksQuestion (codes "axioms") words label.now names
+AsksRun words (Show label) names = AsksQuestion (codes "show") words label.now names
+
 -- They ask for what the request says.
 abbrev pub Asks : List Text → Request → Type 0
 Asks words Help = AsksHelp words
 Asks words Version = AsksVersion words
 Asks words (Explain asked) = AsksExplain words (map (λ code. code.now) asked.items)
-Asks words (Check names) = AsksCheck words (map (λ name. name.now) names.items)
+Asks words (Run command names) = AsksRun words command (map (λ name. name.now) names.items)
 
 -- The words are refused, by a fault that is no wish for help or for the version.
 abbrev pub IsFaulty : List Text → Type 0
@@ -93,7 +131,8 @@ IsFaulty words =
 -- They are accepted, but name no command.
 abbrev pub NamesNoCommand : List Text → Type 0
 NamesNoCommand words =
-    (rows : List Row) → ¬ Commands words (codes "check") rows × ¬ Commands words (codes "explain") rows × ¬ Commands words (codes "help") rows
+    (rows : List Row) → ¬ Commands words (codes "check") rows × ¬ Commands words (codes "axioms") rows
+    × ¬ Commands words (codes "show") rows × ¬ Commands words (codes "explain") rows × ¬ Commands words (codes "help") rows
 
 -- The words aren't understood.
 abbrev pub AreRefusedWords : List Text → Type 0

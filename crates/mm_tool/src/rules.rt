@@ -61,6 +61,9 @@ P12: a pair of variables, one from each of these replacements, isn't an active p
 L1: a step pushes an expression of more than 1,048,576 symbols, its type code counted.
 P13: at the end the stack doesn't hold exactly one entry.
 P14: that entry differs from the expression of the `$p`.
+A1: no statement has the asked label.
+A2: the asked label isn't that of a `$p`, but of an axiom or a hypothesis.
+A3: the proof of the asked `$p` is incomplete.
 ";
 
 pub(crate) const RULES: &[RuleText<'static>] = &[
@@ -771,6 +774,42 @@ This file breaks it:
 
 The reply:
     no f.mm 2 p P14 2
+",
+    },
+    RuleText {
+        code: "A1",
+        text: "A1: no statement has the asked label. Symbols aren't labels.
+
+A file:
+    $c a b $. one $a a $.
+    p $p a $= one $.
+
+The reply to `mm axioms b f.mm`:
+    ask A1 b
+",
+    },
+    RuleText {
+        code: "A2",
+        text: "A2: the asked label isn't that of a `$p`, but of an axiom or a hypothesis.
+
+A file:
+    $c a b $. one $a a $.
+    p $p a $= one $.
+
+The reply to `mm axioms one f.mm`:
+    ask A2 one
+",
+    },
+    RuleText {
+        code: "A3",
+        text: "A3: the proof of the asked `$p` is incomplete.
+
+A file:
+    $c a b $. one $a a $.
+    p $p a $= one ? $.
+
+The reply to `mm show p f.mm`:
+    ask A3 p
 ",
     },
 ];

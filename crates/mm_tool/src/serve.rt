@@ -6,9 +6,9 @@ ghost use Rattle.std.specs.List.{AllByRecursion};
 ghost use Rattle.mm_text.specs.Device.{faults_of, inner_of};
 ghost use Rattle.mm_text.specs.Files.{plain_file};
 ghost use Rattle.mm_check.specs.Status.{number_of};
-ghost use Rattle.mm_tool.specs.Ending.{BreaksOff, Ends, EndsUnread, AnswersWords, IsCheckReply};
+ghost use Rattle.mm_tool.specs.Ending.{BreaksOff, Ends, EndsUnread, AnswersWords, IsReplyOver};
 ghost use Rattle.mm_tool.specs.Ending.{IsExplanation, IsUnknownCode, IsExplanationFault, Stops};
-ghost use Rattle.mm_tool.specs.Ending.{StopsCheck, TakesWhole, TellsLine, error_line, stop_status};
+ghost use Rattle.mm_tool.specs.Ending.{StopsRun, TakesWhole, TellsLine, error_line, stop_status};
 ghost use Rattle.mm_tool.specs.Folder.{plain_read};
 ghost use Rattle.mm_tool.specs.declared.stop.Stop.TheVariants.{CannotWrite};
 
@@ -65,27 +65,29 @@ fn plain_files<'f>(alloc: Global, files: &'f [ReadFile<'_>]) -> Result<Vec<File<
     Ok(plain)
 }
 
-/// Checks the database in the files with these names, which may hold at most `max` bytes in all,
-/// and writes the reply.
+/// Runs a command over the database in the files with these names, which may hold at most `max`
+/// bytes in all, and writes the reply.
 ///
 /// # Errors
 ///
 /// `CannotRead` where a file can't be opened or read; `CannotWrite` where standard output failed,
 /// after a beginning of the reply; `Memory` where a growth was refused, and then nothing is
 /// written.
-pub(crate) fn check<'a, F: Folder, O: Write>(
+pub(crate) fn run_over<'a, F: Folder, O: Write>(
     alloc: Global,
     folder: &F,
+    command: &Command<'_>,
     names: &[&'a str],
     max: usize,
     out: &mut Counted<O>,
 ) -> Result<Status, Stop<'a>>
     requires { faults_of out.old < u64.MAX }
-    ensures replies { IfOk result (λ status. (text : _) × IsCheckReply (F.holds folder.now)
-        (map (λ name. name.now) names.now) max text (number_of status)
+    ensures replies { IfOk result (λ status. (text : _) × IsReplyOver (F.holds folder.now)
+        command.now (map (λ name. name.now) names.now) max text (number_of status)
         × TakesWhole O.contents text out.old out.new) }
-    ensures stops { IfErr result (λ stop. StopsCheck O.contents (F.holds folder.now)
-        (F.may_fail folder.now) (map (λ name. name.now) names.now) max stop out.old out.new) }
+    ensures stops { IfErr result (λ stop. StopsRun O.contents (F.holds folder.now)
+        (F.may_fail folder.now) command.now
+        (map (λ name. name.now) names.now) max stop out.old out.new) }
 {
     let files = match read_files(alloc, folder, names, max) {
         Ok(files) => files,
@@ -94,7 +96,7 @@ pub(crate) fn check<'a, F: Folder, O: Write>(
         Err(FileFault::Memory) => return Err(Stop::Memory),
     };
     let files = plain_files(alloc, &files)?;
-    Ok(run(alloc, &Command::Check, &files, out)?)
+    Ok(run(alloc, command, &files, out)?)
 }
 
 /// The rule with this code.
@@ -181,7 +183,9 @@ fn answer<'a, F: Folder, O: Write>(
             let text = explanation(alloc, texts, &asked)?;
             reply(out, text.as_bytes(), Status::Done)
         }
-        Request::Check(names) => check(alloc, folder, &names, BYTE_LIMIT, out),
+        Request::Run { command, names } => {
+            run_over(alloc, folder, &command, &names, BYTE_LIMIT, out)
+        }
     }
 }
 
@@ -248,10 +252,10 @@ pub(crate) fn tell<E: Write>(stop: &Stop<'_>, err: &mut Counted<E>) -> Status
 /// the folder, writes the answer to standard output, or why there is none to standard error, and
 /// gives back the status with which the program ends:
 ///
-/// - 0: the reply is yes, or help, the version or an explanation was asked for;
-/// - 1: the reply is no;
+/// - 0: the reply is yes, or what was asked for: axioms, steps, help, the version or an explanation;
+/// - 1: the reply is no, or the asked label isn't that of a theorem;
 /// - 2: the words aren't understood;
-/// - 3: a proof is incomplete;
+/// - 3: a proof is incomplete, in the database or among those that are asked about;
 /// - 4: a file, a device, a limit or memory stood in the way.
 ///
 /// It stops writing to either device at that one's first failed call. A failing standard error

@@ -2,11 +2,11 @@
 
 mod folder;
 
-use crate::serve::{check, serve, tell};
+use crate::serve::{run_over, serve, tell};
 use crate::stop::Stop;
 use crate::texts::TEXTS;
 use folder::{Entry, Full, Shelf};
-use mm_check::Status;
+use mm_check::{Command, Status};
 use mm_text::Counted;
 use std::alloc::Global;
 use std::test::Fail;
@@ -52,6 +52,10 @@ fn tells_the_usage(rt: HostRuntime) -> Result<(), Fail> {
     let no_command: [&str; 1] = ["mm"];
     let unknown = ["mm", "prove", "first.mm"];
     let no_file = ["mm", "check"];
+    let no_label = ["mm", "axioms"];
+    let no_label_to_show = ["mm", "show"];
+    let label_alone = ["mm", "axioms", "th"];
+    let label_with_a_hyphen = ["mm", "axioms", "-th", "first.mm"];
     let unknown_option = ["mm", "check", "--strict", "first.mm"];
     let name_with_a_hyphen = ["mm", "check", "-x.mm"];
     let unknown_topic = ["mm", "help", "nonsense"];
@@ -61,6 +65,10 @@ fn tells_the_usage(rt: HostRuntime) -> Result<(), Fail> {
         no_command.as_slice(),
         unknown.as_slice(),
         no_file.as_slice(),
+        no_label.as_slice(),
+        no_label_to_show.as_slice(),
+        label_alone.as_slice(),
+        label_with_a_hyphen.as_slice(),
         unknown_option.as_slice(),
         name_with_a_hyphen.as_slice(),
         unknown_topic.as_slice(),
@@ -83,6 +91,8 @@ fn prints_help_and_the_version(rt: HostRuntime) {
         ["mm", "-h"].as_slice(),
         ["mm", "help"].as_slice(),
         ["mm", "check", "--help"].as_slice(),
+        ["mm", "axioms", "--help"].as_slice(),
+        ["mm", "show", "-h"].as_slice(),
         ["mm", "explain", "-h"].as_slice(),
     ] {
         let (status, out, err) = outcome_of(rt.alloc(), words);
@@ -188,6 +198,50 @@ fn replies(rt: HostRuntime) {
     assert!(rt; err.is_empty());
 }
 
+// What a question is replied, and its status.
+fn answer_to(alloc: Global, words: &[&str]) -> Result<(String, u8), Fail> {
+    let (status, out, _) = outcome_of(alloc, words);
+    Ok((String::from_utf8(out)?, status))
+}
+
+#[test]
+fn lists_axioms(rt: HostRuntime) -> Result<(), Fail> {
+    let (text, status) = answer_to(rt.alloc(), &["mm", "axioms", "th", "first.mm"])?;
+    assert_eq!(rt; text.as_str(), "tze\ntpl\n");
+    assert_eq!(rt; status, 0);
+    Ok(())
+}
+
+#[test]
+fn lists_steps(rt: HostRuntime) -> Result<(), Fail> {
+    let (text, status) = answer_to(rt.alloc(), &["mm", "show", "th", "first.mm"])?;
+    assert_eq!(rt;
+        text.as_str(),
+        "1 tze term 0\n2 tze term 0\n3 tpl term ( 0 + 0 )\n"
+    );
+    assert_eq!(rt; status, 0);
+    Ok(())
+}
+
+#[test]
+fn takes_each_word_for_a_label(rt: HostRuntime) -> Result<(), Fail> {
+    for label in ["-", "", "check", "--help"] {
+        let (text, status) = answer_to(rt.alloc(), &["mm", "axioms", "--", label, "first.mm"])?;
+        let line = format!(in rt.alloc(); "ask A1 {label}\n")?;
+        assert_eq!(rt; text.as_str(), line.as_str());
+        assert_eq!(rt; status, 1);
+    }
+    Ok(())
+}
+
+#[test]
+fn takes_a_hyphen_for_a_label(rt: HostRuntime) -> Result<(), Fail> {
+    let (text, status) = answer_to(rt.alloc(), &["mm", "axioms", "-", "first.mm"])?;
+    assert_eq!(rt; text.as_str(), "ask A1 -\n");
+    assert_eq!(rt; status, 1);
+    Ok(())
+}
+
 // The first two files have eight bytes, and the last one isn't there.
 #[test]
 fn refuses_files_that_are_too_long(rt: HostRuntime) {
@@ -195,12 +249,12 @@ fn refuses_files_that_are_too_long(rt: HostRuntime) {
     let folder = Shelf(&entries);
     let names = ["four.mm", "four.mm", "none.mm"];
     let mut out = Counted::new(Vec::new(rt.alloc()));
-    let answer = check(rt.alloc(), &folder, &names, 7, &mut out);
+    let answer = run_over(rt.alloc(), &folder, &Command::Check, &names, 7, &mut out);
     assert_eq!(rt; answer.ok(), Some(Status::Stopped));
     assert!(rt; out.into_inner().as_slice() == b"load F3\n".as_slice());
 
     let mut out = Counted::new(Vec::new(rt.alloc()));
-    let answer = check(rt.alloc(), &folder, &names, 8, &mut out);
+    let answer = run_over(rt.alloc(), &folder, &Command::Check, &names, 8, &mut out);
     assert!(rt; answer.is_err());
     assert!(rt; out.into_inner().is_empty());
 }
@@ -223,7 +277,17 @@ fn fails_with_standard_output(rt: HostRuntime) {
         );
     }
     let mut out = Counted::new(Full);
-    assert!(rt; check(rt.alloc(), &folder, &["four.mm"], 3, &mut out).is_err());
+    assert!(rt;
+        run_over(
+            rt.alloc(),
+            &folder,
+            &Command::Check,
+            &["four.mm"],
+            3,
+            &mut out
+        )
+        .is_err()
+    );
 }
 
 #[test]

@@ -25,11 +25,15 @@ const HELP: &str = "Verifies databases of the Metamath language.
 Usage: mm <COMMAND>
 
 Commands:
-  check FILES..    checks each statement and each proof of a database; the top file comes first,
-                   then the files that are included, each under the very name that stands in its
-                   `$[ NAME $]`
-  explain [CODE]   says what the rule with this code is; without a code, lists all codes
-  help             prints this help, as does --help
+  check FILES..          checks each statement and each proof of a database; the top file comes
+                         first, then the files that are included, each under the very name that
+                         stands in its `$[ NAME $]`
+  axioms LABEL FILES..   checks the database, and lists the axioms that the theorem with this
+                         label rests on
+  show LABEL FILES..     checks the database, and lists the steps of the proof of the theorem with
+                         this label
+  explain [CODE]         says what the rule with this code is; without a code, lists all codes
+  help                   prints this help, as does --help
 
 Options:
   -V, --version    prints the version, and the kit that the program is proved with
@@ -51,17 +55,38 @@ Replies of check, on standard output:
   load F3
       The files hold more than 1073741824 bytes in all. Status 4.
 
+Replies of axioms, on standard output:
+  LABEL, one on each line
+      The axioms that the theorem rests on, in the order of the database. Status 0.
+  ? LABEL, one on each line, after the axioms
+      The theorems that it rests on and whose proofs hold a `?`. Status 3.
+
+Reply of show, on standard output:
+  STEP NAME EXPRESSION, one on each line
+      A step of the proof: its number, from 1; the label that it names, or @N where it repeats the
+      expression of step N; and the symbols of its expression. Status 0.
+
+Other replies of axioms and show: that of check, where it is no, limit or load; and
+  ask A1 LABEL
+      No statement has this label. Status 1.
+  ask A2 LABEL
+      It is the label of a hypothesis or of an axiom. Status 1.
+  ask A3 LABEL
+      The proof of this theorem holds a `?`. Status 3.
+
 Statuses:
-  0  yes; or help, the version or an explanation was asked for
-  1  no: a statement is at fault
+  0  yes; or axioms or steps; or help, the version or an explanation was asked for
+  1  no: a statement is at fault; or the label is not that of a theorem
   2  the words are not understood
-  3  incomplete: a proof is unfinished
+  3  incomplete: a proof is unfinished, in the database or among those that are asked about
   4  a file, a device, a limit or memory stood in the way
 
 Where there is no reply, a line on standard error says why.
 
 Examples:
   mm check set.mm
+  mm axioms id set.mm
+  mm show id set.mm
   mm explain P8
 ";
 

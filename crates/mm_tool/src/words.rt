@@ -1,11 +1,12 @@
 //! What the program is asked by its words.
 
-ghost use Rattle.std.specs.Prelude.{◌≡◌, [], map, IfOk, IfErr, false, unwrap_or};
-ghost use Rattle.clap.specs.Words.{all_of, app_of, found_of, kind_of, rows_of, rule_of};
+ghost use Rattle.std.specs.Prelude.{◌≡◌, [], map, IfOk, IfErr, codes, false, unwrap_or};
+ghost use Rattle.clap.specs.Words.{all_of, app_of, first_of, found_of, kind_of, rows_of, rule_of};
 ghost use Rattle.clap.specs.declared.builder.command.Command.TheViews.{out-Command};
-ghost use Rattle.mm_tool.specs.Words.{Asks, IsOfKind, IsFaultOfKind, IsWordFault, bare_line};
-ghost use Rattle.mm_tool.specs.Words.{check_line, code_rule, command_line, explain_line};
-ghost use Rattle.mm_tool.specs.Words.{files_rule, help_line};
+ghost use Rattle.mm_tool.specs.Words.{Asks, IsOfKind, IsFaultOfKind, IsWordFault, axioms_line};
+ghost use Rattle.mm_tool.specs.Words.{bare_line, check_line, code_rule, command_line};
+ghost use Rattle.mm_tool.specs.Words.{database_line, explain_line, files_rule, help_line};
+ghost use Rattle.mm_tool.specs.Words.{label_rule, question_line, show_line};
 
 use crate::stop::Stop;
 use clap::error::ErrorKind;
@@ -16,11 +17,17 @@ const PROGRAM: &str = "mm";
 
 const CHECK: &str = "check";
 
+const AXIOMS: &str = "axioms";
+
+const SHOW: &str = "show";
+
 const EXPLAIN: &str = "explain";
 
 const HELP: &str = "help";
 
 const FILES: &str = "FILES";
+
+const LABEL: &str = "LABEL";
 
 const CODE: &str = "CODE";
 
@@ -33,8 +40,11 @@ pub(crate) enum Request<'a> {
     Version,
     /// To explain the rule with this code, or to list all codes.
     Explain(Vec<&'a str>),
-    /// To check the database in the files with these names, the top file first.
-    Check(Vec<&'a str>),
+    /// To run this command over the database in the files with these names, the top file first.
+    Run {
+        command: mm_check::Command<'a>,
+        names: Vec<&'a str>,
+    },
 }
 
 /// The names of the files, for `clap`.
@@ -46,6 +56,14 @@ fn files_argument<'a>(alloc: Global) -> Arg<'a>
         .required(true)
         .num_args(1..)
         .action(ArgAction::Append)
+}
+
+/// The label of a theorem, for `clap`.
+fn label_argument<'a>(alloc: Global) -> Arg<'a>
+    ensures rule { rule_of result ≡ label_rule }
+    ensures local { result.global ≡ false }
+{
+    Arg::new(alloc, LABEL).required(true).action(ArgAction::Set)
 }
 
 /// The code of a rule, for `clap`.
@@ -66,6 +84,37 @@ fn check_command<'a>(alloc: Global) -> Result<Command<'a>, AllocError>
     Command::new(alloc, CHECK)
         .about("checks each statement and each proof of a database")
         .arg(files_argument(alloc))
+}
+
+/// A command that asks about the theorem with a label, for `clap`.
+fn question_command<'a>(
+    alloc: Global,
+    name: &'a str,
+    about: &'a str,
+) -> Result<Command<'a>, AllocError>
+    ensures shape { IfOk result (λ command. app_of command ≡ question_line name.entry.now) }
+    ensures local { IfOk result (λ command. (out-Command command).has_globals ≡ false) }
+{
+    Command::new(alloc, name)
+        .about(about)
+        .arg(label_argument(alloc))?
+        .arg(files_argument(alloc))
+}
+
+/// The command `axioms`, for `clap`.
+fn axioms_command<'a>(alloc: Global) -> Result<Command<'a>, AllocError>
+    ensures shape { IfOk result (λ command. app_of command ≡ axioms_line) }
+    ensures local { IfOk result (λ command. (out-Command command).has_globals ≡ false) }
+{
+    question_command(alloc, AXIOMS, "lists the axioms that a theorem rests on")
+}
+
+/// The command `show`, for `clap`.
+fn show_command<'a>(alloc: Global) -> Result<Command<'a>, AllocError>
+    ensures shape { IfOk result (λ command. app_of command ≡ show_line) }
+    ensures local { IfOk result (λ command. (out-Command command).has_globals ≡ false) }
+{
+    question_command(alloc, SHOW, "lists the steps of the proof of a theorem")
 }
 
 /// The command `explain`, for `clap`.
@@ -99,12 +148,22 @@ fn bare_command<'a>(alloc: Global) -> Result<Command<'a>, AllocError>
         .bin_name(PROGRAM)
 }
 
+/// The program's command line with the commands that ask something of a database, for `clap`.
+fn database_command<'a>(alloc: Global) -> Result<Command<'a>, AllocError>
+    ensures shape { IfOk result (λ command. app_of command ≡ database_line) }
+    ensures local { IfOk result (λ command. (out-Command command).has_globals ≡ false) }
+{
+    bare_command(alloc)?
+        .subcommand(check_command(alloc)?)?
+        .subcommand(axioms_command(alloc)?)?
+        .subcommand(show_command(alloc)?)
+}
+
 /// The program's command line, for `clap`.
 fn whole_command<'a>(alloc: Global) -> Result<Command<'a>, AllocError>
     ensures { IfOk result (λ command. app_of command ≡ command_line) }
 {
-    bare_command(alloc)?
-        .subcommand(check_command(alloc)?)?
+    database_command(alloc)?
         .subcommand(explain_command(alloc)?)?
         .subcommand(help_command(alloc))
 }
@@ -138,6 +197,17 @@ fn values_of<'a>(
     }
 }
 
+/// The label that is asked for, in the matches of a command.
+fn asked_label<'a>(command: &ArgMatches<'a>) -> &'a str
+    ensures { result.now ≡ unwrap_or (first_of (codes "LABEL")
+        (rows_of (found_of command.now))) [] }
+{
+    match command.get_str(LABEL) {
+        Some(label) => label,
+        None => "",
+    }
+}
+
 /// Reads the words, of which the first is the program's name.
 ///
 /// # Errors
@@ -153,7 +223,26 @@ pub(crate) fn request_of<'a>(alloc: Global, words: &'a [&'a str]) -> Result<Requ
         Err(error) => return request_of_error(alloc, &error),
     };
     if let Some(check) = matches.subcommand_matches(CHECK) {
-        return Ok(Request::Check(values_of(alloc, check, FILES)?));
+        return Ok(Request::Run {
+            command: mm_check::Command::Check,
+            names: values_of(alloc, check, FILES)?,
+        });
+    }
+    if let Some(axioms) = matches.subcommand_matches(AXIOMS) {
+        return Ok(Request::Run {
+            command: mm_check::Command::Axioms {
+                label: asked_label(axioms).as_bytes(),
+            },
+            names: values_of(alloc, axioms, FILES)?,
+        });
+    }
+    if let Some(show) = matches.subcommand_matches(SHOW) {
+        return Ok(Request::Run {
+            command: mm_check::Command::Show {
+                label: asked_label(show).as_bytes(),
+            },
+            names: values_of(alloc, show, FILES)?,
+        });
     }
     if let Some(explain) = matches.subcommand_matches(EXPLAIN) {
         return Ok(Request::Explain(values_of(alloc, explain, CODE)?));

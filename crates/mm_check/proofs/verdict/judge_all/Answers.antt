@@ -15,7 +15,8 @@ judge_rest-requires c =
 
 pub new-requires : goal.new-requires
 new-requires c =
-    kept_well (map plain_file c.args.files.now) c.judge_rest.new.progress c.judge_rest.new.statements c.in_ok-judge_rest.ensures.done.way
+    let end : IsAtEnd (map plain_file c.args.files.now) c.judge_rest.new.progress c.judge_rest.new.statements = c.in_ok-judge_rest.ensures.done in
+    kept_well (map plain_file c.args.files.now) c.judge_rest.new.progress c.judge_rest.new.statements end.way end.none end.ending
 
 pub returns-in_err-judge_rest-clause-verdict : goal.returns-in_err-judge_rest-clause-verdict
 returns-in_err-judge_rest-clause-verdict c =

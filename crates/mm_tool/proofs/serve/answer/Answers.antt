@@ -1,8 +1,8 @@
 -- The words are answered by the request that they make.
 use Rattle.std.proofs.Common.{ℕ, List, Bor, map, inl, inr, refl, subst, sym}
 use Rattle.mm_tool.specs.Ending.{IsExplanation}
-use Rattle.mm_tool.specs.Words.{Asks, AsksCheck, AsksExplain}
-use Rattle.mm_tool.proofs.Answering.{answers_check, stops_answer, stops_check}
+use Rattle.mm_tool.specs.Words.{Asks, AsksExplain, AsksRun}
+use Rattle.mm_tool.proofs.Answering.{answers_command, stops_answer, stops_command}
 use Rattle.mm_tool.proofs.serve.answer.Goals as goal
 
 pub returns-in_ok-text-in-Explain-clause-stops : goal.returns-in_ok-text-in-Explain-clause-stops
@@ -18,18 +18,18 @@ returns-in_ok-text-in-Explain-clause-stops g c =
     c.reply-in-Explain.result c.as_bytes-in-Explain.result.now 0 _ _ c.reply-in-Explain.ensures.stop c.reply-in-Explain.ensures.beginning
     (inr (inr (inl (_, here, explains, refl))))
 
-pub returns-in-Check-clause-answers : goal.returns-in-Check-clause-answers
-returns-in-Check-clause-answers g c =
+pub returns-in-Run-clause-answers : goal.returns-in-Run-clause-answers
+returns-in-Run-clause-answers g c =
     let words : List (List ℕ) = map (λ word. word.now) c.args.words.now in
-    let Named : List (Bor (List ℕ)) → Type 0 = λ names. AsksCheck words (map (λ name. name.now) names) in
-    let asked : Named c.in-Check.names.items = subst (Asks words) c.in-Check.is c.in_ok-request_of.ensures.request in
-    answers_check g.O.Write.contents (g.F.Folder.holds c.args.folder.now) c.args.texts.now _ words _ c.check.result _ _
-    (subst Named (sym c.deref-in-Check.ensures.value) asked) c.check.ensures.replies
+    let Named : List (Bor (List ℕ)) → Type 0 = λ names. AsksRun words c.in-Run.command (map (λ name. name.now) names) in
+    let asked : Named c.in-Run.names.items = subst (Asks words) c.in-Run.is c.in_ok-request_of.ensures.request in
+    answers_command g.O.Write.contents (g.F.Folder.holds c.args.folder.now) c.args.texts.now _ words c.in-Run.command _ c.run_over.result _ _
+    (subst Named (sym c.deref-in-Run.ensures.value) asked) c.run_over.ensures.replies
 
-pub returns-in-Check-clause-stops : goal.returns-in-Check-clause-stops
-returns-in-Check-clause-stops g c =
+pub returns-in-Run-clause-stops : goal.returns-in-Run-clause-stops
+returns-in-Run-clause-stops g c =
     let words : List (List ℕ) = map (λ word. word.now) c.args.words.now in
-    let Named : List (Bor (List ℕ)) → Type 0 = λ names. AsksCheck words (map (λ name. name.now) names) in
-    let asked : Named c.in-Check.names.items = subst (Asks words) c.in-Check.is c.in_ok-request_of.ensures.request in
-    stops_check g.O.Write.contents (g.F.Folder.holds c.args.folder.now) (g.F.Folder.may_fail c.args.folder.now) c.args.texts.now _ words _
-    c.check.result _ _ (subst Named (sym c.deref-in-Check.ensures.value) asked) c.check.ensures.stops
+    let Named : List (Bor (List ℕ)) → Type 0 = λ names. AsksRun words c.in-Run.command (map (λ name. name.now) names) in
+    let asked : Named c.in-Run.names.items = subst (Asks words) c.in-Run.is c.in_ok-request_of.ensures.request in
+    stops_command g.O.Write.contents (g.F.Folder.holds c.args.folder.now) (g.F.Folder.may_fail c.args.folder.now) c.args.texts.now _ words
+    c.in-Run.command _ c.run_over.result _ _ (subst Named (sym c.deref-in-Run.ensures.value) asked) c.run_over.ensures.stops

@@ -1,21 +1,21 @@
--- What `read_files`, `reply` and `run` say of their failing is what is said of the check.
+-- What `read_files`, `reply` and `run` say of their failing is what is said of the command over the files.
 use Rattle.std.proofs.Common.{map, ap, ◌∙◌, subst}
 use Rattle.mm_text.specs.Files.{plain_file}
 use Rattle.mm_tool.specs.Folder.{IsFileFault, plain_read}
 use Rattle.mm_tool.specs.declared.files.FileFault.{FileFault}
-use Rattle.mm_tool.proofs.Checks.{stops_at_run, stops_too_long}
-use Rattle.mm_tool.proofs.serve.check.Goals as goal
+use Rattle.mm_tool.proofs.Runs.{stops_at_run, stops_too_long}
+use Rattle.mm_tool.proofs.serve.run_over.Goals as goal
 
 pub returns-in-Err-TooLong-clause-stops : goal.returns-in-Err-TooLong-clause-stops
 returns-in-Err-TooLong-clause-stops g c =
     let Fault : FileFault → Type 0 = λ fault. IsFileFault (g.F.Folder.holds c.args.folder.now) (g.F.Folder.may_fail c.args.folder.now)
     (map (λ n. n.now) c.args.names.now) c.args.max fault in
-    stops_too_long g.O.Write.contents (g.F.Folder.holds c.args.folder.now) (g.F.Folder.may_fail c.args.folder.now) _ c.args.max c.reply.result
+    stops_too_long g.O.Write.contents (g.F.Folder.holds c.args.folder.now) (g.F.Folder.may_fail c.args.folder.now) c.args.command.now _ c.args.max c.reply.result
     _ _ c.reply.ensures.stop c.reply.ensures.beginning (subst Fault c.in-Err-TooLong.field-0-is c.in-Err-TooLong.ensures.fault)
 
 pub returns-in_err-run-clause-stops : goal.returns-in_err-run-clause-stops
 returns-in_err-run-clause-stops g c =
-    stops_at_run g.O.Write.contents (g.F.Folder.holds c.args.folder.now) (g.F.Folder.may_fail c.args.folder.now) _ c.args.max
+    stops_at_run g.O.Write.contents (g.F.Folder.holds c.args.folder.now) (g.F.Folder.may_fail c.args.folder.now) c.args.command.now _ c.args.max
     c.from_residual-in_err-run.result c.in_err-run.field-0.0 (map plain_file c.deref-2.result.now) (map plain_read c.in-Ok.files.items) _ _
     c.from_residual-in_err-run.ensures.1
     (ap (map plain_file) c.deref-2.ensures.value ∙ c.in_ok-files.ensures ∙ ap (map plain_read) c.deref.ensures.value)

@@ -1,26 +1,27 @@
--- How a check ends, from how its parts end.
+-- How a command over files ends, from how its parts end.
 use Rattle.std.proofs.Common.{◌≡◌, ℕ, List, codes, Option, Result, Ok, Err, IfErr, IsErrAnd, IsErrOf, OnErr, ◌+◌, ◌≤◌, inl, inr, refl, sym, subst}
 use Rattle.mm_text.specs.declared.counted.Counted.{Counted}
 use Rattle.mm_text.specs.Device.{faults_of, inner_of}
 use Rattle.mm_text.specs.Files.{PlainFile, total_bytes}
-use Rattle.mm_check.specs.Reply.{WritesBeginning}
+use Rattle.mm_check.specs.Reply.{WritesBeginningOf}
+use Rattle.mm_check.specs.declared.command.Command.{Command}
 use Rattle.mm_check.specs.declared.command.RunFault.{RunFault}
 use Rattle.mm_check.specs.declared.command.RunFault.TheVariants as run
 use Rattle.mm_check.specs.declared.status.Status.{Status}
 use Rattle.mm_tool.proofs.FilesRead.{error_keeps}
 use Rattle.mm_tool.specs.Folder.{AreHeld, AreTooLong}
-use Rattle.mm_tool.specs.Ending.{BreaksOff, StopsCheck, stop_of}
+use Rattle.mm_tool.specs.Ending.{BreaksOff, StopsRun, stop_of}
 use Rattle.mm_tool.specs.declared.stop.Stop.{Stop}
 use Rattle.mm_tool.specs.declared.stop.Stop.TheVariants.{CannotWrite}
 
 -- The line that the files hold too many bytes broke off.
 pub stops_too_long : {O T : Type 0} (contents : O → Option (List ℕ)) (holds : List ℕ → Option (List ℕ)) (may_fail : List ℕ → Type 0)
-    (names : List (List ℕ)) (max : ℕ) (r : Result T Stop) (old new : Counted O)
+    (command : Command) (names : List (List ℕ)) (max : ℕ) (r : Result T Stop) (old new : Counted O)
     → IfErr r (λ stop. stop ≡ CannotWrite) → OnErr r (BreaksOff contents (codes "load F3\n") old new) → AreTooLong holds names max
-    → IfErr r (λ stop. StopsCheck contents holds may_fail names max stop old new)
-stops_too_long contents holds may_fail names max (Ok v) old new stop broke long = tt
-stops_too_long contents holds may_fail names max (Err s) old new stop broke long =
-    let Stopped : Stop → Type 0 = λ s. StopsCheck contents holds may_fail names max s old new in
+    → IfErr r (λ stop. StopsRun contents holds may_fail command names max stop old new)
+stops_too_long contents holds may_fail command names max (Ok v) old new stop broke long = tt
+stops_too_long contents holds may_fail command names max (Err s) old new stop broke long =
+    let Stopped : Stop → Type 0 = λ s. StopsRun contents holds may_fail command names max s old new in
     subst Stopped (sym stop) (codes "load F3\n", 4, inr (long, refl, refl), broke)
 
 abbrev run_error : RunFault → Result Status RunFault
@@ -28,28 +29,28 @@ run_error fault = Err fault
 
 -- The reply over the files that were read broke off, or memory for it was wanting.
 stops_run : {O : Type 0} (contents : O → Option (List ℕ)) (holds : List ℕ → Option (List ℕ)) (may_fail : List ℕ → Type 0)
-    (names : List (List ℕ)) (max : ℕ) (fault : RunFault) (files : List PlainFile) (old new : Counted O)
+    (command : Command) (names : List (List ℕ)) (max : ℕ) (fault : RunFault) (files : List PlainFile) (old new : Counted O)
     → AreHeld holds names files → total_bytes files ≤ max
-    → (IsErrOf (run_error fault) run.Device → WritesBeginning files (contents (inner_of old)) (contents (inner_of new)))
+    → (IsErrOf (run_error fault) run.Device → WritesBeginningOf files command (contents (inner_of old)) (contents (inner_of new)))
     → (IsErrOf (run_error fault) run.Memory → inner_of new ≡ inner_of old)
     → (IsErrOf (run_error fault) run.Device → faults_of new ≡ faults_of old + 1)
     → ((IsErrOf (run_error fault) run.Device → ⊥) → faults_of new ≡ faults_of old)
-    → StopsCheck contents holds may_fail names max (stop_of fault) old new
-stops_run contents holds may_fail names max run.Device files old new held within device memory counted uncounted =
+    → StopsRun contents holds may_fail command names max (stop_of fault) old new
+stops_run contents holds may_fail command names max run.Device files old new held within device memory counted uncounted =
     let (text, status, reply, beginning) = device refl in
     (text, status, inl (files, held, within, reply), (beginning, counted refl))
-stops_run contents holds may_fail names max run.Memory files old new held within device memory counted uncounted =
+stops_run contents holds may_fail command names max run.Memory files old new held within device memory counted uncounted =
     (memory refl, uncounted (λ other. absurd (cc)))
 
 pub stops_at_run : {O T : Type 0} (contents : O → Option (List ℕ)) (holds : List ℕ → Option (List ℕ)) (may_fail : List ℕ → Type 0)
-    (names : List (List ℕ)) (max : ℕ) (r : Result T Stop) (fault : RunFault) (given files : List PlainFile) (old new : Counted O)
+    (command : Command) (names : List (List ℕ)) (max : ℕ) (r : Result T Stop) (fault : RunFault) (given files : List PlainFile) (old new : Counted O)
     → IsErrAnd r (λ stop. stop ≡ stop_of fault) → given ≡ files → AreHeld holds names files → total_bytes files ≤ max
-    → (IsErrOf (run_error fault) run.Device → WritesBeginning given (contents (inner_of old)) (contents (inner_of new)))
+    → (IsErrOf (run_error fault) run.Device → WritesBeginningOf given command (contents (inner_of old)) (contents (inner_of new)))
     → (IsErrOf (run_error fault) run.Memory → inner_of new ≡ inner_of old)
     → (IsErrOf (run_error fault) run.Device → faults_of new ≡ faults_of old + 1)
     → ((IsErrOf (run_error fault) run.Device → ⊥) → faults_of new ≡ faults_of old)
-    → IfErr r (λ stop. StopsCheck contents holds may_fail names max stop old new)
-stops_at_run contents holds may_fail names max r fault given files old new is same held within device memory counted uncounted =
-    let Begins : List PlainFile → Type 0 = λ list. WritesBeginning list (contents (inner_of old)) (contents (inner_of new)) in
-    error_keeps r (stop_of fault) (λ stop. StopsCheck contents holds may_fail names max stop old new) is
-    (stops_run contents holds may_fail names max fault files old new held within (λ e. subst Begins same (device e)) memory counted uncounted)
+    → IfErr r (λ stop. StopsRun contents holds may_fail command names max stop old new)
+stops_at_run contents holds may_fail command names max r fault given files old new is same held within device memory counted uncounted =
+    let Begins : List PlainFile → Type 0 = λ list. WritesBeginningOf list command (contents (inner_of old)) (contents (inner_of new)) in
+    error_keeps r (stop_of fault) (λ stop. StopsRun contents holds may_fail command names max stop old new) is
+    (stops_run contents holds may_fail command names max fault files old new held within (λ e. subst Begins same (device e)) memory counted uncounted)

@@ -1,0 +1,196 @@
+-- Statements of the files, read again, are those that were judged.
+use Rattle.std.proofs.Common.{◌≡◌, ℕ, zero, suc, ◌≤◌, List, [], ◌∷◌, ◌++◌, map, take, drop, length, sum_by, slice_get, Bool, true, false, not, ◌&&◌, Option, Some, None, Result, Ok, Err, IsErrAnd, IfErr, refl, sym, ap, subst, ◌∙◌, arith}
+use Rattle.std.proofs.lemmas.List.Sums.{sum_by-cons}
+use Rattle.mm_text.specs.declared.statement.Kind.{Kind}
+use Rattle.mm_text.specs.declared.statement.Kind.TheVariants.{Provable}
+use Rattle.mm_text.specs.Token.{PlainToken}
+use Rattle.mm_text.specs.Statement.{PlainStatement, bytes_in}
+use Rattle.mm_text.specs.Files.{PlainFile}
+use Rattle.mm_text.specs.Reading.{PlainFault, Reads}
+use Rattle.mm_text.specs.Remaining.{Remaining}
+use Rattle.mm_text.proofs.FormedLaws.{readings_fit}
+use Rattle.mm_text.proofs.ReaderLaws.{each_has_one_reading}
+use Rattle.mm_frame.specs.Sentence.{Sentence, sentence_of, IsLabelled}
+use Rattle.mm_frame.specs.Rules.{AllMeant}
+use Rattle.mm_frame.proofs.Meant.{parts_at, one_label}
+use Rattle.mm_proof.specs.Proof.{IsProvedWithin, IsWithin, expression_limit}
+use Rattle.mm_check.specs.Conclusion.{Conclusion}
+use Rattle.mm_check.specs.Verdict.{AllObey, AreAccepted, CanBeRead, sentences, proof_of, is_proof, is_provable, is_incomplete}
+use Rattle.mm_check.specs.Answer.{IsKeptOf}
+use Rattle.mm_check.specs.Judged.{TakesNext}
+use Rattle.mm_check.specs.Marks.{IsKeptFrom}
+use Rattle.mm_check.specs.Rests.{IsAt, IsNamed}
+use Rattle.mm_check.specs.Shown.{Stands, IsListingText, IsShown}
+use Rattle.mm_check.specs.CodeShown.{IsSought, IsProofOf, IsTextFor}
+use Rattle.mm_check.proofs.Judging.{incomplete_is}
+use Rattle.mm_check.proofs.OnTheWay.{within_limit}
+use Rattle.mm_check.proofs.Asked.{map-take}
+
+-- ---- up to a statement with a label
+
+-- among one statement more
+stands_after : (s : PlainStatement) (statements : List PlainStatement) (label : List ℕ) (t : PlainStatement) → Stands statements label t → Stands (s ∷ statements) label t
+stands_after s statements label t (place, there, named) = (suc place, there, named)
+
+stands_first : (s : PlainStatement) (statements : List PlainStatement) (label : List ℕ) → IsLabelled label (sentence_of s) → Stands (s ∷ statements) label s
+stands_first s statements label named = (0, refl, named)
+
+stands_later : (s : PlainStatement) (statements : List PlainStatement) (label : List ℕ) (t : PlainStatement) → ¬ (IsLabelled label (sentence_of s)) → Stands (s ∷ statements) label t → Stands statements label t
+stands_later s statements label t other (zero, there, named) =
+    let same : s ≡ t = cc in absurd (other (subst (λ (u : PlainStatement). IsLabelled label (sentence_of u)) (sym same) named))
+stands_later s statements label t other (suc place, there, named) = (place, there, named)
+
+no_stand : (label : List ℕ) (t : PlainStatement) → ¬ (Stands [] label t)
+no_stand label t (place, there, named) = cc
+
+pub sought_start : (label : List ℕ) (first : Remaining) → first.ending ≡ None → (s : PlainStatement) × Stands first.statements label s → IsSought label first first
+sought_start label first faultless some = record { faultless = faultless; some = some; within = λ s h. h }
+
+pub sought_on : (label : List ℕ) (first old new : Remaining) (s : PlainStatement) → IsSought label first old → TakesNext old true s new → ¬ (IsLabelled label (sentence_of s)) → IsSought label first new
+sought_on label first old new s sought taken other =
+    let here : Stands (s ∷ new.statements) label sought.some.0 =
+    subst (λ (ss : List PlainStatement). Stands ss label sought.some.0) taken.0 sought.some.1 in
+    record {
+      faultless = ap (λ (r : Remaining). r.ending) taken.1 ∙ sought.faultless;
+      some = (sought.some.0, stands_later s new.statements label sought.some.0 other here);
+      within = λ t h. sought.within t (subst (λ (ss : List PlainStatement). Stands ss label t) (sym taken.0) (stands_after s new.statements label t h));
+    }
+
+pub sought_found : (label : List ℕ) (first old new : Remaining) (s : PlainStatement) → IsSought label first old → TakesNext old true s new → IsLabelled label (sentence_of s) → Stands first.statements label s
+sought_found label first old new s sought taken named =
+    sought.within s (subst (λ (ss : List PlainStatement). Stands ss label s) (sym taken.0) (stands_first s new.statements label named))
+
+pub sought_end : (label : List ℕ) (first old new : Remaining) (s : PlainStatement) → IsSought label first old → TakesNext old false s new → ⊥
+sought_end label first old new s sought taken =
+    no_stand label sought.some.0 (subst (λ (ss : List PlainStatement). Stands ss label sought.some.0) taken.0 sought.some.1)
+
+-- ---- the reading is one
+
+pub same_reading : (files : List PlainFile) (a b : List PlainStatement) (c d : Option PlainFault) → Reads files a c → Reads files b d → (a ≡ b) × (c ≡ d)
+same_reading files a b c d one other =
+    let law = each_has_one_reading files in
+    let x = law.only a c one in
+    let y = law.only b d other in
+    (x.0 ∙ sym y.0, x.1 ∙ sym y.1)
+
+-- ---- the theorem
+
+-- the statements of the files, of which this is kept
+pub record AreOf (c : Conclusion) (statements : List PlainStatement) : Type 0 where
+  pub accepted : AreAccepted c.files statements
+  pub kept : IsKeptOf statements c
+
+pub own_statements : (c : Conclusion) (o : IsKeptFrom c.files c.sentences c.incomplete c.uses) → AreOf c o.statements
+own_statements c o =
+    record { accepted = o.accepted; kept = record { sentences = o.sentences; incomplete = o.incomplete; uses = o.uses } }
+
+pub read_statements : (c : Conclusion) (statements : List PlainStatement) → IsKeptFrom c.files c.sentences c.incomplete c.uses → Reads c.files statements None → AreOf c statements
+read_statements c statements o reads =
+    subst (λ (ss : List PlainStatement). AreOf c ss) (same_reading c.files o.statements statements None None o.accepted.reads reads).0 (own_statements c o)
+
+said_there : (statements : List PlainStatement) (place : ℕ) (s : PlainStatement) → slice_get statements place ≡ Some s → slice_get (sentences statements) place ≡ Some (sentence_of s)
+said_there [] place s e = absurd cc
+said_there (t ∷ statements) zero s e = let same : t ≡ s = cc in ap (λ (u : PlainStatement). Some (sentence_of u)) same
+said_there (t ∷ statements) (suc place) s e = said_there statements place s e
+
+-- one statement has the label
+pub one_stands : (statements : List PlainStatement) (label : List ℕ) (place : ℕ) (s t : PlainStatement) → AllMeant (sentences statements)
+    → slice_get statements place ≡ Some s → IsLabelled label (sentence_of s) → Stands statements label t → t ≡ s
+one_stands statements label place s t all there named (other, at, labelled) =
+    let same : other ≡ place =
+    one_label (sentences statements) label other place (sentence_of t) (sentence_of s) all (said_there statements other t at) (said_there statements place s there) labelled named in
+    let here : slice_get statements place ≡ Some t = subst (λ (n : ℕ). slice_get statements n ≡ Some t) same at in
+    cc
+
+provable_kind : (kind : Kind) (rest : Bool) → (is_provable kind && rest) ≡ true → kind ≡ Provable
+provable_kind Provable rest e = refl
+provable_kind kind rest e = absurd cc
+
+complete_test : (a b : Bool) → (a && not b) ≡ true → b ≡ true → ⊥
+complete_test true b e f = cc
+complete_test false b e f = cc
+
+-- the proof of a theorem that obeys the rules
+pub proof_stands : (statements : List PlainStatement) (id place : ℕ) (s : PlainStatement) → AllObey statements → IsAt statements id place s → is_proof s ≡ true
+    → IsProofOf (sentences statements) id (proof_of s)
+proof_stands statements id place s obeyed at complete =
+    let parted : statements ≡ take place statements ++ s ∷ drop (suc place) statements = parts_at statements place s at.there in
+    let proved : IsProvedWithin (IsWithin expression_limit) (sentences (take place statements)) (sentence_of s) (proof_of s) =
+    (obeyed (take place statements) (drop (suc place) statements) s parted).proved complete in
+    record {
+      place = place;
+      s = sentence_of s;
+      number = record { numbered = at.numbered; provable = provable_kind s.kind (not (is_incomplete (proof_of s))) complete };
+      complete = λ h. complete_test (is_provable s.kind) (is_incomplete (proof_of s)) complete (incomplete_is (proof_of s) h);
+      proved = subst (λ (ss : List Sentence). IsProvedWithin (IsWithin expression_limit) ss (sentence_of s) (proof_of s)) (map-take place statements) proved;
+    }
+
+-- ---- room for its tokens
+
+texts_bytes : (tokens : List PlainToken) → sum_by length (map (λ (t : PlainToken). t.text) tokens) ≡ sum_by (λ (t : PlainToken). length t.text) tokens
+texts_bytes [] = refl
+texts_bytes (t ∷ tokens) = omega (arith, texts_bytes tokens, sum_by-cons (length {A = ℕ}) t.text (map (λ (u : PlainToken). u.text) tokens), sum_by-cons (λ (u : PlainToken). length u.text) t tokens)
+
+bytes_within : (statements : List PlainStatement) (place : ℕ) (s : PlainStatement) → slice_get statements place ≡ Some s → bytes_in s ≤ sum_by bytes_in statements
+bytes_within [] place s e = absurd cc
+bytes_within (t ∷ statements) zero s e = let same : t ≡ s = cc in omega (arith, ap bytes_in same, sum_by-cons bytes_in t statements)
+bytes_within (t ∷ statements) (suc place) s e = omega (arith, bytes_within statements place s e, sum_by-cons bytes_in t statements)
+
+pub proof_fits : (files : List PlainFile) (statements : List PlainStatement) (place : ℕ) (s : PlainStatement) → CanBeRead files → Reads files statements None
+    → slice_get statements place ≡ Some s → sum_by length (proof_of s) ≤ 1073741824
+proof_fits files statements place s readable reads there =
+    omega (arith, texts_bytes s.proof, bytes_within statements place s there, readings_fit files statements None reads, within_limit files readable)
+
+-- ---- what is shown
+
+-- a theorem stands under its label
+pub named_stands : (statements : List PlainStatement) (label : List ℕ) (id : ℕ) → IsNamed statements label (λ s. is_proof s ≡ true) id → (s : PlainStatement) × Stands statements label s
+named_stands statements label id (place, s, at, both) = (s, (place, at.there, both.0))
+
+-- what stands under the theorem's label is the theorem
+found_again : (statements : List PlainStatement) (label : List ℕ) (id : ℕ) (t : PlainStatement) → AllMeant (sentences statements)
+    → (named : IsNamed statements label (λ s. is_proof s ≡ true) id) → Stands statements label t → t ≡ named.1
+found_again statements label id t all (place, s, at, both) stands = one_stands statements label place s t all at.there both.0 stands
+
+-- its tokens are its proof
+pub shown_proof : (c : Conclusion) (statements : List PlainStatement) (label : List ℕ) (id : ℕ) (t : PlainStatement) → AreOf c statements → AllMeant c.sentences
+    → IsNamed statements label (λ s. is_proof s ≡ true) id → Stands statements label t → IsProofOf c.sentences id (proof_of t)
+shown_proof c statements label id t of all named stands =
+    let meant : AllMeant (sentences statements) = subst AllMeant of.kept.sentences all in
+    let same : t ≡ named.1 = found_again statements label id t meant named stands in
+    let proof : IsProofOf (sentences statements) id (proof_of named.1) =
+    proof_stands statements id named.0 named.1 of.accepted.obeyed named.2 named.3.1 in
+    subst (λ (ss : List Sentence). IsProofOf ss id (proof_of t)) (sym of.kept.sentences)
+    (subst (λ (s : PlainStatement). IsProofOf (sentences statements) id (proof_of s)) (sym same) proof)
+
+-- and there is room for them
+pub shown_room : (c : Conclusion) (statements : List PlainStatement) (label : List ℕ) (t : PlainStatement) → AreOf c statements → Stands statements label t
+    → sum_by length (proof_of t) ≤ 1073741824
+shown_room c statements label t of (place, there, named) = proof_fits c.files statements place t of.accepted.readable of.accepted.reads there
+
+-- the text is that of the listing
+pub shown_text : (c : Conclusion) (statements : List PlainStatement) (label : List ℕ) (id : ℕ) (t : PlainStatement) (text : List ℕ) → AreOf c statements → AllMeant c.sentences
+    → IsNamed statements label (λ s. is_proof s ≡ true) id → Stands statements label t → IsTextFor c.sentences id (proof_of t) text → IsShown statements label text
+shown_text c statements label id t text of all named stands laid =
+    let meant : AllMeant (sentences statements) = subst AllMeant of.kept.sentences all in
+    let s : PlainStatement = named.1 in
+    let same : t ≡ s = found_again statements label id t meant named stands in
+    let here : IsTextFor (sentences statements) id (proof_of s) text =
+    subst (λ (u : PlainStatement). IsTextFor (sentences statements) id (proof_of u) text) same
+    (subst (λ (ss : List Sentence). IsTextFor ss id (proof_of t) text) of.kept.sentences laid) in
+    let listed : IsListingText (take named.0 (sentences statements)) (sentence_of s) (proof_of s) text =
+    here named.0 (sentence_of s)
+    (record { numbered = named.2.numbered; provable = provable_kind s.kind (not (is_incomplete (proof_of s))) named.3.1 }) in
+    record {
+      place = named.0;
+      s = s;
+      there = named.2.there;
+      named = named.3.0;
+      complete = named.3.1;
+      shown = subst (λ (ss : List Sentence). IsListingText ss (sentence_of s) (proof_of s) text) (sym (map-take named.0 statements)) listed;
+    }
+
+-- what holds of a fault that is passed on
+pub passed_on : {X E : Type 0} (result : Result X E) (fault : E) (Q : E → Type 0) → IsErrAnd result (λ e. e ≡ fault) → Q fault → IfErr result Q
+passed_on (Ok x) fault Q same q = absurd same
+passed_on (Err e) fault Q same q = subst Q (sym same) q

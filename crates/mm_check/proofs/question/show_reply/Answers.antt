@@ -1,0 +1,35 @@
+-- The files are refused, or the question is answered over their statements.
+use Rattle.std.proofs.Common.{◌≡◌, List, map, None, IfSome}
+use Rattle.mm_text.specs.Statement.{PlainStatement}
+use Rattle.mm_text.specs.Files.{PlainFile, plain_file}
+use Rattle.mm_text.specs.Reading.{Reads}
+use Rattle.mm_check.specs.declared.question.Reply.{Reply}
+use Rattle.mm_check.specs.Conclusion.{Conclusion}
+use Rattle.mm_check.specs.Status.{number_of}
+use Rattle.mm_check.specs.Answer.{verdict_of_answer, KeepsFiles}
+use Rattle.mm_check.specs.Reply.{IsShowReply, IsQuestionReply, Tells, status_of}
+use Rattle.mm_check.proofs.Replies.{made, made_both, at_ok, question_read, question_refused}
+use Rattle.mm_check.proofs.question.show_reply.Goals as goal
+
+pub returns-in-Ok : goal.returns-in-Ok
+returns-in-Ok c =
+    let files : List PlainFile = map plain_file c.args.files.now in
+    let kept : Conclusion = c.in-Ok.checked in
+    made c.show_answer.result
+    (λ (reply : Reply). (statements : List PlainStatement) → Reads kept.files statements None
+    → IsShowReply c.args.label.now statements reply.text.items (number_of reply.status))
+    (λ (reply : Reply). IsQuestionReply files (IsShowReply c.args.label.now) reply.text.items (number_of reply.status))
+    (λ reply answers. question_read files c.check-answer.result kept (IsShowReply c.args.label.now) reply.text.items (number_of reply.status)
+    c.in-Ok.is c.check-answer.ensures.verdict (at_ok c.check-answer.result kept (KeepsFiles files) c.in-Ok.is c.check-answer.ensures.files) answers)
+    c.show_answer.ensures
+
+pub returns : goal.returns
+returns c =
+    let files : List PlainFile = map plain_file c.args.files.now in
+    made_both c.verdict_reply.result
+    (λ (reply : Reply). Tells files c.check-answer.result reply.text.items)
+    (λ (reply : Reply). IfSome (verdict_of_answer c.check-answer.result) (λ verdict. number_of reply.status ≡ status_of verdict))
+    (λ (reply : Reply). IsQuestionReply files (IsShowReply c.args.label.now) reply.text.items (number_of reply.status))
+    (λ reply said ends. question_refused files c.check-answer.result c.in-Err.field-0 (IsShowReply c.args.label.now) reply.text.items (number_of reply.status)
+    c.in-Err.is c.check-answer.ensures.verdict said ends)
+    c.verdict_reply.ensures.text c.verdict_reply.ensures.status

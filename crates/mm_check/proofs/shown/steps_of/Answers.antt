@@ -1,0 +1,16 @@
+-- The proof is complete, and breaks no rule over the whole of it.
+use Rattle.std.proofs.Common.{Ok, Err, ap, ◌∙◌}
+use Rattle.mm_check.proofs.shown.steps_of.Goals as goal
+
+pub unreachable-requires : goal.unreachable-requires
+unreachable-requires c = c.requires.proof.complete (c.parse.ensures.incomplete (c.in-Ok-Incomplete.is ∙ ap Ok c.in-Ok-Incomplete.field-0-is))
+
+pub unreachable-requires-in-Err-Rule : goal.unreachable-requires-in-Err-Rule
+unreachable-requires-in-Err-Rule c =
+    let rule = c.in-Err-Rule.field-0-0 in
+    let fault = c.parse.ensures.fault rule c.in-Err-Rule.field-0-1 (c.in-Err-Rule.is ∙ ap Err c.in-Err-Rule.field-0-is)
+    c.requires.proof.place c.requires.proof.s c.requires.proof.number in
+    c.requires.proof.proved.whole rule fault.1.broken
+
+pub returns-in-Ok-Steps-clause-said : goal.returns-in-Ok-Steps-clause-said
+returns-in-Ok-Steps-clause-said c = c.parse.ensures.steps c.in-Ok-Steps.steps (c.in-Ok-Steps.is ∙ ap Ok c.in-Ok-Steps.field-0-is)

@@ -1,0 +1,53 @@
+-- The text of the listing of a theorem's proof.
+use Rattle.std.specs.Prelude.{◌≡◌, ℕ, ◌+◌, List, [], ◌∷◌, ◌++◌, take, slice_get, true, Some, codes, decimal}
+use Rattle.std.specs.List.{flat_map}
+use Rattle.mm_text.specs.Statement.{PlainStatement}
+use Rattle.mm_frame.specs.Sentence.{Sentence, sentence_of, IsLabelled}
+use Rattle.mm_proof.specs.Moves.{Move}
+use Rattle.mm_proof.specs.Tokens.{SayMoves}
+use Rattle.mm_proof.specs.Listing.{StepName, by_label, by_step, ListedStep, AreListed}
+use Rattle.mm_check.specs.Verdict.{proof_of, is_proof, sentences}
+
+-- what a step is called: its label; or `@` and the number of the step after which its tag stands
+abbrev pub name_text : StepName → List ℕ
+name_text (by_label label) = label
+name_text (by_step number) = codes "@" ++ decimal number
+
+-- a space and the symbol, for each symbol
+abbrev pub symbols_text : List (List ℕ) → List ℕ
+symbols_text symbols = flat_map (λ symbol. codes " " ++ symbol) symbols
+
+-- the line of a step with a number: the number, the name, and the symbols of the expression that the step pushes
+abbrev pub step_text : ℕ → ListedStep → List ℕ
+step_text number step =
+    decimal number ++ codes " " ++ name_text step.called ++ symbols_text step.expression ++ codes "\n"
+
+-- the lines of steps, the first of which has this number
+abbrev pub steps_text : ℕ → List ListedStep → List ℕ
+steps_text number [] = []
+steps_text number (step ∷ steps) = step_text number step ++ steps_text (number + 1) steps
+
+-- the text of a listing: its steps are numbered from 1 on
+abbrev pub listing_text : List ListedStep → List ℕ
+listing_text steps = steps_text 1 steps
+
+-- the text is that of the listing of the moves that the tokens say, as a proof of a `$p` after the statements before it
+pub record IsListingText (before : List Sentence) (s : Sentence) (tokens : List (List ℕ)) (text : List ℕ) : Type 0 where
+  pub moves : List (Move (List ℕ))
+  pub told : SayMoves before s tokens moves
+  pub steps : List ListedStep
+  pub listed : AreListed before moves steps
+  pub laid : text ≡ listing_text steps
+
+-- a statement with this label
+abbrev pub Stands : List PlainStatement → List ℕ → PlainStatement → Type 0
+Stands statements label s = (place : ℕ) × (slice_get statements place ≡ Some s) × IsLabelled label (sentence_of s)
+
+-- the text is that of the listing of the proof of the theorem with the label, which is complete
+pub record IsShown (statements : List PlainStatement) (label : List ℕ) (text : List ℕ) : Type 0 where
+  pub place : ℕ
+  pub s : PlainStatement
+  pub there : slice_get statements place ≡ Some s
+  pub named : IsLabelled label (sentence_of s)
+  pub complete : is_proof s ≡ true
+  pub shown : IsListingText (sentences (take place statements)) (sentence_of s) (proof_of s) text

@@ -1,0 +1,96 @@
+//! Statements of checked files, read again: `check` keeps no proof.
+
+ghost use Rattle.std.specs.Prelude.{◌≡◌, ◌↔◌, List, map, true, None, Ok, OnOk, IfOk, IfErr, IsTrue};
+ghost use Rattle.mm_text.specs.Statement.{PlainStatement, plain_statement, HasForm};
+ghost use Rattle.mm_text.specs.Files.{plain_file};
+ghost use Rattle.mm_text.specs.Reading.{Reads};
+ghost use Rattle.mm_text.specs.Remaining.{IsUnread};
+ghost use Rattle.mm_frame.specs.Sentence.{sentence_in, IsLabelled};
+ghost use Rattle.mm_check.specs.declared.ask.AskFault.TheVariants.{Memory};
+ghost use Rattle.mm_check.specs.Verdict.{CanBeRead};
+ghost use Rattle.mm_check.specs.Judged.{TakesNext};
+ghost use Rattle.mm_check.specs.Shown.{Stands};
+
+use crate::ask::AskFault;
+use mm_text::{File, Statement, Statements, TextFault};
+use std::alloc::Global;
+
+/// Whether a statement has a label.
+fn has_label(statement: &Statement, label: &[u8]) -> bool
+    ensures { IsTrue result ↔ IsLabelled label.now (sentence_in statement.now) }
+{
+    match &statement.label {
+        Some(own) => own.text == label,
+        None => false,
+    }
+}
+
+/// A reader of files that can be read.
+fn reader<'a>(alloc: Global, files: &'a [File<'a>]) -> Result<Statements<'a>, AskFault>
+    requires { CanBeRead (map plain_file files.now) }
+    ensures unread { IfOk result (IsUnread (map plain_file files.now)) }
+    ensures memory { IfErr result (λ fault. fault ≡ Memory) }
+{
+    match Statements::new(alloc, files) {
+        Ok(statements) => Ok(statements),
+        Err(TextFault::Memory) => Err(AskFault::Memory),
+        Err(TextFault::Load(_) | TextFault::Fault { .. }) => unreachable!(),
+    }
+}
+
+/// Reads the next statement of a text without a fault; `false` where there is none.
+fn next<'a>(statements: &mut Statements<'a>, into: &mut Statement<'a>) -> Result<bool, AskFault>
+    requires { statements.old.ending ≡ None }
+    ensures taken { IfOk result (λ more.
+        TakesNext statements.old more (plain_statement into.new) statements.new) }
+    ensures formed { result ≡ Ok true → HasForm (plain_statement into.new) }
+    ensures memory { IfErr result (λ fault. fault ≡ Memory) }
+{
+    match statements.read(into) {
+        Ok(more) => Ok(more),
+        Err(TextFault::Memory) => Err(AskFault::Memory),
+        Err(TextFault::Load(_) | TextFault::Fault { .. }) => unreachable!(),
+    }
+}
+
+/// Reads statements up to one with this label, which stands among those that are left.
+fn seek<'a>(
+    statements: &mut Statements<'a>,
+    label: &[u8],
+    into: &mut Statement<'a>,
+) -> Result<(), AskFault>
+    requires faultless { statements.old.ending ≡ None }
+    requires stands { (s : PlainStatement) × Stands statements.old.statements label.now s }
+    ensures found { OnOk result
+        (Stands statements.old.statements label.now (plain_statement into.new)) }
+    ensures formed { OnOk result (HasForm (plain_statement into.new)) }
+    ensures memory { IfErr result (λ fault. fault ≡ Memory) }
+{
+    while next(statements, into)? {
+        if has_label(into, label) {
+            return Ok(());
+        }
+    }
+    unreachable!()
+}
+
+/// Reads the files up to a statement with this label, which stands in them.
+pub(crate) fn reread<'a>(
+    alloc: Global,
+    files: &'a [File<'a>],
+    label: &[u8],
+) -> Result<Statement<'a>, AskFault>
+    requires readable { CanBeRead (map plain_file files.now) }
+    requires stands { (statements : List PlainStatement) × (s : PlainStatement)
+        × Reads (map plain_file files.now) statements None × Stands statements label.now s }
+    ensures found { IfOk result (λ statement. (statements : List PlainStatement)
+        → Reads (map plain_file files.now) statements None
+        → Stands statements label.now (plain_statement statement)) }
+    ensures formed { IfOk result (λ statement. HasForm (plain_statement statement)) }
+    ensures memory { IfErr result (λ fault. fault ≡ Memory) }
+{
+    let mut statements = reader(alloc, files)?;
+    let mut statement = Statement::empty(alloc);
+    seek(&mut statements, label, &mut statement)?;
+    Ok(statement)
+}

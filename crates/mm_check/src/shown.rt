@@ -1,0 +1,144 @@
+//! The listing of a proof, as text.
+
+ghost use Rattle.std.specs.Prelude.{◌≡◌, ◌<◌, ◌≤◌, ◌++◌, List, map, length, sum_by, OnOk, IfOk};
+ghost use Rattle.std.specs.Prelude.{IfErr, decimal};
+ghost use Rattle.std.specs.List.{AllZip, AllByRecursion};
+ghost use Rattle.mm_frame.specs.Numbers.{symbols_of};
+ghost use Rattle.mm_proof.specs.Stores.{numbers_in};
+ghost use Rattle.mm_proof.specs.Parsed.{OfProof, SaySteps};
+ghost use Rattle.mm_proof.specs.Steps.{AreSteps};
+ghost use Rattle.mm_proof.specs.Listing.{StepName, ListedStep, IsNameOf, TellsStep};
+ghost use Rattle.mm_check.specs.declared.ask.AskFault.TheVariants.{Memory};
+ghost use Rattle.mm_check.specs.Answer.{labels_at};
+ghost use Rattle.mm_check.specs.Shown.{name_text, symbols_text, step_text};
+ghost use Rattle.mm_check.specs.Shown.{listing_text as text_of_listing};
+ghost use Rattle.mm_check.specs.CodeShown.{IsProofOf, AreLinesFor, IsTextFor};
+
+use crate::ask::AskFault;
+use crate::reply::push_word;
+use itoa::Buffer;
+use mm_frame::{Book, LabelId, Sym};
+use mm_proof::{Line, Name, Parsed, ProofFault, Steps, listing};
+use std::alloc::{AllocError, Global};
+
+/// Puts a number, in decimal, at the end.
+fn push_decimal(out: &mut Vec<u8>, number: usize) -> Result<(), AllocError>
+    ensures { OnOk result (out.new.items ≡ out.old.items ++ decimal number) }
+{
+    let mut digits = Buffer::new();
+    out.extend_from_slice(digits.format(number).as_bytes())
+}
+
+/// Puts what a step is called at the end.
+fn push_name(out: &mut Vec<u8>, book: &Book, name: Name) -> Result<(), AllocError>
+    ensures { OnOk result ((called : StepName) → IsNameOf book.now.statements name called
+        → out.new.items ≡ out.old.items ++ name_text called) }
+{
+    match name {
+        Name::Label(id) => out.extend_from_slice(book.label(id)),
+        Name::Step(number) => {
+            out.push(b'@')?;
+            push_decimal(out, number as usize)
+        }
+    }
+}
+
+/// Puts a space and the symbol at the end, for each of these symbols.
+fn push_symbols(out: &mut Vec<u8>, book: &Book, symbols: &[Sym]) -> Result<(), AllocError>
+    requires { AllByRecursion (λ n. n < length (symbols_of book.now.statements))
+        (numbers_in symbols.now) }
+    ensures { OnOk result (out.new.items ≡ out.old.items
+        ++ symbols_text (labels_at (symbols_of book.now.statements) (numbers_in symbols.now))) }
+{
+    for symbol in symbols {
+        push_word(out, book.name(*symbol))?;
+    }
+    Ok(())
+}
+
+/// Puts the line of the step with a number at the end.
+fn push_line(out: &mut Vec<u8>, book: &Book, number: usize, line: &Line) -> Result<(), AllocError>
+    requires { (step : ListedStep) × TellsStep book.now.statements line.now step }
+    ensures { OnOk result ((step : ListedStep) → TellsStep book.now.statements line.now step
+        → out.new.items ≡ out.old.items ++ step_text number step) }
+{
+    push_decimal(out, number)?;
+    out.push(b' ')?;
+    push_name(out, book, line.name)?;
+    push_symbols(out, book, &line.expression)?;
+    out.push(b'\n')?;
+    Ok(())
+}
+
+/// The text of these lines.
+fn text_of(alloc: Global, book: &Book, lines: &[Line]) -> Result<Vec<u8>, AllocError>
+    requires { (steps : List ListedStep)
+        × AllZip (TellsStep book.now.statements) lines.now steps }
+    ensures { IfOk result (λ text. (steps : List ListedStep)
+        → AllZip (TellsStep book.now.statements) lines.now steps
+        → text.items ≡ text_of_listing steps) }
+{
+    let mut out = Vec::new(alloc);
+    for at in 0..lines.len() {
+        push_line(&mut out, book, at + 1, &lines[at])?;
+    }
+    Ok(out)
+}
+
+/// The steps of a `$p`, whose complete proof has no fault.
+fn steps_of(alloc: Global, book: &Book, id: LabelId, tokens: &[&[u8]]) -> Result<Steps, AskFault>
+    requires proof { IsProofOf book.now.statements id.0 (map (λ t. t.now) tokens.now) }
+    requires filled { AllByRecursion (λ t. 1 ≤ length t) (map (λ t. t.now) tokens.now) }
+    requires room { sum_by length (map (λ t. t.now) tokens.now) ≤ 1073741824 }
+    ensures said { IfOk result (λ steps. OfProof book.now.statements id.0 (λ place s.
+        SaySteps book.now.statements place s (map (λ t. t.now) tokens.now) steps)) }
+    ensures usable { IfOk result (λ steps. AreSteps book.now.statements id.0 steps) }
+    ensures memory { IfErr result (λ fault. fault ≡ Memory) }
+{
+    match Steps::parse(alloc, book, id, tokens) {
+        Ok(Parsed::Steps(steps)) => Ok(steps),
+        Err(ProofFault::Memory) => Err(AskFault::Memory),
+        Ok(Parsed::Incomplete) => unreachable!(),
+        Err(ProofFault::Rule { .. }) => unreachable!(),
+    }
+}
+
+/// The lines of the listing of a `$p`, whose complete proof has no fault.
+fn lines_of(
+    alloc: Global,
+    book: &Book,
+    id: LabelId,
+    tokens: &[&[u8]],
+) -> Result<Vec<Line>, AskFault>
+    requires proof { IsProofOf book.now.statements id.0 (map (λ t. t.now) tokens.now) }
+    requires filled { AllByRecursion (λ t. 1 ≤ length t) (map (λ t. t.now) tokens.now) }
+    requires room { sum_by length (map (λ t. t.now) tokens.now) ≤ 1073741824 }
+    ensures listed { IfOk result (λ lines.
+        AreLinesFor book.now.statements id.0 (map (λ t. t.now) tokens.now) lines.items) }
+    ensures memory { IfErr result (λ fault. fault ≡ Memory) }
+{
+    let steps = steps_of(alloc, book, id, tokens)?;
+    match listing(alloc, book, id, &steps) {
+        Ok(lines) => Ok(lines),
+        Err(ProofFault::Memory) => Err(AskFault::Memory),
+        Err(ProofFault::Rule { .. }) => unreachable!(),
+    }
+}
+
+/// The text of the listing of a `$p`, whose complete proof has no fault.
+pub(crate) fn listing_text(
+    alloc: Global,
+    book: &Book,
+    id: LabelId,
+    tokens: &[&[u8]],
+) -> Result<Vec<u8>, AskFault>
+    requires proof { IsProofOf book.now.statements id.0 (map (λ t. t.now) tokens.now) }
+    requires filled { AllByRecursion (λ t. 1 ≤ length t) (map (λ t. t.now) tokens.now) }
+    requires room { sum_by length (map (λ t. t.now) tokens.now) ≤ 1073741824 }
+    ensures text { IfOk result (λ text.
+        IsTextFor book.now.statements id.0 (map (λ t. t.now) tokens.now) text.items) }
+    ensures memory { IfErr result (λ fault. fault ≡ Memory) }
+{
+    let lines = lines_of(alloc, book, id, tokens)?;
+    Ok(text_of(alloc, book, &lines)?)
+}
