@@ -40,6 +40,7 @@ pub mod ReadLaws
 pub mod DeclaredSymbols
 pub mod Declared
 pub mod Uses
+pub mod SoughtLaws
 pub mod OpenLaws
 pub mod Surplus
 pub mod OpenPlaces

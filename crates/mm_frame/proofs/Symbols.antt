@@ -39,13 +39,6 @@ same_symbol tokens symbol r h =
     let there = map (λ t. t.text) (map plain_token tokens) in
     ((λ t. let (x, in_it, same) = h.0 t in subst (λ y. Contains there y) same in_it), (λ c. h.1 (symbol, c, refl)))
 
--- the first of some tokens spells the first symbol
-pub first_symbol : (tokens items : List Token) (d : Token) → items ≡ tokens → 1 ≤ length items
-    → (others : List (List ℕ)) × (map (λ t. t.text) (map plain_token tokens) ≡ (get_or items 0 d).text.now ∷ others)
-first_symbol tokens [] d same some = absurd (omega arith)
-first_symbol tokens (t ∷ items) d same some =
-    (map (λ t. t.text) (map plain_token items), ap (λ (ts : List Token). map (λ t. t.text) (map plain_token ts)) (sym same))
-
 -- a test that holds, and then another
 pub with_test : {K Q : Type 0} (r : Bool) → K → (IsTrue r ↔ Q) → IsTrue r ↔ (K × Q)
 with_test r k h = ((λ t. (k, h.0 t)), (λ q. h.1 q.1))

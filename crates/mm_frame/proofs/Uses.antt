@@ -29,39 +29,17 @@ use Rattle.mm_frame.proofs.Pushed.{take_next}
 use Rattle.mm_frame.proofs.RepeatsCode.{texts_of, text_at}
 use Rattle.mm_frame.proofs.Symbols.{texts}
 
--- one number more
-pub numbers_more : (st : List Sentence) (numbers : List Sym) (n : Sym) (tokens : List Token) (i : ℕ) (d : Token) → i < length tokens
-    → AreNumbers st (map (λ n. n.0) numbers) (take i (texts_of tokens)) → IsNumberOf st (get_or tokens i d).text.now n.0
-    → AreNumbers st (map (λ n. n.0) (numbers ++ n ∷ [])) (take (i + 1) (texts_of tokens))
-numbers_more st numbers n tokens i d lt are is =
-    let x = (get_or tokens i d).text.now in
-    let one : i + 1 ≡ suc i = omega arith in
-    let next : take (i + 1) (texts_of tokens) ≡ take i (texts_of tokens) ++ x ∷ [] =
-    ap (λ k. take k (texts_of tokens)) one ∙ take_next (texts_of tokens) i x (text_at tokens i d lt) in
-    ap (map (slice_get (symbols_of st))) (map_snoc (λ (m : Sym). m.0) numbers n) ∙ map_snoc (slice_get (symbols_of st)) (map (λ (m : Sym). m.0) numbers) n.0
-    ∙ ap (λ ys. ys ++ slice_get (symbols_of st) n.0 ∷ []) are ∙ ap (λ o. map (λ y. Some y) (take i (texts_of tokens)) ++ o ∷ []) is
-    ∙ sym (ap (map (λ y. Some y)) next ∙ map_snoc (λ y. Some y) (take i (texts_of tokens)) x)
-
 -- there are as many numbers as symbols
 pub numbers_length : (st : List Sentence) (numbers : List Sym) (symbols : List (List ℕ)) → AreNumbers st (map (λ n. n.0) numbers) symbols → length numbers ≡ length symbols
 numbers_length st numbers symbols are =
     sym (length-map (map (λ (n : Sym). n.0) numbers) (slice_get (symbols_of st)) ∙ length-map numbers (λ (n : Sym). n.0)) ∙ ap length are ∙ length-map symbols (λ x. Some x)
 
--- what a statement uses is declared
-pub uses_declared : (st : List Sentence) (s : Statement) → IsMeant st (sentence_in s) → IsUse s.kind → (x : List ℕ) → Contains (texts_of s.symbols.items) x → IsDeclared st x
-uses_declared st s meant used x there = used_declared st (sentence_in s) x meant used (subst (λ xs. Contains xs x) (sym (texts s.symbols.items)) there)
-
--- the numbers of what a statement says
-pub numbers_said : (st : List Sentence) (s : Statement) (numbers : List Sym) → AreNumbers st (map (λ n. n.0) numbers) (texts_of s.symbols.items) → AreNumbers st (map (λ n. n.0) numbers) (sentence_in s).symbols
-numbers_said st s numbers are = subst (λ xs. AreNumbers st (map (λ n. n.0) numbers) xs) (sym (texts s.symbols.items)) are
-
-pub numbers_enough : (st : List Sentence) (s : Statement) (numbers : List Sym) (bytes : ℕ) → AreNumbers st (map (λ n. n.0) numbers) (texts_of s.symbols.items) → HasForm (plain_statement s)
+pub numbers_enough : (st : List Sentence) (s : Statement) (numbers : List Sym) (bytes : ℕ) → AreNumbers st (map (λ n. n.0) numbers) (sentence_in s).symbols → HasForm (plain_statement s)
     → bytes ≡ bytes_in (plain_statement s) → 1 + length numbers ≤ bytes
 numbers_enough st s numbers bytes are form counted =
     let enough = bytes_enough (plain_statement s) form in
-    let size = numbers_length st numbers (texts_of s.symbols.items) are in
-    let one = length-map s.symbols.items plain_token in
-    let two = length-map s.symbols.items (λ (t : Token). t.text.now) in
+    let size = numbers_length st numbers (sentence_in s).symbols are in
+    let texts = length-map (map plain_token s.symbols.items) (λ (t : PlainToken). t.text) in
     omega arith
 
 named_said : (kind : Kind) (label : Option PlainToken) → HasLabel kind label → HasItsLabel kind (option_map (λ t. t.text) label)
@@ -105,17 +83,17 @@ GrowsBy t v kind label numbers bytes =
     → IsMeant (statements_of t) s → IsFormedSentence s → Grows t v s bytes
 
 pub labelled_use : {E : Type 0} (r : Result Taken E) (t v : Tables) (s : Statement) (label : Token) (numbers : List Sym) (bytes : ℕ) → s.label ≡ Some label
-    → AreNumbers (statements_of t) (map (λ n. n.0) numbers) (texts_of s.symbols.items) → IsMeant (statements_of t) (sentence_in s) → HasForm (plain_statement s)
+    → AreNumbers (statements_of t) (map (λ n. n.0) numbers) (sentence_in s).symbols → IsMeant (statements_of t) (sentence_in s) → HasForm (plain_statement s)
     → IfOk r (λ taken. TakenAs (statements_of t) s.kind taken × GrowsBy t v s.kind (Some label.text.now) numbers bytes)
     → IfOk r (λ taken. Grows t v (sentence_in s) bytes × TakenAs (statements_of t) s.kind taken)
 labelled_use r t v s label numbers bytes is are meant form ok = IfOk-weaker r _ _
-    (λ taken (said_as, grows). (grows (sentence_in s) refl (label_said s label is) (numbers_said (statements_of t) s numbers are) meant (formed_said (plain_statement s) form), said_as)) ok
+    (λ taken (said_as, grows). (grows (sentence_in s) refl (label_said s label is) are meant (formed_said (plain_statement s) form), said_as)) ok
 
 taken_distinct : (st : List Sentence) (kind : Kind) (taken : Taken) → kind ≡ Distinct → taken ≡ Declared → TakenAs st kind taken
 taken_distinct st kind taken is said_as = subst (λ k. TakenAs st k taken) (sym is) said_as
 
 pub unlabelled_uses : {E : Type 0} (r : Result Taken E) (t v : Tables) (s : Statement) (numbers : List Sym) (bytes : ℕ) → s.label ≡ None → IsUse s.kind
-    → AreNumbers (statements_of t) (map (λ n. n.0) numbers) (texts_of s.symbols.items) → IsMeant (statements_of t) (sentence_in s) → HasForm (plain_statement s)
+    → AreNumbers (statements_of t) (map (λ n. n.0) numbers) (sentence_in s).symbols → IsMeant (statements_of t) (sentence_in s) → HasForm (plain_statement s)
     → IfOk r (λ taken. (taken ≡ Declared) × GrowsBy t v Distinct None numbers bytes)
     → IfOk r (λ taken. Grows t v (sentence_in s) bytes × TakenAs (statements_of t) s.kind taken)
 unlabelled_uses r t v s numbers bytes none used are meant form ok =
@@ -123,12 +101,6 @@ unlabelled_uses r t v s numbers bytes none used are meant form ok =
     let is : s.kind ≡ Distinct = unlabelled_use s.kind (plain_statement s).label form.label used bare in
     IfOk-weaker r _ _
     (λ taken (said_as, grows). (
-      grows (sentence_in s) is (ap (option_map (λ (t : PlainToken). t.text)) bare) (numbers_said (statements_of t) s numbers are) meant (formed_said (plain_statement s) form),
+      grows (sentence_in s) is (ap (option_map (λ (t : PlainToken). t.text)) bare) are meant (formed_said (plain_statement s) form),
       taken_distinct (statements_of t) s.kind taken is said_as,
     )) ok
-
--- the same numbers of the same tokens
-pub numbers_through : (st : List Sentence) (read tokens : List Token) (numbers passed : List Sym) → read ≡ tokens → passed ≡ numbers
-    → AreNumbers st (map (λ n. n.0) numbers) (texts_of read) → AreNumbers st (map (λ n. n.0) passed) (texts_of tokens)
-numbers_through st read tokens numbers passed same kept are =
-    subst (λ (ns : List Sym). AreNumbers st (map (λ n. n.0) ns) (texts_of tokens)) (sym kept) (subst (λ (ts : List Token). AreNumbers st (map (λ n. n.0) numbers) (texts_of ts)) same are)

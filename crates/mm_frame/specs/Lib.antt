@@ -17,6 +17,7 @@ pub mod ScopesOf
 pub mod Layout
 pub mod Gathered
 pub mod Told
+pub mod Sought
 pub mod Laws
 pub mod Grows
 pub mod Declaring

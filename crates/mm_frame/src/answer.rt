@@ -6,6 +6,7 @@ ghost use Rattle.mm_frame.specs.declared.answer.RuleFault.TheVariants.{Memory};
 use crate::number::LabelId;
 use crate::rule::MeaningRule;
 use std::alloc::AllocError;
+use thiserror::Error;
 
 /// What a statement was taken as.
 #[derive(Clone, Copy, PartialEq, Eq, Debug)]
@@ -34,11 +35,13 @@ pub enum Found {
 }
 
 /// Why a statement wasn't taken.
-#[derive(Clone, Copy, PartialEq, Eq, Debug)]
+#[derive(Clone, Copy, PartialEq, Eq, Debug, Error)]
 pub enum RuleFault {
     /// The first rule of meaning that it breaks.
+    #[error("the statement breaks {0:?}")]
     Rule(MeaningRule),
     /// Memory ran out.
+    #[error("out of memory")]
     Memory,
 }
 

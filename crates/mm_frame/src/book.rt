@@ -37,6 +37,9 @@ use std::marker::Model;
 #[derive(Drop)]
 pub struct Book<'a> {
     pub(crate) tables: Tables<'a>,
+    /// The numbers of the symbols that the statement uses which is taken: each is looked up once,
+    /// and the room is used again.
+    numbers: Vec<Sym>,
 }
 
 // How many bytes some tokens have.
@@ -79,7 +82,10 @@ impl<'a> Book<'a> {
         ensures memory { IfErr result (λ fault. fault ≡ Memory) }
     {
         match Tables::new(alloc) {
-            Ok(tables) => Ok(Book { tables }),
+            Ok(tables) => Ok(Book {
+                tables,
+                numbers: Vec::new(alloc),
+            }),
             Err(refused) => Err(RuleFault::from(refused)),
         }
     }
@@ -101,12 +107,13 @@ impl<'a> Book<'a> {
             → FirstBroken broken self.old.statements (sentence_in statement.now) }
         ensures unchanged { OnErr result (self.new ≡ self.old) }
     {
-        match first_broken(&self.tables, statement) {
+        match first_broken(&self.tables, statement, &mut self.numbers) {
             Ok(None) => {}
             Ok(Some(rule)) => return Err(RuleFault::Rule(rule)),
             Err(refused) => return Err(RuleFault::from(refused)),
         }
-        match self.tables.grow(statement, bytes_of(statement)) {
+        let bytes = bytes_of(statement);
+        match self.tables.grow(statement, &self.numbers, bytes) {
             Ok(taken) => Ok(taken),
             Err(refused) => Err(RuleFault::from(refused)),
         }

@@ -2,16 +2,17 @@
 //! fail once something is written.
 
 ghost use Rattle.std.specs.Prelude.{◌≡◌, ◌↔◌, ◌⊎◌, ℕ, suc, ◌+◌, ◌<◌, ◌≤◌, List, [], length, map};
-ghost use Rattle.std.specs.Prelude.{slice_get, Contains, None, Some, IsTrue, IfOk, OnErr, OnOk};
+ghost use Rattle.std.specs.Prelude.{slice_get, None, Some, IsTrue, IfOk, OnErr, OnOk};
 ghost use Rattle.std.specs.Prelude.{vec_len, vec_capacity};
 ghost use Rattle.mm_text.specs.declared.statement.Kind.TheVariants.{Opening, Closing};
 ghost use Rattle.mm_text.specs.Statement.{plain_statement, HasForm, bytes_in};
 ghost use Rattle.mm_frame.specs.Sentence.{Sentence, sentence_in, IsHypothesis, IsAssertion, IsUse};
-ghost use Rattle.mm_frame.specs.Numbers.{AreNumbers, IsNumberOf};
+ghost use Rattle.mm_frame.specs.Numbers.{AreNumbers};
 ghost use Rattle.mm_frame.specs.Active.{IsActive, open_marks, close_marks};
 ghost use Rattle.mm_frame.specs.Rules.{IsMeant};
 ghost use Rattle.mm_frame.specs.Taken.{TakenAs};
-ghost use Rattle.mm_frame.specs.Layout.{AreTables, IsDeclared, statements_of};
+ghost use Rattle.mm_frame.specs.Layout.{AreTables, statements_of};
+ghost use Rattle.mm_frame.specs.Sought.{HasNumbers};
 ghost use Rattle.mm_frame.specs.Grows.{Grows, IsSame, SameLists, HaveRoom, Entered};
 ghost use Rattle.mm_frame.specs.ScopesOf.{HaveScopes, HasRoom};
 ghost use Rattle.mm_frame.specs.Forgotten.{AreForgotten};
@@ -24,39 +25,10 @@ use crate::lists::put;
 use crate::number::{LabelId, Sym};
 use crate::scopes::Scopes;
 use crate::tables::{Entry, Part, Tables};
-use mm_text::{Kind, Statement, Token};
+use mm_text::{Kind, Statement};
 use std::alloc::AllocError;
 
 impl<'a> Tables<'a> {
-    // The number of a declared symbol.
-    fn number_of(&self, symbol: &[u8]) -> Sym
-        requires tables { AreTables self.now }
-        requires declared { IsDeclared (statements_of self.now) symbol.now }
-        ensures { IsNumberOf (statements_of self.now) symbol.now result.0 }
-    {
-        match self.symbols.find(symbol) {
-            Some(number) => Sym(number),
-            None => Sym(0),
-        }
-    }
-
-    // The numbers of declared symbols.
-    fn numbers_of(&self, symbols: &[Token]) -> Result<Vec<Sym>, AllocError>
-        requires tables { AreTables self.now }
-        requires declared { (x : List ℕ) → Contains (map (λ t. t.text.now) symbols.now) x
-            → IsDeclared (statements_of self.now) x }
-        ensures { IfOk result (λ numbers. AreNumbers
-            (statements_of self.now)
-            (map (λ n. n.0) numbers.items)
-            (map (λ t. t.text.now) symbols.now)) }
-    {
-        let mut numbers = Vec::new(self.alloc);
-        for token in symbols {
-            numbers.push(self.number_of(token.text))?;
-        }
-        Ok(numbers)
-    }
-
     // Makes room for a statement of so many symbols, and for its label.
     pub(crate) fn reserve(&mut self, symbols: usize) -> Result<(), AllocError>
         ensures same { SameLists self.old self.new }
@@ -157,8 +129,15 @@ impl<'a> Tables<'a> {
     }
 
     // Takes a statement in that uses symbols.
-    fn take_use(&mut self, statement: &Statement<'a>, bytes: u64) -> Result<Taken, AllocError>
+    fn take_use(
+        &mut self,
+        statement: &Statement<'a>,
+        numbers: &[Sym],
+        bytes: u64,
+    ) -> Result<Taken, AllocError>
         requires tables { AreTables self.old }
+        requires numbers { HasNumbers
+            (statements_of self.old) (map (λ n. n.0) numbers.now) (sentence_in statement.now) }
         requires kind { IsUse statement.now.kind }
         requires meant { IsMeant (statements_of self.old) (sentence_in statement.now) }
         requires formed { HasForm (plain_statement statement.now) }
@@ -168,20 +147,23 @@ impl<'a> Tables<'a> {
             × TakenAs (statements_of self.old) statement.now.kind taken) }
         ensures err { OnErr result (IsSame self.old self.new) }
     {
-        let numbers = self.numbers_of(&statement.symbols)?;
         match &statement.label {
-            Some(label) => self.take_labelled(statement.kind, label.text, &numbers, bytes),
-            None => self.separate_all(&numbers, bytes),
+            Some(label) => self.take_labelled(statement.kind, label.text, numbers, bytes),
+            None => self.separate_all(numbers, bytes),
         }
     }
 
-    /// Takes a statement in that breaks no rule, and whose tokens have so many bytes.
+    /// Takes a statement in that breaks no rule, whose symbols have these numbers where it uses
+    /// some, and whose tokens have so many bytes.
     pub(crate) fn grow(
         &mut self,
         statement: &Statement<'a>,
+        numbers: &[Sym],
         bytes: u64,
     ) -> Result<Taken, AllocError>
         requires tables { AreTables self.old }
+        requires numbers { HasNumbers
+            (statements_of self.old) (map (λ n. n.0) numbers.now) (sentence_in statement.now) }
         requires meant { IsMeant (statements_of self.old) (sentence_in statement.now) }
         requires formed { HasForm (plain_statement statement.now) }
         requires closes { statement.now.kind ≡ Closing
@@ -196,7 +178,7 @@ impl<'a> Tables<'a> {
             Kind::Opening => self.open(bytes),
             Kind::Closing => self.close(bytes),
             Kind::Constants | Kind::Variables => self.declare_all(statement, bytes),
-            _ => self.take_use(statement, bytes),
+            _ => self.take_use(statement, numbers, bytes),
         }
     }
 }

@@ -20,6 +20,7 @@ mod rules;
 mod said;
 mod scopes;
 mod separate;
+mod sought;
 mod tables;
 
 pub use answer::{Found, RuleFault, Taken};

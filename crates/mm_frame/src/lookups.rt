@@ -3,9 +3,8 @@
 ghost use Rattle.std.specs.Prelude.{◌≢◌, ◌↔◌, ℕ, List, IsTrue, MatchOption};
 ghost use Rattle.mm_text.specs.declared.statement.Kind.TheVariants.{Variables};
 ghost use Rattle.mm_frame.specs.Sentence.{SomeSentence, IsLabelled, Declares, Types};
-ghost use Rattle.mm_frame.specs.Active.{SomeActive, IsConstant, IsVariable, IsActiveSymbol};
-ghost use Rattle.mm_frame.specs.Active.{IsTyped};
-ghost use Rattle.mm_frame.specs.Layout.{AreTables, statements_of, GivesType};
+ghost use Rattle.mm_frame.specs.Active.{SomeActive, IsConstant, IsVariable, IsTyped};
+ghost use Rattle.mm_frame.specs.Layout.{AreTables, statements_of, IsDeclared, GivesType};
 
 use crate::lists::at;
 use crate::tables::Tables;
@@ -16,6 +15,14 @@ pub(crate) fn is_label(tables: &Tables, label: &[u8]) -> bool
     ensures { IsTrue result ↔ SomeSentence (statements_of tables.now) (IsLabelled label.now) }
 {
     tables.labels.find(label).is_some()
+}
+
+// Whether some `$c` or `$v` declares the symbol.
+pub(crate) fn is_declared(tables: &Tables, symbol: &[u8]) -> bool
+    requires { AreTables tables.now }
+    ensures { IsTrue result ↔ IsDeclared (statements_of tables.now) symbol.now }
+{
+    tables.symbol_info(symbol).is_some()
 }
 
 // Whether some `$c` declares the symbol.
@@ -53,15 +60,6 @@ pub(crate) fn is_active_variable(tables: &Tables, symbol: &[u8]) -> bool
         },
         None => false,
     }
-}
-
-// Whether an active `$c` or `$v` declares the symbol. Each `$c` is active, since none stands in a
-// block.
-pub(crate) fn is_active_symbol(tables: &Tables, symbol: &[u8]) -> bool
-    requires { AreTables tables.now }
-    ensures { IsTrue result ↔ IsActiveSymbol (statements_of tables.now) symbol.now }
-{
-    is_constant(tables, symbol) || is_active_variable(tables, symbol)
 }
 
 // Whether the variable has an active `$f`. No other than its latest can be active.

@@ -1,22 +1,27 @@
 //! The rules of meaning: which a statement breaks after the statements before it.
 
-ghost use Rattle.std.specs.Prelude.{◌↔◌, ◌<◌, ℕ, List, IsTrue, IfOk, MatchOption, length, map};
-ghost use Rattle.std.specs.Prelude.{vec_len};
+ghost use Rattle.std.specs.Prelude.{◌≡◌, ◌↔◌, ◌<◌, ℕ, List, ◌∷◌, IsTrue, IfOk, OnOk, MatchOption};
+ghost use Rattle.std.specs.Prelude.{length, map, vec_len};
 ghost use Rattle.mm_frame.specs.declared.rule.MeaningRule.TheVariants.{M1, M2, M3, M4, M5, M6, M7};
 ghost use Rattle.mm_frame.specs.declared.rule.MeaningRule.TheVariants.{M8, M9, M10, M11, M12, M13};
 ghost use Rattle.mm_frame.specs.declared.rule.MeaningRule.TheVariants.{M14, M15};
 ghost use Rattle.mm_frame.specs.Sentence.{Sentence, sentence_in, StandsTwice};
+ghost use Rattle.mm_frame.specs.Active.{IsVariable};
 ghost use Rattle.mm_frame.specs.Rules.{Breaks, IsMeant, FirstBroken};
 ghost use Rattle.mm_frame.specs.Layout.{AreTables, statements_of};
 ghost use Rattle.mm_frame.specs.Told.{IsTold, StatesOnce};
+ghost use Rattle.mm_frame.specs.Sought.{AreSought, HasNumbers};
 
 use crate::lookups::{
-    has_other_type, is_active_symbol, is_active_variable, is_constant, is_label, is_typed,
-    is_variable,
+    has_other_type, is_active_variable, is_constant, is_declared, is_label, is_typed, is_variable,
 };
 use crate::names::Names;
+use crate::number::Sym;
 use crate::rule::MeaningRule;
-use crate::said::{first_of, is_stated, is_use, label_of, typing};
+use crate::said::{is_stated, is_use, label_of, typing};
+use crate::sought::{
+    is_active_number, is_constant_number, is_typed_number, is_variable_number, look_up,
+};
 use crate::tables::Tables;
 use mm_text::{Kind, Statement, Token};
 use std::alloc::{AllocError, Global};
@@ -84,33 +89,35 @@ fn breaks_m6(tables: &Tables, statement: &Statement) -> bool
     ensures { IsTrue result ↔ Breaks M6 (statements_of tables.now) (sentence_in statement.now) }
 {
     match label_of(statement) {
-        Some(label) => is_constant(tables, label) || is_variable(tables, label),
+        Some(label) => is_declared(tables, label),
         None => false,
     }
 }
 
 // A symbol that is used isn't active.
-fn breaks_m7(tables: &Tables, statement: &Statement) -> bool
-    requires { AreTables tables.now }
+fn breaks_m7(tables: &Tables, statement: &Statement, numbers: &[Sym]) -> bool
+    requires tables { AreTables tables.now }
+    requires numbers { HasNumbers
+        (statements_of tables.now) (map (λ n. n.0) numbers.now) (sentence_in statement.now) }
     ensures { IsTrue result ↔ Breaks M7 (statements_of tables.now) (sentence_in statement.now) }
 {
     is_use(statement.kind)
-        && statement
-            .symbols
+        && numbers
             .iter()
-            .any(|token| !is_active_symbol(tables, token.text))
+            .any(|number| !is_active_number(tables, *number))
 }
 
 // A member of a `$d` is a constant.
-fn breaks_m8(tables: &Tables, statement: &Statement) -> bool
-    requires { AreTables tables.now }
+fn breaks_m8(tables: &Tables, statement: &Statement, numbers: &[Sym]) -> bool
+    requires tables { AreTables tables.now }
+    requires numbers { HasNumbers
+        (statements_of tables.now) (map (λ n. n.0) numbers.now) (sentence_in statement.now) }
     ensures { IsTrue result ↔ Breaks M8 (statements_of tables.now) (sentence_in statement.now) }
 {
     statement.kind == Kind::Distinct
-        && statement
-            .symbols
+        && numbers
             .iter()
-            .any(|token| is_constant(tables, token.text))
+            .any(|number| is_constant_number(tables, *number))
 }
 
 // A member stands twice in a `$d`.
@@ -166,30 +173,53 @@ fn breaks_m13(tables: &Tables, statement: &Statement) -> bool
     }
 }
 
-// The first symbol of an expression is a variable.
-fn breaks_m14(tables: &Tables, statement: &Statement) -> bool
+// Whether the first of some symbols is a variable.
+fn is_first_variable(tables: &Tables, numbers: &[Sym]) -> bool
     requires { AreTables tables.now }
-    ensures { IsTrue result ↔ Breaks M14 (statements_of tables.now) (sentence_in statement.now) }
+    ensures { (symbols : List (List ℕ))
+        → AreSought (statements_of tables.now) (map (λ n. n.0) numbers.now) symbols
+        → (IsTrue result ↔ ((first : List ℕ) × (others : List (List ℕ))
+        × (symbols ≡ first ∷ others) × IsVariable (statements_of tables.now) first)) }
 {
-    match first_of(statement) {
-        Some(first) => is_stated(statement.kind) && is_variable(tables, first),
+    match numbers.first() {
+        Some(first) => is_variable_number(tables, *first),
         None => false,
     }
 }
 
+// The first symbol of an expression is a variable.
+fn breaks_m14(tables: &Tables, statement: &Statement, numbers: &[Sym]) -> bool
+    requires tables { AreTables tables.now }
+    requires numbers { HasNumbers
+        (statements_of tables.now) (map (λ n. n.0) numbers.now) (sentence_in statement.now) }
+    ensures { IsTrue result ↔ Breaks M14 (statements_of tables.now) (sentence_in statement.now) }
+{
+    is_stated(statement.kind) && is_first_variable(tables, numbers)
+}
+
 // A variable in an expression has no active `$f`.
-fn breaks_m15(tables: &Tables, statement: &Statement) -> bool
-    requires { AreTables tables.now }
+fn breaks_m15(tables: &Tables, statement: &Statement, numbers: &[Sym]) -> bool
+    requires tables { AreTables tables.now }
+    requires numbers { HasNumbers
+        (statements_of tables.now) (map (λ n. n.0) numbers.now) (sentence_in statement.now) }
     ensures { IsTrue result ↔ Breaks M15 (statements_of tables.now) (sentence_in statement.now) }
 {
     is_stated(statement.kind)
-        && statement.symbols.iter().any(|token| is_variable(tables, token.text)
-            && !is_typed(tables, token.text))
+        && numbers.iter().any(|number| is_variable_number(tables, *number)
+            && !is_typed_number(tables, *number))
 }
 
 // Whether the statement breaks the rule.
-fn breaks(rule: MeaningRule, tables: &Tables, statement: &Statement, repeats: bool) -> bool
+fn breaks(
+    rule: MeaningRule,
+    tables: &Tables,
+    statement: &Statement,
+    numbers: &[Sym],
+    repeats: bool,
+) -> bool
     requires tables { AreTables tables.now }
+    requires numbers { HasNumbers
+        (statements_of tables.now) (map (λ n. n.0) numbers.now) (sentence_in statement.now) }
     requires told { IsTold repeats (sentence_in statement.now) }
     ensures { IsTrue result ↔ Breaks rule (statements_of tables.now) (sentence_in statement.now) }
 {
@@ -200,15 +230,15 @@ fn breaks(rule: MeaningRule, tables: &Tables, statement: &Statement, repeats: bo
         MeaningRule::M4 => breaks_m4(tables, statement),
         MeaningRule::M5 => breaks_m5(tables, statement),
         MeaningRule::M6 => breaks_m6(tables, statement),
-        MeaningRule::M7 => breaks_m7(tables, statement),
-        MeaningRule::M8 => breaks_m8(tables, statement),
+        MeaningRule::M7 => breaks_m7(tables, statement, numbers),
+        MeaningRule::M8 => breaks_m8(tables, statement, numbers),
         MeaningRule::M9 => breaks_m9(statement, repeats),
         MeaningRule::M10 => breaks_m10(tables, statement),
         MeaningRule::M11 => breaks_m11(tables, statement),
         MeaningRule::M12 => breaks_m12(tables, statement),
         MeaningRule::M13 => breaks_m13(tables, statement),
-        MeaningRule::M14 => breaks_m14(tables, statement),
-        MeaningRule::M15 => breaks_m15(tables, statement),
+        MeaningRule::M14 => breaks_m14(tables, statement, numbers),
+        MeaningRule::M15 => breaks_m15(tables, statement, numbers),
     }
 }
 
@@ -269,20 +299,25 @@ fn repeats(alloc: Global, statement: &Statement) -> Result<bool, AllocError>
 
 /// The first rule of meaning that the statement breaks after the statements before it, in the order
 /// M1 to M15 (the Metamath book, sections 4.2.1 to 4.2.8), or `None` where it breaks none.
+/// The numbers of the symbols that the statement uses are left in `numbers`.
 pub(crate) fn first_broken(
     tables: &Tables,
     statement: &Statement,
+    numbers: &mut Vec<Sym>,
 ) -> Result<Option<MeaningRule>, AllocError>
     requires tables { AreTables tables.now }
     requires few { vec_len statement.now.symbols < 2147483648 }
-    ensures { IfOk result (λ first. MatchOption
+    ensures first { IfOk result (λ first. MatchOption
         first
         (IsMeant (statements_of tables.now) (sentence_in statement.now))
         (λ rule. FirstBroken rule (statements_of tables.now) (sentence_in statement.now))) }
+    ensures numbers { OnOk result (HasNumbers
+        (statements_of tables.now) (map (λ n. n.0) numbers.new.items) (sentence_in statement.now)) }
 {
+    look_up(tables, statement, numbers)?;
     let repeats = repeats(tables.alloc, statement)?;
     for rule in ORDER {
-        if breaks(rule, tables, statement, repeats) {
+        if breaks(rule, tables, statement, numbers, repeats) {
             return Ok(Some(rule));
         }
     }

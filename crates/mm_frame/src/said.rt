@@ -1,6 +1,6 @@
 //! What a statement says.
 
-ghost use Rattle.std.specs.Prelude.{◌≡◌, ◌↔◌, ℕ, IsTrue, MatchOption, Contains, List, [], ◌∷◌, map};
+ghost use Rattle.std.specs.Prelude.{◌≡◌, ◌↔◌, ℕ, IsTrue, MatchOption, List};
 ghost use Rattle.mm_frame.specs.Sentence.{sentence_in, IsUse, IsStated, IsLabelled, Types};
 
 use mm_text::{Kind, Statement};
@@ -29,20 +29,6 @@ pub(crate) fn label_of<'a>(statement: &Statement<'a>) -> Option<&'a [u8]>
     match &statement.label {
         Some(token) => Some(token.text),
         None => None,
-    }
-}
-
-// The first symbol of the statement.
-pub(crate) fn first_of<'a>(statement: &Statement<'a>) -> Option<&'a [u8]>
-    ensures { MatchOption
-        result
-        ((sentence_in statement.now).symbols ≡ [])
-        (λ first. (others : List (List ℕ))
-        × ((sentence_in statement.now).symbols ≡ first.now ∷ others)) }
-{
-    match statement.symbols.as_slice() {
-        [first, ..] => Some(first.text),
-        [] => None,
     }
 }
 

@@ -20,6 +20,13 @@ fn book_of_nothing(rt: HostRuntime) -> Result<(), Fail> {
 }
 
 #[test]
+fn faults_have_messages(rt: HostRuntime) -> Result<(), Fail> {
+    let text = format!(in rt.alloc(); "{}", RuleFault::Rule(MeaningRule::M7))?;
+    assert!(rt; text.as_str() == "the statement breaks M7", "{text}");
+    Ok(())
+}
+
+#[test]
 fn laws_are_called() {
     one_number();
     one_label_number();

@@ -169,6 +169,7 @@ fn comment_step<'a>(place: Place<'a>, begin: Token<'a>) -> Result<Comment, Wrong
 }
 
 /// The place after the comment that begins with a `$(` before a place.
+#[inline(never)]
 fn comment_end<'a>(mut place: Place<'a>, begin: Token<'a>) -> Result<usize, Wrong<'a>>
     requires place { IsPlace place }
     requires begin { begin.at < 1073741824 }
@@ -183,6 +184,7 @@ fn comment_end<'a>(mut place: Place<'a>, begin: Token<'a>) -> Result<usize, Wron
 }
 
 /// Takes the next token or comment. Where the text is wrong nothing is taken.
+#[inline(always)]
 fn take_one<'a>(place: &mut Place<'a>) -> Result<Found<'a>, Wrong<'a>>
     requires { IsPlace place.old }
     ensures place { IsPlace place.new }
@@ -217,6 +219,7 @@ fn take_one<'a>(place: &mut Place<'a>) -> Result<Found<'a>, Wrong<'a>>
 
 /// Takes the next token outside comments; none at the file's end. Where the text is wrong no token
 /// is taken.
+#[inline(always)]
 pub fn take_token<'a>(place: &mut Place<'a>) -> Result<Option<Token<'a>>, Wrong<'a>>
     requires { IsPlace place.old }
     ensures place { IsPlace place.new }

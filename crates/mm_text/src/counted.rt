@@ -6,9 +6,11 @@ ghost use Rattle.mm_text.specs.Device.{faults_of, inner_of, IsFailedWrite, Appen
 
 use std::io;
 use std::io::{Read, Write};
+use thiserror::Error;
 
 /// A device failed in a write: it answered an error, or took none of a piece that has bytes.
-#[derive(Clone, Copy, Debug, PartialEq, Eq)]
+#[derive(Clone, Copy, Debug, PartialEq, Eq, Error)]
+#[error("a write failed")]
 pub struct WriteFault;
 
 /// What gives bytes, in calls that may fail.

@@ -54,6 +54,7 @@ impl<'a> Cursor<'a> {
     }
 
     /// Takes the next item. It takes no memory.
+    #[inline(always)]
     pub fn next(&mut self) -> Next<'a>
         ensures { TakesItem self.old result self.new }
     {

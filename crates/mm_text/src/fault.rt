@@ -5,6 +5,9 @@ ghost use Rattle.mm_text.specs.declared.fault.TextFault.TheVariants.{Memory};
 
 use crate::token::Token;
 use std::alloc::{AllocError, AllocFailed};
+use std::fmt;
+use std::fmt::Write;
+use thiserror::Error;
 
 /// What is wrong with the handed files as a whole.
 #[derive(Clone, Copy, PartialEq, Eq, Debug)]
@@ -54,12 +57,31 @@ pub enum TextRule {
     S7,
 }
 
+/// What a message says of a statement's label: a blank and the label, or nothing where there is
+/// none.
+#[derive(Drop)]
+struct LabelWords<'b, 'a>(&'b Option<Token<'a>>);
+
+impl fmt::Display for LabelWords<'_, '_> {
+    fn fmt<W: Write>(&self, f: &mut fmt::Formatter<W>) -> fmt::Result {
+        if let Some(label) = self.0 {
+            f.write_char(' ')?;
+            for byte in label.text {
+                f.write_char(char::from(*byte))?;
+            }
+        }
+        Ok(())
+    }
+}
+
 /// Why no further statement can be read.
-#[derive(Clone, Copy, Drop)]
+#[derive(Clone, Copy, Debug, Drop, Error)]
 pub enum TextFault<'a> {
     /// The handed files break a rule as a whole.
+    #[error("the files break {0:?}")]
     Load(LoadRule),
     /// The first fault met in the text.
+    #[error("file {file}, byte {at}: statement {statement}{words} breaks {rule:?}", words = LabelWords(.label))]
     Fault {
         rule: TextRule,
         /// The number of the handed file in which it stands, from 0.
@@ -73,6 +95,7 @@ pub enum TextFault<'a> {
         label: Option<Token<'a>>,
     },
     /// A growth was refused.
+    #[error("out of memory")]
     Memory,
 }
 

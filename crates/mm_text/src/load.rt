@@ -7,18 +7,22 @@ ghost use Rattle.mm_text.specs.declared.load.LoadFault.TheVariants.{Memory};
 
 use crate::counted::{Counted, Source};
 use std::alloc::{AllocError, Global};
+use thiserror::Error;
 
 #[cfg(test)]
 mod tests;
 
 /// Why a device was not read to its end.
-#[derive(Clone, Copy, Debug, PartialEq, Eq)]
+#[derive(Clone, Copy, Debug, PartialEq, Eq, Error)]
 pub enum LoadFault {
     /// The source failed in a call.
+    #[error("a read failed")]
     Device,
     /// More bytes came than may be taken.
+    #[error("there are more bytes than may be taken")]
     TooLong,
     /// Memory for the bytes was refused.
+    #[error("out of memory")]
     Memory,
 }
 

@@ -34,6 +34,7 @@ fn is_inclusion_end(text: &[u8]) -> bool
 }
 
 /// Takes the next token of a file outside comments, and tells what it is by its bytes alone.
+#[inline(always)]
 fn take_piece<'a>(place: &mut Place<'a>) -> Next<'a>
     requires { IsPlace place.old }
     ensures place { IsPlace place.new }
@@ -158,6 +159,7 @@ impl<'a> Nest<'a> {
 
     /// Finishes the inclusion that a `$[` begins: its file is gone into where it is named for the
     /// first time. Answers where the text is wrong.
+    #[inline(never)]
     fn include(&mut self, begin: Token<'a>) -> Option<Wrong<'a>>
         requires nest { IsNest self.old }
         requires naming { self.old.naming ≡ Some begin }
@@ -186,6 +188,7 @@ impl<'a> Nest<'a> {
     }
 
     /// Goes back to the file in which the one that ended stands.
+    #[inline(never)]
     fn leave(&mut self)
         requires nest { IsNest self.old }
         requires naming { self.old.naming ≡ None }
@@ -200,6 +203,7 @@ impl<'a> Nest<'a> {
     }
 
     /// Takes the next item outside inclusions.
+    #[inline(always)]
     fn take(&mut self) -> Next<'a>
         requires nest { IsNest self.old }
         requires naming { self.old.naming ≡ None }
@@ -218,6 +222,7 @@ impl<'a> Nest<'a> {
     }
 
     /// Takes the next item.
+    #[inline(always)]
     pub fn next(&mut self) -> Next<'a>
         requires { IsNest self.old }
         ensures nest { IsNest self.new }

@@ -93,6 +93,7 @@ fn is_full(kind: Kind, count: usize) -> bool
 
 /// Takes the next token of a statement with this first token and this label, and tells which
 /// keyword it is; none for a word.
+#[inline(always)]
 fn token_within<'a>(
     cursor: &mut Cursor<'a>,
     scope: &Scope,

@@ -1,6 +1,8 @@
 //! The reader over small files.
 
-use crate::{File, Kind, LoadRule, Statement, Statements, TextFault, TextRule};
+use crate::{
+    File, Kind, LoadFault, LoadRule, Statement, Statements, TextFault, TextRule, Token, WriteFault,
+};
 use std::test::Fail;
 
 /// A small database: the first expressions of demo0.mm.
@@ -251,5 +253,50 @@ fn answers_faults_of_comments_and_inclusions(rt: HostRuntime) -> Result<(), Fail
         assert_eq!(rt; found, rule);
         assert_eq!(rt; place, at, "{rule:?}");
     }
+    Ok(())
+}
+
+#[test]
+fn faults_have_messages(rt: HostRuntime) -> Result<(), Fail> {
+    let label = Token {
+        text: b"th",
+        file: 1,
+        at: 3,
+    };
+    let of_label = TextFault::Fault {
+        rule: TextRule::X9,
+        file: 1,
+        at: 8,
+        statement: 2,
+        label: Some(label),
+    };
+    let labelled = format!(in rt.alloc(); "{of_label}")?;
+    assert!(rt;
+        labelled.as_str() == "file 1, byte 8: statement 2 th breaks X9",
+        "{labelled}"
+    );
+    let of_none = TextFault::Fault {
+        rule: TextRule::S6,
+        file: 0,
+        at: 0,
+        statement: 1,
+        label: None,
+    };
+    let plain = format!(in rt.alloc(); "{of_none}")?;
+    assert!(rt;
+        plain.as_str() == "file 0, byte 0: statement 1 breaks S6",
+        "{plain}"
+    );
+    Ok(())
+}
+
+#[test]
+fn faults_of_files_and_devices_have_messages(rt: HostRuntime) -> Result<(), Fail> {
+    let of_files = TextFault::Load(LoadRule::F1);
+    let text = format!(in rt.alloc(); "{of_files}; {}; {}", LoadFault::Device, WriteFault)?;
+    assert!(rt;
+        text.as_str() == "the files break F1; a read failed; a write failed",
+        "{text}"
+    );
     Ok(())
 }

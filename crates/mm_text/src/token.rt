@@ -2,7 +2,7 @@
 
 /// A token: a longest run of bytes of one file that aren't white space (the Metamath book,
 /// section 4.1.1).
-#[derive(Clone, Copy)]
+#[derive(Clone, Copy, Debug)]
 pub struct Token<'a> {
     /// The slice of the file that begins at `at`.
     pub text: &'a [u8],

@@ -1,0 +1,11 @@
+use Rattle.mm_frame.specs.Layout.{statements_of}
+use Rattle.mm_frame.proofs.SoughtLaws.{sought_none_yet, sought_more}
+use Rattle.mm_frame.proofs.sought.look_up_each.Goals as goal
+
+pub loop-token-init : goal.loop-token-init
+loop-token-init c = rw c.clear.ensures.items (sought_none_yet (statements_of c.args.tables.now))
+
+pub loop-token-preserved : goal.loop-token-preserved
+loop-token-preserved c =
+    rw c.in_ok-push.ensures.items (sought_more (statements_of c.args.tables.now) c.loop-token.numbers.items c.number_of.result c.args.symbols.now c.loop-token.token-index _
+    c.loop-token-test.true c.loop-token.invariant c.number_of.ensures)

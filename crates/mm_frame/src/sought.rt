@@ -1,0 +1,117 @@
+//! Symbols that are looked up once: what the statements before say of them by their numbers.
+
+ghost use Rattle.std.specs.Prelude.{◌↔◌, IsTrue, OnOk, length, map};
+ghost use Rattle.mm_frame.specs.Sentence.{sentence_in};
+ghost use Rattle.mm_frame.specs.Active.{IsConstant, IsVariable, IsActiveSymbol, IsTyped};
+ghost use Rattle.mm_frame.specs.Layout.{AreTables, statements_of};
+ghost use Rattle.mm_frame.specs.Sought.{IsOfNumber, IsSought, AreSought, HasNumbers};
+
+use crate::number::Sym;
+use crate::said::is_use;
+use crate::tables::Tables;
+use mm_text::{Statement, Token};
+use std::alloc::AllocError;
+
+// The number of a symbol. One that isn't declared has the next free number, which no symbol has.
+fn number_of(tables: &Tables, symbol: &[u8]) -> Sym
+    requires { AreTables tables.now }
+    ensures { IsSought (statements_of tables.now) symbol.now result.0 }
+{
+    match tables.symbols.find(symbol) {
+        Some(number) => Sym(number),
+        None => Sym(tables.symbols.len() as u32),
+    }
+}
+
+// Looks symbols up.
+fn look_up_each(
+    tables: &Tables,
+    symbols: &[Token],
+    numbers: &mut Vec<Sym>,
+) -> Result<(), AllocError>
+    requires { AreTables tables.now }
+    ensures { OnOk result (AreSought
+        (statements_of tables.now)
+        (map (λ n. n.0) numbers.new.items)
+        (map (λ t. t.text.now) symbols.now)) }
+{
+    numbers.clear();
+    for token in symbols {
+        numbers.push(number_of(tables, token.text))?;
+    }
+    Ok(())
+}
+
+/// Looks the symbols of a statement up that uses symbols.
+pub(crate) fn look_up(
+    tables: &Tables,
+    statement: &Statement,
+    numbers: &mut Vec<Sym>,
+) -> Result<(), AllocError>
+    requires { AreTables tables.now }
+    ensures { OnOk result (HasNumbers
+        (statements_of tables.now)
+        (map (λ n. n.0) numbers.new.items)
+        (sentence_in statement.now)) }
+{
+    if is_use(statement.kind) {
+        look_up_each(tables, &statement.symbols, numbers)
+    } else {
+        Ok(())
+    }
+}
+
+// Whether some `$c` declares the symbol with a number.
+pub(crate) fn is_constant_number(tables: &Tables, symbol: Sym) -> bool
+    requires { AreTables tables.now }
+    ensures { IsTrue result ↔ IsOfNumber
+        (statements_of tables.now) symbol.0 (IsConstant (statements_of tables.now)) }
+{
+    match tables.info(symbol) {
+        Some(info) => info.variable.is_none(),
+        None => false,
+    }
+}
+
+// Whether some `$v` declares the symbol with a number.
+pub(crate) fn is_variable_number(tables: &Tables, symbol: Sym) -> bool
+    requires { AreTables tables.now }
+    ensures { IsTrue result ↔ IsOfNumber
+        (statements_of tables.now) symbol.0 (IsVariable (statements_of tables.now)) }
+{
+    match tables.info(symbol) {
+        Some(info) => info.variable.is_some(),
+        None => false,
+    }
+}
+
+// Whether an active `$c` or `$v` declares the symbol with a number. Each `$c` is active, since none
+// stands in a block.
+pub(crate) fn is_active_number(tables: &Tables, symbol: Sym) -> bool
+    requires { AreTables tables.now }
+    ensures { IsTrue result ↔ IsOfNumber
+        (statements_of tables.now) symbol.0 (IsActiveSymbol (statements_of tables.now)) }
+{
+    match tables.info(symbol) {
+        Some(info) => match info.variable {
+            Some(place) => tables.is_active_now(place),
+            None => true,
+        },
+        None => false,
+    }
+}
+
+// Whether the variable with a number has an active `$f`. No other than its latest can be active.
+pub(crate) fn is_typed_number(tables: &Tables, variable: Sym) -> bool
+    requires { AreTables tables.now }
+    ensures { IsTrue result ↔ IsOfNumber
+        (statements_of tables.now) variable.0 (IsTyped (statements_of tables.now)) }
+{
+    match tables.info(variable) {
+        Some(info) => match info.floating {
+            Some(place) => tables.is_active_now(place),
+            None => false,
+        },
+        None => false,
+    }
+}
