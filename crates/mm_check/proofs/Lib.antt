@@ -18,3 +18,4 @@ pub mod Course
 pub mod Handed
 pub mod Rereading
 pub mod Listings
+pub mod Reports

@@ -1,6 +1,6 @@
-//! Laws of verdicts over files. The functions do nothing: their contracts are the laws.
+//! Laws of verdicts over files, and of reports. The functions do nothing: their contracts are the laws.
 
-ghost use Rattle.mm_check.specs.Laws.{OneVerdict, SomeVerdict};
+ghost use Rattle.mm_check.specs.Laws.{OneVerdict, SomeVerdict, OneReport};
 
 /// Files have at most one verdict: it can't be said of them both that they obey the rules and that
 /// a statement is at fault, nor that two statements are, nor that one is in two ways.
@@ -11,4 +11,10 @@ pub fn one_verdict()
 /// Files of every kind have a verdict: the rules leave no case out.
 pub fn some_verdict()
     ensures { SomeVerdict }
+{}
+
+/// What a theorem rests on is told in one way: two reports over statements that obey the rules,
+/// for one label, have the same axioms and the same unproved theorems, in the same order.
+pub fn one_report()
+    ensures { OneReport }
 {}
