@@ -193,14 +193,14 @@ verifier_fault statements id s tokens steps (faults.Rule rule step) formed last 
     (subst (λ (ts : List (List ℕ)). is_incomplete ts ≡ false) same (complete_is tokens complete), inr (whole, moves, say, fault))
 
 -- a refusal for the proof of the last statement is one of the statement
-pub refuses_after : (files : List PlainFile) (p q : Progress) (s : PlainStatement) (fault : CheckFault) → IsMeant p.book.statements (sentence_of s) → s.kind ≡ Provable
-    → q.book.statements ≡ p.book.statements ++ sentence_of s ∷ [] → q.count ≡ p.count → RefusesProof files q s fault
-    → RefusesAfter files p.book.statements p.count s fault
+pub refuses_after : (files : List PlainFile) (p q : Progress) (s : PlainStatement) (fault : CheckFault) → IsMeant p.prover.book.statements (sentence_of s) → s.kind ≡ Provable
+    → q.prover.book.statements ≡ p.prover.book.statements ++ sentence_of s ∷ [] → q.count ≡ p.count → RefusesProof files q s fault
+    → RefusesAfter files p.prover.book.statements p.count s fault
 refuses_after files p q s fault meant provable book count (inl none) = inl none
 refuses_after files p q s fault meant provable book count (inr at) = inr (
   proof_rule at.0,
   at.1,
-  inr (meant, proof_there s provable at.2, at.0, at.3 p.book.statements book, refl),
+  inr (meant, proof_there s provable at.2, at.0, at.3 p.prover.book.statements book, refl),
   at.4 ∙ ap (λ (n : ℕ). Some (Refused (refusal_of files n s (proof_rule at.0) at.1))) count,
 )
 

@@ -81,14 +81,14 @@ pub record KeepsProof (before : List Sentence) (s : PlainStatement) (id : ℕ) (
 
 -- the proof of the last statement was counted, and what it uses kept, or it was noted as incomplete
 pub record CountsProof (old : Progress) (id : ℕ) (s : PlainStatement) (new : Progress) : Type 0 where
-  pub proved : (before : List Sentence) → old.book.statements ≡ before ++ sentence_of s ∷ []
+  pub proved : (before : List Sentence) → old.prover.book.statements ≡ before ++ sentence_of s ∷ []
       → is_incomplete (proof_of s) ≡ false → IsProvedWithin (IsWithin expression_limit) before (sentence_of s) (proof_of s)
-  pub book : new.book ≡ old.book
+  pub book : new.prover.book ≡ old.prover.book
   pub count : new.count ≡ old.count
   pub proofs : new.proofs ≡ old.proofs + (if is_incomplete (proof_of s) then 0 else 1)
   pub incomplete : map (λ id. id.0) new.incomplete.items
       ≡ map (λ id. id.0) old.incomplete.items ++ (if is_incomplete (proof_of s) then id ∷ [] else [])
-  pub kept : (before : List Sentence) → old.book.statements ≡ before ++ sentence_of s ∷ []
+  pub kept : (before : List Sentence) → old.prover.book.statements ≡ before ++ sentence_of s ∷ []
       → KeepsProof before s id (not (is_incomplete (proof_of s))) old.kept new.kept
 
 -- Memory was wanting, or the last statement is refused for the fault of its proof.
@@ -96,25 +96,25 @@ abbrev pub RefusesProof : List PlainFile → Progress → PlainStatement → Che
 RefusesProof files old s fault =
     (verdict_of_fault fault ≡ None)
     ⊎ ((rule : ProofRule) × (step : ℕ) × (is_incomplete (proof_of s) ≡ false)
-    × ((before : List Sentence) → old.book.statements ≡ before ++ sentence_of s ∷ []
+    × ((before : List Sentence) → old.prover.book.statements ≡ before ++ sentence_of s ∷ []
     → IsFault (IsWithin expression_limit) before (sentence_of s) (proof_of s) rule step)
     × (verdict_of_fault fault ≡ Some (Refused (refusal_of files old.count s (proof_rule rule) step))))
 
 -- The statement obeys the rules, and is taken into the progress.
 pub record Takes (old : Progress) (s : PlainStatement) (new : Progress) : Type 0 where
-  pub obeys : Obeys old.book.statements s
-  pub statements : new.book.statements ≡ old.book.statements ++ sentence_of s ∷ []
-  pub bytes : new.book.bytes ≡ old.book.bytes + bytes_in s
+  pub obeys : Obeys old.prover.book.statements s
+  pub statements : new.prover.book.statements ≡ old.prover.book.statements ++ sentence_of s ∷ []
+  pub bytes : new.prover.book.bytes ≡ old.prover.book.bytes + bytes_in s
   pub count : new.count ≡ old.count + 1
   pub proofs : new.proofs ≡ old.proofs + (if is_proof s then 1 else 0)
   pub incomplete : map (λ id. id.0) new.incomplete.items
-      ≡ map (λ id. id.0) old.incomplete.items ++ (if is_unproved s then length (labelled_sentences old.book.statements) ∷ [] else [])
-  pub kept : KeepsProof old.book.statements s (length (labelled_sentences old.book.statements)) (is_proof s) old.kept new.kept
+      ≡ map (λ id. id.0) old.incomplete.items ++ (if is_unproved s then length (labelled_sentences old.prover.book.statements) ∷ [] else [])
+  pub kept : KeepsProof old.prover.book.statements s (length (labelled_sentences old.prover.book.statements)) (is_proof s) old.kept new.kept
 
 -- what the progress knows of the statements so far
 pub record Knows (statements : List PlainStatement) (p : Progress) : Type 0 where
-  pub book : p.book.statements ≡ sentences statements
-  pub bytes : p.book.bytes ≡ sum_by bytes_in statements
+  pub book : p.prover.book.statements ≡ sentences statements
+  pub bytes : p.prover.book.bytes ≡ sum_by bytes_in statements
   pub count : p.count ≡ length statements
   pub proofs : p.proofs ≡ proofs_of statements
   pub incomplete : map (λ id. slice_get (labels_of statements) id.0) p.incomplete.items ≡ map Some (unproved_of statements)

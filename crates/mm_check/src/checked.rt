@@ -63,17 +63,17 @@ impl<'a> Checked<'a> {
 
     /// What the progress has come to, once nothing is left.
     pub(crate) fn new(progress: Progress<'a>) -> Checked<'a>
-        requires { IsKeptWell (length (labels_in progress.book.statements))
+        requires { IsKeptWell (length (labels_in progress.prover.book.statements))
             (map (λ id. id.0) progress.incomplete.items) progress.kept }
         ensures statements { result.statements ≡ progress.entry.count }
         ensures proofs { result.proofs ≡ progress.entry.proofs }
         ensures incomplete { result.incomplete ≡ map (λ id. id.0) progress.entry.incomplete.items }
-        ensures labels { result.labels ≡ labels_in progress.entry.book.statements }
-        ensures sentences { result.sentences ≡ progress.entry.book.statements }
+        ensures labels { result.labels ≡ labels_in progress.entry.prover.book.statements }
+        ensures sentences { result.sentences ≡ progress.entry.prover.book.statements }
         ensures uses { result.uses ≡ progress.entry.kept }
     {
         Checked {
-            book: progress.book,
+            book: progress.prover.into_book(),
             statements: progress.count,
             proofs: progress.proofs,
             incomplete: progress.incomplete,

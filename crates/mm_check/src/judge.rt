@@ -18,7 +18,7 @@ use crate::fault::{CheckFault, Refusal};
 use crate::place::line_of;
 use crate::progress::Progress;
 use crate::rule::Rule;
-use mm_frame::{Book, LabelId, RuleFault, Taken};
+use mm_frame::{LabelId, RuleFault, Taken};
 use mm_proof::{Parsed, ProofFault, Prover, Steps, Used};
 use mm_text::{File, Kind, Statement};
 use std::alloc::{AllocError, Global};
@@ -72,21 +72,21 @@ fn proof_of<'a>(alloc: Global, statement: &Statement<'a>) -> Result<Vec<&'a [u8]
 /// incomplete.
 fn judge_proof<'a>(
     alloc: Global,
-    prover: &mut Prover,
-    book: &Book<'a>,
+    prover: &mut Prover<'a>,
     id: LabelId,
     statement: &Statement<'a>,
 ) -> Result<Option<Used>, ProofFault>
     requires formed { HasForm (plain_statement statement.now) }
-    requires last { IsLastProof book.now.statements id.0 (plain_statement statement.now) }
+    requires last { IsLastProof prover.old.book.statements id.0 (plain_statement statement.now) }
     requires room { bytes_in (plain_statement statement.now) ≤ 1073741824 }
-    ensures { JudgesProof book.now.statements (plain_statement statement.now) result }
+    ensures judged { JudgesProof prover.old.book.statements (plain_statement statement.now) result }
+    ensures book { prover.new.book ≡ prover.old.book }
 {
     let tokens = proof_of(alloc, statement)?;
-    match Steps::parse(alloc, book, id, &tokens)? {
+    match Steps::parse(alloc, prover.book(), id, &tokens)? {
         Parsed::Incomplete => Ok(None),
         Parsed::Steps(steps) => {
-            let used = prover.prove(book, id, &steps)?;
+            let used = prover.prove(id, &steps)?;
             Ok(Some(used))
         }
     }
@@ -97,13 +97,13 @@ fn judge_proof<'a>(
 fn prove<'a>(
     alloc: Global,
     files: &[File<'a>],
-    prover: &mut Prover,
     progress: &mut Progress<'a>,
     id: LabelId,
     statement: &Statement<'a>,
 ) -> Result<(), CheckFault<'a>>
     requires formed { HasForm (plain_statement statement.now) }
-    requires last { IsLastProof progress.old.book.statements id.0 (plain_statement statement.now) }
+    requires last { IsLastProof progress.old.prover.book.statements id.0
+        (plain_statement statement.now) }
     requires room { bytes_in (plain_statement statement.now) ≤ 1073741824 }
     requires count { progress.old.count < 2 ^ 63 }
     requires proofs { progress.old.proofs < 2 ^ 63 }
@@ -112,7 +112,7 @@ fn prove<'a>(
     ensures refused { IfErr result (RefusesProof (map plain_file files.now) progress.old
         (plain_statement statement.now)) }
 {
-    match judge_proof(alloc, prover, &progress.book, id, statement) {
+    match judge_proof(alloc, &mut progress.prover, id, statement) {
         Ok(Some(used)) => {
             progress.kept.push(id, used.ids())?;
             progress.proofs += 1;
@@ -132,25 +132,25 @@ fn prove<'a>(
 pub(crate) fn judge<'a>(
     alloc: Global,
     files: &[File<'a>],
-    prover: &mut Prover,
     progress: &mut Progress<'a>,
     statement: &Statement<'a>,
 ) -> Result<(), CheckFault<'a>>
     requires formed { HasForm (plain_statement statement.now) }
     requires closes { statement.now.kind ≡ Closing
-        → close_marks progress.old.book.statements < open_marks progress.old.book.statements }
-    requires room { progress.old.book.bytes
+        → close_marks progress.old.prover.book.statements
+        < open_marks progress.old.prover.book.statements }
+    requires room { progress.old.prover.book.bytes
         + bytes_in (plain_statement statement.now) ≤ 1073741824 }
     requires count { progress.old.count < 2 ^ 62 }
     requires proofs { progress.old.proofs < 2 ^ 62 }
     ensures ok { OnOk result (Takes progress.old (plain_statement statement.now) progress.new) }
     ensures refused { IfErr result (RefusesAfter
-        (map plain_file files.now) progress.old.book.statements
+        (map plain_file files.now) progress.old.prover.book.statements
         progress.old.count (plain_statement statement.now)) }
 {
-    match progress.book.take(statement) {
+    match progress.prover.take(statement) {
         Ok(Taken::Assertion(id)) if statement.kind == Kind::Provable => {
-            prove(alloc, files, prover, progress, id, statement)?
+            prove(alloc, files, progress, id, statement)?
         }
         Ok(_) => {}
         Err(RuleFault::Rule(rule)) => {

@@ -13,7 +13,7 @@ use Rattle.mm_check.proofs.judge.judge_proof.Goals as goal
 pub parse-requires-clause-proof : goal.parse-requires-clause-proof
 parse-requires-clause-proof c =
     let s : PlainStatement = plain_statement c.args.statement.now in
-    (length c.requires.last.before, sentence_of s, last_number c.args.book.now.statements c.args.id.0 s c.requires.formed c.requires.last c.requires.last.before c.requires.last.whole)
+    (length c.requires.last.before, sentence_of s, last_number c.args.prover.now.book.statements c.args.id.0 s c.requires.formed c.requires.last c.requires.last.before c.requires.last.whole)
 
 pub parse-requires-clause-filled : goal.parse-requires-clause-filled
 parse-requires-clause-filled c =
@@ -22,8 +22,8 @@ parse-requires-clause-filled c =
     subst (λ (ts : List (List ℕ)). AllByRecursion (λ (t : List ℕ). 1 ≤ length t) ts) (sym texts)
     (filled_texts (plain_statement c.args.statement.now).proof c.requires.formed.proof)
 
-pub returns-in_err-parse : goal.returns-in_err-parse
-returns-in_err-parse c =
+pub returns-in_err-parse-clause-judged : goal.returns-in_err-parse-clause-judged
+returns-in_err-parse-clause-judged c =
     let s : PlainStatement = plain_statement c.args.statement.now in
     let tokens : List (List ℕ) = map (λ (t : Bor (List ℕ)). t.now) c.deref.result.now in
     let same : tokens ≡ proof_of s =
@@ -31,11 +31,11 @@ returns-in_err-parse c =
     let complete : ¬ (IsIncomplete tokens) = λ h.
     let e : Err c.in_err-parse.field-0.0 ≡ Ok Incomplete = sym c.in_err-parse.was ∙ c.parse.ensures.complete h in absurd cc in
     λ before e. of_fault before s c.from_residual-in_err-parse.result c.in_err-parse.field-0.0 c.from_residual-in_err-parse.ensures.1
-    (parser_fault c.args.book.now.statements c.args.id.0 s tokens c.in_err-parse.field-0.0 c.requires.formed c.requires.last same complete
+    (parser_fault c.args.prover.now.book.statements c.args.id.0 s tokens c.in_err-parse.field-0.0 c.requires.formed c.requires.last same complete
     (λ rule step f place t n. c.parse.ensures.fault rule step (c.in_err-parse.was ∙ ap Err f) place t n) before e)
 
-pub returns-in_err-used-in-Steps : goal.returns-in_err-used-in-Steps
-returns-in_err-used-in-Steps c =
+pub returns-in_err-used-in-Steps-clause-judged : goal.returns-in_err-used-in-Steps-clause-judged
+returns-in_err-used-in-Steps-clause-judged c =
     let s : PlainStatement = plain_statement c.args.statement.now in
     let tokens : List (List ℕ) = map (λ (t : Bor (List ℕ)). t.now) c.deref.result.now in
     let same : tokens ≡ proof_of s =
@@ -44,12 +44,12 @@ returns-in_err-used-in-Steps c =
     let complete : ¬ (IsIncomplete tokens) = λ h.
     let e : Ok (Steps c.in-Steps.steps) ≡ Ok Incomplete = sym parsed ∙ c.parse.ensures.complete h in absurd cc in
     λ before e. of_fault before s c.from_residual-in_err-used-in-Steps.result c.in_err-used-in-Steps.field-0.0 c.from_residual-in_err-used-in-Steps.ensures.1
-    (verifier_fault c.args.book.now.statements c.args.id.0 s tokens c.in-Steps.steps c.in_err-used-in-Steps.field-0.0 c.requires.formed c.requires.last same complete
+    (verifier_fault c.args.prover.now.book.statements c.args.id.0 s tokens c.in-Steps.steps c.in_err-used-in-Steps.field-0.0 c.requires.formed c.requires.last same complete
     (λ place t n. c.parse.ensures.steps c.in-Steps.steps parsed place t n)
     (λ rule step f place t moves n m. c.prove.ensures.fault rule step (c.in_err-used-in-Steps.was ∙ ap Err f) place t moves n m) before e)
 
-pub returns : goal.returns
-returns c =
+pub returns-clause-judged : goal.returns-clause-judged
+returns-clause-judged c =
     let s : PlainStatement = plain_statement c.args.statement.now in
     let tokens : List (List ℕ) = map (λ (t : Bor (List ℕ)). t.now) c.deref.result.now in
     let same : tokens ≡ proof_of s =
@@ -57,6 +57,6 @@ returns c =
     let parsed : c.parse.result ≡ Ok (Steps c.in-Steps.steps) = c.in_ok-parse.was ∙ ap Ok c.in-Steps.is in
     let complete : ¬ (IsIncomplete tokens) = λ h.
     let e : Ok (Steps c.in-Steps.steps) ≡ Ok Incomplete = sym parsed ∙ c.parse.ensures.complete h in absurd cc in
-    λ before e. verified c.args.book.now.statements c.args.id.0 s tokens c.in-Steps.steps c.in_ok-used-in-Steps.used c.requires.formed c.requires.last same complete
+    λ before e. verified c.args.prover.now.book.statements c.args.id.0 s tokens c.in-Steps.steps c.in_ok-used-in-Steps.used c.requires.formed c.requires.last same complete
     (λ place t n. c.parse.ensures.steps c.in-Steps.steps parsed place t n)
     (λ place t moves n m. c.in_ok-used-in-Steps.ensures.proved place t moves n m) before e

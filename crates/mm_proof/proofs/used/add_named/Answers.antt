@@ -2,7 +2,7 @@ use Rattle.std.proofs.Common.{List, Contains, subst}
 use Rattle.mm_frame.specs.declared.number.LabelId.{LabelId}
 use Rattle.mm_proof.specs.CodeSteps.{ids_in}
 use Rattle.mm_proof.proofs.Naming.{is_assertion, no_assertion, named_more, named_again, named_other}
-use Rattle.mm_proof.proofs.verdict.add_named.Goals as goal
+use Rattle.mm_proof.proofs.used.add_named.Goals as goal
 
 pub returns-then-is_listed : goal.returns-then-is_listed
 returns-then-is_listed c moves old =

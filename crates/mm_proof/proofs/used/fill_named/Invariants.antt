@@ -1,7 +1,7 @@
 use Rattle.std.proofs.Common.{ℕ, take, Contains, ◌↔◌}
 use Rattle.mm_proof.specs.CodeSteps.{ids_in, moves_in}
 use Rattle.mm_proof.specs.CodeRun.{IsNamedByMove}
-use Rattle.mm_proof.proofs.verdict.fill_named.Given as goal
+use Rattle.mm_proof.proofs.used.fill_named.Given as goal
 
 abbrev pub invariant-loop-one : goal.invariant-loop-one
 invariant-loop-one l =

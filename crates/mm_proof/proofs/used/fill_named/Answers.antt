@@ -4,8 +4,8 @@ use Rattle.mm_proof.specs.CodeRun.{MayBeMade}
 use Rattle.mm_proof.proofs.Derived.{all_at}
 use Rattle.mm_proof.proofs.Running.{move_at}
 use Rattle.mm_proof.proofs.Naming.{gather_added, gather_none, gathered_all}
-use Rattle.mm_proof.proofs.verdict.fill_named.Goals as goal
-use Rattle.mm_proof.proofs.verdict.fill_named.Goals.{in-Name+in_ok-add_named, in_default}
+use Rattle.mm_proof.proofs.used.fill_named.Goals as goal
+use Rattle.mm_proof.proofs.used.fill_named.Goals.{in-Name+in_ok-add_named, in_default}
 
 pub add_named-requires : goal.add_named-requires
 add_named-requires c =
