@@ -10,6 +10,8 @@ use Rattle.mm_frame.specs.Sentence.{Sentence, sentence_of}
 use Rattle.mm_frame.specs.Numbers.{labelled_sentences}
 use Rattle.mm_proof.specs.declared.fault.ProofRule.{ProofRule}
 use Rattle.mm_proof.specs.declared.fault.ProofFault.{ProofFault}
+use Rattle.mm_proof.specs.declared.prover.Proved.{Proved}
+use Rattle.mm_proof.specs.declared.prover.Proved.TheVariants as proved
 use Rattle.mm_proof.specs.Answer.{OnRule}
 use Rattle.mm_proof.specs.Used.{AreUsed}
 use Rattle.mm_proof.specs.Proof.{IsProvedWithin, IsWithin, expression_limit, IsFault}
@@ -58,20 +60,20 @@ pub record IsProvedUsing (before : List Sentence) (s : PlainStatement) (used : L
   pub proof : IsProvedWithin (IsWithin expression_limit) before (sentence_of s) (proof_of s)
   pub all : AreUsed before (tree_of proof) used
 
--- the proof is incomplete; or it is complete, and proved
-abbrev pub IsJudged : List Sentence → PlainStatement → Option (List ℕ) → Type 0
-IsJudged before s None = is_incomplete (proof_of s) ≡ true
-IsJudged before s (Some used) = (is_incomplete (proof_of s) ≡ false) × IsProvedUsing before s used
+-- the proof is incomplete; or it is complete, and proved by a tree in which these assertions stand
+abbrev pub IsJudged : List Sentence → PlainStatement → List ℕ → Proved → Type 0
+IsJudged before s used proved.Incomplete = is_incomplete (proof_of s) ≡ true
+IsJudged before s used proved.Complete = (is_incomplete (proof_of s) ≡ false) × IsProvedUsing before s used
 
 -- its proof is complete, and this is its fault; or memory was wanting
 abbrev pub Fails : List Sentence → PlainStatement → ProofFault → Type 0
 Fails before s fault = OnRule fault (λ rule step.
     (is_incomplete (proof_of s) ≡ false) × IsFault (IsWithin expression_limit) before (sentence_of s) (proof_of s) rule step)
 
--- the verdict on the proof of the last statement
-abbrev pub JudgesProof : List Sentence → PlainStatement → Result (Option (List ℕ)) ProofFault → Type 0
-JudgesProof statements s result =
-    (before : List Sentence) → statements ≡ before ++ sentence_of s ∷ [] → MatchResult result (IsJudged before s) (Fails before s)
+-- the verdict on the proof of the last statement, which uses these assertions if it is complete
+abbrev pub JudgesProof : List Sentence → PlainStatement → Result Proved ProofFault → List ℕ → Type 0
+JudgesProof statements s result used =
+    (before : List Sentence) → statements ≡ before ++ sentence_of s ∷ [] → MatchResult result (IsJudged before s used) (Fails before s)
 
 -- of a statement with this number, after those before it, what its proof uses is kept, if that is complete
 pub record KeepsProof (before : List Sentence) (s : PlainStatement) (id : ℕ) (complete : Bool) (old new : List ProofUses) : Type 0 where

@@ -129,7 +129,7 @@ fn judge_rest<'a>(
 {
     let mut statement = Statement::empty(alloc);
     while next(files, statements, &mut statement)? {
-        judge(alloc, files, progress, &statement)?;
+        judge(files, progress, &statement)?;
     }
     Ok(())
 }

@@ -202,7 +202,7 @@ fn derive<S: Store>(
 
 // Fills the list with the assertions of the tree that the moves make, or tells their first fault,
 // where the frame is that of the `$p`.
-fn judgement_in_frame<S: Store>(
+pub(crate) fn judgement_in_frame<S: Store>(
     store: &mut S,
     scratch: &mut Scratch,
     named: &mut Named,

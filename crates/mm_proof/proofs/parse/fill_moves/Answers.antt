@@ -1,5 +1,5 @@
 use Rattle.mm_proof.proofs.Compressed.{codes_more}
-use Rattle.mm_proof.proofs.parse.moves_of.Goals as goal
+use Rattle.mm_proof.proofs.parse.fill_moves.Goals as goal
 
 pub loop-code-preserved : goal.loop-code-preserved
 loop-code-preserved c =
