@@ -96,7 +96,7 @@ end_verdict files p left fault way (inr end) v e =
 
 pub statement_verdict : (files : List PlainFile) (p : Progress) (s : PlainStatement) (old new : Remaining) (fault : CheckFault)
     → IsUnderWay files p old → TakesNext old true s new
-    → RefusesAfter files p.book.statements p.count s fault
+    → RefusesAfter files p.prover.book.statements p.count s fault
     → (v : Verdict) → verdict_of_fault fault ≡ Some v → HasVerdict files v
 statement_verdict files p s old new fault way taken (inl none) v e = absurd (untold fault v none e)
 statement_verdict files p s old new fault way taken (inr at) v e =
@@ -124,8 +124,8 @@ pub record Concludes (p : Progress) (c : Conclusion) : Type 0 where
   pub statements : c.statements ≡ p.count
   pub proofs : c.proofs ≡ p.proofs
   pub incomplete : c.incomplete ≡ ids p.incomplete.items
-  pub labels : c.labels ≡ labels_in p.book.statements
-  pub sentences : c.sentences ≡ p.book.statements
+  pub labels : c.labels ≡ labels_in p.prover.book.statements
+  pub sentences : c.sentences ≡ p.prover.book.statements
   pub uses : c.uses ≡ p.kept
 
 -- numbers that name these proofs tell yes where there are none, else these proofs
@@ -185,9 +185,9 @@ uses_kept files p left c way none kept statements ending reads =
 
 -- the numbers of the incomplete proofs are those of labels
 incomplete_within : (files : List PlainFile) (p : Progress) (left : Remaining) → IsUnderWay files p left
-    → AllByRecursion (λ n. n < length (labels_in p.book.statements)) (ids p.incomplete.items)
+    → AllByRecursion (λ n. n < length (labels_in p.prover.book.statements)) (ids p.incomplete.items)
 incomplete_within files p left way =
-    let labels : labels_in p.book.statements ≡ labels_of way.earlier = ap labels_in way.known.book ∙ labels_said way.earlier in
+    let labels : labels_in p.prover.book.statements ≡ labels_of way.earlier = ap labels_in way.known.book ∙ labels_said way.earlier in
     let named : map (slice_get (labels_of way.earlier)) (ids p.incomplete.items) ≡ map Some (unproved_of way.earlier) =
     sym (names_of_ids (labels_of way.earlier) p.incomplete.items) ∙ way.known.incomplete in
     subst (λ (ls : List (List ℕ)). AllByRecursion (λ n. n < length ls) (ids p.incomplete.items)) (sym labels)
@@ -195,7 +195,7 @@ incomplete_within files p left way =
 
 -- what is kept at the end
 pub kept_well : (files : List PlainFile) (p : Progress) (left : Remaining) → IsUnderWay files p left → left.statements ≡ [] → left.ending ≡ None
-    → IsKeptWell files p.book.statements (ids p.incomplete.items) p.kept
+    → IsKeptWell files p.prover.book.statements (ids p.incomplete.items) p.kept
 kept_well files p left way none ending = record {
   in_range = incomplete_within files p left way;
   rising = way.known.noted.rising;

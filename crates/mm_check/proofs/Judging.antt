@@ -12,12 +12,12 @@ use Rattle.mm_frame.specs.Numbers.{labelled_sentences}
 use Rattle.mm_proof.specs.declared.fault.ProofRule.{ProofRule}
 use Rattle.mm_proof.specs.declared.fault.ProofFault.{ProofFault}
 use Rattle.mm_proof.specs.declared.fault.ProofFault.TheVariants as faults
-use Rattle.mm_proof.specs.Moves.{Move}
-use Rattle.mm_proof.specs.Tree.{none as no_trees, tree}
-use Rattle.mm_proof.specs.Used.{AreUsed}
-use Rattle.mm_proof.specs.Tokens.{IsIncomplete, SayMoves}
-use Rattle.mm_proof.specs.Proof.{Prove, IsWhole, IsWithin, expression_limit, IsWholeFault, IsMovesFault}
-use Rattle.mm_proof.specs.Steps.{IsProofNumber, AreNumberedMoves}
+use Rattle.mm_proof.specs.declared.prover.Proved.{Proved}
+use Rattle.mm_proof.specs.declared.prover.Proved.TheVariants as proved
+use Rattle.mm_proof.specs.Tokens.{IsIncomplete}
+use Rattle.mm_proof.specs.Steps.{IsProofNumber}
+use Rattle.mm_proof.specs.Parsed.{OfProof}
+use Rattle.mm_proof.specs.Verified.{TokensProve, TokensFail}
 use Rattle.mm_proof.proofs.Places.{one_split}
 use Rattle.mm_text.specs.Files.{PlainFile}
 use Rattle.mm_frame.specs.Rules.{IsMeant}
@@ -33,11 +33,6 @@ use Rattle.mm_check.proofs.Unproved.{proof_there}
 pub texts_of : (tokens : List Token) → map (λ (t : Token). t.text.now) tokens ≡ map (λ (t : PlainToken). t.text) (map plain_token tokens)
 texts_of [] = refl
 texts_of (t ∷ tokens) = ap (λ (rest : List (List ℕ)). t.text.now ∷ rest) (texts_of tokens)
-
-pub filled_texts : (tokens : List PlainToken) → AllByRecursion (λ (t : PlainToken). 1 ≤ length t.text) tokens
-    → AllByRecursion (λ (t : List ℕ). 1 ≤ length t) (map (λ (t : PlainToken). t.text) tokens)
-filled_texts [] all = tt
-filled_texts (t ∷ tokens) all = (all.0, filled_texts tokens all.1)
 
 -- ## Whether it is incomplete
 
@@ -114,93 +109,43 @@ last_number statements id s formed last before e =
 
 -- ## The verdict on its proof
 
--- what is said of a fault, said of an answer that passes it on
-pub of_fault : (before : List Sentence) (s : PlainStatement) (result : Result (Option (List ℕ)) ProofFault) (fault : ProofFault)
-    → IsErrAnd result (λ e. e ≡ fault) → Fails before s fault → MatchResult result (IsJudged before s) (Fails before s)
-of_fault before s (Ok x) fault same q = absurd same
-of_fault before s (Err e) fault same q = subst (Fails before s) (sym same) q
+-- a proof with no unknown step is complete
+is_complete : (tokens : List (List ℕ)) (s : PlainStatement) → tokens ≡ proof_of s → ¬ (IsIncomplete tokens) → is_incomplete (proof_of s) ≡ false
+is_complete tokens s same none = subst (λ (ts : List (List ℕ)). is_incomplete ts ≡ false) same (complete_is tokens none)
 
--- the fault that the parser names
-pub parser_fault : (statements : List Sentence) (id : ℕ) (s : PlainStatement) (tokens : List (List ℕ)) (fault : ProofFault) → HasForm s → IsLastProof statements id s
-    → tokens ≡ proof_of s → ¬ (IsIncomplete tokens)
-    → ((rule : ProofRule) (step : ℕ) → fault ≡ faults.Rule rule step → (place : ℕ) (t : Sentence) → IsProofNumber statements id place t
-    → (step ≡ 0) × IsWholeFault (take place statements) tokens rule)
+-- what the prover says of the tokens of the statement with the number, wherever it stands, is said of the last one
+pub judged : (statements : List Sentence) (id : ℕ) (s : PlainStatement) (tokens : List (List ℕ)) (result : Result Proved ProofFault) (used : List ℕ) → HasForm s → IsLastProof statements id s
+    → tokens ≡ proof_of s
+    → (result ≡ Ok proved.Incomplete → IsIncomplete tokens) → (IsIncomplete tokens → result ≡ Ok proved.Incomplete)
+    → (result ≡ Ok proved.Complete → OfProof statements id (λ place t. TokensProve (take place statements) t tokens used))
+    → ((rule : ProofRule) (step : ℕ) → result ≡ Err (faults.Rule rule step) → OfProof statements id (λ place t. TokensFail (take place statements) t tokens rule step))
     → (before : List Sentence) → statements ≡ before ++ sentence_of s ∷ []
-    → Fails before s fault
-parser_fault statements id s tokens faults.Memory formed last same complete told before e = tt
-parser_fault statements id s tokens (faults.Rule rule step) formed last same complete told before e =
-    let at = told rule step refl (length before) (sentence_of s) (last_number statements id s formed last before e) in
-    let Whole : List Sentence → List (List ℕ) → Type 0 = λ ss ts. IsWholeFault ss ts rule in
-    let whole : IsWholeFault before (proof_of s) rule =
-    subst (λ (ts : List (List ℕ)). Whole before ts) same (subst (λ (ss : List Sentence). Whole ss tokens) (front_of statements before (sentence_of s) e) at.1) in
-    (subst (λ (ts : List (List ℕ)). is_incomplete ts ≡ false) same (complete_is tokens complete), inl (at.0, whole))
-
--- what the parser says of the moves of the statement with the number, wherever it stands
-abbrev pub SaysMoves : List Sentence → ℕ → List (List ℕ) → List (Move ℕ) → Type 0
-SaysMoves statements id tokens steps =
-    (place : ℕ) (t : Sentence) → IsProofNumber statements id place t
-    → IsWhole (take place statements) tokens
-    × (moves : List (Move (List ℕ))) × SayMoves (take place statements) t tokens moves × AreNumberedMoves statements steps moves
-
--- the moves prove the statement, by a tree in which just these assertions stand
-abbrev pub ProveUsing : List ℕ → List Sentence → Sentence → List (Move (List ℕ)) → Type 0
-ProveUsing used before t moves =
-    (p : Prove (IsWithin expression_limit) before t moves) × AreUsed before (tree p.label p.below no_trees) used
-
--- the moves prove the last statement
-pub verified : (statements : List Sentence) (id : ℕ) (s : PlainStatement) (tokens : List (List ℕ)) (steps : List (Move ℕ)) (used : List ℕ) → HasForm s → IsLastProof statements id s
-    → tokens ≡ proof_of s → ¬ (IsIncomplete tokens) → SaysMoves statements id tokens steps
-    → ((place : ℕ) (t : Sentence) (moves : List (Move (List ℕ))) → IsProofNumber statements id place t → AreNumberedMoves statements steps moves
-    → ProveUsing used (take place statements) t moves)
-    → (before : List Sentence) → statements ≡ before ++ sentence_of s ∷ []
-    → IsJudged before s (Some used)
-verified statements id s tokens steps used formed last same complete says proves before e =
-    let number = last_number statements id s formed last before e in
-    let said_moves = says (length before) (sentence_of s) number in
-    let front = front_of statements before (sentence_of s) e in
-    let whole : IsWhole before (proof_of s) =
-    subst (λ (ts : List (List ℕ)). IsWhole before ts) same (subst (λ (ss : List Sentence). IsWhole ss tokens) front said_moves.0) in
-    let moves : List (Move (List ℕ)) = said_moves.1 in
-    let say : SayMoves before (sentence_of s) (proof_of s) moves =
-    subst (λ (ts : List (List ℕ)). SayMoves before (sentence_of s) ts moves) same (subst (λ (ss : List Sentence). SayMoves ss (sentence_of s) tokens moves) front said_moves.2) in
-    let prove : ProveUsing used before (sentence_of s) moves =
-    subst (λ (ss : List Sentence). ProveUsing used ss (sentence_of s) moves) front (proves (length before) (sentence_of s) moves number said_moves.3) in (
-      subst (λ (ts : List (List ℕ)). is_incomplete ts ≡ false) same (complete_is tokens complete),
-      record { proof = record { whole = whole; moves = moves; said = say; proves = prove.0 }; all = prove.1 },
-    )
-
--- the fault that the verifier names
-pub verifier_fault : (statements : List Sentence) (id : ℕ) (s : PlainStatement) (tokens : List (List ℕ)) (steps : List (Move ℕ)) (fault : ProofFault) → HasForm s → IsLastProof statements id s
-    → tokens ≡ proof_of s → ¬ (IsIncomplete tokens) → SaysMoves statements id tokens steps
-    → ((rule : ProofRule) (step : ℕ) → fault ≡ faults.Rule rule step → (place : ℕ) (t : Sentence) (moves : List (Move (List ℕ)))
-    → IsProofNumber statements id place t → AreNumberedMoves statements steps moves
-    → IsMovesFault (IsWithin expression_limit) (take place statements) t moves rule step)
-    → (before : List Sentence) → statements ≡ before ++ sentence_of s ∷ []
-    → Fails before s fault
-verifier_fault statements id s tokens steps faults.Memory formed last same complete says told before e = tt
-verifier_fault statements id s tokens steps (faults.Rule rule step) formed last same complete says told before e =
-    let number = last_number statements id s formed last before e in
-    let said_moves = says (length before) (sentence_of s) number in
-    let front = front_of statements before (sentence_of s) e in
-    let whole : IsWhole before (proof_of s) =
-    subst (λ (ts : List (List ℕ)). IsWhole before ts) same (subst (λ (ss : List Sentence). IsWhole ss tokens) front said_moves.0) in
-    let moves : List (Move (List ℕ)) = said_moves.1 in
-    let say : SayMoves before (sentence_of s) (proof_of s) moves =
-    subst (λ (ts : List (List ℕ)). SayMoves before (sentence_of s) ts moves) same (subst (λ (ss : List Sentence). SayMoves ss (sentence_of s) tokens moves) front said_moves.2) in
-    let fault : IsMovesFault (IsWithin expression_limit) before (sentence_of s) moves rule step =
-    subst (λ (ss : List Sentence). IsMovesFault (IsWithin expression_limit) ss (sentence_of s) moves rule step) front
-    (told rule step refl (length before) (sentence_of s) moves number said_moves.3) in
-    (subst (λ (ts : List (List ℕ)). is_incomplete ts ≡ false) same (complete_is tokens complete), inr (whole, moves, say, fault))
+    → MatchResult result (IsJudged before s used) (Fails before s)
+judged statements id s tokens (Ok proved.Incomplete) used formed last same incomplete complete proves fails before e =
+    subst (λ (ts : List (List ℕ)). is_incomplete ts ≡ true) same (incomplete_is tokens (incomplete refl))
+judged statements id s tokens (Ok proved.Complete) used formed last same incomplete complete proves fails before e =
+    let Given : List Sentence → List (List ℕ) → Type 0 = λ ss ts. TokensProve ss (sentence_of s) ts used in
+    let there = proves refl (length before) (sentence_of s) (last_number statements id s formed last before e) in
+    let here : TokensProve before (sentence_of s) (proof_of s) used =
+    subst (λ (ts : List (List ℕ)). Given before ts) same (subst (λ (ss : List Sentence). Given ss tokens) (front_of statements before (sentence_of s) e) there) in
+    (is_complete tokens s same (λ h. let c = complete h in absurd cc), record { proof = here.proof; all = here.all })
+judged statements id s tokens (Err faults.Memory) used formed last same incomplete complete proves fails before e = tt
+judged statements id s tokens (Err (faults.Rule rule step)) used formed last same incomplete complete proves fails before e =
+    let Given : List Sentence → List (List ℕ) → Type 0 = λ ss ts. TokensFail ss (sentence_of s) ts rule step in
+    let there = fails rule step refl (length before) (sentence_of s) (last_number statements id s formed last before e) in
+    let here : TokensFail before (sentence_of s) (proof_of s) rule step =
+    subst (λ (ts : List (List ℕ)). Given before ts) same (subst (λ (ss : List Sentence). Given ss tokens) (front_of statements before (sentence_of s) e) there) in
+    (is_complete tokens s same (λ h. let c = complete h in absurd cc), here)
 
 -- a refusal for the proof of the last statement is one of the statement
-pub refuses_after : (files : List PlainFile) (p q : Progress) (s : PlainStatement) (fault : CheckFault) → IsMeant p.book.statements (sentence_of s) → s.kind ≡ Provable
-    → q.book.statements ≡ p.book.statements ++ sentence_of s ∷ [] → q.count ≡ p.count → RefusesProof files q s fault
-    → RefusesAfter files p.book.statements p.count s fault
+pub refuses_after : (files : List PlainFile) (p q : Progress) (s : PlainStatement) (fault : CheckFault) → IsMeant p.prover.book.statements (sentence_of s) → s.kind ≡ Provable
+    → q.prover.book.statements ≡ p.prover.book.statements ++ sentence_of s ∷ [] → q.count ≡ p.count → RefusesProof files q s fault
+    → RefusesAfter files p.prover.book.statements p.count s fault
 refuses_after files p q s fault meant provable book count (inl none) = inl none
 refuses_after files p q s fault meant provable book count (inr at) = inr (
   proof_rule at.0,
   at.1,
-  inr (meant, proof_there s provable at.2, at.0, at.3 p.book.statements book, refl),
+  inr (meant, proof_there s provable at.2, at.0, at.3 p.prover.book.statements book, refl),
   at.4 ∙ ap (λ (n : ℕ). Some (Refused (refusal_of files n s (proof_rule at.0) at.1))) count,
 )
 

@@ -93,9 +93,9 @@ incomplete_more : (statements : List PlainStatement) (s : PlainStatement) (p q :
 incomplete_more statements s p q formed known takes =
     let names : List (List ℕ) = labels_of statements in
     let numbers : List ℕ = ids p.incomplete.items in
-    let count : ℕ = length (labelled_sentences p.book.statements) in
+    let count : ℕ = length (labelled_sentences p.prover.book.statements) in
     let counted : count ≡ length names =
-    count_labelled (λ (t : Sentence). t.label) p.book.statements
+    count_labelled (λ (t : Sentence). t.label) p.prover.book.statements
     ∙ ap length (ap labels_in known.book ∙ labels_said statements) in
     let named : map (slice_get names) numbers ≡ map Some (unproved_of statements) =
     sym (names_of_ids names p.incomplete.items) ∙ known.incomplete in

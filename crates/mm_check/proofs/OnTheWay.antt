@@ -65,7 +65,7 @@ take_next {X} (z ∷ xs) x ys = ap (λ (zs : List X). z ∷ zs) (take_next xs x 
 
 -- a `$}` that is next has a block to close
 pub closes : (files : List PlainFile) (p : Progress) (old new : Remaining) (s : PlainStatement) → IsUnderWay files p old → TakesNext old true s new
-    → s.kind ≡ Closing → frame.close_marks p.book.statements < frame.open_marks p.book.statements
+    → s.kind ≡ Closing → frame.close_marks p.prover.book.statements < frame.open_marks p.prover.book.statements
 closes files p old new s way taken closing =
     let earlier : List PlainStatement = way.earlier in
     let whole : earlier ++ old.statements ≡ earlier ++ s ∷ new.statements = ap (λ (ss : List PlainStatement). earlier ++ ss) taken.0 in
@@ -91,7 +91,7 @@ closes files p old new s way taken closing =
 
 -- the next statement's bytes have room
 pub has_room : (files : List PlainFile) (p : Progress) (old new : Remaining) (s : PlainStatement) → IsUnderWay files p old → TakesNext old true s new
-    → p.book.bytes + bytes_in s ≤ 1073741824
+    → p.prover.book.bytes + bytes_in s ≤ 1073741824
 has_room files p old new s way taken =
     let earlier : List PlainStatement = way.earlier in
     let whole : earlier ++ old.statements ≡ earlier ++ s ∷ new.statements = ap (λ (ss : List PlainStatement). earlier ++ ss) taken.0 in

@@ -10,6 +10,8 @@ use Rattle.mm_frame.specs.Sentence.{Sentence, sentence_of}
 use Rattle.mm_frame.specs.Numbers.{labelled_sentences}
 use Rattle.mm_proof.specs.declared.fault.ProofRule.{ProofRule}
 use Rattle.mm_proof.specs.declared.fault.ProofFault.{ProofFault}
+use Rattle.mm_proof.specs.declared.prover.Proved.{Proved}
+use Rattle.mm_proof.specs.declared.prover.Proved.TheVariants as proved
 use Rattle.mm_proof.specs.Answer.{OnRule}
 use Rattle.mm_proof.specs.Used.{AreUsed}
 use Rattle.mm_proof.specs.Proof.{IsProvedWithin, IsWithin, expression_limit, IsFault}
@@ -58,20 +60,20 @@ pub record IsProvedUsing (before : List Sentence) (s : PlainStatement) (used : L
   pub proof : IsProvedWithin (IsWithin expression_limit) before (sentence_of s) (proof_of s)
   pub all : AreUsed before (tree_of proof) used
 
--- the proof is incomplete; or it is complete, and proved
-abbrev pub IsJudged : List Sentence → PlainStatement → Option (List ℕ) → Type 0
-IsJudged before s None = is_incomplete (proof_of s) ≡ true
-IsJudged before s (Some used) = (is_incomplete (proof_of s) ≡ false) × IsProvedUsing before s used
+-- the proof is incomplete; or it is complete, and proved by a tree in which these assertions stand
+abbrev pub IsJudged : List Sentence → PlainStatement → List ℕ → Proved → Type 0
+IsJudged before s used proved.Incomplete = is_incomplete (proof_of s) ≡ true
+IsJudged before s used proved.Complete = (is_incomplete (proof_of s) ≡ false) × IsProvedUsing before s used
 
 -- its proof is complete, and this is its fault; or memory was wanting
 abbrev pub Fails : List Sentence → PlainStatement → ProofFault → Type 0
 Fails before s fault = OnRule fault (λ rule step.
     (is_incomplete (proof_of s) ≡ false) × IsFault (IsWithin expression_limit) before (sentence_of s) (proof_of s) rule step)
 
--- the verdict on the proof of the last statement
-abbrev pub JudgesProof : List Sentence → PlainStatement → Result (Option (List ℕ)) ProofFault → Type 0
-JudgesProof statements s result =
-    (before : List Sentence) → statements ≡ before ++ sentence_of s ∷ [] → MatchResult result (IsJudged before s) (Fails before s)
+-- the verdict on the proof of the last statement, which uses these assertions if it is complete
+abbrev pub JudgesProof : List Sentence → PlainStatement → Result Proved ProofFault → List ℕ → Type 0
+JudgesProof statements s result used =
+    (before : List Sentence) → statements ≡ before ++ sentence_of s ∷ [] → MatchResult result (IsJudged before s used) (Fails before s)
 
 -- of a statement with this number, after those before it, what its proof uses is kept, if that is complete
 pub record KeepsProof (before : List Sentence) (s : PlainStatement) (id : ℕ) (complete : Bool) (old new : List ProofUses) : Type 0 where
@@ -81,14 +83,14 @@ pub record KeepsProof (before : List Sentence) (s : PlainStatement) (id : ℕ) (
 
 -- the proof of the last statement was counted, and what it uses kept, or it was noted as incomplete
 pub record CountsProof (old : Progress) (id : ℕ) (s : PlainStatement) (new : Progress) : Type 0 where
-  pub proved : (before : List Sentence) → old.book.statements ≡ before ++ sentence_of s ∷ []
+  pub proved : (before : List Sentence) → old.prover.book.statements ≡ before ++ sentence_of s ∷ []
       → is_incomplete (proof_of s) ≡ false → IsProvedWithin (IsWithin expression_limit) before (sentence_of s) (proof_of s)
-  pub book : new.book ≡ old.book
+  pub book : new.prover.book ≡ old.prover.book
   pub count : new.count ≡ old.count
   pub proofs : new.proofs ≡ old.proofs + (if is_incomplete (proof_of s) then 0 else 1)
   pub incomplete : map (λ id. id.0) new.incomplete.items
       ≡ map (λ id. id.0) old.incomplete.items ++ (if is_incomplete (proof_of s) then id ∷ [] else [])
-  pub kept : (before : List Sentence) → old.book.statements ≡ before ++ sentence_of s ∷ []
+  pub kept : (before : List Sentence) → old.prover.book.statements ≡ before ++ sentence_of s ∷ []
       → KeepsProof before s id (not (is_incomplete (proof_of s))) old.kept new.kept
 
 -- Memory was wanting, or the last statement is refused for the fault of its proof.
@@ -96,25 +98,25 @@ abbrev pub RefusesProof : List PlainFile → Progress → PlainStatement → Che
 RefusesProof files old s fault =
     (verdict_of_fault fault ≡ None)
     ⊎ ((rule : ProofRule) × (step : ℕ) × (is_incomplete (proof_of s) ≡ false)
-    × ((before : List Sentence) → old.book.statements ≡ before ++ sentence_of s ∷ []
+    × ((before : List Sentence) → old.prover.book.statements ≡ before ++ sentence_of s ∷ []
     → IsFault (IsWithin expression_limit) before (sentence_of s) (proof_of s) rule step)
     × (verdict_of_fault fault ≡ Some (Refused (refusal_of files old.count s (proof_rule rule) step))))
 
 -- The statement obeys the rules, and is taken into the progress.
 pub record Takes (old : Progress) (s : PlainStatement) (new : Progress) : Type 0 where
-  pub obeys : Obeys old.book.statements s
-  pub statements : new.book.statements ≡ old.book.statements ++ sentence_of s ∷ []
-  pub bytes : new.book.bytes ≡ old.book.bytes + bytes_in s
+  pub obeys : Obeys old.prover.book.statements s
+  pub statements : new.prover.book.statements ≡ old.prover.book.statements ++ sentence_of s ∷ []
+  pub bytes : new.prover.book.bytes ≡ old.prover.book.bytes + bytes_in s
   pub count : new.count ≡ old.count + 1
   pub proofs : new.proofs ≡ old.proofs + (if is_proof s then 1 else 0)
   pub incomplete : map (λ id. id.0) new.incomplete.items
-      ≡ map (λ id. id.0) old.incomplete.items ++ (if is_unproved s then length (labelled_sentences old.book.statements) ∷ [] else [])
-  pub kept : KeepsProof old.book.statements s (length (labelled_sentences old.book.statements)) (is_proof s) old.kept new.kept
+      ≡ map (λ id. id.0) old.incomplete.items ++ (if is_unproved s then length (labelled_sentences old.prover.book.statements) ∷ [] else [])
+  pub kept : KeepsProof old.prover.book.statements s (length (labelled_sentences old.prover.book.statements)) (is_proof s) old.kept new.kept
 
 -- what the progress knows of the statements so far
 pub record Knows (statements : List PlainStatement) (p : Progress) : Type 0 where
-  pub book : p.book.statements ≡ sentences statements
-  pub bytes : p.book.bytes ≡ sum_by bytes_in statements
+  pub book : p.prover.book.statements ≡ sentences statements
+  pub bytes : p.prover.book.bytes ≡ sum_by bytes_in statements
   pub count : p.count ≡ length statements
   pub proofs : p.proofs ≡ proofs_of statements
   pub incomplete : map (λ id. slice_get (labels_of statements) id.0) p.incomplete.items ≡ map Some (unproved_of statements)

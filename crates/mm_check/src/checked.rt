@@ -5,11 +5,10 @@ ghost use Rattle.std.specs.Prelude.{true, Some, None, IsTrue, IfOk, IfErr};
 ghost use Rattle.std.specs.List.{AllByRecursion};
 
 use crate::ask::AskFault;
-use crate::judge::proof_of;
 use crate::kept::Kept;
 use crate::progress::Progress;
 use crate::report::{Report, axioms_among, marked_among, reach};
-use crate::reread::reread;
+use crate::reread::{proof_of, reread};
 use crate::shown::listing_text;
 use mm_frame::{Book, Found, LabelId, LabelKind};
 use mm_text::File;
@@ -74,19 +73,19 @@ impl<'a> Checked<'a> {
 
     /// What the progress over the files has come to, once nothing is left.
     pub(crate) fn new(files: &'a [File<'a>], progress: Progress<'a>) -> Checked<'a>
-        requires { IsKeptWell (map plain_file files.now) progress.book.statements
+        requires { IsKeptWell (map plain_file files.now) progress.prover.book.statements
             (map (λ id. id.0) progress.incomplete.items) progress.kept }
         ensures files { result.files ≡ map plain_file files.now }
         ensures statements { result.statements ≡ progress.entry.count }
         ensures proofs { result.proofs ≡ progress.entry.proofs }
         ensures incomplete { result.incomplete ≡ map (λ id. id.0) progress.entry.incomplete.items }
-        ensures labels { result.labels ≡ labels_in progress.entry.book.statements }
-        ensures sentences { result.sentences ≡ progress.entry.book.statements }
+        ensures labels { result.labels ≡ labels_in progress.entry.prover.book.statements }
+        ensures sentences { result.sentences ≡ progress.entry.prover.book.statements }
         ensures uses { result.uses ≡ progress.entry.kept }
     {
         Checked {
             files,
-            book: progress.book,
+            book: progress.prover.into_book(),
             statements: progress.count,
             proofs: progress.proofs,
             incomplete: progress.incomplete,

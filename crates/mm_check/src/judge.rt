@@ -18,10 +18,9 @@ use crate::fault::{CheckFault, Refusal};
 use crate::place::line_of;
 use crate::progress::Progress;
 use crate::rule::Rule;
-use mm_frame::{Book, LabelId, RuleFault, Taken};
-use mm_proof::{Parsed, ProofFault, Prover, Steps, Used};
+use mm_frame::{LabelId, RuleFault, Taken};
+use mm_proof::{ProofFault, Proved, Prover};
 use mm_text::{File, Kind, Statement};
-use std::alloc::{AllocError, Global};
 
 /// The text of the statement's label, if it has one.
 fn label_of<'a>(statement: &Statement<'a>) -> Option<&'a [u8]>
@@ -56,58 +55,33 @@ fn refusal<'a>(
     }
 }
 
-/// The texts of the tokens of a statement's proof.
-pub(crate) fn proof_of<'a>(
-    alloc: Global,
-    statement: &Statement<'a>,
-) -> Result<Vec<&'a [u8]>, AllocError>
-    ensures { IfOk result (λ v. map (λ t. t.now) v.items
-        ≡ proof_of (plain_statement statement.now)) }
-{
-    let mut tokens = Vec::with_capacity(alloc, statement.proof.len())?;
-    for token in &statement.proof {
-        tokens.push(token.text)?;
-    }
-    Ok(tokens)
-}
-
-/// The assertions that the proof of a `$p` uses, which the book took last; none where the proof is
-/// incomplete.
+/// The verdict on the proof of a `$p`, which the book took last: whether it is complete. Where it
+/// is, the prover has the assertions that it uses.
 fn judge_proof<'a>(
-    alloc: Global,
-    prover: &mut Prover,
-    book: &Book<'a>,
+    prover: &mut Prover<'a>,
     id: LabelId,
     statement: &Statement<'a>,
-) -> Result<Option<Used>, ProofFault>
+) -> Result<Proved, ProofFault>
     requires formed { HasForm (plain_statement statement.now) }
-    requires last { IsLastProof book.now.statements id.0 (plain_statement statement.now) }
-    requires room { bytes_in (plain_statement statement.now) ≤ 1073741824 }
-    ensures { JudgesProof book.now.statements (plain_statement statement.now) result }
+    requires last { IsLastProof prover.old.book.statements id.0 (plain_statement statement.now) }
+    ensures judged { JudgesProof prover.old.book.statements (plain_statement statement.now)
+        result prover.new.used }
+    ensures book { prover.new.book ≡ prover.old.book }
 {
-    let tokens = proof_of(alloc, statement)?;
-    match Steps::parse(alloc, book, id, &tokens)? {
-        Parsed::Incomplete => Ok(None),
-        Parsed::Steps(steps) => {
-            let used = prover.prove(book, id, &steps)?;
-            Ok(Some(used))
-        }
-    }
+    prover.prove(id, &statement.proof)
 }
 
 /// Judges the proof of a `$p`, which the book took last, counts it and keeps what it uses, or notes
 /// that it is incomplete.
 fn prove<'a>(
-    alloc: Global,
     files: &[File<'a>],
-    prover: &mut Prover,
     progress: &mut Progress<'a>,
     id: LabelId,
     statement: &Statement<'a>,
 ) -> Result<(), CheckFault<'a>>
     requires formed { HasForm (plain_statement statement.now) }
-    requires last { IsLastProof progress.old.book.statements id.0 (plain_statement statement.now) }
-    requires room { bytes_in (plain_statement statement.now) ≤ 1073741824 }
+    requires last { IsLastProof progress.old.prover.book.statements id.0
+        (plain_statement statement.now) }
     requires count { progress.old.count < 2 ^ 63 }
     requires proofs { progress.old.proofs < 2 ^ 63 }
     ensures ok { OnOk result (CountsProof progress.old id.0
@@ -115,12 +89,12 @@ fn prove<'a>(
     ensures refused { IfErr result (RefusesProof (map plain_file files.now) progress.old
         (plain_statement statement.now)) }
 {
-    match judge_proof(alloc, prover, &progress.book, id, statement) {
-        Ok(Some(used)) => {
-            progress.kept.push(id, used.ids())?;
+    match judge_proof(&mut progress.prover, id, statement) {
+        Ok(Proved::Complete) => {
+            progress.kept.push(id, progress.prover.used())?;
             progress.proofs += 1;
         }
-        Ok(None) => progress.incomplete.push(id)?,
+        Ok(Proved::Incomplete) => progress.incomplete.push(id)?,
         Err(ProofFault::Rule { rule, step }) => {
             let refusal = refusal(files, progress.count, statement, Rule::from(rule), step);
             return Err(CheckFault::Refused(refusal));
@@ -133,27 +107,26 @@ fn prove<'a>(
 /// Judges a statement after those that the progress has, which obey the rules: its meaning, and
 /// then its proof. Takes it into the progress where it obeys the rules too.
 pub(crate) fn judge<'a>(
-    alloc: Global,
     files: &[File<'a>],
-    prover: &mut Prover,
     progress: &mut Progress<'a>,
     statement: &Statement<'a>,
 ) -> Result<(), CheckFault<'a>>
     requires formed { HasForm (plain_statement statement.now) }
     requires closes { statement.now.kind ≡ Closing
-        → close_marks progress.old.book.statements < open_marks progress.old.book.statements }
-    requires room { progress.old.book.bytes
+        → close_marks progress.old.prover.book.statements
+        < open_marks progress.old.prover.book.statements }
+    requires room { progress.old.prover.book.bytes
         + bytes_in (plain_statement statement.now) ≤ 1073741824 }
     requires count { progress.old.count < 2 ^ 62 }
     requires proofs { progress.old.proofs < 2 ^ 62 }
     ensures ok { OnOk result (Takes progress.old (plain_statement statement.now) progress.new) }
     ensures refused { IfErr result (RefusesAfter
-        (map plain_file files.now) progress.old.book.statements
+        (map plain_file files.now) progress.old.prover.book.statements
         progress.old.count (plain_statement statement.now)) }
 {
-    match progress.book.take(statement) {
+    match progress.prover.take(statement) {
         Ok(Taken::Assertion(id)) if statement.kind == Kind::Provable => {
-            prove(alloc, files, prover, progress, id, statement)?
+            prove(files, progress, id, statement)?
         }
         Ok(_) => {}
         Err(RuleFault::Rule(rule)) => {

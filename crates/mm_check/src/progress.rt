@@ -1,13 +1,15 @@
 //! What checking has come to.
 
 use crate::kept::Kept;
-use mm_frame::{Book, LabelId};
+use mm_frame::LabelId;
+use mm_proof::Prover;
 
 /// The statements that were taken so far, all of which obey the rules.
 #[derive(Drop)]
 pub(crate) struct Progress<'a> {
-    pub(crate) book: Book<'a>,
-    /// How many statements the book has.
+    /// Its book holds these statements.
+    pub(crate) prover: Prover<'a>,
+    /// How many statements they are.
     pub(crate) count: usize,
     /// How many of its `$p` are accepted.
     pub(crate) proofs: usize,

@@ -7,13 +7,13 @@ ghost use Rattle.mm_text.specs.Reading.{Reads};
 ghost use Rattle.mm_text.specs.Remaining.{IsUnread};
 ghost use Rattle.mm_frame.specs.Sentence.{sentence_in, IsLabelled};
 ghost use Rattle.mm_check.specs.declared.ask.AskFault.TheVariants.{Memory};
-ghost use Rattle.mm_check.specs.Verdict.{CanBeRead};
+ghost use Rattle.mm_check.specs.Verdict.{CanBeRead, proof_of};
 ghost use Rattle.mm_check.specs.Judged.{TakesNext};
 ghost use Rattle.mm_check.specs.Shown.{Stands};
 
 use crate::ask::AskFault;
 use mm_text::{File, Statement, Statements, TextFault};
-use std::alloc::Global;
+use std::alloc::{AllocError, Global};
 
 /// Whether a statement has a label.
 fn has_label(statement: &Statement, label: &[u8]) -> bool
@@ -93,4 +93,19 @@ pub(crate) fn reread<'a>(
     let mut statement = Statement::empty(alloc);
     seek(&mut statements, label, &mut statement)?;
     Ok(statement)
+}
+
+/// The texts of the tokens of a statement's proof.
+pub(crate) fn proof_of<'a>(
+    alloc: Global,
+    statement: &Statement<'a>,
+) -> Result<Vec<&'a [u8]>, AllocError>
+    ensures { IfOk result (λ v. map (λ t. t.now) v.items
+        ≡ proof_of (plain_statement statement.now)) }
+{
+    let mut tokens = Vec::with_capacity(alloc, statement.proof.len())?;
+    for token in &statement.proof {
+        tokens.push(token.text)?;
+    }
+    Ok(tokens)
 }

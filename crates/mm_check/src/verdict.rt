@@ -21,7 +21,7 @@ use crate::kept::Kept;
 use crate::place::line_of;
 use crate::progress::Progress;
 use crate::rule::Rule;
-use mm_frame::{Book, RuleFault};
+use mm_frame::RuleFault;
 use mm_proof::Prover;
 use mm_text::{File, Statement, Statements, TextFault, TextRule, Token};
 use std::alloc::Global;
@@ -103,9 +103,9 @@ fn beginning<'a>(alloc: Global) -> Result<Progress<'a>, CheckFault<'a>>
     ensures ok { IfOk result (Knows []) }
     ensures fault { IsOkUnless result CheckFault.Memory }
 {
-    match Book::new(alloc) {
-        Ok(book) => Ok(Progress {
-            book,
+    match Prover::new(alloc) {
+        Ok(prover) => Ok(Progress {
+            prover,
             count: 0,
             proofs: 0,
             incomplete: Vec::new(alloc),
@@ -128,9 +128,8 @@ fn judge_rest<'a>(
     ensures refused { IfErr result (TellsVerdict (map plain_file files.now)) }
 {
     let mut statement = Statement::empty(alloc);
-    let mut prover = Prover::new(alloc);
     while next(files, statements, &mut statement)? {
-        judge(alloc, files, &mut prover, progress, &statement)?;
+        judge(files, progress, &statement)?;
     }
     Ok(())
 }

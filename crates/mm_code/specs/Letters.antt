@@ -100,11 +100,20 @@ abbrev pub IsExact : Code → Type 0
 IsExact (Number number) = number < largest
 IsExact Tag = Unit {0}
 
+-- the fault that a call answers is this one, or `Memory`
+abbrev pub IsFaultIn : CodeFault → Result (List Code) CodeRule → Type 0
+IsFaultIn (Rule rule) answer = answer ≡ Err rule
+IsFaultIn Memory answer = Unit {0}
+
 -- The call answers this, or `Memory`.
 abbrev pub Answers : Result (Vec Code) CodeFault → Result (List Code) CodeRule → Type 0
 Answers (Ok codes) answer = answer ≡ Ok codes.items
-Answers (Err (Rule rule)) answer = answer ≡ Err rule
-Answers (Err Memory) answer = Unit {0}
+Answers (Err fault) answer = IsFaultIn fault answer
+
+-- The call, which left these codes in the list, answers this, or `Memory`.
+abbrev pub Fills : {X : Type 0} → Result X CodeFault → List Code → Result (List Code) CodeRule → Type 0
+Fills (Ok done) codes answer = answer ≡ Ok codes
+Fills (Err fault) codes answer = IsFaultIn fault answer
 
 -- The letters break this rule: a byte is no letter; or else leading digits are followed by `Z` or by the end.
 abbrev pub LettersBreak : CodeRule → List ℕ → Type 0

@@ -6,7 +6,7 @@ ghost use Rattle.std.specs.Prelude.{IsOkUnless};
 ghost use Rattle.std.specs.List.{flat_map, list_all};
 ghost use Rattle.std.specs.Char.{is_ascii_uppercase};
 ghost use Rattle.mm_code.specs.Letters.{largest, SpellsCodes, Letters, code_for, HasSpelling};
-ghost use Rattle.mm_code.specs.Letters.{IsExact, Answers, LettersBreak, joined_tokens};
+ghost use Rattle.mm_code.specs.Letters.{IsExact, Answers, Fills, LettersBreak, joined_tokens};
 ghost use Rattle.mm_code.specs.Writing.{AppendsLeading, AppendsCode};
 ghost use Rattle.mm_code.specs.Reading.{with_front, reading, rule_behind, FaultOf, ReadsOn};
 
@@ -106,14 +106,14 @@ fn fault_with_tokens(fault: CodeFault, tokens: &[&[u8]]) -> CodeFault
     known
 }
 
-/// The codes of the tokens, read from the left.
-fn read_tokens(alloc: Global, tokens: &[&[u8]]) -> Result<Vec<Code>, CodeFault>
-    ensures { Answers result (reading 0 (joined_tokens tokens.now)) }
+/// Fills the list with the codes of the tokens, read from the left.
+fn read_tokens(codes: &mut Vec<Code>, tokens: &[&[u8]]) -> Result<(), CodeFault>
+    ensures { Fills result codes.new.items (reading 0 (joined_tokens tokens.now)) }
 {
-    let mut codes = Vec::new(alloc);
+    codes.clear();
     let mut value = 0;
     for (at, token) in tokens.iter().enumerate() {
-        match read_token(&mut codes, value, token) {
+        match read_token(codes, value, token) {
             Ok(next) => value = next,
             Err(fault) => return Err(fault_with_tokens(fault, &tokens[at + 1..])),
         }
@@ -121,7 +121,29 @@ fn read_tokens(alloc: Global, tokens: &[&[u8]]) -> Result<Vec<Code>, CodeFault>
     if value > 0 {
         return Err(CodeFault::Rule(CodeRule::P5));
     }
-    Ok(codes)
+    Ok(())
+}
+
+/// Fills the list with the codes that the letters of a compressed proof say, as `read_codes` does:
+/// what it held before is forgotten, and its memory is used again.
+///
+/// # Errors
+///
+/// As for `read_codes`; the list then holds some codes or none.
+pub fn fill_codes(codes: &mut Vec<Code>, tokens: &[&[u8]]) -> Result<(), CodeFault>
+    // What the list is filled with is what the letters say.
+    ensures read { OnOk result (Letters (joined_tokens tokens.now) codes.new.items) }
+    // It is filled with what the letters say.
+    ensures whole { (said : List Code) → Letters (joined_tokens tokens.now) said
+        → Fills result codes.new.items (Ok said) }
+
+    // A rule is answered only where the letters break it, and where they break it.
+    ensures rule { (rule : CodeRule) →
+        IsErrOf result (CodeFault.Rule rule) → LettersBreak rule (joined_tokens tokens.now) }
+    ensures broken { (rule : CodeRule) → LettersBreak rule (joined_tokens tokens.now)
+        → Fills result codes.new.items (Err rule) }
+{
+    read_tokens(codes, tokens)
 }
 
 /// The codes that the letters of a compressed proof say (the Metamath book, appendix B). White
@@ -149,7 +171,11 @@ pub fn read_codes(alloc: Global, tokens: &[&[u8]]) -> Result<Vec<Code>, CodeFaul
     ensures broken { (rule : CodeRule) →
         LettersBreak rule (joined_tokens tokens.now) → Answers result (Err rule) }
 {
-    read_tokens(alloc, tokens)
+    let mut codes = Vec::new(alloc);
+    match fill_codes(&mut codes, tokens) {
+        Ok(()) => Ok(codes),
+        Err(fault) => Err(fault),
+    }
 }
 
 /// Writes the leading digits that are worth this value: none for 0.

@@ -47,6 +47,14 @@ fn white_space_cuts_numbers(rt: HostRuntime) -> Result<(), Fail> {
 }
 
 #[test]
+fn list_is_filled_anew(rt: HostRuntime) -> Result<(), Fail> {
+    let mut codes = read_codes(rt.alloc(), &[b"ZZ".as_slice()])?;
+    fill_codes(&mut codes, &[b"A".as_slice()])?;
+    assert_eq!(rt; codes.as_slice(), [Code::Number(1)].as_slice());
+    Ok(())
+}
+
+#[test]
 fn written_codes_read_back(rt: HostRuntime) -> Result<(), Fail> {
     let codes = [
         Code::Number(1),

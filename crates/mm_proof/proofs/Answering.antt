@@ -18,3 +18,8 @@ on_memory e P is = subst (λ f. OnRule f P) (sym is) tt
 pub memory_only : {X : Type 0} (r : Result X ProofFault) (P : ProofRule → ℕ → Type 0) → IfErr r (λ e. e ≡ Memory) → IfErr r (λ e. OnRule e P)
 memory_only (Ok x) P h = h
 memory_only (Err e) P h = on_memory e P h
+
+-- an answer whose fault is told in other words
+pub rules_map : {X : Type 0} (r : Result X ProofFault) (P Q : ProofRule → ℕ → Type 0) → ((rule : ProofRule) (step : ℕ) → P rule step → Q rule step) → IfErr r (λ e. OnRule e P) → IfErr r (λ e. OnRule e Q)
+rules_map (Ok x) P Q f h = tt
+rules_map (Err e) P Q f h = on_rule_map e P Q f h

@@ -1,5 +1,6 @@
 -- Compressed proofs: their list, their letters, and the moves that their codes say.
 use Rattle.std.proofs.Common.{◌≡◌, ℕ, suc, ◌+◌, ◌<◌, ◌≤◌, min, List, [], ◌∷◌, ◌++◌, length, map, take, drop, get_or, slice_get, Contains, All, Bor, Some, Result, Ok, Err, inl, inr, ⊎_elim, refl, sym, ap, subst, ◌∙◌, arith}
+use Rattle.std.specs.Prelude.{OnOk}
 use Rattle.std.specs.List.{AllZip, AllByRecursion, flat_map}
 use Rattle.std.proofs.lemmas.Option.{same_Some}
 use Rattle.std.proofs.lemmas.List.{map-append, take_more, take-map, drop-map}
@@ -7,11 +8,12 @@ use Rattle.std.proofs.lemmas.List.Elements.{Contains-append_right, All-from_recu
 use Rattle.mm_code.specs.declared.code.Code.{Code}
 use Rattle.mm_code.specs.declared.code.Code.TheVariants.{Number, Tag}
 use Rattle.mm_code.specs.Letters as letter
-use Rattle.mm_code.specs.Letters.{Letters, LettersBreak as Breaks, HasSpelling}
+use Rattle.mm_code.specs.Letters.{Letters, LettersBreak as Breaks, HasSpelling, Fills}
 use Rattle.mm_code.specs.declared.code.CodeRule.{CodeRule}
 use Rattle.mm_code.specs.declared.code.CodeRule.TheVariants as code
 use Rattle.mm_code.specs.declared.code.CodeFault.{CodeFault}
 use Rattle.mm_code.specs.declared.code.CodeFault.TheVariants as code_fault
+use Rattle.mm_text.specs.declared.token.Token.{Token}
 use Rattle.mm_frame.specs.Sentence.{Sentence, IsLabelled, IsHypothesis}
 use Rattle.mm_frame.specs.Active.{IsActive}
 use Rattle.mm_frame.specs.Rules.{AllMeant}
@@ -26,7 +28,7 @@ use Rattle.mm_proof.specs.Moves.{Move}
 use Rattle.mm_proof.specs.Tokens.{IsCompressed, AreLetters, opening_token, closing_token}
 use Rattle.mm_proof.specs.Proof.{proof_rank, BreaksWhole, IsWholeFault}
 use Rattle.mm_proof.specs.Steps.{IsUsable}
-use Rattle.mm_proof.specs.CodeSteps.{AreFor, NumberSays, IsReading, move_in, moves_in, texts, fault_behind}
+use Rattle.mm_proof.specs.CodeSteps.{AreFor, NumberSays, IsReading, move_in, moves_in, texts, token_texts, fault_behind}
 use Rattle.mm_proof.specs.Answer.{OnRule}
 use Rattle.mm_proof.proofs.Places.{split_at, get_from_take}
 use Rattle.mm_proof.proofs.Frames.{those_hold}
@@ -207,13 +209,13 @@ reading_compressed statements place own tokens ids hypothesis_ids listed letters
 pub parts_whole : (xs : List (List ℕ)) (i : ℕ) → slice_get xs i ≡ Some closing_token → xs ≡ take i xs ++ closing_token ∷ drop (i + 1) xs
 parts_whole xs i at = let one : suc i ≡ i + 1 = omega arith in subst (λ (k : ℕ). xs ≡ take i xs ++ closing_token ∷ drop k xs) one (split_at xs i closing_token at)
 
-pub parts_compressed : (rest : List (Bor (List ℕ))) (i : ℕ) → slice_get (texts rest) i ≡ Some closing_token → ¬ (Contains (take i (texts rest)) closing_token)
-    → IsCompressed (opening_token ∷ texts rest) (texts (take i rest)) (texts (drop (i + 1) rest))
+pub parts_compressed : (rest : List Token) (i : ℕ) → slice_get (token_texts rest) i ≡ Some closing_token → ¬ (Contains (take i (token_texts rest)) closing_token)
+    → IsCompressed (opening_token ∷ token_texts rest) (token_texts (take i rest)) (token_texts (drop (i + 1) rest))
 parts_compressed rest i at none =
-    let front = take-map (λ t. t.now) i rest in
-    let back = drop-map (λ t. t.now) (i + 1) rest in
+    let front = take-map (λ t. t.text.now) i rest in
+    let back = drop-map (λ t. t.text.now) (i + 1) rest in
     record {
-      whole = ap (λ l. opening_token ∷ l) (parts_whole (texts rest) i at ∙ ap (λ l. l ++ closing_token ∷ drop (i + 1) (texts rest)) front ∙ ap (λ l. texts (take i rest) ++ closing_token ∷ l) back);
+      whole = ap (λ l. opening_token ∷ l) (parts_whole (token_texts rest) i at ∙ ap (λ l. l ++ closing_token ∷ drop (i + 1) (token_texts rest)) front ∙ ap (λ l. token_texts (take i rest) ++ closing_token ∷ l) back);
       first = λ has. none (subst (λ l. Contains l closing_token) (sym front) has);
     }
 
@@ -221,11 +223,11 @@ pub joined_texts : (tokens : List (Bor (List ℕ))) → letter.joined_tokens tok
 joined_texts [] = refl
 joined_texts (t ∷ tokens) = ap (λ l. t.now ++ l) (joined_texts tokens)
 
-pub parts_given : (rest front back : List (Bor (List ℕ))) (i : ℕ) → front ≡ take i rest → back ≡ drop (i + 1) rest → slice_get (texts rest) i ≡ Some closing_token
-    → ¬ (Contains (take i (texts rest)) closing_token) → IsCompressed (opening_token ∷ texts rest) (texts front) (texts back)
+pub parts_given : (rest front back : List Token) (i : ℕ) → front ≡ take i rest → back ≡ drop (i + 1) rest → slice_get (token_texts rest) i ≡ Some closing_token
+    → ¬ (Contains (take i (token_texts rest)) closing_token) → IsCompressed (opening_token ∷ token_texts rest) (token_texts front) (token_texts back)
 parts_given rest front back i f b at none =
-    subst (λ l. IsCompressed (opening_token ∷ texts rest) (texts l) (texts back)) (sym f)
-    (subst (λ l. IsCompressed (opening_token ∷ texts rest) (texts (take i rest)) (texts l)) (sym b) (parts_compressed rest i at none))
+    subst (λ l. IsCompressed (opening_token ∷ token_texts rest) (token_texts l) (token_texts back)) (sym f)
+    (subst (λ l. IsCompressed (opening_token ∷ token_texts rest) (token_texts (take i rest)) (token_texts l)) (sym b) (parts_compressed rest i at none))
 
 -- a fault of the letters is one of the proof
 pub letter_broken : (statements : List Sentence) (place : ℕ) (tokens : List (List ℕ)) (ids : List ℕ) (listed letters : List (List ℕ)) (fault : CodeFault) → AllMeant statements
@@ -236,9 +238,8 @@ letter_broken statements place tokens ids listed letters (code_fault.Rule code.P
 letter_broken statements place tokens ids listed letters (code_fault.Rule code.P5) all c each broken = (refl, cut_fault statements place tokens ids listed letters all c each (broken code.P5 refl))
 letter_broken statements place tokens ids listed letters code_fault.Memory all c each broken = tt
 
-abbrev pub IsAnswer : Result (List Code) CodeRule → Result (List Code) CodeRule → Type 0
-IsAnswer a b = a ≡ b
-
--- letters whose codes were read break no rule
-pub read_unbroken : (rule : CodeRule) (text : List ℕ) (cs : List Code) → (Breaks rule text → IsAnswer (Err rule) (Ok cs)) → ¬ (Breaks rule text)
-read_unbroken rule text cs h b = let e = h b in absurd cc
+-- letters with whose codes a list was filled break no rule
+pub filled_unbroken : {X : Type 0} (r : Result X CodeFault) (cs : List Code) (text : List ℕ) → ((rule : CodeRule) → Breaks rule text → Fills r cs (Err rule))
+    → OnOk r ((rule : CodeRule) → ¬ (Breaks rule text))
+filled_unbroken (Ok done) cs text h = λ rule b. let e = h rule b in absurd cc
+filled_unbroken (Err fault) cs text h = tt

@@ -1,11 +1,12 @@
 -- The labels of a proof, one after the other.
-use Rattle.std.proofs.Common.{◌≡◌, ℕ, zero, suc, ◌+◌, ◌<◌, ◌≤◌, List, [], ◌∷◌, ◌++◌, length, take, get_or, Contains, Bool, true, false, Bor, ⊎_elim, refl, sym, ap, subst, ◌∙◌, arith}
+use Rattle.std.proofs.Common.{◌≡◌, ℕ, zero, suc, ◌+◌, ◌<◌, ◌≤◌, List, [], ◌∷◌, ◌++◌, length, map, take, get_or, Contains, Bool, true, false, ⊎_elim, refl, sym, ap, subst, ◌∙◌, arith}
 use Rattle.std.specs.List.{AllZip}
+use Rattle.mm_text.specs.declared.token.Token.{Token}
 use Rattle.mm_frame.specs.Sentence.{Sentence}
 use Rattle.std.proofs.lemmas.List.{map_more, take-map, map-append, take_all, length-map}
 use Rattle.std.proofs.lemmas.List.Elements.{Contains-push, Contains-push_cases, Contains-append_left}
 use Rattle.mm_frame.specs.declared.number.LabelId.{LabelId}
-use Rattle.mm_proof.specs.CodeSteps.{AreFor, IsIdle, IsUnknown, MayBeUsed, ids_in, texts}
+use Rattle.mm_proof.specs.CodeSteps.{AreFor, IsIdle, IsUnknown, MayBeUsed, ids_in, token_texts}
 use Rattle.mm_proof.proofs.Places.{get_take}
 
 -- one of the labels is idle, or all may be used
@@ -20,9 +21,8 @@ SoFar statements place idle ids labels =
 
 -- ---- one label more
 
-pub texts_more : (labels : List (Bor (List ℕ))) (i : ℕ) (d : Bor (List ℕ)) → i < length labels → take (i + 1) (texts labels) ≡ take i (texts labels) ++ (get_or labels i d).now ∷ []
-texts_more labels i d less =
-    take-map (λ t. t.now) (i + 1) labels ∙ map_more (λ t. t.now) labels i d less ∙ ap (λ front. front ++ (get_or labels i d).now ∷ []) (sym (take-map (λ t. t.now) i labels))
+pub texts_more : {T : Type 0} (f : T → List ℕ) (labels : List T) (i : ℕ) (d : T) → i < length labels → take (i + 1) (map f labels) ≡ take i (map f labels) ++ f (get_or labels i d) ∷ []
+texts_more f labels i d less = take-map f (i + 1) labels ∙ map_more f labels i d less ∙ ap (λ front. front ++ f (get_or labels i d) ∷ []) (sym (take-map f i labels))
 
 pub zip_push : {A B : Type 0} (R : A → B → Type 0) (xs : List A) (ys : List B) (x : A) (y : B) → AllZip R xs ys → R x y → AllZip R (xs ++ x ∷ []) (ys ++ y ∷ [])
 zip_push R [] [] x y all here = (here, tt)
@@ -47,32 +47,32 @@ or_push statements place true ids id labels label so here = (so.0, Contains-appe
 or_push statements place false ids id labels label so here = zip_push (λ i l. MayBeUsed statements place l i) ids labels id label so here
 
 -- a label that may be used
-pub sofar_number : (statements : List Sentence) (place : ℕ) (idle : Bool) (ids : List LabelId) (id : LabelId) (labels : List (Bor (List ℕ))) (i : ℕ) (d : Bor (List ℕ))
-    → i < length labels → SoFar statements place idle (ids_in ids) (take i (texts labels)) → MayBeUsed statements place (get_or labels i d).now id.0
-    → SoFar statements place idle (ids_in (ids ++ id ∷ [])) (take (i + 1) (texts labels))
+pub sofar_number : (statements : List Sentence) (place : ℕ) (idle : Bool) (ids : List LabelId) (id : LabelId) (labels : List Token) (i : ℕ) (d : Token)
+    → i < length labels → SoFar statements place idle (ids_in ids) (take i (token_texts labels)) → MayBeUsed statements place (get_or labels i d).text.now id.0
+    → SoFar statements place idle (ids_in (ids ++ id ∷ [])) (take (i + 1) (token_texts labels))
 sofar_number statements place idle ids id labels i d less so here =
-    rw (texts_more labels i d less, map-append (λ n. n.0) ids (id ∷ [])) (
-      known_push (IsUnknown statements place) (take i (texts labels)) (get_or labels i d).now so.0 (used_known statements place _ id.0 here),
-      or_push statements place idle (ids_in ids) id.0 (take i (texts labels)) (get_or labels i d).now so.1 here,
+    rw (texts_more (λ t. t.text.now) labels i d less, map-append (λ n. n.0) ids (id ∷ [])) (
+      known_push (IsUnknown statements place) (take i (token_texts labels)) (get_or labels i d).text.now so.0 (used_known statements place _ id.0 here),
+      or_push statements place idle (ids_in ids) id.0 (take i (token_texts labels)) (get_or labels i d).text.now so.1 here,
     )
 
 -- a label that is idle
-pub sofar_idle : (statements : List Sentence) (place : ℕ) (idle : Bool) (ids : List ℕ) (labels : List (Bor (List ℕ))) (i : ℕ) (d : Bor (List ℕ))
-    → i < length labels → SoFar statements place idle ids (take i (texts labels)) → IsIdle statements place (get_or labels i d).now
-    → SoFar statements place true ids (take (i + 1) (texts labels))
+pub sofar_idle : (statements : List Sentence) (place : ℕ) (idle : Bool) (ids : List ℕ) (labels : List Token) (i : ℕ) (d : Token)
+    → i < length labels → SoFar statements place idle ids (take i (token_texts labels)) → IsIdle statements place (get_or labels i d).text.now
+    → SoFar statements place true ids (take (i + 1) (token_texts labels))
 sofar_idle statements place idle ids labels i d less so here =
-    rw (texts_more labels i d less) (
-      known_push (IsUnknown statements place) (take i (texts labels)) (get_or labels i d).now so.0 (idle_known statements place _ here),
-      ((get_or labels i d).now, Contains-push (take i (texts labels)) (get_or labels i d).now, here),
+    rw (texts_more (λ t. t.text.now) labels i d less) (
+      known_push (IsUnknown statements place) (take i (token_texts labels)) (get_or labels i d).text.now so.0 (idle_known statements place _ here),
+      ((get_or labels i d).text.now, Contains-push (take i (token_texts labels)) (get_or labels i d).text.now, here),
     )
 
 -- a label is one of the labels
-pub text_among : (labels : List (Bor (List ℕ))) (i : ℕ) (d : Bor (List ℕ)) → i < length labels → Contains (texts labels) (get_or labels i d).now
+pub text_among : (labels : List Token) (i : ℕ) (d : Token) → i < length labels → Contains (token_texts labels) (get_or labels i d).text.now
 text_among [] i d less = absurd (omega arith)
 text_among (t ∷ labels) zero d less = (0, omega arith, refl)
-text_among (t ∷ labels) (suc i) d less = let at = text_among labels i d (omega arith) in (suc at.0, (let l : at.0 < length (texts labels) = at.1 in omega arith), at.2)
+text_among (t ∷ labels) (suc i) d less = let at = text_among labels i d (omega arith) in (suc at.0, (let l : at.0 < length (token_texts labels) = at.1 in omega arith), at.2)
 
 -- at the end all labels are known
-pub sofar_all : (statements : List Sentence) (place : ℕ) (idle : Bool) (ids : List ℕ) (labels : List (Bor (List ℕ))) (i : ℕ) → length labels ≤ i
-    → SoFar statements place idle ids (take i (texts labels)) → SoFar statements place idle ids (texts labels)
-sofar_all statements place idle ids labels i all so = rw (← take_all i (texts labels) (omega (arith, length-map labels (λ t. t.now)))) so
+pub sofar_all : (statements : List Sentence) (place : ℕ) (idle : Bool) (ids : List ℕ) (labels : List Token) (i : ℕ) → length labels ≤ i
+    → SoFar statements place idle ids (take i (token_texts labels)) → SoFar statements place idle ids (token_texts labels)
+sofar_all statements place idle ids labels i all so = rw (← take_all i (token_texts labels) (omega (arith, length-map labels (λ t. t.text.now)))) so

@@ -18,6 +18,7 @@ pub mod Limits
 pub mod Marks
 pub mod Firsts
 pub mod Exact
+pub mod Whole
 pub mod Grown
 pub mod Expanded
 pub mod ByWord

@@ -1,5 +1,5 @@
 -- The tokens of a proof: its parts, its labels, and what a list of labels that may be used tells.
-use Rattle.std.proofs.Common.{◌≡◌, ℕ, zero, suc, ◌+◌, ◌<◌, ◌≤◌, List, [], ◌∷◌, length, take, drop, get_or, slice_get, Contains, Bor, Some, inl, inr, ⊎_elim, refl, sym, ap, subst, ◌∙◌, arith}
+use Rattle.std.proofs.Common.{◌≡◌, ℕ, zero, suc, ◌+◌, ◌<◌, ◌≤◌, List, [], ◌∷◌, length, map, take, drop, get_or, slice_get, Contains, Some, inl, inr, ⊎_elim, refl, sym, ap, subst, ◌∙◌, arith}
 use Rattle.std.proofs.lemmas.List.{take_all, length-map}
 use Rattle.mm_text.specs.declared.statement.Kind.{Kind}
 use Rattle.mm_text.specs.declared.statement.Kind.TheVariants.{Floating, Essential, Axiom, Provable}
@@ -10,27 +10,27 @@ use Rattle.mm_proof.specs.declared.fault.ProofRule.{ProofRule}
 use Rattle.mm_proof.specs.declared.fault.ProofRule.TheVariants.{P1, P2, P3, P4}
 use Rattle.mm_proof.specs.Tokens.{IsNormal, AreLabels, opening_token, closing_token}
 use Rattle.mm_proof.specs.Proof.{proof_rank, BreaksWhole, IsWholeFault}
-use Rattle.mm_proof.specs.CodeSteps.{AreFor, MayBeUsed, BreaksLabels, texts}
+use Rattle.mm_proof.specs.CodeSteps.{AreFor, MayBeUsed, BreaksLabels}
 use Rattle.mm_proof.proofs.Places.{get_take, get_from_take}
 use Rattle.mm_proof.proofs.Meaning.{one_label, one_labelled}
 use Rattle.mm_proof.proofs.LabelLists.{texts_more, known_push}
 
 -- ---- a token more, of which something doesn't hold
 
-pub none_more : (P : List ℕ → Type 0) (tokens : List (Bor (List ℕ))) (i : ℕ) (d : Bor (List ℕ)) → i < length tokens
-    → ((t : List ℕ) → Contains (take i (texts tokens)) t → ¬ (P t)) → ¬ (P (get_or tokens i d).now)
-    → (t : List ℕ) → Contains (take (i + 1) (texts tokens)) t → ¬ (P t)
-none_more P tokens i d less none here t has =
-    known_push P (take i (texts tokens)) (get_or tokens i d).now none here t (subst (λ l. Contains l t) (texts_more tokens i d less) has)
+pub none_more : {T : Type 0} (f : T → List ℕ) (P : List ℕ → Type 0) (tokens : List T) (i : ℕ) (d : T) → i < length tokens
+    → ((t : List ℕ) → Contains (take i (map f tokens)) t → ¬ (P t)) → ¬ (P (f (get_or tokens i d)))
+    → (t : List ℕ) → Contains (take (i + 1) (map f tokens)) t → ¬ (P t)
+none_more f P tokens i d less none here t has =
+    known_push P (take i (map f tokens)) (f (get_or tokens i d)) none here t (subst (λ l. Contains l t) (texts_more f tokens i d less) has)
 
 -- the front that is all
-pub front_all : (tokens : List (Bor (List ℕ))) (i : ℕ) → length tokens ≤ i → take i (texts tokens) ≡ texts tokens
-front_all tokens i all = take_all i (texts tokens) (omega (arith, length-map tokens (λ t. t.now)))
+pub front_all : {T : Type 0} (f : T → List ℕ) (tokens : List T) (i : ℕ) → length tokens ≤ i → take i (map f tokens) ≡ map f tokens
+front_all f tokens i all = take_all i (map f tokens) (omega (arith, length-map tokens f))
 
-pub text_at : (tokens : List (Bor (List ℕ))) (i : ℕ) (d : Bor (List ℕ)) → i < length tokens → slice_get (texts tokens) i ≡ Some (get_or tokens i d).now
-text_at [] i d less = absurd (omega arith)
-text_at (t ∷ tokens) zero d less = refl
-text_at (t ∷ tokens) (suc i) d less = text_at tokens i d (omega arith)
+pub text_at : {T : Type 0} (f : T → List ℕ) (tokens : List T) (i : ℕ) (d : T) → i < length tokens → slice_get (map f tokens) i ≡ Some (f (get_or tokens i d))
+text_at f [] i d less = absurd (omega arith)
+text_at f (t ∷ tokens) zero d less = refl
+text_at f (t ∷ tokens) (suc i) d less = text_at f tokens i d (omega arith)
 
 -- ---- labels that may be used
 

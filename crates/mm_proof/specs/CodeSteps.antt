@@ -2,6 +2,7 @@
 use Rattle.std.specs.Prelude.{◌≡◌, ℕ, ◌+◌, ◌<◌, List, length, map, take, slice_get, Contains, Some, ◌⊎◌}
 use Rattle.std.specs.Borrow.{Bor}
 use Rattle.std.specs.List.{AllZip, AllByRecursion}
+use Rattle.mm_text.specs.declared.token.Token.{Token}
 use Rattle.mm_frame.specs.declared.number.LabelId.{LabelId}
 use Rattle.mm_frame.specs.Sentence.{Sentence, SomeSentence, IsLabelled, IsHypothesis, IsAssertion}
 use Rattle.mm_frame.specs.Active.{IsActive}
@@ -33,9 +34,13 @@ move_in code.Mark = mark
 abbrev pub moves_in : List NumberedMove → List (Move ℕ)
 moves_in moves = map move_in moves
 
--- the bytes of the tokens
+-- the bytes of the pieces of a text
 abbrev pub texts : List (Bor (List ℕ)) → List (List ℕ)
-texts tokens = map (λ t. t.now) tokens
+texts pieces = map (λ t. t.now) pieces
+
+-- the bytes of the tokens
+abbrev pub token_texts : List Token → List (List ℕ)
+token_texts tokens = map (λ t. t.text.now) tokens
 
 -- the numbers of labels
 abbrev pub ids_in : List LabelId → List ℕ

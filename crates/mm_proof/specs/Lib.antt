@@ -8,6 +8,7 @@ pub mod Parsed
 pub mod Used
 pub mod Listing
 pub mod Verified
+pub mod Proving
 pub mod Expansion
 pub mod Laws
 pub mod Answer

@@ -4,7 +4,8 @@ use Rattle.mm_frame.specs.Sentence.{Sentence}
 use Rattle.mm_proof.specs.Tree.{tree, none}
 use Rattle.mm_proof.specs.Moves.{Move}
 use Rattle.mm_proof.specs.declared.fault.ProofRule.{ProofRule}
-use Rattle.mm_proof.specs.Proof.{IsWithin, expression_limit, Prove, IsMovesFault}
+use Rattle.mm_proof.specs.Proof.{IsWithin, expression_limit, Prove, IsProvedWithin}
+use Rattle.mm_proof.specs.Proof.{IsMovesFault, IsFault}
 use Rattle.mm_proof.specs.Steps.{AreNumberedMoves, IsProofNumber}
 use Rattle.mm_proof.specs.Used.{AreUsed}
 
@@ -26,3 +27,15 @@ abbrev pub FailsWith : List Sentence → (place : ℕ) → Sentence → List (Mo
     → (step : ℕ) → Type 0
 FailsWith statements place s moves rule step =
     IsMovesFault (IsWithin expression_limit) (take place statements) s moves rule step
+
+-- The tokens prove the statement after those before it, and these are the assertions of its tree.
+pub record TokensProve (before : List Sentence) (s : Sentence) (tokens : List (List ℕ))
+    (used : List ℕ) : Type 0 where
+  pub proof : IsProvedWithin (IsWithin expression_limit) before s tokens
+  pub all : AreUsed before (tree proof.proves.label proof.proves.below none) used
+
+-- the first fault of the tokens, as a proof of the statement after those before it, is this rule at
+-- this step
+abbrev pub TokensFail : List Sentence → Sentence → (tokens : List (List ℕ)) → ProofRule
+    → (step : ℕ) → Type 0
+TokensFail before s tokens rule step = IsFault (IsWithin expression_limit) before s tokens rule step

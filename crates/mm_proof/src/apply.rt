@@ -22,25 +22,13 @@ use crate::variables::Variables;
 use mm_frame::{Book, Frame, LabelId, Sym, one_number};
 use std::alloc::Global;
 
-/// Lists that each step by an assertion, or each proof, fills anew.
+/// Lists that each step by an assertion fills anew.
 #[derive(Drop)]
 pub(crate) struct Scratch {
     /// The variable of each mandatory hypothesis, where it is a `$f`.
     variables: Variables,
     /// What the step makes.
     made: Vec<Sym>,
-    /// The assertions that the proof names.
-    pub(crate) named: Named,
-}
-
-/// Labels, and for each a place at which the list may have it.
-///
-/// What earlier proofs left in the places is never cleared: a place counts only where the list has
-/// the label there.
-#[derive(Drop)]
-pub(crate) struct Named {
-    pub(crate) ids: Vec<LabelId>,
-    pub(crate) places: Vec<usize>,
 }
 
 impl Scratch {
@@ -48,10 +36,6 @@ impl Scratch {
         Scratch {
             variables: Variables::new(alloc),
             made: Vec::new(alloc),
-            named: Named {
-                ids: Vec::new(alloc),
-                places: Vec::new(alloc),
-            },
         }
     }
 }

@@ -1,14 +1,14 @@
 //! The labels of a proof: P2 and P3 (the Metamath book, section 4.3 and appendix B).
 
-ghost use Rattle.std.specs.Prelude.{◌≡◌, IfOk, IfErr};
+ghost use Rattle.std.specs.Prelude.{◌≡◌, OnOk, IfErr};
 ghost use Rattle.mm_frame.specs.Sentence.{Sentence};
 ghost use Rattle.mm_frame.specs.Numbers.{IsNumbered};
 ghost use Rattle.mm_proof.specs.Answer.{OnRule};
-ghost use Rattle.mm_proof.specs.CodeSteps.{IsUseOf, AreFor, BreaksLabels, ids_in, texts};
+ghost use Rattle.mm_proof.specs.CodeSteps.{IsUseOf, AreFor, BreaksLabels, ids_in, token_texts};
 
 use crate::fault::{ProofFault, ProofRule};
 use mm_frame::{Book, Found, Frame, LabelId};
-use std::alloc::Global;
+use mm_text::Token;
 
 /// What a label of a proof stands for.
 enum Use {
@@ -39,26 +39,27 @@ fn use_of(book: &Book, own: &Frame, id: LabelId, label: &[u8]) -> Use
     }
 }
 
-/// The numbers of the labels, which are those of a proof: P2 where one is that of no statement
-/// before the proof's own, or else P3 where one is that of a hypothesis that isn't active.
-pub(crate) fn numbers_of(
-    alloc: Global,
+/// Fills the list with the numbers of the labels, which are those of a proof: P2 where one is that
+/// of no statement before the proof's own, or else P3 where one is that of a hypothesis that isn't
+/// active.
+pub(crate) fn fill_numbers(
+    ids: &mut Vec<LabelId>,
     book: &Book,
     own: &Frame,
     id: LabelId,
-    labels: &[&[u8]],
-) -> Result<Vec<LabelId>, ProofFault>
+    labels: &[Token],
+) -> Result<(), ProofFault>
     requires book { own.now.statements ≡ book.now.statements }
     requires own { (s : Sentence) × IsNumbered book.now.statements id.0 own.now.place s }
-    ensures ok { IfOk result (λ v.
-        AreFor book.now.statements own.now.place (ids_in v.items) (texts labels.now)) }
+    ensures ok { OnOk result (AreFor book.now.statements own.now.place
+        (ids_in ids.new.items) (token_texts labels.now)) }
     ensures fault { IfErr result (λ e. OnRule e (λ rule step. (step ≡ 0)
-        × BreaksLabels rule book.now.statements own.now.place (texts labels.now))) }
+        × BreaksLabels rule book.now.statements own.now.place (token_texts labels.now))) }
 {
-    let mut ids = Vec::with_capacity(alloc, labels.len())?;
+    ids.clear();
     let mut idle = false;
     for label in labels {
-        match use_of(book, own, id, label) {
+        match use_of(book, own, id, label.text) {
             Use::Number(number) => ids.push(number)?,
             Use::Idle => idle = true,
             Use::Unknown => {
@@ -75,5 +76,5 @@ pub(crate) fn numbers_of(
             step: 0,
         });
     }
-    Ok(ids)
+    Ok(())
 }

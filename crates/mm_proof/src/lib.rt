@@ -29,7 +29,7 @@ pub use laws::{
 };
 pub use lines::{Line, Name, listing};
 pub use moves::{Parsed, Steps};
-pub use prover::Prover;
+pub use prover::{Proved, Prover};
 pub use rows::Rows;
 pub use store::Store;
 pub use used::Used;

@@ -2,10 +2,10 @@
 //! Metamath book, section 4.3, section 4.4.4 and appendix B).
 
 ghost use Rattle.std.specs.Prelude.{◌≡◌, ◌↔◌, ◌+◌, ◌≤◌, ◌<◌, ◌∷◌, [], ℕ, List, Contains, All};
-ghost use Rattle.std.specs.Prelude.{length, map, take, slice_get, Some};
-ghost use Rattle.std.specs.Prelude.{IsTrue, IfOk, IfErr, MatchOption};
-ghost use Rattle.std.specs.List.{AllZip, AllByRecursion, sum_by};
-ghost use Rattle.mm_code.specs.Letters.{HasSpelling};
+ghost use Rattle.std.specs.Prelude.{length, map, take, slice_get, Some, Err};
+ghost use Rattle.std.specs.Prelude.{IsTrue, IfOk, IfErr, OnOk, MatchOption};
+ghost use Rattle.std.specs.List.{AllZip, AllByRecursion, flat_map, sum_by};
+ghost use Rattle.mm_code.specs.Letters.{HasSpelling, Letters, LettersBreak};
 ghost use Rattle.mm_frame.specs.Sentence.{Sentence};
 ghost use Rattle.mm_frame.specs.Form.{IsSound};
 ghost use Rattle.mm_frame.specs.Numbers.{IsNumbered};
@@ -17,14 +17,42 @@ ghost use Rattle.mm_proof.specs.Proof.{IsWholeFault};
 ghost use Rattle.mm_proof.specs.Steps.{AreSteps, IsProofNumber};
 ghost use Rattle.mm_proof.specs.Parsed.{OfProof, SaySteps};
 ghost use Rattle.mm_proof.specs.CodeSteps.{IsReading, NumberSays, fault_behind};
-ghost use Rattle.mm_proof.specs.CodeSteps.{ids_in, move_in, moves_in, texts};
+ghost use Rattle.mm_proof.specs.CodeSteps.{ids_in, move_in, moves_in, texts, token_texts};
 
 use crate::fault::{ProofFault, ProofRule};
-use crate::labels::numbers_of;
+use crate::labels::fill_numbers;
 use crate::moves::{NumberedMove, Parsed, Steps};
-use mm_code::{Code, CodeFault, CodeRule, read_codes};
+use mm_code::{Code, CodeFault, CodeRule, fill_codes};
 use mm_frame::{Book, Frame, LabelId};
-use std::alloc::Global;
+use mm_text::Token;
+use std::alloc::{AllocError, Global};
+
+/// Lists that the reading of each proof fills anew.
+#[derive(Drop)]
+pub(crate) struct ParseLists<'a> {
+    /// The numbers of the labels.
+    ids: Vec<LabelId>,
+    /// What the first numbers stand for: the mandatory hypotheses, and then the listed labels.
+    entries: Vec<LabelId>,
+    /// The letters, as white space cuts them.
+    letters: Vec<&'a [u8]>,
+    /// What they say.
+    codes: Vec<Code>,
+    /// The moves.
+    pub(crate) moves: Vec<NumberedMove>,
+}
+
+impl<'a> ParseLists<'a> {
+    pub(crate) fn new(alloc: Global) -> ParseLists<'a> {
+        ParseLists {
+            ids: Vec::new(alloc),
+            entries: Vec::new(alloc),
+            letters: Vec::new(alloc),
+            codes: Vec::new(alloc),
+            moves: Vec::new(alloc),
+        }
+    }
+}
 
 // Whether the token holds the byte.
 fn has_byte(token: &[u8], byte: u8) -> bool
@@ -34,7 +62,19 @@ fn has_byte(token: &[u8], byte: u8) -> bool
 }
 
 /// Whether some token holds a `?`.
-pub(crate) fn is_incomplete(tokens: &[&[u8]]) -> bool
+pub(crate) fn is_incomplete(tokens: &[Token]) -> bool
+    ensures { IsTrue result ↔ IsIncomplete (token_texts tokens.now) }
+{
+    for token in tokens {
+        if has_byte(token.text, b'?') {
+            return true;
+        }
+    }
+    false
+}
+
+// Whether some of the tokens, given by their bytes, holds a `?`.
+fn has_unknown(tokens: &[&[u8]]) -> bool
     ensures { IsTrue result ↔ IsIncomplete (texts tokens.now) }
 {
     for token in tokens {
@@ -45,37 +85,37 @@ pub(crate) fn is_incomplete(tokens: &[&[u8]]) -> bool
     false
 }
 
-// A step for each of the labels.
-fn name_moves(alloc: Global, ids: &[LabelId]) -> Result<Vec<NumberedMove>, ProofFault>
-    ensures ok { IfOk result (λ v. moves_in v.items ≡ map name (ids_in ids.now)) }
+// Fills the list with a step for each of the labels.
+fn fill_names(moves: &mut Vec<NumberedMove>, ids: &[LabelId]) -> Result<(), ProofFault>
+    ensures ok { OnOk result (moves_in moves.new.items ≡ map name (ids_in ids.now)) }
     ensures fault { IfErr result (λ e. e ≡ ProofFault.Memory) }
 {
-    let mut moves = Vec::with_capacity(alloc, ids.len())?;
+    moves.clear();
     for id in ids {
         moves.push(NumberedMove::Name(*id))?;
     }
-    Ok(moves)
+    Ok(())
 }
 
-/// The moves of a normal proof, a step for each label.
-pub(crate) fn normal_moves(
-    alloc: Global,
+// Fills the list with the moves of a normal proof, a step for each label.
+fn fill_normal(
+    lists: &mut ParseLists,
     book: &Book,
     own: &Frame,
     id: LabelId,
-    tokens: &[&[u8]],
-) -> Result<Vec<NumberedMove>, ProofFault>
+    tokens: &[Token],
+) -> Result<(), ProofFault>
     requires book { own.now.statements ≡ book.now.statements }
     requires own { (s : Sentence) × IsNumbered book.now.statements id.0 own.now.place s }
     requires sound { IsSound book.now.statements }
-    requires normal { IsNormal (texts tokens.now) }
-    ensures ok { IfOk result (λ v.
-        IsReading book.now.statements own.now.place (texts tokens.now) (moves_in v.items)) }
+    requires normal { IsNormal (token_texts tokens.now) }
+    ensures ok { OnOk result (IsReading book.now.statements own.now.place
+        (token_texts tokens.now) (moves_in lists.new.moves.items)) }
     ensures fault { IfErr result (λ e. OnRule e (λ rule step. (step ≡ 0)
-        × IsWholeFault (take own.now.place book.now.statements) (texts tokens.now) rule)) }
+        × IsWholeFault (take own.now.place book.now.statements) (token_texts tokens.now) rule)) }
 {
-    let ids = numbers_of(alloc, book, own, id, tokens)?;
-    name_moves(alloc, &ids)
+    fill_numbers(&mut lists.ids, book, own, id, tokens)?;
+    fill_names(&mut lists.moves, &lists.ids)
 }
 
 // The move that a code says, where numbers stand for these labels and then for tags.
@@ -95,22 +135,22 @@ fn move_of(entries: &[LabelId], code: Code) -> NumberedMove
     }
 }
 
-// The moves that the codes say.
-fn moves_of(
-    alloc: Global,
+// Fills the list with the moves that the codes say.
+fn fill_moves(
+    moves: &mut Vec<NumberedMove>,
     entries: &[LabelId],
     codes: &[Code],
-) -> Result<Vec<NumberedMove>, ProofFault>
+) -> Result<(), ProofFault>
     requires { All HasSpelling codes.now }
-    ensures ok { IfOk result (λ v.
-        AllZip (NumberSays (ids_in entries.now)) codes.now (moves_in v.items)) }
+    ensures ok { OnOk result
+        (AllZip (NumberSays (ids_in entries.now)) codes.now (moves_in moves.new.items)) }
     ensures fault { IfErr result (λ e. e ≡ ProofFault.Memory) }
 {
-    let mut moves = Vec::with_capacity(alloc, codes.len())?;
+    moves.clear();
     for code in codes {
         moves.push(move_of(entries, *code))?;
     }
-    Ok(moves)
+    Ok(())
 }
 
 // Whether the token is the one byte.
@@ -124,16 +164,16 @@ fn is_byte(token: &[u8], byte: u8) -> bool
 }
 
 // The place of the first `)`.
-fn closing_place(tokens: &[&[u8]]) -> Option<usize>
+fn closing_place(tokens: &[Token]) -> Option<usize>
     ensures { MatchOption
         result
-        (¬ (Contains (texts tokens.now) closing_token))
+        (¬ (Contains (token_texts tokens.now) closing_token))
         (λ place. (place < length tokens.now)
-        × (slice_get (texts tokens.now) place ≡ Some closing_token)
-        × ¬ (Contains (take place (texts tokens.now)) closing_token)) }
+        × (slice_get (token_texts tokens.now) place ≡ Some closing_token)
+        × ¬ (Contains (take place (token_texts tokens.now)) closing_token)) }
 {
     for (place, token) in tokens.iter().enumerate() {
-        if is_byte(token, b')') {
+        if is_byte(token.text, b')') {
             return Some(place);
         }
     }
@@ -141,11 +181,12 @@ fn closing_place(tokens: &[&[u8]]) -> Option<usize>
 }
 
 // The list and the letters of a compressed proof, whose tokens after the `(` are these.
-fn parts<'t, 'a>(rest: &'t [&'a [u8]]) -> Option<(&'t [&'a [u8]], &'t [&'a [u8]])>
+fn parts<'t, 'a>(rest: &'t [Token<'a>]) -> Option<(&'t [Token<'a>], &'t [Token<'a>])>
     ensures { MatchOption
         result
-        (¬ (Contains (texts rest.now) closing_token))
-        (λ p. IsCompressed (opening_token ∷ texts rest.now) (texts p.0.now) (texts p.1.now)) }
+        (¬ (Contains (token_texts rest.now) closing_token))
+        (λ p. IsCompressed (opening_token ∷ token_texts rest.now)
+        (token_texts p.0.now) (token_texts p.1.now)) }
 {
     let place = closing_place(rest)?;
     Some((&rest[..place], &rest[place + 1..]))
@@ -168,20 +209,49 @@ fn letter_fault(fault: CodeFault) -> ProofFault
     }
 }
 
-/// The moves of a compressed proof, whose tokens after the `(` are these.
-pub(crate) fn compressed_moves(
-    alloc: Global,
+// Fills the list with the texts of the tokens.
+fn fill_texts<'a>(pieces: &mut Vec<&'a [u8]>, tokens: &[Token<'a>]) -> Result<(), AllocError>
+    ensures { OnOk result (texts pieces.new.items ≡ token_texts tokens.now) }
+{
+    pieces.clear();
+    for token in tokens {
+        pieces.push(token.text)?;
+    }
+    Ok(())
+}
+
+// Fills the list with the codes of the letters.
+fn read_letters<'a>(
+    pieces: &mut Vec<&'a [u8]>,
+    codes: &mut Vec<Code>,
+    letters: &[Token<'a>],
+) -> Result<(), CodeFault>
+    ensures read { OnOk result
+        (Letters (flat_map (λ p. p) (token_texts letters.now)) codes.new.items) }
+    ensures unbroken { OnOk result ((rule : CodeRule)
+        → ¬ (LettersBreak rule (flat_map (λ p. p) (token_texts letters.now)))) }
+    ensures rule { (rule : CodeRule) → result ≡ Err (CodeFault.Rule rule)
+        → LettersBreak rule (flat_map (λ p. p) (token_texts letters.now)) }
+{
+    fill_texts(pieces, letters)?;
+    fill_codes(codes, pieces)
+}
+
+// Fills the list with the moves of a compressed proof, whose tokens after the `(` are these.
+fn fill_compressed<'a>(
+    lists: &mut ParseLists<'a>,
     book: &Book,
     own: &Frame,
     id: LabelId,
-    rest: &[&[u8]],
-) -> Result<Vec<NumberedMove>, ProofFault>
+    rest: &[Token<'a>],
+) -> Result<(), ProofFault>
     requires book { own.now.statements ≡ book.now.statements }
     requires own { (s : Sentence) × IsNumbered book.now.statements id.0 own.now.place s }
     requires sound { IsSound book.now.statements }
-    ensures ok { let tokens = opening_token ∷ texts rest.now in IfOk result (λ v.
-        IsReading book.now.statements own.now.place tokens (moves_in v.items)) }
-    ensures fault { let tokens = opening_token ∷ texts rest.now in
+    ensures ok { let tokens = opening_token ∷ token_texts rest.now in
+        OnOk result (IsReading book.now.statements own.now.place tokens
+        (moves_in lists.new.moves.items)) }
+    ensures fault { let tokens = opening_token ∷ token_texts rest.now in
         IfErr result (λ e. OnRule e (λ rule step. (step ≡ 0)
         × IsWholeFault (take own.now.place book.now.statements) tokens rule)) }
 {
@@ -191,75 +261,108 @@ pub(crate) fn compressed_moves(
             step: 0,
         });
     };
-    let ids = numbers_of(alloc, book, own, id, listed)?;
-    let codes = match read_codes(alloc, letters) {
-        Ok(codes) => codes,
+    fill_numbers(&mut lists.ids, book, own, id, listed)?;
+    match read_letters(&mut lists.letters, &mut lists.codes, letters) {
+        Ok(()) => {}
         Err(fault) => return Err(letter_fault(fault)),
-    };
-    let mut entries = Vec::from_slice(alloc, own.hypotheses())?;
-    entries.extend_from_slice(&ids)?;
-    moves_of(alloc, &entries, &codes)
+    }
+    lists.entries.clear();
+    lists.entries.extend_from_slice(own.hypotheses())?;
+    lists.entries.extend_from_slice(&lists.ids)?;
+    fill_moves(&mut lists.moves, &lists.entries, &lists.codes)
 }
 
-// The moves that the tokens say as a proof of the `$p` of the frame.
-fn whole_moves(
-    alloc: Global,
+// Fills the list with the moves that the tokens say as a proof of the `$p` of the frame.
+fn fill_whole<'a>(
+    lists: &mut ParseLists<'a>,
     book: &Book,
     own: &Frame,
     id: LabelId,
-    tokens: &[&[u8]],
-) -> Result<Vec<NumberedMove>, ProofFault>
+    tokens: &[Token<'a>],
+) -> Result<(), ProofFault>
     requires book { own.now.statements ≡ book.now.statements }
     requires own { (s : Sentence) × IsNumbered book.now.statements id.0 own.now.place s }
     requires sound { IsSound book.now.statements }
-    ensures ok { IfOk result (λ v.
-        IsReading book.now.statements own.now.place (texts tokens.now) (moves_in v.items)) }
+    ensures ok { OnOk result (IsReading book.now.statements own.now.place
+        (token_texts tokens.now) (moves_in lists.new.moves.items)) }
     ensures fault { IfErr result (λ e. OnRule e (λ rule step. (step ≡ 0)
-        × IsWholeFault (take own.now.place book.now.statements) (texts tokens.now) rule)) }
+        × IsWholeFault (take own.now.place book.now.statements) (token_texts tokens.now) rule)) }
 {
     match tokens {
-        [first, rest @ ..] if is_byte(first, b'(') => {
-            compressed_moves(alloc, book, own, id, rest)
+        [first, rest @ ..] if is_byte(first.text, b'(') => {
+            fill_compressed(lists, book, own, id, rest)
         }
-        _ => normal_moves(alloc, book, own, id, tokens),
+        _ => fill_normal(lists, book, own, id, tokens),
     }
 }
 
-// The moves that the tokens say as a proof of the `$p` of the frame.
-fn parse_in_frame(
-    alloc: Global,
+/// Fills the list with the moves that the tokens, none of which holds a `?`, say as a proof of the
+/// `$p` of the frame, or tells the first of P1 to P5 that they break.
+pub(crate) fn fill_steps<'a>(
+    lists: &mut ParseLists<'a>,
     book: &Book,
     own: &Frame,
     id: LabelId,
-    tokens: &[&[u8]],
-) -> Result<Parsed, ProofFault>
+    tokens: &[Token<'a>],
+) -> Result<(), ProofFault>
     requires book { own.now.statements ≡ book.now.statements }
     requires own { (s : Sentence) × IsNumbered book.now.statements id.0 own.now.place s }
     requires sound { IsSound book.now.statements }
     requires proof { (place : ℕ) × (s : Sentence) × IsProofNumber book.now.statements id.0 place s }
-    requires filled { AllByRecursion (λ t. 1 ≤ length t) (texts tokens.now) }
-    requires room { sum_by length (texts tokens.now) ≤ 1073741824 }
-    // A proof with an unknown step is told apart.
-    ensures incomplete { result ≡ Ok Parsed.Incomplete → IsIncomplete (texts tokens.now) }
-    ensures complete { IsIncomplete (texts tokens.now) → result ≡ Ok Parsed.Incomplete }
-
     // The moves are what the tokens say, and each may be made.
-    ensures steps { (steps : List (Move ℕ)) → result ≡ Ok (Parsed.Steps steps)
-        → OfProof book.now.statements id.0
-        (λ place s. SaySteps book.now.statements place s (texts tokens.now) steps) }
-    ensures usable { (steps : List (Move ℕ)) → result ≡ Ok (Parsed.Steps steps)
-        → AreSteps book.now.statements id.0 steps }
+    ensures steps { OnOk result (OfProof book.now.statements id.0
+        (λ place s. SaySteps book.now.statements place s
+        (token_texts tokens.now) (moves_in lists.new.moves.items))) }
+    ensures usable { OnOk result
+        (AreSteps book.now.statements id.0 (moves_in lists.new.moves.items)) }
 
     // The rule is the first that is broken over the whole proof.
-    ensures fault { (rule : ProofRule) → (step : ℕ) → result ≡ Err (ProofFault.Rule rule step)
-        → OfProof book.now.statements id.0 (λ place s. (step ≡ 0)
-        × IsWholeFault (take place book.now.statements) (texts tokens.now) rule) }
+    ensures fault { IfErr result (λ e. OnRule e (λ rule step.
+        OfProof book.now.statements id.0 (λ place s. (step ≡ 0)
+        × IsWholeFault (take place book.now.statements) (token_texts tokens.now) rule))) }
 {
-    if is_incomplete(tokens) {
-        return Ok(Parsed::Incomplete);
+    fill_whole(lists, book, own, id, tokens)
+}
+
+// The moves that the tokens, none of which holds a `?`, say as a proof of the `$p` of the frame.
+fn steps_of(
+    alloc: Global,
+    book: &Book,
+    own: &Frame,
+    id: LabelId,
+    tokens: &[Token],
+) -> Result<Steps, ProofFault>
+    requires book { own.now.statements ≡ book.now.statements }
+    requires own { (s : Sentence) × IsNumbered book.now.statements id.0 own.now.place s }
+    requires sound { IsSound book.now.statements }
+    requires proof { (place : ℕ) × (s : Sentence) × IsProofNumber book.now.statements id.0 place s }
+    requires filled { AllByRecursion (λ t. 1 ≤ length t) (token_texts tokens.now) }
+    requires room { sum_by length (token_texts tokens.now) ≤ 1073741824 }
+    ensures steps { IfOk result (λ steps. OfProof book.now.statements id.0
+        (λ place s. SaySteps book.now.statements place s (token_texts tokens.now) steps)) }
+    ensures usable { IfOk result (λ steps. AreSteps book.now.statements id.0 steps) }
+    ensures fault { IfErr result (λ e. OnRule e (λ rule step.
+        OfProof book.now.statements id.0 (λ place s. (step ≡ 0)
+        × IsWholeFault (take place book.now.statements) (token_texts tokens.now) rule))) }
+{
+    let mut lists = ParseLists::new(alloc);
+    fill_steps(&mut lists, book, own, id, tokens)?;
+    Ok(Steps { moves: lists.moves })
+}
+
+// Tokens with these texts, which stand nowhere.
+fn tokens_with<'a>(alloc: Global, pieces: &[&'a [u8]]) -> Result<Vec<Token<'a>>, AllocError>
+    ensures { IfOk result (λ v. token_texts v.items ≡ texts pieces.now) }
+{
+    let mut tokens = Vec::with_capacity(alloc, pieces.len())?;
+    for text in pieces {
+        tokens.push(Token {
+            text,
+            file: 0,
+            at: 0,
+        })?;
     }
-    let moves = whole_moves(alloc, book, own, id, tokens)?;
-    Ok(Parsed::Steps(Steps { moves }))
+    Ok(tokens)
 }
 
 impl Steps {
@@ -291,6 +394,13 @@ impl Steps {
             → OfProof book.now.statements id.0 (λ place s. (step ≡ 0)
             × IsWholeFault (take place book.now.statements) (texts tokens.now) rule) }
     {
-        parse_in_frame(alloc, book, &book.frame(id), id, tokens)
+        if has_unknown(tokens) {
+            return Ok(Parsed::Incomplete);
+        }
+        let tokens = tokens_with(alloc, tokens)?;
+        match steps_of(alloc, book, &book.frame(id), id, &tokens) {
+            Ok(steps) => Ok(Parsed::Steps(steps)),
+            Err(fault) => Err(fault),
+        }
     }
 }

@@ -1,82 +1,238 @@
-//! What proves one proof after the other.
+//! What takes statements in, and proves one proof after the other.
 
-ghost use Rattle.std.specs.Prelude.{◌≡◌, ℕ, take, Err, IfOk, IsOkUnless};
-ghost use Rattle.mm_proof.specs.Answer.{IsUnlessMemory};
-ghost use Rattle.mm_proof.specs.Proof.{Prove, IsWithin, expression_limit};
-ghost use Rattle.mm_proof.specs.Steps.{AreSteps};
-ghost use Rattle.mm_proof.specs.Verified.{OfMoves, ProvesWith, FailsWith};
+ghost use Rattle.std.specs.Prelude.{◌≡◌, ℕ, ◌+◌, ◌<◌, ◌≤◌, [], ◌∷◌, ◌++◌, map, take, Ok, Err};
+ghost use Rattle.std.specs.Prelude.{IfOk, IfErr, OnOk, OnErr, IsOkUnless};
+ghost use Rattle.mm_text.specs.declared.statement.Kind.TheVariants.{Closing};
+ghost use Rattle.mm_text.specs.Statement.{plain_statement, HasForm, bytes_in};
+ghost use Rattle.mm_frame.specs.declared.rule.MeaningRule.{MeaningRule};
+ghost use Rattle.mm_frame.specs.declared.answer.RuleFault.TheVariants.{Rule, Memory};
+ghost use Rattle.mm_frame.specs.Sentence.{Sentence, sentence_in};
+ghost use Rattle.mm_frame.specs.Active.{open_marks, close_marks};
+ghost use Rattle.mm_frame.specs.Form.{IsSound};
+ghost use Rattle.mm_frame.specs.Numbers.{IsNumbered};
+ghost use Rattle.mm_frame.specs.Rules.{IsMeant, FirstBroken};
+ghost use Rattle.mm_frame.specs.Taken.{TakenAs};
+ghost use Rattle.mm_proof.specs.Answer.{OnRule, IsUnlessMemory};
+ghost use Rattle.mm_proof.specs.Tokens.{IsIncomplete};
+ghost use Rattle.mm_proof.specs.Proof.{IsProvedWithin, IsWithin, expression_limit};
+ghost use Rattle.mm_proof.specs.Steps.{IsProofNumber};
+ghost use Rattle.mm_proof.specs.Parsed.{OfProof};
+ghost use Rattle.mm_proof.specs.Verified.{TokensProve, TokensFail};
+ghost use Rattle.mm_proof.specs.CodeSteps.{ids_in, token_texts};
 
 use crate::apply::Scratch;
 use crate::fault::{ProofFault, ProofRule};
 use crate::flat::Flat;
-use crate::moves::Steps;
-use crate::used::Used;
-use crate::verdict::answer;
-use mm_frame::{Book, LabelId};
+use crate::parse::{ParseLists, fill_steps, is_incomplete};
+use crate::used::Named;
+use crate::verdict::judgement_in_frame;
+use mm_frame::{Book, Frame, LabelId, RuleFault, Taken};
+use mm_text::{Statement, Token};
 use std::alloc::Global;
 use std::marker::Model;
 
-/// Proves one proof after the other in the same memory.
+/// What a proof without a fault is.
+#[derive(Clone, Copy, PartialEq, Eq, Debug)]
+pub enum Proved {
+    /// A token holds a `?`: a step is unknown.
+    Incomplete,
+    /// It proves its statement.
+    Complete,
+}
+
+/// A book, and what proves the proofs of its statements, one after the other in the same memory.
 ///
-/// It answers what `verify` does: nothing of it depends on the proofs before.
+/// Nothing that it answers depends on the proofs before.
 #[derive(Drop)]
-pub struct Prover {
-    alloc: Global,
+pub struct Prover<'a> {
+    book: Book<'a>,
+    lists: ParseLists<'a>,
     store: Flat,
     scratch: Scratch,
+    named: Named,
 }
 
-// What it holds between two proofs is nothing that a caller can tell.
-impl Model for Prover {
-    ghost Value = { Unit {0} };
+// What else it holds between two proofs is nothing that a caller can tell.
+impl<'a> Model for Prover<'a> {
+    ghost use Rattle.mm_proof.specs.Proving.{Proving};
 
-    ghost view = { λ _. tt };
+    ghost Value = { Proving };
+
+    ghost use Rattle.mm_proof.specs.CodeSteps.{ids_in};
+
+    ghost view = { λ p. record { book = p.book; used = ids_in p.named.ids.items } };
 }
 
-impl Prover {
-    /// A prover that has proved nothing yet.
-    pub fn new(alloc: Global) -> Prover {
-        Prover {
-            alloc,
-            store: Flat::new(alloc),
-            scratch: Scratch::new(alloc),
+impl<'a> Prover<'a> {
+    /// A prover with a book of no statements.
+    pub fn new(alloc: Global) -> Result<Prover<'a>, RuleFault>
+        ensures ok { IfOk result (λ prover. prover.book ≡ record { statements = []; bytes = 0 }) }
+        ensures memory { IfErr result (λ fault. fault ≡ Memory) }
+    {
+        match Book::new(alloc) {
+            Ok(book) => Ok(Prover {
+                book,
+                lists: ParseLists::new(alloc),
+                store: Flat::new(alloc),
+                scratch: Scratch::new(alloc),
+                named: Named::new(alloc),
+            }),
+            Err(fault) => Err(fault),
         }
     }
 
-    /// Whether the moves prove the `$p` with this number: the assertions of its tree, each once, in
-    /// database order; or the first of P6 to P14 and L1 that they break, with the number of the
-    /// step.
-    pub fn prove(&mut self, book: &Book, id: LabelId, steps: &Steps) -> Result<Used, ProofFault>
-        requires { AreSteps book.now.statements id.0 steps.now }
-        // What is answered `Ok` is proved, and these are the assertions of its tree.
-        ensures proved { IfOk result (λ used. OfMoves book.now.statements id.0 steps.now
-            (λ place s moves. ProvesWith book.now.statements place s moves used)) }
+    /// The book.
+    pub fn book(&self) -> &Book<'a>
+        ensures { result.now ≡ self.now.book }
+    {
+        &self.book
+    }
+
+    /// The book, where no proof is left to prove.
+    pub fn into_book(self) -> Book<'a>
+        ensures { result ≡ self.entry.book }
+    {
+        self.book
+    }
+
+    /// Takes the next statement into the book, unless it breaks a rule of meaning (the Metamath
+    /// book, sections 4.2.1 to 4.2.8). A refused statement leaves the book as it was.
+    pub fn take(&mut self, statement: &Statement<'a>) -> Result<Taken, RuleFault>
+        requires formed { HasForm (plain_statement statement.now) }
+        requires closes { statement.now.kind ≡ Closing
+            → close_marks self.old.book.statements < open_marks self.old.book.statements }
+        requires room { self.old.book.bytes
+            + bytes_in (plain_statement statement.now) ≤ 1073741824 }
+        ensures ok { IfOk result (λ taken.
+            IsMeant self.old.book.statements (sentence_in statement.now)
+            × (self.new.book ≡ record {
+              statements = self.old.book.statements ++ sentence_in statement.now ∷ [];
+              bytes = self.old.book.bytes + bytes_in (plain_statement statement.now);
+            })
+            × TakenAs self.old.book.statements statement.now.kind taken) }
+        ensures rule { (broken : MeaningRule) → result ≡ Err (Rule broken)
+            → FirstBroken broken self.old.book.statements (sentence_in statement.now) }
+        ensures unchanged { OnErr result (self.new.book ≡ self.old.book) }
+    {
+        self.book.take(statement)
+    }
+
+    /// Whether the tokens are a proof of the `$p` with this number, unless one of them holds a `?`;
+    /// `used` then gives the assertions of its tree. Or the first of P1 to P14 and L1 that they
+    /// break, with the number of the step, 0 for P1 to P5.
+    ///
+    /// It answers what `Steps::parse` and then `verify` do, in memory that all proofs use.
+    pub fn prove(&mut self, id: LabelId, tokens: &[Token<'a>]) -> Result<Proved, ProofFault>
+        requires { (place : ℕ) × (s : Sentence)
+            × IsProofNumber self.old.book.statements id.0 place s }
+        // A proof with an unknown step is told apart.
+        ensures incomplete { result ≡ Ok Proved.Incomplete
+            → IsIncomplete (token_texts tokens.now) }
+        ensures complete { IsIncomplete (token_texts tokens.now)
+            → result ≡ Ok Proved.Incomplete }
+
+        // What is answered to be complete is proved, and these are the assertions of its tree.
+        ensures proved { result ≡ Ok Proved.Complete
+            → OfProof self.old.book.statements id.0 (λ place s.
+            TokensProve (take place self.old.book.statements) s (token_texts tokens.now)
+            self.new.used) }
 
         // The rule and the step are those of the first fault.
         ensures fault { (rule : ProofRule) → (step : ℕ)
             → result ≡ Err (ProofFault.Rule rule step)
-            → OfMoves book.now.statements id.0 steps.now
-            (λ place s moves. FailsWith book.now.statements place s moves rule step) }
+            → OfProof self.old.book.statements id.0 (λ place s.
+            TokensFail (take place self.old.book.statements) s (token_texts tokens.now)
+            rule step) }
 
-        // What is proved is answered `Ok`, unless memory is refused.
-        ensures accepts { OfMoves book.now.statements id.0 steps.now (λ place s moves.
-            Prove (IsWithin expression_limit) (take place book.now.statements) s moves
-            → IsOkUnless result ProofFault.Memory) }
+        // What is proved has no fault, unless memory is refused.
+        ensures accepts { OfProof self.old.book.statements id.0 (λ place s.
+            IsProvedWithin (IsWithin expression_limit) (take place self.old.book.statements) s
+            (token_texts tokens.now) → IsOkUnless result ProofFault.Memory) }
 
-        // What has a fault is answered with it, unless memory is refused.
-        ensures refuses { OfMoves book.now.statements id.0 steps.now (λ place s moves.
+        // What has a fault is answered with it, unless a step is unknown or memory is refused.
+        ensures refuses { ¬ (IsIncomplete (token_texts tokens.now))
+            → OfProof self.old.book.statements id.0 (λ place s.
             (rule : ProofRule) → (step : ℕ)
-            → FailsWith book.now.statements place s moves rule step
-            → IsUnlessMemory result (Err (ProofFault.Rule rule step))) }
+            → TokensFail (take place self.old.book.statements) s (token_texts tokens.now)
+            rule step → IsUnlessMemory result (Err (ProofFault.Rule rule step))) }
+
+        // No proof changes the book.
+        ensures book { self.new.book ≡ self.old.book }
     {
-        self.store.clear();
-        answer(
-            self.alloc,
+        if is_incomplete(tokens) {
+            return Ok(Proved::Incomplete);
+        }
+        match prove_tokens(
             &mut self.store,
             &mut self.scratch,
-            book,
+            &mut self.named,
+            &mut self.lists,
+            &self.book,
             id,
-            steps,
-        )
+            tokens,
+        ) {
+            Ok(()) => Ok(Proved::Complete),
+            Err(fault) => Err(fault),
+        }
     }
+
+    /// The assertions that the proof uses which was answered to be complete last, each once, in
+    /// database order.
+    pub fn used(&self) -> &[LabelId]
+        ensures { map (λ id. id.0) result.now ≡ self.now.used }
+    {
+        &self.named.ids
+    }
+}
+
+// Whether the tokens, none of which holds a `?`, prove the `$p` of the frame: fills the list with
+// the assertions of its tree, or tells their first fault.
+fn prove_in_frame<'a>(
+    store: &mut Flat,
+    scratch: &mut Scratch,
+    named: &mut Named,
+    lists: &mut ParseLists<'a>,
+    book: &Book,
+    own: &Frame,
+    id: LabelId,
+    tokens: &[Token<'a>],
+) -> Result<(), ProofFault>
+    requires own { own.now.statements ≡ book.now.statements }
+    requires number { (s : Sentence) × IsNumbered book.now.statements id.0 own.now.place s }
+    requires sound { IsSound book.now.statements }
+    requires proof { (place : ℕ) × (s : Sentence) × IsProofNumber book.now.statements id.0 place s }
+    ensures proved { OnOk result (OfProof book.now.statements id.0 (λ place s.
+        TokensProve (take place book.now.statements) s (token_texts tokens.now)
+        (ids_in named.new.ids.items))) }
+    ensures fault { IfErr result (λ e. OnRule e (λ rule step.
+        OfProof book.now.statements id.0 (λ place s.
+        TokensFail (take place book.now.statements) s (token_texts tokens.now) rule step))) }
+{
+    fill_steps(lists, book, own, id, tokens)?;
+    store.clear();
+    judgement_in_frame(store, scratch, named, book, own, id, &lists.moves)
+}
+
+// Whether the tokens, none of which holds a `?`, prove the `$p` with the number: fills the list
+// with the assertions of its tree, or tells their first fault.
+fn prove_tokens<'a>(
+    store: &mut Flat,
+    scratch: &mut Scratch,
+    named: &mut Named,
+    lists: &mut ParseLists<'a>,
+    book: &Book,
+    id: LabelId,
+    tokens: &[Token<'a>],
+) -> Result<(), ProofFault>
+    requires { (place : ℕ) × (s : Sentence) × IsProofNumber book.now.statements id.0 place s }
+    ensures proved { OnOk result (OfProof book.now.statements id.0 (λ place s.
+        TokensProve (take place book.now.statements) s (token_texts tokens.now)
+        (ids_in named.new.ids.items))) }
+    ensures fault { IfErr result (λ e. OnRule e (λ rule step.
+        OfProof book.now.statements id.0 (λ place s.
+        TokensFail (take place book.now.statements) s (token_texts tokens.now) rule step))) }
+    ensures sound { IsSound book.now.statements }
+{
+    let own = book.frame(id);
+    prove_in_frame(store, scratch, named, lists, book, &own, id, tokens)
 }

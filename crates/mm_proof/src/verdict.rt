@@ -1,7 +1,7 @@
 //! The verdict on the moves of a proof.
 
-ghost use Rattle.std.specs.Prelude.{◌≡◌, ◌↔◌, ◌≤◌, ℕ, List, [], ◌∷◌, ◌++◌, take, length, slice_get};
-ghost use Rattle.std.specs.Prelude.{Contains, IsTrue, Some, Ok, Err, IfOk, IfErr, OnOk, IsOkUnless};
+ghost use Rattle.std.specs.Prelude.{◌≡◌, ◌≤◌, ℕ, List, [], ◌∷◌, ◌++◌, take, length, slice_get};
+ghost use Rattle.std.specs.Prelude.{Some, Ok, Err, IfOk, IfErr, OnOk, IsOkUnless};
 ghost use Rattle.std.specs.List.{AllByRecursion};
 ghost use Rattle.mm_frame.specs.Sentence.{Sentence};
 ghost use Rattle.mm_frame.specs.Numbers.{IsNumbered};
@@ -13,20 +13,18 @@ ghost use Rattle.mm_proof.specs.Steps.{AreNumberedMoves, AreSteps};
 ghost use Rattle.mm_frame.specs.Form.{IsSound};
 ghost use Rattle.mm_proof.specs.CodeSteps.{MayBeUsed, ids_in, moves_in};
 ghost use Rattle.mm_proof.specs.CodeVerify.{AreStackEntries};
-ghost use Rattle.mm_proof.specs.CodeRun.{CarriesOn, StopsAt, MayBeMade, HasRun, IsNamedByMove};
-ghost use Rattle.mm_proof.specs.CodeRun.{AreNamed};
+ghost use Rattle.mm_proof.specs.CodeRun.{CarriesOn, StopsAt, MayBeMade, HasRun};
 ghost use Rattle.mm_proof.specs.CodeRun.{EndsWrong};
 ghost use Rattle.mm_proof.specs.Verified.{OfMoves, ProvesWith, FailsWith};
 
-use crate::apply::{Named, Scratch, apply};
+use crate::apply::{Scratch, apply};
 use crate::fault::{ProofFault, ProofRule};
 use crate::moves::{NumberedMove, Steps};
 use crate::store::Store;
 use crate::substitution::{EXPRESSION_LIMIT, is_same};
-use crate::used::Used;
-use crate::variables::lengthen;
+use crate::used::{Named, Used, fill_used};
 use mm_frame::{Book, Frame, LabelId, LabelKind, Sym, one_number};
-use std::alloc::{AllocError, Global};
+use std::alloc::Global;
 
 // The proof breaks a rule at a step.
 fn fault_at_step(rule: ProofRule, step: usize) -> Result<(), ProofFault>
@@ -154,84 +152,6 @@ fn run<S: Store>(
     Ok(steps)
 }
 
-// Whether the list has the label at the place under its number, so that it needn't be added again.
-fn is_listed(places: &[usize], ids: &[LabelId], id: LabelId) -> bool
-    ensures { IsTrue result → Contains (ids_in ids.now) id.0 }
-{
-    let number = id.0 as usize;
-    if number >= places.len() {
-        return false;
-    }
-    let place = places[number];
-    place < ids.len() && ids[place].0 == id.0
-}
-
-// Notes the place under the label's number.
-fn note_place(places: &mut Vec<usize>, id: LabelId, place: usize) -> Result<(), AllocError> {
-    let number = id.0 as usize;
-    lengthen(places, number + 1)?;
-    places[number] = place;
-    Ok(())
-}
-
-// Adds the label that a move names, if it is that of an assertion and isn't known to be listed.
-fn add_named(named: &mut Named, book: &Book, id: LabelId) -> Result<(), AllocError>
-    requires used { (place : ℕ) × (label : List ℕ)
-        × MayBeUsed book.now.statements place label id.0 }
-    ensures { OnOk result ((moves : List (Move ℕ))
-        → ((n : ℕ) → Contains (ids_in named.old.ids.items) n
-        ↔ IsNamedByMove book.now.statements moves n)
-        → (n : ℕ) → Contains (ids_in named.new.ids.items) n
-        ↔ IsNamedByMove book.now.statements (moves ++ Move.name id.0 ∷ []) n) }
-{
-    if is_listed(&named.places, &named.ids, id) {
-        return Ok(());
-    }
-    match book.kind(id) {
-        LabelKind::Axiom | LabelKind::Proof => {
-            note_place(&mut named.places, id, named.ids.len())?;
-            named.ids.push(id)?;
-            Ok(())
-        }
-        _ => Ok(()),
-    }
-}
-
-// The assertions that the moves name, in the order of the moves.
-fn fill_named(named: &mut Named, book: &Book, moves: &[NumberedMove]) -> Result<(), AllocError>
-    requires known { (place : ℕ)
-        × AllByRecursion (MayBeMade book.now.statements place) (moves_in moves.now) }
-    ensures { OnOk result ((id : ℕ) → Contains (ids_in named.new.ids.items) id
-        ↔ IsNamedByMove book.now.statements (moves_in moves.now) id) }
-{
-    named.ids.clear();
-    for one in moves {
-        if let NumberedMove::Name(id) = one {
-            add_named(named, book, *id)?;
-        }
-    }
-    Ok(())
-}
-
-// The assertions that the moves name, each once, in database order.
-fn used_by(
-    alloc: Global,
-    named: &mut Named,
-    book: &Book,
-    moves: &[NumberedMove],
-) -> Result<Vec<LabelId>, AllocError>
-    requires known { (place : ℕ)
-        × AllByRecursion (MayBeMade book.now.statements place) (moves_in moves.now) }
-    ensures { IfOk result (λ v.
-        AreNamed book.now.statements (moves_in moves.now) (ids_in v.items)) }
-{
-    fill_named(named, book, moves)?;
-    let mut ids = Vec::from_slice(alloc, &named.ids)?;
-    ids.sort()?;
-    ids.dedup();
-    Ok(ids)
-}
-
 // What is on the stack at the end: only the expression, or P13 or P14.
 pub(crate) fn ending<S: Store>(
     store: &S,
@@ -280,54 +200,57 @@ fn derive<S: Store>(
     Ok(())
 }
 
-// The assertions of the tree that the moves make, or their first fault, where the frame is that of
-// the `$p`.
-fn judgement_in_frame<S: Store>(
-    alloc: Global,
+// Fills the list with the assertions of the tree that the moves make, or tells their first fault,
+// where the frame is that of the `$p`.
+pub(crate) fn judgement_in_frame<S: Store>(
     store: &mut S,
     scratch: &mut Scratch,
+    named: &mut Named,
     book: &Book,
     own: &Frame,
     id: LabelId,
     moves: &[NumberedMove],
-) -> Result<Vec<LabelId>, ProofFault>
+) -> Result<(), ProofFault>
     requires own { own.now.statements ≡ book.now.statements }
     requires number { (s : Sentence) × IsNumbered book.now.statements id.0 own.now.place s }
     requires sound { IsSound book.now.statements }
     requires stack { S.stack store.old ≡ [] }
     requires kept { S.kept store.old ≡ [] }
     requires steps { AreSteps book.now.statements id.0 (moves_in moves.now) }
-    ensures proved { IfOk result (λ v. OfMoves book.now.statements id.0 (moves_in moves.now)
-        (λ place s names. ProvesWith book.now.statements place s names (ids_in v.items))) }
+    ensures proved { OnOk result (OfMoves book.now.statements id.0 (moves_in moves.now)
+        (λ place s names.
+        ProvesWith book.now.statements place s names (ids_in named.new.ids.items))) }
     ensures fault { IfErr result (λ e.
         OnRule e (λ rule step. OfMoves book.now.statements id.0 (moves_in moves.now)
         (λ place s names. FailsWith book.now.statements place s names rule step))) }
 {
     derive(store, scratch, book, own, id, moves)?;
-    Ok(used_by(alloc, &mut scratch.named, book, moves)?)
+    fill_used(named, book, moves)?;
+    Ok(())
 }
 
-// The assertions of the tree that the moves make, or their first fault.
+// Fills the list with the assertions of the tree that the moves make, or tells their first fault.
 fn judgement<S: Store>(
-    alloc: Global,
     store: &mut S,
     scratch: &mut Scratch,
+    named: &mut Named,
     book: &Book,
     id: LabelId,
     moves: &[NumberedMove],
-) -> Result<Vec<LabelId>, ProofFault>
+) -> Result<(), ProofFault>
     requires stack { S.stack store.old ≡ [] }
     requires kept { S.kept store.old ≡ [] }
     requires steps { AreSteps book.now.statements id.0 (moves_in moves.now) }
-    ensures proved { IfOk result (λ v. OfMoves book.now.statements id.0 (moves_in moves.now)
-        (λ place s names. ProvesWith book.now.statements place s names (ids_in v.items))) }
+    ensures proved { OnOk result (OfMoves book.now.statements id.0 (moves_in moves.now)
+        (λ place s names.
+        ProvesWith book.now.statements place s names (ids_in named.new.ids.items))) }
     ensures fault { IfErr result (λ e.
         OnRule e (λ rule step. OfMoves book.now.statements id.0 (moves_in moves.now)
         (λ place s names. FailsWith book.now.statements place s names rule step))) }
     ensures sound { IsSound book.now.statements }
 {
     let own = book.frame(id);
-    judgement_in_frame(alloc, store, scratch, book, &own, id, moves)
+    judgement_in_frame(store, scratch, named, book, &own, id, moves)
 }
 
 // The answer on the moves of a proof. The store is handed in empty.
@@ -335,6 +258,7 @@ pub(crate) fn answer<S: Store>(
     alloc: Global,
     store: &mut S,
     scratch: &mut Scratch,
+    named: &mut Named,
     book: &Book,
     id: LabelId,
     steps: &Steps,
@@ -355,8 +279,11 @@ pub(crate) fn answer<S: Store>(
         → FailsWith book.now.statements place s names rule step
         → IsUnlessMemory result (Err (ProofFault.Rule rule step))) }
 {
-    match judgement(alloc, store, scratch, book, id, &steps.moves) {
-        Ok(labels) => Ok(Used { labels }),
+    match judgement(store, scratch, named, book, id, &steps.moves) {
+        Ok(()) => {
+            let labels = Vec::from_slice(alloc, &named.ids)?;
+            Ok(Used { labels })
+        }
         Err(fault) => Err(fault),
     }
 }
@@ -394,5 +321,6 @@ pub fn verify<S: Store + Drop>(
         → IsUnlessMemory result (Err (ProofFault.Rule rule step))) }
 {
     let mut scratch = Scratch::new(alloc);
-    answer(alloc, &mut store, &mut scratch, book, id, steps)
+    let mut named = Named::new(alloc);
+    answer(alloc, &mut store, &mut scratch, &mut named, book, id, steps)
 }

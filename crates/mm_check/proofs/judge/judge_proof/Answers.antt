@@ -1,62 +1,22 @@
--- The parser and the verifier judge the last statement at its place.
-use Rattle.std.proofs.Common.{◌≡◌, ℕ, ◌≤◌, List, map, length, Ok, Err, sym, ap, subst, ◌∙◌}
-use Rattle.std.specs.List.{AllByRecursion}
-use Rattle.std.specs.Borrow.{Bor}
+-- The prover judges the last statement at its place.
+use Rattle.std.proofs.Common.{◌≡◌, List, map, length, ap, ◌∙◌}
+use Rattle.mm_text.specs.declared.token.Token.{Token}
 use Rattle.mm_text.specs.Statement.{PlainStatement, plain_statement}
 use Rattle.mm_frame.specs.Sentence.{sentence_of}
-use Rattle.mm_proof.specs.Tokens.{IsIncomplete}
-use Rattle.mm_proof.specs.declared.moves.Parsed.TheVariants.{Incomplete, Steps}
+use Rattle.mm_proof.specs.CodeSteps.{token_texts}
 use Rattle.mm_check.specs.Verdict.{proof_of}
-use Rattle.mm_check.proofs.Judging.{filled_texts, last_number, of_fault, parser_fault, verified, verifier_fault}
+use Rattle.mm_check.proofs.Judging.{texts_of, last_number, judged}
 use Rattle.mm_check.proofs.judge.judge_proof.Goals as goal
 
-pub parse-requires-clause-proof : goal.parse-requires-clause-proof
-parse-requires-clause-proof c =
+pub prove-requires : goal.prove-requires
+prove-requires c =
     let s : PlainStatement = plain_statement c.args.statement.now in
-    (length c.requires.last.before, sentence_of s, last_number c.args.book.now.statements c.args.id.0 s c.requires.formed c.requires.last c.requires.last.before c.requires.last.whole)
+    (length c.requires.last.before, sentence_of s, last_number c.args.prover.now.book.statements c.args.id.0 s c.requires.formed c.requires.last c.requires.last.before c.requires.last.whole)
 
-pub parse-requires-clause-filled : goal.parse-requires-clause-filled
-parse-requires-clause-filled c =
-    let texts : map (λ (t : Bor (List ℕ)). t.now) c.deref.result.now ≡ proof_of (plain_statement c.args.statement.now) =
-    ap (λ (ts : List (Bor (List ℕ))). map (λ (t : Bor (List ℕ)). t.now) ts) c.deref.ensures.value ∙ c.in_ok-tokens.ensures in
-    subst (λ (ts : List (List ℕ)). AllByRecursion (λ (t : List ℕ). 1 ≤ length t) ts) (sym texts)
-    (filled_texts (plain_statement c.args.statement.now).proof c.requires.formed.proof)
-
-pub returns-in_err-parse : goal.returns-in_err-parse
-returns-in_err-parse c =
+pub returns-clause-judged : goal.returns-clause-judged
+returns-clause-judged c =
     let s : PlainStatement = plain_statement c.args.statement.now in
-    let tokens : List (List ℕ) = map (λ (t : Bor (List ℕ)). t.now) c.deref.result.now in
-    let same : tokens ≡ proof_of s =
-    ap (λ (ts : List (Bor (List ℕ))). map (λ (t : Bor (List ℕ)). t.now) ts) c.deref.ensures.value ∙ c.in_ok-tokens.ensures in
-    let complete : ¬ (IsIncomplete tokens) = λ h.
-    let e : Err c.in_err-parse.field-0.0 ≡ Ok Incomplete = sym c.in_err-parse.was ∙ c.parse.ensures.complete h in absurd cc in
-    λ before e. of_fault before s c.from_residual-in_err-parse.result c.in_err-parse.field-0.0 c.from_residual-in_err-parse.ensures.1
-    (parser_fault c.args.book.now.statements c.args.id.0 s tokens c.in_err-parse.field-0.0 c.requires.formed c.requires.last same complete
-    (λ rule step f place t n. c.parse.ensures.fault rule step (c.in_err-parse.was ∙ ap Err f) place t n) before e)
-
-pub returns-in_err-used-in-Steps : goal.returns-in_err-used-in-Steps
-returns-in_err-used-in-Steps c =
-    let s : PlainStatement = plain_statement c.args.statement.now in
-    let tokens : List (List ℕ) = map (λ (t : Bor (List ℕ)). t.now) c.deref.result.now in
-    let same : tokens ≡ proof_of s =
-    ap (λ (ts : List (Bor (List ℕ))). map (λ (t : Bor (List ℕ)). t.now) ts) c.deref.ensures.value ∙ c.in_ok-tokens.ensures in
-    let parsed : c.parse.result ≡ Ok (Steps c.in-Steps.steps) = c.in_ok-parse.was ∙ ap Ok c.in-Steps.is in
-    let complete : ¬ (IsIncomplete tokens) = λ h.
-    let e : Ok (Steps c.in-Steps.steps) ≡ Ok Incomplete = sym parsed ∙ c.parse.ensures.complete h in absurd cc in
-    λ before e. of_fault before s c.from_residual-in_err-used-in-Steps.result c.in_err-used-in-Steps.field-0.0 c.from_residual-in_err-used-in-Steps.ensures.1
-    (verifier_fault c.args.book.now.statements c.args.id.0 s tokens c.in-Steps.steps c.in_err-used-in-Steps.field-0.0 c.requires.formed c.requires.last same complete
-    (λ place t n. c.parse.ensures.steps c.in-Steps.steps parsed place t n)
-    (λ rule step f place t moves n m. c.prove.ensures.fault rule step (c.in_err-used-in-Steps.was ∙ ap Err f) place t moves n m) before e)
-
-pub returns : goal.returns
-returns c =
-    let s : PlainStatement = plain_statement c.args.statement.now in
-    let tokens : List (List ℕ) = map (λ (t : Bor (List ℕ)). t.now) c.deref.result.now in
-    let same : tokens ≡ proof_of s =
-    ap (λ (ts : List (Bor (List ℕ))). map (λ (t : Bor (List ℕ)). t.now) ts) c.deref.ensures.value ∙ c.in_ok-tokens.ensures in
-    let parsed : c.parse.result ≡ Ok (Steps c.in-Steps.steps) = c.in_ok-parse.was ∙ ap Ok c.in-Steps.is in
-    let complete : ¬ (IsIncomplete tokens) = λ h.
-    let e : Ok (Steps c.in-Steps.steps) ≡ Ok Incomplete = sym parsed ∙ c.parse.ensures.complete h in absurd cc in
-    λ before e. verified c.args.book.now.statements c.args.id.0 s tokens c.in-Steps.steps c.in_ok-used-in-Steps.used c.requires.formed c.requires.last same complete
-    (λ place t n. c.parse.ensures.steps c.in-Steps.steps parsed place t n)
-    (λ place t moves n m. c.in_ok-used-in-Steps.ensures.proved place t moves n m) before e
+    let same : token_texts c.deref.result.now ≡ proof_of s =
+    ap token_texts c.deref.ensures.value ∙ texts_of c.args.statement.now.proof.items in
+    judged c.args.prover.now.book.statements c.args.id.0 s (token_texts c.deref.result.now) c.prove.result c.prove.new.self.used c.requires.formed c.requires.last same
+    c.prove.ensures.incomplete c.prove.ensures.complete c.prove.ensures.proved c.prove.ensures.fault

@@ -12,56 +12,56 @@ pub returns-in_err-next-clause-refused : goal.returns-in_err-next-clause-refused
 returns-in_err-next-clause-refused c =
     let files : List PlainFile = map plain_file c.args.files.now in
     passed_fault c.from_residual.result c.in_err-next.field-0.0 (TellsVerdict files) c.from_residual.ensures.1
-    (end_verdict files c.loop-prover.progress c.loop-prover.statements c.in_err-next.field-0.0 c.loop-prover.invariant c.in_err-next.ensures.refused)
+    (end_verdict files c.loop-statement.progress c.loop-statement.statements c.in_err-next.field-0.0 c.loop-statement.invariant c.in_err-next.ensures.refused)
 
 pub judge-requires-clause-closes : goal.judge-requires-clause-closes
 judge-requires-clause-closes c =
     let s : PlainStatement = plain_statement c.next.new.into in
-    let taken : TakesNext c.loop-prover.statements true s c.next.new.statements =
-    subst (λ (b : Bool). TakesNext c.loop-prover.statements b s c.next.new.statements) c.if-branch.true c.in_ok-next.ensures.taken in
-    λ closing. closes (map plain_file c.args.files.now) c.loop-prover.progress c.loop-prover.statements c.next.new.statements s c.loop-prover.invariant taken closing
+    let taken : TakesNext c.loop-statement.statements true s c.next.new.statements =
+    subst (λ (b : Bool). TakesNext c.loop-statement.statements b s c.next.new.statements) c.if-branch.true c.in_ok-next.ensures.taken in
+    λ closing. closes (map plain_file c.args.files.now) c.loop-statement.progress c.loop-statement.statements c.next.new.statements s c.loop-statement.invariant taken closing
 
 pub judge-requires-clause-room : goal.judge-requires-clause-room
 judge-requires-clause-room c =
     let s : PlainStatement = plain_statement c.next.new.into in
-    let taken : TakesNext c.loop-prover.statements true s c.next.new.statements =
-    subst (λ (b : Bool). TakesNext c.loop-prover.statements b s c.next.new.statements) c.if-branch.true c.in_ok-next.ensures.taken in
-    has_room (map plain_file c.args.files.now) c.loop-prover.progress c.loop-prover.statements c.next.new.statements s c.loop-prover.invariant taken
+    let taken : TakesNext c.loop-statement.statements true s c.next.new.statements =
+    subst (λ (b : Bool). TakesNext c.loop-statement.statements b s c.next.new.statements) c.if-branch.true c.in_ok-next.ensures.taken in
+    has_room (map plain_file c.args.files.now) c.loop-statement.progress c.loop-statement.statements c.next.new.statements s c.loop-statement.invariant taken
 
 pub judge-requires-clause-count : goal.judge-requires-clause-count
 judge-requires-clause-count c =
-    let small : c.loop-prover.progress.count ≤ 1073741824 =
-    count_small (map plain_file c.args.files.now) c.loop-prover.progress c.loop-prover.statements c.loop-prover.invariant in
+    let small : c.loop-statement.progress.count ≤ 1073741824 =
+    count_small (map plain_file c.args.files.now) c.loop-statement.progress c.loop-statement.statements c.loop-statement.invariant in
     omega (arith, small)
 
 pub judge-requires-clause-proofs : goal.judge-requires-clause-proofs
 judge-requires-clause-proofs c =
-    let small : c.loop-prover.progress.proofs ≤ 1073741824 =
-    proofs_small (map plain_file c.args.files.now) c.loop-prover.progress c.loop-prover.statements c.loop-prover.invariant in
+    let small : c.loop-statement.progress.proofs ≤ 1073741824 =
+    proofs_small (map plain_file c.args.files.now) c.loop-statement.progress c.loop-statement.statements c.loop-statement.invariant in
     omega (arith, small)
 
-pub loop-prover-preserved : goal.loop-prover-preserved
-loop-prover-preserved c =
+pub loop-statement-preserved : goal.loop-statement-preserved
+loop-statement-preserved c =
     let s : PlainStatement = plain_statement c.next.new.into in
-    let taken : TakesNext c.loop-prover.statements true s c.next.new.statements =
-    subst (λ (b : Bool). TakesNext c.loop-prover.statements b s c.next.new.statements) c.if-branch.true c.in_ok-next.ensures.taken in
+    let taken : TakesNext c.loop-statement.statements true s c.next.new.statements =
+    subst (λ (b : Bool). TakesNext c.loop-statement.statements b s c.next.new.statements) c.if-branch.true c.in_ok-next.ensures.taken in
     let formed : HasForm s = c.in_ok-next.ensures.formed (ap Ok c.if-branch.true) in
-    goes_on (map plain_file c.args.files.now) s c.loop-prover.progress c.judge.new.progress c.loop-prover.statements c.next.new.statements
-    c.loop-prover.invariant taken formed c.in_ok-judge.ensures.ok
+    goes_on (map plain_file c.args.files.now) s c.loop-statement.progress c.judge.new.progress c.loop-statement.statements c.next.new.statements
+    c.loop-statement.invariant taken formed c.in_ok-judge.ensures.ok
 
 pub returns-in_err-judge-clause-refused : goal.returns-in_err-judge-clause-refused
 returns-in_err-judge-clause-refused c =
     let files : List PlainFile = map plain_file c.args.files.now in
     let s : PlainStatement = plain_statement c.next.new.into in
-    let taken : TakesNext c.loop-prover.statements true s c.next.new.statements =
-    subst (λ (b : Bool). TakesNext c.loop-prover.statements b s c.next.new.statements) c.if-branch.true c.in_ok-next.ensures.taken in
+    let taken : TakesNext c.loop-statement.statements true s c.next.new.statements =
+    subst (λ (b : Bool). TakesNext c.loop-statement.statements b s c.next.new.statements) c.if-branch.true c.in_ok-next.ensures.taken in
     passed_fault c.from_residual-in_err-judge.result c.in_err-judge.field-0.0 (TellsVerdict files) c.from_residual-in_err-judge.ensures.1
-    (statement_verdict files c.loop-prover.progress s c.loop-prover.statements c.next.new.statements c.in_err-judge.field-0.0
-    c.loop-prover.invariant taken c.in_err-judge.ensures.refused)
+    (statement_verdict files c.loop-statement.progress s c.loop-statement.statements c.next.new.statements c.in_err-judge.field-0.0
+    c.loop-statement.invariant taken c.in_err-judge.ensures.refused)
 
 pub returns-clause-done : goal.returns-clause-done
 returns-clause-done c =
     let s : PlainStatement = plain_statement c.next.new.into in
-    let taken : TakesNext c.loop-prover.statements false s c.next.new.statements =
-    subst (λ (b : Bool). TakesNext c.loop-prover.statements b s c.next.new.statements) c.if-branch.false c.in_ok-next.ensures.taken in
-    at_end (map plain_file c.args.files.now) c.loop-prover.progress c.loop-prover.statements c.next.new.statements s c.loop-prover.invariant taken
+    let taken : TakesNext c.loop-statement.statements false s c.next.new.statements =
+    subst (λ (b : Bool). TakesNext c.loop-statement.statements b s c.next.new.statements) c.if-branch.false c.in_ok-next.ensures.taken in
+    at_end (map plain_file c.args.files.now) c.loop-statement.progress c.loop-statement.statements c.next.new.statements s c.loop-statement.invariant taken

@@ -4,8 +4,8 @@ use Rattle.mm_text.specs.Files.{plain_file}
 use Rattle.mm_check.specs.Judged.{IsUnderWay}
 use Rattle.mm_check.proofs.verdict.judge_rest.Given as goal
 
-abbrev pub invariant-loop-prover : goal.invariant-loop-prover
-invariant-loop-prover l = IsUnderWay (map plain_file l.fn.files) l.progress l.statements
+abbrev pub invariant-loop-statement : goal.invariant-loop-statement
+invariant-loop-statement l = IsUnderWay (map plain_file l.fn.files) l.progress l.statements
 
-abbrev pub decreases-loop-prover : goal.decreases-loop-prover
-decreases-loop-prover l = length l.statements.statements
+abbrev pub decreases-loop-statement : goal.decreases-loop-statement
+decreases-loop-statement l = length l.statements.statements

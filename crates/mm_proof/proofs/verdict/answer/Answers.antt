@@ -1,18 +1,22 @@
-use Rattle.std.proofs.Common.{ℕ, List, Result, Err, take, sym}
+use Rattle.std.proofs.Common.{ℕ, List, Result, Err, take, sym, subst, ◌∙◌}
+use Rattle.mm_frame.specs.declared.number.LabelId.{LabelId}
 use Rattle.mm_proof.specs.declared.fault.ProofFault.{ProofFault}
 use Rattle.mm_proof.specs.Proof.{IsWithin, expression_limit}
+use Rattle.mm_proof.specs.CodeSteps.{ids_in}
+use Rattle.mm_proof.specs.Verified.{ProvesWith}
 use Rattle.mm_proof.proofs.Ending.{same_moves}
 use Rattle.mm_proof.proofs.Answering.{on_rule_map}
 use Rattle.mm_proof.proofs.Meaning.{meant_front}
 use Rattle.mm_proof.proofs.Exact.{accepts, refuses}
 use Rattle.mm_proof.proofs.verdict.answer.Goals as goal
 
-pub returns-in-Ok-clause-proved : goal.returns-in-Ok-clause-proved
-returns-in-Ok-clause-proved g c place s moves proof numbered =
-    c.in-Ok.ensures.proved place s moves proof (same_moves c.args.book.now.statements _ _ _ moves c.deref.ensures.value (sym c.steps.view_is) numbered)
+pub returns-in_ok-labels-in-Ok-clause-proved : goal.returns-in_ok-labels-in-Ok-clause-proved
+returns-in_ok-labels-in-Ok-clause-proved g c place s moves proof numbered =
+    subst (λ (ids : List LabelId). ProvesWith c.args.book.now.statements place s moves (ids_in ids)) (sym (c.in_ok-labels-in-Ok.ensures.items ∙ c.deref-in-Ok.ensures.value))
+    (c.in-Ok.ensures.proved place s moves proof (same_moves c.args.book.now.statements _ _ _ moves c.deref.ensures.value (sym c.steps.view_is) numbered))
 
-pub returns-in-Ok-clause-refuses : goal.returns-in-Ok-clause-refuses
-returns-in-Ok-clause-refuses g c place s moves proof numbered rule step fault =
+pub returns-in_ok-labels-in-Ok-clause-refuses : goal.returns-in_ok-labels-in-Ok-clause-refuses
+returns-in_ok-labels-in-Ok-clause-refuses g c place s moves proof numbered rule step fault =
     refuses (IsWithin expression_limit) (take place c.args.book.now.statements) s moves _ (meant_front c.args.book.now.statements place c.judgement.ensures.sound.0)
     (λ x is. (c.in-Ok.ensures.proved place s moves proof (same_moves c.args.book.now.statements _ _ _ moves c.deref.ensures.value (sym c.steps.view_is) numbered)).0) tt rule step fault
 

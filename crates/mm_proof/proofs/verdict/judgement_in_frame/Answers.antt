@@ -4,10 +4,10 @@ use Rattle.mm_proof.proofs.verdict.judgement_in_frame.Goals as goal
 
 pub returns-clause-proved : goal.returns-clause-proved
 returns-clause-proved g c =
-    proved_with c.args.book.now.statements c.args.id.0 (moves_in c.args.moves.now) _ c.requires.sound.0 c.requires.steps c.in_ok-used_by.ensures c.in_ok-derive.ensures.proved
+    proved_with c.args.book.now.statements c.args.id.0 (moves_in c.args.moves.now) _ c.requires.sound.0 c.requires.steps c.in_ok-fill_used.ensures c.in_ok-derive.ensures.proved
 
-pub used_by-requires : goal.used_by-requires
-used_by-requires g c =
+pub fill_used-requires : goal.fill_used-requires
+fill_used-requires g c =
     let own = c.requires.number in
     record {
       known = (

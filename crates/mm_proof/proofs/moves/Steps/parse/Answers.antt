@@ -1,38 +1,20 @@
-use Rattle.std.proofs.Common.{inr}
+use Rattle.std.proofs.Common.{◌≡◌, ℕ, List, take, inr, ap, subst, ◌∙◌}
+use Rattle.mm_proof.specs.declared.fault.ProofRule.{ProofRule}
+use Rattle.mm_proof.specs.declared.fault.ProofFault.{ProofFault}
+use Rattle.mm_proof.specs.declared.fault.ProofFault.TheVariants.{Rule}
+use Rattle.mm_proof.specs.Answer.{OnRule}
+use Rattle.mm_proof.specs.Proof.{IsWholeFault}
+use Rattle.mm_proof.specs.Parsed.{OfProof}
+use Rattle.mm_proof.specs.CodeSteps.{texts, token_texts}
 use Rattle.mm_proof.proofs.moves.Steps.parse.Goals as goal
 
 pub frame-requires : goal.frame-requires
 frame-requires c = let p = c.requires.proof in (p.0, p.1, p.2.numbered, inr p.2.provable)
 
-pub parse_in_frame-requires-clause-book : goal.parse_in_frame-requires-clause-book
-parse_in_frame-requires-clause-book c = c.frame.ensures.book
-
-pub parse_in_frame-requires-clause-own : goal.parse_in_frame-requires-clause-own
-parse_in_frame-requires-clause-own c = (c.frame.ensures.place.0, c.frame.ensures.place.1)
-
-pub parse_in_frame-requires-clause-sound : goal.parse_in_frame-requires-clause-sound
-parse_in_frame-requires-clause-sound c = c.frame.ensures.sound
-
-pub parse_in_frame-requires-clause-proof : goal.parse_in_frame-requires-clause-proof
-parse_in_frame-requires-clause-proof c = c.requires.proof
-
-pub parse_in_frame-requires-clause-filled : goal.parse_in_frame-requires-clause-filled
-parse_in_frame-requires-clause-filled c = c.requires.filled
-
-pub parse_in_frame-requires-clause-room : goal.parse_in_frame-requires-clause-room
-parse_in_frame-requires-clause-room c = c.requires.room
-
-pub returns-clause-incomplete : goal.returns-clause-incomplete
-returns-clause-incomplete c = c.parse_in_frame.ensures.incomplete
-
-pub returns-clause-complete : goal.returns-clause-complete
-returns-clause-complete c = c.parse_in_frame.ensures.complete
-
-pub returns-clause-steps : goal.returns-clause-steps
-returns-clause-steps c = c.parse_in_frame.ensures.steps
-
-pub returns-clause-usable : goal.returns-clause-usable
-returns-clause-usable c = c.parse_in_frame.ensures.usable
-
 pub returns-clause-fault : goal.returns-clause-fault
-returns-clause-fault c = c.parse_in_frame.ensures.fault
+returns-clause-fault c rule step is =
+    let st = c.args.book.now.statements in
+    let same : c.in-Err.fault ≡ Rule rule step = cc in
+    let tokens : token_texts c.deref.result.now ≡ texts c.args.tokens.now = ap token_texts c.deref.ensures.value ∙ c.in_ok-tokens.ensures in
+    subst (λ (ts : List (List ℕ)). OfProof st c.args.id.0 (λ place s. (step ≡ 0) × IsWholeFault (take place st) ts rule)) tokens
+    (subst (λ (e : ProofFault). OnRule e (λ (r : ProofRule) (n : ℕ). OfProof st c.args.id.0 (λ place s. (n ≡ 0) × IsWholeFault (take place st) (token_texts c.deref.result.now) r))) same c.in-Err.ensures.fault)

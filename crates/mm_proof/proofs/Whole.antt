@@ -1,0 +1,86 @@
+-- What is read as a proof at its own place, wherever the statement with its number stands.
+use Rattle.std.proofs.Common.{◌≡◌, ℕ, List, take, slice_get, Result, Ok, Err, inl, inr, sym, ap, subst, ◌∙◌, refl}
+use Rattle.std.specs.Result.{IfErr, IsOkUnless}
+use Rattle.std.specs.List.{AllByRecursion}
+use Rattle.std.proofs.lemmas.Option.{same_Some}
+use Rattle.mm_frame.specs.Sentence.{Sentence}
+use Rattle.mm_frame.specs.Rules.{AllMeant}
+use Rattle.mm_frame.specs.Numbers.{IsNumbered}
+use Rattle.mm_proof.specs.declared.fault.ProofRule.{ProofRule}
+use Rattle.mm_proof.specs.declared.fault.ProofFault.{ProofFault}
+use Rattle.mm_proof.specs.declared.fault.ProofFault.TheVariants.{Rule, Memory}
+use Rattle.mm_proof.specs.Answer.{OnRule, IsUnlessMemory}
+use Rattle.mm_proof.specs.Moves.{Move}
+use Rattle.mm_proof.specs.Tokens.{SayMoves}
+use Rattle.mm_proof.specs.Proof.{IsWhole, IsWholeFault, IsProvedWithin, IsWithin, expression_limit}
+use Rattle.mm_proof.specs.Verified.{OfMoves, ProvesWith, FailsWith, TokensProve, TokensFail}
+use Rattle.mm_proof.specs.Steps.{AreSteps, IsProofNumber, IsUsableMove}
+use Rattle.mm_proof.specs.Parsed.{OfProof, SaySteps}
+use Rattle.mm_proof.specs.CodeSteps.{IsReading}
+use Rattle.mm_proof.proofs.Meaning.{meant_front}
+use Rattle.mm_proof.proofs.Numbered.{one_place}
+use Rattle.mm_proof.proofs.Verdicts.{proved_no_fault, one_fault}
+
+pub reading_said : (st : List Sentence) (id own : ℕ) (t : Sentence) (tokens : List (List ℕ)) (steps : List (Move ℕ)) → IsNumbered st id own t → IsReading st own tokens steps
+    → OfProof st id (λ place s. SaySteps st place s tokens steps)
+reading_said st id own t tokens steps number r place s proof =
+    let at = one_place st id own place t s number proof.numbered in
+    let same = same_Some r.own s (sym r.there ∙ ap (slice_get st) at ∙ proof.numbered.there) in (
+      subst (λ (k : ℕ). IsWhole (take k st) tokens) at r.whole,
+      r.moves,
+      subst (λ (k : ℕ). SayMoves (take k st) s tokens r.moves) at
+          (subst (λ (u : Sentence). SayMoves (take own st) u tokens r.moves) same r.said),
+      r.numbered,
+    )
+
+pub reading_usable : (st : List Sentence) (id own place : ℕ) (t s : Sentence) (tokens : List (List ℕ)) (steps : List (Move ℕ)) → IsNumbered st id own t → IsProofNumber st id place s
+    → IsReading st own tokens steps → AreSteps st id steps
+reading_usable st id own place t s tokens steps number proof r = record {
+  place = place;
+  s = s;
+  proof = proof;
+  moves = r.moves;
+  numbered = r.numbered;
+  usable = subst (λ (k : ℕ). AllByRecursion (IsUsableMove (take k st)) r.moves) (one_place st id own place t s number proof.numbered) r.usable;
+}
+
+pub whole_fault_there : (st : List Sentence) (id own : ℕ) (t : Sentence) (tokens : List (List ℕ)) (rule : ProofRule) (step : ℕ) → IsNumbered st id own t
+    → (step ≡ 0) × IsWholeFault (take own st) tokens rule → OfProof st id (λ place s. (step ≡ 0) × IsWholeFault (take place st) tokens rule)
+whole_fault_there st id own t tokens rule step number f place s proof =
+    (f.0, subst (λ (k : ℕ). IsWholeFault (take k st) tokens rule) (one_place st id own place t s number proof.numbered) f.1)
+
+-- ---- the tokens, from what is said of their moves
+
+pub tokens_prove : (st : List Sentence) (id : ℕ) (tokens : List (List ℕ)) (steps : List (Move ℕ)) (used : List ℕ) → OfProof st id (λ place s. SaySteps st place s tokens steps)
+    → OfMoves st id steps (λ place s moves. ProvesWith st place s moves used) → OfProof st id (λ place s. TokensProve (take place st) s tokens used)
+tokens_prove st id tokens steps used says proves place s proof =
+    let said = says place s proof in
+    let p = proves place s said.1 proof said.3 in
+    record { proof = record { whole = said.0; moves = said.1; said = said.2; proves = p.0 }; all = p.1 }
+
+pub tokens_fail : (st : List Sentence) (id : ℕ) (tokens : List (List ℕ)) (steps : List (Move ℕ)) (rule : ProofRule) (step : ℕ) → OfProof st id (λ place s. SaySteps st place s tokens steps)
+    → OfMoves st id steps (λ place s moves. FailsWith st place s moves rule step) → OfProof st id (λ place s. TokensFail (take place st) s tokens rule step)
+tokens_fail st id tokens steps rule step says fails place s proof =
+    let said = says place s proof in inr (said.0, said.1, said.2, fails place s said.1 proof said.3)
+
+-- ---- exact answers
+
+pub tokens_accepted : {X : Type 0} (r : Result X ProofFault) (st : List Sentence) (id : ℕ) (tokens : List (List ℕ)) → AllMeant st
+    → IfErr r (λ e. OnRule e (λ rule step. OfProof st id (λ place s. TokensFail (take place st) s tokens rule step)))
+    → OfProof st id (λ place s. IsProvedWithin (IsWithin expression_limit) (take place st) s tokens → IsOkUnless r Memory)
+tokens_accepted (Ok x) st id tokens all f place s proof p = tt
+tokens_accepted (Err Memory) st id tokens all f place s proof p = refl
+tokens_accepted (Err (Rule rule step)) st id tokens all f place s proof p =
+    absurd (proved_no_fault (IsWithin expression_limit) (take place st) s tokens rule step (meant_front st place all) p (f place s proof))
+
+pub tokens_refused : {X : Type 0} (r : Result X ProofFault) (st : List Sentence) (id : ℕ) (tokens : List (List ℕ)) → AllMeant st
+    → ((x : X) → r ≡ Ok x → OfProof st id (λ place s. IsProvedWithin (IsWithin expression_limit) (take place st) s tokens))
+    → IfErr r (λ e. OnRule e (λ rule step. OfProof st id (λ place s. TokensFail (take place st) s tokens rule step)))
+    → OfProof st id (λ place s. (rule : ProofRule) (step : ℕ) → TokensFail (take place st) s tokens rule step → IsUnlessMemory r (Err (Rule rule step)))
+tokens_refused (Ok x) st id tokens all p f place s proof rule step fault =
+    absurd (proved_no_fault (IsWithin expression_limit) (take place st) s tokens rule step (meant_front st place all) (p x refl place s proof) fault)
+tokens_refused (Err Memory) st id tokens all p f place s proof rule step fault = inr refl
+tokens_refused {X} (Err (Rule other at)) st id tokens all p f place s proof rule step fault =
+    let same = one_fault (IsWithin expression_limit) (take place st) s tokens other rule at step (meant_front st place all) (f place s proof) fault in
+    let refusal : ProofRule → ℕ → Result X ProofFault = λ r n. Err (Rule r n) in
+    inl (ap (λ (r : ProofRule). refusal r at) same.0 ∙ ap (λ (n : ℕ). refusal rule n) same.1)

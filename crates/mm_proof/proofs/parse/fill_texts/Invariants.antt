@@ -1,0 +1,6 @@
+use Rattle.std.proofs.Common.{◌≡◌, take}
+use Rattle.mm_proof.specs.CodeSteps.{texts, token_texts}
+use Rattle.mm_proof.proofs.parse.fill_texts.Given as goal
+
+abbrev pub invariant-loop-token : goal.invariant-loop-token
+invariant-loop-token l = texts l.pieces.items ≡ token_texts (take l.token-index l.tokens)

@@ -1,7 +1,0 @@
-use Rattle.std.proofs.Common.{take}
-use Rattle.std.specs.List.{AllZip}
-use Rattle.mm_proof.specs.CodeSteps.{NumberSays, ids_in, moves_in}
-use Rattle.mm_proof.proofs.parse.moves_of.Given as goal
-
-abbrev pub invariant-loop-code : goal.invariant-loop-code
-invariant-loop-code l = AllZip (NumberSays (ids_in l.entries)) (take l.code-index l.codes) (moves_in l.moves.items)
