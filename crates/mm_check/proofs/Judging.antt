@@ -34,6 +34,11 @@ pub texts_of : (tokens : List Token) → map (λ (t : Token). t.text.now) tokens
 texts_of [] = refl
 texts_of (t ∷ tokens) = ap (λ (rest : List (List ℕ)). t.text.now ∷ rest) (texts_of tokens)
 
+pub filled_texts : (tokens : List PlainToken) → AllByRecursion (λ (t : PlainToken). 1 ≤ length t.text) tokens
+    → AllByRecursion (λ (t : List ℕ). 1 ≤ length t) (map (λ (t : PlainToken). t.text) tokens)
+filled_texts [] all = tt
+filled_texts (t ∷ tokens) all = (all.0, filled_texts tokens all.1)
+
 -- ## Whether it is incomplete
 
 any_at : {X : Type 0} (p : X → Bool) (xs : List X) (x : X) (i : ℕ) → i < length xs → get_or xs i x ≡ x → p x ≡ true → list_any p xs ≡ true
