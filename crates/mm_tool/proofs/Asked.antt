@@ -90,7 +90,8 @@ first_only : {X : Type 0} (f : X → Text) (g : X → List Row) (o : Option X) (
 first_only f g None name rows e = absurd (cc)
 first_only f g (Some b) name rows e = ap (option_map {U = Text} (λ (p : Text × List Row). p.0)) e
 
-is_accepted : (app : App) (words : List Text) → app ≡ command_line → (is_simple_and_free app ≡ true → fault_of app words ≡ []) → IsAccepted words
+-- Words without a fault are accepted.
+pub is_accepted : (app : App) (words : List Text) → app ≡ command_line → (is_simple_and_free app ≡ true → fault_of app words ≡ []) → IsAccepted words
 is_accepted app words is free =
     let Free : App → Type 0 = λ a. fault_of a words ≡ [] in
     subst Free is (free (ap is_simple_and_free is ∙ is_free_line))

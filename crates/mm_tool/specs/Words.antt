@@ -130,9 +130,9 @@ IsFaulty words =
 
 -- They are accepted, but name no command.
 abbrev pub NamesNoCommand : List Text → Type 0
-NamesNoCommand words =
-    (rows : List Row) → ¬ Commands words (codes "check") rows × ¬ Commands words (codes "axioms") rows
-    × ¬ Commands words (codes "show") rows × ¬ Commands words (codes "explain") rows × ¬ Commands words (codes "help") rows
+NamesNoCommand words = IsAccepted words
+    × ((rows : List Row) → ¬ Commands words (codes "check") rows × ¬ Commands words (codes "axioms") rows
+    × ¬ Commands words (codes "show") rows × ¬ Commands words (codes "explain") rows × ¬ Commands words (codes "help") rows)
 
 -- The words aren't understood.
 abbrev pub AreRefusedWords : List Text → Type 0

@@ -2,7 +2,7 @@
 use Rattle.std.proofs.Common.{◌∙◌, Bor, IsSome, inr, refl, rules, sym}
 use Rattle.clap.specs.Words.{app_of, found_of, rows_of}
 use Rattle.clap.specs.declared.parser.matches.ArgMatches.{ArgMatches}
-use Rattle.mm_tool.proofs.Asked.{commands_met, fault_met, not_commanded, request_asked, rows_there}
+use Rattle.mm_tool.proofs.Asked.{commands_met, fault_met, is_accepted, not_commanded, request_asked, rows_there}
 use Rattle.mm_tool.proofs.words.request_of.Goals as goal
 
 pub returns-in-Err-clause-request : goal.returns-in-Err-clause-request
@@ -67,7 +67,7 @@ returns-clause-fault c =
     let none_4 : IsSome c.subcommand_matches-4.result → ⊥ = λ there. absurd (cc) in
     let none_5 : IsSome c.subcommand_matches-5.result → ⊥ = λ there. absurd (search rules) in
     let other = not_commanded (app_of c.in_ok-command.command) _ c.in-Ok.matches in
-    inr (λ rows. (
+    inr (is_accepted (app_of c.in_ok-command.command) _ c.in_ok-command.ensures c.in-Ok.ensures.kinds, λ rows. (
       λ asked. other _ rows c.in_ok-command.ensures c.in-Ok.ensures.ok.2 (λ named. none (c.subcommand_matches.ensures.found.1 named)) asked,
       λ asked. other _ rows c.in_ok-command.ensures c.in-Ok.ensures.ok.2 (λ named. none_2 (c.subcommand_matches-2.ensures.found.1 named)) asked,
       λ asked. other _ rows c.in_ok-command.ensures c.in-Ok.ensures.ok.2 (λ named. none_3 (c.subcommand_matches-3.ensures.found.1 named)) asked,
