@@ -1,4 +1,4 @@
-//! Laws of verdicts over files, and of reports. The functions do nothing: their contracts are the laws.
+//! Laws of verdicts and of reports. The functions do nothing: their contracts are the laws.
 
 ghost use Rattle.mm_check.specs.Laws.{OneVerdict, SomeVerdict, OneReport};
 

@@ -252,7 +252,7 @@ pub(crate) fn tell<E: Write>(stop: &Stop<'_>, err: &mut Counted<E>) -> Status
 /// the folder, writes the answer to standard output, or why there is none to standard error, and
 /// gives back the status with which the program ends:
 ///
-/// - 0: the reply is yes, or what was asked for: axioms, steps, help, the version or an explanation;
+/// - 0: the reply is yes, or what was asked for: axioms, steps, help, version or an explanation;
 /// - 1: the reply is no, or the asked label isn't that of a theorem;
 /// - 2: the words aren't understood;
 /// - 3: a proof is incomplete, in the database or among those that are asked about;
