@@ -67,10 +67,13 @@ returns-clause-fault c =
     let none_4 : IsSome c.subcommand_matches-4.result → ⊥ = λ there. absurd (cc) in
     let none_5 : IsSome c.subcommand_matches-5.result → ⊥ = λ there. absurd (search rules) in
     let other = not_commanded (app_of c.in_ok-command.command) _ c.in-Ok.matches in
-    inr (is_accepted (app_of c.in_ok-command.command) _ c.in_ok-command.ensures c.in-Ok.ensures.kinds, λ rows. (
-      λ asked. other _ rows c.in_ok-command.ensures c.in-Ok.ensures.ok.2 (λ named. none (c.subcommand_matches.ensures.found.1 named)) asked,
-      λ asked. other _ rows c.in_ok-command.ensures c.in-Ok.ensures.ok.2 (λ named. none_2 (c.subcommand_matches-2.ensures.found.1 named)) asked,
-      λ asked. other _ rows c.in_ok-command.ensures c.in-Ok.ensures.ok.2 (λ named. none_3 (c.subcommand_matches-3.ensures.found.1 named)) asked,
-      λ asked. other _ rows c.in_ok-command.ensures c.in-Ok.ensures.ok.2 (λ named. none_4 (c.subcommand_matches-4.ensures.found.1 named)) asked,
-      λ asked. other _ rows c.in_ok-command.ensures c.in-Ok.ensures.ok.2 (λ named. none_5 (c.subcommand_matches-5.ensures.found.1 named)) asked,
-    ))
+    inr (
+      is_accepted (app_of c.in_ok-command.command) _ c.in_ok-command.ensures c.in-Ok.ensures.kinds,
+      λ rows. (
+        λ asked. other _ rows c.in_ok-command.ensures c.in-Ok.ensures.ok.2 (λ named. none (c.subcommand_matches.ensures.found.1 named)) asked,
+        λ asked. other _ rows c.in_ok-command.ensures c.in-Ok.ensures.ok.2 (λ named. none_2 (c.subcommand_matches-2.ensures.found.1 named)) asked,
+        λ asked. other _ rows c.in_ok-command.ensures c.in-Ok.ensures.ok.2 (λ named. none_3 (c.subcommand_matches-3.ensures.found.1 named)) asked,
+        λ asked. other _ rows c.in_ok-command.ensures c.in-Ok.ensures.ok.2 (λ named. none_4 (c.subcommand_matches-4.ensures.found.1 named)) asked,
+        λ asked. other _ rows c.in_ok-command.ensures c.in-Ok.ensures.ok.2 (λ named. none_5 (c.subcommand_matches-5.ensures.found.1 named)) asked,
+      ),
+    )
