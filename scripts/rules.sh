@@ -1,13 +1,15 @@
 #!/bin/sh
-# Writes crates/mm_tool/src/rules.rt, the texts of `mm explain`, from docs/RULES.md: a rule that is built has a paragraph
-# there that begins with its code in bold, or a row in the table of the files. `scripts/rules.sh --check` compares the two.
+# Writes crates/mm_tool/src/rules.rt and code_lines.rt, the texts of `mm explain`, from docs/RULES.md:
+# a rule that is built has a paragraph there that begins with its code in bold, or a row in the table
+# of the files. `scripts/rules.sh --check` compares them.
 set -eu
 top=$(CDPATH='' cd -- "$(dirname -- "$0")/.." && pwd)
 source=$top/docs/RULES.md
-target=$top/crates/mm_tool/src/rules.rt
+crate=$top/crates/mm_tool/src
 
+# The text of the named file: `rules` or `code_lines`.
 made() {
-    awk '
+    awk -v name="$1" '
     function quoted(text) {
         gsub(/\\/, "\\\\", text)
         gsub(/"/, "\\\"", text)
@@ -88,18 +90,24 @@ made() {
     /^$/ { finish() }
     END {
         finish()
-        printf "//! The rules, as `mm explain` tells them. Made by scripts/rules.sh from docs/RULES.md: edit that.\n\n"
-        printf "use crate::texts::RuleText;\n\n"
-        printf "/// A line for each code.\npub(crate) const CODES: &str =\n    \"%s\";\n\n", codes
-        printf "pub(crate) const RULES: &[RuleText<'"'"'static>] = &[\n%s];\n", rules
+        if (name == "rules") {
+            printf "//! The rules, as `mm explain` tells them. Made by scripts/rules.sh from docs/RULES.md: edit that.\n\n"
+            printf "use crate::texts::RuleText;\n\n"
+            printf "pub(crate) const RULES: &[RuleText<'"'"'static>] = &[\n%s];\n", rules
+        } else {
+            printf "//! The codes of the rules. Made by scripts/rules.sh from docs/RULES.md: edit that.\n\n"
+            printf "/// A line for each code.\n"
+            printf "pub(crate) const CODES: &str =\n    \"%s\";\n", codes
+        }
     }' "$source"
 }
 
-if [ "${1-}" = --check ]; then
-    if ! made | cmp -s - "$target"; then
+for name in rules code_lines; do
+    target=$crate/$name.rt
+    if [ "${1-}" != --check ]; then
+        made "$name" >"$target"
+    elif ! made "$name" | cmp -s - "$target"; then
         echo "scripts/rules.sh: docs/RULES.md and $target differ; run scripts/rules.sh" >&2
         exit 1
     fi
-else
-    made >"$target"
-fi
+done

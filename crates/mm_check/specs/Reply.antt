@@ -195,7 +195,3 @@ Writes files command status old new = (text : List ℕ) × IsReplyTo files comma
 abbrev pub WritesBeginningOf : List PlainFile → Command → Option (List ℕ) → Option (List ℕ) → Type 0
 WritesBeginningOf files command old new =
     (text : List ℕ) × (status : ℕ) × IsReplyTo files command text status × AppendsBeginning old new text
-
--- A proper beginning of the text of the reply to `check` was.
-abbrev pub WritesBeginning : List PlainFile → Option (List ℕ) → Option (List ℕ) → Type 0
-WritesBeginning files old new = WritesBeginningOf files Check old new

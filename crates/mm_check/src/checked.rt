@@ -180,6 +180,7 @@ impl<'a> Checked<'a> {
         let unproved = marked_among(alloc, &self.incomplete, &marks)?;
         Ok(Report { axioms, unproved })
     }
+
     /// The listing of the proof of the `$p` with this label, a line for each step in order: its
     /// number, its name, and the symbols of the expression that it puts on the stack, with one
     /// space between each two. The name is the label of the hypothesis or of the assertion; for a

@@ -17,8 +17,6 @@ mod reread;
 mod rule;
 mod shown;
 mod status;
-#[cfg(test)]
-mod tests;
 mod verdict;
 
 pub use ask::AskFault;

@@ -16,6 +16,3 @@ pub use code::{Code, CodeFault, CodeRule};
 pub use laws::{layout_reads_back, layout_size, one_layout, one_spelling, one_text};
 pub use layout::{lay_out_compressed, lay_out_normal};
 pub use letters::{fill_codes, read_codes, write_codes};
-
-#[cfg(test)]
-mod tests;

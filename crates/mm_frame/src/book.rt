@@ -160,8 +160,11 @@ impl<'a> Book<'a> {
 
     /// Whether a symbol is a variable.
     pub fn is_variable(&self, symbol: Sym) -> bool
-        ensures { (x : List ℕ) → IsNumberOf self.now.statements x symbol.0
+        ensures variable { (x : List ℕ) → IsNumberOf self.now.statements x symbol.0
             → (IsTrue result ↔ IsVariable self.now.statements x) }
+
+        // A number that no symbol has is that of no variable.
+        ensures known { IsTrue result → symbol.0 < length (symbols_of self.now.statements) }
     {
         match self.tables.info(symbol) {
             Some(info) => info.variable.is_some(),

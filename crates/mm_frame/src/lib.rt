@@ -31,6 +31,3 @@ pub use laws::{
 };
 pub use number::{LabelId, LabelKind, Sym};
 pub use rule::MeaningRule;
-
-#[cfg(test)]
-mod tests;

@@ -15,8 +15,6 @@ mod rows;
 mod step;
 mod store;
 mod substitution;
-#[cfg(test)]
-mod tests;
 mod used;
 mod variables;
 mod verdict;

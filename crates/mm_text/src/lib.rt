@@ -18,8 +18,6 @@ mod scan;
 mod scope;
 mod statement;
 mod statements;
-#[cfg(test)]
-mod tests;
 mod token;
 
 pub use counted::{Counted, Source, WriteFault};

@@ -1,6 +1,7 @@
 //! The program `mm`: verifies databases of the Metamath language.
 #![tactic(auto)]
 
+mod code_lines;
 mod files;
 mod folder;
 mod rules;

@@ -1,6 +1,7 @@
 //! The texts that the program prints as they stand.
 
-use crate::rules::{CODES, RULES};
+use crate::code_lines::CODES;
+use crate::rules::RULES;
 
 /// A rule, as `mm explain` tells it.
 #[derive(Clone, Copy)]

@@ -18,7 +18,7 @@ loop-symbol-preserved c =
 pub returns-then-not-is_apart : goal.returns-then-not-is_apart
 returns-then-not-is_apart c each =
     let at = number_at c.args.f.now c.loop-symbol.symbol-index (record { 0 = 0 }) c.loop-symbol-test.true in
-    let variable = (c.is_variable.ensures _ (number_of_name c.args.book.now.statements c.args.variable.0 c.requires.first)).0 c.if-not-is_variable.false in
+    let variable = (c.is_variable.ensures.variable _ (number_of_name c.args.book.now.statements c.args.variable.0 c.requires.first)).0 c.if-not-is_variable.false in
     c.if-not-is_apart.ensures
     (subst (λ (n : ℕ). IsApart c.args.book.now.statements c.args.own.now.place c.args.variable.0 n) at (each variable c.loop-symbol.symbol-index (omega (arith, length-map c.args.f.now (λ s. s.0)))))
 

@@ -1,0 +1,9 @@
+//! One happy path of each public call of the crates, faults that name a place, and devices that
+//! fail. They stand here and not in their crates, so that the gate proves each crate once.
+
+mod check;
+mod code;
+mod frame;
+mod load;
+mod proof;
+mod text;

@@ -1,0 +1,40 @@
+//! Books over small databases.
+
+mod alike;
+mod asked;
+mod databases;
+mod questions;
+mod refused;
+mod taking;
+
+use mm_frame::{
+    Book, MeaningRule, RuleFault, Sym, active_statements, one_frame, one_label_number, one_number,
+    open_blocks, open_count,
+};
+use std::test::Fail;
+
+#[test]
+fn book_of_nothing(rt: HostRuntime) -> Result<(), Fail> {
+    let book = Book::new(rt.alloc()).expect(&rt, "memory");
+    assert_eq!(rt; book.depth(), 0);
+    assert_eq!(rt; book.bytes(), 0);
+    assert!(rt; !book.is_variable(Sym(0)));
+    Ok(())
+}
+
+#[test]
+fn faults_have_messages(rt: HostRuntime) -> Result<(), Fail> {
+    let text = format!(in rt.alloc(); "{}", RuleFault::Rule(MeaningRule::M7))?;
+    assert!(rt; text.as_str() == "the statement breaks M7", "{text}");
+    Ok(())
+}
+
+#[test]
+fn laws_are_called() {
+    one_number();
+    one_label_number();
+    open_blocks();
+    active_statements();
+    open_count();
+    one_frame();
+}

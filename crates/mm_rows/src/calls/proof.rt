@@ -1,0 +1,400 @@
+//! Both stores, and the verdicts on proofs of small databases with either.
+
+ghost use Rattle.std.specs.Prelude.{◌≡◌, ◌≤◌, ◌++◌, ◌∷◌, [], ℕ, map, length, IfOk, IfSome};
+ghost use Rattle.std.specs.List.{AllByRecursion, sum_by};
+ghost use Rattle.mm_text.specs.Statement.{plain_statement, HasForm, bytes_in};
+ghost use Rattle.mm_frame.specs.Sentence.{Sentence, sentence_in};
+ghost use Rattle.mm_frame.specs.Taken.{TakenAs};
+ghost use Rattle.mm_proof.specs.Steps.{IsProofNumber};
+ghost use Rattle.mm_proof.specs.CodeSteps.{texts};
+
+use mm_frame::{Book, Found, LabelId, Sym, Taken};
+use mm_proof::{
+    Flat, Line, Name, Parsed, ProofFault, ProofRule, Rows, Steps, Store, Used, by_spelling,
+    by_word, limits_aside, listing, mark_before_any_step, one_fit, one_tree, one_verdict, one_word,
+    some_verdict, tag_over_marks, verify,
+};
+use mm_text::{File, Kind, Statement, Statements, Token};
+use std::alloc::{AllocError, Global};
+use std::process::Abort;
+use std::test::Fail;
+
+/// The most bytes of the tokens that a book takes.
+const ROOM: u64 = 1_073_741_824;
+
+/// Terms, sums and equations, with modus ponens: 18 statements.
+const HEAD: &[u8] = b"\
+$c 0 + = -> ( ) term wff |- $.
+$v t r s P Q $.
+tt $f term t $.
+tr $f term r $.
+ts $f term s $.
+wp $f wff P $.
+wq $f wff Q $.
+tze $a term 0 $.
+tpl $a term ( t + r ) $.
+weq $a wff t = r $.
+wim $a wff ( P -> Q ) $.
+a1 $a |- ( t = r -> ( t = s -> r = s ) ) $.
+a2 $a |- ( t + 0 ) = t $.
+${
+  min $e |- P $.
+  maj $e |- ( P -> Q ) $.
+  mp $a |- Q $.
+$}
+";
+
+/// An axiom that doubles an expression.
+const LIMIT: &[u8] = b"\
+$c e f | $.
+$v x $.
+fx $f e x $.
+one $a e | $.
+odd $a e x x | $.
+${
+h $e e x $.
+end $a f $.
+$}
+";
+
+/// Strings, and the joining of two of them, with a proof of 100 joinings: its word has 2^101 - 1
+/// labels.
+const JOINED: &[u8] = b"\
+$c e $.
+$v x y $.
+fx $f e x $.
+fy $f e y $.
+nil $a e $.
+cat $a e x y $.
+th $p e $= ( nil cat )
+AABZCBZDBZEBZFBZGBZHBZIBZJBZKBZLBZMBZNBZOBZPBZQBZRBZSBZTBZUA
+BZUBBZUCBZUDBZUEBZUFBZUGBZUHBZUIBZUJBZUKBZULBZUMBZUNBZUOBZUP
+BZUQBZURBZUSBZUTBZVABZVBBZVCBZVDBZVEBZVFBZVGBZVHBZVIBZVJBZVK
+BZVLBZVMBZVNBZVOBZVPBZVQBZVRBZVSBZVTBZWABZWBBZWCBZWDBZWEBZWF
+BZWGBZWHBZWIBZWJBZWKBZWLBZWMBZWNBZWOBZWPBZWQBZWRBZWSBZWTBZXA
+BZXBBZXCBZXDBZXEBZXFBZXGBZXHBZXIBZXJBZXKBZXLBZXMBZXNBZXOBZXP
+BZXQBZXRBZXSBZXTBZYAB $.
+";
+
+/// Strings, and the joining of two of them, with a proof that makes one joining and uses it twice.
+const SHARED: &[u8] = b"\
+$c e $.
+$v x y $.
+fx $f e x $.
+fy $f e y $.
+nil $a e $.
+cat $a e x y $.
+th $p e $= ( nil cat ) AABZCB $.
+";
+
+/// The assertions of the proofs of `t = t`.
+const REFLEXIVE: [&[u8]; 7] = [b"tze", b"tpl", b"weq", b"wim", b"a1", b"a2", b"mp"];
+
+/// A database up to its first `$p`, with the number and the proof's tokens of that.
+#[derive(Drop)]
+struct Theorem<'a> {
+    book: Book<'a>,
+    id: LabelId,
+    tokens: Vec<&'a [u8]>,
+}
+
+/// How many bytes some tokens have.
+fn bytes_of_all(tokens: &[Token]) -> Option<u64>
+    ensures { IfSome result (λ n. n ≡ sum_by (λ t. length t.text.now) tokens.now) }
+{
+    let mut bytes: u64 = 0;
+    for token in tokens {
+        bytes = bytes.checked_add(token.text.len() as u64)?;
+    }
+    Some(bytes)
+}
+
+/// How many bytes the tokens of a statement have.
+fn bytes_of(statement: &Statement) -> Option<u64>
+    ensures { IfSome result (λ n. n ≡ bytes_in (plain_statement statement.now)) }
+{
+    let first = statement.first.text.len() as u64;
+    let symbols = bytes_of_all(&statement.symbols)?;
+    let proof = bytes_of_all(&statement.proof)?;
+    if first > ROOM || symbols > ROOM || proof > ROOM {
+        return None;
+    }
+    Some(first + symbols + proof)
+}
+
+/// Takes the next statement in, where there is room for it.
+fn take<'a>(book: &mut Book<'a>, statement: &Statement<'a>) -> Result<Taken, Fail>
+    requires { HasForm (plain_statement statement.now) }
+    ensures taken { IfOk result (λ taken. TakenAs book.old.statements statement.now.kind taken) }
+    ensures book { IfOk result (λ taken. book.new.statements
+        ≡ book.old.statements ++ sentence_in statement.now ∷ []) }
+    ensures formed { IfOk result (λ taken. HasForm (plain_statement statement.now)) }
+    ensures room { IfOk result (λ taken. bytes_in (plain_statement statement.now) ≤ 1073741824) }
+{
+    let bytes = bytes_of(statement).ok_or("a long statement")?;
+    if book.bytes() > ROOM || bytes > ROOM - book.bytes() {
+        return Err(Fail::from("a long database"));
+    }
+    if statement.kind == Kind::Closing && book.depth() == 0 {
+        return Err(Fail::from("no block is open"));
+    }
+    Ok(book.take(statement)?)
+}
+
+/// The texts of some tokens.
+fn texts_of<'a>(alloc: Global, tokens: &[Token<'a>]) -> Result<Vec<&'a [u8]>, AllocError>
+    ensures { IfOk result (λ v. texts v.items ≡ map (λ t. t.text.now) tokens.now) }
+{
+    let mut texts = Vec::new(alloc);
+    for token in tokens {
+        texts.push(token.text)?;
+    }
+    Ok(texts)
+}
+
+/// The first `$p` of a database.
+fn first_theorem<'a>(alloc: Global, files: &'a [File<'a>]) -> Result<Theorem<'a>, Fail>
+    ensures proof { IfOk result (λ t. (place : ℕ) × (s : Sentence)
+        × IsProofNumber t.book.statements t.id.0 place s) }
+    ensures filled { IfOk result (λ t. AllByRecursion (λ x. 1 ≤ length x) (texts t.tokens.items)) }
+    ensures room { IfOk result (λ t. sum_by length (texts t.tokens.items) ≤ 1073741824) }
+{
+    let mut statements = Statements::new(alloc, files).ok().ok_or("the files")?;
+    let mut book = Book::new(alloc)?;
+    let mut statement = Statement::empty(alloc);
+    for _ in 0..u64::MAX {
+        if !statements.read(&mut statement).ok().ok_or("the text")? {
+            return Err(Fail::from("no `$p`"));
+        }
+        let taken = take(&mut book, &statement)?;
+        if let Taken::Assertion(id) = taken {
+            if statement.kind == Kind::Provable {
+                let tokens = texts_of(alloc, &statement.proof)?;
+                return Ok(Theorem { book, id, tokens });
+            }
+        }
+    }
+    Err(Fail::from("a long database"))
+}
+
+/// What the proof uses; nothing where it is incomplete.
+fn proved<S: Store + Drop>(
+    alloc: Global,
+    store: S,
+    theorem: &Theorem,
+) -> Result<Option<Used>, ProofFault>
+    requires proof { (place : ℕ) × (s : Sentence)
+        × IsProofNumber theorem.now.book.statements theorem.now.id.0 place s }
+    requires filled { AllByRecursion (λ x. 1 ≤ length x) (texts theorem.now.tokens.items) }
+    requires room { sum_by length (texts theorem.now.tokens.items) ≤ 1073741824 }
+    requires stack { S.stack store ≡ [] }
+    requires kept { S.kept store ≡ [] }
+{
+    match Steps::parse(alloc, &theorem.book, theorem.id, &theorem.tokens)? {
+        Parsed::Incomplete => Ok(None),
+        Parsed::Steps(steps) => {
+            let used = verify(alloc, store, &theorem.book, theorem.id, &steps)?;
+            Ok(Some(used))
+        }
+    }
+}
+
+/// These are the names of what a proof uses.
+fn expect_names(
+    rt: &impl Abort,
+    theorem: &Theorem,
+    used: Result<Option<Used>, ProofFault>,
+    names: &[&[u8]],
+) -> Result<(), Fail> {
+    let used = used?.ok_or("incomplete")?;
+    assert_eq!(rt; used.ids().len(), names.len());
+    for (id, name) in used.ids().iter().zip(names.iter()) {
+        assert_eq!(rt; theorem.book.label(*id), *name);
+    }
+    Ok(())
+}
+
+/// The bytes of the pieces, one after the other.
+fn joined(alloc: Global, pieces: &[&[u8]]) -> Result<Vec<u8>, AllocError> {
+    let mut bytes = Vec::new(alloc);
+    for piece in pieces {
+        bytes.extend_from_slice(piece)?;
+    }
+    Ok(bytes)
+}
+
+/// With either store the first `$p` of the pieces is proved, and uses these assertions.
+fn expect_used(
+    rt: &impl Abort,
+    alloc: Global,
+    pieces: &[&[u8]],
+    names: &[&[u8]],
+) -> Result<(), Fail> {
+    let bytes = joined(alloc, pieces)?;
+    let files = [File {
+        name: b"a.mm",
+        bytes: &bytes,
+    }];
+    let theorem = first_theorem(alloc, &files)?;
+    let flat = proved(alloc, Flat::new(alloc), &theorem);
+    expect_names(rt, &theorem, flat, names)?;
+    let rows = proved(alloc, Rows::new(alloc), &theorem);
+    expect_names(rt, &theorem, rows, names)
+}
+
+/// The first `$p` of the pieces is incomplete.
+fn expect_incomplete(rt: &impl Abort, alloc: Global, pieces: &[&[u8]]) -> Result<(), Fail> {
+    let bytes = joined(alloc, pieces)?;
+    let files = [File {
+        name: b"a.mm",
+        bytes: &bytes,
+    }];
+    let theorem = first_theorem(alloc, &files)?;
+    assert!(rt; proved(alloc, Flat::new(alloc), &theorem)?.is_none());
+    Ok(())
+}
+
+#[test]
+fn unknown_steps(rt: HostRuntime) -> Result<(), Fail> {
+    let alloc = rt.alloc();
+    expect_incomplete(&rt, alloc, &[HEAD, b"u1 $p |- t = t $= ? $."])?;
+    expect_incomplete(&rt, alloc, &[HEAD, b"u1 $p |- t = t $= ? ( $."])?;
+    expect_incomplete(&rt, alloc, &[HEAD, b"u1 $p |- t = t $= ( ? tze ) A $."])
+}
+
+#[test]
+fn normal_proof(rt: HostRuntime) -> Result<(), Fail> {
+    let proof = b"th1 $p |- t = t $=
+        tt tze tpl tt weq tt tt weq tt a2 tt tze tpl tt weq tt tze tpl tt weq tt
+        tt weq wim tt a2 tt tze tpl tt tt a1 mp mp $.";
+    expect_used(&rt, rt.alloc(), &[HEAD, proof], &REFLEXIVE)
+}
+
+#[test]
+fn compressed_proof(rt: HostRuntime) -> Result<(), Fail> {
+    let alloc = rt.alloc();
+    let theorem = b"th1 $p |- t = t $= ( tze tpl weq a2 wim a1 mp ) ";
+    let whole = b"ABCZADZAADZAEZJJKFLIAAGHH $.";
+    expect_used(&rt, alloc, &[HEAD, theorem, whole], &REFLEXIVE)?;
+    let cut = b"ABCZADZ AADZAE ZJJKF LIAAGHH $.";
+    expect_used(&rt, alloc, &[HEAD, theorem, cut], &REFLEXIVE)
+}
+
+/// The steps of the proof; nothing where it is incomplete.
+fn listing_of(alloc: Global, theorem: &Theorem) -> Result<Option<Vec<Line>>, ProofFault>
+    requires proof { (place : ℕ) × (s : Sentence)
+        × IsProofNumber theorem.now.book.statements theorem.now.id.0 place s }
+    requires filled { AllByRecursion (λ x. 1 ≤ length x) (texts theorem.now.tokens.items) }
+    requires room { sum_by length (texts theorem.now.tokens.items) ≤ 1073741824 }
+{
+    match Steps::parse(alloc, &theorem.book, theorem.id, &theorem.tokens)? {
+        Parsed::Incomplete => Ok(None),
+        Parsed::Steps(steps) => {
+            let lines = listing(alloc, &theorem.book, theorem.id, &steps)?;
+            Ok(Some(lines))
+        }
+    }
+}
+
+/// The number of an assertion.
+fn assertion(book: &Book, label: &[u8]) -> Result<LabelId, Fail> {
+    match book.find(label) {
+        Found::Assertion(id) => Ok(id),
+        _ => Err(Fail::from("no assertion")),
+    }
+}
+
+#[test]
+fn steps_are_listed(rt: HostRuntime) -> Result<(), Fail> {
+    let alloc = rt.alloc();
+    let files = [File {
+        name: b"cat.mm",
+        bytes: SHARED,
+    }];
+    let theorem = first_theorem(alloc, &files)?;
+    let nil = assertion(&theorem.book, b"nil")?;
+    let cat = assertion(&theorem.book, b"cat")?;
+    let names = [
+        Name::Label(nil),
+        Name::Label(nil),
+        Name::Label(cat),
+        Name::Step(3),
+        Name::Label(cat),
+    ];
+    let lines = listing_of(alloc, &theorem)?.ok_or("incomplete")?;
+    assert_eq!(&rt; lines.len(), names.len());
+    for (line, name) in lines.iter().zip(names.iter()) {
+        assert_eq!(&rt; line.name, *name);
+        assert_eq!(&rt; line.expression.as_slice(), theorem.book.expression(nil));
+    }
+    Ok(())
+}
+
+#[test]
+fn nothing_is_expanded(rt: HostRuntime) -> Result<(), Fail> {
+    expect_used(&rt, rt.alloc(), &[JOINED], &[b"nil", b"cat"])
+}
+
+#[test]
+fn limit(rt: HostRuntime) -> Result<(), Fail> {
+    let alloc = rt.alloc();
+    let within = b"th $p f $= ( one odd end ) ABBBBBBBBBBBBBBBBBBBZDC $.";
+    expect_used(&rt, alloc, &[LIMIT, within], &[b"one", b"odd", b"end"])?;
+    let bytes = joined(
+        alloc,
+        &[
+            LIMIT,
+            b"th $p f $= ( one odd end ) ABBBBBBBBBBBBBBBBBBBBZDC $.",
+        ],
+    )?;
+    let files = [File {
+        name: b"limit.mm",
+        bytes: &bytes,
+    }];
+    let theorem = first_theorem(alloc, &files)?;
+    let rule = ProofRule::L1;
+    let passed = Some(ProofFault::Rule { rule, step: 21 });
+    assert_eq!(&rt; proved(alloc, Flat::new(alloc), &theorem).err(), passed);
+    assert_eq!(&rt; proved(alloc, Rows::new(alloc), &theorem).err(), passed);
+    Ok(())
+}
+
+/// The calls of an empty store, one after the other.
+fn expect_two_lists<S: Store + Drop>(rt: &impl Abort, mut store: S) -> Result<(), Fail>
+    requires stack { S.stack store ≡ [] }
+    requires kept { S.kept store ≡ [] }
+{
+    assert_eq!(rt; store.len(), 0);
+    store.push(&[Sym(1), Sym(2)])?;
+    store.keep()?;
+    store.drop_last(1);
+    store.push(&[Sym(3)])?;
+    store.push_copy(0)?;
+    assert_eq!(rt; store.len(), 2);
+    assert_eq!(rt; store.at(0), [Sym(3)].as_slice());
+    assert_eq!(rt; store.at(1), [Sym(1), Sym(2)].as_slice());
+    store.drop_last(1);
+    assert_eq!(rt; store.len(), 1);
+    assert_eq!(rt; store.at(0), [Sym(3)].as_slice());
+    Ok(())
+}
+
+#[test]
+fn stores(rt: HostRuntime) -> Result<(), Fail> {
+    expect_two_lists(&rt, Flat::new(rt.alloc()))?;
+    expect_two_lists(&rt, Rows::new(rt.alloc()))
+}
+
+#[test]
+fn laws_are_called() {
+    one_fit();
+    one_tree();
+    one_word();
+    by_word();
+    by_spelling();
+    some_verdict();
+    one_verdict();
+    limits_aside();
+    mark_before_any_step();
+    tag_over_marks();
+}

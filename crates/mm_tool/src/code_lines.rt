@@ -1,0 +1,65 @@
+//! The codes of the rules. Made by scripts/rules.sh from docs/RULES.md: edit that.
+
+/// A line for each code.
+pub(crate) const CODES: &str =
+    "F1: no file was handed in (by the library alone: the program asks for one).
+F2: two handed names are equal, as in `mm check f.mm f.mm`.
+F3: the files hold more than 1,073,741,824 bytes in all.
+X1: a token, in a comment too, holds a byte outside 0x21 to 0x7E.
+X2: a file ends in a comment.
+X3: in a comment, a token other than `$)` holds `$(` or `$)`.
+X4: `$)` stands outside a comment, or `$]` outside an inclusion.
+X5: after `$[` comes a token with `$` where the name should stand, or after the name a token \
+     other than `$]`.
+X6: `$[` stands in a block or in a statement.
+X7: the name of a whole inclusion was not handed in.
+X8: a file ends in a statement.
+X9: a token outside comments and inclusions holds `$` and is no keyword.
+S1: `$f`, `$e`, `$a`, `$p`, `$.` or `$=` stands where a statement should begin.
+S2: a token that is no keyword stands where a statement should begin, and holds a byte that a \
+     label may not hold.
+S3: a label isn't followed by `$f`, `$e`, `$a` or `$p`.
+S4: a statement holds a keyword that can't stand in that place: `$.` before the `$=` of a \
+     `$p`, `$=` in any other place, or any other keyword.
+S5: `$.` or `$=` ends the symbols after too few of them, or a `$f` has a third symbol.
+S6: `$}` stands where a statement may begin, and no block is open.
+S7: the top file ends and a block is open.
+M1: a `$c` stands in a block.
+M2: a symbol of a `$c` was declared before, as a constant or a variable, active or not; or it \
+     stands twice in the `$c`.
+M3: a symbol of a `$v` is an active variable, was declared a constant, or stands twice in the \
+     `$v`.
+M4: a symbol of a `$c` or `$v` equals an earlier label.
+M5: the label equals an earlier label, also one in a closed block.
+M6: the label equals a symbol that was declared before, active or not.
+M7: a symbol of a `$d`, `$f`, `$e`, `$a` or `$p` isn't active: it was never declared, or only \
+     in a block that is closed.
+M8: a member of a `$d` is a constant.
+M9: a member stands twice in a `$d`.
+M10: the type code of a `$f` is a variable.
+M11: the second symbol of a `$f` is a constant.
+M12: the variable of a `$f` has an active `$f`.
+M13: an earlier `$f`, active or not, gave the variable of that name another type code.
+M14: the first symbol of an `$e`, `$a` or `$p` is a variable.
+M15: a variable in an `$e`, `$a` or `$p` has no active `$f`.
+P1: the first token of the proof is `(`, and there is no `)` among the others.
+P2: a label, in a normal proof or in the list of a compressed one, isn't that of an earlier \
+     statement; the `$p` itself isn't earlier.
+P3: a label is that of a hypothesis that isn't active.
+P4: a byte of the letters isn't one of `A` to `Z`.
+P5: leading digits are followed by `Z`, or by the end of the letters.
+P6: a number exceeds m + n + t, with m mandatory hypotheses, n listed labels and t tags so far.
+P7: a `Z` comes before any step.
+P8: the stack holds fewer entries than the assertion has mandatory hypotheses.
+P9: the type code of a `$f` differs from the first symbol of its entry.
+P10: an `$e`, substituted, differs from its entry.
+P11: the replacements of a mandatory distinct pair share a variable.
+P12: a pair of variables, one from each of these replacements, isn't an active pair where the \
+     `$p` stands.
+L1: a step pushes an expression of more than 1,048,576 symbols, its type code counted.
+P13: at the end the stack doesn't hold exactly one entry.
+P14: that entry differs from the expression of the `$p`.
+A1: no statement has the asked label.
+A2: the asked label isn't that of a `$p`, but of an axiom or a hypothesis.
+A3: the proof of the asked `$p` is incomplete.
+";
