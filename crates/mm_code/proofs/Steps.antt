@@ -1,7 +1,7 @@
 -- One step of `reading`, for each kind of byte.
-use Rattle.std.proofs.Common.{◌≡◌, ℕ, ◌+◌, ◌-◌, ◌<◌, ◌≤◌, Bool, true, false, cond, ◌&&◌, List, [], ◌∷◌, ◌++◌, length, get_or, take, drop, subst, Bor, Result, Ok, Err, refl, sym, ap, ◌∙◌, append_assoc, arith}
+use Rattle.std.proofs.Common.{◌≡◌, ℕ, ◌+◌, ◌-◌, ◌<◌, ◌≤◌, Bool, true, false, cond, ◌&&◌, List, [], ◌∷◌, ◌++◌, length, get_or, set, take, drop, subst, Bor, Result, Ok, Err, refl, sym, ap, ◌∙◌, append_assoc, arith}
 use Rattle.std.proofs.lemmas.Bool.{lt-ltb, le-ltb, eq-eqb, ne_eqb}
-use Rattle.std.proofs.lemmas.List.{take_rest, drop_more, at_drop_more, at_drop_all, append-nil}
+use Rattle.std.proofs.lemmas.List.{take_more_set, take-set, take_rest, drop_more, at_drop_more, at_drop_all, append-nil}
 use Rattle.std.proofs.lemmas.List.Folds.{list_all-append}
 use Rattle.std.specs.List.{list_all, flat_map}
 use Rattle.std.specs.Char.{is_ascii_uppercase}
@@ -57,7 +57,7 @@ pub read_cut_by_end : (value : ℕ) → 0 < value → reading value [] ≡ Err P
 unfolding reading
 read_cut_by_end value h = rw (ne_eqb value 0 (λ e. omega arith)) refl
 
--- The same behind codes that are read already, as `read_letter` meets them. `grind` takes these by their names.
+-- The same behind codes that are read already, as `put_any` meets them. `grind` takes these by their names.
 pub front_below : (codes : List Code) (value byte : ℕ) (bytes : List ℕ) → byte < 65 → with_front codes (reading value (byte ∷ bytes)) ≡ Err P4
 front_below codes value byte bytes h = rw (read_below value byte bytes h) refl
 
@@ -80,6 +80,28 @@ pub front_leading : (codes : List Code) (value byte : ℕ) (bytes : List ℕ) �
 front_leading codes value byte bytes low high = ap (with_front codes) (read_leading value byte bytes low high)
 
 pub ruleset reading_steps = (front_below, front_above, front_cut, front_tag, front_last, front_leading)
+
+-- The same where the codes so far fill slots up to a place, and a code is put there.
+pub put_last : (slots : List Code) (place next value byte number : ℕ) (rest : List ℕ) → place < length slots → next ≡ place + 1 → 65 ≤ byte → byte < 85 → number ≡ number_after value byte
+    → with_front (take next (set slots place (Number number))) (reading 0 rest) ≡ with_front (take place slots) (reading value (byte ∷ rest))
+put_last slots place next value byte number rest lt on low high is =
+    ap (λ (n : ℕ). with_front (take n (set slots place (Number number))) (reading 0 rest)) on
+    ∙ ap (λ (codes : List Code). with_front codes (reading 0 rest)) (take_more_set slots place (Number number) lt ∙ ap (λ (n : ℕ). take place slots ++ Number n ∷ []) is)
+    ∙ sym (front_last (take place slots) value byte rest low high)
+
+pub put_tag : (slots : List Code) (place value byte : ℕ) (rest : List ℕ) → place < length slots → byte ≡ 90 → value ≡ 0
+    → with_front (take (place + 1) (set slots place Tag)) (reading 0 rest) ≡ with_front (take place slots) (reading value (byte ∷ rest))
+put_tag slots place value byte rest lt is none =
+    ap (λ (codes : List Code). with_front codes (reading 0 rest)) (take_more_set slots place Tag lt) ∙ sym (front_tag (take place slots) value byte rest is none)
+
+-- A leading digit leaves the codes before the place, whatever is put there.
+pub put_leading : (slots : List Code) (place next value byte longer : ℕ) (code : Code) (rest : List ℕ) → next ≡ place → 85 ≤ byte → byte < 90 → longer ≡ leading_after value byte
+    → with_front (take next (set slots place code)) (reading longer rest) ≡ with_front (take place slots) (reading value (byte ∷ rest))
+put_leading slots place next value byte longer code rest on low high is =
+    ap (λ (n : ℕ). with_front (take n (set slots place code)) (reading longer rest)) on
+    ∙ ap (λ (codes : List Code). with_front codes (reading longer rest)) (take-set slots place code)
+    ∙ ap (λ (v : ℕ). with_front (take place slots) (reading v rest)) is
+    ∙ sym (front_leading (take place slots) value byte rest low high)
 
 -- ---- a fault, with more bytes
 

@@ -1,6 +1,6 @@
 -- A mirror of the code that reads letters, one byte after the other, so that each function has one exact clause.
 -- Private contracts cite it. The public ones speak of `Letters`, and lemmas join the two.
-use Rattle.std.specs.Prelude.{◌≡◌, ℕ, ◌+◌, ◌-◌, ◌*◌, List, [], ◌∷◌, ◌++◌, Result, Ok, Err, nat_lt, ◌==◌, if◌then◌else◌, min}
+use Rattle.std.specs.Prelude.{◌≡◌, ℕ, ◌+◌, ◌-◌, ◌*◌, List, [], ◌∷◌, ◌++◌, Result, Ok, Err, nat_lt, ◌==◌, if◌then◌else◌, min, take}
 use Rattle.std.specs.List.{list_all}
 use Rattle.std.specs.Char.{is_ascii_uppercase}
 use Rattle.mm_code.specs.declared.code.Code.{Code}
@@ -47,3 +47,8 @@ FaultOf (Rule P5) rest read = read ≡ Err (rule_behind rest)
 abbrev pub ReadsOn : List Code → Result ℕ CodeFault → List ℕ → Result (List Code) CodeRule → Type 0
 ReadsOn codes (Ok value) rest read = with_front codes (reading value rest) ≡ read
 ReadsOn codes (Err fault) rest read = FaultOf fault rest read
+
+-- The same, where the codes so far fill slots up to a place, which is answered beside the leading value.
+abbrev pub PutsOn : List Code → Result (ℕ × ℕ) CodeFault → List ℕ → Result (List Code) CodeRule → Type 0
+PutsOn slots (Ok next) rest read = with_front (take next.0 slots) (reading next.1 rest) ≡ read
+PutsOn slots (Err fault) rest read = FaultOf fault rest read

@@ -1,14 +1,15 @@
 //! The letters of compressed proofs, read and written.
 
 ghost use Rattle.std.specs.Prelude.{◌≡◌, ℕ, List, [], Result};
-ghost use Rattle.std.specs.Prelude.{◌+◌, ◌*◌, min, ◌∷◌, ◌++◌, ◌≤◌, All, IfOk, OnOk, IsErrOf};
+ghost use Rattle.std.specs.Prelude.{◌+◌, ◌*◌, min, ◌∷◌, ◌++◌, ◌≤◌, ◌<◌, All, IfOk, OnOk, IsErrOf};
+ghost use Rattle.std.specs.Prelude.{length, take};
 ghost use Rattle.std.specs.Prelude.{IsOkUnless};
 ghost use Rattle.std.specs.List.{flat_map, list_all};
 ghost use Rattle.std.specs.Char.{is_ascii_uppercase};
 ghost use Rattle.mm_code.specs.Letters.{largest, SpellsCodes, Letters, code_for, HasSpelling};
 ghost use Rattle.mm_code.specs.Letters.{IsExact, Answers, Fills, LettersBreak, joined_tokens};
 ghost use Rattle.mm_code.specs.Writing.{AppendsLeading, AppendsCode};
-ghost use Rattle.mm_code.specs.Reading.{with_front, reading, rule_behind, FaultOf, ReadsOn};
+ghost use Rattle.mm_code.specs.Reading.{with_front, reading, rule_behind, FaultOf, ReadsOn, PutsOn};
 
 use crate::code::{Code, CodeFault, CodeRule};
 use std::alloc::Global;
@@ -28,21 +29,65 @@ fn number_after(value: u32, digit: u8) -> u32
     value.saturating_mul(20).saturating_add(u32::from(digit))
 }
 
-/// Takes one letter behind leading digits of this value (0 for none), and answers their value
-/// behind the letter.
+/// The largest leading value behind which no letter reaches the largest `u32`, or less.
+const CALM: u32 = 0x0800_0000;
+
+/// Takes any letter behind leading digits of this value (0 for none): puts the code that it ends
+/// in the slot at the place, and answers the place and the leading digits' value behind it.
 #[tactic(auto, using(crate::proofs::Steps::reading_steps))]
-fn read_letter(codes: &mut Vec<Code>, value: u32, byte: u8) -> Result<u32, CodeFault>
-    ensures { (rest : List ℕ) → ReadsOn codes.new.items result rest
-        (with_front codes.old.items (reading value (byte ∷ rest))) }
+fn put_any(
+    slots: &mut [Code],
+    place: usize,
+    value: u32,
+    byte: u8,
+) -> Result<(usize, u32), CodeFault>
+    requires { place < length slots.old }
+    ensures size { length slots.new ≡ length slots.old }
+    ensures next { IfOk result (λ next. next.0 ≤ place + 1) }
+    ensures reads { (rest : List ℕ) → PutsOn slots.new result rest
+        (with_front (take place slots.old) (reading value (byte ∷ rest))) }
 {
     match byte {
-        b'A'..=b'T' => codes.push(Code::Number(number_after(value, byte - b'A' + 1)))?,
-        b'U'..=b'Y' => return Ok(leading_after(value, byte - b'U' + 1)),
-        b'Z' if value == 0 => codes.push(Code::Tag)?,
-        b'Z' => return Err(CodeFault::Rule(CodeRule::P5)),
-        _ => return Err(CodeFault::Rule(CodeRule::P4)),
+        b'A'..=b'T' => {
+            slots[place] = Code::Number(number_after(value, byte - b'A' + 1));
+            Ok((place + 1, 0))
+        }
+        b'U'..=b'Y' => Ok((place, leading_after(value, byte - b'U' + 1))),
+        b'Z' if value == 0 => {
+            slots[place] = Code::Tag;
+            Ok((place + 1, 0))
+        }
+        b'Z' => Err(CodeFault::Rule(CodeRule::P5)),
+        _ => Err(CodeFault::Rule(CodeRule::P4)),
     }
-    Ok(0)
+}
+
+/// Does as `put_any`, and sooner: a letter ends a number about as often as not, so no branch asks
+/// whether it does. What a leading digit puts in the slot is put over.
+#[tactic(auto, using(crate::proofs::Steps::reading_steps))]
+fn put_letter(
+    slots: &mut [Code],
+    place: usize,
+    value: u32,
+    byte: u8,
+) -> Result<(usize, u32), CodeFault>
+    requires { place < length slots.old }
+    ensures size { length slots.new ≡ length slots.old }
+    ensures next { IfOk result (λ next. next.0 ≤ place + 1) }
+    ensures reads { (rest : List ℕ) → PutsOn slots.new result rest
+        (with_front (take place slots.old) (reading value (byte ∷ rest))) }
+{
+    let digit = byte.wrapping_sub(b'A');
+    if digit >= 25 || value > CALM {
+        return put_any(slots, place, value, byte);
+    }
+    let longer = 5 * value + u32::from(digit.wrapping_sub(19));
+    slots[place] = Code::Number(20 * value + u32::from(digit + 1));
+    if digit < 20 {
+        Ok((place + 1, 0))
+    } else {
+        Ok((place, longer))
+    }
 }
 
 /// Whether each byte is a letter `A` to `Z`.
@@ -78,19 +123,40 @@ fn fault_with(fault: CodeFault, bytes: &[u8]) -> CodeFault
     }
 }
 
+/// Puts the codes of a token's letters behind leading digits of this value in the slots from the
+/// place on, and answers the place and the leading digits' value behind the token.
+fn put_token(
+    slots: &mut [Code],
+    from: usize,
+    leading: u32,
+    token: &[u8],
+) -> Result<(usize, u32), CodeFault>
+    requires { from + length token.now ≤ length slots.old }
+    ensures size { length slots.new ≡ length slots.old }
+    ensures reads { (rest : List ℕ) → PutsOn slots.new result rest
+        (with_front (take from slots.old) (reading leading (token.now ++ rest))) }
+{
+    let mut place = from;
+    let mut value = leading;
+    for (at, byte) in token.iter().enumerate() {
+        match put_letter(slots, place, value, *byte) {
+            Ok(next) => (place, value) = next,
+            Err(fault) => return Err(fault_with(fault, &token[at + 1..])),
+        }
+    }
+    Ok((place, value))
+}
+
 /// Takes a token's letters behind leading digits of this value, and answers their value behind the
 /// token.
 fn read_token(codes: &mut Vec<Code>, leading: u32, token: &[u8]) -> Result<u32, CodeFault>
     ensures { (rest : List ℕ) → ReadsOn codes.new.items result rest
         (with_front codes.old.items (reading leading (token.now ++ rest))) }
 {
-    let mut value = leading;
-    for (at, byte) in token.iter().enumerate() {
-        match read_letter(codes, value, *byte) {
-            Ok(next) => value = next,
-            Err(fault) => return Err(fault_with(fault, &token[at + 1..])),
-        }
-    }
+    let from = codes.len();
+    codes.resize(from + token.len(), Code::Tag)?;
+    let (place, value) = put_token(codes.as_mut_slice(), from, leading, token)?;
+    codes.truncate(place);
     Ok(value)
 }
 
