@@ -43,6 +43,7 @@ pub mod Ties
 pub mod ByNumber
 pub mod Running
 pub mod Naming
+pub mod Picking
 pub mod Ending
 pub mod Applying
 pub mod Listed

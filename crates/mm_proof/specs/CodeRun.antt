@@ -42,6 +42,10 @@ pub record HasRun (statements : List Sentence) (place : ℕ) (front : List (Move
   pub entries : AreStackEntries statements (take place statements) stack
   pub kept_entries : AreStackEntries statements (take place statements) kept
 
+-- these are the numbers of the labels that the moves name
+abbrev pub ArePicked : List (Move ℕ) → List ℕ → Type 0
+ArePicked moves ids = (id : ℕ) → Contains ids id ↔ ((i : ℕ) × (slice_get moves i ≡ Some (name id)))
+
 -- one of the moves names the assertion with this number
 abbrev pub IsNamedByMove : List Sentence → List (Move ℕ) → ℕ → Type 0
 IsNamedByMove statements moves id =

@@ -10,6 +10,7 @@ mod lines;
 mod moves;
 mod pairs;
 mod parse;
+mod picked;
 mod prover;
 mod rows;
 mod step;

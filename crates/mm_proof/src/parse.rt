@@ -18,10 +18,12 @@ ghost use Rattle.mm_proof.specs.Steps.{AreSteps, IsProofNumber};
 ghost use Rattle.mm_proof.specs.Parsed.{OfProof, SaySteps};
 ghost use Rattle.mm_proof.specs.CodeSteps.{IsReading, NumberSays, fault_behind};
 ghost use Rattle.mm_proof.specs.CodeSteps.{ids_in, move_in, moves_in, texts, token_texts};
+ghost use Rattle.mm_proof.specs.CodeRun.{ArePicked};
 
 use crate::fault::{ProofFault, ProofRule};
 use crate::labels::fill_numbers;
 use crate::moves::{NumberedMove, Parsed, Steps};
+use crate::picked::{Picked, fill_picked, pick};
 use mm_code::{Code, CodeFault, CodeRule, fill_codes};
 use mm_frame::{Book, Frame, LabelId};
 use mm_text::Token;
@@ -40,6 +42,8 @@ pub(crate) struct ParseLists<'a> {
     codes: Vec<Code>,
     /// The moves.
     pub(crate) moves: Vec<NumberedMove>,
+    /// The labels that they name.
+    pub(crate) picked: Picked,
 }
 
 impl<'a> ParseLists<'a> {
@@ -50,6 +54,7 @@ impl<'a> ParseLists<'a> {
             letters: Vec::new(alloc),
             codes: Vec::new(alloc),
             moves: Vec::new(alloc),
+            picked: Picked::new(alloc),
         }
     }
 }
@@ -111,11 +116,15 @@ fn fill_normal(
     requires normal { IsNormal (token_texts tokens.now) }
     ensures ok { OnOk result (IsReading book.now.statements own.now.place
         (token_texts tokens.now) (moves_in lists.new.moves.items)) }
+    ensures picked { OnOk result
+        (ArePicked (moves_in lists.new.moves.items) (ids_in lists.new.picked.ids.items)) }
     ensures fault { IfErr result (λ e. OnRule e (λ rule step. (step ≡ 0)
         × IsWholeFault (take own.now.place book.now.statements) (token_texts tokens.now) rule)) }
 {
     fill_numbers(&mut lists.ids, book, own, id, tokens)?;
-    fill_names(&mut lists.moves, &lists.ids)
+    fill_names(&mut lists.moves, &lists.ids)?;
+    fill_picked(&mut lists.picked.ids, &lists.moves)?;
+    Ok(())
 }
 
 // The move that a code says, where numbers stand for these labels and then for tags.
@@ -135,20 +144,26 @@ fn move_of(entries: &[LabelId], code: Code) -> NumberedMove
     }
 }
 
-// Fills the list with the moves that the codes say.
+// Fills the list with the moves that the codes say, and the other with the labels that they name.
 fn fill_moves(
     moves: &mut Vec<NumberedMove>,
+    picked: &mut Picked,
     entries: &[LabelId],
     codes: &[Code],
 ) -> Result<(), ProofFault>
     requires { All HasSpelling codes.now }
     ensures ok { OnOk result
         (AllZip (NumberSays (ids_in entries.now)) codes.now (moves_in moves.new.items)) }
+    ensures picked { OnOk result
+        (ArePicked (moves_in moves.new.items) (ids_in picked.new.ids.items)) }
     ensures fault { IfErr result (λ e. e ≡ ProofFault.Memory) }
 {
     moves.clear();
+    picked.ids.clear();
     for code in codes {
-        moves.push(move_of(entries, *code))?;
+        let one = move_of(entries, *code);
+        pick(picked, *code, one)?;
+        moves.push(one)?;
     }
     Ok(())
 }
@@ -251,6 +266,8 @@ fn fill_compressed<'a>(
     ensures ok { let tokens = opening_token ∷ token_texts rest.now in
         OnOk result (IsReading book.now.statements own.now.place tokens
         (moves_in lists.new.moves.items)) }
+    ensures picked { OnOk result
+        (ArePicked (moves_in lists.new.moves.items) (ids_in lists.new.picked.ids.items)) }
     ensures fault { let tokens = opening_token ∷ token_texts rest.now in
         IfErr result (λ e. OnRule e (λ rule step. (step ≡ 0)
         × IsWholeFault (take own.now.place book.now.statements) tokens rule)) }
@@ -269,7 +286,12 @@ fn fill_compressed<'a>(
     lists.entries.clear();
     lists.entries.extend_from_slice(own.hypotheses())?;
     lists.entries.extend_from_slice(&lists.ids)?;
-    fill_moves(&mut lists.moves, &lists.entries, &lists.codes)
+    fill_moves(
+        &mut lists.moves,
+        &mut lists.picked,
+        &lists.entries,
+        &lists.codes,
+    )
 }
 
 // Fills the list with the moves that the tokens say as a proof of the `$p` of the frame.
@@ -285,6 +307,8 @@ fn fill_whole<'a>(
     requires sound { IsSound book.now.statements }
     ensures ok { OnOk result (IsReading book.now.statements own.now.place
         (token_texts tokens.now) (moves_in lists.new.moves.items)) }
+    ensures picked { OnOk result
+        (ArePicked (moves_in lists.new.moves.items) (ids_in lists.new.picked.ids.items)) }
     ensures fault { IfErr result (λ e. OnRule e (λ rule step. (step ≡ 0)
         × IsWholeFault (take own.now.place book.now.statements) (token_texts tokens.now) rule)) }
 {
@@ -315,6 +339,10 @@ pub(crate) fn fill_steps<'a>(
         (token_texts tokens.now) (moves_in lists.new.moves.items))) }
     ensures usable { OnOk result
         (AreSteps book.now.statements id.0 (moves_in lists.new.moves.items)) }
+
+    // The labels are those that the moves name.
+    ensures picked { OnOk result
+        (ArePicked (moves_in lists.new.moves.items) (ids_in lists.new.picked.ids.items)) }
 
     // The rule is the first that is broken over the whole proof.
     ensures fault { IfErr result (λ e. OnRule e (λ rule step.

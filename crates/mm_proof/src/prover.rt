@@ -210,7 +210,8 @@ fn prove_in_frame<'a>(
 {
     fill_steps(lists, book, own, id, tokens)?;
     store.clear();
-    judgement_in_frame(store, scratch, named, book, own, id, &lists.moves)
+    let picked = &lists.picked.ids;
+    judgement_in_frame(store, scratch, named, book, own, id, &lists.moves, picked)
 }
 
 // Whether the tokens, none of which holds a `?`, prove the `$p` with the number: fills the list

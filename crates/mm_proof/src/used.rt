@@ -1,13 +1,11 @@
 //! The assertions that a proof uses.
 
-ghost use Rattle.std.specs.Prelude.{◌≡◌, ◌↔◌, ℕ, List, [], ◌∷◌, ◌++◌, Contains, IsTrue, OnOk};
-ghost use Rattle.std.specs.List.{AllByRecursion};
+ghost use Rattle.std.specs.Prelude.{◌≡◌, ◌↔◌, ℕ, List, Contains, IsTrue, OnOk};
+ghost use Rattle.mm_frame.specs.Numbers.{IsAssertionNumber};
 ghost use Rattle.mm_proof.specs.Moves.{Move};
-ghost use Rattle.mm_proof.specs.CodeSteps.{MayBeUsed, ids_in, moves_in};
-ghost use Rattle.mm_proof.specs.CodeRun.{MayBeMade, IsNamedByMove, AreNamed};
+ghost use Rattle.mm_proof.specs.CodeSteps.{MayBeUsed, ids_in};
+ghost use Rattle.mm_proof.specs.CodeRun.{ArePicked, AreNamed};
 
-use crate::moves::NumberedMove;
-use crate::variables::lengthen;
 use mm_frame::{Book, LabelId, LabelKind};
 use std::alloc::{AllocError, Global};
 use std::marker::Model;
@@ -39,96 +37,58 @@ impl Used {
     }
 }
 
-/// Labels, and for each a place at which the list may have it.
-///
-/// What earlier proofs left in the places is never cleared: a place counts only where the list has
-/// the label there.
+/// The assertions that the last proof uses.
 #[derive(Drop)]
 pub(crate) struct Named {
     pub(crate) ids: Vec<LabelId>,
-    places: Vec<usize>,
 }
 
 impl Named {
     pub(crate) fn new(alloc: Global) -> Named {
         Named {
             ids: Vec::new(alloc),
-            places: Vec::new(alloc),
         }
     }
 }
 
-// Whether the list has the label at the place under its number, so that it needn't be added again.
-fn is_listed(places: &[usize], ids: &[LabelId], id: LabelId) -> bool
-    ensures { IsTrue result → Contains (ids_in ids.now) id.0 }
-{
-    let number = id.0 as usize;
-    if number >= places.len() {
-        return false;
-    }
-    let place = places[number];
-    place < ids.len() && ids[place].0 == id.0
-}
-
-// Notes the place under the label's number.
-fn note_place(places: &mut Vec<usize>, id: LabelId, place: usize) -> Result<(), AllocError> {
-    let number = id.0 as usize;
-    lengthen(places, number + 1)?;
-    places[number] = place;
-    Ok(())
-}
-
-// Adds the label that a move names, if it is that of an assertion and isn't known to be listed.
-fn add_named(named: &mut Named, book: &Book, id: LabelId) -> Result<(), AllocError>
+// Whether the label is that of an assertion.
+fn is_assertion(book: &Book, id: LabelId) -> bool
     requires used { (place : ℕ) × (label : List ℕ)
         × MayBeUsed book.now.statements place label id.0 }
-    ensures { OnOk result ((moves : List (Move ℕ))
-        → ((n : ℕ) → Contains (ids_in named.old.ids.items) n
-        ↔ IsNamedByMove book.now.statements moves n)
-        → (n : ℕ) → Contains (ids_in named.new.ids.items) n
-        ↔ IsNamedByMove book.now.statements (moves ++ Move.name id.0 ∷ []) n) }
+    ensures { IsTrue result ↔ IsAssertionNumber book.now.statements id.0 }
 {
-    if is_listed(&named.places, &named.ids, id) {
-        return Ok(());
-    }
-    match book.kind(id) {
-        LabelKind::Axiom | LabelKind::Proof => {
-            note_place(&mut named.places, id, named.ids.len())?;
-            named.ids.push(id)?;
-            Ok(())
-        }
-        _ => Ok(()),
-    }
+    matches!(book.kind(id), LabelKind::Axiom | LabelKind::Proof)
 }
 
-// The assertions that the moves name, in the order of the moves.
-fn fill_named(named: &mut Named, book: &Book, moves: &[NumberedMove]) -> Result<(), AllocError>
-    requires known { (place : ℕ)
-        × AllByRecursion (MayBeMade book.now.statements place) (moves_in moves.now) }
+// Those of the labels that are assertions', in the same order.
+fn fill_named(named: &mut Named, book: &Book, picked: &[LabelId]) -> Result<(), AllocError>
+    requires known { (place : ℕ) × ((id : ℕ) → Contains (ids_in picked.now) id
+        → (label : List ℕ) × MayBeUsed book.now.statements place label id) }
     ensures { OnOk result ((id : ℕ) → Contains (ids_in named.new.ids.items) id
-        ↔ IsNamedByMove book.now.statements (moves_in moves.now) id) }
+        ↔ (Contains (ids_in picked.now) id × IsAssertionNumber book.now.statements id)) }
 {
     named.ids.clear();
-    for one in moves {
-        if let NumberedMove::Name(id) = one {
-            add_named(named, book, *id)?;
+    for id in picked {
+        if is_assertion(book, *id) {
+            named.ids.push(*id)?;
         }
     }
     Ok(())
 }
 
-/// Fills the list with the assertions that the moves name, each once, in database order.
+/// Fills the list with the assertions among the labels that moves name, each once, in database
+/// order.
 pub(crate) fn fill_used(
     named: &mut Named,
     book: &Book,
-    moves: &[NumberedMove],
+    picked: &[LabelId],
 ) -> Result<(), AllocError>
-    requires known { (place : ℕ)
-        × AllByRecursion (MayBeMade book.now.statements place) (moves_in moves.now) }
-    ensures { OnOk result
-        (AreNamed book.now.statements (moves_in moves.now) (ids_in named.new.ids.items)) }
+    requires known { (place : ℕ) × ((id : ℕ) → Contains (ids_in picked.now) id
+        → (label : List ℕ) × MayBeUsed book.now.statements place label id) }
+    ensures { OnOk result ((moves : List (Move ℕ)) → ArePicked moves (ids_in picked.now)
+        → AreNamed book.now.statements moves (ids_in named.new.ids.items)) }
 {
-    fill_named(named, book, moves)?;
+    fill_named(named, book, picked)?;
     named.ids.sort_unstable();
     named.ids.dedup();
     Ok(())

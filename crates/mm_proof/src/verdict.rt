@@ -14,12 +14,13 @@ ghost use Rattle.mm_frame.specs.Form.{IsSound};
 ghost use Rattle.mm_proof.specs.CodeSteps.{MayBeUsed, ids_in, moves_in};
 ghost use Rattle.mm_proof.specs.CodeVerify.{AreStackEntries};
 ghost use Rattle.mm_proof.specs.CodeRun.{CarriesOn, StopsAt, MayBeMade, HasRun};
-ghost use Rattle.mm_proof.specs.CodeRun.{EndsWrong};
+ghost use Rattle.mm_proof.specs.CodeRun.{EndsWrong, ArePicked};
 ghost use Rattle.mm_proof.specs.Verified.{OfMoves, ProvesWith, FailsWith};
 
 use crate::apply::{Scratch, apply};
 use crate::fault::{ProofFault, ProofRule};
 use crate::moves::{NumberedMove, Steps};
+use crate::picked::fill_picked;
 use crate::store::Store;
 use crate::substitution::{EXPRESSION_LIMIT, is_same};
 use crate::used::{Named, Used, fill_used};
@@ -201,7 +202,7 @@ fn derive<S: Store>(
 }
 
 // Fills the list with the assertions of the tree that the moves make, or tells their first fault,
-// where the frame is that of the `$p`.
+// where the frame is that of the `$p`, and the labels are those that the moves name.
 pub(crate) fn judgement_in_frame<S: Store>(
     store: &mut S,
     scratch: &mut Scratch,
@@ -210,6 +211,7 @@ pub(crate) fn judgement_in_frame<S: Store>(
     own: &Frame,
     id: LabelId,
     moves: &[NumberedMove],
+    picked: &[LabelId],
 ) -> Result<(), ProofFault>
     requires own { own.now.statements ≡ book.now.statements }
     requires number { (s : Sentence) × IsNumbered book.now.statements id.0 own.now.place s }
@@ -217,6 +219,7 @@ pub(crate) fn judgement_in_frame<S: Store>(
     requires stack { S.stack store.old ≡ [] }
     requires kept { S.kept store.old ≡ [] }
     requires steps { AreSteps book.now.statements id.0 (moves_in moves.now) }
+    requires picked { ArePicked (moves_in moves.now) (ids_in picked.now) }
     ensures proved { OnOk result (OfMoves book.now.statements id.0 (moves_in moves.now)
         (λ place s names.
         ProvesWith book.now.statements place s names (ids_in named.new.ids.items))) }
@@ -225,12 +228,13 @@ pub(crate) fn judgement_in_frame<S: Store>(
         (λ place s names. FailsWith book.now.statements place s names rule step))) }
 {
     derive(store, scratch, book, own, id, moves)?;
-    fill_used(named, book, moves)?;
+    fill_used(named, book, picked)?;
     Ok(())
 }
 
 // Fills the list with the assertions of the tree that the moves make, or tells their first fault.
 fn judgement<S: Store>(
+    alloc: Global,
     store: &mut S,
     scratch: &mut Scratch,
     named: &mut Named,
@@ -250,7 +254,9 @@ fn judgement<S: Store>(
     ensures sound { IsSound book.now.statements }
 {
     let own = book.frame(id);
-    judgement_in_frame(store, scratch, named, book, &own, id, moves)
+    let mut picked = Vec::new(alloc);
+    fill_picked(&mut picked, moves)?;
+    judgement_in_frame(store, scratch, named, book, &own, id, moves, &picked)
 }
 
 // The answer on the moves of a proof. The store is handed in empty.
@@ -279,7 +285,7 @@ pub(crate) fn answer<S: Store>(
         → FailsWith book.now.statements place s names rule step
         → IsUnlessMemory result (Err (ProofFault.Rule rule step))) }
 {
-    match judgement(store, scratch, named, book, id, &steps.moves) {
+    match judgement(alloc, store, scratch, named, book, id, &steps.moves) {
         Ok(()) => {
             let labels = Vec::from_slice(alloc, &named.ids)?;
             Ok(Used { labels })

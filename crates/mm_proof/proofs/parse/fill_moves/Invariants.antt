@@ -1,7 +1,10 @@
 use Rattle.std.proofs.Common.{take}
 use Rattle.std.specs.List.{AllZip}
 use Rattle.mm_proof.specs.CodeSteps.{NumberSays, ids_in, moves_in}
+use Rattle.mm_proof.specs.CodeRun.{ArePicked}
 use Rattle.mm_proof.proofs.parse.fill_moves.Given as goal
 
 abbrev pub invariant-loop-code : goal.invariant-loop-code
-invariant-loop-code l = AllZip (NumberSays (ids_in l.entries)) (take l.code-index l.codes) (moves_in l.moves.items)
+invariant-loop-code l =
+    AllZip (NumberSays (ids_in l.entries)) (take l.code-index l.codes) (moves_in l.moves.items)
+    × ArePicked (moves_in l.moves.items) (ids_in l.picked.ids.items)

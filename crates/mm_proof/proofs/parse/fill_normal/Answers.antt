@@ -1,8 +1,10 @@
 use Rattle.std.proofs.Common.{ℕ, List, map, subst, sym, ap, ◌∙◌}
-use Rattle.std.proofs.lemmas.Result.{err_from_is_err_and, on_ok_weaker}
+use Rattle.std.proofs.lemmas.Result.{err_from_is_err_and}
 use Rattle.mm_proof.specs.Moves.{Move, name}
-use Rattle.mm_proof.specs.CodeSteps.{IsReading, ids_in, token_texts}
-use Rattle.mm_proof.proofs.Answering.{on_rule_map, memory_only}
+use Rattle.mm_proof.specs.declared.moves.NumberedMove.{NumberedMove}
+use Rattle.mm_proof.specs.CodeSteps.{IsReading, ids_in, moves_in, token_texts}
+use Rattle.mm_proof.specs.CodeRun.{ArePicked}
+use Rattle.mm_proof.proofs.Answering.{on_rule_map}
 use Rattle.mm_proof.proofs.TokenFacts.{labels_fault, normal_labels}
 use Rattle.mm_proof.proofs.Readings.{reading_normal}
 use Rattle.mm_proof.proofs.parse.fill_normal.Goals as goal
@@ -11,12 +13,17 @@ pub returns-clause-ok : goal.returns-clause-ok
 returns-clause-ok c =
     let own = c.requires.own in
     let reading = reading_normal _ _ own.0 _ _ c.requires.sound.0 own.1.there c.requires.normal c.in_ok-fill_numbers.ensures.ok in
-    on_ok_weaker c.fill_names.result (λ is.
     subst (λ (ms : List (Move ℕ)). IsReading c.args.book.now.statements c.args.own.now.place (token_texts c.args.tokens.now) ms)
-    (sym (is ∙ ap (λ l. map name (ids_in l)) c.deref.ensures.value)) reading) c.fill_names.ensures.ok
+    (sym (c.in_ok-fill_names.ensures.ok ∙ ap (λ l. map name (ids_in l)) c.deref.ensures.value)) reading
 
-pub returns-clause-fault : goal.returns-clause-fault
-returns-clause-fault c = memory_only c.fill_names.result _ c.fill_names.ensures.fault
+pub returns-clause-picked : goal.returns-clause-picked
+returns-clause-picked c =
+    subst (λ (ms : List NumberedMove). ArePicked (moves_in ms) (ids_in c.fill_picked.new.ids.items)) c.deref-2.ensures.value c.in_ok-fill_picked.ensures
+
+pub returns-in_err-fill_names-clause-fault : goal.returns-in_err-fill_names-clause-fault
+returns-in_err-fill_names-clause-fault c =
+    let p = err_from_is_err_and c.from_residual-in_err-fill_names.result c.from_residual-in_err-fill_names.ensures.1 in
+    rw (p.1, p.2) (rw c.in_err-fill_names.ensures.fault tt)
 
 pub returns-in_err-fill_numbers-clause-fault : goal.returns-in_err-fill_numbers-clause-fault
 returns-in_err-fill_numbers-clause-fault c =

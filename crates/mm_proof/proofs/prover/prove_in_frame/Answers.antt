@@ -1,9 +1,11 @@
 use Rattle.std.proofs.Common.{List, inl, sym, subst}
 use Rattle.std.proofs.lemmas.Result.{err_from_is_err_and, on_ok_weaker}
+use Rattle.mm_frame.specs.declared.number.LabelId.{LabelId}
 use Rattle.mm_proof.specs.declared.moves.NumberedMove.{NumberedMove}
 use Rattle.mm_proof.specs.Parsed.{OfProof, SaySteps}
 use Rattle.mm_proof.specs.Steps.{AreSteps}
 use Rattle.mm_proof.specs.CodeSteps.{ids_in, moves_in, token_texts}
+use Rattle.mm_proof.specs.CodeRun.{ArePicked}
 use Rattle.mm_proof.proofs.Answering.{on_rule_map, rules_map}
 use Rattle.mm_proof.proofs.Whole.{tokens_prove, tokens_fail}
 use Rattle.mm_proof.proofs.prover.prove_in_frame.Goals as goal
@@ -11,6 +13,11 @@ use Rattle.mm_proof.proofs.prover.prove_in_frame.Goals as goal
 pub judgement_in_frame-requires-clause-steps : goal.judgement_in_frame-requires-clause-steps
 judgement_in_frame-requires-clause-steps c =
     subst (λ (ms : List NumberedMove). AreSteps c.args.book.now.statements c.args.id.0 (moves_in ms)) (sym c.deref.ensures.value) c.in_ok-fill_steps.ensures.usable
+
+pub judgement_in_frame-requires-clause-picked : goal.judgement_in_frame-requires-clause-picked
+judgement_in_frame-requires-clause-picked c =
+    subst (λ (l : List LabelId). ArePicked (moves_in c.deref.result.now) (ids_in l)) (sym c.deref-2.ensures.value)
+    (subst (λ (ms : List NumberedMove). ArePicked (moves_in ms) (ids_in c.fill_steps.new.lists.picked.ids.items)) (sym c.deref.ensures.value) c.in_ok-fill_steps.ensures.picked)
 
 pub returns-clause-proved : goal.returns-clause-proved
 returns-clause-proved c =

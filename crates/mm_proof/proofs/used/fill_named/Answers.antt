@@ -1,26 +1,26 @@
-use Rattle.std.proofs.Common.{Some, ap, ◌∙◌}
-use Rattle.mm_proof.specs.CodeSteps.{move_in, moves_in}
-use Rattle.mm_proof.specs.CodeRun.{MayBeMade}
-use Rattle.mm_proof.proofs.Derived.{all_at}
-use Rattle.mm_proof.proofs.Running.{move_at}
-use Rattle.mm_proof.proofs.Naming.{gather_added, gather_none, gathered_all}
+use Rattle.std.proofs.Common.{sym, ◌∙◌}
+use Rattle.std.proofs.lemmas.Bool.{false≢true}
+use Rattle.mm_proof.proofs.Naming.{listed_at, gather_added, gather_none, gathered_all, gathered_empty}
 use Rattle.mm_proof.proofs.used.fill_named.Goals as goal
-use Rattle.mm_proof.proofs.used.fill_named.Goals.{in-Name+in_ok-add_named, in_default}
+use Rattle.mm_proof.proofs.used.fill_named.Goals.{then-is_assertion+in_ok-push, else-is_assertion}
 
-pub add_named-requires : goal.add_named-requires
-add_named-requires c =
-    let m = all_at (MayBeMade c.args.book.now.statements c.requires.known.0) (moves_in c.args.moves.now) c.loop-one.one-index _ c.requires.known.1
-    (move_at c.args.moves.now c.loop-one.one-index _ c.loop-one-test.true ∙ ap (λ m. Some (move_in m)) c.in-Name.is) in
-    record { used = (c.requires.known.0, m.0, m.1) }
+pub loop-id-init : goal.loop-id-init
+loop-id-init c = rw c.clear.ensures.items (gathered_empty c.args.book.now.statements)
 
-pub loop-one-preserved : goal.loop-one-preserved
-loop-one-preserved c = elim c.match-one.branch [
-  | in-Name+in_ok-add_named w ↦ rw w.named-is
-      (gather_added c.args.book.now.statements c.args.moves.now c.loop-one.one-index _ w.in-Name.id _ _ c.loop-one-test.true w.in-Name.is c.loop-one.invariant
-      w.in_ok-add_named.ensures)
-  | in_default w ↦ rw w.named-is
-      (gather_none c.args.book.now.statements c.args.moves.now c.loop-one.one-index _ _ c.loop-one-test.true w.in_default.not-Name c.loop-one.invariant)
+pub is_assertion-requires : goal.is_assertion-requires
+is_assertion-requires c =
+    let known = c.requires.known in
+    let m = known.1 _ (listed_at c.args.picked.now c.loop-id.id-index _ c.loop-id-test.true) in
+    record { used = (known.0, m.0, m.1) }
+
+pub loop-id-preserved : goal.loop-id-preserved
+loop-id-preserved c = elim c.if-is_assertion.branch [
+  | then-is_assertion+in_ok-push w ↦ rw (w.named-is, w.in_ok-push.ensures.items)
+      (gather_added c.args.book.now.statements c.args.picked.now c.loop-id.id-index _ _ c.loop-id-test.true (c.is_assertion.ensures.0 w.if-is_assertion.true) c.loop-id.invariant)
+  | else-is_assertion w ↦ rw w.named-is
+      (gather_none c.args.book.now.statements c.args.picked.now c.loop-id.id-index _ _ c.loop-id-test.true
+      (λ h. false≢true (sym w.if-is_assertion.false ∙ c.is_assertion.ensures.1 h)) c.loop-id.invariant)
 ]
 
 pub returns : goal.returns
-returns c = gathered_all c.args.book.now.statements c.args.moves.now c.loop-one.one-index _ c.loop-one-test.false c.loop-one.invariant
+returns c = gathered_all c.args.book.now.statements c.args.picked.now c.loop-id.id-index _ c.loop-id-test.false c.loop-id.invariant

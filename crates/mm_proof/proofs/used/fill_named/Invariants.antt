@@ -1,8 +1,6 @@
-use Rattle.std.proofs.Common.{ℕ, take, Contains, ◌↔◌}
-use Rattle.mm_proof.specs.CodeSteps.{ids_in, moves_in}
-use Rattle.mm_proof.specs.CodeRun.{IsNamedByMove}
+use Rattle.std.proofs.Common.{take}
+use Rattle.mm_proof.proofs.Naming.{Gathered}
 use Rattle.mm_proof.proofs.used.fill_named.Given as goal
 
-abbrev pub invariant-loop-one : goal.invariant-loop-one
-invariant-loop-one l =
-    (id : ℕ) → Contains (ids_in l.named.ids.items) id ↔ IsNamedByMove l.fn.book.statements (take l.one-index (moves_in l.moves)) id
+abbrev pub invariant-loop-id : goal.invariant-loop-id
+invariant-loop-id l = Gathered l.fn.book.statements (take l.id-index l.picked) l.named.ids.items

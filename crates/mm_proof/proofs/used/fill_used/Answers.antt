@@ -9,10 +9,10 @@ use Rattle.mm_proof.proofs.Naming.{named_sorted}
 use Rattle.mm_proof.proofs.used.fill_used.Goals as goal
 
 pub returns : goal.returns
-returns c =
+returns c moves names =
     let is = dedup_is _ _ _ c.dedup.ensures.filtered in
     let moved = c.sort_unstable.ensures.permutation in
-    named_sorted _ _ c.fill_named.new.named.ids.items _ c.in_ok-fill_named.ensures
+    named_sorted _ _ c.args.picked.now c.fill_named.new.named.ids.items _ names c.in_ok-fill_named.ensures
     (rw is (IsStrictlySortedBy-dedup (on_total (λ (x : LabelId). x.0) nat_cmp_total) (λ x y. grind (arith, nat_tests)) _ c.sort_unstable.ensures.sorted))
     (λ x h. rw is (Contains-dedup (on_equiv (λ (x : LabelId). x.0) nat_eq_equiv) (λ x y e. grind (arith, nat_tests)) _ x (Contains-permutation _ _ x moved h)))
     (λ x h. Contains-permutation _ _ x (IsPermutation-sym _ _ moved) (Contains-from_dedup _ _ x (rw is at h)))

@@ -1,4 +1,7 @@
-use Rattle.std.proofs.Common.{inr}
+use Rattle.std.proofs.Common.{List, inr, sym, subst}
+use Rattle.mm_frame.specs.declared.number.LabelId.{LabelId}
+use Rattle.mm_proof.specs.CodeSteps.{ids_in, moves_in}
+use Rattle.mm_proof.specs.CodeRun.{ArePicked}
 use Rattle.mm_proof.proofs.verdict.judgement.Goals as goal
 
 pub frame-own-requires : goal.frame-own-requires
@@ -22,6 +25,10 @@ judgement_in_frame-requires-clause-kept g c = c.requires.kept
 
 pub judgement_in_frame-requires-clause-steps : goal.judgement_in_frame-requires-clause-steps
 judgement_in_frame-requires-clause-steps g c = c.requires.steps
+
+pub judgement_in_frame-requires-clause-picked : goal.judgement_in_frame-requires-clause-picked
+judgement_in_frame-requires-clause-picked g c =
+    subst (λ (l : List LabelId). ArePicked (moves_in c.args.moves.now) (ids_in l)) (sym c.deref.ensures.value) c.in_ok-fill_picked.ensures
 
 pub returns-clause-proved : goal.returns-clause-proved
 returns-clause-proved g c = c.judgement_in_frame.ensures.proved
