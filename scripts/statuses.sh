@@ -1,6 +1,8 @@
 #!/bin/sh
+# usage: scripts/statuses.sh [PROGRAM]
 # Drives the built program, through the launcher or by the absolute path given: each status that it can end with, with the
-# bytes of standard output and of standard error. No contract reaches `main`, so this is what tests it.
+# bytes of standard output and of standard error, and each text that it prints. No contract reaches `main` nor says what the
+# texts are, so this is what tests them.
 set -eu
 top=$(CDPATH='' cd -- "$(dirname -- "$0")/.." && pwd)
 mm=${1-$top/mm}
@@ -44,6 +46,83 @@ begins() {
     fi
 }
 
+# prints FILE WORDS..: the program, run with these words, prints what the file has, and ends with 0.
+prints() {
+    wanted=$1
+    shift
+    status=0
+    "$mm" "$@" >got.out 2>got.err || status=$?
+    if [ "$status" != 0 ] || [ -s got.err ] || ! cmp -s got.out "$wanted"; then
+        echo "statuses.sh: mm $*: status $status, wanted 0" >&2
+        diff "$wanted" got.out >&2 || :
+        failures=$((failures + 1))
+    fi
+}
+
+# misused WORDS..: the program refuses these words with status 2, and standard error says which it takes.
+misused() {
+    status=0
+    "$mm" "$@" >got.out 2>got.err || status=$?
+    if [ "$status" != 2 ] || [ -s got.out ] || ! grep -q 'Usage: mm' got.err || [ -n "$(tail -c 1 got.err)" ]; then
+        echo "statuses.sh: mm $*: status $status, wanted 2" >&2
+        cat got.out got.err >&2
+        failures=$((failures + 1))
+    fi
+}
+
+# full STATUS ERR WORDS..: standard output takes nothing, and the program ends so.
+full() {
+    wanted=$1
+    printf "$2" >wanted.err
+    shift 2
+    status=0
+    "$mm" "$@" >/dev/full 2>got.err || status=$?
+    if [ "$status" != "$wanted" ] || ! cmp -s got.err wanted.err; then
+        echo "statuses.sh: mm $*, with a full device: status $status, wanted $wanted" >&2
+        failures=$((failures + 1))
+    fi
+}
+
+# mute STATUS WORDS..: standard error takes nothing, and the program ends with this status all the same.
+mute() {
+    wanted=$1
+    shift
+    status=0
+    "$mm" "$@" >got.out 2>/dev/full || status=$?
+    if [ "$status" != "$wanted" ] || [ -s got.out ]; then
+        echo "statuses.sh: mm $*, with nobody to tell: status $status, wanted $wanted" >&2
+        failures=$((failures + 1))
+    fi
+}
+
+# literal FILE: the first text of a source of the program, as the program has it.
+literal() {
+    awk '
+    { line = $0 }
+    !begun { if (!sub(/^[^"]*"/, "", line)) { next }; begun = 1 }
+    line ~ /^";$/ { exit }
+    {
+        is_cut = sub(/\\$/, "", line)
+        if (was_cut) { sub(/^ +/, "", line) }
+        gsub(/\\"/, "\"", line)
+        gsub(/\\\\/, "\\", line)
+        printf is_cut ? "%s" : "%s\n", line
+        was_cut = is_cut
+    }' "$top/crates/mm_tool/src/$1"
+}
+
+# explanations: those of all rules, as the program has them.
+explanations() {
+    awk '
+    sub(/^        text: "/, "") { is_text = 1 }
+    /^",$/ { is_text = 0 }
+    is_text {
+        gsub(/\\"/, "\"")
+        gsub(/\\\\/, "\\")
+        print
+    }' "$top/crates/mm_tool/src/rules.rt"
+}
+
 cp "$top/examples/"*.mm "$top/examples/folder/"*.mm .
 cp "$top/examples/first.mm" -- -first.mm
 printf '$c a $.\n$c a $.\n' >twice.mm
@@ -63,12 +142,27 @@ ends 0 'yes 7 statements 1 proofs\n' '' check -
 ends 0 'tze\ntpl\n' '' axioms th first.mm
 ends 0 'tze\ntpl\nweq\nwim\na1\na2\nmp\n' '' axioms th1 demo0c.mm
 ends 0 '1 tze term 0\n2 tze term 0\n3 tpl term ( 0 + 0 )\n' '' show th first.mm
-begins 0 'Verifies databases of the Metamath language.' '' help
-begins 0 'Verifies databases of the Metamath language.' '' --help
-begins 0 'F1: no file was handed in (by the library alone: the program asks for one).' '' explain
-begins 0 'M5: the label equals an earlier label, also one in a closed block.' '' explain M5
+ends 1 'ask A1 check\n' '' axioms -- check first.mm
+ends 1 'ask A1 --help\n' '' axioms -- --help first.mm
+ends 1 'ask A1 \n' '' axioms '' first.mm
+literal texts.rt >help.txt
+for words in --help -h help 'check --help' 'axioms --help' 'show -h' 'explain -h'; do
+    prints help.txt $words
+done
 if command -v rt >/dev/null 2>&1; then
-    begins 0 "mm 0.1.0, proved with $(rt version)" '' --version
+    printf 'mm 0.1.0, proved with %s\n' "$(rt version)" >version.txt
+    prints version.txt --version
+    prints version.txt -V
+fi
+literal code_lines.rt >codes.txt
+prints codes.txt explain
+explanations >rules.txt
+for code in $(sed 's/:.*//' codes.txt); do
+    "$mm" explain "$code"
+done >told.txt || failures=$((failures + 1))
+if [ ! -s told.txt ] || ! cmp -s told.txt rules.txt; then
+    echo 'statuses.sh: mm explain: the rules are not those of rules.rt' >&2
+    failures=$((failures + 1))
 fi
 ends 1 'no twice.mm 2 - M2 0\n' '' check twice.mm
 ends 1 'no twice.mm 2 - M2 0\n' '' axioms p twice.mm
@@ -79,13 +173,23 @@ ends 1 'ask A2 tze\n' '' axioms tze first.mm
 ends 1 'no twice.mm 2 - M2 0\n' '' show p twice.mm
 ends 1 'ask A1 -\n' '' show - first.mm
 ends 1 'ask A2 tt\n' '' show tt first.mm
-begins 2 '' 'Usage: mm <COMMAND>'
-begins 2 '' 'error: the following required arguments were not provided:' show th
+misused
+misused prove first.mm
+misused check
+misused axioms
+misused show
+misused axioms th
+misused show th
+misused axioms -th first.mm
+misused check --strict first.mm
+misused check -first.mm
+misused help nonsense
+misused explain P8 P9
 begins 2 '' 'error: the following required arguments were not provided:' axioms th
-begins 2 '' 'error: unexpected argument '"'-t'"' found' axioms -th first.mm
-begins 2 '' 'error: unexpected argument '"'--strict'"' found' check --strict first.mm
-begins 2 '' 'error: unexpected argument '"'-f'"' found' check -first.mm
-begins 2 '' 'mm: no rule has the code M222; the nearest is M2' explain M222
+begins 2 '' "error: unexpected argument '--strict' found" check --strict first.mm
+ends 2 '' 'mm: no rule has the code M222; the nearest is M2\n`mm explain` lists all codes\n' explain M222
+ends 2 '' 'mm: no rule has the code p8; the nearest is P8\n`mm explain` lists all codes\n' explain p8
+ends 2 '' 'mm: no rule has the code X0; the nearest is X1\n`mm explain` lists all codes\n' explain X0
 ends 2 '' 'mm: a word is not UTF-8\n' check "$(printf '\377')"
 ends 3 'incomplete 1\nq\n' '' check open.mm
 ends 3 '? q\n' '' axioms r open.mm
@@ -100,6 +204,14 @@ ends 4 '' 'mm: cannot read none.mm\n' axioms th none.mm
 ends 4 '' 'mm: cannot read none.mm\n' show th none.mm
 ends 4 '' 'mm: cannot read .\n' check .
 ends 4 '' 'mm: cannot read none.mm\n' check first.mm none.mm other.mm
+ends 4 '' 'mm: cannot read none.mm\n' check none.mm first.mm
+ends 4 '' 'mm: cannot read -x.mm\n' check -- -x.mm
+ends 4 '' 'mm: cannot read \n' check '' first.mm
+
+# Zeros, one more than the files may hold, of which the file system need not keep any.
+truncate -s 1073741825 long.mm
+ends 4 'load F3\n' '' check long.mm none.mm
+rm long.mm
 
 # A reader that has gone: the reply of 20,000 incomplete proofs passes what a pipe holds.
 {
@@ -117,13 +229,10 @@ if [ "$(cat got.out)" != 'incomplete 20000' ] || [ "$(cat got.status)" != 4 ] ||
 fi
 
 if [ -w /dev/full ]; then
-    status=0
-    "$mm" check first.mm >/dev/full 2>got.err || status=$?
-    printf 'mm: cannot write\n' >wanted.err
-    if [ "$status" != 4 ] || ! cmp -s got.err wanted.err; then
-        echo "statuses.sh: mm check first.mm, with a full device: status $status, wanted 4" >&2
-        failures=$((failures + 1))
-    fi
+    full 4 'mm: cannot write\n' check first.mm
+    full 4 'mm: cannot write\n' help
+    mute 2 check
+    mute 4 check none.mm
 fi
 
 if [ "$failures" != 0 ]; then

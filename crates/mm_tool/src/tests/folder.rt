@@ -1,4 +1,4 @@
-//! A folder in memory, and devices that fail.
+//! A folder in memory.
 
 ghost use Rattle.std.specs.Prelude.{◌≡◌, ⊤, List, ℕ, Some, MatchOption, IfSome, find, option_map};
 ghost use Rattle.std.specs.Prelude.{true};
@@ -7,7 +7,7 @@ ghost use Rattle.std.specs.Str.{bytes_eq};
 use crate::folder::Folder;
 use mm_text::Source;
 use std::io;
-use std::io::{ErrorKind, Read, Write};
+use std::io::{ErrorKind, Read};
 
 /// A file of the folder.
 #[derive(Clone, Copy)]
@@ -72,19 +72,5 @@ impl Folder for Shelf<'_> {
             }),
             None => Err(io::Error::from(ErrorKind::NotFound)),
         }
-    }
-}
-
-/// A device that takes nothing.
-#[derive(Drop)]
-pub(crate) struct Full;
-
-impl Write for Full {
-    fn write(&mut self, _buf: &[u8]) -> io::Result<usize> {
-        Err(io::Error::from(ErrorKind::StorageFull))
-    }
-
-    fn flush(&mut self) -> io::Result<()> {
-        Ok(())
     }
 }
