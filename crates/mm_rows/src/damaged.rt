@@ -5,241 +5,234 @@
 use crate::Part::Times;
 use crate::Row;
 
-/// The places from one to before another, and the reply and the status at each of them.
-pub(crate) struct Span(
-    pub(crate) usize,
-    pub(crate) usize,
-    pub(crate) &'static [u8],
-    pub(crate) u8,
-);
+/// The demonstration database cut after so many bytes: on each line the first place of a span, the
+/// place after its last one, the status, and the reply at each place of it.
+pub(crate) const CUT: &str = "\
+0 1 0 yes 0 statements 0 proofs
+1 2 1 no demo0.mm 1 - X9 0
+2 24 1 no demo0.mm 1 - X2 0
+24 26 0 yes 0 statements 0 proofs
+26 27 1 no demo0.mm 2 - X9 0
+27 54 1 no demo0.mm 2 - X8 0
+54 55 1 no demo0.mm 2 - X9 0
+55 57 0 yes 1 statements 0 proofs
+57 58 1 no demo0.mm 3 - X9 0
+58 70 1 no demo0.mm 3 - X8 0
+70 71 1 no demo0.mm 3 - X9 0
+71 73 0 yes 2 statements 0 proofs
+73 74 1 no demo0.mm 4 t X8 0
+74 76 1 no demo0.mm 4 tt X8 0
+76 77 1 no demo0.mm 4 tt X9 0
+77 86 1 no demo0.mm 4 tt X8 0
+86 87 1 no demo0.mm 4 tt X9 0
+87 89 0 yes 3 statements 0 proofs
+89 90 1 no demo0.mm 5 t X8 0
+90 92 1 no demo0.mm 5 tr X8 0
+92 93 1 no demo0.mm 5 tr X9 0
+93 102 1 no demo0.mm 5 tr X8 0
+102 103 1 no demo0.mm 5 tr X9 0
+103 105 0 yes 4 statements 0 proofs
+105 106 1 no demo0.mm 6 t X8 0
+106 108 1 no demo0.mm 6 ts X8 0
+108 109 1 no demo0.mm 6 ts X9 0
+109 118 1 no demo0.mm 6 ts X8 0
+118 119 1 no demo0.mm 6 ts X9 0
+119 121 0 yes 5 statements 0 proofs
+121 122 1 no demo0.mm 7 w X8 0
+122 124 1 no demo0.mm 7 wp X8 0
+124 125 1 no demo0.mm 7 wp X9 0
+125 133 1 no demo0.mm 7 wp X8 0
+133 134 1 no demo0.mm 7 wp X9 0
+134 136 0 yes 6 statements 0 proofs
+136 137 1 no demo0.mm 8 w X8 0
+137 139 1 no demo0.mm 8 wq X8 0
+139 140 1 no demo0.mm 8 wq X9 0
+140 148 1 no demo0.mm 8 wq X8 0
+148 149 1 no demo0.mm 8 wq X9 0
+149 151 0 yes 7 statements 0 proofs
+151 152 1 no demo0.mm 9 t X8 0
+152 153 1 no demo0.mm 9 tz X8 0
+153 155 1 no demo0.mm 9 tze X8 0
+155 156 1 no demo0.mm 9 tze X9 0
+156 165 1 no demo0.mm 9 tze X8 0
+165 166 1 no demo0.mm 9 tze X9 0
+166 168 0 yes 8 statements 0 proofs
+168 169 1 no demo0.mm 10 t X8 0
+169 170 1 no demo0.mm 10 tp X8 0
+170 172 1 no demo0.mm 10 tpl X8 0
+172 173 1 no demo0.mm 10 tpl X9 0
+173 190 1 no demo0.mm 10 tpl X8 0
+190 191 1 no demo0.mm 10 tpl X9 0
+191 193 0 yes 9 statements 0 proofs
+193 194 1 no demo0.mm 11 w X8 0
+194 195 1 no demo0.mm 11 we X8 0
+195 197 1 no demo0.mm 11 weq X8 0
+197 198 1 no demo0.mm 11 weq X9 0
+198 210 1 no demo0.mm 11 weq X8 0
+210 211 1 no demo0.mm 11 weq X9 0
+211 213 0 yes 10 statements 0 proofs
+213 214 1 no demo0.mm 12 w X8 0
+214 215 1 no demo0.mm 12 wi X8 0
+215 217 1 no demo0.mm 12 wim X8 0
+217 218 1 no demo0.mm 12 wim X9 0
+218 235 1 no demo0.mm 12 wim X8 0
+235 236 1 no demo0.mm 12 wim X9 0
+236 238 0 yes 11 statements 0 proofs
+238 239 1 no demo0.mm 13 a X8 0
+239 241 1 no demo0.mm 13 a1 X8 0
+241 242 1 no demo0.mm 13 a1 X9 0
+242 279 1 no demo0.mm 13 a1 X8 0
+279 280 1 no demo0.mm 13 a1 X9 0
+280 282 0 yes 12 statements 0 proofs
+282 283 1 no demo0.mm 14 a X8 0
+283 285 1 no demo0.mm 14 a2 X8 0
+285 286 1 no demo0.mm 14 a2 X9 0
+286 305 1 no demo0.mm 14 a2 X8 0
+305 306 1 no demo0.mm 14 a2 X9 0
+306 308 0 yes 13 statements 0 proofs
+308 309 1 no demo0.mm 15 - X9 0
+309 313 1 no demo0.mm 15 - S7 0
+313 314 1 no demo0.mm 16 m X8 0
+314 315 1 no demo0.mm 16 mi X8 0
+315 317 1 no demo0.mm 16 min X8 0
+317 318 1 no demo0.mm 16 min X9 0
+318 325 1 no demo0.mm 16 min X8 0
+325 326 1 no demo0.mm 16 min X9 0
+326 330 1 no demo0.mm 15 - S7 0
+330 331 1 no demo0.mm 17 m X8 0
+331 332 1 no demo0.mm 17 ma X8 0
+332 334 1 no demo0.mm 17 maj X8 0
+334 335 1 no demo0.mm 17 maj X9 0
+335 351 1 no demo0.mm 17 maj X8 0
+351 352 1 no demo0.mm 17 maj X9 0
+352 356 1 no demo0.mm 15 - S7 0
+356 357 1 no demo0.mm 18 m X8 0
+357 359 1 no demo0.mm 18 mp X8 0
+359 360 1 no demo0.mm 18 mp X9 0
+360 367 1 no demo0.mm 18 mp X8 0
+367 368 1 no demo0.mm 18 mp X9 0
+368 370 1 no demo0.mm 15 - S7 0
+370 371 1 no demo0.mm 19 - X9 0
+371 373 0 yes 18 statements 0 proofs
+373 374 1 no demo0.mm 20 t X8 0
+374 375 1 no demo0.mm 20 th X8 0
+375 377 1 no demo0.mm 20 th1 X8 0
+377 378 1 no demo0.mm 20 th1 X9 0
+378 389 1 no demo0.mm 20 th1 X8 0
+389 390 1 no demo0.mm 20 th1 X9 0
+390 520 1 no demo0.mm 20 th1 X8 0
+520 521 1 no demo0.mm 23 th1 X9 0
+521 523 0 yes 19 statements 1 proofs
+";
 
-/// The demonstration database cut after so many bytes.
-pub(crate) const CUT: [Span; 115] = [
-    Span(0, 1, b"yes 0 statements 0 proofs\n", 0),
-    Span(1, 2, b"no demo0.mm 1 - X9 0\n", 1),
-    Span(2, 24, b"no demo0.mm 1 - X2 0\n", 1),
-    Span(24, 26, b"yes 0 statements 0 proofs\n", 0),
-    Span(26, 27, b"no demo0.mm 2 - X9 0\n", 1),
-    Span(27, 54, b"no demo0.mm 2 - X8 0\n", 1),
-    Span(54, 55, b"no demo0.mm 2 - X9 0\n", 1),
-    Span(55, 57, b"yes 1 statements 0 proofs\n", 0),
-    Span(57, 58, b"no demo0.mm 3 - X9 0\n", 1),
-    Span(58, 70, b"no demo0.mm 3 - X8 0\n", 1),
-    Span(70, 71, b"no demo0.mm 3 - X9 0\n", 1),
-    Span(71, 73, b"yes 2 statements 0 proofs\n", 0),
-    Span(73, 74, b"no demo0.mm 4 t X8 0\n", 1),
-    Span(74, 76, b"no demo0.mm 4 tt X8 0\n", 1),
-    Span(76, 77, b"no demo0.mm 4 tt X9 0\n", 1),
-    Span(77, 86, b"no demo0.mm 4 tt X8 0\n", 1),
-    Span(86, 87, b"no demo0.mm 4 tt X9 0\n", 1),
-    Span(87, 89, b"yes 3 statements 0 proofs\n", 0),
-    Span(89, 90, b"no demo0.mm 5 t X8 0\n", 1),
-    Span(90, 92, b"no demo0.mm 5 tr X8 0\n", 1),
-    Span(92, 93, b"no demo0.mm 5 tr X9 0\n", 1),
-    Span(93, 102, b"no demo0.mm 5 tr X8 0\n", 1),
-    Span(102, 103, b"no demo0.mm 5 tr X9 0\n", 1),
-    Span(103, 105, b"yes 4 statements 0 proofs\n", 0),
-    Span(105, 106, b"no demo0.mm 6 t X8 0\n", 1),
-    Span(106, 108, b"no demo0.mm 6 ts X8 0\n", 1),
-    Span(108, 109, b"no demo0.mm 6 ts X9 0\n", 1),
-    Span(109, 118, b"no demo0.mm 6 ts X8 0\n", 1),
-    Span(118, 119, b"no demo0.mm 6 ts X9 0\n", 1),
-    Span(119, 121, b"yes 5 statements 0 proofs\n", 0),
-    Span(121, 122, b"no demo0.mm 7 w X8 0\n", 1),
-    Span(122, 124, b"no demo0.mm 7 wp X8 0\n", 1),
-    Span(124, 125, b"no demo0.mm 7 wp X9 0\n", 1),
-    Span(125, 133, b"no demo0.mm 7 wp X8 0\n", 1),
-    Span(133, 134, b"no demo0.mm 7 wp X9 0\n", 1),
-    Span(134, 136, b"yes 6 statements 0 proofs\n", 0),
-    Span(136, 137, b"no demo0.mm 8 w X8 0\n", 1),
-    Span(137, 139, b"no demo0.mm 8 wq X8 0\n", 1),
-    Span(139, 140, b"no demo0.mm 8 wq X9 0\n", 1),
-    Span(140, 148, b"no demo0.mm 8 wq X8 0\n", 1),
-    Span(148, 149, b"no demo0.mm 8 wq X9 0\n", 1),
-    Span(149, 151, b"yes 7 statements 0 proofs\n", 0),
-    Span(151, 152, b"no demo0.mm 9 t X8 0\n", 1),
-    Span(152, 153, b"no demo0.mm 9 tz X8 0\n", 1),
-    Span(153, 155, b"no demo0.mm 9 tze X8 0\n", 1),
-    Span(155, 156, b"no demo0.mm 9 tze X9 0\n", 1),
-    Span(156, 165, b"no demo0.mm 9 tze X8 0\n", 1),
-    Span(165, 166, b"no demo0.mm 9 tze X9 0\n", 1),
-    Span(166, 168, b"yes 8 statements 0 proofs\n", 0),
-    Span(168, 169, b"no demo0.mm 10 t X8 0\n", 1),
-    Span(169, 170, b"no demo0.mm 10 tp X8 0\n", 1),
-    Span(170, 172, b"no demo0.mm 10 tpl X8 0\n", 1),
-    Span(172, 173, b"no demo0.mm 10 tpl X9 0\n", 1),
-    Span(173, 190, b"no demo0.mm 10 tpl X8 0\n", 1),
-    Span(190, 191, b"no demo0.mm 10 tpl X9 0\n", 1),
-    Span(191, 193, b"yes 9 statements 0 proofs\n", 0),
-    Span(193, 194, b"no demo0.mm 11 w X8 0\n", 1),
-    Span(194, 195, b"no demo0.mm 11 we X8 0\n", 1),
-    Span(195, 197, b"no demo0.mm 11 weq X8 0\n", 1),
-    Span(197, 198, b"no demo0.mm 11 weq X9 0\n", 1),
-    Span(198, 210, b"no demo0.mm 11 weq X8 0\n", 1),
-    Span(210, 211, b"no demo0.mm 11 weq X9 0\n", 1),
-    Span(211, 213, b"yes 10 statements 0 proofs\n", 0),
-    Span(213, 214, b"no demo0.mm 12 w X8 0\n", 1),
-    Span(214, 215, b"no demo0.mm 12 wi X8 0\n", 1),
-    Span(215, 217, b"no demo0.mm 12 wim X8 0\n", 1),
-    Span(217, 218, b"no demo0.mm 12 wim X9 0\n", 1),
-    Span(218, 235, b"no demo0.mm 12 wim X8 0\n", 1),
-    Span(235, 236, b"no demo0.mm 12 wim X9 0\n", 1),
-    Span(236, 238, b"yes 11 statements 0 proofs\n", 0),
-    Span(238, 239, b"no demo0.mm 13 a X8 0\n", 1),
-    Span(239, 241, b"no demo0.mm 13 a1 X8 0\n", 1),
-    Span(241, 242, b"no demo0.mm 13 a1 X9 0\n", 1),
-    Span(242, 279, b"no demo0.mm 13 a1 X8 0\n", 1),
-    Span(279, 280, b"no demo0.mm 13 a1 X9 0\n", 1),
-    Span(280, 282, b"yes 12 statements 0 proofs\n", 0),
-    Span(282, 283, b"no demo0.mm 14 a X8 0\n", 1),
-    Span(283, 285, b"no demo0.mm 14 a2 X8 0\n", 1),
-    Span(285, 286, b"no demo0.mm 14 a2 X9 0\n", 1),
-    Span(286, 305, b"no demo0.mm 14 a2 X8 0\n", 1),
-    Span(305, 306, b"no demo0.mm 14 a2 X9 0\n", 1),
-    Span(306, 308, b"yes 13 statements 0 proofs\n", 0),
-    Span(308, 309, b"no demo0.mm 15 - X9 0\n", 1),
-    Span(309, 313, b"no demo0.mm 15 - S7 0\n", 1),
-    Span(313, 314, b"no demo0.mm 16 m X8 0\n", 1),
-    Span(314, 315, b"no demo0.mm 16 mi X8 0\n", 1),
-    Span(315, 317, b"no demo0.mm 16 min X8 0\n", 1),
-    Span(317, 318, b"no demo0.mm 16 min X9 0\n", 1),
-    Span(318, 325, b"no demo0.mm 16 min X8 0\n", 1),
-    Span(325, 326, b"no demo0.mm 16 min X9 0\n", 1),
-    Span(326, 330, b"no demo0.mm 15 - S7 0\n", 1),
-    Span(330, 331, b"no demo0.mm 17 m X8 0\n", 1),
-    Span(331, 332, b"no demo0.mm 17 ma X8 0\n", 1),
-    Span(332, 334, b"no demo0.mm 17 maj X8 0\n", 1),
-    Span(334, 335, b"no demo0.mm 17 maj X9 0\n", 1),
-    Span(335, 351, b"no demo0.mm 17 maj X8 0\n", 1),
-    Span(351, 352, b"no demo0.mm 17 maj X9 0\n", 1),
-    Span(352, 356, b"no demo0.mm 15 - S7 0\n", 1),
-    Span(356, 357, b"no demo0.mm 18 m X8 0\n", 1),
-    Span(357, 359, b"no demo0.mm 18 mp X8 0\n", 1),
-    Span(359, 360, b"no demo0.mm 18 mp X9 0\n", 1),
-    Span(360, 367, b"no demo0.mm 18 mp X8 0\n", 1),
-    Span(367, 368, b"no demo0.mm 18 mp X9 0\n", 1),
-    Span(368, 370, b"no demo0.mm 15 - S7 0\n", 1),
-    Span(370, 371, b"no demo0.mm 19 - X9 0\n", 1),
-    Span(371, 373, b"yes 18 statements 0 proofs\n", 0),
-    Span(373, 374, b"no demo0.mm 20 t X8 0\n", 1),
-    Span(374, 375, b"no demo0.mm 20 th X8 0\n", 1),
-    Span(375, 377, b"no demo0.mm 20 th1 X8 0\n", 1),
-    Span(377, 378, b"no demo0.mm 20 th1 X9 0\n", 1),
-    Span(378, 389, b"no demo0.mm 20 th1 X8 0\n", 1),
-    Span(389, 390, b"no demo0.mm 20 th1 X9 0\n", 1),
-    Span(390, 520, b"no demo0.mm 20 th1 X8 0\n", 1),
-    Span(520, 521, b"no demo0.mm 23 th1 X9 0\n", 1),
-    Span(521, 523, b"yes 19 statements 1 proofs\n", 0),
-];
-
-/// The demonstration database with the byte in a place replaced by a dollar sign.
-pub(crate) const WITH_DOLLAR: [Span; 105] = [
-    Span(0, 1, b"yes 19 statements 1 proofs\n", 0),
-    Span(1, 3, b"no demo0.mm 1 - X9 0\n", 1),
-    Span(3, 21, b"yes 19 statements 1 proofs\n", 0),
-    Span(21, 22, b"no demo0.mm 1 - X3 0\n", 1),
-    Span(22, 23, b"yes 19 statements 1 proofs\n", 0),
-    Span(23, 24, b"no demo0.mm 1 - X2 0\n", 1),
-    Span(24, 25, b"no demo0.mm 1 - X3 0\n", 1),
-    Span(25, 26, b"yes 19 statements 1 proofs\n", 0),
-    Span(26, 53, b"no demo0.mm 2 - X9 0\n", 1),
-    Span(53, 54, b"yes 19 statements 1 proofs\n", 0),
-    Span(54, 56, b"no demo0.mm 2 - X9 0\n", 1),
-    Span(56, 57, b"yes 19 statements 1 proofs\n", 0),
-    Span(57, 69, b"no demo0.mm 3 - X9 0\n", 1),
-    Span(69, 70, b"yes 19 statements 1 proofs\n", 0),
-    Span(70, 72, b"no demo0.mm 3 - X9 0\n", 1),
-    Span(72, 75, b"no demo0.mm 4 - X9 0\n", 1),
-    Span(75, 76, b"yes 19 statements 1 proofs\n", 0),
-    Span(76, 85, b"no demo0.mm 4 tt X9 0\n", 1),
-    Span(85, 86, b"yes 19 statements 1 proofs\n", 0),
-    Span(86, 88, b"no demo0.mm 4 tt X9 0\n", 1),
-    Span(88, 91, b"no demo0.mm 5 - X9 0\n", 1),
-    Span(91, 92, b"yes 19 statements 1 proofs\n", 0),
-    Span(92, 101, b"no demo0.mm 5 tr X9 0\n", 1),
-    Span(101, 102, b"yes 19 statements 1 proofs\n", 0),
-    Span(102, 104, b"no demo0.mm 5 tr X9 0\n", 1),
-    Span(104, 107, b"no demo0.mm 6 - X9 0\n", 1),
-    Span(107, 108, b"yes 19 statements 1 proofs\n", 0),
-    Span(108, 117, b"no demo0.mm 6 ts X9 0\n", 1),
-    Span(117, 118, b"yes 19 statements 1 proofs\n", 0),
-    Span(118, 120, b"no demo0.mm 6 ts X9 0\n", 1),
-    Span(120, 121, b"no demo0.mm 7 - S1 0\n", 1),
-    Span(121, 123, b"no demo0.mm 7 - X9 0\n", 1),
-    Span(123, 124, b"yes 19 statements 1 proofs\n", 0),
-    Span(124, 132, b"no demo0.mm 7 wp X9 0\n", 1),
-    Span(132, 133, b"yes 19 statements 1 proofs\n", 0),
-    Span(133, 135, b"no demo0.mm 7 wp X9 0\n", 1),
-    Span(135, 138, b"no demo0.mm 8 - X9 0\n", 1),
-    Span(138, 139, b"yes 19 statements 1 proofs\n", 0),
-    Span(139, 147, b"no demo0.mm 8 wq X9 0\n", 1),
-    Span(147, 148, b"yes 19 statements 1 proofs\n", 0),
-    Span(148, 150, b"no demo0.mm 8 wq X9 0\n", 1),
-    Span(150, 154, b"no demo0.mm 9 - X9 0\n", 1),
-    Span(154, 155, b"yes 19 statements 1 proofs\n", 0),
-    Span(155, 164, b"no demo0.mm 9 tze X9 0\n", 1),
-    Span(164, 165, b"yes 19 statements 1 proofs\n", 0),
-    Span(165, 167, b"no demo0.mm 9 tze X9 0\n", 1),
-    Span(167, 171, b"no demo0.mm 10 - X9 0\n", 1),
-    Span(171, 172, b"yes 19 statements 1 proofs\n", 0),
-    Span(172, 189, b"no demo0.mm 10 tpl X9 0\n", 1),
-    Span(189, 190, b"yes 19 statements 1 proofs\n", 0),
-    Span(190, 192, b"no demo0.mm 10 tpl X9 0\n", 1),
-    Span(192, 196, b"no demo0.mm 11 - X9 0\n", 1),
-    Span(196, 197, b"yes 19 statements 1 proofs\n", 0),
-    Span(197, 209, b"no demo0.mm 11 weq X9 0\n", 1),
-    Span(209, 210, b"yes 19 statements 1 proofs\n", 0),
-    Span(210, 212, b"no demo0.mm 11 weq X9 0\n", 1),
-    Span(212, 216, b"no demo0.mm 12 - X9 0\n", 1),
-    Span(216, 217, b"yes 19 statements 1 proofs\n", 0),
-    Span(217, 234, b"no demo0.mm 12 wim X9 0\n", 1),
-    Span(234, 235, b"yes 19 statements 1 proofs\n", 0),
-    Span(235, 237, b"no demo0.mm 12 wim X9 0\n", 1),
-    Span(237, 240, b"no demo0.mm 13 - X9 0\n", 1),
-    Span(240, 241, b"yes 19 statements 1 proofs\n", 0),
-    Span(241, 278, b"no demo0.mm 13 a1 X9 0\n", 1),
-    Span(278, 279, b"yes 19 statements 1 proofs\n", 0),
-    Span(279, 281, b"no demo0.mm 13 a1 X9 0\n", 1),
-    Span(281, 284, b"no demo0.mm 14 - X9 0\n", 1),
-    Span(284, 285, b"yes 19 statements 1 proofs\n", 0),
-    Span(285, 304, b"no demo0.mm 14 a2 X9 0\n", 1),
-    Span(304, 305, b"yes 19 statements 1 proofs\n", 0),
-    Span(305, 307, b"no demo0.mm 14 a2 X9 0\n", 1),
-    Span(307, 308, b"yes 19 statements 1 proofs\n", 0),
-    Span(308, 310, b"no demo0.mm 15 - X9 0\n", 1),
-    Span(310, 316, b"no demo0.mm 16 - X9 0\n", 1),
-    Span(316, 317, b"yes 19 statements 1 proofs\n", 0),
-    Span(317, 324, b"no demo0.mm 16 min X9 0\n", 1),
-    Span(324, 325, b"yes 19 statements 1 proofs\n", 0),
-    Span(325, 327, b"no demo0.mm 16 min X9 0\n", 1),
-    Span(327, 333, b"no demo0.mm 17 - X9 0\n", 1),
-    Span(333, 334, b"yes 19 statements 1 proofs\n", 0),
-    Span(334, 350, b"no demo0.mm 17 maj X9 0\n", 1),
-    Span(350, 351, b"yes 19 statements 1 proofs\n", 0),
-    Span(351, 353, b"no demo0.mm 17 maj X9 0\n", 1),
-    Span(353, 355, b"no demo0.mm 18 - X9 0\n", 1),
-    Span(355, 356, b"no demo0.mm 18 - S1 0\n", 1),
-    Span(356, 358, b"no demo0.mm 18 - X9 0\n", 1),
-    Span(358, 359, b"yes 19 statements 1 proofs\n", 0),
-    Span(359, 366, b"no demo0.mm 18 mp X9 0\n", 1),
-    Span(366, 367, b"yes 19 statements 1 proofs\n", 0),
-    Span(367, 369, b"no demo0.mm 18 mp X9 0\n", 1),
-    Span(369, 370, b"yes 19 statements 1 proofs\n", 0),
-    Span(370, 372, b"no demo0.mm 19 - X9 0\n", 1),
-    Span(372, 376, b"no demo0.mm 20 - X9 0\n", 1),
-    Span(376, 377, b"yes 19 statements 1 proofs\n", 0),
-    Span(377, 388, b"no demo0.mm 20 th1 X9 0\n", 1),
-    Span(388, 389, b"yes 19 statements 1 proofs\n", 0),
-    Span(389, 391, b"no demo0.mm 20 th1 X9 0\n", 1),
-    Span(391, 470, b"no demo0.mm 21 th1 X9 0\n", 1),
-    Span(470, 513, b"no demo0.mm 22 th1 X9 0\n", 1),
-    Span(513, 514, b"no demo0.mm 22 th1 S4 0\n", 1),
-    Span(514, 516, b"no demo0.mm 22 th1 X9 0\n", 1),
-    Span(516, 517, b"no demo0.mm 22 th1 S4 0\n", 1),
-    Span(517, 519, b"no demo0.mm 22 th1 X9 0\n", 1),
-    Span(519, 520, b"yes 19 statements 1 proofs\n", 0),
-    Span(520, 522, b"no demo0.mm 23 th1 X9 0\n", 1),
-];
+/// The demonstration database with the byte in a place replaced by a dollar sign, likewise.
+pub(crate) const WITH_DOLLAR: &str = "\
+0 1 0 yes 19 statements 1 proofs
+1 3 1 no demo0.mm 1 - X9 0
+3 21 0 yes 19 statements 1 proofs
+21 22 1 no demo0.mm 1 - X3 0
+22 23 0 yes 19 statements 1 proofs
+23 24 1 no demo0.mm 1 - X2 0
+24 25 1 no demo0.mm 1 - X3 0
+25 26 0 yes 19 statements 1 proofs
+26 53 1 no demo0.mm 2 - X9 0
+53 54 0 yes 19 statements 1 proofs
+54 56 1 no demo0.mm 2 - X9 0
+56 57 0 yes 19 statements 1 proofs
+57 69 1 no demo0.mm 3 - X9 0
+69 70 0 yes 19 statements 1 proofs
+70 72 1 no demo0.mm 3 - X9 0
+72 75 1 no demo0.mm 4 - X9 0
+75 76 0 yes 19 statements 1 proofs
+76 85 1 no demo0.mm 4 tt X9 0
+85 86 0 yes 19 statements 1 proofs
+86 88 1 no demo0.mm 4 tt X9 0
+88 91 1 no demo0.mm 5 - X9 0
+91 92 0 yes 19 statements 1 proofs
+92 101 1 no demo0.mm 5 tr X9 0
+101 102 0 yes 19 statements 1 proofs
+102 104 1 no demo0.mm 5 tr X9 0
+104 107 1 no demo0.mm 6 - X9 0
+107 108 0 yes 19 statements 1 proofs
+108 117 1 no demo0.mm 6 ts X9 0
+117 118 0 yes 19 statements 1 proofs
+118 120 1 no demo0.mm 6 ts X9 0
+120 121 1 no demo0.mm 7 - S1 0
+121 123 1 no demo0.mm 7 - X9 0
+123 124 0 yes 19 statements 1 proofs
+124 132 1 no demo0.mm 7 wp X9 0
+132 133 0 yes 19 statements 1 proofs
+133 135 1 no demo0.mm 7 wp X9 0
+135 138 1 no demo0.mm 8 - X9 0
+138 139 0 yes 19 statements 1 proofs
+139 147 1 no demo0.mm 8 wq X9 0
+147 148 0 yes 19 statements 1 proofs
+148 150 1 no demo0.mm 8 wq X9 0
+150 154 1 no demo0.mm 9 - X9 0
+154 155 0 yes 19 statements 1 proofs
+155 164 1 no demo0.mm 9 tze X9 0
+164 165 0 yes 19 statements 1 proofs
+165 167 1 no demo0.mm 9 tze X9 0
+167 171 1 no demo0.mm 10 - X9 0
+171 172 0 yes 19 statements 1 proofs
+172 189 1 no demo0.mm 10 tpl X9 0
+189 190 0 yes 19 statements 1 proofs
+190 192 1 no demo0.mm 10 tpl X9 0
+192 196 1 no demo0.mm 11 - X9 0
+196 197 0 yes 19 statements 1 proofs
+197 209 1 no demo0.mm 11 weq X9 0
+209 210 0 yes 19 statements 1 proofs
+210 212 1 no demo0.mm 11 weq X9 0
+212 216 1 no demo0.mm 12 - X9 0
+216 217 0 yes 19 statements 1 proofs
+217 234 1 no demo0.mm 12 wim X9 0
+234 235 0 yes 19 statements 1 proofs
+235 237 1 no demo0.mm 12 wim X9 0
+237 240 1 no demo0.mm 13 - X9 0
+240 241 0 yes 19 statements 1 proofs
+241 278 1 no demo0.mm 13 a1 X9 0
+278 279 0 yes 19 statements 1 proofs
+279 281 1 no demo0.mm 13 a1 X9 0
+281 284 1 no demo0.mm 14 - X9 0
+284 285 0 yes 19 statements 1 proofs
+285 304 1 no demo0.mm 14 a2 X9 0
+304 305 0 yes 19 statements 1 proofs
+305 307 1 no demo0.mm 14 a2 X9 0
+307 308 0 yes 19 statements 1 proofs
+308 310 1 no demo0.mm 15 - X9 0
+310 316 1 no demo0.mm 16 - X9 0
+316 317 0 yes 19 statements 1 proofs
+317 324 1 no demo0.mm 16 min X9 0
+324 325 0 yes 19 statements 1 proofs
+325 327 1 no demo0.mm 16 min X9 0
+327 333 1 no demo0.mm 17 - X9 0
+333 334 0 yes 19 statements 1 proofs
+334 350 1 no demo0.mm 17 maj X9 0
+350 351 0 yes 19 statements 1 proofs
+351 353 1 no demo0.mm 17 maj X9 0
+353 355 1 no demo0.mm 18 - X9 0
+355 356 1 no demo0.mm 18 - S1 0
+356 358 1 no demo0.mm 18 - X9 0
+358 359 0 yes 19 statements 1 proofs
+359 366 1 no demo0.mm 18 mp X9 0
+366 367 0 yes 19 statements 1 proofs
+367 369 1 no demo0.mm 18 mp X9 0
+369 370 0 yes 19 statements 1 proofs
+370 372 1 no demo0.mm 19 - X9 0
+372 376 1 no demo0.mm 20 - X9 0
+376 377 0 yes 19 statements 1 proofs
+377 388 1 no demo0.mm 20 th1 X9 0
+388 389 0 yes 19 statements 1 proofs
+389 391 1 no demo0.mm 20 th1 X9 0
+391 470 1 no demo0.mm 21 th1 X9 0
+470 513 1 no demo0.mm 22 th1 X9 0
+513 514 1 no demo0.mm 22 th1 S4 0
+514 516 1 no demo0.mm 22 th1 X9 0
+516 517 1 no demo0.mm 22 th1 S4 0
+517 519 1 no demo0.mm 22 th1 X9 0
+519 520 0 yes 19 statements 1 proofs
+520 522 1 no demo0.mm 23 th1 X9 0
+";
 
 /// Blocks inside each other.
 pub(crate) const NESTED_BLOCKS: [Row; 2] = [

@@ -2,10 +2,12 @@
 
 use crate::Part::Text;
 use crate::Row;
+use crate::tests::{compare, compare_questions};
 use mm_check::Command::{self, Axioms, Show};
+use std::test::Fail;
 
 /// The examples of `docs/LANGUAGE.md`.
-pub(crate) const LANGUAGE: [Row; 9] = [
+const LANGUAGE: [Row; 9] = [
     Row {
         name: "Comments (book, 4.1.2 and 4.4.1), in docs/LANGUAGE.md",
         files: &[(b"f.mm", &[Text(b"$( A constant, $( in a comment.\n")])],
@@ -168,8 +170,13 @@ pub(crate) const LANGUAGE: [Row; 9] = [
     },
 ];
 
+#[test]
+fn language(rt: HostRuntime) -> Result<(), Fail> {
+    compare(&rt, rt.alloc(), &LANGUAGE)
+}
+
 /// The examples of `docs/RULES.md`.
-pub(crate) const RULES: [Row; 69] = [
+const RULES_1: [Row; 9] = [
     Row {
         name: "X1, in docs/RULES.md",
         files: &[(b"f.mm", &[Text(b"$c \xc3\xa9 $.\n")])],
@@ -224,6 +231,15 @@ pub(crate) const RULES: [Row; 69] = [
         reply: b"no f.mm 1 - X4 0\n",
         status: 1,
     },
+];
+
+#[test]
+fn rules_1(rt: HostRuntime) -> Result<(), Fail> {
+    compare(&rt, rt.alloc(), &RULES_1)
+}
+
+/// The next examples of `docs/RULES.md`.
+const RULES_2: [Row; 9] = [
     Row {
         name: "X5, in docs/RULES.md",
         files: &[(b"f.mm", &[Text(b"$[ $]\n")])],
@@ -281,6 +297,15 @@ pub(crate) const RULES: [Row; 69] = [
         reply: b"no f.mm 2 - X9 0\n",
         status: 1,
     },
+];
+
+#[test]
+fn rules_2(rt: HostRuntime) -> Result<(), Fail> {
+    compare(&rt, rt.alloc(), &RULES_2)
+}
+
+/// The next examples of `docs/RULES.md`.
+const RULES_3: [Row; 9] = [
     Row {
         name: "S1, in docs/RULES.md",
         files: &[(b"f.mm", &[Text(b"$a x $.\n")])],
@@ -335,6 +360,15 @@ pub(crate) const RULES: [Row; 69] = [
         reply: b"no f.mm 1 - S6 0\n",
         status: 1,
     },
+];
+
+#[test]
+fn rules_3(rt: HostRuntime) -> Result<(), Fail> {
+    compare(&rt, rt.alloc(), &RULES_3)
+}
+
+/// The next examples of `docs/RULES.md`.
+const RULES_4: [Row; 9] = [
     Row {
         name: "S7, in docs/RULES.md",
         files: &[(b"f.mm", &[Text(b"$c a $.\n${\n${\n$}\n")])],
@@ -392,6 +426,15 @@ pub(crate) const RULES: [Row; 69] = [
         reply: b"no f.mm 2 p M5 0\n",
         status: 1,
     },
+];
+
+#[test]
+fn rules_4(rt: HostRuntime) -> Result<(), Fail> {
+    compare(&rt, rt.alloc(), &RULES_4)
+}
+
+/// The next examples of `docs/RULES.md`.
+const RULES_5: [Row; 9] = [
     Row {
         name: "M6, in docs/RULES.md",
         files: &[(b"f.mm", &[Text(b"$c a $. a $a a $.\n")])],
@@ -456,6 +499,15 @@ pub(crate) const RULES: [Row; 69] = [
         reply: b"no f.mm 3 gx M13 0\n",
         status: 1,
     },
+];
+
+#[test]
+fn rules_5(rt: HostRuntime) -> Result<(), Fail> {
+    compare(&rt, rt.alloc(), &RULES_5)
+}
+
+/// The next examples of `docs/RULES.md`.
+const RULES_6: [Row; 9] = [
     Row {
         name: "M14, in docs/RULES.md",
         files: &[(b"f.mm", &[Text(b"$v x $. p $a x $.\n")])],
@@ -528,6 +580,15 @@ pub(crate) const RULES: [Row; 69] = [
         reply: b"no f.mm 2 p P5 0\n",
         status: 1,
     },
+];
+
+#[test]
+fn rules_6(rt: HostRuntime) -> Result<(), Fail> {
+    compare(&rt, rt.alloc(), &RULES_6)
+}
+
+/// The next examples of `docs/RULES.md`.
+const RULES_7: [Row; 9] = [
     Row {
         name: "P6, in docs/RULES.md",
         files: &[(
@@ -633,6 +694,15 @@ pub(crate) const RULES: [Row; 69] = [
         reply: b"yes 12 statements 1 proofs\n",
         status: 0,
     },
+];
+
+#[test]
+fn rules_7(rt: HostRuntime) -> Result<(), Fail> {
+    compare(&rt, rt.alloc(), &RULES_7)
+}
+
+/// The next examples of `docs/RULES.md`.
+const RULES_8: [Row; 6] = [
     Row {
         name: "L1, in docs/RULES.md",
         files: &[(
@@ -694,8 +764,13 @@ pub(crate) const RULES: [Row; 69] = [
     },
 ];
 
+#[test]
+fn rules_8(rt: HostRuntime) -> Result<(), Fail> {
+    compare(&rt, rt.alloc(), &RULES_8)
+}
+
 /// The questions among these examples.
-pub(crate) const QUESTIONS: [(Command<'static>, Row); 3] = [
+const QUESTIONS: [(Command<'static>, Row); 3] = [
     (
         Axioms { label: b"b" },
         Row {
@@ -733,3 +808,8 @@ pub(crate) const QUESTIONS: [(Command<'static>, Row); 3] = [
         },
     ),
 ];
+
+#[test]
+fn questions(rt: HostRuntime) -> Result<(), Fail> {
+    compare_questions(&rt, rt.alloc(), &QUESTIONS)
+}

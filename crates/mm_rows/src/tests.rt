@@ -1,10 +1,8 @@
-//! Each table of cases is one test.
+//! Each table of cases is one test. Those of the documents' examples stand with their tables.
 
-use crate::damaged::Span;
 use crate::databases::{DEMO, HEAD};
 use crate::{
-    Part, Row, compressed, damaged, examples, files, incomplete, one_file, orders, proofs,
-    questions, scopes,
+    Part, Row, compressed, damaged, files, incomplete, one_file, orders, proofs, questions, scopes,
 };
 use mm_check::{Command, check, run};
 use mm_text::{Counted, File, Statement, Statements};
@@ -41,12 +39,8 @@ fn expect_reply(
     let mut out = Counted::new(Vec::new(alloc));
     let answered = run(alloc, command, files, &mut out)?;
     let written = out.into_inner();
-    assert_eq!(rt;
-        from_utf8(&written)?,
-        from_utf8(reply)?,
-        "in the case {name}"
-    );
-    assert_eq!(rt; answered.number(), status, "in the case {name}");
+    let is_right = written.as_slice() == reply && answered.number() == status;
+    assert!(rt; is_right, "in the case {name}: {}", from_utf8(&written)?);
     Ok(())
 }
 
@@ -74,7 +68,7 @@ fn compare_case(rt: &impl Abort, alloc: Global, command: &Command, row: &Row) ->
 }
 
 /// Runs the cases of a table of `check`.
-fn compare(rt: &impl Abort, alloc: Global, rows: &[Row]) -> Result<(), Fail> {
+pub(crate) fn compare(rt: &impl Abort, alloc: Global, rows: &[Row]) -> Result<(), Fail> {
     for row in rows {
         compare_case(rt, alloc, &Command::Check, row)?;
     }
@@ -82,7 +76,7 @@ fn compare(rt: &impl Abort, alloc: Global, rows: &[Row]) -> Result<(), Fail> {
 }
 
 /// Runs the cases of a table of questions.
-fn compare_questions(
+pub(crate) fn compare_questions(
     rt: &impl Abort,
     alloc: Global,
     rows: &[(Command<'static>, Row)],
@@ -253,21 +247,6 @@ fn nested_blocks(rt: HostRuntime) -> Result<(), Fail> {
 }
 
 #[test]
-fn language(rt: HostRuntime) -> Result<(), Fail> {
-    compare(&rt, rt.alloc(), &examples::LANGUAGE)
-}
-
-#[test]
-fn rules(rt: HostRuntime) -> Result<(), Fail> {
-    compare(&rt, rt.alloc(), &examples::RULES)
-}
-
-#[test]
-fn questions_of_the_documents(rt: HostRuntime) -> Result<(), Fail> {
-    compare_questions(&rt, rt.alloc(), &examples::QUESTIONS)
-}
-
-#[test]
 fn axioms(rt: HostRuntime) -> Result<(), Fail> {
     compare_questions(&rt, rt.alloc(), &questions::AXIOMS)
 }
@@ -318,31 +297,62 @@ fn damaged_at(alloc: Global, damage: Damage, place: usize) -> Result<Vec<u8>, Fa
     Ok(bytes)
 }
 
+/// The places from one to before another, and the reply and the status at each of them.
+#[derive(Clone, Copy)]
+struct Span<'a> {
+    first: usize,
+    end: usize,
+    status: u8,
+    reply: &'a str,
+}
+
+/// The span that a line of a table tells.
+fn span_of(line: &str) -> Option<Span<'_>> {
+    let (first, rest) = line.split_once(' ')?;
+    let (end, rest) = rest.split_once(' ')?;
+    let (status, reply) = rest.split_once(' ')?;
+    Some(Span {
+        first: first.parse().ok()?,
+        end: end.parse().ok()?,
+        status: status.parse().ok()?,
+        reply,
+    })
+}
+
+/// Checks the demonstration database with each place of a span damaged, which a line of a table
+/// tells.
+fn sweep_span(rt: &impl Abort, alloc: Global, damage: Damage, line: &str) -> Result<(), Fail> {
+    let span = span_of(line).ok_or("a line of the table")?;
+    let mut reply = Vec::from_slice(alloc, span.reply.as_bytes())?;
+    reply.push(b'\n')?;
+    for place in span.first..span.end {
+        let bytes = damaged_at(alloc, damage, place)?;
+        let files = [File {
+            name: b"demo0.mm",
+            bytes: bytes.as_slice(),
+        }];
+        let wanted = (reply.as_slice(), span.status);
+        expect_reply(rt, alloc, &Command::Check, &files, wanted, line)?;
+    }
+    Ok(())
+}
+
 /// Checks the demonstration database with each place of the spans damaged.
-fn sweep(rt: &impl Abort, alloc: Global, damage: Damage, spans: &[Span]) -> Result<(), Fail> {
-    for Span(first, end, reply, status) in spans {
-        for place in *first..*end {
-            let bytes = damaged_at(alloc, damage, place)?;
-            let files = [File {
-                name: b"demo0.mm",
-                bytes: bytes.as_slice(),
-            }];
-            let name = format!(in alloc; "place {place} damaged")?;
-            let wanted = (*reply, *status);
-            expect_reply(rt, alloc, &Command::Check, &files, wanted, name.as_str())?;
-        }
+fn sweep(rt: &impl Abort, alloc: Global, damage: Damage, spans: &str) -> Result<(), Fail> {
+    for line in spans.lines() {
+        sweep_span(rt, alloc, damage, line)?;
     }
     Ok(())
 }
 
 #[test]
 fn cut(rt: HostRuntime) -> Result<(), Fail> {
-    sweep(&rt, rt.alloc(), Damage::Cut, &damaged::CUT)
+    sweep(&rt, rt.alloc(), Damage::Cut, damaged::CUT)
 }
 
 #[test]
 fn with_dollar(rt: HostRuntime) -> Result<(), Fail> {
-    sweep(&rt, rt.alloc(), Damage::Put(b'$'), &damaged::WITH_DOLLAR)
+    sweep(&rt, rt.alloc(), Damage::Put(b'$'), damaged::WITH_DOLLAR)
 }
 
 #[test]
