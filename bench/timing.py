@@ -111,8 +111,10 @@ def install(*packages):
 def program(given=None):
     """The program to be measured: the one given, or the one that the launcher builds.
 
-    It is called directly, since the launcher looks for changed sources at each call.
+    It is called directly, since the launcher looks for changed sources at each call. What the
+    launcher sets for it, large pages, is set for every program that is measured.
     """
+    os.environ["GLIBC_TUNABLES"] = "glibc.malloc.hugetlb=1"
     try:
         subprocess.run([given or LAUNCHER, "--version"], stdout=subprocess.DEVNULL, check=True)
     except (OSError, subprocess.CalledProcessError) as error:

@@ -4,7 +4,7 @@ use crate::databases::{DEMO, HEAD};
 use crate::{
     Part, Row, compressed, damaged, files, incomplete, one_file, orders, proofs, questions, scopes,
 };
-use mm_check::{Command, check, run};
+use mm_check::{Checked, Command, RunFault, check, run};
 use mm_text::{Counted, File, Statement, Statements};
 use std::alloc::Global;
 use std::process::Abort;
@@ -27,20 +27,30 @@ fn joined(alloc: Global, parts: &[Part]) -> Result<Vec<u8>, Fail> {
     Ok(bytes)
 }
 
+/// What a command replies to the files, and its status.
+fn reply_to(
+    alloc: Global,
+    command: &Command,
+    files: &[File<'_>],
+) -> Result<(Vec<u8>, u8), RunFault> {
+    let mut out = Counted::new(Vec::new(alloc));
+    let status = run(alloc, command, files, &mut out)?;
+    Ok((out.into_inner(), status.number()))
+}
+
 /// What a command replies to the files is this text, with this status.
 fn expect_reply(
     rt: &impl Abort,
     alloc: Global,
     command: &Command,
     files: &[File<'_>],
-    (reply, status): (&[u8], u8),
+    wanted: (&[u8], u8),
     name: &str,
 ) -> Result<(), Fail> {
-    let mut out = Counted::new(Vec::new(alloc));
-    let answered = run(alloc, command, files, &mut out)?;
-    let written = out.into_inner();
-    let is_right = written.as_slice() == reply && answered.number() == status;
-    assert!(rt; is_right, "in the case {name}: {}", from_utf8(&written)?);
+    let (reply, status) = reply_to(alloc, command, files)?;
+    let is_wanted = (reply.as_slice(), status) == wanted;
+    let text = from_utf8(&reply)?;
+    assert!(rt; is_wanted, "in the case {name}: {text}");
     Ok(())
 }
 
@@ -157,6 +167,11 @@ fn listed(rt: HostRuntime) -> Result<(), Fail> {
     compare(&rt, rt.alloc(), &incomplete::LISTED)
 }
 
+/// How many statements and complete proofs there are.
+fn counts(checked: &Checked) -> (usize, usize) {
+    (checked.statements(), checked.proofs())
+}
+
 #[test]
 fn counted_beside_incomplete(rt: HostRuntime) -> Result<(), Fail> {
     let mut bytes = Vec::from_slice(rt.alloc(), HEAD)?;
@@ -166,13 +181,11 @@ fn counted_beside_incomplete(rt: HostRuntime) -> Result<(), Fail> {
         bytes: bytes.as_slice(),
     }];
     let checked = check(rt.alloc(), &files)?;
-    assert!(rt; !checked.is_complete());
-    assert_eq!(rt; checked.statements(), 20);
-    assert_eq!(rt; checked.proofs(), 1);
-    match checked.incomplete() {
-        [only] => assert_eq!(rt; checked.name(*only), b"u1".as_slice()),
-        _ => panic!(rt; "one proof is incomplete"),
-    }
+    assert!(rt; counts(&checked) == (20, 1));
+    let [only] = checked.incomplete() else {
+        return Err(Fail::from("one proof is incomplete"));
+    };
+    assert!(rt; checked.name(*only) == b"u1".as_slice());
     Ok(())
 }
 
