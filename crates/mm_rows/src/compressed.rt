@@ -5,7 +5,7 @@ use crate::Row;
 use crate::databases::{CAT, DEMO_COMPRESSED, DIST, FIRST_HEAD, HEAD, LIMIT};
 
 /// Compressed proofs that are accepted.
-pub(crate) const ACCEPTED: [Row; 13] = [
+pub(crate) const ACCEPTED: [Row; 10] = [
     Row {
         name: "the compressed demonstration database",
         files: &[(b"demo0c.mm", &[Text(DEMO_COMPRESSED)])],
@@ -77,53 +77,6 @@ pub(crate) const ACCEPTED: [Row; 13] = [
         status: 0,
     },
     Row {
-        name: "the longest expression a step may push",
-        files: &[(
-            b"limit.mm",
-            &[
-                Text(LIMIT),
-                Text(b"th $p f $= ( one odd end ) A"),
-                Times(b"B", 19),
-                Text(b"ZDC $.\n"),
-            ],
-        )],
-        reply: b"yes 10 statements 1 proofs\n",
-        status: 0,
-    },
-    Row {
-        name: "a proof whose expansion has millions of labels",
-        files: &[(
-            b"cat.mm",
-            &[
-                Text(CAT),
-                Text(b"th $p e $= ( nil cat ) "),
-                Text(b"AABZCBZDBZEBZFBZGBZHBZIBZJBZKBZLBZMBZNBZOBZPBZQBZRBZSBZTBZUA"),
-                Text(b"BZUBBZUCBZUDBZUEB $.\n"),
-            ],
-        )],
-        reply: b"yes 7 statements 1 proofs\n",
-        status: 0,
-    },
-    Row {
-        name: "a proof of one hundred doublings",
-        files: &[(
-            b"cat.mm",
-            &[
-                Text(CAT),
-                Text(b"th $p e $= ( nil cat ) "),
-                Text(b"AABZCBZDBZEBZFBZGBZHBZIBZJBZKBZLBZMBZNBZOBZPBZQBZRBZSBZTBZUA"),
-                Text(b"BZUBBZUCBZUDBZUEBZUFBZUGBZUHBZUIBZUJBZUKBZULBZUMBZUNBZUOBZUP"),
-                Text(b"BZUQBZURBZUSBZUTBZVABZVBBZVCBZVDBZVEBZVFBZVGBZVHBZVIBZVJBZVK"),
-                Text(b"BZVLBZVMBZVNBZVOBZVPBZVQBZVRBZVSBZVTBZWABZWBBZWCBZWDBZWEBZWF"),
-                Text(b"BZWGBZWHBZWIBZWJBZWKBZWLBZWMBZWNBZWOBZWPBZWQBZWRBZWSBZWTBZXA"),
-                Text(b"BZXBBZXCBZXDBZXEBZXFBZXGBZXHBZXIBZXJBZXKBZXLBZXMBZXNBZXOBZXP"),
-                Text(b"BZXQBZXRBZXSBZXTBZYAB $.\n"),
-            ],
-        )],
-        reply: b"yes 7 statements 1 proofs\n",
-        status: 0,
-    },
-    Row {
         name: "a compressed proof in a small database",
         files: &[(
             b"first.mm",
@@ -174,8 +127,59 @@ pub(crate) const ACCEPTED: [Row; 13] = [
     },
 ];
 
-/// Faults of the list and of the letters, and of the steps that they spell.
-pub(crate) const FAULTS: [Row; 19] = [
+/// Compressed proofs of long expressions, or of many labels, that are accepted.
+pub(crate) const DOUBLINGS: [Row; 3] = [
+    Row {
+        name: "the longest expression a step may push",
+        files: &[(
+            b"limit.mm",
+            &[
+                Text(LIMIT),
+                Text(b"th $p f $= ( one odd end ) A"),
+                Times(b"B", 19),
+                Text(b"ZDC $.\n"),
+            ],
+        )],
+        reply: b"yes 10 statements 1 proofs\n",
+        status: 0,
+    },
+    Row {
+        name: "a proof whose expansion has millions of labels",
+        files: &[(
+            b"cat.mm",
+            &[
+                Text(CAT),
+                Text(b"th $p e $= ( nil cat ) "),
+                Text(b"AABZCBZDBZEBZFBZGBZHBZIBZJBZKBZLBZMBZNBZOBZPBZQBZRBZSBZTBZUA"),
+                Text(b"BZUBBZUCBZUDBZUEB $.\n"),
+            ],
+        )],
+        reply: b"yes 7 statements 1 proofs\n",
+        status: 0,
+    },
+    Row {
+        name: "a proof of one hundred doublings",
+        files: &[(
+            b"cat.mm",
+            &[
+                Text(CAT),
+                Text(b"th $p e $= ( nil cat ) "),
+                Text(b"AABZCBZDBZEBZFBZGBZHBZIBZJBZKBZLBZMBZNBZOBZPBZQBZRBZSBZTBZUA"),
+                Text(b"BZUBBZUCBZUDBZUEBZUFBZUGBZUHBZUIBZUJBZUKBZULBZUMBZUNBZUOBZUP"),
+                Text(b"BZUQBZURBZUSBZUTBZVABZVBBZVCBZVDBZVEBZVFBZVGBZVHBZVIBZVJBZVK"),
+                Text(b"BZVLBZVMBZVNBZVOBZVPBZVQBZVRBZVSBZVTBZWABZWBBZWCBZWDBZWEBZWF"),
+                Text(b"BZWGBZWHBZWIBZWJBZWKBZWLBZWMBZWNBZWOBZWPBZWQBZWRBZWSBZWTBZXA"),
+                Text(b"BZXBBZXCBZXDBZXEBZXFBZXGBZXHBZXIBZXJBZXKBZXLBZXMBZXNBZXOBZXP"),
+                Text(b"BZXQBZXRBZXSBZXTBZYAB $.\n"),
+            ],
+        )],
+        reply: b"yes 7 statements 1 proofs\n",
+        status: 0,
+    },
+];
+
+/// Faults of the steps that the letters spell.
+pub(crate) const FAULTS_OF_STEPS: [Row; 10] = [
     Row {
         name: "a number over what there is",
         files: &[(
@@ -260,6 +264,28 @@ pub(crate) const FAULTS: [Row; 19] = [
         status: 4,
     },
     Row {
+        name: "two distinct variables replaced by one in a compressed proof",
+        files: &[(
+            b"dist.mm",
+            &[Text(DIST), Text(b"t1 $p |- z R z $= ( ax ) AAB $.\n")],
+        )],
+        reply: b"no dist.mm 14 t1 P11 3\n",
+        status: 1,
+    },
+    Row {
+        name: "a pair that is not active in a compressed proof",
+        files: &[(
+            b"dist.mm",
+            &[Text(DIST), Text(b"t2 $p |- x R z $= ( ax ) ABC $.\n")],
+        )],
+        reply: b"no dist.mm 14 t2 P12 3\n",
+        status: 1,
+    },
+];
+
+/// Faults of the list and of the letters.
+pub(crate) const FAULTS_OF_TEXT: [Row; 9] = [
+    Row {
         name: "a list of labels that is not closed",
         files: &[(
             b"h.mm",
@@ -335,24 +361,6 @@ pub(crate) const FAULTS: [Row; 19] = [
             &[Text(HEAD), Text(b"th2 $p term t $= ( tze ) $.\n")],
         )],
         reply: b"no h.mm 20 th2 P13 1\n",
-        status: 1,
-    },
-    Row {
-        name: "two distinct variables replaced by one in a compressed proof",
-        files: &[(
-            b"dist.mm",
-            &[Text(DIST), Text(b"t1 $p |- z R z $= ( ax ) AAB $.\n")],
-        )],
-        reply: b"no dist.mm 14 t1 P11 3\n",
-        status: 1,
-    },
-    Row {
-        name: "a pair that is not active in a compressed proof",
-        files: &[(
-            b"dist.mm",
-            &[Text(DIST), Text(b"t2 $p |- x R z $= ( ax ) ABC $.\n")],
-        )],
-        reply: b"no dist.mm 14 t2 P12 3\n",
         status: 1,
     },
 ];

@@ -169,8 +169,8 @@ pub(crate) const TOKENS: [Row; 12] = [
     },
 ];
 
-/// Faults of the form of statements.
-pub(crate) const FORMS: [Row; 22] = [
+/// Faults of the form of statements: labels, and too few symbols or too many.
+pub(crate) const FORMS: [Row; 11] = [
     Row {
         name: "after a label comes no kind of statement",
         files: &[(b"f.mm", &[Text(b"a b\n")])],
@@ -237,6 +237,10 @@ pub(crate) const FORMS: [Row; 22] = [
         reply: b"no f.mm 1 x S5 0\n",
         status: 1,
     },
+];
+
+/// Keywords that can't stand where they do in a statement.
+pub(crate) const KEYWORDS_IN_STATEMENTS: [Row; 6] = [
     Row {
         name: "a proof sign in an axiom",
         files: &[(b"f.mm", &[Text(b"x $a a $= a $.\n")])],
@@ -273,6 +277,10 @@ pub(crate) const FORMS: [Row; 22] = [
         reply: b"no f.mm 1 - S4 0\n",
         status: 1,
     },
+];
+
+/// Keywords that begin no statement, where one should begin.
+pub(crate) const KEYWORDS_BETWEEN_STATEMENTS: [Row; 5] = [
     Row {
         name: "the end of a statement where one should begin",
         files: &[(b"f.mm", &[Text(b"$.\n")])],
@@ -305,8 +313,8 @@ pub(crate) const FORMS: [Row; 22] = [
     },
 ];
 
-/// Faults of meaning.
-pub(crate) const MEANING: [Row; 16] = [
+/// Symbols that are declared again.
+pub(crate) const DECLARATIONS: [Row; 6] = [
     Row {
         name: "a variable declared again as a constant",
         files: &[(
@@ -334,6 +342,37 @@ pub(crate) const MEANING: [Row; 16] = [
         reply: b"no m.mm 2 - M3 0\n",
         status: 1,
     },
+    Row {
+        name: "a constant declared again",
+        files: &[(
+            b"m.mm",
+            &[Text(b"$c a b $. $v x y $. fx $f a x $.\n$c a $.\n")],
+        )],
+        reply: b"no m.mm 2 - M2 0\n",
+        status: 1,
+    },
+    Row {
+        name: "a constant twice in one declaration",
+        files: &[(
+            b"m.mm",
+            &[Text(b"$c a b $. $v x y $. fx $f a x $.\n$c d d $.\n")],
+        )],
+        reply: b"no m.mm 2 - M2 0\n",
+        status: 1,
+    },
+    Row {
+        name: "a variable twice in one declaration",
+        files: &[(
+            b"m.mm",
+            &[Text(b"$c a b $. $v x y $. fx $f a x $.\n$v z z $.\n")],
+        )],
+        reply: b"no m.mm 2 - M3 0\n",
+        status: 1,
+    },
+];
+
+/// Faults of meaning of labels, hypotheses and symbols.
+pub(crate) const MEANING: [Row; 10] = [
     Row {
         name: "a label declared as a variable",
         files: &[(
@@ -407,39 +446,12 @@ pub(crate) const MEANING: [Row; 16] = [
         status: 1,
     },
     Row {
-        name: "a constant declared again",
-        files: &[(
-            b"m.mm",
-            &[Text(b"$c a b $. $v x y $. fx $f a x $.\n$c a $.\n")],
-        )],
-        reply: b"no m.mm 2 - M2 0\n",
-        status: 1,
-    },
-    Row {
         name: "an axiom that begins with a variable",
         files: &[(
             b"m.mm",
             &[Text(b"$c a b $. $v x y $. fx $f a x $.\np $a x $.\n")],
         )],
         reply: b"no m.mm 2 p M14 0\n",
-        status: 1,
-    },
-    Row {
-        name: "a constant twice in one declaration",
-        files: &[(
-            b"m.mm",
-            &[Text(b"$c a b $. $v x y $. fx $f a x $.\n$c d d $.\n")],
-        )],
-        reply: b"no m.mm 2 - M2 0\n",
-        status: 1,
-    },
-    Row {
-        name: "a variable twice in one declaration",
-        files: &[(
-            b"m.mm",
-            &[Text(b"$c a b $. $v x y $. fx $f a x $.\n$v z z $.\n")],
-        )],
-        reply: b"no m.mm 2 - M3 0\n",
         status: 1,
     },
     Row {

@@ -4,8 +4,8 @@
 use crate::Part::{Text, Times};
 use crate::Row;
 
-/// Faults of the text and of the form of statements.
-pub(crate) const TEXT: [Row; 18] = [
+/// Faults of tokens, comments and the form of statements.
+pub(crate) const TEXT: [Row; 8] = [
     Row {
         name: "a byte out of range comes before the beginning of a comment in its token",
         files: &[(b"f.mm", &[Text(b"$( \xc3\xa9$( $)\n")])],
@@ -54,6 +54,10 @@ pub(crate) const TEXT: [Row; 18] = [
         reply: b"no f.mm 1 - S4 0\n",
         status: 1,
     },
+];
+
+/// Faults of files that end, of inclusions, and of a text further on.
+pub(crate) const FILES: [Row; 10] = [
     Row {
         name: "a file ends in an inclusion in a block",
         files: &[(b"f.mm", &[Text(b"${ $[\n")])],

@@ -113,6 +113,21 @@ fn forms(rt: HostRuntime) -> Result<(), Fail> {
 }
 
 #[test]
+fn keywords_in_statements(rt: HostRuntime) -> Result<(), Fail> {
+    compare(&rt, rt.alloc(), &one_file::KEYWORDS_IN_STATEMENTS)
+}
+
+#[test]
+fn keywords_between_statements(rt: HostRuntime) -> Result<(), Fail> {
+    compare(&rt, rt.alloc(), &one_file::KEYWORDS_BETWEEN_STATEMENTS)
+}
+
+#[test]
+fn declarations(rt: HostRuntime) -> Result<(), Fail> {
+    compare(&rt, rt.alloc(), &one_file::DECLARATIONS)
+}
+
+#[test]
 fn meaning(rt: HostRuntime) -> Result<(), Fail> {
     compare(&rt, rt.alloc(), &one_file::MEANING)
 }
@@ -155,6 +170,11 @@ fn places_of_inclusions(rt: HostRuntime) -> Result<(), Fail> {
 #[test]
 fn after_head(rt: HostRuntime) -> Result<(), Fail> {
     compare(&rt, rt.alloc(), &proofs::AFTER_HEAD)
+}
+
+#[test]
+fn order_after_head(rt: HostRuntime) -> Result<(), Fail> {
+    compare(&rt, rt.alloc(), &proofs::ORDER_AFTER_HEAD)
 }
 
 #[test]
@@ -210,8 +230,18 @@ fn accepted(rt: HostRuntime) -> Result<(), Fail> {
 }
 
 #[test]
-fn faults(rt: HostRuntime) -> Result<(), Fail> {
-    compare(&rt, rt.alloc(), &compressed::FAULTS)
+fn doublings(rt: HostRuntime) -> Result<(), Fail> {
+    compare(&rt, rt.alloc(), &compressed::DOUBLINGS)
+}
+
+#[test]
+fn faults_of_steps(rt: HostRuntime) -> Result<(), Fail> {
+    compare(&rt, rt.alloc(), &compressed::FAULTS_OF_STEPS)
+}
+
+#[test]
+fn faults_of_text(rt: HostRuntime) -> Result<(), Fail> {
+    compare(&rt, rt.alloc(), &compressed::FAULTS_OF_TEXT)
 }
 
 #[test]
@@ -232,6 +262,11 @@ fn past_the_list(rt: HostRuntime) -> Result<(), Fail> {
 #[test]
 fn order_of_text(rt: HostRuntime) -> Result<(), Fail> {
     compare(&rt, rt.alloc(), &orders::TEXT)
+}
+
+#[test]
+fn order_of_files(rt: HostRuntime) -> Result<(), Fail> {
+    compare(&rt, rt.alloc(), &orders::FILES)
 }
 
 #[test]
