@@ -46,7 +46,7 @@ if ! $is_check; then
 fi
 failures=0
 for crate in "$@"; do
-    if (cd "crates/$crate" && rt fmt --check) 2>&1 | grep 'cannot be applied'; then
+    if (cd "crates/$crate" && rt fmt) 2>&1 | grep 'cannot be applied'; then
         failures=1
     fi
 done
