@@ -3,6 +3,7 @@
 
 mod check;
 mod code;
+mod failing;
 mod frame;
 mod load;
 mod proof;

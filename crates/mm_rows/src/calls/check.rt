@@ -1,10 +1,11 @@
 //! One happy path of each public call, and writers that fail in the middle of a reply.
 
-use mm_check::{AskFault, CheckFault, Command, Report, Rule, RunFault, Status, check, run};
+use crate::calls::failing::failing_writer;
+use mm_check::{
+    AskFault, CheckFault, Checked, Command, Report, Rule, RunFault, Status, check, run,
+};
 use mm_text::{Counted, File};
 use std::alloc::Global;
-use std::io;
-use std::io::{ErrorKind, Write};
 use std::test::Fail;
 
 const FIRST: &[u8] = b"$c 0 + ( ) term $.
@@ -27,249 +28,204 @@ t $p a $= s $. u $p a $= q $.";
 const SHARED: &[u8] = b"$c e $. $v x y $. fx $f e x $. fy $f e y $. nil $a e $. cat $a e x y $. \
 th $p e $= ( nil cat ) AABZCB $.";
 
+const REFUSED: &[u8] = b"$c a $.\np $a b $.\n";
+
 const REPLY: &[u8] = b"yes 7 statements 1 proofs\n";
 
-/// Takes one byte a call, but fails at one of its calls, the first of which is number 1.
-#[derive(Drop)]
-struct FailingWriter {
-    taken: Vec<u8>,
-    fails_at: usize,
-    answers_zero: bool,
-}
-
-impl Write for FailingWriter {
-    fn write(&mut self, buf: &[u8]) -> io::Result<usize> {
-        if self.taken.len().saturating_add(1) == self.fails_at {
-            return if self.answers_zero {
-                Ok(0)
-            } else {
-                Err(io::Error::from(ErrorKind::BrokenPipe))
-            };
-        }
-        match buf.first() {
-            Some(byte) => {
-                self.taken.push(*byte)?;
-                Ok(1)
-            }
-            None => Ok(0),
-        }
-    }
-
-    fn flush(&mut self) -> io::Result<()> {
-        Ok(())
-    }
-}
-
-fn first() -> [File<'static>; 1] {
+/// A database of one file.
+fn file(bytes: &[u8]) -> [File<'_>; 1] {
     [File {
-        name: b"first.mm",
-        bytes: FIRST,
+        name: b"a.mm",
+        bytes,
     }]
+}
+
+/// What is kept of an accepted database.
+fn accepted<'a>(alloc: Global, files: &'a [File<'a>]) -> Result<Checked<'a>, Fail> {
+    Ok(check(alloc, files)?)
+}
+
+/// Why the files are refused.
+fn fault_of<'a>(alloc: Global, files: &'a [File<'a>]) -> Result<CheckFault<'a>, Fail> {
+    Ok(check(alloc, files).err().ok_or("accepted")?)
+}
+
+fn has_counts(checked: &Checked, statements: usize, proofs: usize) -> bool {
+    checked.statements() == statements && checked.proofs() == proofs
+}
+
+fn has_incomplete(checked: &Checked) -> bool {
+    !checked.is_complete()
+}
+
+/// Whether two proofs are incomplete, of these names.
+fn names_incomplete(checked: &Checked, first: &[u8], second: &[u8]) -> bool {
+    match checked.incomplete() {
+        [a, b] => checked.name(*a) == first && checked.name(*b) == second,
+        _ => false,
+    }
 }
 
 #[test]
 fn accepts_the_first_database(rt: HostRuntime) -> Result<(), Fail> {
-    let files = first();
-    let checked = check(rt.alloc(), &files)?;
-    assert!(rt; checked.is_complete());
-    assert!(rt; checked.incomplete().is_empty());
-    assert_eq!(rt; checked.statements(), 7);
-    assert_eq!(rt; checked.proofs(), 1);
+    let files = file(FIRST);
+    let checked = accepted(rt.alloc(), &files)?;
+    assert!(rt; checked.is_complete() && checked.incomplete().is_empty());
+    assert!(rt; has_counts(&checked, 7, 1));
     Ok(())
 }
 
 #[test]
 fn names_incomplete_proofs(rt: HostRuntime) -> Result<(), Fail> {
-    let files = [File {
-        name: b"open.mm",
-        bytes: OPEN,
-    }];
-    let checked = check(rt.alloc(), &files)?;
-    assert!(rt; !checked.is_complete());
-    assert_eq!(rt; checked.statements(), 5);
-    assert_eq!(rt; checked.proofs(), 1);
-    match checked.incomplete() {
-        [first, second] => {
-            assert_eq!(rt; checked.name(*first), b"q".as_slice());
-            assert_eq!(rt; checked.name(*second), b"s".as_slice());
-        }
-        _ => panic!(rt; "two proofs are incomplete"),
-    }
+    let files = file(OPEN);
+    let checked = accepted(rt.alloc(), &files)?;
+    assert!(rt; has_incomplete(&checked) && has_counts(&checked, 5, 1));
+    assert!(rt; names_incomplete(&checked, b"q", b"s"));
     Ok(())
 }
 
-// What a theorem of a database with deeper proofs rests on.
-fn report(alloc: Global, label: &[u8]) -> Result<Report, Fail> {
-    let files = [File {
-        name: b"deep.mm",
-        bytes: DEEP,
-    }];
-    let checked = check(alloc, &files)?;
-    Ok(checked.axioms(alloc, label)?)
+/// What a theorem of a database with deeper proofs rests on.
+fn ask_axioms(alloc: Global, label: &[u8]) -> Result<Result<Report, AskFault>, Fail> {
+    let files = file(DEEP);
+    let checked = accepted(alloc, &files)?;
+    Ok(checked.axioms(alloc, label))
 }
 
 #[test]
 fn reports_an_axiom(rt: HostRuntime) -> Result<(), Fail> {
-    let report = report(rt.alloc(), b"t")?;
-    assert_eq!(rt; report.axioms.len(), 1);
-    assert!(rt; report.unproved.is_empty());
+    let report = ask_axioms(rt.alloc(), b"t")??;
+    assert!(rt; report.axioms.len() == 1 && report.unproved.is_empty());
     Ok(())
 }
 
 #[test]
 fn reports_an_unproved_theorem(rt: HostRuntime) -> Result<(), Fail> {
-    let report = report(rt.alloc(), b"u")?;
-    assert!(rt; report.axioms.is_empty());
-    assert_eq!(rt; report.unproved.len(), 1);
+    let report = ask_axioms(rt.alloc(), b"u")??;
+    assert!(rt; report.axioms.is_empty() && report.unproved.len() == 1);
     Ok(())
-}
-
-#[test]
-fn shows_a_shared_step(rt: HostRuntime) -> Result<(), Fail> {
-    let files = [File {
-        name: b"cat.mm",
-        bytes: SHARED,
-    }];
-    let text = check(rt.alloc(), &files)?.show(rt.alloc(), b"th")?;
-    assert_eq!(rt;
-        text.as_slice(),
-        b"1 nil e\n2 nil e\n3 cat e\n4 @3 e\n5 cat e\n".as_slice()
-    );
-    Ok(())
-}
-
-// Why a question about a label has no answer.
-fn question_fault(alloc: Global, label: &[u8]) -> Result<Option<AskFault>, Fail> {
-    let files = [File {
-        name: b"deep.mm",
-        bytes: DEEP,
-    }];
-    let checked = check(alloc, &files)?;
-    Ok(checked.axioms(alloc, label).err())
 }
 
 #[test]
 fn refuses_questions(rt: HostRuntime) -> Result<(), Fail> {
-    assert_eq!(rt; question_fault(rt.alloc(), b"none")?, Some(AskFault::A1));
-    assert_eq!(rt; question_fault(rt.alloc(), b"p")?, Some(AskFault::A2));
-    assert_eq!(rt; question_fault(rt.alloc(), b"q")?, Some(AskFault::A3));
+    assert!(rt; ask_axioms(rt.alloc(), b"none")?.err() == Some(AskFault::A1));
+    assert!(rt; ask_axioms(rt.alloc(), b"p")?.err() == Some(AskFault::A2));
+    assert!(rt; ask_axioms(rt.alloc(), b"q")?.err() == Some(AskFault::A3));
     Ok(())
+}
+
+/// The listing of the proof of a theorem.
+fn show(alloc: Global, checked: &Checked, label: &[u8]) -> Result<Vec<u8>, Fail> {
+    Ok(checked.show(alloc, label)?)
+}
+
+#[test]
+fn shows_a_shared_step(rt: HostRuntime) -> Result<(), Fail> {
+    let files = file(SHARED);
+    let checked = accepted(rt.alloc(), &files)?;
+    let text = show(rt.alloc(), &checked, b"th")?;
+    assert!(rt; text.as_slice() == b"1 nil e\n2 nil e\n3 cat e\n4 @3 e\n5 cat e\n".as_slice());
+    Ok(())
+}
+
+/// Whether the program answers the command so.
+fn replies(
+    alloc: Global,
+    command: &Command,
+    files: &[File],
+    (wanted, text): (Status, &[u8]),
+) -> Result<bool, Fail> {
+    let mut out = Counted::new(Vec::new(alloc));
+    let status = run(alloc, command, files, &mut out)?;
+    Ok(status == wanted && out.into_inner().as_slice() == text)
+}
+
+/// Whether the program answers the command over the first database so.
+fn replies_of_first(
+    alloc: Global,
+    command: &Command,
+    answer: (Status, &[u8]),
+) -> Result<bool, Fail> {
+    replies(alloc, command, &file(FIRST), answer)
 }
 
 #[test]
 fn writes_the_reply(rt: HostRuntime) -> Result<(), Fail> {
-    let files = first();
-    let mut out = Counted::new(Vec::new(rt.alloc()));
-    let status = run(rt.alloc(), &Command::Check, &files, &mut out)?;
-    assert_eq!(rt; status, Status::Done);
-    assert_eq!(rt; status.number(), 0);
-    assert_eq!(rt; out.into_inner().as_slice(), REPLY);
-    assert_eq!(rt; Rule::M15.code(), b"M15".as_slice());
+    let answer = (Status::Done, REPLY);
+    assert!(rt; replies_of_first(rt.alloc(), &Command::Check, answer)?);
     Ok(())
 }
 
 #[test]
+fn statuses_and_rules_have_names(rt: HostRuntime) {
+    assert!(rt; Status::Done.number() == 0);
+    assert!(rt; Rule::M15.code() == b"M15".as_slice());
+}
+
+#[test]
 fn writes_what_a_theorem_rests_on(rt: HostRuntime) -> Result<(), Fail> {
-    let files = first();
-    let mut out = Counted::new(Vec::new(rt.alloc()));
-    let status = run(
-        rt.alloc(),
-        &Command::Axioms { label: b"th" },
-        &files,
-        &mut out,
-    )?;
-    assert_eq!(rt; status, Status::Done);
-    assert_eq!(rt; out.into_inner().as_slice(), b"tze\ntpl\n".as_slice());
+    let command = Command::Axioms { label: b"th" };
+    let answer = (Status::Done, b"tze\ntpl\n".as_slice());
+    assert!(rt; replies_of_first(rt.alloc(), &command, answer)?);
     Ok(())
 }
 
 #[test]
 fn writes_how_a_theorem_is_proved(rt: HostRuntime) -> Result<(), Fail> {
-    let files = first();
-    let mut out = Counted::new(Vec::new(rt.alloc()));
-    let status = run(
-        rt.alloc(),
-        &Command::Show { label: b"th" },
-        &files,
-        &mut out,
-    )?;
-    assert_eq!(rt; status, Status::Done);
-    assert_eq!(rt;
-        out.into_inner().as_slice(),
-        b"1 tze term 0\n2 tze term 0\n3 tpl term ( 0 + 0 )\n".as_slice()
-    );
+    let command = Command::Show { label: b"th" };
+    let text = b"1 tze term 0\n2 tze term 0\n3 tpl term ( 0 + 0 )\n".as_slice();
+    assert!(rt; replies_of_first(rt.alloc(), &command, (Status::Done, text))?);
     Ok(())
 }
 
 #[test]
 fn writes_why_a_question_has_no_answer(rt: HostRuntime) -> Result<(), Fail> {
-    let files = first();
-    let mut out = Counted::new(Vec::new(rt.alloc()));
-    let status = run(
-        rt.alloc(),
-        &Command::Axioms { label: b"tt" },
-        &files,
-        &mut out,
-    )?;
-    assert_eq!(rt; status, Status::Refused);
-    assert_eq!(rt; out.into_inner().as_slice(), b"ask A2 tt\n".as_slice());
+    let command = Command::Axioms { label: b"tt" };
+    let answer = (Status::Refused, b"ask A2 tt\n".as_slice());
+    assert!(rt; replies_of_first(rt.alloc(), &command, answer)?);
     Ok(())
 }
 
 #[test]
 fn refuses_no_files(rt: HostRuntime) -> Result<(), Fail> {
-    let fault = check(rt.alloc(), &[]).err();
-    assert!(rt; matches!(fault, Some(CheckFault::Load(Rule::F1))));
-    let mut out = Counted::new(Vec::new(rt.alloc()));
-    let status = run(rt.alloc(), &Command::Check, &[], &mut out)?;
-    assert_eq!(rt; status, Status::Stopped);
-    assert_eq!(rt; out.into_inner().as_slice(), b"load F1\n".as_slice());
+    let fault = fault_of(rt.alloc(), &[])?;
+    assert!(rt; matches!(fault, CheckFault::Load(Rule::F1)));
+    let answer = (Status::Stopped, b"load F1\n".as_slice());
+    assert!(rt; replies(rt.alloc(), &Command::Check, &[], answer)?);
     Ok(())
+}
+
+/// Whether the fault that the files have reads so.
+fn has_message(alloc: Global, files: &[File], message: &str) -> Result<bool, Fail> {
+    let fault = fault_of(alloc, files)?;
+    let text = format!(in alloc; "{fault}")?;
+    Ok(text.as_str() == message)
 }
 
 #[test]
 fn faults_have_messages(rt: HostRuntime) -> Result<(), Fail> {
-    let files = [File {
-        name: b"f.mm",
-        bytes: b"$c a $.\np $a b $.\n",
-    }];
-    let refused = match check(rt.alloc(), &files) {
-        Ok(_) => String::new(rt.alloc()),
-        Err(fault) => format!(in rt.alloc(); "{fault}")?,
-    };
-    assert!(rt;
-        refused.as_str() == "file 0, line 2: statement 2 breaks M7, step 0",
-        "{refused}"
-    );
-    let none = match check(rt.alloc(), &[]) {
-        Ok(_) => String::new(rt.alloc()),
-        Err(fault) => format!(in rt.alloc(); "{fault}")?,
-    };
-    assert!(rt; none.as_str() == "the files break F1", "{none}");
+    let refused = "file 0, line 2: statement 2 breaks M7, step 0";
+    assert!(rt; has_message(rt.alloc(), &file(REFUSED), refused)?);
+    assert!(rt; has_message(rt.alloc(), &[], "the files break F1")?);
     Ok(())
+}
+
+/// Whether the program stops at the call of its writer that fails, which is counted alone, and has
+/// written what comes before it.
+fn stops_writing(alloc: Global, fails_at: usize, answers_zero: bool) -> bool {
+    let mut out = failing_writer(alloc, fails_at, answers_zero);
+    let answer = run(alloc, &Command::Check, &file(FIRST), &mut out).err();
+    let faults = out.faults();
+    let taken = out.into_inner().taken;
+    answer == Some(RunFault::Device)
+        && faults == 1
+        && REPLY.get(..fails_at.saturating_sub(1)) == Some(taken.as_slice())
 }
 
 // The reply has 26 bytes, so a writer that takes one byte a call is called 26 times.
 #[test]
-fn stops_at_a_failed_write(rt: HostRuntime) -> Result<(), Fail> {
-    let files = first();
-    for answers_zero in [false, true] {
-        for fails_at in 1..=26 {
-            let mut out = Counted::new(FailingWriter {
-                taken: Vec::new(rt.alloc()),
-                fails_at,
-                answers_zero,
-            });
-            let answer = run(rt.alloc(), &Command::Check, &files, &mut out).err();
-            assert_eq!(rt; answer, Some(RunFault::Device), "at call {fails_at}");
-            assert_eq!(rt; out.faults(), 1, "at call {fails_at}");
-            let taken = out.into_inner().taken;
-            assert_eq!(rt;
-                Some(taken.as_slice()),
-                REPLY.get(..fails_at - 1),
-                "at call {fails_at}"
-            );
-        }
+fn stops_at_a_failed_write(rt: HostRuntime) {
+    for fails_at in 1..=26 {
+        assert!(rt; stops_writing(rt.alloc(), fails_at, false));
+        assert!(rt; stops_writing(rt.alloc(), fails_at, true));
     }
-    Ok(())
 }

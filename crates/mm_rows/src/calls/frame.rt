@@ -7,17 +7,17 @@ mod questions;
 mod refused;
 mod taking;
 
+use crate::calls::frame::taking::empty_book;
 use mm_frame::{
-    Book, MeaningRule, RuleFault, Sym, active_statements, one_frame, one_label_number, one_number,
+    MeaningRule, RuleFault, Sym, active_statements, one_frame, one_label_number, one_number,
     open_blocks, open_count,
 };
 use std::test::Fail;
 
 #[test]
 fn book_of_nothing(rt: HostRuntime) -> Result<(), Fail> {
-    let book = Book::new(rt.alloc()).expect(&rt, "memory");
-    assert_eq!(rt; book.depth(), 0);
-    assert_eq!(rt; book.bytes(), 0);
+    let book = empty_book(rt.alloc())?;
+    assert!(rt; book.depth() == 0 && book.bytes() == 0);
     assert!(rt; !book.is_variable(Sym(0)));
     Ok(())
 }
@@ -25,7 +25,7 @@ fn book_of_nothing(rt: HostRuntime) -> Result<(), Fail> {
 #[test]
 fn faults_have_messages(rt: HostRuntime) -> Result<(), Fail> {
     let text = format!(in rt.alloc(); "{}", RuleFault::Rule(MeaningRule::M7))?;
-    assert!(rt; text.as_str() == "the statement breaks M7", "{text}");
+    assert!(rt; text.as_str() == "the statement breaks M7");
     Ok(())
 }
 

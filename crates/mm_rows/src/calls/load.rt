@@ -1,7 +1,13 @@
 //! Devices that fail in the middle of a text, and one happy path of each public call.
+
+ghost use Rattle.std.specs.Prelude.{◌≡◌};
+ghost use Rattle.mm_text.specs.Device.{faults_of};
+
+use crate::calls::failing::failing_writer;
 use mm_text::{Counted, LoadFault, WriteFault, read_all};
+use std::alloc::Global;
 use std::io;
-use std::io::{ErrorKind, Read, Write};
+use std::io::{ErrorKind, Read};
 use std::test::Fail;
 
 const TEXT: &[u8] = b"abc";
@@ -29,136 +35,121 @@ impl Read for FailingReader {
     }
 }
 
-/// Takes one byte a call, but fails at one of its calls, the first of which is number 1.
-#[derive(Drop)]
-struct FailingWriter {
-    taken: Vec<u8>,
-    fails_at: usize,
-    answers_zero: bool,
-}
-
-impl Write for FailingWriter {
-    fn write(&mut self, buf: &[u8]) -> io::Result<usize> {
-        if self.taken.len().saturating_add(1) == self.fails_at {
-            return if self.answers_zero {
-                Ok(0)
-            } else {
-                Err(io::Error::from(ErrorKind::BrokenPipe))
-            };
-        }
-        match buf.first() {
-            Some(byte) => {
-                self.taken.push(*byte)?;
-                Ok(1)
-            }
-            None => Ok(0),
-        }
-    }
-
-    fn flush(&mut self) -> io::Result<()> {
-        Ok(())
-    }
+/// What `read_all` answers of up to 3 bytes, where it gives any, and how many calls failed.
+fn read_three(alloc: Global, bytes: &[u8]) -> (Result<Vec<u8>, LoadFault>, u64) {
+    let mut reader = Counted::new(bytes);
+    let answer = read_all(alloc, &mut reader, 3);
+    (answer, reader.faults())
 }
 
 #[test]
 fn reads_up_to_the_limit(rt: HostRuntime) -> Result<(), Fail> {
-    let mut exact = Counted::new(TEXT);
-    assert_eq!(rt; read_all(rt.alloc(), &mut exact, 3)?.as_slice(), TEXT);
-    assert_eq!(rt; exact.faults(), 0);
-
-    let mut long = Counted::new(b"abcd".as_slice());
-    assert_eq!(rt;
-        read_all(rt.alloc(), &mut long, 3).err(),
-        Some(LoadFault::TooLong)
-    );
-    assert_eq!(rt; long.faults(), 0);
+    let (answer, faults) = read_three(rt.alloc(), TEXT);
+    assert!(rt; answer?.as_slice() == TEXT && faults == 0);
     Ok(())
+}
+
+#[test]
+fn refuses_more_than_the_limit(rt: HostRuntime) {
+    let (answer, faults) = read_three(rt.alloc(), b"abcd");
+    assert!(rt; answer.err() == Some(LoadFault::TooLong) && faults == 0);
+}
+
+/// A reader that fails at a call, none of whose calls has failed yet.
+fn failing_reader(fails_at: usize) -> Counted<FailingReader>
+    ensures { faults_of result ≡ 0 }
+{
+    Counted::new(FailingReader { calls: 0, fails_at })
+}
+
+/// Whether the reading stops at the call that fails, and counts it alone.
+fn stops_reading(alloc: Global, fails_at: usize) -> bool {
+    let mut reader = failing_reader(fails_at);
+    let answer = read_all(alloc, &mut reader, 3).err();
+    answer == Some(LoadFault::Device)
+        && reader.faults() == 1
+        && reader.into_inner().calls == fails_at
 }
 
 // Three bytes take four calls, since the last one finds the end.
 #[test]
-fn stops_at_a_failed_read(rt: HostRuntime) -> Result<(), Fail> {
+fn stops_at_a_failed_read(rt: HostRuntime) {
     for fails_at in 1..=4 {
-        let mut reader = Counted::new(FailingReader { calls: 0, fails_at });
-        let answer = read_all(rt.alloc(), &mut reader, 3).err();
-        assert_eq!(rt; answer, Some(LoadFault::Device), "at call {fails_at}");
-        assert_eq!(rt; reader.faults(), 1, "at call {fails_at}");
-        assert_eq!(rt; reader.into_inner().calls, fails_at);
+        assert!(rt; stops_reading(rt.alloc(), fails_at));
     }
-    let mut reader = Counted::new(FailingReader {
-        calls: 0,
-        fails_at: 5,
-    });
-    assert_eq!(rt; read_all(rt.alloc(), &mut reader, 3)?.as_slice(), TEXT);
-    assert_eq!(rt; reader.faults(), 0);
-    Ok(())
 }
 
 #[test]
-fn stops_at_a_failed_write(rt: HostRuntime) -> Result<(), Fail> {
-    for (fails_at, answers_zero) in [
-        (1, false),
-        (2, false),
-        (3, false),
-        (1, true),
-        (2, true),
-        (3, true),
-    ] {
-        let mut writer = Counted::new(FailingWriter {
-            taken: Vec::new(rt.alloc()),
-            fails_at,
-            answers_zero,
-        });
-        assert_eq!(rt;
-            writer.write_all(TEXT),
-            Err(WriteFault),
-            "at call {fails_at}"
-        );
-        assert_eq!(rt; writer.faults(), 1, "at call {fails_at}");
-        let taken = writer.into_inner().taken;
-        assert_eq!(rt;
-            Some(taken.as_slice()),
-            TEXT.get(..fails_at - 1),
-            "at call {fails_at}"
-        );
+fn reads_before_a_failed_call(rt: HostRuntime) -> Result<(), Fail> {
+    let mut reader = failing_reader(5);
+    let bytes = read_all(rt.alloc(), &mut reader, 3)?;
+    assert!(rt; bytes.as_slice() == TEXT && reader.faults() == 0);
+    Ok(())
+}
+
+/// Whether the writing stops at the call that fails, counts it alone, and has written what comes
+/// before it.
+fn stops_writing(alloc: Global, fails_at: usize, answers_zero: bool) -> bool {
+    let mut writer = failing_writer(alloc, fails_at, answers_zero);
+    let answer = writer.write_all(TEXT);
+    let faults = writer.faults();
+    let taken = writer.into_inner().taken;
+    answer == Err(WriteFault)
+        && faults == 1
+        && TEXT.get(..fails_at.saturating_sub(1)) == Some(taken.as_slice())
+}
+
+#[test]
+fn stops_at_a_failed_write(rt: HostRuntime) {
+    for fails_at in 1..=3 {
+        assert!(rt; stops_writing(rt.alloc(), fails_at, false));
+        assert!(rt; stops_writing(rt.alloc(), fails_at, true));
     }
+}
+
+#[test]
+fn writes_all(rt: HostRuntime) -> Result<(), Fail> {
     let mut writer = Counted::new(Vec::new(rt.alloc()));
-    assert_eq!(rt; writer.write_all(TEXT), Ok(()));
-    assert_eq!(rt; writer.faults(), 0);
-    assert_eq!(rt; writer.into_inner().as_slice(), TEXT);
+    writer.write_all(TEXT)?;
+    assert!(rt; writer.faults() == 0);
+    assert!(rt; writer.into_inner().as_slice() == TEXT);
     Ok(())
 }
 
 #[test]
-fn counts_failed_calls(rt: HostRuntime) -> Result<(), Fail> {
-    let mut reader = Counted::new(FailingReader {
-        calls: 0,
-        fails_at: 2,
-    });
+fn counts_failed_reads(rt: HostRuntime) -> Result<(), Fail> {
+    let mut reader = failing_reader(2);
     let mut piece = [0; 2];
-    assert_eq!(rt; reader.read(&mut piece)?, 1);
-    assert_eq!(rt; (reader.faults(), piece), (0, [b'a', 0]));
-    let failed = reader.read(&mut piece).err();
-    assert_eq!(rt; failed.map(|e| e.kind()), Some(ErrorKind::Interrupted));
-    assert_eq!(rt; reader.faults(), 1);
-
-    for answers_zero in [false, true] {
-        let mut writer = Counted::new(FailingWriter {
-            taken: Vec::new(rt.alloc()),
-            fails_at: 2,
-            answers_zero,
-        });
-        assert_eq!(rt; writer.write(b"")?, 0);
-        assert_eq!(rt; writer.write(TEXT)?, 1);
-        assert_eq!(rt; writer.faults(), 0);
-        let failed = writer.write(TEXT).map_err(|e| e.kind());
-        let wanted = if answers_zero {
-            Ok(0)
-        } else {
-            Err(ErrorKind::BrokenPipe)
-        };
-        assert_eq!(rt; failed, wanted);
-        assert_eq!(rt; writer.faults(), 1);
+    assert!(rt; reader.read(&mut piece)? == 1);
+    assert!(rt; reader.faults() == 0 && piece == [b'a', 0]);
+    match reader.read(&mut piece) {
+        Ok(_) => return Err(Fail::from("no fault")),
+        Err(fault) => assert!(rt; fault.kind() == ErrorKind::Interrupted),
     }
+    assert!(rt; reader.faults() == 1);
+    Ok(())
+}
+
+#[test]
+fn counts_failed_writes(rt: HostRuntime) -> Result<(), Fail> {
+    let mut writer = failing_writer(rt.alloc(), 2, false);
+    assert!(rt; writer.write(b"")? == 0);
+    assert!(rt; writer.write(TEXT)? == 1);
+    assert!(rt; writer.faults() == 0);
+    match writer.write(TEXT) {
+        Ok(_) => return Err(Fail::from("no fault")),
+        Err(fault) => assert!(rt; fault.kind() == ErrorKind::BrokenPipe),
+    }
+    assert!(rt; writer.faults() == 1);
+    Ok(())
+}
+
+#[test]
+fn counts_writes_of_nothing(rt: HostRuntime) -> Result<(), Fail> {
+    let mut writer = failing_writer(rt.alloc(), 2, true);
+    assert!(rt; writer.write(TEXT)? == 1);
+    assert!(rt; writer.faults() == 0);
+    assert!(rt; writer.write(TEXT)? == 0);
+    assert!(rt; writer.faults() == 1);
     Ok(())
 }

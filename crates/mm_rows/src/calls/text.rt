@@ -3,6 +3,7 @@
 use mm_text::{
     File, Kind, LoadFault, LoadRule, Statement, Statements, TextFault, TextRule, Token, WriteFault,
 };
+use std::alloc::Global;
 use std::test::Fail;
 
 /// A small database: the first expressions of demo0.mm.
@@ -14,8 +15,116 @@ tze $a term 0 $.\n\
 tpl $a term ( t + r ) $.\n\
 th $p term ( 0 + 0 ) $= tze tze tpl $.\n";
 
+/// Blocks, and a file that is put in once. The last `$}` lacks its `${`.
+const TOP: &[u8] = b"$[ b $] ${ e $e a $. $} $[ b $] $( $} $) $} $d x y $.";
+
+/// A statement: its kind, the file and the place of its first token, how many symbols it has, and
+/// the place of its proof.
+struct Form(Kind, usize, u32, usize, (u32, u32));
+
+const FIRST_FORMS: [Form; 7] = [
+    Form(Kind::Constants, 0, 0, 5, (0, 0)),
+    Form(Kind::Variables, 0, 19, 2, (0, 0)),
+    Form(Kind::Floating, 0, 29, 2, (0, 0)),
+    Form(Kind::Floating, 0, 45, 2, (0, 0)),
+    Form(Kind::Axiom, 0, 61, 2, (0, 0)),
+    Form(Kind::Axiom, 0, 78, 6, (0, 0)),
+    Form(Kind::Provable, 0, 103, 6, (126, 139)),
+];
+
+const TOP_FORMS: [Form; 4] = [
+    Form(Kind::Constants, 1, 0, 1, (0, 0)),
+    Form(Kind::Opening, 0, 8, 0, (0, 0)),
+    Form(Kind::Essential, 0, 11, 1, (0, 0)),
+    Form(Kind::Closing, 0, 21, 0, (0, 0)),
+];
+
+/// A fault of the first file: its rule, its place, the number of its statement, and how long the
+/// label of that is; 0 where there is none.
+#[derive(Clone, Copy)]
+struct Fault(TextRule, u32, usize, usize);
+
+/// A text that is faulty in its first statement.
+struct Case(&'static [u8], Fault);
+
+fn has_form(statement: &Statement, form: &Form) -> bool {
+    let Form(kind, file, at, symbols, span) = form;
+    statement.kind == *kind
+        && statement.first.file == *file
+        && statement.first.at == *at
+        && statement.symbols.len() == *symbols
+        && statement.span == *span
+}
+
 fn is_empty(statement: &Statement) -> bool {
     statement.symbols.is_empty() && statement.proof.is_empty()
+}
+
+fn length_of(label: &Option<Token>) -> usize {
+    match label {
+        Some(token) => token.text.len(),
+        None => 0,
+    }
+}
+
+fn is_fault(answer: &Result<bool, TextFault>, fault: &Fault) -> bool {
+    let Fault(wanted, place, number, length) = fault;
+    match answer {
+        Err(
+            TextFault::Fault {
+                rule,
+                file,
+                at,
+                statement,
+                label,
+            },
+        ) => {
+            rule == wanted
+                && *file == 0
+                && at == place
+                && statement == number
+                && length_of(label) == *length
+        }
+        _ => false,
+    }
+}
+
+/// Reads the next statement; `false` at the end.
+fn read<'a>(statements: &mut Statements<'a>, into: &mut Statement<'a>) -> Result<bool, Fail> {
+    Ok(statements.read(into)?)
+}
+
+/// Reads the next statements, which have these forms.
+fn read_forms<'a>(
+    statements: &mut Statements<'a>,
+    into: &mut Statement<'a>,
+    forms: &[Form],
+) -> Result<(), Fail> {
+    for form in forms {
+        if !read(statements, into)? || !has_form(into, form) {
+            return Err(Fail::from("another statement"));
+        }
+    }
+    Ok(())
+}
+
+/// Reads as many statements.
+fn read_next<'a>(
+    statements: &mut Statements<'a>,
+    into: &mut Statement<'a>,
+    count: usize,
+) -> Result<(), Fail> {
+    for _ in 0..count {
+        if !read(statements, into)? {
+            return Err(Fail::from("a statement is wanting"));
+        }
+    }
+    Ok(())
+}
+
+/// Whether a part is at this place of a text.
+fn spans((start, end): (u32, u32), text: &[u8], part: &[u8]) -> bool {
+    text.get(start as usize..end as usize) == Some(part)
 }
 
 #[test]
@@ -24,102 +133,127 @@ fn reads_a_database(rt: HostRuntime) -> Result<(), Fail> {
         name: b"first.mm",
         bytes: FIRST,
     }];
-    let Ok(mut statements) = Statements::new(rt.alloc(), &files) else {
-        return Err(Fail::from("refused"));
-    };
+    let mut statements = Statements::new(rt.alloc(), &files)?;
     let mut statement = Statement::empty(rt.alloc());
-    let wanted = [
-        (Kind::Constants, 0, 5, (0, 0)),
-        (Kind::Variables, 19, 2, (0, 0)),
-        (Kind::Floating, 29, 2, (0, 0)),
-        (Kind::Floating, 45, 2, (0, 0)),
-        (Kind::Axiom, 61, 2, (0, 0)),
-        (Kind::Axiom, 78, 6, (0, 0)),
-        (Kind::Provable, 103, 6, (126, 139)),
-    ];
-    for (kind, at, symbols, span) in wanted {
-        assert!(rt;
-            matches!(statements.read(&mut statement), Ok(true)),
-            "at {at}"
-        );
-        assert_eq!(rt; statement.kind, kind, "at {at}");
-        assert_eq!(rt; statement.first.at, at);
-        assert_eq!(rt; statement.symbols.len(), symbols, "at {at}");
-        assert_eq!(rt; statement.span, span, "at {at}");
-    }
-    assert_eq!(rt; statement.proof.len(), 3);
-    let (start, end) = statement.span;
-    assert_eq!(rt;
-        FIRST.get(start as usize..end as usize),
-        Some(b" tze tze tpl ".as_slice())
-    );
-    for _ in 0..3 {
-        assert!(rt; matches!(statements.read(&mut statement), Ok(false)));
-        assert!(rt; is_empty(&statement));
-    }
+    read_forms(&mut statements, &mut statement, &FIRST_FORMS)?;
+    assert!(rt; statement.proof.len() == 3);
+    assert!(rt; spans(statement.span, FIRST, b" tze tze tpl "));
     Ok(())
 }
 
 #[test]
-fn answers_the_first_fault_for_good(rt: HostRuntime) -> Result<(), Fail> {
-    // The rule, its place, and how long the label is; 0 where there is none.
-    let faults: [(&[u8], TextRule, u32, usize); 19] = [
-        (b"e $e a", TextRule::X8, 0, 1),
-        (b"a ${ a", TextRule::S3, 2, 1),
-        (b"$c ${ a", TextRule::S4, 3, 0),
-        (b"$d a $.", TextRule::S5, 5, 0),
-        (b"$}", TextRule::S6, 0, 0),
-        (b"ab $[ a $]", TextRule::X6, 3, 2),
-        (b"a $( b", TextRule::X2, 2, 1),
-        (b"$c a", TextRule::X8, 0, 0),
-        (b" a", TextRule::X8, 1, 1),
-        (b"$c a\x7f $.", TextRule::X1, 3, 0),
-        (b"$c a $) $.", TextRule::X4, 5, 0),
-        (b"ab $a a$ $.", TextRule::X9, 6, 2),
-        (b"$f a b $.", TextRule::S1, 0, 0),
-        (b"a# $a a $.", TextRule::S2, 0, 0),
-        (b"a $c b $.", TextRule::S3, 2, 1),
-        (b"p $p $.", TextRule::S4, 5, 1),
-        (b"$c $=", TextRule::S4, 3, 0),
-        (b"p $p $=", TextRule::S5, 5, 1),
-        (b"f $f a b c $.", TextRule::S5, 9, 1),
-    ];
-    for (bytes, rule, at, length) in faults {
-        let files = [File { name: b"a", bytes }];
-        let Ok(mut statements) = Statements::new(rt.alloc(), &files) else {
-            return Err(Fail::from("refused"));
-        };
-        let mut statement = Statement::empty(rt.alloc());
-        for _ in 0..6 {
-            let Err(
-                TextFault::Fault {
-                    rule: found,
-                    file,
-                    at: place,
-                    statement: number,
-                    label,
-                },
-            ) = statements.read(&mut statement)
-            else {
-                return Err(Fail::from("no fault"));
-            };
-            assert_eq!(rt; found, rule);
-            assert_eq!(rt; file, 0);
-            assert_eq!(rt; number, 1);
-            assert_eq!(rt; place, at, "{rule:?}");
-            assert_eq!(rt;
-                label.map_or(0, |token| token.text.len()),
-                length,
-                "{rule:?}"
-            );
-            assert!(rt; is_empty(&statement));
+fn answers_the_end_for_good(rt: HostRuntime) -> Result<(), Fail> {
+    let files = [File {
+        name: b"first.mm",
+        bytes: FIRST,
+    }];
+    let mut statements = Statements::new(rt.alloc(), &files)?;
+    let mut statement = Statement::empty(rt.alloc());
+    read_next(&mut statements, &mut statement, 7)?;
+    for _ in 0..3 {
+        assert!(rt; !read(&mut statements, &mut statement)? && is_empty(&statement));
+    }
+    Ok(())
+}
+
+/// Whether each of six calls answers the fault, and leaves the statement empty.
+fn answers_for_good<'a>(
+    statements: &mut Statements<'a>,
+    into: &mut Statement<'a>,
+    fault: &Fault,
+) -> bool {
+    for _ in 0..6 {
+        if !is_fault(&statements.read(into), fault) || !is_empty(into) {
+            return false;
+        }
+    }
+    true
+}
+
+/// Whether the first call, and each one after it, answers the fault of the text.
+fn is_faulty(alloc: Global, case: &Case) -> Result<bool, Fail> {
+    let Case(bytes, fault) = case;
+    let files = [File { name: b"a", bytes }];
+    let mut statements = Statements::new(alloc, &files)?;
+    let mut statement = Statement::empty(alloc);
+    Ok(answers_for_good(&mut statements, &mut statement, fault))
+}
+
+fn each_is_faulty(alloc: Global, cases: &[Case]) -> Result<(), Fail> {
+    for case in cases {
+        if !is_faulty(alloc, case)? {
+            return Err(Fail::from("another answer"));
         }
     }
     Ok(())
 }
 
-/// Blocks, and a file that is put in once. The last `$}` lacks its `${`.
-const TOP: &[u8] = b"$[ b $] ${ e $e a $. $} $[ b $] $( $} $) $} $d x y $.";
+// Each function names a short list, since the proof that a list is well formed grows with the
+// square of its length.
+
+#[test]
+fn answers_faults_of_starts(rt: HostRuntime) -> Result<(), Fail> {
+    const CASES: [Case; 7] = [
+        Case(b"e $e a", Fault(TextRule::X8, 0, 1, 1)),
+        Case(b"a ${ a", Fault(TextRule::S3, 2, 1, 1)),
+        Case(b"$c ${ a", Fault(TextRule::S4, 3, 1, 0)),
+        Case(b"$d a $.", Fault(TextRule::S5, 5, 1, 0)),
+        Case(b"$}", Fault(TextRule::S6, 0, 1, 0)),
+        Case(b"ab $[ a $]", Fault(TextRule::X6, 3, 1, 2)),
+        Case(b"a $( b", Fault(TextRule::X2, 2, 1, 1)),
+    ];
+    each_is_faulty(rt.alloc(), &CASES)
+}
+
+#[test]
+fn answers_faults_of_tokens(rt: HostRuntime) -> Result<(), Fail> {
+    const CASES: [Case; 7] = [
+        Case(b"$c a", Fault(TextRule::X8, 0, 1, 0)),
+        Case(b" a", Fault(TextRule::X8, 1, 1, 1)),
+        Case(b"$c a\x7f $.", Fault(TextRule::X1, 3, 1, 0)),
+        Case(b"$c a $) $.", Fault(TextRule::X4, 5, 1, 0)),
+        Case(b"ab $a a$ $.", Fault(TextRule::X9, 6, 1, 2)),
+        Case(b"$f a b $.", Fault(TextRule::S1, 0, 1, 0)),
+        Case(b"a# $a a $.", Fault(TextRule::S2, 0, 1, 0)),
+    ];
+    each_is_faulty(rt.alloc(), &CASES)
+}
+
+#[test]
+fn answers_faults_of_forms(rt: HostRuntime) -> Result<(), Fail> {
+    const CASES: [Case; 5] = [
+        Case(b"a $c b $.", Fault(TextRule::S3, 2, 1, 1)),
+        Case(b"p $p $.", Fault(TextRule::S4, 5, 1, 1)),
+        Case(b"$c $=", Fault(TextRule::S4, 3, 1, 0)),
+        Case(b"p $p $=", Fault(TextRule::S5, 5, 1, 1)),
+        Case(b"f $f a b c $.", Fault(TextRule::S5, 9, 1, 1)),
+    ];
+    each_is_faulty(rt.alloc(), &CASES)
+}
+
+#[test]
+fn answers_faults_of_comments(rt: HostRuntime) -> Result<(), Fail> {
+    const CASES: [Case; 5] = [
+        Case(b"$( open", Fault(TextRule::X2, 0, 1, 0)),
+        Case(b"$[ a $( open", Fault(TextRule::X2, 5, 1, 0)),
+        Case(b"$( a$) $)", Fault(TextRule::X3, 3, 1, 0)),
+        Case(b"$( \x80$) $)", Fault(TextRule::X1, 3, 1, 0)),
+        Case(b" $)", Fault(TextRule::X4, 1, 1, 0)),
+    ];
+    each_is_faulty(rt.alloc(), &CASES)
+}
+
+#[test]
+fn answers_faults_of_inclusions(rt: HostRuntime) -> Result<(), Fail> {
+    const CASES: [Case; 5] = [
+        Case(b"$[ $]", Fault(TextRule::X5, 3, 1, 0)),
+        Case(b"$[ a", Fault(TextRule::X5, 0, 1, 0)),
+        Case(b"$[ b b", Fault(TextRule::X5, 5, 1, 0)),
+        Case(b"$[ $( c $) b $] $c", Fault(TextRule::X7, 11, 1, 0)),
+        Case(b"$( $a $) $[ a $] $x", Fault(TextRule::X9, 17, 1, 0)),
+    ];
+    each_is_faulty(rt.alloc(), &CASES)
+}
 
 #[test]
 fn reads_blocks_and_files(rt: HostRuntime) -> Result<(), Fail> {
@@ -133,39 +267,11 @@ fn reads_blocks_and_files(rt: HostRuntime) -> Result<(), Fail> {
             bytes: b"$c a $. $[ a $]",
         },
     ];
-    let Ok(mut statements) = Statements::new(rt.alloc(), &files) else {
-        return Err(Fail::from("refused"));
-    };
+    let mut statements = Statements::new(rt.alloc(), &files)?;
     let mut statement = Statement::empty(rt.alloc());
-    let wanted = [
-        (Kind::Constants, 1, 0),
-        (Kind::Opening, 0, 8),
-        (Kind::Essential, 0, 11),
-        (Kind::Closing, 0, 21),
-    ];
-    for (kind, file, at) in wanted {
-        assert!(rt;
-            matches!(statements.read(&mut statement), Ok(true)),
-            "at {at}"
-        );
-        assert_eq!(rt; statement.kind, kind, "at {at}");
-        assert_eq!(rt; statement.first.file, file, "at {at}");
-        assert_eq!(rt; statement.first.at, at);
-    }
-    let Err(
-        TextFault::Fault {
-            rule,
-            at,
-            statement: number,
-            ..
-        },
-    ) = statements.read(&mut statement)
-    else {
-        return Err(Fail::from("no fault"));
-    };
-    assert_eq!(rt; rule, TextRule::S6);
-    assert_eq!(rt; at, 41);
-    assert_eq!(rt; number, 5);
+    read_forms(&mut statements, &mut statement, &TOP_FORMS)?;
+    let fault = Fault(TextRule::S6, 41, 5, 0);
+    assert!(rt; answers_for_good(&mut statements, &mut statement, &fault));
     Ok(())
 }
 
@@ -175,28 +281,20 @@ fn names_the_innermost_open_block(rt: HostRuntime) -> Result<(), Fail> {
         name: b"a",
         bytes: b"$c a $. ${ ${ ${ $} $v x $.",
     }];
-    let Ok(mut statements) = Statements::new(rt.alloc(), &files) else {
-        return Err(Fail::from("refused"));
-    };
+    let mut statements = Statements::new(rt.alloc(), &files)?;
     let mut statement = Statement::empty(rt.alloc());
-    for _ in 0..6 {
-        assert!(rt; matches!(statements.read(&mut statement), Ok(true)));
-    }
-    let Err(
-        TextFault::Fault {
-            rule,
-            at,
-            statement: number,
-            ..
-        },
-    ) = statements.read(&mut statement)
-    else {
-        return Err(Fail::from("no fault"));
-    };
-    assert_eq!(rt; rule, TextRule::S7);
-    assert_eq!(rt; at, 11);
-    assert_eq!(rt; number, 3);
+    read_next(&mut statements, &mut statement, 6)?;
+    let fault = Fault(TextRule::S7, 11, 3, 0);
+    assert!(rt; answers_for_good(&mut statements, &mut statement, &fault));
     Ok(())
+}
+
+/// Whether the files break the rule as a whole.
+fn is_refused(alloc: Global, files: &[File], wanted: LoadRule) -> bool {
+    match Statements::new(alloc, files).err() {
+        Some(TextFault::Load(rule)) => rule == wanted,
+        _ => false,
+    }
 }
 
 #[test]
@@ -205,98 +303,54 @@ fn judges_the_files_first(rt: HostRuntime) {
         name: b"a",
         bytes: b"$c a",
     };
-    assert!(rt;
-        matches!(
-            Statements::new(rt.alloc(), &[]),
-            Err(TextFault::Load(LoadRule::F1))
-        )
-    );
-    assert!(rt;
-        matches!(
-            Statements::new(rt.alloc(), &[file, file]),
-            Err(TextFault::Load(LoadRule::F2))
-        )
-    );
+    assert!(rt; is_refused(rt.alloc(), &[], LoadRule::F1));
+    assert!(rt; is_refused(rt.alloc(), &[file, file], LoadRule::F2));
 }
 
-/// The faults that a whole text answers, with the place.
+fn has_message(alloc: Global, fault: TextFault, message: &str) -> Result<bool, Fail> {
+    let text = format!(in alloc; "{fault}")?;
+    Ok(text.as_str() == message)
+}
+
+/// A fault of the second file.
+const OF_SECOND_FILE: TextFault = TextFault::Fault {
+    rule: TextRule::X9,
+    file: 1,
+    at: 8,
+    statement: 2,
+    label: Some(Token {
+        text: b"th",
+        file: 1,
+        at: 3,
+    }),
+};
+
 #[test]
-fn answers_faults_of_comments_and_inclusions(rt: HostRuntime) -> Result<(), Fail> {
-    let faults: [(&[u8], TextRule, u32); 10] = [
-        (b"$( open", TextRule::X2, 0),
-        (b"$[ a $( open", TextRule::X2, 5),
-        (b"$( a$) $)", TextRule::X3, 3),
-        (b"$( \x80$) $)", TextRule::X1, 3),
-        (b" $)", TextRule::X4, 1),
-        (b"$[ $]", TextRule::X5, 3),
-        (b"$[ a", TextRule::X5, 0),
-        (b"$[ b b", TextRule::X5, 5),
-        (b"$[ $( c $) b $] $c", TextRule::X7, 11),
-        (b"$( $a $) $[ a $] $x", TextRule::X9, 17),
-    ];
-    for (bytes, rule, at) in faults {
-        let files = [File { name: b"a", bytes }];
-        let Ok(mut statements) = Statements::new(rt.alloc(), &files) else {
-            return Err(Fail::from("refused"));
-        };
-        let mut statement = Statement::empty(rt.alloc());
-        let Err(
-            TextFault::Fault {
-                rule: found,
-                at: place,
-                ..
-            },
-        ) = statements.read(&mut statement)
-        else {
-            return Err(Fail::from("no fault"));
-        };
-        assert_eq!(rt; found, rule);
-        assert_eq!(rt; place, at, "{rule:?}");
-    }
+fn faults_with_labels_have_messages(rt: HostRuntime) -> Result<(), Fail> {
+    let message = "file 1, byte 8: statement 2 th breaks X9";
+    assert!(rt; has_message(rt.alloc(), OF_SECOND_FILE, message)?);
     Ok(())
 }
 
 #[test]
 fn faults_have_messages(rt: HostRuntime) -> Result<(), Fail> {
-    let label = Token {
-        text: b"th",
-        file: 1,
-        at: 3,
-    };
-    let of_label = TextFault::Fault {
-        rule: TextRule::X9,
-        file: 1,
-        at: 8,
-        statement: 2,
-        label: Some(label),
-    };
-    let labelled = format!(in rt.alloc(); "{of_label}")?;
-    assert!(rt;
-        labelled.as_str() == "file 1, byte 8: statement 2 th breaks X9",
-        "{labelled}"
-    );
-    let of_none = TextFault::Fault {
+    let fault = TextFault::Fault {
         rule: TextRule::S6,
         file: 0,
         at: 0,
         statement: 1,
         label: None,
     };
-    let plain = format!(in rt.alloc(); "{of_none}")?;
-    assert!(rt;
-        plain.as_str() == "file 0, byte 0: statement 1 breaks S6",
-        "{plain}"
-    );
+    let message = "file 0, byte 0: statement 1 breaks S6";
+    assert!(rt; has_message(rt.alloc(), fault, message)?);
     Ok(())
 }
 
 #[test]
 fn faults_of_files_and_devices_have_messages(rt: HostRuntime) -> Result<(), Fail> {
     let of_files = TextFault::Load(LoadRule::F1);
-    let text = format!(in rt.alloc(); "{of_files}; {}; {}", LoadFault::Device, WriteFault)?;
-    assert!(rt;
-        text.as_str() == "the files break F1; a read failed; a write failed",
-        "{text}"
-    );
+    assert!(rt; has_message(rt.alloc(), of_files, "the files break F1")?);
+    let text = format!(in rt.alloc(); "{}; {}", LoadFault::Device, WriteFault)?;
+    assert!(rt; text.as_str() == "a read failed; a write failed");
     Ok(())
 }

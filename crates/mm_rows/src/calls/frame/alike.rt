@@ -18,18 +18,26 @@ fn are_symbols_alike(a: &Book, b: &Book) -> bool {
     true
 }
 
+fn is_active_alike(a: &Frame, b: &Frame, hypothesis: LabelId) -> bool {
+    a.active(hypothesis) == b.active(hypothesis)
+}
+
 fn are_actives_alike(a: &Frame, b: &Frame) -> bool {
     for number in 0..MANY {
-        if a.active(LabelId(number)) != b.active(LabelId(number)) {
+        if !is_active_alike(a, b, LabelId(number)) {
             return false;
         }
     }
     true
 }
 
+fn is_pair_alike(a: &Frame, b: &Frame, first: Sym, second: Sym) -> bool {
+    a.distinct(first, second) == b.distinct(first, second)
+}
+
 fn are_pairs_alike(a: &Frame, b: &Frame, symbol: Sym) -> bool {
     for number in 0..MANY {
-        if a.distinct(symbol, Sym(number)) != b.distinct(symbol, Sym(number)) {
+        if !is_pair_alike(a, b, symbol, Sym(number)) {
             return false;
         }
     }

@@ -55,13 +55,18 @@ fn is_one_variable(book: &Book, first: &[u8], second: &[u8], name: &[u8]) -> boo
     }
 }
 
+/// Whether the label of a hypothesis is this word.
+fn is_label(book: &Book, id: LabelId, word: &str) -> bool {
+    book.label(id) == word.as_bytes()
+}
+
 /// Whether the labels of hypotheses are these words.
 fn are_labels(book: &Book, hypotheses: &[LabelId], words: &str) -> bool {
     if words.split_whitespace().count() != hypotheses.len() {
         return false;
     }
     for (id, word) in hypotheses.iter().zip(words.split_whitespace()) {
-        if book.label(*id) != word.as_bytes() {
+        if !is_label(book, *id, word) {
             return false;
         }
     }

@@ -54,26 +54,17 @@ pub(crate) fn read<'a>(
 ) -> Result<bool, Fail>
     ensures { result ≡ Ok true → HasForm (plain_statement into.new) }
 {
-    match statements.read(into) {
-        Ok(more) => Ok(more),
-        Err(_) => Err(Fail::from("a fault of the text")),
-    }
+    Ok(statements.read(into)?)
 }
 
 /// A reader of a database.
 pub(crate) fn reader<'a>(alloc: Global, files: &'a [File<'a>]) -> Result<Statements<'a>, Fail> {
-    match Statements::new(alloc, files) {
-        Ok(statements) => Ok(statements),
-        Err(_) => Err(Fail::from("the files are refused")),
-    }
+    Ok(Statements::new(alloc, files)?)
 }
 
 /// A book of no statements.
 pub(crate) fn empty_book<'a>(alloc: Global) -> Result<Book<'a>, Fail> {
-    match Book::new(alloc) {
-        Ok(book) => Ok(book),
-        Err(_) => Err(Fail::from("memory")),
-    }
+    Ok(Book::new(alloc)?)
 }
 
 /// Takes as many of the next statements.
