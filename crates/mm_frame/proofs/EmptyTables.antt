@@ -9,7 +9,7 @@ use Rattle.mm_frame.proofs.Infos.{infos_none}
 use Rattle.mm_frame.proofs.Labels.{essentials_none}
 
 labels_empty : AreLabelInfos [] [] [] []
-labels_empty = record { all = refl; informed = refl; each = λ id info there. absurd (cc); logged = λ p e id there named. absurd (cc) }
+labels_empty = record { all = refl; informed = refl; each = λ id info there. absurd (cc); logged = λ p e id there named. absurd (cc); entered = λ id info there. absurd (cc) }
 
 entries_empty : AreEntries [] [] [] []
 entries_empty = record { within = λ p e there. absurd (cc); numbered = λ n s there. absurd (cc); named = λ p e id there is. absurd (cc) }

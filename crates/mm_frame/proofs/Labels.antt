@@ -12,7 +12,7 @@ use Rattle.mm_frame.specs.declared.tables.LabelInfo.{LabelInfo}
 use Rattle.mm_frame.specs.Sentence.{Sentence}
 use Rattle.mm_frame.specs.Active.{IsActive}
 use Rattle.mm_frame.specs.Numbers.{labelled_sentences, IsNumbered}
-use Rattle.mm_frame.specs.Layout.{AreLabelInfos, AreEssentials}
+use Rattle.mm_frame.specs.Layout.{AreLabelInfos, IsEntered, AreEssentials}
 use Rattle.mm_frame.proofs.Pushed.{get_kept, get_pushed, pushed_cases, get_before, get_within}
 use Rattle.mm_frame.proofs.Entries.{append_cases}
 use Rattle.mm_frame.proofs.ScopeLaws.{length_pushed}
@@ -31,6 +31,14 @@ front_count st e place le = ap (λ ys. length (labelled_sentences ys)) (take-app
 named_grow : (st : List Sentence) (e : Sentence) (id : ℕ) (info : LabelInfo) → (s : Sentence) × IsNumbered st id info.place s → (s : Sentence) × IsNumbered (st ++ e ∷ []) id info.place s
 named_grow st e id info (s, numbered) = (s, numbered_grow st (e ∷ []) id info.place s numbered)
 
+entered_grow : (log : List Entry) (new : Entry) (info : LabelInfo) → IsEntered log info → IsEntered (log ++ new ∷ []) info
+entered_grow log new info is = record {
+  entry = is.entry;
+  there = get_kept log (new ∷ []) info.place is.entry is.there;
+  kind = is.kind;
+  symbols = is.symbols;
+}
+
 pub labels_none : (st : List Sentence) (labels : List (List ℕ)) (named : List LabelInfo) (log : List Entry) (e : Sentence) (new : Entry) → AreLabelInfos st labels named log
     → e.label ≡ None → new.label ≡ None → length log ≡ length st → AreLabelInfos (st ++ e ∷ []) labels named (log ++ new ∷ [])
 labels_none st labels named log e new are none no_id size = record {
@@ -43,12 +51,13 @@ labels_none st labels named log e new are none no_id size = record {
         front_count st e place (omega arith) ∙ are.logged place f id before is
     | inr (last, same) ↦ absurd (let h = ap (λ (d : Entry). d.label) same in cc)
   ];
+  entered = λ id info there. entered_grow log new info (are.entered id info there);
 }
 
 pub labels_some : (st : List Sentence) (labels : List (List ℕ)) (named : List LabelInfo) (log : List Entry) (e : Sentence) (new : Entry) (l : List ℕ) (id : LabelId) (info : LabelInfo) → AreLabelInfos st labels named log
-    → e.label ≡ Some l → new.label ≡ Some id → id.0 ≡ length labels → info.place ≡ length st → length log ≡ length st
+    → e.label ≡ Some l → new.label ≡ Some id → id.0 ≡ length labels → info.place ≡ length st → new.kind ≡ info.kind → new.symbols ≡ info.symbols → length log ≡ length st
     → AreLabelInfos (st ++ e ∷ []) (labels ++ l ∷ []) (named ++ info ∷ []) (log ++ new ∷ [])
-labels_some st labels named log e new l id info are has has_id number placed size =
+labels_some st labels named log e new l id info are has has_id number placed kinds parts size =
     let count = labels_counted st labels named log are in
     let informed = are.informed in
     record {
@@ -71,6 +80,17 @@ labels_some st labels named log e new l id info are has has_id number placed siz
             let at : place ≡ length st = last ∙ size in
             let same_id : id ≡ i = let h = ap (λ (d : Entry). d.label) same in cc in
             ap (λ p. length (labelled_sentences (take p (st ++ e ∷ [])))) at ∙ ap (λ ys. length (labelled_sentences ys)) (take-append_seam st (e ∷ [])) ∙ count ∙ sym number ∙ ap (λ (j : LabelId). j.0) same_id
+      ];
+      entered = λ n other there. elim (pushed_cases named info n other there) [
+        | inl before ↦ entered_grow log new other (are.entered n other before)
+        | inr (last, same) ↦
+            let place : length log ≡ other.place = size ∙ sym placed ∙ ap (λ (i : LabelInfo). i.place) same in
+            record {
+              entry = new;
+              there = subst (λ p. slice_get (log ++ new ∷ []) p ≡ Some new) place (get_pushed log new);
+              kind = kinds ∙ ap (λ (i : LabelInfo). i.kind) same;
+              symbols = parts ∙ ap (λ (i : LabelInfo). i.symbols) same;
+            }
       ];
     }
 

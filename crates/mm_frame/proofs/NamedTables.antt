@@ -144,19 +144,21 @@ grown : (t u v : Tables) (s : Sentence) (kind : Kind) (l : List ℕ) (numbers : 
     → AreTables t → Before t u a b → Named u v kind l numbers frame id bytes → id.0 ≡ length u.labels.names → IsWritten t s kind l numbers
     → declared_by s ≡ [] → ¬ (kind ≡ Closing) → ¬ (kind ≡ Distinct)
     → AreInfos (statements_of t ++ s ∷ []) t.symbols.names u.infos.items → AreEssentials (statements_of t ++ s ∷ []) u.essentials.items
-    → AreFrames (statements_of t ++ s ∷ []) (t.hypotheses.items ++ a) (t.pairs.items ++ b) (t.named.items ++ label_info (length t.log.items) frame ∷ [])
+    → AreFrames (statements_of t ++ s ∷ []) (t.hypotheses.items ++ a) (t.pairs.items ++ b) (t.named.items ++ label_info (length t.log.items) (entry_of kind (Some id) (length t.flat.items) (length (t.flat.items ++ numbers))) frame ∷ [])
     → AreGrown t v s
 grown t u v s kind l numbers frame id a b bytes are before named number is none unclosed together infos essentials frames =
     let st = statements_of t in
     let new = entry_of kind (Some id) (length t.flat.items) (length (t.flat.items ++ numbers)) in
     let app = appended t u v s kind l numbers frame id a b bytes are before named number is in
     let size = length-sentences t.symbols.names t.labels.names t.flat.items t.log.items in
-    let labels = labels_some st t.labels.names t.named.items t.log.items s new l id (label_info (length t.log.items) frame) are.labels
-    is.label refl (number ∙ ap length before.labels) (sym size) (sym size) in
+    let labels = labels_some st t.labels.names t.named.items t.log.items s new l id (label_info (length t.log.items) new frame) are.labels
+    is.label refl (number ∙ ap length before.labels) (sym size) refl refl (sym size) in
     let held : HaveScopes st u.scopes = rw (before.scopes.blocks, before.scopes.ends, before.scopes.open_blocks) are.scopes in
-    let names : v.named.items ≡ t.named.items ++ label_info (length t.log.items) frame ∷ [] =
-    named.named ∙ ap (λ (ys : List LabelInfo). ys ++ label_info (length u.log.items) frame ∷ []) before.named
-    ∙ ap (λ (ys : List Entry). t.named.items ++ label_info (length ys) frame ∷ []) before.log in
+    let old = entry_of kind (Some id) (length u.flat.items) (length (u.flat.items ++ numbers)) in
+    let names : v.named.items ≡ t.named.items ++ label_info (length t.log.items) new frame ∷ [] =
+    named.named ∙ ap (λ (ys : List LabelInfo). ys ++ label_info (length u.log.items) old frame ∷ []) before.named
+    ∙ ap (λ (ys : List Entry). t.named.items ++ label_info (length ys) old frame ∷ []) before.log
+    ∙ ap (λ (fs : List Sym). t.named.items ++ label_info (length t.log.items) (entry_of kind (Some id) (length fs) (length (fs ++ numbers))) frame ∷ []) before.flat in
     let same : v.symbols.names ≡ t.symbols.names = named.symbols ∙ before.symbols in
     let kept = stated_other st s t.symbols.names [] t.distinct.stated are.sound.0 are.infos.all (same_symbols t s are none) are.stated
     (λ distinct. together (sym is.kinds ∙ distinct)) in
@@ -173,7 +175,7 @@ pub named_grows : (t u v : Tables) (s : Sentence) (kind : Kind) (l : List ℕ) (
     → AreTables t → Before t u a b → Named u v kind l numbers frame id bytes → id.0 ≡ length u.labels.names → IsWritten t s kind l numbers
     → declared_by s ≡ [] → ¬ (kind ≡ Closing) → ¬ (kind ≡ Distinct)
     → AreInfos (statements_of t ++ s ∷ []) t.symbols.names u.infos.items → AreEssentials (statements_of t ++ s ∷ []) u.essentials.items
-    → AreFrames (statements_of t ++ s ∷ []) (t.hypotheses.items ++ a) (t.pairs.items ++ b) (t.named.items ++ label_info (length t.log.items) frame ∷ [])
+    → AreFrames (statements_of t ++ s ∷ []) (t.hypotheses.items ++ a) (t.pairs.items ++ b) (t.named.items ++ label_info (length t.log.items) (entry_of kind (Some id) (length t.flat.items) (length (t.flat.items ++ numbers))) frame ∷ [])
     → 1 + length numbers ≤ 2 * bytes → t.bytes + bytes ≤ 1073741824 → Grows t v s bytes
 named_grows t u v s kind l numbers frame id a b bytes are before named number is none unclosed together infos essentials frames enough room =
     let new = entry_of kind (Some id) (length t.flat.items) (length (t.flat.items ++ numbers)) in
@@ -195,10 +197,10 @@ essential_asserts : ¬ (IsAssertion Essential)
 essential_asserts asserts = elim asserts [ inl e ↦ absurd (cc) | inr e ↦ absurd (cc) ]
 
 -- a hypothesis has no frame
-hypothesis_frames : (t : Tables) (s : Sentence) (frame : Part × Part) → AreTables t → ¬ (IsAssertion s.kind)
-    → AreFrames (statements_of t ++ s ∷ []) (t.hypotheses.items ++ []) (t.pairs.items ++ []) (t.named.items ++ label_info (length t.log.items) frame ∷ [])
-hypothesis_frames t s frame are other =
-    frames_hypothesis (statements_of t) s t.hypotheses.items [] t.pairs.items [] t.named.items (label_info (length t.log.items) frame)
+hypothesis_frames : (t : Tables) (s : Sentence) (e : Entry) (frame : Part × Part) → AreTables t → ¬ (IsAssertion s.kind)
+    → AreFrames (statements_of t ++ s ∷ []) (t.hypotheses.items ++ []) (t.pairs.items ++ []) (t.named.items ++ label_info (length t.log.items) e frame ∷ [])
+hypothesis_frames t s e frame are other =
+    frames_hypothesis (statements_of t) s t.hypotheses.items [] t.pairs.items [] t.named.items (label_info (length t.log.items) e frame)
     (placed (statements_of t) t.labels.names t.named.items t.log.items are.labels) are.frames
     (sym (length-sentences t.symbols.names t.labels.names t.flat.items t.log.items)) other
 
@@ -215,7 +217,7 @@ supposed t u v s l numbers frame id bytes are before infos essentials named numb
     let active : AreEssentials (st ++ s ∷ []) (t.essentials.items ++ length t.log.items ∷ []) =
     subst (λ n. AreEssentials (st ++ s ∷ []) (t.essentials.items ++ n ∷ [])) size (essentials_essential st t.essentials.items s are.essentials is.kinds) in
     named_grows t u v s Essential l numbers frame id [] [] bytes are before named number is none (λ e. absurd (cc)) (λ e. absurd (cc))
-    (rw infos known) (rw essentials active) (hypothesis_frames t s frame are (no_assertion s Essential is.kinds essential_asserts)) enough room
+    (rw infos known) (rw essentials active) (hypothesis_frames t s (entry_of Essential (Some id) (length t.flat.items) (length (t.flat.items ++ numbers))) frame are (no_assertion s Essential is.kinds essential_asserts)) enough room
 
 -- a `$f`
 pub typed : (t u v : Tables) (s : Sentence) (code x : List ℕ) (n : Sym) (info : SymbolInfo) (l : List ℕ) (numbers : List Sym) (frame : Part × Part) (id : LabelId) (bytes : ℕ)
@@ -232,13 +234,13 @@ typed t u v s code x n info l numbers frame id bytes are before says at there in
     (infos_floating st t.symbols.names t.infos.items s code x n.0 info are.infos is.kinds says at there) in
     let active = essentials_other st t.essentials.items s are.essentials (λ e. let k = is.kinds in absurd (cc)) (λ e. let k = is.kinds in absurd (cc)) in
     named_grows t u v s Floating l numbers frame id [] [] bytes are before named number is none (λ e. absurd (cc)) (λ e. absurd (cc))
-    (rw infos known) (rw essentials active) (hypothesis_frames t s frame are (no_assertion s Floating is.kinds floating_asserts)) enough room
+    (rw infos known) (rw essentials active) (hypothesis_frames t s (entry_of Floating (Some id) (length t.flat.items) (length (t.flat.items ++ numbers))) frame are (no_assertion s Floating is.kinds floating_asserts)) enough room
 
 -- a `$a` or `$p`
 pub asserted : (t u v : Tables) (s : Sentence) (kind : Kind) (l : List ℕ) (numbers : List Sym) (frame : Part × Part) (id : LabelId) (a : List LabelId) (b : List (Sym × Sym)) (bytes : ℕ)
     → AreTables t → IsAssertion kind → Before t u a b → u.infos.items ≡ t.infos.items → u.essentials.items ≡ t.essentials.items
     → Named u v kind l numbers frame id bytes → id.0 ≡ length u.labels.names → IsWritten t s kind l numbers
-    → IsFrameInfo (statements_of t ++ s ∷ []) (t.hypotheses.items ++ a) (t.pairs.items ++ b) (label_info (length t.log.items) frame)
+    → IsFrameInfo (statements_of t ++ s ∷ []) (t.hypotheses.items ++ a) (t.pairs.items ++ b) (label_info (length t.log.items) (entry_of kind (Some id) (length t.flat.items) (length (t.flat.items ++ numbers))) frame)
     → 1 + length numbers ≤ 2 * bytes → t.bytes + bytes ≤ 1073741824 → Grows t v s bytes
 asserted t u v s kind l numbers frame id a b bytes are which before infos essentials named number is framed enough room =
     let st = statements_of t in
@@ -251,7 +253,7 @@ asserted t u v s kind l numbers frame id a b bytes are which before infos essent
     let active = essentials_other st t.essentials.items s are.essentials unsupposed (λ e. unclosed (sym is.kinds ∙ e)) in
     named_grows t u v s kind l numbers frame id a b bytes are before named number is none unclosed apart
     (rw infos known) (rw essentials active)
-    (frames_assertion st s t.hypotheses.items a t.pairs.items b t.named.items (label_info (length t.log.items) frame)
+    (frames_assertion st s t.hypotheses.items a t.pairs.items b t.named.items (label_info (length t.log.items) (entry_of kind (Some id) (length t.flat.items) (length (t.flat.items ++ numbers))) frame)
     (placed st t.labels.names t.named.items t.log.items are.labels) are.frames framed) enough room
 
 -- the numbers of a type code and a variable
@@ -296,10 +298,10 @@ noted old told new m n info p q same is place there tells =
     ∙ ap (λ r. set told n.0 (record info { floating = Some r })) place
 
 -- the frame of a new assertion, at the ends of the lists of hypotheses and of pairs
-pub framed : (t : Tables) (s : Sentence) (places : List ℕ) (a : List LabelId) (b : List (Sym × Sym)) → AreTables t → ArePlaces (statements_of t) s places
+pub framed : (t : Tables) (s : Sentence) (e : Entry) (places : List ℕ) (a : List LabelId) (b : List (Sym × Sym)) → AreTables t → ArePlaces (statements_of t) s places
     → map (λ id. id.0) a ≡ numbers_at (statements_of t) places → ArePairs (at_place (statements_of t ++ s ∷ []) (length (statements_of t))) (map (λ pair. (pair.0.0, pair.1.0)) b)
-    → IsFrameInfo (statements_of t ++ s ∷ []) (t.hypotheses.items ++ a) (t.pairs.items ++ b) (label_info (length t.log.items) (part_after t.hypotheses.items a, part_after t.pairs.items b))
-framed t s places a b are at ids pairs =
+    → IsFrameInfo (statements_of t ++ s ∷ []) (t.hypotheses.items ++ a) (t.pairs.items ++ b) (label_info (length t.log.items) e (part_after t.hypotheses.items a, part_after t.pairs.items b))
+framed t s e places a b are at ids pairs =
     let st = statements_of t in
     let size = length-sentences t.symbols.names t.labels.names t.flat.items t.log.items in
     let hs : AreHypotheses (at_place (st ++ s ∷ []) (length st)) (map (λ id. id.0) a) =

@@ -25,6 +25,14 @@ same_place st labels named log id place s info are there numbered =
     let (t, other) = are.each id info there in
     (numbered_unique st id info.place place t s other numbered).0
 
+-- the entry of a label's statement, which has the kind and the symbols that are known of the label
+pub info_entry : (st : List Sentence) (labels : List (List ℕ)) (named : List LabelInfo) (log : List Entry) (id place : ℕ) (s : Sentence) (info : LabelInfo) → AreLabelInfos st labels named log
+    → slice_get named id ≡ Some info → IsNumbered st id place s → (e : Entry) × (slice_get log place ≡ Some e) × (e.kind ≡ info.kind) × (e.symbols ≡ info.symbols)
+info_entry st labels named log id place s info are there numbered =
+    let same = same_place st labels named log id place s info are there numbered in
+    let is = are.entered id info there in
+    (is.entry, subst (λ (p : ℕ). slice_get log p ≡ Some is.entry) same is.there, is.kind, is.symbols)
+
 -- something is known of each label
 pub no_info : (st : List Sentence) (labels : List (List ℕ)) (named : List LabelInfo) (log : List Entry) (id place : ℕ) (s : Sentence) → AreLabelInfos st labels named log
     → slice_get named id ≡ None → IsNumbered st id place s → ⊥

@@ -80,6 +80,13 @@ pub record AreInfos (statements : List Sentence) (symbols : List (List ℕ)) (in
   pub each : (n : ℕ) (x : List ℕ) (info : SymbolInfo) → slice_get symbols n ≡ Some x → slice_get infos n ≡ Some info
       → IsInfo statements x info
 
+-- what is known of a label has the kind and the symbols of its statement's entry
+pub record IsEntered (log : List Entry) (info : LabelInfo) : Type 0 where
+  pub entry : Entry
+  pub there : slice_get log info.place ≡ Some entry
+  pub kind : entry.kind ≡ info.kind
+  pub symbols : entry.symbols ≡ info.symbols
+
 -- what is known of each label
 pub record AreLabelInfos (statements : List Sentence) (labels : List (List ℕ)) (named : List LabelInfo) (log : List Entry) : Type 0 where
   pub all : map (λ s. s.label) (labelled_sentences statements) ≡ map Some labels
@@ -88,6 +95,7 @@ pub record AreLabelInfos (statements : List Sentence) (labels : List (List ℕ))
       → (s : Sentence) × IsNumbered statements id info.place s
   pub logged : (place : ℕ) (e : Entry) (id : LabelId) → slice_get log place ≡ Some e → e.label ≡ Some id
       → length (labelled_sentences (take place statements)) ≡ id.0
+  pub entered : (id : ℕ) (info : LabelInfo) → slice_get named id ≡ Some info → IsEntered log info
 
 -- where the symbols of each statement stand
 pub record AreEntries (symbols : List (List ℕ)) (labels : List (List ℕ)) (flat : List Sym) (log : List Entry) : Type 0 where

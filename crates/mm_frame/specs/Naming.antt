@@ -4,6 +4,7 @@ use Rattle.mm_text.specs.declared.statement.Kind.{Kind}
 use Rattle.mm_text.specs.declared.statement.Kind.TheVariants.{Closing}
 use Rattle.mm_frame.specs.declared.number.LabelId.{LabelId}
 use Rattle.mm_frame.specs.declared.number.Sym.{Sym}
+use Rattle.mm_frame.specs.declared.tables.Entry.{Entry}
 use Rattle.mm_frame.specs.declared.tables.LabelInfo.{LabelInfo}
 use Rattle.mm_frame.specs.declared.tables.Part.{Part}
 use Rattle.mm_frame.specs.declared.tables.Tables.{Tables}
@@ -17,8 +18,14 @@ use Rattle.mm_frame.specs.Grows.{entry_of}
 abbrev pub part_after : {X : Type 0} → List X → List X → Part
 part_after xs more = record { start = length xs; end = length (xs ++ more) }
 
-abbrev pub label_info : ℕ → Part × Part → LabelInfo
-label_info place frame = record { place = place; hypotheses = frame.0; pairs = frame.1 }
+abbrev pub label_info : ℕ → Entry → Part × Part → LabelInfo
+label_info place e frame = record {
+  place = place;
+  kind = e.kind;
+  symbols = e.symbols;
+  hypotheses = frame.0;
+  pairs = frame.1;
+}
 
 -- there is room for a label, and for the entry of its statement of so many symbols
 pub record HaveNameRoom (t : Tables) (symbols : ℕ) : Type 0 where
@@ -33,7 +40,10 @@ pub record Named (old new : Tables) (kind : Kind) (label : List ℕ) (numbers : 
   pub symbols : new.symbols.names ≡ old.symbols.names
   pub infos : new.infos.items ≡ old.infos.items
   pub labels : new.labels.names ≡ with_name old.labels.names label
-  pub named : new.named.items ≡ old.named.items ++ label_info (length old.log.items) frame ∷ []
+  pub named : new.named.items
+      ≡ old.named.items
+      ++ label_info (length old.log.items)
+      (entry_of kind (Some id) (length old.flat.items) (length (old.flat.items ++ numbers))) frame ∷ []
   pub log : new.log.items
       ≡ old.log.items ++ entry_of kind (Some id) (length old.flat.items) (length (old.flat.items ++ numbers)) ∷ []
   pub flat : new.flat.items ≡ old.flat.items ++ numbers

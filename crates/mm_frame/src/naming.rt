@@ -68,11 +68,17 @@ impl<'a> Tables<'a> {
         let place = self.log.len();
         let start = self.flat.len();
         let _ = self.flat.extend_from_slice(numbers);
+        let symbols = Part {
+            start,
+            end: self.flat.len(),
+        };
         self.labels.add(label);
         put(
             &mut self.named,
             LabelInfo {
                 place,
+                kind,
+                symbols,
                 hypotheses: frame.0,
                 pairs: frame.1,
             },

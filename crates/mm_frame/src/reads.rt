@@ -12,7 +12,6 @@ ghost use Rattle.mm_frame.specs.FramePlace.{AreHypotheses, ArePairs};
 ghost use Rattle.mm_frame.specs.Layout.{AreTables, statements_of};
 
 use crate::answer::Found;
-use crate::lists::at as at_place;
 use crate::number::{LabelId, LabelKind, Sym};
 use crate::tables::{Tables, part_of};
 use mm_text::Kind;
@@ -47,7 +46,10 @@ pub(crate) fn label_symbols<'b>(tables: &'b Tables, id: LabelId) -> &'b [Sym]
     ensures { (place : ℕ) (s : Sentence) → IsNumbered (statements_of tables.now) id.0 place s
         → AreNumbers (statements_of tables.now) (map (λ n. n.0) result.now) s.symbols }
 {
-    tables.symbols_at(label_place(tables, id))
+    match tables.label_info(id) {
+        Some(info) => part_of(&tables.flat, info.symbols),
+        None => &[],
+    }
 }
 
 // A kind of statements that have labels.
@@ -68,8 +70,8 @@ pub(crate) fn label_kind(tables: &Tables, id: LabelId) -> LabelKind
     ensures { (place : ℕ) (s : Sentence) → IsNumbered (statements_of tables.now) id.0 place s
         → s.kind ≡ kind_behind result }
 {
-    match at_place(&tables.log, label_place(tables, id)) {
-        Some(entry) => kind_of(entry.kind),
+    match tables.label_info(id) {
+        Some(info) => kind_of(info.kind),
         None => LabelKind::Proof,
     }
 }

@@ -43,10 +43,14 @@ pub(crate) struct SymbolInfo {
     pub(crate) floating: Option<usize>,
 }
 
-/// A labelled statement.
+/// A labelled statement. What the steps of proofs ask of it stands together, as they name labels in
+/// any order: so one place of memory is read, and not that of the entry too.
 #[derive(Clone, Copy)]
 pub(crate) struct LabelInfo {
     pub(crate) place: usize,
+    /// What its entry says.
+    pub(crate) kind: Kind,
+    pub(crate) symbols: Part,
     /// Of an assertion: where its mandatory hypotheses stand in their list.
     pub(crate) hypotheses: Part,
     /// Of an assertion: where its distinct pairs stand in their list.

@@ -1,24 +1,21 @@
-use Rattle.std.proofs.Common.{◌≡◌, ◌∙◌, sym, Some, None}
-use Rattle.std.specs.List.{slice_get}
+use Rattle.std.proofs.Common.{◌∙◌, sym, subst, Some}
+use Rattle.mm_text.specs.declared.statement.Kind.{Kind}
+use Rattle.mm_frame.specs.Form.{HasItsLabel}
 use Rattle.mm_frame.specs.Layout.{statements_of}
-use Rattle.mm_frame.proofs.SymbolsAt.{no_entry}
-use Rattle.mm_frame.proofs.ReadLaws.{label_at, entry_named}
+use Rattle.mm_frame.proofs.ReadLaws.{label_at, entry_named, info_entry, no_info}
 use Rattle.mm_frame.proofs.reads.label_kind.Goals as goal
 
 pub returns-in-Some : goal.returns-in-Some
 returns-in-Some c place s numbered =
     let t = c.args.tables.now in
     let (l, at, named) = label_at (statements_of t) t.labels.names t.named.items t.log.items c.args.id.0 place s c.requires.labels numbered in
-    let read : Some c.in-Some.entry ≡ slice_get c.deref.result.now c.label_place.result = rw c.in-Some.is at c.at.ensures in
-    let at_entry : slice_get t.log.items place ≡ Some c.in-Some.entry =
-    sym (rw (c.deref.ensures.value, c.label_place.ensures place s numbered) at read) in
-    let (same, has) = entry_named t.symbols.names t.labels.names t.flat.items t.log.items place c.in-Some.entry s l c.requires.sound.1
-    at_entry numbered.there named in
-    same ∙ c.kind_of.ensures l has
+    let (e, at_entry, kind, symbols) = info_entry (statements_of t) t.labels.names t.named.items t.log.items c.args.id.0 place s c.in-Some.info c.requires.labels
+    (sym (rw c.in-Some.is at c.label_info.ensures)) numbered in
+    let (same, has) = entry_named t.symbols.names t.labels.names t.flat.items t.log.items place e s l c.requires.sound.1 at_entry numbered.there named in
+    same ∙ kind ∙ c.kind_of.ensures l (subst (λ (k : Kind). HasItsLabel k (Some l)) kind has)
 
 pub returns-in-None : goal.returns-in-None
 returns-in-None c place s numbered =
     let t = c.args.tables.now in
-    let read : None ≡ slice_get c.deref.result.now c.label_place.result = rw c.in-None.is at c.at.ensures in
-    absurd (no_entry t.symbols.names t.labels.names t.flat.items t.log.items place s
-    (sym (rw (c.deref.ensures.value, c.label_place.ensures place s numbered) at read)) numbered.there)
+    absurd (no_info (statements_of t) t.labels.names t.named.items t.log.items c.args.id.0 place s c.requires.labels
+    (sym (rw c.in-None.is at c.label_info.ensures)) numbered)

@@ -1,7 +1,8 @@
-use Rattle.std.proofs.Common.{◌≡◌, refl, sym, ap, ◌∙◌, subst, inr, length, [], ◌∷◌, ◌++◌}
+use Rattle.std.proofs.Common.{◌≡◌, refl, sym, ap, ◌∙◌, subst, inr, Some, length, [], ◌∷◌, ◌++◌}
 use Rattle.mm_frame.specs.Sentence.{IsStated, IsAssertion}
 use Rattle.mm_frame.specs.Layout.{IsFrameInfo, statements_of}
 use Rattle.mm_frame.specs.Gathered.{ArePlaces}
+use Rattle.mm_frame.specs.Grows.{entry_of}
 use Rattle.mm_frame.specs.Naming.{label_info}
 use Rattle.mm_frame.proofs.SameTables.{on_err, same_tables}
 use Rattle.mm_frame.proofs.NamedTables.{few_labels, assertion_taken, before_same, asserted, framed}
@@ -67,9 +68,10 @@ returns-clause-ok c =
           let places = c.in_ok-places.ensures s meant stated numbered in
           let first : ArePlaces st s c.deref.result.now = rw c.deref.ensures.value places in
           let second : ArePlaces st s c.deref-2.result.now = rw c.deref-2.ensures.value places in
-          let framed_at : IsFrameInfo (st ++ s ∷ []) (t.hypotheses.items ++ ids) (t.pairs.items ++ pairs) (label_info (length t.log.items) (c.add_part-hypotheses.result, c.add_part-pairs.result)) =
+          let new = entry_of c.args.kind (Some c.name-id.result) (length t.flat.items) (length (t.flat.items ++ c.args.numbers.now)) in
+          let framed_at : IsFrameInfo (st ++ s ∷ []) (t.hypotheses.items ++ ids) (t.pairs.items ++ pairs) (label_info (length t.log.items) new (c.add_part-hypotheses.result, c.add_part-pairs.result)) =
           rw (c.add_part-hypotheses.ensures.part, c.add_part-pairs.ensures.part, old_hypotheses, old_pairs, c.deref-3.ensures.value, c.deref-4.ensures.value)
-          (framed t s c.deref.result.now ids pairs c.requires.tables first (c.in_ok-hypotheses.ensures s first) (c.in_ok-pairs.ensures s [] meant stated second)) in
+          (framed t s new c.deref.result.now ids pairs c.requires.tables first (c.in_ok-hypotheses.ensures s first) (c.in_ok-pairs.ensures s [] meant stated second)) in
           asserted t _ c.name-id.new.self s c.args.kind c.args.label.now c.args.numbers.now (c.add_part-hypotheses.result, c.add_part-pairs.result) c.name-id.result ids pairs c.args.bytes
           c.requires.tables c.requires.kind
           (record {
