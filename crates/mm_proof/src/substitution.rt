@@ -63,6 +63,26 @@ fn after<'e>(symbols: &'e [Sym], front: &[Sym]) -> Option<&'e [Sym]>
     }
 }
 
+// What follows the symbol, where the symbols begin with it. Most of what is compared is one symbol,
+// for which a comparison of lists takes longer.
+fn after_one(symbols: &[Sym], symbol: Sym) -> Option<&[Sym]>
+    ensures { MatchOption
+        result
+        ((rest : List ℕ) → ¬ (numbers_in symbols.now ≡ symbol.0 ∷ rest))
+        (λ rest. numbers_in symbols.now ≡ symbol.0 ∷ numbers_in rest.now) }
+{
+    match symbols {
+        [first, rest @ ..] => {
+            if first.0 == symbol.0 {
+                Some(rest)
+            } else {
+                None
+            }
+        }
+        [] => None,
+    }
+}
+
 /// Whether these are the same symbols.
 pub(crate) fn is_same(symbols: &[Sym], others: &[Sym]) -> bool
     ensures { IsTrue result ↔ (numbers_in symbols.now ≡ numbers_in others.now) }
@@ -88,8 +108,9 @@ fn after_replaced<'e, S: Store>(
         (λ rest. numbers_in symbols.now ≡ front ++ numbers_in rest.now) }
 {
     match value(store, base, variables, symbol) {
+        Some([only]) => after_one(symbols, *only),
         Some(value) => after(symbols, value),
-        None => after(symbols, &[symbol]),
+        None => after_one(symbols, symbol),
     }
 }
 
@@ -134,6 +155,7 @@ fn append_replaced<S: Store>(
         (symbol.0 ∷ [])) }
 {
     match value(store, base, variables, symbol) {
+        Some([only]) => made.push(*only)?,
         Some(value) => made.extend_from_slice(value)?,
         None => made.push(symbol)?,
     }
