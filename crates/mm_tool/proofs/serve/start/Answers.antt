@@ -8,5 +8,8 @@ returns-in-Ok-texts_of-clause-ends g c =
     let strings : AreWords (map string_bytes c.deref.result.now) =
     subst (λ list. AreWords (map string_bytes list)) (sym c.deref.ensures.value) c.in-Ok.ensures.all in
     let texts : AreWords (map (λ text. text.now) c.in-Ok-texts_of.words.items) = subst AreWords (sym c.in-Ok-texts_of.ensures) strings in
-    inl (map (λ text. text.now) c.deref-in-Ok-texts_of.result.now,
-    subst (λ list. AreWords (map (λ text. text.now) list)) (sym c.deref-in-Ok-texts_of.ensures.value) texts, c.serve.ensures.ends)
+    inl (
+      map (λ text. text.now) c.deref-in-Ok-texts_of.result.now,
+      subst (λ list. AreWords (map (λ text. text.now) list)) (sym c.deref-in-Ok-texts_of.ensures.value) texts,
+      c.serve.ensures.ends,
+    )
