@@ -1,8 +1,10 @@
 //! Both stores, and the verdicts on proofs of small databases with either.
 
-ghost use Rattle.std.specs.Prelude.{◌≡◌, ◌≤◌, ◌++◌, ◌∷◌, [], ℕ, map, length, IfOk, IfSome};
+ghost use Rattle.std.specs.Prelude.{◌≡◌, ◌≤◌, ◌++◌, ◌∷◌, [], ℕ, map, length, IfOk, IfSome, OnOk};
 ghost use Rattle.std.specs.List.{AllByRecursion, sum_by};
 ghost use Rattle.mm_text.specs.Statement.{plain_statement, HasForm, bytes_in};
+ghost use Rattle.mm_text.specs.declared.statement.Kind.TheVariants.{Provable};
+ghost use Rattle.mm_frame.specs.declared.answer.Taken.TheVariants.{Assertion};
 ghost use Rattle.mm_frame.specs.Sentence.{Sentence, sentence_in};
 ghost use Rattle.mm_frame.specs.Taken.{TakenAs};
 ghost use Rattle.mm_proof.specs.Steps.{IsProofNumber};
@@ -152,6 +154,67 @@ fn texts_of<'a>(alloc: Global, tokens: &[Token<'a>]) -> Result<Vec<&'a [u8]>, Al
     Ok(texts)
 }
 
+/// Reads the next statement.
+fn read_next<'a>(statements: &mut Statements<'a>, into: &mut Statement<'a>) -> Result<(), Fail>
+    ensures { OnOk result (HasForm (plain_statement into.new)) }
+{
+    match statements.read(into) {
+        Ok(true) => Ok(()),
+        Ok(false) => Err(Fail::from("no `$p`")),
+        Err(_) => Err(Fail::from("the text")),
+    }
+}
+
+/// The number with which a statement was taken, if it is a `$p`.
+fn theorem_number(kind: Kind, taken: Taken) -> Option<LabelId>
+    ensures { IfSome result (λ id. (kind ≡ Provable) × (taken ≡ Assertion id)) }
+{
+    match (kind, taken) {
+        (Kind::Provable, Taken::Assertion(id)) => Some(id),
+        _ => None,
+    }
+}
+
+/// Takes the next statements up to the first `$p`, and that too: its number.
+fn take_theorem<'a>(
+    statements: &mut Statements<'a>,
+    book: &mut Book<'a>,
+    into: &mut Statement<'a>,
+) -> Result<LabelId, Fail>
+    ensures proof { IfOk result (λ id. (place : ℕ) × (s : Sentence)
+        × IsProofNumber book.new.statements id.0 place s) }
+    ensures formed { OnOk result (HasForm (plain_statement into.new)) }
+    ensures room { OnOk result (bytes_in (plain_statement into.new) ≤ 1073741824) }
+{
+    for _ in 0..u64::MAX {
+        read_next(statements, into)?;
+        let taken = take(book, into)?;
+        if let Some(id) = theorem_number(into.kind, taken) {
+            return Ok(id);
+        }
+    }
+    Err(Fail::from("a long database"))
+}
+
+/// The tokens of the proof of a statement.
+fn tokens_of<'a>(alloc: Global, statement: &Statement<'a>) -> Result<Vec<&'a [u8]>, AllocError>
+    requires formed { HasForm (plain_statement statement.now) }
+    requires room { bytes_in (plain_statement statement.now) ≤ 1073741824 }
+    ensures filled { IfOk result (λ v. AllByRecursion (λ x. 1 ≤ length x) (texts v.items)) }
+    ensures room { IfOk result (λ v. sum_by length (texts v.items) ≤ 1073741824) }
+{
+    let tokens = texts_of(alloc, &statement.proof)?;
+    Ok(tokens)
+}
+
+/// A reader of a database.
+fn reader<'a>(alloc: Global, files: &'a [File<'a>]) -> Result<Statements<'a>, Fail> {
+    match Statements::new(alloc, files) {
+        Ok(statements) => Ok(statements),
+        Err(_) => Err(Fail::from("the files")),
+    }
+}
+
 /// The first `$p` of a database.
 fn first_theorem<'a>(alloc: Global, files: &'a [File<'a>]) -> Result<Theorem<'a>, Fail>
     ensures proof { IfOk result (λ t. (place : ℕ) × (s : Sentence)
@@ -159,22 +222,12 @@ fn first_theorem<'a>(alloc: Global, files: &'a [File<'a>]) -> Result<Theorem<'a>
     ensures filled { IfOk result (λ t. AllByRecursion (λ x. 1 ≤ length x) (texts t.tokens.items)) }
     ensures room { IfOk result (λ t. sum_by length (texts t.tokens.items) ≤ 1073741824) }
 {
-    let mut statements = Statements::new(alloc, files).ok().ok_or("the files")?;
+    let mut statements = reader(alloc, files)?;
     let mut book = Book::new(alloc)?;
     let mut statement = Statement::empty(alloc);
-    for _ in 0..u64::MAX {
-        if !statements.read(&mut statement).ok().ok_or("the text")? {
-            return Err(Fail::from("no `$p`"));
-        }
-        let taken = take(&mut book, &statement)?;
-        if let Taken::Assertion(id) = taken {
-            if statement.kind == Kind::Provable {
-                let tokens = texts_of(alloc, &statement.proof)?;
-                return Ok(Theorem { book, id, tokens });
-            }
-        }
-    }
-    Err(Fail::from("a long database"))
+    let id = take_theorem(&mut statements, &mut book, &mut statement)?;
+    let tokens = tokens_of(alloc, &statement)?;
+    Ok(Theorem { book, id, tokens })
 }
 
 /// What the proof uses; nothing where it is incomplete.
@@ -280,19 +333,16 @@ fn compressed_proof(rt: HostRuntime) -> Result<(), Fail> {
     expect_used(&rt, alloc, &[HEAD, theorem, cut], &REFLEXIVE)
 }
 
-/// The steps of the proof; nothing where it is incomplete.
-fn listing_of(alloc: Global, theorem: &Theorem) -> Result<Option<Vec<Line>>, ProofFault>
+/// The steps of the proof.
+fn listing_of(alloc: Global, theorem: &Theorem) -> Result<Vec<Line>, Fail>
     requires proof { (place : ℕ) × (s : Sentence)
         × IsProofNumber theorem.now.book.statements theorem.now.id.0 place s }
     requires filled { AllByRecursion (λ x. 1 ≤ length x) (texts theorem.now.tokens.items) }
     requires room { sum_by length (texts theorem.now.tokens.items) ≤ 1073741824 }
 {
     match Steps::parse(alloc, &theorem.book, theorem.id, &theorem.tokens)? {
-        Parsed::Incomplete => Ok(None),
-        Parsed::Steps(steps) => {
-            let lines = listing(alloc, &theorem.book, theorem.id, &steps)?;
-            Ok(Some(lines))
-        }
+        Parsed::Incomplete => Err(Fail::from("incomplete")),
+        Parsed::Steps(steps) => Ok(listing(alloc, &theorem.book, theorem.id, &steps)?),
     }
 }
 
@@ -304,30 +354,39 @@ fn assertion(book: &Book, label: &[u8]) -> Result<LabelId, Fail> {
     }
 }
 
-#[test]
-fn steps_are_listed(rt: HostRuntime) -> Result<(), Fail> {
-    let alloc = rt.alloc();
+/// Whether these are lines of the names, each with the expression.
+fn are_lines(lines: &[Line], names: &[Name], expression: &[Sym]) -> bool {
+    for (line, name) in lines.iter().zip(names.iter()) {
+        if line.name != *name || line.expression.as_slice() != expression {
+            return false;
+        }
+    }
+    lines.len() == names.len()
+}
+
+/// Whether these are the steps of the proof that makes one joining and uses it twice.
+fn are_shared_steps(book: &Book, lines: Vec<Line>) -> Result<bool, Fail> {
+    let nil = assertion(book, b"nil")?;
+    let cat = Name::Label(assertion(book, b"cat")?);
+    let names = [Name::Label(nil), Name::Label(nil), cat, Name::Step(3), cat];
+    Ok(are_lines(&lines, &names, book.expression(nil)))
+}
+
+/// The steps of the first `$p` of a database are those of that proof.
+fn expect_shared_steps(rt: &impl Abort, alloc: Global, bytes: &[u8]) -> Result<(), Fail> {
     let files = [File {
         name: b"cat.mm",
-        bytes: SHARED,
+        bytes,
     }];
     let theorem = first_theorem(alloc, &files)?;
-    let nil = assertion(&theorem.book, b"nil")?;
-    let cat = assertion(&theorem.book, b"cat")?;
-    let names = [
-        Name::Label(nil),
-        Name::Label(nil),
-        Name::Label(cat),
-        Name::Step(3),
-        Name::Label(cat),
-    ];
-    let lines = listing_of(alloc, &theorem)?.ok_or("incomplete")?;
-    assert_eq!(&rt; lines.len(), names.len());
-    for (line, name) in lines.iter().zip(names.iter()) {
-        assert_eq!(&rt; line.name, *name);
-        assert_eq!(&rt; line.expression.as_slice(), theorem.book.expression(nil));
-    }
+    let is_right = are_shared_steps(&theorem.book, listing_of(alloc, &theorem)?)?;
+    assert!(rt; is_right);
     Ok(())
+}
+
+#[test]
+fn steps_are_listed(rt: HostRuntime) -> Result<(), Fail> {
+    expect_shared_steps(&rt, rt.alloc(), SHARED)
 }
 
 #[test]
