@@ -26,6 +26,8 @@ mod proofs;
 #[cfg(test)]
 mod questions;
 #[cfg(test)]
+mod rules;
+#[cfg(test)]
 mod scopes;
 #[cfg(test)]
 mod tests;
