@@ -4,7 +4,7 @@ use Rattle.std.proofs.lemmas.Bool.{cases_lt}
 use Rattle.std.proofs.lemmas.List.Sums.{sum_by-append, sum_by-cons, count_by-le-length}
 use Rattle.mm_text.specs.declared.fault.LoadRule.TheVariants.{F1, F2, F3}
 use Rattle.mm_text.specs.declared.statement.Kind.{Kind}
-use Rattle.mm_text.specs.declared.statement.Kind.TheVariants.{Constants, Variables, Distinct, Floating, Essential, Axiom, Provable, Opening, Closing}
+use Rattle.mm_text.specs.declared.statement.Kind.TheVariants.{Closing}
 use Rattle.mm_text.specs.Statement.{PlainStatement, bytes_in}
 use Rattle.mm_text.specs.Files.{PlainFile, total_bytes}
 use Rattle.mm_text.specs.Blocks as text
@@ -27,37 +27,14 @@ within_limit files readable = elim (cases_lt 1073741824 (total_bytes files)) [
 
 -- ## Blocks
 
-same_opening : (k : Kind) → frame.is_opening k ≡ text.is_opening k
-same_opening Opening = refl
-same_opening Closing = refl
-same_opening Constants = refl
-same_opening Variables = refl
-same_opening Distinct = refl
-same_opening Floating = refl
-same_opening Essential = refl
-same_opening Axiom = refl
-same_opening Provable = refl
-
-same_closing : (k : Kind) → frame.is_closing k ≡ text.is_closing k
-same_closing Opening = refl
-same_closing Closing = refl
-same_closing Constants = refl
-same_closing Variables = refl
-same_closing Distinct = refl
-same_closing Floating = refl
-same_closing Essential = refl
-same_closing Axiom = refl
-same_closing Provable = refl
-
--- equal tests count equally
-counted_alike : (p q : Kind → Bool) → ((k : Kind) → p k ≡ q k) → (statements : List PlainStatement)
-    → count_by (λ (s : Sentence). p s.kind) (sentences statements) ≡ count_by (λ (s : PlainStatement). q s.kind) statements
-counted_alike p q same [] = refl
-counted_alike p q same (s ∷ statements) =
-    let rest = counted_alike p q same statements in
-    let one : ℕ = 1 in
-    let first : cond (p s.kind) one 0 ≡ cond (q s.kind) one 0 = ap (λ (b : Bool). cond b one 0) (same s.kind) in
-    omega (arith, first, rest, sum_by-cons (λ (t : Sentence). cond (p t.kind) 1 0) (sentence_of s) (sentences statements), sum_by-cons (λ (t : PlainStatement). cond (q t.kind) 1 0) s statements)
+-- what is counted by the kind is counted alike without the places in memory
+counted_alike : (p : Kind → Bool) (statements : List PlainStatement)
+    → count_by (λ (s : Sentence). p s.kind) (sentences statements) ≡ count_by (λ (s : PlainStatement). p s.kind) statements
+counted_alike p [] = refl
+counted_alike p (s ∷ statements) =
+    let rest = counted_alike p statements in
+    omega (arith, rest, sum_by-cons (λ (t : Sentence). cond (p t.kind) 1 0) (sentence_of s) (sentences statements),
+    sum_by-cons (λ (t : PlainStatement). cond (p t.kind) 1 0) s statements)
 
 take_next : {X : Type 0} (xs : List X) (x : X) (ys : List X) → take (suc (length xs)) (xs ++ x ∷ ys) ≡ xs ++ x ∷ []
 take_next [] x ys = refl
@@ -82,8 +59,8 @@ closes files p old new s way taken closing =
     let same : text.openings (earlier ++ s ∷ []) ≡ text.openings earlier + text.openings (s ∷ []) =
     count_by-append (λ (t : PlainStatement). text.is_opening t.kind) earlier (s ∷ []) in
     let less : text.closings earlier < text.openings earlier = omega (arith, here, one, none, more, same) in
-    let closed : frame.close_marks (sentences earlier) ≡ text.closings earlier = counted_alike frame.is_closing text.is_closing same_closing earlier in
-    let opened : frame.open_marks (sentences earlier) ≡ text.openings earlier = counted_alike frame.is_opening text.is_opening same_opening earlier in
+    let closed : frame.close_marks (sentences earlier) ≡ text.closings earlier = counted_alike text.is_closing earlier in
+    let opened : frame.open_marks (sentences earlier) ≡ text.openings earlier = counted_alike text.is_opening earlier in
     let plain : frame.close_marks (sentences earlier) < frame.open_marks (sentences earlier) = omega (arith, less, closed, opened) in
     subst (λ (ss : List Sentence). frame.close_marks ss < frame.open_marks ss) (sym way.known.book) plain
 

@@ -6,7 +6,8 @@ use Rattle.mm_frame.specs.declared.number.LabelId.{LabelId}
 use Rattle.mm_proof.proofs.Parts.{part-append, part-new}
 use Rattle.mm_check.specs.declared.kept.KeptProof.{KeptProof}
 use Rattle.mm_check.specs.Conclusion.{ProofUses}
-use Rattle.mm_check.specs.Ranges.{ids_in, uses_at, uses_in, AreRangesWithin}
+use Rattle.mm_check.specs.Ranges.{uses_at, uses_in, AreRangesWithin}
+use Rattle.mm_proof.specs.CodeSteps.{ids_in}
 
 uses_grow : (xs ys : List LabelId) (proofs : List KeptProof) → AreRangesWithin (length xs) proofs → uses_in (xs ++ ys) proofs ≡ uses_in xs proofs
 uses_grow xs ys [] h = refl

@@ -15,13 +15,14 @@ use Rattle.mm_frame.specs.Rules.{AllMeant}
 use Rattle.mm_frame.proofs.Meant.{parts_at, one_label}
 use Rattle.mm_proof.specs.Proof.{IsProvedWithin, IsWithin, expression_limit}
 use Rattle.mm_check.specs.Conclusion.{Conclusion}
-use Rattle.mm_check.specs.Verdict.{AllObey, AreAccepted, CanBeRead, sentences, proof_of, is_proof, is_provable, is_incomplete}
+use Rattle.mm_check.specs.Verdict.{AllObey, AreAccepted, CanBeRead, sentences, proof_of, is_proof, is_incomplete}
+use Rattle.mm_text.specs.Statement.{is_provable}
 use Rattle.mm_check.specs.Answer.{IsKeptOf}
 use Rattle.mm_check.specs.Judged.{TakesNext}
 use Rattle.mm_check.specs.Marks.{IsKeptFrom}
 use Rattle.mm_check.specs.Rests.{IsAt, IsNamed}
 use Rattle.mm_check.specs.Shown.{Stands, IsListingText, IsShown}
-use Rattle.mm_check.specs.CodeShown.{IsSought, IsProofOf, IsTextFor}
+use Rattle.mm_check.specs.CodeShown.{IsStillLeft, IsProofOf, IsTextFor}
 use Rattle.mm_check.proofs.Judging.{incomplete_is}
 use Rattle.mm_check.proofs.OnTheWay.{within_limit}
 use Rattle.mm_check.proofs.Asked.{map-take}
@@ -43,10 +44,10 @@ stands_later s statements label t other (suc place, there, named) = (place, ther
 no_stand : (label : List ℕ) (t : PlainStatement) → ¬ (Stands [] label t)
 no_stand label t (place, there, named) = cc
 
-pub sought_start : (label : List ℕ) (first : Remaining) → first.ending ≡ None → (s : PlainStatement) × Stands first.statements label s → IsSought label first first
+pub sought_start : (label : List ℕ) (first : Remaining) → first.ending ≡ None → (s : PlainStatement) × Stands first.statements label s → IsStillLeft label first first
 sought_start label first faultless some = record { faultless = faultless; some = some; within = λ s h. h }
 
-pub sought_on : (label : List ℕ) (first old new : Remaining) (s : PlainStatement) → IsSought label first old → TakesNext old true s new → ¬ (IsLabelled label (sentence_of s)) → IsSought label first new
+pub sought_on : (label : List ℕ) (first old new : Remaining) (s : PlainStatement) → IsStillLeft label first old → TakesNext old true s new → ¬ (IsLabelled label (sentence_of s)) → IsStillLeft label first new
 sought_on label first old new s sought taken other =
     let here : Stands (s ∷ new.statements) label sought.some.0 =
     subst (λ (ss : List PlainStatement). Stands ss label sought.some.0) taken.0 sought.some.1 in
@@ -56,11 +57,11 @@ sought_on label first old new s sought taken other =
       within = λ t h. sought.within t (subst (λ (ss : List PlainStatement). Stands ss label t) (sym taken.0) (stands_after s new.statements label t h));
     }
 
-pub sought_found : (label : List ℕ) (first old new : Remaining) (s : PlainStatement) → IsSought label first old → TakesNext old true s new → IsLabelled label (sentence_of s) → Stands first.statements label s
+pub sought_found : (label : List ℕ) (first old new : Remaining) (s : PlainStatement) → IsStillLeft label first old → TakesNext old true s new → IsLabelled label (sentence_of s) → Stands first.statements label s
 sought_found label first old new s sought taken named =
     sought.within s (subst (λ (ss : List PlainStatement). Stands ss label s) (sym taken.0) (stands_first s new.statements label named))
 
-pub sought_end : (label : List ℕ) (first old new : Remaining) (s : PlainStatement) → IsSought label first old → TakesNext old false s new → ⊥
+pub sought_end : (label : List ℕ) (first old new : Remaining) (s : PlainStatement) → IsStillLeft label first old → TakesNext old false s new → ⊥
 sought_end label first old new s sought taken =
     no_stand label sought.some.0 (subst (λ (ss : List PlainStatement). Stands ss label sought.some.0) taken.0 sought.some.1)
 

@@ -1,5 +1,6 @@
 -- What `check` answers, as a verdict.
-use Rattle.std.specs.Prelude.{◌≡◌, ℕ, ◌<◌, true, List, [], ◌∷◌, slice_get, length, Option, Some, None, option_map, Result, Ok, Err, ◌⊎◌}
+use Rattle.std.specs.Prelude.{◌≡◌, ℕ, ◌<◌, true, List, [], ◌∷◌, slice_get, length, Option, Some}
+use Rattle.std.specs.Prelude.{None, option_map, Result, Ok, Err, ◌⊎◌}
 use Rattle.std.specs.List.{flat_map}
 use Rattle.std.specs.Option.{option_to_list}
 use Rattle.mm_check.specs.declared.fault.Refusal.{Refusal}
@@ -10,7 +11,8 @@ use Rattle.mm_text.specs.Statement.{PlainStatement}
 use Rattle.mm_text.specs.Files.{PlainFile}
 use Rattle.mm_text.specs.Reading.{PlainFault, Reads}
 use Rattle.mm_check.specs.declared.rule.Rule.TheVariants.{L1}
-use Rattle.mm_check.specs.Verdict.{PlainRefusal, Verdict, Load, Refused, Incomplete, Yes, HasVerdict, labels_of, proofs_of, is_unproved, sentences}
+use Rattle.mm_check.specs.Verdict.{PlainRefusal, Verdict, Load, Refused, Incomplete, Yes}
+use Rattle.mm_check.specs.Verdict.{HasVerdict, labels_of, proofs_of, is_unproved, sentences}
 use Rattle.mm_check.specs.Rests.{IsNumberWhere, AreInOrder, AreUses}
 
 -- a refusal without where its label lies in memory
@@ -54,7 +56,9 @@ IsYes answer = (statements proofs : ℕ) × (verdict_of_answer answer ≡ Some (
 
 -- the answer is that a step of a proof passes the limit on expressions
 abbrev pub IsOverLimit : Result Conclusion CheckFault → Type 0
-IsOverLimit answer = (refusal : PlainRefusal) × (verdict_of_answer answer ≡ Some (Refused refusal)) × (refusal.rule ≡ L1)
+IsOverLimit answer =
+    (refusal : PlainRefusal) × (verdict_of_answer answer ≡ Some (Refused refusal))
+    × (refusal.rule ≡ L1)
 
 -- memory was wanting
 abbrev pub IsWantOfMemory : Result Conclusion CheckFault → Type 0
@@ -62,25 +66,30 @@ IsWantOfMemory answer = verdict_of_answer answer ≡ None
 
 -- The answer is the verdict over the files, unless memory was wanting.
 abbrev pub IsVerdict : List PlainFile → Result Conclusion CheckFault → Type 0
-IsVerdict files answer = (verdict : Verdict) → verdict_of_answer answer ≡ Some verdict → HasVerdict files verdict
+IsVerdict files answer =
+    (verdict : Verdict) → verdict_of_answer answer ≡ Some verdict → HasVerdict files verdict
 
 -- A verdict that holds of the files is the one answered, unless memory was wanting.
 abbrev pub IsOnlyVerdict : List PlainFile → Result Conclusion CheckFault → Type 0
 IsOnlyVerdict files answer =
-    (verdict : Verdict) → HasVerdict files verdict → IsWantOfMemory answer ⊎ (verdict_of_answer answer ≡ Some verdict)
+    (verdict : Verdict) → HasVerdict files verdict
+    → IsWantOfMemory answer ⊎ (verdict_of_answer answer ≡ Some verdict)
 
 -- the labels kept are those of the statements that the files hold
 abbrev pub KeepsLabels : List PlainFile → Conclusion → Type 0
 KeepsLabels files c =
-    (statements : List PlainStatement) (ending : Option PlainFault) → Reads files statements ending → c.labels ≡ labels_of statements
+    (statements : List PlainStatement) (ending : Option PlainFault) → Reads files statements ending
+    → c.labels ≡ labels_of statements
 
--- the counts kept are those of the statements that the files hold, and of their `$p` with a complete proof
+-- the counts kept are those of the statements that the files hold, and of their `$p` with a
+-- complete proof
 abbrev pub KeepsCounts : List PlainFile → Conclusion → Type 0
 KeepsCounts files c =
     (statements : List PlainStatement) (ending : Option PlainFault) → Reads files statements ending
     → (c.statements ≡ length statements) × (c.proofs ≡ proofs_of statements)
 
--- what is kept of these statements: what they say, the numbers of the incomplete proofs, and what the complete ones use
+-- what is kept of these statements: what they say, the numbers of the incomplete proofs, and what
+-- the complete ones use
 pub record IsKeptOf (statements : List PlainStatement) (c : Conclusion) : Type 0 where
   pub sentences : c.sentences ≡ sentences statements
   pub incomplete : AreInOrder (IsNumberWhere statements (λ s. is_unproved s ≡ true)) c.incomplete
@@ -89,7 +98,8 @@ pub record IsKeptOf (statements : List PlainStatement) (c : Conclusion) : Type 0
 -- it is kept of the statements that the files hold
 abbrev pub KeepsUses : List PlainFile → Conclusion → Type 0
 KeepsUses files c =
-    (statements : List PlainStatement) (ending : Option PlainFault) → Reads files statements ending → IsKeptOf statements c
+    (statements : List PlainStatement) (ending : Option PlainFault) → Reads files statements ending
+    → IsKeptOf statements c
 
 -- the files kept are those that were handed in
 abbrev pub KeepsFiles : List PlainFile → Conclusion → Type 0
@@ -98,4 +108,5 @@ KeepsFiles files c = c.files ≡ files
 -- the file in which a statement or a token is refused is one of the files
 abbrev pub NamesFile : List PlainFile → Result Conclusion CheckFault → Type 0
 NamesFile files answer =
-    (refusal : PlainRefusal) → verdict_of_answer answer ≡ Some (Refused refusal) → refusal.file < length files
+    (refusal : PlainRefusal) → verdict_of_answer answer ≡ Some (Refused refusal)
+    → refusal.file < length files

@@ -19,7 +19,8 @@ pub record IsProofOf (statements : List Sentence) (id : ℕ) (tokens : List (Lis
   pub complete : ¬ (IsIncomplete tokens)
   pub proved : IsProvedWithin (IsWithin expression_limit) (take place statements) s tokens
 
--- the lines are the listing of the moves that the tokens say as a proof of the `$p` with this number
+-- the lines are the listing of the moves that the tokens say as a proof of the `$p` with this
+-- number
 abbrev pub AreLinesFor : List Sentence → (id : ℕ) → (tokens : List (List ℕ)) → List Line → Type 0
 AreLinesFor statements id tokens lines =
     (place : ℕ) (s : Sentence) → IsProofNumber statements id place s
@@ -33,7 +34,8 @@ IsTextFor statements id tokens text =
     → IsListingText (take place statements) s tokens text
 
 -- A statement with the label is left, and what is left was left at first.
-pub record IsSought (label : List ℕ) (first left : Remaining) : Type 0 where
+pub record IsStillLeft (label : List ℕ) (first left : Remaining) : Type 0 where
   pub faultless : left.ending ≡ None
   pub some : (s : PlainStatement) × Stands left.statements label s
-  pub within : (s : PlainStatement) → Stands left.statements label s → Stands first.statements label s
+  pub within : (s : PlainStatement) → Stands left.statements label s
+      → Stands first.statements label s

@@ -1,5 +1,7 @@
 -- What checking has come to, and what is answered of one statement and of the text's end.
-use Rattle.std.specs.Prelude.{◌≡◌, ℕ, ◌+◌, List, [], ◌∷◌, ◌++◌, map, length, sum_by, slice_get, not, Bool, true, false, if◌then◌else◌, Option, Some, None, Result, MatchResult, ◌⊎◌}
+use Rattle.std.specs.Prelude.{◌≡◌, ℕ, ◌+◌, List, [], ◌∷◌, ◌++◌, map, length, sum_by, slice_get, not}
+use Rattle.std.specs.Prelude.{Bool, true, false, if◌then◌else◌, Option, Some, None, Result}
+use Rattle.std.specs.Prelude.{MatchResult, ◌⊎◌}
 use Rattle.mm_text.specs.declared.fault.LoadRule.{LoadRule}
 use Rattle.mm_text.specs.declared.statement.Kind.TheVariants.{Provable}
 use Rattle.mm_text.specs.Statement.{PlainStatement, bytes_in}
@@ -18,7 +20,10 @@ use Rattle.mm_proof.specs.Proof.{IsProvedWithin, IsWithin, expression_limit, IsF
 use Rattle.mm_check.specs.declared.rule.Rule.{Rule}
 use Rattle.mm_check.specs.declared.fault.CheckFault.{CheckFault}
 use Rattle.mm_check.specs.declared.progress.Progress.{Progress}
-use Rattle.mm_check.specs.Verdict.{Verdict, HasVerdict, Load, Refused, HasFault, Obeys, AllObey, CanBeRead, refusal_of, text_refusal, load_rule, proof_rule, sentences, proof_of, proofs_of, labels_of, unproved_of, is_incomplete, is_proof, is_unproved}
+use Rattle.mm_check.specs.Verdict.{Verdict, HasVerdict, Load, Refused, HasFault, Obeys, AllObey}
+use Rattle.mm_check.specs.Verdict.{CanBeRead, refusal_of, text_refusal, load_rule, proof_rule}
+use Rattle.mm_check.specs.Verdict.{sentences, proof_of, proofs_of, labels_of, unproved_of}
+use Rattle.mm_check.specs.Verdict.{is_incomplete, is_proof, is_unproved}
 use Rattle.mm_check.specs.Answer.{verdict_of_fault}
 use Rattle.mm_check.specs.Conclusion.{ProofUses}
 use Rattle.mm_check.specs.Rests.{tree_of, IsNumberWhere, AreInOrder, AreUses}
@@ -41,12 +46,15 @@ RefusesEnd files left fault =
 abbrev pub RefusesLoad : List PlainFile → CheckFault → Type 0
 RefusesLoad files fault =
     (verdict_of_fault fault ≡ None)
-    ⊎ ((broken : LoadRule) × BreaksLoad files broken × (verdict_of_fault fault ≡ Some (Load (load_rule broken))))
+    ⊎ ((broken : LoadRule) × BreaksLoad files broken
+    × (verdict_of_fault fault ≡ Some (Load (load_rule broken))))
 
 -- The next statement was taken from what is left; or there is none, and no fault.
 abbrev pub TakesNext : Remaining → Bool → PlainStatement → Remaining → Type 0
-TakesNext old true s new = (old.statements ≡ s ∷ new.statements) × (new ≡ record old { statements = new.statements })
-TakesNext old false s new = (old.statements ≡ []) × (old.ending ≡ None) × (new ≡ record old { told = true })
+TakesNext old true s new =
+    (old.statements ≡ s ∷ new.statements) × (new ≡ record old { statements = new.statements })
+TakesNext old false s new =
+    (old.statements ≡ []) × (old.ending ≡ None) × (new ≡ record old { told = true })
 
 -- the last of the statements is this `$p`, which has the number
 pub record IsLastProof (statements : List Sentence) (id : ℕ) (s : PlainStatement) : Type 0 where
@@ -55,41 +63,52 @@ pub record IsLastProof (statements : List Sentence) (id : ℕ) (s : PlainStateme
   pub number : id ≡ length (labelled_sentences before)
   pub provable : s.kind ≡ Provable
 
--- the proof of a `$p` after the statements before is proved, and these are the numbers of the assertions in its tree
-pub record IsProvedUsing (before : List Sentence) (s : PlainStatement) (used : List ℕ) : Type 0 where
+-- the proof of a `$p` after the statements before is proved, and these are the numbers of the
+-- assertions in its tree
+pub record IsProvedUsing (before : List Sentence) (s : PlainStatement)
+    (used : List ℕ) : Type 0 where
   pub proof : IsProvedWithin (IsWithin expression_limit) before (sentence_of s) (proof_of s)
   pub all : AreUsed before (tree_of proof) used
 
 -- the proof is incomplete; or it is complete, and proved by a tree in which these assertions stand
 abbrev pub IsJudged : List Sentence → PlainStatement → List ℕ → Proved → Type 0
 IsJudged before s used proved.Incomplete = is_incomplete (proof_of s) ≡ true
-IsJudged before s used proved.Complete = (is_incomplete (proof_of s) ≡ false) × IsProvedUsing before s used
+IsJudged before s used proved.Complete =
+    (is_incomplete (proof_of s) ≡ false) × IsProvedUsing before s used
 
 -- its proof is complete, and this is its fault; or memory was wanting
 abbrev pub Fails : List Sentence → PlainStatement → ProofFault → Type 0
 Fails before s fault = OnRule fault (λ rule step.
-    (is_incomplete (proof_of s) ≡ false) × IsFault (IsWithin expression_limit) before (sentence_of s) (proof_of s) rule step)
+    (is_incomplete (proof_of s) ≡ false)
+    × IsFault (IsWithin expression_limit) before (sentence_of s) (proof_of s) rule step)
 
 -- the verdict on the proof of the last statement, which uses these assertions if it is complete
 abbrev pub JudgesProof : List Sentence → PlainStatement → Result Proved ProofFault → List ℕ → Type 0
 JudgesProof statements s result used =
-    (before : List Sentence) → statements ≡ before ++ sentence_of s ∷ [] → MatchResult result (IsJudged before s used) (Fails before s)
+    (before : List Sentence) → statements ≡ before ++ sentence_of s ∷ []
+    → MatchResult result (IsJudged before s used) (Fails before s)
 
--- of a statement with this number, after those before it, what its proof uses is kept, if that is complete
-pub record KeepsProof (before : List Sentence) (s : PlainStatement) (id : ℕ) (complete : Bool) (old new : List ProofUses) : Type 0 where
+-- of a statement with this number, after those before it, what its proof uses is kept, if that is
+-- complete
+pub record KeepsProof (before : List Sentence) (s : PlainStatement) (id : ℕ) (complete : Bool)
+    (old new : List ProofUses) : Type 0 where
   pub some : complete ≡ true
-      → (used : List ℕ) × IsProvedUsing before s used × (new ≡ old ++ record { number = id; used = used } ∷ [])
+      → (used : List ℕ) × IsProvedUsing before s used
+      × (new ≡ old ++ record { number = id; used = used } ∷ [])
   pub none : complete ≡ false → new ≡ old
 
 -- the proof of the last statement was counted, and what it uses kept, or it was noted as incomplete
-pub record CountsProof (old : Progress) (id : ℕ) (s : PlainStatement) (new : Progress) : Type 0 where
+pub record CountsProof (old : Progress) (id : ℕ) (s : PlainStatement)
+    (new : Progress) : Type 0 where
   pub proved : (before : List Sentence) → old.prover.book.statements ≡ before ++ sentence_of s ∷ []
-      → is_incomplete (proof_of s) ≡ false → IsProvedWithin (IsWithin expression_limit) before (sentence_of s) (proof_of s)
+      → is_incomplete (proof_of s) ≡ false
+      → IsProvedWithin (IsWithin expression_limit) before (sentence_of s) (proof_of s)
   pub book : new.prover.book ≡ old.prover.book
   pub count : new.count ≡ old.count
   pub proofs : new.proofs ≡ old.proofs + (if is_incomplete (proof_of s) then 0 else 1)
   pub incomplete : map (λ id. id.0) new.incomplete.items
-      ≡ map (λ id. id.0) old.incomplete.items ++ (if is_incomplete (proof_of s) then id ∷ [] else [])
+      ≡ map (λ id. id.0) old.incomplete.items
+      ++ (if is_incomplete (proof_of s) then id ∷ [] else [])
   pub kept : (before : List Sentence) → old.prover.book.statements ≡ before ++ sentence_of s ∷ []
       → KeepsProof before s id (not (is_incomplete (proof_of s))) old.kept new.kept
 
@@ -100,7 +119,8 @@ RefusesProof files old s fault =
     ⊎ ((rule : ProofRule) × (step : ℕ) × (is_incomplete (proof_of s) ≡ false)
     × ((before : List Sentence) → old.prover.book.statements ≡ before ++ sentence_of s ∷ []
     → IsFault (IsWithin expression_limit) before (sentence_of s) (proof_of s) rule step)
-    × (verdict_of_fault fault ≡ Some (Refused (refusal_of files old.count s (proof_rule rule) step))))
+    × (verdict_of_fault fault
+    ≡ Some (Refused (refusal_of files old.count s (proof_rule rule) step))))
 
 -- The statement obeys the rules, and is taken into the progress.
 pub record Takes (old : Progress) (s : PlainStatement) (new : Progress) : Type 0 where
@@ -110,8 +130,10 @@ pub record Takes (old : Progress) (s : PlainStatement) (new : Progress) : Type 0
   pub count : new.count ≡ old.count + 1
   pub proofs : new.proofs ≡ old.proofs + (if is_proof s then 1 else 0)
   pub incomplete : map (λ id. id.0) new.incomplete.items
-      ≡ map (λ id. id.0) old.incomplete.items ++ (if is_unproved s then length (labelled_sentences old.prover.book.statements) ∷ [] else [])
-  pub kept : KeepsProof old.prover.book.statements s (length (labelled_sentences old.prover.book.statements)) (is_proof s) old.kept new.kept
+      ≡ map (λ id. id.0) old.incomplete.items
+      ++ (if is_unproved s then length (labelled_sentences old.prover.book.statements) ∷ [] else [])
+  pub kept : KeepsProof old.prover.book.statements s
+      (length (labelled_sentences old.prover.book.statements)) (is_proof s) old.kept new.kept
 
 -- what the progress knows of the statements so far
 pub record Knows (statements : List PlainStatement) (p : Progress) : Type 0 where
@@ -119,11 +141,14 @@ pub record Knows (statements : List PlainStatement) (p : Progress) : Type 0 wher
   pub bytes : p.prover.book.bytes ≡ sum_by bytes_in statements
   pub count : p.count ≡ length statements
   pub proofs : p.proofs ≡ proofs_of statements
-  pub incomplete : map (λ id. slice_get (labels_of statements) id.0) p.incomplete.items ≡ map Some (unproved_of statements)
-  pub noted : AreInOrder (IsNumberWhere statements (λ s. is_unproved s ≡ true)) (map (λ id. id.0) p.incomplete.items)
+  pub incomplete : map (λ id. slice_get (labels_of statements) id.0) p.incomplete.items
+      ≡ map Some (unproved_of statements)
+  pub noted : AreInOrder (IsNumberWhere statements (λ s. is_unproved s ≡ true))
+      (map (λ id. id.0) p.incomplete.items)
   pub kept : AreUses statements p.kept
 
--- The statements so far and those that are left are the reading of the files, and those so far obey the rules.
+-- The statements so far and those that are left are the reading of the files, and those so far obey
+-- the rules.
 pub record IsUnderWay (files : List PlainFile) (p : Progress) (left : Remaining) : Type 0 where
   pub earlier : List PlainStatement
   pub readable : CanBeRead files
@@ -139,4 +164,5 @@ pub record IsAtEnd (files : List PlainFile) (p : Progress) (left : Remaining) : 
 
 -- The verdict that the fault tells holds of the files; want of memory tells none.
 abbrev pub TellsVerdict : List PlainFile → CheckFault → Type 0
-TellsVerdict files fault = (verdict : Verdict) → verdict_of_fault fault ≡ Some verdict → HasVerdict files verdict
+TellsVerdict files fault =
+    (verdict : Verdict) → verdict_of_fault fault ≡ Some verdict → HasVerdict files verdict

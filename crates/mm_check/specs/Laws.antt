@@ -7,7 +7,8 @@ use Rattle.mm_check.specs.Rests.{IsReport}
 
 -- verdicts that hold of the same files are one
 abbrev pub OneVerdict : Type 0
-OneVerdict = (files : List PlainFile) (v w : Verdict) → HasVerdict files v → HasVerdict files w → v ≡ w
+OneVerdict =
+    (files : List PlainFile) (v w : Verdict) → HasVerdict files v → HasVerdict files w → v ≡ w
 
 -- some verdict holds of any files
 abbrev pub SomeVerdict : Type 0
@@ -16,6 +17,7 @@ SomeVerdict = (files : List PlainFile) → (v : Verdict) × HasVerdict files v
 -- reports of what a theorem rests on are one
 abbrev pub OneReport : Type 0
 OneReport =
-    (statements : List PlainStatement) (label : List ℕ) (axioms unproved others rest : List ℕ) → AllObey statements
+    (statements : List PlainStatement) (label : List ℕ) (axioms unproved others rest : List ℕ)
+    → AllObey statements
     → IsReport statements label axioms unproved → IsReport statements label others rest
     → (axioms ≡ others) × (unproved ≡ rest)

@@ -1,5 +1,7 @@
--- Marks of what a theorem rests on, by number, and what is known of what is kept: it mirrors the code.
-use Rattle.std.specs.Prelude.{◌≡◌, ℕ, ◌<◌, List, length, slice_index_or, Contains, Bool, true, false}
+-- Marks of what a theorem rests on, by number, and what is known of what is kept: it mirrors the
+-- code.
+use Rattle.std.specs.Prelude.{◌≡◌, ℕ, ◌<◌, List, length, slice_index_or, Contains, Bool, true}
+use Rattle.std.specs.Prelude.{false}
 use Rattle.std.specs.List.{AllByRecursion}
 use Rattle.mm_text.specs.declared.statement.Kind.TheVariants.{Axiom}
 use Rattle.mm_text.specs.Statement.{PlainStatement}
@@ -23,9 +25,10 @@ pub record AreBackward (uses : List ProofUses) : Type 0 where
   pub rising : AreRising (numbers_of uses)
   pub below : (u : ProofUses) (used : ℕ) → Contains uses u → Contains u.used used → used < u.number
 
--- accepted statements of the files, of which this is kept: what they say, the numbers of the incomplete proofs, and what the
--- complete ones use
-pub record IsKeptFrom (files : List PlainFile) (told : List Sentence) (noted : List ℕ) (kept : List ProofUses) : Type 0 where
+-- accepted statements of the files, of which this is kept: what they say, the numbers of the
+-- incomplete proofs, and what the complete ones use
+pub record IsKeptFrom (files : List PlainFile) (told : List Sentence) (noted : List ℕ)
+    (kept : List ProofUses) : Type 0 where
   pub statements : List PlainStatement
   pub accepted : AreAccepted files statements
   pub sentences : told ≡ sentences statements
@@ -33,7 +36,8 @@ pub record IsKeptFrom (files : List PlainFile) (told : List Sentence) (noted : L
   pub uses : AreUses statements kept
 
 -- what is kept of the statements of the files
-pub record IsKeptWell (files : List PlainFile) (told : List Sentence) (incomplete : List ℕ) (uses : List ProofUses) : Type 0 where
+pub record IsKeptWell (files : List PlainFile) (told : List Sentence) (incomplete : List ℕ)
+    (uses : List ProofUses) : Type 0 where
   pub in_range : AllByRecursion (λ n. n < length (labels_in told)) incomplete
   pub rising : AreRising incomplete
   pub backward : AreBackward uses
@@ -41,4 +45,5 @@ pub record IsKeptWell (files : List PlainFile) (told : List Sentence) (incomplet
 
 -- the number is that of a `$a`
 abbrev pub IsAxiomNumber : List Sentence → ℕ → Type 0
-IsAxiomNumber statements id = (place : ℕ) × (s : Sentence) × IsNumbered statements id place s × (s.kind ≡ Axiom)
+IsAxiomNumber statements id =
+    (place : ℕ) × (s : Sentence) × IsNumbered statements id place s × (s.kind ≡ Axiom)

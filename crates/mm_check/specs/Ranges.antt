@@ -1,12 +1,9 @@
 -- Lists of numbers as ranges of one list: it mirrors the code.
 use Rattle.std.specs.Prelude.{◌≡◌, ℕ, ◌≤◌, List, map, slice_get, slice_range, Some}
 use Rattle.mm_frame.specs.declared.number.LabelId.{LabelId}
+use Rattle.mm_proof.specs.CodeSteps.{ids_in}
 use Rattle.mm_check.specs.declared.kept.KeptProof.{KeptProof}
 use Rattle.mm_check.specs.Conclusion.{ProofUses}
-
--- the numbers behind labels
-abbrev pub ids_in : List LabelId → List ℕ
-ids_in labels = map (λ l. l.0) labels
 
 -- what is kept of one proof
 abbrev pub uses_at : List LabelId → KeptProof → ProofUses
@@ -23,4 +20,5 @@ pub record IsRangeWithin (place : ℕ) (p : KeptProof) : Type 0 where
 
 -- each of them has
 abbrev pub AreRangesWithin : ℕ → List KeptProof → Type 0
-AreRangesWithin place proofs = (i : ℕ) (p : KeptProof) → slice_get proofs i ≡ Some p → IsRangeWithin place p
+AreRangesWithin place proofs =
+    (i : ℕ) (p : KeptProof) → slice_get proofs i ≡ Some p → IsRangeWithin place p

@@ -1,12 +1,18 @@
 -- The reply to a command: its text and its status.
-use Rattle.std.specs.Prelude.{◌≡◌, ℕ, List, [], ◌∷◌, ◌++◌, map, length, slice_get, Option, option_map, unwrap_or, Result, MatchOption, ◌⊎◌, codes, decimal}
+use Rattle.std.specs.Prelude.{◌≡◌, ℕ, List, [], ◌∷◌, ◌++◌, map, length, slice_get, Option}
+use Rattle.std.specs.Prelude.{option_map, unwrap_or, Result, MatchOption, ◌⊎◌, codes, decimal}
 use Rattle.std.specs.List.{flat_map}
 use Rattle.std.specs.Io.KnownBytes.{Appends}
 use Rattle.mm_text.specs.Statement.{PlainStatement}
 use Rattle.mm_text.specs.Files.{PlainFile}
 use Rattle.mm_text.specs.Device.{AppendsBeginning}
 use Rattle.mm_check.specs.declared.rule.Rule.{Rule}
-use Rattle.mm_check.specs.declared.rule.Rule.TheVariants.{F1, F2, F3, X1, X2, X3, X4, X5, X6, X7, X8, X9, S1, S2, S3, S4, S5, S6, S7, M1, M2, M3, M4, M5, M6, M7, M8, M9, M10, M11, M12, M13, M14, M15, P1, P2, P3, P4, P5, P6, P7, P8, P9, P10, P11, P12, P13, P14, L1, L2, A1, A2, A3}
+use Rattle.mm_check.specs.declared.rule.Rule.TheVariants.{F1, F2, F3, X1, X2, X3, X4, X5, X6, X7}
+use Rattle.mm_check.specs.declared.rule.Rule.TheVariants.{X8, X9, S1, S2, S3, S4, S5, S6, S7, M1}
+use Rattle.mm_check.specs.declared.rule.Rule.TheVariants.{M2, M3, M4, M5, M6, M7, M8, M9, M10, M11}
+use Rattle.mm_check.specs.declared.rule.Rule.TheVariants.{M12, M13, M14, M15, P1, P2, P3, P4, P5}
+use Rattle.mm_check.specs.declared.rule.Rule.TheVariants.{P6, P7, P8, P9, P10, P11, P12, P13, P14}
+use Rattle.mm_check.specs.declared.rule.Rule.TheVariants.{L1, L2, A1, A2, A3}
 use Rattle.mm_check.specs.declared.fault.CheckFault.{CheckFault}
 use Rattle.mm_check.specs.Conclusion.{Conclusion}
 use Rattle.mm_check.specs.Answer.{verdict_of_answer, labels_at}
@@ -16,7 +22,8 @@ use Rattle.mm_check.specs.declared.command.Command.{Command}
 use Rattle.mm_check.specs.declared.command.Command.TheVariants.{Check, Axioms, Show}
 use Rattle.mm_check.specs.Rests.{IsAskFault, IsReport}
 use Rattle.mm_check.specs.Shown.{IsShown}
-use Rattle.mm_check.specs.Verdict.{Verdict, Load, Refused, Incomplete, Yes, HasVerdict, AreAccepted, labels_of}
+use Rattle.mm_check.specs.Verdict.{Verdict, Load, Refused, Incomplete, Yes, HasVerdict, AreAccepted}
+use Rattle.mm_check.specs.Verdict.{labels_of}
 
 -- the printed code of a rule
 abbrev pub code_of : Rule → List ℕ
@@ -97,11 +104,13 @@ abbrev pub text_of : List PlainFile → Verdict → List ℕ
 text_of files (Load rule) = line_with (codes "load") (code_of rule ∷ [])
 text_of files (Refused r) =
     line_with (refusal_word r.rule)
-    (name_of files r.file ∷ decimal r.line ∷ unwrap_or r.label (codes "-") ∷ code_of r.rule ∷ decimal r.step ∷ [])
+    (name_of files r.file ∷ decimal r.line ∷ unwrap_or r.label (codes "-") ∷ code_of r.rule
+    ∷ decimal r.step ∷ [])
 text_of files (Incomplete labels) =
     line_with (codes "incomplete") (decimal (length labels) ∷ []) ++ lines_of labels
 text_of files (Yes statements proofs) =
-    line_with (codes "yes") (decimal statements ∷ codes "statements" ∷ decimal proofs ∷ codes "proofs" ∷ [])
+    line_with (codes "yes")
+    (decimal statements ∷ codes "statements" ∷ decimal proofs ∷ codes "proofs" ∷ [])
 
 -- the status of a refusal: 4 for a limit that was passed, else 1
 abbrev pub refusal_status : Rule → ℕ
@@ -117,7 +126,8 @@ status_of (Yes statements proofs) = 0
 
 -- The text is that of the verdict that the answer tells.
 abbrev pub Tells : List PlainFile → Result Conclusion CheckFault → List ℕ → Type 0
-Tells files answer text = MatchOption (verdict_of_answer answer) ⊥ (λ verdict. text ≡ text_of files verdict)
+Tells files answer text =
+    MatchOption (verdict_of_answer answer) ⊥ (λ verdict. text ≡ text_of files verdict)
 
 -- This is the text and the status of the reply to `check`.
 pub record IsReply (files : List PlainFile) (text : List ℕ) (status : ℕ) : Type 0 where
@@ -145,15 +155,20 @@ pub record IsRefused (files : List PlainFile) (text : List ℕ) (status : ℕ) :
 
 -- the text and the status where a question about a label has no answer
 abbrev pub IsAskReply : AskFault → List ℕ → List ℕ → ℕ → Type 0
-IsAskReply ask.A1 label text status = (text ≡ line_with (codes "ask") (codes "A1" ∷ label ∷ [])) × (status ≡ 1)
-IsAskReply ask.A2 label text status = (text ≡ line_with (codes "ask") (codes "A2" ∷ label ∷ [])) × (status ≡ 1)
-IsAskReply ask.A3 label text status = (text ≡ line_with (codes "ask") (codes "A3" ∷ label ∷ [])) × (status ≡ 3)
+IsAskReply ask.A1 label text status =
+    (text ≡ line_with (codes "ask") (codes "A1" ∷ label ∷ [])) × (status ≡ 1)
+IsAskReply ask.A2 label text status =
+    (text ≡ line_with (codes "ask") (codes "A2" ∷ label ∷ [])) × (status ≡ 1)
+IsAskReply ask.A3 label text status =
+    (text ≡ line_with (codes "ask") (codes "A3" ∷ label ∷ [])) × (status ≡ 3)
 IsAskReply ask.Memory label text status = ⊥
 
--- the text of a report: a line for each axiom, and then one for each unproved theorem, after a question mark
+-- the text of a report: a line for each axiom, and then one for each unproved theorem, after a
+-- question mark
 abbrev pub report_text : List (List ℕ) → List ℕ → List ℕ → List ℕ
 report_text labels axioms unproved =
-    lines_of (labels_at labels axioms) ++ lines_of (map (λ label. codes "? " ++ label) (labels_at labels unproved))
+    lines_of (labels_at labels axioms)
+    ++ lines_of (map (λ label. codes "? " ++ label) (labels_at labels unproved))
 
 -- the status of a report: 3 where a theorem is unproved
 abbrev pub report_status : List ℕ → ℕ
@@ -165,7 +180,8 @@ abbrev pub IsAxiomsReply : List ℕ → List PlainStatement → List ℕ → ℕ
 IsAxiomsReply label statements text status =
     ((fault : AskFault) × IsAskFault statements label fault × IsAskReply fault label text status)
     ⊎ ((axioms : List ℕ) × (unproved : List ℕ) × IsReport statements label axioms unproved
-    × (text ≡ report_text (labels_of statements) axioms unproved) × (status ≡ report_status unproved))
+    × (text ≡ report_text (labels_of statements) axioms unproved)
+    × (status ≡ report_status unproved))
 
 -- the reply to the question how the theorem with a label is proved
 abbrev pub IsShowReply : List ℕ → List PlainStatement → List ℕ → ℕ → Type 0
@@ -173,25 +189,31 @@ IsShowReply label statements text status =
     ((fault : AskFault) × IsAskFault statements label fault × IsAskReply fault label text status)
     ⊎ (IsShown statements label text × (status ≡ 0))
 
--- The reply to a question about the database: the refusal, if it is refused, else the answer over its statements.
-abbrev pub IsQuestionReply : List PlainFile → (List PlainStatement → List ℕ → ℕ → Type 0) → List ℕ → ℕ → Type 0
+-- The reply to a question about the database: the refusal, if it is refused, else the answer over
+-- its statements.
+abbrev pub IsQuestionReply : List PlainFile → (List PlainStatement → List ℕ → ℕ → Type 0) → List ℕ
+    → ℕ → Type 0
 IsQuestionReply files Answers text status =
     IsRefused files text status
-    ⊎ ((statements : List PlainStatement) × AreAccepted files statements × Answers statements text status)
+    ⊎ ((statements : List PlainStatement) × AreAccepted files statements
+    × Answers statements text status)
 
 -- ---- commands
 
 -- This is the text and the status of the reply to a command.
 abbrev pub IsReplyTo : List PlainFile → Command → List ℕ → ℕ → Type 0
 IsReplyTo files Check text status = IsReply files text status
-IsReplyTo files (Axioms label) text status = IsQuestionReply files (IsAxiomsReply label.now) text status
+IsReplyTo files (Axioms label) text status =
+    IsQuestionReply files (IsAxiomsReply label.now) text status
 IsReplyTo files (Show label) text status = IsQuestionReply files (IsShowReply label.now) text status
 
 -- The reply's text was put after what the writer held, where that is known.
 abbrev pub Writes : List PlainFile → Command → ℕ → Option (List ℕ) → Option (List ℕ) → Type 0
-Writes files command status old new = (text : List ℕ) × IsReplyTo files command text status × Appends old new text
+Writes files command status old new =
+    (text : List ℕ) × IsReplyTo files command text status × Appends old new text
 
 -- A proper beginning of the reply's text was.
 abbrev pub WritesBeginningOf : List PlainFile → Command → Option (List ℕ) → Option (List ℕ) → Type 0
 WritesBeginningOf files command old new =
-    (text : List ℕ) × (status : ℕ) × IsReplyTo files command text status × AppendsBeginning old new text
+    (text : List ℕ) × (status : ℕ) × IsReplyTo files command text status
+    × AppendsBeginning old new text

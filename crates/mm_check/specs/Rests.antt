@@ -1,7 +1,8 @@
--- What a theorem rests on: the axioms and the unproved theorems in the least set that holds what its proof uses and, with
--- each theorem in it whose proof is complete, what that one's proof uses. The proofs are those of the Metamath book, sections
--- 4.2.6 and 4.3; the set is this project's own.
-use Rattle.std.specs.Prelude.{◌≡◌, ◌≢◌, ℕ, ◌<◌, List, take, slice_get, Contains, Bool, true, Some, ◌↔◌}
+-- What a theorem rests on: the axioms and the unproved theorems in the least set that holds what
+-- its proof uses and, with each theorem in it whose proof is complete, what that one's proof uses.
+-- The proofs are those of the Metamath book, sections 4.2.6 and 4.3; the set is this project's own.
+use Rattle.std.specs.Prelude.{◌≡◌, ◌≢◌, ℕ, ◌<◌, List, take, slice_get, Contains, Bool, true, Some}
+use Rattle.std.specs.Prelude.{◌↔◌}
 use Rattle.mm_text.specs.declared.statement.Kind.TheVariants.{Axiom, Provable}
 use Rattle.mm_text.specs.Statement.{PlainStatement}
 use Rattle.mm_frame.specs.Sentence.{Sentence, sentence_of, IsLabelled}
@@ -17,13 +18,15 @@ use Rattle.mm_check.specs.Verdict.{proof_of, is_proof, is_unproved, sentences}
 -- ---- numbers of statements
 
 -- the labelled statement with a number, and its place
-pub record IsAt (statements : List PlainStatement) (id place : ℕ) (s : PlainStatement) : Type 0 where
+pub record IsAt (statements : List PlainStatement) (id place : ℕ)
+    (s : PlainStatement) : Type 0 where
   pub there : slice_get statements place ≡ Some s
   pub numbered : IsNumbered (sentences statements) id place (sentence_of s)
 
 -- the statement with the number is so
 abbrev pub IsNumberWhere : List PlainStatement → (PlainStatement → Type 0) → ℕ → Type 0
-IsNumberWhere statements P id = (place : ℕ) × (s : PlainStatement) × IsAt statements id place s × P s
+IsNumberWhere statements P id =
+    (place : ℕ) × (s : PlainStatement) × IsAt statements id place s × P s
 
 -- each number is less than those after it: the order is that of the database, and none stands twice
 abbrev pub AreRising : List ℕ → Type 0
@@ -37,7 +40,8 @@ pub record AreInOrder (P : ℕ → Type 0) (ids : List ℕ) : Type 0 where
 -- ---- what proofs use
 
 -- the tree that a proof spells
-abbrev pub tree_of : {Fits : List (List ℕ) → Type 0} {before : List Sentence} {s : Sentence} {tokens : List (List ℕ)}
+abbrev pub tree_of : {Fits : List (List ℕ) → Type 0} {before : List Sentence} {s : Sentence}
+    {tokens : List (List ℕ)}
     → IsProvedWithin Fits before s tokens → Trees
 tree_of proof = tree proof.proves.label proof.proves.below none
 
@@ -52,9 +56,11 @@ pub record HasTree (statements : List PlainStatement) (id place : ℕ) (t : Tree
 -- the second number is that of an assertion in the tree of the proof of the first
 abbrev pub Uses : List PlainStatement → ℕ → ℕ → Type 0
 Uses statements id used =
-    (place : ℕ) × (t : Trees) × HasTree statements id place t × IsUsedNumber (sentences (take place statements)) t used
+    (place : ℕ) × (t : Trees) × HasTree statements id place t
+    × IsUsedNumber (sentences (take place statements)) t used
 
--- these are the uses of all complete proofs: of each its number, and those of the assertions in its tree
+-- these are the uses of all complete proofs: of each its number, and those of the assertions in its
+-- tree
 pub record AreUses (statements : List PlainStatement) (uses : List ProofUses) : Type 0 where
   pub proofs : AreInOrder (IsNumberWhere statements (λ s. is_proof s ≡ true)) (numbers_of uses)
   pub each : (u : ProofUses) → Contains uses u
@@ -63,7 +69,8 @@ pub record AreUses (statements : List PlainStatement) (uses : List ProofUses) : 
 
 -- ---- the least set
 
--- a set that holds what the proof of a theorem uses and, with each theorem in it, what that one's proof uses
+-- a set that holds what the proof of a theorem uses and, with each theorem in it, what that one's
+-- proof uses
 pub record IsClosed (Uses : ℕ → ℕ → Type 0) (theorem : ℕ) (set : ℕ → Bool) : Type 0 where
   pub own : (used : ℕ) → Uses theorem used → set used ≡ true
   pub others : (id used : ℕ) → set id ≡ true → Uses id used → set used ≡ true
@@ -78,8 +85,9 @@ RestsOn Uses theorem id = (set : ℕ → Bool) → IsClosed Uses theorem set →
 abbrev pub IsNamed : List PlainStatement → List ℕ → (PlainStatement → Type 0) → ℕ → Type 0
 IsNamed statements label P = IsNumberWhere statements (λ s. IsLabelled label (sentence_of s) × P s)
 
--- Why a question about the theorem with a label has no answer: no statement has it; it is that of a statement other than a
--- `$p`; it is that of a `$p` whose proof is incomplete. A refused growth says nothing of the statements.
+-- Why a question about the theorem with a label has no answer: no statement has it; it is that of a
+-- statement other than a `$p`; it is that of a `$p` whose proof is incomplete. A refused growth
+-- says nothing of the statements.
 abbrev pub IsAskFault : List PlainStatement → List ℕ → AskFault → Type 0
 IsAskFault statements label A1 = (id : ℕ) → ¬ (IsNamed statements label (λ s. Unit {0}) id)
 IsAskFault statements label A2 = (id : ℕ) × IsNamed statements label (λ s. s.kind ≢ Provable) id
@@ -87,10 +95,13 @@ IsAskFault statements label A3 = (id : ℕ) × IsNamed statements label (λ s. i
 IsAskFault statements label Memory = Unit {0}
 
 -- of what the theorem with the label rests on: the `$a`, and the `$p` with incomplete proofs
-pub record IsReport (statements : List PlainStatement) (label : List ℕ) (axioms unproved : List ℕ) : Type 0 where
+pub record IsReport (statements : List PlainStatement) (label : List ℕ)
+    (axioms unproved : List ℕ) : Type 0 where
   pub id : ℕ
   pub theorem : IsNamed statements label (λ s. is_proof s ≡ true) id
   pub are_axioms : AreInOrder
-      (λ n. IsNumberWhere statements (λ s. s.kind ≡ Axiom) n × RestsOn (Uses statements) id n) axioms
+      (λ n. IsNumberWhere statements (λ s. s.kind ≡ Axiom) n
+      × RestsOn (Uses statements) id n) axioms
   pub are_unproved : AreInOrder
-      (λ n. IsNumberWhere statements (λ s. is_unproved s ≡ true) n × RestsOn (Uses statements) id n) unproved
+      (λ n. IsNumberWhere statements (λ s. is_unproved s ≡ true) n
+      × RestsOn (Uses statements) id n) unproved

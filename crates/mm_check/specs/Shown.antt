@@ -1,5 +1,6 @@
 -- The text of the listing of a theorem's proof.
-use Rattle.std.specs.Prelude.{◌≡◌, ℕ, ◌+◌, List, [], ◌∷◌, ◌++◌, take, slice_get, true, Some, codes, decimal}
+use Rattle.std.specs.Prelude.{◌≡◌, ℕ, ◌+◌, List, [], ◌∷◌, ◌++◌, take, slice_get, true, Some, codes}
+use Rattle.std.specs.Prelude.{decimal}
 use Rattle.std.specs.List.{flat_map}
 use Rattle.mm_text.specs.Statement.{PlainStatement}
 use Rattle.mm_frame.specs.Sentence.{Sentence, sentence_of, IsLabelled}
@@ -17,10 +18,12 @@ name_text (by_step number) = codes "@" ++ decimal number
 abbrev pub symbols_text : List (List ℕ) → List ℕ
 symbols_text symbols = flat_map (λ symbol. codes " " ++ symbol) symbols
 
--- the line of a step with a number: the number, the name, and the symbols of the expression that the step pushes
+-- the line of a step with a number: the number, the name, and the symbols of the expression that
+-- the step pushes
 abbrev pub step_text : ℕ → ListedStep → List ℕ
 step_text number step =
-    decimal number ++ codes " " ++ name_text step.called ++ symbols_text step.expression ++ codes "\n"
+    decimal number ++ codes " " ++ name_text step.called ++ symbols_text step.expression
+    ++ codes "\n"
 
 -- the lines of steps, the first of which has this number
 abbrev pub steps_text : ℕ → List ListedStep → List ℕ
@@ -31,8 +34,10 @@ steps_text number (step ∷ steps) = step_text number step ++ steps_text (number
 abbrev pub listing_text : List ListedStep → List ℕ
 listing_text steps = steps_text 1 steps
 
--- the text is that of the listing of the moves that the tokens say, as a proof of a `$p` after the statements before it
-pub record IsListingText (before : List Sentence) (s : Sentence) (tokens : List (List ℕ)) (text : List ℕ) : Type 0 where
+-- the text is that of the listing of the moves that the tokens say, as a proof of a `$p` after the
+-- statements before it
+pub record IsListingText (before : List Sentence) (s : Sentence) (tokens : List (List ℕ))
+    (text : List ℕ) : Type 0 where
   pub moves : List (Move (List ℕ))
   pub told : SayMoves before s tokens moves
   pub steps : List ListedStep
@@ -41,10 +46,12 @@ pub record IsListingText (before : List Sentence) (s : Sentence) (tokens : List 
 
 -- a statement with this label
 abbrev pub Stands : List PlainStatement → List ℕ → PlainStatement → Type 0
-Stands statements label s = (place : ℕ) × (slice_get statements place ≡ Some s) × IsLabelled label (sentence_of s)
+Stands statements label s =
+    (place : ℕ) × (slice_get statements place ≡ Some s) × IsLabelled label (sentence_of s)
 
 -- the text is that of the listing of the proof of the theorem with the label, which is complete
-pub record IsShown (statements : List PlainStatement) (label : List ℕ) (text : List ℕ) : Type 0 where
+pub record IsShown (statements : List PlainStatement) (label : List ℕ)
+    (text : List ℕ) : Type 0 where
   pub place : ℕ
   pub s : PlainStatement
   pub there : slice_get statements place ≡ Some s

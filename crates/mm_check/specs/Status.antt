@@ -1,7 +1,8 @@
 -- The numbers of the statuses.
 use Rattle.std.specs.Prelude.{ℕ}
 use Rattle.mm_check.specs.declared.status.Status.{Status}
-use Rattle.mm_check.specs.declared.status.Status.TheVariants.{Done, Refused, Usage, Incomplete, Stopped}
+use Rattle.mm_check.specs.declared.status.Status.TheVariants.{Done, Refused, Usage, Incomplete}
+use Rattle.mm_check.specs.declared.status.Status.TheVariants.{Stopped}
 
 abbrev pub number_of : Status → ℕ
 number_of Done = 0

@@ -1,14 +1,16 @@
--- The verdict over the handed files: why they can't be taken, the first statement at fault, incomplete proofs, or yes.
-use Rattle.std.specs.Prelude.{◌≡◌, ◌≢◌, ℕ, ◌+◌, ◌==◌, ◌&&◌, List, [], ◌∷◌, ◌++◌, map, take, length, count_by, filter, not, slice_get, Bool, true, false, Option, Some, None, option_map, unwrap_or, ◌⊎◌}
+-- The verdict over the handed files: why they can't be taken, the first statement at fault,
+-- incomplete proofs, or yes.
+use Rattle.std.specs.Prelude.{◌≡◌, ◌≢◌, ℕ, ◌+◌, ◌==◌, ◌&&◌, List, [], ◌∷◌, ◌++◌, map, take, length}
+use Rattle.std.specs.Prelude.{count_by, filter, not, slice_get, Bool, true, false, Option, Some}
+use Rattle.std.specs.Prelude.{None, option_map, unwrap_or, ◌⊎◌}
 use Rattle.std.specs.List.{flat_map, list_any}
 use Rattle.std.specs.Option.{option_to_list}
 use Rattle.mm_text.specs.declared.fault.LoadRule.{LoadRule}
 use Rattle.mm_text.specs.declared.fault.LoadRule.TheVariants as load
 use Rattle.mm_text.specs.declared.fault.TextRule.{TextRule}
 use Rattle.mm_text.specs.declared.fault.TextRule.TheVariants as text
-use Rattle.mm_text.specs.declared.statement.Kind.{Kind}
 use Rattle.mm_text.specs.declared.statement.Kind.TheVariants.{Provable}
-use Rattle.mm_text.specs.Statement.{PlainStatement}
+use Rattle.mm_text.specs.Statement.{PlainStatement, is_provable}
 use Rattle.mm_text.specs.Files.{PlainFile, BreaksLoad}
 use Rattle.mm_text.specs.Reading.{PlainFault, Reads}
 use Rattle.mm_frame.specs.declared.rule.MeaningRule.{MeaningRule}
@@ -19,7 +21,12 @@ use Rattle.mm_proof.specs.declared.fault.ProofRule.{ProofRule}
 use Rattle.mm_proof.specs.declared.fault.ProofRule.TheVariants as proof
 use Rattle.mm_proof.specs.Proof.{IsProvedWithin, IsProved, IsWithin, expression_limit, IsFault}
 use Rattle.mm_check.specs.declared.rule.Rule.{Rule}
-use Rattle.mm_check.specs.declared.rule.Rule.TheVariants.{F1, F2, F3, X1, X2, X3, X4, X5, X6, X7, X8, X9, S1, S2, S3, S4, S5, S6, S7, M1, M2, M3, M4, M5, M6, M7, M8, M9, M10, M11, M12, M13, M14, M15, P1, P2, P3, P4, P5, P6, P7, P8, P9, P10, P11, P12, P13, P14, L1}
+use Rattle.mm_check.specs.declared.rule.Rule.TheVariants.{F1, F2, F3, X1, X2, X3, X4, X5, X6, X7}
+use Rattle.mm_check.specs.declared.rule.Rule.TheVariants.{X8, X9, S1, S2, S3, S4, S5, S6, S7, M1}
+use Rattle.mm_check.specs.declared.rule.Rule.TheVariants.{M2, M3, M4, M5, M6, M7, M8, M9, M10, M11}
+use Rattle.mm_check.specs.declared.rule.Rule.TheVariants.{M12, M13, M14, M15, P1, P2, P3, P4, P5}
+use Rattle.mm_check.specs.declared.rule.Rule.TheVariants.{P6, P7, P8, P9, P10, P11, P12, P13, P14}
+use Rattle.mm_check.specs.declared.rule.Rule.TheVariants.{L1}
 
 -- the rules of each layer by their codes
 abbrev pub load_rule : LoadRule → Rule
@@ -125,10 +132,6 @@ text_refusal files fault = record {
   step = 0;
 }
 
-abbrev pub is_provable : Kind → Bool
-is_provable Provable = true
-is_provable kind = false
-
 -- the tokens of a statement's proof
 abbrev pub proof_of : PlainStatement → List (List ℕ)
 proof_of s = map (λ t. t.text) s.proof
@@ -147,26 +150,33 @@ is_proof s = is_provable s.kind && not (is_incomplete (proof_of s))
 abbrev pub sentences : List PlainStatement → List Sentence
 sentences statements = map sentence_of statements
 
--- The statement obeys the rules after those before it: it breaks no rule of meaning, and as a `$p` with a complete proof it
--- is proved, each step within the limit.
+-- The statement obeys the rules after those before it: it breaks no rule of meaning, and as a `$p`
+-- with a complete proof it is proved, each step within the limit.
 pub record Obeys (before : List Sentence) (s : PlainStatement) : Type 0 where
   pub meant : IsMeant before (sentence_of s)
-  pub proved : is_proof s ≡ true → IsProvedWithin (IsWithin expression_limit) before (sentence_of s) (proof_of s)
+  pub proved : is_proof s ≡ true
+      → IsProvedWithin (IsWithin expression_limit) before (sentence_of s) (proof_of s)
 
 -- each of the statements does
 abbrev pub AllObey : List PlainStatement → Type 0
 AllObey statements =
-    (before after : List PlainStatement) (s : PlainStatement) → statements ≡ before ++ s ∷ after → Obeys (sentences before) s
+    (before after : List PlainStatement) (s : PlainStatement) → statements ≡ before ++ s ∷ after
+    → Obeys (sentences before) s
 
--- The fault of a statement: the first rule of meaning that it breaks, else the first fault of its proof, if that is complete.
+-- The fault of a statement: the first rule of meaning that it breaks, else the first fault of its
+-- proof, if that is complete.
 abbrev pub HasFault : List Sentence → PlainStatement → Rule → ℕ → Type 0
 HasFault before s rule step =
-    ((broken : MeaningRule) × FirstBroken broken before (sentence_of s) × (rule ≡ meaning_rule broken) × (step ≡ 0))
+    ((broken : MeaningRule) × FirstBroken broken before (sentence_of s)
+    × (rule ≡ meaning_rule broken) × (step ≡ 0))
     ⊎ (IsMeant before (sentence_of s) × (is_proof s ≡ true)
-    × (broken : ProofRule) × IsFault (IsWithin expression_limit) before (sentence_of s) (proof_of s) broken step × (rule ≡ proof_rule broken))
+    × (broken : ProofRule)
+    × IsFault (IsWithin expression_limit) before (sentence_of s) (proof_of s) broken step
+    × (rule ≡ proof_rule broken))
 
 -- The first statement at fault, after statements that obey the rules.
-pub record RefusesStatement (files : List PlainFile) (statements : List PlainStatement) (refusal : PlainRefusal) : Type 0 where
+pub record RefusesStatement (files : List PlainFile) (statements : List PlainStatement)
+    (refusal : PlainRefusal) : Type 0 where
   pub before : List PlainStatement
   pub s : PlainStatement
   pub after : List PlainStatement
@@ -178,7 +188,8 @@ pub record RefusesStatement (files : List PlainFile) (statements : List PlainSta
   pub refused : refusal ≡ refusal_of files (length before) s rule step
 
 -- The fault of the text, after statements that obey the rules.
-pub record RefusesText (files : List PlainFile) (statements : List PlainStatement) (ending : Option PlainFault) (refusal : PlainRefusal) : Type 0 where
+pub record RefusesText (files : List PlainFile) (statements : List PlainStatement)
+    (ending : Option PlainFault) (refusal : PlainRefusal) : Type 0 where
   pub obeyed : AllObey statements
   pub fault : PlainFault
   pub ended : ending ≡ Some fault
@@ -212,24 +223,31 @@ pub record AreAccepted (files : List PlainFile) (statements : List PlainStatemen
 
 -- The verdict over the files.
 abbrev pub HasVerdict : List PlainFile → Verdict → Type 0
-HasVerdict files (Load rule) = (broken : LoadRule) × BreaksLoad files broken × (rule ≡ load_rule broken)
+HasVerdict files (Load rule) =
+    (broken : LoadRule) × BreaksLoad files broken × (rule ≡ load_rule broken)
 HasVerdict files (Refused refusal) =
     CanBeRead files
-    × (statements : List PlainStatement) × (ending : Option PlainFault) × Reads files statements ending
+    × (statements : List PlainStatement) × (ending : Option PlainFault)
+    × Reads files statements ending
     × (RefusesStatement files statements refusal ⊎ RefusesText files statements ending refusal)
 HasVerdict files (Incomplete labels) =
-    (statements : List PlainStatement) × AreAccepted files statements × (labels ≡ unproved_of statements) × (labels ≢ [])
+    (statements : List PlainStatement) × AreAccepted files statements
+    × (labels ≡ unproved_of statements) × (labels ≢ [])
 HasVerdict files (Yes count proofs) =
-    (statements : List PlainStatement) × AreAccepted files statements × (unproved_of statements ≡ [])
+    (statements : List PlainStatement) × AreAccepted files statements
+    × (unproved_of statements ≡ [])
     × (count ≡ length statements) × (proofs ≡ proofs_of statements)
 
--- The files obey every rule of the profile, and each proof spells a derivation tree of its assertion from active hypotheses
--- and earlier assertions, respecting all distinct variables.
+-- The files obey every rule of the profile, and each proof spells a derivation tree of its
+-- assertion from active hypotheses and earlier assertions, respecting all distinct variables.
 pub record ObeyTheProfile (files : List PlainFile) : Type 0 where
   pub handed : CanBeRead files
   pub statements : List PlainStatement
   pub reading : Reads files statements None
-  pub meant : (before after : List PlainStatement) (s : PlainStatement) → statements ≡ before ++ s ∷ after
+  pub meant : (before after : List PlainStatement) (s : PlainStatement)
+      → statements ≡ before ++ s ∷ after
       → IsMeant (sentences before) (sentence_of s)
-  pub proved : (before after : List PlainStatement) (s : PlainStatement) → statements ≡ before ++ s ∷ after → s.kind ≡ Provable
-      → (is_incomplete (proof_of s) ≡ false) × IsProved (sentences before) (sentence_of s) (proof_of s)
+  pub proved : (before after : List PlainStatement) (s : PlainStatement)
+      → statements ≡ before ++ s ∷ after → s.kind ≡ Provable
+      → (is_incomplete (proof_of s) ≡ false)
+      × IsProved (sentences before) (sentence_of s) (proof_of s)

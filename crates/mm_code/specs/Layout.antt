@@ -1,5 +1,7 @@
--- The lines in which proofs are printed and saved. A text is a list of bytes, a token a list of bytes in it.
-use Rattle.std.specs.Prelude.{◌≡◌, ℕ, ◌+◌, ◌*◌, ◌/◌, ◌%◌, min, ◌<◌, ◌≤◌, ◌⊎◌, List, [], ◌∷◌, ◌++◌, length, map}
+-- The lines in which proofs are printed and saved. A text is a list of bytes, a token a list of
+-- bytes in it.
+use Rattle.std.specs.Prelude.{◌≡◌, ℕ, ◌+◌, ◌*◌, ◌/◌, ◌%◌, min, ◌<◌, ◌≤◌, ◌⊎◌, List, [], ◌∷◌, ◌++◌}
+use Rattle.std.specs.Prelude.{length, map}
 use denote.Ref.{Bor}
 use Rattle.std.specs.List.{flat_map, join_with_byte, AllByRecursion, sum_by}
 
@@ -52,7 +54,8 @@ abbrev pub IsGreedy : List (List (List ℕ)) → Type 0
 IsGreedy [] = Unit {0}
 IsGreedy (line ∷ lines) = IsFull line (flat_map (λ tokens. tokens) lines) × IsGreedy lines
 
--- The text is these tokens in lines: all of them in their order, greedily, each line ended by a line feed.
+-- The text is these tokens in lines: all of them in their order, greedily, each line ended by a
+-- line feed.
 pub record LaidOut (tokens : List (List ℕ)) (text : List ℕ) : Type 0 where
   pub lines : List (List (List ℕ))
   pub in_order : flat_map (λ line. line) lines ≡ tokens
@@ -78,7 +81,8 @@ abbrev pub in_parentheses : List (List ℕ) → List (List ℕ)
 in_parentheses labels = (left_parenthesis ∷ []) ∷ (labels ++ (right_parenthesis ∷ []) ∷ [])
 
 -- The text is a compressed proof in lines: those of its list, and then those of its letters.
-pub record CompressedLaidOut (labels : List (List ℕ)) (letters : List ℕ) (text : List ℕ) : Type 0 where
+pub record CompressedLaidOut (labels : List (List ℕ)) (letters : List ℕ)
+    (text : List ℕ) : Type 0 where
   pub list : List ℕ
   pub block : List ℕ
   pub list_laid_out : LaidOut (in_parentheses labels) list
@@ -97,6 +101,7 @@ size_of tokens = sum_by (λ token. length token + 1) tokens
 abbrev pub lines_bound : ℕ → ℕ
 lines_bound size = size + size / 6 + 6
 
--- at least the bytes of the lines of this many letters: seven besides for each line, its indent and its line feed
+-- at least the bytes of the lines of this many letters: seven besides for each line, its indent and
+-- its line feed
 abbrev pub letters_bound : ℕ → ℕ
 letters_bound count = count + (count / line_letters + min 1 (count % line_letters)) * 7

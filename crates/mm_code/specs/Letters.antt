@@ -1,5 +1,6 @@
 -- The letter code of compressed proofs: what its letters say (the Metamath book, appendix B).
-use Rattle.std.specs.Prelude.{◌≡◌, ℕ, ◌+◌, ◌*◌, ◌<◌, ◌≤◌, min, List, [], ◌∷◌, ◌++◌, map, fold, All, Any, Result, Ok, Err}
+use Rattle.std.specs.Prelude.{◌≡◌, ℕ, ◌+◌, ◌*◌, ◌<◌, ◌≤◌, min, List, [], ◌∷◌, ◌++◌, map, fold, All}
+use Rattle.std.specs.Prelude.{Any, Result, Ok, Err}
 use Rattle.std.specs.Global.{Vec}
 use denote.Ref.{Bor}
 use Rattle.std.specs.List.{flat_map, AllByRecursion, AllZip}
@@ -46,8 +47,8 @@ abbrev pub SaysCode : List ℕ → Code → Type 0
 SaysCode piece (Number number) = IsSpelling piece number
 SaysCode piece Tag = piece ≡ tag_letter ∷ []
 
--- The text is pieces joined, one for each code that says it: a spelling of each number, and `Z` for each tag. Here a
--- number has no upper bound.
+-- The text is pieces joined, one for each code that says it: a spelling of each number, and `Z` for
+-- each tag. Here a number has no upper bound.
 pub record SpellsCodes (text : List ℕ) (codes : List Code) : Type 0 where
   pub pieces : List (List ℕ)
   pub each : AllZip SaysCode pieces codes
@@ -111,11 +112,13 @@ Answers (Ok codes) answer = answer ≡ Ok codes.items
 Answers (Err fault) answer = IsFaultIn fault answer
 
 -- The call, which left these codes in the list, answers this, or `Memory`.
-abbrev pub Fills : {X : Type 0} → Result X CodeFault → List Code → Result (List Code) CodeRule → Type 0
+abbrev pub Fills : {X : Type 0} → Result X CodeFault → List Code → Result (List Code) CodeRule
+    → Type 0
 Fills (Ok done) codes answer = answer ≡ Ok codes
 Fills (Err fault) codes answer = IsFaultIn fault answer
 
--- The letters break this rule: a byte is no letter; or else leading digits are followed by `Z` or by the end.
+-- The letters break this rule: a byte is no letter; or else leading digits are followed by `Z` or
+-- by the end.
 abbrev pub LettersBreak : CodeRule → List ℕ → Type 0
 LettersBreak P4 text = Any (λ byte. ¬ (IsLetter byte)) text
 LettersBreak P5 text = All IsLetter text × IsCut text

@@ -1,4 +1,5 @@
--- A mirror of the code that lays out tokens. Private contracts cite it, and lemmas join it to `LaidOut`.
+-- A mirror of the code that lays out tokens. Private contracts cite it, and lemmas join it to
+-- `LaidOut`.
 use Rattle.std.specs.Prelude.{◌≡◌, ℕ, ◌-◌, List, [], ◌∷◌, ◌++◌, length, nat_lt, if◌then◌else◌}
 use Rattle.mm_code.specs.Layout.{indent, space, line_feed, line_letters, LettersLaidOut}
 

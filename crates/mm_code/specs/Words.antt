@@ -1,5 +1,6 @@
 -- What a reader of a text finds in it: its tokens (the Metamath book, section 4.1.1).
-use Rattle.std.specs.Prelude.{◌≡◌, ℕ, ◌<◌, Bool, false, ◌||◌, List, [], ◌∷◌, length, if◌then◌else◌, ◌==◌}
+use Rattle.std.specs.Prelude.{◌≡◌, ℕ, ◌<◌, Bool, false, ◌||◌, List, [], ◌∷◌, length, if◌then◌else◌}
+use Rattle.std.specs.Prelude.{◌==◌}
 use Rattle.std.specs.List.{AllByRecursion, onto_first}
 
 -- Metamath's white space: a space, and the characters 9, 10, 12 and 13
@@ -12,7 +13,8 @@ tokens_in [] = []
 tokens_in (byte ∷ []) = if is_white_space byte then [] else (byte ∷ []) ∷ []
 tokens_in (byte ∷ next ∷ bytes) =
     if is_white_space byte then tokens_in (next ∷ bytes)
-    else (if is_white_space next then (byte ∷ []) ∷ tokens_in (next ∷ bytes) else onto_first byte (tokens_in (next ∷ bytes)))
+    else (if is_white_space next then (byte ∷ []) ∷ tokens_in (next ∷ bytes)
+    else onto_first byte (tokens_in (next ∷ bytes)))
 
 -- none of these bytes is white space
 abbrev pub LacksWhiteSpace : List ℕ → Type 0

@@ -5,7 +5,9 @@ use Rattle.std.proofs.Math.Seq.{take-append_seam, take-add, take-length}
 use Rattle.std.proofs.lemmas.List.Sums.{sum_by-append}
 use Rattle.std.proofs.lemmas.Bool.{cases_lt}
 use Rattle.mm_frame.specs.Sentence.{Sentence}
-use Rattle.mm_frame.specs.Active.{is_opening, is_closing, open_marks, close_marks}
+use Rattle.mm_frame.specs.Active.{open_marks, close_marks}
+use Rattle.mm_text.specs.Blocks.{is_closing}
+use Rattle.mm_text.specs.Blocks.{is_opening}
 use Rattle.mm_frame.specs.Scopes.{IsUnclosed}
 
 pub count_append : {X : Type 0} (p : X → Bool) (xs ys : List X) → count_by p (xs ++ ys) ≡ count_by p xs + count_by p ys

@@ -18,7 +18,7 @@ use Rattle.mm_frame.specs.Sentence.{Sentence}
 use Rattle.mm_frame.specs.Numbers.{symbols_of, AreNumbers}
 use Rattle.mm_frame.specs.Latest.{IsLatest}
 use Rattle.mm_frame.specs.Layout.{AreInfos, AreEssentials, GivesType, IsLatestIn}
-use Rattle.mm_frame.specs.Gathered.{floating_of, floatings, IsIn, StandsIn, AreGathered, AreRising}
+use Rattle.mm_frame.specs.Gathered.{floating_of, floatings, IsIn, StandsIn, AreGathered, AreRisingPlaces}
 use Rattle.mm_frame.proofs.Pushed.{get_kept, get_pushed, pushed_cases, get_within}
 use Rattle.mm_frame.proofs.Numbered.{at_from_contains, contains_from_at}
 use Rattle.mm_frame.proofs.Entries.{append_cases}
@@ -205,7 +205,7 @@ gathered_step st names infos es xs i s ns places pushed now are essentials same 
 -- ---- in order, each once
 
 -- a list that rises from each element to the next rises
-increasing_rises : (xs : List ℕ) → IsStrictlyIncreasing xs → AreRising xs
+increasing_rises : (xs : List ℕ) → IsStrictlyIncreasing xs → AreRisingPlaces xs
 increasing_rises xs increasing i j p q at_i at_j lt =
     let within_i = slice_get_within xs i p at_i in
     let within_j = slice_get_within xs j q at_j in
@@ -217,9 +217,9 @@ increasing_rises xs increasing i j p q at_i at_j lt =
 
 -- what is left after sorting and leaving out repetitions
 pub gathered_sorted : (st : List Sentence) (es : List ℕ) (s : Sentence) (places sorted once : List ℕ) → AreGathered st es s places → IsPermutation places sorted → IsSorted nat_cmp sorted → once ≡ dedup eqb sorted
-    → AreRising once × AreGathered st es s once
+    → AreRisingPlaces once × AreGathered st es s once
 gathered_sorted st es s places sorted once gathered permutation in_order same =
-    let rising : AreRising once = subst AreRising (sym same) (increasing_rises (dedup eqb sorted) (IsStrictlyIncreasing-dedup sorted in_order)) in (
+    let rising : AreRisingPlaces once = subst AreRisingPlaces (sym same) (increasing_rises (dedup eqb sorted) (IsStrictlyIncreasing-dedup sorted in_order)) in (
       rising,
       record {
         only = λ i p there.

@@ -4,7 +4,8 @@ use Rattle.std.specs.List.{slice_get}
 use Rattle.mm_text.specs.declared.statement.Kind.{Kind}
 use Rattle.mm_text.specs.declared.statement.Kind.TheVariants.{Constants, Variables, Distinct, Floating, Essential, Axiom, Provable, Opening, Closing}
 use Rattle.mm_frame.specs.Sentence.{Sentence}
-use Rattle.mm_frame.specs.Active.{IsActive, open_marks, close_marks, is_opening}
+use Rattle.mm_frame.specs.Active.{IsActive, open_marks, close_marks}
+use Rattle.mm_text.specs.Blocks.{is_opening}
 use Rattle.mm_frame.specs.Scopes.{AreScopes}
 use Rattle.mm_frame.proofs.Actives.{scope_active}
 use Rattle.mm_frame.proofs.Depth.{scope_depth, scope_block_within, scope_stack_within}

@@ -1,16 +1,9 @@
 -- What is active at a place (the Metamath book, section 4.2.8, on scopes).
-use Rattle.std.specs.Prelude.{◌≡◌, ℕ, suc, ◌<◌, ◌≤◌, List, length, take, drop, count_by, slice_get, Bool, true, false, Some, ◌⊎◌}
-use Rattle.mm_text.specs.declared.statement.Kind.{Kind}
-use Rattle.mm_text.specs.declared.statement.Kind.TheVariants.{Constants, Variables, Opening, Closing}
+use Rattle.std.specs.Prelude.{◌≡◌, ℕ, suc, ◌<◌, ◌≤◌, List, length, take, drop, count_by, slice_get}
+use Rattle.std.specs.Prelude.{Some, ◌⊎◌}
+use Rattle.mm_text.specs.declared.statement.Kind.TheVariants.{Constants, Variables, Opening}
+use Rattle.mm_text.specs.Blocks.{is_opening, is_closing}
 use Rattle.mm_frame.specs.Sentence.{Sentence, SomeSentence, Declares, Types}
-
-abbrev pub is_opening : Kind → Bool
-is_opening Opening = true
-is_opening kind = false
-
-abbrev pub is_closing : Kind → Bool
-is_closing Closing = true
-is_closing kind = false
 
 -- how many `${`, and how many `$}`
 abbrev pub open_marks : List Sentence → ℕ
@@ -19,19 +12,23 @@ open_marks statements = count_by (λ s. is_opening s.kind) statements
 abbrev pub close_marks : List Sentence → ℕ
 close_marks statements = count_by (λ s. is_closing s.kind) statements
 
--- The block that the statement at a place opens is open after these statements: no front of the statements after it has
--- more `$}` than `${`.
+-- The block that the statement at a place opens is open after these statements: no front of the
+-- statements after it has more `$}` than `${`.
 pub record IsOpen (statements : List Sentence) (place : ℕ) : Type 0 where
   pub opening : Sentence
   pub there : slice_get statements place ≡ Some opening
   pub opened : opening.kind ≡ Opening
-  pub unclosed : (n : ℕ) → close_marks (take n (drop (suc place) statements)) ≤ open_marks (take n (drop (suc place) statements))
+  pub unclosed : (n : ℕ)
+      → close_marks (take n (drop (suc place) statements)) ≤ open_marks
+      (take n (drop (suc place) statements))
 
--- The block that is opened at one place holds another: the other comes after its `${` and before its `$}`.
+-- The block that is opened at one place holds another: the other comes after its `${` and before
+-- its `$}`.
 abbrev pub Holds : List Sentence → ℕ → ℕ → Type 0
 Holds statements outer place = (outer < place) × IsOpen (take (suc place) statements) outer
 
--- The statement at a place is active after these statements: each block that holds it is open still.
+-- The statement at a place is active after these statements: each block that holds it is open
+-- still.
 pub record IsActive (statements : List Sentence) (place : ℕ) : Type 0 where
   pub within : place < length statements
   pub kept : (outer : ℕ) → Holds statements outer place → IsOpen statements outer
@@ -39,7 +36,8 @@ pub record IsActive (statements : List Sentence) (place : ℕ) : Type 0 where
 -- some active statement is so
 abbrev pub SomeActive : List Sentence → (Sentence → Type 0) → Type 0
 SomeActive statements P =
-    (place : ℕ) × (s : Sentence) × (slice_get statements place ≡ Some s) × IsActive statements place × P s
+    (place : ℕ) × (s : Sentence) × (slice_get statements place ≡ Some s) × IsActive statements place
+    × P s
 
 -- a symbol that some `$c`, or some `$v`, declares, active or not
 abbrev pub IsConstant : List Sentence → List ℕ → Type 0
@@ -50,7 +48,8 @@ IsVariable statements symbol = SomeSentence statements (Declares Variables symbo
 
 -- a symbol that an active `$c` or `$v` declares
 abbrev pub IsActiveSymbol : List Sentence → List ℕ → Type 0
-IsActiveSymbol statements symbol = SomeActive statements (λ s. Declares Constants symbol s ⊎ Declares Variables symbol s)
+IsActiveSymbol statements symbol =
+    SomeActive statements (λ s. Declares Constants symbol s ⊎ Declares Variables symbol s)
 
 -- the variable has an active `$f`
 abbrev pub IsTyped : List Sentence → List ℕ → Type 0

@@ -1,6 +1,7 @@
--- How a book's lists change as the symbols of a `$c` or `$v` are taken in. This file mirrors the code,
--- and is cited by private contracts alone.
-use Rattle.std.specs.Prelude.{◌≡◌, ℕ, ◌+◌, ◌<◌, ◌≤◌, ◌⊎◌, vec_len, vec_capacity, length, slice_get, slice_set, Contains, Option, Some, None, List, [], ◌∷◌, ◌++◌}
+-- How a book's lists change as the symbols of a `$c` or `$v` are taken in. This file mirrors the
+-- code, and is cited by private contracts alone.
+use Rattle.std.specs.Prelude.{◌≡◌, ℕ, ◌+◌, ◌<◌, ◌≤◌, ◌⊎◌, vec_len, vec_capacity, length, slice_get}
+use Rattle.std.specs.Prelude.{slice_set, Contains, Option, Some, None, List, [], ◌∷◌, ◌++◌}
 use Rattle.mm_text.specs.declared.statement.Kind.{Kind}
 use Rattle.mm_text.specs.declared.statement.Kind.TheVariants.{Constants, Variables}
 use Rattle.mm_frame.specs.declared.number.Sym.{Sym}
@@ -32,13 +33,15 @@ AreNoted old new number (Some place) =
     → new ≡ slice_set old number (record { variable = Some place; floating = info.floating })
 
 -- the symbol has this number already
-pub record IsNoted (old new : Tables) (symbol : List ℕ) (number : ℕ) (variable : Option ℕ) : Type 0 where
+pub record IsNoted (old new : Tables) (symbol : List ℕ) (number : ℕ)
+    (variable : Option ℕ) : Type 0 where
   pub there : slice_get old.symbols.names number ≡ Some symbol
   pub names : new.symbols.names ≡ old.symbols.names
   pub infos : AreNoted old.infos.items new.infos.items number variable
 
 -- the symbol is new, and has the next number
-pub record IsAdded (old new : Tables) (symbol : List ℕ) (number : ℕ) (variable : Option ℕ) : Type 0 where
+pub record IsAdded (old new : Tables) (symbol : List ℕ) (number : ℕ)
+    (variable : Option ℕ) : Type 0 where
   pub fresh : ¬ (Contains old.symbols.names symbol)
   pub next : number ≡ length old.symbols.names
   pub names : new.symbols.names ≡ old.symbols.names ++ symbol ∷ []

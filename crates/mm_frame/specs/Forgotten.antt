@@ -1,4 +1,5 @@
--- What is left of a list of places. This file mirrors the code, and is cited by private contracts alone.
+-- What is left of a list of places. This file mirrors the code, and is cited by private contracts
+-- alone.
 use Rattle.std.specs.Prelude.{◌≡◌, ℕ, suc, List, ◌++◌, length, slice_get, Some}
 use Rattle.mm_frame.specs.Sentence.{Sentence}
 use Rattle.mm_frame.specs.Active.{IsActive}
@@ -8,4 +9,5 @@ pub record AreForgotten (statements : List Sentence) (before after : List ℕ) :
   pub gone : List ℕ
   pub parted : before ≡ after ++ gone
   pub inactive : (i p : ℕ) → slice_get gone i ≡ Some p → ¬ (IsActive statements p)
-  pub last_active : (k p : ℕ) → length after ≡ suc k → slice_get after k ≡ Some p → IsActive statements p
+  pub last_active : (k p : ℕ) → length after ≡ suc k → slice_get after k ≡ Some p
+      → IsActive statements p

@@ -1,4 +1,5 @@
--- The frame of an assertion (the Metamath book, section 4.2.7): its mandatory variables, hypotheses and distinct pairs.
+-- The frame of an assertion (the Metamath book, section 4.2.7): its mandatory variables, hypotheses
+-- and distinct pairs.
 use Rattle.std.specs.Prelude.{◌≡◌, ◌≢◌, ℕ, ◌+◌, List, [], ◌∷◌, Contains, ◌⊎◌}
 use Rattle.mm_text.specs.declared.statement.Kind.TheVariants.{Distinct, Essential}
 use Rattle.mm_frame.specs.Sentence.{Sentence, Types}
@@ -7,15 +8,18 @@ use Rattle.mm_frame.specs.Active.{IsActive, SomeActive, IsVariable}
 -- a mandatory variable: it stands in the assertion, or in an active `$e`
 abbrev pub IsMandatory : List Sentence → Sentence → List ℕ → Type 0
 IsMandatory before s x =
-    IsVariable before x × (Contains s.symbols x ⊎ SomeActive before (λ e. (e.kind ≡ Essential) × Contains e.symbols x))
+    IsVariable before x
+    × (Contains s.symbols x ⊎ SomeActive before (λ e. (e.kind ≡ Essential) × Contains e.symbols x))
 
 -- a mandatory hypothesis: an active `$e`, or the active `$f` of a mandatory variable
 abbrev pub IsMandatoryAt : List Sentence → Sentence → ℕ → Sentence → Type 0
 IsMandatoryAt before s place h =
     IsActive before place
-    × ((h.kind ≡ Essential) ⊎ ((code : List ℕ) × (x : List ℕ) × Types code x h × IsMandatory before s x))
+    × ((h.kind ≡ Essential)
+    ⊎ ((code : List ℕ) × (x : List ℕ) × Types code x h × IsMandatory before s x))
 
--- the second list has those elements of the first, from a place on and in their order, of which P holds
+-- the second list has those elements of the first, from a place on and in their order, of which P
+-- holds
 abbrev pub AreThose : {X : Type 0} → (ℕ → X → Type 0) → ℕ → List X → List X → Type 0
 AreThose P place [] those = those ≡ []
 AreThose {X} P place (x ∷ xs) those =
@@ -29,8 +33,10 @@ AreMandatory before s hypotheses = AreThose (IsMandatoryAt before s) 0 before hy
 -- an active pair: different members of one active `$d`
 abbrev pub IsDistinct : List Sentence → List ℕ → List ℕ → Type 0
 IsDistinct before x y =
-    (x ≢ y) × SomeActive before (λ d. (d.kind ≡ Distinct) × Contains d.symbols x × Contains d.symbols y)
+    (x ≢ y) × SomeActive before
+    (λ d. (d.kind ≡ Distinct) × Contains d.symbols x × Contains d.symbols y)
 
 -- a mandatory distinct pair: an active pair of mandatory variables
 abbrev pub IsMandatoryPair : List Sentence → Sentence → List ℕ → List ℕ → Type 0
-IsMandatoryPair before s x y = IsDistinct before x y × IsMandatory before s x × IsMandatory before s y
+IsMandatoryPair before s x y =
+    IsDistinct before x y × IsMandatory before s x × IsMandatory before s y

@@ -25,20 +25,23 @@ pub record AreHypotheses (frame : FramePlace) (numbers : List ℕ) : Type 0 wher
 abbrev pub IsSamePair : ℕ × ℕ → ℕ × ℕ → Type 0
 IsSamePair p q = (p ≡ q) ⊎ (p ≡ (q.1, q.0))
 
--- these are the mandatory distinct pairs, by the numbers of their variables, each in one order and once
+-- these are the mandatory distinct pairs, by the numbers of their variables, each in one order and
+-- once
 pub record ArePairs (frame : FramePlace) (pairs : List (ℕ × ℕ)) : Type 0 where
   pub assertion : Sentence
   pub there : slice_get frame.statements frame.place ≡ Some assertion
   pub only :
       (pair : ℕ × ℕ) → Contains pairs pair
-      → (x : List ℕ) × (y : List ℕ) × IsNumberOf frame.statements x pair.0 × IsNumberOf frame.statements y pair.1
+      → (x : List ℕ) × (y : List ℕ) × IsNumberOf frame.statements x pair.0
+      × IsNumberOf frame.statements y pair.1
       × IsMandatoryPair (before_it frame) assertion x y
   pub each :
       (x y : List ℕ) → IsMandatoryPair (before_it frame) assertion x y
       → (pair : ℕ × ℕ) × IsNumberOf frame.statements x pair.0 × IsNumberOf frame.statements y pair.1
       × (Contains pairs pair ⊎ Contains pairs (pair.1, pair.0))
   pub once :
-      (i j : ℕ) (p q : ℕ × ℕ) → slice_get pairs i ≡ Some p → slice_get pairs j ≡ Some q → IsSamePair p q → i ≡ j
+      (i j : ℕ) (p q : ℕ × ℕ) → slice_get pairs i ≡ Some p → slice_get pairs j ≡ Some q
+      → IsSamePair p q → i ≡ j
 
 -- these are the numbers of the assertion's symbols
 pub record AreItsSymbols (frame : FramePlace) (numbers : List ℕ) : Type 0 where

@@ -1,5 +1,7 @@
--- How the frame of an assertion is gathered. This file mirrors the code, and is cited by private contracts alone.
-use Rattle.std.specs.Prelude.{◌≡◌, ◌↔◌, ℕ, ◌<◌, List, length, slice_get, Option, Some, Contains, ◌⊎◌}
+-- How the frame of an assertion is gathered. This file mirrors the code, and is cited by private
+-- contracts alone.
+use Rattle.std.specs.Prelude.{◌≡◌, ◌↔◌, ℕ, ◌<◌, List, length, slice_get, Option, Some, Contains}
+use Rattle.std.specs.Prelude.{◌⊎◌}
 use Rattle.std.specs.List.{filter_map}
 use Rattle.std.specs.Option.{option_and_then}
 use Rattle.mm_frame.specs.declared.number.Sym.{Sym}
@@ -25,7 +27,8 @@ IsIn places p = (i : ℕ) × (slice_get places i ≡ Some p)
 -- the symbol stands in the assertion, or in a `$e` at one of the places
 abbrev pub StandsIn : List Sentence → List ℕ → Sentence → List ℕ → Type 0
 StandsIn st places s x =
-    Contains s.symbols x ⊎ ((q : ℕ) × (h : Sentence) × IsIn places q × (slice_get st q ≡ Some h) × Contains h.symbols x)
+    Contains s.symbols x
+    ⊎ ((q : ℕ) × (h : Sentence) × IsIn places q × (slice_get st q ≡ Some h) × Contains h.symbols x)
 
 -- the place of an active `$e`, or of the latest `$f` of a symbol of it or of the assertion
 abbrev pub IsGathered : List Sentence → List ℕ → Sentence → ℕ → Type 0
@@ -33,20 +36,22 @@ IsGathered st essentials s p =
     IsIn essentials p ⊎ ((x : List ℕ) × StandsIn st essentials s x × IsLatest (GivesType x) st p)
 
 -- the list has exactly the gathered places
-pub record AreGathered (st : List Sentence) (essentials : List ℕ) (s : Sentence) (places : List ℕ) : Type 0 where
+pub record AreGathered (st : List Sentence) (essentials : List ℕ) (s : Sentence)
+    (places : List ℕ) : Type 0 where
   pub only : (i p : ℕ) → slice_get places i ≡ Some p → IsGathered st essentials s p
   pub each : (p : ℕ) → IsGathered st essentials s p → IsIn places p
 
 -- each place is below the next
-abbrev pub AreRising : List ℕ → Type 0
-AreRising places =
+abbrev pub AreRisingPlaces : List ℕ → Type 0
+AreRisingPlaces places =
     (i j p q : ℕ) → slice_get places i ≡ Some p → slice_get places j ≡ Some q → i < j → p < q
 
 -- these are the places of the mandatory hypotheses, in order
 pub record ArePlaces (st : List Sentence) (s : Sentence) (places : List ℕ) : Type 0 where
-  pub rising : AreRising places
+  pub rising : AreRisingPlaces places
   pub within : (i p : ℕ) → slice_get places i ≡ Some p → p < length st
-  pub exact : (p : ℕ) (h : Sentence) → slice_get st p ≡ Some h → IsMandatoryAt st s p h ↔ Contains places p
+  pub exact : (p : ℕ) (h : Sentence) → slice_get st p ≡ Some h → IsMandatoryAt st s p h
+      ↔ Contains places p
 
 -- the statement at one of the places is a `$f` that types the variable with the number
 pub record IsTypedBy (st : List Sentence) (places : List ℕ) (n : Sym) : Type 0 where
@@ -63,25 +68,33 @@ pub record IsTypedBy (st : List Sentence) (places : List ℕ) (n : Sym) : Type 0
 -- these are the numbers of the variables of the `$f` at some places, each once
 pub record AreVariables (st : List Sentence) (places : List ℕ) (variables : List Sym) : Type 0 where
   pub only : (i : ℕ) (n : Sym) → slice_get variables i ≡ Some n → IsTypedBy st places n
-  pub each : (k p : ℕ) (f : Sentence) (code x : List ℕ) → slice_get places k ≡ Some p → slice_get st p ≡ Some f
-      → Types code x f → (i : ℕ) × (n : Sym) × (slice_get variables i ≡ Some n) × IsNumberOf st x n.0
-  pub once : (i j : ℕ) (n m : Sym) → slice_get variables i ≡ Some n → slice_get variables j ≡ Some m → n.0 ≡ m.0
+  pub each : (k p : ℕ) (f : Sentence) (code x : List ℕ) → slice_get places k ≡ Some p
+      → slice_get st p ≡ Some f
+      → Types code x f
+      → (i : ℕ) × (n : Sym) × (slice_get variables i ≡ Some n) × IsNumberOf st x n.0
+  pub once : (i j : ℕ) (n m : Sym) → slice_get variables i ≡ Some n → slice_get variables j ≡ Some m
+      → n.0 ≡ m.0
       → i ≡ j
 
 -- the symbols with these numbers are a distinct pair
 abbrev pub AreApart : List Sentence → Sym → Sym → Type 0
-AreApart st a b = (x : List ℕ) × (y : List ℕ) × IsNumberOf st x a.0 × IsNumberOf st y b.0 × IsDistinct st x y
+AreApart st a b =
+    (x : List ℕ) × (y : List ℕ) × IsNumberOf st x a.0 × IsNumberOf st y b.0 × IsDistinct st x y
 
 -- the places j and k are reached: all before the k-th, and the first so many with the k-th
 abbrev pub IsReached : ℕ → ℕ → ℕ → ℕ → Type 0
 IsReached i count j k = (k < i) ⊎ ((k ≡ i) × (j < count))
 
 -- these are the distinct pairs among the variables as far as they are reached, each once
-pub record AreFound (st : List Sentence) (variables : List Sym) (i count : ℕ) (pairs : List (Sym × Sym)) : Type 0 where
+pub record AreFound (st : List Sentence) (variables : List Sym) (i count : ℕ)
+    (pairs : List (Sym × Sym)) : Type 0 where
   pub only : (m : ℕ) (pair : Sym × Sym) → slice_get pairs m ≡ Some pair
-      → (j : ℕ) × (k : ℕ) × (slice_get variables j ≡ Some pair.0) × (slice_get variables k ≡ Some pair.1) × (j < k)
+      → (j : ℕ) × (k : ℕ) × (slice_get variables j ≡ Some pair.0)
+      × (slice_get variables k ≡ Some pair.1) × (j < k)
       × IsReached i count j k × AreApart st pair.0 pair.1
-  pub each : (j k : ℕ) (a b : Sym) → slice_get variables j ≡ Some a → slice_get variables k ≡ Some b → j < k
+  pub each : (j k : ℕ) (a b : Sym) → slice_get variables j ≡ Some a → slice_get variables k ≡ Some b
+      → j < k
       → IsReached i count j k → AreApart st a b → (m : ℕ) × (slice_get pairs m ≡ Some (a, b))
-  pub once : (m n : ℕ) (p q : Sym × Sym) → slice_get pairs m ≡ Some p → slice_get pairs n ≡ Some q → p.0.0 ≡ q.0.0
+  pub once : (m n : ℕ) (p q : Sym × Sym) → slice_get pairs m ≡ Some p → slice_get pairs n ≡ Some q
+      → p.0.0 ≡ q.0.0
       → p.1.0 ≡ q.1.0 → m ≡ n

@@ -1,5 +1,6 @@
 -- How a book's lists change. This file mirrors the code, and is cited by private contracts alone.
-use Rattle.std.specs.Prelude.{◌≡◌, ℕ, ◌+◌, ◌<◌, ◌≤◌, vec_len, vec_capacity, length, Option, List, [], ◌∷◌, ◌++◌}
+use Rattle.std.specs.Prelude.{◌≡◌, ℕ, ◌+◌, ◌<◌, ◌≤◌, vec_len, vec_capacity, length, Option, List}
+use Rattle.std.specs.Prelude.{[], ◌∷◌, ◌++◌}
 use Rattle.mm_frame.specs.declared.tables.Tables.{Tables}
 use Rattle.mm_frame.specs.Sentence.{Sentence}
 use Rattle.mm_frame.specs.ScopesOf.{HaveScopes, HasRoom, HaveSameLists}
@@ -46,10 +47,12 @@ pub record HaveRoom (t : Tables) (symbols : ℕ) : Type 0 where
   pub scopes : HasRoom t.scopes
 
 abbrev pub entry_of : Kind → Option LabelId → ℕ → ℕ → Entry
-entry_of kind label start end = record { kind = kind; label = label; symbols = record { start = start; end = end } }
+entry_of kind label start end =
+    record { kind = kind; label = label; symbols = record { start = start; end = end } }
 
 -- one entry more was written, whose symbols end where the list of symbols ends
-pub record Entered (old new : Tables) (kind : Kind) (tag : Option LabelId) (start bytes : ℕ) : Type 0 where
+pub record Entered (old new : Tables) (kind : Kind) (tag : Option LabelId)
+    (start bytes : ℕ) : Type 0 where
   pub symbols : new.symbols.names ≡ old.symbols.names
   pub infos : new.infos.items ≡ old.infos.items
   pub labels : new.labels.names ≡ old.labels.names
@@ -58,7 +61,8 @@ pub record Entered (old new : Tables) (kind : Kind) (tag : Option LabelId) (star
   pub flat : new.flat.items ≡ old.flat.items
   pub scopes :
       (statements : List Sentence) (s : Sentence) → HaveScopes statements old.scopes → s.kind ≡ kind
-      → (kind ≡ Closing → close_marks statements < open_marks statements) → HaveScopes (statements ++ s ∷ []) new.scopes
+      → (kind ≡ Closing → close_marks statements < open_marks statements)
+      → HaveScopes (statements ++ s ∷ []) new.scopes
   pub essentials : new.essentials.items ≡ old.essentials.items
   pub hypotheses : new.hypotheses.items ≡ old.hypotheses.items
   pub pairs : new.pairs.items ≡ old.pairs.items

@@ -7,4 +7,5 @@ pub record IsLatest (P : Sentence → Type 0) (statements : List Sentence) (plac
   pub statement : Sentence
   pub there : slice_get statements place ≡ Some statement
   pub holds : P statement
-  pub last : (k : ℕ) (other : Sentence) → place < k → slice_get statements k ≡ Some other → ¬ (P other)
+  pub last : (k : ℕ) (other : Sentence) → place < k → slice_get statements k ≡ Some other
+      → ¬ (P other)

@@ -1,12 +1,14 @@
 -- Laws of numbers, of what is declared, open and active as statements are added, and of frames.
-use Rattle.std.specs.Prelude.{◌≡◌, ◌↔◌, ℕ, ◌+◌, ◌<◌, ◌≤◌, List, [], ◌∷◌, ◌++◌, length, take, slice_get, Contains, is_some, true, Some, ◌⊎◌}
+use Rattle.std.specs.Prelude.{◌≡◌, ◌↔◌, ℕ, ◌+◌, ◌<◌, ◌≤◌, List, [], ◌∷◌, ◌++◌, length, take}
+use Rattle.std.specs.Prelude.{slice_get, Contains, is_some, true, Some, ◌⊎◌}
 use Rattle.mm_text.specs.declared.statement.Kind.TheVariants.{Opening, Closing}
 use Rattle.mm_frame.specs.Sentence.{Sentence}
 use Rattle.mm_frame.specs.Active.{IsConstant, IsVariable, IsOpen, IsActive, open_marks, close_marks}
 use Rattle.mm_frame.specs.Frame.{AreMandatory}
 use Rattle.mm_frame.specs.Numbers.{IsNumberOf, IsNumbered}
 
--- Exactly the declared symbols have numbers; a symbol has one number, and a number one symbol; and it stays so.
+-- Exactly the declared symbols have numbers; a symbol has one number, and a number one symbol; and
+-- it stays so.
 abbrev pub OneNumber : Type 0
 OneNumber =
     (statements more : List Sentence) (x : List ℕ)
@@ -15,13 +17,16 @@ OneNumber =
     × ((y : List ℕ) (n : ℕ) → IsNumberOf statements x n → IsNumberOf statements y n → x ≡ y)
     × ((n : ℕ) → IsNumberOf statements x n → IsNumberOf (statements ++ more) x n)
 
--- A labelled statement has a number, and one only; a number is that of one statement; and it stays so.
+-- A labelled statement has a number, and one only; a number is that of one statement; and it stays
+-- so.
 abbrev pub OneLabelNumber : Type 0
 OneLabelNumber =
     (statements more : List Sentence) (p : ℕ) (s : Sentence)
-    → (((slice_get statements p ≡ Some s) × (is_some s.label ≡ true)) ↔ ((n : ℕ) × IsNumbered statements n p s))
+    → (((slice_get statements p ≡ Some s) × (is_some s.label ≡ true))
+    ↔ ((n : ℕ) × IsNumbered statements n p s))
     × ((m n : ℕ) → IsNumbered statements m p s → IsNumbered statements n p s → m ≡ n)
-    × ((q n : ℕ) (t : Sentence) → IsNumbered statements n p s → IsNumbered statements n q t → (p ≡ q) × (s ≡ t))
+    × ((q n : ℕ) (t : Sentence) → IsNumbered statements n p s → IsNumbered statements n q t
+    → (p ≡ q) × (s ≡ t))
     × ((n : ℕ) → IsNumbered statements n p s → IsNumbered (statements ++ more) n p s)
 
 -- the innermost open block
@@ -34,21 +39,25 @@ abbrev pub OpenBlocks : Type 0
 OpenBlocks =
     (before : List Sentence) (s : Sentence) (p : ℕ)
     → (¬ (s.kind ≡ Closing)
-    → (IsOpen (before ++ s ∷ []) p ↔ (IsOpen before p ⊎ ((s.kind ≡ Opening) × (p ≡ length before)))))
-    × ((m : ℕ) → s.kind ≡ Closing → IsInnermostOpen before m → (IsOpen (before ++ s ∷ []) p ↔ (IsOpen before p × p < m)))
+    → (IsOpen (before ++ s ∷ []) p
+    ↔ (IsOpen before p ⊎ ((s.kind ≡ Opening) × (p ≡ length before)))))
+    × ((m : ℕ) → s.kind ≡ Closing → IsInnermostOpen before m
+    → (IsOpen (before ++ s ∷ []) p ↔ (IsOpen before p × p < m)))
 
--- A statement is active from its place on. A `$}` ends all that is active and comes after the `${` of the innermost block;
--- nothing else ends, and nothing begins again.
+-- A statement is active from its place on. A `$}` ends all that is active and comes after the `${`
+-- of the innermost block; nothing else ends, and nothing begins again.
 abbrev pub ActiveStatements : Type 0
 ActiveStatements =
     (before : List Sentence) (s : Sentence) (p : ℕ)
-    → (¬ (s.kind ≡ Closing) → (IsActive (before ++ s ∷ []) p ↔ (IsActive before p ⊎ (p ≡ length before))))
+    → (¬ (s.kind ≡ Closing)
+    → (IsActive (before ++ s ∷ []) p ↔ (IsActive before p ⊎ (p ≡ length before))))
     × ((m : ℕ) → s.kind ≡ Closing → IsInnermostOpen before m
     → (IsActive (before ++ s ∷ []) p ↔ ((IsActive before p × p ≤ m) ⊎ (p ≡ length before))))
 
 -- these are the places of the open blocks, the outermost first
 pub record AreOpen (statements : List Sentence) (places : List ℕ) : Type 0 where
-  pub rising : (i j p q : ℕ) → slice_get places i ≡ Some p → slice_get places j ≡ Some q → i < j → p < q
+  pub rising : (i j p q : ℕ) → slice_get places i ≡ Some p → slice_get places j ≡ Some q → i < j
+      → p < q
   pub each : (p : ℕ) → IsOpen statements p ↔ Contains places p
 
 -- Where no `$}` lacks its `${`, as many blocks are open as there are more `${` than `$}`.
@@ -56,7 +65,8 @@ abbrev pub OpenCount : Type 0
 OpenCount =
     (statements : List Sentence)
     → ((n : ℕ) → close_marks (take n statements) ≤ open_marks (take n statements))
-    → (places : List ℕ) × AreOpen statements places × (close_marks statements + length places ≡ open_marks statements)
+    → (places : List ℕ) × AreOpen statements places
+    × (close_marks statements + length places ≡ open_marks statements)
 
 -- An assertion has one list of mandatory hypotheses.
 abbrev pub OneFrame : Type 0

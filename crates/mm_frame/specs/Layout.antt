@@ -1,5 +1,7 @@
--- How a book's lists hold its statements. This file mirrors the code, and is cited by private contracts alone.
-use Rattle.std.specs.Prelude.{◌≡◌, ℕ, ◌+◌, ◌*◌, ◌<◌, ◌≤◌, List, [], length, map, take, slice_get, slice_range, Option, Some, None, Contains, unwrap_or, ◌⊎◌}
+-- How a book's lists hold its statements. This file mirrors the code, and is cited by private
+-- contracts alone.
+use Rattle.std.specs.Prelude.{◌≡◌, ℕ, ◌+◌, ◌*◌, ◌<◌, ◌≤◌, List, [], length, map, take, slice_get}
+use Rattle.std.specs.Prelude.{slice_range, Option, Some, None, Contains, unwrap_or, ◌⊎◌}
 use Rattle.mm_text.specs.declared.statement.Kind.TheVariants.{Variables, Essential, Distinct}
 use Rattle.mm_frame.specs.declared.number.LabelId.{LabelId}
 use Rattle.mm_frame.specs.declared.number.Sym.{Sym}
@@ -74,10 +76,12 @@ pub record IsPartWithin (part : Part) (len : ℕ) : Type 0 where
   pub within : part.end ≤ len
 
 -- what is known of each symbol
-pub record AreInfos (statements : List Sentence) (symbols : List (List ℕ)) (infos : List SymbolInfo) : Type 0 where
+pub record AreInfos (statements : List Sentence) (symbols : List (List ℕ))
+    (infos : List SymbolInfo) : Type 0 where
   pub all : symbols ≡ symbols_of statements
   pub informed : length infos ≡ length symbols
-  pub each : (n : ℕ) (x : List ℕ) (info : SymbolInfo) → slice_get symbols n ≡ Some x → slice_get infos n ≡ Some info
+  pub each : (n : ℕ) (x : List ℕ) (info : SymbolInfo) → slice_get symbols n ≡ Some x
+      → slice_get infos n ≡ Some info
       → IsInfo statements x info
 
 -- what is known of a label has the kind and the symbols of its statement's entry
@@ -88,31 +92,40 @@ pub record IsEntered (log : List Entry) (info : LabelInfo) : Type 0 where
   pub symbols : entry.symbols ≡ info.symbols
 
 -- what is known of each label
-pub record AreLabelInfos (statements : List Sentence) (labels : List (List ℕ)) (named : List LabelInfo) (log : List Entry) : Type 0 where
+pub record AreLabelInfos (statements : List Sentence) (labels : List (List ℕ))
+    (named : List LabelInfo) (log : List Entry) : Type 0 where
   pub all : map (λ s. s.label) (labelled_sentences statements) ≡ map Some labels
   pub informed : length named ≡ length labels
   pub each : (id : ℕ) (info : LabelInfo) → slice_get named id ≡ Some info
       → (s : Sentence) × IsNumbered statements id info.place s
-  pub logged : (place : ℕ) (e : Entry) (id : LabelId) → slice_get log place ≡ Some e → e.label ≡ Some id
+  pub logged : (place : ℕ) (e : Entry) (id : LabelId) → slice_get log place ≡ Some e
+      → e.label ≡ Some id
       → length (labelled_sentences (take place statements)) ≡ id.0
   pub entered : (id : ℕ) (info : LabelInfo) → slice_get named id ≡ Some info → IsEntered log info
 
 -- where the symbols of each statement stand
-pub record AreEntries (symbols : List (List ℕ)) (labels : List (List ℕ)) (flat : List Sym) (log : List Entry) : Type 0 where
-  pub within : (place : ℕ) (e : Entry) → slice_get log place ≡ Some e → IsPartWithin e.symbols (length flat)
+pub record AreEntries (symbols : List (List ℕ)) (labels : List (List ℕ)) (flat : List Sym)
+    (log : List Entry) : Type 0 where
+  pub within : (place : ℕ) (e : Entry) → slice_get log place ≡ Some e
+      → IsPartWithin e.symbols (length flat)
   pub numbered : (n : ℕ) (symbol : Sym) → slice_get flat n ≡ Some symbol → symbol.0 < length symbols
-  pub named : (place : ℕ) (e : Entry) (id : LabelId) → slice_get log place ≡ Some e → e.label ≡ Some id → id.0 < length labels
+  pub named : (place : ℕ) (e : Entry) (id : LabelId) → slice_get log place ≡ Some e
+      → e.label ≡ Some id → id.0 < length labels
 
 -- the places of the active `$e`, in order
 pub record AreEssentials (statements : List Sentence) (places : List ℕ) : Type 0 where
-  pub rising : (i j p q : ℕ) → i < j → slice_get places i ≡ Some p → slice_get places j ≡ Some q → p < q
+  pub rising : (i j p q : ℕ) → i < j → slice_get places i ≡ Some p → slice_get places j ≡ Some q
+      → p < q
   pub only : (i p : ℕ) → slice_get places i ≡ Some p
-      → (s : Sentence) × (slice_get statements p ≡ Some s) × (s.kind ≡ Essential) × IsActive statements p
-  pub each : (p : ℕ) (s : Sentence) → slice_get statements p ≡ Some s → s.kind ≡ Essential → IsActive statements p
+      → (s : Sentence) × (slice_get statements p ≡ Some s) × (s.kind ≡ Essential)
+      × IsActive statements p
+  pub each : (p : ℕ) (s : Sentence) → slice_get statements p ≡ Some s → s.kind ≡ Essential
+      → IsActive statements p
       → (i : ℕ) × (slice_get places i ≡ Some p)
 
 -- the frame of an assertion
-pub record IsFrameInfo (statements : List Sentence) (hypotheses : List LabelId) (pairs : List (Sym × Sym)) (info : LabelInfo) : Type 0 where
+pub record IsFrameInfo (statements : List Sentence) (hypotheses : List LabelId)
+    (pairs : List (Sym × Sym)) (info : LabelInfo) : Type 0 where
   pub hypotheses_in : IsPartWithin info.hypotheses (length hypotheses)
   pub pairs_in : IsPartWithin info.pairs (length pairs)
   pub are_hypotheses : AreHypotheses (record { statements = statements; place = info.place })
@@ -123,21 +136,31 @@ pub record IsFrameInfo (statements : List Sentence) (hypotheses : List LabelId) 
 -- the frames of all assertions
 abbrev pub AreFrames : List Sentence → List LabelId → List (Sym × Sym) → List LabelInfo → Type 0
 AreFrames statements hypotheses pairs named =
-    (id : ℕ) (info : LabelInfo) (s : Sentence) → slice_get named id ≡ Some info → slice_get statements info.place ≡ Some s
+    (id : ℕ) (info : LabelInfo) (s : Sentence) → slice_get named id ≡ Some info
+    → slice_get statements info.place ≡ Some s
     → IsAssertion s.kind → IsFrameInfo statements hypotheses pairs info
 
--- the pairs that were stated: each by an active `$d` at its place, and none while it was active by the one before
-pub record AreStated (statements : List Sentence) (symbols : List (List ℕ)) (spans : List Stated) : Type 0 where
+-- the pairs that were stated: each by an active `$d` at its place, and none while it was active by
+-- the one before
+pub record AreStated (statements : List Sentence) (symbols : List (List ℕ))
+    (spans : List Stated) : Type 0 where
   pub only : (i : ℕ) (span : Stated) → slice_get spans i ≡ Some span
-      → (d : Sentence) × (slice_get statements span.place ≡ Some d) × (d.kind ≡ Distinct) × (span.pair.0 < span.pair.1)
-      × (x : List ℕ) × (y : List ℕ) × (slice_get symbols span.pair.0 ≡ Some x) × (slice_get symbols span.pair.1 ≡ Some y)
+      → (d : Sentence) × (slice_get statements span.place ≡ Some d) × (d.kind ≡ Distinct)
+      × (span.pair.0 < span.pair.1)
+      × (x : List ℕ) × (y : List ℕ) × (slice_get symbols span.pair.0 ≡ Some x)
+      × (slice_get symbols span.pair.1 ≡ Some y)
       × Contains d.symbols x × Contains d.symbols y
-  pub each : (place a b : ℕ) (d : Sentence) (x y : List ℕ) → slice_get statements place ≡ Some d → d.kind ≡ Distinct
-      → slice_get symbols a ≡ Some x → slice_get symbols b ≡ Some y → a < b → Contains d.symbols x → Contains d.symbols y
-      → (i : ℕ) × (span : Stated) × (slice_get spans i ≡ Some span) × (span.pair ≡ (a, b)) × (span.place ≤ place)
+  pub each : (place a b : ℕ) (d : Sentence) (x y : List ℕ) → slice_get statements place ≡ Some d
+      → d.kind ≡ Distinct
+      → slice_get symbols a ≡ Some x → slice_get symbols b ≡ Some y → a < b → Contains d.symbols x
+      → Contains d.symbols y
+      → (i : ℕ) × (span : Stated) × (slice_get spans i ≡ Some span) × (span.pair ≡ (a, b))
+      × (span.place ≤ place)
       × IsActive (take (place + 1) statements) span.place
-  pub apart : (i j : ℕ) (older newer : Stated) → i < j → slice_get spans i ≡ Some older → slice_get spans j ≡ Some newer
-      → older.pair ≡ newer.pair → (older.place < newer.place) × ¬ (IsActive (take newer.place statements) older.place)
+  pub apart : (i j : ℕ) (older newer : Stated) → i < j → slice_get spans i ≡ Some older
+      → slice_get spans j ≡ Some newer
+      → older.pair ≡ newer.pair
+      → (older.place < newer.place) × ¬ (IsActive (take newer.place statements) older.place)
 
 -- all lists of a book, as they are between two statements
 pub record AreTables (t : Tables) : Type 0 where

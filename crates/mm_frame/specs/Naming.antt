@@ -1,5 +1,7 @@
--- How a book's lists change as a label is named. This file mirrors the code, and is cited by private contracts alone.
-use Rattle.std.specs.Prelude.{◌≡◌, ℕ, ◌+◌, ◌<◌, ◌≤◌, vec_len, vec_capacity, length, List, [], ◌∷◌, ◌++◌, Some}
+-- How a book's lists change as a label is named. This file mirrors the code, and is cited by
+-- private contracts alone.
+use Rattle.std.specs.Prelude.{◌≡◌, ℕ, ◌+◌, ◌<◌, ◌≤◌, vec_len, vec_capacity, length, List, [], ◌∷◌}
+use Rattle.std.specs.Prelude.{◌++◌, Some}
 use Rattle.mm_text.specs.declared.statement.Kind.{Kind}
 use Rattle.mm_text.specs.declared.statement.Kind.TheVariants.{Closing}
 use Rattle.mm_frame.specs.declared.number.LabelId.{LabelId}
@@ -36,20 +38,24 @@ pub record HaveNameRoom (t : Tables) (symbols : ℕ) : Type 0 where
   pub scopes : HasRoom t.scopes
 
 -- one label more was written, and the entry of its statement, which has these symbols
-pub record Named (old new : Tables) (kind : Kind) (label : List ℕ) (numbers : List Sym) (frame : Part × Part) (id : LabelId) (bytes : ℕ) : Type 0 where
+pub record Named (old new : Tables) (kind : Kind) (label : List ℕ) (numbers : List Sym)
+    (frame : Part × Part) (id : LabelId) (bytes : ℕ) : Type 0 where
   pub symbols : new.symbols.names ≡ old.symbols.names
   pub infos : new.infos.items ≡ old.infos.items
   pub labels : new.labels.names ≡ with_name old.labels.names label
   pub named : new.named.items
       ≡ old.named.items
       ++ label_info (length old.log.items)
-      (entry_of kind (Some id) (length old.flat.items) (length (old.flat.items ++ numbers))) frame ∷ []
+      (entry_of kind (Some id) (length old.flat.items) (length (old.flat.items ++ numbers))) frame
+      ∷ []
   pub log : new.log.items
-      ≡ old.log.items ++ entry_of kind (Some id) (length old.flat.items) (length (old.flat.items ++ numbers)) ∷ []
+      ≡ old.log.items
+      ++ entry_of kind (Some id) (length old.flat.items) (length (old.flat.items ++ numbers)) ∷ []
   pub flat : new.flat.items ≡ old.flat.items ++ numbers
   pub scopes :
       (statements : List Sentence) (s : Sentence) → HaveScopes statements old.scopes → s.kind ≡ kind
-      → (kind ≡ Closing → close_marks statements < open_marks statements) → HaveScopes (statements ++ s ∷ []) new.scopes
+      → (kind ≡ Closing → close_marks statements < open_marks statements)
+      → HaveScopes (statements ++ s ∷ []) new.scopes
   pub essentials : new.essentials.items ≡ old.essentials.items
   pub hypotheses : new.hypotheses.items ≡ old.hypotheses.items
   pub pairs : new.pairs.items ≡ old.pairs.items

@@ -1,5 +1,7 @@
--- Numbers for symbols and labels: their places in the order of first declaration, and of statements.
-use Rattle.std.specs.Prelude.{◌≡◌, ℕ, List, [], ◌∷◌, ◌++◌, length, map, filter, take, slice_get, is_some, true, Some, if◌then◌else◌}
+-- Numbers for symbols and labels: their places in the order of first declaration, and of
+-- statements.
+use Rattle.std.specs.Prelude.{◌≡◌, ℕ, List, [], ◌∷◌, ◌++◌, length, map, filter, take, slice_get}
+use Rattle.std.specs.Prelude.{is_some, true, Some, if◌then◌else◌}
 use Rattle.std.specs.List.{fold, flat_map, list_any}
 use Rattle.std.specs.Str.{bytes_eq}
 use Rattle.mm_text.specs.declared.statement.Kind.{Kind}
@@ -19,7 +21,8 @@ declared_by s = declared_in s.kind s.symbols
 abbrev pub with_name : List (List ℕ) → List ℕ → List (List ℕ)
 with_name names name = if list_any (bytes_eq name) names then names else (names ++ name ∷ [])
 
--- the declared symbols, each once, in the order of their first declarations: a symbol's number is its place here
+-- the declared symbols, each once, in the order of their first declarations: a symbol's number is
+-- its place here
 unfoldable pub symbols_of : List Sentence → List (List ℕ)
 symbols_of statements = fold with_name [] (flat_map declared_by statements)
 
@@ -29,7 +32,8 @@ IsNumberOf statements symbol number = slice_get (symbols_of statements) number �
 
 -- these are the numbers of these symbols
 abbrev pub AreNumbers : List Sentence → List ℕ → List (List ℕ) → Type 0
-AreNumbers statements numbers symbols = map (slice_get (symbols_of statements)) numbers ≡ map Some symbols
+AreNumbers statements numbers symbols =
+    map (slice_get (symbols_of statements)) numbers ≡ map Some symbols
 
 -- the labelled statements in their order: a label's number is its statement's place here
 abbrev pub labelled_sentences : List Sentence → List Sentence

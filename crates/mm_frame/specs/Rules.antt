@@ -1,10 +1,14 @@
--- The rules of meaning: which a statement breaks after the statements before it (the Metamath book, sections 4.2.1 to 4.2.8).
+-- The rules of meaning: which a statement breaks after the statements before it (the Metamath book,
+-- sections 4.2.1 to 4.2.8).
 use Rattle.std.specs.Prelude.{◌≡◌, ◌≢◌, ℕ, ◌<◌, List, ◌∷◌, ◌++◌, Contains, ◌⊎◌}
 use Rattle.mm_text.specs.declared.statement.Kind.TheVariants.{Constants, Variables, Distinct}
 use Rattle.mm_frame.specs.declared.rule.MeaningRule.{MeaningRule}
-use Rattle.mm_frame.specs.declared.rule.MeaningRule.TheVariants.{M1, M2, M3, M4, M5, M6, M7, M8, M9, M10, M11, M12, M13, M14, M15}
-use Rattle.mm_frame.specs.Sentence.{Sentence, SomeSentence, IsStated, IsUse, Declares, IsLabelled, Types, StandsTwice}
-use Rattle.mm_frame.specs.Active.{IsOpen, SomeActive, IsConstant, IsVariable, IsActiveSymbol, IsTyped}
+use Rattle.mm_frame.specs.declared.rule.MeaningRule.TheVariants.{M1, M2, M3, M4, M5, M6, M7, M8, M9}
+use Rattle.mm_frame.specs.declared.rule.MeaningRule.TheVariants.{M10, M11, M12, M13, M14, M15}
+use Rattle.mm_frame.specs.Sentence.{Sentence, SomeSentence, IsStated, IsUse, Declares, IsLabelled}
+use Rattle.mm_frame.specs.Sentence.{Types, StandsTwice}
+use Rattle.mm_frame.specs.Active.{IsOpen, SomeActive, IsConstant, IsVariable, IsActiveSymbol}
+use Rattle.mm_frame.specs.Active.{IsTyped}
 
 -- some symbol of the statement is so
 abbrev pub SomeSymbol : Sentence → (List ℕ → Type 0) → Type 0
@@ -26,12 +30,15 @@ ItsTyping s P = (code : List ℕ) × (variable : List ℕ) × Types code variabl
 abbrev pub Breaks : MeaningRule → List Sentence → Sentence → Type 0
 Breaks M1 before s = (s.kind ≡ Constants) × (place : ℕ) × IsOpen before place
 Breaks M2 before s =
-    (s.kind ≡ Constants) × SomeSymbol s (λ x. IsConstant before x ⊎ IsVariable before x ⊎ StandsTwice s.symbols x)
+    (s.kind ≡ Constants)
+    × SomeSymbol s (λ x. IsConstant before x ⊎ IsVariable before x ⊎ StandsTwice s.symbols x)
 Breaks M3 before s =
     (s.kind ≡ Variables)
-    × SomeSymbol s (λ x. SomeActive before (Declares Variables x) ⊎ IsConstant before x ⊎ StandsTwice s.symbols x)
+    × SomeSymbol s
+    (λ x. SomeActive before (Declares Variables x) ⊎ IsConstant before x ⊎ StandsTwice s.symbols x)
 Breaks M4 before s =
-    ((s.kind ≡ Constants) ⊎ (s.kind ≡ Variables)) × SomeSymbol s (λ x. SomeSentence before (IsLabelled x))
+    ((s.kind ≡ Constants) ⊎ (s.kind ≡ Variables))
+    × SomeSymbol s (λ x. SomeSentence before (IsLabelled x))
 Breaks M5 before s = ItsLabel s (λ l. SomeSentence before (IsLabelled l))
 Breaks M6 before s = ItsLabel s (λ l. IsConstant before l ⊎ IsVariable before l)
 Breaks M7 before s = IsUse s.kind × SomeSymbol s (λ x. ¬ (IsActiveSymbol before x))
@@ -41,9 +48,11 @@ Breaks M10 before s = ItsTyping s (λ code x. IsVariable before code)
 Breaks M11 before s = ItsTyping s (λ code x. IsConstant before x)
 Breaks M12 before s = ItsTyping s (λ code x. IsTyped before x)
 Breaks M13 before s =
-    ItsTyping s (λ code x. SomeSentence before (λ f. (other : List ℕ) × Types other x f × (other ≢ code)))
+    ItsTyping s
+    (λ code x. SomeSentence before (λ f. (other : List ℕ) × Types other x f × (other ≢ code)))
 Breaks M14 before s = IsStated s.kind × ItsFirst s (IsVariable before)
-Breaks M15 before s = IsStated s.kind × SomeSymbol s (λ x. IsVariable before x × ¬ (IsTyped before x))
+Breaks M15 before s =
+    IsStated s.kind × SomeSymbol s (λ x. IsVariable before x × ¬ (IsTyped before x))
 
 -- the place of a rule in the order in which the rules are judged
 abbrev pub rank : MeaningRule → ℕ
@@ -74,4 +83,6 @@ IsMeant before s = (rule : MeaningRule) → ¬ (Breaks rule before s)
 
 -- each of the statements breaks no rule after those before it
 abbrev pub AllMeant : List Sentence → Type 0
-AllMeant statements = (before after : List Sentence) (s : Sentence) → statements ≡ before ++ s ∷ after → IsMeant before s
+AllMeant statements =
+    (before after : List Sentence) (s : Sentence) → statements ≡ before ++ s ∷ after
+    → IsMeant before s

@@ -1,7 +1,9 @@
 -- What statements say, without where they stand.
-use Rattle.std.specs.Prelude.{◌≡◌, ℕ, ◌<◌, List, [], ◌∷◌, map, slice_get, Contains, Option, Some, option_map, ◌⊎◌}
+use Rattle.std.specs.Prelude.{◌≡◌, ℕ, ◌<◌, List, [], ◌∷◌, map, slice_get, Contains, Option, Some}
+use Rattle.std.specs.Prelude.{option_map, ◌⊎◌}
 use Rattle.mm_text.specs.declared.statement.Kind.{Kind}
-use Rattle.mm_text.specs.declared.statement.Kind.TheVariants.{Distinct, Floating, Essential, Axiom, Provable}
+use Rattle.mm_text.specs.declared.statement.Kind.TheVariants.{Distinct, Floating, Essential, Axiom}
+use Rattle.mm_text.specs.declared.statement.Kind.TheVariants.{Provable}
 use Rattle.mm_text.specs.declared.statement.Statement.{Statement}
 use Rattle.mm_text.specs.Statement.{PlainStatement, plain_statement}
 
@@ -23,7 +25,8 @@ sentence_in s = sentence_of (plain_statement s)
 
 -- some of the statements is so
 abbrev pub SomeSentence : List Sentence → (Sentence → Type 0) → Type 0
-SomeSentence statements P = (place : ℕ) × (s : Sentence) × (slice_get statements place ≡ Some s) × P s
+SomeSentence statements P =
+    (place : ℕ) × (s : Sentence) × (slice_get statements place ≡ Some s) × P s
 
 -- a `$f` or a `$e`
 abbrev pub IsHypothesis : Kind → Type 0
@@ -66,4 +69,5 @@ pub record IsFirstLabelled (statements : List Sentence) (label : List ℕ) (plac
   pub statement : Sentence
   pub there : slice_get statements place ≡ Some statement
   pub named : IsLabelled label statement
-  pub first : (k : ℕ) (other : Sentence) → k < place → slice_get statements k ≡ Some other → ¬ (IsLabelled label other)
+  pub first : (k : ℕ) (other : Sentence) → k < place → slice_get statements k ≡ Some other
+      → ¬ (IsLabelled label other)

@@ -1,4 +1,5 @@
--- The pairs that a `$d` adds, as they are gathered. This file mirrors the code, and is cited by private contracts alone.
+-- The pairs that a `$d` adds, as they are gathered. This file mirrors the code, and is cited by
+-- private contracts alone.
 use Rattle.std.specs.Prelude.{◌≡◌, ℕ, ◌<◌, List, slice_get, Some, ◌⊎◌, if◌then◌else◌, nat_lt}
 use Rattle.mm_frame.specs.declared.number.Sym.{Sym}
 use Rattle.mm_frame.specs.Sentence.{Sentence}
@@ -16,22 +17,33 @@ stated_at place pair = record { pair = pair; place = place }
 
 -- the symbols with two numbers are a distinct pair already
 abbrev pub IsOld : List Sentence → ℕ → ℕ → Type 0
-IsOld statements a b = (x y : List ℕ) → IsNumberOf statements x a → IsNumberOf statements y b → IsDistinct statements x y
+IsOld statements a b =
+    (x y : List ℕ) → IsNumberOf statements x a → IsNumberOf statements y b
+    → IsDistinct statements x y
 
 -- the symbols with two numbers aren't a distinct pair
 abbrev pub IsFresh : List Sentence → ℕ → ℕ → Type 0
-IsFresh statements a b = (x y : List ℕ) → IsNumberOf statements x a → IsNumberOf statements y b → ¬ (IsDistinct statements x y)
+IsFresh statements a b =
+    (x y : List ℕ) → IsNumberOf statements x a → IsNumberOf statements y b
+    → ¬ (IsDistinct statements x y)
 
--- the members at two places: the later one stands before i, or it is the one at i and the other stands before j
+-- the members at two places: the later one stands before i, or it is the one at i and the other
+-- stands before j
 abbrev pub IsPassed : ℕ → ℕ → ℕ → ℕ → Type 0
 IsPassed i j u v = (u < v) × ((v < i) ⊎ ((v ≡ i) × (u < j)))
 
--- the pairs of the members at those places that aren't distinct already, each once if no member stands twice
-pub record ArePaired (statements : List Sentence) (members : List Sym) (i j : ℕ) (pairs : List (ℕ × ℕ)) : Type 0 where
+-- the pairs of the members at those places that aren't distinct already, each once if no member
+-- stands twice
+pub record ArePaired (statements : List Sentence) (members : List Sym) (i j : ℕ)
+    (pairs : List (ℕ × ℕ)) : Type 0 where
   pub only : (k : ℕ) (pair : ℕ × ℕ) → slice_get pairs k ≡ Some pair
-      → (u : ℕ) × (v : ℕ) × (a : Sym) × (b : Sym) × IsPassed i j u v × (slice_get members u ≡ Some a) × (slice_get members v ≡ Some b)
+      → (u : ℕ) × (v : ℕ) × (a : Sym) × (b : Sym) × IsPassed i j u v
+      × (slice_get members u ≡ Some a) × (slice_get members v ≡ Some b)
       × (pair ≡ ordered_pair b.0 a.0) × IsFresh statements b.0 a.0
-  pub once : ((u v : ℕ) (a : Sym) → slice_get members u ≡ Some a → slice_get members v ≡ Some a → u ≡ v)
-      → (k l : ℕ) (pair : ℕ × ℕ) → slice_get pairs k ≡ Some pair → slice_get pairs l ≡ Some pair → k ≡ l
-  pub each : (u v : ℕ) (a b : Sym) → IsPassed i j u v → slice_get members u ≡ Some a → slice_get members v ≡ Some b
+  pub once : ((u v : ℕ) (a : Sym) → slice_get members u ≡ Some a → slice_get members v ≡ Some a
+      → u ≡ v)
+      → (k l : ℕ) (pair : ℕ × ℕ) → slice_get pairs k ≡ Some pair → slice_get pairs l ≡ Some pair
+      → k ≡ l
+  pub each : (u v : ℕ) (a b : Sym) → IsPassed i j u v → slice_get members u ≡ Some a
+      → slice_get members v ≡ Some b
       → ((k : ℕ) × (slice_get pairs k ≡ Some (ordered_pair b.0 a.0))) ⊎ IsOld statements b.0 a.0

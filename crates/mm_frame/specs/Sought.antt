@@ -8,16 +8,19 @@ use Rattle.mm_frame.specs.Layout.{IsDeclared}
 abbrev pub IsOfNumber : List Sentence → ℕ → (List ℕ → Type 0) → Type 0
 IsOfNumber statements number P = (symbol : List ℕ) × IsNumberOf statements symbol number × P symbol
 
--- what a look-up of a symbol gives: its number, or where it isn't declared a number that no symbol has
+-- what a look-up of a symbol gives: its number, or where it isn't declared a number that no symbol
+-- has
 abbrev pub IsSought : List Sentence → List ℕ → ℕ → Type 0
 IsSought statements symbol number =
     IsNumberOf statements symbol number
     ⊎ ¬ (IsDeclared statements symbol) × (slice_get (symbols_of statements) number ≡ None)
 
 -- these symbols were looked up, and gave these numbers
-pub record AreSought (statements : List Sentence) (numbers : List ℕ) (symbols : List (List ℕ)) : Type 0 where
+pub record AreSought (statements : List Sentence) (numbers : List ℕ)
+    (symbols : List (List ℕ)) : Type 0 where
   pub count : length numbers ≡ length symbols
-  pub each : (i number : ℕ) (symbol : List ℕ) → slice_get numbers i ≡ Some number → slice_get symbols i ≡ Some symbol
+  pub each : (i number : ℕ) (symbol : List ℕ) → slice_get numbers i ≡ Some number
+      → slice_get symbols i ≡ Some symbol
       → IsSought statements symbol number
 
 -- the symbols of a statement that uses symbols were looked up, and gave these numbers

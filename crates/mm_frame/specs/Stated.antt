@@ -1,9 +1,12 @@
--- The pairs that `$d` state, and how they are linked. This file mirrors the code, and is cited by private contracts alone.
-use Rattle.std.specs.Prelude.{◌≡◌, ◌≢◌, ℕ, ◌<◌, ◌≤◌, List, length, slice_get, Option, Some, None, Bool, ◌==◌, ◌&&◌}
+-- The pairs that `$d` state, and how they are linked. This file mirrors the code, and is cited by
+-- private contracts alone.
+use Rattle.std.specs.Prelude.{◌≡◌, ◌≢◌, ℕ, ◌<◌, ◌≤◌, List, length, slice_get, Option, Some, None}
+use Rattle.std.specs.Prelude.{Bool, ◌==◌, ◌&&◌}
 use Rattle.indexmap.specs.IndexMap.{IndexMap, get}
 use Rattle.mm_frame.specs.declared.pairs.Span.{Span}
 
--- a `$d` states a pair: the numbers of the two variables, the lesser one first, and the place of the `$d`
+-- a `$d` states a pair: the numbers of the two variables, the lesser one first, and the place of
+-- the `$d`
 pub record Stated : Type 0 where
   pub pair : ℕ × ℕ
   pub place : ℕ
@@ -19,10 +22,13 @@ pub record PairTable : Type 0 where
 -- the place before another that states the pair last, if there is one
 abbrev pub IsLatestStated : List Stated → ℕ × ℕ → ℕ → Option ℕ → Type 0
 IsLatestStated spans pair before None =
-    (j : ℕ) (other : Stated) → slice_get spans j ≡ Some other → other.pair ≡ pair → before ≤ other.place
+    (j : ℕ) (other : Stated) → slice_get spans j ≡ Some other → other.pair ≡ pair
+    → before ≤ other.place
 IsLatestStated spans pair before (Some place) =
-    (i : ℕ) × (span : Stated) × (slice_get spans i ≡ Some span) × (span.pair ≡ pair) × (span.place ≡ place) × (place < before)
-    × ((j : ℕ) (other : Stated) → i < j → slice_get spans j ≡ Some other → other.pair ≡ pair → before ≤ other.place)
+    (i : ℕ) × (span : Stated) × (slice_get spans i ≡ Some span) × (span.pair ≡ pair)
+    × (span.place ≡ place) × (place < before)
+    × ((j : ℕ) (other : Stated) → i < j → slice_get spans j ≡ Some other → other.pair ≡ pair
+    → before ≤ other.place)
 
 -- the last of the first so many spans that has the pair, if there is one
 abbrev pub IsLastSpan : List Span → ℕ → ℕ × ℕ → Option ℕ → Type 0
@@ -37,7 +43,8 @@ is_same_key p q = (p.0 == q.0) && (p.1 == q.1)
 
 -- each span names the one of its pair before it
 abbrev pub AreOlder : List Span → Type 0
-AreOlder spans = (i : ℕ) (span : Span) → slice_get spans i ≡ Some span → IsLastSpan spans i span.pair span.older
+AreOlder spans =
+    (i : ℕ) (span : Span) → slice_get spans i ≡ Some span → IsLastSpan spans i span.pair span.older
 
 -- each span names the one of its pair before it, and the map names each pair's last
 pub record AreLinked {S : Type 0} (spans : List Span) (newest : IndexMap (ℕ × ℕ) ℕ S) : Type 0 where

@@ -3,7 +3,8 @@ use Rattle.std.specs.Prelude.{◌≡◌, List, length}
 use Rattle.mm_text.specs.declared.statement.Kind.{Kind}
 use Rattle.mm_text.specs.declared.statement.Kind.TheVariants as kinds
 use Rattle.mm_frame.specs.declared.answer.Taken.{Taken}
-use Rattle.mm_frame.specs.declared.answer.Taken.TheVariants.{Opened, Closed, Declared, Hypothesis, Assertion}
+use Rattle.mm_frame.specs.declared.answer.Taken.TheVariants.{Opened, Closed, Declared, Hypothesis}
+use Rattle.mm_frame.specs.declared.answer.Taken.TheVariants.{Assertion}
 use Rattle.mm_frame.specs.declared.number.LabelKind.{LabelKind}
 use Rattle.mm_frame.specs.declared.number.LabelKind.TheVariants as label_kinds
 use Rattle.mm_frame.specs.declared.number.LabelId.{LabelId}

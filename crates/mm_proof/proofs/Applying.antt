@@ -25,7 +25,7 @@ use Rattle.mm_proof.specs.Steps.{IsNumberedMove}
 use Rattle.mm_proof.specs.CodeVerify.{name_at, names_at, all_names_at, value_of, replaced_in, IsSymbol, AreDeclaredSymbols, AreStackEntries, AreBelow, IsRightCode, IsWrongCode, IsEqual, IsUnequal, EachEntry, EachPairValues, SomePairValues, Replaces, AreHypothesesOf, AreVariablesOf}
 use Rattle.mm_proof.specs.CodeSteps.{MayBeUsed}
 use Rattle.mm_proof.specs.CodeRun.{CarriesOn, StopsAt}
-use Rattle.mm_proof.specs.CodeApply.{IsCalled, IsMatched, IsReady}
+use Rattle.mm_proof.specs.CodeApply.{IsAppliedAssertion, IsMatched, IsReady}
 use Rattle.mm_proof.proofs.Places.{get_take, get_from_take}
 use Rattle.mm_proof.proofs.Meaning.{meant_at, meant_front}
 use Rattle.mm_proof.proofs.Numbered.{numbered_at}
@@ -47,7 +47,7 @@ label_of st id at s label n move =
     let label_is : move.1 ≡ label = (let e : name label ≡ name move.1 = move.4 in cc) in
     subst (λ (t : Sentence). IsLabelled label t) same (subst (λ (l : List ℕ). IsLabelled l move.0) label_is move.3)
 
-names_of : (st : List Sentence) (place id at : ℕ) (ids : List ℕ) (hs : List Sentence) (label : List ℕ) → (c : IsCalled st place id at ids hs)
+names_of : (st : List Sentence) (place id at : ℕ) (ids : List ℕ) (hs : List Sentence) (label : List ℕ) → (c : IsAppliedAssertion st place id at ids hs)
     → IsNumberedMove st (name id) (name label) → Names (take place st) label at c.s hs
 names_of st place id at ids hs label c move =
     record {
@@ -67,7 +67,7 @@ named_count st entries = length-map entries (λ (e : List ℕ). map (name_at st)
 
 -- what the step meets
 abbrev met : (st : List Sentence) (place id at : ℕ) (ids : List ℕ) (hs : List Sentence) (label : List ℕ) (stack : List (List ℕ)) (base : ℕ) → AllMeant st
-    → IsCalled st place id at ids hs → IsNumberedMove st (name id) (name label) → length (drop base stack) ≡ length hs → MeetsHypotheses (take place st) (all_names_at st stack) label
+    → IsAppliedAssertion st place id at ids hs → IsNumberedMove st (name id) (name label) → length (drop base stack) ≡ length hs → MeetsHypotheses (take place st) (all_names_at st stack) label
 met st place id at ids hs label stack base all c move paired =
     meets_of (take place st) (all_names_at st stack) label at c.s hs (all_names_at st (take base stack)) (all_names_at st (drop base stack)) (meant_front st place all)
     (names_of st place id at ids hs label c move) (named_split st stack base) (named_count st (drop base stack) ∙ paired)
@@ -82,25 +82,25 @@ value_at st σ vs es x n e r number value =
 
 -- ---- the rules
 
-pub stops_P8 : (st : List Sentence) (place id at : ℕ) (ids : List ℕ) (hs : List Sentence) (stack : List (List ℕ)) → IsCalled st place id at ids hs → length stack < length hs
+pub stops_P8 : (st : List Sentence) (place id at : ℕ) (ids : List ℕ) (hs : List Sentence) (stack : List (List ℕ)) → IsAppliedAssertion st place id at ids hs → length stack < length hs
     → StopsAt st place id stack P8
 stops_P8 st place id at ids hs stack c short label kept move =
     first_P8 (IsWithin expression_limit) (take place st) (all_names_at st stack) kept label at c.s hs (names_of st place id at ids hs label c move)
     (omega (arith, short, named_count st stack))
 
-pub stops_P9 : (st : List Sentence) (place id at : ℕ) (ids : List ℕ) (hs : List Sentence) (stack : List (List ℕ)) (base : ℕ) → AllMeant st → IsCalled st place id at ids hs
+pub stops_P9 : (st : List Sentence) (place id at : ℕ) (ids : List ℕ) (hs : List Sentence) (stack : List (List ℕ)) (base : ℕ) → AllMeant st → IsAppliedAssertion st place id at ids hs
     → length (drop base stack) ≡ length hs → SomePair hs (all_names_at st (drop base stack)) IsWrongCode → StopsAt st place id stack P9
 stops_P9 st place id at ids hs stack base all c paired pair label kept move =
     first_P9 (IsWithin expression_limit) (take place st) (all_names_at st stack) kept label (met st place id at ids hs label stack base all c move paired) (meant_front st place all) pair
 
-pub stops_P10 : (st : List Sentence) (place id at : ℕ) (ids : List ℕ) (hs : List Sentence) (stack : List (List ℕ)) (base : ℕ) → AllMeant st → IsCalled st place id at ids hs
+pub stops_P10 : (st : List Sentence) (place id at : ℕ) (ids : List ℕ) (hs : List Sentence) (stack : List (List ℕ)) (base : ℕ) → AllMeant st → IsAppliedAssertion st place id at ids hs
     → length (drop base stack) ≡ length hs → EachEntry hs (all_names_at st (drop base stack)) IsRightCode
     → SomePair hs (all_names_at st (drop base stack)) (IsUnequal (replaced_by hs (all_names_at st (drop base stack)))) → StopsAt st place id stack P10
 stops_P10 st place id at ids hs stack base all c paired codes pair label kept move =
     first_P10 (IsWithin expression_limit) (take place st) (all_names_at st stack) kept label (met st place id at ids hs label stack base all c move paired) (meant_front st place all) codes pair
 
 -- the pair of names behind a pair of numbers, with what replaces it
-pair_found : (st : List Sentence) (place id at : ℕ) (ids : List ℕ) (hs : List Sentence) (pairs : List (ℕ × ℕ)) → (c : IsCalled st place id at ids hs)
+pair_found : (st : List Sentence) (place id at : ℕ) (ids : List ℕ) (hs : List Sentence) (pairs : List (ℕ × ℕ)) → (c : IsAppliedAssertion st place id at ids hs)
     → ArePairs (record { statements = st; place = at }) pairs → (k : ℕ) (p : ℕ × ℕ) → slice_get pairs k ≡ Some p
     → (x : List ℕ) × (y : List ℕ) × IsNumberOf st x p.0 × IsNumberOf st y p.1 × IsMandatoryPair (take at (take place st)) c.s x y
 pair_found st place id at ids hs pairs c mand k p there =
@@ -123,7 +123,7 @@ value_back st σ vs es x n e r number is = go (value_of vs es n) refl
     go (Some l) p = (l, p, same_Some (names_at st l) e (sym (ap (option_map (names_at st)) p) ∙ mapped))
 
 each_pair : OneNumber → (st : List Sentence) (place id at : ℕ) (ids : List ℕ) (hs : List Sentence) (label : List ℕ) (stack : List (List ℕ)) (base : ℕ) (vs : List (Option ℕ)) (pairs : List (ℕ × ℕ))
-    (P : List (List ℕ) → List (List ℕ) → Type 0) → ((e f : List (List ℕ)) → P e f → P f e) → (all : AllMeant st) → (c : IsCalled st place id at ids hs) → (move : IsNumberedMove st (name id) (name label))
+    (P : List (List ℕ) → List (List ℕ) → Type 0) → ((e f : List (List ℕ)) → P e f → P f e) → (all : AllMeant st) → (c : IsAppliedAssertion st place id at ids hs) → (move : IsNumberedMove st (name id) (name label))
     → (paired : length (drop base stack) ≡ length hs) → AreVariablesOf st vs hs → ArePairs (record { statements = st; place = at }) pairs
     → EachPairValues (value_of vs (drop base stack)) pairs (λ e f. P (names_at st e) (names_at st f))
     → EachPair (take place st) (all_names_at st stack) label (met st place id at ids hs label stack base all c move paired) P
@@ -141,7 +141,7 @@ each_pair one st place id at ids hs label stack base vs pairs P turned all c mov
     subst (λ l. P l f) a.2 (subst (λ l. P (names_at st a.0) l) b.2 so)
 
 pub stops_P11 : OneNumber → (st : List Sentence) (place id at : ℕ) (ids : List ℕ) (hs : List Sentence) (stack : List (List ℕ)) (base : ℕ) (vs : List (Option ℕ)) (pairs : List (ℕ × ℕ)) → AllMeant st
-    → IsCalled st place id at ids hs → length (drop base stack) ≡ length hs → AreVariablesOf st vs hs → ArePairs (record { statements = st; place = at }) pairs
+    → IsAppliedAssertion st place id at ids hs → length (drop base stack) ≡ length hs → AreVariablesOf st vs hs → ArePairs (record { statements = st; place = at }) pairs
     → EachEntry hs (all_names_at st (drop base stack)) IsRightCode → EachEntry hs (all_names_at st (drop base stack)) (IsEqual (replaced_by hs (all_names_at st (drop base stack))))
     → SomePairValues (value_of vs (drop base stack)) pairs (λ e f. ¬ (ShareNoVariable (take place st) (names_at st e) (names_at st f))) → StopsAt st place id stack P11
 stops_P11 one st place id at ids hs stack base vs pairs all c paired typed mand codes equal found label kept move =
@@ -153,7 +153,7 @@ stops_P11 one st place id at ids hs stack base vs pairs all c paired typed mand 
     (value_at st σ vs (drop base stack) p.0 found.1.0 found.3.0 r p.2 found.3.2) (value_at st σ vs (drop base stack) p.1 found.1.1 found.3.1 r p.3 found.3.3) found.3.4
 
 pub stops_P12 : OneNumber → (st : List Sentence) (place id at : ℕ) (ids : List ℕ) (hs : List Sentence) (stack : List (List ℕ)) (base : ℕ) (vs : List (Option ℕ)) (pairs : List (ℕ × ℕ)) → AllMeant st
-    → IsCalled st place id at ids hs → length (drop base stack) ≡ length hs → AreVariablesOf st vs hs → ArePairs (record { statements = st; place = at }) pairs
+    → IsAppliedAssertion st place id at ids hs → length (drop base stack) ≡ length hs → AreVariablesOf st vs hs → ArePairs (record { statements = st; place = at }) pairs
     → EachEntry hs (all_names_at st (drop base stack)) IsRightCode → EachEntry hs (all_names_at st (drop base stack)) (IsEqual (replaced_by hs (all_names_at st (drop base stack))))
     → EachPairValues (value_of vs (drop base stack)) pairs (λ e f. ShareNoVariable (take place st) (names_at st e) (names_at st f))
     → SomePairValues (value_of vs (drop base stack)) pairs (λ e f. ¬ (AreDistinct (take place st) (names_at st e) (names_at st f))) → StopsAt st place id stack P12
@@ -174,7 +174,7 @@ typed_count st [] (h ∷ hs) all = absurd all
 typed_count st (v ∷ vs) [] all = absurd all
 typed_count st (v ∷ vs) (h ∷ hs) all = ap suc (typed_count st vs hs all.1)
 
-its_symbols : (st : List Sentence) (place id at : ℕ) (ids : List ℕ) (hs : List Sentence) (pattern : List ℕ) → (c : IsCalled st place id at ids hs)
+its_symbols : (st : List Sentence) (place id at : ℕ) (ids : List ℕ) (hs : List Sentence) (pattern : List ℕ) → (c : IsAppliedAssertion st place id at ids hs)
     → AreItsSymbols (record { statements = st; place = at }) pattern → AreNumbers st pattern c.s.symbols
 its_symbols st place id at ids hs pattern c its =
     subst (λ (s : Sentence). AreNumbers st pattern s.symbols) (same_Some its.assertion c.s (sym its.there ∙ c.numbered.there)) its.numbered
@@ -305,7 +305,7 @@ match_false false P Q is h = h
 
 -- the assertion of a frame is the one with the number
 pub called_of : (st own : List Sentence) (place id at : ℕ) (ids : List ℕ) (a s : Sentence) → own ≡ st → (h : AreHypotheses (record { statements = own; place = at }) ids)
-    → slice_get st at ≡ Some a → IsAssertion a.kind → at < place → IsNumbered st id at s → IsCalled st place id at ids h.hypotheses
+    → slice_get st at ≡ Some a → IsAssertion a.kind → at < place → IsNumbered st id at s → IsAppliedAssertion st place id at ids h.hypotheses
 called_of st own place id at ids a s same h there kind less n = record {
   s = s;
   numbered = n;
@@ -317,7 +317,7 @@ called_of st own place id at ids a s same h there kind less n = record {
 }
 
 pub ready_of : (st own : List Sentence) (place id at : ℕ) (vs : List (Option ℕ)) (entries : List (List ℕ)) (ids : List ℕ) (hs : List Sentence) (pairs : List (ℕ × ℕ)) → own ≡ st
-    → IsCalled st place id at ids hs → AreVariablesOf st vs hs → ArePairs (record { statements = st; place = at }) pairs → IsMatched st place hs vs entries pairs → IsReady own place id at vs entries
+    → IsAppliedAssertion st place id at ids hs → AreVariablesOf st vs hs → ArePairs (record { statements = st; place = at }) pairs → IsMatched st place hs vs entries pairs → IsReady own place id at vs entries
 ready_of st own place id at vs entries ids hs pairs same called typed mandatory matched =
     subst (λ (l : List Sentence). IsReady l place id at vs entries) (sym same)
     (record { ids = ids; hs = hs; pairs = pairs; called = called; typed = typed; mandatory = mandatory; matched = matched })

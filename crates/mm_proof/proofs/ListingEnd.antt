@@ -12,7 +12,7 @@ use Rattle.mm_proof.specs.Moves.{Move}
 use Rattle.mm_proof.specs.Proof.{IsWithin, expression_limit, Passed}
 use Rattle.mm_proof.specs.CodeVerify.{all_names_at}
 use Rattle.mm_proof.specs.CodeRun.{HasRun}
-use Rattle.mm_proof.specs.CodeLines.{AreLinesFor, ListsProof}
+use Rattle.mm_proof.specs.CodeLines.{AreLinesAt, ListsProof}
 use Rattle.mm_proof.proofs.Answering.{on_rule_map}
 use Rattle.mm_proof.proofs.Numbered.{one_place}
 use Rattle.mm_proof.proofs.Forward.{prove_at_end}
@@ -21,7 +21,7 @@ use Rattle.mm_proof.proofs.Ending.{its_symbols}
 -- the moves have run, and left the statement's expression
 pub lists_end : (st : List Sentence) (id own : ℕ) (t : Sentence) (xs : List (Move ℕ)) (stack kept : List (List ℕ)) (count : ℕ) (numbers : List ℕ) (lines : List Line)
     → IsNumbered st id own t → AreItsSymbols (record { statements = st; place = own }) numbers → HasRun st own xs stack kept count → stack ≡ numbers ∷ []
-    → AreLinesFor st own xs lines → ListsProof st id xs lines
+    → AreLinesAt st own xs lines → ListsProof st id xs lines
 lists_end st id own t xs stack kept count numbers lines n symbols run is lines_so place s names proof numbered =
     let here : own ≡ place = one_place st id own place t s n proof.numbered in
     let moved = subst (λ p. HasRun st p xs stack kept count) here run in
@@ -29,7 +29,7 @@ lists_end st id own t xs stack kept count numbers lines n symbols run is lines_s
     let passed = subst (λ l. Passed (IsWithin expression_limit) (take place st) names l (all_names_at st kept))
     (ap (all_names_at st) is ∙ ap (λ e. e ∷ []) expression) (moved.passed names numbered) in (
       prove_at_end (IsWithin expression_limit) (take place st) s names (all_names_at st kept) passed,
-      subst (λ p. AreLinesFor st p xs lines) here lines_so names numbered,
+      subst (λ p. AreLinesAt st p xs lines) here lines_so names numbered,
     )
 
 -- ---- answers

@@ -18,7 +18,7 @@ use Rattle.mm_proof.specs.Listing.{StepName, by_label, by_step, ListedStep, Stan
 use Rattle.mm_proof.specs.CodeSteps.{move_in, moves_in}
 use Rattle.mm_proof.specs.CodeVerify.{IsSymbol, AreDeclaredSymbols, AreStackEntries, AreBelow, names_at, all_names_at}
 use Rattle.mm_proof.specs.CodeRun.{CarriesOn, HasRun}
-use Rattle.mm_proof.specs.CodeLines.{AreLinesFor}
+use Rattle.mm_proof.specs.CodeLines.{AreLinesAt}
 use Rattle.mm_proof.proofs.Derived.{zip_push, zip_front, all_mapped, all_at}
 use Rattle.mm_proof.proofs.Named.{number_of_name}
 use Rattle.mm_proof.proofs.Running.{Turn, front_more, last_split, same_steps, run_none, zip_take, more_name, more_again, more_mark}
@@ -69,7 +69,7 @@ tags_more st front tags new count all are moves numbered tag step there =
 -- ---- lines
 
 -- nothing is listed
-lines_none : (st : List Sentence) (place : ℕ) → AreLinesFor st place [] []
+lines_none : (st : List Sentence) (place : ℕ) → AreLinesAt st place [] []
 lines_none st place [] numbered = ([], record { count = refl; each = λ place move step there is at. absurd cc }, tt)
 lines_none st place (m ∷ moves) numbered = absurd numbered
 
@@ -78,7 +78,7 @@ line_more : (st : List Sentence) (place : ℕ) (front : List (Move ℕ)) (x : Mo
     → HasRun st place (front ++ x ∷ []) stack kept count → slice_get stack (length stack - 1) ≡ Some (numbers_in line.expression.items) → is_step x ≡ true
     → ((moves : List (Move (List ℕ))) (move : Move (List ℕ)) → AreNumberedMoves st front moves → IsNumberedMove st x move
     → (called : StepName) × IsNameOf st line.name called × IsCalled moves move called)
-    → AreLinesFor st place front lines → AreLinesFor st place (front ++ x ∷ []) (lines ++ line ∷ [])
+    → AreLinesAt st place front lines → AreLinesAt st place (front ++ x ∷ []) (lines ++ line ∷ [])
 line_more st place front x stack kept count lines line run last is calls old moves numbered =
     let before : List Sentence = take place st in
     let e : List ℕ = numbers_in line.expression.items in
@@ -104,7 +104,7 @@ line_more st place front x stack kept count lines line run last is calls old mov
     )
 
 -- a mark more
-line_mark : (st : List Sentence) (place : ℕ) (front : List (Move ℕ)) (lines : List Line) → AreLinesFor st place front lines → AreLinesFor st place (front ++ mark ∷ []) lines
+line_mark : (st : List Sentence) (place : ℕ) (front : List (Move ℕ)) (lines : List Line) → AreLinesAt st place front lines → AreLinesAt st place (front ++ mark ∷ []) lines
 line_mark st place front lines old moves numbered =
     let h = zip_front (IsNumberedMove st) front mark moves numbered in
     let was = old h.0 h.3 in
@@ -115,7 +115,7 @@ line_mark st place front lines old moves numbered =
 -- what holds before each move: those before it have run, and are listed
 pub record Listing (st : List Sentence) (place : ℕ) (moves : List NumberedMove) (i : ℕ) (stack kept : List (List ℕ)) (lines : List Line) (tags : List ℕ) : Type 0 where
   pub turn : Turn st place moves i stack kept (length lines) (length tags)
-  pub listed : AreLinesFor st place (take i (moves_in moves)) lines
+  pub listed : AreLinesAt st place (take i (moves_in moves)) lines
   pub stand : AreTagsFor st (take i (moves_in moves)) tags
 
 -- before any move
@@ -154,7 +154,7 @@ listing_name st place moves i d id stack kept stack' kept' lines tags line less 
     let run = subst (λ f. HasRun st place f stack' kept' (length lines + 1)) one turn.0 in
     record {
       turn = subst (λ n. Turn st place moves (i + 1) stack' kept' n (length tags)) (sym count) turn;
-      listed = subst (λ f. AreLinesFor st place f (lines ++ line ∷ [])) (sym one)
+      listed = subst (λ f. AreLinesAt st place f (lines ++ line ∷ [])) (sym one)
           (line_more st place (take i (moves_in moves)) (name id.0) stack' kept' (length lines + 1) lines line run last refl
           (λ moves move numbered n. (
             by_label n.1,
@@ -177,7 +177,7 @@ listing_again st place moves i d tag after stack kept stack' kept' lines tags li
     let run = subst (λ f. HasRun st place f stack' kept' (length lines + 1)) one turn.0 in
     record {
       turn = subst (λ n. Turn st place moves (i + 1) stack' kept' n (length tags)) (sym count) turn;
-      listed = subst (λ f. AreLinesFor st place f (lines ++ line ∷ [])) (sym one)
+      listed = subst (λ f. AreLinesAt st place f (lines ++ line ∷ [])) (sym one)
           (line_more st place (take i (moves_in moves)) (again tag) stack' kept' (length lines + 1) lines line run last refl
           (λ moves move numbered n. (
             by_step after,
@@ -200,7 +200,7 @@ listing_mark st place moves i d stack kept stack' kept' lines tags new less is l
     let long : length (take i (moves_in moves)) ≡ i = length-take-le i (moves_in moves) (omega (arith, length-map moves move_in)) in
     record {
       turn = subst (λ n. Turn st place moves (i + 1) stack' kept' (length lines) n) (sym count) turn;
-      listed = subst (λ f. AreLinesFor st place f lines) (sym one) (line_mark st place (take i (moves_in moves)) lines l.listed);
+      listed = subst (λ f. AreLinesAt st place f lines) (sym one) (line_mark st place (take i (moves_in moves)) lines l.listed);
       stand = subst (λ f. AreTagsFor st f (tags ++ new ∷ [])) (sym one)
           (tags_more st (take i (moves_in moves)) tags new (number ∙ l.turn.0.count) (omega arith) l.stand);
     }
@@ -221,7 +221,7 @@ few_lines st place moves i stack kept lines tags l less = let sum : length lines
 
 -- at the end
 pub listing_end : (st : List Sentence) (place : ℕ) (moves : List NumberedMove) (i : ℕ) (stack kept : List (List ℕ)) (lines : List Line) (tags : List ℕ) → Listing st place moves i stack kept lines tags
-    → length moves ≤ i → HasRun st place (moves_in moves) stack kept (length lines) × AreLinesFor st place (moves_in moves) lines
+    → length moves ≤ i → HasRun st place (moves_in moves) stack kept (length lines) × AreLinesAt st place (moves_in moves) lines
 listing_end st place moves i stack kept lines tags l over =
     let all : take i (moves_in moves) ≡ moves_in moves = take_all i (moves_in moves) (omega (arith, length-map moves move_in)) in
-    (subst (λ f. HasRun st place f stack kept (length lines)) all l.turn.0, subst (λ f. AreLinesFor st place f lines) all l.listed)
+    (subst (λ f. HasRun st place f stack kept (length lines)) all l.turn.0, subst (λ f. AreLinesAt st place f lines) all l.listed)

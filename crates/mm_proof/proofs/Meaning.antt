@@ -8,7 +8,9 @@ use Rattle.std.proofs.lemmas.List.Sums.{sum_by-append}
 use Rattle.mm_text.specs.declared.statement.Kind.TheVariants.{Constants, Variables, Essential}
 use Rattle.mm_frame.specs.declared.rule.MeaningRule.TheVariants.{M2, M3, M5, M7, M10, M15}
 use Rattle.mm_frame.specs.Sentence.{Sentence, SomeSentence, IsStated, IsUse, Declares, IsLabelled, Types}
-use Rattle.mm_frame.specs.Active.{is_opening, is_closing, open_marks, close_marks, IsOpen, IsActive, SomeActive, IsConstant, IsVariable, IsTyped}
+use Rattle.mm_frame.specs.Active.{open_marks, close_marks, IsOpen, IsActive, SomeActive, IsConstant, IsVariable, IsTyped}
+use Rattle.mm_text.specs.Blocks.{is_closing}
+use Rattle.mm_text.specs.Blocks.{is_opening}
 use Rattle.mm_frame.specs.Rules.{IsMeant, AllMeant}
 use Rattle.mm_frame.specs.Frame.{IsMandatory}
 use Rattle.mm_proof.proofs.Places.{split_at, get_take, get_from_take, get_append, take_get}

@@ -20,4 +20,5 @@ AreParts place entries = (i : ℕ) (e : Entry) → slice_get entries i ≡ Some 
 -- An entry that ends above the floor stands in what the buffer held when any later entry came.
 abbrev pub AreSeparateParts : ℕ → List Entry → Type 0
 AreSeparateParts floor entries =
-    (i j : ℕ) (a b : Entry) → i < j → slice_get entries i ≡ Some a → slice_get entries j ≡ Some b → floor < a.end → a.end ≤ b.before
+    (i j : ℕ) (a b : Entry) → i < j → slice_get entries i ≡ Some a → slice_get entries j ≡ Some b
+    → floor < a.end → a.end ≤ b.before

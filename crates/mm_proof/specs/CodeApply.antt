@@ -5,12 +5,13 @@ use Rattle.mm_frame.specs.Frame.{AreMandatory}
 use Rattle.mm_frame.specs.Numbers.{IsNumbered}
 use Rattle.mm_frame.specs.FramePlace.{ArePairs}
 use Rattle.mm_proof.specs.Tree.{ShareNoVariable, AreDistinct}
-use Rattle.mm_proof.specs.CodeVerify.{names_at, all_names_at, value_of, IsRightCode, IsEqual, EachEntry}
+use Rattle.mm_proof.specs.CodeVerify.{names_at, all_names_at, value_of, IsRightCode, IsEqual}
+use Rattle.mm_proof.specs.CodeVerify.{EachEntry}
 use Rattle.mm_proof.specs.CodeVerify.{Replaces, EachPairValues, AreHypothesesOf, AreVariablesOf}
 
 -- the number is that of an assertion before the place of the proof, and these are its hypotheses,
 -- with their numbers
-pub record IsCalled (statements : List Sentence) (place id at : ℕ) (ids : List ℕ)
+pub record IsAppliedAssertion (statements : List Sentence) (place id at : ℕ) (ids : List ℕ)
     (hs : List Sentence) : Type 0 where
   pub s : Sentence
   pub numbered : IsNumbered statements id at s
@@ -26,7 +27,8 @@ pub record IsMatched (statements : List Sentence) (place : ℕ) (hs : List Sente
   pub equal : (σ : List ℕ → Option (List (List ℕ))) → Replaces statements σ variables entries
       → EachEntry hs (all_names_at statements entries) (IsEqual σ)
   pub share : EachPairValues (value_of variables entries) pairs
-      (λ e f. ShareNoVariable (take place statements) (names_at statements e) (names_at statements f))
+      (λ e f. ShareNoVariable (take place statements) (names_at statements e)
+      (names_at statements f))
   pub apart : EachPairValues (value_of variables entries) pairs
       (λ e f. AreDistinct (take place statements) (names_at statements e) (names_at statements f))
 
@@ -36,7 +38,7 @@ pub record IsReady (statements : List Sentence) (place id at : ℕ) (variables :
   pub ids : List ℕ
   pub hs : List Sentence
   pub pairs : List (ℕ × ℕ)
-  pub called : IsCalled statements place id at ids hs
+  pub called : IsAppliedAssertion statements place id at ids hs
   pub typed : AreVariablesOf statements variables hs
   pub mandatory : ArePairs (record { statements = statements; place = at }) pairs
   pub matched : IsMatched statements place hs variables entries pairs

@@ -7,12 +7,13 @@ use Rattle.mm_proof.specs.Answer.{OnRule}
 use Rattle.mm_proof.specs.Moves.{Move}
 use Rattle.mm_proof.specs.Proof.{IsWithin, expression_limit, Prove, IsMoveFault, IsMovesFault}
 use Rattle.mm_proof.specs.Steps.{AreNumberedMoves}
-use Rattle.mm_proof.specs.Listing.{AreLinesOf, OfProof}
+use Rattle.mm_proof.specs.Listing.{AreLinesOf}
+use Rattle.mm_proof.specs.Verified.{OfMoves}
 use Rattle.mm_proof.specs.declared.lines.Line.{Line}
 
 -- the lines are the listing of the moves by numbers, whatever names they stand for
-abbrev pub AreLinesFor : List Sentence → ℕ → List (Move ℕ) → List Line → Type 0
-AreLinesFor statements place steps lines =
+abbrev pub AreLinesAt : List Sentence → ℕ → List (Move ℕ) → List Line → Type 0
+AreLinesAt statements place steps lines =
     (moves : List (Move (List ℕ))) → AreNumberedMoves statements steps moves
     → AreLinesOf statements (take place statements) moves lines
 
@@ -25,11 +26,13 @@ BreaksAt statements place steps rule step =
 -- the moves prove the `$p` with the number, and the lines are their listing
 abbrev pub ListsProof : List Sentence → (id : ℕ) → List (Move ℕ) → List Line → Type 0
 ListsProof statements id steps lines =
-    OfProof statements id steps (λ before s moves. Prove (IsWithin expression_limit) before s moves
-    × AreLinesOf statements before moves lines)
+    OfMoves statements id steps (λ place s moves.
+    Prove (IsWithin expression_limit) (take place statements) s moves
+    × AreLinesOf statements (take place statements) moves lines)
 
 -- the rule and the step of the fault are those of the moves' first fault
 abbrev pub FaultsProof : List Sentence → (id : ℕ) → List (Move ℕ) → ProofFault → Type 0
 FaultsProof statements id steps fault =
-    OnRule fault (λ rule step. OfProof statements id steps
-    (λ before s moves. IsMovesFault (IsWithin expression_limit) before s moves rule step))
+    OnRule fault (λ rule step. OfMoves statements id steps
+    (λ place s moves.
+    IsMovesFault (IsWithin expression_limit) (take place statements) s moves rule step))

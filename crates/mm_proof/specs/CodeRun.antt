@@ -14,15 +14,20 @@ use Rattle.mm_proof.specs.CodeVerify.{all_names_at, AreStackEntries}
 -- the step by the label with a number carries passed moves on: from the one stack to the other
 abbrev pub CarriesOn : List Sentence → (place id : ℕ) → (old new : List (List ℕ)) → Type 0
 CarriesOn statements place id old new =
-    (label : List ℕ) (moves : List (Move (List ℕ))) (kept : List (List (List ℕ))) → IsNumberedMove statements (name id) (name label)
-    → Passed (IsWithin expression_limit) (take place statements) moves (all_names_at statements old) kept
-    → Passed (IsWithin expression_limit) (take place statements) (moves ++ name label ∷ []) (all_names_at statements new) kept
+    (label : List ℕ) (moves : List (Move (List ℕ))) (kept : List (List (List ℕ)))
+    → IsNumberedMove statements (name id) (name label)
+    → Passed (IsWithin expression_limit) (take place statements) moves
+    (all_names_at statements old) kept
+    → Passed (IsWithin expression_limit) (take place statements) (moves ++ name label ∷ [])
+    (all_names_at statements new) kept
 
 -- the step by the label with a number breaks this rule first, on this stack
 abbrev pub StopsAt : List Sentence → (place id : ℕ) → List (List ℕ) → ProofRule → Type 0
 StopsAt statements place id stack rule =
-    (label : List ℕ) (kept : List (List (List ℕ))) → IsNumberedMove statements (name id) (name label)
-    → FirstAtMove (IsWithin expression_limit) rule (take place statements) (all_names_at statements stack) kept (name label)
+    (label : List ℕ) (kept : List (List (List ℕ)))
+    → IsNumberedMove statements (name id) (name label)
+    → FirstAtMove (IsWithin expression_limit) rule (take place statements)
+    (all_names_at statements stack) kept (name label)
 
 -- what the move by number stands for may be made at the place
 abbrev pub MayBeMade : List Sentence → ℕ → Move ℕ → Type 0
@@ -52,7 +57,8 @@ IsNamedByMove statements moves id =
     ((i : ℕ) × (slice_get moves i ≡ Some (name id))) × IsAssertionNumber statements id
 
 -- the numbers of the assertions that the moves name, rising
-pub record AreNamed (statements : List Sentence) (moves : List (Move ℕ)) (ids : List ℕ) : Type 0 where
+pub record AreNamed (statements : List Sentence) (moves : List (Move ℕ))
+    (ids : List ℕ) : Type 0 where
   pub rising : (i j a b : ℕ) → i < j → slice_get ids i ≡ Some a → slice_get ids j ≡ Some b → a < b
   pub each : (id : ℕ) → Contains ids id ↔ IsNamedByMove statements moves id
 

@@ -1,5 +1,6 @@
 -- What the code of the moves knows on its way: it mirrors the code.
-use Rattle.std.specs.Prelude.{◌≡◌, ℕ, ◌+◌, ◌<◌, List, length, map, take, slice_get, Contains, Some, ◌⊎◌}
+use Rattle.std.specs.Prelude.{◌≡◌, ℕ, ◌+◌, ◌<◌, List, length, map, take, slice_get, Contains, Some}
+use Rattle.std.specs.Prelude.{◌⊎◌}
 use Rattle.std.specs.Borrow.{Bor}
 use Rattle.std.specs.List.{AllZip, AllByRecursion}
 use Rattle.mm_text.specs.declared.token.Token.{Token}
@@ -34,10 +35,6 @@ move_in code.Mark = mark
 abbrev pub moves_in : List NumberedMove → List (Move ℕ)
 moves_in moves = map move_in moves
 
--- the bytes of the pieces of a text
-abbrev pub texts : List (Bor (List ℕ)) → List (List ℕ)
-texts pieces = map (λ t. t.now) pieces
-
 -- the bytes of the tokens
 abbrev pub token_texts : List Token → List (List ℕ)
 token_texts tokens = map (λ t. t.text.now) tokens
@@ -47,7 +44,8 @@ abbrev pub ids_in : List LabelId → List ℕ
 ids_in ids = map (λ i. i.0) ids
 
 -- the statement with this number stands before a place and has the label
-pub record IsEarlier (statements : List Sentence) (place : ℕ) (label : List ℕ) (id : ℕ) : Type 0 where
+pub record IsEarlier (statements : List Sentence) (place : ℕ) (label : List ℕ)
+    (id : ℕ) : Type 0 where
   pub at : ℕ
   pub s : Sentence
   pub numbered : IsNumbered statements id at s
@@ -56,7 +54,8 @@ pub record IsEarlier (statements : List Sentence) (place : ℕ) (label : List �
   pub kind : IsHypothesis s.kind ⊎ IsAssertion s.kind
 
 -- it is an assertion, or an active hypothesis
-pub record MayBeUsed (statements : List Sentence) (place : ℕ) (label : List ℕ) (id : ℕ) : Type 0 where
+pub record MayBeUsed (statements : List Sentence) (place : ℕ) (label : List ℕ)
+    (id : ℕ) : Type 0 where
   pub at : ℕ
   pub s : Sentence
   pub numbered : IsNumbered statements id at s
@@ -79,7 +78,8 @@ IsUnknown statements place label = ¬ (SomeSentence (take place statements) (IsL
 
 -- The numbers are those of the labels, which may be used.
 abbrev pub AreFor : List Sentence → ℕ → List ℕ → List (List ℕ) → Type 0
-AreFor statements place ids labels = AllZip (λ id label. MayBeUsed statements place label id) ids labels
+AreFor statements place ids labels =
+    AllZip (λ id label. MayBeUsed statements place label id) ids labels
 
 -- what a label stands for in the proof of the statement at a place
 abbrev pub IsUseOf : List Sentence → ℕ → List ℕ → Use → Type 0
@@ -87,23 +87,29 @@ IsUseOf statements place label uses.Unknown = IsUnknown statements place label
 IsUseOf statements place label uses.Idle = IsIdle statements place label
 IsUseOf statements place label (uses.Number id) = MayBeUsed statements place label id.0
 
--- Why the labels have no numbers: one is unknown; or each is that of an earlier statement, and one of them is idle.
+-- Why the labels have no numbers: one is unknown; or each is that of an earlier statement, and one
+-- of them is idle.
 abbrev pub BreaksLabels : ProofRule → List Sentence → ℕ → List (List ℕ) → Type 0
-BreaksLabels rules.P2 statements place labels = (label : List ℕ) × Contains labels label × IsUnknown statements place label
+BreaksLabels rules.P2 statements place labels =
+    (label : List ℕ) × Contains labels label × IsUnknown statements place label
 BreaksLabels rules.P3 statements place labels =
     ((label : List ℕ) → Contains labels label → ¬ (IsUnknown statements place label))
     × (label : List ℕ) × Contains labels label × IsIdle statements place label
 BreaksLabels rule statements place labels = ⊥
 
--- the code says the move by numbers, where numbers from 1 on stand for these labels in order, and those above for tags
+-- the code says the move by numbers, where numbers from 1 on stand for these labels in order, and
+-- those above for tags
 abbrev pub NumberSays : List ℕ → Code → Move ℕ → Type 0
 NumberSays ids (codes.Number number) move =
     (place : ℕ) × (number ≡ place + 1)
-    × (((id : ℕ) × (slice_get ids place ≡ Some id) × (move ≡ name id)) ⊎ ((tag : ℕ) × (place ≡ length ids + tag) × (move ≡ again tag)))
+    × (((id : ℕ) × (slice_get ids place ≡ Some id) × (move ≡ name id))
+    ⊎ ((tag : ℕ) × (place ≡ length ids + tag) × (move ≡ again tag)))
 NumberSays ids codes.Tag move = move ≡ mark
 
--- the tokens break no rule over the whole proof, and the moves are what they say, each of which may be made
-pub record IsReading (statements : List Sentence) (place : ℕ) (tokens : List (List ℕ)) (steps : List (Move ℕ)) : Type 0 where
+-- the tokens break no rule over the whole proof, and the moves are what they say, each of which may
+-- be made
+pub record IsReading (statements : List Sentence) (place : ℕ) (tokens : List (List ℕ))
+    (steps : List (Move ℕ)) : Type 0 where
   pub whole : IsWhole (take place statements) tokens
   pub own : Sentence
   pub there : slice_get statements place ≡ Some own

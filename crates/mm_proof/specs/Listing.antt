@@ -81,10 +81,3 @@ abbrev pub AreLinesOf : List Sentence → (before : List Sentence) → List (Mov
 AreLinesOf statements before moves lines =
     (steps : List ListedStep) × AreListed before moves steps
     × AllZip (TellsStep statements) lines steps
-
--- Of the statements before the `$p` with this number, of it, and of its moves, this holds.
-abbrev pub OfProof : List Sentence → (id : ℕ) → List (Move ℕ)
-    → (List Sentence → Sentence → List (Move (List ℕ)) → Type 0) → Type 0
-OfProof statements id steps P =
-    (place : ℕ) (s : Sentence) (moves : List (Move (List ℕ))) → IsProofNumber statements id place s
-    → AreNumberedMoves statements steps moves → P (take place statements) s moves

@@ -91,7 +91,8 @@ IsProved before s tokens = IsProvedWithin AnyExpression before s tokens
 -- The step by the assertion at a place meets this on a stack: there are enough entries, the topmost
 -- of which stand for the mandatory hypotheses, the last for the topmost; σ replaces each mandatory
 -- variable by what follows the first symbol of the entry of its `$f`.
-pub record MeetsHypotheses (before : List Sentence) (stack : List Expression) (label : List ℕ) : Type 0 where
+pub record MeetsHypotheses (before : List Sentence) (stack : List Expression)
+    (label : List ℕ) : Type 0 where
   pub place : ℕ
   pub assertion : Sentence
   pub hypotheses : List Sentence
@@ -174,7 +175,8 @@ pub record Passed (Fits : Expression → Type 0) (before : List Sentence)
 pub record IsWholeFault (before : List Sentence) (tokens : List (List ℕ))
     (rule : ProofRule) : Type 0 where
   pub broken : BreaksWhole rule before tokens
-  pub first : (other : ProofRule) → proof_rank other < proof_rank rule → ¬ (BreaksWhole other before tokens)
+  pub first : (other : ProofRule) → proof_rank other < proof_rank rule
+      → ¬ (BreaksWhole other before tokens)
 
 -- all moves before this one passed, and it breaks this rule first
 pub record IsMoveFault (Fits : Expression → Type 0) (before : List Sentence)

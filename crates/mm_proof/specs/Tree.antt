@@ -1,4 +1,5 @@
--- Proof trees, what they derive and how they are spelled (the Metamath book, sections 4.1.4 and 4.3).
+-- Proof trees, what they derive and how they are spelled (the Metamath book, sections 4.1.4 and
+-- 4.3).
 use Rattle.std.specs.Prelude.{◌≡◌, ℕ, suc, List, [], ◌∷◌, ◌++◌, length, map, take, slice_get}
 use Rattle.std.specs.Prelude.{Contains, Option, Some, ◌⊎◌}
 use Rattle.mm_frame.specs.Sentence.{Sentence, IsHypothesis, IsAssertion, IsLabelled}

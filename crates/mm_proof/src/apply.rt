@@ -11,7 +11,7 @@ ghost use Rattle.mm_proof.specs.CodeVerify.{AreHypothesesOf, AreVariablesOf, Are
 ghost use Rattle.mm_proof.specs.CodeVerify.{EachEntry};
 ghost use Rattle.mm_proof.specs.CodeVerify.{IsRightCode, all_names_at, pairs_in, variables_in};
 ghost use Rattle.mm_proof.specs.CodeRun.{CarriesOn, StopsAt};
-ghost use Rattle.mm_proof.specs.CodeApply.{IsCalled, IsMatched, IsReady};
+ghost use Rattle.mm_proof.specs.CodeApply.{IsAppliedAssertion, IsMatched, IsReady};
 
 use crate::fault::{ProofFault, ProofRule};
 use crate::pairs::{are_apart_pairs, has_shared_pair};
@@ -61,7 +61,7 @@ fn rule_broken<S: Store>(
     requires symbols { AreStackEntries book.now.statements (take own.now.place book.now.statements)
         (S.stack store.now) }
     ensures { (id at : ℕ) (hs : List Sentence)
-        → IsCalled book.now.statements own.now.place id at (ids_in hypotheses.now) hs
+        → IsAppliedAssertion book.now.statements own.now.place id at (ids_in hypotheses.now) hs
         → AreVariablesOf book.now.statements (variables_in variables.now.list.items) hs
         → ArePairs (record { statements = book.now.statements; place = at }) (pairs_in pairs.now)
         → EachEntry hs (all_names_at book.now.statements

@@ -1,6 +1,7 @@
 //! The listing of a proof: its steps, one a line (the Metamath book, section 4.3 and appendix B).
 
-ghost use Rattle.std.specs.Prelude.{◌≡◌, ◌-◌, ◌<◌, ◌^◌, ℕ, List, [], length, slice_get, Some, Err};
+ghost use Rattle.std.specs.Prelude.{◌≡◌, ◌-◌, ◌<◌, ◌^◌, ℕ, List, [], length, take};
+ghost use Rattle.std.specs.Prelude.{slice_get, Some, Err};
 ghost use Rattle.std.specs.Prelude.{IfOk, IfErr, IsOkUnless};
 ghost use Rattle.std.specs.List.{AllByRecursion};
 ghost use Rattle.mm_frame.specs.Sentence.{Sentence};
@@ -12,10 +13,11 @@ ghost use Rattle.mm_proof.specs.Stores.{numbers_in};
 ghost use Rattle.mm_proof.specs.Moves.{Move};
 ghost use Rattle.mm_proof.specs.Proof.{Prove, IsWithin, expression_limit, IsMovesFault};
 ghost use Rattle.mm_proof.specs.Steps.{AreNumberedMoves, AreSteps};
-ghost use Rattle.mm_proof.specs.Listing.{AreLinesOf, OfProof};
+ghost use Rattle.mm_proof.specs.Listing.{AreLinesOf};
+ghost use Rattle.mm_proof.specs.Verified.{OfMoves};
 ghost use Rattle.mm_proof.specs.CodeSteps.{moves_in};
 ghost use Rattle.mm_proof.specs.CodeRun.{MayBeMade, HasRun};
-ghost use Rattle.mm_proof.specs.CodeLines.{AreLinesFor, BreaksAt, ListsProof, FaultsProof};
+ghost use Rattle.mm_proof.specs.CodeLines.{AreLinesAt, BreaksAt, ListsProof, FaultsProof};
 
 use crate::apply::Scratch;
 use crate::fault::ProofFault;
@@ -77,7 +79,7 @@ fn lines_of<S: Store>(
     requires kept { S.kept store.old ≡ [] }
     ensures run { IfOk result (λ lines. HasRun book.now.statements own.now.place
         (moves_in moves.now) (S.stack store.new) (S.kept store.new) (length lines.items)) }
-    ensures lines { IfOk result (λ lines. AreLinesFor book.now.statements own.now.place
+    ensures lines { IfOk result (λ lines. AreLinesAt book.now.statements own.now.place
         (moves_in moves.now) lines.items) }
     ensures fault { (rule : ProofRule) → (at : ℕ) → result ≡ Err (ProofFault.Rule rule at)
         → BreaksAt book.now.statements own.now.place (moves_in moves.now) rule at }
@@ -169,23 +171,26 @@ pub fn listing(
     requires { AreSteps book.now.statements id.0 steps.now }
     // The lines are those of the steps: each with its name, and the expression that its tree
     // derives.
-    ensures listed { IfOk result (λ lines. OfProof book.now.statements id.0 steps.now
-        (λ before s moves. AreLinesOf book.now.statements before moves lines.items)) }
+    ensures listed { IfOk result (λ lines. OfMoves book.now.statements id.0 steps.now
+        (λ place s moves. AreLinesOf book.now.statements (take place book.now.statements) moves
+        lines.items)) }
 
     // The rule and the step are those of the first fault.
     ensures fault { (rule : ProofRule) → (step : ℕ) → result ≡ Err (ProofFault.Rule rule step)
-        → OfProof book.now.statements id.0 steps.now
-        (λ before s moves. IsMovesFault (IsWithin expression_limit) before s moves rule step) }
+        → OfMoves book.now.statements id.0 steps.now
+        (λ place s moves. IsMovesFault (IsWithin expression_limit)
+        (take place book.now.statements) s moves rule step) }
 
     // What is proved is listed, unless memory is refused.
-    ensures accepts { OfProof book.now.statements id.0 steps.now
-        (λ before s moves. Prove (IsWithin expression_limit) before s moves
+    ensures accepts { OfMoves book.now.statements id.0 steps.now
+        (λ place s moves.
+        Prove (IsWithin expression_limit) (take place book.now.statements) s moves
         → IsOkUnless result ProofFault.Memory) }
 
     // What has a fault is answered with it, unless memory is refused.
-    ensures refuses { OfProof book.now.statements id.0 steps.now
-        (λ before s moves. (rule : ProofRule) → (step : ℕ)
-        → IsMovesFault (IsWithin expression_limit) before s moves rule step
+    ensures refuses { OfMoves book.now.statements id.0 steps.now
+        (λ place s moves. (rule : ProofRule) → (step : ℕ) → IsMovesFault
+        (IsWithin expression_limit) (take place book.now.statements) s moves rule step
         → IsUnlessMemory result (Err (ProofFault.Rule rule step))) }
 {
     lines_of_proof(alloc, book, id, &steps.moves)

@@ -17,7 +17,8 @@ ghost use Rattle.mm_proof.specs.Proof.{IsWholeFault};
 ghost use Rattle.mm_proof.specs.Steps.{AreSteps, IsProofNumber};
 ghost use Rattle.mm_proof.specs.Parsed.{OfProof, SaySteps};
 ghost use Rattle.mm_proof.specs.CodeSteps.{IsReading, NumberSays, fault_behind};
-ghost use Rattle.mm_proof.specs.CodeSteps.{ids_in, move_in, moves_in, texts, token_texts};
+ghost use Rattle.mm_proof.specs.CodeSteps.{ids_in, move_in, moves_in, token_texts};
+ghost use Rattle.mm_code.specs.Layout.{texts};
 ghost use Rattle.mm_proof.specs.CodeRun.{ArePicked};
 
 use crate::fault::{ProofFault, ProofRule};

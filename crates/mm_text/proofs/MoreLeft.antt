@@ -7,7 +7,8 @@ use Rattle.mm_text.specs.Token.{PlainToken}
 use Rattle.mm_text.specs.Statement.{PlainStatement}
 use Rattle.mm_text.specs.Items.{Item, Plain, Wrong, Inclusion, End}
 use Rattle.mm_text.specs.Reading.{PlainFault, TellsMore}
-use Rattle.mm_text.specs.Mirror.Reader.{Part, Between, Labelled, InBody, InProof, Step, More, Whole, Opened, Closed, Faulty, step, same_text, is_keyword, has_count, is_full, is_provable, bare_statement, PlainScope, scope_after_statement, scope_after_opening, scope_after_closing, has_none, fault_in, unfinished_fault, end_fault, inclusion_fault, unless, PlainReading, only_ending, with_statement, reading_of}
+use Rattle.mm_text.specs.Mirror.Reader.{Part, Between, Labelled, InBody, InProof, Step, More, Whole, Opened, Closed, Faulty, step, same_text, is_keyword, has_count, is_full, bare_statement, PlainScope, scope_after_statement, scope_after_opening, scope_after_closing, has_none, fault_in, unfinished_fault, end_fault, inclusion_fault, unless, PlainReading, only_ending, with_statement, reading_of}
+use Rattle.mm_text.specs.Statement.{is_provable}
 
 abbrev pub HasMore : PlainReading → Type 0
 HasMore reading = TellsMore reading.statements reading.ending

@@ -9,7 +9,8 @@ use Rattle.mm_text.specs.declared.statement.Kind.TheVariants.{Constants, Variabl
 use Rattle.mm_text.specs.Token.{PlainToken, IsLabel, is_label_byte, HoldsNoDollar}
 use Rattle.mm_text.specs.Statement.{PlainStatement, IsHead, HasBody, IsBareHead, IsLabelledHead, AreSymbols, FitsCount, label_in, keyword_of, Spells, SpellsAll, IsTail, EndsAtOnce, EndsInProof}
 use Rattle.mm_text.specs.Reading.{closes_symbols}
-use Rattle.mm_text.specs.Mirror.Reader.{Part, Between, Labelled, InBody, InProof, More, Whole, Opened, Closed, Faulty, step, same_text, is_keyword, bare_statement, has_count, is_full, is_provable}
+use Rattle.mm_text.specs.Mirror.Reader.{Part, Between, Labelled, InBody, InProof, More, Whole, Opened, Closed, Faulty, step, same_text, is_keyword, bare_statement, has_count, is_full}
+use Rattle.mm_text.specs.Statement.{is_provable}
 use Rattle.mm_text.proofs.TextFacts.{same_text_from, symbol-is_keyword, label-is_keyword, label_ne}
 use Rattle.mm_text.proofs.Fronts.{cons_parts}
 use Rattle.mm_text.proofs.PartFacts.{IsPartBody, IsPartProof, Describes}

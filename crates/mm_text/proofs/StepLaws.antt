@@ -13,7 +13,8 @@ use Rattle.mm_text.specs.Token.{PlainToken, HoldsNoDollar, is_label_byte}
 use Rattle.mm_text.specs.Statement.{PlainStatement}
 use Rattle.mm_text.specs.Items.{Item, Plain, Wrong, Inclusion, End}
 use Rattle.mm_text.specs.Mirror.Class.{keyword_bytes}
-use Rattle.mm_text.specs.Mirror.Reader.{same_text, is_keyword, bare_statement, Part, Between, Labelled, InBody, InProof, Step, More, Whole, Opened, Closed, Faulty, has_count, is_full, is_provable, step, PlainScope, scope_after_statement, scope_after_opening, scope_after_closing, has_none, fault_in, unfinished_fault, end_fault, inclusion_fault, unless, PlainReading, only_ending, with_statement, reading_of}
+use Rattle.mm_text.specs.Mirror.Reader.{same_text, is_keyword, bare_statement, Part, Between, Labelled, InBody, InProof, Step, More, Whole, Opened, Closed, Faulty, has_count, is_full, step, PlainScope, scope_after_statement, scope_after_opening, scope_after_closing, has_none, fault_in, unfinished_fault, end_fault, inclusion_fault, unless, PlainReading, only_ending, with_statement, reading_of}
+use Rattle.mm_text.specs.Statement.{is_provable}
 use Rattle.mm_text.specs.Mirror.Steps.{is_block_sign, bare_kind, labelled_kind, ends_symbols}
 
 -- ---- the reading of items, by the first

@@ -27,9 +27,10 @@ AreBalanced statements = (n : ℕ) → closings (take n statements) ≤ openings
 abbrev pub AreClosed : List PlainStatement → Type 0
 AreClosed statements = openings statements ≡ closings statements
 
--- The innermost block that is open after these statements: the one that is opened after so many of them, and since whose
--- `${` each block is closed.
-pub record IsInnermost (statements before : List PlainStatement) (opening : PlainStatement) : Type 0 where
+-- The innermost block that is open after these statements: the one that is opened after so many of
+-- them, and since whose `${` each block is closed.
+pub record IsInnermost (statements before : List PlainStatement)
+    (opening : PlainStatement) : Type 0 where
   pub within : List PlainStatement
   pub whole : statements ≡ before ++ opening ∷ within
   pub opened : opening.kind ≡ Opening

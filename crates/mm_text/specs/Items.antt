@@ -1,6 +1,8 @@
--- The items of the handed files: what is met as they are read, token by token, with comments left out and the files put in
--- that are named (the Metamath book, section 4.1.2).
-use Rattle.std.specs.Prelude.{ℕ, zero, suc, ◌==◌, ◌&&◌, ◌||◌, nat_eq, List, [], ◌∷◌, ◌++◌, length, replicate, Bool, true, false, not, if◌then◌else◌, codes, Option, Some, None, slice_get, slice_set, slice_index_or, position}
+-- The items of the handed files: what is met as they are read, token by token, with comments left
+-- out and the files put in that are named (the Metamath book, section 4.1.2).
+use Rattle.std.specs.Prelude.{ℕ, zero, suc, ◌==◌, ◌&&◌, ◌||◌, nat_eq, List, [], ◌∷◌, ◌++◌, length}
+use Rattle.std.specs.Prelude.{replicate, Bool, true, false, not, if◌then◌else◌, codes, Option, Some}
+use Rattle.std.specs.Prelude.{None, slice_get, slice_set, slice_index_or, position}
 use Rattle.std.specs.List.{list_any, list_all}
 use Rattle.std.specs.Cmp.Lexicographic.{pointwise}
 use Rattle.mm_text.specs.declared.fault.TextRule.{TextRule}
@@ -9,8 +11,8 @@ use Rattle.mm_text.specs.Token.{PlainToken, tokens_from, is_printable}
 use Rattle.mm_text.specs.Files.{PlainFile}
 use Rattle.mm_text.specs.Statement.{keywords}
 
--- What is met: a token that breaks no rule by itself; a fault, after which nothing follows; a `$[`, whose own faults come
--- after it; the end of a file.
+-- What is met: a token that breaks no rule by itself; a fault, after which nothing follows; a `$[`,
+-- whose own faults come after it; the end of a file.
 pub data Item : Type 0 where
   Plain : (token : PlainToken) → Item
   Wrong : (rule : TextRule) (token : PlainToken) → Item
@@ -37,8 +39,8 @@ pub data Shown : Type 0 where
   Clear : (token : PlainToken) → Shown
   Broken : (rule : TextRule) (token : PlainToken) → Shown
 
--- The tokens outside comments, where a comment is open since its `$(` or none is: the first one of X1, X2, X3 and of X4 for
--- `$)` ends them.
+-- The tokens outside comments, where a comment is open since its `$(` or none is: the first one of
+-- X1, X2, X3 and of X4 for `$)` ends them.
 unfoldable pub without_comments : Option PlainToken → List PlainToken → List Shown
 without_comments None [] = []
 without_comments (Some begin) [] = Broken X2 begin ∷ []
@@ -73,7 +75,8 @@ broken_outside text =
     else (if holds_dollar text && not (list_any (spells text) keywords) then Some X9
     else None)
 
--- The pieces of the file with a number. X5 is met at a token, or at the `$[` where the file ends before its `$]`.
+-- The pieces of the file with a number. X5 is met at a token, or at the `$[` where the file ends
+-- before its `$]`.
 unfoldable pub pieces : ℕ → Spot → List Shown → List Piece
 pieces file Outside [] = Met (End file) ∷ []
 pieces file (Naming begin) [] = Met (Wrong X5 begin) ∷ []
@@ -88,11 +91,13 @@ pieces file Outside (Clear t ∷ rest) =
 pieces file (Naming begin) (Clear t ∷ rest) =
     if holds_dollar t.text then Met (Wrong X5 t) ∷ [] else pieces file (Closing begin t) rest
 pieces file (Closing begin name) (Clear t ∷ rest) =
-    if spells t.text (codes "$]") then Named name ∷ pieces file Outside rest else Met (Wrong X5 t) ∷ []
+    if spells t.text (codes "$]") then Named name ∷ pieces file Outside rest
+    else Met (Wrong X5 t) ∷ []
 
 -- the pieces of a file from its begin
 abbrev pub pieces_of : ℕ → PlainFile → List Piece
-pieces_of number file = pieces number Outside (without_comments None (tokens_from number 0 file.bytes))
+pieces_of number file =
+    pieces number Outside (without_comments None (tokens_from number 0 file.bytes))
 
 -- ---- putting in
 
@@ -100,29 +105,35 @@ pieces_of number file = pieces number Outside (without_comments None (tokens_fro
 abbrev pub file_number : List PlainFile → List ℕ → Option ℕ
 file_number files name = position (λ f. spells name f.name) files
 
--- The items of pieces, up to the first file that is named for the first time: there `next` goes on, with the number of that
--- file and the pieces after its name. For each file `named` tells whether it was named before.
-unfoldable pub with_inclusions : List PlainFile → List Bool → (ℕ → List Piece → List Item) → List Piece → List Item
+-- The items of pieces, up to the first file that is named for the first time: there `next` goes on,
+-- with the number of that file and the pieces after its name. For each file `named` tells whether
+-- it was named before.
+unfoldable pub with_inclusions : List PlainFile → List Bool → (ℕ → List Piece → List Item)
+    → List Piece → List Item
 with_inclusions files named next [] = []
 with_inclusions files named next (Met (Wrong rule t) ∷ rest) = Wrong rule t ∷ []
 with_inclusions files named next (Met item ∷ rest) = item ∷ with_inclusions files named next rest
 with_inclusions files named next (Named name ∷ rest) = elim (file_number files name.text) [
   | None ↦ Wrong X7 name ∷ []
-  | Some n ↦ if slice_index_or named n true then with_inclusions files named next rest else next n rest
+  | Some n ↦ if slice_index_or named n true then with_inclusions files named next rest
+      else next n rest
 ]
 
 -- the file with a number, in pieces, and the pieces after it
 abbrev pub put_before : List PlainFile → ℕ → List Piece → List Piece
-put_before files n rest = elim (slice_get files n) [ None ↦ rest | Some file ↦ pieces_of n file ++ rest ]
+put_before files n rest =
+    elim (slice_get files n) [ None ↦ rest | Some file ↦ pieces_of n file ++ rest ]
 
 -- the items of pieces, with so many more files put in, each where it is named for the first time
 unfoldable pub put_in : List PlainFile → ℕ → List Bool → List Piece → List Item
 put_in files zero named rest = with_inclusions files named (λ n after. []) rest
 put_in files (suc left) named rest =
-    with_inclusions files named (λ n after. put_in files left (slice_set named n true) (put_before files n after)) rest
+    with_inclusions files named
+    (λ n after. put_in files left (slice_set named n true) (put_before files n after)) rest
 
--- The items of the handed files: those of the first, the top file, with each of the others put in where it is first named.
--- So many files as there are others can be put in; that more would change nothing is a law.
+-- The items of the handed files: those of the first, the top file, with each of the others put in
+-- where it is first named. So many files as there are others can be put in; that more would change
+-- nothing is a law.
 abbrev pub items : List PlainFile → List Item
 items [] = []
 items (top ∷ others) =

@@ -1,5 +1,6 @@
 -- The laws of tokens and of readings.
-use Rattle.std.specs.Prelude.{◌≡◌, ◌≢◌, ℕ, ◌+◌, ◌<◌, ◌≤◌, List, [], ◌∷◌, ◌++◌, length, sum_by, slice_range, Contains, Option, AllPairs}
+use Rattle.std.specs.Prelude.{◌≡◌, ◌≢◌, ℕ, ◌+◌, ◌<◌, ◌≤◌, List, [], ◌∷◌, ◌++◌, length, sum_by}
+use Rattle.std.specs.Prelude.{slice_range, Contains, Option, AllPairs}
 use Rattle.std.specs.List.{AllByRecursion}
 use Rattle.mm_text.specs.Token.{PlainToken, IsToken, tokens_from}
 use Rattle.mm_text.specs.Statement.{PlainStatement, Spells, HasForm, bytes_in}
@@ -8,7 +9,8 @@ use Rattle.mm_text.specs.Items.{Item, items}
 use Rattle.mm_text.specs.Blocks.{AreBalanced}
 use Rattle.mm_text.specs.Reading.{PlainFault, IsBeginning, Viable, EndsAt, Reads, IsInPlace}
 
--- a token of this file is the slice of its bytes at its place, and that is a longest run of bytes that aren't white space
+-- a token of this file is the slice of its bytes at its place, and that is a longest run of bytes
+-- that aren't white space
 pub record IsRunOf (file : ℕ) (bytes : List ℕ) (t : PlainToken) : Type 0 where
   pub home : t.file ≡ file
   pub text : slice_range bytes t.at (t.at + length t.text) ≡ t.text
@@ -23,7 +25,8 @@ pub record AreLongestRuns (file : ℕ) (bytes : List ℕ) (tokens : List PlainTo
 
 -- the tokens of each file are its longest runs
 abbrev pub TokensAreLongestRuns : Type 0
-TokensAreLongestRuns = (file : ℕ) (bytes : List ℕ) → AreLongestRuns file bytes (tokens_from file 0 bytes)
+TokensAreLongestRuns =
+    (file : ℕ) (bytes : List ℕ) → AreLongestRuns file bytes (tokens_from file 0 bytes)
 
 -- the files have a reading, and no other
 pub record HasOneReading (files : List PlainFile) : Type 0 where
@@ -61,12 +64,14 @@ abbrev pub FaultsEndLongestFronts : Type 0
 FaultsEndLongestFronts =
     (files : List PlainFile) (front : List Item) (item : Item) (rest : List Item)
     (statements : List PlainStatement) (unfinished : List PlainToken) (fault : PlainFault)
-    → items files ≡ front ++ item ∷ rest → Viable front statements unfinished → EndsAt statements unfinished item fault
+    → items files ≡ front ++ item ∷ rest → Viable front statements unfinished
+    → EndsAt statements unfinished item fault
     → IsLongestViable (items files) front
 
--- each statement of a reading is formed by the grammar, each of its tokens holds a byte, and is the slice of its file at its
--- place
-pub record AreFormedInPlace (files : List PlainFile) (statements : List PlainStatement) : Type 0 where
+-- each statement of a reading is formed by the grammar, each of its tokens holds a byte, and is the
+-- slice of its file at its place
+pub record AreFormedInPlace (files : List PlainFile)
+    (statements : List PlainStatement) : Type 0 where
   pub formed : AllByRecursion HasForm statements
   pub in_place : AllByRecursion (IsInPlace files) statements
 

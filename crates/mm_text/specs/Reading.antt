@@ -1,18 +1,24 @@
--- The reading of the handed files: the statements that they hold, and how it ends (the Metamath book, sections 4.1 and 4.2).
-use Rattle.std.specs.Prelude.{◌≡◌, ◌≢◌, ℕ, ◌+◌, ◌≤◌, List, [], ◌∷◌, ◌++◌, length, slice_get, codes, Option, Some, None, IfSome, ◌⊎◌, slice_range}
+-- The reading of the handed files: the statements that they hold, and how it ends (the Metamath
+-- book, sections 4.1 and 4.2).
+use Rattle.std.specs.Prelude.{◌≡◌, ◌≢◌, ℕ, ◌+◌, ◌≤◌, List, [], ◌∷◌, ◌++◌, length, slice_get, codes}
+use Rattle.std.specs.Prelude.{Option, Some, None, IfSome, ◌⊎◌, slice_range}
 use Rattle.std.specs.List.{AllByRecursion}
 use Rattle.mm_text.specs.declared.fault.TextRule.{TextRule}
 use Rattle.mm_text.specs.declared.fault.TextRule.TheVariants.{X6, X8, S1, S2, S3, S4, S5, S6, S7}
 use Rattle.mm_text.specs.declared.statement.Kind.{Kind}
-use Rattle.mm_text.specs.declared.statement.Kind.TheVariants.{Constants, Variables, Distinct, Floating, Essential, Axiom, Provable, Opening, Closing}
+use Rattle.mm_text.specs.declared.statement.Kind.TheVariants.{Constants, Variables, Distinct}
+use Rattle.mm_text.specs.declared.statement.Kind.TheVariants.{Floating, Essential, Axiom, Provable}
+use Rattle.mm_text.specs.declared.statement.Kind.TheVariants.{Opening, Closing}
 use Rattle.mm_text.specs.Token.{PlainToken, IsLabel, HoldsNoDollar}
 use Rattle.mm_text.specs.Files.{PlainFile}
-use Rattle.mm_text.specs.Items.{Item, Plain, Wrong, Inclusion, End, items, plain_tokens, HoldNoFault}
+use Rattle.mm_text.specs.Items.{Item, Plain, Wrong, Inclusion, End, items, plain_tokens}
+use Rattle.mm_text.specs.Items.{HoldNoFault}
 use Rattle.mm_text.specs.Blocks.{AreBalanced, AreClosed, IsInnermost}
-use Rattle.mm_text.specs.Statement.{PlainStatement, IsKeyword, IsHead, HasBody, AreSymbols, FitsCount, label_in, SpellsAll, keyword_of}
+use Rattle.mm_text.specs.Statement.{PlainStatement, IsKeyword, IsHead, HasBody, AreSymbols}
+use Rattle.mm_text.specs.Statement.{FitsCount, label_in, SpellsAll, keyword_of}
 
--- A fault in the text: its rule, the number of its file and its place there, the number of the statement at fault, from 1,
--- and the label of the statement in which it stands.
+-- A fault in the text: its rule, the number of its file and its place there, the number of the
+-- statement at fault, from 1, and the label of the statement in which it stands.
 pub record PlainFault : Type 0 where
   pub rule : TextRule
   pub file : ℕ
@@ -21,7 +27,8 @@ pub record PlainFault : Type 0 where
   pub label : Option PlainToken
 
 -- an unfinished statement of this kind, which has these symbols so far
-pub record IsBody (tokens : List PlainToken) (kind : Kind) (symbols : List PlainToken) : Type 0 where
+pub record IsBody (tokens : List PlainToken) (kind : Kind)
+    (symbols : List PlainToken) : Type 0 where
   pub head : List PlainToken
   pub whole : tokens ≡ head ++ symbols
   pub begins : IsHead kind head
@@ -54,7 +61,8 @@ pub record IsLone (tokens : List PlainToken) : Type 0 where
 -- nothing, or a beginning of a statement that more tokens would finish
 abbrev pub IsBeginning : List PlainToken → Type 0
 IsBeginning tokens =
-    IsNothing tokens ⊎ IsLone tokens ⊎ ((kind : Kind) × (symbols : List PlainToken) × IsBody tokens kind symbols) ⊎ IsInProof tokens
+    IsNothing tokens ⊎ IsLone tokens
+    ⊎ ((kind : Kind) × (symbols : List PlainToken) × IsBody tokens kind symbols) ⊎ IsInProof tokens
 
 -- these tokens are whole statements, after which no block is open
 pub record AreOutside (tokens : List PlainToken) : Type 0 where
@@ -62,21 +70,25 @@ pub record AreOutside (tokens : List PlainToken) : Type 0 where
   pub spelled : SpellsAll tokens statements
   pub closed : AreClosed statements
 
--- A front of the items that reads as these statements, followed by these tokens, which are a beginning of one. No `$}`
--- lacks its `${`. A file is included only outside of blocks and statements; a file ends only where no statement is
--- unfinished, and the top file only where no block is open.
-pub record Viable (front : List Item) (statements : List PlainStatement) (unfinished : List PlainToken) : Type 0 where
+-- A front of the items that reads as these statements, followed by these tokens, which are a
+-- beginning of one. No `$}` lacks its `${`. A file is included only outside of blocks and
+-- statements; a file ends only where no statement is unfinished, and the top file only where no
+-- block is open.
+pub record Viable (front : List Item) (statements : List PlainStatement)
+    (unfinished : List PlainToken) : Type 0 where
   pub clean : HoldNoFault front
   pub finished : List PlainToken
   pub whole : plain_tokens front ≡ finished ++ unfinished
   pub spelled : SpellsAll finished statements
   pub begun : IsBeginning unfinished
   pub balanced : AreBalanced statements
-  pub included : (before after : List Item) (token : PlainToken) → front ≡ before ++ Inclusion token ∷ after
+  pub included : (before after : List Item) (token : PlainToken)
+      → front ≡ before ++ Inclusion token ∷ after
       → AreOutside (plain_tokens before)
   pub ended : (before after : List Item) (file : ℕ) → front ≡ before ++ End file ∷ after
       → (earlier : List PlainStatement) × SpellsAll (plain_tokens before) earlier
-  pub top_ended : (before after : List Item) → front ≡ before ++ End 0 ∷ after → AreOutside (plain_tokens before)
+  pub top_ended : (before after : List Item) → front ≡ before ++ End 0 ∷ after
+      → AreOutside (plain_tokens before)
 
 -- the keyword that ends the symbols of a statement of this kind
 abbrev pub closes_symbols : Kind → List ℕ
@@ -87,7 +99,8 @@ closes_symbols kind = codes "$."
 abbrev pub MeetsS1 : List PlainToken → PlainToken → Type 0
 MeetsS1 unfinished t =
     IsNothing unfinished × IsKeyword t.text
-    × (t.text ≢ keyword_of Constants) × (t.text ≢ keyword_of Variables) × (t.text ≢ keyword_of Distinct)
+    × (t.text ≢ keyword_of Constants) × (t.text ≢ keyword_of Variables)
+    × (t.text ≢ keyword_of Distinct)
     × (t.text ≢ keyword_of Opening) × (t.text ≢ keyword_of Closing)
 
 -- S2: a label holds another byte than a label may
@@ -105,7 +118,8 @@ MeetsS3 unfinished t =
 abbrev pub MeetsS4 : List PlainToken → PlainToken → Type 0
 MeetsS4 unfinished t =
     IsKeyword t.text
-    × (((kind : Kind) × (symbols : List PlainToken) × IsBody unfinished kind symbols × (t.text ≢ closes_symbols kind))
+    × (((kind : Kind) × (symbols : List PlainToken) × IsBody unfinished kind symbols
+    × (t.text ≢ closes_symbols kind))
     ⊎ (IsInProof unfinished × (t.text ≢ codes "$.")))
 
 -- S5: the symbols are closed after too few of them, or a `$f` has a third one
@@ -120,7 +134,8 @@ abbrev pub MeetsS6 : List PlainStatement → List PlainToken → PlainToken → 
 MeetsS6 statements unfinished t =
     IsNothing unfinished × (t.text ≡ keyword_of Closing) × AreClosed statements
 
--- the first of these rules that a token breaks after these statements and these tokens of an unfinished one
+-- the first of these rules that a token breaks after these statements and these tokens of an
+-- unfinished one
 abbrev pub Meets : List PlainStatement → List PlainToken → PlainToken → TextRule → Type 0
 Meets statements unfinished t S1 = MeetsS1 unfinished t
 Meets statements unfinished t S2 = MeetsS2 unfinished t
@@ -130,10 +145,18 @@ Meets statements unfinished t S5 = MeetsS5 unfinished t
 Meets statements unfinished t S6 = MeetsS6 statements unfinished t
 Meets statements unfinished t rule = ⊥
 
--- the fault of a token, which is met after these statements, in one of which these tokens came before
+-- the fault of a token, which is met after these statements, in one of which these tokens came
+-- before
 abbrev pub fault_at : TextRule → PlainToken → List PlainStatement → List PlainToken → PlainFault
 fault_at rule t statements unfinished =
-    record { rule = rule; file = t.file; at = t.at; statement = length statements + 1; label = label_in unfinished }
+    record {
+      rule = rule;
+      file = t.file;
+      at = t.at;
+      statement = length statements + 1;
+      label =
+          label_in unfinished;
+    }
 
 -- X6: a `$[` in a block or in a statement
 abbrev pub MeetsX6 : List PlainStatement → List PlainToken → Type 0
@@ -145,31 +168,35 @@ EndsInX8 statements unfinished fault =
     (first : PlainToken) × (others : List PlainToken) × (unfinished ≡ first ∷ others)
     × (fault ≡ fault_at X8 first statements unfinished)
 
--- S7: the top file ends with a block open. The place is the `${` of the innermost one, and the statement is that `${`.
+-- S7: the top file ends with a block open. The place is the `${` of the innermost one, and the
+-- statement is that `${`.
 abbrev pub EndsInS7 : List PlainStatement → List PlainToken → ℕ → PlainFault → Type 0
 EndsInS7 statements unfinished file fault =
     IsNothing unfinished × (file ≡ 0)
-    × (before : List PlainStatement) × (opening : PlainStatement) × IsInnermost statements before opening
+    × (before : List PlainStatement) × (opening : PlainStatement)
+    × IsInnermost statements before opening
     × (fault ≡ fault_at S7 opening.first before [])
 
 -- how a reading ends at the item after the longest viable front
 abbrev pub EndsAt : List PlainStatement → List PlainToken → Item → PlainFault → Type 0
 EndsAt statements unfinished (Plain t) fault =
-    (rule : TextRule) × Meets statements unfinished t rule × (fault ≡ fault_at rule t statements unfinished)
+    (rule : TextRule) × Meets statements unfinished t rule
+    × (fault ≡ fault_at rule t statements unfinished)
 EndsAt statements unfinished (Wrong rule t) fault = fault ≡ fault_at rule t statements unfinished
 EndsAt statements unfinished (Inclusion t) fault =
     MeetsX6 statements unfinished × (fault ≡ fault_at X6 t statements unfinished)
 EndsAt statements unfinished (End file) fault =
     EndsInX8 statements unfinished fault ⊎ EndsInS7 statements unfinished file fault
 
--- The statements that the items spell, and the fault that ends them, or none: those of a viable front of the items that is
--- all of them, or after which the next item is a fault.
+-- The statements that the items spell, and the fault that ends them, or none: those of a viable
+-- front of the items that is all of them, or after which the next item is a fault.
 abbrev pub ReadsAs : List Item → List PlainStatement → Option PlainFault → Type 0
 ReadsAs its statements None =
     Viable its statements []
 ReadsAs its statements (Some fault) =
     (front : List Item) × (item : Item) × (rest : List Item) × (unfinished : List PlainToken)
-    × (its ≡ front ++ item ∷ rest) × Viable front statements unfinished × EndsAt statements unfinished item fault
+    × (its ≡ front ++ item ∷ rest) × Viable front statements unfinished
+    × EndsAt statements unfinished item fault
 
 -- the statements that the files hold, and the fault that ends them, or none
 abbrev pub Reads : List PlainFile → List PlainStatement → Option PlainFault → Type 0
@@ -182,7 +209,8 @@ TellsMore statements ending = (statements ≢ []) ⊎ (ending ≢ None)
 -- a token's text is the slice of its file at its place
 abbrev pub IsSliceOf : List PlainFile → PlainToken → Type 0
 IsSliceOf files t =
-    (file : PlainFile) × (slice_get files t.file ≡ Some file) × (slice_range file.bytes t.at (t.at + length t.text) ≡ t.text)
+    (file : PlainFile) × (slice_get files t.file ≡ Some file)
+    × (slice_range file.bytes t.at (t.at + length t.text) ≡ t.text)
 
 -- each token of a statement is
 pub record IsInPlace (files : List PlainFile) (s : PlainStatement) : Type 0 where

@@ -1,5 +1,6 @@
 -- What a reader has still to give.
-use Rattle.std.specs.Prelude.{◌≡◌, ◌≤◌, sum_by, List, [], ◌∷◌, Bool, true, false, Option, Some, None, Result, Ok, Err, option_map, ◌⊎◌}
+use Rattle.std.specs.Prelude.{◌≡◌, ◌≤◌, sum_by, List, [], ◌∷◌, Bool, true, false, Option, Some}
+use Rattle.std.specs.Prelude.{None, Result, Ok, Err, option_map, ◌⊎◌}
 use Rattle.mm_text.specs.declared.fault.LoadRule.{LoadRule}
 use Rattle.mm_text.specs.declared.fault.TextFault.{TextFault}
 use Rattle.mm_text.specs.declared.fault.TextFault.TheVariants.{Load, Fault, Memory}
@@ -9,8 +10,9 @@ use Rattle.mm_text.specs.Blocks.{AreBalanced}
 use Rattle.mm_text.specs.Files.{PlainFile, total_bytes, BreaksLoad}
 use Rattle.mm_text.specs.Reading.{PlainFault, Reads, TellsMore}
 
--- The statements of the files that weren't given yet, and the fault that ends them; whether a growth was refused, after
--- which nothing is given; and whether the end, a fault or want of memory was answered.
+-- The statements of the files that weren't given yet, and the fault that ends them; whether a
+-- growth was refused, after which nothing is given; and whether the end, a fault or want of memory
+-- was answered.
 pub record Remaining : Type 0 where
   pub files : List PlainFile
   pub statements : List PlainStatement
@@ -18,8 +20,9 @@ pub record Remaining : Type 0 where
   pub refused : Bool
   pub told : Bool
 
--- Nothing of the files was given yet: all that their reading says is left. No `$}` of it lacks its `${`, and the first
--- tokens, symbols and proofs of its statements have no more bytes than the files.
+-- Nothing of the files was given yet: all that their reading says is left. No `$}` of it lacks its
+-- `${`, and the first tokens, symbols and proofs of its statements have no more bytes than the
+-- files.
 pub record IsUnread (files : List PlainFile) (s : Remaining) : Type 0 where
   pub same : s.files ≡ files
   pub reads : Reads files s.statements s.ending
@@ -28,8 +31,8 @@ pub record IsUnread (files : List PlainFile) (s : Remaining) : Type 0 where
   pub refused : s.refused ≡ false
   pub told : s.told ≡ false
 
--- What is answered to handed files: a reader of all that they hold, where they break no rule as a whole; the first rule that
--- they break; or want of memory.
+-- What is answered to handed files: a reader of all that they hold, where they break no rule as a
+-- whole; the first rule that they break; or want of memory.
 abbrev pub Begins : List PlainFile → Result Remaining TextFault → Type 0
 Begins files (Ok s) = ((rule : LoadRule) → ¬ (BreaksLoad files rule)) × IsUnread files s
 Begins files (Err (Load rule)) = BreaksLoad files rule
@@ -41,19 +44,30 @@ pub record IsEmpty (s : PlainStatement) : Type 0 where
   pub symbols : s.symbols ≡ []
   pub proof : s.proof ≡ []
 
--- What a call of `read` answers, and what it leaves: the next statement, the end, the fault, or want of memory. This is
--- answered for good, and is new only where a statement was left to give, or a fault that wasn't told.
+-- What a call of `read` answers, and what it leaves: the next statement, the end, the fault, or
+-- want of memory. This is answered for good, and is new only where a statement was left to give, or
+-- a fault that wasn't told.
 abbrev pub Gives : Remaining → Result Bool TextFault → Remaining → PlainStatement → Type 0
 Gives old (Ok true) new into =
     (old.refused ≡ false) × (old.told ≡ false) × (old.statements ≡ into ∷ new.statements)
     × (new ≡ record old { statements = new.statements })
 Gives old (Ok false) new into =
-    (old.refused ≡ false) × (old.statements ≡ []) × (old.ending ≡ None) × (new ≡ record old { told = true }) × IsEmpty into
+    (old.refused ≡ false) × (old.statements ≡ []) × (old.ending ≡ None)
+    × (new ≡ record old { told = true }) × IsEmpty into
 Gives old (Err (Fault rule file at statement label)) new into =
     (old.refused ≡ false) × (old.statements ≡ [])
-    × (old.ending ≡ Some (record { rule = rule; file = file; at = at; statement = statement; label = option_map plain_token label }))
+    × (old.ending
+    ≡ Some (record {
+      rule = rule;
+      file = file;
+      at = at;
+      statement = statement;
+      label =
+          option_map plain_token label;
+    }))
     × (new ≡ record old { told = true }) × IsEmpty into
 Gives old (Err Memory) new into =
     ((old.refused ≡ true) ⊎ ((old.told ≡ false) × TellsMore old.statements old.ending))
-    × (new ≡ record old { statements = []; ending = None; refused = true; told = true }) × IsEmpty into
+    × (new ≡ record old { statements = []; ending = None; refused = true; told = true })
+    × IsEmpty into
 Gives old (Err (Load rule)) new into = ⊥

@@ -1,8 +1,12 @@
 -- The forms of statements, as a grammar over tokens (the Metamath book, sections 4.1.3 and 4.2).
-use Rattle.std.specs.Prelude.{◌≡◌, ℕ, ◌+◌, ◌≤◌, List, [], ◌∷◌, ◌++◌, length, sum_by, map, if◌then◌else◌, codes, Option, Some, None, Contains, option_map}
+use Rattle.std.specs.Prelude.{◌≡◌, ℕ, ◌+◌, ◌≤◌, List, [], ◌∷◌, ◌++◌, length, sum_by, map}
+use Rattle.std.specs.Prelude.{if◌then◌else◌, codes, Bool, true, false, Option, Some, None}
+use Rattle.std.specs.Prelude.{Contains, option_map}
 use Rattle.std.specs.List.{AllByRecursion, list_all}
 use Rattle.mm_text.specs.declared.statement.Kind.{Kind}
-use Rattle.mm_text.specs.declared.statement.Kind.TheVariants.{Constants, Variables, Distinct, Floating, Essential, Axiom, Provable, Opening, Closing}
+use Rattle.mm_text.specs.declared.statement.Kind.TheVariants.{Constants, Variables, Distinct}
+use Rattle.mm_text.specs.declared.statement.Kind.TheVariants.{Floating, Essential, Axiom, Provable}
+use Rattle.mm_text.specs.declared.statement.Kind.TheVariants.{Opening, Closing}
 use Rattle.mm_text.specs.declared.statement.Statement.{Statement}
 use Rattle.mm_text.specs.Token.{PlainToken, plain_token, IsLabel, is_label_byte, HoldsNoDollar}
 
@@ -37,10 +41,15 @@ keyword_of Provable = codes "$p"
 keyword_of Opening = codes "${"
 keyword_of Closing = codes "$}"
 
+abbrev pub is_provable : Kind → Bool
+is_provable Provable = true
+is_provable kind = false
+
 -- the keywords that can be met: those of the kinds, and `$.`, `$=`, `$(`, `$)`, `$[`, `$]`
 abbrev pub keywords : List (List ℕ)
 keywords =
-    codes "$c" ∷ codes "$v" ∷ codes "$f" ∷ codes "$e" ∷ codes "$d" ∷ codes "$a" ∷ codes "$p" ∷ codes "$." ∷ codes "$="
+    codes "$c" ∷ codes "$v" ∷ codes "$f" ∷ codes "$e" ∷ codes "$d" ∷ codes "$a" ∷ codes "$p"
+    ∷ codes "$." ∷ codes "$="
     ∷ codes "$(" ∷ codes "$)" ∷ codes "$[" ∷ codes "$]" ∷ codes "${" ∷ codes "$}" ∷ []
 
 abbrev pub IsKeyword : List ℕ → Type 0
@@ -99,7 +108,8 @@ label_in (t ∷ tokens) = if list_all is_label_byte t.text then Some t else None
 abbrev pub AreSymbols : List PlainToken → Type 0
 AreSymbols tokens = AllByRecursion (λ t. HoldsNoDollar t.text) tokens
 
--- the `$=`, the proof and the `$.` of a `$p`; the proof's bytes are those after the `$=` up to the `$.`
+-- the `$=`, the proof and the `$.` of a `$p`; the proof's bytes are those after the `$=` up to the
+-- `$.`
 pub record EndsInProof (s : PlainStatement) (tail : List PlainToken) : Type 0 where
   pub equals : PlainToken
   pub stop : PlainToken
@@ -145,7 +155,8 @@ pub record Spells (tokens : List PlainToken) (s : PlainStatement) : Type 0 where
 abbrev pub SpellsAll : List PlainToken → List PlainStatement → Type 0
 SpellsAll tokens [] = tokens ≡ []
 SpellsAll tokens (s ∷ statements) =
-    (front : List PlainToken) × (rest : List PlainToken) × (tokens ≡ front ++ rest) × Spells front s × SpellsAll rest statements
+    (front : List PlainToken) × (rest : List PlainToken) × (tokens ≡ front ++ rest) × Spells front s
+    × SpellsAll rest statements
 
 -- a label, for the kinds that have one
 abbrev pub HasLabel : Kind → Option PlainToken → Type 0
@@ -165,4 +176,6 @@ pub record HasForm (s : PlainStatement) : Type 0 where
 
 -- how many bytes a statement's tokens have: the first one, the symbols, the proof
 abbrev pub bytes_in : PlainStatement → ℕ
-bytes_in s = length s.first.text + sum_by (λ t. length t.text) s.symbols + sum_by (λ t. length t.text) s.proof
+bytes_in s =
+    length s.first.text + sum_by (λ t. length t.text) s.symbols
+    + sum_by (λ t. length t.text) s.proof

@@ -1,5 +1,6 @@
 -- Tokens of a file (the Metamath book, sections 4.1.1 and 4.1.2).
-use Rattle.std.specs.Prelude.{◌≡◌, ℕ, ◌+◌, ◌<◌, ◌≤◌, ◌==◌, ◌||◌, ◌&&◌, nat_le, List, [], ◌∷◌, length, Bool, true, false, if◌then◌else◌, slice_index}
+use Rattle.std.specs.Prelude.{◌≡◌, ℕ, ◌+◌, ◌<◌, ◌≤◌, ◌==◌, ◌||◌, ◌&&◌, nat_le, List, [], ◌∷◌}
+use Rattle.std.specs.Prelude.{length, Bool, true, false, if◌then◌else◌, slice_index}
 use Rattle.std.specs.List.{list_any, list_all}
 use Rattle.mm_text.specs.declared.token.Token.{Token}
 
@@ -34,7 +35,8 @@ IsLabel text = list_all is_label_byte text ≡ true
 abbrev pub HoldsNoDollar : List ℕ → Type 0
 HoldsNoDollar text = list_any (λ b. b == 36) text ≡ false
 
--- A byte at a place goes onto the front of the token that begins right after it, or is a token of its own.
+-- A byte at a place goes onto the front of the token that begins right after it, or is a token of
+-- its own.
 abbrev pub with_byte : ℕ → ℕ → ℕ → List PlainToken → List PlainToken
 with_byte file at b [] = record { text = b ∷ []; file = file; at = at } ∷ []
 with_byte file at b (t ∷ tokens) =
@@ -42,13 +44,16 @@ with_byte file at b (t ∷ tokens) =
     then record { text = b ∷ t.text; file = file; at = at } ∷ tokens
     else record { text = b ∷ []; file = file; at = at } ∷ t ∷ tokens
 
--- The tokens of the bytes of a file that begin at a place: its longest runs of bytes that aren't white space.
+-- The tokens of the bytes of a file that begin at a place: its longest runs of bytes that aren't
+-- white space.
 unfoldable pub tokens_from : ℕ → ℕ → List ℕ → List PlainToken
 tokens_from file at [] = []
 tokens_from file at (b ∷ bytes) =
-    if is_space b then tokens_from file (at + 1) bytes else with_byte file at b (tokens_from file (at + 1) bytes)
+    if is_space b then tokens_from file (at + 1) bytes
+    else with_byte file at b (tokens_from file (at + 1) bytes)
 
--- the bytes from one place up to another are a token: a longest run of bytes that aren't white space
+-- the bytes from one place up to another are a token: a longest run of bytes that aren't white
+-- space
 pub record IsToken (bytes : List ℕ) (start stop : ℕ) : Type 0 where
   pub some : start < stop
   pub within : stop ≤ length bytes

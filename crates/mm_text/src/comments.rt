@@ -5,7 +5,7 @@ ghost use Rattle.std.specs.Prelude.{slice_index, slice_range};
 ghost use Rattle.mm_text.specs.Token.{plain_token, is_space};
 ghost use Rattle.mm_text.specs.Items.{holds_mark, spells};
 ghost use Rattle.mm_text.specs.Mirror.Place.{is_quiet, IsLegalFront, IsPlace, IsSameFile, GoesOn};
-ghost use Rattle.mm_text.specs.Mirror.Place.{Closes, TakesOne, TakesShown, shown_at};
+ghost use Rattle.mm_text.specs.Mirror.Place.{EndsComment, TakesOne, TakesShown, shown_at};
 
 use crate::fault::TextRule;
 use crate::scan::{legal_end, skip_space, token_end, token_start};
@@ -173,7 +173,7 @@ fn comment_step<'a>(place: Place<'a>, begin: Token<'a>) -> Result<Comment, Wrong
 fn comment_end<'a>(mut place: Place<'a>, begin: Token<'a>) -> Result<usize, Wrong<'a>>
     requires place { IsPlace place }
     requires begin { begin.at < 1073741824 }
-    ensures { Closes place.entry (plain_token begin.entry) result }
+    ensures { EndsComment place.entry (plain_token begin.entry) result }
 {
     'parts: loop {
         match comment_step(place, begin)? {

@@ -1,5 +1,7 @@
--- How the program ends: with an answer on standard output and its status, or with a line on standard error.
-use Rattle.std.specs.Prelude.{◌≡◌, ◌≢◌, ℕ, ◌+◌, ◌≤◌, List, [], ◌∷◌, ◌++◌, Option, Contains, codes, string_bytes, ◌⊎◌}
+-- How the program ends: with an answer on standard output and its status, or with a line on
+-- standard error.
+use Rattle.std.specs.Prelude.{◌≡◌, ◌≢◌, ℕ, ◌+◌, ◌≤◌, List, [], ◌∷◌, ◌++◌, Option, Contains, codes}
+use Rattle.std.specs.Prelude.{string_bytes, ◌⊎◌}
 use Rattle.std.specs.List.{AllByRecursion}
 use Rattle.std.specs.Io.KnownBytes.{Appends}
 use Rattle.mm_text.specs.Files.{PlainFile, total_bytes}
@@ -20,19 +22,24 @@ use Rattle.mm_tool.specs.declared.folder.ArgumentFault.TheVariants as argument
 use Rattle.mm_tool.specs.declared.texts.RuleText.{RuleText}
 use Rattle.mm_tool.specs.declared.texts.Texts.{Texts}
 use Rattle.mm_tool.specs.declared.stop.Stop.{Stop}
-use Rattle.mm_tool.specs.declared.stop.Stop.TheVariants.{Usage, NotText, CannotRead, CannotWrite, Memory}
+use Rattle.mm_tool.specs.declared.stop.Stop.TheVariants.{Usage, NotText, CannotRead, CannotWrite}
+use Rattle.mm_tool.specs.declared.stop.Stop.TheVariants.{Memory}
 
 -- ---- devices
 
 -- The device took these bytes, and none of its calls failed.
-abbrev pub TakesWhole : {W : Type 0} → (W → Option (List ℕ)) → List ℕ → Counted W → Counted W → Type 0
+abbrev pub TakesWhole : {W : Type 0} → (W → Option (List ℕ)) → List ℕ → Counted W → Counted W
+    → Type 0
 TakesWhole contents text old new =
-    Appends (contents (inner_of old)) (contents (inner_of new)) text × (faults_of new ≡ faults_of old)
+    Appends (contents (inner_of old)) (contents (inner_of new)) text
+    × (faults_of new ≡ faults_of old)
 
 -- It took a proper beginning of these bytes, and one of its calls failed.
-abbrev pub BreaksOff : {W : Type 0} → (W → Option (List ℕ)) → List ℕ → Counted W → Counted W → Type 0
+abbrev pub BreaksOff : {W : Type 0} → (W → Option (List ℕ)) → List ℕ → Counted W → Counted W
+    → Type 0
 BreaksOff contents text old new =
-    AppendsBeginning (contents (inner_of old)) (contents (inner_of new)) text × (faults_of new ≡ faults_of old + 1)
+    AppendsBeginning (contents (inner_of old)) (contents (inner_of new)) text
+    × (faults_of new ≡ faults_of old + 1)
 
 -- It was not called.
 abbrev pub IsUntouched : {W : Type 0} → Counted W → Counted W → Type 0
@@ -40,17 +47,20 @@ IsUntouched old new = (inner_of new ≡ inner_of old) × (faults_of new ≡ faul
 
 -- ---- answers
 
--- This is the reply to the command over the files with these names, or the one that says that they hold too many bytes.
+-- This is the reply to the command over the files with these names, or the one that says that they
+-- hold too many bytes.
 abbrev pub IsReplyOver : (List ℕ → Option (List ℕ)) → Command → List Text → ℕ → List ℕ → ℕ → Type 0
 IsReplyOver holds command names max text status =
-    ((files : List PlainFile) × AreHeld holds names files × (total_bytes files ≤ max) × IsReplyTo files command text status)
+    ((files : List PlainFile) × AreHeld holds names files × (total_bytes files ≤ max)
+    × IsReplyTo files command text status)
     ⊎ (AreTooLong holds names max × (text ≡ codes "load F3\n") × (status ≡ 4))
 
 -- This is the text of the rule with the asked code; where none is asked for, the list of the codes.
 abbrev pub IsExplanation : Texts → List Text → List ℕ → Type 0
 IsExplanation texts [] text = text ≡ texts.codes.now
 IsExplanation texts (code ∷ others) text =
-    (rule : RuleText) × Contains texts.rules.now rule × (rule.code.now ≡ code) × (text ≡ rule.text.now)
+    (rule : RuleText) × Contains texts.rules.now rule × (rule.code.now ≡ code)
+    × (text ≡ rule.text.now)
 
 -- No rule has the asked code.
 abbrev pub IsUnknownCode : Texts → List Text → Type 0
@@ -68,7 +78,8 @@ abbrev pub AnswersWords : (List ℕ → Option (List ℕ)) → Texts → ℕ →
 AnswersWords holds texts max words text status =
     (AsksHelp words × (text ≡ texts.help.now) × (status ≡ 0))
     ⊎ ((AsksVersion words × (text ≡ texts.version.now) × (status ≡ 0))
-    ⊎ (((asked : List Text) × AsksExplain words asked × IsExplanation texts asked text × (status ≡ 0))
+    ⊎ (((asked : List Text) × AsksExplain words asked × IsExplanation texts asked text
+    × (status ≡ 0))
     ⊎ ((command : Command) × (names : List Text) × AsksRun words command names
     × IsReplyOver holds command names max text status)))
 
@@ -100,37 +111,47 @@ error_line (CannotRead name) = codes "mm: cannot read " ++ (name.now ++ codes "\
 error_line CannotWrite = codes "mm: cannot write\n"
 error_line Memory = codes "mm: out of memory\n"
 
--- The command over the files with these names ended so, and that is what standard output shows of it.
-abbrev pub StopsRun : {O : Type 0} → (O → Option (List ℕ)) → (List ℕ → Option (List ℕ)) → (List ℕ → Type 0) → Command → List Text → ℕ
+-- The command over the files with these names ended so, and that is what standard output shows of
+-- it.
+abbrev pub StopsRun : {O : Type 0} → (O → Option (List ℕ)) → (List ℕ → Option (List ℕ))
+    → (List ℕ → Type 0) → Command → List Text → ℕ
     → Stop → Counted O → Counted O → Type 0
 StopsRun contents holds may_fail command names max (CannotRead name) old new =
     IsUnreadable holds may_fail names max name.now × IsUntouched old new
 StopsRun contents holds may_fail command names max CannotWrite old new =
-    (text : List ℕ) × (status : ℕ) × IsReplyOver holds command names max text status × BreaksOff contents text old new
+    (text : List ℕ) × (status : ℕ) × IsReplyOver holds command names max text status
+    × BreaksOff contents text old new
 StopsRun contents holds may_fail command names max Memory old new = IsUntouched old new
 StopsRun contents holds may_fail command names max other old new = ⊥
 
 -- The words have no answer, and that is what standard output shows of it.
-abbrev pub Stops : {O : Type 0} → (O → Option (List ℕ)) → (List ℕ → Option (List ℕ)) → (List ℕ → Type 0) → Texts → ℕ → List Text
+abbrev pub Stops : {O : Type 0} → (O → Option (List ℕ)) → (List ℕ → Option (List ℕ))
+    → (List ℕ → Type 0) → Texts → ℕ → List Text
     → Stop → Counted O → Counted O → Type 0
 Stops contents holds may_fail texts max words (Usage text) old new =
-    (AreRefusedWords words ⊎ ((asked : List Text) × AsksExplain words asked × IsUnknownCode texts asked)) × IsUntouched old new
+    (AreRefusedWords words
+    ⊎ ((asked : List Text) × AsksExplain words asked × IsUnknownCode texts asked))
+    × IsUntouched old new
 Stops contents holds may_fail texts max words NotText old new = ⊥
 Stops contents holds may_fail texts max words (CannotRead name) old new =
-    (command : Command) × (names : List Text) × AsksRun words command names × IsUnreadable holds may_fail names max name.now
+    (command : Command) × (names : List Text) × AsksRun words command names
+    × IsUnreadable holds may_fail names max name.now
     × IsUntouched old new
 Stops contents holds may_fail texts max words CannotWrite old new =
-    (text : List ℕ) × (status : ℕ) × AnswersWords holds texts max words text status × BreaksOff contents text old new
+    (text : List ℕ) × (status : ℕ) × AnswersWords holds texts max words text status
+    × BreaksOff contents text old new
 Stops contents holds may_fail texts max words Memory old new = IsUntouched old new
 
 -- ---- ends
 
 -- The line was written, or a beginning of it, where a call failed.
-abbrev pub TellsLine : {E : Type 0} → (E → Option (List ℕ)) → List ℕ → Counted E → Counted E → Type 0
+abbrev pub TellsLine : {E : Type 0} → (E → Option (List ℕ)) → List ℕ → Counted E → Counted E
+    → Type 0
 TellsLine contents line old new = TakesWhole contents line old new ⊎ BreaksOff contents line old new
 
 -- The words were answered, with this status, and standard error is as it was.
-pub record EndsAnswered {O E : Type 0} (contents : O → Option (List ℕ)) (holds : List ℕ → Option (List ℕ)) (texts : Texts) (max : ℕ)
+pub record EndsAnswered {O E : Type 0} (contents : O → Option (List ℕ))
+    (holds : List ℕ → Option (List ℕ)) (texts : Texts) (max : ℕ)
     (words : List Text) (status : ℕ) (out out' : Counted O) (err err' : Counted E) : Type 0 where
   pub text : List ℕ
   pub answers : AnswersWords holds texts max words text status
@@ -138,8 +159,10 @@ pub record EndsAnswered {O E : Type 0} (contents : O → Option (List ℕ)) (hol
   pub quiet : IsUntouched err err'
 
 -- They weren't, for this reason, and standard error was told.
-pub record EndsStopped {O E : Type 0} (contents : O → Option (List ℕ)) (said : E → Option (List ℕ)) (holds : List ℕ → Option (List ℕ))
-    (may_fail : List ℕ → Type 0) (texts : Texts) (max : ℕ) (words : List Text) (status : ℕ) (out out' : Counted O) (err err' : Counted E)
+pub record EndsStopped {O E : Type 0} (contents : O → Option (List ℕ)) (said : E → Option (List ℕ))
+    (holds : List ℕ → Option (List ℕ))
+    (may_fail : List ℕ → Type 0) (texts : Texts) (max : ℕ) (words : List Text) (status : ℕ)
+    (out out' : Counted O) (err err' : Counted E)
     : Type 0 where
   pub stop : Stop
   pub stops : Stops contents holds may_fail texts max words stop out out'
@@ -147,14 +170,16 @@ pub record EndsStopped {O E : Type 0} (contents : O → Option (List ℕ)) (said
   pub told : TellsLine said (error_line stop) err err'
 
 -- How the program ends with these words.
-abbrev pub Ends : {O E : Type 0} → (O → Option (List ℕ)) → (E → Option (List ℕ)) → (List ℕ → Option (List ℕ)) → (List ℕ → Type 0) → Texts
+abbrev pub Ends : {O E : Type 0} → (O → Option (List ℕ)) → (E → Option (List ℕ))
+    → (List ℕ → Option (List ℕ)) → (List ℕ → Type 0) → Texts
     → ℕ → List Text → ℕ → Counted O → Counted O → Counted E → Counted E → Type 0
 Ends contents said holds may_fail texts max words status out out' err err' =
     EndsAnswered contents holds texts max words status out out' err err'
     ⊎ EndsStopped contents said holds may_fail texts max words status out out' err err'
 
 -- The words weren't all read: one may not be UTF-8, or memory was wanting.
-pub record EndsUnread {O E : Type 0} (said : E → Option (List ℕ)) (may_fail : Type 0) (status : ℕ) (out out' : Counted O)
+pub record EndsUnread {O E : Type 0} (said : E → Option (List ℕ)) (may_fail : Type 0) (status : ℕ)
+    (out out' : Counted O)
     (err err' : Counted E) : Type 0 where
   pub stop : Stop
   pub fault : ArgumentFault

@@ -1,11 +1,13 @@
--- What the words ask for, as `clap` defines which words a command line takes and what it finds in them. The first word is
--- the program's name.
+-- What the words ask for, as `clap` defines which words a command line takes and what it finds in
+-- them. The first word is the program's name.
 use Rattle.std.specs.Prelude.{◌≡◌, ◌≢◌, List, [], map, Some, true, codes, unwrap_or, ◌⊎◌}
 use Rattle.clap.specs.Lexer.{usize_max}
-use Rattle.clap.specs.Words.{App, Row, Rule, Text, IsAmong, all_of, fault_of, first_of, new_app, new_rule, subcommand_of, with_rule, with_subcommand}
+use Rattle.clap.specs.Words.{App, Row, Rule, Text, IsAmong, all_of, fault_of, first_of, new_app}
+use Rattle.clap.specs.Words.{new_rule, subcommand_of, with_rule, with_subcommand}
 use Rattle.clap.specs.declared.builder.action.ArgAction.TheVariants.{Append, Set}
 use Rattle.clap.specs.declared.error.kind.ErrorKind.{ErrorKind}
-use Rattle.clap.specs.declared.error.kind.ErrorKind.TheVariants.{DisplayHelp, DisplayVersion, OutOfMemory}
+use Rattle.clap.specs.declared.error.kind.ErrorKind.TheVariants.{DisplayHelp, DisplayVersion}
+use Rattle.clap.specs.declared.error.kind.ErrorKind.TheVariants.{OutOfMemory}
 use Rattle.mm_check.specs.declared.command.Command.{Command}
 use Rattle.mm_check.specs.declared.command.Command.TheVariants.{Check, Axioms, Show}
 use Rattle.mm_tool.specs.declared.words.Request.{Request}
@@ -71,10 +73,12 @@ bare_line = record (new_app (codes "mm")) {
 
 -- the commands that ask something of a database
 abbrev pub database_line : App
-database_line = with_subcommand (with_subcommand (with_subcommand bare_line check_line.top) axioms_line.top) show_line.top
+database_line =
+    with_subcommand
+    (with_subcommand (with_subcommand bare_line check_line.top) axioms_line.top) show_line.top
 
--- `mm check FILES..`, `mm axioms LABEL FILES..`, `mm show LABEL FILES..`, `mm explain [CODE]`, `mm help`, `mm --version`, and
--- everywhere `--help`
+-- `mm check FILES..`, `mm axioms LABEL FILES..`, `mm show LABEL FILES..`, `mm explain [CODE]`, `mm
+-- help`, `mm --version`, and everywhere `--help`
 abbrev pub command_line : App
 command_line = with_subcommand (with_subcommand database_line explain_line.top) help_line.top
 
@@ -88,7 +92,9 @@ Commands words name rows = IsAccepted words × (subcommand_of command_line words
 
 -- They ask for help.
 abbrev pub AsksHelp : List Text → Type 0
-AsksHelp words = IsAmong DisplayHelp (fault_of command_line words) ⊎ ((rows : List Row) × Commands words (codes "help") rows)
+AsksHelp words =
+    IsAmong DisplayHelp (fault_of command_line words)
+    ⊎ ((rows : List Row) × Commands words (codes "help") rows)
 
 -- They ask for the version.
 abbrev pub AsksVersion : List Text → Type 0
@@ -97,17 +103,21 @@ AsksVersion words = IsAmong DisplayVersion (fault_of command_line words)
 -- They ask to explain these codes: none, or one.
 abbrev pub AsksExplain : List Text → List Text → Type 0
 AsksExplain words asked =
-    (rows : List Row) × Commands words (codes "explain") rows × (unwrap_or (all_of (codes "CODE") rows) [] ≡ asked)
+    (rows : List Row) × Commands words (codes "explain") rows
+    × (unwrap_or (all_of (codes "CODE") rows) [] ≡ asked)
 
 -- They ask to check the files with these names.
 abbrev pub AsksCheck : List Text → List Text → Type 0
 AsksCheck words names =
-    (rows : List Row) × Commands words (codes "check") rows × (unwrap_or (all_of (codes "FILES") rows) [] ≡ names)
+    (rows : List Row) × Commands words (codes "check") rows
+    × (unwrap_or (all_of (codes "FILES") rows) [] ≡ names)
 
--- They ask, by the command with this name, about the theorem with this label in the files with these names.
+-- They ask, by the command with this name, about the theorem with this label in the files with
+-- these names.
 abbrev pub AsksQuestion : Text → List Text → Text → List Text → Type 0
 AsksQuestion name words label names =
-    (rows : List Row) × Commands words name rows × (unwrap_or (first_of (codes "LABEL") rows) [] ≡ label)
+    (rows : List Row) × Commands words name rows
+    × (unwrap_or (first_of (codes "LABEL") rows) [] ≡ label)
     × (unwrap_or (all_of (codes "FILES") rows) [] ≡ names)
 
 -- They ask to run this command over the files with these names.
@@ -126,13 +136,16 @@ Asks words (Run command names) = AsksRun words command (map (λ name. name.now) 
 -- The words are refused, by a fault that is no wish for help or for the version.
 abbrev pub IsFaulty : List Text → Type 0
 IsFaulty words =
-    (kind : ErrorKind) × IsAmong kind (fault_of command_line words) × (kind ≢ DisplayHelp) × (kind ≢ DisplayVersion)
+    (kind : ErrorKind) × IsAmong kind (fault_of command_line words) × (kind ≢ DisplayHelp)
+    × (kind ≢ DisplayVersion)
 
 -- They are accepted, but name no command.
 abbrev pub NamesNoCommand : List Text → Type 0
 NamesNoCommand words = IsAccepted words
-    × ((rows : List Row) → ¬ Commands words (codes "check") rows × ¬ Commands words (codes "axioms") rows
-    × ¬ Commands words (codes "show") rows × ¬ Commands words (codes "explain") rows × ¬ Commands words (codes "help") rows)
+    × ((rows : List Row)
+    → ¬ Commands words (codes "check") rows × ¬ Commands words (codes "axioms") rows
+    × ¬ Commands words (codes "show") rows × ¬ Commands words (codes "explain") rows
+    × ¬ Commands words (codes "help") rows)
 
 -- The words aren't understood.
 abbrev pub AreRefusedWords : List Text → Type 0
@@ -144,7 +157,8 @@ IsWordFault words (stop.Usage text) = AreRefusedWords words
 IsWordFault words stop.Memory = Unit {0}
 IsWordFault words other = ⊥
 
--- a request that stands in place of matches is one for help or for the version, which clap's answer says by its kind
+-- a request that stands in place of matches is one for help or for the version, which clap's answer
+-- says by its kind
 abbrev pub IsOfKind : ErrorKind → Request → Type 0
 IsOfKind kind Help = kind ≡ DisplayHelp
 IsOfKind kind Version = kind ≡ DisplayVersion
@@ -152,6 +166,7 @@ IsOfKind kind other = ⊥
 
 -- what clap's answer is where it is no such request
 abbrev pub IsFaultOfKind : ErrorKind → Stop → Type 0
-IsFaultOfKind kind (stop.Usage text) = (kind ≢ OutOfMemory) × (kind ≢ DisplayHelp) × (kind ≢ DisplayVersion)
+IsFaultOfKind kind (stop.Usage text) =
+    (kind ≢ OutOfMemory) × (kind ≢ DisplayHelp) × (kind ≢ DisplayVersion)
 IsFaultOfKind kind stop.Memory = Unit {0}
 IsFaultOfKind kind other = ⊥

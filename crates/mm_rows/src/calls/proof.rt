@@ -8,7 +8,7 @@ ghost use Rattle.mm_frame.specs.declared.answer.Taken.TheVariants.{Assertion};
 ghost use Rattle.mm_frame.specs.Sentence.{Sentence, sentence_in};
 ghost use Rattle.mm_frame.specs.Taken.{TakenAs};
 ghost use Rattle.mm_proof.specs.Steps.{IsProofNumber};
-ghost use Rattle.mm_proof.specs.CodeSteps.{texts};
+ghost use Rattle.mm_code.specs.Layout.{texts};
 
 use mm_frame::{Book, Found, LabelId, Sym, Taken};
 use mm_proof::{

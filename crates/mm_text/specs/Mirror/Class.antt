@@ -1,7 +1,10 @@
--- What the reader's code tells of a token by its bytes alone. Private clauses speak of this; public ones of `broken_outside`.
+-- What the reader's code tells of a token by its bytes alone. Private clauses speak of this; public
+-- ones of `broken_outside`.
 use Rattle.std.specs.Prelude.{◌≡◌, ℕ, List, codes, Some, ◌⊎◌}
 use Rattle.mm_text.specs.declared.class.Keyword.{Keyword}
-use Rattle.mm_text.specs.declared.class.Keyword.TheVariants.{Constants, Variables, Distinct, Floating, Essential, Axiom, Provable, Stop, Equals, Opening, Closing}
+use Rattle.mm_text.specs.declared.class.Keyword.TheVariants.{Constants, Variables, Distinct}
+use Rattle.mm_text.specs.declared.class.Keyword.TheVariants.{Floating, Essential, Axiom, Provable}
+use Rattle.mm_text.specs.declared.class.Keyword.TheVariants.{Stop, Equals, Opening, Closing}
 use Rattle.mm_text.specs.declared.class.Class.{Class}
 use Rattle.mm_text.specs.declared.class.Class.TheVariants as class
 use Rattle.mm_text.specs.Token.{HoldsNoDollar}

@@ -1,6 +1,8 @@
--- How the code goes through the files: the one that is read, and those that wait for the end of one that they include.
--- Private clauses speak of this.
-use Rattle.std.specs.Prelude.{◌≡◌, ℕ, ◌+◌, ◌<◌, ◌≤◌, ◌++◌, List, [], ◌∷◌, false, not, length, map, count_by, if◌then◌else◌, Option, Some, None, IfSome, Result, Ok, Err, vec_len, vec_capacity}
+-- How the code goes through the files: the one that is read, and those that wait for the end of one
+-- that they include. Private clauses speak of this.
+use Rattle.std.specs.Prelude.{◌≡◌, ℕ, ◌+◌, ◌<◌, ◌≤◌, ◌++◌, List, [], ◌∷◌, false, not, length, map}
+use Rattle.std.specs.Prelude.{count_by, if◌then◌else◌, Option, Some, None, IfSome, Result, Ok, Err}
+use Rattle.std.specs.Prelude.{vec_len, vec_capacity}
 use Rattle.std.specs.List.{AllByRecursion}
 use Rattle.mm_text.specs.declared.comments.Place.{Place}
 use Rattle.mm_text.specs.declared.comments.Wrong.{Wrong}
@@ -13,7 +15,8 @@ use Rattle.mm_text.specs.declared.class.Class.TheVariants as class
 use Rattle.mm_text.specs.Token.{PlainToken, plain_token}
 use Rattle.mm_text.specs.Files.{plain_file, total_bytes}
 use Rattle.mm_text.specs.Items as items
-use Rattle.mm_text.specs.Items.{Item, Plain, Inclusion, End, Piece, Met, Named, Spot, Outside, Naming, Closing, Clear, pieces, put_in, file_number}
+use Rattle.mm_text.specs.Items.{Item, Plain, Inclusion, End, Piece, Met, Named, Spot, Outside}
+use Rattle.mm_text.specs.Items.{Naming, Closing, Clear, pieces, put_in, file_number}
 use Rattle.mm_text.specs.Mirror.Place.{IsPlace, IsClear, shown_at}
 use Rattle.mm_text.specs.Mirror.Next.{IsOfClass}
 
@@ -32,28 +35,34 @@ pieces_with t class.Word rest = Met (Plain t) ∷ rest
 -- the first piece of a file is taken, outside inclusions
 abbrev pub TakesPiece : Place → Next → Place → Type 0
 TakesPiece old (next.Token t kind) new =
-    (pieces old.file Outside (shown_at old) ≡ pieces_with (plain_token t) kind (pieces old.file Outside (shown_at new)))
+    (pieces old.file Outside (shown_at old)
+    ≡ pieces_with (plain_token t) kind (pieces old.file Outside (shown_at new)))
     × IsOfClass (plain_token t) kind × (t.at < 1073741824)
 TakesPiece old (next.Inclusion t) new =
-    (pieces old.file Outside (shown_at old) ≡ Met (Inclusion (plain_token t)) ∷ pieces old.file (Naming (plain_token t)) (shown_at new))
+    (pieces old.file Outside (shown_at old)
+    ≡ Met (Inclusion (plain_token t)) ∷ pieces old.file (Naming (plain_token t)) (shown_at new))
     × (t.at < 1073741824)
 TakesPiece old (next.End file) new = pieces old.file Outside (shown_at old) ≡ Met (End file) ∷ []
 TakesPiece old next.Nothing new = ⊥
 
--- the first token in an inclusion is taken; where that can't be, it is a fault before the name and after it
+-- the first token in an inclusion is taken; where that can't be, it is a fault before the name and
+-- after it
 abbrev pub TakesInner : PlainToken → Place → Result Token Wrong → Place → Type 0
 TakesInner begin old (Ok t) new = (shown_at old ≡ Clear (plain_token t) ∷ shown_at new) × IsClear t
 TakesInner begin old (Err w) new =
     (pieces old.file (Naming begin) (shown_at old) ≡ Met (wrong_item w) ∷ [])
-    × ((name : PlainToken) → pieces old.file (Closing begin name) (shown_at old) ≡ Met (wrong_item w) ∷ [])
+    × ((name : PlainToken)
+    → pieces old.file (Closing begin name) (shown_at old) ≡ Met (wrong_item w) ∷ [])
     × (w.token.at < 1073741824)
 
 -- the rest of an inclusion is taken, up to its `$]`
 abbrev pub TakesName : PlainToken → Place → Result Token Wrong → Place → Type 0
 TakesName begin old (Ok name) new =
-    (pieces old.file (Naming begin) (shown_at old) ≡ Named (plain_token name) ∷ pieces old.file Outside (shown_at new)) × (name.at < 1073741824)
+    (pieces old.file (Naming begin) (shown_at old)
+    ≡ Named (plain_token name) ∷ pieces old.file Outside (shown_at new)) × (name.at < 1073741824)
 TakesName begin old (Err w) new =
-    (pieces old.file (Naming begin) (shown_at old) ≡ Met (wrong_item w) ∷ []) × (w.token.at < 1073741824)
+    (pieces old.file (Naming begin) (shown_at old) ≡ Met (wrong_item w) ∷ [])
+    × (w.token.at < 1073741824)
 
 -- ---- all files
 
@@ -73,7 +82,8 @@ pieces_left n = pieces n.place.file (spot_of n.naming) (shown_at n.place) ++ wai
 
 -- the items of pieces, with the files that weren't named yet put in
 abbrev pub put_into : Nest → List Piece → List Item
-put_into n rest = put_in (map plain_file n.files.now) (count_by not n.named.items) n.named.items rest
+put_into n rest =
+    put_in (map plain_file n.files.now) (count_by not n.named.items) n.named.items rest
 
 -- the items after the end of the file that is read
 abbrev pub items_after : Nest → List Item
@@ -84,7 +94,8 @@ abbrev pub items_left : Nest → List Item
 items_left n =
     if n.is_over then [] else put_into n (pieces_left n)
 
--- What holds of the fields. For each file that wasn't named yet there is room to keep the place after its name.
+-- What holds of the fields. For each file that wasn't named yet there is room to keep the place
+-- after its name.
 pub record IsNest (n : Nest) : Type 0 where
   pub place : IsPlace n.place
   pub waits : AllByRecursion IsPlace n.«open».items
@@ -96,12 +107,16 @@ pub record IsNest (n : Nest) : Type 0 where
 
 -- the file with a number is gone into, where it is named before the rest of a file
 pub record Enters (old : Nest) (place : Place) (number : ℕ) (new : Nest) : Type 0 where
-  pub left : (name : PlainToken) → file_number (map plain_file old.files.now) name.text ≡ Some number
-      → items_left new ≡ put_into old (Named name ∷ pieces place.file Outside (shown_at place) ++ waiting old.«open».items)
+  pub left : (name : PlainToken)
+      → file_number (map plain_file old.files.now) name.text ≡ Some number
+      → items_left new
+      ≡ put_into old
+      (Named name ∷ pieces place.file Outside (shown_at place) ++ waiting old.«open».items)
   pub naming : new.naming ≡ None
   pub over : new.is_over ≡ false
 
 -- what finishing an inclusion comes to
 abbrev pub Includes : Nest → Option Wrong → Nest → Type 0
-Includes old None new = (items_left new ≡ items_left old) × (new.naming ≡ None) × (new.is_over ≡ false)
+Includes old None new =
+    (items_left new ≡ items_left old) × (new.naming ≡ None) × (new.is_over ≡ false)
 Includes old (Some w) new = (items_left old ≡ wrong_item w ∷ []) × (w.token.at < 1073741824)

@@ -25,7 +25,8 @@ IsOfClass t (class.Keyword keyword) = t.text ≡ keyword_bytes keyword
 IsOfClass t class.Word = HoldsNoDollar t.text
 
 -- the next token is the first of the items, and those after it are left
-pub record TakesToken (old : List Item) (t : PlainToken) (kind : Class) (new : List Item) : Type 0 where
+pub record TakesToken (old : List Item) (t : PlainToken) (kind : Class)
+    (new : List Item) : Type 0 where
   pub first : old ≡ items_with t kind new
   pub text : IsOfClass t kind
   pub at : t.at < 1073741824
@@ -37,9 +38,11 @@ TakesItem old (next.Inclusion t) new = old ≡ Inclusion (plain_token t) ∷ new
 TakesItem old (next.End file) new = old ≡ End file ∷ new
 TakesItem old next.Nothing new = (old ≡ []) × (new ≡ [])
 
--- The items of the files are left, and no rule is broken by the files as a whole; or one is, or memory is wanting.
+-- The items of the files are left, and no rule is broken by the files as a whole; or one is, or
+-- memory is wanting.
 abbrev pub IsFirstCursor : List PlainFile → Result (List Item) TextFault → Type 0
-IsFirstCursor files (Ok left) = (left ≡ items files) × ((rule : LoadRule) → ¬ (BreaksLoad files rule))
+IsFirstCursor files (Ok left) =
+    (left ≡ items files) × ((rule : LoadRule) → ¬ (BreaksLoad files rule))
 IsFirstCursor files (Err (Load rule)) = BreaksLoad files rule
 IsFirstCursor files (Err Memory) = ⊤
 IsFirstCursor files (Err (Fault rule file at statement label)) = ⊥

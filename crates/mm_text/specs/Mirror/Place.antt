@@ -1,6 +1,8 @@
--- How the code goes through a file: from a place on, knowing where the first byte stands that no token may hold.
--- Private clauses speak of this.
-use Rattle.std.specs.Prelude.{◌≡◌, ℕ, ◌<◌, ◌≤◌, ◌||◌, List, [], ◌∷◌, length, drop, ◌&&◌, ◌==◌, not, Bool, true, false, codes, Option, Some, None, Result, Ok, Err, slice_index}
+-- How the code goes through a file: from a place on, knowing where the first byte stands that no
+-- token may hold. Private clauses speak of this.
+use Rattle.std.specs.Prelude.{◌≡◌, ℕ, ◌<◌, ◌≤◌, ◌||◌, List, [], ◌∷◌, length, drop, ◌&&◌, ◌==◌, not}
+use Rattle.std.specs.Prelude.{Bool, true, false, codes, Option, Some, None, Result, Ok, Err}
+use Rattle.std.specs.Prelude.{slice_index}
 use Rattle.mm_text.specs.declared.comments.Place.{Place}
 use Rattle.mm_text.specs.declared.comments.Comment.{Comment}
 use Rattle.mm_text.specs.declared.comments.Comment.TheVariants.{Open, Closed}
@@ -63,18 +65,21 @@ pub record IsClear (t : Token) : Type 0 where
 
 -- what a part of a comment comes to
 abbrev pub GoesOn : Place → PlainToken → Result Comment Wrong → Type 0
-GoesOn p begin (Ok (Open after)) = IsLater p after × (comment_at begin p ≡ comment_at begin (place_at p after))
-GoesOn p begin (Ok (Closed after)) = IsLater p after × (comment_at begin p ≡ shown_at (place_at p after))
+GoesOn p begin (Ok (Open after)) =
+    IsLater p after × (comment_at begin p ≡ comment_at begin (place_at p after))
+GoesOn p begin (Ok (Closed after)) =
+    IsLater p after × (comment_at begin p ≡ shown_at (place_at p after))
 GoesOn p begin (Err w) = IsBroken (comment_at begin p) w
 
 -- what the whole comment comes to
-abbrev pub Closes : Place → PlainToken → Result ℕ Wrong → Type 0
-Closes p begin (Ok after) = IsLater p after × (comment_at begin p ≡ shown_at (place_at p after))
-Closes p begin (Err w) = IsBroken (comment_at begin p) w
+abbrev pub EndsComment : Place → PlainToken → Result ℕ Wrong → Type 0
+EndsComment p begin (Ok after) = IsLater p after × (comment_at begin p ≡ shown_at (place_at p after))
+EndsComment p begin (Err w) = IsBroken (comment_at begin p) w
 
 -- one token or comment is taken
 abbrev pub TakesOne : Place → Result Found Wrong → Place → Type 0
-TakesOne old (Ok (found.Token t)) new = (shown_at old ≡ Clear (plain_token t) ∷ shown_at new) × IsClear t
+TakesOne old (Ok (found.Token t)) new =
+    (shown_at old ≡ Clear (plain_token t) ∷ shown_at new) × IsClear t
 TakesOne old (Ok found.Comment) new = (old.at < new.at) × (shown_at old ≡ shown_at new)
 TakesOne old (Ok found.End) new = shown_at old ≡ []
 TakesOne old (Err w) new = IsBroken (shown_at old) w

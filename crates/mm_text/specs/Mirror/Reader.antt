@@ -1,6 +1,9 @@
--- The plain reader that the code computes: one token after the other, with what is unfinished. That it gives the reading
--- of the files is proved apart from the code; public clauses speak of the reading.
-use Rattle.std.specs.Prelude.{ℕ, ◌+◌, ◌==◌, nat_eq, nat_le, List, [], ◌∷◌, ◌++◌, length, Bool, true, false, if◌then◌else◌, codes, drop, ◌&&◌, Option, Some, None, option_map}
+-- The plain reader that the code computes: one token after the other, with what is unfinished. That
+-- it gives the reading of the files is proved apart from the code; public clauses speak of the
+-- reading.
+use Rattle.std.specs.Prelude.{ℕ, ◌+◌, ◌==◌, nat_eq, nat_le, List, [], ◌∷◌, ◌++◌, length, Bool, true}
+use Rattle.std.specs.Prelude.{false, if◌then◌else◌, codes, drop, ◌&&◌, Option, Some, None}
+use Rattle.std.specs.Prelude.{option_map}
 use Rattle.std.specs.Option.{is_none}
 use Rattle.std.specs.List.{list_any, list_all}
 use Rattle.std.specs.Cmp.Lexicographic.{pointwise}
@@ -8,13 +11,16 @@ use Rattle.mm_text.specs.declared.fault.TextRule.{TextRule}
 use Rattle.mm_text.specs.declared.fault.TextRule.TheVariants.{X6, X8, S1, S2, S3, S4, S5, S6, S7}
 use Rattle.mm_text.specs.declared.scope.OpenBlock.{OpenBlock}
 use Rattle.mm_text.specs.declared.statement.Kind.{Kind}
-use Rattle.mm_text.specs.declared.statement.Kind.TheVariants.{Constants, Variables, Distinct, Floating, Essential, Axiom, Provable, Opening, Closing}
+use Rattle.mm_text.specs.declared.statement.Kind.TheVariants.{Constants, Variables, Distinct}
+use Rattle.mm_text.specs.declared.statement.Kind.TheVariants.{Floating, Essential, Axiom, Provable}
+use Rattle.mm_text.specs.declared.statement.Kind.TheVariants.{Opening, Closing}
 use Rattle.mm_text.specs.Token.{PlainToken, is_label_byte}
-use Rattle.mm_text.specs.Statement.{PlainStatement, keywords}
+use Rattle.mm_text.specs.Statement.{PlainStatement, keywords, is_provable}
 use Rattle.mm_text.specs.Items.{Item, Plain, Wrong, Inclusion, End}
 use Rattle.mm_text.specs.Reading.{PlainFault}
 
--- the statement of which tokens were read: none yet, a label, its symbols so far, or its proof so far
+-- the statement of which tokens were read: none yet, a label, its symbols so far, or its proof so
+-- far
 pub data Part : Type 0 where
   Between : Part
   Labelled : (label : PlainToken) → Part
@@ -37,7 +43,8 @@ is_keyword text = list_any (same_text text) keywords
 
 -- a statement with no symbols yet
 abbrev pub bare_statement : Kind → PlainToken → Option PlainToken → PlainStatement
-bare_statement kind first label = record { kind = kind; first = first; label = label; symbols = []; proof = []; span = (0, 0) }
+bare_statement kind first label =
+    record { kind = kind; first = first; label = label; symbols = []; proof = []; span = (0, 0) }
 
 -- the token that begins a statement
 abbrev pub at_start : PlainToken → Step
@@ -54,9 +61,12 @@ at_start t =
 abbrev pub after_label : PlainToken → PlainToken → Step
 after_label label t =
     if same_text t.text (codes "$f") then More (InBody (bare_statement Floating label (Some label)))
-    else (if same_text t.text (codes "$e") then More (InBody (bare_statement Essential label (Some label)))
-    else (if same_text t.text (codes "$a") then More (InBody (bare_statement Axiom label (Some label)))
-    else (if same_text t.text (codes "$p") then More (InBody (bare_statement Provable label (Some label)))
+    else (if same_text t.text (codes "$e") then More
+    (InBody (bare_statement Essential label (Some label)))
+    else (if same_text t.text (codes "$a") then More
+    (InBody (bare_statement Axiom label (Some label)))
+    else (if same_text t.text (codes "$p") then More
+    (InBody (bare_statement Provable label (Some label)))
     else Faulty S3)))
 
 -- whether a statement of a kind may have so many symbols
@@ -76,26 +86,25 @@ abbrev pub is_full : Kind → ℕ → Bool
 is_full Floating n = n == 2
 is_full kind n = false
 
-abbrev pub is_provable : Kind → Bool
-is_provable Provable = true
-is_provable kind = false
-
 -- the token after symbols
 abbrev pub in_body : PlainStatement → PlainToken → Step
 in_body s t =
     if is_keyword t.text
     then (if same_text t.text (if is_provable s.kind then codes "$=" else codes "$.")
     then (if has_count s.kind (length s.symbols)
-    then (if is_provable s.kind then More (InProof (record s { span = (t.at + 2, 0) })) else Whole s)
+    then (if is_provable s.kind then More (InProof (record s { span = (t.at + 2, 0) }))
+    else Whole s)
     else Faulty S5)
     else Faulty S4)
-    else (if is_full s.kind (length s.symbols) then Faulty S5 else More (InBody (record s { symbols = s.symbols ++ t ∷ [] })))
+    else (if is_full s.kind (length s.symbols) then Faulty S5
+    else More (InBody (record s { symbols = s.symbols ++ t ∷ [] })))
 
 -- the token after steps of a proof
 abbrev pub in_proof : PlainStatement → PlainToken → Step
 in_proof s t =
     if is_keyword t.text
-    then (if same_text t.text (codes "$.") then Whole (record s { span = (s.span.0, t.at) }) else Faulty S4)
+    then (if same_text t.text (codes "$.") then Whole (record s { span = (s.span.0, t.at) })
+    else Faulty S4)
     else More (InProof (record s { proof = s.proof ++ t ∷ [] }))
 
 unfoldable pub step : Part → PlainToken → Step
@@ -128,7 +137,8 @@ only_ending ending = record { statements = []; ending = ending }
 abbrev pub with_statement : PlainStatement → PlainReading → PlainReading
 with_statement s reading = record { statements = s ∷ reading.statements; ending = reading.ending }
 
--- what is kept of the statements that were read: how many they are, and the open blocks, the innermost one first
+-- what is kept of the statements that were read: how many they are, and the open blocks, the
+-- innermost one first
 pub record PlainScope : Type 0 where
   pub count : ℕ
   pub blocks : List OpenBlock
@@ -142,7 +152,11 @@ scope_after_statement scope = record { count = scope.count + 1; blocks = scope.b
 
 abbrev pub scope_after_opening : PlainScope → PlainToken → PlainScope
 scope_after_opening scope t =
-    record { count = scope.count + 1; blocks = record { file = t.file; at = t.at; statement = scope.count + 1 } ∷ scope.blocks }
+    record {
+      count = scope.count + 1;
+      blocks =
+          record { file = t.file; at = t.at; statement = scope.count + 1 } ∷ scope.blocks;
+    }
 
 abbrev pub scope_after_closing : PlainScope → PlainScope
 scope_after_closing scope = record { count = scope.count + 1; blocks = drop 1 scope.blocks }
@@ -150,7 +164,14 @@ scope_after_closing scope = record { count = scope.count + 1; blocks = drop 1 sc
 -- the fault of a token after what is unfinished
 abbrev pub fault_in : PlainScope → Part → TextRule → PlainToken → PlainFault
 fault_in scope part rule t =
-    record { rule = rule; file = t.file; at = t.at; statement = scope.count + 1; label = part_label part }
+    record {
+      rule = rule;
+      file = t.file;
+      at = t.at;
+      statement = scope.count + 1;
+      label =
+          part_label part;
+    }
 
 -- the fault of a file that ends in what is unfinished
 abbrev pub unfinished_fault : PlainScope → Part → Option PlainFault
@@ -160,12 +181,23 @@ unfinished_fault scope part = option_map (fault_in scope part X8) (part_first pa
 abbrev pub block_fault : List OpenBlock → Option PlainFault
 block_fault [] = None
 block_fault (block ∷ blocks) =
-    Some (record { rule = S7; file = block.file; at = block.at; statement = block.statement; label = None })
+    Some (record {
+      rule = S7;
+      file = block.file;
+      at = block.at;
+      statement = block.statement;
+      label =
+          None;
+    })
 
 -- the fault of a file that ends
 abbrev pub end_fault : PlainScope → Part → ℕ → Option PlainFault
 end_fault scope part file =
-    elim (unfinished_fault scope part) [ Some fault ↦ Some fault | None ↦ if file == 0 then block_fault scope.blocks else None ]
+    elim (unfinished_fault scope part) [
+      | Some fault ↦ Some fault
+      | None ↦
+          if file == 0 then block_fault scope.blocks else None
+    ]
 
 abbrev pub has_none : List OpenBlock → Bool
 has_none [] = true
@@ -177,7 +209,8 @@ is_outside scope part = is_none (part_first part) && has_none scope.blocks
 
 -- the fault of an inclusion
 abbrev pub inclusion_fault : PlainScope → Part → PlainToken → Option PlainFault
-inclusion_fault scope part t = if is_outside scope part then None else Some (fault_in scope part X6 t)
+inclusion_fault scope part t =
+    if is_outside scope part then None else Some (fault_in scope part X6 t)
 
 -- what follows, where there is no fault
 abbrev pub unless : Option PlainFault → PlainReading → PlainReading
@@ -187,16 +220,21 @@ unless (Some fault) reading = only_ending (Some fault)
 -- what the items that are left give, after these statements and what is unfinished
 unfoldable pub reading_of : PlainScope → Part → List Item → PlainReading
 reading_of scope part [] = only_ending (unfinished_fault scope part)
-reading_of scope part (End file ∷ items) = unless (end_fault scope part file) (reading_of scope part items)
+reading_of scope part (End file ∷ items) =
+    unless (end_fault scope part file) (reading_of scope part items)
 reading_of scope part (Wrong rule t ∷ items) = only_ending (Some (fault_in scope part rule t))
-reading_of scope part (Inclusion t ∷ items) = unless (inclusion_fault scope part t) (reading_of scope part items)
+reading_of scope part (Inclusion t ∷ items) =
+    unless (inclusion_fault scope part t) (reading_of scope part items)
 reading_of scope part (Plain t ∷ items) = elim (step part t) [
   | More next ↦ reading_of scope next items
   | Whole s ↦ with_statement s (reading_of (scope_after_statement scope) Between items)
-  | Opened ↦ with_statement (bare_statement Opening t None) (reading_of (scope_after_opening scope t) Between items)
+  | Opened ↦
+      with_statement (bare_statement Opening t None)
+      (reading_of (scope_after_opening scope t) Between items)
   | Closed ↦
       if has_none scope.blocks
       then only_ending (Some (fault_in scope part S6 t))
-      else with_statement (bare_statement Closing t None) (reading_of (scope_after_closing scope) Between items)
+      else with_statement (bare_statement Closing t None)
+      (reading_of (scope_after_closing scope) Between items)
   | Faulty rule ↦ only_ending (Some (fault_in scope part rule t))
 ]

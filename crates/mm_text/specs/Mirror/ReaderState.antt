@@ -1,5 +1,7 @@
--- What the fields of a reader say of what it has still to give. Private clauses and the reader's invariant speak of this.
-use Rattle.std.specs.Prelude.{◌≡◌, ℕ, ◌+◌, ◌≤◌, length, List, [], Bool, true, false, Some, None, Result, Ok, Err, map}
+-- What the fields of a reader say of what it has still to give. Private clauses and the reader's
+-- invariant speak of this.
+use Rattle.std.specs.Prelude.{◌≡◌, ℕ, ◌+◌, ◌≤◌, length, List, [], Bool, true, false, Some, None}
+use Rattle.std.specs.Prelude.{Result, Ok, Err, map}
 use Rattle.mm_text.specs.declared.fault.TextFault.{TextFault}
 use Rattle.mm_text.specs.declared.fault.TextFault.TheVariants.{Load, Fault, Memory}
 use Rattle.mm_text.specs.declared.statements.State.{State}
@@ -15,16 +17,36 @@ use Rattle.mm_text.specs.Mirror.Steps.{fault_of, plain_scope, GivesStatement}
 
 -- what is left in a state, where reading on would give this
 abbrev pub remaining_in : State → List PlainFile → PlainReading → Remaining
-remaining_in Reading files reading = record { files = files; statements = reading.statements; ending = reading.ending; refused = false; told = false }
-remaining_in Ended files reading = record { files = files; statements = []; ending = None; refused = false; told = true }
+remaining_in Reading files reading =
+    record {
+      files = files;
+      statements = reading.statements;
+      ending = reading.ending;
+      refused =
+          false;
+      told = false;
+    }
+remaining_in Ended files reading =
+    record { files = files; statements = []; ending = None; refused = false; told = true }
 remaining_in (Failed (Fault rule file at statement label)) files reading =
-    record { files = files; statements = []; ending = Some (fault_of rule file at statement label); refused = false; told = true }
-remaining_in (Failed Memory) files reading = record { files = files; statements = []; ending = None; refused = true; told = true }
-remaining_in (Failed (Load rule)) files reading = record { files = files; statements = []; ending = None; refused = true; told = true }
+    record {
+      files = files;
+      statements = [];
+      ending =
+          Some (fault_of rule file at statement label);
+      refused = false;
+      told = true;
+    }
+remaining_in (Failed Memory) files reading =
+    record { files = files; statements = []; ending = None; refused = true; told = true }
+remaining_in (Failed (Load rule)) files reading =
+    record { files = files; statements = []; ending = None; refused = true; told = true }
 
 -- what a reader has still to give
 abbrev pub remaining_of : Inside → Remaining
-remaining_of s = remaining_in s.state (map plain_file s.files.now) (reading_of (plain_scope s.scope) Between s.cursor)
+remaining_of s =
+    remaining_in s.state (map plain_file s.files.now)
+    (reading_of (plain_scope s.scope) Between s.cursor)
 
 -- a fault that a reader may answer: the files are judged as a whole before there is one
 abbrev pub IsAnswerable : State → Type 0
@@ -40,15 +62,16 @@ AreFew Reading count left = count + left ≤ 1073741824
 AreFew Ended count left = Unit {0}
 AreFew (Failed fault) count left = Unit {0}
 
--- What holds of the fields of each reader: what is left to give is formed and stands in the files, and the numbers of the
--- statements stay small.
+-- What holds of the fields of each reader: what is left to give is formed and stands in the files,
+-- and the numbers of the statements stay small.
 pub record IsReader (s : Inside) : Type 0 where
   pub answerable : IsAnswerable s.state
   pub formed_in_place : AreFormedInPlace (map plain_file s.files.now) (remaining_of s).statements
   pub few : AreFew s.state s.scope.count (length (remaining_of s).statements)
 
 -- what a call answers in a state
-abbrev pub AnswersIn : State → PlainScope → List Item → Result Bool TextFault → PlainStatement → PlainScope → List Item → Type 0
+abbrev pub AnswersIn : State → PlainScope → List Item → Result Bool TextFault → PlainStatement
+    → PlainScope → List Item → Type 0
 AnswersIn Reading scope old r into later new = GivesStatement scope old r into later new
 AnswersIn Ended scope old r into later new = r ≡ Ok false
 AnswersIn (Failed fault) scope old r into later new = r ≡ Err fault

@@ -1,10 +1,10 @@
 -- The statement that is sought is left, and what is left was left at first.
 use Rattle.std.proofs.Common.{length}
-use Rattle.mm_check.specs.CodeShown.{IsSought}
+use Rattle.mm_check.specs.CodeShown.{IsStillLeft}
 use Rattle.mm_check.proofs.reread.seek.Given as goal
 
 abbrev pub invariant-loop-into : goal.invariant-loop-into
-invariant-loop-into l = IsSought l.label l.fn.statements l.statements
+invariant-loop-into l = IsStillLeft l.label l.fn.statements l.statements
 
 abbrev pub decreases-loop-into : goal.decreases-loop-into
 decreases-loop-into l = length l.statements.statements

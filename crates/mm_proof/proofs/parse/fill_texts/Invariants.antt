@@ -1,5 +1,6 @@
 use Rattle.std.proofs.Common.{◌≡◌, take}
-use Rattle.mm_proof.specs.CodeSteps.{texts, token_texts}
+use Rattle.mm_proof.specs.CodeSteps.{token_texts}
+use Rattle.mm_code.specs.Layout.{texts}
 use Rattle.mm_proof.proofs.parse.fill_texts.Given as goal
 
 abbrev pub invariant-loop-token : goal.invariant-loop-token

@@ -3,7 +3,7 @@ use Rattle.std.proofs.Common.{◌≡◌, ◌↔◌, ℕ, ◌<◌, List, length, 
 use Rattle.mm_frame.specs.Sentence.{Sentence}
 use Rattle.mm_check.specs.Conclusion.{Conclusion, ProofUses, labels_in}
 use Rattle.mm_check.specs.Rests.{AreInOrder, RestsOn}
-use Rattle.mm_check.specs.Ranges.{ids_in}
+use Rattle.mm_proof.specs.CodeSteps.{ids_in}
 use Rattle.mm_check.specs.Marks.{IsMarked, UsedIn, IsAxiomNumber}
 use Rattle.mm_check.proofs.Asked.{report_of, all_within, all_among, axiom_within}
 use Rattle.mm_check.proofs.checked.Checked.axioms.Goals as goal

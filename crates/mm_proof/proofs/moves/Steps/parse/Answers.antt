@@ -5,7 +5,8 @@ use Rattle.mm_proof.specs.declared.fault.ProofFault.TheVariants.{Rule}
 use Rattle.mm_proof.specs.Answer.{OnRule}
 use Rattle.mm_proof.specs.Proof.{IsWholeFault}
 use Rattle.mm_proof.specs.Parsed.{OfProof}
-use Rattle.mm_proof.specs.CodeSteps.{texts, token_texts}
+use Rattle.mm_proof.specs.CodeSteps.{token_texts}
+use Rattle.mm_code.specs.Layout.{texts}
 use Rattle.mm_proof.proofs.moves.Steps.parse.Goals as goal
 
 pub frame-requires : goal.frame-requires

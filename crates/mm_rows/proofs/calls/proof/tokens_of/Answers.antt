@@ -5,7 +5,7 @@ use Rattle.std.proofs.lemmas.List.Sums.{sum_by-cons}
 use Rattle.mm_text.specs.declared.token.Token.{Token}
 use Rattle.mm_text.specs.Token.{PlainToken, plain_token}
 use Rattle.mm_text.specs.Statement.{PlainStatement, plain_statement, HasForm, bytes_in}
-use Rattle.mm_proof.specs.CodeSteps.{texts}
+use Rattle.mm_code.specs.Layout.{texts}
 use Rattle.mm_rows.proofs.calls.proof.tokens_of.Goals as goal
 
 plain_texts : (tokens : List Token) → map (λ (t : Token). t.text.now) tokens ≡ map (λ (t : PlainToken). t.text) (map plain_token tokens)
