@@ -33,8 +33,12 @@ counted_alike : (p : Kind → Bool) (statements : List PlainStatement)
 counted_alike p [] = refl
 counted_alike p (s ∷ statements) =
     let rest = counted_alike p statements in
-    omega (arith, rest, sum_by-cons (λ (t : Sentence). cond (p t.kind) 1 0) (sentence_of s) (sentences statements),
-    sum_by-cons (λ (t : PlainStatement). cond (p t.kind) 1 0) s statements)
+    omega (
+      arith,
+      rest,
+      sum_by-cons (λ (t : Sentence). cond (p t.kind) 1 0) (sentence_of s) (sentences statements),
+      sum_by-cons (λ (t : PlainStatement). cond (p t.kind) 1 0) s statements,
+    )
 
 take_next : {X : Type 0} (xs : List X) (x : X) (ys : List X) → take (suc (length xs)) (xs ++ x ∷ ys) ≡ xs ++ x ∷ []
 take_next [] x ys = refl

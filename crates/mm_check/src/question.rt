@@ -6,7 +6,8 @@ ghost use Rattle.std.specs.List.{AllByRecursion};
 ghost use Rattle.mm_text.specs.Statement.{PlainStatement};
 ghost use Rattle.mm_text.specs.Files.{plain_file};
 ghost use Rattle.mm_text.specs.Reading.{Reads};
-ghost use Rattle.mm_check.specs.Answer.{verdict_of_answer, labels_at, IsKeptOf};
+ghost use Rattle.mm_check.specs.Answer.{verdict_of_answer, labels_at, IsKeptOf, IsVerdict};
+ghost use Rattle.mm_check.specs.Answer.{KeepsLabels, KeepsUses, KeepsFiles};
 ghost use Rattle.mm_check.specs.Verdict.{labels_of};
 ghost use Rattle.mm_check.specs.Status.{number_of};
 ghost use Rattle.mm_check.specs.Reply.{code_of, line_with, lines_of, status_of as status_at, Tells};
@@ -166,7 +167,30 @@ pub(crate) fn check_reply(alloc: Global, files: &[File]) -> Result<Reply, AllocE
     ensures { IfOk result (λ reply.
         IsReply (map plain_file files.now) reply.text.items (number_of reply.status)) }
 {
-    verdict_reply(alloc, files, &check(alloc, files))
+    let answer = check(alloc, files);
+    let reply = verdict_reply(alloc, files, &answer);
+    drop(answer);
+    reply
+}
+
+/// The reply to the question what the theorem with a label rests on, where this is the answer of
+/// `check`.
+fn axioms_or_verdict(
+    alloc: Global,
+    files: &[File],
+    answer: &Result<Checked, CheckFault>,
+    label: &[u8],
+) -> Result<Reply, AllocError>
+    requires verdict { IsVerdict (map plain_file files.now) answer.now }
+    requires labels { IfOk answer.now (KeepsLabels (map plain_file files.now)) }
+    requires uses { IfOk answer.now (KeepsUses (map plain_file files.now)) }
+    ensures { IfOk result (λ reply. IsQuestionReply (map plain_file files.now)
+        (IsAxiomsReply label.now) reply.text.items (number_of reply.status)) }
+{
+    match answer {
+        Ok(checked) => axioms_answer(alloc, checked, label),
+        Err(_) => verdict_reply(alloc, files, answer),
+    }
 }
 
 /// The reply to the question what the theorem with a label rests on.
@@ -175,9 +199,27 @@ pub(crate) fn axioms_reply(alloc: Global, files: &[File], label: &[u8]) -> Resul
         (IsAxiomsReply label.now) reply.text.items (number_of reply.status)) }
 {
     let answer = check(alloc, files);
-    match &answer {
-        Ok(checked) => axioms_answer(alloc, checked, label),
-        Err(_) => verdict_reply(alloc, files, &answer),
+    let reply = axioms_or_verdict(alloc, files, &answer, label);
+    drop(answer);
+    reply
+}
+
+/// The reply to the question how the theorem with a label is proved, where this is the answer of
+/// `check`.
+fn show_or_verdict(
+    alloc: Global,
+    files: &[File],
+    answer: &Result<Checked, CheckFault>,
+    label: &[u8],
+) -> Result<Reply, AllocError>
+    requires verdict { IsVerdict (map plain_file files.now) answer.now }
+    requires files { IfOk answer.now (KeepsFiles (map plain_file files.now)) }
+    ensures { IfOk result (λ reply. IsQuestionReply (map plain_file files.now)
+        (IsShowReply label.now) reply.text.items (number_of reply.status)) }
+{
+    match answer {
+        Ok(checked) => show_answer(alloc, checked, label),
+        Err(_) => verdict_reply(alloc, files, answer),
     }
 }
 
@@ -187,8 +229,7 @@ pub(crate) fn show_reply(alloc: Global, files: &[File], label: &[u8]) -> Result<
         (IsShowReply label.now) reply.text.items (number_of reply.status)) }
 {
     let answer = check(alloc, files);
-    match &answer {
-        Ok(checked) => show_answer(alloc, checked, label),
-        Err(_) => verdict_reply(alloc, files, &answer),
-    }
+    let reply = show_or_verdict(alloc, files, &answer, label);
+    drop(answer);
+    reply
 }

@@ -91,8 +91,15 @@ pub(crate) fn reread<'a>(
 {
     let mut statements = reader(alloc, files)?;
     let mut statement = Statement::empty(alloc);
-    seek(&mut statements, label, &mut statement)?;
-    Ok(statement)
+    let found = seek(&mut statements, label, &mut statement);
+    drop(statements);
+    match found {
+        Ok(()) => Ok(statement),
+        Err(fault) => {
+            drop(statement);
+            Err(fault)
+        }
+    }
 }
 
 /// The texts of the tokens of a statement's proof.

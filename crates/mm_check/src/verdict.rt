@@ -134,6 +134,28 @@ fn judge_rest<'a>(
     Ok(())
 }
 
+/// Judges the statements that a new reader has, up to the first fault: what checking comes to.
+fn judged<'a>(
+    alloc: Global,
+    files: &[File<'a>],
+    statements: &mut Statements<'a>,
+) -> Result<Progress<'a>, CheckFault<'a>>
+    requires unread { IsUnread (map plain_file files.now) statements.old }
+    requires readable { CanBeRead (map plain_file files.now) }
+    ensures done { IfOk result (λ progress.
+        IsAtEnd (map plain_file files.now) progress statements.new) }
+    ensures refused { IfErr result (TellsVerdict (map plain_file files.now)) }
+{
+    let mut progress = beginning(alloc)?;
+    match judge_rest(alloc, files, statements, &mut progress) {
+        Ok(()) => Ok(progress),
+        Err(fault) => {
+            drop(progress);
+            Err(fault)
+        }
+    }
+}
+
 /// Judges all statements of the files.
 fn judge_all<'a>(alloc: Global, files: &'a [File<'a>]) -> Result<Checked<'a>, CheckFault<'a>>
     ensures verdict { IsVerdict (map plain_file files.now) result }
@@ -143,8 +165,9 @@ fn judge_all<'a>(alloc: Global, files: &'a [File<'a>]) -> Result<Checked<'a>, Ch
     ensures files { IfOk result (KeepsFiles (map plain_file files.now)) }
 {
     let mut statements = load(alloc, files)?;
-    let mut progress = beginning(alloc)?;
-    judge_rest(alloc, files, &mut statements, &mut progress)?;
+    let outcome = judged(alloc, files, &mut statements);
+    drop(statements);
+    let progress = outcome?;
     Ok(Checked::new(files, progress))
 }
 

@@ -11,9 +11,9 @@ use Rattle.mm_check.proofs.question.check_reply.Goals as goal
 pub returns : goal.returns
 returns c =
     let files : List PlainFile = map plain_file c.args.files.now in
-    made_both c.verdict_reply.result
-    (λ (reply : Reply). Tells files c.check.result reply.text.items)
-    (λ (reply : Reply). IfSome (verdict_of_answer c.check.result) (λ verdict. number_of reply.status ≡ status_of verdict))
+    made_both c.verdict_reply-reply.result
+    (λ (reply : Reply). Tells files c.check-answer.result reply.text.items)
+    (λ (reply : Reply). IfSome (verdict_of_answer c.check-answer.result) (λ verdict. number_of reply.status ≡ status_of verdict))
     (λ (reply : Reply). IsReply files reply.text.items (number_of reply.status))
-    (λ reply said ends. reply_of files c.check.result reply.text.items (number_of reply.status) c.check.ensures.verdict said ends)
-    c.verdict_reply.ensures.text c.verdict_reply.ensures.status
+    (λ reply said ends. reply_of files c.check-answer.result reply.text.items (number_of reply.status) c.check-answer.ensures.verdict said ends)
+    c.verdict_reply-reply.ensures.text c.verdict_reply-reply.ensures.status

@@ -5,50 +5,45 @@ use Rattle.mm_text.specs.Files.{PlainFile, plain_file}
 use Rattle.mm_check.specs.Verdict.{HasVerdict}
 use Rattle.mm_check.specs.Answer.{verdict_of_conclusion}
 use Rattle.mm_check.specs.Judged.{IsAtEnd}
-use Rattle.mm_check.proofs.Course.{Concludes, starts, passed_on, end_concludes, labels_kept, counts_kept, uses_kept, kept_well}
+use Rattle.mm_check.proofs.Course.{Concludes, passed_on, end_concludes, labels_kept, counts_kept, uses_kept, kept_well}
 use Rattle.mm_check.proofs.verdict.judge_all.Goals as goal
-
-pub judge_rest-requires : goal.judge_rest-requires
-judge_rest-requires c =
-    starts (map plain_file c.args.files.now) c.in_ok-progress.progress c.in_ok-statements.statements c.in_ok-statements.ensures.unread
-    c.in_ok-statements.ensures.readable c.in_ok-progress.ensures.ok
 
 pub new-requires : goal.new-requires
 new-requires c =
-    let end : IsAtEnd (map plain_file c.args.files.now) c.judge_rest.new.progress c.judge_rest.new.statements = c.in_ok-judge_rest.ensures.done in
-    kept_well (map plain_file c.args.files.now) c.judge_rest.new.progress c.judge_rest.new.statements end.way end.none end.ending
+    let end : IsAtEnd (map plain_file c.args.files.now) c.in_ok-progress.progress c.judged-outcome.new.statements = c.in_ok-progress.ensures.done in
+    kept_well (map plain_file c.args.files.now) c.in_ok-progress.progress c.judged-outcome.new.statements end.way end.none end.ending
 
-pub returns-in_err-judge_rest-clause-verdict : goal.returns-in_err-judge_rest-clause-verdict
-returns-in_err-judge_rest-clause-verdict c =
-    passed_on (map plain_file c.args.files.now) c.from_residual-in_err-judge_rest.result c.in_err-judge_rest.field-0.0
-    c.from_residual-in_err-judge_rest.ensures.1 c.in_err-judge_rest.ensures.refused
+pub returns-in_err-progress-clause-verdict : goal.returns-in_err-progress-clause-verdict
+returns-in_err-progress-clause-verdict c =
+    passed_on (map plain_file c.args.files.now) c.from_residual-in_err-progress.result c.in_err-progress.field-0.0
+    c.from_residual-in_err-progress.ensures.1 c.in_err-progress.ensures.refused
 
 pub returns-clause-verdict : goal.returns-clause-verdict
 returns-clause-verdict c =
     let files : List PlainFile = map plain_file c.args.files.now in
-    let kept : Concludes c.judge_rest.new.progress c.new.result =
+    let kept : Concludes c.in_ok-progress.progress c.new.result =
     record { statements = c.new.ensures.statements; proofs = c.new.ensures.proofs; incomplete = c.new.ensures.incomplete; labels = c.new.ensures.labels; sentences = c.new.ensures.sentences; uses = c.new.ensures.uses } in
-    let end : IsAtEnd files c.judge_rest.new.progress c.judge_rest.new.statements = c.in_ok-judge_rest.ensures.done in
+    let end : IsAtEnd files c.in_ok-progress.progress c.judged-outcome.new.statements = c.in_ok-progress.ensures.done in
     λ verdict e. subst (HasVerdict files) (same_Some (verdict_of_conclusion c.new.result) verdict e)
-    (end_concludes files c.judge_rest.new.progress c.judge_rest.new.statements c.new.result end.way end.none end.ending kept)
+    (end_concludes files c.in_ok-progress.progress c.judged-outcome.new.statements c.new.result end.way end.none end.ending kept)
 
 pub returns-clause-labels : goal.returns-clause-labels
 returns-clause-labels c =
-    let kept : Concludes c.judge_rest.new.progress c.new.result =
+    let kept : Concludes c.in_ok-progress.progress c.new.result =
     record { statements = c.new.ensures.statements; proofs = c.new.ensures.proofs; incomplete = c.new.ensures.incomplete; labels = c.new.ensures.labels; sentences = c.new.ensures.sentences; uses = c.new.ensures.uses } in
-    let end : IsAtEnd (map plain_file c.args.files.now) c.judge_rest.new.progress c.judge_rest.new.statements = c.in_ok-judge_rest.ensures.done in
-    labels_kept (map plain_file c.args.files.now) c.judge_rest.new.progress c.judge_rest.new.statements c.new.result end.way end.none kept
+    let end : IsAtEnd (map plain_file c.args.files.now) c.in_ok-progress.progress c.judged-outcome.new.statements = c.in_ok-progress.ensures.done in
+    labels_kept (map plain_file c.args.files.now) c.in_ok-progress.progress c.judged-outcome.new.statements c.new.result end.way end.none kept
 
 pub returns-clause-counts : goal.returns-clause-counts
 returns-clause-counts c =
-    let kept : Concludes c.judge_rest.new.progress c.new.result =
+    let kept : Concludes c.in_ok-progress.progress c.new.result =
     record { statements = c.new.ensures.statements; proofs = c.new.ensures.proofs; incomplete = c.new.ensures.incomplete; labels = c.new.ensures.labels; sentences = c.new.ensures.sentences; uses = c.new.ensures.uses } in
-    let end : IsAtEnd (map plain_file c.args.files.now) c.judge_rest.new.progress c.judge_rest.new.statements = c.in_ok-judge_rest.ensures.done in
-    counts_kept (map plain_file c.args.files.now) c.judge_rest.new.progress c.judge_rest.new.statements c.new.result end.way end.none kept
+    let end : IsAtEnd (map plain_file c.args.files.now) c.in_ok-progress.progress c.judged-outcome.new.statements = c.in_ok-progress.ensures.done in
+    counts_kept (map plain_file c.args.files.now) c.in_ok-progress.progress c.judged-outcome.new.statements c.new.result end.way end.none kept
 
 pub returns-clause-uses : goal.returns-clause-uses
 returns-clause-uses c =
-    let kept : Concludes c.judge_rest.new.progress c.new.result =
+    let kept : Concludes c.in_ok-progress.progress c.new.result =
     record { statements = c.new.ensures.statements; proofs = c.new.ensures.proofs; incomplete = c.new.ensures.incomplete; labels = c.new.ensures.labels; sentences = c.new.ensures.sentences; uses = c.new.ensures.uses } in
-    let end : IsAtEnd (map plain_file c.args.files.now) c.judge_rest.new.progress c.judge_rest.new.statements = c.in_ok-judge_rest.ensures.done in
-    uses_kept (map plain_file c.args.files.now) c.judge_rest.new.progress c.judge_rest.new.statements c.new.result end.way end.none kept
+    let end : IsAtEnd (map plain_file c.args.files.now) c.in_ok-progress.progress c.judged-outcome.new.statements = c.in_ok-progress.ensures.done in
+    uses_kept (map plain_file c.args.files.now) c.in_ok-progress.progress c.judged-outcome.new.statements c.new.result end.way end.none kept

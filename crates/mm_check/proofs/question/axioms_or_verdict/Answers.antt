@@ -9,7 +9,7 @@ use Rattle.mm_check.specs.Verdict.{labels_of}
 use Rattle.mm_check.specs.Answer.{verdict_of_answer, IsKeptOf, KeepsUses, KeepsLabels}
 use Rattle.mm_check.specs.Reply.{IsAxiomsReply, IsQuestionReply, Tells, status_of}
 use Rattle.mm_check.proofs.Replies.{made, made_both, at_ok, question_answered, question_refused}
-use Rattle.mm_check.proofs.question.axioms_reply.Goals as goal
+use Rattle.mm_check.proofs.question.axioms_or_verdict.Goals as goal
 
 pub returns-in-Ok : goal.returns-in-Ok
 returns-in-Ok c =
@@ -19,18 +19,18 @@ returns-in-Ok c =
     (λ (reply : Reply). (statements : List PlainStatement) → IsKeptOf statements kept → kept.labels ≡ labels_of statements
     → IsAxiomsReply c.args.label.now statements reply.text.items (number_of reply.status))
     (λ (reply : Reply). IsQuestionReply files (IsAxiomsReply c.args.label.now) reply.text.items (number_of reply.status))
-    (λ reply answers. question_answered files c.check-answer.result kept (IsAxiomsReply c.args.label.now) reply.text.items (number_of reply.status)
-    c.in-Ok.is c.check-answer.ensures.verdict (at_ok c.check-answer.result kept (KeepsUses files) c.in-Ok.is c.check-answer.ensures.uses)
-    (at_ok c.check-answer.result kept (KeepsLabels files) c.in-Ok.is c.check-answer.ensures.labels) answers)
+    (λ reply answers. question_answered files c.args.answer.now kept (IsAxiomsReply c.args.label.now) reply.text.items (number_of reply.status)
+    c.in-Ok.is c.requires.verdict (at_ok c.args.answer.now kept (KeepsUses files) c.in-Ok.is c.requires.uses)
+    (at_ok c.args.answer.now kept (KeepsLabels files) c.in-Ok.is c.requires.labels) answers)
     c.axioms_answer.ensures
 
-pub returns : goal.returns
-returns c =
+pub returns-in-Err : goal.returns-in-Err
+returns-in-Err c =
     let files : List PlainFile = map plain_file c.args.files.now in
     made_both c.verdict_reply.result
-    (λ (reply : Reply). Tells files c.check-answer.result reply.text.items)
-    (λ (reply : Reply). IfSome (verdict_of_answer c.check-answer.result) (λ verdict. number_of reply.status ≡ status_of verdict))
+    (λ (reply : Reply). Tells files c.args.answer.now reply.text.items)
+    (λ (reply : Reply). IfSome (verdict_of_answer c.args.answer.now) (λ verdict. number_of reply.status ≡ status_of verdict))
     (λ (reply : Reply). IsQuestionReply files (IsAxiomsReply c.args.label.now) reply.text.items (number_of reply.status))
-    (λ reply said ends. question_refused files c.check-answer.result c.in-Err.field-0 (IsAxiomsReply c.args.label.now) reply.text.items (number_of reply.status)
-    c.in-Err.is c.check-answer.ensures.verdict said ends)
+    (λ reply said ends. question_refused files c.args.answer.now c.in-Err.field-0 (IsAxiomsReply c.args.label.now) reply.text.items (number_of reply.status)
+    c.in-Err.is c.requires.verdict said ends)
     c.verdict_reply.ensures.text c.verdict_reply.ensures.status

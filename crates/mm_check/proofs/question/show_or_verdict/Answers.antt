@@ -9,7 +9,7 @@ use Rattle.mm_check.specs.Status.{number_of}
 use Rattle.mm_check.specs.Answer.{verdict_of_answer, KeepsFiles}
 use Rattle.mm_check.specs.Reply.{IsShowReply, IsQuestionReply, Tells, status_of}
 use Rattle.mm_check.proofs.Replies.{made, made_both, at_ok, question_read, question_refused}
-use Rattle.mm_check.proofs.question.show_reply.Goals as goal
+use Rattle.mm_check.proofs.question.show_or_verdict.Goals as goal
 
 pub returns-in-Ok : goal.returns-in-Ok
 returns-in-Ok c =
@@ -19,17 +19,17 @@ returns-in-Ok c =
     (λ (reply : Reply). (statements : List PlainStatement) → Reads kept.files statements None
     → IsShowReply c.args.label.now statements reply.text.items (number_of reply.status))
     (λ (reply : Reply). IsQuestionReply files (IsShowReply c.args.label.now) reply.text.items (number_of reply.status))
-    (λ reply answers. question_read files c.check-answer.result kept (IsShowReply c.args.label.now) reply.text.items (number_of reply.status)
-    c.in-Ok.is c.check-answer.ensures.verdict (at_ok c.check-answer.result kept (KeepsFiles files) c.in-Ok.is c.check-answer.ensures.files) answers)
+    (λ reply answers. question_read files c.args.answer.now kept (IsShowReply c.args.label.now) reply.text.items (number_of reply.status)
+    c.in-Ok.is c.requires.verdict (at_ok c.args.answer.now kept (KeepsFiles files) c.in-Ok.is c.requires.files) answers)
     c.show_answer.ensures
 
-pub returns : goal.returns
-returns c =
+pub returns-in-Err : goal.returns-in-Err
+returns-in-Err c =
     let files : List PlainFile = map plain_file c.args.files.now in
     made_both c.verdict_reply.result
-    (λ (reply : Reply). Tells files c.check-answer.result reply.text.items)
-    (λ (reply : Reply). IfSome (verdict_of_answer c.check-answer.result) (λ verdict. number_of reply.status ≡ status_of verdict))
+    (λ (reply : Reply). Tells files c.args.answer.now reply.text.items)
+    (λ (reply : Reply). IfSome (verdict_of_answer c.args.answer.now) (λ verdict. number_of reply.status ≡ status_of verdict))
     (λ (reply : Reply). IsQuestionReply files (IsShowReply c.args.label.now) reply.text.items (number_of reply.status))
-    (λ reply said ends. question_refused files c.check-answer.result c.in-Err.field-0 (IsShowReply c.args.label.now) reply.text.items (number_of reply.status)
-    c.in-Err.is c.check-answer.ensures.verdict said ends)
+    (λ reply said ends. question_refused files c.args.answer.now c.in-Err.field-0 (IsShowReply c.args.label.now) reply.text.items (number_of reply.status)
+    c.in-Err.is c.requires.verdict said ends)
     c.verdict_reply.ensures.text c.verdict_reply.ensures.status
