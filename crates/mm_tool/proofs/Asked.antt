@@ -9,7 +9,7 @@ use Rattle.clap.specs.declared.parser.matches.ArgMatches.TheViews.{out-ArgMatche
 use Rattle.clap.specs.declared.parser.matches.Found.{Found}
 use Rattle.clap.proofs.OnLiterals.{clap_on_literals}
 use Rattle.clap.proofs.WalkLemmas.{first_value-rows, raw_values-rows}
-use Rattle.mm_tool.specs.Words.{Asks, Commands, IsAccepted, IsFaultOfKind, IsOfKind, IsWordFault, command_line}
+use Rattle.mm_tool.specs.Words.{AreMatchesOf, Asks, Commands, IsAccepted, IsFaultOfKind, IsOfKind, IsWordFault, command_line}
 use Rattle.mm_tool.specs.declared.words.Request.{Request}
 use Rattle.mm_tool.specs.declared.words.Request.TheVariants.{Help, Version, Explain, Run}
 use Rattle.mm_tool.specs.declared.stop.Stop.{Stop}
@@ -102,19 +102,39 @@ rows_met app words m is matched =
     let Met : App → Type 0 = λ a. subcommand_rows_of m ≡ subcommand_of a words in
     subst Met is (matched (ap is_simple is ∙ is_simple_line)).1
 
--- The command that the parse met is that of the words, with its values.
-pub commands_met : (app : App) (words : List Text) (m : ArgMatches) (name : Text) (rows : List Row) → app ≡ command_line
-    → (is_simple_and_free app ≡ true → fault_of app words ≡ []) → HasMatchesOf app words m
+-- What the parse met are the matches of the words.
+pub matches_met : (app : App) (words : List Text) (m : ArgMatches) → app ≡ command_line
+    → (is_simple_and_free app ≡ true → fault_of app words ≡ []) → HasMatchesOf app words m → AreMatchesOf words m
+matches_met app words m is free matched = (is_accepted app words is free, rows_met app words m is matched)
+
+-- The command in the matches is that of the words, with its values.
+pub commands_met : (words : List Text) (m : ArgMatches) (name : Text) (rows : List Row) → AreMatchesOf words m
     → subcommand_name_of m ≡ Some name → option_map (λ (p : Text × List Row). p.1) (subcommand_rows_of m) ≡ Some rows
     → Commands words name rows
-commands_met app words m name rows is free matched same values =
-    (is_accepted app words is free, sym (rows_met app words m is matched) ∙ pair_known _ _ (out-ArgMatches m).subcommand name rows same values)
+commands_met words m name rows met same values =
+    (met.0, sym met.1 ∙ pair_known _ _ (out-ArgMatches m).subcommand name rows same values)
 
--- A command that the parse didn't meet isn't that of the words.
-pub not_commanded : (app : App) (words : List Text) (m : ArgMatches) (name : Text) (rows : List Row) → app ≡ command_line
-    → HasMatchesOf app words m → (subcommand_name_of m ≡ Some name → ⊥) → Commands words name rows → ⊥
-not_commanded app words m name rows is matched other asked =
-    other (first_only _ _ (out-ArgMatches m).subcommand name rows (rows_met app words m is matched ∙ asked.1))
+-- A command that isn't in the matches isn't that of the words.
+pub not_commanded : (words : List Text) (m : ArgMatches) (name : Text) (rows : List Row) → AreMatchesOf words m
+    → (subcommand_name_of m ≡ Some name → ⊥) → Commands words name rows → ⊥
+not_commanded words m name rows met other asked =
+    other (first_only _ _ (out-ArgMatches m).subcommand name rows (met.1 ∙ asked.1))
+
+-- What matches ask for, the words ask for.
+pub asked_by_matches : (words : List Text) (m : ArgMatches) (r : Result Request Stop) → AreMatchesOf words m
+    → IfOk r (λ request. (asked : List Text) → AreMatchesOf asked m → Asks asked request) → IfOk r (Asks words)
+asked_by_matches words m (Ok request) met h = h words met
+asked_by_matches words m (Err stop) met h = h
+
+pub refused_by_matches : (words : List Text) (m : ArgMatches) (r : Result Request Stop) → AreMatchesOf words m
+    → IfErr r (λ stop. (asked : List Text) → AreMatchesOf asked m → IsWordFault asked stop) → IfErr r (IsWordFault words)
+refused_by_matches words m (Ok request) met h = h
+refused_by_matches words m (Err stop) met h = h words met
+
+-- No matches are there where none were found.
+pub none_there : {X : Type 0} (o : Option X) → o ≡ None → IsSome o → ⊥
+none_there None is there = absurd (cc)
+none_there (Some x) is there = absurd (cc)
 
 -- Where matches were found, there are rows.
 pub rows_there : {M X : Type 0} (rows_in : M → X) (o : Option M) (met : Option X) → IsSome o → IfSome o (λ m. met ≡ Some (rows_in m))

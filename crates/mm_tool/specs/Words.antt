@@ -3,7 +3,8 @@
 use Rattle.std.specs.Prelude.{◌≡◌, ◌≢◌, List, [], map, Some, true, codes, unwrap_or, ◌⊎◌}
 use Rattle.clap.specs.Lexer.{usize_max}
 use Rattle.clap.specs.Words.{App, Row, Rule, Text, IsAmong, all_of, fault_of, first_of, new_app}
-use Rattle.clap.specs.Words.{new_rule, subcommand_of, with_rule, with_subcommand}
+use Rattle.clap.specs.Words.{new_rule, subcommand_of, subcommand_rows_of, with_rule, with_subcommand}
+use Rattle.clap.specs.declared.parser.matches.ArgMatches.{ArgMatches}
 use Rattle.clap.specs.declared.builder.action.ArgAction.TheVariants.{Append, Set}
 use Rattle.clap.specs.declared.error.kind.ErrorKind.{ErrorKind}
 use Rattle.clap.specs.declared.error.kind.ErrorKind.TheVariants.{DisplayHelp, DisplayVersion}
@@ -77,8 +78,8 @@ database_line =
     with_subcommand
     (with_subcommand (with_subcommand bare_line check_line.top) axioms_line.top) show_line.top
 
--- `mm check FILES..`, `mm axioms LABEL FILES..`, `mm show LABEL FILES..`, `mm explain [CODE]`, `mm
--- help`, `mm --version`, and everywhere `--help`
+-- `mm check FILES..`, `mm axioms LABEL FILES..`, `mm show LABEL FILES..`, `mm explain [CODE]`,
+-- `mm help`, `mm --version`, and everywhere `--help`
 abbrev pub command_line : App
 command_line = with_subcommand (with_subcommand database_line explain_line.top) help_line.top
 
@@ -89,6 +90,11 @@ IsAccepted words = fault_of command_line words ≡ []
 -- They are accepted, and their command has this name and these values.
 abbrev pub Commands : List Text → Text → List Row → Type 0
 Commands words name rows = IsAccepted words × (subcommand_of command_line words ≡ Some (name, rows))
+
+-- They are accepted, and these are their matches.
+abbrev pub AreMatchesOf : List Text → ArgMatches → Type 0
+AreMatchesOf words matches =
+    IsAccepted words × (subcommand_rows_of matches ≡ subcommand_of command_line words)
 
 -- They ask for help.
 abbrev pub AsksHelp : List Text → Type 0

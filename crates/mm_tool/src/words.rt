@@ -1,12 +1,13 @@
 //! What the program is asked by its words.
 
-ghost use Rattle.std.specs.Prelude.{◌≡◌, [], map, IfOk, IfErr, codes, false, unwrap_or};
-ghost use Rattle.clap.specs.Words.{all_of, app_of, first_of, found_of, kind_of, rows_of, rule_of};
+ghost use Rattle.std.specs.Prelude.{◌≡◌, [], List, map, IfOk, IfErr, codes, false, unwrap_or};
+ghost use Rattle.clap.specs.Words.{Text, all_of, app_of, first_of, found_of, kind_of};
+ghost use Rattle.clap.specs.Words.{rows_of, rule_of};
 ghost use Rattle.clap.specs.declared.builder.command.Command.TheViews.{out-Command};
 ghost use Rattle.mm_tool.specs.Words.{Asks, IsOfKind, IsFaultOfKind, IsWordFault, axioms_line};
-ghost use Rattle.mm_tool.specs.Words.{bare_line, check_line, code_rule, command_line};
-ghost use Rattle.mm_tool.specs.Words.{database_line, explain_line, files_rule, help_line};
-ghost use Rattle.mm_tool.specs.Words.{label_rule, question_line, show_line};
+ghost use Rattle.mm_tool.specs.Words.{AreMatchesOf, bare_line, check_line, code_rule};
+ghost use Rattle.mm_tool.specs.Words.{command_line, database_line, explain_line, files_rule};
+ghost use Rattle.mm_tool.specs.Words.{help_line, label_rule, question_line, show_line};
 
 use crate::stop::Stop;
 use clap::error::ErrorKind;
@@ -208,20 +209,17 @@ fn asked_label<'a>(command: &ArgMatches<'a>) -> &'a str
     }
 }
 
-/// Reads the words, of which the first is the program's name.
-///
-/// # Errors
-///
-/// `Usage` where the words aren't understood; `Memory` where a growth was refused.
-pub(crate) fn request_of<'a>(alloc: Global, words: &'a [&'a str]) -> Result<Request<'a>, Stop<'a>>
-    ensures request { IfOk result (Asks (map (λ word. word.now) words.entry.now)) }
-    ensures fault { IfErr result (IsWordFault (map (λ word. word.now) words.entry.now)) }
+/// What these matches of the words ask for. The text on the use is that of the command line.
+fn request_of_matches<'a>(
+    alloc: Global,
+    command: &mut Command<'a>,
+    matches: &ArgMatches<'a>,
+) -> Result<Request<'a>, Stop<'a>>
+    ensures request { IfOk result (λ request. (words : List Text)
+        → AreMatchesOf words matches.now → Asks words request) }
+    ensures fault { IfErr result (λ stop. (words : List Text)
+        → AreMatchesOf words matches.now → IsWordFault words stop) }
 {
-    let mut command = whole_command(alloc)?;
-    let matches = match command.try_get_matches_from_mut(words) {
-        Ok(matches) => matches,
-        Err(error) => return request_of_error(alloc, &error),
-    };
     if let Some(check) = matches.subcommand_matches(CHECK) {
         return Ok(Request::Run {
             command: mm_check::Command::Check,
@@ -251,4 +249,39 @@ pub(crate) fn request_of<'a>(alloc: Global, words: &'a [&'a str]) -> Result<Requ
         return Ok(Request::Help);
     }
     Err(Stop::Usage(command.render_usage()?))
+}
+
+/// What the words ask for, by the command line.
+fn request_by<'a>(
+    alloc: Global,
+    command: &mut Command<'a>,
+    words: &'a [&'a str],
+) -> Result<Request<'a>, Stop<'a>>
+    requires { app_of command.old ≡ command_line }
+    ensures request { IfOk result (Asks (map (λ word. word.now) words.entry.now)) }
+    ensures fault { IfErr result (IsWordFault (map (λ word. word.now) words.entry.now)) }
+{
+    match command.try_get_matches_from_mut(words) {
+        Ok(matches) => {
+            let request = request_of_matches(alloc, command, &matches);
+            drop(matches);
+            request
+        }
+        Err(error) => request_of_error(alloc, &error),
+    }
+}
+
+/// Reads the words, of which the first is the program's name.
+///
+/// # Errors
+///
+/// `Usage` where the words aren't understood; `Memory` where a growth was refused.
+pub(crate) fn request_of<'a>(alloc: Global, words: &'a [&'a str]) -> Result<Request<'a>, Stop<'a>>
+    ensures request { IfOk result (Asks (map (λ word. word.now) words.entry.now)) }
+    ensures fault { IfErr result (IsWordFault (map (λ word. word.now) words.entry.now)) }
+{
+    let mut command = whole_command(alloc)?;
+    let request = request_by(alloc, &mut command, words);
+    drop(command);
+    request
 }

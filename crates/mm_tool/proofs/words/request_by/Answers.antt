@@ -1,0 +1,27 @@
+-- The words ask for what the parse found.
+use Rattle.std.proofs.Common.{map}
+use Rattle.clap.specs.Words.{app_of}
+use Rattle.mm_tool.proofs.Asked.{asked_by_matches, fault_met, matches_met, refused_by_matches, request_asked}
+use Rattle.mm_tool.proofs.words.request_by.Goals as goal
+
+pub returns-in-Ok-clause-request : goal.returns-in-Ok-clause-request
+returns-in-Ok-clause-request c =
+    asked_by_matches (map (λ word. word.now) c.args.words.now) c.in-Ok.matches c.request_of_matches-request.result
+    (matches_met (app_of c.args.command.now) _ c.in-Ok.matches c.requires c.in-Ok.ensures.kinds c.in-Ok.ensures.ok.2)
+    c.request_of_matches-request.ensures.request
+
+pub returns-in-Ok-clause-fault : goal.returns-in-Ok-clause-fault
+returns-in-Ok-clause-fault c =
+    refused_by_matches (map (λ word. word.now) c.args.words.now) c.in-Ok.matches c.request_of_matches-request.result
+    (matches_met (app_of c.args.command.now) _ c.in-Ok.matches c.requires c.in-Ok.ensures.kinds c.in-Ok.ensures.ok.2)
+    c.request_of_matches-request.ensures.fault
+
+pub returns-in-Err-clause-request : goal.returns-in-Err-clause-request
+returns-in-Err-clause-request c =
+    request_asked (app_of c.args.command.now) _ c.in-Err.error c.request_of_error.result
+    c.requires c.in-Err.ensures.kinds c.request_of_error.ensures.request
+
+pub returns-in-Err-clause-fault : goal.returns-in-Err-clause-fault
+returns-in-Err-clause-fault c =
+    fault_met (app_of c.args.command.now) _ c.in-Err.error c.request_of_error.result
+    c.requires c.in-Err.ensures.kinds c.request_of_error.ensures.fault

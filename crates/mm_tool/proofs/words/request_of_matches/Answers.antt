@@ -1,0 +1,61 @@
+-- The words ask for what their matches say.
+use Rattle.std.proofs.Common.{◌∙◌, Bor, IsSome, inr, refl, rules, sym}
+use Rattle.clap.specs.Words.{found_of, rows_of}
+use Rattle.clap.specs.declared.parser.matches.ArgMatches.{ArgMatches}
+use Rattle.mm_tool.proofs.Asked.{commands_met, none_there, not_commanded, rows_there}
+use Rattle.mm_tool.proofs.words.request_of_matches.Goals as goal
+
+pub returns-in-Some-clause-request : goal.returns-in-Some-clause-request
+returns-in-Some-clause-request c = λ words met. (
+  _,
+  commands_met words c.args.matches.now _ _ met (c.in-Some.ensures.found.0 refl) c.in-Some.ensures.rows,
+  sym c.in_ok-values_of.ensures,
+)
+
+pub returns-in-Some-subcommand_matches-clause-request : goal.returns-in-Some-subcommand_matches-clause-request
+returns-in-Some-subcommand_matches-clause-request c = λ words met. (
+  _,
+  commands_met words c.args.matches.now _ _ met (c.in-Some-subcommand_matches.ensures.found.0 refl) c.in-Some-subcommand_matches.ensures.rows,
+  sym (c.as_bytes.ensures.value ∙ c.asked_label.ensures),
+  sym c.in_ok-values_of-2.ensures,
+)
+
+pub returns-in-Some-subcommand_matches-2-clause-request : goal.returns-in-Some-subcommand_matches-2-clause-request
+returns-in-Some-subcommand_matches-2-clause-request c = λ words met. (
+  _,
+  commands_met words c.args.matches.now _ _ met (c.in-Some-subcommand_matches-2.ensures.found.0 refl) c.in-Some-subcommand_matches-2.ensures.rows,
+  sym (c.as_bytes-in-Some-subcommand_matches-2.ensures.value ∙ c.asked_label-in-Some-subcommand_matches-2.ensures),
+  sym c.in_ok-values_of-3.ensures,
+)
+
+pub returns-in-Some-subcommand_matches-3-clause-request : goal.returns-in-Some-subcommand_matches-3-clause-request
+returns-in-Some-subcommand_matches-3-clause-request c = λ words met. (
+  _,
+  commands_met words c.args.matches.now _ _ met (c.in-Some-subcommand_matches-3.ensures.found.0 refl) c.in-Some-subcommand_matches-3.ensures.rows,
+  sym c.in_ok-values_of-4.ensures,
+)
+
+pub returns-then-is_some-clause-request : goal.returns-then-is_some-clause-request
+returns-then-is_some-clause-request c = λ words met.
+    let there : IsSome c.subcommand_matches-5.result = search rules in
+    let found = rows_there (λ (m : Bor ArgMatches). rows_of (found_of m.now)) c.subcommand_matches-5.result _ there c.subcommand_matches-5.ensures.rows in
+    inr (found.0, commands_met words c.args.matches.now _ found.0 met (c.subcommand_matches-5.ensures.found.0 there) found.1)
+
+pub returns-clause-fault : goal.returns-clause-fault
+returns-clause-fault c = λ words met.
+    let none : IsSome c.subcommand_matches.result → ⊥ = none_there c.subcommand_matches.result c.in_default.is in
+    let none_2 : IsSome c.subcommand_matches-2.result → ⊥ = none_there c.subcommand_matches-2.result c.in_default-subcommand_matches.is in
+    let none_3 : IsSome c.subcommand_matches-3.result → ⊥ = none_there c.subcommand_matches-3.result c.in_default-subcommand_matches-2.is in
+    let none_4 : IsSome c.subcommand_matches-4.result → ⊥ = none_there c.subcommand_matches-4.result c.in_default-subcommand_matches-3.is in
+    let none_5 : IsSome c.subcommand_matches-5.result → ⊥ = λ there. absurd (search rules) in
+    let other = not_commanded words c.args.matches.now in
+    inr (
+      met.0,
+      λ rows. (
+        λ asked. other _ rows met (λ named. none (c.subcommand_matches.ensures.found.1 named)) asked,
+        λ asked. other _ rows met (λ named. none_2 (c.subcommand_matches-2.ensures.found.1 named)) asked,
+        λ asked. other _ rows met (λ named. none_3 (c.subcommand_matches-3.ensures.found.1 named)) asked,
+        λ asked. other _ rows met (λ named. none_4 (c.subcommand_matches-4.ensures.found.1 named)) asked,
+        λ asked. other _ rows met (λ named. none_5 (c.subcommand_matches-5.ensures.found.1 named)) asked,
+      ),
+    )
