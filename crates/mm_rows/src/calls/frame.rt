@@ -17,8 +17,9 @@ use std::test::Fail;
 #[test]
 fn book_of_nothing(rt: HostRuntime) -> Result<(), Fail> {
     let book = empty_book(rt.alloc())?;
-    assert!(rt; book.depth() == 0 && book.bytes() == 0);
-    assert!(rt; !book.is_variable(Sym(0)));
+    let is_new = book.depth() == 0 && book.bytes() == 0 && !book.is_variable(Sym(0));
+    drop(book);
+    assert!(rt; is_new);
     Ok(())
 }
 

@@ -215,6 +215,45 @@ fn reader<'a>(alloc: Global, files: &'a [File<'a>]) -> Result<Statements<'a>, Fa
     }
 }
 
+/// Takes the next statements up to the first `$p`, and that too: its number, and its proof.
+fn take_proof<'a>(
+    alloc: Global,
+    statements: &mut Statements<'a>,
+    book: &mut Book<'a>,
+    into: &mut Statement<'a>,
+) -> Result<(LabelId, Vec<&'a [u8]>), Fail>
+    ensures proof { IfOk result (λ taken. (place : ℕ) × (s : Sentence)
+        × IsProofNumber book.new.statements taken.0.0 place s) }
+    ensures filled { IfOk result (λ taken.
+        AllByRecursion (λ x. 1 ≤ length x) (texts taken.1.items)) }
+    ensures room { IfOk result (λ taken. sum_by length (texts taken.1.items) ≤ 1073741824) }
+{
+    let id = take_theorem(statements, book, into)?;
+    let tokens = tokens_of(alloc, into)?;
+    Ok((id, tokens))
+}
+
+/// The first `$p` of the statements that are read.
+fn theorem_from<'a>(
+    alloc: Global,
+    statements: &mut Statements<'a>,
+    into: &mut Statement<'a>,
+) -> Result<Theorem<'a>, Fail>
+    ensures proof { IfOk result (λ t. (place : ℕ) × (s : Sentence)
+        × IsProofNumber t.book.statements t.id.0 place s) }
+    ensures filled { IfOk result (λ t. AllByRecursion (λ x. 1 ≤ length x) (texts t.tokens.items)) }
+    ensures room { IfOk result (λ t. sum_by length (texts t.tokens.items) ≤ 1073741824) }
+{
+    let mut book = Book::new(alloc)?;
+    match take_proof(alloc, statements, &mut book, into) {
+        Ok((id, tokens)) => Ok(Theorem { book, id, tokens }),
+        Err(fail) => {
+            drop(book);
+            Err(fail)
+        }
+    }
+}
+
 /// The first `$p` of a database.
 fn first_theorem<'a>(alloc: Global, files: &'a [File<'a>]) -> Result<Theorem<'a>, Fail>
     ensures proof { IfOk result (λ t. (place : ℕ) × (s : Sentence)
@@ -223,11 +262,11 @@ fn first_theorem<'a>(alloc: Global, files: &'a [File<'a>]) -> Result<Theorem<'a>
     ensures room { IfOk result (λ t. sum_by length (texts t.tokens.items) ≤ 1073741824) }
 {
     let mut statements = reader(alloc, files)?;
-    let mut book = Book::new(alloc)?;
     let mut statement = Statement::empty(alloc);
-    let id = take_theorem(&mut statements, &mut book, &mut statement)?;
-    let tokens = tokens_of(alloc, &statement)?;
-    Ok(Theorem { book, id, tokens })
+    let theorem = theorem_from(alloc, &mut statements, &mut statement);
+    drop(statement);
+    drop(statements);
+    theorem
 }
 
 /// What the proof uses; nothing where it is incomplete.
@@ -252,19 +291,32 @@ fn proved<S: Store + Drop>(
     }
 }
 
-/// These are the names of what a proof uses.
-fn expect_names(
-    rt: &impl Abort,
-    theorem: &Theorem,
-    used: Result<Option<Used>, ProofFault>,
-    names: &[&[u8]],
-) -> Result<(), Fail> {
-    let used = used?.ok_or("incomplete")?;
-    assert_eq!(rt; used.ids().len(), names.len());
+/// Whether these are the names of what a proof uses.
+fn has_names(theorem: &Theorem, used: &Used, names: &[&[u8]]) -> bool {
     for (id, name) in used.ids().iter().zip(names.iter()) {
-        assert_eq!(rt; theorem.book.label(*id), *name);
+        if theorem.book.label(*id) != *name {
+            return false;
+        }
     }
-    Ok(())
+    used.ids().len() == names.len()
+}
+
+/// Whether the proof is complete, and uses these assertions.
+fn is_proved_with<S: Store + Drop>(
+    alloc: Global,
+    store: S,
+    theorem: &Theorem,
+    names: &[&[u8]],
+) -> Result<bool, Fail>
+    requires proof { (place : ℕ) × (s : Sentence)
+        × IsProofNumber theorem.now.book.statements theorem.now.id.0 place s }
+    requires filled { AllByRecursion (λ x. 1 ≤ length x) (texts theorem.now.tokens.items) }
+    requires room { sum_by length (texts theorem.now.tokens.items) ≤ 1073741824 }
+    requires stack { S.stack store ≡ [] }
+    requires kept { S.kept store ≡ [] }
+{
+    let used = proved(alloc, store, theorem)?.ok_or("incomplete")?;
+    Ok(has_names(theorem, &used, names))
 }
 
 /// The bytes of the pieces, one after the other.
@@ -276,6 +328,31 @@ fn joined(alloc: Global, pieces: &[&[u8]]) -> Result<Vec<u8>, AllocError> {
     Ok(bytes)
 }
 
+/// Whether either store proves the theorem with these assertions.
+fn is_proved_by_both(alloc: Global, theorem: &Theorem, names: &[&[u8]]) -> Result<bool, Fail>
+    requires proof { (place : ℕ) × (s : Sentence)
+        × IsProofNumber theorem.now.book.statements theorem.now.id.0 place s }
+    requires filled { AllByRecursion (λ x. 1 ≤ length x) (texts theorem.now.tokens.items) }
+    requires room { sum_by length (texts theorem.now.tokens.items) ≤ 1073741824 }
+{
+    Ok(
+        is_proved_with(alloc, Flat::new(alloc), theorem, names)?
+            && is_proved_with(alloc, Rows::new(alloc), theorem, names)?,
+    )
+}
+
+/// Whether the first `$p` of the database uses these assertions.
+fn uses(alloc: Global, bytes: &[u8], names: &[&[u8]]) -> Result<bool, Fail> {
+    let files = [File {
+        name: b"a.mm",
+        bytes,
+    }];
+    let theorem = first_theorem(alloc, &files)?;
+    let answer = is_proved_by_both(alloc, &theorem, names);
+    drop(theorem);
+    answer
+}
+
 /// With either store the first `$p` of the pieces is proved, and uses these assertions.
 fn expect_used(
     rt: &impl Abort,
@@ -284,26 +361,26 @@ fn expect_used(
     names: &[&[u8]],
 ) -> Result<(), Fail> {
     let bytes = joined(alloc, pieces)?;
+    assert!(rt; uses(alloc, &bytes, names)?);
+    Ok(())
+}
+
+/// Whether the first `$p` of the database is incomplete.
+fn is_unproved(alloc: Global, bytes: &[u8]) -> Result<bool, Fail> {
     let files = [File {
         name: b"a.mm",
-        bytes: &bytes,
+        bytes,
     }];
     let theorem = first_theorem(alloc, &files)?;
-    let flat = proved(alloc, Flat::new(alloc), &theorem);
-    expect_names(rt, &theorem, flat, names)?;
-    let rows = proved(alloc, Rows::new(alloc), &theorem);
-    expect_names(rt, &theorem, rows, names)
+    let used = proved(alloc, Flat::new(alloc), &theorem);
+    drop(theorem);
+    Ok(used?.is_none())
 }
 
 /// The first `$p` of the pieces is incomplete.
 fn expect_incomplete(rt: &impl Abort, alloc: Global, pieces: &[&[u8]]) -> Result<(), Fail> {
     let bytes = joined(alloc, pieces)?;
-    let files = [File {
-        name: b"a.mm",
-        bytes: &bytes,
-    }];
-    let theorem = first_theorem(alloc, &files)?;
-    assert!(rt; proved(alloc, Flat::new(alloc), &theorem)?.is_none());
+    assert!(rt; is_unproved(alloc, &bytes)?);
     Ok(())
 }
 
@@ -365,28 +442,42 @@ fn are_lines(lines: &[Line], names: &[Name], expression: &[Sym]) -> bool {
 }
 
 /// Whether these are the steps of the proof that makes one joining and uses it twice.
-fn are_shared_steps(book: &Book, lines: Vec<Line>) -> Result<bool, Fail> {
+fn are_shared_steps(book: &Book, lines: &[Line]) -> Result<bool, Fail> {
     let nil = assertion(book, b"nil")?;
     let cat = Name::Label(assertion(book, b"cat")?);
     let names = [Name::Label(nil), Name::Label(nil), cat, Name::Step(3), cat];
-    Ok(are_lines(&lines, &names, book.expression(nil)))
+    Ok(are_lines(lines, &names, book.expression(nil)))
 }
 
-/// The steps of the first `$p` of a database are those of that proof.
-fn expect_shared_steps(rt: &impl Abort, alloc: Global, bytes: &[u8]) -> Result<(), Fail> {
+/// Whether the steps of the theorem are those of that proof.
+fn shares_a_step(alloc: Global, theorem: &Theorem) -> Result<bool, Fail>
+    requires proof { (place : ℕ) × (s : Sentence)
+        × IsProofNumber theorem.now.book.statements theorem.now.id.0 place s }
+    requires filled { AllByRecursion (λ x. 1 ≤ length x) (texts theorem.now.tokens.items) }
+    requires room { sum_by length (texts theorem.now.tokens.items) ≤ 1073741824 }
+{
+    let lines = listing_of(alloc, theorem)?;
+    let answer = are_shared_steps(&theorem.book, &lines);
+    drop(lines);
+    answer
+}
+
+/// Whether the steps of the first `$p` of a database are those of that proof.
+fn lists_shared_steps(alloc: Global, bytes: &[u8]) -> Result<bool, Fail> {
     let files = [File {
         name: b"cat.mm",
         bytes,
     }];
     let theorem = first_theorem(alloc, &files)?;
-    let is_right = are_shared_steps(&theorem.book, listing_of(alloc, &theorem)?)?;
-    assert!(rt; is_right);
-    Ok(())
+    let answer = shares_a_step(alloc, &theorem);
+    drop(theorem);
+    answer
 }
 
 #[test]
 fn steps_are_listed(rt: HostRuntime) -> Result<(), Fail> {
-    expect_shared_steps(&rt, rt.alloc(), SHARED)
+    assert!(rt; lists_shared_steps(rt.alloc(), SHARED)?);
+    Ok(())
 }
 
 #[test]
@@ -394,27 +485,39 @@ fn nothing_is_expanded(rt: HostRuntime) -> Result<(), Fail> {
     expect_used(&rt, rt.alloc(), &[JOINED], &[b"nil", b"cat"])
 }
 
+/// Whether either store answers that the 21st step passes the limit.
+fn passes_the_limit(alloc: Global, theorem: &Theorem) -> bool
+    requires proof { (place : ℕ) × (s : Sentence)
+        × IsProofNumber theorem.now.book.statements theorem.now.id.0 place s }
+    requires filled { AllByRecursion (λ x. 1 ≤ length x) (texts theorem.now.tokens.items) }
+    requires room { sum_by length (texts theorem.now.tokens.items) ≤ 1073741824 }
+{
+    let rule = ProofRule::L1;
+    let passed = Some(ProofFault::Rule { rule, step: 21 });
+    proved(alloc, Flat::new(alloc), theorem).err() == passed
+        && proved(alloc, Rows::new(alloc), theorem).err() == passed
+}
+
+/// Whether the first `$p` of the database passes the limit so.
+fn is_over_the_limit(alloc: Global, bytes: &[u8]) -> Result<bool, Fail> {
+    let files = [File {
+        name: b"limit.mm",
+        bytes,
+    }];
+    let theorem = first_theorem(alloc, &files)?;
+    let answer = passes_the_limit(alloc, &theorem);
+    drop(theorem);
+    Ok(answer)
+}
+
 #[test]
 fn limit(rt: HostRuntime) -> Result<(), Fail> {
     let alloc = rt.alloc();
     let within = b"th $p f $= ( one odd end ) ABBBBBBBBBBBBBBBBBBBZDC $.";
     expect_used(&rt, alloc, &[LIMIT, within], &[b"one", b"odd", b"end"])?;
-    let bytes = joined(
-        alloc,
-        &[
-            LIMIT,
-            b"th $p f $= ( one odd end ) ABBBBBBBBBBBBBBBBBBBBZDC $.",
-        ],
-    )?;
-    let files = [File {
-        name: b"limit.mm",
-        bytes: &bytes,
-    }];
-    let theorem = first_theorem(alloc, &files)?;
-    let rule = ProofRule::L1;
-    let passed = Some(ProofFault::Rule { rule, step: 21 });
-    assert_eq!(&rt; proved(alloc, Flat::new(alloc), &theorem).err(), passed);
-    assert_eq!(&rt; proved(alloc, Rows::new(alloc), &theorem).err(), passed);
+    let over = b"th $p f $= ( one odd end ) ABBBBBBBBBBBBBBBBBBBBZDC $.";
+    let bytes = joined(alloc, &[LIMIT, over])?;
+    assert!(rt; is_over_the_limit(alloc, &bytes)?);
     Ok(())
 }
 

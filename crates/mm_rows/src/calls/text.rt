@@ -127,6 +127,15 @@ fn spans((start, end): (u32, u32), text: &[u8], part: &[u8]) -> bool {
     text.get(start as usize..end as usize) == Some(part)
 }
 
+/// Whether the statements are read, and the proof of the last one stands at its place.
+fn reads_first<'a>(
+    statements: &mut Statements<'a>,
+    into: &mut Statement<'a>,
+) -> Result<bool, Fail> {
+    read_forms(statements, into, &FIRST_FORMS)?;
+    Ok(into.proof.len() == 3 && spans(into.span, FIRST, b" tze tze tpl "))
+}
+
 #[test]
 fn reads_a_database(rt: HostRuntime) -> Result<(), Fail> {
     let files = [File {
@@ -135,10 +144,25 @@ fn reads_a_database(rt: HostRuntime) -> Result<(), Fail> {
     }];
     let mut statements = Statements::new(rt.alloc(), &files)?;
     let mut statement = Statement::empty(rt.alloc());
-    read_forms(&mut statements, &mut statement, &FIRST_FORMS)?;
-    assert!(rt; statement.proof.len() == 3);
-    assert!(rt; spans(statement.span, FIRST, b" tze tze tpl "));
+    let answer = reads_first(&mut statements, &mut statement);
+    drop(statement);
+    drop(statements);
+    assert!(rt; answer?);
     Ok(())
+}
+
+/// Whether each of three calls after the last statement answers the end.
+fn answers_the_end<'a>(
+    statements: &mut Statements<'a>,
+    into: &mut Statement<'a>,
+) -> Result<bool, Fail> {
+    read_next(statements, into, 7)?;
+    for _ in 0..3 {
+        if read(statements, into)? || !is_empty(into) {
+            return Ok(false);
+        }
+    }
+    Ok(true)
 }
 
 #[test]
@@ -149,10 +173,10 @@ fn answers_the_end_for_good(rt: HostRuntime) -> Result<(), Fail> {
     }];
     let mut statements = Statements::new(rt.alloc(), &files)?;
     let mut statement = Statement::empty(rt.alloc());
-    read_next(&mut statements, &mut statement, 7)?;
-    for _ in 0..3 {
-        assert!(rt; !read(&mut statements, &mut statement)? && is_empty(&statement));
-    }
+    let answer = answers_the_end(&mut statements, &mut statement);
+    drop(statement);
+    drop(statements);
+    assert!(rt; answer?);
     Ok(())
 }
 
@@ -176,7 +200,10 @@ fn is_faulty(alloc: Global, case: &Case) -> Result<bool, Fail> {
     let files = [File { name: b"a", bytes }];
     let mut statements = Statements::new(alloc, &files)?;
     let mut statement = Statement::empty(alloc);
-    Ok(answers_for_good(&mut statements, &mut statement, fault))
+    let answer = answers_for_good(&mut statements, &mut statement, fault);
+    drop(statement);
+    drop(statements);
+    Ok(answer)
 }
 
 fn each_is_faulty(alloc: Global, cases: &[Case]) -> Result<(), Fail> {
@@ -255,6 +282,17 @@ fn answers_faults_of_inclusions(rt: HostRuntime) -> Result<(), Fail> {
     each_is_faulty(rt.alloc(), &CASES)
 }
 
+/// Whether statements of these forms come before the fault.
+fn reads_up_to<'a>(
+    statements: &mut Statements<'a>,
+    into: &mut Statement<'a>,
+    forms: &[Form],
+    fault: &Fault,
+) -> Result<bool, Fail> {
+    read_forms(statements, into, forms)?;
+    Ok(answers_for_good(statements, into, fault))
+}
+
 #[test]
 fn reads_blocks_and_files(rt: HostRuntime) -> Result<(), Fail> {
     let files = [
@@ -269,10 +307,23 @@ fn reads_blocks_and_files(rt: HostRuntime) -> Result<(), Fail> {
     ];
     let mut statements = Statements::new(rt.alloc(), &files)?;
     let mut statement = Statement::empty(rt.alloc());
-    read_forms(&mut statements, &mut statement, &TOP_FORMS)?;
     let fault = Fault(TextRule::S6, 41, 5, 0);
-    assert!(rt; answers_for_good(&mut statements, &mut statement, &fault));
+    let answer = reads_up_to(&mut statements, &mut statement, &TOP_FORMS, &fault);
+    drop(statement);
+    drop(statements);
+    assert!(rt; answer?);
     Ok(())
+}
+
+/// Whether so many statements come before the fault.
+fn skips_up_to<'a>(
+    statements: &mut Statements<'a>,
+    into: &mut Statement<'a>,
+    count: usize,
+    fault: &Fault,
+) -> Result<bool, Fail> {
+    read_next(statements, into, count)?;
+    Ok(answers_for_good(statements, into, fault))
 }
 
 #[test]
@@ -283,9 +334,11 @@ fn names_the_innermost_open_block(rt: HostRuntime) -> Result<(), Fail> {
     }];
     let mut statements = Statements::new(rt.alloc(), &files)?;
     let mut statement = Statement::empty(rt.alloc());
-    read_next(&mut statements, &mut statement, 6)?;
     let fault = Fault(TextRule::S7, 11, 3, 0);
-    assert!(rt; answers_for_good(&mut statements, &mut statement, &fault));
+    let answer = skips_up_to(&mut statements, &mut statement, 6, &fault);
+    drop(statement);
+    drop(statements);
+    assert!(rt; answer?);
     Ok(())
 }
 

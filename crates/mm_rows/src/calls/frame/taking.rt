@@ -67,6 +67,24 @@ pub(crate) fn empty_book<'a>(alloc: Global) -> Result<Book<'a>, Fail> {
     Ok(Book::new(alloc)?)
 }
 
+/// Takes as many of the next statements, each of which is read into the same.
+fn take_by<'a>(
+    statements: &mut Statements<'a>,
+    into: &mut Statement<'a>,
+    book: &mut Book<'a>,
+    count: usize,
+) -> Result<(), Fail> {
+    for _ in 0..count {
+        if !read(statements, into)? {
+            return Err(Fail::from("a statement is wanting"));
+        }
+        if take(book, into)?.is_err() {
+            return Err(Fail::from("a statement is refused"));
+        }
+    }
+    Ok(())
+}
+
 /// Takes as many of the next statements.
 pub(crate) fn take_next<'a>(
     alloc: Global,
@@ -75,15 +93,25 @@ pub(crate) fn take_next<'a>(
     count: usize,
 ) -> Result<(), Fail> {
     let mut statement = Statement::empty(alloc);
-    for _ in 0..count {
-        if !read(statements, &mut statement)? {
-            return Err(Fail::from("a statement is wanting"));
-        }
-        if take(book, &statement)?.is_err() {
-            return Err(Fail::from("a statement is refused"));
+    let answer = take_by(statements, &mut statement, book, count);
+    drop(statement);
+    answer
+}
+
+/// A book of as many of the next statements.
+fn book_from<'a>(
+    alloc: Global,
+    statements: &mut Statements<'a>,
+    count: usize,
+) -> Result<Book<'a>, Fail> {
+    let mut book = empty_book(alloc)?;
+    match take_next(alloc, statements, &mut book, count) {
+        Ok(()) => Ok(book),
+        Err(fail) => {
+            drop(book);
+            Err(fail)
         }
     }
-    Ok(())
 }
 
 /// A book of the first statements of a database.
@@ -93,9 +121,9 @@ pub(crate) fn book_of<'a>(
     count: usize,
 ) -> Result<Book<'a>, Fail> {
     let mut statements = reader(alloc, files)?;
-    let mut book = empty_book(alloc)?;
-    take_next(alloc, &mut statements, &mut book, count)?;
-    Ok(book)
+    let book = book_from(alloc, &mut statements, count);
+    drop(statements);
+    book
 }
 
 /// The number of a label.
