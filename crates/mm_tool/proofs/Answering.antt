@@ -1,11 +1,14 @@
 -- How the words are answered, from how the parts of the program answer.
-use Rattle.std.proofs.Common.{◌≡◌, ℕ, List, Option, Result, Ok, Err, IfOk, IfErr, OnErr, inl, inr, refl, sym, subst}
+use Rattle.std.proofs.Common.{◌≡◌, ℕ, List, Option, Result, Ok, Err, IfOk, IfErr, OnErr, inl, inr, refl, sym, subst, ap, ◌∙◌}
 use Rattle.mm_text.specs.declared.counted.Counted.{Counted}
 use Rattle.mm_check.specs.Status.{number_of}
 use Rattle.mm_check.specs.declared.command.Command.{Command}
 use Rattle.mm_check.specs.declared.status.Status.{Status}
 use Rattle.mm_tool.specs.Words.{AsksRun}
-use Rattle.mm_tool.specs.Ending.{BreaksOff, Ends, AnswersWords, IsReplyOver, Stops, StopsRun, TakesWhole}
+use Rattle.mm_tool.specs.Ending.{BreaksOff, Ends, EndsUnread, AnswersWords, IsReplyOver, Stops, StopsRun, TakesWhole}
+use Rattle.mm_tool.specs.Ending.{TellsLine, error_line, stop_status, unread_stop}
+use Rattle.mm_tool.specs.declared.folder.ArgumentFault.{ArgumentFault}
+use Rattle.mm_tool.specs.declared.folder.ArgumentFault.TheVariants as argument
 use Rattle.mm_tool.specs.declared.texts.Texts.{Texts}
 use Rattle.mm_tool.specs.declared.stop.Stop.{Stop}
 use Rattle.mm_tool.specs.declared.stop.Stop.TheVariants.{Usage, NotText, CannotRead, CannotWrite, Memory}
@@ -51,3 +54,19 @@ pub ends_answered : {O E : Type 0} (contents : O → Option (List ℕ)) (said : 
 ends_answered contents said holds may_fail texts max words status number old new err same (text, answers, taken) =
     let Answered : ℕ → Type 0 = λ n. AnswersWords holds texts max words text n in
     inl (record { text = text; answers = subst Answered (sym same) answers; written = taken; quiet = (refl, refl) })
+
+-- The words were not read, and standard error was told why.
+pub ends_unread : {O E : Type 0} (said : E → Option (List ℕ)) (may_fail : Type 0) (status : Status) (number : ℕ) (stop : Stop) (fault : ArgumentFault)
+    (out : Counted O) (err err' : Counted E)
+    → number ≡ number_of status → status ≡ stop_status stop → stop ≡ unread_stop fault → (fault ≡ argument.NotText → may_fail)
+    → TellsLine said (error_line stop) err err'
+    → EndsUnread said may_fail number out out err err'
+ends_unread said may_fail status number stop fault out err err' same is reason cause told = record {
+  stop = stop;
+  fault = fault;
+  cause = cause;
+  reason = reason;
+  silent = (refl, refl);
+  ends = sym (same ∙ ap number_of is);
+  told = told;
+}

@@ -1,9 +1,21 @@
 -- The words are answered by the request that they make.
-use Rattle.std.proofs.Common.{ℕ, List, Bor, map, inl, inr, refl, subst, sym}
+use Rattle.std.proofs.Common.{ℕ, List, Bor, map, inl, inr, refl, rules, subst, sym}
 use Rattle.mm_tool.specs.Ending.{IsExplanation}
 use Rattle.mm_tool.specs.Words.{Asks, AsksExplain, AsksRun}
 use Rattle.mm_tool.proofs.Answering.{answers_command, stops_answer, stops_command}
 use Rattle.mm_tool.proofs.serve.answer.Goals as goal
+
+pub returns-in-Help-clause-answers : goal.returns-in-Help-clause-answers
+returns-in-Help-clause-answers g c = search rules
+
+pub returns-in-Help-clause-stops : goal.returns-in-Help-clause-stops
+returns-in-Help-clause-stops g c = search rules
+
+pub returns-in-Version-clause-answers : goal.returns-in-Version-clause-answers
+returns-in-Version-clause-answers g c = search rules
+
+pub returns-in-Version-clause-stops : goal.returns-in-Version-clause-stops
+returns-in-Version-clause-stops g c = search rules
 
 pub returns-in_ok-text-in-Explain-clause-stops : goal.returns-in_ok-text-in-Explain-clause-stops
 returns-in_ok-text-in-Explain-clause-stops g c =

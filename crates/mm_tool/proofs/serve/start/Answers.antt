@@ -1,5 +1,6 @@
 -- The words that are served are those with which the program was started.
-use Rattle.std.proofs.Common.{ℕ, List, IfSome, ◌≡◌, map, string_bytes, inl, subst, sym}
+use Rattle.std.proofs.Common.{ℕ, List, IfSome, ◌≡◌, map, string_bytes, inl, inr, subst, ap, Err, rules, sym}
+use Rattle.mm_tool.proofs.Answering.{ends_unread}
 use Rattle.mm_tool.proofs.serve.start.Goals as goal
 
 pub returns-in-Ok-texts_of-clause-ends : goal.returns-in-Ok-texts_of-clause-ends
@@ -13,3 +14,11 @@ returns-in-Ok-texts_of-clause-ends g c =
       subst (λ list. AreWords (map (λ text. text.now) list)) (sym c.deref-in-Ok-texts_of.ensures.value) texts,
       c.serve.ensures.ends,
     )
+
+pub returns-in-Err-clause-ends : goal.returns-in-Err-clause-ends
+returns-in-Err-clause-ends g c =
+    inr (ends_unread g.E.Write.contents (g.A.Arguments.may_fail c.args.arguments.now) c.tell.result c.number.result c.from.result c.in-Err.fault
+    c.args.out.now c.args.err.now c.tell.new.err c.number.ensures c.tell.ensures.status c.from.ensures (λ is. c.in-Err.ensures.cause (ap Err is)) c.tell.ensures.told)
+
+pub returns-clause-ends : goal.returns-clause-ends
+returns-clause-ends g c = search rules
