@@ -1,5 +1,5 @@
 -- What is answered of the tokens, where no step is unknown, is exact, and said of the prover's book.
-use Rattle.std.proofs.Common.{◌≡◌, ℕ, List, take, Result, Ok, Err, sym, subst, ◌∙◌}
+use Rattle.std.proofs.Common.{◌≡◌, ℕ, List, take, Result, Ok, Err, sym, subst, ◌∙◌, rules}
 use Rattle.std.specs.Result.{IsOkUnless}
 use Rattle.mm_frame.specs.Sentence.{Sentence}
 use Rattle.mm_proof.specs.declared.fault.ProofRule.{ProofRule}
@@ -75,3 +75,6 @@ returns-clause-refuses c none =
           rw w.result-is (subst (λ (v : Proving). Refuses v.book.statements c.args.id.0 texts (Err w.in-Err.fault)) c.self.view_is
           (tokens_refused r c.self.inside.book.statements c.args.id.0 texts c.prove_tokens.ensures.sound.0 (λ x is. absurd cc) w.in-Err.ensures.fault))
     ]
+
+pub returns-clause-complete : goal.returns-clause-complete
+returns-clause-complete c = search rules
