@@ -10,7 +10,7 @@ use Rattle.memchr.specs.Find.{Nowhere, Passes, is_byte}
 use Rattle.mm_text.specs.declared.fault.TextRule.TheVariants.{X1, X2, X3, X4}
 use Rattle.mm_text.specs.Token.{PlainToken, is_space, is_printable, with_byte, tokens_from}
 use Rattle.mm_text.specs.Items.{Clear, Broken, without_comments, spells, holds_mark}
-use Rattle.mm_text.specs.Mirror.Place.{is_legal, is_quiet, IsLegalFront, IsPlace, IsLater, place_at, comment_at, shown_at}
+use Rattle.mm_text.specs.Mirror.Place.{is_legal, is_quiet, IsLegalFront, IsJudged, IsSameFile, IsLater, comment_at, shown_at}
 use Rattle.std.specs.Cmp.Lexicographic.{bytes_decides}
 use Rattle.mm_text.specs.declared.comments.Place.{Place}
 use Rattle.mm_text.proofs.TokenLaws.{tokens_from-space, tokens_from-byte, tokens_from-nil, tokens_from-step, BeginFrom, tokens_from_begin, with_byte_apart, BeginsWithSpace, space_from_place}
@@ -196,6 +196,21 @@ quiet_before bytes at legal n front within none k low high =
     let other : (get_or bytes k 0 == 36) ≡ false = false_from_ne_true _ (λ e. none (k - at) (omega arith) (omega arith) (ap (λ b. b == 36) byte ∙ e)) in
     ap (λ l. l && not (get_or bytes k 0 == 36)) (front.front k (omega arith)) ∙ ap not other
 
+-- the same, where no byte before was such a one
+pub quiet_further : (bytes : List ℕ) (at from legal n : ℕ) → IsLegalFront bytes legal → from + n ≤ legal → Nowhere (Passes (is_byte 36) (slice_range bytes from legal)) 0 n
+    → ((k : ℕ) → at ≤ k → k < from → is_quiet (get_or bytes k 0) ≡ true)
+    → (k : ℕ) → at ≤ k → k < from + n → is_quiet (get_or bytes k 0) ≡ true
+quiet_further bytes at from legal n front within none before k low high =
+    ⊎_elim (λ (less : k < from). before k low less) (λ (further : from ≤ k). quiet_before bytes from legal n front within none k further high) (order k from)
+
+-- none was found at all
+pub quiet_to_end : (bytes : List ℕ) (at from legal : ℕ) → IsLegalFront bytes legal → from ≤ legal → Nowhere (Passes (is_byte 36) (slice_range bytes from legal)) 0 (length (slice_range bytes from legal))
+    → ((k : ℕ) → at ≤ k → k < from → is_quiet (get_or bytes k 0) ≡ true)
+    → (k : ℕ) → at ≤ k → k < legal → is_quiet (get_or bytes k 0) ≡ true
+quiet_to_end bytes at from legal front within none before k low high =
+    let long : length (slice_range bytes from legal) ≡ legal - from = length-take-le (legal - from) (drop from bytes) (omega (arith, length-drop from bytes, front.within)) in
+    quiet_further bytes at from legal (legal - from) front (omega arith) (λ j first below. none j first (omega arith)) before k low (omega arith)
+
 -- ---- the bytes of a token
 
 all_from_places : (p : ℕ → Bool) (xs : List ℕ) → ((k : ℕ) → k < length xs → p (get_or xs k 0) ≡ true) → list_all p xs ≡ true
@@ -220,26 +235,26 @@ token_printable bytes legal start stop front some within ink =
     all_from_places is_printable (slice_range bytes start stop) (λ k lt.
     ap is_printable (slice_byte bytes start stop k (omega arith)) ∙ legal_ink (get_or bytes (start + k) 0) (ink (start + k) (omega arith) (omega arith)) ∙ front.front (start + k) (omega arith))
 
--- a token across it does
-pub token_illegal : (bytes : List ℕ) (legal start stop : ℕ) → IsLegalFront bytes legal → start ≤ legal → legal < stop → stop ≤ length bytes → ((k : ℕ) → start ≤ k → k < stop → is_space (get_or bytes k 0) ≡ false)
+-- a token across such a byte does
+pub token_illegal : (bytes : List ℕ) (legal start stop : ℕ) → is_legal (get_or bytes legal 0) ≡ false → start ≤ legal → legal < stop → stop ≤ length bytes → ((k : ℕ) → start ≤ k → k < stop → is_space (get_or bytes k 0) ≡ false)
     → list_all is_printable (slice_range bytes start stop) ≡ false
-token_illegal bytes legal start stop front low high within ink =
+token_illegal bytes legal start stop bad low high within ink =
     let long : length (slice_range bytes start stop) ≡ stop - start = length-take-le (stop - start) (drop start bytes) (omega (arith, length-drop start bytes)) in
     let place : start + (legal - start) ≡ legal = omega arith in
     list_all_at is_printable (slice_range bytes start stop) (legal - start) 0 (omega arith)
-    (ap is_printable (slice_byte bytes start stop (legal - start) (omega arith) ∙ ap (λ m. get_or bytes m 0) place) ∙ legal_ink (get_or bytes legal 0) (ink legal low high) ∙ front.stops (omega arith))
+    (ap is_printable (slice_byte bytes start stop (legal - start) (omega arith) ∙ ap (λ m. get_or bytes m 0) place) ∙ legal_ink (get_or bytes legal 0) (ink legal low high) ∙ bad)
 
 -- ---- the next token of a comment that holds a `$` or a byte that may not stand there
 
 -- such a token stands here: what is before it is passed over
-pub comment_token : (begin : PlainToken) (p : Place) (stop start end : ℕ) (t : PlainToken) → IsPlace p → p.at ≤ start → start ≤ stop → stop ≤ p.legal
+pub comment_token : (begin : PlainToken) (p : Place) (stop start end : ℕ) (t : PlainToken) → p.at ≤ start → start ≤ stop → stop ≤ length p.bytes.now
     → ((k : ℕ) → p.at ≤ k → k < stop → is_quiet (get_or p.bytes.now k 0) ≡ true)
     → (start ≡ p.at) ⊎ ((k : ℕ) → k + 1 ≡ start → is_space (get_or p.bytes.now k 0) ≡ true)
     → ((file : ℕ) → tokens_from file start (drop start p.bytes.now) ≡ record { text = slice_range p.bytes.now start end; file = file; at = start } ∷ tokens_from file end (drop end p.bytes.now))
     → t ≡ record { text = slice_range p.bytes.now start end; file = p.file; at = start }
     → comment_at begin p ≡ without_comments (Some begin) (t ∷ tokens_from p.file end (drop end p.bytes.now))
-comment_token begin p stop start end t place from before within quiet apart token same =
-    passed_to begin p.bytes.now p.file p.at start from (omega (arith, place.front.within)) (λ k low high. quiet k low (omega arith)) apart
+comment_token begin p stop start end t from before within quiet apart token same =
+    passed_to begin p.bytes.now p.file p.at start from (omega arith) (λ k low high. quiet k low (omega arith)) apart
     ∙ ap (without_comments (Some begin)) (token p.file ∙ ap (λ (u : PlainToken). u ∷ tokens_from p.file end (drop end p.bytes.now)) (sym same))
 
 -- ---- tokens outside comments
@@ -277,17 +292,25 @@ pub outside_token : (p : Place) (start end : ℕ) (t : PlainToken)
 outside_token p start end t skipped token same =
     ap (without_comments None) (skipped p.file ∙ token p.file ∙ ap (λ (u : PlainToken). u ∷ tokens_from p.file end (drop end p.bytes.now)) (sym same))
 
--- a later place of a file
-pub later_place : (p : Place) (after : ℕ) → IsPlace p → IsLater p after → IsPlace (place_at p after)
-later_place p after place later = record { within = later.1; front = place.front; small = place.small }
+-- a later place of a file, up to which it was judged
+pub later_place : (p : Place) (at legal : ℕ) → IsLegalFront p.bytes.now legal → at ≤ legal → p.at < at → length p.bytes.now ≤ 1073741824 → IsLater p (record p { at = at; legal = legal })
+later_place p at legal front within after small = record {
+  place = record { within = within; front = front; small = small };
+  same = refl;
+  after = after;
+}
+
+-- the same file at a third place
+pub same_file_on : (p q r : Place) → IsSameFile p q → IsSameFile q r → IsSameFile p r
+same_file_on p q r e f = f ∙ ap (λ (s : Place). record s { at = r.at; legal = r.legal }) e
 
 -- what holds from one place up to another, and there
 pub below_more_from : (P : ℕ → Type 0) (low i : ℕ) → ((k : ℕ) → low ≤ k → k < i → P k) → P i → (k : ℕ) → low ≤ k → k < i + 1 → P k
 below_more_from P low i below here k from lt = ⊎_elim (λ (less : k < i). below k from less) (λ (e : i ≤ k). subst P (omega arith) here) (order k i)
 
 -- a byte that may not stand there isn't skipped as white space
-pub skipped_legal : (bytes : List ℕ) (legal at start : ℕ) → IsLegalFront bytes legal → at ≤ legal → start < length bytes → ((k : ℕ) → at ≤ k → k < start → is_space (get_or bytes k 0) ≡ true) → start ≤ legal
-skipped_legal bytes legal at start front from within space =
+pub skipped_legal : (bytes : List ℕ) (legal at start stop : ℕ) → IsJudged bytes legal stop → at ≤ legal → start < stop → ((k : ℕ) → at ≤ k → k < start → is_space (get_or bytes k 0) ≡ true) → start ≤ legal
+skipped_legal bytes legal at start stop judged from within space =
     ⊎_elim (λ (less : legal < start).
-    absurd (both_ways _ (front.stops (omega arith)) (or_right (is_printable (get_or bytes legal 0)) (is_space (get_or bytes legal 0)) (space legal from less))))
+    absurd (both_ways _ (judged.stops (omega arith)) (or_right (is_printable (get_or bytes legal 0)) (is_space (get_or bytes legal 0)) (space legal from less))))
     (λ (le : start ≤ legal). le) (order legal start)

@@ -4,8 +4,9 @@ ghost use Rattle.std.specs.Prelude.{◌≡◌, ℕ, ◌==◌, ◌&&◌, ◌||◌
 ghost use Rattle.std.specs.Prelude.{slice_index, slice_range};
 ghost use Rattle.mm_text.specs.Token.{plain_token, is_space};
 ghost use Rattle.mm_text.specs.Items.{holds_mark, spells};
-ghost use Rattle.mm_text.specs.Mirror.Place.{is_quiet, IsLegalFront, IsPlace, IsSameFile, GoesOn};
-ghost use Rattle.mm_text.specs.Mirror.Place.{EndsComment, TakesOne, TakesShown, shown_at};
+ghost use Rattle.mm_text.specs.Mirror.Place.{is_quiet, IsLegalFront, IsJudged, IsPlace, IsSameFile};
+ghost use Rattle.mm_text.specs.Mirror.Place.{GoesOn, EndsComment, TakesOne};
+ghost use Rattle.mm_text.specs.Mirror.Place.{TakesShown, shown_at};
 
 use crate::fault::TextRule;
 use crate::scan::{legal_end, skip_space, token_end, token_start};
@@ -19,18 +20,18 @@ pub struct Place<'a> {
     /// The number of the file.
     pub file: usize,
     pub at: usize,
-    /// The place of the first byte that no token may hold, or the file's end. It is found once, so
-    /// that no token is looked through for such a byte, and comments are skipped.
+    /// A place up to which no byte is one that may not stand in a file. It is found for many tokens
+    /// at once, so that none is looked through for such a byte, and comments are skipped.
     pub legal: usize,
 }
 
 /// What a part of a comment comes to, with the place after it.
 #[derive(Clone, Copy)]
-pub enum Comment {
+pub enum Comment<'a> {
     /// The comment goes on.
-    Open(usize),
+    Open(Place<'a>),
     /// A `$)` closes it.
-    Closed(usize),
+    Closed(Place<'a>),
 }
 
 /// What stands next in a file.
@@ -64,9 +65,24 @@ impl<'a> Place<'a> {
             bytes,
             file,
             at: 0,
-            legal: legal_end(bytes),
+            legal: 0,
         }
     }
+}
+
+/// A place up to which the bytes may stand in a file, where they may up to a first one: they are
+/// judged up to another one, if they weren't yet.
+#[inline(always)]
+fn judged(bytes: &[u8], legal: usize, wanted: usize) -> usize
+    requires front { IsLegalFront bytes.now legal }
+    requires within { wanted ≤ length bytes.now }
+    ensures from { legal ≤ result }
+    ensures judged { IsJudged bytes.now result wanted }
+{
+    if legal < wanted {
+        return legal_end(bytes, legal, wanted);
+    }
+    legal
 }
 
 /// Whether a token is `$(`.
@@ -118,38 +134,61 @@ fn make_token<'a>(bytes: &'a [u8], file: usize, start: usize, end: usize) -> Tok
     }
 }
 
+/// Where a comment may end or be wrong, and up to where the bytes may stand in a file.
+#[derive(Clone, Copy)]
+struct Stop {
+    at: usize,
+    legal: usize,
+}
+
 /// The next place at which a comment may end or be wrong: that of a `$`, or of a byte that no token
 /// may hold; the file's end where there is none.
-fn comment_stop(bytes: &[u8], at: usize, legal: usize) -> usize
+fn comment_stop(bytes: &[u8], at: usize, mut legal: usize) -> Stop
     requires front { IsLegalFront bytes.now legal }
     requires within { at ≤ legal }
-    ensures from { at ≤ result }
-    ensures within { result ≤ legal }
-    ensures quiet { (k : ℕ) → at ≤ k → k < result → is_quiet (slice_index bytes.now k) ≡ true }
-    ensures stops { result < length bytes.now → is_space (slice_index bytes.now result) ≡ false }
+    ensures front { IsLegalFront bytes.now result.legal }
+    ensures from { at ≤ result.at }
+    ensures within { result.at ≤ result.legal }
+    ensures quiet { (k : ℕ) → at ≤ k → k < result.at → is_quiet (slice_index bytes.now k) ≡ true }
+    ensures stops { result.at < length bytes.now
+        → is_space (slice_index bytes.now result.at) ≡ false }
 {
-    match memchr(b'$', &bytes[at..legal]) {
-        Some(ahead) => at + ahead,
-        None => legal,
+    let mut from = at;
+    'judged: loop {
+        if let Some(ahead) = memchr(b'$', &bytes[from..legal]) {
+            return Stop {
+                at: from + ahead,
+                legal,
+            };
+        }
+        if legal == bytes.len() {
+            return Stop { at: legal, legal };
+        }
+        from = legal;
+        legal = legal_end(bytes, from, from + 1);
+        if legal == from {
+            return Stop { at: from, legal };
+        }
     }
 }
 
 /// What a comment comes to at its next token that holds a `$` or a byte that no token may hold.
-fn comment_step<'a>(place: Place<'a>, begin: Token<'a>) -> Result<Comment, Wrong<'a>>
+fn comment_step<'a>(mut place: Place<'a>, begin: Token<'a>) -> Result<Comment<'a>, Wrong<'a>>
     requires place { IsPlace place }
     requires begin { begin.at < 1073741824 }
     ensures { GoesOn place.entry (plain_token begin.entry) result }
 {
     let stop = comment_stop(place.bytes, place.at, place.legal);
-    if stop == place.bytes.len() {
+    if stop.at == place.bytes.len() {
         return Err(Wrong {
             rule: TextRule::X2,
             token: begin,
         });
     }
-    let start = token_start(place.bytes, place.at, stop);
+    let start = token_start(place.bytes, place.at, stop.at);
     let end = token_end(place.bytes, start);
     let token = make_token(place.bytes, place.file, start, end);
+    place.legal = judged(place.bytes, stop.legal, end);
     if place.legal < end {
         return Err(Wrong {
             rule: TextRule::X1,
@@ -157,7 +196,7 @@ fn comment_step<'a>(place: Place<'a>, begin: Token<'a>) -> Result<Comment, Wrong
         });
     }
     if is_close(token.text) {
-        return Ok(Comment::Closed(end));
+        return Ok(Comment::Closed(Place { at: end, ..place }));
     }
     if holds_mark(token.text) {
         return Err(Wrong {
@@ -165,19 +204,19 @@ fn comment_step<'a>(place: Place<'a>, begin: Token<'a>) -> Result<Comment, Wrong
             token,
         });
     }
-    Ok(Comment::Open(end))
+    Ok(Comment::Open(Place { at: end, ..place }))
 }
 
 /// The place after the comment that begins with a `$(` before a place.
 #[inline(never)]
-fn comment_end<'a>(mut place: Place<'a>, begin: Token<'a>) -> Result<usize, Wrong<'a>>
+fn comment_end<'a>(mut place: Place<'a>, begin: Token<'a>) -> Result<Place<'a>, Wrong<'a>>
     requires place { IsPlace place }
     requires begin { begin.at < 1073741824 }
     ensures { EndsComment place.entry (plain_token begin.entry) result }
 {
     'parts: loop {
         match comment_step(place, begin)? {
-            Comment::Open(after) => place.at = after,
+            Comment::Open(after) => place = after,
             Comment::Closed(after) => return Ok(after),
         }
     }
@@ -197,6 +236,7 @@ fn take_one<'a>(place: &mut Place<'a>) -> Result<Found<'a>, Wrong<'a>>
     }
     let end = token_end(place.bytes, start);
     let token = make_token(place.bytes, place.file, start, end);
+    place.legal = judged(place.bytes, place.legal, end);
     if place.legal < end {
         return Err(Wrong {
             rule: TextRule::X1,
@@ -210,7 +250,7 @@ fn take_one<'a>(place: &mut Place<'a>) -> Result<Found<'a>, Wrong<'a>>
         });
     }
     if is_begin(token.text) {
-        place.at = comment_end(Place { at: end, ..*place }, token)?;
+        *place = comment_end(Place { at: end, ..*place }, token)?;
         return Ok(Found::Comment);
     }
     place.at = end;

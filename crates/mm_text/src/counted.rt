@@ -32,6 +32,12 @@ pub trait Source {
         ensures bytes { ReadConsumes (left self.old) (left self.new) result piece.new }
         ensures cause { OnErr result (may_fail self.old) }
         ensures later { may_fail self.new → may_fail self.old };
+
+    /// How many bytes are left, as far as one can tell before they come. Nothing rests on it: where
+    /// it's wrong, time or room is lost.
+    fn expected(&self) -> usize {
+        0
+    }
 }
 
 /// Of a reader it isn't known when a call fails.
@@ -80,6 +86,11 @@ impl<T> Counted<T> {
 }
 
 impl<S: Source> Counted<S> {
+    /// How many bytes the source is expected to give. More or fewer may come.
+    pub fn expected(&self) -> usize {
+        self.inner.expected()
+    }
+
     /// Reads once, and answers what the source answers. The count rises by one exactly where that
     /// is an error. No clause says which error came, since the source's own contract does not.
     pub fn read(&mut self, buf: &mut [u8]) -> io::Result<usize>

@@ -1,5 +1,5 @@
 //! Reading a device to its end, up to a limit.
-ghost use Rattle.std.specs.Prelude.{◌≡◌, ◌+◌, ◌<◌, ◌≤◌, ◌↔◌, length, OnOk, IfOk, IfSome, IsErrOf};
+ghost use Rattle.std.specs.Prelude.{[], ◌≡◌, ◌+◌, ◌<◌, ◌≤◌, ◌↔◌, length, OnOk, IfOk, IfSome, IsErrOf};
 ghost use Rattle.std.specs.Prelude.{vec_len};
 ghost use Rattle.std.specs.Io.KnownBytes.{IsAtEnd};
 ghost use Rattle.mm_text.specs.Device.{faults_of, inner_of, CameWithin, CameSome, CameOver};
@@ -33,6 +33,16 @@ impl From<AllocError> for LoadFault {
 
 /// How many bytes one call of the source may give.
 const PIECE: usize = 64 * 1024;
+
+/// Room for so many bytes, or none where so much is refused.
+fn room_for(alloc: Global, count: usize) -> Vec<u8>
+    ensures { result.items ≡ [] }
+{
+    match Vec::with_capacity(alloc, count) {
+        Ok(bytes) => bytes,
+        Err(_) => Vec::new(alloc),
+    }
+}
 
 /// All bytes that the source gives up to its end, at most `max` of them. Stops at the first
 /// failed call.
@@ -70,7 +80,7 @@ pub fn read_all<S: Source>(
         faults_of reader.new ≡ faults_of reader.old }
 {
     let mut piece = [0; PIECE];
-    let mut bytes = Vec::new(alloc);
+    let mut bytes = room_for(alloc, reader.expected().min(max));
     loop {
         let count = match reader.read(&mut piece) {
             Ok(0) => return Ok(bytes),

@@ -4,7 +4,7 @@ ghost use Rattle.std.specs.Prelude.{◌≡◌, ℕ, ◌<◌, ◌≤◌, ◌+◌,
 ghost use Rattle.std.specs.Prelude.{slice_index, slice_range};
 ghost use Rattle.std.specs.List.{list_all};
 ghost use Rattle.mm_text.specs.Token.{is_space, tokens_from};
-ghost use Rattle.mm_text.specs.Mirror.Place.{is_legal, IsLegalFront};
+ghost use Rattle.mm_text.specs.Mirror.Place.{is_legal, IsLegalFront, IsJudged};
 
 /// Whether a byte is white space.
 fn is_space(byte: u8) -> bool
@@ -95,13 +95,15 @@ fn are_legal(bytes: &[u8]) -> bool
 /// So many bytes are judged at once.
 const BLOCK: usize = 256;
 
-/// The end of the whole blocks at a file's front in which all bytes may stand in a file.
-fn legal_blocks(bytes: &[u8]) -> usize
-    ensures within { result ≤ length bytes.now }
-    ensures front { (k : ℕ) → k < result → is_legal (slice_index bytes.now k) ≡ true }
+/// The end of whole blocks in which all bytes may stand in a file: from a place on, up to another
+/// one at least, unless a byte may not or the file has no whole block left.
+fn legal_blocks(bytes: &[u8], start: usize, wanted: usize) -> usize
+    requires { IsLegalFront bytes.now start }
+    ensures from { start ≤ result }
+    ensures front { IsLegalFront bytes.now result }
 {
-    let mut end = 0;
-    while bytes.len() - end >= BLOCK {
+    let mut end = start;
+    while end < wanted && bytes.len() - end >= BLOCK {
         if !are_legal(&bytes[end..end + BLOCK]) {
             return end;
         }
@@ -110,14 +112,35 @@ fn legal_blocks(bytes: &[u8]) -> usize
     end
 }
 
-/// The place of the first byte that may not stand in a file, or the file's end.
-pub fn legal_end(bytes: &[u8]) -> usize
-    ensures { IsLegalFront bytes.now result }
+/// Judges the bytes from a place on, before which all may stand in a file, up to another one at
+/// least. Answers the place of the first that may not, or one that isn't before the other.
+fn legal_up_to(bytes: &[u8], start: usize, wanted: usize) -> usize
+    requires front { IsLegalFront bytes.now start }
+    requires within { wanted ≤ length bytes.now }
+    ensures from { start ≤ result }
+    ensures judged { IsJudged bytes.now result wanted }
 {
-    for at in legal_blocks(bytes)..bytes.len() {
+    let end = legal_blocks(bytes, start, wanted);
+    for at in end..wanted {
         if !is_legal(bytes[at]) {
             return at;
         }
     }
-    bytes.len()
+    end.max(wanted)
+}
+
+/// So many bytes are judged before they are read: few enough to be in the processor's cache still
+/// when they are.
+const AHEAD: usize = 32 * 1024;
+
+/// As `legal_up_to`, and some bytes further.
+#[inline(never)]
+pub fn legal_end(bytes: &[u8], start: usize, wanted: usize) -> usize
+    requires front { IsLegalFront bytes.now start }
+    requires within { wanted ≤ length bytes.now }
+    ensures from { start ≤ result }
+    ensures judged { IsJudged bytes.now result wanted }
+{
+    let further = AHEAD.min(bytes.len() - wanted);
+    legal_up_to(bytes, start, wanted + further)
 }

@@ -7,6 +7,8 @@ ghost use Rattle.std.specs.Prelude.{IsErrOf, string_bytes};
 use mm_text::Source;
 use std::alloc::{AllocError, AllocGlobal, Global};
 use std::env::Env;
+use std::fs::OpenFile;
+use std::io::Read;
 use std::rt::Files;
 use std::{env, fs, io};
 use thiserror::Error;
@@ -79,20 +81,41 @@ pub(crate) trait Arguments {
         ensures cause { IsErrOf result ArgumentFault.NotText → may_fail self.now };
 }
 
+/// An open file of the host, which tells how long it is.
+#[derive(Drop)]
+pub(crate) struct HostFile<F>(F);
+
+impl<F: Read + OpenFile> Source for HostFile<F> {
+    ghost left = { λ file. F.remaining file.0 };
+
+    ghost may_fail = { λ _. ⊤ };
+
+    fn give(&mut self, piece: &mut [u8]) -> io::Result<usize> {
+        self.0.read(piece)
+    }
+
+    fn expected(&self) -> usize {
+        match self.0.metadata() {
+            Ok(metadata) => metadata.len() as usize,
+            Err(_) => 0,
+        }
+    }
+}
+
 /// The host that the program runs on. Nothing is known of what its files hold, nor of its words,
 /// nor of when it fails.
 #[derive(Drop)]
 pub(crate) struct Host<'r, R>(pub(crate) &'r R);
 
 impl<R: Files> Folder for Host<'_, R> {
-    type File = R::File;
+    type File = HostFile<R::File>;
 
     ghost holds = { λ _ _. None };
 
     ghost may_fail = { λ _ _. ⊤ };
 
-    fn open(&self, name: &str) -> io::Result<R::File> {
-        fs::open(self.0, name)
+    fn open(&self, name: &str) -> io::Result<HostFile<R::File>> {
+        Ok(HostFile(fs::open(self.0, name)?))
     }
 }
 

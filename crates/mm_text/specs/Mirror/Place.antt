@@ -1,5 +1,5 @@
--- How the code goes through a file: from a place on, knowing where the first byte stands that no
--- token may hold. Private clauses speak of this.
+-- How the code goes through a file: from a place on, knowing up to where the bytes may stand in a
+-- file. Private clauses speak of this.
 use Rattle.std.specs.Prelude.{◌≡◌, ℕ, ◌<◌, ◌≤◌, ◌||◌, List, [], ◌∷◌, length, drop, ◌&&◌, ◌==◌, not}
 use Rattle.std.specs.Prelude.{Bool, true, false, codes, Option, Some, None, Result, Ok, Err}
 use Rattle.std.specs.Prelude.{slice_index}
@@ -21,11 +21,15 @@ is_legal b = is_printable b || is_space b
 abbrev pub is_quiet : ℕ → Bool
 is_quiet b = is_legal b && not (b == 36)
 
--- the bytes up to a place may stand in a file, and the one there, if there is one, may not
+-- the bytes up to a place may stand in a file
 pub record IsLegalFront (bytes : List ℕ) (stop : ℕ) : Type 0 where
   pub within : stop ≤ length bytes
   pub front : (k : ℕ) → k < stop → is_legal (slice_index bytes k) ≡ true
-  pub stops : stop < length bytes → is_legal (slice_index bytes stop) ≡ false
+
+-- the bytes up to a place may stand in a file, and where another one is further on, the next may not
+pub record IsJudged (bytes : List ℕ) (stop wanted : ℕ) : Type 0 where
+  pub front : IsLegalFront bytes stop
+  pub stops : stop < wanted → is_legal (slice_index bytes stop) ≡ false
 
 -- what holds of each place that is handed on
 pub record IsPlace (p : Place) : Type 0 where
@@ -41,17 +45,15 @@ shown_at p = without_comments None (tokens_from p.file p.at (drop p.at p.bytes.n
 abbrev pub comment_at : PlainToken → Place → List Shown
 comment_at begin p = without_comments (Some begin) (tokens_from p.file p.at (drop p.at p.bytes.now))
 
--- a file from another place on
-abbrev pub place_at : Place → ℕ → Place
-place_at p at = record p { at = at }
-
--- nothing but the place in the file is another
+-- a file up to another place, judged further
 abbrev pub IsSameFile : Place → Place → Type 0
-IsSameFile old new = new ≡ place_at old new.at
+IsSameFile old new = new ≡ record old { at = new.at; legal = new.legal }
 
--- a later place of a file, before which no byte stands that may not
-abbrev pub IsLater : Place → ℕ → Type 0
-IsLater p after = (p.at < after) × (after ≤ p.legal)
+-- a later place of the same file
+pub record IsLater (old new : Place) : Type 0 where
+  pub place : IsPlace new
+  pub same : IsSameFile old new
+  pub after : old.at < new.at
 
 -- nothing is left but a fault
 abbrev pub IsBroken : List Shown → Wrong → Type 0
@@ -65,15 +67,13 @@ pub record IsClear (t : Token) : Type 0 where
 
 -- what a part of a comment comes to
 abbrev pub GoesOn : Place → PlainToken → Result Comment Wrong → Type 0
-GoesOn p begin (Ok (Open after)) =
-    IsLater p after × (comment_at begin p ≡ comment_at begin (place_at p after))
-GoesOn p begin (Ok (Closed after)) =
-    IsLater p after × (comment_at begin p ≡ shown_at (place_at p after))
+GoesOn p begin (Ok (Open after)) = IsLater p after × (comment_at begin p ≡ comment_at begin after)
+GoesOn p begin (Ok (Closed after)) = IsLater p after × (comment_at begin p ≡ shown_at after)
 GoesOn p begin (Err w) = IsBroken (comment_at begin p) w
 
 -- what the whole comment comes to
-abbrev pub EndsComment : Place → PlainToken → Result ℕ Wrong → Type 0
-EndsComment p begin (Ok after) = IsLater p after × (comment_at begin p ≡ shown_at (place_at p after))
+abbrev pub EndsComment : Place → PlainToken → Result Place Wrong → Type 0
+EndsComment p begin (Ok after) = IsLater p after × (comment_at begin p ≡ shown_at after)
 EndsComment p begin (Err w) = IsBroken (comment_at begin p) w
 
 -- one token or comment is taken

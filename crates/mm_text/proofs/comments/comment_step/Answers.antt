@@ -1,14 +1,14 @@
 use Rattle.std.proofs.Common.{sym, ap, ◌∙◌, arith}
 use Rattle.std.specs.List.{list_all}
 use Rattle.mm_text.specs.Token.{PlainToken, plain_token, is_printable}
-use Rattle.mm_text.proofs.CommentLaws.{comment_token, passed_all, in_comment-illegal, in_comment-close, in_comment-mark, in_comment-more, token_printable, token_illegal}
+use Rattle.mm_text.proofs.CommentLaws.{comment_token, passed_all, in_comment-illegal, in_comment-close, in_comment-mark, in_comment-more, token_printable, token_illegal, later_place}
 use Rattle.mm_text.proofs.comments.comment_step.Goals as goal
 
 -- no `$)` is left
 pub returns-then-stop-place : goal.returns-then-stop-place
 returns-then-stop-place c =
     let p = c.args.place in (
-      passed_all (plain_token c.args.begin) p.bytes.now p.file p.at (omega (arith, c.requires.place.front.within))
+      passed_all (plain_token c.args.begin) p.bytes.now p.file p.at (omega (arith, c.comment_stop-stop.ensures.front.within))
           (λ k low high. c.comment_stop-stop.ensures.quiet k low (omega arith)),
       c.requires.begin,
     )
@@ -19,8 +19,8 @@ returns-then-place-end c =
     let start = c.token_start-start.result in
     let end = c.token_end-end.result in
     let t = plain_token c.make_token-token.result in
-    let illegal = token_illegal p.bytes.now p.legal start end c.requires.place.front (omega arith) (omega arith) (omega arith) c.token_end-end.ensures.ink in (
-      comment_token (plain_token c.args.begin) p c.comment_stop-stop.result start end t c.requires.place (omega arith) (omega arith) (omega arith)
+    let illegal = token_illegal p.bytes.now c.judged.result start end (c.judged.ensures.judged.stops (omega arith)) (omega arith) (omega arith) (omega arith) c.token_end-end.ensures.ink in (
+      comment_token (plain_token c.args.begin) p c.comment_stop-stop.result.at start end t (omega arith) (omega arith) (omega arith)
           c.comment_stop-stop.ensures.quiet c.token_start-start.ensures.apart c.token_end-end.ensures.token c.make_token-token.ensures.token
           ∙ in_comment-illegal (plain_token c.args.begin) t _ (ap (λ (u : PlainToken). list_all is_printable u.text) c.make_token-token.ensures.token ∙ illegal),
       c.make_token-token.ensures.at,
@@ -32,9 +32,9 @@ returns-then-is_close c =
     let start = c.token_start-start.result in
     let end = c.token_end-end.result in
     let t = plain_token c.make_token-token.result in
-    let printable = token_printable p.bytes.now p.legal start end c.requires.place.front (omega arith) (omega arith) c.token_end-end.ensures.ink in (
-      (omega arith, omega arith),
-      comment_token (plain_token c.args.begin) p c.comment_stop-stop.result start end t c.requires.place (omega arith) (omega arith) (omega arith)
+    let printable = token_printable p.bytes.now c.judged.result start end c.judged.ensures.judged.front (omega arith) (omega arith) c.token_end-end.ensures.ink in (
+      later_place p end c.judged.result c.judged.ensures.judged.front (omega arith) (omega arith) c.requires.place.small,
+      comment_token (plain_token c.args.begin) p c.comment_stop-stop.result.at start end t (omega arith) (omega arith) (omega arith)
           c.comment_stop-stop.ensures.quiet c.token_start-start.ensures.apart c.token_end-end.ensures.token c.make_token-token.ensures.token
           ∙ in_comment-close (plain_token c.args.begin) t _ (ap (λ (u : PlainToken). list_all is_printable u.text) c.make_token-token.ensures.token ∙ printable)
           (sym c.is_close.ensures ∙ c.if-is_close.true),
@@ -46,8 +46,8 @@ returns-then-holds_mark c =
     let start = c.token_start-start.result in
     let end = c.token_end-end.result in
     let t = plain_token c.make_token-token.result in
-    let printable = token_printable p.bytes.now p.legal start end c.requires.place.front (omega arith) (omega arith) c.token_end-end.ensures.ink in (
-      comment_token (plain_token c.args.begin) p c.comment_stop-stop.result start end t c.requires.place (omega arith) (omega arith) (omega arith)
+    let printable = token_printable p.bytes.now c.judged.result start end c.judged.ensures.judged.front (omega arith) (omega arith) c.token_end-end.ensures.ink in (
+      comment_token (plain_token c.args.begin) p c.comment_stop-stop.result.at start end t (omega arith) (omega arith) (omega arith)
           c.comment_stop-stop.ensures.quiet c.token_start-start.ensures.apart c.token_end-end.ensures.token c.make_token-token.ensures.token
           ∙ in_comment-mark (plain_token c.args.begin) t _ (ap (λ (u : PlainToken). list_all is_printable u.text) c.make_token-token.ensures.token ∙ printable)
           (sym c.is_close.ensures ∙ c.if-is_close.false) (sym c.holds_mark.ensures ∙ c.if-holds_mark.true),
@@ -60,9 +60,9 @@ returns c =
     let start = c.token_start-start.result in
     let end = c.token_end-end.result in
     let t = plain_token c.make_token-token.result in
-    let printable = token_printable p.bytes.now p.legal start end c.requires.place.front (omega arith) (omega arith) c.token_end-end.ensures.ink in (
-      (omega arith, omega arith),
-      comment_token (plain_token c.args.begin) p c.comment_stop-stop.result start end t c.requires.place (omega arith) (omega arith) (omega arith)
+    let printable = token_printable p.bytes.now c.judged.result start end c.judged.ensures.judged.front (omega arith) (omega arith) c.token_end-end.ensures.ink in (
+      later_place p end c.judged.result c.judged.ensures.judged.front (omega arith) (omega arith) c.requires.place.small,
+      comment_token (plain_token c.args.begin) p c.comment_stop-stop.result.at start end t (omega arith) (omega arith) (omega arith)
           c.comment_stop-stop.ensures.quiet c.token_start-start.ensures.apart c.token_end-end.ensures.token c.make_token-token.ensures.token
           ∙ in_comment-more (plain_token c.args.begin) t _ (ap (λ (u : PlainToken). list_all is_printable u.text) c.make_token-token.ensures.token ∙ printable)
           (sym c.is_close.ensures ∙ c.if-is_close.false) (sym c.holds_mark.ensures ∙ c.if-holds_mark.false),

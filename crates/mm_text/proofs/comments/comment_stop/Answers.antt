@@ -1,21 +1,39 @@
 use Rattle.std.proofs.Common.{◌≡◌, ◌≤◌, ◌-◌, ◌+◌, length, drop, take, arith}
 use Rattle.std.proofs.lemmas.List.{length-drop, length-take-le}
-use Rattle.mm_text.proofs.CommentLaws.{quiet_before}
+use Rattle.mm_text.proofs.CommentLaws.{quiet_further, quiet_to_end}
 use Rattle.mm_text.proofs.comments.comment_stop.Goals as goal
 
 pub returns-in-Some-clause-quiet : goal.returns-in-Some-clause-quiet
 returns-in-Some-clause-quiet c =
     let bytes = c.args.bytes.now in
-    let ahead = c.args.legal - c.args.at in
-    let long : length (take ahead (drop c.args.at bytes)) ≡ ahead =
-    length-take-le ahead (drop c.args.at bytes) (omega (arith, length-drop c.args.at bytes, c.requires.front.within)) in
-    let within : c.args.at + c.in-Some.ahead ≤ c.args.legal = omega (arith, c.in-Some.ensures.0.high) in
-    quiet_before bytes c.args.at c.args.legal c.in-Some.ahead c.requires.front within c.in-Some.ensures.0.before
+    let from = c.judged.from in
+    let legal = c.judged.legal in
+    let front = c.judged.invariant.front in
+    let long : length (take (legal - from) (drop from bytes)) ≡ legal - from =
+    length-take-le (legal - from) (drop from bytes) (omega (arith, length-drop from bytes, front.within)) in
+    let within : from + c.in-Some.ahead ≤ legal = omega (arith, c.in-Some.ensures.0.high) in
+    quiet_further bytes c.args.at from legal c.in-Some.ahead front within c.in-Some.ensures.0.before c.judged.invariant.quiet
 
-pub returns-in-None-clause-quiet : goal.returns-in-None-clause-quiet
-returns-in-None-clause-quiet c k low high =
-    let bytes = c.args.bytes.now in
-    let ahead = c.args.legal - c.args.at in
-    let long : length (take ahead (drop c.args.at bytes)) ≡ ahead =
-    length-take-le ahead (drop c.args.at bytes) (omega (arith, length-drop c.args.at bytes, c.requires.front.within)) in
-    quiet_before bytes c.args.at c.args.legal ahead c.requires.front (omega arith) (λ j from below. c.in-None.ensures j from (omega arith)) k low (omega arith)
+pub returns-then-legal-bytes-clause-quiet : goal.returns-then-legal-bytes-clause-quiet
+returns-then-legal-bytes-clause-quiet c =
+    quiet_to_end c.args.bytes.now c.args.at c.judged.from c.judged.legal c.judged.invariant.front c.judged.invariant.within
+    c.in_default.ensures c.judged.invariant.quiet
+
+pub returns-then-legal-from-clause-quiet : goal.returns-then-legal-from-clause-quiet
+returns-then-legal-from-clause-quiet c =
+    quiet_to_end c.args.bytes.now c.args.at c.judged.from c.judged.legal c.judged.invariant.front c.judged.invariant.within
+    c.in_default.ensures c.judged.invariant.quiet
+
+pub judged-smaller : goal.judged-smaller
+judged-smaller c = omega (arith, c.legal_end-legal.ensures.judged.front.within)
+
+-- the next bytes are judged
+pub judged-preserved : goal.judged-preserved
+judged-preserved c = record {
+  front = c.legal_end-legal.ensures.judged.front;
+  after = omega (arith, c.judged.invariant.after, c.judged.invariant.within);
+  within = c.legal_end-legal.ensures.from;
+  quiet =
+      quiet_to_end c.args.bytes.now c.args.at c.judged.from c.judged.legal c.judged.invariant.front c.judged.invariant.within
+      c.in_default.ensures c.judged.invariant.quiet;
+}
