@@ -12,6 +12,7 @@ use Rattle.mm_text.specs.Token.{PlainToken, is_space, is_printable, with_byte, t
 use Rattle.mm_text.specs.Items.{Clear, Broken, without_comments, spells, holds_mark}
 use Rattle.mm_text.specs.Mirror.Place.{is_legal, is_quiet, IsLegalFront, IsJudged, IsSameFile, IsLater, comment_at, shown_at}
 use Rattle.std.specs.Cmp.Lexicographic.{bytes_decides}
+use Rattle.mm_text.proofs.LegalLaws.{all_from_places}
 use Rattle.mm_text.specs.declared.comments.Place.{Place}
 use Rattle.mm_text.proofs.TokenLaws.{tokens_from-space, tokens_from-byte, tokens_from-nil, tokens_from-step, BeginFrom, tokens_from_begin, with_byte_apart, BeginsWithSpace, space_from_place}
 
@@ -212,10 +213,6 @@ quiet_to_end bytes at from legal front within none before k low high =
     quiet_further bytes at from legal (legal - from) front (omega arith) (λ j first below. none j first (omega arith)) before k low (omega arith)
 
 -- ---- the bytes of a token
-
-all_from_places : (p : ℕ → Bool) (xs : List ℕ) → ((k : ℕ) → k < length xs → p (get_or xs k 0) ≡ true) → list_all p xs ≡ true
-all_from_places p [] h = refl
-all_from_places p (x ∷ xs) h = ap (λ b. b && list_all p xs) (h 0 (omega arith)) ∙ all_from_places p xs (λ k lt. h (suc k) (omega arith))
 
 legal_ink : (b : ℕ) → is_space b ≡ false → is_printable b ≡ is_legal b
 legal_ink b ink = sym (or_false (is_printable b)) ∙ ap (λ s. is_printable b || s) (sym ink)

@@ -92,8 +92,30 @@ fn are_legal(bytes: &[u8]) -> bool
     so_far
 }
 
+/// Whether all bytes are printable ones, spaces and line feeds, as those of nearly every file are:
+/// two bounds on them tell it, which is faster than to judge each.
+fn are_plain(bytes: &[u8]) -> bool
+    ensures { result ≡ true → list_all is_legal bytes.now ≡ true }
+{
+    let mut least = u8::MAX;
+    let mut greatest = 0;
+    for at in 0..bytes.len() {
+        let byte = bytes[at];
+        least = least.min(if byte == b'\n' { u8::MAX } else { byte });
+        greatest = greatest.max(byte);
+    }
+    least >= b' ' && greatest <= b'~'
+}
+
+/// Whether all bytes of a block may stand in a file.
+fn is_legal_block(block: &[u8]) -> bool
+    ensures { result ≡ list_all is_legal block.now }
+{
+    are_plain(block) || are_legal(block)
+}
+
 /// So many bytes are judged at once.
-const BLOCK: usize = 256;
+const BLOCK: usize = 1024;
 
 /// The end of whole blocks in which all bytes may stand in a file: from a place on, up to another
 /// one at least, unless a byte may not or the file has no whole block left.
@@ -104,7 +126,7 @@ fn legal_blocks(bytes: &[u8], start: usize, wanted: usize) -> usize
 {
     let mut end = start;
     while end < wanted && bytes.len() - end >= BLOCK {
-        if !are_legal(&bytes[end..end + BLOCK]) {
+        if !is_legal_block(&bytes[end..end + BLOCK]) {
             return end;
         }
         end += BLOCK;

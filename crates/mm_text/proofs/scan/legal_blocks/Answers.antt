@@ -11,11 +11,11 @@ pub loop-end-preserved : goal.loop-end-preserved
 loop-end-preserved c =
     let bytes = c.args.bytes.now in
     let end = c.loop-end.end in
-    let within : end + 256 ≤ length bytes = omega arith in
-    let all : list_all is_legal (slice_range bytes end (end + 256)) ≡ true = sym c.are_legal.ensures ∙ c.if-not-are_legal.false in (
+    let within : end + 1024 ≤ length bytes = omega arith in
+    let all : list_all is_legal (slice_range bytes end (end + 1024)) ≡ true = sym c.is_legal_block.ensures ∙ c.if-not-is_legal_block.false in (
       omega (arith, c.loop-end.invariant.0),
       record {
         within = within;
-        front = λ k high. ⊎_elim (λ before. c.loop-end.invariant.1.front k before) (λ from. legal_in bytes end (end + 256) k within from high all) (order k end);
+        front = λ k high. ⊎_elim (λ before. c.loop-end.invariant.1.front k before) (λ from. legal_in bytes end (end + 1024) k within from high all) (order k end);
       },
     )
