@@ -5,8 +5,7 @@ ghost use Rattle.std.specs.Prelude.{slice_index, slice_range};
 ghost use Rattle.mm_text.specs.Token.{plain_token, is_space};
 ghost use Rattle.mm_text.specs.Items.{holds_mark, spells};
 ghost use Rattle.mm_text.specs.Mirror.Place.{is_quiet, IsLegalFront, IsJudged, IsPlace, IsSameFile};
-ghost use Rattle.mm_text.specs.Mirror.Place.{GoesOn, EndsComment, TakesOne};
-ghost use Rattle.mm_text.specs.Mirror.Place.{TakesShown, shown_at};
+ghost use Rattle.mm_text.specs.Mirror.Place.{GoesOn, EndsComment, TakesOne, TakesShown, shown_at};
 
 use crate::fault::TextRule;
 use crate::scan::{legal_end, skip_space, token_end, token_start};
@@ -20,8 +19,8 @@ pub struct Place<'a> {
     /// The number of the file.
     pub file: usize,
     pub at: usize,
-    /// A place up to which no byte is one that may not stand in a file. It is found for many tokens
-    /// at once, so that none is looked through for such a byte, and comments are skipped.
+    /// A place up to which all bytes may stand in a file. It is found for many tokens at once, so
+    /// that none is looked through for other bytes, and comments are skipped.
     pub legal: usize,
 }
 
@@ -70,8 +69,8 @@ impl<'a> Place<'a> {
     }
 }
 
-/// A place up to which the bytes may stand in a file, where they may up to a first one: they are
-/// judged up to another one, if they weren't yet.
+/// A place up to which the bytes may stand in a file, no further back than the one that is known.
+/// Those up to a wanted place are judged, if they weren't yet.
 #[inline(always)]
 fn judged(bytes: &[u8], legal: usize, wanted: usize) -> usize
     requires front { IsLegalFront bytes.now legal }

@@ -33,8 +33,8 @@ pub trait Source {
         ensures cause { OnErr result (may_fail self.old) }
         ensures later { may_fail self.new → may_fail self.old };
 
-    /// How many bytes are left, as far as one can tell before they come. Nothing rests on it: where
-    /// it's wrong, time or room is lost.
+    /// How many bytes are left, as far as can be told before they come. Room is made for so many.
+    /// Where it's wrong, nothing but time or room is lost.
     fn expected(&self) -> usize {
         0
     }
@@ -87,7 +87,7 @@ impl<T> Counted<T> {
 
 impl<S: Source> Counted<S> {
     /// How many bytes the source is expected to give. More or fewer may come.
-    pub fn expected(&self) -> usize {
+    pub(crate) fn expected(&self) -> usize {
         self.inner.expected()
     }
 

@@ -1,6 +1,6 @@
 //! Reading a device to its end, up to a limit.
-ghost use Rattle.std.specs.Prelude.{[], ◌≡◌, ◌+◌, ◌<◌, ◌≤◌, ◌↔◌, length, OnOk, IfOk, IfSome, IsErrOf};
-ghost use Rattle.std.specs.Prelude.{vec_len};
+ghost use Rattle.std.specs.Prelude.{◌≡◌, ◌+◌, ◌<◌, ◌≤◌, ◌↔◌, length, OnOk, IfOk, IfSome, IsErrOf};
+ghost use Rattle.std.specs.Prelude.{vec_len, []};
 ghost use Rattle.std.specs.Io.KnownBytes.{IsAtEnd};
 ghost use Rattle.mm_text.specs.Device.{faults_of, inner_of, CameWithin, CameSome, CameOver};
 ghost use Rattle.mm_text.specs.declared.load.LoadFault.TheVariants.{Memory};

@@ -117,8 +117,8 @@ fn is_legal_block(block: &[u8]) -> bool
 /// So many bytes are judged at once.
 const BLOCK: usize = 1024;
 
-/// The end of whole blocks in which all bytes may stand in a file: from a place on, up to another
-/// one at least, unless a byte may not or the file has no whole block left.
+/// The end of the whole blocks from a place on in which all bytes may stand in a file, up to the
+/// first that ends at a wanted place or after it.
 fn legal_blocks(bytes: &[u8], start: usize, wanted: usize) -> usize
     requires { IsLegalFront bytes.now start }
     ensures from { start ≤ result }
@@ -134,8 +134,8 @@ fn legal_blocks(bytes: &[u8], start: usize, wanted: usize) -> usize
     end
 }
 
-/// Judges the bytes from a place on, before which all may stand in a file, up to another one at
-/// least. Answers the place of the first that may not, or one that isn't before the other.
+/// Judges the bytes from a place on, before which all may stand in a file, up to a wanted one at
+/// least. Answers the place of the first that may not, or one that isn't before the wanted.
 fn legal_up_to(bytes: &[u8], start: usize, wanted: usize) -> usize
     requires front { IsLegalFront bytes.now start }
     requires within { wanted ≤ length bytes.now }
@@ -151,11 +151,11 @@ fn legal_up_to(bytes: &[u8], start: usize, wanted: usize) -> usize
     end.max(wanted)
 }
 
-/// So many bytes are judged before they are read: few enough to be in the processor's cache still
-/// when they are.
-const AHEAD: usize = 32 * 1024;
+/// So many bytes are judged beyond those that are wanted, so at least a whole block. Then they are
+/// read, which finds them in the processor's cache, and the next ones come from memory meanwhile.
+const AHEAD: usize = BLOCK - 1;
 
-/// As `legal_up_to`, and some bytes further.
+/// As `legal_up_to`, and up to a block further.
 #[inline(never)]
 pub fn legal_end(bytes: &[u8], start: usize, wanted: usize) -> usize
     requires front { IsLegalFront bytes.now start }

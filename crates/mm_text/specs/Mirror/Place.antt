@@ -26,7 +26,8 @@ pub record IsLegalFront (bytes : List ℕ) (stop : ℕ) : Type 0 where
   pub within : stop ≤ length bytes
   pub front : (k : ℕ) → k < stop → is_legal (slice_index bytes k) ≡ true
 
--- the bytes up to a place may stand in a file, and where another one is further on, the next may not
+-- the bytes up to a place may stand in a file, and the next may not, where another place is wanted
+-- that is further on
 pub record IsJudged (bytes : List ℕ) (stop wanted : ℕ) : Type 0 where
   pub front : IsLegalFront bytes stop
   pub stops : stop < wanted → is_legal (slice_index bytes stop) ≡ false
@@ -45,7 +46,7 @@ shown_at p = without_comments None (tokens_from p.file p.at (drop p.at p.bytes.n
 abbrev pub comment_at : PlainToken → Place → List Shown
 comment_at begin p = without_comments (Some begin) (tokens_from p.file p.at (drop p.at p.bytes.now))
 
--- a file up to another place, judged further
+-- the same file at another place, of which other bytes may be judged
 abbrev pub IsSameFile : Place → Place → Type 0
 IsSameFile old new = new ≡ record old { at = new.at; legal = new.legal }
 

@@ -40,6 +40,11 @@ impl Source for OpenEntry {
         }
         self.left.read(piece)
     }
+
+    /// Wrong of most files, since nothing may rest on it: too few of long ones, and else too many.
+    fn expected(&self) -> usize {
+        10 - self.left.len().min(10)
+    }
 }
 
 /// The first of the entries with this name.
