@@ -9,6 +9,7 @@ use Rattle.mm_frame.specs.Sentence.{Sentence}
 use Rattle.mm_frame.specs.Rules.{IsMeant}
 use Rattle.mm_frame.specs.Form.{IsFormedSentence, IsSound}
 use Rattle.mm_frame.specs.ScopesOf.{HaveScopes}
+use Rattle.mm_frame.specs.FramePlace.{HaveTypings}
 use Rattle.mm_frame.specs.Layout.{AreTables, AreInfos, AreLabelInfos, AreEntries, AreEssentials, AreFrames, AreStated, IsPartWithin, sentence_by, statements_of}
 use Rattle.mm_frame.specs.Grows.{Grows}
 use Rattle.mm_frame.proofs.Meant.{allmeant_push, allformed_push}
@@ -21,6 +22,7 @@ pub record AreGrown (t v : Tables) (s : Sentence) : Type 0 where
   pub scopes : HaveScopes (statements_of t ++ s ∷ []) v.scopes
   pub essentials : AreEssentials (statements_of t ++ s ∷ []) v.essentials.items
   pub frames : AreFrames (statements_of t ++ s ∷ []) v.hypotheses.items v.pairs.items v.named.items
+  pub typed : HaveTypings (statements_of t ++ s ∷ []) v.hypotheses.items
   pub stated : AreStated (statements_of t ++ s ∷ []) v.symbols.names v.distinct.stated
 
 -- what was appended to the lists that say the statements
@@ -48,13 +50,14 @@ assembled t v s new a b c bytes tables meant formed app grown counted enough roo
     let h : HaveScopes (statements_of v) v.scopes = rw st grown.scopes in
     let e : AreEssentials (statements_of v) v.essentials.items = rw st grown.essentials in
     let f : AreFrames (statements_of v) v.hypotheses.items v.pairs.items v.named.items = rw st grown.frames in
+    let y : HaveTypings (statements_of v) v.hypotheses.items = rw st grown.typed in
     let d : AreStated (statements_of v) v.symbols.names v.distinct.stated = rw st grown.stated in
     let logs = length-append t.log.items (new ∷ []) in
     let flats = length-append t.flat.items c in
     let before = tables.counted in
     let sum : length v.log.items + length v.flat.items ≤ 2 * v.bytes = rw (app.log, app.flat, counted, logs, flats) (omega arith) in
     record {
-      tables = record { sound = sound; counted = sum; small = rw counted room; infos = i; labels = l; entries = n; scopes = h; essentials = e; frames = f; stated = d };
+      tables = record { sound = sound; counted = sum; small = rw counted room; infos = i; labels = l; entries = n; scopes = h; essentials = e; frames = f; typed = y; stated = d };
       statements = st;
       counted = counted;
     }

@@ -13,6 +13,7 @@ use Rattle.mm_frame.specs.Form.{IsFormedSentence}
 use Rattle.mm_frame.specs.Numbers.{symbols_of, declared_by}
 use Rattle.mm_frame.specs.ScopesOf.{HaveScopes}
 use Rattle.mm_frame.specs.Layout.{AreTables, AreInfos, AreLabelInfos, AreEssentials, AreFrames, AreStated, sentence_by, names_by, statements_of}
+use Rattle.mm_frame.specs.FramePlace.{HaveTypings}
 use Rattle.mm_frame.specs.Forgotten.{AreForgotten}
 use Rattle.mm_frame.specs.Grows.{Grows, IsSame, SameLists, Entered, entry_of}
 use Rattle.std.proofs.lemmas.Option.{slice_get_within}
@@ -22,6 +23,7 @@ use Rattle.mm_frame.proofs.ScopeLaws.{length_pushed}
 use Rattle.mm_frame.proofs.Infos.{infos_other}
 use Rattle.mm_frame.proofs.Labels.{labels_none, essentials_other, essentials_closing}
 use Rattle.mm_frame.proofs.FrameLaws.{placed, frames_other, stated_other}
+use Rattle.mm_frame.proofs.Typings.{typings_grow}
 use Rattle.mm_frame.proofs.SameTables.{same_tables}
 use Rattle.mm_frame.proofs.Assembled.{assembled}
 
@@ -102,6 +104,7 @@ block_grows t v s kind bytes tables adds is unlabelled bare none no_float no_dis
     (labels_none st t.labels.names t.named.items t.log.items s new tables.labels unlabelled refl size) in
     let f : AreFrames (st ++ s ∷ []) v.hypotheses.items v.pairs.items v.named.items = rw (hs, ps, adds.named)
     (frames_other st s t.hypotheses.items [] t.pairs.items [] t.named.items (placed st t.labels.names t.named.items t.log.items tables.labels) tables.frames) in
+    let y : HaveTypings (st ++ s ∷ []) v.hypotheses.items = rw adds.hypotheses (typings_grow st (s ∷ []) t.hypotheses.items tables.typed) in
     let all : t.symbols.names ++ [] ≡ symbols_of (st ++ s ∷ []) = sym a ∙ i.all in
     let d : AreStated (st ++ s ∷ []) v.symbols.names v.distinct.stated = rw (a, adds.stated)
     (stated_other st s t.symbols.names [] t.distinct.stated tables.sound.0 tables.infos.all all tables.stated no_distinct) in
@@ -116,7 +119,7 @@ block_grows t v s kind bytes tables adds is unlabelled bare none no_float no_dis
       numbers = λ i n there. absurd (cc);
       label = λ id there. absurd (cc);
     })
-    (record { infos = i; labels = l; scopes = adds.scopes st s tables.scopes is more; essentials = essentials; frames = f; stated = d })
+    (record { infos = i; labels = l; scopes = adds.scopes st s tables.scopes is more; essentials = essentials; frames = f; typed = y; stated = d })
     adds.counted (omega arith) room
 
 pub open_grows : (t v : Tables) (s : Sentence) (bytes : ℕ) → AreTables t → AddsBlock t v Opening bytes → v.essentials.items ≡ t.essentials.items → s.kind ≡ Opening → s.label ≡ None → s.symbols ≡ []

@@ -26,6 +26,7 @@ use Rattle.mm_frame.specs.Declaring.{IsDeclaration, TakesSymbols}
 use Rattle.mm_frame.specs.Grows.{Grows, IsSame, SameLists, Entered, entry_of}
 use Rattle.mm_frame.proofs.SameTables.{same_tables}
 use Rattle.mm_frame.proofs.Written.{added_part, same_sentence}
+use Rattle.mm_frame.proofs.Typings.{typings_grow}
 use Rattle.mm_frame.proofs.Assembled.{AreGrown, AreAppended, assembled}
 use Rattle.mm_frame.proofs.Entries.{length-sentences, entry_at, get_sliced}
 use Rattle.mm_frame.proofs.Pushed.{get_within}
@@ -73,7 +74,8 @@ grown t d v s bytes tables which none taken entered =
     let named : v.named.items ≡ t.named.items = e.named ∙ ap (λ (u : Tables). u.named.items) taken.others in
     let log : v.log.items ≡ t.log.items ++ new ∷ [] = e.log ∙ ap (λ (u : Tables). u.log.items ++ new ∷ []) taken.others in
     let essentials : v.essentials.items ≡ t.essentials.items = e.essentials ∙ ap (λ (u : Tables). u.essentials.items) taken.others in
-    let hypotheses : v.hypotheses.items ≡ t.hypotheses.items ++ [] = e.hypotheses ∙ ap (λ (u : Tables). u.hypotheses.items) taken.others ∙ sym (append-nil t.hypotheses.items) in
+    let kept : v.hypotheses.items ≡ t.hypotheses.items = e.hypotheses ∙ ap (λ (u : Tables). u.hypotheses.items) taken.others in
+    let hypotheses : v.hypotheses.items ≡ t.hypotheses.items ++ [] = kept ∙ sym (append-nil t.hypotheses.items) in
     let pairs : v.pairs.items ≡ t.pairs.items ++ [] = e.pairs ∙ ap (λ (u : Tables). u.pairs.items) taken.others ∙ sym (append-nil t.pairs.items) in
     let stated : v.distinct.stated ≡ t.distinct.stated = e.stated ∙ ap (λ (u : Tables). u.distinct.stated) taken.others in
     let names : v.symbols.names ≡ t.symbols.names ++ taken.added = e.symbols ∙ taken.names in
@@ -88,6 +90,7 @@ grown t d v s bytes tables which none taken entered =
       essentials = rw essentials (essentials_other st t.essentials.items s tables.essentials
           (not_kind s.kind Essential which (λ h. absurd (cc)) (λ h. absurd (cc))) (not_kind s.kind Closing which (λ h. absurd (cc)) (λ h. absurd (cc))));
       frames = rw (hypotheses, pairs, named) (frames_other st s t.hypotheses.items [] t.pairs.items [] t.named.items (placed st t.labels.names t.named.items t.log.items tables.labels) tables.frames);
+      typed = rw kept (typings_grow st (s ∷ []) t.hypotheses.items tables.typed);
       stated = rw (names, stated) (stated_other st s t.symbols.names taken.added t.distinct.stated tables.sound.0 tables.infos.all all tables.stated
           (not_kind s.kind Distinct which (λ h. absurd (cc)) (λ h. absurd (cc))));
     }

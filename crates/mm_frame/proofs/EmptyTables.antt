@@ -2,11 +2,13 @@
 use Rattle.std.proofs.Common.{◌≡◌, ℕ, List, [], refl, arith}
 use Rattle.mm_frame.specs.declared.tables.Tables.{Tables}
 use Rattle.mm_frame.specs.ScopesOf.{HaveScopes}
+use Rattle.mm_frame.specs.FramePlace.{HaveTypings}
 use Rattle.mm_frame.specs.Layout.{AreTables, AreInfos, AreLabelInfos, AreEntries, AreEssentials, AreStated, statements_of, database_of}
 use Rattle.mm_frame.proofs.Meant.{allmeant_none, allformed_none}
 use Rattle.mm_frame.proofs.Entries.{sentences_none}
 use Rattle.mm_frame.proofs.Infos.{infos_none}
 use Rattle.mm_frame.proofs.Labels.{essentials_none}
+use Rattle.mm_frame.proofs.Typings.{typings_none}
 
 labels_empty : AreLabelInfos [] [] [] []
 labels_empty = record { all = refl; informed = refl; each = λ id info there. absurd (cc); logged = λ p e id there named. absurd (cc); entered = λ id info there. absurd (cc) }
@@ -19,14 +21,15 @@ stated_empty symbols = record { only = λ i s there. absurd (cc); each = λ p a 
 
 -- new lists hold no statements
 pub empty_tables : (t : Tables) → t.symbols.names ≡ [] → t.infos.items ≡ [] → t.labels.names ≡ [] → t.named.items ≡ [] → t.log.items ≡ [] → t.flat.items ≡ []
-    → HaveScopes [] t.scopes → t.essentials.items ≡ [] → t.distinct.stated ≡ [] → t.bytes ≡ 0 → AreTables t × (database_of t ≡ record { statements = []; bytes = 0 })
-empty_tables t e1 e2 e3 e4 e5 e6 scopes e7 e8 e9 =
+    → HaveScopes [] t.scopes → t.essentials.items ≡ [] → t.hypotheses.items ≡ [] → t.distinct.stated ≡ [] → t.bytes ≡ 0 → AreTables t × (database_of t ≡ record { statements = []; bytes = 0 })
+empty_tables t e1 e2 e3 e4 e5 e6 scopes e7 hs e8 e9 =
     let none : statements_of t ≡ [] = rw (e1, e3, e6, e5) sentences_none in
     let i : AreInfos (statements_of t) t.symbols.names t.infos.items = rw (none, e1, e2) infos_none in
     let l : AreLabelInfos (statements_of t) t.labels.names t.named.items t.log.items = rw (none, e3, e4, e5) labels_empty in
     let n : AreEntries t.symbols.names t.labels.names t.flat.items t.log.items = rw (e1, e3, e5, e6) entries_empty in
     let h : HaveScopes (statements_of t) t.scopes = rw none scopes in
     let s : AreEssentials (statements_of t) t.essentials.items = rw (none, e7) essentials_none in
+    let y : HaveTypings (statements_of t) t.hypotheses.items = rw hs (typings_none (statements_of t)) in
     let d : AreStated (statements_of t) t.symbols.names t.distinct.stated = rw (none, e8) (stated_empty t.symbols.names) in (
       record {
         sound = rw none (allmeant_none, allformed_none);
@@ -38,6 +41,7 @@ empty_tables t e1 e2 e3 e4 e5 e6 scopes e7 e8 e9 =
         scopes = h;
         essentials = s;
         frames = λ id info x there at kind. absurd (let bad = rw e4 at there in cc);
+        typed = y;
         stated = d;
       },
       rw (none, e9) refl,

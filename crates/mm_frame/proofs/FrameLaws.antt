@@ -4,7 +4,7 @@ use Rattle.std.specs.List.{slice_get}
 use Rattle.std.proofs.lemmas.Option.{slice_get_within}
 use Rattle.std.proofs.lemmas.List.{take-append-le}
 use Rattle.mm_text.specs.declared.statement.Kind.TheVariants.{Distinct}
-use Rattle.mm_frame.specs.declared.number.LabelId.{LabelId}
+use Rattle.mm_frame.specs.declared.hypothesis.Hypothesis.{Hypothesis}
 use Rattle.mm_frame.specs.declared.number.Sym.{Sym}
 use Rattle.mm_frame.specs.declared.tables.Part.{Part}
 use Rattle.mm_frame.specs.declared.tables.LabelInfo.{LabelInfo}
@@ -63,7 +63,7 @@ its_symbols_grow st more place numbers are = record {
 part_grow : {X : Type 0} (xs ys : List X) (part : Part) → IsPartWithin part (length xs) → IsPartWithin part (length (xs ++ ys))
 part_grow xs ys part within = let inside = within.within in let more = longer xs ys in record { ordered = within.ordered; within = omega arith }
 
-pub frame_grow : (st more : List Sentence) (hs a : List LabelId) (pairs b : List (Sym × Sym)) (info : LabelInfo) → IsFrameInfo st hs pairs info → IsFrameInfo (st ++ more) (hs ++ a) (pairs ++ b) info
+pub frame_grow : (st more : List Sentence) (hs a : List Hypothesis) (pairs b : List (Sym × Sym)) (info : LabelInfo) → IsFrameInfo st hs pairs info → IsFrameInfo (st ++ more) (hs ++ a) (pairs ++ b) info
 frame_grow st more hs a pairs b info is =
     let h = is.hypotheses_in in
     let p = is.pairs_in in
@@ -71,7 +71,7 @@ frame_grow st more hs a pairs b info is =
       hypotheses_in = part_grow hs a info.hypotheses h;
       pairs_in = part_grow pairs b info.pairs p;
       are_hypotheses = hypotheses_grow st more info.place _
-          (subst (λ (ids : List LabelId). AreHypotheses (at_place st info.place) (map (λ id. id.0) ids)) (sym (slice_left hs a info.hypotheses.start info.hypotheses.end h.ordered h.within)) is.are_hypotheses);
+          (subst (λ (ids : List Hypothesis). AreHypotheses (at_place st info.place) (map (λ h. h.id.0) ids)) (sym (slice_left hs a info.hypotheses.start info.hypotheses.end h.ordered h.within)) is.are_hypotheses);
       are_pairs = pairs_grow st more info.place _
           (subst (λ (ps : List (Sym × Sym)). ArePairs (at_place st info.place) (map (λ pair. (pair.0.0, pair.1.0)) ps)) (sym (slice_left pairs b info.pairs.start info.pairs.end p.ordered p.within)) is.are_pairs);
     }
@@ -87,13 +87,13 @@ pub frames_none : AreFrames [] [] [] []
 frames_none id info s there at is = absurd (cc)
 
 -- a statement with no label
-pub frames_other : (st : List Sentence) (e : Sentence) (hs a : List LabelId) (pairs b : List (Sym × Sym)) (named : List LabelInfo) → ArePlaced st named → AreFrames st hs pairs named
+pub frames_other : (st : List Sentence) (e : Sentence) (hs a : List Hypothesis) (pairs b : List (Sym × Sym)) (named : List LabelInfo) → ArePlaced st named → AreFrames st hs pairs named
     → AreFrames (st ++ e ∷ []) (hs ++ a) (pairs ++ b) named
 frames_other st e hs a pairs b named within are id info s there at is =
     frame_grow st (e ∷ []) hs a pairs b info (are id info s there (get_before st (e ∷ []) info.place s (within id info there) at) is)
 
 -- a hypothesis
-pub frames_hypothesis : (st : List Sentence) (e : Sentence) (hs a : List LabelId) (pairs b : List (Sym × Sym)) (named : List LabelInfo) (new : LabelInfo) → ArePlaced st named → AreFrames st hs pairs named
+pub frames_hypothesis : (st : List Sentence) (e : Sentence) (hs a : List Hypothesis) (pairs b : List (Sym × Sym)) (named : List LabelInfo) (new : LabelInfo) → ArePlaced st named → AreFrames st hs pairs named
     → new.place ≡ length st → ¬ (IsAssertion e.kind) → AreFrames (st ++ e ∷ []) (hs ++ a) (pairs ++ b) (named ++ new ∷ [])
 frames_hypothesis st e hs a pairs b named new within are place other id info s there at is = elim (pushed_cases named new id info there) [
   | inl before ↦ frames_other st e hs a pairs b named within are id info s before at is
@@ -104,7 +104,7 @@ frames_hypothesis st e hs a pairs b named new within are place other id info s t
 ]
 
 -- an assertion
-pub frames_assertion : (st : List Sentence) (e : Sentence) (hs a : List LabelId) (pairs b : List (Sym × Sym)) (named : List LabelInfo) (new : LabelInfo) → ArePlaced st named → AreFrames st hs pairs named
+pub frames_assertion : (st : List Sentence) (e : Sentence) (hs a : List Hypothesis) (pairs b : List (Sym × Sym)) (named : List LabelInfo) (new : LabelInfo) → ArePlaced st named → AreFrames st hs pairs named
     → IsFrameInfo (st ++ e ∷ []) (hs ++ a) (pairs ++ b) new → AreFrames (st ++ e ∷ []) (hs ++ a) (pairs ++ b) (named ++ new ∷ [])
 frames_assertion st e hs a pairs b named new within are frame id info s there at is = elim (pushed_cases named new id info there) [
   | inl before ↦ frames_other st e hs a pairs b named within are id info s before at is

@@ -1,21 +1,24 @@
--- The numbers of the labels of the mandatory hypotheses.
+-- The mandatory hypotheses at their places, by the numbers of their labels.
 use Rattle.std.proofs.Common.{◌≡◌, ℕ, ◌+◌, ◌<◌, true, length, take, get_or, List, [], ◌∷◌, ◌++◌, map, is_some, Option, Some, None, refl, sym, ap, ◌∙◌}
 use Rattle.std.specs.List.{slice_get}
 use Rattle.std.specs.Option.{option_and_then}
 use Rattle.std.proofs.lemmas.Option.{slice_get-get_or}
 use Rattle.std.proofs.lemmas.List.{take_more, map-append}
+use Rattle.mm_frame.specs.declared.hypothesis.Hypothesis.{Hypothesis}
 use Rattle.mm_frame.specs.declared.number.LabelId.{LabelId}
 use Rattle.mm_frame.specs.declared.number.Sym.{Sym}
 use Rattle.mm_frame.specs.declared.tables.Entry.{Entry}
 use Rattle.mm_frame.specs.declared.tables.LabelInfo.{LabelInfo}
-use Rattle.mm_frame.specs.Sentence.{Sentence}
+use Rattle.mm_frame.specs.Sentence.{Sentence, IsHypothesis}
 use Rattle.mm_frame.specs.Form.{AllFormed}
 use Rattle.mm_frame.specs.Numbers.{labelled_sentences}
+use Rattle.mm_frame.specs.FramePlace.{IsTypingOf}
 use Rattle.mm_frame.specs.Layout.{sentences, label_by, AreLabelInfos}
-use Rattle.mm_frame.specs.Gathered.{ArePlaces}
+use Rattle.mm_frame.specs.Gathered.{ArePlaces, AreThoseAt}
 use Rattle.mm_frame.proofs.Pushed.{get_within}
 use Rattle.mm_frame.proofs.Entries.{entry_at}
 use Rattle.mm_frame.proofs.FrameOf.{place_named}
+use Rattle.mm_frame.proofs.Typings.{typings_none, typings_push, typing_at}
 
 -- an entry that says a labelled statement has a label
 entry_labelled : (labels : List (List ℕ)) (label : Option LabelId) → is_some (label_by labels label) ≡ true → (id : LabelId) × (label ≡ Some id)
@@ -35,19 +38,27 @@ id_at symbols labels flat log named s places i p are formed are_places there =
     (id, ap (option_and_then (λ e. e.label)) at_e ∙ is, sym (are.logged p e id at_e is))
 
 -- one place more
-pub ids_step : (symbols labels : List (List ℕ)) (flat : List Sym) (log : List Entry) (named : List LabelInfo) (s : Sentence) (places : List ℕ) (i : ℕ) (id : LabelId) (ids : List LabelId)
+pub those_step : (symbols labels : List (List ℕ)) (flat : List Sym) (log : List Entry) (named : List LabelInfo) (s : Sentence) (places : List ℕ) (i : ℕ) (new : Hypothesis) (hs : List Hypothesis)
     → AreLabelInfos (sentences symbols labels flat log) labels named log → AllFormed (sentences symbols labels flat log) → ArePlaces (sentences symbols labels flat log) s places → i < length places
-    → option_and_then (λ e. e.label) (slice_get log (get_or places i 0)) ≡ Some id
-    → map (λ id. id.0) ids ≡ map (λ p. length (labelled_sentences (take p (sentences symbols labels flat log)))) (take i places)
-    → map (λ id. id.0) (ids ++ id ∷ []) ≡ map (λ p. length (labelled_sentences (take p (sentences symbols labels flat log)))) (take (i + 1) places)
-ids_step symbols labels flat log named s places i id ids are formed are_places lt found so_far =
+    → option_and_then (λ e. e.label) (slice_get log (get_or places i 0)) ≡ Some new.id
+    → ((f : Sentence) → slice_get (sentences symbols labels flat log) (get_or places i 0) ≡ Some f → IsHypothesis f.kind → IsTypingOf (sentences symbols labels flat log) new.typing f)
+    → AreThoseAt (sentences symbols labels flat log) (take i places) hs
+    → AreThoseAt (sentences symbols labels flat log) (take (i + 1) places) (hs ++ new ∷ [])
+those_step symbols labels flat log named s places i new hs are formed are_places lt found says so_far =
     let st = sentences symbols labels flat log in
     let number : ℕ → ℕ = λ p. length (labelled_sentences (take p st)) in
     let p = get_or places i 0 in
-    let (other, is, value) = id_at symbols labels flat log named s places i p are formed are_places (slice_get-get_or places i 0 lt) in
-    let same : id.0 ≡ number p = let e : other ≡ id = cc in ap (λ (j : LabelId). j.0) (sym e) ∙ value in
-    map-append (λ (id : LabelId). id.0) ids (id ∷ []) ∙ ap (λ ns. ns ++ id.0 ∷ []) so_far ∙ ap (λ n. map number (take i places) ++ n ∷ []) same
-    ∙ sym (ap (map number) (take_more places i 0 lt) ∙ map-append number (take i places) (p ∷ []))
+    let there = slice_get-get_or places i 0 lt in
+    let (other, is, value) = id_at symbols labels flat log named s places i p are formed are_places there in
+    let same : new.id.0 ≡ number p = let e : other ≡ new.id = cc in ap (λ (j : LabelId). j.0) (sym e) ∙ value in
+    record {
+      numbers = map-append (λ (h : Hypothesis). h.id.0) hs (new ∷ []) ∙ ap (λ ns. ns ++ new.id.0 ∷ []) so_far.numbers ∙ ap (λ n. map number (take i places) ++ n ∷ []) same
+          ∙ sym (ap (map number) (take_more places i 0 lt) ∙ map-append number (take i places) (p ∷ []));
+      typed = typings_push st hs new so_far.typed (typing_at st s places i p new formed are_places there same says);
+    }
+
+pub those_none : (st : List Sentence) → AreThoseAt st [] []
+those_none st = record { numbers = refl; typed = typings_none st }
 
 pub ids_never : (symbols labels : List (List ℕ)) (flat : List Sym) (log : List Entry) (named : List LabelInfo) (s : Sentence) (places : List ℕ) (i : ℕ)
     → AreLabelInfos (sentences symbols labels flat log) labels named log → AllFormed (sentences symbols labels flat log) → ArePlaces (sentences symbols labels flat log) s places → i < length places

@@ -29,6 +29,7 @@ pub mod Spans
 pub mod Gather
 pub mod LabelIds
 pub mod PairsOf
+pub mod Typings
 pub mod MandatoryPairs
 pub mod Lawful
 pub mod EmptyTables

@@ -19,7 +19,7 @@ use Rattle.mm_frame.specs.Layout.{sentences, sentence_by, AreStated}
 use Rattle.mm_frame.proofs.Entries.{sentence_at, entry_at}
 
 -- the second of two
-two_parts : (symbols : List (List ℕ)) → length symbols ≡ 2 → (a : List ℕ) × (b : List ℕ) × (symbols ≡ a ∷ b ∷ [])
+pub two_parts : (symbols : List (List ℕ)) → length symbols ≡ 2 → (a : List ℕ) × (b : List ℕ) × (symbols ≡ a ∷ b ∷ [])
 two_parts [] size = absurd (omega arith)
 two_parts (a ∷ []) size = absurd (omega arith)
 two_parts (a ∷ b ∷ []) size = (a, b, refl)

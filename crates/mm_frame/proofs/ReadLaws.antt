@@ -2,14 +2,14 @@
 use Rattle.std.proofs.Common.{◌≡◌, ℕ, ◌≤◌, length, List, map, Option, Some, None, slice_range, sym, ap, ◌∙◌, subst, arith}
 use Rattle.std.specs.List.{slice_get}
 use Rattle.mm_text.specs.declared.statement.Kind.{Kind}
-use Rattle.mm_frame.specs.declared.number.LabelId.{LabelId}
+use Rattle.mm_frame.specs.declared.hypothesis.Hypothesis.{Hypothesis}
 use Rattle.mm_frame.specs.declared.number.Sym.{Sym}
 use Rattle.mm_frame.specs.declared.tables.Entry.{Entry}
 use Rattle.mm_frame.specs.declared.tables.LabelInfo.{LabelInfo}
 use Rattle.mm_frame.specs.Sentence.{Sentence, IsLabelled, IsAssertion}
 use Rattle.mm_frame.specs.Form.{HasItsLabel, AllFormed}
 use Rattle.mm_frame.specs.Numbers.{labelled_sentences, IsNumbered}
-use Rattle.mm_frame.specs.FramePlace.{AreHypotheses, ArePairs}
+use Rattle.mm_frame.specs.FramePlace.{AreHypotheses, HaveTypings, ArePairs}
 use Rattle.mm_frame.specs.Layout.{sentences, sentence_by, AreLabelInfos, AreFrames}
 use Rattle.mm_frame.proofs.Pushed.{get_within}
 use Rattle.mm_frame.proofs.NameLists.{get_mapped, get_unmapped}
@@ -17,6 +17,7 @@ use Rattle.mm_frame.proofs.Labelled.{numbered_get, numbered_within, numbered_uni
 use Rattle.mm_frame.proofs.Labels.{labels_counted}
 use Rattle.mm_frame.proofs.Entries.{sentence_at}
 use Rattle.mm_frame.proofs.FrameLaws.{at_place}
+use Rattle.mm_frame.proofs.Typings.{typings_part}
 
 -- what is known of a label has its statement's place
 pub same_place : (st : List Sentence) (labels : List (List ℕ)) (named : List LabelInfo) (log : List Entry) (id place : ℕ) (s : Sentence) (info : LabelInfo) → AreLabelInfos st labels named log
@@ -76,20 +77,30 @@ pub named_kind : (st : List Sentence) (place : ℕ) (s : Sentence) (l : List ℕ
 named_kind st place s l formed there named = subst (λ (o : Option (List ℕ)). HasItsLabel s.kind o) named (formed place s there).label
 
 -- a part of the hypotheses of all assertions
-pub frame_hypotheses : (st : List Sentence) (labels : List (List ℕ)) (named : List LabelInfo) (log : List Entry) (hs : List LabelId) (pairs : List (Sym × Sym)) (id place : ℕ) (s : Sentence) (info : LabelInfo) (part : List LabelId)
+pub frame_hypotheses : (st : List Sentence) (labels : List (List ℕ)) (named : List LabelInfo) (log : List Entry) (hs : List Hypothesis) (pairs : List (Sym × Sym)) (id place : ℕ) (s : Sentence) (info : LabelInfo) (part : List Hypothesis)
     → AreLabelInfos st labels named log → AreFrames st hs pairs named → slice_get named id ≡ Some info
     → (info.hypotheses.start ≤ info.hypotheses.end → info.hypotheses.end ≤ length hs → part ≡ slice_range hs info.hypotheses.start info.hypotheses.end)
-    → IsNumbered st id place s → IsAssertion s.kind → AreHypotheses (at_place st place) (map (λ h. h.0) part)
+    → IsNumbered st id place s → IsAssertion s.kind → AreHypotheses (at_place st place) (map (λ h. h.id.0) part)
 frame_hypotheses st labels named log hs pairs id place s info part are frames there is numbered asserts =
     let same = same_place st labels named log id place s info are there numbered in
     let frame = frames id info s there (subst (λ (p : ℕ). slice_get st p ≡ Some s) (sym same) numbered.there) asserts in
     let within = frame.hypotheses_in in
     let part_is = is within.ordered within.within in
-    subst (λ (hs' : List LabelId). AreHypotheses (at_place st place) (map (λ h. h.0) hs')) (sym part_is)
-    (subst (λ (p : ℕ). AreHypotheses (at_place st p) (map (λ h. h.0) (slice_range hs info.hypotheses.start info.hypotheses.end))) same frame.are_hypotheses)
+    subst (λ (hs' : List Hypothesis). AreHypotheses (at_place st place) (map (λ h. h.id.0) hs')) (sym part_is)
+    (subst (λ (p : ℕ). AreHypotheses (at_place st p) (map (λ h. h.id.0) (slice_range hs info.hypotheses.start info.hypotheses.end))) same frame.are_hypotheses)
+
+pub frame_typings : (st : List Sentence) (labels : List (List ℕ)) (named : List LabelInfo) (log : List Entry) (hs : List Hypothesis) (pairs : List (Sym × Sym)) (id place : ℕ) (s : Sentence) (info : LabelInfo) (part : List Hypothesis)
+    → AreLabelInfos st labels named log → AreFrames st hs pairs named → HaveTypings st hs → slice_get named id ≡ Some info
+    → (info.hypotheses.start ≤ info.hypotheses.end → info.hypotheses.end ≤ length hs → part ≡ slice_range hs info.hypotheses.start info.hypotheses.end)
+    → IsNumbered st id place s → IsAssertion s.kind → HaveTypings st part
+frame_typings st labels named log hs pairs id place s info part are frames have there is numbered asserts =
+    let same = same_place st labels named log id place s info are there numbered in
+    let frame = frames id info s there (subst (λ (p : ℕ). slice_get st p ≡ Some s) (sym same) numbered.there) asserts in
+    let within = frame.hypotheses_in in
+    typings_part st hs part info.hypotheses.start info.hypotheses.end (is within.ordered within.within) have
 
 -- a part of the distinct pairs of all assertions
-pub frame_pairs : (st : List Sentence) (labels : List (List ℕ)) (named : List LabelInfo) (log : List Entry) (hs : List LabelId) (pairs : List (Sym × Sym)) (id place : ℕ) (s : Sentence) (info : LabelInfo) (part : List (Sym × Sym))
+pub frame_pairs : (st : List Sentence) (labels : List (List ℕ)) (named : List LabelInfo) (log : List Entry) (hs : List Hypothesis) (pairs : List (Sym × Sym)) (id place : ℕ) (s : Sentence) (info : LabelInfo) (part : List (Sym × Sym))
     → AreLabelInfos st labels named log → AreFrames st hs pairs named → slice_get named id ≡ Some info
     → (info.pairs.start ≤ info.pairs.end → info.pairs.end ≤ length pairs → part ≡ slice_range pairs info.pairs.start info.pairs.end)
     → IsNumbered st id place s → IsAssertion s.kind → ArePairs (at_place st place) (map (λ pair. (pair.0.0, pair.1.0)) part)

@@ -4,6 +4,7 @@ use Rattle.std.specs.Result.{OnErr}
 use Rattle.mm_frame.specs.declared.tables.Tables.{Tables}
 use Rattle.mm_frame.specs.ScopesOf.{HaveScopes}
 use Rattle.mm_frame.specs.Form.{IsSound}
+use Rattle.mm_frame.specs.FramePlace.{HaveTypings}
 use Rattle.mm_frame.specs.Layout.{AreTables, AreInfos, AreLabelInfos, AreEntries, AreEssentials, AreFrames, AreStated, statements_of}
 use Rattle.mm_frame.specs.Grows.{SameLists, IsSame}
 
@@ -16,6 +17,7 @@ same_tables t u a s =
     let h : HaveScopes (statements_of u) u.scopes = rw (st, s.scopes.blocks, s.scopes.ends, s.scopes.open_blocks) a.scopes in
     let e : AreEssentials (statements_of u) u.essentials.items = rw (st, s.essentials) a.essentials in
     let f : AreFrames (statements_of u) u.hypotheses.items u.pairs.items u.named.items = rw (st, s.hypotheses, s.pairs, s.named) a.frames in
+    let y : HaveTypings (statements_of u) u.hypotheses.items = rw (st, s.hypotheses) a.typed in
     let d : AreStated (statements_of u) u.symbols.names u.distinct.stated = rw (st, s.symbols, s.stated) a.stated in
     let sound : IsSound (statements_of u) = rw st a.sound in
     record {
@@ -29,6 +31,7 @@ same_tables t u a s =
         scopes = h;
         essentials = e;
         frames = f;
+        typed = y;
         stated = d;
       };
       same = rw (st, s.bytes) refl;

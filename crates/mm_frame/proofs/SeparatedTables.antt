@@ -21,6 +21,7 @@ use Rattle.mm_frame.proofs.FrameLaws.{placed, frames_other}
 use Rattle.mm_frame.proofs.DistinctAt.{stated_push}
 use Rattle.mm_frame.proofs.Separated.{member_name, new_from_paired}
 use Rattle.mm_frame.proofs.Written.{added_part, names_numbered, same_sentence}
+use Rattle.mm_frame.proofs.Typings.{typings_grow}
 use Rattle.mm_frame.proofs.Assembled.{AreAppended, AreGrown, assembled}
 
 -- the lists with a `$d` of these members more, which adds these pairs
@@ -91,7 +92,7 @@ grown t v s members pairs bytes tables are new paired =
     let stated : AreStated (st ++ s ∷ []) v.symbols.names v.distinct.stated = rw (are.symbols, are.stated)
     (stated_push st s t.symbols.names t.distinct.stated (map (stated_at (length st)) pairs) tables.infos.all tables.stated new.kind
     (new_from_paired st s t.symbols.names members pairs tables.infos.all new.kind new.meant new.numbered paired)) in
-    record { infos = infos; labels = labels; scopes = are.scopes s new.kind; essentials = essentials; frames = frames; stated = stated }
+    record { infos = infos; labels = labels; scopes = are.scopes s new.kind; essentials = essentials; frames = frames; typed = rw are.hypotheses (typings_grow st (s ∷ []) t.hypotheses.items tables.typed); stated = stated }
 
 -- The lists hold the `$d`.
 pub separated : (t v : Tables) (s : Sentence) (members : List Sym) (pairs : List (ℕ × ℕ)) (bytes : ℕ) → AreTables t → t.bytes + bytes ≤ 1073741824 → 1 + length members ≤ bytes → AreSeparated t v members pairs bytes

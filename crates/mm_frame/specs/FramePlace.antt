@@ -1,6 +1,10 @@
 -- What a frame answers, of the assertion at a place in its book (the Metamath book, section 4.2.7).
-use Rattle.std.specs.Prelude.{◌≡◌, ℕ, List, map, take, slice_get, Some, Contains, ◌⊎◌}
-use Rattle.mm_frame.specs.Sentence.{Sentence}
+use Rattle.std.specs.Prelude.{◌≡◌, ℕ, List, map, take, slice_get, Option, Some, None, Contains}
+use Rattle.std.specs.Prelude.{◌⊎◌}
+use Rattle.mm_text.specs.declared.statement.Kind.TheVariants.{Essential}
+use Rattle.mm_frame.specs.declared.number.Sym.{Sym}
+use Rattle.mm_frame.specs.declared.hypothesis.Hypothesis.{Hypothesis}
+use Rattle.mm_frame.specs.Sentence.{Sentence, Types}
 use Rattle.mm_frame.specs.Frame.{AreMandatory, IsMandatoryPair}
 use Rattle.mm_frame.specs.Numbers.{labelled_sentences, IsNumberOf, AreNumbers}
 
@@ -20,6 +24,24 @@ pub record AreHypotheses (frame : FramePlace) (numbers : List ℕ) : Type 0 wher
   pub hypotheses : List Sentence
   pub mandatory : AreMandatory (before_it frame) assertion hypotheses
   pub numbered : map (slice_get (labelled_sentences frame.statements)) numbers ≡ map Some hypotheses
+
+-- the numbers of the type code and the variable of a `$f`, or nothing of a `$e`
+abbrev pub IsTypingOf : List Sentence → Option (Sym × Sym) → Sentence → Type 0
+IsTypingOf statements None h = h.kind ≡ Essential
+IsTypingOf statements (Some typing) h =
+    (code : List ℕ) × (x : List ℕ) × Types code x h × IsNumberOf statements code typing.0.0
+    × IsNumberOf statements x typing.1.0
+
+-- what stands with the number of its label is that of the labelled statement
+abbrev pub HasTyping : List Sentence → Hypothesis → Type 0
+HasTyping statements hypothesis =
+    (h : Sentence) × (slice_get (labelled_sentences statements) hypothesis.id.0 ≡ Some h)
+    × IsTypingOf statements hypothesis.typing h
+
+abbrev pub HaveTypings : List Sentence → List Hypothesis → Type 0
+HaveTypings statements hypotheses =
+    (i : ℕ) (hypothesis : Hypothesis) → slice_get hypotheses i ≡ Some hypothesis
+    → HasTyping statements hypothesis
 
 -- the same pair in one order or the other
 abbrev pub IsSamePair : ℕ × ℕ → ℕ × ℕ → Type 0

@@ -1,13 +1,15 @@
 -- How the frame of an assertion is gathered. This file mirrors the code, and is cited by private
 -- contracts alone.
-use Rattle.std.specs.Prelude.{◌≡◌, ◌↔◌, ℕ, ◌<◌, List, length, slice_get, Option, Some, Contains}
-use Rattle.std.specs.Prelude.{◌⊎◌}
+use Rattle.std.specs.Prelude.{◌≡◌, ◌↔◌, ℕ, ◌<◌, List, length, map, take, slice_get, Option, Some}
+use Rattle.std.specs.Prelude.{Contains, ◌⊎◌}
 use Rattle.std.specs.List.{filter_map}
 use Rattle.std.specs.Option.{option_and_then}
+use Rattle.mm_frame.specs.declared.hypothesis.Hypothesis.{Hypothesis}
 use Rattle.mm_frame.specs.declared.number.Sym.{Sym}
 use Rattle.mm_frame.specs.declared.tables.SymbolInfo.{SymbolInfo}
 use Rattle.mm_frame.specs.Sentence.{Sentence, Types}
-use Rattle.mm_frame.specs.Numbers.{IsNumberOf}
+use Rattle.mm_frame.specs.Numbers.{IsNumberOf, labelled_sentences}
+use Rattle.mm_frame.specs.FramePlace.{HaveTypings}
 use Rattle.mm_frame.specs.Frame.{IsMandatoryAt, IsDistinct}
 use Rattle.mm_frame.specs.Latest.{IsLatest}
 use Rattle.mm_frame.specs.Layout.{GivesType}
@@ -52,6 +54,13 @@ pub record ArePlaces (st : List Sentence) (s : Sentence) (places : List ℕ) : T
   pub within : (i p : ℕ) → slice_get places i ≡ Some p → p < length st
   pub exact : (p : ℕ) (h : Sentence) → slice_get st p ≡ Some h → IsMandatoryAt st s p h
       ↔ Contains places p
+
+-- these are the labels' numbers of the statements at some places, each with what its `$f` says
+pub record AreThoseAt (st : List Sentence) (places : List ℕ)
+    (hypotheses : List Hypothesis) : Type 0 where
+  pub numbers : map (λ h. h.id.0) hypotheses
+      ≡ map (λ p. length (labelled_sentences (take p st))) places
+  pub typed : HaveTypings st hypotheses
 
 -- the statement at one of the places is a `$f` that types the variable with the number
 pub record IsTypedBy (st : List Sentence) (places : List ℕ) (n : Sym) : Type 0 where

@@ -3,6 +3,7 @@
 use Rattle.std.specs.Prelude.{◌≡◌, ℕ, ◌+◌, ◌*◌, ◌<◌, ◌≤◌, List, [], length, map, take, slice_get}
 use Rattle.std.specs.Prelude.{slice_range, Option, Some, None, Contains, unwrap_or, ◌⊎◌}
 use Rattle.mm_text.specs.declared.statement.Kind.TheVariants.{Variables, Essential, Distinct}
+use Rattle.mm_frame.specs.declared.hypothesis.Hypothesis.{Hypothesis}
 use Rattle.mm_frame.specs.declared.number.LabelId.{LabelId}
 use Rattle.mm_frame.specs.declared.number.Sym.{Sym}
 use Rattle.mm_frame.specs.declared.tables.Entry.{Entry}
@@ -14,7 +15,7 @@ use Rattle.mm_frame.specs.Sentence.{Sentence, SomeSentence, Declares, Types, IsA
 use Rattle.mm_frame.specs.Active.{IsActive, IsConstant, IsVariable}
 use Rattle.mm_frame.specs.Form.{IsSound}
 use Rattle.mm_frame.specs.Numbers.{symbols_of, labelled_sentences, IsNumbered}
-use Rattle.mm_frame.specs.FramePlace.{AreHypotheses, ArePairs}
+use Rattle.mm_frame.specs.FramePlace.{AreHypotheses, HaveTypings, ArePairs}
 use Rattle.mm_frame.specs.Database.{Database}
 use Rattle.mm_frame.specs.Latest.{IsLatest}
 use Rattle.mm_frame.specs.ScopesOf.{HaveScopes}
@@ -124,17 +125,17 @@ pub record AreEssentials (statements : List Sentence) (places : List ℕ) : Type
       → (i : ℕ) × (slice_get places i ≡ Some p)
 
 -- the frame of an assertion
-pub record IsFrameInfo (statements : List Sentence) (hypotheses : List LabelId)
+pub record IsFrameInfo (statements : List Sentence) (hypotheses : List Hypothesis)
     (pairs : List (Sym × Sym)) (info : LabelInfo) : Type 0 where
   pub hypotheses_in : IsPartWithin info.hypotheses (length hypotheses)
   pub pairs_in : IsPartWithin info.pairs (length pairs)
   pub are_hypotheses : AreHypotheses (record { statements = statements; place = info.place })
-      (map (λ id. id.0) (slice_range hypotheses info.hypotheses.start info.hypotheses.end))
+      (map (λ h. h.id.0) (slice_range hypotheses info.hypotheses.start info.hypotheses.end))
   pub are_pairs : ArePairs (record { statements = statements; place = info.place })
       (map (λ pair. (pair.0.0, pair.1.0)) (slice_range pairs info.pairs.start info.pairs.end))
 
 -- the frames of all assertions
-abbrev pub AreFrames : List Sentence → List LabelId → List (Sym × Sym) → List LabelInfo → Type 0
+abbrev pub AreFrames : List Sentence → List Hypothesis → List (Sym × Sym) → List LabelInfo → Type 0
 AreFrames statements hypotheses pairs named =
     (id : ℕ) (info : LabelInfo) (s : Sentence) → slice_get named id ≡ Some info
     → slice_get statements info.place ≡ Some s
@@ -173,4 +174,5 @@ pub record AreTables (t : Tables) : Type 0 where
   pub scopes : HaveScopes (statements_of t) t.scopes
   pub essentials : AreEssentials (statements_of t) t.essentials.items
   pub frames : AreFrames (statements_of t) t.hypotheses.items t.pairs.items t.named.items
+  pub typed : HaveTypings (statements_of t) t.hypotheses.items
   pub stated : AreStated (statements_of t) t.symbols.names t.distinct.stated

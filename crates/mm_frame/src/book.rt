@@ -17,10 +17,11 @@ ghost use Rattle.mm_frame.specs.Numbers.{IsNumbered};
 ghost use Rattle.mm_frame.specs.Numbers.{IsAssertionNumber};
 ghost use Rattle.mm_frame.specs.Found.{Finds};
 ghost use Rattle.mm_frame.specs.Taken.{TakenAs, kind_behind};
-ghost use Rattle.mm_frame.specs.FramePlace.{AreHypotheses, ArePairs};
+ghost use Rattle.mm_frame.specs.FramePlace.{AreHypotheses, HaveTypings, ArePairs};
 
 use crate::answer::{Found, RuleFault, Taken};
 use crate::frame::Frame;
+use crate::hypothesis::Hypothesis;
 use crate::number::{LabelId, LabelKind, Sym};
 use crate::reads::{
     find_label, is_label_active, label_hypotheses, label_kind, label_pairs, label_place,
@@ -222,11 +223,14 @@ impl<'a> Book<'a> {
     }
 
     // The mandatory hypotheses of an assertion.
-    pub(crate) fn hypotheses(&self, id: LabelId) -> &[LabelId]
-        ensures { (place : ℕ) (s : Sentence) → IsNumbered self.now.statements id.0 place s
+    pub(crate) fn hypotheses(&self, id: LabelId) -> &[Hypothesis]
+        ensures ids { (place : ℕ) (s : Sentence) → IsNumbered self.now.statements id.0 place s
             → IsAssertion s.kind → AreHypotheses
             (record { statements = self.now.statements; place = place })
-            (map (λ h. h.0) result.now) }
+            (map (λ h. h.id.0) result.now) }
+        ensures typed { (place : ℕ) (s : Sentence)
+            → IsNumbered self.now.statements id.0 place s → IsAssertion s.kind
+            → HaveTypings self.now.statements result.now }
     {
         label_hypotheses(&self.tables, id)
     }

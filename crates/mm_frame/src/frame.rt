@@ -5,9 +5,11 @@ ghost use Rattle.mm_frame.specs.Sentence.{Sentence};
 ghost use Rattle.mm_frame.specs.Active.{IsActive};
 ghost use Rattle.mm_frame.specs.Frame.{IsDistinct};
 ghost use Rattle.mm_frame.specs.Numbers.{IsNumbered, IsNumberOf};
-ghost use Rattle.mm_frame.specs.FramePlace.{AreHypotheses, ArePairs, AreItsSymbols, before_it};
+ghost use Rattle.mm_frame.specs.FramePlace.{AreHypotheses, HaveTypings, ArePairs};
+ghost use Rattle.mm_frame.specs.FramePlace.{AreItsSymbols, before_it};
 
 use crate::book::Book;
+use crate::hypothesis::Hypothesis;
 use crate::number::{LabelId, Sym};
 use std::marker::Model;
 
@@ -36,8 +38,9 @@ impl<'b, 'a> Model for Frame<'b, 'a> {
 
 impl<'b, 'a> Frame<'b, 'a> {
     /// The mandatory hypotheses, in database order.
-    pub fn hypotheses(&self) -> &'b [LabelId]
-        ensures { AreHypotheses self.now (map (λ id. id.0) result.now) }
+    pub fn hypotheses(&self) -> &'b [Hypothesis]
+        ensures ids { AreHypotheses self.now (map (λ h. h.id.0) result.now) }
+        ensures typed { HaveTypings self.now.statements result.now }
     {
         self.book.hypotheses(self.id)
     }

@@ -5,13 +5,14 @@ ghost use Rattle.std.specs.Prelude.{slice_get, OnOk, IfOk};
 ghost use Rattle.std.specs.Option.{option_and_then};
 ghost use Rattle.mm_frame.specs.Sentence.{Sentence, IsStated};
 ghost use Rattle.mm_frame.specs.Rules.{IsMeant};
-ghost use Rattle.mm_frame.specs.Numbers.{AreNumbers, labelled_sentences};
+ghost use Rattle.mm_frame.specs.Numbers.{AreNumbers};
 ghost use Rattle.mm_frame.specs.FramePlace.{ArePairs};
 ghost use Rattle.mm_frame.specs.declared.number.Sym.{Sym};
 ghost use Rattle.mm_frame.specs.Layout.{AreTables, statements_of};
 ghost use Rattle.mm_frame.specs.Gathered.{floating_of, floatings, AreGathered, ArePlaces};
-ghost use Rattle.mm_frame.specs.Gathered.{AreVariables, AreFound};
+ghost use Rattle.mm_frame.specs.Gathered.{AreVariables, AreFound, AreThoseAt};
 
+use crate::hypothesis::Hypothesis;
 use crate::lists::at;
 use crate::number::{LabelId, Sym};
 use crate::tables::Tables;
@@ -85,21 +86,27 @@ fn label_at(tables: &Tables, place: usize) -> Option<LabelId>
     }
 }
 
-/// The labels' numbers of the statements at some places.
-pub(crate) fn label_ids(tables: &Tables, places: &[usize]) -> Result<Vec<LabelId>, AllocError>
+/// The mandatory hypotheses that stand at some places.
+pub(crate) fn hypotheses_at(
+    tables: &Tables,
+    places: &[usize],
+) -> Result<Vec<Hypothesis>, AllocError>
     requires { AreTables tables.now }
     ensures { (s : Sentence) → ArePlaces (statements_of tables.now) s places.now
-        → IfOk result (λ ids. map (λ id. id.0) ids.items
-        ≡ map (λ p. length (labelled_sentences (take p (statements_of tables.now)))) places.now) }
+        → IfOk result (λ hypotheses. AreThoseAt
+        (statements_of tables.now) places.now hypotheses.items) }
 {
-    let mut ids = Vec::new(tables.alloc);
+    let mut hypotheses = Vec::new(tables.alloc);
     for place in places {
         match label_at(tables, *place) {
-            Some(id) => ids.push(id)?,
+            Some(id) => hypotheses.push(Hypothesis {
+                id,
+                typing: tables.typing(*place),
+            })?,
             None => {}
         }
     }
-    Ok(ids)
+    Ok(hypotheses)
 }
 
 // The variables of the `$f` at some places, and nothing of a `$e`.

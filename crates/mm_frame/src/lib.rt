@@ -7,6 +7,7 @@ mod declare;
 mod frame;
 mod framing;
 mod growth;
+mod hypothesis;
 mod laws;
 mod lists;
 mod lookups;
@@ -26,6 +27,7 @@ mod tables;
 pub use answer::{Found, RuleFault, Taken};
 pub use book::Book;
 pub use frame::Frame;
+pub use hypothesis::Hypothesis;
 pub use laws::{
     active_statements, one_frame, one_label_number, one_number, open_blocks, open_count,
 };

@@ -14,7 +14,7 @@ ghost use Rattle.mm_frame.specs.Grows.{Grows, IsSame};
 ghost use Rattle.mm_frame.specs.Naming.{Named, HaveNameRoom, part_after};
 
 use crate::answer::Taken;
-use crate::framing::{label_ids, mandatory, mandatory_pairs};
+use crate::framing::{hypotheses_at, mandatory, mandatory_pairs};
 use crate::lists::{at, put};
 use crate::number::{LabelId, Sym};
 use crate::tables::{LabelInfo, Part, SymbolInfo, Tables};
@@ -156,7 +156,7 @@ impl<'a> Tables<'a> {
         ensures err { OnErr result (IsSame self.old self.new) }
     {
         let places = mandatory(self, numbers)?;
-        let hypotheses = label_ids(self, &places)?;
+        let hypotheses = hypotheses_at(self, &places)?;
         let pairs = mandatory_pairs(self, &places)?;
         self.reserve(numbers.len())?;
         self.hypotheses.reserve(hypotheses.len())?;

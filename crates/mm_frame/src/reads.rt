@@ -8,10 +8,11 @@ ghost use Rattle.mm_frame.specs.Form.{HasItsLabel};
 ghost use Rattle.mm_frame.specs.Numbers.{AreNumbers, IsNumbered};
 ghost use Rattle.mm_frame.specs.Found.{Finds};
 ghost use Rattle.mm_frame.specs.Taken.{kind_behind};
-ghost use Rattle.mm_frame.specs.FramePlace.{AreHypotheses, ArePairs};
+ghost use Rattle.mm_frame.specs.FramePlace.{AreHypotheses, HaveTypings, ArePairs};
 ghost use Rattle.mm_frame.specs.Layout.{AreTables, statements_of};
 
 use crate::answer::Found;
+use crate::hypothesis::Hypothesis;
 use crate::number::{LabelId, LabelKind, Sym};
 use crate::tables::{Tables, part_of};
 use mm_text::Kind;
@@ -124,12 +125,15 @@ pub(crate) fn find_label(tables: &Tables, label: &[u8]) -> Found
 }
 
 // The mandatory hypotheses of an assertion.
-pub(crate) fn label_hypotheses<'b>(tables: &'b Tables, id: LabelId) -> &'b [LabelId]
+pub(crate) fn label_hypotheses<'b>(tables: &'b Tables, id: LabelId) -> &'b [Hypothesis]
     requires { AreTables tables.now }
-    ensures { (place : ℕ) (s : Sentence) → IsNumbered (statements_of tables.now) id.0 place s
-        → IsAssertion s.kind → AreHypotheses
+    ensures ids { (place : ℕ) (s : Sentence)
+        → IsNumbered (statements_of tables.now) id.0 place s → IsAssertion s.kind → AreHypotheses
         (record { statements = statements_of tables.now; place = place })
-        (map (λ h. h.0) result.now) }
+        (map (λ h. h.id.0) result.now) }
+    ensures typed { (place : ℕ) (s : Sentence)
+        → IsNumbered (statements_of tables.now) id.0 place s → IsAssertion s.kind
+        → HaveTypings (statements_of tables.now) result.now }
 {
     match tables.label_info(id) {
         Some(info) => part_of(&tables.hypotheses, info.hypotheses),

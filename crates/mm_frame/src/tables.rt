@@ -1,7 +1,8 @@
 //! The lists in which a book keeps its statements by numbers.
 
-ghost use Rattle.std.specs.Prelude.{◌≡◌, ◌≤◌, length, slice_range};
+ghost use Rattle.std.specs.Prelude.{◌≡◌, ◌≤◌, [], ◌∷◌, Some, length, slice_range};
 
+use crate::hypothesis::Hypothesis;
 use crate::lists::at;
 use crate::names::Names;
 use crate::number::{LabelId, Sym};
@@ -57,6 +58,16 @@ pub(crate) struct LabelInfo {
     pub(crate) pairs: Part,
 }
 
+// The first two elements of a list that has two.
+fn first_two(list: &[Sym]) -> Option<(Sym, Sym)>
+    ensures { (a b : Sym) → list.now ≡ a ∷ b ∷ [] → result ≡ Some (a, b) }
+{
+    match list {
+        [first, second, ..] => Some((*first, *second)),
+        _ => None,
+    }
+}
+
 /// All lists of a book.
 #[derive(Drop)]
 pub struct Tables<'a> {
@@ -73,7 +84,7 @@ pub struct Tables<'a> {
     /// The places of the active `$e`, in order.
     pub(crate) essentials: Vec<usize>,
     /// The mandatory hypotheses of all assertions, one after the other, and their distinct pairs.
-    pub(crate) hypotheses: Vec<LabelId>,
+    pub(crate) hypotheses: Vec<Hypothesis>,
     pub(crate) pairs: Vec<(Sym, Sym)>,
     /// The pairs that `$d` state.
     pub(crate) distinct: Pairs,
@@ -85,10 +96,11 @@ impl<'a> Tables<'a> {
     ghost use Rattle.std.specs.Prelude.{◌≡◌, ◌↔◌, ◌<◌, ◌≤◌, ℕ, [], IfOk, IsTrue, List, MatchOption};
     ghost use Rattle.std.specs.Prelude.{Some, length, map, slice_get, take};
     ghost use Rattle.mm_text.specs.declared.statement.Kind.TheVariants.{Floating};
-    ghost use Rattle.mm_frame.specs.Sentence.{Sentence, Types};
+    ghost use Rattle.mm_frame.specs.Sentence.{Sentence, Types, IsHypothesis};
     ghost use Rattle.mm_frame.specs.Frame.{IsDistinct};
     ghost use Rattle.mm_frame.specs.Numbers.{AreNumbers, IsNumberOf};
     ghost use Rattle.mm_frame.specs.Active.{IsActive};
+    ghost use Rattle.mm_frame.specs.FramePlace.{IsTypingOf};
     ghost use Rattle.mm_frame.specs.Layout.{AreTables, statements_of, database_of, IsDeclared};
     ghost use Rattle.mm_frame.specs.Layout.{IsKnown};
 
@@ -168,6 +180,24 @@ impl<'a> Tables<'a> {
             Some(entry) => {
                 if entry.kind == Kind::Floating {
                     at(self.symbols_at(place), 1)
+                } else {
+                    None
+                }
+            }
+            None => None,
+        }
+    }
+
+    /// The type code and the variable of the `$f` at a place.
+    pub(crate) fn typing(&self, place: usize) -> Option<(Sym, Sym)>
+        requires { AreTables self.now }
+        ensures { (f : Sentence) → slice_get (statements_of self.now) place ≡ Some f
+            → IsHypothesis f.kind → IsTypingOf (statements_of self.now) result f }
+    {
+        match at(&self.log, place) {
+            Some(entry) => {
+                if entry.kind == Kind::Floating {
+                    first_two(self.symbols_at(place))
                 } else {
                     None
                 }

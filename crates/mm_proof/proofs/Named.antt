@@ -1,18 +1,17 @@
 -- Symbols by their numbers, and what is said of their names.
-use Rattle.std.proofs.Common.{◌≡◌, ℕ, zero, suc, ◌+◌, ◌<◌, List, [], ◌∷◌, ◌++◌, length, map, take, drop, get_or, slice_get, Bool, true, false, cond, is_some, Option, option_map, Some, None, IsTrue, MatchBool, inl, inr, refl, sym, ap, subst, ◌∙◌, arith}
+use Rattle.std.proofs.Common.{◌≡◌, ◌↔◌, ℕ, zero, suc, ◌+◌, ◌<◌, List, [], ◌∷◌, ◌++◌, length, map, take, drop, get_or, slice_get, true, is_some, Option, option_map, Some, None, inl, inr, refl, sym, ap, subst, ◌∙◌, arith}
 use Rattle.std.specs.List.{AllByRecursion, AllZip}
 use Rattle.std.proofs.lemmas.Option.{same_Some, none-some, slice_get_within, get_or_from_slice_get, slice_get-get_or, slice_get-map}
 use Rattle.std.proofs.lemmas.Bool.{false≢true, cases_lt}
-use Rattle.std.proofs.lemmas.List.{map-append, length-map}
+use Rattle.std.proofs.lemmas.List.{map-append}
 use Rattle.mm_text.specs.declared.statement.Kind.TheVariants.{Floating, Essential}
-use Rattle.mm_frame.specs.Sentence.{Sentence}
+use Rattle.mm_frame.specs.Sentence.{Sentence, Types}
 use Rattle.mm_frame.specs.Numbers.{symbols_of, labelled_sentences, IsNumberOf, AreNumbers}
-use Rattle.mm_text.specs.Statement.{FitsCount}
-use Rattle.mm_frame.specs.Form.{AllFormed, IsFormedSentence}
+use Rattle.mm_frame.specs.FramePlace.{IsTypingOf, HaveTypings}
 use Rattle.mm_frame.specs.Laws.{OneNumber}
-use Rattle.mm_frame.specs.declared.number.LabelId.{LabelId}
-use Rattle.mm_proof.specs.CodeSteps.{ids_in}
-use Rattle.mm_proof.specs.CodeVerify.{name_at, names_at, AreBelow, IsRightCode, IsWrongCode, IsEqual, IsVariableOf, AreHypothesesOf, AreVariablesOf, variables_in, all_names_at}
+use Rattle.mm_frame.specs.declared.hypothesis.Hypothesis.{Hypothesis}
+use Rattle.mm_proof.specs.CodeSteps.{label_ids}
+use Rattle.mm_proof.specs.CodeVerify.{name_at, names_at, AreBelow, IsRightCode, IsEqual, IsVariableOf, AreHypothesesOf, AreVariablesOf, variables_in, all_names_at}
 use Rattle.mm_frame.specs.declared.number.Sym.{Sym}
 use Rattle.mm_proof.proofs.Places.{take_get}
 use Rattle.mm_proof.proofs.LabelLists.{zip_push}
@@ -60,77 +59,51 @@ named_once one st (m ∷ ms) (n ∷ ns) bm bn same =
     let tail = named_once one st ms ns bm.1 bn.1 rest in
     cc
 
--- the first symbols are told by their numbers
-pub first_named : OneNumber → (st : List Sentence) (ms ns : List ℕ) → AreBelow st ms → AreBelow st ns
-    → slice_get (names_at st ms) 0 ≡ slice_get (names_at st ns) 0 → slice_get ms 0 ≡ slice_get ns 0
-first_named one st [] [] bm bn same = refl
-first_named one st [] (n ∷ ns) bm bn same = absurd cc
-first_named one st (m ∷ ms) [] bm bn same = absurd cc
-first_named one st (m ∷ ms) (n ∷ ns) bm bn same =
-    let first : name_at st m ≡ name_at st n = cc in
-    ap Some (one_name one st m n bm.0 bn.0 first)
-
-pub firsts_named : (st : List Sentence) (ms ns : List ℕ) → slice_get ms 0 ≡ slice_get ns 0 → slice_get (names_at st ms) 0 ≡ slice_get (names_at st ns) 0
-firsts_named st ms ns same = slice_get-map (name_at st) ms 0 ∙ ap (option_map (name_at st)) same ∙ sym (slice_get-map (name_at st) ns 0)
-
 -- ---- type codes
 
-pub code_told : OneNumber → (st : List Sentence) (h : Sentence) (expression entry : List ℕ) (r : Bool) → AreBelow st entry → AreNumbers st expression h.symbols → h.kind ≡ Floating
-    → (IsTrue r → slice_get entry 0 ≡ slice_get expression 0) → (slice_get entry 0 ≡ slice_get expression 0 → IsTrue r)
-    → MatchBool r (IsRightCode h (names_at st entry)) (IsWrongCode h (names_at st entry))
-code_told one st h expression entry true below are kind to from =
-    λ k. firsts_named st entry expression (to refl) ∙ ap (λ l. slice_get l 0) (named_is st expression h.symbols are)
-code_told one st h expression entry false below are kind to from =
-    (kind, λ same. false≢true (from (first_named one st entry expression below (below_is st expression h.symbols are) (same ∙ ap (λ l. slice_get l 0) (sym (named_is st expression h.symbols are))))))
-
--- ---- variables
-
-filtered_formed : (st : List Sentence) (id : ℕ) (h : Sentence) → AllFormed st → slice_get (labelled_sentences st) id ≡ Some h → IsFormedSentence h
-filtered_formed [] id h formed there = absurd (none-some h there)
-filtered_formed (s ∷ st) id h formed there = go (is_some s.label) id there (λ i at. filtered_formed st i h (λ p a t. formed (suc p) a t) at)
+-- whether an entry begins with the type code of a `$f`
+pub code_told : OneNumber → (st : List Sentence) (h : Sentence) (code x : List ℕ) (c : ℕ) (entry : List ℕ) → AreBelow st entry → Types code x h → IsNumberOf st code c
+    → slice_get entry 0 ≡ Some c ↔ slice_get (names_at st entry) 0 ≡ slice_get h.symbols 0
+code_told one st h code x c entry below types number = (
+  (λ first. slice_get-map (name_at st) entry 0 ∙ ap (option_map (name_at st)) first ∙ ap Some (name_is st c code number) ∙ ap (λ l. slice_get l 0) (sym types.1)),
+  from entry below,
+)
   where
-    go : (b : Bool) (i : ℕ) → slice_get (cond b (s ∷ labelled_sentences st) (labelled_sentences st)) i ≡ Some h → ((k : ℕ) → slice_get (labelled_sentences st) k ≡ Some h → IsFormedSentence h) → IsFormedSentence h
-    go true zero at later = subst IsFormedSentence (same_Some s h at) (formed 0 s refl)
-    go true (suc i) at later = later i at
-    go false i at later = later i at
+    from : (entry : List ℕ) → AreBelow st entry → slice_get (names_at st entry) 0 ≡ slice_get h.symbols 0 → slice_get entry 0 ≡ Some c
+    from [] below same = absurd (none-some code (same ∙ ap (λ l. slice_get l 0) types.1))
+    from (n ∷ ns) below same =
+        let named = same_Some (name_at st n) code (same ∙ ap (λ l. slice_get l 0) types.1) in
+        ap Some ((one st [] code).1 n c (subst (λ y. IsNumberOf st y n) named (number_of_name st n below.0)) number)
 
-two_in : (st : List Sentence) (ns : List ℕ) (xs : List (List ℕ)) (o : Option ℕ) → AreNumbers st ns xs → length xs ≡ 2 → o ≡ slice_get ns 1
-    → (n : ℕ) × (code : List ℕ) × (x : List ℕ) × (o ≡ Some n) × (xs ≡ code ∷ x ∷ []) × IsNumberOf st x n
-two_in st [] [] o are two is = absurd (omega arith)
-two_in st [] (x ∷ xs) o are two is = absurd cc
-two_in st (n ∷ ns) [] o are two is = absurd cc
-two_in st (n ∷ []) (x ∷ xs) o are two is = absurd (let l = ap length are in omega (arith, length-map xs (λ (y : List ℕ). Some y)))
-two_in st (n ∷ m ∷ ns) (x ∷ []) o are two is = absurd (omega arith)
-two_in st (n ∷ m ∷ ns) (x ∷ y ∷ []) o are two is =
-    let there : slice_get (symbols_of st) m ≡ Some y = cc in
-    (m, x, y, is, refl, there)
-two_in st (n ∷ m ∷ ns) (x ∷ y ∷ z ∷ xs) o are two is = absurd (omega arith)
+-- a `$e` has no type code
+pub no_code : (h : Sentence) (entry : List (List ℕ)) → h.kind ≡ Essential → IsRightCode h entry
+no_code h entry essential floats = absurd (let both : Floating ≡ Essential = sym floats ∙ essential in cc)
 
-pub variable_told : (st : List Sentence) (id : ℕ) (h : Sentence) (ns : List ℕ) (o : Option ℕ) → AllFormed st → slice_get (labelled_sentences st) id ≡ Some h → h.kind ≡ Floating
-    → AreNumbers st ns h.symbols → o ≡ slice_get ns 1 → IsVariableOf st o h
-variable_told st id h ns o formed there kind are is =
-    let two = subst (λ k. FitsCount k (length h.symbols)) kind (filtered_formed st id h formed there).count in
-    let t = two_in st ns h.symbols o are two is in
-    subst (λ v. IsVariableOf st v h) (sym t.3) (t.1, t.2, (kind, t.4), t.5)
-
-pub no_variable : (st : List Sentence) (h : Sentence) → ¬ (h.kind ≡ Floating) → IsVariableOf st None h
-no_variable st h other = other
+pub no_variable : (st : List Sentence) (h : Sentence) → h.kind ≡ Essential → IsVariableOf st None h
+no_variable st h essential floats = let both : Floating ≡ Essential = sym floats ∙ essential in cc
 
 -- ---- hypotheses and their entries, one after the other
 
 -- the hypothesis with the number at a place
-pub hypothesis_at : (st : List Sentence) (ids : List LabelId) (hs : List Sentence) (i : ℕ) (d : LabelId) → AreHypothesesOf st (ids_in ids) hs → i < length ids
-    → (h : Sentence) × (slice_get hs i ≡ Some h) × (slice_get (labelled_sentences st) (get_or ids i d).0 ≡ Some h)
+pub hypothesis_at : (st : List Sentence) (ids : List Hypothesis) (hs : List Sentence) (i : ℕ) (d : Hypothesis) → AreHypothesesOf st (label_ids ids) hs → i < length ids
+    → (h : Sentence) × (slice_get hs i ≡ Some h) × (slice_get (labelled_sentences st) (get_or ids i d).id.0 ≡ Some h)
 hypothesis_at st [] hs i d are less = absurd (omega arith)
 hypothesis_at st (id ∷ ids) [] i d are less = absurd cc
-hypothesis_at st (id ∷ ids) (h ∷ hs) zero d are less = (h, refl, (let e : slice_get (labelled_sentences st) id.0 ≡ Some h = cc in e))
+hypothesis_at st (id ∷ ids) (h ∷ hs) zero d are less = (h, refl, (let e : slice_get (labelled_sentences st) id.id.0 ≡ Some h = cc in e))
 hypothesis_at st (id ∷ ids) (h ∷ hs) (suc i) d are less =
-    let rest : AreHypothesesOf st (ids_in ids) hs = cc in
+    let rest : AreHypothesesOf st (label_ids ids) hs = cc in
     hypothesis_at st ids hs i d rest (omega arith)
 
-pub id_below : (st : List Sentence) (ids : List LabelId) (hs : List Sentence) (i : ℕ) (d : LabelId) → AreHypothesesOf st (ids_in ids) hs → i < length ids
-    → (get_or ids i d).0 < length (labelled_sentences st)
-id_below st ids hs i d are less = let h = hypothesis_at st ids hs i d are less in slice_get_within (labelled_sentences st) (get_or ids i d).0 h.0 h.2
+pub id_below : (st : List Sentence) (ids : List Hypothesis) (hs : List Sentence) (i : ℕ) (d : Hypothesis) → AreHypothesesOf st (label_ids ids) hs → i < length ids
+    → (get_or ids i d).id.0 < length (labelled_sentences st)
+id_below st ids hs i d are less = let h = hypothesis_at st ids hs i d are less in slice_get_within (labelled_sentences st) (get_or ids i d).id.0 h.0 h.2
+
+-- what stands with its number is the hypothesis' typing
+pub typing_at : (st : List Sentence) (xs : List Hypothesis) (i : ℕ) (d : Hypothesis) (h : Sentence) → HaveTypings st xs → i < length xs
+    → slice_get (labelled_sentences st) (get_or xs i d).id.0 ≡ Some h → IsTypingOf st (get_or xs i d).typing h
+typing_at st xs i d h have less there =
+    let (g, at, is) = have i (get_or xs i d) (slice_get-get_or xs i d less) in
+    subst (IsTypingOf st (get_or xs i d).typing) (same_Some g h (sym at ∙ there)) is
 
 pub variables_more : (st : List Sentence) (variables : List (Option Sym)) (v : Option Sym) (hs : List Sentence) (i : ℕ) (h : Sentence) → slice_get hs i ≡ Some h
     → AreVariablesOf st (variables_in variables) (take i hs) → IsVariableOf st (option_map (λ s. s.0) v) h → AreVariablesOf st (variables_in (variables ++ v ∷ [])) (take (i + 1) hs)
@@ -168,11 +141,11 @@ each_more hs entries P n h e at_h at_e here below i g entry less p q = elim (cas
       subst (λ x. P x entry) one (subst (P h) two here)
 ]
 
-pub as_many : (st : List Sentence) (ids : List LabelId) (hs : List Sentence) → AreHypothesesOf st (ids_in ids) hs → length hs ≡ length ids
+pub as_many : (st : List Sentence) (ids : List Hypothesis) (hs : List Sentence) → AreHypothesesOf st (label_ids ids) hs → length hs ≡ length ids
 as_many st [] [] are = refl
 as_many st [] (h ∷ hs) are = absurd cc
 as_many st (id ∷ ids) [] are = absurd cc
-as_many st (id ∷ ids) (h ∷ hs) are = let rest : AreHypothesesOf st (ids_in ids) hs = cc in ap suc (as_many st ids hs rest)
+as_many st (id ∷ ids) (h ∷ hs) are = let rest : AreHypothesesOf st (label_ids ids) hs = cc in ap suc (as_many st ids hs rest)
 
 -- the variable at a place is that of the hypothesis there
 pub variable_typed : (st : List Sentence) (vs : List (Option ℕ)) (hs : List Sentence) (i : ℕ) (h : Sentence) → AreVariablesOf st vs hs → slice_get hs i ≡ Some h

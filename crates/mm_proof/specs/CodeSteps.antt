@@ -1,9 +1,9 @@
 -- What the code of the moves knows on its way: it mirrors the code.
 use Rattle.std.specs.Prelude.{◌≡◌, ℕ, ◌+◌, ◌<◌, List, length, map, take, slice_get, Contains, Some}
 use Rattle.std.specs.Prelude.{◌⊎◌}
-use Rattle.std.specs.Borrow.{Bor}
 use Rattle.std.specs.List.{AllZip, AllByRecursion}
 use Rattle.mm_text.specs.declared.token.Token.{Token}
+use Rattle.mm_frame.specs.declared.hypothesis.Hypothesis.{Hypothesis}
 use Rattle.mm_frame.specs.declared.number.LabelId.{LabelId}
 use Rattle.mm_frame.specs.Sentence.{Sentence, SomeSentence, IsLabelled, IsHypothesis, IsAssertion}
 use Rattle.mm_frame.specs.Active.{IsActive}
@@ -42,6 +42,10 @@ token_texts tokens = map (λ t. t.text.now) tokens
 -- the numbers of labels
 abbrev pub ids_in : List LabelId → List ℕ
 ids_in ids = map (λ i. i.0) ids
+
+-- the numbers of the labels of hypotheses
+abbrev pub label_ids : List Hypothesis → List ℕ
+label_ids hypotheses = map (λ h. h.id.0) hypotheses
 
 -- the statement with this number stands before a place and has the label
 pub record IsEarlier (statements : List Sentence) (place : ℕ) (label : List ℕ)

@@ -6,7 +6,7 @@ ghost use Rattle.mm_frame.specs.Sentence.{Sentence, IsAssertion};
 ghost use Rattle.mm_frame.specs.Form.{IsSound};
 ghost use Rattle.mm_frame.specs.Numbers.{IsNumbered};
 ghost use Rattle.mm_frame.specs.FramePlace.{ArePairs};
-ghost use Rattle.mm_proof.specs.CodeSteps.{ids_in};
+ghost use Rattle.mm_proof.specs.CodeSteps.{label_ids};
 ghost use Rattle.mm_proof.specs.CodeVerify.{AreHypothesesOf, AreVariablesOf, AreStackEntries};
 ghost use Rattle.mm_proof.specs.CodeVerify.{EachEntry};
 ghost use Rattle.mm_proof.specs.CodeVerify.{IsRightCode, all_names_at, pairs_in, variables_in};
@@ -19,7 +19,7 @@ use crate::step::{are_equal, fill_variables};
 use crate::store::Store;
 use crate::substitution::substitute;
 use crate::variables::Variables;
-use mm_frame::{Book, Frame, LabelId, Sym, one_number};
+use mm_frame::{Book, Frame, Hypothesis, LabelId, Sym, one_number};
 use std::alloc::Global;
 
 /// Lists that each step by an assertion fills anew.
@@ -48,20 +48,20 @@ fn rule_broken<S: Store>(
     variables: &Variables,
     book: &Book,
     own: &Frame,
-    hypotheses: &[LabelId],
+    hypotheses: &[Hypothesis],
     pairs: &[(Sym, Sym)],
 ) -> Option<ProofRule>
     requires sound { IsSound book.now.statements }
     requires own { own.now.statements ≡ book.now.statements }
     requires known { (hs : List Sentence)
-        × AreHypothesesOf book.now.statements (ids_in hypotheses.now) hs }
+        × AreHypothesesOf book.now.statements (label_ids hypotheses.now) hs }
     requires entries { base + length hypotheses.now ≡ length (S.stack store.now) }
     requires variables { length variables.now.list.items ≡ length hypotheses.now }
     requires fits { length (S.stack store.now) < 2 ^ 64 }
     requires symbols { AreStackEntries book.now.statements (take own.now.place book.now.statements)
         (S.stack store.now) }
     ensures { (id at : ℕ) (hs : List Sentence)
-        → IsAppliedAssertion book.now.statements own.now.place id at (ids_in hypotheses.now) hs
+        → IsAppliedAssertion book.now.statements own.now.place id at (label_ids hypotheses.now) hs
         → AreVariablesOf book.now.statements (variables_in variables.now.list.items) hs
         → ArePairs (record { statements = book.now.statements; place = at }) (pairs_in pairs.now)
         → EachEntry hs (all_names_at book.now.statements
@@ -176,7 +176,7 @@ fn apply_frame<S: Store>(
         });
     }
     let base = count - hypotheses.len();
-    let right = fill_variables(&mut scratch.variables, store, base, book, hypotheses)?;
+    let right = fill_variables(&mut scratch.variables, store, base, hypotheses)?;
     if !right {
         return Err(ProofFault::Rule {
             rule: ProofRule::P9,

@@ -2,7 +2,7 @@
 //! Metamath book, section 4.3, section 4.4.4 and appendix B).
 
 ghost use Rattle.std.specs.Prelude.{◌≡◌, ◌↔◌, ◌+◌, ◌≤◌, ◌<◌, ◌∷◌, [], ℕ, List, Contains, All};
-ghost use Rattle.std.specs.Prelude.{length, map, take, slice_get, Some, Err};
+ghost use Rattle.std.specs.Prelude.{◌++◌, length, map, take, slice_get, Some, Err};
 ghost use Rattle.std.specs.Prelude.{IsTrue, IfOk, IfErr, OnOk, MatchOption};
 ghost use Rattle.std.specs.List.{AllZip, AllByRecursion, flat_map, sum_by};
 ghost use Rattle.mm_code.specs.Letters.{HasSpelling, Letters, LettersBreak};
@@ -17,7 +17,7 @@ ghost use Rattle.mm_proof.specs.Proof.{IsWholeFault};
 ghost use Rattle.mm_proof.specs.Steps.{AreSteps, IsProofNumber};
 ghost use Rattle.mm_proof.specs.Parsed.{OfProof, SaySteps};
 ghost use Rattle.mm_proof.specs.CodeSteps.{IsReading, NumberSays, fault_behind};
-ghost use Rattle.mm_proof.specs.CodeSteps.{ids_in, move_in, moves_in, token_texts};
+ghost use Rattle.mm_proof.specs.CodeSteps.{ids_in, label_ids, move_in, moves_in, token_texts};
 ghost use Rattle.mm_code.specs.Layout.{texts};
 ghost use Rattle.mm_proof.specs.CodeRun.{ArePicked};
 
@@ -26,7 +26,7 @@ use crate::labels::fill_numbers;
 use crate::moves::{NumberedMove, Parsed, Steps};
 use crate::picked::{Picked, fill_picked, pick};
 use mm_code::{Code, CodeFault, CodeRule, fill_codes};
-use mm_frame::{Book, Frame, LabelId};
+use mm_frame::{Book, Frame, Hypothesis, LabelId};
 use mm_text::Token;
 use std::alloc::{AllocError, Global};
 
@@ -253,6 +253,22 @@ fn read_letters<'a>(
     fill_codes(codes, pieces)
 }
 
+// Fills the list with the labels of the hypotheses, and then the listed ones.
+fn fill_entries(
+    entries: &mut Vec<LabelId>,
+    hypotheses: &[Hypothesis],
+    listed: &[LabelId],
+) -> Result<(), AllocError>
+    ensures { OnOk result
+        (ids_in entries.new.items ≡ label_ids hypotheses.now ++ ids_in listed.now) }
+{
+    entries.clear();
+    for hypothesis in hypotheses {
+        entries.push(hypothesis.id)?;
+    }
+    entries.extend_from_slice(listed)
+}
+
 // Fills the list with the moves of a compressed proof, whose tokens after the `(` are these.
 fn fill_compressed<'a>(
     lists: &mut ParseLists<'a>,
@@ -284,9 +300,7 @@ fn fill_compressed<'a>(
         Ok(()) => {}
         Err(fault) => return Err(letter_fault(fault)),
     }
-    lists.entries.clear();
-    lists.entries.extend_from_slice(own.hypotheses())?;
-    lists.entries.extend_from_slice(&lists.ids)?;
+    fill_entries(&mut lists.entries, own.hypotheses(), &lists.ids)?;
     fill_moves(
         &mut lists.moves,
         &mut lists.picked,

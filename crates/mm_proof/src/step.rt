@@ -6,10 +6,10 @@ ghost use Rattle.std.specs.Prelude.{IsTrue, IfOk, MatchBool, MatchOption};
 ghost use Rattle.std.specs.List.{AllByRecursion};
 ghost use Rattle.mm_text.specs.declared.statement.Kind.TheVariants.{Floating, Essential};
 ghost use Rattle.mm_frame.specs.Sentence.{Sentence};
-ghost use Rattle.mm_frame.specs.Form.{IsSound};
+ghost use Rattle.mm_frame.specs.FramePlace.{IsTypingOf, HaveTypings};
 ghost use Rattle.mm_frame.specs.Numbers.{labelled_sentences};
 ghost use Rattle.mm_proof.specs.Stores.{numbers_in};
-ghost use Rattle.mm_proof.specs.CodeSteps.{ids_in};
+ghost use Rattle.mm_proof.specs.CodeSteps.{label_ids};
 ghost use Rattle.mm_proof.specs.CodeVerify.{AreHypothesesOf, AreVariablesOf, IsVariableOf};
 ghost use Rattle.mm_proof.specs.CodeVerify.{AreBelow, variables_in, names_at, all_names_at};
 ghost use Rattle.mm_proof.specs.CodeVerify.{IsRightCode};
@@ -19,54 +19,40 @@ ghost use Rattle.mm_proof.specs.Proof.{SomePair};
 use crate::store::Store;
 use crate::substitution::is_replaced;
 use crate::variables::Variables;
-use mm_frame::{Book, LabelId, LabelKind, Sym, one_number};
+use mm_frame::{Book, Hypothesis, LabelId, LabelKind, Sym, one_number};
 use std::alloc::AllocError;
 
-fn second(expression: &[Sym]) -> Option<Sym>
-    ensures { option_map (λ s. s.0) result ≡ slice_get (numbers_in expression.now) 1 }
+// Whether the expression begins with the symbol.
+fn begins_with(expression: &[Sym], symbol: Sym) -> bool
+    ensures { IsTrue result ↔ (slice_get (numbers_in expression.now) 0 ≡ Some symbol.0) }
 {
     match expression {
-        [_, second, ..] => Some(*second),
-        _ => None,
-    }
-}
-
-// Whether both have the same first symbol, or none.
-fn is_first_same(expression: &[Sym], entry: &[Sym]) -> bool
-    ensures { IsTrue result
-        ↔ (slice_get (numbers_in entry.now) 0 ≡ slice_get (numbers_in expression.now) 0) }
-{
-    match (expression, entry) {
-        ([code, ..], [first, ..]) => code.0 == first.0,
-        ([], []) => true,
-        _ => false,
+        [first, ..] => first.0 == symbol.0,
+        [] => false,
     }
 }
 
 // The variable of the hypothesis, if it is a `$f`; nothing, if it is one with another type code
 // than its entry.
-fn variable_of(book: &Book, id: LabelId, entry: &[Sym]) -> Option<Option<Sym>>
-    requires sound { IsSound book.now.statements }
-    requires named { id.0 < length (labelled_sentences book.now.statements) }
-    requires below { AreBelow book.now.statements (numbers_in entry.now) }
-    ensures { (h : Sentence) → slice_get (labelled_sentences book.now.statements) id.0 ≡ Some h
-        → MatchOption
+fn variable_of(hypothesis: &Hypothesis, entry: &[Sym]) -> Option<Option<Sym>>
+    ensures { (statements : List Sentence) (h : Sentence)
+        → IsTypingOf statements hypothesis.now.typing h
+        → AreBelow statements (numbers_in entry.now) → MatchOption
         result
-        (IsWrongCode h (names_at book.now.statements (numbers_in entry.now)))
-        (λ variable. IsVariableOf book.now.statements (option_map (λ s. s.0) variable) h
-        × IsRightCode h (names_at book.now.statements (numbers_in entry.now))) }
+        (IsWrongCode h (names_at statements (numbers_in entry.now)))
+        (λ variable. IsVariableOf statements (option_map (λ s. s.0) variable) h
+        × IsRightCode h (names_at statements (numbers_in entry.now))) }
 {
     one_number();
-    match book.kind(id) {
-        LabelKind::Floating => {
-            let expression = book.expression(id);
-            if is_first_same(expression, entry) {
-                Some(second(expression))
+    match hypothesis.typing {
+        Some((code, variable)) => {
+            if begins_with(entry, code) {
+                Some(Some(variable))
             } else {
                 None
             }
         }
-        _ => Some(None),
+        None => Some(None),
     }
 }
 
@@ -76,27 +62,22 @@ pub(crate) fn fill_variables<S: Store>(
     variables: &mut Variables,
     store: &S,
     base: usize,
-    book: &Book,
-    hypotheses: &[LabelId],
+    hypotheses: &[Hypothesis],
 ) -> Result<bool, AllocError>
-    requires sound { IsSound book.now.statements }
-    requires known { (hs : List Sentence)
-        × AreHypothesesOf book.now.statements (ids_in hypotheses.now) hs }
     requires entries { base + length hypotheses.now ≡ length (S.stack store.now) }
     requires fits { length (S.stack store.now) < 2 ^ 64 }
-    requires below { AllByRecursion (AreBelow book.now.statements) (drop base (S.stack store.now)) }
-    ensures { IfOk result (λ right. (hs : List Sentence)
-        → AreHypothesesOf book.now.statements (ids_in hypotheses.now) hs
+    ensures { (statements : List Sentence) → HaveTypings statements hypotheses.now
+        → AllByRecursion (AreBelow statements) (drop base (S.stack store.now))
+        → IfOk result (λ right. (hs : List Sentence)
+        → AreHypothesesOf statements (label_ids hypotheses.now) hs
         → MatchBool right
-        (AreVariablesOf book.now.statements (variables_in variables.new.list.items) hs
-        × EachEntry hs (all_names_at book.now.statements
-        (drop base (S.stack store.now))) IsRightCode)
-        (SomePair hs (all_names_at book.now.statements
-        (drop base (S.stack store.now))) IsWrongCode)) }
+        (AreVariablesOf statements (variables_in variables.new.list.items) hs
+        × EachEntry hs (all_names_at statements (drop base (S.stack store.now))) IsRightCode)
+        (SomePair hs (all_names_at statements (drop base (S.stack store.now))) IsWrongCode)) }
 {
     variables.clear();
-    for (index, id) in hypotheses.iter().enumerate() {
-        match variable_of(book, *id, store.at(base + index)) {
+    for (index, hypothesis) in hypotheses.iter().enumerate() {
+        match variable_of(hypothesis, store.at(base + index)) {
             Some(variable) => variables.push(variable)?,
             None => return Ok(false),
         }
@@ -144,10 +125,10 @@ pub(crate) fn are_equal<S: Store>(
     base: usize,
     variables: &Variables,
     book: &Book,
-    hypotheses: &[LabelId],
+    hypotheses: &[Hypothesis],
 ) -> bool
     requires known { (hs : List Sentence)
-        × AreHypothesesOf book.now.statements (ids_in hypotheses.now) hs }
+        × AreHypothesesOf book.now.statements (label_ids hypotheses.now) hs }
     requires entries { base + length hypotheses.now ≡ length (S.stack store.now) }
     requires variables { length variables.now.list.items ≡ length hypotheses.now }
     requires fits { length (S.stack store.now) < 2 ^ 64 }
@@ -155,7 +136,7 @@ pub(crate) fn are_equal<S: Store>(
     ensures { (σ : List ℕ → Option (List (List ℕ)))
         → Replaces book.now.statements σ (variables_in variables.now.list.items)
         (drop base (S.stack store.now))
-        → (hs : List Sentence) → AreHypothesesOf book.now.statements (ids_in hypotheses.now) hs
+        → (hs : List Sentence) → AreHypothesesOf book.now.statements (label_ids hypotheses.now) hs
         → AreVariablesOf book.now.statements (variables_in variables.now.list.items) hs
         → MatchBool result
         (EachEntry hs (all_names_at book.now.statements (drop base (S.stack store.now)))
@@ -163,14 +144,14 @@ pub(crate) fn are_equal<S: Store>(
         (SomePair hs (all_names_at book.now.statements (drop base (S.stack store.now)))
         (IsUnequal σ)) }
 {
-    for (index, id) in hypotheses.iter().enumerate() {
+    for (index, hypothesis) in hypotheses.iter().enumerate() {
         if !is_equal(
             store,
             base,
             variables,
             book,
             index,
-            *id,
+            hypothesis.id,
             store.at(base + index),
         ) {
             return false;

@@ -1,17 +1,25 @@
-use Rattle.std.proofs.Common.{◌≡◌, ◌<◌, List, option_map, ◌-◌, length, drop, take, sym, subst, arith}
+use Rattle.std.proofs.Common.{◌≡◌, ℕ, ◌<◌, List, option_map, ◌-◌, length, drop, take, sym, subst, arith}
+use Rattle.std.specs.List.{AllByRecursion}
 use Rattle.std.proofs.lemmas.List.{length-map, length-drop}
 use Rattle.std.proofs.lemmas.Result.{IfOk-weaker}
+use Rattle.mm_frame.specs.declared.hypothesis.Hypothesis.{Hypothesis}
 use Rattle.mm_frame.specs.Sentence.{Sentence}
 use Rattle.mm_frame.specs.Form.{IsSound}
-use Rattle.mm_frame.specs.FramePlace.{ArePairs}
+use Rattle.mm_frame.specs.FramePlace.{HaveTypings, ArePairs}
 use Rattle.mm_proof.specs.declared.fault.ProofRule.{ProofRule}
 use Rattle.mm_proof.specs.declared.fault.ProofRule.TheVariants.{P8, P9}
-use Rattle.mm_proof.specs.CodeSteps.{ids_in}
-use Rattle.mm_proof.specs.CodeVerify.{AreHypothesesOf, AreStackEntries, variables_in, pairs_in}
+use Rattle.mm_proof.specs.CodeSteps.{label_ids}
+use Rattle.mm_proof.specs.CodeVerify.{AreBelow, AreHypothesesOf, AreStackEntries, variables_in, pairs_in}
 use Rattle.mm_proof.specs.CodeRun.{CarriesOn, StopsAt}
 use Rattle.mm_proof.proofs.Named.{as_many}
 use Rattle.mm_proof.proofs.Applying.{stops_P8, called_of, ready_of, typed_count, match_true, match_false, stops_P9, entries_drop, entries_below}
 use Rattle.mm_proof.proofs.apply.apply_frame.Goals as goal
+
+have_typings : (own st : List Sentence) (hs : List Hypothesis) → own ≡ st → HaveTypings own hs → HaveTypings st hs
+have_typings own st hs same have = subst (λ (l : List Sentence). HaveTypings l hs) same have
+
+drop_below : (st before : List Sentence) (base : ℕ) (stack : List (List ℕ)) → AreStackEntries st before stack → AllByRecursion (AreBelow st) (drop base stack)
+drop_below st before base stack entries = entries_below st before (drop base stack) (entries_drop st before base stack entries)
 
 pub returns-then-count-hypotheses-clause-fault : goal.returns-then-count-hypotheses-clause-fault
 returns-then-count-hypotheses-clause-fault g c rule step is =
@@ -22,24 +30,13 @@ returns-then-count-hypotheses-clause-fault g c rule step is =
           let st = c.args.book.now.statements in
           let at = c.args.frame.now.place in
           let stack = g.S.Store.stack c.args.store.now in
-          let h = c.hypotheses-hypotheses.ensures in
-          let ids = ids_in c.hypotheses-hypotheses.result.now in
+          let h = c.hypotheses-hypotheses.ensures.ids in
+          let ids = label_ids c.hypotheses-hypotheses.result.now in
           let known = subst (λ (l : List Sentence). AreHypothesesOf l ids h.hypotheses) c.requires.frame h.numbered in
           let short : length stack < length h.hypotheses = omega (arith, c.if-count-hypotheses.true, c.len-count.ensures, as_many st c.hypotheses-hypotheses.result.now h.hypotheses known) in
           let called = called_of st c.args.frame.now.statements c.args.own.now.place id at ids c.requires.assertion.0 s c.requires.frame h c.requires.assertion.1 c.requires.assertion.2 c.requires.before n in
           subst (λ (r : ProofRule). StopsAt st c.args.own.now.place id stack r) same (stops_P8 st c.args.own.now.place id at ids h.hypotheses stack called short),
     )
-
-pub fill_variables-requires-clause-known : goal.fill_variables-requires-clause-known
-fill_variables-requires-clause-known g c =
-    let h = c.hypotheses-hypotheses.ensures in
-    (h.hypotheses, subst (λ (l : List Sentence). AreHypothesesOf l (ids_in c.hypotheses-hypotheses.result.now) h.hypotheses) c.requires.frame h.numbered)
-
-pub fill_variables-requires-clause-below : goal.fill_variables-requires-clause-below
-fill_variables-requires-clause-below g c =
-    let stack = g.S.Store.stack c.args.store.now in
-    let base = c.len-count.result - length c.hypotheses-hypotheses.result.now in
-    entries_below c.args.book.now.statements _ (drop base stack) (entries_drop c.args.book.now.statements _ base stack c.requires.entries)
 
 pub returns-then-not-right-clause-fault : goal.returns-then-not-right-clause-fault
 returns-then-not-right-clause-fault g c rule step is =
@@ -50,15 +47,15 @@ returns-then-not-right-clause-fault g c rule step is =
           let st = c.args.book.now.statements in
           let at = c.args.frame.now.place in
           let stack = g.S.Store.stack c.args.store.now in
-          let h = c.hypotheses-hypotheses.ensures in
-          let ids = ids_in c.hypotheses-hypotheses.result.now in
+          let h = c.hypotheses-hypotheses.ensures.ids in
+          let ids = label_ids c.hypotheses-hypotheses.result.now in
           let base = c.len-count.result - length c.hypotheses-hypotheses.result.now in
           let called = called_of st c.args.frame.now.statements c.args.own.now.place id at ids c.requires.assertion.0 s c.requires.frame h c.requires.assertion.1 c.requires.assertion.2 c.requires.before n in
           let count : length h.hypotheses ≡ length c.hypotheses-hypotheses.result.now = as_many st c.hypotheses-hypotheses.result.now h.hypotheses called.known in
           let paired : length (drop base stack) ≡ length h.hypotheses = omega (arith, length-drop base stack, c.len-count.ensures, c.if-count-hypotheses.false) in
           subst (λ (r : ProofRule). StopsAt st c.args.own.now.place id stack r) same
           (stops_P9 st c.args.own.now.place id at ids h.hypotheses stack base c.requires.sound.0 called paired
-          (match_false c.in_ok-right.right _ _ c.if-not-right.true (c.in_ok-right.ensures h.hypotheses called.known))),
+          (match_false c.in_ok-right.right _ _ c.if-not-right.true (c.in_ok-right.ensures st (have_typings _ st _ c.requires.frame c.hypotheses-hypotheses.ensures.typed) (drop_below st _ _ stack c.requires.entries) h.hypotheses called.known))),
     )
 
 pub rule_broken-rule-requires-clause-variables : goal.rule_broken-rule-requires-clause-variables
@@ -66,15 +63,15 @@ rule_broken-rule-requires-clause-variables g c =
     let st = c.args.book.now.statements in
     let at = c.args.frame.now.place in
     let stack = g.S.Store.stack c.args.store.now in
-    let h = c.hypotheses-hypotheses.ensures in
-    let ids = ids_in c.hypotheses-hypotheses.result.now in
+    let h = c.hypotheses-hypotheses.ensures.ids in
+    let ids = label_ids c.hypotheses-hypotheses.result.now in
     let known = subst (λ (l : List Sentence). AreHypothesesOf l ids h.hypotheses) c.requires.frame h.numbered in
     let count : length c.fill_variables.new.variables.list.items ≡ length c.hypotheses-hypotheses.result.now =
     omega (
       arith,
       length-map c.fill_variables.new.variables.list.items (λ v. option_map (λ s. s.0) v),
       typed_count st (variables_in c.fill_variables.new.variables.list.items) h.hypotheses
-          (match_true c.in_ok-right.right _ _ c.if-not-right.false (c.in_ok-right.ensures h.hypotheses known)).0,
+          (match_true c.in_ok-right.right _ _ c.if-not-right.false (c.in_ok-right.ensures st (have_typings _ st _ c.requires.frame c.hypotheses-hypotheses.ensures.typed) (drop_below st _ _ stack c.requires.entries) h.hypotheses known)).0,
       as_many st c.hypotheses-hypotheses.result.now h.hypotheses known,
     ) in
     count
@@ -87,15 +84,15 @@ conclude-requires-clause-entries g c =
     let st = c.args.book.now.statements in
     let at = c.args.frame.now.place in
     let stack = g.S.Store.stack c.args.store.now in
-    let h = c.hypotheses-hypotheses.ensures in
-    let ids = ids_in c.hypotheses-hypotheses.result.now in
+    let h = c.hypotheses-hypotheses.ensures.ids in
+    let ids = label_ids c.hypotheses-hypotheses.result.now in
     let known = subst (λ (l : List Sentence). AreHypothesesOf l ids h.hypotheses) c.requires.frame h.numbered in
     let count : length c.fill_variables.new.variables.list.items ≡ length c.hypotheses-hypotheses.result.now =
     omega (
       arith,
       length-map c.fill_variables.new.variables.list.items (λ v. option_map (λ s. s.0) v),
       typed_count st (variables_in c.fill_variables.new.variables.list.items) h.hypotheses
-          (match_true c.in_ok-right.right _ _ c.if-not-right.false (c.in_ok-right.ensures h.hypotheses known)).0,
+          (match_true c.in_ok-right.right _ _ c.if-not-right.false (c.in_ok-right.ensures st (have_typings _ st _ c.requires.frame c.hypotheses-hypotheses.ensures.typed) (drop_below st _ _ stack c.requires.entries) h.hypotheses known)).0,
       as_many st c.hypotheses-hypotheses.result.now h.hypotheses known,
     ) in
     omega (arith, count, c.len-count.ensures, c.if-count-hypotheses.false)
@@ -109,10 +106,10 @@ returns-in-Some-clause-fault g c rule step is =
           let st = c.args.book.now.statements in
           let at = c.args.frame.now.place in
           let stack = g.S.Store.stack c.args.store.now in
-          let h = c.hypotheses-hypotheses.ensures in
-          let ids = ids_in c.hypotheses-hypotheses.result.now in
+          let h = c.hypotheses-hypotheses.ensures.ids in
+          let ids = label_ids c.hypotheses-hypotheses.result.now in
           let called = called_of st c.args.frame.now.statements c.args.own.now.place id at ids c.requires.assertion.0 s c.requires.frame h c.requires.assertion.1 c.requires.assertion.2 c.requires.before n in
-          let told = match_true c.in_ok-right.right _ _ c.if-not-right.false (c.in_ok-right.ensures h.hypotheses called.known) in
+          let told = match_true c.in_ok-right.right _ _ c.if-not-right.false (c.in_ok-right.ensures st (have_typings _ st _ c.requires.frame c.hypotheses-hypotheses.ensures.typed) (drop_below st _ _ stack c.requires.entries) h.hypotheses called.known) in
           let typed = told.0 in
           let pairs = subst (λ (l : List Sentence). ArePairs (record { statements = l; place = at }) (pairs_in c.pairs.result.now)) c.requires.frame c.pairs.ensures in
           subst (λ (r : ProofRule). StopsAt st c.args.own.now.place id stack r) same (c.in-Some.ensures id at h.hypotheses called typed pairs told.1),
@@ -123,10 +120,10 @@ returns-in-None-clause-carried g c = IfOk-weaker c.conclude.result _ _ (λ u car
     let st = c.args.book.now.statements in
     let at = c.args.frame.now.place in
     let stack = g.S.Store.stack c.args.store.now in
-    let h = c.hypotheses-hypotheses.ensures in
-    let ids = ids_in c.hypotheses-hypotheses.result.now in
+    let h = c.hypotheses-hypotheses.ensures.ids in
+    let ids = label_ids c.hypotheses-hypotheses.result.now in
     let called = called_of st c.args.frame.now.statements c.args.own.now.place id at ids c.requires.assertion.0 s c.requires.frame h c.requires.assertion.1 c.requires.assertion.2 c.requires.before n in
-    let told = match_true c.in_ok-right.right _ _ c.if-not-right.false (c.in_ok-right.ensures h.hypotheses called.known) in
+    let told = match_true c.in_ok-right.right _ _ c.if-not-right.false (c.in_ok-right.ensures st (have_typings _ st _ c.requires.frame c.hypotheses-hypotheses.ensures.typed) (drop_below st _ _ stack c.requires.entries) h.hypotheses called.known) in
     let typed = told.0 in
     let pairs = subst (λ (l : List Sentence). ArePairs (record { statements = l; place = at }) (pairs_in c.pairs.result.now)) c.requires.frame c.pairs.ensures in
     let matched = c.in-None.ensures id at h.hypotheses called typed pairs told.1 in
@@ -139,10 +136,10 @@ returns-in-None-clause-entries g c = IfOk-weaker c.conclude.result _ _ (λ u ent
     let st = c.args.book.now.statements in
     let at = c.args.frame.now.place in
     let stack = g.S.Store.stack c.args.store.now in
-    let h = c.hypotheses-hypotheses.ensures in
-    let ids = ids_in c.hypotheses-hypotheses.result.now in
+    let h = c.hypotheses-hypotheses.ensures.ids in
+    let ids = label_ids c.hypotheses-hypotheses.result.now in
     let called = called_of st c.args.frame.now.statements c.args.own.now.place id at ids c.requires.assertion.0 s c.requires.frame h c.requires.assertion.1 c.requires.assertion.2 c.requires.before n in
-    let told = match_true c.in_ok-right.right _ _ c.if-not-right.false (c.in_ok-right.ensures h.hypotheses called.known) in
+    let told = match_true c.in_ok-right.right _ _ c.if-not-right.false (c.in_ok-right.ensures st (have_typings _ st _ c.requires.frame c.hypotheses-hypotheses.ensures.typed) (drop_below st _ _ stack c.requires.entries) h.hypotheses called.known) in
     let typed = told.0 in
     let pairs = subst (λ (l : List Sentence). ArePairs (record { statements = l; place = at }) (pairs_in c.pairs.result.now)) c.requires.frame c.pairs.ensures in
     let matched = c.in-None.ensures id at h.hypotheses called typed pairs told.1 in
@@ -159,10 +156,10 @@ returns-in-None-clause-fault g c rule step is =
           let st = c.args.book.now.statements in
           let at = c.args.frame.now.place in
           let stack = g.S.Store.stack c.args.store.now in
-          let h = c.hypotheses-hypotheses.ensures in
-          let ids = ids_in c.hypotheses-hypotheses.result.now in
+          let h = c.hypotheses-hypotheses.ensures.ids in
+          let ids = label_ids c.hypotheses-hypotheses.result.now in
           let called = called_of st c.args.frame.now.statements c.args.own.now.place id at ids c.requires.assertion.0 s c.requires.frame h c.requires.assertion.1 c.requires.assertion.2 c.requires.before n in
-          let told = match_true c.in_ok-right.right _ _ c.if-not-right.false (c.in_ok-right.ensures h.hypotheses called.known) in
+          let told = match_true c.in_ok-right.right _ _ c.if-not-right.false (c.in_ok-right.ensures st (have_typings _ st _ c.requires.frame c.hypotheses-hypotheses.ensures.typed) (drop_below st _ _ stack c.requires.entries) h.hypotheses called.known) in
           let typed = told.0 in
           let pairs = subst (λ (l : List Sentence). ArePairs (record { statements = l; place = at }) (pairs_in c.pairs.result.now)) c.requires.frame c.pairs.ensures in
           let matched = c.in-None.ensures id at h.hypotheses called typed pairs told.1 in

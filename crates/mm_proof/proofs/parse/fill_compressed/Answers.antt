@@ -1,14 +1,12 @@
 use Rattle.std.proofs.Common.{ℕ, List, ◌++◌, All, Err, subst, sym, ap, ◌∙◌}
 use Rattle.std.specs.List.{AllZip}
 use Rattle.std.proofs.lemmas.Result.{err_from_is_err_and, on_ok_weaker}
-use Rattle.std.proofs.lemmas.List.{map-append}
 use Rattle.mm_code.specs.declared.code.Code.{Code}
 use Rattle.mm_code.specs.Letters.{HasSpelling}
 use Rattle.mm_code.specs.declared.code.CodeRule.TheVariants as code
-use Rattle.mm_frame.specs.declared.number.LabelId.{LabelId}
 use Rattle.mm_frame.specs.Sentence.{Sentence}
 use Rattle.mm_frame.specs.FramePlace.{AreHypotheses}
-use Rattle.mm_proof.specs.CodeSteps.{NumberSays, ids_in, moves_in}
+use Rattle.mm_proof.specs.CodeSteps.{NumberSays, ids_in, label_ids, moves_in}
 use Rattle.mm_proof.proofs.Answering.{on_rule_map, memory_only}
 use Rattle.mm_proof.proofs.TokenFacts.{labels_fault}
 use Rattle.mm_proof.proofs.Compressed.{reading_compressed, compressed_labels, letters_spelled, letter_broken}
@@ -32,12 +30,11 @@ returns-clause-fault c = memory_only c.fill_moves.result _ c.fill_moves.ensures.
 
 pub returns-clause-ok : goal.returns-clause-ok
 returns-clause-ok c = on_ok_weaker c.fill_moves.result (λ says.
-    let entries = ap ids_in (c.deref-2.ensures.value ∙ c.in_ok-extend_from_slice-2.ensures.items) ∙ map-append (λ n. n.0) _ c.deref.result.now
-    ∙ ap (λ l. ids_in l ++ ids_in c.deref.result.now) (c.in_ok-extend_from_slice.ensures.items ∙ ap (λ (l : List LabelId). l ++ c.hypotheses.result.now) c.clear.ensures.items) ∙ ap (λ l. ids_in c.hypotheses.result.now ++ ids_in l) c.deref.ensures.value in
+    let entries = ap ids_in c.deref-2.ensures.value ∙ c.in_ok-fill_entries.ensures ∙ ap (λ l. label_ids c.hypotheses.result.now ++ ids_in l) c.deref.ensures.value in
     let by_codes = subst (λ (cs : List Code). AllZip (NumberSays (ids_in c.deref-2.result.now)) cs (moves_in c.fill_moves.new.moves.items)) c.deref-3.ensures.value says in
     let by_ids = subst (λ (ids : List ℕ). AllZip (NumberSays ids) c.read_letters.new.codes.items (moves_in c.fill_moves.new.moves.items)) entries by_codes in
     reading_compressed c.args.book.now.statements c.args.own.now.place c.requires.own.0 _ _ _ _ _ _ _ c.requires.sound.0 c.requires.sound.1 c.requires.own.1.there
     c.in-Some.ensures c.in_ok-fill_numbers.ensures.ok
-    (subst (λ (st : List Sentence). AreHypotheses (record { statements = st; place = c.args.own.now.place }) (ids_in c.hypotheses.result.now)) c.requires.book c.hypotheses.ensures)
+    (subst (λ (st : List Sentence). AreHypotheses (record { statements = st; place = c.args.own.now.place }) (label_ids c.hypotheses.result.now)) c.requires.book c.hypotheses.ensures.ids)
     c.in-Ok.ensures.read (c.in-Ok.ensures.unbroken code.P4) (c.in-Ok.ensures.unbroken code.P5)
     by_ids) c.fill_moves.ensures.ok

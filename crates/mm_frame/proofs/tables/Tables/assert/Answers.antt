@@ -56,11 +56,11 @@ returns-clause-ok c =
     let st = statements_of t in
     let same = c.reserve.ensures.same in
     let b = before_same t c.reserve.new.self same in
-    let ids = c.in_ok-hypotheses.hypotheses.items in
+    let hs = c.in_ok-hypotheses.hypotheses.items in
     let pairs = c.in_ok-pairs.pairs.items in
     let old_hypotheses : c.reserve-2.new.self.items ≡ t.hypotheses.items = c.reserve-2.ensures.items ∙ same.hypotheses in
     let old_pairs : c.reserve-3.new.self.items ≡ t.pairs.items = c.reserve-3.ensures.items ∙ same.pairs in
-    let new_hypotheses : c.add_part-hypotheses.new.list.items ≡ t.hypotheses.items ++ ids = rw (c.add_part-hypotheses.ensures.items, old_hypotheses, c.deref-3.ensures.value) refl in
+    let new_hypotheses : c.add_part-hypotheses.new.list.items ≡ t.hypotheses.items ++ hs = rw (c.add_part-hypotheses.ensures.items, old_hypotheses, c.deref-3.ensures.value) refl in
     let new_pairs : c.add_part-pairs.new.list.items ≡ t.pairs.items ++ pairs = rw (c.add_part-pairs.ensures.items, old_pairs, c.deref-4.ensures.value) refl in (
       assertion_taken t c.args.kind c.name-id.result c.requires.tables c.requires.kind (c.name-id.ensures.id ∙ ap length same.labels),
       λ s kind label numbered meant formed.
@@ -69,10 +69,10 @@ returns-clause-ok c =
           let first : ArePlaces st s c.deref.result.now = rw c.deref.ensures.value places in
           let second : ArePlaces st s c.deref-2.result.now = rw c.deref-2.ensures.value places in
           let new = entry_of c.args.kind (Some c.name-id.result) (length t.flat.items) (length (t.flat.items ++ c.args.numbers.now)) in
-          let framed_at : IsFrameInfo (st ++ s ∷ []) (t.hypotheses.items ++ ids) (t.pairs.items ++ pairs) (label_info (length t.log.items) new (c.add_part-hypotheses.result, c.add_part-pairs.result)) =
+          let framed_at : IsFrameInfo (st ++ s ∷ []) (t.hypotheses.items ++ hs) (t.pairs.items ++ pairs) (label_info (length t.log.items) new (c.add_part-hypotheses.result, c.add_part-pairs.result)) =
           rw (c.add_part-hypotheses.ensures.part, c.add_part-pairs.ensures.part, old_hypotheses, old_pairs, c.deref-3.ensures.value, c.deref-4.ensures.value)
-          (framed t s new c.deref.result.now ids pairs c.requires.tables first (c.in_ok-hypotheses.ensures s first) (c.in_ok-pairs.ensures s [] meant stated second)) in
-          asserted t _ c.name-id.new.self s c.args.kind c.args.label.now c.args.numbers.now (c.add_part-hypotheses.result, c.add_part-pairs.result) c.name-id.result ids pairs c.args.bytes
+          (framed t s new c.deref.result.now hs pairs c.requires.tables first (c.in_ok-hypotheses.ensures s first) (c.in_ok-pairs.ensures s [] meant stated second)) in
+          asserted t _ c.name-id.new.self s c.args.kind c.args.label.now c.args.numbers.now (c.add_part-hypotheses.result, c.add_part-pairs.result) c.name-id.result hs pairs c.args.bytes
           c.requires.tables c.requires.kind
           (record {
             symbols = b.symbols;
@@ -91,5 +91,6 @@ returns-clause-ok c =
           c.name-id.ensures.id
           (record { kinds = kind; label = label; numbered = numbered; meant = meant; formed = formed })
           framed_at
+          (c.in_ok-hypotheses.ensures s first).typed
           c.requires.enough c.requires.room,
     )

@@ -1,0 +1,28 @@
+use Rattle.std.proofs.Common.{◌+◌, sym, ◌∙◌, ap, subst, take}
+use Rattle.std.proofs.lemmas.List.{take_all}
+use Rattle.mm_frame.specs.Layout.{statements_of}
+use Rattle.mm_frame.specs.Gathered.{AreThoseAt}
+use Rattle.mm_frame.proofs.LabelIds.{those_step, ids_never}
+use Rattle.mm_frame.proofs.framing.hypotheses_at.Goals as goal
+use Rattle.mm_frame.proofs.framing.hypotheses_at.Goals.{in-Some+in_ok-push-in-Some, in-None}
+
+pub loop-place-preserved : goal.loop-place-preserved
+loop-place-preserved c s are =
+    let t = c.args.tables.now in
+    let st = statements_of t in
+    let places = c.args.places.now in
+    let i = c.loop-place.place-index in
+    elim c.match-label_at.branch [
+      | in-Some+in_ok-push-in-Some w ↦
+          subst (AreThoseAt st (take (i + 1) places)) (sym (ap (λ v. v.items) w.hypotheses-is ∙ w.in_ok-push-in-Some.ensures.items))
+          (those_step t.symbols.names t.labels.names t.flat.items t.log.items t.named.items s places i (record { id = w.in-Some.id; typing = w.typing.result }) c.loop-place.hypotheses.items
+          c.requires.labels c.requires.sound.1 are c.loop-place-test.true (sym c.label_at.ensures ∙ w.in-Some.is) w.typing.ensures (c.loop-place.invariant s are))
+      | in-None w ↦
+          absurd (ids_never t.symbols.names t.labels.names t.flat.items t.log.items t.named.items s places i c.requires.labels c.requires.sound.1 are
+          c.loop-place-test.true (sym c.label_at.ensures ∙ w.in-None.is))
+    ]
+
+pub returns : goal.returns
+returns c s are =
+    let st = statements_of c.args.tables.now in
+    subst (λ ps. AreThoseAt st ps c.loop-place.hypotheses.items) (take_all c.loop-place.place-index c.args.places.now c.loop-place-test.false) (c.loop-place.invariant s are)

@@ -1,0 +1,9 @@
+use Rattle.std.proofs.Common.{take}
+use Rattle.mm_frame.specs.Sentence.{Sentence}
+use Rattle.mm_frame.specs.Layout.{statements_of}
+use Rattle.mm_frame.specs.Gathered.{ArePlaces, AreThoseAt}
+use Rattle.mm_frame.proofs.framing.hypotheses_at.Given as goal
+
+abbrev pub invariant-loop-place : goal.invariant-loop-place
+invariant-loop-place l =
+    (s : Sentence) → ArePlaces (statements_of l.tables) s l.places → AreThoseAt (statements_of l.tables) (take l.place-index l.places) l.hypotheses.items

@@ -1,0 +1,6 @@
+use Rattle.std.proofs.Common.{◌≡◌, take}
+use Rattle.mm_proof.specs.CodeSteps.{ids_in, label_ids}
+use Rattle.mm_proof.proofs.parse.fill_entries.Given as goal
+
+abbrev pub invariant-loop-hypothesis : goal.invariant-loop-hypothesis
+invariant-loop-hypothesis l = ids_in l.entries.items ≡ label_ids (take l.hypothesis-index l.hypotheses)
