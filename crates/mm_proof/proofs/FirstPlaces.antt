@@ -1,5 +1,5 @@
 -- Where a symbol stands first among the variables of the hypotheses.
-use Rattle.std.proofs.Common.{◌≡◌, ℕ, zero, suc, ◌+◌, ◌<◌, ◌≤◌, ◌≢◌, List, [], ◌∷◌, ◌++◌, length, get_or, set, slice_get, Bool, true, false, if◌then◌else◌, Option, option_map, Some, None, ◌⊎◌, inl, inr, refl, sym, ap, subst, ◌∙◌, arith}
+use Rattle.std.proofs.Common.{◌≡◌, ℕ, zero, suc, ◌+◌, ◌<◌, ◌≤◌, ◌≢◌, List, [], ◌∷◌, ◌++◌, length, get_or, set, slice_get, Bool, true, false, if◌then◌else◌, Option, option_map, is_some, Some, None, ◌⊎◌, inl, inr, refl, sym, ap, subst, ◌∙◌, arith}
 use Rattle.std.proofs.lemmas.Bool.{false≢true, cases_lt}
 use Rattle.std.proofs.lemmas.Bool.Decides.{Decides-eqb}
 use Rattle.std.proofs.lemmas.Option.{same_Some, none-some, slice_get_within, get_or_from_slice_get, slice_get-get_or}
@@ -7,7 +7,7 @@ use Rattle.std.proofs.lemmas.List.{map-append, length-append, length-set, get_or
 use Rattle.std.proofs.Math.Seq.{get_or-append_seam}
 use Rattle.mm_frame.proofs.Pushed.{get_set_same}
 use Rattle.mm_frame.specs.declared.number.Sym.{Sym}
-use Rattle.mm_proof.specs.CodeVerify.{variables_in, is_of, IsNowhere, IsFirstAt, AreFirstPlaces}
+use Rattle.mm_proof.specs.CodeVerify.{variables_in, is_of, IsNowhere, IsFirstAt, AreFirstPlaces, EachIsSome}
 use Rattle.mm_proof.proofs.Values.{nowhere_past}
 
 -- a symbol is nowhere, or it has a first place
@@ -147,3 +147,21 @@ pub placed_pushed : (places : List ℕ) (items new : List (Option Sym)) (v : Opt
 placed_pushed places items new v true is before after =
     subst (λ l. AreFirstPlaces places l) (sym (ap variables_in is ∙ map-append (λ (w : Option Sym). option_map (λ s. s.0) w) items (v ∷ []))) after
 placed_pushed places items new v false is before after = subst (λ l. AreFirstPlaces places l) (sym (ap variables_in is)) before
+
+-- ---- whether each is a `$f`
+
+some_more : (variables : List (Option ℕ)) (m : ℕ) → EachIsSome variables → EachIsSome (variables ++ Some m ∷ [])
+some_more variables m each k less = go (cases_lt k (length variables))
+  where
+    go : k < length variables ⊎ (length variables ≤ k) → is_some (get_or (variables ++ Some m ∷ []) k None) ≡ true
+    go (inl front) = ap is_some (get_or_append_left variables (Some m ∷ []) None k front) ∙ each k front
+    go (inr last) =
+        let at : k ≡ length variables = omega (arith, less, length-append variables (Some m ∷ [])) in
+        ap (λ i. is_some (get_or (variables ++ Some m ∷ []) i None)) at ∙ ap is_some (get_or-append_seam variables (Some m) [] None)
+
+-- the list was pushed to, or memory was refused
+pub some_pushed : (items new : List (Option Sym)) (m : Sym) (b : Bool) → new ≡ (if b then (items ++ Some m ∷ []) else items)
+    → EachIsSome (variables_in items) → EachIsSome (variables_in new)
+some_pushed items new m true is each =
+    subst (λ l. EachIsSome l) (sym (ap variables_in is ∙ map-append (λ (w : Option Sym). option_map (λ s. s.0) w) items (Some m ∷ []))) (some_more (variables_in items) m.0 each)
+some_pushed items new m false is each = subst (λ l. EachIsSome l) (sym (ap variables_in is)) each

@@ -1,7 +1,7 @@
 -- The parts of a step as the code takes them, by numbers: they mirror the code.
 use Rattle.std.specs.Prelude.{◌≡◌, ◌≢◌, ℕ, ◌<◌, ◌==◌, List, [], ◌∷◌, map, take, drop, length}
 use Rattle.std.specs.Prelude.{slice_get, slice_index_or, Bool, true, false, Option, Some, None}
-use Rattle.std.specs.Prelude.{option_map, unwrap_or, if◌then◌else◌, ◌⊎◌}
+use Rattle.std.specs.Prelude.{option_map, is_some, unwrap_or, if◌then◌else◌, ◌⊎◌}
 use Rattle.std.specs.List.{flat_map, AllByRecursion, AllZip}
 use Rattle.mm_text.specs.declared.statement.Kind.TheVariants.{Floating, Essential}
 use Rattle.mm_proof.specs.Substitution.{instance_of}
@@ -41,6 +41,11 @@ variables_in variables = map (λ v. option_map (λ s. s.0) v) variables
 abbrev pub is_of : ℕ → Option ℕ → Bool
 is_of n None = false
 is_of n (Some m) = m == n
+
+-- each hypothesis is a `$f`
+abbrev pub EachIsSome : List (Option ℕ) → Type 0
+EachIsSome variables =
+    (k : ℕ) → k < length variables → is_some (slice_index_or variables k None) ≡ true
 
 -- what replaces the symbol with this number: what follows the first symbol of the entry of its `$f`
 abbrev pub value_of : List (Option ℕ) → List (List ℕ) → ℕ → Option (List ℕ)

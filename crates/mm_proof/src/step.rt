@@ -144,6 +144,9 @@ pub(crate) fn are_equal<S: Store>(
         (SomePair hs (all_names_at book.now.statements (drop base (S.stack store.now)))
         (IsUnequal σ)) }
 {
+    if variables.are_floating() {
+        return true;
+    }
     for (index, hypothesis) in hypotheses.iter().enumerate() {
         if !is_equal(
             store,

@@ -1,9 +1,9 @@
 //! The variables of the hypotheses of a step, and where each of them stands.
 
 ghost use Rattle.std.specs.Prelude.{◌≡◌, ◌≤◌, [], ◌∷◌, ◌++◌, List, ℕ, length, slice_index_or};
-ghost use Rattle.std.specs.Prelude.{is_some, Some, None, MatchOption, OnOk, OnErr};
+ghost use Rattle.std.specs.Prelude.{is_some, Some, None, MatchOption, OnOk, OnErr, IsTrue};
 ghost use Rattle.mm_proof.specs.CodeVerify.{variables_in, is_of, AreFirstPlaces, IsNowhere};
-ghost use Rattle.mm_proof.specs.CodeVerify.{IsFirstAt};
+ghost use Rattle.mm_proof.specs.CodeVerify.{IsFirstAt, EachIsSome};
 
 use mm_frame::Sym;
 use std::alloc::{AllocError, Global};
@@ -15,9 +15,12 @@ use std::alloc::{AllocError, Global};
 #[derive(Drop)]
 pub(crate) struct Variables {
     list: Vec<Option<Sym>>,
+    /// Whether each hypothesis is a `$f`.
+    floating: bool,
     /// By the number of a symbol, the first place at which the list has it.
     places: Vec<usize>,
     ghost placed: { AreFirstPlaces places.items (variables_in list.items) },
+    ghost typing: { IsTrue floating → EachIsSome (variables_in list.items) },
 }
 
 // Whether the list has the symbol at the place.
@@ -87,6 +90,7 @@ impl Variables {
     {
         Variables {
             list: Vec::new(alloc),
+            floating: true,
             places: Vec::new(alloc),
         }
     }
@@ -103,6 +107,7 @@ impl Variables {
         ensures { self.new.list.items ≡ [] }
     {
         self.list.clear();
+        self.floating = true;
     }
 
     /// The place of the hypothesis that types the symbol.
@@ -113,6 +118,13 @@ impl Variables {
             (λ place. IsFirstAt symbol.0 (variables_in self.now.list.items) place) }
     {
         find_place(&self.places, &self.list, symbol)
+    }
+
+    /// Whether each hypothesis is a `$f`. Nothing is told where one isn't.
+    pub(crate) fn are_floating(&self) -> bool
+        ensures { IsTrue result → EachIsSome (variables_in self.now.list.items) }
+    {
+        self.floating
     }
 
     /// Whether the hypothesis at the place is a `$f`.
@@ -136,6 +148,7 @@ impl Variables {
                 Ok(())
             }
             None => {
+                self.floating = false;
                 self.list.push(None)?;
                 Ok(())
             }
