@@ -1,154 +1,138 @@
 -- Where a symbol stands first among the variables of the hypotheses.
-use Rattle.std.proofs.Common.{◌≡◌, ℕ, zero, suc, ◌+◌, ◌<◌, ◌≤◌, ◌≢◌, List, [], ◌∷◌, ◌++◌, length, get_or, set, slice_get, Bool, true, false, if◌then◌else◌, Option, option_map, is_some, Some, None, ◌⊎◌, inl, inr, refl, sym, ap, subst, ◌∙◌, arith}
-use Rattle.std.proofs.lemmas.Bool.{false≢true, cases_lt}
+use Rattle.std.proofs.Common.{◌≡◌, ℕ, zero, suc, ◌+◌, ◌<◌, ◌≤◌, ◌≢◌, List, [], ◌∷◌, ◌++◌, length, get_or, set, eqb, Bool, true, false, if◌then◌else◌, Option, option_map, is_some, Some, None, ◌⊎◌, inl, inr, refl, sym, ap, subst, ◌∙◌, arith}
+use Rattle.std.proofs.lemmas.Bool.{cases_lt, false≢true}
 use Rattle.std.proofs.lemmas.Bool.Decides.{Decides-eqb}
-use Rattle.std.proofs.lemmas.Option.{same_Some, none-some, slice_get_within, get_or_from_slice_get, slice_get-get_or}
-use Rattle.std.proofs.lemmas.List.{map-append, length-append, length-set, get_or_append_left, get_or-set_other}
+use Rattle.std.proofs.lemmas.List.{map-append, length-append, get_or_append_left, get_or-set_same, get_or-set_other}
 use Rattle.std.proofs.Math.Seq.{get_or-append_seam}
-use Rattle.mm_frame.proofs.Pushed.{get_set_same}
 use Rattle.mm_frame.specs.declared.number.Sym.{Sym}
 use Rattle.mm_proof.specs.CodeVerify.{variables_in, is_of, IsNowhere, IsFirstAt, AreFirstPlaces, EachIsSome}
 use Rattle.mm_proof.proofs.Values.{nowhere_past}
 
--- a symbol is nowhere, or it has a first place
-pub somewhere : (n : ℕ) (variables : List (Option ℕ)) → IsNowhere n variables ⊎ ((place : ℕ) × IsFirstAt n variables place)
-somewhere n [] = inl (λ k. refl)
-somewhere n (v ∷ variables) = go (is_of n v) refl (somewhere n variables)
+-- ---- one variable more
+
+nowhere_more : (n : ℕ) (variables : List (Option ℕ)) (v : Option ℕ) → is_of n v ≡ false → IsNowhere n variables → IsNowhere n (variables ++ v ∷ [])
+nowhere_more n variables v other none k = go (cases_lt k (length variables)) (cases_lt (length variables) k)
   where
-    here : is_of n v ≡ true → IsFirstAt n (v ∷ variables) 0
-    here e = record { within = omega arith; is = e; first = λ k less. absurd (omega arith) }
+    go : k < length variables ⊎ (length variables ≤ k) → length variables < k ⊎ (k ≤ length variables) → is_of n (get_or (variables ++ v ∷ []) k None) ≡ false
+    go (inl less) last = ap (is_of n) (get_or_append_left variables (v ∷ []) None k less) ∙ none k
+    go (inr from) (inl past) = nowhere_past n (variables ++ v ∷ []) k (omega (arith, past, length-append variables (v ∷ [])))
+    go (inr from) (inr to) =
+        let at : k ≡ length variables = omega (arith, from, to) in
+        ap (λ i. is_of n (get_or (variables ++ v ∷ []) i None)) at ∙ ap (is_of n) (get_or-append_seam variables v [] None) ∙ other
 
-    later : is_of n v ≡ false → (place : ℕ) → IsFirstAt n variables place → IsFirstAt n (v ∷ variables) (suc place)
-    later e place f = record {
-      within = (let l : place < length variables = f.within in omega arith);
-      is = f.is;
-      first = λ k less. before k less;
-    }
-      where
-        before : (k : ℕ) → k < suc place → is_of n (get_or (v ∷ variables) k None) ≡ false
-        before zero less = e
-        before (suc k) less = f.first k (omega arith)
+first_more : (n place : ℕ) (variables : List (Option ℕ)) (v : Option ℕ) → IsFirstAt n variables place → IsFirstAt n (variables ++ v ∷ []) place
+first_more n place variables v f = record {
+  within = (let l : place < length variables = f.within in omega (arith, length-append variables (v ∷ [])));
+  is = ap (is_of n) (get_or_append_left variables (v ∷ []) None place f.within) ∙ f.is;
+  first = λ k less. ap (is_of n) (get_or_append_left variables (v ∷ []) None k (let l : place < length variables = f.within in omega (arith, less))) ∙ f.first k less;
+}
 
-    none : is_of n v ≡ false → IsNowhere n variables → (k : ℕ) → is_of n (get_or (v ∷ variables) k None) ≡ false
-    none e h zero = e
-    none e h (suc k) = h k
+first_last : (n : ℕ) (variables : List (Option ℕ)) (v : Option ℕ) → is_of n v ≡ true → IsNowhere n variables → IsFirstAt n (variables ++ v ∷ []) (length variables)
+first_last n variables v is none = record {
+  within = omega (arith, length-append variables (v ∷ []));
+  is = ap (is_of n) (get_or-append_seam variables v [] None) ∙ is;
+  first = λ k less. ap (is_of n) (get_or_append_left variables (v ∷ []) None k less) ∙ none k;
+}
 
-    go : (b : Bool) → is_of n v ≡ b → IsNowhere n variables ⊎ ((place : ℕ) × IsFirstAt n variables place)
-        → IsNowhere n (v ∷ variables) ⊎ ((place : ℕ) × IsFirstAt n (v ∷ variables) place)
-    go true e rest = inr (0, here e)
-    go false e (inl h) = inl (none e h)
-    go false e (inr f) = inr (suc f.0, later e f.0 f.1)
-
--- what the place under a number tells
-pub placed_none : (n : ℕ) (places : List ℕ) (variables : List (Option ℕ)) → AreFirstPlaces places variables → slice_get places n ≡ None → IsNowhere n variables
-placed_none n places variables placed there = go (somewhere n variables)
+other_symbol : (n m : ℕ) → n ≢ m → is_of n (Some m) ≡ false
+other_symbol n m other = go (is_of n (Some m)) refl
   where
-    go : IsNowhere n variables ⊎ ((place : ℕ) × IsFirstAt n variables place) → IsNowhere n variables
-    go (inl h) = h
-    go (inr f) = absurd (none-some f.0 (sym there ∙ placed n f.0 f.1))
+    go : (b : Bool) → is_of n (Some m) ≡ b → is_of n (Some m) ≡ false
+    go true e = absurd (other (sym ((Decides-eqb m n).0 e)))
+    go false e = e
 
-pub placed_other : (n place : ℕ) (places : List ℕ) (variables : List (Option ℕ)) → AreFirstPlaces places variables → slice_get places n ≡ Some place
-    → is_of n (get_or variables place None) ≡ false → IsNowhere n variables
-placed_other n place places variables placed there other = go (somewhere n variables)
-  where
-    go : IsNowhere n variables ⊎ ((at : ℕ) × IsFirstAt n variables at) → IsNowhere n variables
-    go (inl h) = h
-    go (inr f) =
-        let same : place ≡ f.0 = same_Some place f.0 (sym there ∙ placed n f.0 f.1) in
-        absurd (false≢true (sym other ∙ ap (λ k. is_of n (get_or variables k None)) same ∙ f.1.is))
+-- ---- the places
 
-pub placed_here : (n place : ℕ) (places : List ℕ) (variables : List (Option ℕ)) → AreFirstPlaces places variables → slice_get places n ≡ Some place
-    → is_of n (get_or variables place None) ≡ true → IsFirstAt n variables place
-placed_here n place places variables placed there is = go (somewhere n variables)
-  where
-    go : IsNowhere n variables ⊎ ((at : ℕ) × IsFirstAt n variables at) → IsFirstAt n variables place
-    go (inl h) = absurd (false≢true (sym (h place) ∙ is))
-    go (inr f) = subst (IsFirstAt n variables) (same_Some f.0 place (sym (placed n f.0 f.1) ∙ there)) f.1
+-- what isn't there is read as zero
+pub zero_more : (places : List ℕ) (n : ℕ) → get_or (places ++ 0 ∷ []) n 0 ≡ get_or places n 0
+zero_more [] zero = refl
+zero_more [] (suc n) = refl
+zero_more (p ∷ places) zero = refl
+zero_more (p ∷ places) (suc n) = zero_more places n
 
--- ---- the places of a longer list
+pub placed_same : (start : ℕ) (places new : List ℕ) (variables : List (Option ℕ)) → ((n : ℕ) → get_or new n 0 ≡ get_or places n 0)
+    → AreFirstPlaces start places variables → AreFirstPlaces start new variables
+placed_same start places new variables same placed n = (
+  λ less. (placed n).0 (subst (λ p. p < start) (same n) less),
+  λ place e. (placed n).1 place (e ∙ same n),
+)
 
-pub placed_longer : (places rest : List ℕ) (variables : List (Option ℕ)) → AreFirstPlaces places variables → AreFirstPlaces (places ++ rest) variables
-placed_longer places rest variables placed n place f =
-    let there = placed n place f in
-    let within = slice_get_within places n place there in
-    slice_get-get_or (places ++ rest) n 0 (omega (arith, within, length-append places rest))
-    ∙ ap Some (get_or_append_left places rest 0 n within ∙ get_or_from_slice_get places n place 0 there)
+-- nothing stands at the start of the next list or above
+pub placed_next : (start next : ℕ) (places : List ℕ) (variables : List (Option ℕ)) → next ≡ start + length variables → AreFirstPlaces start places variables
+    → AreFirstPlaces next places []
+placed_next start next places variables end placed n = (
+  λ less k. refl,
+  λ place e.
+      let l : length variables + place < length variables = ((placed n).1 (length variables + place) (omega (arith, e, end))).within in
+      absurd (omega arith),
+)
 
--- a first place with one more is one of the front, or the last
-last_of : (n : ℕ) (variables : List (Option ℕ)) (v : Option ℕ) (place : ℕ) → IsFirstAt n (variables ++ v ∷ []) place
-    → IsFirstAt n variables place ⊎ ((place ≡ length variables) × IsNowhere n variables × (is_of n v ≡ true))
-last_of n variables v place f = go (cases_lt place (length variables))
-  where
-    front : (k : ℕ) → k < length variables → get_or (variables ++ v ∷ []) k None ≡ get_or variables k None
-    front k less = get_or_append_left variables (v ∷ []) None k less
-
-    short : place ≤ length variables
-    short =
-        let l : length (variables ++ v ∷ []) ≡ length variables + 1 = length-append variables (v ∷ []) in
-        let w : place < length (variables ++ v ∷ []) = f.within in
-        omega arith
-
-    none : length variables ≤ place → (k : ℕ) → k < length variables ⊎ (length variables ≤ k) → is_of n (get_or variables k None) ≡ false
-    none last k (inl less) = ap (is_of n) (sym (front k less)) ∙ f.first k (omega arith)
-    none last k (inr past) = nowhere_past n variables k past
-
-    go : place < length variables ⊎ (length variables ≤ place) → IsFirstAt n variables place ⊎ ((place ≡ length variables) × IsNowhere n variables × (is_of n v ≡ true))
-    go (inl less) = inl (record {
-      within = less;
-      is = ap (is_of n) (sym (front place less)) ∙ f.is;
-      first = λ k before. ap (is_of n) (sym (front k (omega arith))) ∙ f.first k before;
-    })
-    go (inr last) =
-        let at : place ≡ length variables = omega (arith, short) in
-        inr (
-          at,
-          (λ k. none last k (cases_lt k (length variables))),
-          ap (is_of n) (sym (get_or-append_seam variables v [] None) ∙ ap (λ k. get_or (variables ++ v ∷ []) k None) (sym at)) ∙ f.is,
-        )
-
-pub placed_nothing : (places : List ℕ) (variables : List (Option ℕ)) → AreFirstPlaces places variables → AreFirstPlaces places (variables ++ None ∷ [])
-placed_nothing places variables placed n place f = go (last_of n variables None place f)
-  where
-    go : IsFirstAt n variables place ⊎ ((place ≡ length variables) × IsNowhere n variables × (is_of n None ≡ true)) → slice_get places n ≡ Some place
-    go (inl h) = placed n place h
-    go (inr h) = absurd (false≢true h.2)
-
-same_symbol : (n m : ℕ) → is_of n (Some m) ≡ true → m ≡ n
-same_symbol n m is = (Decides-eqb m n).0 is
+pub placed_nothing : (start : ℕ) (places : List ℕ) (variables : List (Option ℕ)) → AreFirstPlaces start places variables → AreFirstPlaces start places (variables ++ None ∷ [])
+placed_nothing start places variables placed n = (
+  λ less. nowhere_more n variables None refl ((placed n).0 less),
+  λ place e. first_more n place variables None ((placed n).1 place e),
+)
 
 -- the symbol has a place before
-pub placed_again : (places : List ℕ) (variables : List (Option ℕ)) (m at : ℕ) → AreFirstPlaces places variables → IsFirstAt m variables at → AreFirstPlaces places (variables ++ Some m ∷ [])
-placed_again places variables m at placed there n place f = go (last_of n variables (Some m) place f)
-  where
-    go : IsFirstAt n variables place ⊎ ((place ≡ length variables) × IsNowhere n variables × (is_of n (Some m) ≡ true)) → slice_get places n ≡ Some place
-    go (inl h) = placed n place h
-    go (inr h) = absurd (false≢true (sym (h.1 at) ∙ ap (λ k. is_of k (get_or variables at None)) (sym (same_symbol n m h.2)) ∙ there.is))
+pub placed_again : (start : ℕ) (places : List ℕ) (variables : List (Option ℕ)) (m : ℕ) → start ≤ get_or places m 0 → AreFirstPlaces start places variables
+    → AreFirstPlaces start places (variables ++ Some m ∷ [])
+placed_again start places variables m there placed n = (
+  λ less. nowhere_more n variables (Some m) (other_symbol n m (λ e. let below : get_or places m 0 < start = subst (λ i. get_or places i 0 < start) e less in absurd (omega (arith, below, there))))
+      ((placed n).0 less),
+  λ place e. first_more n place variables (Some m) ((placed n).1 place e),
+)
 
 -- the symbol has none before
-pub placed_kept : (places : List ℕ) (variables : List (Option ℕ)) (m at : ℕ) → AreFirstPlaces places variables → IsNowhere m variables → AreFirstPlaces (set places m at) variables
-placed_kept places variables m at placed none n place f =
-    let there = placed n place f in
-    let other : n ≢ m = λ e. false≢true (sym (none place) ∙ ap (λ k. is_of k (get_or variables place None)) (sym e) ∙ f.is) in
-    let within = slice_get_within places n place there in
-    slice_get-get_or (set places m at) n 0 (omega (arith, within, length-set places m at))
-    ∙ ap Some (get_or-set_other places m n at 0 other ∙ get_or_from_slice_get places n place 0 there)
-
-pub placed_new : (places : List ℕ) (variables : List (Option ℕ)) (m at : ℕ) → AreFirstPlaces places variables → IsNowhere m variables → m < length places → at ≡ length variables
-    → AreFirstPlaces (set places m at) (variables ++ Some m ∷ [])
-placed_new places variables m at placed none within end n place f = go (last_of n variables (Some m) place f)
+pub placed_new : (start at : ℕ) (places : List ℕ) (variables : List (Option ℕ)) (m : ℕ) → get_or places m 0 < start → m < length places → at ≡ start + length variables
+    → AreFirstPlaces start places variables → AreFirstPlaces start (set places m at) (variables ++ Some m ∷ [])
+placed_new start at places variables m below within end placed n = go (eqb n m) refl
   where
-    go : IsFirstAt n variables place ⊎ ((place ≡ length variables) × IsNowhere n variables × (is_of n (Some m) ≡ true)) → slice_get (set places m at) n ≡ Some place
-    go (inl h) = placed_kept places variables m at placed none n place h
-    go (inr h) = ap (slice_get (set places m at)) (sym (same_symbol n m h.2)) ∙ get_set_same places m at within ∙ ap Some (end ∙ sym h.0)
+    new : List ℕ
+    new = set places m at
+
+    go : (b : Bool) → eqb n m ≡ b
+        → (get_or new n 0 < start → IsNowhere n (variables ++ Some m ∷ [])) × ((place : ℕ) → start + place ≡ get_or new n 0 → IsFirstAt n (variables ++ Some m ∷ []) place)
+    go true e =
+        let same : n ≡ m = (Decides-eqb n m).0 e in
+        let here : get_or new n 0 ≡ at = ap (λ i. get_or new i 0) same ∙ get_or-set_same places m at 0 within in (
+          λ less. absurd (omega (arith, less, here, end)),
+          λ place p.
+              let last : length variables ≡ place = omega (arith, p, here, end) in
+              subst (IsFirstAt n (variables ++ Some m ∷ [])) last
+              (first_last n variables (Some m) ((Decides-eqb m n).1 (sym same)) ((placed n).0 (subst (λ i. get_or places i 0 < start) (sym same) below))),
+        )
+    go false e =
+        let other : n ≢ m = λ same. absurd (false≢true (sym e ∙ (Decides-eqb n m).1 same)) in
+        let kept : get_or new n 0 ≡ get_or places n 0 = get_or-set_other places m n at 0 other in (
+          λ less. nowhere_more n variables (Some m) (other_symbol n m other) ((placed n).0 (subst (λ p. p < start) kept less)),
+          λ place p. first_more n place variables (Some m) ((placed n).1 place (p ∙ kept)),
+        )
+
+pub placed_anew : AreFirstPlaces 1 [] []
+placed_anew n = (λ less k. refl, λ place e. absurd (omega (arith, e)))
+
+pub some_added : (start : ℕ) (after : List ℕ) (items new : List (Option Sym)) (m : Sym) → new ≡ items ++ Some m ∷ []
+    → AreFirstPlaces start after (variables_in items ++ Some m.0 ∷ []) → AreFirstPlaces start after (variables_in new)
+some_added start after items new m is added =
+    subst (AreFirstPlaces start after) (sym (ap variables_in is ∙ map-append (λ (w : Option Sym). option_map (λ s. s.0) w) items (Some m ∷ []))) added
+
+pub placed_refused : (start : ℕ) (places longer : List ℕ) (items new : List (Option Sym)) → new ≡ items → ((n : ℕ) → get_or longer n 0 ≡ get_or places n 0)
+    → AreFirstPlaces start places (variables_in items) → AreFirstPlaces start longer (variables_in new)
+placed_refused start places longer items new is same placed =
+    subst (AreFirstPlaces start longer) (sym (ap variables_in is)) (placed_same start places longer (variables_in items) same placed)
 
 -- the list was pushed to, or memory was refused
-pub placed_pushed : (places : List ℕ) (items new : List (Option Sym)) (v : Option Sym) (b : Bool) → new ≡ (if b then (items ++ v ∷ []) else items)
-    → AreFirstPlaces places (variables_in items) → AreFirstPlaces places (variables_in items ++ option_map (λ s. s.0) v ∷ []) → AreFirstPlaces places (variables_in new)
-placed_pushed places items new v true is before after =
-    subst (λ l. AreFirstPlaces places l) (sym (ap variables_in is ∙ map-append (λ (w : Option Sym). option_map (λ s. s.0) w) items (v ∷ []))) after
-placed_pushed places items new v false is before after = subst (λ l. AreFirstPlaces places l) (sym (ap variables_in is)) before
+pub nothing_pushed : (start : ℕ) (places : List ℕ) (items new : List (Option Sym)) (b : Bool) → new ≡ (if b then (items ++ None ∷ []) else items)
+    → AreFirstPlaces start places (variables_in items) → AreFirstPlaces start places (variables_in new)
+nothing_pushed start places items new true is before =
+    subst (AreFirstPlaces start places) (sym (ap variables_in is ∙ map-append (λ (w : Option Sym). option_map (λ s. s.0) w) items (None ∷ [])))
+    (placed_nothing start places (variables_in items) before)
+nothing_pushed start places items new false is before = subst (AreFirstPlaces start places) (sym (ap variables_in is)) before
 
 -- ---- whether each is a `$f`
+
+pub none_yet : EachIsSome []
+none_yet k less = absurd (omega arith)
 
 some_more : (variables : List (Option ℕ)) (m : ℕ) → EachIsSome variables → EachIsSome (variables ++ Some m ∷ [])
 some_more variables m each k less = go (cases_lt k (length variables))

@@ -1,5 +1,5 @@
 -- The parts of a step as the code takes them, by numbers: they mirror the code.
-use Rattle.std.specs.Prelude.{◌≡◌, ◌≢◌, ℕ, ◌<◌, ◌==◌, List, [], ◌∷◌, map, take, drop, length}
+use Rattle.std.specs.Prelude.{◌≡◌, ◌≢◌, ℕ, ◌+◌, ◌<◌, ◌==◌, List, [], ◌∷◌, map, take, drop, length}
 use Rattle.std.specs.Prelude.{slice_get, slice_index_or, Bool, true, false, Option, Some, None}
 use Rattle.std.specs.Prelude.{option_map, is_some, unwrap_or, if◌then◌else◌, ◌⊎◌}
 use Rattle.std.specs.List.{flat_map, AllByRecursion, AllZip}
@@ -67,10 +67,12 @@ pub record IsFirstAt (n : ℕ) (variables : List (Option ℕ)) (place : ℕ) : T
   pub is : is_of n (slice_index_or variables place None) ≡ true
   pub first : (k : ℕ) → k < place → is_of n (slice_index_or variables k None) ≡ false
 
--- each symbol that is a variable of these has its first place under its number
-abbrev pub AreFirstPlaces : List ℕ → List (Option ℕ) → Type 0
-AreFirstPlaces places variables =
-    (n place : ℕ) → IsFirstAt n variables place → slice_get places n ≡ Some place
+-- Under the number of each symbol that is a variable of these stands the start and its first place,
+-- and under that of another one less than the start.
+abbrev pub AreFirstPlaces : ℕ → List ℕ → List (Option ℕ) → Type 0
+AreFirstPlaces start places variables =
+    (n : ℕ) → (slice_index_or places n 0 < start → IsNowhere n variables)
+    × ((place : ℕ) → start + place ≡ slice_index_or places n 0 → IsFirstAt n variables place)
 
 -- the numbers of the hypotheses
 abbrev pub AreHypothesesOf : List Sentence → List ℕ → List Sentence → Type 0

@@ -1,42 +1,41 @@
 //! The variables of the hypotheses of a step, and where each of them stands.
 
-ghost use Rattle.std.specs.Prelude.{◌≡◌, ◌≤◌, [], ◌∷◌, ◌++◌, List, ℕ, length, slice_index_or};
-ghost use Rattle.std.specs.Prelude.{is_some, Some, None, MatchOption, OnOk, OnErr, IsTrue};
-ghost use Rattle.mm_proof.specs.CodeVerify.{variables_in, is_of, AreFirstPlaces, IsNowhere};
-ghost use Rattle.mm_proof.specs.CodeVerify.{IsFirstAt, EachIsSome};
+ghost use Rattle.std.specs.Prelude.{◌≡◌, ◌+◌, ◌≤◌, ◌<◌, ◌^◌, [], ◌∷◌, ◌++◌, List, ℕ, length};
+ghost use Rattle.std.specs.Prelude.{slice_index_or, Option, MatchOption, OnOk, IsTrue};
+ghost use Rattle.std.specs.Prelude.{is_some, Some, None};
+ghost use Rattle.mm_proof.specs.CodeVerify.{variables_in, AreFirstPlaces, IsNowhere, IsFirstAt};
+ghost use Rattle.mm_proof.specs.CodeVerify.{EachIsSome};
 
 use mm_frame::Sym;
 use std::alloc::{AllocError, Global};
 
+// Where the places grow past it, they begin anew.
+const START_LIMIT: usize = 1 << 63;
+
 /// The variable of each hypothesis, where it is a `$f`.
 ///
-/// The place of a variable is one look-up. What earlier lists left in the places is never cleared:
-/// a place counts only where the list has the variable there.
+/// The place of a variable is one look-up. Places are counted on from list to list: what earlier
+/// lists left in them lies below the start of the list, so that it needn't be cleared.
 #[derive(Drop)]
 pub(crate) struct Variables {
     list: Vec<Option<Sym>>,
     /// Whether each hypothesis is a `$f`.
     floating: bool,
-    /// By the number of a symbol, the first place at which the list has it.
+    /// By the number of a symbol, the start and the first place at which the list has it; or less
+    /// than the start.
     places: Vec<usize>,
-    ghost placed: { AreFirstPlaces places.items (variables_in list.items) },
+    start: usize,
+    ghost placed: { AreFirstPlaces start places.items (variables_in list.items) },
     ghost typing: { IsTrue floating → EachIsSome (variables_in list.items) },
-}
-
-// Whether the list has the symbol at the place.
-fn is_variable_at(list: &[Option<Sym>], place: usize, symbol: Sym) -> bool
-    ensures { result ≡ is_of symbol.0 (slice_index_or (variables_in list.now) place None) }
-{
-    match list.get(place) {
-        Some(Some(found)) => found.0 == symbol.0,
-        _ => false,
-    }
+    ghost begun: { 0 < start },
+    ghost early: { start < 2 ^ 63 },
 }
 
 /// Makes the list at least so long.
 pub(crate) fn lengthen(places: &mut Vec<usize>, count: usize) -> Result<(), AllocError>
     ensures long { OnOk result (count ≤ length places.new.items) }
-    ensures kept { (rest : List ℕ) × (places.new.items ≡ places.old.items ++ rest) }
+    ensures kept { (n : ℕ)
+        → slice_index_or places.new.items n 0 ≡ slice_index_or places.old.items n 0 }
 {
     let have = places.len();
     for _ in have..count {
@@ -45,42 +44,54 @@ pub(crate) fn lengthen(places: &mut Vec<usize>, count: usize) -> Result<(), Allo
     Ok(())
 }
 
-// The place of the symbol in the list, where the places are those of its variables.
-fn find_place(places: &[usize], list: &[Option<Sym>], symbol: Sym) -> Option<usize>
-    requires { AreFirstPlaces places.now (variables_in list.now) }
-    ensures { MatchOption
+// The place of the symbol in the list that begins at the start.
+fn find_place(places: &[usize], start: usize, symbol: Sym) -> Option<usize>
+    requires { 0 < start }
+    ensures { (variables : List (Option ℕ)) → AreFirstPlaces start places.now variables
+        → MatchOption
         result
-        (IsNowhere symbol.0 (variables_in list.now))
-        (λ place. IsFirstAt symbol.0 (variables_in list.now) place) }
+        (IsNowhere symbol.0 variables)
+        (λ place. IsFirstAt symbol.0 variables place) }
 {
-    let number = symbol.0 as usize;
-    if number >= places.len() {
-        return None;
-    }
-    let place = places[number];
-    if is_variable_at(list, place, symbol) {
-        Some(place)
-    } else {
-        None
+    match places.get(symbol.0 as usize) {
+        Some(place) => place.checked_sub(start),
+        None => None,
     }
 }
 
-// Makes the places ready for the symbol as the next variable of the list.
-fn put_place(places: &mut Vec<usize>, list: &[Option<Sym>], symbol: Sym) -> Result<(), AllocError>
-    requires { AreFirstPlaces places.old.items (variables_in list.now) }
-    ensures now { AreFirstPlaces places.new.items (variables_in list.now) }
-    ensures then { OnOk result
-        (AreFirstPlaces places.new.items (variables_in list.now ++ Some symbol.0 ∷ [])) }
+// Notes that the symbol is the next variable of the list that begins at the start, which has so
+// many, unless it has the symbol already.
+fn note_variable(places: &mut Vec<usize>, start: usize, count: usize, symbol: Sym)
+    requires within { symbol.0 < length places.old.items }
+    requires early { start < 2 ^ 63 }
+    requires few { count < 2 ^ 63 }
+    ensures { (variables : List (Option ℕ)) → length variables ≡ count
+        → AreFirstPlaces start places.old.items variables
+        → AreFirstPlaces start places.new.items (variables ++ Some symbol.0 ∷ []) }
 {
     let number = symbol.0 as usize;
-    lengthen(places, number + 1)?;
-    match find_place(places, list, symbol) {
-        Some(_) => Ok(()),
-        None => {
-            places[number] = list.len();
-            Ok(())
-        }
+    if places[number] < start {
+        places[number] = start + count;
     }
+}
+
+// Where the next list begins, after one that began at the start and has so many variables.
+fn next_start(places: &mut Vec<usize>, start: usize, count: usize) -> usize
+    requires begun { 0 < start }
+    requires early { start < 2 ^ 63 }
+    requires few { count < 2 ^ 63 }
+    ensures none { (variables : List (Option ℕ)) → length variables ≡ count
+        → AreFirstPlaces start places.old.items variables
+        → AreFirstPlaces result places.new.items [] }
+    ensures begun { 0 < result }
+    ensures early { result < 2 ^ 63 }
+{
+    let next = start + count;
+    if next < START_LIMIT {
+        return next;
+    }
+    places.clear();
+    1
 }
 
 impl Variables {
@@ -92,6 +103,7 @@ impl Variables {
             list: Vec::new(alloc),
             floating: true,
             places: Vec::new(alloc),
+            start: 1,
         }
     }
 
@@ -106,6 +118,8 @@ impl Variables {
     pub(crate) fn clear(&mut self)
         ensures { self.new.list.items ≡ [] }
     {
+        let count = self.list.len();
+        self.start = next_start(&mut self.places, self.start, count);
         self.list.clear();
         self.floating = true;
     }
@@ -117,7 +131,7 @@ impl Variables {
             (IsNowhere symbol.0 (variables_in self.now.list.items))
             (λ place. IsFirstAt symbol.0 (variables_in self.now.list.items) place) }
     {
-        find_place(&self.places, &self.list, symbol)
+        find_place(&self.places, self.start, symbol)
     }
 
     /// Whether each hypothesis is a `$f`. Nothing is told where one isn't.
@@ -143,8 +157,10 @@ impl Variables {
     {
         match variable {
             Some(symbol) => {
-                put_place(&mut self.places, &self.list, symbol)?;
+                lengthen(&mut self.places, symbol.0 as usize + 1)?;
+                let count = self.list.len();
                 self.list.push(Some(symbol))?;
+                note_variable(&mut self.places, self.start, count, symbol);
                 Ok(())
             }
             None => {
