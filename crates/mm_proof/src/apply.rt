@@ -200,6 +200,7 @@ fn apply_frame<S: Store>(
 
 /// The step by the assertion with a number: the first of P8 to P12 and L1 that it breaks; or the
 /// topmost entries are replaced by what it makes of them.
+#[inline(always)]
 pub(crate) fn apply<S: Store>(
     store: &mut S,
     book: &Book,

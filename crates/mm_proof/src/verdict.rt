@@ -35,6 +35,7 @@ fn fault_at_step(rule: ProofRule, step: usize) -> Result<(), ProofFault>
 }
 
 // The step by a label.
+#[inline(always)]
 pub(crate) fn step<S: Store>(
     store: &mut S,
     book: &Book,
