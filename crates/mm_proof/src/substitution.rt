@@ -3,7 +3,7 @@
 
 ghost use Rattle.std.specs.Prelude.{◌≡◌, ◌↔◌, ◌+◌, ◌≤◌, ◌<◌, ◌^◌, ◌∷◌, ◌++◌, [], ℕ, List, length};
 ghost use Rattle.std.specs.Prelude.{drop, unwrap_or, option_map, IsTrue, IfOk, MatchOption};
-ghost use Rattle.std.specs.Prelude.{MatchBool};
+ghost use Rattle.std.specs.Prelude.{MatchBool, false};
 ghost use Rattle.mm_proof.specs.Stores.{numbers_in};
 ghost use Rattle.mm_proof.specs.CodeVerify.{variables_in, is_of, value_of, replaced_in, IsNowhere};
 ghost use Rattle.mm_proof.specs.CodeVerify.{IsFirstAt};
@@ -16,11 +16,21 @@ use std::alloc::AllocError;
 /// The most symbols of an expression on the stack, its type code counted.
 pub(crate) const EXPRESSION_LIMIT: usize = 1_048_576;
 
+// No entry of a `$f` is empty, so that this is never called. It is a call, so that what isn't empty
+// takes one jump.
+#[cold]
+#[inline(never)]
+fn none_after(entry: &[Sym]) -> &[Sym]
+    ensures { result.now ≡ entry.now }
+{
+    entry
+}
+
 fn after_first(entry: &[Sym]) -> &[Sym]
     ensures { numbers_in result.now ≡ drop 1 (numbers_in entry.now) }
 {
     match entry {
-        [] => entry,
+        [] => none_after(entry),
         [_, rest @ ..] => rest,
     }
 }
@@ -139,27 +149,32 @@ pub(crate) fn is_replaced<S: Store>(
     rest.is_empty()
 }
 
-// Appends what replaces the symbol.
+// Appends what replaces the symbol, and answers false where it is more than one symbol and the limit
+// is passed.
 fn append_replaced<S: Store>(
     made: &mut Vec<Sym>,
     store: &S,
     base: usize,
     variables: &Variables,
     symbol: Sym,
-) -> Result<(), AllocError>
+) -> Result<bool, AllocError>
     requires entries { base + length variables.now.list.items ≡ length (S.stack store.now) }
     requires fits { length (S.stack store.now) < 2 ^ 64 }
-    ensures { IfOk result (λ u.
+    ensures made { IfOk result (λ fits.
         numbers_in made.new.items ≡ numbers_in made.old.items ++ unwrap_or
         (value_of (variables_in variables.now.list.items) (drop base (S.stack store.now)) symbol.0)
         (symbol.0 ∷ [])) }
+    ensures over { IfOk result (λ fits. fits ≡ false → 1048576 < length made.new.items) }
 {
     match value(store, base, variables, symbol) {
         Some([only]) => made.push(*only)?,
-        Some(value) => made.extend_from_slice(value)?,
+        Some(value) => {
+            made.extend_from_slice(value)?;
+            return Ok(made.len() <= EXPRESSION_LIMIT);
+        }
         None => made.push(symbol)?,
     }
-    Ok(())
+    Ok(true)
 }
 
 /// The pattern with each variable replaced, where it is within the limit; else false is answered.
@@ -182,10 +197,9 @@ pub(crate) fn substitute<S: Store>(
 {
     made.clear();
     for symbol in pattern {
-        append_replaced(made, store, base, variables, *symbol)?;
-        if made.len() > EXPRESSION_LIMIT {
+        if !append_replaced(made, store, base, variables, *symbol)? {
             return Ok(false);
         }
     }
-    Ok(true)
+    Ok(made.len() <= EXPRESSION_LIMIT)
 }
