@@ -1,14 +1,16 @@
 -- The labels that moves name, by their numbers.
-use Rattle.std.proofs.Common.{◌≡◌, ℕ, zero, suc, ◌+◌, ◌<◌, ◌≤◌, List, [], ◌∷◌, ◌++◌, length, take, slice_get, get_or, Contains, Some, ◌⊎◌, inl, inr, ⊎_elim, sym, ap, subst, refl, ◌∙◌, arith}
-use Rattle.std.proofs.lemmas.Option.{same_Some, none-some}
-use Rattle.std.proofs.lemmas.List.{map-append, take_all, length-map}
+use Rattle.std.proofs.Common.{◌≡◌, ℕ, zero, suc, ◌+◌, ◌<◌, ◌≤◌, List, [], ◌∷◌, ◌++◌, length, take, slice_get, get_or, set, eqb, Contains, Bool, true, false, IsTrue, Some, ◌⊎◌, inl, inr, ⊎_elim, sym, ap, subst, refl, ◌∙◌, arith}
+use Rattle.std.proofs.lemmas.Bool.{false≢true, cases_lt}
+use Rattle.std.proofs.lemmas.Bool.Decides.{Decides-eqb}
+use Rattle.std.proofs.lemmas.Option.{same_Some, none-some, slice_get_within}
+use Rattle.std.proofs.lemmas.List.{map-append, take_all, length-map, get_or-set_same, get_or-set_other}
 use Rattle.std.proofs.lemmas.List.Elements.{Contains-push, Contains-push_cases, Contains-append_left}
 use Rattle.mm_frame.specs.declared.number.LabelId.{LabelId}
 use Rattle.mm_proof.specs.declared.moves.NumberedMove.{NumberedMove}
 use Rattle.mm_proof.specs.declared.moves.NumberedMove.TheVariants as code
 use Rattle.mm_proof.specs.Moves.{Move, name}
 use Rattle.mm_proof.specs.CodeSteps.{ids_in, move_in, moves_in}
-use Rattle.mm_proof.specs.CodeRun.{ArePicked}
+use Rattle.mm_proof.specs.CodeRun.{ArePicked, AreMarked}
 use Rattle.mm_proof.proofs.Places.{get_append}
 use Rattle.mm_proof.proofs.Running.{front_more}
 
@@ -52,13 +54,6 @@ picked_more front ids id old n = (to, from)
       | inr same ↦ subst (Contains (ids_in ids ++ id.0 ∷ [])) (same_number id.0 n same) (Contains-push (ids_in ids) id.0)
     ])
 
--- what is there already
-pub picked_again : (front : List (Move ℕ)) (ids : List LabelId) (id : LabelId) → Contains (ids_in ids) id.0 → ArePicked front (ids_in ids) → ArePicked (front ++ name id.0 ∷ []) (ids_in ids)
-picked_again front ids id there old n = (
-  (λ c. let o = (old n).0 c in (o.0, get_append front (name id.0 ∷ []) o.0 (name n) o.1)),
-  λ h. ⊎_elim (λ before. (old n).1 (h.0, before)) (λ same. subst (Contains (ids_in ids)) (same_number id.0 n same) there) (get_push front (name id.0) (name n) h.0 h.1),
-)
-
 -- no label
 pub picked_other : (front : List (Move ℕ)) (ids : List LabelId) (m : NumberedMove) → ((id : LabelId) → m ≡ code.Name id → ⊥) → ArePicked front (ids_in ids)
     → ArePicked (front ++ move_in m ∷ []) (ids_in ids)
@@ -80,5 +75,108 @@ picked_unnamed moves i d ids less not old = rw (front_more moves i d less) (pick
 pub picked_all : (moves : List NumberedMove) (i : ℕ) (ids : List ℕ) → length moves ≤ i → ArePicked (take i (moves_in moves)) ids → ArePicked (moves_in moves) ids
 picked_all moves i ids past all = subst (λ front. ArePicked front ids) (take_all i (moves_in moves) (omega (arith, length-map moves move_in))) all
 
-pub picked_push : (moves : List NumberedMove) (m : NumberedMove) (ids : List ℕ) → ArePicked (moves_in moves ++ move_in m ∷ []) ids → ArePicked (moves_in (moves ++ m ∷ [])) ids
-picked_push moves m ids picked = subst (λ front. ArePicked front ids) (sym (map-append move_in moves (m ∷ []))) picked
+-- ---- marks
+
+pub marked_none : (entries : List ℕ) (marks : List Bool) → ((place : ℕ) → get_or marks place false ≡ false) → AreMarked entries [] marks
+marked_none entries marks none = record {
+  named = λ place t. absurd (false≢true (sym (none place) ∙ t));
+  marked = λ i id e. absurd (none-some (name id) e);
+}
+
+pub none_more : (marks : List Bool) → ((place : ℕ) → get_or marks place false ≡ false) → (place : ℕ) → get_or (marks ++ false ∷ []) place false ≡ false
+none_more [] none zero = refl
+none_more [] none (suc place) = refl
+none_more (m ∷ marks) none zero = none 0
+none_more (m ∷ marks) none (suc place) = none_more marks (λ k. none (suc k)) place
+
+pub marked_other : (entries : List ℕ) (front : List (Move ℕ)) (m : Move ℕ) (marks : List Bool) → ((id : ℕ) → m ≡ name id → ⊥) → AreMarked entries front marks
+    → AreMarked entries (front ++ m ∷ []) marks
+marked_other entries front m marks not old = record {
+  named = λ place t. let o = old.named place t in (o.0, o.1, o.2, get_append front (m ∷ []) o.0 (name o.1) o.3);
+  marked = λ i id e. ⊎_elim (λ there. old.marked i id there) (λ same. absurd (not id same)) (get_push front m (name id) i e);
+}
+
+pub marked_more : (entries : List ℕ) (front : List (Move ℕ)) (place id : ℕ) (marks : List Bool) → slice_get entries place ≡ Some id → place < length marks
+    → AreMarked entries front marks → AreMarked entries (front ++ name id ∷ []) (set marks place true)
+marked_more entries front place id marks there within old = record {
+  named = λ p t. back p t (eqb p place) refl;
+  marked = λ i n e. ⊎_elim (λ before. let o = old.marked i n before in (o.0, o.1, stays o.0 o.2 (eqb o.0 place) refl))
+      (λ same. (place, there ∙ ap Some (same_number id n same), here)) (get_push front (name id) (name n) i e);
+}
+  where
+    here : IsTrue (get_or (set marks place true) place false)
+    here = get_or-set_same marks place true false within
+
+    other : (p : ℕ) → eqb p place ≡ false → get_or (set marks place true) p false ≡ get_or marks p false
+    other p e = get_or-set_other marks place p true false (λ same. absurd (false≢true (sym e ∙ (Decides-eqb p place).1 same)))
+
+    stays : (p : ℕ) → IsTrue (get_or marks p false) → (b : Bool) → eqb p place ≡ b → IsTrue (get_or (set marks place true) p false)
+    stays p t true e = subst (λ k. IsTrue (get_or (set marks place true) k false)) (sym ((Decides-eqb p place).0 e)) here
+    stays p t false e = other p e ∙ t
+
+    back : (p : ℕ) → IsTrue (get_or (set marks place true) p false) → (b : Bool) → eqb p place ≡ b
+        → (i : ℕ) × (n : ℕ) × (slice_get entries p ≡ Some n) × (slice_get (front ++ name id ∷ []) i ≡ Some (name n))
+    back p t true e = (length front, id, ap (slice_get entries) ((Decides-eqb p place).0 e) ∙ there, get_last front (name id))
+    back p t false e = let o = old.named p (sym (other p e) ∙ t) in (o.0, o.1, o.2, get_append front (name id ∷ []) o.0 (name o.1) o.3)
+
+pub marked_push : (entries : List ℕ) (moves : List NumberedMove) (m : NumberedMove) (marks : List Bool) → AreMarked entries (moves_in moves ++ move_in m ∷ []) marks
+    → AreMarked entries (moves_in (moves ++ m ∷ [])) marks
+marked_push entries moves m marks all = subst (λ front. AreMarked entries front marks) (sym (map-append move_in moves (m ∷ []))) all
+
+-- ---- the marked ones of the first entries
+
+abbrev pub AreFirstMarked : List LabelId → List Bool → ℕ → List LabelId → Type 0
+AreFirstMarked entries marks count ids =
+    (n : ℕ) → (Contains (ids_in ids) n → (place : ℕ) × (slice_get (ids_in entries) place ≡ Some n) × IsTrue (get_or marks place false))
+    × ((place : ℕ) → place < count → slice_get (ids_in entries) place ≡ Some n → IsTrue (get_or marks place false) → Contains (ids_in ids) n)
+
+pub entry_at : (entries : List LabelId) (place : ℕ) (d : LabelId) → place < length entries → slice_get (ids_in entries) place ≡ Some (get_or entries place d).0
+entry_at [] place d less = absurd (omega arith)
+entry_at (x ∷ entries) zero d less = refl
+entry_at (x ∷ entries) (suc place) d less = entry_at entries place d (omega arith)
+
+pub first_none : (entries : List LabelId) (marks : List Bool) → AreFirstMarked entries marks 0 []
+first_none entries marks n = ((λ c. absurd (let less : c.0 < 0 = c.1 in omega arith)), λ place less e t. absurd (omega arith))
+
+pub first_more : (entries : List LabelId) (marks : List Bool) (at : ℕ) (d : LabelId) (ids : List LabelId) → at < length entries → IsTrue (get_or marks at false)
+    → AreFirstMarked entries marks at ids → AreFirstMarked entries marks (at + 1) (ids ++ get_or entries at d ∷ [])
+first_more entries marks at d ids less marked old n = (to, from)
+  where
+    id : LabelId
+    id = get_or entries at d
+
+    more : ids_in (ids ++ id ∷ []) ≡ ids_in ids ++ id.0 ∷ []
+    more = map-append (λ (i : LabelId). i.0) ids (id ∷ [])
+
+    to : Contains (ids_in (ids ++ id ∷ [])) n → (place : ℕ) × (slice_get (ids_in entries) place ≡ Some n) × IsTrue (get_or marks place false)
+    to h = ⊎_elim (λ c. (old n).0 c) (λ same. (at, entry_at entries at d less ∙ ap Some same, marked)) (Contains-push_cases (ids_in ids) id.0 n (subst (λ l. Contains l n) more h))
+
+    from : (place : ℕ) → place < at + 1 → slice_get (ids_in entries) place ≡ Some n → IsTrue (get_or marks place false) → Contains (ids_in (ids ++ id ∷ [])) n
+    from place before e t = subst (λ l. Contains l n) (sym more) (⊎_elim
+        (λ front. Contains-append_left (ids_in ids) (id.0 ∷ []) n ((old n).1 place front e t))
+        (λ last.
+        let here : at ≡ place = omega (arith, last, before) in
+        let same : id.0 ≡ n = same_Some id.0 n (sym (entry_at entries at d less) ∙ ap (slice_get (ids_in entries)) here ∙ e) in
+        subst (Contains (ids_in ids ++ id.0 ∷ [])) same (Contains-push (ids_in ids) id.0))
+        (cases_lt place at))
+
+pub first_skipped : (entries : List LabelId) (marks : List Bool) (at : ℕ) (ids : List LabelId) → get_or marks at false ≡ false
+    → AreFirstMarked entries marks at ids → AreFirstMarked entries marks (at + 1) ids
+first_skipped entries marks at ids not old n = ((old n).0, from)
+  where
+    from : (place : ℕ) → place < at + 1 → slice_get (ids_in entries) place ≡ Some n → IsTrue (get_or marks place false) → Contains (ids_in ids) n
+    from place before e t = ⊎_elim (λ front. (old n).1 place front e t)
+        (λ last. let here : place ≡ at = omega (arith, last, before) in absurd (false≢true (sym not ∙ ap (λ k. get_or marks k false) (sym here) ∙ t)))
+        (cases_lt place at)
+
+pub first_all : (entries : List LabelId) (marks : List Bool) (count : ℕ) (ids : List LabelId) (moves : List (Move ℕ)) → length entries ≤ count
+    → AreFirstMarked entries marks count ids → AreMarked (ids_in entries) moves marks → ArePicked moves (ids_in ids)
+first_all entries marks count ids moves past all marked n = (
+  λ c.
+      let o = (all n).0 c in
+      let m = marked.named o.0 o.2 in
+      (m.0, m.3 ∙ ap (λ k. Some (name k)) (same_Some m.1 n (sym m.2 ∙ o.1))),
+  λ h.
+      let o = marked.marked h.0 n h.1 in
+      (all n).1 o.0 (omega (arith, slice_get_within (ids_in entries) o.0 n o.1, length-map entries (λ (i : LabelId). i.0), past)) o.1 o.2,
+)

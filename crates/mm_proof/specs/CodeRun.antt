@@ -1,6 +1,6 @@
 -- What the steps by labels do to the stack by numbers: it mirrors the code.
 use Rattle.std.specs.Prelude.{◌≡◌, ℕ, ◌<◌, List, [], ◌∷◌, ◌++◌, take, slice_get, Some}
-use Rattle.std.specs.Prelude.{Contains, ◌↔◌, ◌⊎◌, ◌≢◌, length}
+use Rattle.std.specs.Prelude.{Contains, ◌↔◌, ◌⊎◌, ◌≢◌, length, slice_index_or, Bool, false, IsTrue}
 use Rattle.mm_frame.specs.Sentence.{Sentence}
 use Rattle.mm_frame.specs.Numbers.{IsAssertionNumber}
 use Rattle.mm_proof.specs.declared.fault.ProofRule.{ProofRule}
@@ -50,6 +50,13 @@ pub record HasRun (statements : List Sentence) (place : ℕ) (front : List (Move
 -- these are the numbers of the labels that the moves name
 abbrev pub ArePicked : List (Move ℕ) → List ℕ → Type 0
 ArePicked moves ids = (id : ℕ) → Contains ids id ↔ ((i : ℕ) × (slice_get moves i ≡ Some (name id)))
+
+-- those of these labels are marked that the moves name
+pub record AreMarked (entries : List ℕ) (moves : List (Move ℕ)) (marks : List Bool) : Type 0 where
+  pub named : (place : ℕ) → IsTrue (slice_index_or marks place false)
+      → (i : ℕ) × (id : ℕ) × (slice_get entries place ≡ Some id) × (slice_get moves i ≡ Some (name id))
+  pub marked : (i id : ℕ) → slice_get moves i ≡ Some (name id)
+      → (place : ℕ) × (slice_get entries place ≡ Some id) × IsTrue (slice_index_or marks place false)
 
 -- one of the moves names the assertion with this number
 abbrev pub IsNamedByMove : List Sentence → List (Move ℕ) → ℕ → Type 0

@@ -19,12 +19,12 @@ ghost use Rattle.mm_proof.specs.Parsed.{OfProof, SaySteps};
 ghost use Rattle.mm_proof.specs.CodeSteps.{IsReading, NumberSays, fault_behind};
 ghost use Rattle.mm_proof.specs.CodeSteps.{ids_in, label_ids, move_in, moves_in, token_texts};
 ghost use Rattle.mm_code.specs.Layout.{texts};
-ghost use Rattle.mm_proof.specs.CodeRun.{ArePicked};
+ghost use Rattle.mm_proof.specs.CodeRun.{ArePicked, AreMarked};
 
 use crate::fault::{ProofFault, ProofRule};
 use crate::labels::fill_numbers;
 use crate::moves::{NumberedMove, Parsed, Steps};
-use crate::picked::{Picked, fill_picked, pick};
+use crate::picked::{Picked, fill_marked, fill_picked, unmark};
 use mm_code::{Code, CodeFault, CodeRule, fill_codes};
 use mm_frame::{Book, Frame, Hypothesis, LabelId};
 use mm_text::Token;
@@ -128,16 +128,25 @@ fn fill_normal(
     Ok(())
 }
 
-// The move that a code says, where numbers stand for these labels and then for tags.
-fn move_of(entries: &[LabelId], code: Code) -> NumberedMove
-    requires { HasSpelling code }
-    ensures { NumberSays (ids_in entries.now) code (move_in result) }
+// The move that a code says, where numbers stand for these labels and then for tags. The label that
+// it names is marked.
+fn move_of(entries: &[LabelId], marks: &mut Vec<bool>, code: Code) -> NumberedMove
+    requires spelled { HasSpelling code }
+    requires long { length marks.old.items ≡ length entries.now }
+    ensures says { NumberSays (ids_in entries.now) code (move_in result) }
+    ensures long { length marks.new.items ≡ length entries.now }
+    ensures marked { (moves : List (Move ℕ))
+        → AreMarked (ids_in entries.now) moves marks.old.items
+        → AreMarked (ids_in entries.now) (moves ++ move_in result ∷ []) marks.new.items }
 {
     match code {
         Code::Number(number) => {
             let place = number as usize - 1;
             match entries.get(place) {
-                Some(id) => NumberedMove::Name(*id),
+                Some(id) => {
+                    marks[place] = true;
+                    NumberedMove::Name(*id)
+                }
                 None => NumberedMove::Again((place - entries.len()) as u32),
             }
         }
@@ -160,12 +169,12 @@ fn fill_moves(
     ensures fault { IfErr result (λ e. e ≡ ProofFault.Memory) }
 {
     moves.clear();
-    picked.ids.clear();
+    unmark(&mut picked.marks, entries.len())?;
     for code in codes {
-        let one = move_of(entries, *code);
-        pick(picked, *code, one)?;
+        let one = move_of(entries, &mut picked.marks, *code);
         moves.push(one)?;
     }
+    fill_marked(&mut picked.ids, entries, &picked.marks)?;
     Ok(())
 }
 

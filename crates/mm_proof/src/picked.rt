@@ -1,83 +1,61 @@
 //! The labels that the moves of a proof name.
 
-ghost use Rattle.std.specs.Prelude.{ℕ, List, [], ◌∷◌, ◌++◌, Contains, IsTrue, OnOk};
+ghost use Rattle.std.specs.Prelude.{◌≡◌, ℕ, List, [], length, OnOk};
 ghost use Rattle.mm_proof.specs.Moves.{Move};
-ghost use Rattle.mm_proof.specs.CodeSteps.{ids_in, move_in, moves_in};
-ghost use Rattle.mm_proof.specs.CodeRun.{ArePicked};
+ghost use Rattle.mm_proof.specs.CodeSteps.{ids_in, moves_in};
+ghost use Rattle.mm_proof.specs.CodeRun.{ArePicked, AreMarked};
 
 use crate::moves::NumberedMove;
-use crate::variables::lengthen;
-use mm_code::Code;
 use mm_frame::LabelId;
 use std::alloc::{AllocError, Global};
 
-/// Labels, and for each number of a code that said one, a place at which the list may have it.
-///
-/// A proof has few such numbers, so that the places stay in the cache. What earlier proofs left in
-/// them is never cleared: a place counts only where the list has the label there.
+/// The labels that the moves of a proof name.
 #[derive(Drop)]
 pub(crate) struct Picked {
     pub(crate) ids: Vec<LabelId>,
-    places: Vec<usize>,
+    /// By the place of a label among those that numbers stand for, whether a move names it.
+    pub(crate) marks: Vec<bool>,
 }
 
 impl Picked {
     pub(crate) fn new(alloc: Global) -> Picked {
         Picked {
             ids: Vec::new(alloc),
-            places: Vec::new(alloc),
+            marks: Vec::new(alloc),
         }
     }
 }
 
-// Whether the list has the label at the place under the number, so that it needn't be added again.
-fn is_listed(places: &[usize], ids: &[LabelId], number: u32, id: LabelId) -> bool
-    ensures { IsTrue result → Contains (ids_in ids.now) id.0 }
+/// Makes so many marks, none of which is set.
+pub(crate) fn unmark(marks: &mut Vec<bool>, count: usize) -> Result<(), AllocError>
+    ensures long { OnOk result (length marks.new.items ≡ count) }
+    ensures none { OnOk result ((entries : List ℕ) → AreMarked entries [] marks.new.items) }
 {
-    let number = number as usize;
-    if number >= places.len() {
-        return false;
+    marks.clear();
+    for _ in 0..count {
+        marks.push(false)?;
     }
-    let place = places[number];
-    place < ids.len() && ids[place].0 == id.0
-}
-
-// Notes the place under the number.
-fn note_place(places: &mut Vec<usize>, number: u32, place: usize) -> Result<(), AllocError> {
-    let number = number as usize;
-    lengthen(places, number + 1)?;
-    places[number] = place;
     Ok(())
 }
 
-// Adds the label that the number says, unless it's known to be listed.
-fn add_label(picked: &mut Picked, number: u32, id: LabelId) -> Result<(), AllocError>
+/// Fills the list with those of the entries that are marked.
+pub(crate) fn fill_marked(
+    ids: &mut Vec<LabelId>,
+    entries: &[LabelId],
+    marks: &[bool],
+) -> Result<(), AllocError>
+    requires { length marks.now ≡ length entries.now }
     ensures { OnOk result ((moves : List (Move ℕ))
-        → ArePicked moves (ids_in picked.old.ids.items)
-        → ArePicked (moves ++ Move.name id.0 ∷ []) (ids_in picked.new.ids.items)) }
+        → AreMarked (ids_in entries.now) moves marks.now
+        → ArePicked moves (ids_in ids.new.items)) }
 {
-    if is_listed(&picked.places, &picked.ids, number, id) {
-        return Ok(());
+    ids.clear();
+    for (place, id) in entries.iter().enumerate() {
+        if marks[place] {
+            ids.push(*id)?;
+        }
     }
-    note_place(&mut picked.places, number, picked.ids.len())?;
-    picked.ids.push(id)?;
     Ok(())
-}
-
-/// Adds the label that the move names, if it names one. The code is the one that says the move.
-pub(crate) fn pick(picked: &mut Picked, code: Code, one: NumberedMove) -> Result<(), AllocError>
-    ensures { OnOk result ((moves : List (Move ℕ))
-        → ArePicked moves (ids_in picked.old.ids.items)
-        → ArePicked (moves ++ move_in one ∷ []) (ids_in picked.new.ids.items)) }
-{
-    let number = match code {
-        Code::Number(number) => number,
-        Code::Tag => 0,
-    };
-    match one {
-        NumberedMove::Name(id) => add_label(picked, number, id),
-        _ => Ok(()),
-    }
 }
 
 /// Fills the list with the labels that the moves name, in the order of the moves.
