@@ -1,6 +1,6 @@
 //! A store that has one buffer for the symbols of all its expressions.
 
-ghost use Rattle.std.specs.Prelude.{◌≡◌, [], ◌≤◌, length, take};
+ghost use Rattle.std.specs.Prelude.{◌≡◌, List, [], ◌++◌, ◌≤◌, length, take, OnOk};
 ghost use Rattle.mm_proof.specs.Buffer.{AreParts, AreSeparateParts};
 
 use crate::store::Store;
@@ -58,6 +58,26 @@ impl Flat {
     }
 }
 
+// Appends the expression. A hypothesis is mostly two symbols, for which the copy of a list takes
+// longer.
+fn append(symbols: &mut Vec<Sym>, expression: &[Sym]) -> Result<(), AllocError>
+    ensures appended { OnOk result (symbols.new.items ≡ symbols.old.items ++ expression.now) }
+    ensures grown { (rest : List Sym) × (symbols.new.items ≡ symbols.old.items ++ rest) }
+    ensures long { length symbols.old.items ≤ length symbols.new.items }
+{
+    match expression {
+        [code, variable] => {
+            symbols.push(*code)?;
+            symbols.push(*variable)?;
+            Ok(())
+        }
+        _ => {
+            symbols.extend_from_slice(expression)?;
+            Ok(())
+        }
+    }
+}
+
 // How much of the buffer the first entries of the stack and the kept ones need.
 fn needed_length(stack: &[Entry], left: usize, floor: usize, used: usize) -> usize
     requires within { AreParts used stack.now }
@@ -89,7 +109,7 @@ impl Store for Flat {
 
     fn push(&mut self, expression: &[Sym]) -> Result<(), AllocError> {
         let start = self.symbols.len();
-        self.symbols.extend_from_slice(expression)?;
+        append(&mut self.symbols, expression)?;
         let entry = Entry {
             start,
             end: self.symbols.len(),
