@@ -54,9 +54,11 @@ ArePicked moves ids = (id : ℕ) → Contains ids id ↔ ((i : ℕ) × (slice_ge
 -- those of these labels are marked that the moves name
 pub record AreMarked (entries : List ℕ) (moves : List (Move ℕ)) (marks : List Bool) : Type 0 where
   pub named : (place : ℕ) → IsTrue (slice_index_or marks place false)
-      → (i : ℕ) × (id : ℕ) × (slice_get entries place ≡ Some id) × (slice_get moves i ≡ Some (name id))
+      → (i : ℕ) × (id : ℕ) × (slice_get entries place ≡ Some id)
+      × (slice_get moves i ≡ Some (name id))
   pub marked : (i id : ℕ) → slice_get moves i ≡ Some (name id)
-      → (place : ℕ) × (slice_get entries place ≡ Some id) × IsTrue (slice_index_or marks place false)
+      → (place : ℕ) × (slice_get entries place ≡ Some id)
+      × IsTrue (slice_index_or marks place false)
 
 -- one of the moves names the assertion with this number
 abbrev pub IsNamedByMove : List Sentence → List (Move ℕ) → ℕ → Type 0

@@ -149,8 +149,8 @@ pub(crate) fn is_replaced<S: Store>(
     rest.is_empty()
 }
 
-// Appends what replaces the symbol, and answers false where it is more than one symbol and the limit
-// is passed.
+// Appends what replaces the symbol, and answers false where that is more than one symbol and passes
+// the limit.
 fn append_replaced<S: Store>(
     made: &mut Vec<Sym>,
     store: &S,
