@@ -60,6 +60,7 @@ impl Flat {
 
 // Appends the expression. A hypothesis is mostly two symbols, for which the copy of a list takes
 // longer.
+#[inline(always)]
 fn append(symbols: &mut Vec<Sym>, expression: &[Sym]) -> Result<(), AllocError>
     ensures appended { OnOk result (symbols.new.items ≡ symbols.old.items ++ expression.now) }
     ensures grown { (rest : List Sym) × (symbols.new.items ≡ symbols.old.items ++ rest) }
@@ -107,6 +108,7 @@ impl Store for Flat {
         &self.symbols[entry.start..entry.end]
     }
 
+    #[inline(always)]
     fn push(&mut self, expression: &[Sym]) -> Result<(), AllocError> {
         let start = self.symbols.len();
         append(&mut self.symbols, expression)?;
