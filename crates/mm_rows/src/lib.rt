@@ -1,6 +1,6 @@
-//! The tests of all crates but the program: the acceptance cases, as tests of `mm_check::run` over a
-//! writer in memory, and one path of each public call. The replies are those of the cases and of the
-//! documents, and no output of the program.
+//! The tests of all crates but the program: the acceptance cases, as tests of `mm_check::run` over
+//! a writer in memory, and one path of each public call. The replies are those of the cases and of
+//! the documents, and no output of the program.
 #![tactic(auto)]
 
 #[cfg(test)]
