@@ -135,7 +135,7 @@ fn judge_rest<'a>(
 }
 
 /// Judges the statements that a new reader has, up to the first fault: what checking comes to.
-fn judged<'a>(
+fn last_progress<'a>(
     alloc: Global,
     files: &[File<'a>],
     statements: &mut Statements<'a>,
@@ -165,7 +165,7 @@ fn judge_all<'a>(alloc: Global, files: &'a [File<'a>]) -> Result<Checked<'a>, Ch
     ensures files { IfOk result (KeepsFiles (map plain_file files.now)) }
 {
     let mut statements = load(alloc, files)?;
-    let outcome = judged(alloc, files, &mut statements);
+    let outcome = last_progress(alloc, files, &mut statements);
     drop(statements);
     let progress = outcome?;
     Ok(Checked::new(files, progress))

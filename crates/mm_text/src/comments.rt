@@ -72,7 +72,7 @@ impl<'a> Place<'a> {
 /// A place up to which the bytes may stand in a file, no further back than the one that is known.
 /// Those up to a wanted place are judged, if they weren't yet.
 #[inline(always)]
-fn judged(bytes: &[u8], legal: usize, wanted: usize) -> usize
+fn legal_front(bytes: &[u8], legal: usize, wanted: usize) -> usize
     requires front { IsLegalFront bytes.now legal }
     requires within { wanted ≤ length bytes.now }
     ensures from { legal ≤ result }
@@ -153,7 +153,7 @@ fn comment_stop(bytes: &[u8], at: usize, mut legal: usize) -> Stop
         → is_space (slice_index bytes.now result.at) ≡ false }
 {
     let mut from = at;
-    'judged: loop {
+    'pieces: loop {
         if let Some(ahead) = memchr(b'$', &bytes[from..legal]) {
             return Stop {
                 at: from + ahead,
@@ -187,7 +187,7 @@ fn comment_step<'a>(mut place: Place<'a>, begin: Token<'a>) -> Result<Comment<'a
     let start = token_start(place.bytes, place.at, stop.at);
     let end = token_end(place.bytes, start);
     let token = make_token(place.bytes, place.file, start, end);
-    place.legal = judged(place.bytes, stop.legal, end);
+    place.legal = legal_front(place.bytes, stop.legal, end);
     if place.legal < end {
         return Err(Wrong {
             rule: TextRule::X1,
@@ -235,7 +235,7 @@ fn take_one<'a>(place: &mut Place<'a>) -> Result<Found<'a>, Wrong<'a>>
     }
     let end = token_end(place.bytes, start);
     let token = make_token(place.bytes, place.file, start, end);
-    place.legal = judged(place.bytes, place.legal, end);
+    place.legal = legal_front(place.bytes, place.legal, end);
     if place.legal < end {
         return Err(Wrong {
             rule: TextRule::X1,

@@ -35,7 +35,7 @@ pub trait Source {
 
     /// How many bytes are left, as far as can be told before they come. Room is made for so many.
     /// Where it's wrong, nothing but time or room is lost.
-    fn expected(&self) -> usize {
+    fn length_hint(&self) -> usize {
         0
     }
 }
@@ -86,9 +86,9 @@ impl<T> Counted<T> {
 }
 
 impl<S: Source> Counted<S> {
-    /// How many bytes the source is expected to give. More or fewer may come.
-    pub(crate) fn expected(&self) -> usize {
-        self.inner.expected()
+    /// How many bytes are left, as the source tells. More or fewer may come.
+    pub(crate) fn length_hint(&self) -> usize {
+        self.inner.length_hint()
     }
 
     /// Reads once, and answers what the source answers. The count rises by one exactly where that

@@ -80,7 +80,7 @@ pub fn read_all<S: Source>(
         faults_of reader.new ≡ faults_of reader.old }
 {
     let mut piece = [0; PIECE];
-    let mut bytes = room_for(alloc, reader.expected().min(max));
+    let mut bytes = room_for(alloc, reader.length_hint().min(max));
     loop {
         let count = match reader.read(&mut piece) {
             Ok(0) => return Ok(bytes),

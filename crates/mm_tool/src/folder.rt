@@ -94,7 +94,7 @@ impl<F: Read + OpenFile> Source for HostFile<F> {
         self.0.read(piece)
     }
 
-    fn expected(&self) -> usize {
+    fn length_hint(&self) -> usize {
         match self.0.metadata() {
             Ok(metadata) => metadata.len() as usize,
             Err(_) => 0,

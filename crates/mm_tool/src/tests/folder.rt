@@ -42,7 +42,7 @@ impl Source for OpenEntry {
     }
 
     /// Wrong of most files, since nothing may rest on it: too few of long ones, and else too many.
-    fn expected(&self) -> usize {
+    fn length_hint(&self) -> usize {
         10 - self.left.len().min(10)
     }
 }

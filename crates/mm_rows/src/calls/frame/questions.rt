@@ -1,7 +1,7 @@
 //! Questions to a book, each with its answer.
 
 use crate::calls::frame::taking::{book_of, id_of, name_of, variable_of};
-use mm_frame::{Book, Found, LabelId, LabelKind};
+use mm_frame::{Book, Found, Hypothesis, LabelId, LabelKind};
 use mm_text::File;
 use std::alloc::Global;
 use std::process::Abort;
@@ -60,13 +60,21 @@ fn is_label(book: &Book, id: LabelId, word: &str) -> bool {
     book.label(id) == word.as_bytes()
 }
 
+/// Whether what stands with the label of a hypothesis is what its statement says.
+fn is_typed(book: &Book, hypothesis: &Hypothesis) -> bool {
+    match (book.kind(hypothesis.id), book.expression(hypothesis.id)) {
+        (LabelKind::Floating, [code, variable]) => hypothesis.typing == Some((*code, *variable)),
+        _ => hypothesis.typing.is_none(),
+    }
+}
+
 /// Whether the labels of hypotheses are these words.
-fn are_labels(book: &Book, hypotheses: &[LabelId], words: &str) -> bool {
+fn are_labels(book: &Book, hypotheses: &[Hypothesis], words: &str) -> bool {
     if words.split_whitespace().count() != hypotheses.len() {
         return false;
     }
-    for (id, word) in hypotheses.iter().zip(words.split_whitespace()) {
-        if !is_label(book, *id, word) {
+    for (hypothesis, word) in hypotheses.iter().zip(words.split_whitespace()) {
+        if !is_label(book, hypothesis.id, word) || !is_typed(book, hypothesis) {
             return false;
         }
     }

@@ -19,7 +19,7 @@ returns-then-place-end c =
     let start = c.token_start-start.result in
     let end = c.token_end-end.result in
     let t = plain_token c.make_token-token.result in
-    let illegal = token_illegal p.bytes.now c.judged.result start end (c.judged.ensures.judged.stops (omega arith)) (omega arith) (omega arith) (omega arith) c.token_end-end.ensures.ink in (
+    let illegal = token_illegal p.bytes.now c.legal_front.result start end (c.legal_front.ensures.judged.stops (omega arith)) (omega arith) (omega arith) (omega arith) c.token_end-end.ensures.ink in (
       comment_token (plain_token c.args.begin) p c.comment_stop-stop.result.at start end t (omega arith) (omega arith) (omega arith)
           c.comment_stop-stop.ensures.quiet c.token_start-start.ensures.apart c.token_end-end.ensures.token c.make_token-token.ensures.token
           ∙ in_comment-illegal (plain_token c.args.begin) t _ (ap (λ (u : PlainToken). list_all is_printable u.text) c.make_token-token.ensures.token ∙ illegal),
@@ -32,8 +32,8 @@ returns-then-is_close c =
     let start = c.token_start-start.result in
     let end = c.token_end-end.result in
     let t = plain_token c.make_token-token.result in
-    let printable = token_printable p.bytes.now c.judged.result start end c.judged.ensures.judged.front (omega arith) (omega arith) c.token_end-end.ensures.ink in (
-      later_place p end c.judged.result c.judged.ensures.judged.front (omega arith) (omega arith) c.requires.place.small,
+    let printable = token_printable p.bytes.now c.legal_front.result start end c.legal_front.ensures.judged.front (omega arith) (omega arith) c.token_end-end.ensures.ink in (
+      later_place p end c.legal_front.result c.legal_front.ensures.judged.front (omega arith) (omega arith) c.requires.place.small,
       comment_token (plain_token c.args.begin) p c.comment_stop-stop.result.at start end t (omega arith) (omega arith) (omega arith)
           c.comment_stop-stop.ensures.quiet c.token_start-start.ensures.apart c.token_end-end.ensures.token c.make_token-token.ensures.token
           ∙ in_comment-close (plain_token c.args.begin) t _ (ap (λ (u : PlainToken). list_all is_printable u.text) c.make_token-token.ensures.token ∙ printable)
@@ -46,7 +46,7 @@ returns-then-holds_mark c =
     let start = c.token_start-start.result in
     let end = c.token_end-end.result in
     let t = plain_token c.make_token-token.result in
-    let printable = token_printable p.bytes.now c.judged.result start end c.judged.ensures.judged.front (omega arith) (omega arith) c.token_end-end.ensures.ink in (
+    let printable = token_printable p.bytes.now c.legal_front.result start end c.legal_front.ensures.judged.front (omega arith) (omega arith) c.token_end-end.ensures.ink in (
       comment_token (plain_token c.args.begin) p c.comment_stop-stop.result.at start end t (omega arith) (omega arith) (omega arith)
           c.comment_stop-stop.ensures.quiet c.token_start-start.ensures.apart c.token_end-end.ensures.token c.make_token-token.ensures.token
           ∙ in_comment-mark (plain_token c.args.begin) t _ (ap (λ (u : PlainToken). list_all is_printable u.text) c.make_token-token.ensures.token ∙ printable)
@@ -60,8 +60,8 @@ returns c =
     let start = c.token_start-start.result in
     let end = c.token_end-end.result in
     let t = plain_token c.make_token-token.result in
-    let printable = token_printable p.bytes.now c.judged.result start end c.judged.ensures.judged.front (omega arith) (omega arith) c.token_end-end.ensures.ink in (
-      later_place p end c.judged.result c.judged.ensures.judged.front (omega arith) (omega arith) c.requires.place.small,
+    let printable = token_printable p.bytes.now c.legal_front.result start end c.legal_front.ensures.judged.front (omega arith) (omega arith) c.token_end-end.ensures.ink in (
+      later_place p end c.legal_front.result c.legal_front.ensures.judged.front (omega arith) (omega arith) c.requires.place.small,
       comment_token (plain_token c.args.begin) p c.comment_stop-stop.result.at start end t (omega arith) (omega arith) (omega arith)
           c.comment_stop-stop.ensures.quiet c.token_start-start.ensures.apart c.token_end-end.ensures.token c.make_token-token.ensures.token
           ∙ in_comment-more (plain_token c.args.begin) t _ (ap (λ (u : PlainToken). list_all is_printable u.text) c.make_token-token.ensures.token ∙ printable)

@@ -20,7 +20,7 @@ returns-then-place-end-clause-takes c =
     let start = c.skip_space-start.result in
     let end = c.token_end-end.result in
     let t = plain_token c.make_token-token.result in
-    let illegal = token_illegal p.bytes.now c.judged-place.result start end (c.judged-place.ensures.judged.stops (omega arith)) (skipped_legal p.bytes.now c.judged-place.result p.at start end c.judged-place.ensures.judged (omega arith) (omega arith) c.skip_space-start.ensures.space) (omega arith) (omega arith) c.token_end-end.ensures.ink in (
+    let illegal = token_illegal p.bytes.now c.legal_front-place.result start end (c.legal_front-place.ensures.judged.stops (omega arith)) (skipped_legal p.bytes.now c.legal_front-place.result p.at start end c.legal_front-place.ensures.judged (omega arith) (omega arith) c.skip_space-start.ensures.space) (omega arith) (omega arith) c.token_end-end.ensures.ink in (
       outside_token p start end t c.skip_space-start.ensures.same_tokens c.token_end-end.ensures.token c.make_token-token.ensures.token
           ∙ outside-illegal t _ (ap (λ (u : PlainToken). list_all is_printable u.text) c.make_token-token.ensures.token ∙ illegal),
       c.make_token-token.ensures.at,
@@ -32,7 +32,7 @@ returns-then-is_close-clause-takes c =
     let start = c.skip_space-start.result in
     let end = c.token_end-end.result in
     let t = plain_token c.make_token-token.result in
-    let printable = token_printable p.bytes.now c.judged-place.result start end c.judged-place.ensures.judged.front (omega arith) (omega arith) c.token_end-end.ensures.ink in
+    let printable = token_printable p.bytes.now c.legal_front-place.result start end c.legal_front-place.ensures.judged.front (omega arith) (omega arith) c.token_end-end.ensures.ink in
     let close = sym c.is_close.ensures ∙ c.if-is_close.true in (
       outside_token p start end t c.skip_space-start.ensures.same_tokens c.token_end-end.ensures.token c.make_token-token.ensures.token
           ∙ outside-close t _ (ap (λ (u : PlainToken). list_all is_printable u.text) c.make_token-token.ensures.token ∙ printable) (spells_other t.text _ _ refl close) close,
@@ -45,7 +45,7 @@ returns-in_err-place-clause-takes c =
     let start = c.skip_space-start.result in
     let end = c.token_end-end.result in
     let t = plain_token c.make_token-token.result in
-    let printable = token_printable p.bytes.now c.judged-place.result start end c.judged-place.ensures.judged.front (omega arith) (omega arith) c.token_end-end.ensures.ink in
+    let printable = token_printable p.bytes.now c.legal_front-place.result start end c.legal_front-place.ensures.judged.front (omega arith) (omega arith) c.token_end-end.ensures.ink in
     let e = err_from_is_err_and c.from_residual.result c.from_residual.ensures.1 in
     rw (e.1, e.2) (
       (outside_token p start end t c.skip_space-start.ensures.same_tokens c.token_end-end.ensures.token c.make_token-token.ensures.token
@@ -60,7 +60,7 @@ returns-then-is_begin-clause-takes c =
     let start = c.skip_space-start.result in
     let end = c.token_end-end.result in
     let t = plain_token c.make_token-token.result in
-    let printable = token_printable p.bytes.now c.judged-place.result start end c.judged-place.ensures.judged.front (omega arith) (omega arith) c.token_end-end.ensures.ink in (
+    let printable = token_printable p.bytes.now c.legal_front-place.result start end c.legal_front-place.ensures.judged.front (omega arith) (omega arith) c.token_end-end.ensures.ink in (
       omega (arith, c.in_ok-place.ensures.0.after),
       outside_token p start end t c.skip_space-start.ensures.same_tokens c.token_end-end.ensures.token c.make_token-token.ensures.token
           ∙ outside-begin t _ (ap (λ (u : PlainToken). list_all is_printable u.text) c.make_token-token.ensures.token ∙ printable) (sym c.is_begin.ensures ∙ c.if-is_begin.true)
@@ -73,7 +73,7 @@ returns-clause-takes c =
     let start = c.skip_space-start.result in
     let end = c.token_end-end.result in
     let t = plain_token c.make_token-token.result in
-    let printable = token_printable p.bytes.now c.judged-place.result start end c.judged-place.ensures.judged.front (omega arith) (omega arith) c.token_end-end.ensures.ink in (
+    let printable = token_printable p.bytes.now c.legal_front-place.result start end c.legal_front-place.ensures.judged.front (omega arith) (omega arith) c.token_end-end.ensures.ink in (
       outside_token p start end t c.skip_space-start.ensures.same_tokens c.token_end-end.ensures.token c.make_token-token.ensures.token
           ∙ outside-clear t _ (ap (λ (u : PlainToken). list_all is_printable u.text) c.make_token-token.ensures.token ∙ printable)
           (sym c.is_begin.ensures ∙ c.if-is_begin.false) (sym c.is_close.ensures ∙ c.if-is_close.false),

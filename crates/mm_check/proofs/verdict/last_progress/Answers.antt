@@ -2,7 +2,7 @@
 use Rattle.std.proofs.Common.{map}
 use Rattle.mm_text.specs.Files.{plain_file}
 use Rattle.mm_check.proofs.Course.{starts}
-use Rattle.mm_check.proofs.verdict.judged.Goals as goal
+use Rattle.mm_check.proofs.verdict.last_progress.Goals as goal
 
 pub judge_rest-requires : goal.judge_rest-requires
 judge_rest-requires c =
