@@ -9,7 +9,7 @@ use Rattle.mm_frame.specs.declared.number.LabelId.{LabelId}
 use Rattle.mm_frame.specs.declared.number.Sym.{Sym}
 use Rattle.mm_frame.specs.declared.tables.Entry.{Entry}
 use Rattle.mm_frame.specs.Sentence.{Sentence}
-use Rattle.mm_frame.specs.Layout.{names_by, label_by, sentence_by, sentences, IsPartWithin, AreEntries}
+use Rattle.mm_frame.specs.Layout.{names_by, label_by, sentence_by, sentences_by, IsPartWithin, AreEntries}
 use Rattle.mm_frame.proofs.Pushed.{pushed_cases, get_from_front, get_within}
 use Rattle.mm_frame.proofs.Numbered.{At}
 
@@ -75,33 +75,33 @@ sentence_same symbols labels flat log a b c place e entries there =
 
 -- one entry more is one statement more
 pub sentences_push : (symbols labels : List (List ℕ)) (flat : List Sym) (log : List Entry) (a b : List (List ℕ)) (c : List Sym) (new : Entry) → AreEntries symbols labels flat log
-    → sentences (symbols ++ a) (labels ++ b) (flat ++ c) (log ++ new ∷ []) ≡ sentences symbols labels flat log ++ sentence_by (symbols ++ a) (labels ++ b) (flat ++ c) new ∷ []
-unfolding sentences
+    → sentences_by (symbols ++ a) (labels ++ b) (flat ++ c) (log ++ new ∷ []) ≡ sentences_by symbols labels flat log ++ sentence_by (symbols ++ a) (labels ++ b) (flat ++ c) new ∷ []
+unfolding sentences_by
 sentences_push symbols labels flat log a b c new entries =
     map-append (sentence_by (symbols ++ a) (labels ++ b) (flat ++ c)) log (new ∷ [])
     ∙ ap (λ ys. ys ++ sentence_by (symbols ++ a) (labels ++ b) (flat ++ c) new ∷ [])
     (map_agree (sentence_by (symbols ++ a) (labels ++ b) (flat ++ c)) (sentence_by symbols labels flat) log (λ i e there. sentence_same symbols labels flat log a b c i e entries there))
 
-pub sentences_none : sentences [] [] [] [] ≡ []
-unfolding sentences
+pub sentences_none : sentences_by [] [] [] [] ≡ []
+unfolding sentences_by
 sentences_none = refl
 
-pub length-sentences : (symbols labels : List (List ℕ)) (flat : List Sym) (log : List Entry) → length (sentences symbols labels flat log) ≡ length log
-unfolding sentences
+pub length-sentences : (symbols labels : List (List ℕ)) (flat : List Sym) (log : List Entry) → length (sentences_by symbols labels flat log) ≡ length log
+unfolding sentences_by
 length-sentences symbols labels flat log = length-map log (sentence_by symbols labels flat)
 
 -- the statement at a place is what its entry says
 pub sentence_at : (symbols labels : List (List ℕ)) (flat : List Sym) (log : List Entry) (place : ℕ) (e : Entry) → slice_get log place ≡ Some e
-    → slice_get (sentences symbols labels flat log) place ≡ Some (sentence_by symbols labels flat e)
-unfolding sentences
+    → slice_get (sentences_by symbols labels flat log) place ≡ Some (sentence_by symbols labels flat e)
+unfolding sentences_by
 sentence_at symbols labels flat log place e there = slice_get-map (sentence_by symbols labels flat) log place ∙ ap (option_map (sentence_by symbols labels flat)) there
 
 -- each statement is what some entry says
-pub entry_at : (symbols labels : List (List ℕ)) (flat : List Sym) (log : List Entry) (place : ℕ) (s : Sentence) → slice_get (sentences symbols labels flat log) place ≡ Some s
+pub entry_at : (symbols labels : List (List ℕ)) (flat : List Sym) (log : List Entry) (place : ℕ) (s : Sentence) → slice_get (sentences_by symbols labels flat log) place ≡ Some s
     → (e : Entry) × (slice_get log place ≡ Some e) × (sentence_by symbols labels flat e ≡ s)
 entry_at symbols labels flat log place s there =
     let size = length-sentences symbols labels flat log in
-    let lt = slice_get_within (sentences symbols labels flat log) place s there in
+    let lt = slice_get_within (sentences_by symbols labels flat log) place s there in
     let (e, at) = get_within log place (omega arith) in
     let says = sentence_at symbols labels flat log place e at in
     (e, at, cc)

@@ -13,7 +13,7 @@ use Rattle.mm_frame.specs.Sentence.{Sentence, IsHypothesis}
 use Rattle.mm_frame.specs.Form.{AllFormed}
 use Rattle.mm_frame.specs.Numbers.{labelled_sentences}
 use Rattle.mm_frame.specs.FramePlace.{IsTypingOf}
-use Rattle.mm_frame.specs.Layout.{sentences, label_by, AreLabelInfos}
+use Rattle.mm_frame.specs.Layout.{sentences_by, label_by, AreLabelInfos}
 use Rattle.mm_frame.specs.Gathered.{ArePlaces, AreThoseAt}
 use Rattle.mm_frame.proofs.Pushed.{get_within}
 use Rattle.mm_frame.proofs.Entries.{entry_at}
@@ -26,11 +26,11 @@ entry_labelled labels None named = absurd (cc)
 entry_labelled labels (Some id) named = (id, refl)
 
 -- the label's number at the place of a mandatory hypothesis
-pub id_at : (symbols labels : List (List ℕ)) (flat : List Sym) (log : List Entry) (named : List LabelInfo) (s : Sentence) (places : List ℕ) (i p : ℕ) → AreLabelInfos (sentences symbols labels flat log) labels named log
-    → AllFormed (sentences symbols labels flat log) → ArePlaces (sentences symbols labels flat log) s places → slice_get places i ≡ Some p
-    → (id : LabelId) × (option_and_then (λ e. e.label) (slice_get log p) ≡ Some id) × (id.0 ≡ length (labelled_sentences (take p (sentences symbols labels flat log))))
+pub id_at : (symbols labels : List (List ℕ)) (flat : List Sym) (log : List Entry) (named : List LabelInfo) (s : Sentence) (places : List ℕ) (i p : ℕ) → AreLabelInfos (sentences_by symbols labels flat log) labels named log
+    → AllFormed (sentences_by symbols labels flat log) → ArePlaces (sentences_by symbols labels flat log) s places → slice_get places i ≡ Some p
+    → (id : LabelId) × (option_and_then (λ e. e.label) (slice_get log p) ≡ Some id) × (id.0 ≡ length (labelled_sentences (take p (sentences_by symbols labels flat log))))
 id_at symbols labels flat log named s places i p are formed are_places there =
-    let st = sentences symbols labels flat log in
+    let st = sentences_by symbols labels flat log in
     let (h, at) = get_within st p (are_places.within i p there) in
     let (e, at_e, says) = entry_at symbols labels flat log p h at in
     let has : is_some h.label ≡ true = place_named st s places i p h formed are_places there at in
@@ -39,13 +39,13 @@ id_at symbols labels flat log named s places i p are formed are_places there =
 
 -- one place more
 pub those_step : (symbols labels : List (List ℕ)) (flat : List Sym) (log : List Entry) (named : List LabelInfo) (s : Sentence) (places : List ℕ) (i : ℕ) (new : Hypothesis) (hs : List Hypothesis)
-    → AreLabelInfos (sentences symbols labels flat log) labels named log → AllFormed (sentences symbols labels flat log) → ArePlaces (sentences symbols labels flat log) s places → i < length places
+    → AreLabelInfos (sentences_by symbols labels flat log) labels named log → AllFormed (sentences_by symbols labels flat log) → ArePlaces (sentences_by symbols labels flat log) s places → i < length places
     → option_and_then (λ e. e.label) (slice_get log (get_or places i 0)) ≡ Some new.id
-    → ((f : Sentence) → slice_get (sentences symbols labels flat log) (get_or places i 0) ≡ Some f → IsHypothesis f.kind → IsTypingOf (sentences symbols labels flat log) new.typing f)
-    → AreThoseAt (sentences symbols labels flat log) (take i places) hs
-    → AreThoseAt (sentences symbols labels flat log) (take (i + 1) places) (hs ++ new ∷ [])
+    → ((f : Sentence) → slice_get (sentences_by symbols labels flat log) (get_or places i 0) ≡ Some f → IsHypothesis f.kind → IsTypingOf (sentences_by symbols labels flat log) new.typing f)
+    → AreThoseAt (sentences_by symbols labels flat log) (take i places) hs
+    → AreThoseAt (sentences_by symbols labels flat log) (take (i + 1) places) (hs ++ new ∷ [])
 those_step symbols labels flat log named s places i new hs are formed are_places lt found says so_far =
-    let st = sentences symbols labels flat log in
+    let st = sentences_by symbols labels flat log in
     let number : ℕ → ℕ = λ p. length (labelled_sentences (take p st)) in
     let p = get_or places i 0 in
     let there = slice_get-get_or places i 0 lt in
@@ -61,7 +61,7 @@ pub those_none : (st : List Sentence) → AreThoseAt st [] []
 those_none st = record { numbers = refl; typed = typings_none st }
 
 pub ids_never : (symbols labels : List (List ℕ)) (flat : List Sym) (log : List Entry) (named : List LabelInfo) (s : Sentence) (places : List ℕ) (i : ℕ)
-    → AreLabelInfos (sentences symbols labels flat log) labels named log → AllFormed (sentences symbols labels flat log) → ArePlaces (sentences symbols labels flat log) s places → i < length places
+    → AreLabelInfos (sentences_by symbols labels flat log) labels named log → AllFormed (sentences_by symbols labels flat log) → ArePlaces (sentences_by symbols labels flat log) s places → i < length places
     → option_and_then (λ e. e.label) (slice_get log (get_or places i 0)) ≡ None → ⊥
 ids_never symbols labels flat log named s places i are formed are_places lt none =
     let (other, is, value) = id_at symbols labels flat log named s places i (get_or places i 0) are formed are_places (slice_get-get_or places i 0 lt) in

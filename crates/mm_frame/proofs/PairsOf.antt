@@ -15,7 +15,7 @@ use Rattle.mm_frame.specs.Frame.{IsDistinct}
 use Rattle.mm_frame.specs.Stated.{Stated, IsLatestStated}
 use Rattle.mm_frame.proofs.Those.{distinct_other}
 use Rattle.mm_frame.proofs.DistinctAt.{latest_distinct, unstated_distinct}
-use Rattle.mm_frame.specs.Layout.{sentences, sentence_by, AreStated}
+use Rattle.mm_frame.specs.Layout.{sentences_by, sentence_by, AreStated}
 use Rattle.mm_frame.proofs.Entries.{sentence_at, entry_at}
 
 -- the second of two
@@ -40,14 +40,14 @@ variable_says st place f ns formed there kind are =
     (n, at, code, x, (kind, parts), number)
 
 -- a statement's kind is its entry's
-pub kind_at : (symbols labels : List (List ℕ)) (flat : List Sym) (log : List Entry) (place : ℕ) (e : Entry) (f : Sentence) → slice_get log place ≡ Some e → slice_get (sentences symbols labels flat log) place ≡ Some f → f.kind ≡ e.kind
+pub kind_at : (symbols labels : List (List ℕ)) (flat : List Sym) (log : List Entry) (place : ℕ) (e : Entry) (f : Sentence) → slice_get log place ≡ Some e → slice_get (sentences_by symbols labels flat log) place ≡ Some f → f.kind ≡ e.kind
 kind_at symbols labels flat log place e f there said =
     let at = sentence_at symbols labels flat log place e there in
     let same : sentence_by symbols labels flat e ≡ f = cc in
     ap (λ (s : Sentence). s.kind) (sym same)
 
 -- where there is a statement, there is an entry
-pub some_entry : (symbols labels : List (List ℕ)) (flat : List Sym) (log : List Entry) (place : ℕ) (f : Sentence) → slice_get (sentences symbols labels flat log) place ≡ Some f → slice_get log place ≡ None → ⊥
+pub some_entry : (symbols labels : List (List ℕ)) (flat : List Sym) (log : List Entry) (place : ℕ) (f : Sentence) → slice_get (sentences_by symbols labels flat log) place ≡ Some f → slice_get log place ≡ None → ⊥
 some_entry symbols labels flat log place f said none =
     let (e, at, says) = entry_at symbols labels flat log place f said in
     absurd (cc)

@@ -10,7 +10,7 @@ use Rattle.mm_frame.specs.Sentence.{Sentence, IsLabelled, IsAssertion}
 use Rattle.mm_frame.specs.Form.{HasItsLabel, AllFormed}
 use Rattle.mm_frame.specs.Numbers.{labelled_sentences, IsNumbered}
 use Rattle.mm_frame.specs.FramePlace.{AreHypotheses, HaveTypings, ArePairs}
-use Rattle.mm_frame.specs.Layout.{sentences, sentence_by, AreLabelInfos, AreFrames}
+use Rattle.mm_frame.specs.Layout.{sentences_by, sentence_by, AreLabelInfos, AreFrames}
 use Rattle.mm_frame.proofs.Pushed.{get_within}
 use Rattle.mm_frame.proofs.NameLists.{get_mapped, get_unmapped}
 use Rattle.mm_frame.proofs.Labelled.{numbered_get, numbered_within, numbered_unique, numbered_from_get}
@@ -66,7 +66,7 @@ labelled_at st labels named log id l are at =
 
 -- the kind of a statement's entry is its kind
 pub entry_kind : (symbols labels : List (List ℕ)) (flat : List Sym) (log : List Entry) (place : ℕ) (e : Entry) (s : Sentence) → slice_get log place ≡ Some e
-    → slice_get (sentences symbols labels flat log) place ≡ Some s → e.kind ≡ s.kind
+    → slice_get (sentences_by symbols labels flat log) place ≡ Some s → e.kind ≡ s.kind
 entry_kind symbols labels flat log place e s there said =
     let same : Some (sentence_by symbols labels flat e) ≡ Some s = sym (sentence_at symbols labels flat log place e there) ∙ said in
     let is : sentence_by symbols labels flat e ≡ s = cc in
@@ -113,8 +113,8 @@ frame_pairs st labels named log hs pairs id place s info part are frames there i
     (subst (λ (p : ℕ). ArePairs (at_place st p) (map (λ pair. (pair.0.0, pair.1.0)) (slice_range pairs info.pairs.start info.pairs.end))) same frame.are_pairs)
 
 -- a labelled statement's entry has its kind, which is one with a label
-pub entry_named : (symbols labels : List (List ℕ)) (flat : List Sym) (log : List Entry) (place : ℕ) (e : Entry) (s : Sentence) (l : List ℕ) → AllFormed (sentences symbols labels flat log)
-    → slice_get log place ≡ Some e → slice_get (sentences symbols labels flat log) place ≡ Some s → IsLabelled l s → (s.kind ≡ e.kind) × HasItsLabel e.kind (Some l)
+pub entry_named : (symbols labels : List (List ℕ)) (flat : List Sym) (log : List Entry) (place : ℕ) (e : Entry) (s : Sentence) (l : List ℕ) → AllFormed (sentences_by symbols labels flat log)
+    → slice_get log place ≡ Some e → slice_get (sentences_by symbols labels flat log) place ≡ Some s → IsLabelled l s → (s.kind ≡ e.kind) × HasItsLabel e.kind (Some l)
 entry_named symbols labels flat log place e s l formed there said named =
     let same = entry_kind symbols labels flat log place e s there said in
-    (sym same, subst (λ (k : Kind). HasItsLabel k (Some l)) (sym same) (named_kind (sentences symbols labels flat log) place s l formed said named))
+    (sym same, subst (λ (k : Kind). HasItsLabel k (Some l)) (sym same) (named_kind (sentences_by symbols labels flat log) place s l formed said named))

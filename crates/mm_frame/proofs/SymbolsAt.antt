@@ -6,7 +6,7 @@ use Rattle.mm_frame.specs.declared.number.Sym.{Sym}
 use Rattle.mm_frame.specs.declared.tables.Entry.{Entry}
 use Rattle.mm_frame.specs.Sentence.{Sentence, SomeSentence, Types}
 use Rattle.mm_frame.specs.Numbers.{symbols_of, AreNumbers}
-use Rattle.mm_frame.specs.Layout.{names_by, sentences, sentence_by, AreEntries, GivesType}
+use Rattle.mm_frame.specs.Layout.{names_by, sentences_by, sentence_by, AreEntries, GivesType}
 use Rattle.mm_frame.specs.Latest.{IsLatest}
 use Rattle.mm_frame.proofs.Entries.{sentence_at, entry_at, get_sliced}
 use Rattle.mm_frame.proofs.Pushed.{get_within}
@@ -23,13 +23,13 @@ numbers_of_names names (n ∷ numbers) within =
 
 -- the part of all symbols that an entry names has the numbers of its statement's symbols
 pub numbers_at : (symbols labels : List (List ℕ)) (flat : List Sym) (log : List Entry) (place : ℕ) (e : Entry) (s : Sentence) (part : List Sym)
-    → symbols ≡ symbols_of (sentences symbols labels flat log)
+    → symbols ≡ symbols_of (sentences_by symbols labels flat log)
     → AreEntries symbols labels flat log → slice_get log place ≡ Some e
     → (e.symbols.start ≤ e.symbols.end → e.symbols.end ≤ length flat → part ≡ slice_range flat e.symbols.start e.symbols.end)
-    → slice_get (sentences symbols labels flat log) place ≡ Some s
-    → AreNumbers (sentences symbols labels flat log) (map (λ n. n.0) part) s.symbols
+    → slice_get (sentences_by symbols labels flat log) place ≡ Some s
+    → AreNumbers (sentences_by symbols labels flat log) (map (λ n. n.0) part) s.symbols
 numbers_at symbols labels flat log place e s part all a there is said =
-    let st = sentences symbols labels flat log in
+    let st = sentences_by symbols labels flat log in
     let w = a.within place e there in
     let part_is : part ≡ slice_range flat e.symbols.start e.symbols.end = is w.ordered w.within in
     let same : Some (sentence_by symbols labels flat e) ≡ Some s = sym (sentence_at symbols labels flat log place e there) ∙ said in
@@ -74,7 +74,7 @@ no_first st numbers x p latest numbered first =
 
 -- there is an entry for each statement
 pub no_entry : (symbols labels : List (List ℕ)) (flat : List Sym) (log : List Entry) (place : ℕ) (s : Sentence)
-    → slice_get log place ≡ None → slice_get (sentences symbols labels flat log) place ≡ Some s → ⊥
+    → slice_get log place ≡ None → slice_get (sentences_by symbols labels flat log) place ≡ Some s → ⊥
 no_entry symbols labels flat log place s none said =
     let (e, there, is) = entry_at symbols labels flat log place s said in
     let bad : None ≡ Some e = sym none ∙ there in

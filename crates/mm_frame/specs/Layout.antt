@@ -39,11 +39,11 @@ sentence_by symbols labels flat e = record {
 }
 
 -- the statements that the lists hold
-unfoldable pub sentences : List (List ℕ) → List (List ℕ) → List Sym → List Entry → List Sentence
-sentences symbols labels flat log = map (sentence_by symbols labels flat) log
+unfoldable pub sentences_by : List (List ℕ) → List (List ℕ) → List Sym → List Entry → List Sentence
+sentences_by symbols labels flat log = map (sentence_by symbols labels flat) log
 
 abbrev pub statements_of : Tables → List Sentence
-statements_of t = sentences t.symbols.names t.labels.names t.flat.items t.log.items
+statements_of t = sentences_by t.symbols.names t.labels.names t.flat.items t.log.items
 
 abbrev pub database_of : Tables → Database
 database_of t = record { statements = statements_of t; bytes = t.bytes }

@@ -10,7 +10,7 @@ use Rattle.memchr.specs.Find.{Nowhere, Passes, is_byte}
 use Rattle.mm_text.specs.declared.fault.TextRule.TheVariants.{X1, X2, X3, X4}
 use Rattle.mm_text.specs.Token.{PlainToken, is_space, is_printable, with_byte, tokens_from}
 use Rattle.mm_text.specs.Items.{Clear, Broken, without_comments, spells, holds_mark}
-use Rattle.mm_text.specs.Mirror.Place.{is_legal, is_quiet, IsLegalFront, IsJudged, IsSameFile, IsLater, comment_at, shown_at}
+use Rattle.mm_text.specs.Mirror.Place.{is_legal, is_quiet, IsLegalFront, IsLegalUpTo, IsSameFile, IsLater, comment_at, shown_at}
 use Rattle.std.specs.Cmp.Lexicographic.{bytes_decides}
 use Rattle.mm_text.proofs.LegalLaws.{all_from_places}
 use Rattle.mm_text.specs.declared.comments.Place.{Place}
@@ -306,7 +306,7 @@ pub below_more_from : (P : ℕ → Type 0) (low i : ℕ) → ((k : ℕ) → low 
 below_more_from P low i below here k from lt = ⊎_elim (λ (less : k < i). below k from less) (λ (e : i ≤ k). subst P (omega arith) here) (order k i)
 
 -- a byte that may not stand there isn't skipped as white space
-pub skipped_legal : (bytes : List ℕ) (legal at start stop : ℕ) → IsJudged bytes legal stop → at ≤ legal → start < stop → ((k : ℕ) → at ≤ k → k < start → is_space (get_or bytes k 0) ≡ true) → start ≤ legal
+pub skipped_legal : (bytes : List ℕ) (legal at start stop : ℕ) → IsLegalUpTo bytes legal stop → at ≤ legal → start < stop → ((k : ℕ) → at ≤ k → k < start → is_space (get_or bytes k 0) ≡ true) → start ≤ legal
 skipped_legal bytes legal at start stop judged from within space =
     ⊎_elim (λ (less : legal < start).
     absurd (both_ways _ (judged.stops (omega arith)) (or_right (is_printable (get_or bytes legal 0)) (is_space (get_or bytes legal 0)) (space legal from less))))

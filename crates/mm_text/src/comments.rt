@@ -4,8 +4,9 @@ ghost use Rattle.std.specs.Prelude.{◌≡◌, ℕ, ◌==◌, ◌&&◌, ◌||◌
 ghost use Rattle.std.specs.Prelude.{slice_index, slice_range};
 ghost use Rattle.mm_text.specs.Token.{plain_token, is_space};
 ghost use Rattle.mm_text.specs.Items.{holds_mark, spells};
-ghost use Rattle.mm_text.specs.Mirror.Place.{is_quiet, IsLegalFront, IsJudged, IsPlace, IsSameFile};
-ghost use Rattle.mm_text.specs.Mirror.Place.{GoesOn, EndsComment, TakesOne, TakesShown, shown_at};
+ghost use Rattle.mm_text.specs.Mirror.Place.{is_quiet, IsLegalFront, IsLegalUpTo, IsPlace};
+ghost use Rattle.mm_text.specs.Mirror.Place.{IsSameFile, GoesOn, EndsComment, TakesOne};
+ghost use Rattle.mm_text.specs.Mirror.Place.{TakesShown, shown_at};
 
 use crate::fault::TextRule;
 use crate::scan::{legal_end, skip_space, token_end, token_start};
@@ -76,7 +77,7 @@ fn legal_front(bytes: &[u8], legal: usize, wanted: usize) -> usize
     requires front { IsLegalFront bytes.now legal }
     requires within { wanted ≤ length bytes.now }
     ensures from { legal ≤ result }
-    ensures judged { IsJudged bytes.now result wanted }
+    ensures judged { IsLegalUpTo bytes.now result wanted }
 {
     if legal < wanted {
         return legal_end(bytes, legal, wanted);

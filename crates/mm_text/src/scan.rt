@@ -4,7 +4,7 @@ ghost use Rattle.std.specs.Prelude.{◌≡◌, ℕ, ◌<◌, ◌≤◌, ◌+◌,
 ghost use Rattle.std.specs.Prelude.{slice_index, slice_range};
 ghost use Rattle.std.specs.List.{list_all};
 ghost use Rattle.mm_text.specs.Token.{is_space, tokens_from};
-ghost use Rattle.mm_text.specs.Mirror.Place.{is_legal, IsLegalFront, IsJudged};
+ghost use Rattle.mm_text.specs.Mirror.Place.{is_legal, IsLegalFront, IsLegalUpTo};
 
 /// Whether a byte is white space.
 fn is_space(byte: u8) -> bool
@@ -140,7 +140,7 @@ fn legal_up_to(bytes: &[u8], start: usize, wanted: usize) -> usize
     requires front { IsLegalFront bytes.now start }
     requires within { wanted ≤ length bytes.now }
     ensures from { start ≤ result }
-    ensures judged { IsJudged bytes.now result wanted }
+    ensures judged { IsLegalUpTo bytes.now result wanted }
 {
     let end = legal_blocks(bytes, start, wanted);
     for at in end..wanted {
@@ -161,7 +161,7 @@ pub fn legal_end(bytes: &[u8], start: usize, wanted: usize) -> usize
     requires front { IsLegalFront bytes.now start }
     requires within { wanted ≤ length bytes.now }
     ensures from { start ≤ result }
-    ensures judged { IsJudged bytes.now result wanted }
+    ensures judged { IsLegalUpTo bytes.now result wanted }
 {
     let further = AHEAD.min(bytes.len() - wanted);
     legal_up_to(bytes, start, wanted + further)

@@ -28,7 +28,7 @@ pub record IsLegalFront (bytes : List ℕ) (stop : ℕ) : Type 0 where
 
 -- the bytes up to a place may stand in a file, and the next may not, where another place is wanted
 -- that is further on
-pub record IsJudged (bytes : List ℕ) (stop wanted : ℕ) : Type 0 where
+pub record IsLegalUpTo (bytes : List ℕ) (stop wanted : ℕ) : Type 0 where
   pub front : IsLegalFront bytes stop
   pub stops : stop < wanted → is_legal (slice_index bytes stop) ≡ false
 
