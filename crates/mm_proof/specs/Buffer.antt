@@ -1,5 +1,5 @@
 -- Entries of a flat store: ranges of its buffer.
-use Rattle.std.specs.Prelude.{◌≡◌, ℕ, ◌<◌, ◌≤◌, List, map, slice_get, slice_range, Some}
+use Rattle.std.specs.Prelude.{◌≡◌, ℕ, ◌≤◌, List, map, slice_get, slice_range, Some}
 use Rattle.mm_frame.specs.declared.number.Sym.{Sym}
 use Rattle.mm_proof.specs.declared.flat.Entry.{Entry}
 use Rattle.mm_proof.specs.Stores.{numbers_in}
@@ -16,9 +16,3 @@ pub record IsPart (place : ℕ) (e : Entry) : Type 0 where
 -- each of the entries is
 abbrev pub AreParts : ℕ → List Entry → Type 0
 AreParts place entries = (i : ℕ) (e : Entry) → slice_get entries i ≡ Some e → IsPart place e
-
--- An entry that ends above the floor stands in what the buffer held when any later entry came.
-abbrev pub AreSeparateParts : ℕ → List Entry → Type 0
-AreSeparateParts floor entries =
-    (i j : ℕ) (a b : Entry) → i < j → slice_get entries i ≡ Some a → slice_get entries j ≡ Some b
-    → floor < a.end → a.end ≤ b.before

@@ -1,7 +1,7 @@
 //! A store that has one buffer for the symbols of all its expressions.
 
-ghost use Rattle.std.specs.Prelude.{◌≡◌, List, [], ◌++◌, ◌≤◌, length, take, OnOk};
-ghost use Rattle.mm_proof.specs.Buffer.{AreParts, AreSeparateParts};
+ghost use Rattle.std.specs.Prelude.{◌≡◌, ◌≤◌, ℕ, List, [], ◌++◌, length, OnOk};
+ghost use Rattle.mm_proof.specs.Buffer.{AreParts};
 
 use crate::store::Store;
 use mm_frame::Sym;
@@ -12,24 +12,26 @@ use std::alloc::{AllocError, Global};
 pub(crate) struct Entry {
     pub(crate) start: usize,
     pub(crate) end: usize,
-    /// How long the buffer was before the entry came.
-    pub(crate) before: usize,
 }
+
+// The buffer is so long, at least, when its end is cut off for the first time.
+const FIRST_CUT: usize = 1 << 22;
 
 /// A store that has one buffer for the symbols of all its expressions.
 ///
 /// An entry of the stack or of the kept ones is a range of the buffer. A copy shares its range, so
-/// that no symbol is copied. What is kept stands below the floor, where nothing is ever cut off.
+/// that no symbol is copied. What no entry names any more stays in the buffer, as nearly all proofs
+/// end before it is long; where it has become twice as long as what was needed of it, its end is
+/// cut off.
 #[derive(Drop)]
 pub struct Flat {
     symbols: Vec<Sym>,
     stack: Vec<Entry>,
     kept: Vec<Entry>,
-    floor: usize,
+    /// How long the buffer is when its end is cut off next.
+    next_cut: usize,
     ghost stacked: { AreParts (length symbols.items) stack.items },
-    ghost saved: { AreParts floor kept.items },
-    ghost grounded: { floor ≤ length symbols.items },
-    ghost ordered: { AreSeparateParts floor stack.items },
+    ghost saved: { AreParts (length symbols.items) kept.items },
 }
 
 impl Flat {
@@ -42,7 +44,7 @@ impl Flat {
             symbols: Vec::new(alloc),
             stack: Vec::new(alloc),
             kept: Vec::new(alloc),
-            floor: 0,
+            next_cut: FIRST_CUT,
         }
     }
 
@@ -54,7 +56,19 @@ impl Flat {
         self.symbols.clear();
         self.stack.clear();
         self.kept.clear();
-        self.floor = 0;
+        self.next_cut = FIRST_CUT;
+    }
+
+    // Cuts off the end of the buffer, which no entry names. It is a call, since it is rare.
+    #[cold]
+    #[inline(never)]
+    fn cut(&mut self)
+        ensures stack { ⟦<Flat as Store>⟧.stack self.new ≡ ⟦<Flat as Store>⟧.stack self.old }
+        ensures kept { ⟦<Flat as Store>⟧.kept self.new ≡ ⟦<Flat as Store>⟧.kept self.old }
+    {
+        let needed = needed_length(&self.stack).max(needed_length(&self.kept));
+        self.symbols.truncate(needed);
+        self.next_cut = FIRST_CUT.max(needed.saturating_mul(2));
     }
 }
 
@@ -79,17 +93,17 @@ fn append(symbols: &mut Vec<Sym>, expression: &[Sym]) -> Result<(), AllocError>
     }
 }
 
-// How much of the buffer the first entries of the stack and the kept ones need.
-fn needed_length(stack: &[Entry], left: usize, floor: usize, used: usize) -> usize
-    requires within { AreParts used stack.now }
-    requires apart { AreSeparateParts floor stack.now }
-    ensures floor { floor ≤ result }
-    ensures stack { AreParts result (take left stack.now) }
+// How much of the buffer the entries need.
+fn needed_length(entries: &[Entry]) -> usize
+    requires { (used : ℕ) × AreParts used entries.now }
+    ensures needed { AreParts result entries.now }
+    ensures least { (used : ℕ) → AreParts used entries.now → result ≤ used }
 {
-    match stack.get(left) {
-        Some(first) => floor.max(first.before),
-        None => floor.max(used),
+    let mut needed = 0;
+    for entry in entries {
+        needed = needed.max(entry.end);
     }
+    needed
 }
 
 impl Store for Flat {
@@ -115,7 +129,6 @@ impl Store for Flat {
         let entry = Entry {
             start,
             end: self.symbols.len(),
-            before: start,
         };
         self.stack.push(entry)?;
         Ok(())
@@ -124,25 +137,19 @@ impl Store for Flat {
     fn keep(&mut self) -> Result<(), AllocError> {
         let last = self.stack[self.stack.len() - 1];
         self.kept.push(last)?;
-        self.floor = self.floor.max(last.end);
         Ok(())
     }
 
     fn push_copy(&mut self, place: usize) -> Result<(), AllocError> {
         let copied = self.kept[place];
-        let entry = Entry {
-            start: copied.start,
-            end: copied.end,
-            before: self.symbols.len(),
-        };
-        self.stack.push(entry)?;
+        self.stack.push(copied)?;
         Ok(())
     }
 
     fn drop_last(&mut self, count: usize) {
-        let left = self.stack.len() - count;
-        let used = needed_length(&self.stack, left, self.floor, self.symbols.len());
-        self.symbols.truncate(used);
-        self.stack.truncate(left);
+        self.stack.truncate(self.stack.len() - count);
+        if self.symbols.len() >= self.next_cut {
+            self.cut();
+        }
     }
 }

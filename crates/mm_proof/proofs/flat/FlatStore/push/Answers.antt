@@ -1,6 +1,6 @@
 use Rattle.std.proofs.Common.{arith, ap, length}
 use Rattle.std.proofs.lemmas.Result.{err_from_is_err_and}
-use Rattle.mm_proof.proofs.Parts.{parts-grow, parts-push, within-later}
+use Rattle.mm_proof.proofs.Parts.{parts-grow, parts-push}
 use Rattle.mm_proof.proofs.flat.FlatStore.push.Goals as goal
 
 pub returns-in_err-push-clause-refused : goal.returns-in_err-push-clause-refused
@@ -10,7 +10,7 @@ returns-in_err-push-clause-refused c =
 
 pub returns-in_err-push-clause-kept : goal.returns-in_err-push-clause-kept
 returns-in_err-push-clause-kept c =
-    rw c.in_ok-append.ensures.appended (parts-grow _ _ _ (within-later _ _ _ c.args.self.now.grounded c.args.self.now.saved))
+    rw c.in_ok-append.ensures.appended (parts-grow _ _ _ c.args.self.now.saved)
 
 pub returns-clause-pushed : goal.returns-clause-pushed
 returns-clause-pushed c =
@@ -19,7 +19,7 @@ returns-clause-pushed c =
 
 pub returns-clause-kept : goal.returns-clause-kept
 returns-clause-kept c =
-    rw c.in_ok-append.ensures.appended (parts-grow _ _ _ (within-later _ _ _ c.args.self.now.grounded c.args.self.now.saved))
+    rw c.in_ok-append.ensures.appended (parts-grow _ _ _ c.args.self.now.saved)
 
 pub returns-in_err-append-clause-refused : goal.returns-in_err-append-clause-refused
 returns-in_err-append-clause-refused c =
@@ -28,4 +28,4 @@ returns-in_err-append-clause-refused c =
 
 pub returns-in_err-append-clause-kept : goal.returns-in_err-append-clause-kept
 returns-in_err-append-clause-kept c =
-    rw c.append.ensures.grown.1 (parts-grow _ _ _ (within-later _ _ _ c.args.self.now.grounded c.args.self.now.saved))
+    rw c.append.ensures.grown.1 (parts-grow _ _ _ c.args.self.now.saved)
