@@ -54,7 +54,7 @@ fn mandatory_unsorted(tables: &Tables, expression: &[Sym]) -> Result<Vec<usize>,
         → IfOk result (λ places. AreGathered
         (statements_of tables.now) tables.now.essentials.items s places.items) }
 {
-    let mut places = Vec::new(tables.alloc);
+    let mut places = Vec::with_capacity(tables.alloc, expression.len())?;
     add_floating(tables, expression, &mut places)?;
     for place in &tables.essentials {
         places.push(*place)?;
@@ -96,7 +96,7 @@ pub(crate) fn hypotheses_at(
         → IfOk result (λ hypotheses. AreThoseAt
         (statements_of tables.now) places.now hypotheses.items) }
 {
-    let mut hypotheses = Vec::new(tables.alloc);
+    let mut hypotheses = Vec::with_capacity(tables.alloc, places.len())?;
     for place in places {
         match label_at(tables, *place) {
             Some(id) => hypotheses.push(Hypothesis {
@@ -116,7 +116,7 @@ fn typed_by(tables: &Tables, places: &[usize]) -> Result<Vec<Sym>, AllocError>
         → IfOk result (λ variables.
         AreVariables (statements_of tables.now) places.now variables.items) }
 {
-    let mut variables = Vec::new(tables.alloc);
+    let mut variables = Vec::with_capacity(tables.alloc, places.len())?;
     for place in places {
         match tables.floating_variable(*place) {
             Some(variable) => variables.push(variable)?,
