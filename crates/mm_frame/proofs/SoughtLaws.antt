@@ -1,5 +1,5 @@
 -- Symbols that were looked up: what is said of their numbers is said of them.
-use Rattle.std.proofs.Common.{◌≡◌, ◌↔◌, IsTrue, ℕ, suc, ◌+◌, ◌<◌, ◌⊎◌, inl, inr, Bool, true, false, is_some, length, take, get_or, List, [], ◌∷◌, ◌++◌, map, Contains, Option, Some, None, refl, sym, ap, ◌∙◌, subst, length-append, arith}
+use Rattle.std.proofs.Common.{◌≡◌, ◌↔◌, IsTrue, ℕ, suc, ◌+◌, ◌<◌, inl, inr, Bool, true, false, length, take, get_or, List, [], ◌∷◌, ◌++◌, map, Contains, Option, Some, None, refl, sym, ap, ◌∙◌, subst, length-append, arith}
 use Rattle.std.specs.List.{slice_get, FoldsTo}
 use Rattle.std.specs.Option.{MatchOption}
 use Rattle.std.specs.Iterator.{YieldsThen}
@@ -7,13 +7,11 @@ use Rattle.std.specs.Fn.{Called}
 use denote.Param.Members.{Mut}
 use Rattle.std.proofs.lemmas.Option.{slice_get_within, slice_get_cases}
 use Rattle.std.proofs.lemmas.Iterator.{YieldsList}
-use Rattle.std.proofs.lemmas.List.{length-map}
 use Rattle.mm_text.specs.declared.token.Token.{Token}
-use Rattle.mm_text.specs.declared.statement.Statement.{Statement}
 use Rattle.mm_text.specs.declared.statement.Kind.TheVariants.{Variables}
 use Rattle.mm_frame.specs.declared.number.Sym.{Sym}
 use Rattle.mm_frame.specs.declared.tables.SymbolInfo.{SymbolInfo}
-use Rattle.mm_frame.specs.Sentence.{Sentence, sentence_in, Declares, IsUse}
+use Rattle.mm_frame.specs.Sentence.{Sentence, Declares, IsUse}
 use Rattle.mm_frame.specs.Active.{SomeActive, IsConstant, IsVariable, IsActiveSymbol, IsTyped}
 use Rattle.mm_frame.specs.Rules.{AllMeant, IsMeant}
 use Rattle.mm_frame.specs.Numbers.{symbols_of, IsNumberOf, AreNumbers}

@@ -1,5 +1,5 @@
 -- Statements that used symbols, and what they say by numbers.
-use Rattle.std.proofs.Common.{◌≡◌, ℕ, suc, ◌+◌, ◌<◌, ◌≤◌, inl, inr, length, take, get_or, List, [], ◌∷◌, ◌++◌, map, Contains, Option, Some, None, Result, refl, sym, ap, ◌∙◌, subst, arith}
+use Rattle.std.proofs.Common.{◌≡◌, ℕ, ◌+◌, ◌≤◌, inl, inr, length, List, map, Option, Some, None, Result, refl, sym, ap, ◌∙◌, subst, arith}
 use Rattle.std.specs.List.{slice_get}
 use Rattle.std.specs.Option.{option_map}
 use Rattle.std.specs.Result.{IfOk}
@@ -18,16 +18,11 @@ use Rattle.mm_frame.specs.declared.tables.Tables.{Tables}
 use Rattle.mm_frame.specs.Sentence.{Sentence, sentence_of, sentence_in, IsUse}
 use Rattle.mm_frame.specs.Rules.{IsMeant}
 use Rattle.mm_frame.specs.Form.{HasItsLabel, IsFormedSentence}
-use Rattle.mm_frame.specs.Numbers.{symbols_of, AreNumbers, IsNumberOf}
-use Rattle.mm_frame.specs.Layout.{IsDeclared, statements_of}
+use Rattle.mm_frame.specs.Numbers.{symbols_of, AreNumbers}
+use Rattle.mm_frame.specs.Layout.{statements_of}
 use Rattle.mm_frame.specs.Taken.{TakenAs}
 use Rattle.mm_frame.specs.Grows.{Grows}
 use Rattle.mm_frame.proofs.Declared.{bytes_enough}
-use Rattle.mm_frame.proofs.NameLists.{map_snoc}
-use Rattle.mm_frame.proofs.Needed.{used_declared}
-use Rattle.mm_frame.proofs.Pushed.{take_next}
-use Rattle.mm_frame.proofs.RepeatsCode.{texts_of, text_at}
-use Rattle.mm_frame.proofs.Symbols.{texts}
 
 -- there are as many numbers as symbols
 pub numbers_length : (st : List Sentence) (numbers : List Sym) (symbols : List (List ℕ)) → AreNumbers st (map (λ n. n.0) numbers) symbols → length numbers ≡ length symbols

@@ -1,7 +1,7 @@
 //! The rules of meaning: which a statement breaks after the statements before it.
 
 ghost use Rattle.std.specs.Prelude.{◌≡◌, ◌↔◌, ◌<◌, ℕ, List, ◌∷◌, IsTrue, IfOk, OnOk, MatchOption};
-ghost use Rattle.std.specs.Prelude.{length, map, vec_len};
+ghost use Rattle.std.specs.Prelude.{length, map, vec_len, slice_get, Contains, Some};
 ghost use Rattle.mm_frame.specs.declared.rule.MeaningRule.TheVariants.{M1, M2, M3, M4, M5, M6, M7};
 ghost use Rattle.mm_frame.specs.declared.rule.MeaningRule.TheVariants.{M8, M9, M10, M11, M12, M13};
 ghost use Rattle.mm_frame.specs.declared.rule.MeaningRule.TheVariants.{M14, M15};
@@ -268,12 +268,46 @@ fn is_list(kind: Kind) -> bool
     kind == Kind::Constants || kind == Kind::Variables || kind == Kind::Distinct
 }
 
+// The place of a text among those of some tokens.
+fn place_among(tokens: &[Token], text: &[u8]) -> Option<usize>
+    ensures { MatchOption
+        result
+        (¬ (Contains (map (λ token. token.text.now) tokens.now) text.now))
+        (λ place. slice_get (map (λ token. token.text.now) tokens.now) place ≡ Some text.now) }
+{
+    for (place, token) in tokens.iter().enumerate() {
+        if token.text == text {
+            return Some(place);
+        }
+    }
+    None
+}
+
+// Whether a symbol stands twice: each is compared with all before it.
+fn has_repeats_among_few(symbols: &[Token]) -> bool
+    ensures { IsTrue result
+        ↔ ((symbol : List ℕ) × StandsTwice (map (λ token. token.text.now) symbols.now) symbol) }
+{
+    for (at, token) in symbols.iter().enumerate() {
+        if place_among(&symbols[..at], token.text).is_some() {
+            return true;
+        }
+    }
+    false
+}
+
+// So many symbols are compared with each other sooner than they are put into a table.
+const FEW: usize = 8;
+
 // Whether a symbol stands twice.
 fn has_repeats(alloc: Global, symbols: &[Token]) -> Result<bool, AllocError>
     requires { length symbols.now < 2147483648 }
     ensures { IfOk result (λ repeats. IsTrue repeats
         ↔ ((symbol : List ℕ) × StandsTwice (map (λ token. token.text.now) symbols.now) symbol)) }
 {
+    if symbols.len() <= FEW {
+        return Ok(has_repeats_among_few(symbols));
+    }
     let mut seen = Names::new(alloc);
     seen.reserve(symbols.len())?;
     for token in symbols {
