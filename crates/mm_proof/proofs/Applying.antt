@@ -34,7 +34,7 @@ use Rattle.mm_proof.proofs.Replacements.{replaced_by, meets_of}
 use Rattle.mm_proof.proofs.Replacing.{replaces_by, replaced_named}
 use Rattle.mm_proof.proofs.Named.{name_is, named_is, below_is}
 use Rattle.mm_proof.proofs.Shared.{value_symbols, symbols_below}
-use Rattle.mm_proof.proofs.ByNumber.{share_turned, apart_turned}
+use Rattle.mm_proof.proofs.ByNumber.{share_turned, distinct_share_none, apart_turned}
 use Rattle.mm_proof.proofs.Firsts.{EachPair, first_P8, first_P9, first_P10, first_P11, first_P12, first_L1, step_of_meets, step_of_hypothesis}
 use Rattle.mm_proof.proofs.Forward.{passed_name}
 
@@ -192,10 +192,10 @@ step_to : OneNumber → (st : List Sentence) (place id at : ℕ) (label : List �
 step_to one st place id at label stack base vs all ready as_many move =
     let paired = as_many ∙ typed_count st vs ready.hs ready.typed in
     let r = replaces_by one st vs ready.hs (drop base stack) ready.typed in
+    let apart = each_pair one st place id at ready.ids ready.hs label stack base vs ready.pairs (AreDistinct (take place st)) (apart_turned (take place st)) all ready.called move paired ready.typed ready.mandatory ready.matched.apart in
     step_of_meets (take place st) (all_names_at st stack) label (met st place id at ready.ids ready.hs label stack base all ready.called move paired)
     ready.matched.codes (ready.matched.equal (replaced_by ready.hs (all_names_at st (drop base stack))) r)
-    (each_pair one st place id at ready.ids ready.hs label stack base vs ready.pairs (ShareNoVariable (take place st)) (share_turned (take place st)) all ready.called move paired ready.typed ready.mandatory ready.matched.share)
-    (each_pair one st place id at ready.ids ready.hs label stack base vs ready.pairs (AreDistinct (take place st)) (apart_turned (take place st)) all ready.called move paired ready.typed ready.mandatory ready.matched.apart)
+    (λ x y e f pair at_x at_y. distinct_share_none (take place st) e f (apart x y e f pair at_x at_y)) apart
 
 pub stops_L1 : OneNumber → (st : List Sentence) (place id at : ℕ) (stack : List (List ℕ)) (base : ℕ) (vs : List (Option ℕ)) (pattern : List ℕ) → AllMeant st
     → IsReady st place id at vs (drop base stack) → length (drop base stack) ≡ length vs → AreItsSymbols (record { statements = st; place = at }) pattern

@@ -139,6 +139,10 @@ differ_by_number P nm before stack label m variables patterns entries τ all b p
 pub share_turned : (before : List Sentence) (e f : List (List ℕ)) → ShareNoVariable before e f → ShareNoVariable before f e
 share_turned before e f h u v a b = h u v b a
 
+-- expressions that are distinct share no variable: none is an active pair with itself
+pub distinct_share_none : (before : List Sentence) (e f : List (List ℕ)) → AreDistinct before e f → ShareNoVariable before e f
+distinct_share_none before e f distinct u variable in_e in_f = (distinct u u variable variable in_e in_f).0 refl
+
 pub distinct_turned : (before : List Sentence) (x y : List ℕ) → IsDistinct before x y → IsDistinct before y x
 distinct_turned before x y d = (λ e. d.0 (sym e), (d.1.0, d.1.1, d.1.2, d.1.3, (d.1.4.0, d.1.4.2, d.1.4.1)))
 

@@ -4,7 +4,7 @@ use Rattle.mm_frame.specs.Sentence.{Sentence, IsAssertion}
 use Rattle.mm_frame.specs.Frame.{AreMandatory}
 use Rattle.mm_frame.specs.Numbers.{IsNumbered}
 use Rattle.mm_frame.specs.FramePlace.{ArePairs}
-use Rattle.mm_proof.specs.Tree.{ShareNoVariable, AreDistinct}
+use Rattle.mm_proof.specs.Tree.{AreDistinct}
 use Rattle.mm_proof.specs.CodeVerify.{names_at, all_names_at, value_of, IsRightCode, IsEqual}
 use Rattle.mm_proof.specs.CodeVerify.{EachEntry}
 use Rattle.mm_proof.specs.CodeVerify.{Replaces, EachPairValues, AreHypothesesOf, AreVariablesOf}
@@ -26,9 +26,6 @@ pub record IsMatched (statements : List Sentence) (place : ℕ) (hs : List Sente
   pub codes : EachEntry hs (all_names_at statements entries) IsRightCode
   pub equal : (σ : List ℕ → Option (List (List ℕ))) → Replaces statements σ variables entries
       → EachEntry hs (all_names_at statements entries) (IsEqual σ)
-  pub share : EachPairValues (value_of variables entries) pairs
-      (λ e f. ShareNoVariable (take place statements) (names_at statements e)
-      (names_at statements f))
   pub apart : EachPairValues (value_of variables entries) pairs
       (λ e f. AreDistinct (take place statements) (names_at statements e) (names_at statements f))
 

@@ -76,13 +76,15 @@ fn rule_broken<S: Store>(
     if !are_equal(store, base, variables, book, hypotheses) {
         return Some(ProofRule::P10);
     }
+    // What is apart shares nothing, so that where all is well one question is enough. Where some pair
+    // isn't apart, P12 is broken; but P11 comes before it, and so is asked before P12 is answered.
+    if are_apart_pairs(store, base, variables, book, own, pairs) {
+        return None;
+    }
     if has_shared_pair(store, base, variables, book, own, pairs) {
         return Some(ProofRule::P11);
     }
-    if !are_apart_pairs(store, base, variables, book, own, pairs) {
-        return Some(ProofRule::P12);
-    }
-    None
+    Some(ProofRule::P12)
 }
 
 // What the assertion says of the entries from the base on takes their place, if it is within the

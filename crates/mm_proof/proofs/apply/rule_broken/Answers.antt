@@ -32,8 +32,8 @@ returns-then-has_shared_pair g c id at hs called typed mandatory codes =
     codes (c.if-not-are_equal.ensures (replaced_by hs (all_names_at st (drop c.args.base stack))) r hs called.known typed)
     c.if-has_shared_pair.ensures
 
-pub returns-then-not-are_apart_pairs : goal.returns-then-not-are_apart_pairs
-returns-then-not-are_apart_pairs g c id at hs called typed mandatory codes =
+pub returns : goal.returns
+returns g c id at hs called typed mandatory codes =
     let st = c.args.book.now.statements in
     let stack = g.S.Store.stack c.args.store.now in
     let paired : length (drop c.args.base stack) ≡ length hs =
@@ -41,4 +41,4 @@ returns-then-not-are_apart_pairs g c id at hs called typed mandatory codes =
     let r = replaces_by c.one_number.ensures st (variables_in c.args.variables.now.list.items) hs (drop c.args.base stack) typed in
     stops_P12 c.one_number.ensures st c.args.own.now.place id at _ hs stack c.args.base (variables_in c.args.variables.now.list.items) (pairs_in c.args.pairs.now) c.requires.sound.0 called paired typed mandatory
     codes (c.if-not-are_equal.ensures (replaced_by hs (all_names_at st (drop c.args.base stack))) r hs called.known typed)
-    c.if-has_shared_pair.ensures c.if-not-are_apart_pairs.ensures
+    c.if-has_shared_pair.ensures c.if-are_apart_pairs.ensures
