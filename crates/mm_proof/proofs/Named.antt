@@ -1,5 +1,5 @@
 -- Symbols by their numbers, and what is said of their names.
-use Rattle.std.proofs.Common.{◌≡◌, ◌↔◌, ℕ, zero, suc, ◌+◌, ◌<◌, List, [], ◌∷◌, ◌++◌, length, map, take, drop, get_or, slice_get, true, is_some, Option, option_map, Some, None, inl, inr, refl, sym, ap, subst, ◌∙◌, arith}
+use Rattle.std.proofs.Common.{◌≡◌, ◌↔◌, ℕ, zero, suc, ◌+◌, ◌<◌, List, [], ◌∷◌, ◌++◌, length, map, take, drop, get_or, slice_get, true, false, is_some, Option, option_map, Some, None, inl, inr, refl, sym, ap, subst, ◌∙◌, arith}
 use Rattle.std.specs.List.{AllByRecursion, AllZip}
 use Rattle.std.proofs.lemmas.Option.{same_Some, none-some, slice_get_within, get_or_from_slice_get, slice_get-get_or, slice_get-map}
 use Rattle.std.proofs.lemmas.Bool.{false≢true, cases_lt}
@@ -94,10 +94,6 @@ hypothesis_at st (id ∷ ids) (h ∷ hs) (suc i) d are less =
     let rest : AreHypothesesOf st (label_ids ids) hs = cc in
     hypothesis_at st ids hs i d rest (omega arith)
 
-pub id_below : (st : List Sentence) (ids : List Hypothesis) (hs : List Sentence) (i : ℕ) (d : Hypothesis) → AreHypothesesOf st (label_ids ids) hs → i < length ids
-    → (get_or ids i d).id.0 < length (labelled_sentences st)
-id_below st ids hs i d are less = let h = hypothesis_at st ids hs i d are less in slice_get_within (labelled_sentences st) (get_or ids i d).id.0 h.0 h.2
-
 -- what stands with its number is the hypothesis' typing
 pub typing_at : (st : List Sentence) (xs : List Hypothesis) (i : ℕ) (d : Hypothesis) (h : Sentence) → HaveTypings st xs → i < length xs
     → slice_get (labelled_sentences st) (get_or xs i d).id.0 ≡ Some h → IsTypingOf st (get_or xs i d).typing h
@@ -127,19 +123,24 @@ entry_at st stack base i e at =
 pub entry_below : (st : List Sentence) (stack : List (List ℕ)) (base i : ℕ) (e : List ℕ) → AllByRecursion (AreBelow st) (drop base stack) → slice_get stack (base + i) ≡ Some e → AreBelow st e
 entry_below st stack base i e all at = all_get (AreBelow st) (drop base stack) i e all (drop_get stack base i ∙ at)
 
--- one entry more
+-- one entry more, of which this holds if it is there
+pub each_next : (hs : List Sentence) (entries : List (List (List ℕ))) (P : Sentence → List (List ℕ) → Type 0) (n : ℕ) (h : Sentence) → slice_get hs n ≡ Some h
+    → ((entry : List (List ℕ)) → slice_get entries n ≡ Some entry → P h entry)
+    → ((i : ℕ) (g : Sentence) (entry : List (List ℕ)) → i < n → slice_get hs i ≡ Some g → slice_get entries i ≡ Some entry → P g entry)
+    → (i : ℕ) (g : Sentence) (entry : List (List ℕ)) → i < n + 1 → slice_get hs i ≡ Some g → slice_get entries i ≡ Some entry → P g entry
+each_next hs entries P n h at_h here below i g entry less p q = elim (cases_lt i n) [
+  | inl l ↦ below i g entry l p q
+  | inr m ↦
+      let same : i ≡ n = omega arith in
+      subst (λ x. P x entry) (same_Some h g (sym at_h ∙ ap (slice_get hs) (sym same) ∙ p)) (here entry (ap (slice_get entries) (sym same) ∙ q))
+]
+
+-- the entry is this one
 pub each_more : (hs : List Sentence) (entries : List (List (List ℕ))) (P : Sentence → List (List ℕ) → Type 0) (n : ℕ) (h : Sentence) (e : List (List ℕ))
     → slice_get hs n ≡ Some h → slice_get entries n ≡ Some e → P h e
     → ((i : ℕ) (g : Sentence) (entry : List (List ℕ)) → i < n → slice_get hs i ≡ Some g → slice_get entries i ≡ Some entry → P g entry)
     → (i : ℕ) (g : Sentence) (entry : List (List ℕ)) → i < n + 1 → slice_get hs i ≡ Some g → slice_get entries i ≡ Some entry → P g entry
-each_more hs entries P n h e at_h at_e here below i g entry less p q = elim (cases_lt i n) [
-  | inl l ↦ below i g entry l p q
-  | inr m ↦
-      let same : i ≡ n = omega arith in
-      let one = same_Some h g (sym at_h ∙ ap (slice_get hs) (sym same) ∙ p) in
-      let two = same_Some e entry (sym at_e ∙ ap (slice_get entries) (sym same) ∙ q) in
-      subst (λ x. P x entry) one (subst (P h) two here)
-]
+each_more hs entries P n h e at_h at_e here = each_next hs entries P n h at_h (λ entry at. subst (P h) (same_Some e entry (sym at_e ∙ at)) here)
 
 pub as_many : (st : List Sentence) (ids : List Hypothesis) (hs : List Sentence) → AreHypothesesOf st (label_ids ids) hs → length hs ≡ length ids
 as_many st [] [] are = refl
@@ -160,3 +161,13 @@ variable_typed st (v ∷ vs) (g ∷ hs) (suc i) h all at = variable_typed st vs 
 pub floating_equal : (st : List Sentence) (σ : List ℕ → Option (List (List ℕ))) (h : Sentence) (entry : List (List ℕ)) (v : Option ℕ) → is_some v ≡ true → IsVariableOf st v h → IsEqual σ h entry
 floating_equal st σ h entry None is typed = absurd (false≢true is)
 floating_equal st σ h entry (Some n) is typed = λ essential. absurd (let both : Floating ≡ Essential = sym typed.2.0 ∙ essential in cc)
+
+-- nor of a hypothesis that has a typing
+pub typed_equal : (st : List Sentence) (σ : List ℕ → Option (List (List ℕ))) (h : Sentence) (entry : List (List ℕ)) (typing : Option (Sym × Sym)) → is_some typing ≡ true → IsTypingOf st typing h → IsEqual σ h entry
+typed_equal st σ h entry None is typed = absurd (false≢true is)
+typed_equal st σ h entry (Some pair) is typed = λ essential. absurd (let both : Floating ≡ Essential = sym typed.2.0 ∙ essential in cc)
+
+-- one that has none is a `$e`
+pub untyped_essential : (st : List Sentence) (h : Sentence) (typing : Option (Sym × Sym)) → is_some typing ≡ false → IsTypingOf st typing h → h.kind ≡ Essential
+untyped_essential st h None is typed = typed
+untyped_essential st h (Some pair) is typed = absurd (false≢true (sym is))

@@ -10,12 +10,6 @@ use Rattle.mm_frame.specs.declared.number.Sym.{Sym}
 use Rattle.mm_proof.specs.Stores.{numbers_in}
 use Rattle.mm_proof.specs.CodeVerify.{variables_in, is_of, value_of, replaced_in, IsNowhere, IsFirstAt}
 
-pub variable_at : (variables : List (Option Sym)) (k : ℕ) (d : Option Sym) → k < length variables
-    → get_or (variables_in variables) k None ≡ option_map (λ s. s.0) (get_or variables k d)
-variable_at [] k d less = absurd (omega arith)
-variable_at (v ∷ variables) zero d less = refl
-variable_at (v ∷ variables) (suc k) d less = variable_at variables k d (omega arith)
-
 -- past the end there is none
 pub nowhere_past : (n : ℕ) (variables : List (Option ℕ)) (k : ℕ) → length variables ≤ k → is_of n (get_or variables k None) ≡ false
 nowhere_past n [] k past = refl

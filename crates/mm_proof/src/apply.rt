@@ -5,9 +5,9 @@ ghost use Rattle.std.specs.Prelude.{slice_get, Some, Err, OnOk, MatchOption};
 ghost use Rattle.mm_frame.specs.Sentence.{Sentence, IsAssertion};
 ghost use Rattle.mm_frame.specs.Form.{IsSound};
 ghost use Rattle.mm_frame.specs.Numbers.{IsNumbered};
-ghost use Rattle.mm_frame.specs.FramePlace.{ArePairs};
+ghost use Rattle.mm_frame.specs.FramePlace.{ArePairs, HaveTypings};
 ghost use Rattle.mm_proof.specs.CodeSteps.{label_ids};
-ghost use Rattle.mm_proof.specs.CodeVerify.{AreHypothesesOf, AreVariablesOf, AreStackEntries};
+ghost use Rattle.mm_proof.specs.CodeVerify.{AreVariablesOf, AreStackEntries};
 ghost use Rattle.mm_proof.specs.CodeVerify.{EachEntry};
 ghost use Rattle.mm_proof.specs.CodeVerify.{IsRightCode, all_names_at, pairs_in, variables_in};
 ghost use Rattle.mm_proof.specs.CodeRun.{CarriesOn, StopsAt};
@@ -53,8 +53,7 @@ fn rule_broken<S: Store>(
 ) -> Option<ProofRule>
     requires sound { IsSound book.now.statements }
     requires own { own.now.statements ≡ book.now.statements }
-    requires known { (hs : List Sentence)
-        × AreHypothesesOf book.now.statements (label_ids hypotheses.now) hs }
+    requires typed { HaveTypings book.now.statements hypotheses.now }
     requires entries { base + length hypotheses.now ≡ length (S.stack store.now) }
     requires variables { length variables.now.list.items ≡ length hypotheses.now }
     requires fits { length (S.stack store.now) < 2 ^ 64 }

@@ -1,13 +1,11 @@
 //! One step of a proof by an assertion (the Metamath book, section 4.1.4 and appendix B).
 
-ghost use Rattle.std.specs.Prelude.{◌≡◌, ◌↔◌, ◌+◌, ◌≤◌, ◌<◌, ◌^◌, ℕ, List, length, drop, map};
-ghost use Rattle.std.specs.Prelude.{slice_get, slice_index_or, option_map, All, Option, Some, None};
+ghost use Rattle.std.specs.Prelude.{◌≡◌, ◌↔◌, ◌+◌, ◌<◌, ◌^◌, ℕ, List, length, drop};
+ghost use Rattle.std.specs.Prelude.{slice_get, option_map, Option, Some};
 ghost use Rattle.std.specs.Prelude.{IsTrue, IfOk, MatchBool, MatchOption};
 ghost use Rattle.std.specs.List.{AllByRecursion};
-ghost use Rattle.mm_text.specs.declared.statement.Kind.TheVariants.{Floating, Essential};
 ghost use Rattle.mm_frame.specs.Sentence.{Sentence};
 ghost use Rattle.mm_frame.specs.FramePlace.{IsTypingOf, HaveTypings};
-ghost use Rattle.mm_frame.specs.Numbers.{labelled_sentences};
 ghost use Rattle.mm_proof.specs.Stores.{numbers_in};
 ghost use Rattle.mm_proof.specs.CodeSteps.{label_ids};
 ghost use Rattle.mm_proof.specs.CodeVerify.{AreHypothesesOf, AreVariablesOf, IsVariableOf};
@@ -19,7 +17,7 @@ ghost use Rattle.mm_proof.specs.Proof.{SomePair};
 use crate::store::Store;
 use crate::substitution::is_replaced;
 use crate::variables::Variables;
-use mm_frame::{Book, Hypothesis, LabelId, LabelKind, Sym, one_number};
+use mm_frame::{Book, Hypothesis, Sym, one_number};
 use std::alloc::AllocError;
 
 // Whether the expression begins with the symbol.
@@ -85,40 +83,6 @@ pub(crate) fn fill_variables<S: Store>(
     Ok(true)
 }
 
-// Whether the entry is the hypothesis at a place with each variable replaced, if that is a `$e`.
-fn is_equal<S: Store>(
-    store: &S,
-    base: usize,
-    variables: &Variables,
-    book: &Book,
-    place: usize,
-    id: LabelId,
-    entry: &[Sym],
-) -> bool
-    requires named { id.0 < length (labelled_sentences book.now.statements) }
-    requires entries { base + length variables.now.list.items ≡ length (S.stack store.now) }
-    requires fits { length (S.stack store.now) < 2 ^ 64 }
-    requires below { AllByRecursion (AreBelow book.now.statements) (drop base (S.stack store.now)) }
-    requires entry { AreBelow book.now.statements (numbers_in entry.now) }
-    ensures { (σ : List ℕ → Option (List (List ℕ)))
-        → Replaces book.now.statements σ (variables_in variables.now.list.items)
-        (drop base (S.stack store.now))
-        → (h : Sentence) → slice_get (labelled_sentences book.now.statements) id.0 ≡ Some h
-        → IsVariableOf book.now.statements
-        (slice_index_or (variables_in variables.now.list.items) place None) h
-        → MatchBool result (IsEqual σ h (names_at book.now.statements (numbers_in entry.now)))
-        (IsUnequal σ h (names_at book.now.statements (numbers_in entry.now))) }
-{
-    one_number();
-    if variables.is_floating(place) {
-        return true;
-    }
-    match book.kind(id) {
-        LabelKind::Essential => is_replaced(store, base, variables, book.expression(id), entry),
-        _ => true,
-    }
-}
-
 // Whether each `$e`, with each variable replaced, is its entry.
 pub(crate) fn are_equal<S: Store>(
     store: &S,
@@ -127,8 +91,7 @@ pub(crate) fn are_equal<S: Store>(
     book: &Book,
     hypotheses: &[Hypothesis],
 ) -> bool
-    requires known { (hs : List Sentence)
-        × AreHypothesesOf book.now.statements (label_ids hypotheses.now) hs }
+    requires typed { HaveTypings book.now.statements hypotheses.now }
     requires entries { base + length hypotheses.now ≡ length (S.stack store.now) }
     requires variables { length variables.now.list.items ≡ length hypotheses.now }
     requires fits { length (S.stack store.now) < 2 ^ 64 }
@@ -144,19 +107,20 @@ pub(crate) fn are_equal<S: Store>(
         (SomePair hs (all_names_at book.now.statements (drop base (S.stack store.now)))
         (IsUnequal σ)) }
 {
+    one_number();
     if variables.are_floating() {
         return true;
     }
     for (index, hypothesis) in hypotheses.iter().enumerate() {
-        if !is_equal(
-            store,
-            base,
-            variables,
-            book,
-            index,
-            hypothesis.id,
-            store.at(base + index),
-        ) {
+        if hypothesis.typing.is_none()
+            && !is_replaced(
+                store,
+                base,
+                variables,
+                book.expression(hypothesis.id),
+                store.at(base + index),
+            )
+        {
             return false;
         }
     }

@@ -1,8 +1,7 @@
 //! The variables of the hypotheses of a step, and where each of them stands.
 
 ghost use Rattle.std.specs.Prelude.{◌≡◌, ◌+◌, ◌≤◌, ◌<◌, ◌^◌, [], ◌∷◌, ◌++◌, List, ℕ, length};
-ghost use Rattle.std.specs.Prelude.{slice_index_or, Option, MatchOption, OnOk, IsTrue};
-ghost use Rattle.std.specs.Prelude.{is_some, Some, None};
+ghost use Rattle.std.specs.Prelude.{slice_index_or, Option, MatchOption, OnOk, IsTrue, Some};
 ghost use Rattle.mm_proof.specs.CodeVerify.{variables_in, AreFirstPlaces, IsNowhere, IsFirstAt};
 ghost use Rattle.mm_proof.specs.CodeVerify.{EachIsSome};
 
@@ -139,16 +138,6 @@ impl Variables {
         ensures { IsTrue result → EachIsSome (variables_in self.now.list.items) }
     {
         self.floating
-    }
-
-    /// Whether the hypothesis at the place is a `$f`.
-    pub(crate) fn is_floating(&self, place: usize) -> bool
-        ensures { result ≡ is_some (slice_index_or (variables_in self.now.list.items) place None) }
-    {
-        match self.list.get(place) {
-            Some(Some(_)) => true,
-            _ => false,
-        }
     }
 
     /// Adds the variable of the next hypothesis.

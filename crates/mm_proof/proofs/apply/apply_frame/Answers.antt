@@ -58,6 +58,9 @@ returns-then-not-right-clause-fault g c rule step is =
           (match_false c.in_ok-right.right _ _ c.if-not-right.true (c.in_ok-right.ensures st (have_typings _ st _ c.requires.frame c.hypotheses-hypotheses.ensures.typed) (drop_below st _ _ stack c.requires.entries) h.hypotheses called.known))),
     )
 
+pub rule_broken-rule-requires-clause-typed : goal.rule_broken-rule-requires-clause-typed
+rule_broken-rule-requires-clause-typed g c = have_typings _ c.args.book.now.statements _ c.requires.frame c.hypotheses-hypotheses.ensures.typed
+
 pub rule_broken-rule-requires-clause-variables : goal.rule_broken-rule-requires-clause-variables
 rule_broken-rule-requires-clause-variables g c =
     let st = c.args.book.now.statements in
