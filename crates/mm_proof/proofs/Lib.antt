@@ -50,3 +50,4 @@ pub mod Listed
 pub mod ListingLoop
 pub mod ListingEnd
 pub mod FewMoves
+pub mod Unknown

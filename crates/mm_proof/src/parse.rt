@@ -344,8 +344,8 @@ fn fill_whole<'a>(
     }
 }
 
-/// Fills the list with the moves that the tokens, none of which holds a `?`, say as a proof of the
-/// `$p` of the frame, or tells the first of P1 to P5 that they break.
+/// Fills the list with the moves that the tokens say as a proof of the `$p` of the frame, or tells
+/// the first of P1 to P5 that they break: with a `?` among them, one of P1 to P4.
 pub(crate) fn fill_steps<'a>(
     lists: &mut ParseLists<'a>,
     book: &Book,

@@ -159,9 +159,6 @@ impl<'a> Prover<'a> {
         // No proof changes the book.
         ensures book { self.new.book ≡ self.old.book }
     {
-        if is_incomplete(tokens) {
-            return Ok(Proved::Incomplete);
-        }
         match prove_tokens(
             &mut self.store,
             &mut self.scratch,
@@ -172,7 +169,14 @@ impl<'a> Prover<'a> {
             tokens,
         ) {
             Ok(()) => Ok(Proved::Complete),
-            Err(fault) => Err(fault),
+            // No label and no letter holds a `?`, so a proof with one always comes here.
+            Err(fault) => {
+                if is_incomplete(tokens) {
+                    Ok(Proved::Incomplete)
+                } else {
+                    Err(fault)
+                }
+            }
         }
     }
 
@@ -185,8 +189,8 @@ impl<'a> Prover<'a> {
     }
 }
 
-// Whether the tokens, none of which holds a `?`, prove the `$p` of the frame: fills the list with
-// the assertions of its tree, or tells their first fault.
+// Whether the tokens prove the `$p` of the frame: fills the list with the assertions of its tree,
+// or tells their first fault.
 fn prove_in_frame<'a>(
     store: &mut Flat,
     scratch: &mut Scratch,
@@ -214,8 +218,8 @@ fn prove_in_frame<'a>(
     judgement_in_frame(store, scratch, named, book, own, id, &lists.moves, picked)
 }
 
-// Whether the tokens, none of which holds a `?`, prove the `$p` with the number: fills the list
-// with the assertions of its tree, or tells their first fault.
+// Whether the tokens prove the `$p` with the number: fills the list with the assertions of its
+// tree, or tells their first fault.
 fn prove_tokens<'a>(
     store: &mut Flat,
     scratch: &mut Scratch,

@@ -147,7 +147,7 @@ pub(crate) const KNOWN_FRONTS: [Row; 6] = [
     },
 ];
 
-/// What stands after the unknown step, or in a list of labels with one, is not looked at.
+/// What stands after the unknown step, or in a list of labels with one, is not judged.
 pub(crate) const AFTER_UNKNOWN: [Row; 7] = [
     Row {
         name: "an unknown label after the unknown step",
@@ -214,7 +214,7 @@ pub(crate) const AFTER_UNKNOWN: [Row; 7] = [
     },
 ];
 
-/// What stands before the unknown step would break a rule. It is not looked at, as long as known
+/// What stands before the unknown step would break a rule, which is not told as long as known
 /// fronts are not judged.
 pub(crate) const FAULTY_FRONTS: [Row; 10] = [
     Row {

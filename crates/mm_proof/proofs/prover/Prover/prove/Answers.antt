@@ -1,5 +1,6 @@
--- What is answered of the tokens, where no step is unknown, is exact, and said of the prover's book.
-use Rattle.std.proofs.Common.{◌≡◌, ℕ, List, take, Result, Ok, Err, sym, subst, ◌∙◌, rules}
+-- What is answered of the tokens is exact, and said of the prover's book; and with an unknown step there is no other answer
+-- than that.
+use Rattle.std.proofs.Common.{◌≡◌, ℕ, List, take, Result, Ok, Err, sym, subst, ◌∙◌}
 use Rattle.std.specs.Result.{IsOkUnless}
 use Rattle.mm_frame.specs.Sentence.{Sentence}
 use Rattle.mm_proof.specs.declared.fault.ProofRule.{ProofRule}
@@ -10,12 +11,14 @@ use Rattle.mm_proof.specs.declared.prover.Proved.TheVariants.{Complete}
 use Rattle.mm_proof.specs.Answer.{OnRule, IsUnlessMemory}
 use Rattle.mm_proof.specs.Proof.{IsProvedWithin, IsWithin, expression_limit}
 use Rattle.mm_proof.specs.Parsed.{OfProof}
+use Rattle.mm_proof.specs.Steps.{IsProofNumber}
 use Rattle.mm_proof.specs.Proving.{Proving}
 use Rattle.mm_proof.specs.Verified.{TokensProve, TokensFail}
 use Rattle.mm_proof.specs.CodeSteps.{ids_in, token_texts}
 use Rattle.mm_proof.proofs.Whole.{tokens_accepted, tokens_refused}
+use Rattle.mm_proof.proofs.Unknown.{proved_known}
 use Rattle.mm_proof.proofs.prover.Prover.prove.Goals as goal
-use Rattle.mm_proof.proofs.prover.Prover.prove.Goals.{in-Ok, in-Err}
+use Rattle.mm_proof.proofs.prover.Prover.prove.Goals.{in-Ok, in-Err+else-is_incomplete, in-Err+then-is_incomplete}
 
 -- the fault of the tokens is this one
 abbrev Fails : List Sentence → ℕ → List (List ℕ) → ProofRule → ℕ → Type 0
@@ -29,6 +32,17 @@ abbrev Refuses : List Sentence → ℕ → List (List ℕ) → Result Proved Pro
 Refuses st id texts result =
     OfProof st id (λ place s. (rule : ProofRule) → (step : ℕ) → TokensFail (take place st) s texts rule step → IsUnlessMemory result (Err (Rule rule step)))
 
+pub returns-clause-complete : goal.returns-clause-complete
+returns-clause-complete c unknown =
+    let texts = token_texts c.args.tokens.now in
+    let used = ids_in c.prove_tokens.new.named.ids.items in
+    let number = subst (λ (v : Proving). (place : ℕ) × (s : Sentence) × IsProofNumber v.book.statements c.args.id.0 place s) (sym c.self.view_is) c.requires in
+    elim c.match-prove_tokens.branch [
+      | in-Ok w ↦ absurd (proved_known c.self.inside.book.statements c.args.id.0 texts used c.prove_tokens.ensures.sound.1 number w.in-Ok.ensures.proved unknown)
+      | in-Err+else-is_incomplete w ↦ absurd (let e = sym w.if-is_incomplete.false ∙ w.is_incomplete.ensures.1 unknown in cc)
+      | in-Err+then-is_incomplete w ↦ w.result-is
+    ]
+
 pub returns-clause-proved : goal.returns-clause-proved
 returns-clause-proved c is =
     let texts = token_texts c.args.tokens.now in
@@ -36,7 +50,8 @@ returns-clause-proved c is =
     elim c.match-prove_tokens.branch [
       | in-Ok w ↦
           subst (λ (v : Proving). OfProof v.book.statements c.args.id.0 (λ place s. TokensProve (take place v.book.statements) s texts used)) c.self.view_is w.in-Ok.ensures.proved
-      | in-Err w ↦ absurd (let e = sym w.result-is ∙ is in cc)
+      | in-Err+else-is_incomplete w ↦ absurd (let e = sym w.result-is ∙ is in cc)
+      | in-Err+then-is_incomplete w ↦ absurd (let e = sym w.result-is ∙ is in cc)
     ]
 
 pub returns-clause-fault : goal.returns-clause-fault
@@ -44,7 +59,8 @@ returns-clause-fault c rule step is =
     let texts = token_texts c.args.tokens.now in
     elim c.match-prove_tokens.branch [
       | in-Ok w ↦ absurd (let e = sym w.result-is ∙ is in cc)
-      | in-Err w ↦
+      | in-Err+then-is_incomplete w ↦ absurd (let e = sym w.result-is ∙ is in cc)
+      | in-Err+else-is_incomplete w ↦
           let both = sym w.result-is ∙ is in
           let same : w.in-Err.fault ≡ Rule rule step = cc in
           subst (λ (v : Proving). Fails v.book.statements c.args.id.0 texts rule step) c.self.view_is
@@ -56,7 +72,8 @@ returns-clause-accepts c =
     let texts = token_texts c.args.tokens.now in
     elim c.match-prove_tokens.branch [
       | in-Ok w ↦ rw w.result-is (λ place s proof p. tt)
-      | in-Err w ↦
+      | in-Err+then-is_incomplete w ↦ rw w.result-is (λ place s proof p. tt)
+      | in-Err+else-is_incomplete w ↦
           let r : Result Proved ProofFault = Err w.in-Err.fault in
           rw w.result-is (subst (λ (v : Proving). Accepts v.book.statements c.args.id.0 texts (Err w.in-Err.fault)) c.self.view_is
           (tokens_accepted r c.self.inside.book.statements c.args.id.0 texts c.prove_tokens.ensures.sound.0 w.in-Err.ensures.fault))
@@ -70,11 +87,9 @@ returns-clause-refuses c none =
           let r : Result Proved ProofFault = Ok Complete in
           rw w.result-is (subst (λ (v : Proving). Refuses v.book.statements c.args.id.0 texts (Ok Complete)) c.self.view_is
           (tokens_refused r c.self.inside.book.statements c.args.id.0 texts c.prove_tokens.ensures.sound.0 (λ x is. λ place s proof. (w.in-Ok.ensures.proved place s proof).proof) tt))
-      | in-Err w ↦
+      | in-Err+then-is_incomplete w ↦ absurd (none (w.is_incomplete.ensures.0 w.if-is_incomplete.true))
+      | in-Err+else-is_incomplete w ↦
           let r : Result Proved ProofFault = Err w.in-Err.fault in
           rw w.result-is (subst (λ (v : Proving). Refuses v.book.statements c.args.id.0 texts (Err w.in-Err.fault)) c.self.view_is
           (tokens_refused r c.self.inside.book.statements c.args.id.0 texts c.prove_tokens.ensures.sound.0 (λ x is. absurd cc) w.in-Err.ensures.fault))
     ]
-
-pub returns-clause-complete : goal.returns-clause-complete
-returns-clause-complete c = search rules

@@ -1,0 +1,116 @@
+-- A proof that breaks no rule over the whole of it holds no `?`: no label and no letter has such a byte.
+use Rattle.std.proofs.Common.{◌≡◌, ℕ, zero, suc, ◌<◌, ◌≤◌, List, [], ◌∷◌, ◌++◌, length, take, get_or, Contains, Any, Some, false, ◌⊎◌, inl, inr, refl, sym, ap, subst, ◌∙◌, arith}
+use Rattle.std.specs.List.{flat_map}
+use Rattle.std.proofs.lemmas.Option.{same_Some}
+use Rattle.std.proofs.lemmas.List.Elements.{Contains-append_left, Contains-append_right, Contains-append_cases}
+use Rattle.std.proofs.lemmas.List.Folds.{list_all_at}
+use Rattle.mm_text.specs.declared.statement.Kind.{Kind}
+use Rattle.mm_text.specs.declared.statement.Kind.TheVariants.{Floating, Essential, Axiom, Provable}
+use Rattle.mm_text.specs.Token.{IsLabel, is_label_byte}
+use Rattle.mm_code.specs.Letters.{IsLetter}
+use Rattle.mm_frame.specs.Sentence.{Sentence}
+use Rattle.mm_frame.specs.Form.{AllFormed, HasItsLabel}
+use Rattle.mm_frame.proofs.Meant.{allformed_front}
+use Rattle.mm_frame.proofs.ReadLaws.{named_kind}
+use Rattle.mm_proof.specs.declared.fault.ProofRule.TheVariants.{P2, P4}
+use Rattle.mm_proof.specs.Tokens.{opening_token, closing_token, IsIncomplete, IsCompressed, AreLabels, SayMoves}
+use Rattle.mm_proof.specs.Moves.{Move}
+use Rattle.mm_proof.specs.Proof.{IsWhole}
+use Rattle.mm_proof.specs.Steps.{IsProofNumber}
+use Rattle.mm_proof.specs.Parsed.{OfProof}
+use Rattle.mm_proof.specs.Verified.{TokensProve}
+
+-- ---- labels
+
+label_said : (l : List ℕ) → (k : List ℕ) × (Some l ≡ Some k) × IsLabel k → IsLabel l
+label_said l has = subst IsLabel (sym (same_Some l has.0 has.1)) has.2
+
+label_formed : (kind : Kind) (l : List ℕ) → HasItsLabel kind (Some l) → IsLabel l
+label_formed Floating l has = label_said l has
+label_formed Essential l has = label_said l has
+label_formed Axiom l has = label_said l has
+label_formed Provable l has = label_said l has
+label_formed kind l has = absurd cc
+
+formed_known : (l : List ℕ) → IsLabel l → ¬ (Contains l 63)
+formed_known l formed has =
+    let other : is_label_byte (get_or l has.0 63) ≡ false = ap is_label_byte has.2 in
+    absurd (let e = sym formed ∙ list_all_at is_label_byte l has.0 63 has.1 other in cc)
+
+-- each label is that of an earlier statement
+label_known : (before : List Sentence) (tokens labels : List (List ℕ)) (label : List ℕ) → AllFormed before → IsWhole before tokens → AreLabels tokens labels
+    → Contains labels label → ¬ (Contains label 63)
+label_known before tokens labels label formed whole are has unknown =
+    whole P2 (
+      labels,
+      are,
+      label,
+      has,
+      λ found.
+          formed_known label (label_formed found.1.kind label (named_kind before found.0 found.1 label formed found.2 found.3)) unknown,
+    )
+
+-- ---- letters and parentheses
+
+byte_of : (b x : ℕ) → Contains (b ∷ []) x → b ≡ x
+byte_of b x (zero, within, is) = is
+byte_of b x (suc k, within, is) = absurd (let w : suc k < 1 = within in omega arith)
+
+opening_known : (token : List ℕ) → opening_token ≡ token → ¬ (Contains token 63)
+opening_known token same unknown = absurd (let e : 40 ≡ 63 = byte_of 40 63 (subst (λ t. Contains t 63) (sym same) unknown) in cc)
+
+closing_known : (token : List ℕ) → closing_token ≡ token → ¬ (Contains token 63)
+closing_known token same unknown = absurd (let e : 41 ≡ 63 = byte_of 41 63 (subst (λ t. Contains t 63) (sym same) unknown) in cc)
+
+first_or_later : (t : List ℕ) (tokens : List (List ℕ)) (token : List ℕ) → Contains (t ∷ tokens) token → (t ≡ token) ⊎ Contains tokens token
+first_or_later t tokens token (zero, within, is) = inl is
+first_or_later t tokens token (suc k, within, is) = inr (k, (let w : suc k < suc (length tokens) = within in omega arith), is)
+
+-- a byte of a piece is one of what the pieces are joined to
+among_joined : (pieces : List (List ℕ)) (piece : List ℕ) (b : ℕ) → Contains pieces piece → Contains piece b → Contains (flat_map (λ p. p) pieces) b
+among_joined [] piece b has byte = absurd (let w : has.0 < 0 = has.1 in omega arith)
+among_joined (p ∷ pieces) piece b has byte = elim (first_or_later p pieces piece has) [
+  | inl same ↦ Contains-append_left p (flat_map (λ q. q) pieces) b (subst (λ q. Contains q b) (sym same) byte)
+  | inr later ↦ Contains-append_right p (flat_map (λ q. q) pieces) b (among_joined pieces piece b later byte)
+]
+
+no_letter : ¬ (IsLetter 63)
+no_letter letter = absurd (let l : 65 ≤ 63 = letter.0 in omega arith)
+
+other_byte : (text : List ℕ) → Contains text 63 → Any (λ byte. ¬ (IsLetter byte)) text
+other_byte text byte = (byte.0, 63, byte.1, byte.2, no_letter)
+
+letters_known : (before : List Sentence) (tokens labels letters : List (List ℕ)) (token : List ℕ) → IsWhole before tokens → IsCompressed tokens labels letters
+    → Contains letters token → ¬ (Contains token 63)
+letters_known before tokens labels letters token whole parts has unknown =
+    whole P4 (flat_map (λ p. p) letters, (labels, letters, parts, refl), other_byte (flat_map (λ p. p) letters) (among_joined letters token 63 has unknown))
+
+-- ---- the tokens
+
+compressed_known : (before : List Sentence) (tokens labels letters : List (List ℕ)) (token : List ℕ) → AllFormed before → IsWhole before tokens → IsCompressed tokens labels letters
+    → Contains tokens token → ¬ (Contains token 63)
+compressed_known before tokens labels letters token formed whole parts has =
+    elim (first_or_later opening_token (labels ++ closing_token ∷ letters) token (subst (λ ts. Contains ts token) parts.whole has)) [
+      | inl same ↦ opening_known token same
+      | inr rest ↦ elim (Contains-append_cases labels (closing_token ∷ letters) token rest) [
+        | inl among ↦ label_known before tokens labels token formed whole (inr (letters, parts)) among
+        | inr behind ↦ elim (first_or_later closing_token letters token behind) [
+          | inl same ↦ closing_known token same
+          | inr among ↦ letters_known before tokens labels letters token whole parts among
+        ]
+      ]
+    ]
+
+-- tokens that break no rule over the whole proof, and say moves, hold no `?`
+said_known : (before : List Sentence) (s : Sentence) (tokens : List (List ℕ)) (moves : List (Move (List ℕ))) → AllFormed before → IsWhole before tokens
+    → SayMoves before s tokens moves → ¬ (IsIncomplete tokens)
+said_known before s tokens moves formed whole (inl normal) unknown = label_known before tokens tokens unknown.0 formed whole (inl (normal.0, refl)) unknown.1 unknown.2
+said_known before s tokens moves formed whole (inr said) unknown =
+    compressed_known before tokens said.listed said.letters unknown.0 formed whole said.parts unknown.1 unknown.2
+
+-- what is proved has no unknown step
+pub proved_known : (st : List Sentence) (id : ℕ) (tokens : List (List ℕ)) (used : List ℕ) → AllFormed st → (place : ℕ) × (s : Sentence) × IsProofNumber st id place s
+    → OfProof st id (λ place s. TokensProve (take place st) s tokens used) → ¬ (IsIncomplete tokens)
+proved_known st id tokens used formed number proved =
+    let p = (proved number.0 number.1 number.2).proof in
+    said_known (take number.0 st) number.1 tokens p.moves (allformed_front st number.0 formed) p.whole p.said
