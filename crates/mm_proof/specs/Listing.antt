@@ -7,7 +7,6 @@ use Rattle.mm_frame.specs.Numbers.{labelled_sentences, AreNumbers}
 use Rattle.mm_proof.specs.Substitution.{Expression}
 use Rattle.mm_proof.specs.Tree.{Trees, none, tree, beside, Derives}
 use Rattle.mm_proof.specs.Moves.{Move, name, again, mark, is_step, steps_in, Makes}
-use Rattle.mm_proof.specs.Steps.{AreNumberedMoves, IsProofNumber}
 use Rattle.mm_proof.specs.Stores.{numbers_in}
 use Rattle.mm_proof.specs.declared.lines.Name.{Name}
 use Rattle.mm_proof.specs.declared.lines.Name.TheVariants as names
