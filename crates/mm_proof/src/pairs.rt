@@ -165,7 +165,9 @@ fn is_shared_pair<S: Store>(
     }
 }
 
-/// Whether the variables of what replaces two variables are active pairs.
+/// Whether the variables of what replaces two variables are active pairs. It is a call, as few steps
+/// have pairs, and the others then take fewer instructions.
+#[inline(never)]
 fn is_apart_pair<S: Store>(
     store: &S,
     base: usize,
@@ -199,6 +201,8 @@ fn is_apart_pair<S: Store>(
 }
 
 /// Whether what replaces the members of some mandatory pair shares a variable.
+#[cold]
+#[inline(never)]
 pub(crate) fn has_shared_pair<S: Store>(
     store: &S,
     base: usize,
