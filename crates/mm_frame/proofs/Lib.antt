@@ -10,6 +10,7 @@ pub mod ScopeCode
 pub mod LookupLaws
 pub mod SymbolsAt
 pub mod Places
+pub mod Patterns
 pub mod Symbols
 pub mod RepeatsCode
 pub mod Numbered

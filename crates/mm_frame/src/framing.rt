@@ -15,7 +15,7 @@ ghost use Rattle.mm_frame.specs.Gathered.{AreVariables, AreFound, AreThoseAt};
 use crate::hypothesis::Hypothesis;
 use crate::lists::at;
 use crate::number::{LabelId, Sym};
-use crate::tables::Tables;
+use crate::tables::{NO_PART, Tables};
 use std::alloc::AllocError;
 
 // The place of the latest `$f` of a symbol, if it has one.
@@ -102,6 +102,7 @@ pub(crate) fn hypotheses_at(
             Some(id) => hypotheses.push(Hypothesis {
                 id,
                 typing: tables.typing(*place),
+                pattern: NO_PART,
             })?,
             None => {}
         }

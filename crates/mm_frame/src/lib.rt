@@ -15,10 +15,12 @@ mod names;
 mod naming;
 mod number;
 mod pairs;
+mod piece;
 mod reads;
 mod rule;
 mod rules;
 mod said;
+mod scheme;
 mod scopes;
 mod separate;
 mod sought;
@@ -32,4 +34,7 @@ pub use laws::{
     active_statements, one_frame, one_label_number, one_number, open_blocks, open_count,
 };
 pub use number::{LabelId, LabelKind, Sym};
+pub use piece::Piece;
 pub use rule::MeaningRule;
+pub use scheme::{Scheme, place_of};
+pub use tables::Part;

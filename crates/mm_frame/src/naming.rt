@@ -17,12 +17,9 @@ use crate::answer::Taken;
 use crate::framing::{hypotheses_at, mandatory, mandatory_pairs};
 use crate::lists::{at, put};
 use crate::number::{LabelId, Sym};
-use crate::tables::{LabelInfo, Part, SymbolInfo, Tables};
+use crate::tables::{LabelInfo, NO_PART, Part, SymbolInfo, Tables};
 use mm_text::Kind;
 use std::alloc::AllocError;
-
-// Nothing of a list.
-const NO_PART: Part = Part { start: 0, end: 0 };
 
 // Adds elements to the end of a list that has room, and says where they stand.
 fn add_part<T: Copy + Drop>(list: &mut Vec<T>, more: &[T]) -> Part

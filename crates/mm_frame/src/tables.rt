@@ -12,11 +12,14 @@ use mm_text::Kind;
 use std::alloc::{AllocError, Global};
 
 /// A part of a list: the places from `start` up to and without `end`.
-#[derive(Clone, Copy)]
-pub(crate) struct Part {
-    pub(crate) start: usize,
-    pub(crate) end: usize,
+#[derive(Clone, Copy, PartialEq, Eq, Debug)]
+pub struct Part {
+    pub start: usize,
+    pub end: usize,
 }
+
+/// Nothing of a list.
+pub(crate) const NO_PART: Part = Part { start: 0, end: 0 };
 
 /// The elements of a part of a list.
 pub(crate) fn part_of<T>(list: &[T], part: Part) -> &[T]

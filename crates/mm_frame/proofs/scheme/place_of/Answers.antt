@@ -1,0 +1,22 @@
+use Rattle.std.proofs.Common.{sym, ap, ◌∙◌, ◌≡◌, None, ⊎_elim, arith}
+use Rattle.std.proofs.str.Laws.{order}
+use Rattle.std.specs.List.{slice_index_or}
+use Rattle.mm_frame.specs.Pieces.{is_of, variables_of}
+use Rattle.mm_frame.proofs.Patterns.{variable_at, variables_counted, none_behind}
+use Rattle.mm_frame.proofs.scheme.place_of.Goals as goal
+
+pub returns-then-is_of : goal.returns-then-is_of
+returns-then-is_of c = record {
+  within = omega (arith, variables_counted c.args.hypotheses.now, c.loop-place-test.true);
+  is = ap (is_of c.args.symbol.0) (variable_at c.args.hypotheses.now c.loop-place.place _ c.loop-place-test.true) ∙ sym c.is_of.ensures ∙ c.if-is_of.true;
+  first = c.loop-place.invariant;
+}
+
+pub loop-place-preserved : goal.loop-place-preserved
+loop-place-preserved c k lt =
+    ⊎_elim (λ less. c.loop-place.invariant k less) (λ from.
+    let at : k ≡ c.loop-place.place = omega arith in
+    ap (λ i. is_of c.args.symbol.0 (slice_index_or (variables_of c.args.hypotheses.now) i None)) at ∙ ap (is_of c.args.symbol.0) (variable_at c.args.hypotheses.now c.loop-place.place _ c.loop-place-test.true) ∙ sym c.is_of.ensures ∙ c.if-is_of.false) (order k c.loop-place.place)
+
+pub returns : goal.returns
+returns c k = ⊎_elim (λ less. c.loop-place.invariant k less) (λ from. none_behind c.args.hypotheses.now c.args.symbol.0 k (omega (arith, c.loop-place-test.false))) (order k c.loop-place.place)

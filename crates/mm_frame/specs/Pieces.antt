@@ -1,0 +1,60 @@
+-- Patterns: the symbols of an assertion and of its `$e`, as a step by the assertion takes them (the
+-- Metamath book, section 4.1.4). A variable stands there as the place of its `$f` among the
+-- mandatory hypotheses.
+use Rattle.std.specs.Prelude.{◌≡◌, ℕ, ◌<◌, ◌≤◌, ◌==◌, List, length, map, slice_get, slice_range}
+use Rattle.std.specs.Prelude.{slice_index_or, Bool, true, false, Option, Some, None, option_map}
+use Rattle.std.specs.List.{AllZip}
+use Rattle.mm_frame.specs.declared.hypothesis.Hypothesis.{Hypothesis}
+use Rattle.mm_frame.specs.declared.piece.Piece.{Piece}
+use Rattle.mm_frame.specs.declared.piece.Piece.TheVariants.{Symbol, Value}
+use Rattle.mm_frame.specs.Sentence.{Sentence}
+use Rattle.mm_frame.specs.Numbers.{labelled_sentences, AreNumbers}
+
+-- the numbers of the variables of hypotheses, where they are `$f`
+abbrev pub variables_of : List Hypothesis → List (Option ℕ)
+variables_of hypotheses = map (λ h. option_map (λ typing. typing.1.0) h.typing) hypotheses
+
+-- the variable of the `$f` is the symbol with the number
+abbrev pub is_of : ℕ → Option ℕ → Bool
+is_of n None = false
+is_of n (Some m) = m == n
+
+-- no `$f` is of the symbol; or the one at this place is, and none before it
+abbrev pub IsNowhere : ℕ → List (Option ℕ) → Type 0
+IsNowhere n variables = (k : ℕ) → is_of n (slice_index_or variables k None) ≡ false
+
+pub record IsFirstAt (n : ℕ) (variables : List (Option ℕ)) (place : ℕ) : Type 0 where
+  pub within : place < length variables
+  pub is : is_of n (slice_index_or variables place None) ≡ true
+  pub first : (k : ℕ) → k < place → is_of n (slice_index_or variables k None) ≡ false
+
+-- the piece says the symbol with the number
+abbrev pub IsPieceOf : List (Option ℕ) → ℕ → Piece → Type 0
+IsPieceOf variables n (Symbol symbol) = (symbol.0 ≡ n) × IsNowhere n variables
+IsPieceOf variables n (Value place) = IsFirstAt n variables place
+
+-- the pieces say the symbols with these numbers
+abbrev pub ArePieces : List (Option ℕ) → List ℕ → List Piece → Type 0
+ArePieces variables numbers pieces = AllZip (IsPieceOf variables) numbers pieces
+
+-- the pieces say the symbols of the statement
+abbrev pub AreItsPieces : List Sentence → List (Option ℕ) → Sentence → List Piece → Type 0
+AreItsPieces statements variables s pieces =
+    (numbers : List ℕ) × AreNumbers statements numbers s.symbols
+    × ArePieces variables numbers pieces
+
+-- the part of the pieces that the hypothesis names says its symbols, if it is a `$e`
+pub record HasPattern (statements : List Sentence) (variables : List (Option ℕ))
+    (pieces : List Piece) (hypothesis : Hypothesis) : Type 0 where
+  pub ordered : hypothesis.pattern.start ≤ hypothesis.pattern.end
+  pub within : hypothesis.pattern.end ≤ length pieces
+  pub says : hypothesis.typing ≡ None
+      → (e : Sentence) × (slice_get (labelled_sentences statements) hypothesis.id.0 ≡ Some e)
+      × AreItsPieces statements variables e
+      (slice_range pieces hypothesis.pattern.start hypothesis.pattern.end)
+
+-- each of these hypotheses has its pattern
+abbrev pub HavePatterns : List Sentence → List (Option ℕ) → List Piece → List Hypothesis → Type 0
+HavePatterns statements variables pieces hypotheses =
+    (i : ℕ) (hypothesis : Hypothesis) → slice_get hypotheses i ≡ Some hypothesis
+    → HasPattern statements variables pieces hypothesis

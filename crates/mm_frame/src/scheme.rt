@@ -1,0 +1,37 @@
+//! What a step by an assertion asks of it.
+
+ghost use Rattle.std.specs.Prelude.{MatchOption};
+ghost use Rattle.mm_frame.specs.Pieces.{variables_of, IsNowhere, IsFirstAt};
+
+use crate::hypothesis::Hypothesis;
+use crate::number::Sym;
+use crate::piece::Piece;
+
+/// What a step by an assertion asks of it: the assertion is a scheme, of which the step makes an
+/// instance (the Metamath book, section 4.1.4).
+#[derive(Clone, Copy)]
+pub struct Scheme<'b> {
+    /// The mandatory hypotheses, in database order.
+    pub hypotheses: &'b [Hypothesis],
+    /// The mandatory distinct pairs, each in one order.
+    pub pairs: &'b [(Sym, Sym)],
+    /// The pattern of the assertion.
+    pub conclusion: &'b [Piece],
+    /// The list in which the patterns of the `$e` are parts.
+    pub pieces: &'b [Piece],
+}
+
+/// The place of the `$f` of a variable among hypotheses.
+pub fn place_of(hypotheses: &[Hypothesis], symbol: Sym) -> Option<usize>
+    ensures { MatchOption
+        result
+        (IsNowhere symbol.0 (variables_of hypotheses.now))
+        (λ place. IsFirstAt symbol.0 (variables_of hypotheses.now) place) }
+{
+    for (place, hypothesis) in hypotheses.iter().enumerate() {
+        if hypothesis.is_of(symbol) {
+            return Some(place);
+        }
+    }
+    None
+}
