@@ -21,7 +21,7 @@ pub record AreGrown (t v : Tables) (s : Sentence) : Type 0 where
   pub labels : AreLabelInfos (statements_of t ++ s ∷ []) v.labels.names v.named.items v.log.items
   pub scopes : HaveScopes (statements_of t ++ s ∷ []) v.scopes
   pub essentials : AreEssentials (statements_of t ++ s ∷ []) v.essentials.items
-  pub frames : AreFrames (statements_of t ++ s ∷ []) v.hypotheses.items v.pairs.items v.named.items
+  pub frames : AreFrames (statements_of t ++ s ∷ []) v.hypotheses.items v.pairs.items v.pieces.items v.named.items
   pub typed : HaveTypings (statements_of t ++ s ∷ []) v.hypotheses.items
   pub stated : AreStated (statements_of t ++ s ∷ []) v.symbols.names v.distinct.stated
 
@@ -49,7 +49,7 @@ assembled t v s new a b c bytes tables meant formed app grown counted enough roo
     let l : AreLabelInfos (statements_of v) v.labels.names v.named.items v.log.items = rw st grown.labels in
     let h : HaveScopes (statements_of v) v.scopes = rw st grown.scopes in
     let e : AreEssentials (statements_of v) v.essentials.items = rw st grown.essentials in
-    let f : AreFrames (statements_of v) v.hypotheses.items v.pairs.items v.named.items = rw st grown.frames in
+    let f : AreFrames (statements_of v) v.hypotheses.items v.pairs.items v.pieces.items v.named.items = rw st grown.frames in
     let y : HaveTypings (statements_of v) v.hypotheses.items = rw st grown.typed in
     let d : AreStated (statements_of v) v.symbols.names v.distinct.stated = rw st grown.stated in
     let logs = length-append t.log.items (new ∷ []) in

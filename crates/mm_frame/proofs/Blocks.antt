@@ -40,6 +40,7 @@ pub record AddsBlock (t v : Tables) (kind : Kind) (bytes : ℕ) : Type 0 where
       → (kind ≡ Closing → close_marks statements < open_marks statements) → HaveScopes (statements ++ s ∷ []) v.scopes
   pub hypotheses : v.hypotheses.items ≡ t.hypotheses.items
   pub pairs : v.pairs.items ≡ t.pairs.items
+  pub pieces : v.pieces.items ≡ t.pieces.items
   pub stated : v.distinct.stated ≡ t.distinct.stated
   pub counted : v.bytes ≡ t.bytes + bytes
 
@@ -65,6 +66,7 @@ adds_block t u w kind start bytes same e begins = record {
   scopes = λ st s have is more. e.scopes st s (same_scopes t u st same have) is more;
   hypotheses = e.hypotheses ∙ same.hypotheses;
   pairs = e.pairs ∙ same.pairs;
+  pieces = e.pieces ∙ same.pieces;
   stated = e.stated ∙ same.stated;
   counted = e.counted ∙ ap (λ n. n + bytes) same.bytes;
 }
@@ -98,12 +100,13 @@ block_grows t v s kind bytes tables adds is unlabelled bare none no_float no_dis
     let c : v.flat.items ≡ t.flat.items ++ [] = adds.flat ∙ sym (append-nil t.flat.items) in
     let hs : v.hypotheses.items ≡ t.hypotheses.items ++ [] = adds.hypotheses ∙ sym (append-nil t.hypotheses.items) in
     let ps : v.pairs.items ≡ t.pairs.items ++ [] = adds.pairs ∙ sym (append-nil t.pairs.items) in
+    let qs : v.pieces.items ≡ t.pieces.items ++ [] = adds.pieces ∙ sym (append-nil t.pieces.items) in
     let flat_size : length (t.flat.items ++ []) ≡ n = ap length (append-nil t.flat.items) in
     let i : AreInfos (st ++ s ∷ []) v.symbols.names v.infos.items = rw (adds.symbols, adds.infos) (infos_other st t.symbols.names t.infos.items s tables.infos none no_float) in
     let l : AreLabelInfos (st ++ s ∷ []) v.labels.names v.named.items v.log.items = rw (adds.labels, adds.named, adds.log)
     (labels_none st t.labels.names t.named.items t.log.items s new tables.labels unlabelled refl size) in
-    let f : AreFrames (st ++ s ∷ []) v.hypotheses.items v.pairs.items v.named.items = rw (hs, ps, adds.named)
-    (frames_other st s t.hypotheses.items [] t.pairs.items [] t.named.items (placed st t.labels.names t.named.items t.log.items tables.labels) tables.frames) in
+    let f : AreFrames (st ++ s ∷ []) v.hypotheses.items v.pairs.items v.pieces.items v.named.items = rw (hs, ps, qs, adds.named)
+    (frames_other st s t.hypotheses.items [] t.pairs.items [] t.pieces.items [] t.named.items (placed st t.labels.names t.named.items t.log.items tables.labels) tables.frames) in
     let y : HaveTypings (st ++ s ∷ []) v.hypotheses.items = rw adds.hypotheses (typings_grow st (s ∷ []) t.hypotheses.items tables.typed) in
     let all : t.symbols.names ++ [] ≡ symbols_of (st ++ s ∷ []) = sym a ∙ i.all in
     let d : AreStated (st ++ s ∷ []) v.symbols.names v.distinct.stated = rw (a, adds.stated)

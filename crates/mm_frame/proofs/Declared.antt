@@ -77,6 +77,7 @@ grown t d v s bytes tables which none taken entered =
     let kept : v.hypotheses.items ≡ t.hypotheses.items = e.hypotheses ∙ ap (λ (u : Tables). u.hypotheses.items) taken.others in
     let hypotheses : v.hypotheses.items ≡ t.hypotheses.items ++ [] = kept ∙ sym (append-nil t.hypotheses.items) in
     let pairs : v.pairs.items ≡ t.pairs.items ++ [] = e.pairs ∙ ap (λ (u : Tables). u.pairs.items) taken.others ∙ sym (append-nil t.pairs.items) in
+    let pieces : v.pieces.items ≡ t.pieces.items ++ [] = e.pieces ∙ ap (λ (u : Tables). u.pieces.items) taken.others ∙ sym (append-nil t.pieces.items) in
     let stated : v.distinct.stated ≡ t.distinct.stated = e.stated ∙ ap (λ (u : Tables). u.distinct.stated) taken.others in
     let names : v.symbols.names ≡ t.symbols.names ++ taken.added = e.symbols ∙ taken.names in
     let size = length-sentences t.symbols.names t.labels.names t.flat.items t.log.items in
@@ -89,7 +90,7 @@ grown t d v s bytes tables which none taken entered =
       scopes = e.scopes st s scopes refl (λ is. absurd (not_kind s.kind Closing which (λ h. absurd (cc)) (λ h. absurd (cc)) is));
       essentials = rw essentials (essentials_other st t.essentials.items s tables.essentials
           (not_kind s.kind Essential which (λ h. absurd (cc)) (λ h. absurd (cc))) (not_kind s.kind Closing which (λ h. absurd (cc)) (λ h. absurd (cc))));
-      frames = rw (hypotheses, pairs, named) (frames_other st s t.hypotheses.items [] t.pairs.items [] t.named.items (placed st t.labels.names t.named.items t.log.items tables.labels) tables.frames);
+      frames = rw (hypotheses, pairs, pieces, named) (frames_other st s t.hypotheses.items [] t.pairs.items [] t.pieces.items [] t.named.items (placed st t.labels.names t.named.items t.log.items tables.labels) tables.frames);
       typed = rw kept (typings_grow st (s ∷ []) t.hypotheses.items tables.typed);
       stated = rw (names, stated) (stated_other st s t.symbols.names taken.added t.distinct.stated tables.sound.0 tables.infos.all all tables.stated
           (not_kind s.kind Distinct which (λ h. absurd (cc)) (λ h. absurd (cc))));

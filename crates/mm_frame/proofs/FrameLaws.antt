@@ -1,11 +1,12 @@
 -- Frames stay what they are as statements are added.
 use Rattle.std.proofs.Common.{◌≡◌, ℕ, ◌+◌, ◌<◌, inl, inr, length, take, List, [], ◌∷◌, ◌++◌, map, Contains, Some, sym, ap, ◌∙◌, subst, arith}
-use Rattle.std.specs.List.{slice_get}
+use Rattle.std.specs.List.{slice_get, slice_range}
 use Rattle.std.proofs.lemmas.Option.{slice_get_within}
 use Rattle.std.proofs.lemmas.List.{take-append-le}
 use Rattle.mm_text.specs.declared.statement.Kind.TheVariants.{Distinct}
 use Rattle.mm_frame.specs.declared.hypothesis.Hypothesis.{Hypothesis}
 use Rattle.mm_frame.specs.declared.number.Sym.{Sym}
+use Rattle.mm_frame.specs.declared.piece.Piece.{Piece}
 use Rattle.mm_frame.specs.declared.tables.Part.{Part}
 use Rattle.mm_frame.specs.declared.tables.LabelInfo.{LabelInfo}
 use Rattle.mm_frame.specs.Sentence.{Sentence, IsAssertion}
@@ -16,11 +17,13 @@ use Rattle.mm_frame.specs.Numbers.{symbols_of}
 use Rattle.mm_frame.specs.FramePlace.{FramePlace, AreHypotheses, ArePairs, AreItsSymbols}
 use Rattle.mm_frame.specs.Layout.{IsPartWithin, IsFrameInfo, AreFrames, AreLabelInfos, AreStated}
 use Rattle.mm_frame.specs.Stated.{Stated}
+use Rattle.mm_frame.specs.Pieces.{variables_of, AreItsPieces, HavePatterns}
 use Rattle.mm_frame.proofs.Pushed.{get_kept, get_pushed, pushed_cases, get_before}
 use Rattle.mm_frame.proofs.Numbered.{symbols_grow, numbers_grow, symbols_unique, number_from_declared}
 use Rattle.mm_frame.proofs.Labelled.{labels_grow}
 use Rattle.mm_frame.proofs.Entries.{slice_left, longer}
 use Rattle.mm_frame.proofs.Meant.{meant_at}
+use Rattle.mm_frame.proofs.Patterns.{its_pieces_grow, patterns_grow}
 use Rattle.mm_frame.proofs.Needed.{used_declared, some_later}
 
 abbrev pub at_place : List Sentence → ℕ → FramePlace
@@ -63,17 +66,28 @@ its_symbols_grow st more place numbers are = record {
 part_grow : {X : Type 0} (xs ys : List X) (part : Part) → IsPartWithin part (length xs) → IsPartWithin part (length (xs ++ ys))
 part_grow xs ys part within = let inside = within.within in let more = longer xs ys in record { ordered = within.ordered; within = omega arith }
 
-pub frame_grow : (st more : List Sentence) (hs a : List Hypothesis) (pairs b : List (Sym × Sym)) (info : LabelInfo) → IsFrameInfo st hs pairs info → IsFrameInfo (st ++ more) (hs ++ a) (pairs ++ b) info
-frame_grow st more hs a pairs b info is =
+pub frame_grow : (st more : List Sentence) (hs a : List Hypothesis) (pairs b : List (Sym × Sym)) (pieces c : List Piece) (info : LabelInfo) → IsFrameInfo st hs pairs pieces info → IsFrameInfo (st ++ more) (hs ++ a) (pairs ++ b) (pieces ++ c) info
+frame_grow st more hs a pairs b pieces c info is =
     let h = is.hypotheses_in in
     let p = is.pairs_in in
+    let q = is.conclusion_in in
+    let kept : slice_range (hs ++ a) info.hypotheses.start info.hypotheses.end ≡ slice_range hs info.hypotheses.start info.hypotheses.end = slice_left hs a info.hypotheses.start info.hypotheses.end h.ordered h.within in
+    let (s, there, says) = is.concluded in
     record {
       hypotheses_in = part_grow hs a info.hypotheses h;
       pairs_in = part_grow pairs b info.pairs p;
+      conclusion_in = part_grow pieces c info.conclusion q;
       are_hypotheses = hypotheses_grow st more info.place _
           (subst (λ (ids : List Hypothesis). AreHypotheses (at_place st info.place) (map (λ h. h.id.0) ids)) (sym (slice_left hs a info.hypotheses.start info.hypotheses.end h.ordered h.within)) is.are_hypotheses);
       are_pairs = pairs_grow st more info.place _
           (subst (λ (ps : List (Sym × Sym)). ArePairs (at_place st info.place) (map (λ pair. (pair.0.0, pair.1.0)) ps)) (sym (slice_left pairs b info.pairs.start info.pairs.end p.ordered p.within)) is.are_pairs);
+      concluded = (
+        s, get_kept st more info.place s there,
+        subst (λ (ids : List Hypothesis). AreItsPieces (st ++ more) (variables_of ids) s (slice_range (pieces ++ c) info.conclusion.start info.conclusion.end)) (sym kept)
+        (subst (AreItsPieces (st ++ more) (variables_of (slice_range hs info.hypotheses.start info.hypotheses.end)) s) (sym (slice_left pieces c info.conclusion.start info.conclusion.end q.ordered q.within))
+        (its_pieces_grow st more _ s _ says)),
+      );
+      patterned = subst (λ (ids : List Hypothesis). HavePatterns (st ++ more) (variables_of ids) (pieces ++ c) ids) (sym kept) (patterns_grow st more _ pieces c _ is.patterned);
     }
 
 -- each label's statement is one of the statements
@@ -83,20 +97,20 @@ ArePlaced st named = (id : ℕ) (info : LabelInfo) → slice_get named id ≡ So
 pub placed : (st : List Sentence) (labels : List (List ℕ)) (named : List LabelInfo) (log : List _) → AreLabelInfos st labels named log → ArePlaced st named
 placed st labels named log are id info there = let (s, numbered) = are.each id info there in slice_get_within st info.place s numbered.there
 
-pub frames_none : AreFrames [] [] [] []
+pub frames_none : AreFrames [] [] [] [] []
 frames_none id info s there at is = absurd (cc)
 
 -- a statement with no label
-pub frames_other : (st : List Sentence) (e : Sentence) (hs a : List Hypothesis) (pairs b : List (Sym × Sym)) (named : List LabelInfo) → ArePlaced st named → AreFrames st hs pairs named
-    → AreFrames (st ++ e ∷ []) (hs ++ a) (pairs ++ b) named
-frames_other st e hs a pairs b named within are id info s there at is =
-    frame_grow st (e ∷ []) hs a pairs b info (are id info s there (get_before st (e ∷ []) info.place s (within id info there) at) is)
+pub frames_other : (st : List Sentence) (e : Sentence) (hs a : List Hypothesis) (pairs b : List (Sym × Sym)) (pieces c : List Piece) (named : List LabelInfo) → ArePlaced st named → AreFrames st hs pairs pieces named
+    → AreFrames (st ++ e ∷ []) (hs ++ a) (pairs ++ b) (pieces ++ c) named
+frames_other st e hs a pairs b pieces c named within are id info s there at is =
+    frame_grow st (e ∷ []) hs a pairs b pieces c info (are id info s there (get_before st (e ∷ []) info.place s (within id info there) at) is)
 
 -- a hypothesis
-pub frames_hypothesis : (st : List Sentence) (e : Sentence) (hs a : List Hypothesis) (pairs b : List (Sym × Sym)) (named : List LabelInfo) (new : LabelInfo) → ArePlaced st named → AreFrames st hs pairs named
-    → new.place ≡ length st → ¬ (IsAssertion e.kind) → AreFrames (st ++ e ∷ []) (hs ++ a) (pairs ++ b) (named ++ new ∷ [])
-frames_hypothesis st e hs a pairs b named new within are place other id info s there at is = elim (pushed_cases named new id info there) [
-  | inl before ↦ frames_other st e hs a pairs b named within are id info s before at is
+pub frames_hypothesis : (st : List Sentence) (e : Sentence) (hs a : List Hypothesis) (pairs b : List (Sym × Sym)) (pieces c : List Piece) (named : List LabelInfo) (new : LabelInfo) → ArePlaced st named → AreFrames st hs pairs pieces named
+    → new.place ≡ length st → ¬ (IsAssertion e.kind) → AreFrames (st ++ e ∷ []) (hs ++ a) (pairs ++ b) (pieces ++ c) (named ++ new ∷ [])
+frames_hypothesis st e hs a pairs b pieces c named new within are place other id info s there at is = elim (pushed_cases named new id info there) [
+  | inl before ↦ frames_other st e hs a pairs b pieces c named within are id info s before at is
   | inr (last, same) ↦
       let here : info.place ≡ length st = ap (λ (i : LabelInfo). i.place) (sym same) ∙ place in
       let e_is : e ≡ s = let one = get_pushed st e in let two = subst (λ n. slice_get (st ++ e ∷ []) n ≡ Some s) here at in cc in
@@ -104,11 +118,11 @@ frames_hypothesis st e hs a pairs b named new within are place other id info s t
 ]
 
 -- an assertion
-pub frames_assertion : (st : List Sentence) (e : Sentence) (hs a : List Hypothesis) (pairs b : List (Sym × Sym)) (named : List LabelInfo) (new : LabelInfo) → ArePlaced st named → AreFrames st hs pairs named
-    → IsFrameInfo (st ++ e ∷ []) (hs ++ a) (pairs ++ b) new → AreFrames (st ++ e ∷ []) (hs ++ a) (pairs ++ b) (named ++ new ∷ [])
-frames_assertion st e hs a pairs b named new within are frame id info s there at is = elim (pushed_cases named new id info there) [
-  | inl before ↦ frames_other st e hs a pairs b named within are id info s before at is
-  | inr (last, same) ↦ subst (λ i. IsFrameInfo (st ++ e ∷ []) (hs ++ a) (pairs ++ b) i) same frame
+pub frames_assertion : (st : List Sentence) (e : Sentence) (hs a : List Hypothesis) (pairs b : List (Sym × Sym)) (pieces c : List Piece) (named : List LabelInfo) (new : LabelInfo) → ArePlaced st named → AreFrames st hs pairs pieces named
+    → IsFrameInfo (st ++ e ∷ []) (hs ++ a) (pairs ++ b) (pieces ++ c) new → AreFrames (st ++ e ∷ []) (hs ++ a) (pairs ++ b) (pieces ++ c) (named ++ new ∷ [])
+frames_assertion st e hs a pairs b pieces c named new within are frame id info s there at is = elim (pushed_cases named new id info there) [
+  | inl before ↦ frames_other st e hs a pairs b pieces c named within are id info s before at is
+  | inr (last, same) ↦ subst (λ i. IsFrameInfo (st ++ e ∷ []) (hs ++ a) (pairs ++ b) (pieces ++ c) i) same frame
 ]
 
 -- ---- the pairs that `$d` state

@@ -37,6 +37,7 @@ pub mod EmptyTables
 pub mod Forgotten
 pub mod Blocks
 pub mod SameTables
+pub mod Patterned
 pub mod Assembled
 pub mod ReadLaws
 pub mod DeclaredSymbols

@@ -9,6 +9,7 @@ use Rattle.mm_text.specs.declared.statement.Kind.TheVariants.{Floating, Essentia
 use Rattle.mm_frame.specs.declared.hypothesis.Hypothesis.{Hypothesis}
 use Rattle.mm_frame.specs.declared.number.LabelId.{LabelId}
 use Rattle.mm_frame.specs.declared.number.Sym.{Sym}
+use Rattle.mm_frame.specs.declared.piece.Piece.{Piece}
 use Rattle.mm_frame.specs.declared.tables.Entry.{Entry}
 use Rattle.mm_frame.specs.declared.tables.LabelInfo.{LabelInfo}
 use Rattle.mm_frame.specs.declared.tables.Part.{Part}
@@ -24,9 +25,11 @@ use Rattle.mm_frame.specs.Taken.{next_id, TakenAs}
 use Rattle.mm_frame.specs.declared.answer.Taken.TheVariants.{Assertion}
 use Rattle.mm_frame.specs.Layout.{AreTables, AreInfos, AreLabelInfos, AreEssentials, AreFrames, IsFrameInfo, names_by, statements_of}
 use Rattle.mm_frame.specs.Grows.{Grows, SameLists, entry_of}
-use Rattle.mm_frame.specs.Naming.{Named, label_info, part_after}
+use Rattle.mm_frame.specs.Naming.{Named, FrameParts, label_info, part_after}
 use Rattle.mm_frame.specs.FramePlace.{AreHypotheses, HaveTypings, ArePairs}
 use Rattle.mm_frame.specs.Gathered.{ArePlaces, AreThoseAt}
+use Rattle.mm_frame.specs.Pieces.{variables_of, AreItsPieces, HavePatterns}
+use Rattle.mm_frame.specs.Patterned.{ArePatterned}
 use Rattle.mm_frame.proofs.FrameOf.{hypotheses_from_places}
 use Rattle.mm_frame.proofs.Pushed.{get_pushed, get_within}
 use Rattle.mm_frame.proofs.LookupLaws.{label_number}
@@ -37,6 +40,8 @@ use Rattle.mm_frame.proofs.Infos.{infos_other, infos_floating}
 use Rattle.mm_frame.proofs.Entries.{length-sentences, longer}
 use Rattle.mm_frame.proofs.FrameLaws.{at_place, stated_other, placed, frames_hypothesis, frames_assertion}
 use Rattle.mm_frame.proofs.Typings.{typings_grow, typings_join, typings_none}
+use Rattle.mm_frame.proofs.Patterns.{its_pieces_grow, patterns_more}
+use Rattle.mm_frame.proofs.Patterned.{ids_same}
 use Rattle.mm_frame.proofs.Written.{added_part, names_numbered, same_sentence}
 use Rattle.mm_frame.proofs.Assembled.{AreAppended, AreGrown, assembled}
 
@@ -76,7 +81,7 @@ numbers_within names (m ∷ numbers) (x ∷ xs) are (suc i) n there =
     numbers_within names numbers xs rest i n there
 
 -- the lists before a label is written: those of a book, but for what is known of symbols and for the active `$e`, and with more of frames
-pub record Before (t u : Tables) (a : List Hypothesis) (b : List (Sym × Sym)) : Type 0 where
+pub record Before (t u : Tables) (a : List Hypothesis) (b : List (Sym × Sym)) (c : List Piece) : Type 0 where
   pub symbols : u.symbols.names ≡ t.symbols.names
   pub labels : u.labels.names ≡ t.labels.names
   pub named : u.named.items ≡ t.named.items
@@ -85,11 +90,12 @@ pub record Before (t u : Tables) (a : List Hypothesis) (b : List (Sym × Sym)) :
   pub scopes : HaveSameLists t.scopes u.scopes
   pub hypotheses : u.hypotheses.items ≡ t.hypotheses.items ++ a
   pub pairs : u.pairs.items ≡ t.pairs.items ++ b
+  pub pieces : u.pieces.items ≡ t.pieces.items ++ c
   pub stated : u.distinct.stated ≡ t.distinct.stated
   pub bytes : u.bytes ≡ t.bytes
 
 -- lists that are the same are so
-pub before_same : (t u : Tables) → SameLists t u → Before t u [] []
+pub before_same : (t u : Tables) → SameLists t u → Before t u [] [] []
 before_same t u same = record {
   symbols = same.symbols;
   labels = same.labels;
@@ -99,6 +105,7 @@ before_same t u same = record {
   scopes = same.scopes;
   hypotheses = same.hypotheses ∙ sym (append-nil t.hypotheses.items);
   pairs = same.pairs ∙ sym (append-nil t.pairs.items);
+  pieces = same.pieces ∙ sym (append-nil t.pieces.items);
   stated = same.stated;
   bytes = same.bytes;
 }
@@ -114,10 +121,10 @@ pub record IsWritten (t : Tables) (s : Sentence) (kind : Kind) (l : List ℕ) (n
 by_names : (t : Tables) (numbers : List Sym) (xs : List (List ℕ)) → AreTables t → AreNumbers (statements_of t) (map (λ n. n.0) numbers) xs → map (slice_get t.symbols.names) (map (λ n. n.0) numbers) ≡ map (λ x. Some x) xs
 by_names t numbers xs are numbered = subst (λ (names : List (List ℕ)). map (slice_get names) (map (λ n. n.0) numbers) ≡ map (λ x. Some x) xs) (sym are.infos.all) numbered
 
-appended : (t u v : Tables) (s : Sentence) (kind : Kind) (l : List ℕ) (numbers : List Sym) (frame : Part × Part) (id : LabelId) (a : List Hypothesis) (b : List (Sym × Sym)) (bytes : ℕ)
-    → AreTables t → Before t u a b → Named u v kind l numbers frame id bytes → id.0 ≡ length u.labels.names → IsWritten t s kind l numbers
+appended : (t u v : Tables) (s : Sentence) (kind : Kind) (l : List ℕ) (numbers : List Sym) (frame : FrameParts) (id : LabelId) (a : List Hypothesis) (b : List (Sym × Sym)) (c : List Piece) (bytes : ℕ)
+    → AreTables t → Before t u a b c → Named u v kind l numbers frame id bytes → id.0 ≡ length u.labels.names → IsWritten t s kind l numbers
     → AreAppended t v [] (l ∷ []) numbers (entry_of kind (Some id) (length t.flat.items) (length (t.flat.items ++ numbers))) s
-appended t u v s kind l numbers frame id a b bytes are before named number is =
+appended t u v s kind l numbers frame id a b c bytes are before named number is =
     let names = by_names t numbers s.symbols are is.numbered in
     let more : t.symbols.names ++ [] ≡ t.symbols.names = append-nil t.symbols.names in
     let number' : id.0 ≡ length t.labels.names = number ∙ ap length before.labels in
@@ -142,16 +149,16 @@ same_symbols : (t : Tables) (s : Sentence) → AreTables t → declared_by s ≡
 same_symbols t s are none = append-nil t.symbols.names ∙ are.infos.all ∙ sym (symbols_push (statements_of t) s ∙ ap (fold with_name (symbols_of (statements_of t))) none)
 
 -- the lists once a label and its statement are written, but for infos, essentials and frames
-grown : (t u v : Tables) (s : Sentence) (kind : Kind) (l : List ℕ) (numbers : List Sym) (frame : Part × Part) (id : LabelId) (a : List Hypothesis) (b : List (Sym × Sym)) (bytes : ℕ)
-    → AreTables t → Before t u a b → Named u v kind l numbers frame id bytes → id.0 ≡ length u.labels.names → IsWritten t s kind l numbers
+grown : (t u v : Tables) (s : Sentence) (kind : Kind) (l : List ℕ) (numbers : List Sym) (frame : FrameParts) (id : LabelId) (a : List Hypothesis) (b : List (Sym × Sym)) (c : List Piece) (bytes : ℕ)
+    → AreTables t → Before t u a b c → Named u v kind l numbers frame id bytes → id.0 ≡ length u.labels.names → IsWritten t s kind l numbers
     → declared_by s ≡ [] → ¬ (kind ≡ Closing) → ¬ (kind ≡ Distinct)
     → AreInfos (statements_of t ++ s ∷ []) t.symbols.names u.infos.items → AreEssentials (statements_of t ++ s ∷ []) u.essentials.items
-    → AreFrames (statements_of t ++ s ∷ []) (t.hypotheses.items ++ a) (t.pairs.items ++ b) (t.named.items ++ label_info (length t.log.items) (entry_of kind (Some id) (length t.flat.items) (length (t.flat.items ++ numbers))) frame ∷ [])
+    → AreFrames (statements_of t ++ s ∷ []) (t.hypotheses.items ++ a) (t.pairs.items ++ b) (t.pieces.items ++ c) (t.named.items ++ label_info (length t.log.items) (entry_of kind (Some id) (length t.flat.items) (length (t.flat.items ++ numbers))) frame ∷ [])
     → HaveTypings (statements_of t) a → AreGrown t v s
-grown t u v s kind l numbers frame id a b bytes are before named number is none unclosed together infos essentials frames typings =
+grown t u v s kind l numbers frame id a b c bytes are before named number is none unclosed together infos essentials frames typings =
     let st = statements_of t in
     let new = entry_of kind (Some id) (length t.flat.items) (length (t.flat.items ++ numbers)) in
-    let app = appended t u v s kind l numbers frame id a b bytes are before named number is in
+    let app = appended t u v s kind l numbers frame id a b c bytes are before named number is in
     let size = length-sentences t.symbols.names t.labels.names t.flat.items t.log.items in
     let labels = labels_some st t.labels.names t.named.items t.log.items s new l id (label_info (length t.log.items) new frame) are.labels
     is.label refl (number ∙ ap length before.labels) (sym size) refl refl (sym size) in
@@ -169,22 +176,22 @@ grown t u v s kind l numbers frame id a b bytes are before named number is none 
       labels = rw (app.labels, names, app.log) labels;
       scopes = named.scopes st s held is.kinds (λ closes. absurd (unclosed closes));
       essentials = rw named.essentials essentials;
-      frames = rw (named.hypotheses, before.hypotheses, named.pairs, before.pairs, names) frames;
+      frames = rw (named.hypotheses, before.hypotheses, named.pairs, before.pairs, named.pieces, before.pieces, names) frames;
       typed = rw (named.hypotheses, before.hypotheses) (typings_grow st (s ∷ []) (t.hypotheses.items ++ a) (typings_join st t.hypotheses.items a are.typed typings));
       stated = rw (app.symbols, named.stated, before.stated) kept;
     }
 
-pub named_grows : (t u v : Tables) (s : Sentence) (kind : Kind) (l : List ℕ) (numbers : List Sym) (frame : Part × Part) (id : LabelId) (a : List Hypothesis) (b : List (Sym × Sym)) (bytes : ℕ)
-    → AreTables t → Before t u a b → Named u v kind l numbers frame id bytes → id.0 ≡ length u.labels.names → IsWritten t s kind l numbers
+pub named_grows : (t u v : Tables) (s : Sentence) (kind : Kind) (l : List ℕ) (numbers : List Sym) (frame : FrameParts) (id : LabelId) (a : List Hypothesis) (b : List (Sym × Sym)) (c : List Piece) (bytes : ℕ)
+    → AreTables t → Before t u a b c → Named u v kind l numbers frame id bytes → id.0 ≡ length u.labels.names → IsWritten t s kind l numbers
     → declared_by s ≡ [] → ¬ (kind ≡ Closing) → ¬ (kind ≡ Distinct)
     → AreInfos (statements_of t ++ s ∷ []) t.symbols.names u.infos.items → AreEssentials (statements_of t ++ s ∷ []) u.essentials.items
-    → AreFrames (statements_of t ++ s ∷ []) (t.hypotheses.items ++ a) (t.pairs.items ++ b) (t.named.items ++ label_info (length t.log.items) (entry_of kind (Some id) (length t.flat.items) (length (t.flat.items ++ numbers))) frame ∷ [])
+    → AreFrames (statements_of t ++ s ∷ []) (t.hypotheses.items ++ a) (t.pairs.items ++ b) (t.pieces.items ++ c) (t.named.items ++ label_info (length t.log.items) (entry_of kind (Some id) (length t.flat.items) (length (t.flat.items ++ numbers))) frame ∷ [])
     → HaveTypings (statements_of t) a → 1 + length numbers ≤ 2 * bytes → t.bytes + bytes ≤ 1073741824 → Grows t v s bytes
-named_grows t u v s kind l numbers frame id a b bytes are before named number is none unclosed together infos essentials frames typings enough room =
+named_grows t u v s kind l numbers frame id a b c bytes are before named number is none unclosed together infos essentials frames typings enough room =
     let new = entry_of kind (Some id) (length t.flat.items) (length (t.flat.items ++ numbers)) in
     assembled t v s new [] (l ∷ []) numbers bytes are is.meant is.formed
-    (appended t u v s kind l numbers frame id a b bytes are before named number is)
-    (grown t u v s kind l numbers frame id a b bytes are before named number is none unclosed together infos essentials frames typings)
+    (appended t u v s kind l numbers frame id a b c bytes are before named number is)
+    (grown t u v s kind l numbers frame id a b c bytes are before named number is none unclosed together infos essentials frames typings)
     (named.counted ∙ ap (λ n. n + bytes) before.bytes) enough room
 
 declares_none : (s : Sentence) (kind : Kind) → s.kind ≡ kind → declared_in kind s.symbols ≡ [] → declared_by s ≡ []
@@ -200,16 +207,16 @@ essential_asserts : ¬ (IsAssertion Essential)
 essential_asserts asserts = elim asserts [ inl e ↦ absurd (cc) | inr e ↦ absurd (cc) ]
 
 -- a hypothesis has no frame
-hypothesis_frames : (t : Tables) (s : Sentence) (e : Entry) (frame : Part × Part) → AreTables t → ¬ (IsAssertion s.kind)
-    → AreFrames (statements_of t ++ s ∷ []) (t.hypotheses.items ++ []) (t.pairs.items ++ []) (t.named.items ++ label_info (length t.log.items) e frame ∷ [])
+hypothesis_frames : (t : Tables) (s : Sentence) (e : Entry) (frame : FrameParts) → AreTables t → ¬ (IsAssertion s.kind)
+    → AreFrames (statements_of t ++ s ∷ []) (t.hypotheses.items ++ []) (t.pairs.items ++ []) (t.pieces.items ++ []) (t.named.items ++ label_info (length t.log.items) e frame ∷ [])
 hypothesis_frames t s e frame are other =
-    frames_hypothesis (statements_of t) s t.hypotheses.items [] t.pairs.items [] t.named.items (label_info (length t.log.items) e frame)
+    frames_hypothesis (statements_of t) s t.hypotheses.items [] t.pairs.items [] t.pieces.items [] t.named.items (label_info (length t.log.items) e frame)
     (placed (statements_of t) t.labels.names t.named.items t.log.items are.labels) are.frames
     (sym (length-sentences t.symbols.names t.labels.names t.flat.items t.log.items)) other
 
 -- a `$e`
-pub supposed : (t u v : Tables) (s : Sentence) (l : List ℕ) (numbers : List Sym) (frame : Part × Part) (id : LabelId) (bytes : ℕ)
-    → AreTables t → Before t u [] [] → u.infos.items ≡ t.infos.items → u.essentials.items ≡ t.essentials.items ++ length t.log.items ∷ []
+pub supposed : (t u v : Tables) (s : Sentence) (l : List ℕ) (numbers : List Sym) (frame : FrameParts) (id : LabelId) (bytes : ℕ)
+    → AreTables t → Before t u [] [] [] → u.infos.items ≡ t.infos.items → u.essentials.items ≡ t.essentials.items ++ length t.log.items ∷ []
     → Named u v Essential l numbers frame id bytes → id.0 ≡ length u.labels.names → IsWritten t s Essential l numbers
     → 1 + length numbers ≤ 2 * bytes → t.bytes + bytes ≤ 1073741824 → Grows t v s bytes
 supposed t u v s l numbers frame id bytes are before infos essentials named number is enough room =
@@ -219,12 +226,12 @@ supposed t u v s l numbers frame id bytes are before infos essentials named numb
     let known = infos_other st t.symbols.names t.infos.items s are.infos none (λ floats. let e = is.kinds in absurd (cc)) in
     let active : AreEssentials (st ++ s ∷ []) (t.essentials.items ++ length t.log.items ∷ []) =
     subst (λ n. AreEssentials (st ++ s ∷ []) (t.essentials.items ++ n ∷ [])) size (essentials_essential st t.essentials.items s are.essentials is.kinds) in
-    named_grows t u v s Essential l numbers frame id [] [] bytes are before named number is none (λ e. absurd (cc)) (λ e. absurd (cc))
+    named_grows t u v s Essential l numbers frame id [] [] [] bytes are before named number is none (λ e. absurd (cc)) (λ e. absurd (cc))
     (rw infos known) (rw essentials active) (hypothesis_frames t s (entry_of Essential (Some id) (length t.flat.items) (length (t.flat.items ++ numbers))) frame are (no_assertion s Essential is.kinds essential_asserts)) (typings_none st) enough room
 
 -- a `$f`
-pub typed : (t u v : Tables) (s : Sentence) (code x : List ℕ) (n : Sym) (info : SymbolInfo) (l : List ℕ) (numbers : List Sym) (frame : Part × Part) (id : LabelId) (bytes : ℕ)
-    → AreTables t → Before t u [] [] → s.symbols ≡ code ∷ x ∷ [] → slice_get t.symbols.names n.0 ≡ Some x → slice_get t.infos.items n.0 ≡ Some info
+pub typed : (t u v : Tables) (s : Sentence) (code x : List ℕ) (n : Sym) (info : SymbolInfo) (l : List ℕ) (numbers : List Sym) (frame : FrameParts) (id : LabelId) (bytes : ℕ)
+    → AreTables t → Before t u [] [] [] → s.symbols ≡ code ∷ x ∷ [] → slice_get t.symbols.names n.0 ≡ Some x → slice_get t.infos.items n.0 ≡ Some info
     → u.infos.items ≡ set t.infos.items n.0 (record info { floating = Some (length t.log.items) }) → u.essentials.items ≡ t.essentials.items
     → Named u v Floating l numbers frame id bytes → id.0 ≡ length u.labels.names → IsWritten t s Floating l numbers
     → 1 + length numbers ≤ 2 * bytes → t.bytes + bytes ≤ 1073741824 → Grows t v s bytes
@@ -236,16 +243,16 @@ typed t u v s code x n info l numbers frame id bytes are before says at there in
     subst (λ k. AreInfos (st ++ s ∷ []) t.symbols.names (set t.infos.items n.0 (record info { floating = Some k }))) size
     (infos_floating st t.symbols.names t.infos.items s code x n.0 info are.infos is.kinds says at there) in
     let active = essentials_other st t.essentials.items s are.essentials (λ e. let k = is.kinds in absurd (cc)) (λ e. let k = is.kinds in absurd (cc)) in
-    named_grows t u v s Floating l numbers frame id [] [] bytes are before named number is none (λ e. absurd (cc)) (λ e. absurd (cc))
+    named_grows t u v s Floating l numbers frame id [] [] [] bytes are before named number is none (λ e. absurd (cc)) (λ e. absurd (cc))
     (rw infos known) (rw essentials active) (hypothesis_frames t s (entry_of Floating (Some id) (length t.flat.items) (length (t.flat.items ++ numbers))) frame are (no_assertion s Floating is.kinds floating_asserts)) (typings_none st) enough room
 
 -- a `$a` or `$p`
-pub asserted : (t u v : Tables) (s : Sentence) (kind : Kind) (l : List ℕ) (numbers : List Sym) (frame : Part × Part) (id : LabelId) (a : List Hypothesis) (b : List (Sym × Sym)) (bytes : ℕ)
-    → AreTables t → IsAssertion kind → Before t u a b → u.infos.items ≡ t.infos.items → u.essentials.items ≡ t.essentials.items
+pub asserted : (t u v : Tables) (s : Sentence) (kind : Kind) (l : List ℕ) (numbers : List Sym) (frame : FrameParts) (id : LabelId) (a : List Hypothesis) (b : List (Sym × Sym)) (c : List Piece) (bytes : ℕ)
+    → AreTables t → IsAssertion kind → Before t u a b c → u.infos.items ≡ t.infos.items → u.essentials.items ≡ t.essentials.items
     → Named u v kind l numbers frame id bytes → id.0 ≡ length u.labels.names → IsWritten t s kind l numbers
-    → IsFrameInfo (statements_of t ++ s ∷ []) (t.hypotheses.items ++ a) (t.pairs.items ++ b) (label_info (length t.log.items) (entry_of kind (Some id) (length t.flat.items) (length (t.flat.items ++ numbers))) frame)
+    → IsFrameInfo (statements_of t ++ s ∷ []) (t.hypotheses.items ++ a) (t.pairs.items ++ b) (t.pieces.items ++ c) (label_info (length t.log.items) (entry_of kind (Some id) (length t.flat.items) (length (t.flat.items ++ numbers))) frame)
     → HaveTypings (statements_of t) a → 1 + length numbers ≤ 2 * bytes → t.bytes + bytes ≤ 1073741824 → Grows t v s bytes
-asserted t u v s kind l numbers frame id a b bytes are which before infos essentials named number is framed typings enough room =
+asserted t u v s kind l numbers frame id a b c bytes are which before infos essentials named number is framed typings enough room =
     let st = statements_of t in
     let none = declares_none s kind is.kinds (elim which [ inl e ↦ ap (λ k. declared_in k s.symbols) e | inr e ↦ ap (λ k. declared_in k s.symbols) e ]) in
     let unclosed : ¬ (kind ≡ Closing) = λ e. elim which [ inl f ↦ absurd (cc) | inr f ↦ absurd (cc) ] in
@@ -254,9 +261,9 @@ asserted t u v s kind l numbers frame id a b bytes are which before infos essent
     let unsupposed : ¬ (s.kind ≡ Essential) = λ e. let k = is.kinds in elim which [ inl f ↦ absurd (cc) | inr f ↦ absurd (cc) ] in
     let known = infos_other st t.symbols.names t.infos.items s are.infos none typeless in
     let active = essentials_other st t.essentials.items s are.essentials unsupposed (λ e. unclosed (sym is.kinds ∙ e)) in
-    named_grows t u v s kind l numbers frame id a b bytes are before named number is none unclosed apart
+    named_grows t u v s kind l numbers frame id a b c bytes are before named number is none unclosed apart
     (rw infos known) (rw essentials active)
-    (frames_assertion st s t.hypotheses.items a t.pairs.items b t.named.items (label_info (length t.log.items) (entry_of kind (Some id) (length t.flat.items) (length (t.flat.items ++ numbers))) frame)
+    (frames_assertion st s t.hypotheses.items a t.pairs.items b t.pieces.items c t.named.items (label_info (length t.log.items) (entry_of kind (Some id) (length t.flat.items) (length (t.flat.items ++ numbers))) frame)
     (placed st t.labels.names t.named.items t.log.items are.labels) are.frames framed) typings enough room
 
 -- the numbers of a type code and a variable
@@ -300,22 +307,32 @@ noted old told new m n info p q same is place there tells =
     ∙ ap (λ (k : Sym). set told k.0 (record info { floating = Some p })) is
     ∙ ap (λ r. set told n.0 (record info { floating = Some r })) place
 
--- the frame of a new assertion, at the ends of the lists of hypotheses and of pairs
-pub framed : (t : Tables) (s : Sentence) (e : Entry) (places : List ℕ) (a : List Hypothesis) (b : List (Sym × Sym)) → AreTables t → ArePlaces (statements_of t) s places
-    → AreThoseAt (statements_of t) places a → ArePairs (at_place (statements_of t ++ s ∷ []) (length (statements_of t))) (map (λ pair. (pair.0.0, pair.1.0)) b)
-    → IsFrameInfo (statements_of t ++ s ∷ []) (t.hypotheses.items ++ a) (t.pairs.items ++ b) (label_info (length t.log.items) e (part_after t.hypotheses.items a, part_after t.pairs.items b))
-framed t s e places a b are at those pairs =
+-- the frame of a new assertion, at the ends of the lists of hypotheses, of pairs and of pieces
+pub framed : (t : Tables) (s : Sentence) (e : Entry) (places numbers : List ℕ) (old a : List Hypothesis) (b : List (Sym × Sym)) (c : List Piece) (conclusion : Part) → AreTables t → ArePlaces (statements_of t) s places
+    → AreThoseAt (statements_of t) places old → ArePairs (at_place (statements_of t ++ s ∷ []) (length (statements_of t))) (map (λ pair. (pair.0.0, pair.1.0)) b)
+    → AreNumbers (statements_of t) numbers s.symbols → ArePatterned (statements_of t) numbers old a (t.pieces.items ++ c) conclusion
+    → IsFrameInfo (statements_of t ++ s ∷ []) (t.hypotheses.items ++ a) (t.pairs.items ++ b) (t.pieces.items ++ c) (label_info (length t.log.items) e (part_after t.hypotheses.items a, part_after t.pairs.items b, conclusion))
+framed t s e places numbers old a b c conclusion are at those pairs numbered patterned =
     let st = statements_of t in
     let size = length-sentences t.symbols.names t.labels.names t.flat.items t.log.items in
     let hs : AreHypotheses (at_place (st ++ s ∷ []) (length st)) (map (λ h. h.id.0) a) =
-    subst (AreHypotheses (at_place (st ++ s ∷ []) (length st))) (sym those.numbers) (hypotheses_from_places st places s [] are.sound.1 at) in
+    subst (AreHypotheses (at_place (st ++ s ∷ []) (length st))) (sym (ids_same old a patterned.same ∙ those.numbers)) (hypotheses_from_places st places s [] are.sound.1 at) in
+    let added : slice_range (t.hypotheses.items ++ a) (length t.hypotheses.items) (length (t.hypotheses.items ++ a)) ≡ a = added_part t.hypotheses.items a in
+    let concluded = patterned.concluded in
     record {
       hypotheses_in = record { ordered = longer t.hypotheses.items a; within = omega arith };
       pairs_in = record { ordered = longer t.pairs.items b; within = omega arith };
+      conclusion_in = record { ordered = concluded.ordered; within = concluded.within };
       are_hypotheses = subst (λ n. AreHypotheses (at_place (st ++ s ∷ []) n) (map (λ h. h.id.0) (slice_range (t.hypotheses.items ++ a) (length t.hypotheses.items) (length (t.hypotheses.items ++ a))))) size
-          (subst (λ (hs : List Hypothesis). AreHypotheses (at_place (st ++ s ∷ []) (length st)) (map (λ h. h.id.0) hs)) (sym (added_part t.hypotheses.items a)) hs);
+          (subst (λ (hs : List Hypothesis). AreHypotheses (at_place (st ++ s ∷ []) (length st)) (map (λ h. h.id.0) hs)) (sym added) hs);
       are_pairs = subst (λ n. ArePairs (at_place (st ++ s ∷ []) n) (map (λ pair. (pair.0.0, pair.1.0)) (slice_range (t.pairs.items ++ b) (length t.pairs.items) (length (t.pairs.items ++ b))))) size
           (subst (λ (ps : List (Sym × Sym)). ArePairs (at_place (st ++ s ∷ []) (length st)) (map (λ pair. (pair.0.0, pair.1.0)) ps)) (sym (added_part t.pairs.items b)) pairs);
+      concluded = (
+        s, subst (λ n. slice_get (st ++ s ∷ []) n ≡ Some s) size (get_pushed st s),
+        subst (λ (hs : List Hypothesis). AreItsPieces (st ++ s ∷ []) (variables_of hs) s (slice_range (t.pieces.items ++ c) conclusion.start conclusion.end)) (sym added)
+        (its_pieces_grow st (s ∷ []) (variables_of a) s _ (numbers, numbered, concluded.says)),
+      );
+      patterned = subst (λ (hs : List Hypothesis). HavePatterns (st ++ s ∷ []) (variables_of hs) (t.pieces.items ++ c) hs) (sym added) (patterns_more st (s ∷ []) (variables_of a) (t.pieces.items ++ c) a patterned.patterned);
     }
 
 -- what an assertion is taken as

@@ -4,6 +4,7 @@ use Rattle.std.specs.List.{slice_get}
 use Rattle.mm_text.specs.declared.statement.Kind.{Kind}
 use Rattle.mm_frame.specs.declared.hypothesis.Hypothesis.{Hypothesis}
 use Rattle.mm_frame.specs.declared.number.Sym.{Sym}
+use Rattle.mm_frame.specs.declared.piece.Piece.{Piece}
 use Rattle.mm_frame.specs.declared.tables.Entry.{Entry}
 use Rattle.mm_frame.specs.declared.tables.LabelInfo.{LabelInfo}
 use Rattle.mm_frame.specs.Sentence.{Sentence, IsLabelled, IsAssertion}
@@ -77,11 +78,11 @@ pub named_kind : (st : List Sentence) (place : ℕ) (s : Sentence) (l : List ℕ
 named_kind st place s l formed there named = subst (λ (o : Option (List ℕ)). HasItsLabel s.kind o) named (formed place s there).label
 
 -- a part of the hypotheses of all assertions
-pub frame_hypotheses : (st : List Sentence) (labels : List (List ℕ)) (named : List LabelInfo) (log : List Entry) (hs : List Hypothesis) (pairs : List (Sym × Sym)) (id place : ℕ) (s : Sentence) (info : LabelInfo) (part : List Hypothesis)
-    → AreLabelInfos st labels named log → AreFrames st hs pairs named → slice_get named id ≡ Some info
+pub frame_hypotheses : (st : List Sentence) (labels : List (List ℕ)) (named : List LabelInfo) (log : List Entry) (hs : List Hypothesis) (pairs : List (Sym × Sym)) (pieces : List Piece) (id place : ℕ) (s : Sentence) (info : LabelInfo) (part : List Hypothesis)
+    → AreLabelInfos st labels named log → AreFrames st hs pairs pieces named → slice_get named id ≡ Some info
     → (info.hypotheses.start ≤ info.hypotheses.end → info.hypotheses.end ≤ length hs → part ≡ slice_range hs info.hypotheses.start info.hypotheses.end)
     → IsNumbered st id place s → IsAssertion s.kind → AreHypotheses (at_place st place) (map (λ h. h.id.0) part)
-frame_hypotheses st labels named log hs pairs id place s info part are frames there is numbered asserts =
+frame_hypotheses st labels named log hs pairs pieces id place s info part are frames there is numbered asserts =
     let same = same_place st labels named log id place s info are there numbered in
     let frame = frames id info s there (subst (λ (p : ℕ). slice_get st p ≡ Some s) (sym same) numbered.there) asserts in
     let within = frame.hypotheses_in in
@@ -89,22 +90,22 @@ frame_hypotheses st labels named log hs pairs id place s info part are frames th
     subst (λ (hs' : List Hypothesis). AreHypotheses (at_place st place) (map (λ h. h.id.0) hs')) (sym part_is)
     (subst (λ (p : ℕ). AreHypotheses (at_place st p) (map (λ h. h.id.0) (slice_range hs info.hypotheses.start info.hypotheses.end))) same frame.are_hypotheses)
 
-pub frame_typings : (st : List Sentence) (labels : List (List ℕ)) (named : List LabelInfo) (log : List Entry) (hs : List Hypothesis) (pairs : List (Sym × Sym)) (id place : ℕ) (s : Sentence) (info : LabelInfo) (part : List Hypothesis)
-    → AreLabelInfos st labels named log → AreFrames st hs pairs named → HaveTypings st hs → slice_get named id ≡ Some info
+pub frame_typings : (st : List Sentence) (labels : List (List ℕ)) (named : List LabelInfo) (log : List Entry) (hs : List Hypothesis) (pairs : List (Sym × Sym)) (pieces : List Piece) (id place : ℕ) (s : Sentence) (info : LabelInfo) (part : List Hypothesis)
+    → AreLabelInfos st labels named log → AreFrames st hs pairs pieces named → HaveTypings st hs → slice_get named id ≡ Some info
     → (info.hypotheses.start ≤ info.hypotheses.end → info.hypotheses.end ≤ length hs → part ≡ slice_range hs info.hypotheses.start info.hypotheses.end)
     → IsNumbered st id place s → IsAssertion s.kind → HaveTypings st part
-frame_typings st labels named log hs pairs id place s info part are frames have there is numbered asserts =
+frame_typings st labels named log hs pairs pieces id place s info part are frames have there is numbered asserts =
     let same = same_place st labels named log id place s info are there numbered in
     let frame = frames id info s there (subst (λ (p : ℕ). slice_get st p ≡ Some s) (sym same) numbered.there) asserts in
     let within = frame.hypotheses_in in
     typings_part st hs part info.hypotheses.start info.hypotheses.end (is within.ordered within.within) have
 
 -- a part of the distinct pairs of all assertions
-pub frame_pairs : (st : List Sentence) (labels : List (List ℕ)) (named : List LabelInfo) (log : List Entry) (hs : List Hypothesis) (pairs : List (Sym × Sym)) (id place : ℕ) (s : Sentence) (info : LabelInfo) (part : List (Sym × Sym))
-    → AreLabelInfos st labels named log → AreFrames st hs pairs named → slice_get named id ≡ Some info
+pub frame_pairs : (st : List Sentence) (labels : List (List ℕ)) (named : List LabelInfo) (log : List Entry) (hs : List Hypothesis) (pairs : List (Sym × Sym)) (pieces : List Piece) (id place : ℕ) (s : Sentence) (info : LabelInfo) (part : List (Sym × Sym))
+    → AreLabelInfos st labels named log → AreFrames st hs pairs pieces named → slice_get named id ≡ Some info
     → (info.pairs.start ≤ info.pairs.end → info.pairs.end ≤ length pairs → part ≡ slice_range pairs info.pairs.start info.pairs.end)
     → IsNumbered st id place s → IsAssertion s.kind → ArePairs (at_place st place) (map (λ pair. (pair.0.0, pair.1.0)) part)
-frame_pairs st labels named log hs pairs id place s info part are frames there is numbered asserts =
+frame_pairs st labels named log hs pairs pieces id place s info part are frames there is numbered asserts =
     let same = same_place st labels named log id place s info are there numbered in
     let frame = frames id info s there (subst (λ (p : ℕ). slice_get st p ≡ Some s) (sym same) numbered.there) asserts in
     let within = frame.pairs_in in

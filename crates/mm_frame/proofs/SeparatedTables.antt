@@ -36,6 +36,7 @@ pub record AreSeparated (t v : Tables) (members : List Sym) (added : List (ℕ �
   pub essentials : v.essentials.items ≡ t.essentials.items
   pub hypotheses : v.hypotheses.items ≡ t.hypotheses.items
   pub pairs : v.pairs.items ≡ t.pairs.items
+  pub pieces : v.pieces.items ≡ t.pieces.items
   pub stated : v.distinct.stated ≡ t.distinct.stated ++ map (stated_at (length (statements_of t))) added
   pub bytes : v.bytes ≡ t.bytes + size
 
@@ -84,11 +85,12 @@ grown t v s members pairs bytes tables are new paired =
     let infos : AreInfos (st ++ s ∷ []) v.symbols.names v.infos.items = rw (are.symbols, are.infos) (infos_other st t.symbols.names t.infos.items s tables.infos declares types) in
     let labels : AreLabelInfos (st ++ s ∷ []) v.labels.names v.named.items v.log.items = rw (are.labels, are.named, are.log) (labels_none st t.labels.names t.named.items t.log.items s _ tables.labels new.label refl size) in
     let essentials : AreEssentials (st ++ s ∷ []) v.essentials.items = rw are.essentials (essentials_other st t.essentials.items s tables.essentials supposes closes) in
-    let others : AreFrames (st ++ s ∷ []) (t.hypotheses.items ++ []) (t.pairs.items ++ []) t.named.items =
-    frames_other st s t.hypotheses.items [] t.pairs.items [] t.named.items (placed st t.labels.names t.named.items t.log.items tables.labels) tables.frames in
+    let others : AreFrames (st ++ s ∷ []) (t.hypotheses.items ++ []) (t.pairs.items ++ []) (t.pieces.items ++ []) t.named.items =
+    frames_other st s t.hypotheses.items [] t.pairs.items [] t.pieces.items [] t.named.items (placed st t.labels.names t.named.items t.log.items tables.labels) tables.frames in
     let hypotheses : v.hypotheses.items ≡ t.hypotheses.items ++ [] = are.hypotheses ∙ sym (append-nil t.hypotheses.items) in
     let distinct : v.pairs.items ≡ t.pairs.items ++ [] = are.pairs ∙ sym (append-nil t.pairs.items) in
-    let frames : AreFrames (st ++ s ∷ []) v.hypotheses.items v.pairs.items v.named.items = rw (hypotheses, distinct, are.named) others in
+    let pieces : v.pieces.items ≡ t.pieces.items ++ [] = are.pieces ∙ sym (append-nil t.pieces.items) in
+    let frames : AreFrames (st ++ s ∷ []) v.hypotheses.items v.pairs.items v.pieces.items v.named.items = rw (hypotheses, distinct, pieces, are.named) others in
     let stated : AreStated (st ++ s ∷ []) v.symbols.names v.distinct.stated = rw (are.symbols, are.stated)
     (stated_push st s t.symbols.names t.distinct.stated (map (stated_at (length st)) pairs) tables.infos.all tables.stated new.kind
     (new_from_paired st s t.symbols.names members pairs tables.infos.all new.kind new.meant new.numbered paired)) in

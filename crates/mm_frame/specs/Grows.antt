@@ -34,6 +34,7 @@ pub record SameLists (old new : Tables) : Type 0 where
   pub essentials : new.essentials.items ≡ old.essentials.items
   pub hypotheses : new.hypotheses.items ≡ old.hypotheses.items
   pub pairs : new.pairs.items ≡ old.pairs.items
+  pub pieces : new.pieces.items ≡ old.pieces.items
   pub stated : new.distinct.stated ≡ old.distinct.stated
   pub bytes : new.bytes ≡ old.bytes
 
@@ -66,5 +67,6 @@ pub record Entered (old new : Tables) (kind : Kind) (tag : Option LabelId)
   pub essentials : new.essentials.items ≡ old.essentials.items
   pub hypotheses : new.hypotheses.items ≡ old.hypotheses.items
   pub pairs : new.pairs.items ≡ old.pairs.items
+  pub pieces : new.pieces.items ≡ old.pieces.items
   pub stated : new.distinct.stated ≡ old.distinct.stated
   pub counted : new.bytes ≡ old.bytes + bytes

@@ -6,6 +6,7 @@ use Rattle.mm_text.specs.declared.statement.Kind.TheVariants.{Variables, Essenti
 use Rattle.mm_frame.specs.declared.hypothesis.Hypothesis.{Hypothesis}
 use Rattle.mm_frame.specs.declared.number.LabelId.{LabelId}
 use Rattle.mm_frame.specs.declared.number.Sym.{Sym}
+use Rattle.mm_frame.specs.declared.piece.Piece.{Piece}
 use Rattle.mm_frame.specs.declared.tables.Entry.{Entry}
 use Rattle.mm_frame.specs.declared.tables.Part.{Part}
 use Rattle.mm_frame.specs.declared.tables.SymbolInfo.{SymbolInfo}
@@ -16,6 +17,7 @@ use Rattle.mm_frame.specs.Active.{IsActive, IsConstant, IsVariable}
 use Rattle.mm_frame.specs.Form.{IsSound}
 use Rattle.mm_frame.specs.Numbers.{symbols_of, labelled_sentences, IsNumbered}
 use Rattle.mm_frame.specs.FramePlace.{AreHypotheses, HaveTypings, ArePairs}
+use Rattle.mm_frame.specs.Pieces.{variables_of, AreItsPieces, HavePatterns}
 use Rattle.mm_frame.specs.Database.{Database}
 use Rattle.mm_frame.specs.Latest.{IsLatest}
 use Rattle.mm_frame.specs.ScopesOf.{HaveScopes}
@@ -126,20 +128,29 @@ pub record AreEssentials (statements : List Sentence) (places : List ℕ) : Type
 
 -- the frame of an assertion
 pub record IsFrameInfo (statements : List Sentence) (hypotheses : List Hypothesis)
-    (pairs : List (Sym × Sym)) (info : LabelInfo) : Type 0 where
+    (pairs : List (Sym × Sym)) (pieces : List Piece) (info : LabelInfo) : Type 0 where
   pub hypotheses_in : IsPartWithin info.hypotheses (length hypotheses)
   pub pairs_in : IsPartWithin info.pairs (length pairs)
+  pub conclusion_in : IsPartWithin info.conclusion (length pieces)
   pub are_hypotheses : AreHypotheses (record { statements = statements; place = info.place })
       (map (λ h. h.id.0) (slice_range hypotheses info.hypotheses.start info.hypotheses.end))
   pub are_pairs : ArePairs (record { statements = statements; place = info.place })
       (map (λ pair. (pair.0.0, pair.1.0)) (slice_range pairs info.pairs.start info.pairs.end))
+  pub concluded : (s : Sentence) × (slice_get statements info.place ≡ Some s)
+      × AreItsPieces statements
+      (variables_of (slice_range hypotheses info.hypotheses.start info.hypotheses.end)) s
+      (slice_range pieces info.conclusion.start info.conclusion.end)
+  pub patterned : HavePatterns statements
+      (variables_of (slice_range hypotheses info.hypotheses.start info.hypotheses.end)) pieces
+      (slice_range hypotheses info.hypotheses.start info.hypotheses.end)
 
 -- the frames of all assertions
-abbrev pub AreFrames : List Sentence → List Hypothesis → List (Sym × Sym) → List LabelInfo → Type 0
-AreFrames statements hypotheses pairs named =
+abbrev pub AreFrames : List Sentence → List Hypothesis → List (Sym × Sym) → List Piece
+    → List LabelInfo → Type 0
+AreFrames statements hypotheses pairs pieces named =
     (id : ℕ) (info : LabelInfo) (s : Sentence) → slice_get named id ≡ Some info
     → slice_get statements info.place ≡ Some s
-    → IsAssertion s.kind → IsFrameInfo statements hypotheses pairs info
+    → IsAssertion s.kind → IsFrameInfo statements hypotheses pairs pieces info
 
 -- the pairs that were stated: each by an active `$d` at its place, and none while it was active by
 -- the one before
@@ -173,6 +184,7 @@ pub record AreTables (t : Tables) : Type 0 where
   pub entries : AreEntries t.symbols.names t.labels.names t.flat.items t.log.items
   pub scopes : HaveScopes (statements_of t) t.scopes
   pub essentials : AreEssentials (statements_of t) t.essentials.items
-  pub frames : AreFrames (statements_of t) t.hypotheses.items t.pairs.items t.named.items
+  pub frames : AreFrames (statements_of t) t.hypotheses.items t.pairs.items t.pieces.items
+      t.named.items
   pub typed : HaveTypings (statements_of t) t.hypotheses.items
   pub stated : AreStated (statements_of t) t.symbols.names t.distinct.stated

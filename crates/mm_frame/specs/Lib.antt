@@ -17,6 +17,7 @@ pub mod Stated
 pub mod ScopesOf
 pub mod Layout
 pub mod Gathered
+pub mod Patterned
 pub mod Told
 pub mod Sought
 pub mod Laws

@@ -20,13 +20,18 @@ use Rattle.mm_frame.specs.Grows.{entry_of}
 abbrev pub part_after : {X : Type 0} → List X → List X → Part
 part_after xs more = record { start = length xs; end = length (xs ++ more) }
 
-abbrev pub label_info : ℕ → Entry → Part × Part → LabelInfo
+-- where the hypotheses, the pairs and the pattern of an assertion stand
+abbrev pub FrameParts : Type 0
+FrameParts = Part × Part × Part
+
+abbrev pub label_info : ℕ → Entry → FrameParts → LabelInfo
 label_info place e frame = record {
   place = place;
   kind = e.kind;
   symbols = e.symbols;
   hypotheses = frame.0;
   pairs = frame.1;
+  conclusion = frame.2;
 }
 
 -- there is room for a label, and for the entry of its statement of so many symbols
@@ -39,7 +44,7 @@ pub record HaveNameRoom (t : Tables) (symbols : ℕ) : Type 0 where
 
 -- one label more was written, and the entry of its statement, which has these symbols
 pub record Named (old new : Tables) (kind : Kind) (label : List ℕ) (numbers : List Sym)
-    (frame : Part × Part) (id : LabelId) (bytes : ℕ) : Type 0 where
+    (frame : FrameParts) (id : LabelId) (bytes : ℕ) : Type 0 where
   pub symbols : new.symbols.names ≡ old.symbols.names
   pub infos : new.infos.items ≡ old.infos.items
   pub labels : new.labels.names ≡ with_name old.labels.names label
@@ -59,5 +64,6 @@ pub record Named (old new : Tables) (kind : Kind) (label : List ℕ) (numbers : 
   pub essentials : new.essentials.items ≡ old.essentials.items
   pub hypotheses : new.hypotheses.items ≡ old.hypotheses.items
   pub pairs : new.pairs.items ≡ old.pairs.items
+  pub pieces : new.pieces.items ≡ old.pieces.items
   pub stated : new.distinct.stated ≡ old.distinct.stated
   pub counted : new.bytes ≡ old.bytes + bytes

@@ -15,6 +15,7 @@ mod names;
 mod naming;
 mod number;
 mod pairs;
+mod pattern;
 mod piece;
 mod reads;
 mod rule;

@@ -17,9 +17,13 @@ use crate::answer::Taken;
 use crate::framing::{hypotheses_at, mandatory, mandatory_pairs};
 use crate::lists::{at, put};
 use crate::number::{LabelId, Sym};
+use crate::pattern::add_patterns;
 use crate::tables::{LabelInfo, NO_PART, Part, SymbolInfo, Tables};
 use mm_text::Kind;
 use std::alloc::AllocError;
+
+// What a hypothesis has of a frame.
+const NO_FRAME: (Part, Part, Part) = (NO_PART, NO_PART, NO_PART);
 
 // Adds elements to the end of a list that has room, and says where they stand.
 fn add_part<T: Copy + Drop>(list: &mut Vec<T>, more: &[T]) -> Part
@@ -52,7 +56,7 @@ impl<'a> Tables<'a> {
         kind: Kind,
         label: &'a [u8],
         numbers: &[Sym],
-        frame: (Part, Part),
+        frame: (Part, Part, Part),
         bytes: u64,
     ) -> LabelId
         requires room { HaveNameRoom self.old (length numbers.now) }
@@ -78,6 +82,7 @@ impl<'a> Tables<'a> {
                 symbols,
                 hypotheses: frame.0,
                 pairs: frame.1,
+                conclusion: frame.2,
             },
         );
         self.enter(kind, Some(id), start, bytes);
@@ -106,7 +111,7 @@ impl<'a> Tables<'a> {
             Some(variable) => note_floating(&mut self.infos, variable, self.log.len()),
             None => {}
         }
-        let id = self.name(Kind::Floating, label, numbers, (NO_PART, NO_PART), bytes);
+        let id = self.name(Kind::Floating, label, numbers, NO_FRAME, bytes);
         Ok(Taken::Hypothesis(id))
     }
 
@@ -129,7 +134,7 @@ impl<'a> Tables<'a> {
     {
         self.reserve(numbers.len())?;
         put(&mut self.essentials, self.log.len());
-        let id = self.name(Kind::Essential, label, numbers, (NO_PART, NO_PART), bytes);
+        let id = self.name(Kind::Essential, label, numbers, NO_FRAME, bytes);
         Ok(Taken::Hypothesis(id))
     }
 
@@ -153,14 +158,23 @@ impl<'a> Tables<'a> {
         ensures err { OnErr result (IsSame self.old self.new) }
     {
         let places = mandatory(self, numbers)?;
-        let hypotheses = hypotheses_at(self, &places)?;
+        let mut hypotheses = hypotheses_at(self, &places)?;
         let pairs = mandatory_pairs(self, &places)?;
         self.reserve(numbers.len())?;
         self.hypotheses.reserve(hypotheses.len())?;
         self.pairs.reserve(pairs.len())?;
+        let conclusion = add_patterns(
+            &mut self.pieces,
+            &mut hypotheses,
+            &places,
+            &self.log,
+            &self.flat,
+            numbers,
+        )?;
         let hypotheses = add_part(&mut self.hypotheses, &hypotheses);
         let pairs = add_part(&mut self.pairs, &pairs);
-        let id = self.name(kind, label, numbers, (hypotheses, pairs), bytes);
+        let frame = (hypotheses, pairs, conclusion);
+        let id = self.name(kind, label, numbers, frame, bytes);
         Ok(Taken::Assertion(id))
     }
 }

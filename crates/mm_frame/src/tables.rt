@@ -1,12 +1,17 @@
 //! The lists in which a book keeps its statements by numbers.
 
-ghost use Rattle.std.specs.Prelude.{◌≡◌, ◌≤◌, [], ◌∷◌, Some, length, slice_range};
+ghost use Rattle.std.specs.Prelude.{◌≡◌, ◌≤◌, [], ◌∷◌, Some, length, map, slice_get, slice_range};
+ghost use Rattle.mm_frame.specs.declared.tables.Tables.{Tables};
+ghost use Rattle.mm_frame.specs.Sentence.{Sentence};
+ghost use Rattle.mm_frame.specs.Numbers.{AreNumbers};
+ghost use Rattle.mm_frame.specs.Layout.{AreTables, statements_of};
 
 use crate::hypothesis::Hypothesis;
 use crate::lists::at;
 use crate::names::Names;
 use crate::number::{LabelId, Sym};
 use crate::pairs::{Pairs, in_order};
+use crate::piece::Piece;
 use crate::scopes::Scopes;
 use mm_text::Kind;
 use std::alloc::{AllocError, Global};
@@ -59,6 +64,20 @@ pub(crate) struct LabelInfo {
     pub(crate) hypotheses: Part,
     /// Of an assertion: where its distinct pairs stand in their list.
     pub(crate) pairs: Part,
+    /// Of an assertion: where its pattern stands among the pieces.
+    pub(crate) conclusion: Part,
+}
+
+/// The symbols of the statement at a place, by the statements and the symbols of a book.
+pub(crate) fn symbols_in<'b>(log: &[Entry], flat: &'b [Sym], place: usize) -> &'b [Sym]
+    ensures { (t : Tables) (s : Sentence) → AreTables t → t.log.items ≡ log.now
+        → t.flat.items ≡ flat.now → slice_get (statements_of t) place ≡ Some s
+        → AreNumbers (statements_of t) (map (λ n. n.0) result.now) s.symbols }
+{
+    match at(log, place) {
+        Some(entry) => part_of(flat, entry.symbols),
+        None => &[],
+    }
 }
 
 // The first two elements of a list that has two.
@@ -89,6 +108,8 @@ pub struct Tables<'a> {
     /// The mandatory hypotheses of all assertions, one after the other, and their distinct pairs.
     pub(crate) hypotheses: Vec<Hypothesis>,
     pub(crate) pairs: Vec<(Sym, Sym)>,
+    /// The patterns of all assertions and of their `$e`, one after the other.
+    pub(crate) pieces: Vec<Piece>,
     /// The pairs that `$d` state.
     pub(crate) distinct: Pairs,
     /// How many bytes the statements' tokens have.
@@ -125,6 +146,7 @@ impl<'a> Tables<'a> {
             essentials: Vec::new(alloc),
             hypotheses: Vec::new(alloc),
             pairs: Vec::new(alloc),
+            pieces: Vec::new(alloc),
             distinct: Pairs::new(alloc),
             bytes: 0,
         })
@@ -164,10 +186,7 @@ impl<'a> Tables<'a> {
         ensures { (s : Sentence) → slice_get (statements_of self.now) place ≡ Some s
             → AreNumbers (statements_of self.now) (map (λ n. n.0) result.now) s.symbols }
     {
-        match at(&self.log, place) {
-            Some(entry) => part_of(&self.flat, entry.symbols),
-            None => &[],
-        }
+        symbols_in(&self.log, &self.flat, place)
     }
 
     /// The variable of the `$f` at a place.

@@ -6,7 +6,7 @@ use Rattle.mm_frame.proofs.reads.label_hypotheses.Goals as goal
 pub returns-in-Some-clause-ids : goal.returns-in-Some-clause-ids
 returns-in-Some-clause-ids c place s numbered asserts =
     let t = c.args.tables.now in
-    frame_hypotheses (statements_of t) t.labels.names t.named.items t.log.items t.hypotheses.items t.pairs.items c.args.id.0 place s c.in-Some.info c.part_of.result.now
+    frame_hypotheses (statements_of t) t.labels.names t.named.items t.log.items t.hypotheses.items t.pairs.items t.pieces.items c.args.id.0 place s c.in-Some.info c.part_of.result.now
     c.requires.labels c.requires.frames (sym (rw c.in-Some.is at c.label_info.ensures)) (rw c.deref.ensures.value at c.part_of.ensures) numbered asserts
 
 pub returns-in-None-clause-ids : goal.returns-in-None-clause-ids
@@ -18,7 +18,7 @@ returns-in-None-clause-ids c place s numbered asserts =
 pub returns-in-Some-clause-typed : goal.returns-in-Some-clause-typed
 returns-in-Some-clause-typed c place s numbered asserts =
     let t = c.args.tables.now in
-    frame_typings (statements_of t) t.labels.names t.named.items t.log.items t.hypotheses.items t.pairs.items c.args.id.0 place s c.in-Some.info c.part_of.result.now
+    frame_typings (statements_of t) t.labels.names t.named.items t.log.items t.hypotheses.items t.pairs.items t.pieces.items c.args.id.0 place s c.in-Some.info c.part_of.result.now
     c.requires.labels c.requires.frames c.requires.typed (sym (rw c.in-Some.is at c.label_info.ensures)) (rw c.deref.ensures.value at c.part_of.ensures) numbered asserts
 
 pub returns-in-None-clause-typed : goal.returns-in-None-clause-typed

@@ -1,11 +1,14 @@
-use Rattle.std.proofs.Common.{◌≡◌, refl, sym, ap, ◌∙◌, subst, inr, Some, length, [], ◌∷◌, ◌++◌}
+use Rattle.std.proofs.Common.{◌≡◌, refl, sym, ap, ◌∙◌, subst, inr, Some, length, map, [], ◌∷◌, ◌++◌}
+use Rattle.mm_frame.specs.declared.number.Sym.{Sym}
 use Rattle.mm_frame.specs.Sentence.{IsStated, IsAssertion}
 use Rattle.mm_frame.specs.Layout.{IsFrameInfo, statements_of}
-use Rattle.mm_frame.specs.Gathered.{ArePlaces}
+use Rattle.mm_frame.specs.Gathered.{ArePlaces, AreThoseAt}
+use Rattle.mm_frame.specs.Patterned.{ArePatterned}
 use Rattle.mm_frame.specs.Grows.{entry_of}
 use Rattle.mm_frame.specs.Naming.{label_info}
 use Rattle.mm_frame.proofs.SameTables.{on_err, same_tables}
 use Rattle.mm_frame.proofs.NamedTables.{few_labels, assertion_taken, before_same, asserted, framed}
+use Rattle.mm_frame.proofs.Patterned.{typings_same}
 use Rattle.mm_frame.proofs.tables.Tables.assert.Goals as goal
 
 pub returns-in_err-reserve-clause-err : goal.returns-in_err-reserve-clause-err
@@ -25,6 +28,7 @@ returns-in_err-reserve-2-clause-err c =
       essentials = same.essentials;
       hypotheses = c.reserve-2.ensures.items ∙ same.hypotheses;
       pairs = same.pairs;
+      pieces = same.pieces;
       stated = same.stated;
       bytes = same.bytes;
     }))
@@ -43,6 +47,26 @@ returns-in_err-reserve-3-clause-err c =
       essentials = same.essentials;
       hypotheses = c.reserve-2.ensures.items ∙ same.hypotheses;
       pairs = c.reserve-3.ensures.items ∙ same.pairs;
+      pieces = same.pieces;
+      stated = same.stated;
+      bytes = same.bytes;
+    }))
+
+pub returns-in_err-conclusion-clause-err : goal.returns-in_err-conclusion-clause-err
+returns-in_err-conclusion-clause-err c =
+    let same = c.reserve.ensures.same in
+    on_err c.from_residual-in_err-conclusion.result (same_tables _ _ c.requires.tables (record {
+      symbols = same.symbols;
+      infos = same.infos;
+      labels = same.labels;
+      named = same.named;
+      log = same.log;
+      flat = same.flat;
+      scopes = same.scopes;
+      essentials = same.essentials;
+      hypotheses = c.reserve-2.ensures.items ∙ same.hypotheses;
+      pairs = c.reserve-3.ensures.items ∙ same.pairs;
+      pieces = c.in_err-conclusion.ensures.err ∙ same.pieces;
       stated = same.stated;
       bytes = same.bytes;
     }))
@@ -56,23 +80,41 @@ returns-clause-ok c =
     let st = statements_of t in
     let same = c.reserve.ensures.same in
     let b = before_same t c.reserve.new.self same in
-    let hs = c.in_ok-hypotheses.hypotheses.items in
+    let bare = c.in_ok-hypotheses.hypotheses.items in
+    let hs = c.add_patterns.new.hypotheses.items in
     let pairs = c.in_ok-pairs.pairs.items in
+    let numbers = map (λ (n : Sym). n.0) c.args.numbers.now in
+    let (more, longer) = c.add_patterns.ensures.longer in
+    let conclusion = c.in_ok-conclusion.conclusion in
     let old_hypotheses : c.reserve-2.new.self.items ≡ t.hypotheses.items = c.reserve-2.ensures.items ∙ same.hypotheses in
     let old_pairs : c.reserve-3.new.self.items ≡ t.pairs.items = c.reserve-3.ensures.items ∙ same.pairs in
-    let new_hypotheses : c.add_part-hypotheses.new.list.items ≡ t.hypotheses.items ++ hs = rw (c.add_part-hypotheses.ensures.items, old_hypotheses, c.deref-3.ensures.value) refl in
-    let new_pairs : c.add_part-pairs.new.list.items ≡ t.pairs.items ++ pairs = rw (c.add_part-pairs.ensures.items, old_pairs, c.deref-4.ensures.value) refl in (
+    let new_hypotheses : c.add_part-hypotheses.new.list.items ≡ t.hypotheses.items ++ hs = rw (c.add_part-hypotheses.ensures.items, old_hypotheses, c.deref-6.ensures.value) refl in
+    let new_pairs : c.add_part-pairs.new.list.items ≡ t.pairs.items ++ pairs = rw (c.add_part-pairs.ensures.items, old_pairs, c.deref-7.ensures.value) refl in
+    let new_pieces : c.add_patterns.new.pieces.items ≡ t.pieces.items ++ more = longer ∙ ap (λ ps. ps ++ more) same.pieces in (
       assertion_taken t c.args.kind c.name-id.result c.requires.tables c.requires.kind (c.name-id.ensures.id ∙ ap length same.labels),
       λ s kind label numbered meant formed.
           let stated : IsStated s.kind = inr (subst IsAssertion (sym kind) c.requires.kind) in
           let places = c.in_ok-places.ensures s meant stated numbered in
           let first : ArePlaces st s c.deref.result.now = rw c.deref.ensures.value places in
           let second : ArePlaces st s c.deref-2.result.now = rw c.deref-2.ensures.value places in
+          let third : ArePlaces st s c.deref-3.result.now = rw c.deref-3.ensures.value places in
+          let at = c.in_ok-places.places.items in
+          let those : AreThoseAt st at bare = subst (λ ps. AreThoseAt st ps bare) c.deref.ensures.value (c.in_ok-hypotheses.ensures s first) in
+          let patterned = c.in_ok-conclusion.ensures.patterned t (record {
+            tables = c.requires.tables;
+            log_is = sym same.log ∙ sym c.deref-4.ensures.value;
+            flat_is = sym same.flat ∙ sym c.deref-5.ensures.value;
+            assertion = s;
+            are_places = third;
+            those = rw c.deref-3.ensures.value those;
+          }) in
+          let patterns : ArePatterned st numbers bare hs (t.pieces.items ++ more) conclusion = subst (λ ps. ArePatterned st numbers bare hs ps conclusion) new_pieces patterned in
           let new = entry_of c.args.kind (Some c.name-id.result) (length t.flat.items) (length (t.flat.items ++ c.args.numbers.now)) in
-          let framed_at : IsFrameInfo (st ++ s ∷ []) (t.hypotheses.items ++ hs) (t.pairs.items ++ pairs) (label_info (length t.log.items) new (c.add_part-hypotheses.result, c.add_part-pairs.result)) =
-          rw (c.add_part-hypotheses.ensures.part, c.add_part-pairs.ensures.part, old_hypotheses, old_pairs, c.deref-3.ensures.value, c.deref-4.ensures.value)
-          (framed t s new c.deref.result.now hs pairs c.requires.tables first (c.in_ok-hypotheses.ensures s first) (c.in_ok-pairs.ensures s [] meant stated second)) in
-          asserted t _ c.name-id.new.self s c.args.kind c.args.label.now c.args.numbers.now (c.add_part-hypotheses.result, c.add_part-pairs.result) c.name-id.result hs pairs c.args.bytes
+          let framed_at : IsFrameInfo (st ++ s ∷ []) (t.hypotheses.items ++ hs) (t.pairs.items ++ pairs) (t.pieces.items ++ more)
+                (label_info (length t.log.items) new (c.add_part-hypotheses.result, c.add_part-pairs.result, conclusion)) =
+          rw (c.add_part-hypotheses.ensures.part, c.add_part-pairs.ensures.part, old_hypotheses, old_pairs, c.deref-6.ensures.value, c.deref-7.ensures.value)
+          (framed t s new at numbers bare hs pairs more conclusion c.requires.tables places those (c.in_ok-pairs.ensures s [] meant stated second) numbered patterns) in
+          asserted t _ c.name-id.new.self s c.args.kind c.args.label.now c.args.numbers.now (c.add_part-hypotheses.result, c.add_part-pairs.result, conclusion) c.name-id.result hs pairs more c.args.bytes
           c.requires.tables c.requires.kind
           (record {
             symbols = b.symbols;
@@ -83,6 +125,7 @@ returns-clause-ok c =
             scopes = b.scopes;
             hypotheses = new_hypotheses;
             pairs = new_pairs;
+            pieces = new_pieces;
             stated = b.stated;
             bytes = b.bytes;
           })
@@ -91,6 +134,6 @@ returns-clause-ok c =
           c.name-id.ensures.id
           (record { kinds = kind; label = label; numbered = numbered; meant = meant; formed = formed })
           framed_at
-          (c.in_ok-hypotheses.ensures s first).typed
+          (typings_same st bare hs patterns.same those.typed)
           c.requires.enough c.requires.room,
     )

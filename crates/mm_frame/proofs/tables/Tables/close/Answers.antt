@@ -24,6 +24,7 @@ returns-clause-ok c = (
         scopes = adds.scopes;
         hypotheses = adds.hypotheses;
         pairs = adds.pairs;
+        pieces = adds.pieces;
         stated = adds.stated;
         counted = adds.counted;
       })

@@ -30,6 +30,7 @@ returns-in_err-reserve-2-clause-err c =
       essentials = same.essentials;
       hypotheses = same.hypotheses;
       pairs = same.pairs;
+      pieces = same.pieces;
       stated = c.reserve-2.ensures.stated ∙ same.stated;
       bytes = same.bytes;
     }))
@@ -65,6 +66,7 @@ returns-clause-ok c = (
         essentials = e.essentials ∙ same.essentials;
         hypotheses = e.hypotheses ∙ same.hypotheses;
         pairs = e.pairs ∙ same.pairs;
+        pieces = e.pieces ∙ same.pieces;
         stated = e.stated ∙ c.state.ensures ∙ ap (λ xs. xs ++ map (stated_at c.len-place.result) c.deref.result.now) (c.reserve-2.ensures.stated ∙ same.stated)
             ∙ ap (λ xs. t.distinct.stated ++ map (stated_at c.len-place.result) xs) c.deref.ensures.value
             ∙ ap (λ (n : ℕ). t.distinct.stated ++ map (stated_at n) pairs) place;

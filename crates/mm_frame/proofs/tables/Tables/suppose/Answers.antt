@@ -28,6 +28,7 @@ returns-clause-ok c =
             scopes = b.scopes;
             hypotheses = b.hypotheses;
             pairs = b.pairs;
+            pieces = b.pieces;
             stated = b.stated;
             bytes = b.bytes;
           })

@@ -1,0 +1,60 @@
+-- How the patterns of an assertion and of its `$e` are made. This file mirrors the code, and is
+-- cited by private contracts alone.
+use Rattle.std.specs.Prelude.{◌≡◌, ℕ, ◌<◌, ◌≤◌, List, ◌++◌, length, map, slice_get, slice_range}
+use Rattle.std.specs.Prelude.{Option, Some}
+use Rattle.mm_frame.specs.declared.hypothesis.Hypothesis.{Hypothesis}
+use Rattle.mm_frame.specs.declared.number.LabelId.{LabelId}
+use Rattle.mm_frame.specs.declared.number.Sym.{Sym}
+use Rattle.mm_frame.specs.declared.piece.Piece.{Piece}
+use Rattle.mm_frame.specs.declared.tables.Entry.{Entry}
+use Rattle.mm_frame.specs.declared.tables.Part.{Part}
+use Rattle.mm_frame.specs.declared.tables.Tables.{Tables}
+use Rattle.mm_frame.specs.Sentence.{Sentence}
+use Rattle.mm_frame.specs.Pieces.{variables_of, ArePieces, HasPattern, HavePatterns}
+use Rattle.mm_frame.specs.Layout.{AreTables, statements_of}
+use Rattle.mm_frame.specs.Gathered.{ArePlaces, AreThoseAt}
+
+-- the new list begins with the old one
+abbrev pub IsLonger : {X : Type 0} → List X → List X → Type 0
+IsLonger {X} old new = (more : List X) × (new ≡ old ++ more)
+
+-- the part of the pieces says the symbols with these numbers
+pub record IsPatternAt (variables : List (Option ℕ)) (numbers : List ℕ) (pieces : List Piece)
+    (part : Part) : Type 0 where
+  pub ordered : part.start ≤ part.end
+  pub within : part.end ≤ length pieces
+  pub says : ArePieces variables numbers (slice_range pieces part.start part.end)
+
+-- what a hypothesis is, but for where its pattern stands
+abbrev pub told : Hypothesis → LabelId × Option (Sym × Sym)
+told h = (h.id, h.typing)
+
+-- the hypotheses are the same, but for where their patterns stand
+abbrev pub AreSameButPatterns : List Hypothesis → List Hypothesis → Type 0
+AreSameButPatterns old new = map told new ≡ map told old
+
+-- these are the mandatory hypotheses of an assertion that is to be added to a book, by their places,
+-- and these are two lists of the book
+pub record AreMandatoryOf (t : Tables) (log : List Entry) (flat : List Sym) (places : List ℕ)
+    (hypotheses : List Hypothesis) : Type 0 where
+  pub tables : AreTables t
+  pub log_is : t.log.items ≡ log
+  pub flat_is : t.flat.items ≡ flat
+  pub assertion : Sentence
+  pub are_places : ArePlaces (statements_of t) assertion places
+  pub those : AreThoseAt (statements_of t) places hypotheses
+
+-- the first so many of the hypotheses have their patterns
+pub record HaveFirstPatterns (statements : List Sentence) (old new : List Hypothesis)
+    (pieces : List Piece) (count : ℕ) : Type 0 where
+  pub same : AreSameButPatterns old new
+  pub each : (i : ℕ) (h : Hypothesis) → i < count → slice_get new i ≡ Some h
+      → HasPattern statements (variables_of old) pieces h
+
+-- the hypotheses have their patterns, and a part of the pieces says the assertion's symbols, which
+-- have these numbers
+pub record ArePatterned (statements : List Sentence) (numbers : List ℕ) (old new : List Hypothesis)
+    (pieces : List Piece) (conclusion : Part) : Type 0 where
+  pub same : AreSameButPatterns old new
+  pub concluded : IsPatternAt (variables_of new) numbers pieces conclusion
+  pub patterned : HavePatterns statements (variables_of new) pieces new
