@@ -11,6 +11,7 @@ use Rattle.mm_frame.specs.Sentence.{Sentence, IsLabelled, IsAssertion}
 use Rattle.mm_frame.specs.Form.{HasItsLabel, AllFormed}
 use Rattle.mm_frame.specs.Numbers.{labelled_sentences, IsNumbered}
 use Rattle.mm_frame.specs.FramePlace.{AreHypotheses, HaveTypings, ArePairs}
+use Rattle.mm_frame.specs.Pieces.{variables_of, AreItsPieces, HavePatterns}
 use Rattle.mm_frame.specs.Layout.{sentences_by, sentence_by, AreLabelInfos, AreFrames}
 use Rattle.mm_frame.proofs.Pushed.{get_within}
 use Rattle.mm_frame.proofs.NameLists.{get_mapped, get_unmapped}
@@ -112,6 +113,27 @@ frame_pairs st labels named log hs pairs pieces id place s info part are frames 
     let part_is = is within.ordered within.within in
     subst (λ (ps : List (Sym × Sym)). ArePairs (at_place st place) (map (λ pair. (pair.0.0, pair.1.0)) ps)) (sym part_is)
     (subst (λ (p : ℕ). ArePairs (at_place st p) (map (λ pair. (pair.0.0, pair.1.0)) (slice_range pairs info.pairs.start info.pairs.end))) same frame.are_pairs)
+
+-- the patterns of an assertion and of its `$e`
+pub frame_patterns : (st : List Sentence) (labels : List (List ℕ)) (named : List LabelInfo) (log : List Entry) (hs : List Hypothesis) (pairs : List (Sym × Sym)) (pieces : List Piece) (id place : ℕ) (s : Sentence) (info : LabelInfo) (part : List Hypothesis) (conclusion : List Piece)
+    → AreLabelInfos st labels named log → AreFrames st hs pairs pieces named → slice_get named id ≡ Some info
+    → (info.hypotheses.start ≤ info.hypotheses.end → info.hypotheses.end ≤ length hs → part ≡ slice_range hs info.hypotheses.start info.hypotheses.end)
+    → (info.conclusion.start ≤ info.conclusion.end → info.conclusion.end ≤ length pieces → conclusion ≡ slice_range pieces info.conclusion.start info.conclusion.end)
+    → IsNumbered st id place s → IsAssertion s.kind
+    → ((t : Sentence) × (slice_get st place ≡ Some t) × AreItsPieces st (variables_of part) t conclusion) × HavePatterns st (variables_of part) pieces part
+frame_patterns st labels named log hs pairs pieces id place s info part conclusion are frames there is ends numbered asserts =
+    let same = same_place st labels named log id place s info are there numbered in
+    let frame = frames id info s there (subst (λ (p : ℕ). slice_get st p ≡ Some s) (sym same) numbered.there) asserts in
+    let part_is = is frame.hypotheses_in.ordered frame.hypotheses_in.within in
+    let conclusion_is = ends frame.conclusion_in.ordered frame.conclusion_in.within in
+    let (t, at, says) = frame.concluded in (
+      (
+        t, subst (λ (p : ℕ). slice_get st p ≡ Some t) same at,
+        subst (λ (ks : List Hypothesis). AreItsPieces st (variables_of ks) t conclusion) (sym part_is)
+        (subst (AreItsPieces st (variables_of (slice_range hs info.hypotheses.start info.hypotheses.end)) t) (sym conclusion_is) says),
+      ),
+      subst (λ (ks : List Hypothesis). HavePatterns st (variables_of ks) pieces ks) (sym part_is) frame.patterned,
+    )
 
 -- a labelled statement's entry has its kind, which is one with a label
 pub entry_named : (symbols labels : List (List ℕ)) (flat : List Sym) (log : List Entry) (place : ℕ) (e : Entry) (s : Sentence) (l : List ℕ) → AllFormed (sentences_by symbols labels flat log)

@@ -6,11 +6,14 @@ use Rattle.mm_frame.specs.declared.hypothesis.Hypothesis.{Hypothesis}
 use Rattle.mm_frame.specs.declared.number.LabelId.{LabelId}
 use Rattle.mm_frame.specs.declared.number.Sym.{Sym}
 use Rattle.mm_frame.specs.declared.piece.Piece.{Piece}
+use Rattle.mm_frame.specs.declared.scheme.Scheme.{Scheme}
 use Rattle.mm_frame.specs.declared.tables.Entry.{Entry}
 use Rattle.mm_frame.specs.declared.tables.Part.{Part}
 use Rattle.mm_frame.specs.declared.tables.Tables.{Tables}
 use Rattle.mm_frame.specs.Sentence.{Sentence}
-use Rattle.mm_frame.specs.Pieces.{variables_of, ArePieces, HasPattern, HavePatterns}
+use Rattle.mm_frame.specs.Pieces.{variables_of, ArePieces, AreItsPieces}
+use Rattle.mm_frame.specs.Pieces.{HasPattern, HavePatterns}
+use Rattle.mm_frame.specs.FramePlace.{FramePlace, AreHypotheses, HaveTypings, ArePairs}
 use Rattle.mm_frame.specs.Layout.{AreTables, statements_of}
 use Rattle.mm_frame.specs.Gathered.{ArePlaces, AreThoseAt}
 
@@ -58,3 +61,13 @@ pub record ArePatterned (statements : List Sentence) (numbers : List ℕ) (old n
   pub same : AreSameButPatterns old new
   pub concluded : IsPatternAt (variables_of new) numbers pieces conclusion
   pub patterned : HavePatterns statements (variables_of new) pieces new
+
+-- this is what a step by the assertion at a place in its book asks of it
+pub record IsSchemeOf (frame : FramePlace) (scheme : Scheme) : Type 0 where
+  pub ids : AreHypotheses frame (map (λ h. h.id.0) scheme.hypotheses.now)
+  pub typed : HaveTypings frame.statements scheme.hypotheses.now
+  pub pairs : ArePairs frame (map (λ pair. (pair.0.0, pair.1.0)) scheme.pairs.now)
+  pub conclusion : (s : Sentence) × (slice_get frame.statements frame.place ≡ Some s)
+      × AreItsPieces frame.statements (variables_of scheme.hypotheses.now) s scheme.conclusion.now
+  pub patterns : HavePatterns frame.statements (variables_of scheme.hypotheses.now)
+      scheme.pieces.now scheme.hypotheses.now

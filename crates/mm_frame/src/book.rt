@@ -18,16 +18,18 @@ ghost use Rattle.mm_frame.specs.Numbers.{IsAssertionNumber};
 ghost use Rattle.mm_frame.specs.Found.{Finds};
 ghost use Rattle.mm_frame.specs.Taken.{TakenAs, kind_behind};
 ghost use Rattle.mm_frame.specs.FramePlace.{AreHypotheses, HaveTypings, ArePairs};
+ghost use Rattle.mm_frame.specs.Patterned.{IsSchemeOf};
 
 use crate::answer::{Found, RuleFault, Taken};
 use crate::frame::Frame;
 use crate::hypothesis::Hypothesis;
 use crate::number::{LabelId, LabelKind, Sym};
 use crate::reads::{
-    find_label, is_label_active, label_hypotheses, label_kind, label_pairs, label_place,
+    find_label, is_label_active, label_hypotheses, label_kind, label_pairs, label_place, label_scheme,
     label_symbols, label_text,
 };
 use crate::rules::first_broken;
+use crate::scheme::Scheme;
 use crate::tables::Tables;
 use mm_text::{Statement, Token};
 use std::alloc::Global;
@@ -243,5 +245,14 @@ impl<'a> Book<'a> {
             (map (λ pair. (pair.0.0, pair.1.0)) result.now) }
     {
         label_pairs(&self.tables, id)
+    }
+
+    // What a step by an assertion asks of it.
+    pub(crate) fn scheme(&self, id: LabelId) -> Scheme<'_>
+        ensures { (place : ℕ) (s : Sentence) → IsNumbered self.now.statements id.0 place s
+            → IsAssertion s.kind
+            → IsSchemeOf (record { statements = self.now.statements; place = place }) result }
+    {
+        label_scheme(&self.tables, id)
     }
 }

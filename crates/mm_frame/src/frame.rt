@@ -1,16 +1,18 @@
 //! Frames of assertions.
 
-ghost use Rattle.std.specs.Prelude.{◌↔◌, ℕ, List, IsTrue, map};
+ghost use Rattle.std.specs.Prelude.{◌≡◌, ◌↔◌, ℕ, List, Some, IsTrue, map, slice_get};
 ghost use Rattle.mm_frame.specs.Sentence.{Sentence};
 ghost use Rattle.mm_frame.specs.Active.{IsActive};
 ghost use Rattle.mm_frame.specs.Frame.{IsDistinct};
 ghost use Rattle.mm_frame.specs.Numbers.{IsNumbered, IsNumberOf};
 ghost use Rattle.mm_frame.specs.FramePlace.{AreHypotheses, HaveTypings, ArePairs};
 ghost use Rattle.mm_frame.specs.FramePlace.{AreItsSymbols, before_it};
+ghost use Rattle.mm_frame.specs.Pieces.{variables_of, AreItsPieces, HavePatterns};
 
 use crate::book::Book;
 use crate::hypothesis::Hypothesis;
 use crate::number::{LabelId, Sym};
+use crate::scheme::Scheme;
 use std::marker::Model;
 
 /// What an assertion of a book takes from the statements before it (the Metamath book, section
@@ -37,6 +39,20 @@ impl<'b, 'a> Model for Frame<'b, 'a> {
 }
 
 impl<'b, 'a> Frame<'b, 'a> {
+    /// What a step by the assertion asks of it.
+    pub fn scheme(&self) -> Scheme<'b>
+        ensures ids { AreHypotheses self.now (map (λ h. h.id.0) result.hypotheses.now) }
+        ensures typed { HaveTypings self.now.statements result.hypotheses.now }
+        ensures pairs { ArePairs self.now (map (λ pair. (pair.0.0, pair.1.0)) result.pairs.now) }
+        ensures conclusion { (s : Sentence) × (slice_get self.now.statements self.now.place ≡ Some s)
+            × AreItsPieces self.now.statements (variables_of result.hypotheses.now) s
+            result.conclusion.now }
+        ensures patterns { HavePatterns self.now.statements (variables_of result.hypotheses.now)
+            result.pieces.now result.hypotheses.now }
+    {
+        self.book.scheme(self.id)
+    }
+
     /// The mandatory hypotheses, in database order.
     pub fn hypotheses(&self) -> &'b [Hypothesis]
         ensures ids { AreHypotheses self.now (map (λ h. h.id.0) result.now) }

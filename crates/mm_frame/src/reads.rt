@@ -10,10 +10,12 @@ ghost use Rattle.mm_frame.specs.Found.{Finds};
 ghost use Rattle.mm_frame.specs.Taken.{kind_behind};
 ghost use Rattle.mm_frame.specs.FramePlace.{AreHypotheses, HaveTypings, ArePairs};
 ghost use Rattle.mm_frame.specs.Layout.{AreTables, statements_of};
+ghost use Rattle.mm_frame.specs.Patterned.{IsSchemeOf};
 
 use crate::answer::Found;
 use crate::hypothesis::Hypothesis;
 use crate::number::{LabelId, LabelKind, Sym};
+use crate::scheme::Scheme;
 use crate::tables::{Tables, part_of};
 use mm_text::Kind;
 
@@ -152,5 +154,28 @@ pub(crate) fn label_pairs<'b>(tables: &'b Tables, id: LabelId) -> &'b [(Sym, Sym
     match tables.label_info(id) {
         Some(info) => part_of(&tables.pairs, info.pairs),
         None => &[],
+    }
+}
+
+// What a step by an assertion asks of it, by one look at what is known of its label.
+pub(crate) fn label_scheme<'b>(tables: &'b Tables, id: LabelId) -> Scheme<'b>
+    requires { AreTables tables.now }
+    ensures { (place : ℕ) (s : Sentence) → IsNumbered (statements_of tables.now) id.0 place s
+        → IsAssertion s.kind
+        → IsSchemeOf (record { statements = statements_of tables.now; place = place }) result }
+{
+    match tables.label_info(id) {
+        Some(info) => Scheme {
+            hypotheses: part_of(&tables.hypotheses, info.hypotheses),
+            pairs: part_of(&tables.pairs, info.pairs),
+            conclusion: part_of(&tables.pieces, info.conclusion),
+            pieces: &tables.pieces,
+        },
+        None => Scheme {
+            hypotheses: &[],
+            pairs: &[],
+            conclusion: &[],
+            pieces: &[],
+        },
     }
 }
