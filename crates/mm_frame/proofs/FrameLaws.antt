@@ -82,10 +82,11 @@ frame_grow st more hs a pairs b pieces c info is =
       are_pairs = pairs_grow st more info.place _
           (subst (λ (ps : List (Sym × Sym)). ArePairs (at_place st info.place) (map (λ pair. (pair.0.0, pair.1.0)) ps)) (sym (slice_left pairs b info.pairs.start info.pairs.end p.ordered p.within)) is.are_pairs);
       concluded = (
-        s, get_kept st more info.place s there,
+        s,
+        get_kept st more info.place s there,
         subst (λ (ids : List Hypothesis). AreItsPieces (st ++ more) (variables_of ids) s (slice_range (pieces ++ c) info.conclusion.start info.conclusion.end)) (sym kept)
-        (subst (AreItsPieces (st ++ more) (variables_of (slice_range hs info.hypotheses.start info.hypotheses.end)) s) (sym (slice_left pieces c info.conclusion.start info.conclusion.end q.ordered q.within))
-        (its_pieces_grow st more _ s _ says)),
+            (subst (AreItsPieces (st ++ more) (variables_of (slice_range hs info.hypotheses.start info.hypotheses.end)) s) (sym (slice_left pieces c info.conclusion.start info.conclusion.end q.ordered q.within))
+            (its_pieces_grow st more _ s _ says)),
       );
       patterned = subst (λ (ids : List Hypothesis). HavePatterns (st ++ more) (variables_of ids) (pieces ++ c) ids) (sym kept) (patterns_grow st more _ pieces c _ is.patterned);
     }

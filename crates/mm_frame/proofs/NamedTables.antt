@@ -328,9 +328,10 @@ framed t s e places numbers old a b c conclusion are at those pairs numbered pat
       are_pairs = subst (λ n. ArePairs (at_place (st ++ s ∷ []) n) (map (λ pair. (pair.0.0, pair.1.0)) (slice_range (t.pairs.items ++ b) (length t.pairs.items) (length (t.pairs.items ++ b))))) size
           (subst (λ (ps : List (Sym × Sym)). ArePairs (at_place (st ++ s ∷ []) (length st)) (map (λ pair. (pair.0.0, pair.1.0)) ps)) (sym (added_part t.pairs.items b)) pairs);
       concluded = (
-        s, subst (λ n. slice_get (st ++ s ∷ []) n ≡ Some s) size (get_pushed st s),
+        s,
+        subst (λ n. slice_get (st ++ s ∷ []) n ≡ Some s) size (get_pushed st s),
         subst (λ (hs : List Hypothesis). AreItsPieces (st ++ s ∷ []) (variables_of hs) s (slice_range (t.pieces.items ++ c) conclusion.start conclusion.end)) (sym added)
-        (its_pieces_grow st (s ∷ []) (variables_of a) s _ (numbers, numbered, concluded.says)),
+            (its_pieces_grow st (s ∷ []) (variables_of a) s _ (numbers, numbered, concluded.says)),
       );
       patterned = subst (λ (hs : List Hypothesis). HavePatterns (st ++ s ∷ []) (variables_of hs) (t.pieces.items ++ c) hs) (sym added) (patterns_more st (s ∷ []) (variables_of a) (t.pieces.items ++ c) a patterned.patterned);
     }

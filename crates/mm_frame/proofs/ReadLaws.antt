@@ -128,9 +128,10 @@ frame_patterns st labels named log hs pairs pieces id place s info part conclusi
     let conclusion_is = ends frame.conclusion_in.ordered frame.conclusion_in.within in
     let (t, at, says) = frame.concluded in (
       (
-        t, subst (λ (p : ℕ). slice_get st p ≡ Some t) same at,
+        t,
+        subst (λ (p : ℕ). slice_get st p ≡ Some t) same at,
         subst (λ (ks : List Hypothesis). AreItsPieces st (variables_of ks) t conclusion) (sym part_is)
-        (subst (AreItsPieces st (variables_of (slice_range hs info.hypotheses.start info.hypotheses.end)) t) (sym conclusion_is) says),
+            (subst (AreItsPieces st (variables_of (slice_range hs info.hypotheses.start info.hypotheses.end)) t) (sym conclusion_is) says),
       ),
       subst (λ (ks : List Hypothesis). HavePatterns st (variables_of ks) pieces ks) (sym part_is) frame.patterned,
     )

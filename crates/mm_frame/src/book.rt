@@ -25,8 +25,8 @@ use crate::frame::Frame;
 use crate::hypothesis::Hypothesis;
 use crate::number::{LabelId, LabelKind, Sym};
 use crate::reads::{
-    find_label, is_label_active, label_hypotheses, label_kind, label_pairs, label_place, label_scheme,
-    label_symbols, label_text,
+    find_label, is_label_active, label_hypotheses, label_kind, label_pairs, label_place,
+    label_scheme, label_symbols, label_text,
 };
 use crate::rules::first_broken;
 use crate::scheme::Scheme;

@@ -21,29 +21,29 @@ loop-i-preserved c =
     let so_far = c.loop-i.invariant.longer in
     elim c.if-is_essential.branch [
       | then-is_essential+in_ok-pattern w ↦ record {
-          longer = subst (λ (v : Vec Piece Global). IsLonger c.args.pieces.now.items v.items) (sym w.pieces-is) (longer_more _ _ _ so_far w.push_pattern.ensures.longer);
-          count = c.set_pattern.ensures.count ∙ c.loop-i.invariant.count;
-          patterned = λ t of.
-              let have = c.loop-i.invariant.patterned t of in
-              let there = slice_get-get_or c.args.places.now i 0 c.loop-i-test.true in
-              let (h, at) = get_within hs i (counted t _ _ c.args.places.now old hs i of have.same c.loop-i-test.true) in
-              let step = essential_step t c.args.log.now c.args.flat.now c.args.places.now _ old hs c.set_pattern.new.hypotheses.items c.loop-i.pieces.items w.push_pattern.new.pieces.items i _ h w.in_ok-pattern.pattern of have there at
-              (λ e at_e. w.symbols_in.ensures t e of.tables of.log_is of.flat_is at_e)
-              (rw w.deref-then-is_essential.ensures.value at w.in_ok-pattern.ensures.part) w.push_pattern.ensures.longer
-              (c.set_pattern.ensures.noted h at ∙ ap (λ (part : Part). set hs i (record h { pattern = part })) w.pattern-is) in
-              subst (λ (v : Vec Piece Global). HaveFirstPatterns (statements_of t) old c.set_pattern.new.hypotheses.items v.items (i + 1)) (sym w.pieces-is) step;
-        }
+        longer = subst (λ (v : Vec Piece Global). IsLonger c.args.pieces.now.items v.items) (sym w.pieces-is) (longer_more _ _ _ so_far w.push_pattern.ensures.longer);
+        count = c.set_pattern.ensures.count ∙ c.loop-i.invariant.count;
+        patterned = λ t of.
+            let have = c.loop-i.invariant.patterned t of in
+            let there = slice_get-get_or c.args.places.now i 0 c.loop-i-test.true in
+            let (h, at) = get_within hs i (counted t _ _ c.args.places.now old hs i of have.same c.loop-i-test.true) in
+            let step = essential_step t c.args.log.now c.args.flat.now c.args.places.now _ old hs c.set_pattern.new.hypotheses.items c.loop-i.pieces.items w.push_pattern.new.pieces.items i _ h w.in_ok-pattern.pattern of have there at
+            (λ e at_e. w.symbols_in.ensures t e of.tables of.log_is of.flat_is at_e)
+            (rw w.deref-then-is_essential.ensures.value at w.in_ok-pattern.ensures.part) w.push_pattern.ensures.longer
+            (c.set_pattern.ensures.noted h at ∙ ap (λ (part : Part). set hs i (record h { pattern = part })) w.pattern-is) in
+            subst (λ (v : Vec Piece Global). HaveFirstPatterns (statements_of t) old c.set_pattern.new.hypotheses.items v.items (i + 1)) (sym w.pieces-is) step;
+      }
       | else-is_essential w ↦ record {
-          longer = subst (λ (v : Vec Piece Global). IsLonger c.args.pieces.now.items v.items) (sym w.pieces-is) so_far;
-          count = c.set_pattern.ensures.count ∙ c.loop-i.invariant.count;
-          patterned = λ t of.
-              let have = c.loop-i.invariant.patterned t of in
-              let (h, at) = get_within hs i (counted t _ _ c.args.places.now old hs i of have.same c.loop-i-test.true) in
-              let seen : slice_get c.deref.result.now i ≡ Some h = ap (λ ks. slice_get ks i) c.deref.ensures.value ∙ at in
-              let step = typed_step (statements_of t) old hs c.set_pattern.new.hypotheses.items c.loop-i.pieces.items i h have at (sym (c.is_essential.ensures h seen) ∙ w.if-is_essential.false)
-              (c.set_pattern.ensures.noted h at ∙ ap (λ (part : Part). set hs i (record h { pattern = part })) w.pattern-is) in
-              subst (λ (v : Vec Piece Global). HaveFirstPatterns (statements_of t) old c.set_pattern.new.hypotheses.items v.items (i + 1)) (sym w.pieces-is) step;
-        }
+        longer = subst (λ (v : Vec Piece Global). IsLonger c.args.pieces.now.items v.items) (sym w.pieces-is) so_far;
+        count = c.set_pattern.ensures.count ∙ c.loop-i.invariant.count;
+        patterned = λ t of.
+            let have = c.loop-i.invariant.patterned t of in
+            let (h, at) = get_within hs i (counted t _ _ c.args.places.now old hs i of have.same c.loop-i-test.true) in
+            let seen : slice_get c.deref.result.now i ≡ Some h = ap (λ ks. slice_get ks i) c.deref.ensures.value ∙ at in
+            let step = typed_step (statements_of t) old hs c.set_pattern.new.hypotheses.items c.loop-i.pieces.items i h have at (sym (c.is_essential.ensures h seen) ∙ w.if-is_essential.false)
+            (c.set_pattern.ensures.noted h at ∙ ap (λ (part : Part). set hs i (record h { pattern = part })) w.pattern-is) in
+            subst (λ (v : Vec Piece Global). HaveFirstPatterns (statements_of t) old c.set_pattern.new.hypotheses.items v.items (i + 1)) (sym w.pieces-is) step;
+      }
     ]
 
 pub returns-clause-patterned : goal.returns-clause-patterned

@@ -13,7 +13,7 @@ returns-in-Some c place s numbered asserts =
     let pairs = rw c.deref-in-Some.ensures.value at c.part_of-in-Some.ensures in
     let pieces = rw c.deref-in-Some-2.ensures.value at c.part_of-in-Some-2.ensures in
     let (concluded, patterned) = frame_patterns st t.labels.names t.named.items t.log.items t.hypotheses.items t.pairs.items t.pieces.items c.args.id.0 place s c.in-Some.info c.part_of.result.now c.part_of-in-Some-2.result.now
-          c.requires.labels c.requires.frames there hypotheses pieces numbered asserts in
+    c.requires.labels c.requires.frames there hypotheses pieces numbered asserts in
     record {
       ids = frame_hypotheses st t.labels.names t.named.items t.log.items t.hypotheses.items t.pairs.items t.pieces.items c.args.id.0 place s c.in-Some.info c.part_of.result.now
           c.requires.labels c.requires.frames there hypotheses numbered asserts;
