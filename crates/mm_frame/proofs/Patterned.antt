@@ -16,7 +16,7 @@ use Rattle.mm_frame.specs.declared.tables.Tables.{Tables}
 use Rattle.mm_frame.specs.Sentence.{Sentence}
 use Rattle.mm_frame.specs.Numbers.{labelled_sentences, AreNumbers}
 use Rattle.mm_frame.specs.FramePlace.{IsTypingOf, HasTyping, HaveTypings}
-use Rattle.mm_frame.specs.Pieces.{variables_of, IsPieceOf, ArePieces, HasPattern, HavePatterns}
+use Rattle.mm_frame.specs.Pieces.{variables_of, IsPieceOf, ArePieces, HasPattern}
 use Rattle.mm_frame.specs.Gathered.{AreRisingPlaces}
 use Rattle.mm_frame.specs.Layout.{statements_of}
 use Rattle.mm_frame.specs.Naming.{part_after}
