@@ -36,8 +36,8 @@ told h = (h.id, h.typing)
 abbrev pub AreSameButPatterns : List Hypothesis → List Hypothesis → Type 0
 AreSameButPatterns old new = map told new ≡ map told old
 
--- these are the mandatory hypotheses of an assertion that is to be added to a book, by their places,
--- and these are two lists of the book
+-- these are the mandatory hypotheses of an assertion that is to be added to a book, at these
+-- places, and these are two lists of the book
 pub record AreMandatoryOf (t : Tables) (log : List Entry) (flat : List Sym) (places : List ℕ)
     (hypotheses : List Hypothesis) : Type 0 where
   pub tables : AreTables t

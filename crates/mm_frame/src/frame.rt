@@ -44,7 +44,8 @@ impl<'b, 'a> Frame<'b, 'a> {
         ensures ids { AreHypotheses self.now (map (λ h. h.id.0) result.hypotheses.now) }
         ensures typed { HaveTypings self.now.statements result.hypotheses.now }
         ensures pairs { ArePairs self.now (map (λ pair. (pair.0.0, pair.1.0)) result.pairs.now) }
-        ensures conclusion { (s : Sentence) × (slice_get self.now.statements self.now.place ≡ Some s)
+        ensures conclusion { (s : Sentence)
+            × (slice_get self.now.statements self.now.place ≡ Some s)
             × AreItsPieces self.now.statements (variables_of result.hypotheses.now) s
             result.conclusion.now }
         ensures patterns { HavePatterns self.now.statements (variables_of result.hypotheses.now)
