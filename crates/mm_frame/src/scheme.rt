@@ -1,11 +1,12 @@
 //! What a step by an assertion asks of it.
 
-ghost use Rattle.std.specs.Prelude.{MatchOption};
+ghost use Rattle.std.specs.Prelude.{◌≡◌, ◌≤◌, MatchOption, length, slice_range};
 ghost use Rattle.mm_frame.specs.Pieces.{variables_of, IsNowhere, IsFirstAt};
 
 use crate::hypothesis::Hypothesis;
 use crate::number::Sym;
 use crate::piece::Piece;
+use crate::tables::part_of;
 
 /// What a step by an assertion asks of it: the assertion is a scheme, of which the step makes an
 /// instance (the Metamath book, section 4.1.4).
@@ -19,6 +20,18 @@ pub struct Scheme<'b> {
     pub conclusion: &'b [Piece],
     /// The list in which the patterns of the `$e` are parts.
     pub pieces: &'b [Piece],
+}
+
+impl<'b> Scheme<'b> {
+    /// The pattern of a mandatory hypothesis that is a `$e`.
+    pub fn pattern(&self, hypothesis: &Hypothesis) -> &'b [Piece]
+        ensures { hypothesis.now.pattern.start ≤ hypothesis.now.pattern.end
+            → hypothesis.now.pattern.end ≤ length self.now.pieces.now
+            → result.now ≡ slice_range self.now.pieces.now hypothesis.now.pattern.start
+            hypothesis.now.pattern.end }
+    {
+        part_of(self.pieces, hypothesis.pattern)
+    }
 }
 
 /// The place of the `$f` of a variable among hypotheses.
