@@ -10,7 +10,10 @@ use Rattle.mm_frame.specs.Active.{IsActive, IsConstant, IsVariable, IsActiveSymb
 use Rattle.mm_frame.specs.Frame.{AreMandatory, IsMandatoryPair}
 use Rattle.mm_frame.specs.Rules.{AllMeant}
 use Rattle.mm_frame.specs.Numbers.{symbols_of, IsNumbered, IsNumberOf, AreNumbers}
-use Rattle.mm_frame.specs.FramePlace.{AreHypotheses, ArePairs, AreItsSymbols}
+use Rattle.mm_frame.specs.FramePlace.{ArePairs}
+use Rattle.mm_frame.specs.Pieces.{variables_of}
+use Rattle.mm_frame.specs.declared.piece.Piece.{Piece}
+use Rattle.mm_frame.specs.declared.scheme.Scheme.{Scheme}
 use Rattle.mm_frame.specs.Taken.{kind_behind}
 use Rattle.mm_frame.specs.declared.number.LabelKind.{LabelKind}
 use Rattle.mm_frame.specs.declared.number.LabelKind.TheVariants as kinds
@@ -22,17 +25,18 @@ use Rattle.mm_proof.specs.Tree.{Names, ShareNoVariable, AreDistinct}
 use Rattle.mm_proof.specs.Moves.{name}
 use Rattle.mm_proof.specs.Proof.{MeetsHypotheses, SomePair, Passed, IsWithin, expression_limit}
 use Rattle.mm_proof.specs.Steps.{IsNumberedMove}
-use Rattle.mm_proof.specs.CodeVerify.{name_at, names_at, all_names_at, value_of, replaced_in, IsSymbol, AreDeclaredSymbols, AreStackEntries, AreBelow, IsRightCode, IsWrongCode, IsEqual, IsUnequal, EachEntry, EachPairValues, SomePairValues, Replaces, AreHypothesesOf, AreVariablesOf}
-use Rattle.mm_proof.specs.CodeSteps.{MayBeUsed}
+use Rattle.mm_proof.specs.CodeVerify.{name_at, names_at, all_names_at, value_of, replaced_in, all_said_by, pairs_in, IsSymbol, AreDeclaredSymbols, AreStackEntries, AreBelow, IsRightCode, IsWrongCode, IsEqual, IsUnequal, EachEntry, EachPairValues, SomePairValues, Replaces, AreHypothesesOf, AreVariablesOf}
+use Rattle.mm_proof.specs.CodeSteps.{MayBeUsed, label_ids}
 use Rattle.mm_proof.specs.CodeRun.{CarriesOn, StopsAt}
-use Rattle.mm_proof.specs.CodeApply.{IsAppliedAssertion, IsMatched, IsReady}
+use Rattle.mm_proof.specs.CodeApply.{IsAppliedAssertion, IsMatched, IsReady, IsSchemeOf}
 use Rattle.mm_proof.proofs.Places.{get_take, get_from_take}
 use Rattle.mm_proof.proofs.Meaning.{meant_at, meant_front}
 use Rattle.mm_proof.proofs.Numbered.{numbered_at}
 use Rattle.mm_proof.proofs.OneStep.{StepTo, not_both_kinds}
 use Rattle.mm_proof.proofs.Replacements.{replaced_by, meets_of}
 use Rattle.mm_proof.proofs.Replacing.{replaces_by, replaced_named}
-use Rattle.mm_proof.proofs.Named.{name_is, named_is, below_is}
+use Rattle.mm_proof.proofs.Named.{name_is, named_is, below_is, typed_variables}
+use Rattle.mm_proof.proofs.Values.{pattern_says}
 use Rattle.mm_proof.proofs.Shared.{value_symbols, symbols_below}
 use Rattle.mm_proof.proofs.ByNumber.{share_turned, distinct_share_none, apart_turned}
 use Rattle.mm_proof.proofs.Firsts.{EachPair, first_P8, first_P9, first_P10, first_P11, first_P12, first_L1, step_of_meets, step_of_hypothesis}
@@ -174,11 +178,6 @@ typed_count st [] (h ∷ hs) all = absurd all
 typed_count st (v ∷ vs) [] all = absurd all
 typed_count st (v ∷ vs) (h ∷ hs) all = ap suc (typed_count st vs hs all.1)
 
-its_symbols : (st : List Sentence) (place id at : ℕ) (ids : List ℕ) (hs : List Sentence) (pattern : List ℕ) → (c : IsAppliedAssertion st place id at ids hs)
-    → AreItsSymbols (record { statements = st; place = at }) pattern → AreNumbers st pattern c.s.symbols
-its_symbols st place id at ids hs pattern c its =
-    subst (λ (s : Sentence). AreNumbers st pattern s.symbols) (same_Some its.assertion c.s (sym its.there ∙ c.numbered.there)) its.numbered
-
 -- what is made, by names
 made_named : OneNumber → (st : List Sentence) (hs : List Sentence) (vs : List (Option ℕ)) (es : List (List ℕ)) (pattern : List ℕ) (symbols : List (List ℕ)) → AreVariablesOf st vs hs
     → AreNumbers st pattern symbols → names_at st (replaced_in (value_of vs es) pattern) ≡ instance_of (replaced_by hs (all_names_at st es)) symbols
@@ -186,10 +185,10 @@ made_named one st hs vs es pattern symbols typed numbers =
     replaced_named st (replaced_by hs (all_names_at st es)) vs es pattern (replaces_by one st vs hs es typed) (below_is st pattern symbols numbers)
     ∙ ap (instance_of (replaced_by hs (all_names_at st es))) (named_is st pattern symbols numbers)
 
-step_to : OneNumber → (st : List Sentence) (place id at : ℕ) (label : List ℕ) (stack : List (List ℕ)) (base : ℕ) (vs : List (Option ℕ)) → AllMeant st
-    → (ready : IsReady st place id at vs (drop base stack)) → length (drop base stack) ≡ length vs → IsNumberedMove st (name id) (name label)
+step_to : OneNumber → (st : List Sentence) (place id at : ℕ) (label : List ℕ) (stack : List (List ℕ)) (base : ℕ) (vs : List (Option ℕ)) (conclusion : List Piece) → AllMeant st
+    → (ready : IsReady st place id at vs (drop base stack) conclusion) → length (drop base stack) ≡ length vs → IsNumberedMove st (name id) (name label)
     → StepTo (take place st) (all_names_at st stack) label (all_names_at st (take base stack)) (instance_of (replaced_by ready.hs (all_names_at st (drop base stack))) ready.called.s.symbols)
-step_to one st place id at label stack base vs all ready as_many move =
+step_to one st place id at label stack base vs conclusion all ready as_many move =
     let paired = as_many ∙ typed_count st vs ready.hs ready.typed in
     let r = replaces_by one st vs ready.hs (drop base stack) ready.typed in
     let apart = each_pair one st place id at ready.ids ready.hs label stack base vs ready.pairs (AreDistinct (take place st)) (apart_turned (take place st)) all ready.called move paired ready.typed ready.mandatory ready.matched.apart in
@@ -197,29 +196,36 @@ step_to one st place id at label stack base vs all ready as_many move =
     ready.matched.codes (ready.matched.equal (replaced_by ready.hs (all_names_at st (drop base stack))) r)
     (λ x y e f pair at_x at_y. distinct_share_none (take place st) e f (apart x y e f pair at_x at_y)) apart
 
-pub stops_L1 : OneNumber → (st : List Sentence) (place id at : ℕ) (stack : List (List ℕ)) (base : ℕ) (vs : List (Option ℕ)) (pattern : List ℕ) → AllMeant st
-    → IsReady st place id at vs (drop base stack) → length (drop base stack) ≡ length vs → AreItsSymbols (record { statements = st; place = at }) pattern
-    → expression_limit < length (replaced_in (value_of vs (drop base stack)) pattern) → StopsAt st place id stack L1
-stops_L1 one st place id at stack base vs pattern all ready as_many its over label kept move =
-    let made = made_named one st ready.hs vs (drop base stack) pattern ready.called.s.symbols ready.typed (its_symbols st place id at ready.ids ready.hs pattern ready.called its) in
+-- what the pattern of the assertion says is what is made
+made_is : (st : List Sentence) (place id at : ℕ) (vs : List (Option ℕ)) (es : List (List ℕ)) (conclusion : List Piece) → length es ≡ length vs → (ready : IsReady st place id at vs es conclusion)
+    → all_said_by es conclusion ≡ replaced_in (value_of vs es) ready.concluded.0
+made_is st place id at vs es conclusion size ready = pattern_says vs es ready.concluded.0 conclusion (sym size) ready.concluded.2
+
+pub stops_L1 : OneNumber → (st : List Sentence) (place id at : ℕ) (stack : List (List ℕ)) (base : ℕ) (vs : List (Option ℕ)) (conclusion : List Piece) → AllMeant st
+    → IsReady st place id at vs (drop base stack) conclusion → length (drop base stack) ≡ length vs
+    → expression_limit < length (all_said_by (drop base stack) conclusion) → StopsAt st place id stack L1
+stops_L1 one st place id at stack base vs conclusion all ready as_many over label kept move =
+    let pattern = ready.concluded.0 in
+    let made = made_named one st ready.hs vs (drop base stack) pattern ready.called.s.symbols ready.typed ready.concluded.1 in
     let size : length (names_at st (replaced_in (value_of vs (drop base stack)) pattern)) ≡ length (replaced_in (value_of vs (drop base stack)) pattern) = length-map _ (name_at st) in
+    let said = ap length (made_is st place id at vs (drop base stack) conclusion as_many ready) in
     first_L1 (IsWithin expression_limit) (take place st) (all_names_at st stack) kept label (all_names_at st (take base stack)) _ (meant_front st place all)
-    (λ within. let w = subst (IsWithin expression_limit) (sym made) within in omega (arith, w, size, over)) (step_to one st place id at label stack base vs all ready as_many move)
+    (λ within. let w = subst (IsWithin expression_limit) (sym made) within in omega (arith, w, size, over, said)) (step_to one st place id at label stack base vs conclusion all ready as_many move)
 
 pushed_named : (st : List Sentence) (rest : List (List ℕ)) (made : List ℕ) → all_names_at st (rest ++ made ∷ []) ≡ all_names_at st rest ++ names_at st made ∷ []
 pushed_named st rest made = map-append (λ (e : List ℕ). map (name_at st) e) rest (made ∷ [])
 
-pub carries : OneNumber → (st : List Sentence) (place id at : ℕ) (stack : List (List ℕ)) (base : ℕ) (vs : List (Option ℕ)) (pattern made : List ℕ) → AllMeant st
-    → IsReady st place id at vs (drop base stack) → length (drop base stack) ≡ length vs → AreItsSymbols (record { statements = st; place = at }) pattern
-    → made ≡ replaced_in (value_of vs (drop base stack)) pattern → length made ≤ expression_limit → CarriesOn st place id stack (take base stack ++ made ∷ [])
-carries one st place id at stack base vs pattern made all ready as_many its is within label moves kept move passed =
+pub carries : OneNumber → (st : List Sentence) (place id at : ℕ) (stack : List (List ℕ)) (base : ℕ) (vs : List (Option ℕ)) (conclusion : List Piece) (made : List ℕ) → AllMeant st
+    → IsReady st place id at vs (drop base stack) conclusion → length (drop base stack) ≡ length vs
+    → made ≡ all_said_by (drop base stack) conclusion → length made ≤ expression_limit → CarriesOn st place id stack (take base stack ++ made ∷ [])
+carries one st place id at stack base vs conclusion made all ready as_many is within label moves kept move passed =
     let e = instance_of (replaced_by ready.hs (all_names_at st (drop base stack))) ready.called.s.symbols in
-    let whole : names_at st made ≡ e = ap (names_at st) is
-    ∙ made_named one st ready.hs vs (drop base stack) pattern ready.called.s.symbols ready.typed (its_symbols st place id at ready.ids ready.hs pattern ready.called its) in
+    let whole : names_at st made ≡ e = ap (names_at st) (is ∙ made_is st place id at vs (drop base stack) conclusion as_many ready)
+    ∙ made_named one st ready.hs vs (drop base stack) ready.concluded.0 ready.called.s.symbols ready.typed ready.concluded.1 in
     let size : length (names_at st made) ≡ length made = length-map made (name_at st) in
     let fits : IsWithin expression_limit (names_at st made) = omega (arith, within, size) in
     let next = passed_name (IsWithin expression_limit) (take place st) moves (all_names_at st stack) kept label (all_names_at st (take base stack)) e (meant_front st place all) passed
-    (step_to one st place id at label stack base vs all ready as_many move) (subst (IsWithin expression_limit) whole fits) in
+    (step_to one st place id at label stack base vs conclusion all ready as_many move) (subst (IsWithin expression_limit) whole fits) in
     subst (λ l. Passed (IsWithin expression_limit) (take place st) (moves ++ name label ∷ []) l kept) (sym (pushed_named st (take base stack) made ∙ ap (λ x. all_names_at st (take base stack) ++ x ∷ []) whole)) next
 
 -- ---- the symbols of what is made
@@ -283,14 +289,15 @@ pub entries_below : (st before : List Sentence) (entries : List (List ℕ)) → 
 entries_below st before [] all = tt
 entries_below st before (e ∷ entries) all = (symbols_below st before e all.0, entries_below st before entries all.1)
 
-pub made_entries : (st : List Sentence) (place id at : ℕ) (stack : List (List ℕ)) (base : ℕ) (vs : List (Option ℕ)) (pattern made : List ℕ) → AllMeant st
-    → IsReady st place id at vs (drop base stack) → AreItsSymbols (record { statements = st; place = at }) pattern
-    → made ≡ replaced_in (value_of vs (drop base stack)) pattern → AreStackEntries st (take place st) stack → AreStackEntries st (take place st) (take base stack ++ made ∷ [])
-made_entries st place id at stack base vs pattern made all ready its is entries =
-    let numbers = its_symbols st place id at ready.ids ready.hs pattern ready.called its in
-    let known = known_symbols st place at ready.called.s pattern all ready.called.numbered.there ready.called.before (inr (inr (inr ready.called.kind))) numbers in
+pub made_entries : (st : List Sentence) (place id at : ℕ) (stack : List (List ℕ)) (base : ℕ) (vs : List (Option ℕ)) (conclusion : List Piece) (made : List ℕ) → AllMeant st
+    → IsReady st place id at vs (drop base stack) conclusion → length (drop base stack) ≡ length vs
+    → made ≡ all_said_by (drop base stack) conclusion → AreStackEntries st (take place st) stack → AreStackEntries st (take place st) (take base stack ++ made ∷ [])
+made_entries st place id at stack base vs conclusion made all ready as_many is entries =
+    let pattern = ready.concluded.0 in
+    let known = known_symbols st place at ready.called.s pattern all ready.called.numbered.there ready.called.before (inr (inr (inr ready.called.kind))) ready.concluded.1 in
     entries_push st (take place st) (take base stack) made (entries_take st (take place st) base stack entries)
-    (subst (AreDeclaredSymbols st (take place st)) (sym is) (replaced_symbols st (take place st) vs (drop base stack) pattern (entries_drop st (take place st) base stack entries) known))
+    (subst (AreDeclaredSymbols st (take place st)) (sym (is ∙ made_is st place id at vs (drop base stack) conclusion as_many ready))
+    (replaced_symbols st (take place st) vs (drop base stack) pattern (entries_drop st (take place st) base stack entries) known))
 
 -- one side of a test
 pub match_true : (b : Bool) (P Q : Type 0) → b ≡ true → MatchBool b P Q → P
@@ -303,24 +310,31 @@ match_false false P Q is h = h
 
 -- ---- what the frame tells
 
--- the assertion of a frame is the one with the number
-pub called_of : (st own : List Sentence) (place id at : ℕ) (ids : List ℕ) (a s : Sentence) → own ≡ st → (h : AreHypotheses (record { statements = own; place = at }) ids)
-    → slice_get st at ≡ Some a → IsAssertion a.kind → at < place → IsNumbered st id at s → IsAppliedAssertion st place id at ids h.hypotheses
-called_of st own place id at ids a s same h there kind less n = record {
-  s = s;
-  numbered = n;
-  kind = subst (λ (t : Sentence). IsAssertion t.kind) (same_Some a s (sym there ∙ n.there)) kind;
-  before = less;
-  mandatory = subst (λ (l : List Sentence). AreMandatory (take at l) s h.hypotheses) same
-      (subst (λ (t : Sentence). AreMandatory (take at own) t h.hypotheses) (same_Some h.assertion s (sym h.there ∙ ap (λ (l : List Sentence). slice_get l at) same ∙ n.there)) h.mandatory);
-  known = subst (λ (l : List Sentence). AreHypothesesOf l ids h.hypotheses) same h.numbered;
+-- the assertion of a scheme is the one with the number
+pub called_of : (st : List Sentence) (place id : ℕ) (scheme : Scheme) → (is : IsSchemeOf st place id scheme) → IsAppliedAssertion st place id is.at (label_ids scheme.hypotheses.now) is.hypotheses.hypotheses
+called_of st place id scheme is = record {
+  s = is.s;
+  numbered = is.numbered;
+  kind = is.kind;
+  before = is.before;
+  mandatory = subst (λ (t : Sentence). AreMandatory (take is.at st) t is.hypotheses.hypotheses) (same_Some is.hypotheses.assertion is.s (sym is.hypotheses.there ∙ is.numbered.there)) is.hypotheses.mandatory;
+  known = is.hypotheses.numbered;
 }
 
-pub ready_of : (st own : List Sentence) (place id at : ℕ) (vs : List (Option ℕ)) (entries : List (List ℕ)) (ids : List ℕ) (hs : List Sentence) (pairs : List (ℕ × ℕ)) → own ≡ st
-    → IsAppliedAssertion st place id at ids hs → AreVariablesOf st vs hs → ArePairs (record { statements = st; place = at }) pairs → IsMatched st place hs vs entries pairs → IsReady own place id at vs entries
-ready_of st own place id at vs entries ids hs pairs same called typed mandatory matched =
-    subst (λ (l : List Sentence). IsReady l place id at vs entries) (sym same)
-    (record { ids = ids; hs = hs; pairs = pairs; called = called; typed = typed; mandatory = mandatory; matched = matched })
+pub ready_of : (st : List Sentence) (place id : ℕ) (scheme : Scheme) (entries : List (List ℕ)) → (is : IsSchemeOf st place id scheme)
+    → IsMatched st place is.hypotheses.hypotheses (variables_of scheme.hypotheses.now) entries (pairs_in scheme.pairs.now)
+    → IsReady st place id is.at (variables_of scheme.hypotheses.now) entries scheme.conclusion.now
+unfolding called_of
+ready_of st place id scheme entries is matched = record {
+  ids = label_ids scheme.hypotheses.now;
+  hs = is.hypotheses.hypotheses;
+  pairs = pairs_in scheme.pairs.now;
+  called = called_of st place id scheme is;
+  typed = typed_variables st scheme.hypotheses.now is.hypotheses.hypotheses is.typed is.hypotheses.numbered;
+  mandatory = is.pairs;
+  matched = matched;
+  concluded = is.concluded;
+}
 
 -- ---- the step by a hypothesis
 

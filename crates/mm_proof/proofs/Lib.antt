@@ -24,6 +24,7 @@ pub mod Expanded
 pub mod ByWord
 pub mod RowLemmas
 pub mod Parts
+pub mod Patterned
 pub mod Numbered
 pub mod LabelLists
 pub mod TokenFacts
@@ -31,7 +32,6 @@ pub mod Readings
 pub mod Compressed
 pub mod Answering
 pub mod Values
-pub mod FirstPlaces
 pub mod Named
 pub mod Replacing
 pub mod Shared
@@ -46,6 +46,7 @@ pub mod Naming
 pub mod Picking
 pub mod Ending
 pub mod Applying
+pub mod Calls
 pub mod Listed
 pub mod ListingLoop
 pub mod ListingEnd

@@ -1,5 +1,5 @@
 -- Symbols by their numbers, and what is said of their names.
-use Rattle.std.proofs.Common.{◌≡◌, ◌↔◌, ℕ, zero, suc, ◌+◌, ◌<◌, List, [], ◌∷◌, ◌++◌, length, map, take, drop, get_or, slice_get, true, false, is_some, Option, option_map, Some, None, inl, inr, refl, sym, ap, subst, ◌∙◌, arith}
+use Rattle.std.proofs.Common.{◌≡◌, ◌↔◌, ℕ, zero, suc, ◌+◌, ◌<◌, List, [], ◌∷◌, ◌++◌, length, map, take, drop, get_or, slice_get, Bool, true, false, IsTrue, MatchBool, is_some, Option, option_map, Some, None, inl, inr, refl, sym, ap, subst, ◌∙◌, arith}
 use Rattle.std.specs.List.{AllByRecursion, AllZip}
 use Rattle.std.proofs.lemmas.Option.{same_Some, none-some, slice_get_within, get_or_from_slice_get, slice_get-get_or, slice_get-map}
 use Rattle.std.proofs.lemmas.Bool.{false≢true, cases_lt}
@@ -8,10 +8,11 @@ use Rattle.mm_text.specs.declared.statement.Kind.TheVariants.{Floating, Essentia
 use Rattle.mm_frame.specs.Sentence.{Sentence, Types}
 use Rattle.mm_frame.specs.Numbers.{symbols_of, labelled_sentences, IsNumberOf, AreNumbers}
 use Rattle.mm_frame.specs.FramePlace.{IsTypingOf, HaveTypings}
+use Rattle.mm_frame.specs.Pieces.{variables_of}
 use Rattle.mm_frame.specs.Laws.{OneNumber}
 use Rattle.mm_frame.specs.declared.hypothesis.Hypothesis.{Hypothesis}
 use Rattle.mm_proof.specs.CodeSteps.{label_ids}
-use Rattle.mm_proof.specs.CodeVerify.{name_at, names_at, AreBelow, IsRightCode, IsEqual, IsVariableOf, AreHypothesesOf, AreVariablesOf, variables_in, all_names_at}
+use Rattle.mm_proof.specs.CodeVerify.{name_at, names_at, AreBelow, IsRightCode, IsWrongCode, IsEqual, IsVariableOf, AreHypothesesOf, AreVariablesOf, all_names_at}
 use Rattle.mm_frame.specs.declared.number.Sym.{Sym}
 use Rattle.mm_proof.proofs.Places.{take_get}
 use Rattle.mm_proof.proofs.LabelLists.{zip_push}
@@ -75,6 +76,11 @@ code_told one st h code x c entry below types number = (
         let named = same_Some (name_at st n) code (same ∙ ap (λ l. slice_get l 0) types.1) in
         ap Some ((one st [] code).1 n c (subst (λ y. IsNumberOf st y n) named (number_of_name st n below.0)) number)
 
+pub code_judged : (b : Bool) (h : Sentence) (entry : List (List ℕ)) → h.kind ≡ Floating → (IsTrue b → slice_get entry 0 ≡ slice_get h.symbols 0)
+    → (slice_get entry 0 ≡ slice_get h.symbols 0 → IsTrue b) → MatchBool b (IsRightCode h entry) (IsWrongCode h entry)
+code_judged true h entry floating to from = λ floats. to refl
+code_judged false h entry floating to from = (floating, λ same. false≢true (from same))
+
 -- a `$e` has no type code
 pub no_code : (h : Sentence) (entry : List (List ℕ)) → h.kind ≡ Essential → IsRightCode h entry
 no_code h entry essential floats = absurd (let both : Floating ≡ Essential = sym floats ∙ essential in cc)
@@ -83,6 +89,10 @@ pub no_variable : (st : List Sentence) (h : Sentence) → h.kind ≡ Essential �
 no_variable st h essential floats = let both : Floating ≡ Essential = sym floats ∙ essential in cc
 
 -- ---- hypotheses and their entries, one after the other
+
+-- what a hypothesis that isn't there is read as
+abbrev pub no_hypothesis : Hypothesis
+no_hypothesis = record { id = record { 0 = 0 }; typing = None; pattern = record { start = 0; end = 0 } }
 
 -- the hypothesis with the number at a place
 pub hypothesis_at : (st : List Sentence) (ids : List Hypothesis) (hs : List Sentence) (i : ℕ) (d : Hypothesis) → AreHypothesesOf st (label_ids ids) hs → i < length ids
@@ -101,14 +111,22 @@ typing_at st xs i d h have less there =
     let (g, at, is) = have i (get_or xs i d) (slice_get-get_or xs i d less) in
     subst (IsTypingOf st (get_or xs i d).typing) (same_Some g h (sym at ∙ there)) is
 
-pub variables_more : (st : List Sentence) (variables : List (Option Sym)) (v : Option Sym) (hs : List Sentence) (i : ℕ) (h : Sentence) → slice_get hs i ≡ Some h
-    → AreVariablesOf st (variables_in variables) (take i hs) → IsVariableOf st (option_map (λ s. s.0) v) h → AreVariablesOf st (variables_in (variables ++ v ∷ [])) (take (i + 1) hs)
-variables_more st variables v hs i h there all here =
-    let one : i + 1 ≡ suc i = omega arith in
-    let front = ap (λ k. take k hs) one ∙ take_get hs i h there in
-    subst (λ l. AllZip (IsVariableOf st) (variables_in (variables ++ v ∷ [])) l) (sym front)
-    (subst (λ vs. AllZip (IsVariableOf st) vs (take i hs ++ h ∷ [])) (sym (map-append (λ u. option_map (λ s. s.0) u) variables (v ∷ [])))
-    (zip_push (IsVariableOf st) (variables_in variables) (take i hs) (option_map (λ s. s.0) v) h all here))
+typing_variable : (st : List Sentence) (typing : Option (Sym × Sym)) (h : Sentence) → IsTypingOf st typing h → IsVariableOf st (option_map (λ t. t.1.0) typing) h
+typing_variable st None h is = no_variable st h is
+typing_variable st (Some typing) h (code, x, types, first, second) = (code, x, types, second)
+
+-- the variables of hypotheses are those of their typings
+pub typed_variables : (st : List Sentence) (xs : List Hypothesis) (hs : List Sentence) → HaveTypings st xs → AreHypothesesOf st (label_ids xs) hs → AreVariablesOf st (variables_of xs) hs
+typed_variables st [] [] have are = tt
+typed_variables st [] (h ∷ hs) have are = absurd cc
+typed_variables st (x ∷ xs) [] have are = absurd cc
+typed_variables st (x ∷ xs) (h ∷ hs) have are =
+    let there : slice_get (labelled_sentences st) x.id.0 ≡ Some h = cc in
+    let rest : AreHypothesesOf st (label_ids xs) hs = cc in
+    let (g, at, is) = have 0 x refl in (
+      typing_variable st x.typing h (subst (IsTypingOf st x.typing) (same_Some g h (sym at ∙ there)) is),
+      typed_variables st xs hs (λ i y y_there. have (suc i) y y_there) rest,
+    )
 
 pub all_get : {X : Type 0} (P : X → Type 0) (xs : List X) (i : ℕ) (x : X) → AllByRecursion P xs → slice_get xs i ≡ Some x → P x
 all_get P [] i x all at = absurd (none-some x at)
@@ -156,6 +174,16 @@ variable_typed st [] (g ∷ hs) i h all at = absurd all
 variable_typed st (v ∷ vs) [] i h all at = absurd all
 variable_typed st (v ∷ vs) (g ∷ hs) zero h all at = subst (IsVariableOf st v) (same_Some g h at) all.0
 variable_typed st (v ∷ vs) (g ∷ hs) (suc i) h all at = variable_typed st vs hs i h all.1 at
+
+-- a hypothesis with a typing has a variable
+pub typing_some : (hs : List Hypothesis) (k : ℕ) (d : Hypothesis) → k < length hs → is_some (get_or hs k d).typing ≡ true → is_some (get_or (variables_of hs) k None) ≡ true
+typing_some [] k d less is = absurd (omega arith)
+typing_some (h ∷ hs) zero d less is = some h.typing is
+  where
+    some : (typing : Option (Sym × Sym)) → is_some typing ≡ true → is_some (option_map (λ (t : Sym × Sym). t.1.0) typing) ≡ true
+    some None e = absurd (false≢true e)
+    some (Some t) e = refl
+typing_some (h ∷ hs) (suc k) d less is = typing_some hs k d (omega arith) is
 
 -- nothing is asked of a `$f`
 pub floating_equal : (st : List Sentence) (σ : List ℕ → Option (List (List ℕ))) (h : Sentence) (entry : List (List ℕ)) (v : Option ℕ) → is_some v ≡ true → IsVariableOf st v h → IsEqual σ h entry

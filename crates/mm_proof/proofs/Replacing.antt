@@ -10,7 +10,8 @@ use Rattle.mm_frame.specs.Sentence.{Sentence, Types}
 use Rattle.mm_frame.specs.Numbers.{symbols_of, IsNumberOf, AreNumbers}
 use Rattle.mm_frame.specs.Laws.{OneNumber}
 use Rattle.mm_proof.specs.Substitution.{instance_of}
-use Rattle.mm_proof.specs.CodeVerify.{name_at, names_at, all_names_at, AreBelow, is_of, value_of, replaced_in, IsVariableOf, AreVariablesOf, IsEqual, IsUnequal, Replaces}
+use Rattle.mm_frame.specs.Pieces.{is_of}
+use Rattle.mm_proof.specs.CodeVerify.{name_at, names_at, all_names_at, AreBelow, value_of, replaced_in, IsVariableOf, AreVariablesOf, IsEqual, IsUnequal, Replaces}
 use Rattle.mm_proof.proofs.Replacements.{replaced_by, first_of, typing_dec}
 use Rattle.mm_proof.proofs.Named.{name_is, named_is, below_is, number_of_name, named_once}
 

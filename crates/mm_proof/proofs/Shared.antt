@@ -11,7 +11,8 @@ use Rattle.mm_frame.specs.Numbers.{symbols_of}
 use Rattle.mm_frame.specs.Laws.{OneNumber}
 use Rattle.mm_proof.specs.Tree.{ShareNoVariable, AreDistinct}
 use Rattle.mm_proof.specs.Stores.{numbers_in}
-use Rattle.mm_proof.specs.CodeVerify.{name_at, names_at, IsSymbol, AreDeclaredSymbols, AreBelow, IsApartFromEach, AreStackEntries, is_of, value_of, EachValues, SomeValues, pairs_in}
+use Rattle.mm_frame.specs.Pieces.{is_of}
+use Rattle.mm_proof.specs.CodeVerify.{name_at, names_at, IsSymbol, AreDeclaredSymbols, AreBelow, IsApartFromEach, AreStackEntries, value_of, EachValues, SomeValues, pairs_in}
 use Rattle.std.proofs.lemmas.Option.{same_Some}
 use Rattle.mm_frame.specs.Frame.{IsDistinct}
 use Rattle.mm_proof.proofs.Meaning.{not_both, some_in_front}

@@ -1,14 +1,19 @@
 -- What replaces a symbol, by numbers: the entry of the hypothesis that types it.
 use Rattle.std.proofs.Common.{◌≡◌, ℕ, zero, suc, ◌+◌, ◌<◌, ◌≤◌, List, [], ◌∷◌, ◌++◌, length, take, drop, get_or, slice_get, Bool, false, eqb, ◌&&◌, Option, option_map, unwrap_or, Some, None, IsTrue, refl, sym, ap, ◌∙◌, arith}
+use Rattle.std.specs.List.{flat_map, AllByRecursion}
 use Rattle.std.specs.Cmp.Lexicographic.{pointwise}
 use Rattle.std.specs.Str.{bytes_eq}
 use Rattle.std.proofs.lemmas.Slice.Eq.{bytes_eq-Decides}
-use Rattle.std.proofs.lemmas.Option.{same_Some, none-some}
-use Rattle.std.proofs.lemmas.List.{length-map, take-map, map_more, append_assoc, append-nil, append_cancel_left, length-append, take_all, take_at, take-append-drop}
+use Rattle.std.proofs.lemmas.Option.{same_Some, none-some, slice_get-get_or}
+use Rattle.std.proofs.lemmas.List.{length-map, take-map, take_more, append_assoc, append-nil, append_cancel_left, length-append, take_all, take_at, take-append-drop}
 use Rattle.std.proofs.lemmas.List.Concat.{flat_map-append}
 use Rattle.mm_frame.specs.declared.number.Sym.{Sym}
 use Rattle.mm_proof.specs.Stores.{numbers_in}
-use Rattle.mm_proof.specs.CodeVerify.{variables_in, is_of, value_of, replaced_in, IsNowhere, IsFirstAt}
+use Rattle.mm_frame.specs.declared.hypothesis.Hypothesis.{Hypothesis}
+use Rattle.mm_frame.specs.declared.piece.Piece.{Piece}
+use Rattle.mm_frame.specs.declared.piece.Piece.TheVariants.{Symbol, Value}
+use Rattle.mm_frame.specs.Pieces.{variables_of, is_of, IsNowhere, IsFirstAt, IsPieceOf, ArePieces}
+use Rattle.mm_proof.specs.CodeVerify.{value_of, replaced_in, said_by, all_said_by, IsWithinPlaces}
 
 -- past the end there is none
 pub nowhere_past : (n : ℕ) (variables : List (Option ℕ)) (k : ℕ) → length variables ≤ k → is_of n (get_or variables k None) ≡ false
@@ -46,76 +51,107 @@ same_numbers (x ∷ xs) (y ∷ ys) = ap (λ b. eqb x.0 y.0 && b) (same_numbers x
 pub same_told : (xs ys : List ℕ) (r : Bool) → r ≡ bytes_eq xs ys → (IsTrue r → xs ≡ ys) × (xs ≡ ys → IsTrue r)
 same_told xs ys r is = let d = bytes_eq-Decides xs ys in (λ t. d.0 (sym is ∙ t), λ e. is ∙ d.1 e)
 
-pub variables_length : (variables : List (Option Sym)) → length (variables_in variables) ≡ length variables
-variables_length variables = length-map variables (λ v. option_map (λ s. s.0) v)
-
 -- what begins so has that front
 pub front_of : (symbols front begin : List Sym) (n : ℕ) (rest : List ℕ) → begin ≡ take n symbols → n ≡ length front → numbers_in symbols ≡ numbers_in front ++ rest → numbers_in begin ≡ numbers_in front
 front_of symbols front begin n rest b count e =
     let size : length (numbers_in front) ≡ n = omega (arith, length-map front (λ s. s.0)) in
     ap numbers_in b ∙ sym (take-map (λ s. s.0) n symbols) ∙ ap (take n) e ∙ take_at (numbers_in front) rest n size
 
--- ---- replacing, one symbol after the other
+-- ---- saying, one piece after the other
 
-abbrev pub piece_of : (ℕ → Option (List ℕ)) → ℕ → List ℕ
-piece_of σ n = unwrap_or (σ n) (n ∷ [])
-
-pub replaced_more : (σ : ℕ → Option (List ℕ)) (pattern : List Sym) (i : ℕ) (d : Sym) → i < length pattern
-    → replaced_in σ (take (i + 1) (numbers_in pattern)) ≡ replaced_in σ (take i (numbers_in pattern)) ++ piece_of σ (get_or pattern i d).0
-replaced_more σ pattern i d less =
-    let front = take-map (λ s. s.0) (i + 1) pattern ∙ map_more (λ s. s.0) pattern i d less ∙ ap (λ l. l ++ (get_or pattern i d).0 ∷ []) (sym (take-map (λ s. s.0) i pattern)) in
-    ap (replaced_in σ) front ∙ flat_map-append (piece_of σ) (take i (numbers_in pattern)) ((get_or pattern i d).0 ∷ [])
-    ∙ ap (λ l. replaced_in σ (take i (numbers_in pattern)) ++ l) (append-nil (piece_of σ (get_or pattern i d).0))
+pub said_more : {X : Type 0} (f : X → List ℕ) (pieces : List X) (i : ℕ) (d : X) → i < length pieces
+    → flat_map f (take (i + 1) pieces) ≡ flat_map f (take i pieces) ++ f (get_or pieces i d)
+said_more f pieces i d less =
+    ap (flat_map f) (take_more pieces i d less) ∙ flat_map-append f (take i pieces) (get_or pieces i d ∷ [])
+    ∙ ap (λ l. flat_map f (take i pieces) ++ l) (append-nil (f (get_or pieces i d)))
 
 -- the whole goes on behind a front
-pub replaced_whole : (σ : ℕ → Option (List ℕ)) (ns : List ℕ) (i : ℕ) → replaced_in σ ns ≡ replaced_in σ (take i ns) ++ replaced_in σ (drop i ns)
-replaced_whole σ ns i = ap (replaced_in σ) (sym (take-append-drop i ns)) ∙ flat_map-append (piece_of σ) (take i ns) (drop i ns)
+pub said_whole : {X : Type 0} (f : X → List ℕ) (pieces : List X) (i : ℕ) → flat_map f pieces ≡ flat_map f (take i pieces) ++ flat_map f (drop i pieces)
+said_whole f pieces i = ap (flat_map f) (sym (take-append-drop i pieces)) ∙ flat_map-append f (take i pieces) (drop i pieces)
 
-pub replaced_step : (σ : ℕ → Option (List ℕ)) (pattern : List Sym) (i : ℕ) (d : Sym) (whole rest others : List ℕ) → i < length pattern
-    → whole ≡ replaced_in σ (take i (numbers_in pattern)) ++ rest → rest ≡ piece_of σ (get_or pattern i d).0 ++ others
-    → whole ≡ replaced_in σ (take (i + 1) (numbers_in pattern)) ++ others
-replaced_step σ pattern i d whole rest others less inv piece =
-    inv ∙ ap (λ l. replaced_in σ (take i (numbers_in pattern)) ++ l) piece
-    ∙ sym (append_assoc (replaced_in σ (take i (numbers_in pattern))) (piece_of σ (get_or pattern i d).0) others)
-    ∙ ap (λ l. l ++ others) (sym (replaced_more σ pattern i d less))
+pub said_step : {X : Type 0} (f : X → List ℕ) (pieces : List X) (i : ℕ) (d : X) (whole rest others : List ℕ) → i < length pieces
+    → whole ≡ flat_map f (take i pieces) ++ rest → rest ≡ f (get_or pieces i d) ++ others
+    → whole ≡ flat_map f (take (i + 1) pieces) ++ others
+said_step f pieces i d whole rest others less inv piece =
+    inv ∙ ap (λ l. flat_map f (take i pieces) ++ l) piece
+    ∙ sym (append_assoc (flat_map f (take i pieces)) (f (get_or pieces i d)) others)
+    ∙ ap (λ l. l ++ others) (sym (said_more f pieces i d less))
 
--- what isn't so at one symbol isn't so at all
-pub replaced_none : (σ : ℕ → Option (List ℕ)) (pattern : List Sym) (i : ℕ) (d : Sym) (whole rest : List ℕ) → i < length pattern
-    → whole ≡ replaced_in σ (take i (numbers_in pattern)) ++ rest → ((others : List ℕ) → ¬ (rest ≡ piece_of σ (get_or pattern i d).0 ++ others))
-    → ¬ (whole ≡ replaced_in σ (numbers_in pattern))
-replaced_none σ pattern i d whole rest less inv none is =
-    let a = replaced_in σ (take i (numbers_in pattern)) in
-    let v = piece_of σ (get_or pattern i d).0 in
-    let more = replaced_in σ (drop (i + 1) (numbers_in pattern)) in
+-- what isn't so at one piece isn't so at all
+pub said_none : {X : Type 0} (f : X → List ℕ) (pieces : List X) (i : ℕ) (d : X) (whole rest : List ℕ) → i < length pieces
+    → whole ≡ flat_map f (take i pieces) ++ rest → ((others : List ℕ) → ¬ (rest ≡ f (get_or pieces i d) ++ others))
+    → ¬ (whole ≡ flat_map f pieces)
+said_none f pieces i d whole rest less inv none is =
+    let a = flat_map f (take i pieces) in
+    let v = f (get_or pieces i d) in
+    let more = flat_map f (drop (i + 1) pieces) in
     let parts : a ++ rest ≡ a ++ (v ++ more) =
-    sym inv ∙ is ∙ replaced_whole σ (numbers_in pattern) (i + 1) ∙ ap (λ l. l ++ more) (replaced_more σ pattern i d less) ∙ append_assoc a v more in
+    sym inv ∙ is ∙ said_whole f pieces (i + 1) ∙ ap (λ l. l ++ more) (said_more f pieces i d less) ∙ append_assoc a v more in
     none more (append_cancel_left a rest (v ++ more) parts)
 
-pub replaced_end : (σ : ℕ → Option (List ℕ)) (pattern : List Sym) (i : ℕ) (whole : List ℕ) (rest : List Sym) (r : Bool) → length pattern ≤ i
-    → whole ≡ replaced_in σ (take i (numbers_in pattern)) ++ numbers_in rest → (IsTrue r → length rest ≡ 0) → (length rest ≡ 0 → IsTrue r)
-    → (IsTrue r → whole ≡ replaced_in σ (numbers_in pattern)) × (whole ≡ replaced_in σ (numbers_in pattern) → IsTrue r)
-replaced_end σ pattern i whole rest r all inv to from = (
-  λ t. here ∙ ap (λ l. replaced_in σ (numbers_in pattern) ++ numbers_in l) (none_left rest (to t)) ∙ append-nil (replaced_in σ (numbers_in pattern)),
-  λ is. from (let e = append_cancel_left (replaced_in σ (numbers_in pattern)) (numbers_in rest) [] (sym here ∙ is ∙ sym (append-nil (replaced_in σ (numbers_in pattern)))) in
+pub said_end : {X : Type 0} (f : X → List ℕ) (pieces : List X) (i : ℕ) (whole : List ℕ) (rest : List Sym) (r : Bool) → length pieces ≤ i
+    → whole ≡ flat_map f (take i pieces) ++ numbers_in rest → (IsTrue r → length rest ≡ 0) → (length rest ≡ 0 → IsTrue r)
+    → (IsTrue r → whole ≡ flat_map f pieces) × (whole ≡ flat_map f pieces → IsTrue r)
+said_end f pieces i whole rest r all inv to from = (
+  λ t. here ∙ ap (λ l. flat_map f pieces ++ numbers_in l) (none_left rest (to t)) ∙ append-nil (flat_map f pieces),
+  λ is. from (let e = append_cancel_left (flat_map f pieces) (numbers_in rest) [] (sym here ∙ is ∙ sym (append-nil (flat_map f pieces))) in
       omega (arith, ap length e, length-map rest (λ s. s.0))),
 )
   where
-    here : whole ≡ replaced_in σ (numbers_in pattern) ++ numbers_in rest
-    here = inv ∙ ap (λ l. replaced_in σ l ++ numbers_in rest) (take_all i (numbers_in pattern) (omega (arith, length-map pattern (λ s. s.0))))
+    here : whole ≡ flat_map f pieces ++ numbers_in rest
+    here = inv ∙ ap (λ l. flat_map f l ++ numbers_in rest) (take_all i pieces all)
 
     none_left : (xs : List Sym) → length xs ≡ 0 → xs ≡ []
     none_left [] e = refl
     none_left (x ∷ xs) e = absurd (omega arith)
 
 -- a front over the limit puts the whole over it
-pub replaced_over : (σ : ℕ → Option (List ℕ)) (ns : List ℕ) (i n : ℕ) → n < length (replaced_in σ (take i ns)) → n < length (replaced_in σ ns)
-replaced_over σ ns i n over = omega (arith, over, ap length (replaced_whole σ ns i), length-append (replaced_in σ (take i ns)) (replaced_in σ (drop i ns)))
+pub said_over : {X : Type 0} (f : X → List ℕ) (pieces : List X) (i n : ℕ) → n < length (flat_map f (take i pieces)) → n < length (flat_map f pieces)
+said_over f pieces i n over = omega (arith, over, ap length (said_whole f pieces i), length-append (flat_map f (take i pieces)) (flat_map f (drop i pieces)))
 
--- what a symbol that isn't there is read as
-abbrev pub no_symbol : Sym
-no_symbol = record { 0 = 0 }
+pub said_appended : {X : Type 0} (f : X → List ℕ) (pieces : List X) (i : ℕ) (d : X) (made next : List ℕ) → i < length pieces
+    → made ≡ flat_map f (take i pieces) → next ≡ made ++ f (get_or pieces i d) → next ≡ flat_map f (take (i + 1) pieces)
+said_appended f pieces i d made next less inv piece =
+    piece ∙ ap (λ l. l ++ f (get_or pieces i d)) inv ∙ sym (said_more f pieces i d less)
 
-pub appended : (σ : ℕ → Option (List ℕ)) (pattern : List Sym) (i : ℕ) (d : Sym) (made next : List ℕ) → i < length pattern
-    → made ≡ replaced_in σ (take i (numbers_in pattern)) → next ≡ made ++ piece_of σ (get_or pattern i d).0 → next ≡ replaced_in σ (take (i + 1) (numbers_in pattern))
-appended σ pattern i d made next less inv piece =
-    piece ∙ ap (λ l. l ++ piece_of σ (get_or pattern i d).0) inv ∙ sym (replaced_more σ pattern i d less)
+-- what a piece that isn't there is read as
+abbrev pub no_piece : Piece
+no_piece = Symbol (record { 0 = 0 })
+
+-- ---- what a pattern says is what replacement makes
+
+piece_says : (vs : List (Option ℕ)) (es : List (List ℕ)) (n : ℕ) (p : Piece) → length vs ≡ length es → IsPieceOf vs n p → said_by es p ≡ unwrap_or (value_of vs es n) (n ∷ [])
+piece_says vs es n (Symbol symbol) size is = rw (value_nowhere n vs es is.1) (ap (λ m. m ∷ []) is.0)
+piece_says vs es n (Value place) size is =
+    let within = is.within in
+    let there = slice_get-get_or es place [] (omega (arith, within, size)) in
+    rw (value_first n vs es place (get_or es place []) is there) refl
+
+pub pattern_says : (vs : List (Option ℕ)) (es : List (List ℕ)) (ns : List ℕ) (pieces : List Piece) → length vs ≡ length es → ArePieces vs ns pieces → all_said_by es pieces ≡ replaced_in (value_of vs es) ns
+pattern_says vs es [] [] size are = refl
+pattern_says vs es [] (p ∷ pieces) size are = absurd are
+pattern_says vs es (n ∷ ns) [] size are = absurd are
+pattern_says vs es (n ∷ ns) (p ∷ pieces) size are =
+    ap (λ l. l ++ all_said_by es pieces) (piece_says vs es n p size are.0)
+    ∙ ap (λ l. unwrap_or (value_of vs es n) (n ∷ []) ++ l) (pattern_says vs es ns pieces size are.1)
+
+piece_within : (vs : List (Option ℕ)) (n count : ℕ) (p : Piece) → length vs ≡ count → IsPieceOf vs n p → IsWithinPlaces count p
+piece_within vs n count (Symbol symbol) size is = tt
+piece_within vs n count (Value place) size is = let within = is.within in omega (arith, within, size)
+
+-- a pattern names no place behind the hypotheses
+pub pattern_within : (vs : List (Option ℕ)) (count : ℕ) (ns : List ℕ) (pieces : List Piece) → length vs ≡ count → ArePieces vs ns pieces → AllByRecursion (IsWithinPlaces count) pieces
+pattern_within vs count [] [] size are = tt
+pattern_within vs count [] (p ∷ pieces) size are = absurd are
+pattern_within vs count (n ∷ ns) [] size are = absurd are
+pattern_within vs count (n ∷ ns) (p ∷ pieces) size are = (piece_within vs n count p size are.0, pattern_within vs count ns pieces size are.1)
+
+-- the piece at a place is within
+pub within_at : (P : Piece → Type 0) (pieces : List Piece) (i : ℕ) (d : Piece) → AllByRecursion P pieces → i < length pieces → P (get_or pieces i d)
+within_at P [] i d all less = absurd (omega arith)
+within_at P (p ∷ pieces) zero d all less = all.0
+within_at P (p ∷ pieces) (suc i) d all less = within_at P pieces i d all.1 (omega arith)
+
+-- there are as many variables as hypotheses
+pub variables_count : (hypotheses : List Hypothesis) → length (variables_of hypotheses) ≡ length hypotheses
+variables_count hypotheses = length-map hypotheses (λ h. option_map (λ typing. typing.1.0) h.typing)

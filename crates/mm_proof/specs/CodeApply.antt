@@ -1,12 +1,19 @@
 -- What the step by an assertion knows by numbers: it mirrors the code.
 use Rattle.std.specs.Prelude.{ℕ, ◌<◌, List, take, Option}
-use Rattle.mm_frame.specs.Sentence.{Sentence, IsAssertion}
+use Rattle.mm_frame.specs.Sentence.{Sentence, IsAssertion, IsHypothesis}
 use Rattle.mm_frame.specs.Frame.{AreMandatory}
-use Rattle.mm_frame.specs.Numbers.{IsNumbered}
-use Rattle.mm_frame.specs.FramePlace.{ArePairs}
+use Rattle.mm_frame.specs.Numbers.{IsNumbered, AreNumbers}
+use Rattle.mm_frame.specs.FramePlace.{ArePairs, AreHypotheses, HaveTypings}
+use Rattle.mm_frame.specs.Pieces.{variables_of, AreItsPieces, HavePatterns}
+use Rattle.mm_frame.specs.declared.piece.Piece.{Piece}
+use Rattle.mm_frame.specs.declared.scheme.Scheme.{Scheme}
+use Rattle.mm_proof.specs.declared.call.Call.{Call}
+use Rattle.mm_proof.specs.declared.call.Call.TheVariants as calls
+use Rattle.mm_proof.specs.Stores.{numbers_in}
+use Rattle.mm_proof.specs.CodeSteps.{label_ids, MayBeUsed}
 use Rattle.mm_proof.specs.Tree.{AreDistinct}
 use Rattle.mm_proof.specs.CodeVerify.{names_at, all_names_at, value_of, IsRightCode, IsEqual}
-use Rattle.mm_proof.specs.CodeVerify.{EachEntry}
+use Rattle.mm_proof.specs.CodeVerify.{EachEntry, pairs_in}
 use Rattle.mm_proof.specs.CodeVerify.{Replaces, EachPairValues, AreHypothesesOf, AreVariablesOf}
 
 -- the number is that of an assertion before the place of the proof, and these are its hypotheses,
@@ -31,7 +38,7 @@ pub record IsMatched (statements : List Sentence) (place : ℕ) (hs : List Sente
 
 -- only the limit is left to judge
 pub record IsReady (statements : List Sentence) (place id at : ℕ) (variables : List (Option ℕ))
-    (entries : List (List ℕ)) : Type 0 where
+    (entries : List (List ℕ)) (conclusion : List Piece) : Type 0 where
   pub ids : List ℕ
   pub hs : List Sentence
   pub pairs : List (ℕ × ℕ)
@@ -39,3 +46,27 @@ pub record IsReady (statements : List Sentence) (place id at : ℕ) (variables :
   pub typed : AreVariablesOf statements variables hs
   pub mandatory : ArePairs (record { statements = statements; place = at }) pairs
   pub matched : IsMatched statements place hs variables entries pairs
+  pub concluded : AreItsPieces statements variables called.s conclusion
+
+-- the scheme is that of the assertion with the number, which stands before the place
+pub record IsSchemeOf (statements : List Sentence) (place id : ℕ) (scheme : Scheme) : Type 0 where
+  pub at : ℕ
+  pub s : Sentence
+  pub numbered : IsNumbered statements id at s
+  pub kind : IsAssertion s.kind
+  pub before : at < place
+  pub hypotheses : AreHypotheses (record { statements = statements; place = at })
+      (label_ids scheme.hypotheses.now)
+  pub typed : HaveTypings statements scheme.hypotheses.now
+  pub pairs : ArePairs (record { statements = statements; place = at }) (pairs_in scheme.pairs.now)
+  pub concluded : AreItsPieces statements (variables_of scheme.hypotheses.now) s
+      scheme.conclusion.now
+  pub patterned : HavePatterns statements (variables_of scheme.hypotheses.now) scheme.pieces.now
+      scheme.hypotheses.now
+
+-- the call is what the label with the number stands for in a proof at the place
+abbrev pub IsCallOf : List Sentence → (place id : ℕ) → Call → Type 0
+IsCallOf statements place id (calls.Hypothesis symbols) =
+    (label : List ℕ) × (used : MayBeUsed statements place label id)
+    × IsHypothesis used.s.kind × AreNumbers statements (numbers_in symbols.now) used.s.symbols
+IsCallOf statements place id (calls.Assertion scheme) = IsSchemeOf statements place id scheme

@@ -1,11 +1,14 @@
 -- The parts of a step as the code takes them, by numbers: they mirror the code.
-use Rattle.std.specs.Prelude.{◌≡◌, ◌≢◌, ℕ, ◌+◌, ◌<◌, ◌==◌, List, [], ◌∷◌, map, take, drop, length}
-use Rattle.std.specs.Prelude.{slice_get, slice_index_or, Bool, true, false, Option, Some, None}
-use Rattle.std.specs.Prelude.{option_map, is_some, unwrap_or, if◌then◌else◌, ◌⊎◌}
+use Rattle.std.specs.Prelude.{◌≡◌, ◌≢◌, ℕ, ◌<◌, List, [], ◌∷◌, map, take, drop, length}
+use Rattle.std.specs.Prelude.{slice_get, slice_index_or, Option, Some, None}
+use Rattle.std.specs.Prelude.{true, option_map, is_some, unwrap_or, if◌then◌else◌, ◌⊎◌}
 use Rattle.std.specs.List.{flat_map, AllByRecursion, AllZip}
 use Rattle.mm_text.specs.declared.statement.Kind.TheVariants.{Floating, Essential}
 use Rattle.mm_proof.specs.Substitution.{instance_of}
 use Rattle.mm_frame.specs.declared.number.Sym.{Sym}
+use Rattle.mm_frame.specs.declared.piece.Piece.{Piece}
+use Rattle.mm_frame.specs.declared.piece.Piece.TheVariants as pieces
+use Rattle.mm_frame.specs.Pieces.{is_of}
 use Rattle.mm_frame.specs.Sentence.{Sentence, Types}
 use Rattle.mm_frame.specs.Active.{IsConstant, IsVariable}
 use Rattle.mm_frame.specs.Frame.{IsDistinct}
@@ -34,19 +37,6 @@ abbrev pub AreStackEntries : List Sentence → List Sentence → List (List ℕ)
 AreStackEntries statements before entries =
     AllByRecursion (AreDeclaredSymbols statements before) entries
 
--- the variables of hypotheses, where they are `$f`
-abbrev pub variables_in : List (Option Sym) → List (Option ℕ)
-variables_in variables = map (λ v. option_map (λ s. s.0) v) variables
-
-abbrev pub is_of : ℕ → Option ℕ → Bool
-is_of n None = false
-is_of n (Some m) = m == n
-
--- each hypothesis is a `$f`
-abbrev pub EachIsSome : List (Option ℕ) → Type 0
-EachIsSome variables =
-    (k : ℕ) → k < length variables → is_some (slice_index_or variables k None) ≡ true
-
 -- what replaces the symbol with this number: what follows the first symbol of the entry of its `$f`
 abbrev pub value_of : List (Option ℕ) → List (List ℕ) → ℕ → Option (List ℕ)
 value_of [] entries n = None
@@ -58,21 +48,24 @@ value_of (v ∷ variables) (e ∷ entries) n =
 abbrev pub replaced_in : (ℕ → Option (List ℕ)) → List ℕ → List ℕ
 replaced_in σ ns = flat_map (λ n. unwrap_or (σ n) (n ∷ [])) ns
 
--- no `$f` is of the symbol; or the one at this place is, and none before it
-abbrev pub IsNowhere : ℕ → List (Option ℕ) → Type 0
-IsNowhere n variables = (k : ℕ) → is_of n (slice_index_or variables k None) ≡ false
+-- what the piece says, where the entries of the hypotheses are these
+abbrev pub said_by : List (List ℕ) → Piece → List ℕ
+said_by entries (pieces.Symbol symbol) = symbol.0 ∷ []
+said_by entries (pieces.Value place) = drop 1 (slice_index_or entries place [])
 
-pub record IsFirstAt (n : ℕ) (variables : List (Option ℕ)) (place : ℕ) : Type 0 where
-  pub within : place < length variables
-  pub is : is_of n (slice_index_or variables place None) ≡ true
-  pub first : (k : ℕ) → k < place → is_of n (slice_index_or variables k None) ≡ false
+-- what pieces say
+abbrev pub all_said_by : List (List ℕ) → List Piece → List ℕ
+all_said_by entries pieces = flat_map (said_by entries) pieces
 
--- Under the number of each symbol that is a variable of these stands the start and its first place,
--- and under that of another one less than the start.
-abbrev pub AreFirstPlaces : ℕ → List ℕ → List (Option ℕ) → Type 0
-AreFirstPlaces start places variables =
-    (n : ℕ) → (slice_index_or places n 0 < start → IsNowhere n variables)
-    × ((place : ℕ) → start + place ≡ slice_index_or places n 0 → IsFirstAt n variables place)
+-- the piece names no place behind so many
+abbrev pub IsWithinPlaces : ℕ → Piece → Type 0
+IsWithinPlaces count (pieces.Symbol symbol) = Unit {0}
+IsWithinPlaces count (pieces.Value place) = place < count
+
+-- each hypothesis is a `$f`
+abbrev pub EachIsSome : List (Option ℕ) → Type 0
+EachIsSome variables =
+    (k : ℕ) → k < length variables → is_some (slice_index_or variables k None) ≡ true
 
 -- the numbers of the hypotheses
 abbrev pub AreHypothesesOf : List Sentence → List ℕ → List Sentence → Type 0

@@ -2,6 +2,7 @@
 #![tactic(auto)]
 
 mod apply;
+mod call;
 mod fault;
 mod flat;
 mod labels;
@@ -17,7 +18,6 @@ mod step;
 mod store;
 mod substitution;
 mod used;
-mod variables;
 mod verdict;
 
 pub use fault::{ProofFault, ProofRule};

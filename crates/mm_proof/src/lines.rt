@@ -19,7 +19,6 @@ ghost use Rattle.mm_proof.specs.CodeSteps.{moves_in};
 ghost use Rattle.mm_proof.specs.CodeRun.{MayBeMade, HasRun};
 ghost use Rattle.mm_proof.specs.CodeLines.{AreLinesAt, BreaksAt, ListsProof, FaultsProof};
 
-use crate::apply::Scratch;
 use crate::fault::ProofFault;
 use crate::flat::Flat;
 use crate::moves::{NumberedMove, Steps};
@@ -84,7 +83,7 @@ fn lines_of<S: Store>(
     ensures fault { (rule : ProofRule) → (at : ℕ) → result ≡ Err (ProofFault.Rule rule at)
         → BreaksAt book.now.statements own.now.place (moves_in moves.now) rule at }
 {
-    let mut scratch = Scratch::new(alloc);
+    let mut made = Vec::new(alloc);
     let mut lines = Vec::new(alloc);
     // For each mark, the number of the step before it.
     let mut tags = Vec::new(alloc);
@@ -92,7 +91,7 @@ fn lines_of<S: Store>(
         let number = lines.len() + 1;
         match one {
             NumberedMove::Name(id) => {
-                step(store, book, own, *id, number, &mut scratch)?;
+                step(store, &mut made, book, own, *id, number)?;
                 lines.push(last_line(alloc, store, Name::Label(*id))?)?;
             }
             NumberedMove::Again(tag) => {

@@ -5,18 +5,18 @@ ghost use Rattle.std.specs.Prelude.{MatchBool};
 ghost use Rattle.mm_frame.specs.Active.{IsVariable};
 ghost use Rattle.mm_frame.specs.Form.{IsSound};
 ghost use Rattle.mm_frame.specs.Numbers.{symbols_of};
+ghost use Rattle.mm_frame.specs.Pieces.{variables_of};
 ghost use Rattle.mm_proof.specs.Tree.{ShareNoVariable, AreDistinct};
 ghost use Rattle.mm_proof.specs.Stores.{numbers_in};
 ghost use Rattle.mm_proof.specs.CodeVerify.{AreDeclaredSymbols, AreStackEntries, SomeValues};
 ghost use Rattle.mm_proof.specs.CodeVerify.{EachValues};
 ghost use Rattle.mm_proof.specs.CodeVerify.{SomePairValues, EachPairValues, pairs_in, value_of};
-ghost use Rattle.mm_proof.specs.CodeVerify.{variables_in, IsApart, IsApartFromEach, name_at};
+ghost use Rattle.mm_proof.specs.CodeVerify.{IsApart, IsApartFromEach, name_at};
 ghost use Rattle.mm_proof.specs.CodeVerify.{names_at};
 
 use crate::store::Store;
 use crate::substitution::value;
-use crate::variables::Variables;
-use mm_frame::{Book, Frame, Sym, one_number};
+use mm_frame::{Book, Frame, Hypothesis, Sym, one_number};
 
 // Whether the symbol is one of these.
 fn has_symbol(symbols: &[Sym], symbol: Sym) -> bool
@@ -135,19 +135,19 @@ fn are_apart(book: &Book, own: &Frame, e: &[Sym], f: &[Sym]) -> bool
 fn is_shared_pair<S: Store>(
     store: &S,
     base: usize,
-    variables: &Variables,
+    hypotheses: &[Hypothesis],
     book: &Book,
     own: &Frame,
     pair: (Sym, Sym),
 ) -> bool
     requires sound { IsSound book.now.statements }
     requires book { own.now.statements ≡ book.now.statements }
-    requires entries { base + length variables.now.list.items ≡ length (S.stack store.now) }
+    requires entries { base + length hypotheses.now ≡ length (S.stack store.now) }
     requires fits { length (S.stack store.now) < 2 ^ 64 }
     requires symbols { AreStackEntries book.now.statements (take own.now.place book.now.statements)
         (drop base (S.stack store.now)) }
     ensures { let before = take own.now.place book.now.statements in
-        let σ = value_of (variables_in variables.now.list.items) (drop base (S.stack store.now)) in
+        let σ = value_of (variables_of hypotheses.now) (drop base (S.stack store.now)) in
         MatchBool
         result
         (SomeValues σ pair.0.0 pair.1.0 (λ e f.
@@ -156,8 +156,8 @@ fn is_shared_pair<S: Store>(
         (EachValues σ pair.0.0 pair.1.0 (λ e f.
         ShareNoVariable before (names_at book.now.statements e) (names_at book.now.statements f))) }
 {
-    match value(store, base, variables, pair.0) {
-        Some(e) => match value(store, base, variables, pair.1) {
+    match value(store, base, hypotheses, pair.0) {
+        Some(e) => match value(store, base, hypotheses, pair.1) {
             Some(f) => share_variable(book, own, e, f),
             None => false,
         },
@@ -171,19 +171,19 @@ fn is_shared_pair<S: Store>(
 fn is_apart_pair<S: Store>(
     store: &S,
     base: usize,
-    variables: &Variables,
+    hypotheses: &[Hypothesis],
     book: &Book,
     own: &Frame,
     pair: (Sym, Sym),
 ) -> bool
     requires sound { IsSound book.now.statements }
     requires book { own.now.statements ≡ book.now.statements }
-    requires entries { base + length variables.now.list.items ≡ length (S.stack store.now) }
+    requires entries { base + length hypotheses.now ≡ length (S.stack store.now) }
     requires fits { length (S.stack store.now) < 2 ^ 64 }
     requires symbols { AreStackEntries book.now.statements (take own.now.place book.now.statements)
         (drop base (S.stack store.now)) }
     ensures { let before = take own.now.place book.now.statements in
-        let σ = value_of (variables_in variables.now.list.items) (drop base (S.stack store.now)) in
+        let σ = value_of (variables_of hypotheses.now) (drop base (S.stack store.now)) in
         MatchBool
         result
         (EachValues σ pair.0.0 pair.1.0 (λ e f.
@@ -191,8 +191,8 @@ fn is_apart_pair<S: Store>(
         (SomeValues σ pair.0.0 pair.1.0 (λ e f.
         ¬ (AreDistinct before (names_at book.now.statements e) (names_at book.now.statements f)))) }
 {
-    match value(store, base, variables, pair.0) {
-        Some(e) => match value(store, base, variables, pair.1) {
+    match value(store, base, hypotheses, pair.0) {
+        Some(e) => match value(store, base, hypotheses, pair.1) {
             Some(f) => are_apart(book, own, e, f),
             None => true,
         },
@@ -206,19 +206,19 @@ fn is_apart_pair<S: Store>(
 pub(crate) fn has_shared_pair<S: Store>(
     store: &S,
     base: usize,
-    variables: &Variables,
+    hypotheses: &[Hypothesis],
     book: &Book,
     own: &Frame,
     pairs: &[(Sym, Sym)],
 ) -> bool
     requires sound { IsSound book.now.statements }
     requires book { own.now.statements ≡ book.now.statements }
-    requires entries { base + length variables.now.list.items ≡ length (S.stack store.now) }
+    requires entries { base + length hypotheses.now ≡ length (S.stack store.now) }
     requires fits { length (S.stack store.now) < 2 ^ 64 }
     requires symbols { AreStackEntries book.now.statements (take own.now.place book.now.statements)
         (drop base (S.stack store.now)) }
     ensures { let before = take own.now.place book.now.statements in
-        let σ = value_of (variables_in variables.now.list.items) (drop base (S.stack store.now)) in
+        let σ = value_of (variables_of hypotheses.now) (drop base (S.stack store.now)) in
         MatchBool
         result
         (SomePairValues σ (pairs_in pairs.now) (λ e f.
@@ -228,7 +228,7 @@ pub(crate) fn has_shared_pair<S: Store>(
         ShareNoVariable before (names_at book.now.statements e) (names_at book.now.statements f))) }
 {
     for pair in pairs {
-        if is_shared_pair(store, base, variables, book, own, *pair) {
+        if is_shared_pair(store, base, hypotheses, book, own, *pair) {
             return true;
         }
     }
@@ -239,19 +239,19 @@ pub(crate) fn has_shared_pair<S: Store>(
 pub(crate) fn are_apart_pairs<S: Store>(
     store: &S,
     base: usize,
-    variables: &Variables,
+    hypotheses: &[Hypothesis],
     book: &Book,
     own: &Frame,
     pairs: &[(Sym, Sym)],
 ) -> bool
     requires sound { IsSound book.now.statements }
     requires book { own.now.statements ≡ book.now.statements }
-    requires entries { base + length variables.now.list.items ≡ length (S.stack store.now) }
+    requires entries { base + length hypotheses.now ≡ length (S.stack store.now) }
     requires fits { length (S.stack store.now) < 2 ^ 64 }
     requires symbols { AreStackEntries book.now.statements (take own.now.place book.now.statements)
         (drop base (S.stack store.now)) }
     ensures { let before = take own.now.place book.now.statements in
-        let σ = value_of (variables_in variables.now.list.items) (drop base (S.stack store.now)) in
+        let σ = value_of (variables_of hypotheses.now) (drop base (S.stack store.now)) in
         MatchBool
         result
         (EachPairValues σ (pairs_in pairs.now) (λ e f.
@@ -260,7 +260,7 @@ pub(crate) fn are_apart_pairs<S: Store>(
         ¬ (AreDistinct before (names_at book.now.statements e) (names_at book.now.statements f)))) }
 {
     for pair in pairs {
-        if !is_apart_pair(store, base, variables, book, own, *pair) {
+        if !is_apart_pair(store, base, hypotheses, book, own, *pair) {
             return false;
         }
     }

@@ -20,13 +20,12 @@ ghost use Rattle.mm_proof.specs.Parsed.{OfProof};
 ghost use Rattle.mm_proof.specs.Verified.{TokensProve, TokensFail};
 ghost use Rattle.mm_proof.specs.CodeSteps.{ids_in, token_texts};
 
-use crate::apply::Scratch;
 use crate::fault::{ProofFault, ProofRule};
 use crate::flat::Flat;
 use crate::parse::{ParseLists, fill_steps, is_incomplete};
 use crate::used::Named;
 use crate::verdict::judgement_in_frame;
-use mm_frame::{Book, Frame, LabelId, RuleFault, Taken};
+use mm_frame::{Book, Frame, LabelId, RuleFault, Sym, Taken};
 use mm_text::{Statement, Token};
 use std::alloc::Global;
 use std::marker::Model;
@@ -48,7 +47,7 @@ pub struct Prover<'a> {
     book: Book<'a>,
     lists: ParseLists<'a>,
     store: Flat,
-    scratch: Scratch,
+    made: Vec<Sym>,
     named: Named,
 }
 
@@ -74,7 +73,7 @@ impl<'a> Prover<'a> {
                 book,
                 lists: ParseLists::new(alloc),
                 store: Flat::new(alloc),
-                scratch: Scratch::new(alloc),
+                made: Vec::new(alloc),
                 named: Named::new(alloc),
             }),
             Err(fault) => Err(fault),
@@ -161,7 +160,7 @@ impl<'a> Prover<'a> {
     {
         match prove_tokens(
             &mut self.store,
-            &mut self.scratch,
+            &mut self.made,
             &mut self.named,
             &mut self.lists,
             &self.book,
@@ -193,7 +192,7 @@ impl<'a> Prover<'a> {
 // or tells their first fault.
 fn prove_in_frame<'a>(
     store: &mut Flat,
-    scratch: &mut Scratch,
+    made: &mut Vec<Sym>,
     named: &mut Named,
     lists: &mut ParseLists<'a>,
     book: &Book,
@@ -215,14 +214,14 @@ fn prove_in_frame<'a>(
     fill_steps(lists, book, own, id, tokens)?;
     store.clear();
     let picked = &lists.picked.ids;
-    judgement_in_frame(store, scratch, named, book, own, id, &lists.moves, picked)
+    judgement_in_frame(store, made, named, book, own, id, &lists.moves, picked)
 }
 
 // Whether the tokens prove the `$p` with the number: fills the list with the assertions of its
 // tree, or tells their first fault.
 fn prove_tokens<'a>(
     store: &mut Flat,
-    scratch: &mut Scratch,
+    made: &mut Vec<Sym>,
     named: &mut Named,
     lists: &mut ParseLists<'a>,
     book: &Book,
@@ -239,5 +238,5 @@ fn prove_tokens<'a>(
     ensures sound { IsSound book.now.statements }
 {
     let own = book.frame(id);
-    prove_in_frame(store, scratch, named, lists, book, &own, id, tokens)
+    prove_in_frame(store, made, named, lists, book, &own, id, tokens)
 }

@@ -1,24 +1,22 @@
 //! One step of a proof by an assertion (the Metamath book, section 4.1.4 and appendix B).
 
 ghost use Rattle.std.specs.Prelude.{◌≡◌, ◌↔◌, ◌+◌, ◌<◌, ◌^◌, ℕ, List, length, drop};
-ghost use Rattle.std.specs.Prelude.{slice_get, option_map, Option, Some};
-ghost use Rattle.std.specs.Prelude.{IsTrue, IfOk, MatchBool, MatchOption};
+ghost use Rattle.std.specs.Prelude.{slice_get, Bool, Option, Some};
+ghost use Rattle.std.specs.Prelude.{IsTrue, MatchBool, MatchOption};
 ghost use Rattle.std.specs.List.{AllByRecursion};
 ghost use Rattle.mm_frame.specs.Sentence.{Sentence};
 ghost use Rattle.mm_frame.specs.FramePlace.{IsTypingOf, HaveTypings};
+ghost use Rattle.mm_frame.specs.Pieces.{variables_of, HavePatterns};
 ghost use Rattle.mm_proof.specs.Stores.{numbers_in};
 ghost use Rattle.mm_proof.specs.CodeSteps.{label_ids};
-ghost use Rattle.mm_proof.specs.CodeVerify.{AreHypothesesOf, AreVariablesOf, IsVariableOf};
-ghost use Rattle.mm_proof.specs.CodeVerify.{AreBelow, variables_in, names_at, all_names_at};
-ghost use Rattle.mm_proof.specs.CodeVerify.{IsRightCode};
+ghost use Rattle.mm_proof.specs.CodeVerify.{AreHypothesesOf, AreVariablesOf, EachIsSome};
+ghost use Rattle.mm_proof.specs.CodeVerify.{AreBelow, names_at, all_names_at, IsRightCode};
 ghost use Rattle.mm_proof.specs.CodeVerify.{IsWrongCode, IsEqual, IsUnequal, EachEntry, Replaces};
 ghost use Rattle.mm_proof.specs.Proof.{SomePair};
 
 use crate::store::Store;
-use crate::substitution::is_replaced;
-use crate::variables::Variables;
-use mm_frame::{Book, Hypothesis, Sym, one_number};
-use std::alloc::AllocError;
+use crate::substitution::is_said;
+use mm_frame::{Book, Hypothesis, Scheme, Sym, one_number};
 
 // Whether the expression begins with the symbol.
 fn begins_with(expression: &[Sym], symbol: Sym) -> bool
@@ -30,77 +28,73 @@ fn begins_with(expression: &[Sym], symbol: Sym) -> bool
     }
 }
 
-// The variable of the hypothesis, if it is a `$f`; nothing, if it is one with another type code
-// than its entry.
-fn variable_of(hypothesis: &Hypothesis, entry: &[Sym]) -> Option<Option<Sym>>
+// Whether the entry begins with the type code of the hypothesis, if it is a `$f`.
+fn is_typed(hypothesis: &Hypothesis, entry: &[Sym]) -> bool
     ensures { (statements : List Sentence) (h : Sentence)
         → IsTypingOf statements hypothesis.now.typing h
-        → AreBelow statements (numbers_in entry.now) → MatchOption
+        → AreBelow statements (numbers_in entry.now) → MatchBool
         result
-        (IsWrongCode h (names_at statements (numbers_in entry.now)))
-        (λ variable. IsVariableOf statements (option_map (λ s. s.0) variable) h
-        × IsRightCode h (names_at statements (numbers_in entry.now))) }
+        (IsRightCode h (names_at statements (numbers_in entry.now)))
+        (IsWrongCode h (names_at statements (numbers_in entry.now))) }
 {
     one_number();
     match hypothesis.typing {
-        Some((code, variable)) => {
-            if begins_with(entry, code) {
-                Some(Some(variable))
-            } else {
-                None
-            }
-        }
-        None => Some(None),
+        Some((code, _)) => begins_with(entry, code),
+        None => true,
     }
 }
 
-// The variables of the hypotheses, where each `$f` has its type code as the first symbol of its
-// entry; else false is answered.
-pub(crate) fn fill_variables<S: Store>(
-    variables: &mut Variables,
+/// Whether all hypotheses are `$f`, where the entry of each `$f` begins with its type code; nothing,
+/// where some doesn't.
+pub(crate) fn typing_of<S: Store>(
     store: &S,
     base: usize,
     hypotheses: &[Hypothesis],
-) -> Result<bool, AllocError>
+) -> Option<bool>
     requires entries { base + length hypotheses.now ≡ length (S.stack store.now) }
     requires fits { length (S.stack store.now) < 2 ^ 64 }
-    ensures { (statements : List Sentence) → HaveTypings statements hypotheses.now
+    ensures codes { (statements : List Sentence) → HaveTypings statements hypotheses.now
         → AllByRecursion (AreBelow statements) (drop base (S.stack store.now))
-        → IfOk result (λ right. (hs : List Sentence)
-        → AreHypothesesOf statements (label_ids hypotheses.now) hs
-        → MatchBool right
-        (AreVariablesOf statements (variables_in variables.new.list.items) hs
-        × EachEntry hs (all_names_at statements (drop base (S.stack store.now))) IsRightCode)
-        (SomePair hs (all_names_at statements (drop base (S.stack store.now))) IsWrongCode)) }
+        → (hs : List Sentence) → AreHypothesesOf statements (label_ids hypotheses.now) hs
+        → MatchOption
+        result
+        (SomePair hs (all_names_at statements (drop base (S.stack store.now))) IsWrongCode)
+        (λ floating.
+        EachEntry hs (all_names_at statements (drop base (S.stack store.now))) IsRightCode) }
+    ensures floating { (floating : Bool) → result ≡ Some floating → IsTrue floating
+        → EachIsSome (variables_of hypotheses.now) }
 {
-    variables.clear();
+    let mut floating = true;
     for (index, hypothesis) in hypotheses.iter().enumerate() {
-        match variable_of(hypothesis, store.at(base + index)) {
-            Some(variable) => variables.push(variable)?,
-            None => return Ok(false),
+        if !is_typed(hypothesis, store.at(base + index)) {
+            return None;
         }
+        floating = floating && hypothesis.typing.is_some();
     }
-    Ok(true)
+    Some(floating)
 }
 
-// Whether each `$e`, with each variable replaced, is its entry.
+/// Whether each `$e`, with each variable replaced, is its entry. It is told whether all hypotheses
+/// are `$f`, so that then nothing is asked.
 pub(crate) fn are_equal<S: Store>(
     store: &S,
     base: usize,
-    variables: &Variables,
     book: &Book,
-    hypotheses: &[Hypothesis],
+    scheme: &Scheme,
+    floating: bool,
 ) -> bool
-    requires typed { HaveTypings book.now.statements hypotheses.now }
-    requires entries { base + length hypotheses.now ≡ length (S.stack store.now) }
-    requires variables { length variables.now.list.items ≡ length hypotheses.now }
+    requires typed { HaveTypings book.now.statements scheme.now.hypotheses.now }
+    requires patterns { HavePatterns book.now.statements (variables_of scheme.now.hypotheses.now)
+        scheme.now.pieces.now scheme.now.hypotheses.now }
+    requires entries { base + length scheme.now.hypotheses.now ≡ length (S.stack store.now) }
     requires fits { length (S.stack store.now) < 2 ^ 64 }
+    requires floating { IsTrue floating → EachIsSome (variables_of scheme.now.hypotheses.now) }
     requires below { AllByRecursion (AreBelow book.now.statements) (drop base (S.stack store.now)) }
     ensures { (σ : List ℕ → Option (List (List ℕ)))
-        → Replaces book.now.statements σ (variables_in variables.now.list.items)
+        → Replaces book.now.statements σ (variables_of scheme.now.hypotheses.now)
         (drop base (S.stack store.now))
-        → (hs : List Sentence) → AreHypothesesOf book.now.statements (label_ids hypotheses.now) hs
-        → AreVariablesOf book.now.statements (variables_in variables.now.list.items) hs
+        → (hs : List Sentence)
+        → AreHypothesesOf book.now.statements (label_ids scheme.now.hypotheses.now) hs
         → MatchBool result
         (EachEntry hs (all_names_at book.now.statements (drop base (S.stack store.now)))
         (IsEqual σ))
@@ -108,16 +102,15 @@ pub(crate) fn are_equal<S: Store>(
         (IsUnequal σ)) }
 {
     one_number();
-    if variables.are_floating() {
+    if floating {
         return true;
     }
-    for (index, hypothesis) in hypotheses.iter().enumerate() {
+    for (index, hypothesis) in scheme.hypotheses.iter().enumerate() {
         if hypothesis.typing.is_none()
-            && !is_replaced(
+            && !is_said(
                 store,
                 base,
-                variables,
-                book.expression(hypothesis.id),
+                scheme.pattern(hypothesis),
                 store.at(base + index),
             )
         {

@@ -1,16 +1,16 @@
-//! Substitution by numbers: each mandatory variable is replaced by what follows the type code in
-//! the entry of its `$f` (the Metamath book, section 4.1.4).
+//! Substitution by numbers: each mandatory variable is replaced by its value, which is what follows
+//! the type code in the entry of its `$f` (the Metamath book, section 4.1.4).
 
 ghost use Rattle.std.specs.Prelude.{◌≡◌, ◌↔◌, ◌+◌, ◌≤◌, ◌<◌, ◌^◌, ◌∷◌, ◌++◌, [], ℕ, List, length};
-ghost use Rattle.std.specs.Prelude.{drop, unwrap_or, option_map, IsTrue, IfOk, MatchOption};
+ghost use Rattle.std.specs.Prelude.{drop, slice_index_or, option_map, IsTrue, IfOk, MatchOption};
 ghost use Rattle.std.specs.Prelude.{MatchBool, false};
+ghost use Rattle.std.specs.List.{AllByRecursion};
+ghost use Rattle.mm_frame.specs.Pieces.{variables_of, IsNowhere, IsFirstAt};
 ghost use Rattle.mm_proof.specs.Stores.{numbers_in};
-ghost use Rattle.mm_proof.specs.CodeVerify.{variables_in, is_of, value_of, replaced_in, IsNowhere};
-ghost use Rattle.mm_proof.specs.CodeVerify.{IsFirstAt};
+ghost use Rattle.mm_proof.specs.CodeVerify.{value_of, said_by, all_said_by, IsWithinPlaces};
 
 use crate::store::Store;
-use crate::variables::Variables;
-use mm_frame::Sym;
+use mm_frame::{Hypothesis, Piece, Sym, place_of};
 use std::alloc::AllocError;
 
 /// The most symbols of an expression on the stack, its type code counted.
@@ -40,19 +40,28 @@ fn after_first(entry: &[Sym]) -> &[Sym]
 pub(crate) fn value<'s, S: Store>(
     store: &'s S,
     base: usize,
-    variables: &Variables,
+    hypotheses: &[Hypothesis],
     symbol: Sym,
 ) -> Option<&'s [Sym]>
-    requires entries { base + length variables.now.list.items ≡ length (S.stack store.now) }
+    requires entries { base + length hypotheses.now ≡ length (S.stack store.now) }
     requires fits { length (S.stack store.now) < 2 ^ 64 }
     ensures { option_map (λ v. numbers_in v.now) result
-        ≡ value_of (variables_in variables.now.list.items)
-        (drop base (S.stack store.now)) symbol.0 }
+        ≡ value_of (variables_of hypotheses.now) (drop base (S.stack store.now)) symbol.0 }
 {
-    match variables.place_of(symbol) {
+    match place_of(hypotheses, symbol) {
         Some(place) => Some(after_first(store.at(base + place))),
         None => None,
     }
+}
+
+// What replaces the variable of the hypothesis at a place.
+fn value_at<S: Store>(store: &S, base: usize, place: u32) -> &[Sym]
+    requires entry { base + place < length (S.stack store.now) }
+    requires fits { length (S.stack store.now) < 2 ^ 64 }
+    ensures { numbers_in result.now
+        ≡ drop 1 (slice_index_or (drop base (S.stack store.now)) place []) }
+{
+    after_first(store.at(base + place as usize))
 }
 
 // What follows these symbols, where the others begin with them.
@@ -100,48 +109,55 @@ pub(crate) fn is_same(symbols: &[Sym], others: &[Sym]) -> bool
     symbols == others
 }
 
-// What follows what replaces the symbol, where the symbols begin with that.
-fn after_replaced<'e, S: Store>(
+// What follows the value, where the symbols begin with it.
+fn after_value<'e>(value: &[Sym], symbols: &'e [Sym]) -> Option<&'e [Sym]>
+    ensures { MatchOption
+        result
+        ((rest : List ℕ) → ¬ (numbers_in symbols.now ≡ numbers_in value.now ++ rest))
+        (λ rest. numbers_in symbols.now ≡ numbers_in value.now ++ numbers_in rest.now) }
+{
+    match value {
+        [only] => after_one(symbols, *only),
+        _ => after(symbols, value),
+    }
+}
+
+// What follows what the piece says, where the symbols begin with that.
+fn after_said<'e, S: Store>(
     store: &S,
     base: usize,
-    variables: &Variables,
-    symbol: Sym,
+    piece: Piece,
     symbols: &'e [Sym],
 ) -> Option<&'e [Sym]>
-    requires entries { base + length variables.now.list.items ≡ length (S.stack store.now) }
+    requires within { IsWithinPlaces (length (drop base (S.stack store.now))) piece }
     requires fits { length (S.stack store.now) < 2 ^ 64 }
-    ensures { let front = unwrap_or
-        (value_of (variables_in variables.now.list.items) (drop base (S.stack store.now)) symbol.0)
-        (symbol.0 ∷ []) in MatchOption
+    ensures { let front = said_by (drop base (S.stack store.now)) piece in MatchOption
         result
         ((rest : List ℕ) → ¬ (numbers_in symbols.now ≡ front ++ rest))
         (λ rest. numbers_in symbols.now ≡ front ++ numbers_in rest.now) }
 {
-    match value(store, base, variables, symbol) {
-        Some([only]) => after_one(symbols, *only),
-        Some(value) => after(symbols, value),
-        None => after_one(symbols, symbol),
+    match piece {
+        Piece::Symbol(symbol) => after_one(symbols, symbol),
+        Piece::Value(place) => after_value(value_at(store, base, place), symbols),
     }
 }
 
-/// Whether the symbols are those of the pattern with each variable replaced.
-pub(crate) fn is_replaced<S: Store>(
+/// Whether the symbols are what the pieces say.
+pub(crate) fn is_said<S: Store>(
     store: &S,
     base: usize,
-    variables: &Variables,
-    pattern: &[Sym],
+    pieces: &[Piece],
     symbols: &[Sym],
 ) -> bool
-    requires entries { base + length variables.now.list.items ≡ length (S.stack store.now) }
+    requires within { AllByRecursion (IsWithinPlaces (length (drop base (S.stack store.now))))
+        pieces.now }
     requires fits { length (S.stack store.now) < 2 ^ 64 }
     ensures { IsTrue result
-        ↔ (numbers_in symbols.now ≡ replaced_in
-        (value_of (variables_in variables.now.list.items) (drop base (S.stack store.now)))
-        (numbers_in pattern.now)) }
+        ↔ (numbers_in symbols.now ≡ all_said_by (drop base (S.stack store.now)) pieces.now) }
 {
     let mut rest = symbols;
-    for symbol in pattern {
-        match after_replaced(store, base, variables, *symbol, rest) {
+    for piece in pieces {
+        match after_said(store, base, *piece, rest) {
             Some(others) => rest = others,
             None => return false,
         }
@@ -149,55 +165,64 @@ pub(crate) fn is_replaced<S: Store>(
     rest.is_empty()
 }
 
-// Appends what replaces the symbol, and answers false where that is more than one symbol and passes
-// the limit.
-fn append_replaced<S: Store>(
-    made: &mut Vec<Sym>,
-    store: &S,
-    base: usize,
-    variables: &Variables,
-    symbol: Sym,
-) -> Result<bool, AllocError>
-    requires entries { base + length variables.now.list.items ≡ length (S.stack store.now) }
-    requires fits { length (S.stack store.now) < 2 ^ 64 }
+// Appends the value, and answers false where it is more than one symbol and passes the limit.
+fn append_value(made: &mut Vec<Sym>, value: &[Sym]) -> Result<bool, AllocError>
     ensures made { IfOk result (λ fits.
-        numbers_in made.new.items ≡ numbers_in made.old.items ++ unwrap_or
-        (value_of (variables_in variables.now.list.items) (drop base (S.stack store.now)) symbol.0)
-        (symbol.0 ∷ [])) }
+        numbers_in made.new.items ≡ numbers_in made.old.items ++ numbers_in value.now) }
     ensures over { IfOk result (λ fits. fits ≡ false → 1048576 < length made.new.items) }
 {
-    match value(store, base, variables, symbol) {
-        Some([only]) => made.push(*only)?,
-        Some(value) => {
+    match value {
+        [only] => made.push(*only)?,
+        _ => {
             made.extend_from_slice(value)?;
             return Ok(made.len() <= EXPRESSION_LIMIT);
         }
-        None => made.push(symbol)?,
     }
     Ok(true)
 }
 
-/// The pattern with each variable replaced, where it is within the limit; else false is answered.
-pub(crate) fn substitute<S: Store>(
+// Appends what the piece says, and answers false where that is more than one symbol and passes the
+// limit.
+fn append_said<S: Store>(
     made: &mut Vec<Sym>,
     store: &S,
     base: usize,
-    variables: &Variables,
-    pattern: &[Sym],
+    piece: Piece,
 ) -> Result<bool, AllocError>
-    requires entries { base + length variables.now.list.items ≡ length (S.stack store.now) }
+    requires within { IsWithinPlaces (length (drop base (S.stack store.now))) piece }
+    requires fits { length (S.stack store.now) < 2 ^ 64 }
+    ensures made { IfOk result (λ fits. numbers_in made.new.items
+        ≡ numbers_in made.old.items ++ said_by (drop base (S.stack store.now)) piece) }
+    ensures over { IfOk result (λ fits. fits ≡ false → 1048576 < length made.new.items) }
+{
+    match piece {
+        Piece::Symbol(symbol) => {
+            made.push(symbol)?;
+            Ok(true)
+        }
+        Piece::Value(place) => append_value(made, value_at(store, base, place)),
+    }
+}
+
+/// Fills the list with what the pieces say, where it is within the limit; else false is answered.
+pub(crate) fn fill_said<S: Store>(
+    made: &mut Vec<Sym>,
+    store: &S,
+    base: usize,
+    pieces: &[Piece],
+) -> Result<bool, AllocError>
+    requires within { AllByRecursion (IsWithinPlaces (length (drop base (S.stack store.now))))
+        pieces.now }
     requires fits { length (S.stack store.now) < 2 ^ 64 }
     ensures { IfOk result (λ fits.
-        let whole = replaced_in
-        (value_of (variables_in variables.now.list.items) (drop base (S.stack store.now)))
-        (numbers_in pattern.now) in MatchBool
+        let whole = all_said_by (drop base (S.stack store.now)) pieces.now in MatchBool
         fits
         ((length whole ≤ 1048576) × (numbers_in made.new.items ≡ whole))
         (1048576 < length whole)) }
 {
     made.clear();
-    for symbol in pattern {
-        if !append_replaced(made, store, base, variables, *symbol)? {
+    for piece in pieces {
+        if !append_said(made, store, base, *piece)? {
             return Ok(false);
         }
     }

@@ -17,14 +17,14 @@ ghost use Rattle.mm_proof.specs.CodeRun.{CarriesOn, StopsAt, MayBeMade, HasRun};
 ghost use Rattle.mm_proof.specs.CodeRun.{EndsWrong, ArePicked};
 ghost use Rattle.mm_proof.specs.Verified.{OfMoves, ProvesWith, FailsWith};
 
-use crate::apply::{Scratch, apply};
+use crate::call::{call_of, step_by};
 use crate::fault::{ProofFault, ProofRule};
 use crate::moves::{NumberedMove, Steps};
 use crate::picked::fill_picked;
 use crate::store::Store;
-use crate::substitution::{EXPRESSION_LIMIT, is_same};
+use crate::substitution::is_same;
 use crate::used::{Named, Used, fill_used};
-use mm_frame::{Book, Frame, LabelId, LabelKind, Sym, one_number};
+use mm_frame::{Book, Frame, LabelId, Sym, one_number};
 use std::alloc::Global;
 
 // The proof breaks a rule at a step.
@@ -38,11 +38,11 @@ fn fault_at_step(rule: ProofRule, step: usize) -> Result<(), ProofFault>
 #[inline(always)]
 pub(crate) fn step<S: Store>(
     store: &mut S,
+    made: &mut Vec<Sym>,
     book: &Book,
     own: &Frame,
     id: LabelId,
     number: usize,
-    scratch: &mut Scratch,
 ) -> Result<(), ProofFault>
     requires own { own.now.statements ≡ book.now.statements }
     requires sound { IsSound book.now.statements }
@@ -58,17 +58,7 @@ pub(crate) fn step<S: Store>(
     ensures fault { (rule : ProofRule) → (at : ℕ) → result ≡ Err (ProofFault.Rule rule at)
         → (at ≡ number) × StopsAt book.now.statements own.now.place id.0 (S.stack store.old) rule }
 {
-    match book.kind(id) {
-        LabelKind::Floating | LabelKind::Essential => {
-            let expression = book.expression(id);
-            if expression.len() > EXPRESSION_LIMIT {
-                return fault_at_step(ProofRule::L1, number);
-            }
-            store.push(expression)?;
-            Ok(())
-        }
-        _ => apply(store, book, own, id, number, scratch),
-    }
+    step_by(store, made, book, own, &call_of(book, id), number)
 }
 
 // The step by a tag.
@@ -112,7 +102,7 @@ pub(crate) fn mark<S: Store>(store: &mut S, number: usize) -> Result<(), ProofFa
 // All moves, one after the other: how many are steps.
 fn run<S: Store>(
     store: &mut S,
-    scratch: &mut Scratch,
+    made: &mut Vec<Sym>,
     book: &Book,
     own: &Frame,
     moves: &[NumberedMove],
@@ -138,7 +128,7 @@ fn run<S: Store>(
     for one in moves {
         match one {
             NumberedMove::Name(id) => {
-                step(store, book, own, *id, steps + 1, scratch)?;
+                step(store, made, book, own, *id, steps + 1)?;
                 steps += 1;
             }
             NumberedMove::Again(tag) => {
@@ -177,7 +167,7 @@ pub(crate) fn ending<S: Store>(
 // fault.
 fn derive<S: Store>(
     store: &mut S,
-    scratch: &mut Scratch,
+    made: &mut Vec<Sym>,
     book: &Book,
     own: &Frame,
     id: LabelId,
@@ -197,7 +187,7 @@ fn derive<S: Store>(
         (λ place s names. FailsWith book.now.statements place s names rule step))) }
 {
     one_number();
-    let count = run(store, scratch, book, own, moves)?;
+    let count = run(store, made, book, own, moves)?;
     ending(store, own.expression(), count + 1)?;
     Ok(())
 }
@@ -206,7 +196,7 @@ fn derive<S: Store>(
 // where the frame is that of the `$p`, and the labels are those that the moves name.
 pub(crate) fn judgement_in_frame<S: Store>(
     store: &mut S,
-    scratch: &mut Scratch,
+    made: &mut Vec<Sym>,
     named: &mut Named,
     book: &Book,
     own: &Frame,
@@ -228,7 +218,7 @@ pub(crate) fn judgement_in_frame<S: Store>(
         OnRule e (λ rule step. OfMoves book.now.statements id.0 (moves_in moves.now)
         (λ place s names. FailsWith book.now.statements place s names rule step))) }
 {
-    derive(store, scratch, book, own, id, moves)?;
+    derive(store, made, book, own, id, moves)?;
     fill_used(named, book, picked)?;
     Ok(())
 }
@@ -237,7 +227,7 @@ pub(crate) fn judgement_in_frame<S: Store>(
 fn judgement<S: Store>(
     alloc: Global,
     store: &mut S,
-    scratch: &mut Scratch,
+    made: &mut Vec<Sym>,
     named: &mut Named,
     book: &Book,
     id: LabelId,
@@ -257,14 +247,14 @@ fn judgement<S: Store>(
     let own = book.frame(id);
     let mut picked = Vec::new(alloc);
     fill_picked(&mut picked, moves)?;
-    judgement_in_frame(store, scratch, named, book, &own, id, moves, &picked)
+    judgement_in_frame(store, made, named, book, &own, id, moves, &picked)
 }
 
 // The answer on the moves of a proof. The store is handed in empty.
 pub(crate) fn answer<S: Store>(
     alloc: Global,
     store: &mut S,
-    scratch: &mut Scratch,
+    made: &mut Vec<Sym>,
     named: &mut Named,
     book: &Book,
     id: LabelId,
@@ -286,7 +276,7 @@ pub(crate) fn answer<S: Store>(
         → FailsWith book.now.statements place s names rule step
         → IsUnlessMemory result (Err (ProofFault.Rule rule step))) }
 {
-    match judgement(alloc, store, scratch, named, book, id, &steps.moves) {
+    match judgement(alloc, store, made, named, book, id, &steps.moves) {
         Ok(()) => {
             let labels = Vec::from_slice(alloc, &named.ids)?;
             Ok(Used { labels })
@@ -327,7 +317,7 @@ pub fn verify<S: Store + Drop>(
         (rule : ProofRule) → (step : ℕ) → FailsWith book.now.statements place s moves rule step
         → IsUnlessMemory result (Err (ProofFault.Rule rule step))) }
 {
-    let mut scratch = Scratch::new(alloc);
+    let mut made = Vec::new(alloc);
     let mut named = Named::new(alloc);
-    answer(alloc, &mut store, &mut scratch, &mut named, book, id, steps)
+    answer(alloc, &mut store, &mut made, &mut named, book, id, steps)
 }

@@ -1,43 +1,114 @@
-use Rattle.std.proofs.Common.{◌≤◌, arith}
+use Rattle.std.proofs.Common.{◌≡◌, ℕ, List, ◌-◌, ◌<◌, length, drop, arith, sym, subst, refl, Some}
+use Rattle.std.specs.List.{AllByRecursion}
+use Rattle.std.proofs.lemmas.List.{length-drop}
 use Rattle.std.proofs.lemmas.Result.{IfOk-weaker}
-use Rattle.mm_proof.proofs.Numbered.{numbers_order_back}
+use Rattle.mm_frame.specs.Sentence.{Sentence}
+use Rattle.mm_frame.specs.Pieces.{variables_of}
+use Rattle.mm_proof.specs.declared.fault.ProofRule.{ProofRule}
+use Rattle.mm_proof.specs.declared.fault.ProofRule.TheVariants.{P8, P9}
+use Rattle.mm_proof.specs.CodeSteps.{label_ids}
+use Rattle.mm_proof.specs.CodeVerify.{AreBelow, AreStackEntries}
+use Rattle.mm_proof.specs.CodeRun.{StopsAt}
+use Rattle.mm_proof.proofs.Named.{as_many}
+use Rattle.mm_proof.proofs.Patterned.{its_within}
+use Rattle.mm_proof.proofs.Values.{variables_count}
+use Rattle.mm_proof.proofs.Applying.{stops_P8, stops_P9, called_of, ready_of, entries_drop, entries_below}
 use Rattle.mm_proof.proofs.apply.apply.Goals as goal
 
-pub frame-requires : goal.frame-requires
-frame-requires g c = (c.requires.usable.0, c.requires.usable.1, c.requires.usable.2, c.requires.usable.3)
+drop_below : (st before : List Sentence) (base : ℕ) (stack : List (List ℕ)) → AreStackEntries st before stack → AllByRecursion (AreBelow st) (drop base stack)
+drop_below st before base stack entries = entries_below st before (drop base stack) (entries_drop st before base stack entries)
 
-pub apply_frame-requires-clause-frame : goal.apply_frame-requires-clause-frame
-apply_frame-requires-clause-frame g c = c.frame.ensures.book
+pub returns-then-count-scheme-clause-fault : goal.returns-then-count-scheme-clause-fault
+returns-then-count-scheme-clause-fault g c rule step is =
+    let same : P8 ≡ rule = cc in
+    let number : step ≡ c.args.number = cc in (
+      number,
+      λ id of.
+          let st = c.args.book.now.statements in
+          let xs = c.args.scheme.now.hypotheses.now in
+          let stack = g.S.Store.stack c.args.store.now in
+          let called = called_of st c.args.own.now.place id c.args.scheme.now of in
+          let short : length stack < length of.hypotheses.hypotheses = omega (arith, c.if-count-scheme.true, c.len-count.ensures, as_many st xs of.hypotheses.hypotheses called.known) in
+          subst (λ (r : ProofRule). StopsAt st c.args.own.now.place id stack r) same (stops_P8 st c.args.own.now.place id of.at (label_ids xs) of.hypotheses.hypotheses stack called short),
+    )
 
-pub apply_frame-requires-clause-assertion : goal.apply_frame-requires-clause-assertion
-apply_frame-requires-clause-assertion g c = (c.frame.ensures.place.0, c.frame.ensures.place.1.there, c.frame.ensures.place.2)
+pub returns-in_default-clause-fault : goal.returns-in_default-clause-fault
+returns-in_default-clause-fault g c rule step is =
+    let same : P9 ≡ rule = cc in
+    let number : step ≡ c.args.number = cc in (
+      number,
+      λ id of.
+          let st = c.args.book.now.statements in
+          let xs = c.args.scheme.now.hypotheses.now in
+          let stack = g.S.Store.stack c.args.store.now in
+          let base = c.len-count.result - length xs in
+          let called = called_of st c.args.own.now.place id c.args.scheme.now of in
+          let paired : length (drop base stack) ≡ length of.hypotheses.hypotheses =
+          omega (arith, length-drop base stack, c.len-count.ensures, c.if-count-scheme.false, as_many st xs of.hypotheses.hypotheses called.known) in
+          subst (λ (r : ProofRule). StopsAt st c.args.own.now.place id stack r) same
+          (stops_P9 st c.args.own.now.place id of.at (label_ids xs) of.hypotheses.hypotheses stack base c.requires.sound.0 called paired (c.in_default.ensures.codes st of.typed (drop_below st _ base stack c.requires.entries) of.hypotheses.hypotheses called.known)),
+    )
 
-pub apply_frame-requires-clause-before : goal.apply_frame-requires-clause-before
-apply_frame-requires-clause-before g c =
-    let u = c.requires.usable in
-    let p = c.frame.ensures.place in
-    let le : c.frame.result.place ≤ u.0 = numbers_order_back c.args.book.now.statements _ _ u.0 c.frame.result.place u.1 p.0 u.2 p.1 (omega arith) in
-    omega (arith, le, u.4)
+pub conclude-requires-clause-within : goal.conclude-requires-clause-within
+conclude-requires-clause-within g c =
+    let of = c.requires.scheme.1 in
+    let xs = c.args.scheme.now.hypotheses.now in
+    let stack = g.S.Store.stack c.args.store.now in
+    let base = c.len-count.result - length xs in
+    let size : length (variables_of xs) ≡ length (drop base stack) = omega (arith, length-drop base stack, c.len-count.ensures, c.if-count-scheme.false, variables_count xs) in
+    its_within c.args.book.now.statements (variables_of xs) _ of.s c.args.scheme.now.conclusion.now size of.concluded
 
-pub returns-clause-carried : goal.returns-clause-carried
-returns-clause-carried g c = IfOk-weaker c.apply_frame.result _ _ (λ u carried. carried c.args.id.0 c.frame.ensures.place.0 c.frame.ensures.place.1) c.apply_frame.ensures.carried
+pub returns-in-Some-rule_broken-clause-fault : goal.returns-in-Some-rule_broken-clause-fault
+returns-in-Some-rule_broken-clause-fault g c rule step is =
+    let same : c.in-Some-rule_broken.rule ≡ rule = cc in
+    let number : step ≡ c.args.number = cc in (
+      number,
+      λ id of.
+          let st = c.args.book.now.statements in
+          let stack = g.S.Store.stack c.args.store.now in
+          let base = c.len-count.result - length c.args.scheme.now.hypotheses.now in
+          let hs = of.hypotheses.hypotheses in
+          let called = called_of st c.args.own.now.place id c.args.scheme.now of in
+          let codes = c.in-Some.ensures.codes st of.typed (drop_below st _ base stack c.requires.entries) hs called.known in
+          subst (λ (r : ProofRule). StopsAt st c.args.own.now.place id stack r) same (c.in-Some-rule_broken.ensures id of.at hs called of.pairs codes),
+    )
 
-pub returns-clause-entries : goal.returns-clause-entries
-returns-clause-entries g c = IfOk-weaker c.apply_frame.result _ _ (λ u entries. entries c.args.id.0 c.frame.ensures.place.0 c.frame.ensures.place.1) c.apply_frame.ensures.entries
+-- only the limit is left to judge
+pub returns-in-None-clause-carried : goal.returns-in-None-clause-carried
+returns-in-None-clause-carried g c = IfOk-weaker c.conclude.result _ _ (λ u carried id of.
+    let st = c.args.book.now.statements in
+    let stack = g.S.Store.stack c.args.store.now in
+    let base = c.len-count.result - length c.args.scheme.now.hypotheses.now in
+    let hs = of.hypotheses.hypotheses in
+    let called = called_of st c.args.own.now.place id c.args.scheme.now of in
+    let codes = c.in-Some.ensures.codes st of.typed (drop_below st _ base stack c.requires.entries) hs called.known in
+    let matched = c.in-None.ensures id of.at hs called of.pairs codes in
+    carried st c.args.own.now.place id of.at c.requires.sound (ready_of st c.args.own.now.place id c.args.scheme.now (drop base stack) of matched)) c.conclude.ensures.carried
 
-pub returns-clause-kept : goal.returns-clause-kept
-returns-clause-kept g c = c.apply_frame.ensures.kept
+pub returns-in-None-clause-entries : goal.returns-in-None-clause-entries
+returns-in-None-clause-entries g c = IfOk-weaker c.conclude.result _ _ (λ u entries.
+    let id = c.requires.scheme.0 in
+    let of = c.requires.scheme.1 in
+    let st = c.args.book.now.statements in
+    let stack = g.S.Store.stack c.args.store.now in
+    let base = c.len-count.result - length c.args.scheme.now.hypotheses.now in
+    let hs = of.hypotheses.hypotheses in
+    let called = called_of st c.args.own.now.place id c.args.scheme.now of in
+    let codes = c.in-Some.ensures.codes st of.typed (drop_below st _ base stack c.requires.entries) hs called.known in
+    let matched = c.in-None.ensures id of.at hs called of.pairs codes in
+    entries st c.args.own.now.place id of.at c.requires.sound (ready_of st c.args.own.now.place id c.args.scheme.now (drop base stack) of matched) c.requires.entries) c.conclude.ensures.entries
 
-pub returns-clause-fault : goal.returns-clause-fault
-returns-clause-fault g c rule step is =
-    let fault = c.apply_frame.ensures.fault rule step is in
-    (fault.0, fault.1 c.args.id.0 c.frame.ensures.place.0 c.frame.ensures.place.1)
-
-pub apply_frame-requires-clause-own : goal.apply_frame-requires-clause-own
-apply_frame-requires-clause-own g c = c.requires.own
-
-pub apply_frame-requires-clause-sound : goal.apply_frame-requires-clause-sound
-apply_frame-requires-clause-sound g c = c.requires.sound
-
-pub apply_frame-requires-clause-entries : goal.apply_frame-requires-clause-entries
-apply_frame-requires-clause-entries g c = c.requires.entries
+pub returns-in-None-clause-fault : goal.returns-in-None-clause-fault
+returns-in-None-clause-fault g c rule step is =
+    let told = c.conclude.ensures.fault rule step is in (
+      told.0,
+      λ id of.
+          let st = c.args.book.now.statements in
+          let stack = g.S.Store.stack c.args.store.now in
+          let base = c.len-count.result - length c.args.scheme.now.hypotheses.now in
+          let hs = of.hypotheses.hypotheses in
+          let called = called_of st c.args.own.now.place id c.args.scheme.now of in
+          let codes = c.in-Some.ensures.codes st of.typed (drop_below st _ base stack c.requires.entries) hs called.known in
+          let matched = c.in-None.ensures id of.at hs called of.pairs codes in
+          told.1 st c.args.own.now.place id of.at c.requires.sound (ready_of st c.args.own.now.place id c.args.scheme.now (drop base stack) of matched),
+    )

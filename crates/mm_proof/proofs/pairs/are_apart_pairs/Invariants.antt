@@ -1,10 +1,11 @@
 use Rattle.std.proofs.Common.{ℕ, ◌<◌, ◌≡◌, Some, drop, take, slice_get}
 use Rattle.mm_proof.specs.Tree.{AreDistinct}
-use Rattle.mm_proof.specs.CodeVerify.{names_at, variables_in, value_of, pairs_in, EachValues}
+use Rattle.mm_frame.specs.Pieces.{variables_of}
+use Rattle.mm_proof.specs.CodeVerify.{names_at, value_of, pairs_in, EachValues}
 use Rattle.mm_proof.proofs.pairs.are_apart_pairs.Given as goal
 
 abbrev pub invariant-loop-pair : goal.invariant-loop-pair
 invariant-loop-pair g l =
     (k : ℕ) (p : ℕ × ℕ) → k < l.pair-index → slice_get (pairs_in l.pairs) k ≡ Some p
-    → EachValues (value_of (variables_in l.variables.list.items) (drop l.base (g.S.Store.stack l.store))) p.0 p.1
+    → EachValues (value_of (variables_of l.hypotheses) (drop l.base (g.S.Store.stack l.store))) p.0 p.1
     (λ e f. AreDistinct (take l.fn.own.place l.fn.book.statements) (names_at l.fn.book.statements e) (names_at l.fn.book.statements f))

@@ -1,13 +1,13 @@
 use Rattle.std.proofs.Common.{ℕ, ◌<◌, ◌≡◌, List, Option, Some, drop, slice_get}
 use Rattle.mm_frame.specs.Sentence.{Sentence}
+use Rattle.mm_frame.specs.Pieces.{variables_of}
 use Rattle.mm_proof.specs.CodeSteps.{label_ids}
-use Rattle.mm_proof.specs.CodeVerify.{AreHypothesesOf, AreVariablesOf, IsEqual, Replaces, variables_in, all_names_at}
+use Rattle.mm_proof.specs.CodeVerify.{AreHypothesesOf, IsEqual, Replaces, all_names_at}
 use Rattle.mm_proof.proofs.step.are_equal.Given as goal
 
 abbrev pub invariant-loop-index : goal.invariant-loop-index
 invariant-loop-index g l =
-    (σ : List ℕ → Option (List (List ℕ))) → Replaces l.fn.book.statements σ (variables_in l.variables.list.items) (drop l.base (g.S.Store.stack l.store))
-    → (hs : List Sentence) → AreHypothesesOf l.fn.book.statements (label_ids l.hypotheses) hs
-    → AreVariablesOf l.fn.book.statements (variables_in l.variables.list.items) hs
+    (σ : List ℕ → Option (List (List ℕ))) → Replaces l.fn.book.statements σ (variables_of l.scheme.hypotheses.now) (drop l.base (g.S.Store.stack l.store))
+    → (hs : List Sentence) → AreHypothesesOf l.fn.book.statements (label_ids l.scheme.hypotheses.now) hs
     → (i : ℕ) (h : Sentence) (entry : List (List ℕ)) → i < l.index → slice_get hs i ≡ Some h
     → slice_get (all_names_at l.fn.book.statements (drop l.base (g.S.Store.stack l.store))) i ≡ Some entry → IsEqual σ h entry

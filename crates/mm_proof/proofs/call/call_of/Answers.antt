@@ -1,0 +1,30 @@
+use Rattle.std.proofs.Common.{◌≡◌, ◌<◌, ℕ, sym, subst}
+use Rattle.mm_frame.specs.Sentence.{IsHypothesis, IsAssertion}
+use Rattle.mm_proof.proofs.Numbered.{numbered_at, one_place}
+use Rattle.mm_proof.proofs.Applying.{is_hypothesis_kind, is_assertion_kind}
+use Rattle.mm_proof.proofs.Calls.{scheme_of}
+use Rattle.mm_proof.proofs.call.call_of.Goals as goal
+
+pub frame-requires : goal.frame-requires
+frame-requires c =
+    let u = c.requires.2 in
+    let there = numbered_at c.args.book.now.statements c.args.id.0 u.at u.s u.numbered in
+    (u.at, u.s, u.numbered, subst IsAssertion (sym (c.kind.ensures u.s there)) (is_assertion_kind c.kind.result c.in_default.not-Floating c.in_default.not-Essential))
+
+pub scheme-requires : goal.scheme-requires
+scheme-requires c = ?
+
+pub returns-in-Floating : goal.returns-in-Floating
+returns-in-Floating c place label u =
+    let there = numbered_at c.args.book.now.statements c.args.id.0 u.at u.s u.numbered in
+    (label, u, subst IsHypothesis (sym (c.kind.ensures u.s there)) (is_hypothesis_kind c.kind.result c.in-Floating.is), c.expression.ensures u.s there)
+
+pub returns-in_default : goal.returns-in_default
+returns-in_default c place label u =
+    let st = c.args.book.now.statements in
+    let p = c.frame.ensures.place in
+    let at = c.frame.result.place in
+    let same : u.at ≡ at = one_place st c.args.id.0 u.at at u.s p.0 u.numbered p.1 in
+    let its = c.scheme.ensures.conclusion in
+    scheme_of c.frame.result.statements st place c.args.id.0 at p.0 its.0 c.scheme.result c.frame.ensures.book p.1 p.2 (subst (λ (n : ℕ). n < place) same u.before)
+    c.scheme.ensures.ids c.scheme.ensures.typed c.scheme.ensures.pairs its.1 its.2 c.scheme.ensures.patterns

@@ -1,0 +1,52 @@
+use Rattle.std.proofs.Common.{◌≡◌, ℕ, List, Some, None, inl, inr, arith, subst, sym, ap, ◌∙◌, is_some, get_or, true, Bool, IsTrue}
+use Rattle.std.proofs.lemmas.Option.{slice_get_within, same_Some}
+use Rattle.std.proofs.lemmas.Bool.{false≢true, cases_lt}
+use Rattle.mm_frame.specs.Pieces.{variables_of}
+use Rattle.mm_proof.proofs.Named.{hypothesis_at, typing_at, typing_some, entry_at, entry_below, each_more, as_many, no_hypothesis}
+use Rattle.mm_proof.proofs.Values.{variables_count}
+use Rattle.mm_proof.proofs.step.typing_of.Goals as goal
+use Rattle.mm_proof.proofs.step.typing_of.Goals.{then-floating, else-floating}
+
+pub loop-index-init : goal.loop-index-init
+loop-index-init g c = (λ st have below hs are i h entry less p q. absurd (omega arith), λ all k less. absurd (omega arith))
+
+pub returns-then-not-is_typed-clause-codes : goal.returns-then-not-is_typed-clause-codes
+returns-then-not-is_typed-clause-codes g c st have below hs are =
+    let i = c.loop-index.index in
+    let at = hypothesis_at st c.args.hypotheses.now hs i no_hypothesis are c.loop-index-test.true in
+    let typing = typing_at st c.args.hypotheses.now i no_hypothesis at.0 have c.loop-index-test.true at.2 in (
+      i,
+      at.0,
+      _,
+      at.1,
+      entry_at st (g.S.Store.stack c.args.store.now) c.args.base i _ c.at.ensures,
+      c.if-not-is_typed.ensures st at.0 typing (entry_below st (g.S.Store.stack c.args.store.now) c.args.base i _ below c.at.ensures),
+    )
+
+pub loop-index-preserved : goal.loop-index-preserved
+loop-index-preserved g c = (
+  λ st have below hs are.
+      let i = c.loop-index.index in
+      let at = hypothesis_at st c.args.hypotheses.now hs i no_hypothesis are c.loop-index-test.true in
+      let typing = typing_at st c.args.hypotheses.now i no_hypothesis at.0 have c.loop-index-test.true at.2 in
+      let here = c.if-not-is_typed.ensures st at.0 typing (entry_below st (g.S.Store.stack c.args.store.now) c.args.base i _ below c.at.ensures) in
+      each_more hs _ _ i at.0 _ at.1 (entry_at st (g.S.Store.stack c.args.store.now) c.args.base i _ c.at.ensures) here (c.loop-index.invariant.0 st have below hs are),
+  λ all k less. elim c.if-floating.branch [
+    | then-floating w ↦ elim (cases_lt k c.loop-index.index) [
+      | inl before ↦ c.loop-index.invariant.1 w.if-floating.true k before
+      | inr from ↦
+          let at : k ≡ c.loop-index.index = omega arith in
+          subst (λ n. is_some (get_or (variables_of c.args.hypotheses.now) n None) ≡ true) (sym at)
+          (typing_some c.args.hypotheses.now c.loop-index.index _ c.loop-index-test.true (sym w.is_some-floating.ensures ∙ sym w.floating-is ∙ all))
+    ]
+    | else-floating w ↦ absurd (false≢true (sym w.if-floating.false ∙ sym w.floating-is ∙ all))
+  ],
+)
+
+pub returns-clause-codes : goal.returns-clause-codes
+returns-clause-codes g c st have below hs are i h entry p q =
+    c.loop-index.invariant.0 st have below hs are i h entry (omega (arith, slice_get_within hs i h p, as_many st c.args.hypotheses.now hs are, c.loop-index-test.false)) p q
+
+pub returns-clause-floating : goal.returns-clause-floating
+returns-clause-floating g c floating is all k less =
+    c.loop-index.invariant.1 (same_Some c.loop-index.floating floating is ∙ all) k (omega (arith, variables_count c.args.hypotheses.now, c.loop-index-test.false))

@@ -1,0 +1,78 @@
+//! What a label of a proof stands for, and the step by it.
+
+ghost use Rattle.std.specs.Prelude.{◌≡◌, ℕ, List, take, Err, OnOk};
+ghost use Rattle.mm_frame.specs.Form.{IsSound};
+ghost use Rattle.mm_proof.specs.CodeSteps.{MayBeUsed};
+ghost use Rattle.mm_proof.specs.CodeVerify.{AreStackEntries};
+ghost use Rattle.mm_proof.specs.CodeRun.{CarriesOn, StopsAt};
+ghost use Rattle.mm_proof.specs.CodeApply.{IsCallOf};
+
+use crate::apply::apply;
+use crate::fault::{ProofFault, ProofRule};
+use crate::store::Store;
+use crate::substitution::EXPRESSION_LIMIT;
+use mm_frame::{Book, Frame, LabelId, LabelKind, Scheme, Sym};
+
+/// What a label of a proof stands for.
+#[derive(Clone, Copy)]
+pub(crate) enum Call<'b> {
+    /// A hypothesis, by its symbols.
+    Hypothesis(&'b [Sym]),
+    /// An assertion.
+    Assertion(Scheme<'b>),
+}
+
+/// What the label with a number stands for.
+pub(crate) fn call_of<'b>(book: &'b Book<'_>, id: LabelId) -> Call<'b>
+    requires { (place : ℕ) × (label : List ℕ) × MayBeUsed book.now.statements place label id.0 }
+    ensures { (place : ℕ) (label : List ℕ) → MayBeUsed book.now.statements place label id.0
+        → IsCallOf book.now.statements place id.0 result }
+{
+    match book.kind(id) {
+        LabelKind::Floating | LabelKind::Essential => Call::Hypothesis(book.expression(id)),
+        _ => Call::Assertion(book.frame(id).scheme()),
+    }
+}
+
+/// The step by what a label stands for: the symbols of a hypothesis are put on the stack, and an
+/// assertion is applied; or the first of P8 to P12 and L1 that it breaks.
+#[inline(always)]
+pub(crate) fn step_by<S: Store>(
+    store: &mut S,
+    made: &mut Vec<Sym>,
+    book: &Book,
+    own: &Frame,
+    call: &Call,
+    number: usize,
+) -> Result<(), ProofFault>
+    requires own { own.now.statements ≡ book.now.statements }
+    requires sound { IsSound book.now.statements }
+    requires call { (id : ℕ) × IsCallOf book.now.statements own.now.place id call.now }
+    requires entries { AreStackEntries book.now.statements (take own.now.place book.now.statements)
+        (S.stack store.old) }
+    ensures carried { OnOk result
+        ((id : ℕ) → IsCallOf book.now.statements own.now.place id call.now
+        → CarriesOn book.now.statements own.now.place id (S.stack store.old) (S.stack store.new)) }
+    ensures entries { OnOk result
+        (AreStackEntries book.now.statements (take own.now.place book.now.statements)
+        (S.stack store.new)) }
+    ensures kept { S.kept store.new ≡ S.kept store.old }
+    ensures fault { (rule : ProofRule) → (at : ℕ) → result ≡ Err (ProofFault.Rule rule at)
+        → (at ≡ number)
+        × ((id : ℕ) → IsCallOf book.now.statements own.now.place id call.now
+        → StopsAt book.now.statements own.now.place id (S.stack store.old) rule) }
+{
+    match call {
+        Call::Hypothesis(expression) => {
+            if expression.len() > EXPRESSION_LIMIT {
+                return Err(ProofFault::Rule {
+                    rule: ProofRule::L1,
+                    step: number,
+                });
+            }
+            store.push(expression)?;
+            Ok(())
+        }
+        Call::Assertion(scheme) => apply(store, made, book, own, scheme, number),
+    }
+}
