@@ -78,12 +78,21 @@ fn class_of_dollar(text: &[u8]) -> Class
     }
 }
 
+// Whether a token holds a `$`. Tokens are short, so that they are looked at byte by byte.
+#[inline(always)]
+fn has_dollar(text: &[u8]) -> bool
+    ensures { result ≡ holds_dollar text.now }
+{
+    text.iter().any(|byte| *byte == b'$')
+}
+
 /// What a token is that stands outside comments and inclusions and begins none.
+#[inline(always)]
 pub fn class_of(text: &[u8]) -> Class
     requires unread { ¬ (IsReadApart text.now) }
     ensures { ClassIs text.now result }
 {
-    if text.contains(&b'$') {
+    if has_dollar(text) {
         class_of_dollar(text)
     } else {
         Class::Word
