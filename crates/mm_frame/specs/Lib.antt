@@ -25,3 +25,4 @@ pub mod Grows
 pub mod Declaring
 pub mod Separated
 pub mod Naming
+pub mod Asked

@@ -11,6 +11,7 @@ ghost use Rattle.mm_frame.specs.Rules.{Breaks, IsMeant, FirstBroken};
 ghost use Rattle.mm_frame.specs.Layout.{AreTables, statements_of};
 ghost use Rattle.mm_frame.specs.Told.{IsTold, StatesOnce};
 ghost use Rattle.mm_frame.specs.Sought.{AreSought, HasNumbers};
+ghost use Rattle.mm_frame.specs.Asked.{rules_of};
 
 use crate::lookups::{
     has_other_type, is_active_variable, is_constant, is_declared, is_label, is_typed, is_variable,
@@ -210,6 +211,7 @@ fn breaks_m15(tables: &Tables, statement: &Statement, numbers: &[Sym]) -> bool
 }
 
 // Whether the statement breaks the rule.
+#[inline(always)]
 fn breaks(
     rule: MeaningRule,
     tables: &Tables,
@@ -242,24 +244,54 @@ fn breaks(
     }
 }
 
-// The rules in the order in which they are judged.
-const ORDER: [MeaningRule; 15] = [
+// The rules that a `$c` may break, in the order in which they are judged.
+const FOR_CONSTANTS: [MeaningRule; 5] = [
     MeaningRule::M1,
     MeaningRule::M2,
+    MeaningRule::M4,
+    MeaningRule::M5,
+    MeaningRule::M6,
+];
+
+// The rules that a `$v` may break, in the order in which they are judged.
+const FOR_VARIABLES: [MeaningRule; 4] = [
     MeaningRule::M3,
     MeaningRule::M4,
+    MeaningRule::M5,
+    MeaningRule::M6,
+];
+
+// The rules that a `$d` may break, in the order in which they are judged.
+const FOR_DISTINCT: [MeaningRule; 5] = [
     MeaningRule::M5,
     MeaningRule::M6,
     MeaningRule::M7,
     MeaningRule::M8,
     MeaningRule::M9,
+];
+
+// The rules that a `$f` may break, in the order in which they are judged.
+const FOR_FLOATING: [MeaningRule; 7] = [
+    MeaningRule::M5,
+    MeaningRule::M6,
+    MeaningRule::M7,
     MeaningRule::M10,
     MeaningRule::M11,
     MeaningRule::M12,
     MeaningRule::M13,
+];
+
+// The rules that a `$e`, `$a` or `$p` may break, in the order in which they are judged.
+const FOR_STATED: [MeaningRule; 5] = [
+    MeaningRule::M5,
+    MeaningRule::M6,
+    MeaningRule::M7,
     MeaningRule::M14,
     MeaningRule::M15,
 ];
+
+// The rules that a `${` or `$}` may break, in the order in which they are judged.
+const FOR_BLOCKS: [MeaningRule; 2] = [MeaningRule::M5, MeaningRule::M6];
 
 // Whether statements of this kind state each symbol once.
 fn is_list(kind: Kind) -> bool
@@ -331,6 +363,33 @@ fn repeats(alloc: Global, statement: &Statement) -> Result<bool, AllocError>
     }
 }
 
+// The first of the rules of the statement's kind that the statement breaks.
+#[inline(always)]
+fn first_among(
+    rules: &[MeaningRule],
+    tables: &Tables,
+    statement: &Statement,
+    numbers: &[Sym],
+    repeats: bool,
+) -> Option<MeaningRule>
+    requires rules { rules.now ≡ rules_of statement.now.kind }
+    requires tables { AreTables tables.now }
+    requires numbers { HasNumbers
+        (statements_of tables.now) (map (λ n. n.0) numbers.now) (sentence_in statement.now) }
+    requires told { IsTold repeats (sentence_in statement.now) }
+    ensures { MatchOption
+        result
+        (IsMeant (statements_of tables.now) (sentence_in statement.now))
+        (λ rule. FirstBroken rule (statements_of tables.now) (sentence_in statement.now)) }
+{
+    for rule in rules {
+        if breaks(*rule, tables, statement, numbers, repeats) {
+            return Some(*rule);
+        }
+    }
+    None
+}
+
 /// The first rule of meaning that the statement breaks after the statements before it, in the order
 /// M1 to M15 (the Metamath book, sections 4.2.1 to 4.2.8), or `None` where it breaks none.
 /// The numbers of the symbols that the statement uses are left in `numbers`.
@@ -350,10 +409,16 @@ pub(crate) fn first_broken(
 {
     look_up(tables, statement, numbers)?;
     let repeats = repeats(tables.alloc, statement)?;
-    for rule in ORDER {
-        if breaks(rule, tables, statement, numbers, repeats) {
-            return Ok(Some(rule));
+    Ok(match statement.kind {
+        Kind::Constants => first_among(&FOR_CONSTANTS, tables, statement, numbers, repeats),
+        Kind::Variables => first_among(&FOR_VARIABLES, tables, statement, numbers, repeats),
+        Kind::Distinct => first_among(&FOR_DISTINCT, tables, statement, numbers, repeats),
+        Kind::Floating => first_among(&FOR_FLOATING, tables, statement, numbers, repeats),
+        Kind::Essential | Kind::Axiom | Kind::Provable => {
+            first_among(&FOR_STATED, tables, statement, numbers, repeats)
         }
-    }
-    Ok(None)
+        Kind::Opening | Kind::Closing => {
+            first_among(&FOR_BLOCKS, tables, statement, numbers, repeats)
+        }
+    })
 }
