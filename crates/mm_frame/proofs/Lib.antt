@@ -14,6 +14,7 @@ pub mod Patterns
 pub mod Symbols
 pub mod RepeatsCode
 pub mod Numbered
+pub mod ByByte
 pub mod Labelled
 pub mod Those
 pub mod Decided

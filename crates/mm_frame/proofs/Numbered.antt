@@ -83,7 +83,7 @@ once_fold names [] once = once
 once_fold names (x ∷ more) once = once_fold (with_name names x) more (once_with_name names x once)
 
 -- a name stays at its place
-kept_with_name : (names : List (List ℕ)) (name : List ℕ) (i : ℕ) (x : List ℕ) → slice_get names i ≡ Some x → slice_get (with_name names name) i ≡ Some x
+pub kept_with_name : (names : List (List ℕ)) (name : List ℕ) (i : ℕ) (x : List ℕ) → slice_get names i ≡ Some x → slice_get (with_name names name) i ≡ Some x
 kept_with_name names name i x there = elim (with_name_cases names name) [
   | inl (found, same) ↦ subst (λ xs. slice_get xs i ≡ Some x) (sym same) there
   | inr (absent, longer) ↦ subst (λ xs. slice_get xs i ≡ Some x) (sym longer) (get_kept names (name ∷ []) i x there)

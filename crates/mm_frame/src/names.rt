@@ -1,7 +1,8 @@
 //! Names by number: lists of names without repetition, in which a name is found at once.
 
-ghost use Rattle.std.specs.Prelude.{◌≡◌, ◌+◌, ◌<◌, ◌≤◌, [], length, slice_get, option_map, Some};
-ghost use Rattle.std.specs.Prelude.{MatchOption, Contains, OnOk};
+ghost use Rattle.std.specs.Prelude.{◌≡◌, ℕ, ◌+◌, ◌<◌, ◌≤◌, List, [], length, slice_get, Some};
+ghost use Rattle.std.specs.Prelude.{option_map, MatchOption, Contains, OnOk};
+ghost use Rattle.mm_frame.specs.NameTable.{AreByByte};
 ghost use Rattle.mm_frame.specs.Numbers.{with_name};
 
 use indexmap::IndexSet;
@@ -53,18 +54,42 @@ impl Hash for Name<'_> {
 #[derive(Drop)]
 pub struct Names<'a> {
     table: IndexSet<Name<'a>>,
+    /// The number of the name that is this byte alone. Most symbols are one byte long, and are
+    /// found sooner in this table than by a hash.
+    by_byte: [Option<u32>; 256],
 }
 
 impl<'a> Model for Names<'a> {
     ghost use Rattle.std.specs.Prelude.{ℕ, ◌<◌, length, map};
     ghost use Rattle.indexmap.specs.IndexSet.{spare};
-    ghost use Rattle.mm_frame.specs.NameTable.{NameTable};
+    ghost use Rattle.mm_frame.specs.NameTable.{NameTable, AreByByte};
 
     ghost Value = { NameTable };
 
     ghost view = { λ n. record { names = map (λ k. k.0.now) n.table.keys; room = spare n.table } };
 
-    ghost invariant = { λ n. length n.table.keys < 4294967296 };
+    ghost invariant = { λ n. (length n.table.keys < 4294967296)
+        × AreByByte (map (λ k. k.0.now) n.table.keys) n.by_byte };
+}
+
+// The table where no name is one byte long.
+fn no_numbers() -> [Option<u32>; 256]
+    ensures { AreByByte [] result }
+{
+    [None; 256]
+}
+
+// Notes the number that the name gets, where it is new and one byte long.
+fn note_byte(by_byte: &mut [Option<u32>; 256], name: &[u8], number: u32)
+    ensures { (names : List (List ℕ)) → AreByByte names by_byte.old → length names ≡ number
+        → AreByByte (with_name names name.now) by_byte.new }
+{
+    if let [only] = name {
+        let place = *only as usize;
+        if by_byte[place].is_none() {
+            by_byte[place] = Some(number);
+        }
+    }
 }
 
 impl<'a> Names<'a> {
@@ -74,6 +99,7 @@ impl<'a> Names<'a> {
     {
         Names {
             table: IndexSet::new(alloc),
+            by_byte: no_numbers(),
         }
     }
 
@@ -92,6 +118,9 @@ impl<'a> Names<'a> {
             (¬ (Contains self.now.names name.now))
             (λ number. slice_get self.now.names number ≡ Some name.now) }
     {
+        if let [only] = name {
+            return self.by_byte[*only as usize];
+        }
         match self.table.get_index_of(&Name(name)) {
             Some(number) => Some(number as u32),
             None => None,
@@ -123,6 +152,7 @@ impl<'a> Names<'a> {
         ensures names { self.new.names ≡ with_name self.old.names name.now }
         ensures room { self.old.room ≤ self.new.room + 1 }
     {
+        note_byte(&mut self.by_byte, name, self.table.len() as u32);
         let _ = self.table.insert(Name(name));
     }
 }
