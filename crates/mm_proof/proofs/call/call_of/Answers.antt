@@ -11,9 +11,6 @@ frame-requires c =
     let there = numbered_at c.args.book.now.statements c.args.id.0 u.at u.s u.numbered in
     (u.at, u.s, u.numbered, subst IsAssertion (sym (c.kind.ensures u.s there)) (is_assertion_kind c.kind.result c.in_default.not-Floating c.in_default.not-Essential))
 
-pub scheme-requires : goal.scheme-requires
-scheme-requires c = ?
-
 pub returns-in-Floating : goal.returns-in-Floating
 returns-in-Floating c place label u =
     let there = numbered_at c.args.book.now.statements c.args.id.0 u.at u.s u.numbered in
