@@ -5,6 +5,7 @@ mod asked;
 mod databases;
 mod questions;
 mod refused;
+mod schemes;
 mod taking;
 
 use crate::calls::frame::taking::empty_book;

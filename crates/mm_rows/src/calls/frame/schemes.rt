@@ -1,0 +1,42 @@
+//! The scheme of an assertion, beside its frame.
+
+use mm_frame::{Book, Frame, Hypothesis, Piece, Scheme, Sym, place_of};
+
+/// Whether the piece says the symbol, where these are the mandatory hypotheses.
+fn is_said(hypotheses: &[Hypothesis], piece: Piece, symbol: Sym) -> bool {
+    match piece {
+        Piece::Symbol(same) => same == symbol && place_of(hypotheses, symbol).is_none(),
+        Piece::Value(place) => place_of(hypotheses, symbol) == Some(place as usize),
+    }
+}
+
+/// Whether the pattern says the symbols.
+fn is_pattern(hypotheses: &[Hypothesis], pattern: &[Piece], symbols: &[Sym]) -> bool {
+    pattern.len() == symbols.len()
+        && pattern
+            .iter()
+            .zip(symbols)
+            .all(|(piece, symbol)| is_said(hypotheses, *piece, *symbol))
+}
+
+/// Whether the hypothesis is a `$f`, or has the pattern of its symbols.
+fn has_pattern(book: &Book, scheme: &Scheme, hypothesis: &Hypothesis) -> bool {
+    hypothesis.typing.is_some()
+        || is_pattern(
+            scheme.hypotheses,
+            scheme.pattern(hypothesis),
+            book.expression(hypothesis.id),
+        )
+}
+
+/// Whether the scheme of an assertion has what its frame has, and the patterns of its symbols.
+pub(crate) fn is_scheme(book: &Book, frame: &Frame) -> bool {
+    let scheme = frame.scheme();
+    scheme.hypotheses == frame.hypotheses()
+        && scheme.pairs == frame.pairs()
+        && is_pattern(scheme.hypotheses, scheme.conclusion, frame.expression())
+        && scheme
+            .hypotheses
+            .iter()
+            .all(|hypothesis| has_pattern(book, &scheme, hypothesis))
+}
