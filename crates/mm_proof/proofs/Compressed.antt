@@ -1,10 +1,10 @@
 -- Compressed proofs: their list, their letters, and the moves that their codes say.
-use Rattle.std.proofs.Common.{◌≡◌, ℕ, suc, ◌+◌, ◌<◌, ◌≤◌, min, List, [], ◌∷◌, ◌++◌, length, map, take, drop, get_or, slice_get, Contains, All, Bor, Some, Result, Ok, Err, inl, inr, ⊎_elim, refl, sym, ap, subst, ◌∙◌, arith}
+use Rattle.std.proofs.Common.{◌≡◌, ℕ, suc, ◌+◌, ◌-◌, ◌<◌, ◌≤◌, ◌⊎◌, min, List, [], ◌∷◌, ◌++◌, length, map, take, drop, get_or, slice_get, Contains, All, Bor, Some, None, Result, Ok, Err, inl, inr, ⊎_elim, refl, sym, ap, subst, ◌∙◌, arith}
 use Rattle.std.specs.Prelude.{OnOk}
 use Rattle.std.specs.List.{AllZip, AllByRecursion, flat_map}
-use Rattle.std.proofs.lemmas.Option.{same_Some}
+use Rattle.std.proofs.lemmas.Option.{same_Some, slice_get_cases}
 use Rattle.std.proofs.lemmas.List.{map-append, take_more, take-map, drop-map}
-use Rattle.std.proofs.lemmas.List.Elements.{Contains-append_right, All-from_recursion}
+use Rattle.std.proofs.lemmas.List.Elements.{Contains-append_right, All-from_recursion, recursion_from_All}
 use Rattle.mm_code.specs.declared.code.Code.{Code}
 use Rattle.mm_code.specs.declared.code.Code.TheVariants.{Number, Tag}
 use Rattle.mm_code.specs.Letters as letter
@@ -24,15 +24,16 @@ use Rattle.mm_frame.specs.FramePlace.{AreHypotheses}
 use Rattle.mm_proof.specs.declared.fault.ProofRule.{ProofRule}
 use Rattle.mm_proof.specs.declared.fault.ProofRule.TheVariants.{P1, P2, P3, P4, P5}
 use Rattle.mm_proof.specs.declared.moves.NumberedMove.{NumberedMove}
-use Rattle.mm_proof.specs.Moves.{Move}
+use Rattle.mm_proof.specs.Moves.{Move, name, again}
 use Rattle.mm_proof.specs.Tokens.{IsCompressed, AreLetters, opening_token, closing_token}
 use Rattle.mm_proof.specs.Proof.{proof_rank, BreaksWhole, IsWholeFault}
 use Rattle.mm_proof.specs.Steps.{IsUsable}
-use Rattle.mm_proof.specs.CodeSteps.{AreFor, NumberSays, IsReading, move_in, moves_in, token_texts, fault_behind}
+use Rattle.mm_proof.specs.CodeSteps.{AreFor, NumberSays, IsReading, MayAllBeUsed, code_move, code_moves, move_by, move_in, moves_in, token_texts, fault_behind}
 use Rattle.mm_code.specs.Layout.{texts}
 use Rattle.mm_proof.specs.Answer.{OnRule}
 use Rattle.mm_proof.proofs.Places.{split_at, get_from_take}
 use Rattle.mm_proof.proofs.Frames.{those_hold}
+use Rattle.mm_proof.proofs.Ending.{may_be_used}
 use Rattle.mm_proof.proofs.LabelLists.{zip_push}
 use Rattle.mm_proof.proofs.TokenFacts.{HasLabels, labels_pass}
 use Rattle.mm_proof.proofs.Readings.{Stands, for_stands, zip_append, codes_named, whole_of}
@@ -204,6 +205,41 @@ reading_compressed statements place own tokens ids hypothesis_ids listed letters
       numbered = named.numbered;
       usable = named.usable;
     }
+
+-- each of the entries may be used: the mandatory hypotheses, and then the listed labels
+pub entries_usable : (statements : List Sentence) (place : ℕ) (ids hypothesis_ids : List ℕ) (listed : List (List ℕ)) → AllMeant statements → AllFormed statements
+    → AreFor statements place ids listed → AreHypotheses (record { statements = statements; place = place }) hypothesis_ids → MayAllBeUsed statements place (hypothesis_ids ++ ids)
+entries_usable statements place ids hypothesis_ids listed all formed each h =
+    let hl = hypotheses_labels statements place hypothesis_ids h.hypotheses h.numbered (mandatory_usable statements place h.assertion h.hypotheses formed h.mandatory) in
+    let stand = zip_append (Stands statements place) hypothesis_ids hl.labels ids listed hl.stand (for_stands statements place ids listed each) in
+    stand_usable (hypothesis_ids ++ ids) (hl.labels ++ listed) stand
+  where
+    stand_usable : (numbers : List ℕ) (labels : List (List ℕ)) → AllZip (Stands statements place) numbers labels → MayAllBeUsed statements place numbers
+    stand_usable [] labels z = tt
+    stand_usable (n ∷ numbers) [] z = absurd z
+    stand_usable (n ∷ numbers) (l ∷ labels) z =
+        ((l, may_be_used statements place n z.0.s l all z.0.there z.0.named z.0.usable), stand_usable numbers labels z.1)
+
+-- ---- the moves that codes say
+
+-- a code with a spelling says its move
+code_says : (ids : List ℕ) (c : Code) → HasSpelling c → NumberSays ids c (code_move ids c)
+code_says ids Tag spelled = refl
+code_says ids (Number n) spelled = (n - 1, (let one : 1 ≤ n = spelled in omega arith), go (slice_get_cases ids (n - 1)).1)
+  where
+    go : ((id : ℕ) × (n - 1 < length ids) × (slice_get ids (n - 1) ≡ Some id) × (get_or ids (n - 1) id ≡ id)) ⊎ ((length ids ≤ n - 1) × (slice_get ids (n - 1) ≡ None))
+        → ((id : ℕ) × (slice_get ids (n - 1) ≡ Some id) × (code_move ids (Number n) ≡ name id))
+        ⊎ ((tag : ℕ) × (n - 1 ≡ length ids + tag) × (code_move ids (Number n) ≡ again tag))
+    go (inl h) = inl (h.0, h.2, ap (λ o. move_by o (n - 1 - length ids)) h.2)
+    go (inr h) = inr (n - 1 - length ids, omega (arith, h.0), ap (λ o. move_by o (n - 1 - length ids)) h.1)
+
+-- codes with spellings say their moves
+each_says : (ids : List ℕ) (said : List Code) → AllByRecursion HasSpelling said → AllZip (NumberSays ids) said (code_moves ids said)
+each_says ids [] spelled = tt
+each_says ids (c ∷ said) spelled = (code_says ids c spelled.0, each_says ids said spelled.1)
+
+pub codes_say : (ids : List ℕ) (said : List Code) → All HasSpelling said → AllZip (NumberSays ids) said (code_moves ids said)
+codes_say ids said spelled = each_says ids said (recursion_from_All HasSpelling said spelled)
 
 -- ---- the parts, by the place of the first `)`
 

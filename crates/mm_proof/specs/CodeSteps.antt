@@ -1,6 +1,6 @@
 -- What the code of the moves knows on its way: it mirrors the code.
 use Rattle.std.specs.Prelude.{◌≡◌, ℕ, ◌+◌, ◌<◌, List, length, map, take, slice_get, Contains, Some}
-use Rattle.std.specs.Prelude.{◌⊎◌}
+use Rattle.std.specs.Prelude.{◌-◌, ◌⊎◌, Option, None}
 use Rattle.std.specs.List.{AllZip, AllByRecursion}
 use Rattle.mm_text.specs.declared.token.Token.{Token}
 use Rattle.mm_frame.specs.declared.hypothesis.Hypothesis.{Hypothesis}
@@ -109,6 +109,28 @@ NumberSays ids (codes.Number number) move =
     × (((id : ℕ) × (slice_get ids place ≡ Some id) × (move ≡ name id))
     ⊎ ((tag : ℕ) × (place ≡ length ids + tag) × (move ≡ again tag)))
 NumberSays ids codes.Tag move = move ≡ mark
+
+-- the move by the label with a number, or else by a tag
+abbrev pub move_by : Option ℕ → ℕ → Move ℕ
+move_by (Some id) tag = name id
+move_by None tag = again tag
+
+-- the move at a place, where places stand for these labels in order, and those above for tags
+abbrev pub entry_move : List ℕ → ℕ → Move ℕ
+entry_move ids place = move_by (slice_get ids place) (place - length ids)
+
+-- the move that a code says
+abbrev pub code_move : List ℕ → Code → Move ℕ
+code_move ids (codes.Number number) = entry_move ids (number - 1)
+code_move ids codes.Tag = mark
+
+abbrev pub code_moves : List ℕ → List Code → List (Move ℕ)
+code_moves ids said = map (code_move ids) said
+
+-- each of the labels may be used
+abbrev pub MayAllBeUsed : List Sentence → ℕ → List ℕ → Type 0
+MayAllBeUsed statements place ids =
+    AllByRecursion (λ id. (label : List ℕ) × MayBeUsed statements place label id) ids
 
 -- the tokens break no rule over the whole proof, and the moves are what they say, each of which may
 -- be made

@@ -16,7 +16,7 @@ ghost use Rattle.mm_proof.specs.Moves.{Move, name};
 ghost use Rattle.mm_proof.specs.Proof.{IsWholeFault};
 ghost use Rattle.mm_proof.specs.Steps.{AreSteps, IsProofNumber};
 ghost use Rattle.mm_proof.specs.Parsed.{OfProof, SaySteps};
-ghost use Rattle.mm_proof.specs.CodeSteps.{IsReading, NumberSays, fault_behind};
+ghost use Rattle.mm_proof.specs.CodeSteps.{IsReading, NumberSays, MayAllBeUsed, fault_behind};
 ghost use Rattle.mm_proof.specs.CodeSteps.{ids_in, label_ids, move_in, moves_in, token_texts};
 ghost use Rattle.mm_code.specs.Layout.{texts};
 ghost use Rattle.mm_proof.specs.CodeRun.{ArePicked, AreMarked};
@@ -36,11 +36,11 @@ pub(crate) struct ParseLists<'a> {
     /// The numbers of the labels.
     ids: Vec<LabelId>,
     /// What the first numbers stand for: the mandatory hypotheses, and then the listed labels.
-    entries: Vec<LabelId>,
+    pub(crate) entries: Vec<LabelId>,
     /// The letters, as white space cuts them.
     letters: Vec<&'a [u8]>,
     /// What they say.
-    codes: Vec<Code>,
+    pub(crate) codes: Vec<Code>,
     /// The moves.
     pub(crate) moves: Vec<NumberedMove>,
     /// The labels that they name.
@@ -278,6 +278,45 @@ fn fill_entries(
     entries.extend_from_slice(listed)
 }
 
+/// Fills the lists with the codes of a compressed proof, whose tokens after the `(` are these, and
+/// with the labels that its first numbers stand for.
+pub(crate) fn read_compressed<'a>(
+    lists: &mut ParseLists<'a>,
+    book: &Book,
+    own: &Frame,
+    id: LabelId,
+    rest: &[Token<'a>],
+) -> Result<(), ProofFault>
+    requires book { own.now.statements ≡ book.now.statements }
+    requires own { (s : Sentence) × IsNumbered book.now.statements id.0 own.now.place s }
+    requires sound { IsSound book.now.statements }
+    // The moves that the codes say are what the tokens say.
+    ensures reads { let tokens = opening_token ∷ token_texts rest.now in
+        OnOk result ((steps : List (Move ℕ))
+        → AllZip (NumberSays (ids_in lists.new.entries.items)) lists.new.codes.items steps
+        → IsReading book.now.statements own.now.place tokens steps) }
+    ensures spelled { OnOk result (All HasSpelling lists.new.codes.items) }
+    ensures usable { OnOk result
+        (MayAllBeUsed book.now.statements own.now.place (ids_in lists.new.entries.items)) }
+    ensures fault { let tokens = opening_token ∷ token_texts rest.now in
+        IfErr result (λ e. OnRule e (λ rule step. (step ≡ 0)
+        × IsWholeFault (take own.now.place book.now.statements) tokens rule)) }
+{
+    let Some((listed, letters)) = parts(rest) else {
+        return Err(ProofFault::Rule {
+            rule: ProofRule::P1,
+            step: 0,
+        });
+    };
+    fill_numbers(&mut lists.ids, book, own, id, listed)?;
+    match read_letters(&mut lists.letters, &mut lists.codes, letters) {
+        Ok(()) => {}
+        Err(fault) => return Err(letter_fault(fault)),
+    }
+    fill_entries(&mut lists.entries, own.hypotheses(), &lists.ids)?;
+    Ok(())
+}
+
 // Fills the list with the moves of a compressed proof, whose tokens after the `(` are these.
 fn fill_compressed<'a>(
     lists: &mut ParseLists<'a>,
@@ -298,18 +337,7 @@ fn fill_compressed<'a>(
         IfErr result (λ e. OnRule e (λ rule step. (step ≡ 0)
         × IsWholeFault (take own.now.place book.now.statements) tokens rule)) }
 {
-    let Some((listed, letters)) = parts(rest) else {
-        return Err(ProofFault::Rule {
-            rule: ProofRule::P1,
-            step: 0,
-        });
-    };
-    fill_numbers(&mut lists.ids, book, own, id, listed)?;
-    match read_letters(&mut lists.letters, &mut lists.codes, letters) {
-        Ok(()) => {}
-        Err(fault) => return Err(letter_fault(fault)),
-    }
-    fill_entries(&mut lists.entries, own.hypotheses(), &lists.ids)?;
+    read_compressed(lists, book, own, id, rest)?;
     fill_moves(
         &mut lists.moves,
         &mut lists.picked,

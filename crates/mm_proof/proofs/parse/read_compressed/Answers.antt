@@ -1,0 +1,43 @@
+use Rattle.std.proofs.Common.{ℕ, List, ◌++◌, All, Err, subst, sym, ap, ◌∙◌}
+use Rattle.std.specs.List.{AllZip}
+use Rattle.std.proofs.lemmas.Result.{err_from_is_err_and}
+use Rattle.mm_code.specs.declared.code.Code.{Code}
+use Rattle.mm_code.specs.Letters.{HasSpelling}
+use Rattle.mm_code.specs.declared.code.CodeRule.TheVariants as code
+use Rattle.mm_frame.specs.Sentence.{Sentence}
+use Rattle.mm_frame.specs.FramePlace.{AreHypotheses}
+use Rattle.mm_proof.specs.CodeSteps.{NumberSays, MayAllBeUsed, ids_in, label_ids}
+use Rattle.mm_proof.proofs.Answering.{on_rule_map}
+use Rattle.mm_proof.proofs.TokenFacts.{labels_fault}
+use Rattle.mm_proof.proofs.Compressed.{reading_compressed, entries_usable, compressed_labels, letters_spelled, letter_broken}
+use Rattle.mm_proof.proofs.parse.read_compressed.Goals as goal
+
+pub returns-clause-spelled : goal.returns-clause-spelled
+returns-clause-spelled c = letters_spelled _ _ c.in-Ok.ensures.read
+
+pub returns-in_err-fill_numbers-clause-fault : goal.returns-in_err-fill_numbers-clause-fault
+returns-in_err-fill_numbers-clause-fault c =
+    let p = err_from_is_err_and c.from_residual.result c.from_residual.ensures.1 in
+    rw (p.1, p.2) (on_rule_map c.in_err-fill_numbers.field-0.0 _ _ (λ rule step h. (h.0, labels_fault _ _ _ _ rule (compressed_labels _ _ _ c.in-Some.ensures) h.1)) c.in_err-fill_numbers.ensures.fault)
+
+pub returns-in-Err-clause-fault : goal.returns-in-Err-clause-fault
+returns-in-Err-clause-fault c =
+    rw c.letter_fault.ensures (letter_broken c.args.book.now.statements c.args.own.now.place _ _ _ _ c.in-Err.fault c.requires.sound.0 c.in-Some.ensures c.in_ok-fill_numbers.ensures.ok
+    (λ rule is. c.in-Err.ensures.rule rule (ap Err is)))
+
+pub returns-clause-reads : goal.returns-clause-reads
+returns-clause-reads c steps says =
+    let entries = c.in_ok-fill_entries.ensures ∙ ap (λ l. label_ids c.hypotheses.result.now ++ ids_in l) c.deref.ensures.value in
+    let by_ids = subst (λ (ids : List ℕ). AllZip (NumberSays ids) c.read_letters.new.codes.items steps) entries says in
+    reading_compressed c.args.book.now.statements c.args.own.now.place c.requires.own.0 _ _ _ _ _ _ _ c.requires.sound.0 c.requires.sound.1 c.requires.own.1.there
+    c.in-Some.ensures c.in_ok-fill_numbers.ensures.ok
+    (subst (λ (st : List Sentence). AreHypotheses (record { statements = st; place = c.args.own.now.place }) (label_ids c.hypotheses.result.now)) c.requires.book c.hypotheses.ensures.ids)
+    c.in-Ok.ensures.read (c.in-Ok.ensures.unbroken code.P4) (c.in-Ok.ensures.unbroken code.P5)
+    by_ids
+
+pub returns-clause-usable : goal.returns-clause-usable
+returns-clause-usable c =
+    let entries = c.in_ok-fill_entries.ensures ∙ ap (λ l. label_ids c.hypotheses.result.now ++ ids_in l) c.deref.ensures.value in
+    subst (λ (ids : List ℕ). MayAllBeUsed c.args.book.now.statements c.args.own.now.place ids) (sym entries)
+    (entries_usable c.args.book.now.statements c.args.own.now.place _ _ _ c.requires.sound.0 c.requires.sound.1 c.in_ok-fill_numbers.ensures.ok
+    (subst (λ (st : List Sentence). AreHypotheses (record { statements = st; place = c.args.own.now.place }) (label_ids c.hypotheses.result.now)) c.requires.book c.hypotheses.ensures.ids))
