@@ -47,6 +47,7 @@ pub mod Picking
 pub mod Ending
 pub mod Applying
 pub mod Calls
+pub mod Coded
 pub mod Listed
 pub mod ListingLoop
 pub mod ListingEnd

@@ -14,6 +14,7 @@ mod parse;
 mod picked;
 mod prover;
 mod rows;
+mod run;
 mod step;
 mod store;
 mod substitution;

@@ -95,7 +95,7 @@ fn lines_of<S: Store>(
                 lines.push(last_line(alloc, store, Name::Label(*id))?)?;
             }
             NumberedMove::Again(tag) => {
-                step_again(store, *tag, tags.len(), number)?;
+                step_again(store, *tag as usize, tags.len(), number)?;
                 let after = tags[*tag as usize];
                 lines.push(last_line(alloc, store, Name::Step(after))?)?;
             }

@@ -64,7 +64,7 @@ pub(crate) fn step<S: Store>(
 // The step by a tag.
 pub(crate) fn step_again<S: Store>(
     store: &mut S,
-    tag: u32,
+    tag: usize,
     kept: usize,
     number: usize,
 ) -> Result<(), ProofFault>
@@ -76,10 +76,10 @@ pub(crate) fn step_again<S: Store>(
     ensures fault { (rule : ProofRule) → (at : ℕ) → result ≡ Err (ProofFault.Rule rule at)
         → (at ≡ number) × (rule ≡ ProofRule.P6) × (length (S.kept store.old) ≤ tag) }
 {
-    if tag as usize >= kept {
+    if tag >= kept {
         return fault_at_step(ProofRule::P6, number);
     }
-    store.push_copy(tag as usize)?;
+    store.push_copy(tag)?;
     Ok(())
 }
 
@@ -132,7 +132,7 @@ fn run<S: Store>(
                 steps += 1;
             }
             NumberedMove::Again(tag) => {
-                step_again(store, *tag, kept, steps + 1)?;
+                step_again(store, *tag as usize, kept, steps + 1)?;
                 steps += 1;
             }
             NumberedMove::Mark => {

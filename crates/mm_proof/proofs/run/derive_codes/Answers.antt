@@ -1,0 +1,46 @@
+use Rattle.std.proofs.Common.{List, Err, ap, sym, subst, ◌∙◌}
+use Rattle.std.specs.List.{AllZip}
+use Rattle.std.proofs.lemmas.Result.{err_from_is_err_and}
+use Rattle.mm_frame.specs.Sentence.{Sentence}
+use Rattle.mm_frame.specs.FramePlace.{AreItsSymbols}
+use Rattle.mm_proof.specs.declared.call.Call.{Call}
+use Rattle.mm_proof.specs.Stores.{numbers_in}
+use Rattle.mm_proof.specs.CodeSteps.{ids_in, code_moves}
+use Rattle.mm_proof.specs.CodeApply.{IsCallOf}
+use Rattle.mm_proof.proofs.Ending.{proved_end, wrong_end, wrong_move, on_rule_from}
+use Rattle.mm_proof.proofs.run.derive_codes.Goals as goal
+
+pub calls_of-calls-requires : goal.calls_of-calls-requires
+calls_of-calls-requires g c = (c.args.own.now.place, c.requires.usable)
+
+pub run_codes-requires-clause-calls : goal.run_codes-requires-clause-calls
+run_codes-requires-clause-calls g c =
+    subst (λ (l : List Call). AllZip (IsCallOf c.args.book.now.statements c.args.own.now.place) (ids_in c.args.entries.now) l) (sym c.deref.ensures.value)
+    (c.in_ok-calls.ensures c.args.own.now.place c.requires.usable)
+
+pub run_codes-requires-clause-unmarked : goal.run_codes-requires-clause-unmarked
+run_codes-requires-clause-unmarked g c = c.in_ok-unmark.ensures.none (ids_in c.args.entries.now)
+
+pub returns-in_err-count-clause-fault : goal.returns-in_err-count-clause-fault
+returns-in_err-count-clause-fault g c =
+    let own = c.requires.number in
+    let p = err_from_is_err_and c.from_residual-in_err-count.result c.from_residual-in_err-count.ensures.1 in
+    rw (p.1, p.2) (on_rule_from c.in_err-count.field-0.0 _ (λ rule at is.
+    wrong_move c.args.book.now.statements c.args.id.0 c.args.own.now.place own.0 (code_moves (ids_in c.args.entries.now) c.args.codes.now) rule at own.1
+    (λ names numbered. c.run_codes.ensures.fault rule at (c.in_err-count.was ∙ ap Err is) names numbered)))
+
+pub returns-in_err-ending-clause-fault : goal.returns-in_err-ending-clause-fault
+returns-in_err-ending-clause-fault g c =
+    let own = c.requires.number in
+    let p = err_from_is_err_and c.from_residual-in_err-ending.result c.from_residual-in_err-ending.ensures.1 in
+    let symbols = subst (λ (st : List Sentence). AreItsSymbols (record { statements = st; place = c.args.own.now.place }) (numbers_in c.expression.result.now)) c.requires.own c.expression.ensures in
+    rw (p.1, p.2) (on_rule_from c.in_err-ending.field-0.0 _ (λ rule at is.
+    wrong_end c.args.book.now.statements c.args.id.0 c.args.own.now.place own.0 (code_moves (ids_in c.args.entries.now) c.args.codes.now) _ _ _ _ rule at c.one_number.ensures own.1 symbols c.in_ok-count.ensures.ok
+    (c.ending.ensures.fault rule at (c.in_err-ending.was ∙ ap Err is))))
+
+pub returns-clause-proved : goal.returns-clause-proved
+returns-clause-proved g c =
+    let own = c.requires.number in
+    let symbols = subst (λ (st : List Sentence). AreItsSymbols (record { statements = st; place = c.args.own.now.place }) (numbers_in c.expression.result.now)) c.requires.own c.expression.ensures in
+    proved_end c.args.book.now.statements c.args.id.0 c.args.own.now.place own.0 (code_moves (ids_in c.args.entries.now) c.args.codes.now) _ _ _ _ own.1 symbols
+    c.in_ok-count.ensures.ok c.in_ok-ending.ensures.ok
