@@ -1,8 +1,9 @@
 -- What is read as a proof at its own place, wherever the statement with its number stands.
-use Rattle.std.proofs.Common.{◌≡◌, ℕ, List, take, slice_get, Result, Ok, Err, inl, inr, sym, ap, subst, ◌∙◌, refl}
+use Rattle.std.proofs.Common.{◌≡◌, ℕ, ◌≤◌, List, [], ◌∷◌, length, take, drop, get_or, slice_get, Result, Ok, Err, inl, inr, sym, ap, subst, ◌∙◌, refl, arith}
 use Rattle.std.specs.Result.{IfErr, IsOkUnless}
 use Rattle.std.specs.List.{AllByRecursion}
 use Rattle.std.proofs.lemmas.Option.{same_Some}
+use Rattle.mm_text.specs.declared.token.Token.{Token}
 use Rattle.mm_frame.specs.Sentence.{Sentence}
 use Rattle.mm_frame.specs.Rules.{AllMeant}
 use Rattle.mm_frame.specs.Numbers.{IsNumbered}
@@ -16,7 +17,7 @@ use Rattle.mm_proof.specs.Proof.{IsWhole, IsWholeFault, IsProvedWithin, IsWithin
 use Rattle.mm_proof.specs.Verified.{OfMoves, ProvesWith, FailsWith, TokensProve, TokensFail}
 use Rattle.mm_proof.specs.Steps.{AreSteps, IsProofNumber, IsUsableMove}
 use Rattle.mm_proof.specs.Parsed.{OfProof, SaySteps}
-use Rattle.mm_proof.specs.CodeSteps.{IsReading}
+use Rattle.mm_proof.specs.CodeSteps.{IsReading, token_texts}
 use Rattle.mm_proof.proofs.Meaning.{meant_front}
 use Rattle.mm_proof.proofs.Numbered.{one_place}
 use Rattle.mm_proof.proofs.Verdicts.{proved_no_fault, one_fault}
@@ -84,3 +85,9 @@ tokens_refused {X} (Err (Rule other at)) st id tokens all p f place s proof rule
     let same = one_fault (IsWithin expression_limit) (take place st) s tokens other rule at step (meant_front st place all) (f place s proof) fault in
     let refusal : ProofRule → ℕ → Result X ProofFault = λ r n. Err (Rule r n) in
     inl (ap (λ (r : ProofRule). refusal r at) same.0 ∙ ap (λ (n : ℕ). refusal rule n) same.1)
+
+-- ---- the first of the tokens
+
+pub first_text : (tokens : List Token) (d : Token) (text : List ℕ) → 1 ≤ length tokens → (get_or tokens 0 d).text.now ≡ text → token_texts tokens ≡ text ∷ token_texts (drop 1 tokens)
+first_text [] d text some is = absurd (omega arith)
+first_text (t ∷ tokens) d text some is = ap (λ l. l ∷ token_texts tokens) is

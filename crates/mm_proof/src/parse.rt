@@ -178,8 +178,8 @@ fn fill_moves(
     Ok(())
 }
 
-// Whether the token is the one byte.
-fn is_byte(token: &[u8], byte: u8) -> bool
+/// Whether the token is the one byte.
+pub(crate) fn is_byte(token: &[u8], byte: u8) -> bool
     ensures { IsTrue result ↔ (token.now ≡ byte ∷ []) }
 {
     match token {

@@ -13,7 +13,7 @@ ghost use Rattle.mm_frame.specs.Numbers.{IsNumbered};
 ghost use Rattle.mm_frame.specs.Rules.{IsMeant, FirstBroken};
 ghost use Rattle.mm_frame.specs.Taken.{TakenAs};
 ghost use Rattle.mm_proof.specs.Answer.{OnRule, IsUnlessMemory};
-ghost use Rattle.mm_proof.specs.Tokens.{IsIncomplete};
+ghost use Rattle.mm_proof.specs.Tokens.{IsIncomplete, opening_token};
 ghost use Rattle.mm_proof.specs.Proof.{IsProvedWithin, IsWithin, expression_limit};
 ghost use Rattle.mm_proof.specs.Steps.{IsProofNumber};
 ghost use Rattle.mm_proof.specs.Parsed.{OfProof};
@@ -22,7 +22,8 @@ ghost use Rattle.mm_proof.specs.CodeSteps.{ids_in, token_texts};
 
 use crate::fault::{ProofFault, ProofRule};
 use crate::flat::Flat;
-use crate::parse::{ParseLists, fill_steps, is_incomplete};
+use crate::parse::{ParseLists, fill_steps, is_byte, is_incomplete, read_compressed};
+use crate::run::judgement_of_codes;
 use crate::used::Named;
 use crate::verdict::judgement_in_frame;
 use mm_frame::{Book, Frame, LabelId, RuleFault, Sym, Taken};
@@ -44,6 +45,7 @@ pub enum Proved {
 /// Nothing that it answers depends on the proofs before.
 #[derive(Drop)]
 pub struct Prover<'a> {
+    alloc: Global,
     book: Book<'a>,
     lists: ParseLists<'a>,
     store: Flat,
@@ -70,6 +72,7 @@ impl<'a> Prover<'a> {
     {
         match Book::new(alloc) {
             Ok(book) => Ok(Prover {
+                alloc,
                 book,
                 lists: ParseLists::new(alloc),
                 store: Flat::new(alloc),
@@ -159,6 +162,7 @@ impl<'a> Prover<'a> {
         ensures book { self.new.book ≡ self.old.book }
     {
         match prove_tokens(
+            self.alloc,
             &mut self.store,
             &mut self.made,
             &mut self.named,
@@ -188,9 +192,9 @@ impl<'a> Prover<'a> {
     }
 }
 
-// Whether the tokens prove the `$p` of the frame: fills the list with the assertions of its tree,
-// or tells their first fault.
-fn prove_in_frame<'a>(
+// Whether the tokens prove the `$p` of the frame, by a list of their moves: fills the list with the
+// assertions of its tree, or tells their first fault.
+fn prove_by_moves<'a>(
     store: &mut Flat,
     made: &mut Vec<Sym>,
     named: &mut Named,
@@ -217,9 +221,82 @@ fn prove_in_frame<'a>(
     judgement_in_frame(store, made, named, book, own, id, &lists.moves, picked)
 }
 
+// Whether the tokens, of which these come after the `(`, prove the `$p` of the frame, by the codes
+// of their letters: fills the list with the assertions of its tree, or tells their first fault.
+fn prove_by_codes<'a>(
+    alloc: Global,
+    store: &mut Flat,
+    made: &mut Vec<Sym>,
+    named: &mut Named,
+    lists: &mut ParseLists<'a>,
+    book: &Book,
+    own: &Frame,
+    id: LabelId,
+    rest: &[Token<'a>],
+) -> Result<(), ProofFault>
+    requires own { own.now.statements ≡ book.now.statements }
+    requires number { (s : Sentence) × IsNumbered book.now.statements id.0 own.now.place s }
+    requires sound { IsSound book.now.statements }
+    requires proof { (place : ℕ) × (s : Sentence) × IsProofNumber book.now.statements id.0 place s }
+    ensures proved { let tokens = opening_token ∷ token_texts rest.now in
+        OnOk result (OfProof book.now.statements id.0 (λ place s.
+        TokensProve (take place book.now.statements) s tokens (ids_in named.new.ids.items))) }
+    ensures fault { let tokens = opening_token ∷ token_texts rest.now in
+        IfErr result (λ e. OnRule e (λ rule step. OfProof book.now.statements id.0 (λ place s.
+        TokensFail (take place book.now.statements) s tokens rule step))) }
+{
+    read_compressed(lists, book, own, id, rest)?;
+    store.clear();
+    judgement_of_codes(
+        alloc,
+        store,
+        made,
+        named,
+        &mut lists.picked,
+        book,
+        own,
+        id,
+        &lists.entries,
+        &lists.codes,
+    )
+}
+
+// Whether the tokens prove the `$p` of the frame: fills the list with the assertions of its tree,
+// or tells their first fault.
+fn prove_in_frame<'a>(
+    alloc: Global,
+    store: &mut Flat,
+    made: &mut Vec<Sym>,
+    named: &mut Named,
+    lists: &mut ParseLists<'a>,
+    book: &Book,
+    own: &Frame,
+    id: LabelId,
+    tokens: &[Token<'a>],
+) -> Result<(), ProofFault>
+    requires own { own.now.statements ≡ book.now.statements }
+    requires number { (s : Sentence) × IsNumbered book.now.statements id.0 own.now.place s }
+    requires sound { IsSound book.now.statements }
+    requires proof { (place : ℕ) × (s : Sentence) × IsProofNumber book.now.statements id.0 place s }
+    ensures proved { OnOk result (OfProof book.now.statements id.0 (λ place s.
+        TokensProve (take place book.now.statements) s (token_texts tokens.now)
+        (ids_in named.new.ids.items))) }
+    ensures fault { IfErr result (λ e. OnRule e (λ rule step.
+        OfProof book.now.statements id.0 (λ place s.
+        TokensFail (take place book.now.statements) s (token_texts tokens.now) rule step))) }
+{
+    match tokens {
+        [first, rest @ ..] if is_byte(first.text, b'(') => {
+            prove_by_codes(alloc, store, made, named, lists, book, own, id, rest)
+        }
+        _ => prove_by_moves(store, made, named, lists, book, own, id, tokens),
+    }
+}
+
 // Whether the tokens prove the `$p` with the number: fills the list with the assertions of its
 // tree, or tells their first fault.
 fn prove_tokens<'a>(
+    alloc: Global,
     store: &mut Flat,
     made: &mut Vec<Sym>,
     named: &mut Named,
@@ -238,5 +315,5 @@ fn prove_tokens<'a>(
     ensures sound { IsSound book.now.statements }
 {
     let own = book.frame(id);
-    prove_in_frame(store, made, named, lists, book, &own, id, tokens)
+    prove_in_frame(alloc, store, made, named, lists, book, &own, id, tokens)
 }

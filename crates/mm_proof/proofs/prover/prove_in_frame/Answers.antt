@@ -1,41 +1,23 @@
-use Rattle.std.proofs.Common.{List, inl, sym, subst}
-use Rattle.std.proofs.lemmas.Result.{err_from_is_err_and, on_ok_weaker}
-use Rattle.mm_frame.specs.declared.number.LabelId.{LabelId}
-use Rattle.mm_proof.specs.declared.moves.NumberedMove.{NumberedMove}
-use Rattle.mm_proof.specs.Parsed.{OfProof, SaySteps}
-use Rattle.mm_proof.specs.Steps.{AreSteps}
-use Rattle.mm_proof.specs.CodeSteps.{ids_in, moves_in, token_texts}
-use Rattle.mm_proof.specs.CodeRun.{ArePicked}
-use Rattle.mm_proof.proofs.Answering.{on_rule_map, rules_map}
-use Rattle.mm_proof.proofs.Whole.{tokens_prove, tokens_fail}
+use Rattle.std.proofs.Common.{ℕ, List, take, sym, subst}
+use Rattle.std.specs.Prelude.{OnOk, IfErr}
+use Rattle.mm_proof.specs.Answer.{OnRule}
+use Rattle.mm_proof.specs.Tokens.{opening_token}
+use Rattle.mm_proof.specs.Parsed.{OfProof}
+use Rattle.mm_proof.specs.Verified.{TokensProve, TokensFail}
+use Rattle.mm_proof.specs.CodeSteps.{ids_in}
+use Rattle.mm_proof.proofs.Whole.{first_text}
 use Rattle.mm_proof.proofs.prover.prove_in_frame.Goals as goal
 
-pub judgement_in_frame-requires-clause-steps : goal.judgement_in_frame-requires-clause-steps
-judgement_in_frame-requires-clause-steps c =
-    subst (λ (ms : List NumberedMove). AreSteps c.args.book.now.statements c.args.id.0 (moves_in ms)) (sym c.deref.ensures.value) c.in_ok-fill_steps.ensures.usable
-
-pub judgement_in_frame-requires-clause-picked : goal.judgement_in_frame-requires-clause-picked
-judgement_in_frame-requires-clause-picked c =
-    subst (λ (l : List LabelId). ArePicked (moves_in c.deref.result.now) (ids_in l)) (sym c.deref-2.ensures.value)
-    (subst (λ (ms : List NumberedMove). ArePicked (moves_in ms) (ids_in c.fill_steps.new.lists.picked.ids.items)) (sym c.deref.ensures.value) c.in_ok-fill_steps.ensures.picked)
-
-pub returns-clause-proved : goal.returns-clause-proved
-returns-clause-proved c =
+pub returns-in-len1-up-clause-proved : goal.returns-in-len1-up-clause-proved
+returns-in-len1-up-clause-proved c =
     let st = c.args.book.now.statements in
-    let texts = token_texts c.args.tokens.now in
-    let says = subst (λ (ms : List NumberedMove). OfProof st c.args.id.0 (λ place s. SaySteps st place s texts (moves_in ms))) (sym c.deref.ensures.value) c.in_ok-fill_steps.ensures.steps in
-    on_ok_weaker c.judgement_in_frame.result (λ p. λ place s proof.
-    tokens_prove st c.args.id.0 texts (moves_in c.deref.result.now) (ids_in c.judgement_in_frame.new.named.ids.items) says p place s proof) c.judgement_in_frame.ensures.proved
+    let opened = first_text c.args.tokens.now _ opening_token c.in-len1-up.len_at_least (c.is_byte.ensures.0 c.if-is_byte.true) in
+    subst (λ (texts : List (List ℕ)). OnOk c.prove_by_codes.result (OfProof st c.args.id.0 (λ place s. TokensProve (take place st) s texts (ids_in c.prove_by_codes.new.named.ids.items))))
+    (sym opened) c.prove_by_codes.ensures.proved
 
-pub returns-clause-fault : goal.returns-clause-fault
-returns-clause-fault c =
+pub returns-in-len1-up-clause-fault : goal.returns-in-len1-up-clause-fault
+returns-in-len1-up-clause-fault c =
     let st = c.args.book.now.statements in
-    let texts = token_texts c.args.tokens.now in
-    let says = subst (λ (ms : List NumberedMove). OfProof st c.args.id.0 (λ place s. SaySteps st place s texts (moves_in ms))) (sym c.deref.ensures.value) c.in_ok-fill_steps.ensures.steps in
-    rules_map c.judgement_in_frame.result _ _ (λ rule step f. λ place s proof.
-    tokens_fail st c.args.id.0 texts (moves_in c.deref.result.now) rule step says f place s proof) c.judgement_in_frame.ensures.fault
-
-pub returns-in_err-fill_steps-clause-fault : goal.returns-in_err-fill_steps-clause-fault
-returns-in_err-fill_steps-clause-fault c =
-    let p = err_from_is_err_and c.from_residual.result c.from_residual.ensures.1 in
-    rw (p.1, p.2) (on_rule_map c.in_err-fill_steps.field-0.0 _ _ (λ rule step h. λ place s proof. inl (h place s proof)) c.in_err-fill_steps.ensures.fault)
+    let opened = first_text c.args.tokens.now _ opening_token c.in-len1-up.len_at_least (c.is_byte.ensures.0 c.if-is_byte.true) in
+    subst (λ (texts : List (List ℕ)). IfErr c.prove_by_codes.result (λ e. OnRule e (λ rule step. OfProof st c.args.id.0 (λ place s. TokensFail (take place st) s texts rule step))))
+    (sym opened) c.prove_by_codes.ensures.fault

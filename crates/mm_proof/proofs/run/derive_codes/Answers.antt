@@ -10,8 +10,8 @@ use Rattle.mm_proof.specs.CodeApply.{IsCallOf}
 use Rattle.mm_proof.proofs.Ending.{proved_end, wrong_end, wrong_move, on_rule_from}
 use Rattle.mm_proof.proofs.run.derive_codes.Goals as goal
 
-pub calls_of-calls-requires : goal.calls_of-calls-requires
-calls_of-calls-requires g c = (c.args.own.now.place, c.requires.usable)
+pub calls_of-requires : goal.calls_of-requires
+calls_of-requires g c = (c.args.own.now.place, c.requires.usable)
 
 pub run_codes-requires-clause-calls : goal.run_codes-requires-clause-calls
 run_codes-requires-clause-calls g c =
