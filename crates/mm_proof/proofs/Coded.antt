@@ -1,16 +1,18 @@
 -- The codes of a proof, one after the other, and what their entries stand for.
 use Rattle.std.proofs.Common.{◌≡◌, ℕ, zero, suc, ◌+◌, ◌-◌, ◌<◌, ◌≤◌, List, [], ◌∷◌, ◌++◌, length, take, slice_get, get_or, Some, Result, Ok, Err, refl, sym, ap, subst, ◌∙◌, arith}
-use Rattle.std.specs.Prelude.{OnOk}
+use Rattle.std.specs.Prelude.{All, OnOk}
 use Rattle.std.specs.List.{AllZip}
 use Rattle.std.proofs.lemmas.Option.{slice_get-get_or, slice_get_past}
 use Rattle.std.proofs.lemmas.List.{map_more, take-map, take_all, length-map}
 use Rattle.mm_code.specs.declared.code.Code.{Code}
+use Rattle.mm_code.specs.Letters.{HasSpelling}
 use Rattle.mm_frame.specs.Sentence.{Sentence}
 use Rattle.mm_frame.specs.declared.number.LabelId.{LabelId}
 use Rattle.mm_proof.specs.declared.call.Call.{Call}
 use Rattle.mm_proof.specs.Moves.{Move, name, again}
-use Rattle.mm_proof.specs.CodeSteps.{MayBeUsed, MayAllBeUsed, code_move, code_moves, entry_move, move_by, ids_in}
+use Rattle.mm_proof.specs.CodeSteps.{MayBeUsed, MayAllBeUsed, NumberSays, IsReading, code_move, code_moves, entry_move, move_by, ids_in}
 use Rattle.mm_proof.specs.CodeApply.{IsCallOf}
+use Rattle.mm_proof.proofs.Compressed.{codes_say}
 use Rattle.mm_proof.proofs.Derived.{zip_push, zip_right}
 
 -- a front with one code more
@@ -77,6 +79,12 @@ pub entry_usable : (st : List Sentence) (at : ℕ) (entries : List LabelId) (i :
 entry_usable st at [] i d all less = absurd (omega arith)
 entry_usable st at (e ∷ entries) zero d all less = all.0
 entry_usable st at (e ∷ entries) (suc i) d all less = entry_usable st at entries i d all.1 (omega arith)
+
+-- what the codes say is what is read of the tokens
+pub codes_read : (st : List Sentence) (at : ℕ) (tokens : List (List ℕ)) (entries given : List LabelId) (said held : List Code) → given ≡ entries → held ≡ said → All HasSpelling said
+    → ((steps : List (Move ℕ)) → AllZip (NumberSays (ids_in entries)) said steps → IsReading st at tokens steps) → IsReading st at tokens (code_moves (ids_in given) held)
+codes_read st at tokens entries given said held same_entries same_codes spelled reads =
+    rw (same_entries, same_codes) (reads (code_moves (ids_in entries) said) (codes_say (ids_in entries) said spelled))
 
 -- ---- what holds where a call answers `Ok`
 

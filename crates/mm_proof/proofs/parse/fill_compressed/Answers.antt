@@ -1,6 +1,6 @@
-use Rattle.std.proofs.Common.{ℕ, List, All, subst, sym, ap, ◌∙◌}
+use Rattle.std.proofs.Common.{List, All, subst, sym}
 use Rattle.std.specs.List.{AllZip}
-use Rattle.std.proofs.lemmas.Result.{err_from_is_err_and, on_ok_weaker}
+use Rattle.std.proofs.lemmas.Result.{on_ok_weaker}
 use Rattle.mm_code.specs.declared.code.Code.{Code}
 use Rattle.mm_code.specs.Letters.{HasSpelling}
 use Rattle.mm_frame.specs.declared.number.LabelId.{LabelId}

@@ -5,9 +5,9 @@ use Rattle.mm_code.specs.declared.code.Code.{Code}
 use Rattle.mm_code.specs.Letters.{HasSpelling}
 use Rattle.mm_frame.specs.declared.number.LabelId.{LabelId}
 use Rattle.mm_proof.specs.Tokens.{opening_token}
-use Rattle.mm_proof.specs.CodeSteps.{IsReading, MayAllBeUsed, ids_in, code_moves, token_texts}
+use Rattle.mm_proof.specs.CodeSteps.{MayAllBeUsed, ids_in, code_moves, token_texts}
 use Rattle.mm_proof.proofs.Answering.{rules_map, on_rule_map}
-use Rattle.mm_proof.proofs.Compressed.{codes_say}
+use Rattle.mm_proof.proofs.Coded.{codes_read}
 use Rattle.mm_proof.proofs.Whole.{reading_said, reading_usable, whole_fault_there, tokens_prove, tokens_fail}
 use Rattle.mm_proof.proofs.prover.prove_by_codes.Goals as goal
 
@@ -23,20 +23,16 @@ pub judgement_of_codes-requires-clause-steps : goal.judgement_of_codes-requires-
 judgement_of_codes-requires-clause-steps c =
     let st = c.args.book.now.statements in
     let texts = opening_token ∷ token_texts c.args.rest.now in
-    let lists = c.read_compressed.new.lists in
-    let read = c.in_ok-read_compressed.ensures.reads (code_moves (ids_in lists.entries.items) lists.codes.items) (codes_say (ids_in lists.entries.items) lists.codes.items c.in_ok-read_compressed.ensures.spelled) in
-    let entries_read = subst (λ (l : List LabelId). IsReading st c.args.own.now.place texts (code_moves (ids_in l) lists.codes.items)) (sym c.deref.ensures.value) read in
-    let r = subst (λ (l : List Code). IsReading st c.args.own.now.place texts (code_moves (ids_in c.deref.result.now) l)) (sym c.deref-2.ensures.value) entries_read in
+    let r = codes_read st c.args.own.now.place texts _ c.deref.result.now _ c.deref-2.result.now c.deref.ensures.value c.deref-2.ensures.value
+        c.in_ok-read_compressed.ensures.spelled c.in_ok-read_compressed.ensures.reads in
     reading_usable st c.args.id.0 c.args.own.now.place c.requires.proof.0 c.requires.number.0 c.requires.proof.1 texts (code_moves (ids_in c.deref.result.now) c.deref-2.result.now) c.requires.number.1 c.requires.proof.2 r
 
 pub returns-clause-proved : goal.returns-clause-proved
 returns-clause-proved c =
     let st = c.args.book.now.statements in
     let texts = opening_token ∷ token_texts c.args.rest.now in
-    let lists = c.read_compressed.new.lists in
-    let read = c.in_ok-read_compressed.ensures.reads (code_moves (ids_in lists.entries.items) lists.codes.items) (codes_say (ids_in lists.entries.items) lists.codes.items c.in_ok-read_compressed.ensures.spelled) in
-    let entries_read = subst (λ (l : List LabelId). IsReading st c.args.own.now.place texts (code_moves (ids_in l) lists.codes.items)) (sym c.deref.ensures.value) read in
-    let r = subst (λ (l : List Code). IsReading st c.args.own.now.place texts (code_moves (ids_in c.deref.result.now) l)) (sym c.deref-2.ensures.value) entries_read in
+    let r = codes_read st c.args.own.now.place texts _ c.deref.result.now _ c.deref-2.result.now c.deref.ensures.value c.deref-2.ensures.value
+        c.in_ok-read_compressed.ensures.spelled c.in_ok-read_compressed.ensures.reads in
     let moves = code_moves (ids_in c.deref.result.now) c.deref-2.result.now in
     let says = reading_said st c.args.id.0 c.args.own.now.place c.requires.number.0 texts moves c.requires.number.1 r in
     on_ok_weaker c.judgement_of_codes.result (λ p. λ place s proof.
@@ -46,10 +42,8 @@ pub returns-clause-fault : goal.returns-clause-fault
 returns-clause-fault c =
     let st = c.args.book.now.statements in
     let texts = opening_token ∷ token_texts c.args.rest.now in
-    let lists = c.read_compressed.new.lists in
-    let read = c.in_ok-read_compressed.ensures.reads (code_moves (ids_in lists.entries.items) lists.codes.items) (codes_say (ids_in lists.entries.items) lists.codes.items c.in_ok-read_compressed.ensures.spelled) in
-    let entries_read = subst (λ (l : List LabelId). IsReading st c.args.own.now.place texts (code_moves (ids_in l) lists.codes.items)) (sym c.deref.ensures.value) read in
-    let r = subst (λ (l : List Code). IsReading st c.args.own.now.place texts (code_moves (ids_in c.deref.result.now) l)) (sym c.deref-2.ensures.value) entries_read in
+    let r = codes_read st c.args.own.now.place texts _ c.deref.result.now _ c.deref-2.result.now c.deref.ensures.value c.deref-2.ensures.value
+        c.in_ok-read_compressed.ensures.spelled c.in_ok-read_compressed.ensures.reads in
     let moves = code_moves (ids_in c.deref.result.now) c.deref-2.result.now in
     let says = reading_said st c.args.id.0 c.args.own.now.place c.requires.number.0 texts moves c.requires.number.1 r in
     rules_map c.judgement_of_codes.result _ _ (λ rule step f. λ place s proof.

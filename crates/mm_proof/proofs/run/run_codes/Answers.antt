@@ -1,7 +1,7 @@
 use Rattle.std.proofs.Common.{◌≡◌, ◌+◌, [], ◌∷◌, Err, Some, length, refl, sym, ap, ◌∙◌, arith}
 use Rattle.mm_proof.specs.Moves.{mark}
 use Rattle.mm_proof.specs.CodeSteps.{code_move, code_moves, ids_in}
-use Rattle.mm_proof.proofs.Coded.{codes_front_with, code_there, codes_all}
+use Rattle.mm_proof.proofs.Coded.{codes_front_with, code_there}
 use Rattle.mm_proof.proofs.Picking.{marked_other}
 use Rattle.std.proofs.lemmas.List.{length-append}
 use Rattle.mm_proof.proofs.Running.{run_none, refused, run_fault, run_mark, mark_first}
