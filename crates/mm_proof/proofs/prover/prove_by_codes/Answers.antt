@@ -24,7 +24,7 @@ judgement_of_codes-requires-clause-steps c =
     let st = c.args.book.now.statements in
     let texts = opening_token ∷ token_texts c.args.rest.now in
     let r = codes_read st c.args.own.now.place texts _ c.deref.result.now _ c.deref-2.result.now c.deref.ensures.value c.deref-2.ensures.value
-        c.in_ok-read_compressed.ensures.spelled c.in_ok-read_compressed.ensures.reads in
+    c.in_ok-read_compressed.ensures.spelled c.in_ok-read_compressed.ensures.reads in
     reading_usable st c.args.id.0 c.args.own.now.place c.requires.proof.0 c.requires.number.0 c.requires.proof.1 texts (code_moves (ids_in c.deref.result.now) c.deref-2.result.now) c.requires.number.1 c.requires.proof.2 r
 
 pub returns-clause-proved : goal.returns-clause-proved
@@ -32,7 +32,7 @@ returns-clause-proved c =
     let st = c.args.book.now.statements in
     let texts = opening_token ∷ token_texts c.args.rest.now in
     let r = codes_read st c.args.own.now.place texts _ c.deref.result.now _ c.deref-2.result.now c.deref.ensures.value c.deref-2.ensures.value
-        c.in_ok-read_compressed.ensures.spelled c.in_ok-read_compressed.ensures.reads in
+    c.in_ok-read_compressed.ensures.spelled c.in_ok-read_compressed.ensures.reads in
     let moves = code_moves (ids_in c.deref.result.now) c.deref-2.result.now in
     let says = reading_said st c.args.id.0 c.args.own.now.place c.requires.number.0 texts moves c.requires.number.1 r in
     on_ok_weaker c.judgement_of_codes.result (λ p. λ place s proof.
@@ -43,7 +43,7 @@ returns-clause-fault c =
     let st = c.args.book.now.statements in
     let texts = opening_token ∷ token_texts c.args.rest.now in
     let r = codes_read st c.args.own.now.place texts _ c.deref.result.now _ c.deref-2.result.now c.deref.ensures.value c.deref-2.ensures.value
-        c.in_ok-read_compressed.ensures.spelled c.in_ok-read_compressed.ensures.reads in
+    c.in_ok-read_compressed.ensures.spelled c.in_ok-read_compressed.ensures.reads in
     let moves = code_moves (ids_in c.deref.result.now) c.deref-2.result.now in
     let says = reading_said st c.args.id.0 c.args.own.now.place c.requires.number.0 texts moves c.requires.number.1 r in
     rules_map c.judgement_of_codes.result _ _ (λ rule step f. λ place s proof.
