@@ -8,7 +8,7 @@ ghost use Rattle.mm_frame.specs.declared.tables.Tables.{Tables};
 ghost use Rattle.mm_frame.specs.Pieces.{variables_of, IsPieceOf};
 ghost use Rattle.mm_frame.specs.Layout.{statements_of};
 ghost use Rattle.mm_frame.specs.Patterned.{IsLonger, IsPatternAt, AreMandatoryOf};
-ghost use Rattle.mm_frame.specs.Patterned.{HaveFirstPatterns, ArePatterned};
+ghost use Rattle.mm_frame.specs.Patterned.{HaveFirstPatterns, ArePatterned, AreEndings};
 
 use crate::hypothesis::Hypothesis;
 use crate::lists::at;
@@ -18,11 +18,28 @@ use crate::scheme::place_of;
 use crate::tables::{Entry, NO_PART, Part, symbols_in};
 use std::alloc::AllocError;
 
-// The piece that says a symbol.
-fn piece_of(hypotheses: &[Hypothesis], symbol: Sym) -> Piece
-    ensures { length hypotheses.now < 4294967296
-        → IsPieceOf (variables_of hypotheses.now) symbol.0 result }
+// By the last byte of a number, whether some variable of the hypotheses has a number that ends so.
+// Most symbols are constants, and so most of them needn't be looked for among the hypotheses.
+fn endings_of(hypotheses: &[Hypothesis]) -> [bool; 256]
+    ensures { AreEndings (variables_of hypotheses.now) result }
 {
+    let mut endings = [false; 256];
+    for hypothesis in hypotheses {
+        if let Some((_, variable)) = hypothesis.typing {
+            endings[(variable.0 % 256) as usize] = true;
+        }
+    }
+    endings
+}
+
+// The piece that says a symbol, where the numbers of the hypotheses' variables end so.
+fn piece_of(hypotheses: &[Hypothesis], endings: &[bool; 256], symbol: Sym) -> Piece
+    ensures { length hypotheses.now < 4294967296 → AreEndings (variables_of hypotheses.now)
+        endings.now → IsPieceOf (variables_of hypotheses.now) symbol.0 result }
+{
+    if !endings[(symbol.0 % 256) as usize] {
+        return Piece::Symbol(symbol);
+    }
     match place_of(hypotheses, symbol) {
         Some(place) => match u32::try_from(place) {
             Ok(value) => Piece::Value(value),
@@ -44,8 +61,9 @@ fn push_pattern(
         (variables_of hypotheses.now) (map (λ n. n.0) symbols.now) pieces.new.items) }
 {
     let start = pieces.len();
+    let endings = endings_of(hypotheses);
     for symbol in symbols {
-        pieces.push(piece_of(hypotheses, *symbol))?;
+        pieces.push(piece_of(hypotheses, &endings, *symbol))?;
     }
     Ok(Part {
         start,

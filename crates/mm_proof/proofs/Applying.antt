@@ -28,7 +28,7 @@ use Rattle.mm_proof.specs.Steps.{IsNumberedMove}
 use Rattle.mm_proof.specs.CodeVerify.{name_at, names_at, all_names_at, value_of, replaced_in, all_said_by, pairs_in, IsSymbol, AreDeclaredSymbols, AreStackEntries, AreBelow, IsRightCode, IsWrongCode, IsEqual, IsUnequal, EachEntry, EachPairValues, SomePairValues, Replaces, AreHypothesesOf, AreVariablesOf}
 use Rattle.mm_proof.specs.CodeSteps.{MayBeUsed, label_ids}
 use Rattle.mm_proof.specs.CodeRun.{CarriesOn, StopsAt}
-use Rattle.mm_proof.specs.CodeApply.{IsAppliedAssertion, IsMatched, IsReady, IsSchemeOf}
+use Rattle.mm_proof.specs.CodeApply.{IsAppliedAssertion, IsMatched, IsReady, IsEarlierScheme}
 use Rattle.mm_proof.proofs.Places.{get_take, get_from_take}
 use Rattle.mm_proof.proofs.Meaning.{meant_at, meant_front}
 use Rattle.mm_proof.proofs.Numbered.{numbered_at}
@@ -311,7 +311,7 @@ match_false false P Q is h = h
 -- ---- what the frame tells
 
 -- the assertion of a scheme is the one with the number
-pub called_of : (st : List Sentence) (place id : ℕ) (scheme : Scheme) → (is : IsSchemeOf st place id scheme) → IsAppliedAssertion st place id is.at (label_ids scheme.hypotheses.now) is.hypotheses.hypotheses
+pub called_of : (st : List Sentence) (place id : ℕ) (scheme : Scheme) → (is : IsEarlierScheme st place id scheme) → IsAppliedAssertion st place id is.at (label_ids scheme.hypotheses.now) is.hypotheses.hypotheses
 called_of st place id scheme is = record {
   s = is.s;
   numbered = is.numbered;
@@ -321,7 +321,7 @@ called_of st place id scheme is = record {
   known = is.hypotheses.numbered;
 }
 
-pub ready_of : (st : List Sentence) (place id : ℕ) (scheme : Scheme) (entries : List (List ℕ)) → (is : IsSchemeOf st place id scheme)
+pub ready_of : (st : List Sentence) (place id : ℕ) (scheme : Scheme) (entries : List (List ℕ)) → (is : IsEarlierScheme st place id scheme)
     → IsMatched st place is.hypotheses.hypotheses (variables_of scheme.hypotheses.now) entries (pairs_in scheme.pairs.now)
     → IsReady st place id is.at (variables_of scheme.hypotheses.now) entries scheme.conclusion.now
 unfolding called_of

@@ -8,13 +8,13 @@ use Rattle.mm_frame.specs.FramePlace.{AreHypotheses, HaveTypings, ArePairs}
 use Rattle.mm_frame.specs.Pieces.{variables_of, AreItsPieces, HavePatterns}
 use Rattle.mm_proof.specs.CodeSteps.{label_ids}
 use Rattle.mm_proof.specs.CodeVerify.{pairs_in}
-use Rattle.mm_proof.specs.CodeApply.{IsSchemeOf}
+use Rattle.mm_proof.specs.CodeApply.{IsEarlierScheme}
 
 pub scheme_of : (own st : List Sentence) (place id at : ℕ) (s t : Sentence) (scheme : Scheme) → own ≡ st → IsNumbered st id at s → IsAssertion s.kind → at < place
     → AreHypotheses (record { statements = own; place = at }) (label_ids scheme.hypotheses.now) → HaveTypings own scheme.hypotheses.now
     → ArePairs (record { statements = own; place = at }) (pairs_in scheme.pairs.now)
     → slice_get own at ≡ Some t → AreItsPieces own (variables_of scheme.hypotheses.now) t scheme.conclusion.now
-    → HavePatterns own (variables_of scheme.hypotheses.now) scheme.pieces.now scheme.hypotheses.now → IsSchemeOf st place id scheme
+    → HavePatterns own (variables_of scheme.hypotheses.now) scheme.pieces.now scheme.hypotheses.now → IsEarlierScheme st place id scheme
 scheme_of own st place id at s t scheme same numbered kind before hypotheses typed pairs there concluded patterned =
     let vs = variables_of scheme.hypotheses.now in
     let is : t ≡ s = same_Some t s (sym there ∙ subst (λ (l : List Sentence). slice_get l at ≡ Some s) (sym same) numbered.there) in

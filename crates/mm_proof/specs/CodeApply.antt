@@ -49,7 +49,8 @@ pub record IsReady (statements : List Sentence) (place id at : ℕ) (variables :
   pub concluded : AreItsPieces statements variables called.s conclusion
 
 -- the scheme is that of the assertion with the number, which stands before the place
-pub record IsSchemeOf (statements : List Sentence) (place id : ℕ) (scheme : Scheme) : Type 0 where
+pub record IsEarlierScheme (statements : List Sentence) (place id : ℕ)
+    (scheme : Scheme) : Type 0 where
   pub at : ℕ
   pub s : Sentence
   pub numbered : IsNumbered statements id at s
@@ -69,4 +70,4 @@ abbrev pub IsCallOf : List Sentence → (place id : ℕ) → Call → Type 0
 IsCallOf statements place id (calls.Hypothesis symbols) =
     (label : List ℕ) × (used : MayBeUsed statements place label id)
     × IsHypothesis used.s.kind × AreNumbers statements (numbers_in symbols.now) used.s.symbols
-IsCallOf statements place id (calls.Assertion scheme) = IsSchemeOf statements place id scheme
+IsCallOf statements place id (calls.Assertion scheme) = IsEarlierScheme statements place id scheme

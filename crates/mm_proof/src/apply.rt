@@ -12,7 +12,7 @@ ghost use Rattle.mm_proof.specs.CodeVerify.{AreVariablesOf, AreStackEntries, Eac
 ghost use Rattle.mm_proof.specs.CodeVerify.{EachEntry, IsWithinPlaces};
 ghost use Rattle.mm_proof.specs.CodeVerify.{IsRightCode, all_names_at, pairs_in};
 ghost use Rattle.mm_proof.specs.CodeRun.{CarriesOn, StopsAt};
-ghost use Rattle.mm_proof.specs.CodeApply.{IsAppliedAssertion, IsMatched, IsReady, IsSchemeOf};
+ghost use Rattle.mm_proof.specs.CodeApply.{IsAppliedAssertion, IsMatched, IsReady, IsEarlierScheme};
 
 use crate::fault::{ProofFault, ProofRule};
 use crate::pairs::{are_apart_pairs, has_shared_pair};
@@ -58,8 +58,9 @@ fn rule_broken<S: Store>(
     if !are_equal(store, base, book, scheme, floating) {
         return Some(ProofRule::P10);
     }
-    // What is apart shares nothing, so that where all is well one question is enough. Where some pair
-    // isn't apart, P12 is broken; but P11 comes before it, and so is asked before P12 is answered.
+    // What is apart shares nothing, so that where all is well one question is enough. Where some
+    // pair isn't apart, P12 is broken; but P11 comes before it, and so is asked before P12 is
+    // answered.
     if are_apart_pairs(store, base, scheme.hypotheses, book, own, scheme.pairs) {
         return None;
     }
@@ -125,11 +126,11 @@ pub(crate) fn apply<S: Store>(
 ) -> Result<(), ProofFault>
     requires own { own.now.statements ≡ book.now.statements }
     requires sound { IsSound book.now.statements }
-    requires scheme { (id : ℕ) × IsSchemeOf book.now.statements own.now.place id scheme.now }
+    requires scheme { (id : ℕ) × IsEarlierScheme book.now.statements own.now.place id scheme.now }
     requires entries { AreStackEntries book.now.statements (take own.now.place book.now.statements)
         (S.stack store.old) }
     ensures carried { OnOk result
-        ((id : ℕ) → IsSchemeOf book.now.statements own.now.place id scheme.now
+        ((id : ℕ) → IsEarlierScheme book.now.statements own.now.place id scheme.now
         → CarriesOn book.now.statements own.now.place id (S.stack store.old) (S.stack store.new)) }
     ensures entries { OnOk result
         (AreStackEntries book.now.statements (take own.now.place book.now.statements)
@@ -137,7 +138,7 @@ pub(crate) fn apply<S: Store>(
     ensures kept { S.kept store.new ≡ S.kept store.old }
     ensures fault { (rule : ProofRule) → (at : ℕ) → result ≡ Err (ProofFault.Rule rule at)
         → (at ≡ number)
-        × ((id : ℕ) → IsSchemeOf book.now.statements own.now.place id scheme.now
+        × ((id : ℕ) → IsEarlierScheme book.now.statements own.now.place id scheme.now
         → StopsAt book.now.statements own.now.place id (S.stack store.old) rule) }
 {
     let count = store.len();

@@ -165,8 +165,8 @@ fn is_shared_pair<S: Store>(
     }
 }
 
-/// Whether the variables of what replaces two variables are active pairs. It is a call, as few steps
-/// have pairs, and the others then take fewer instructions.
+/// Whether the variables of what replaces two variables are active pairs. It is a call, as few
+/// steps have pairs, and the others then take fewer instructions.
 #[inline(never)]
 fn is_apart_pair<S: Store>(
     store: &S,

@@ -44,13 +44,9 @@ fn is_typed(hypothesis: &Hypothesis, entry: &[Sym]) -> bool
     }
 }
 
-/// Whether all hypotheses are `$f`, where the entry of each `$f` begins with its type code; nothing,
-/// where some doesn't.
-pub(crate) fn typing_of<S: Store>(
-    store: &S,
-    base: usize,
-    hypotheses: &[Hypothesis],
-) -> Option<bool>
+/// Whether all hypotheses are `$f`, where the entry of each `$f` begins with its type code; nothing
+/// where some entry doesn't.
+pub(crate) fn typing_of<S: Store>(store: &S, base: usize, hypotheses: &[Hypothesis]) -> Option<bool>
     requires entries { base + length hypotheses.now ≡ length (S.stack store.now) }
     requires fits { length (S.stack store.now) < 2 ^ 64 }
     ensures codes { (statements : List Sentence) → HaveTypings statements hypotheses.now

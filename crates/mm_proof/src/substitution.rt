@@ -143,12 +143,7 @@ fn after_said<'e, S: Store>(
 }
 
 /// Whether the symbols are what the pieces say.
-pub(crate) fn is_said<S: Store>(
-    store: &S,
-    base: usize,
-    pieces: &[Piece],
-    symbols: &[Sym],
-) -> bool
+pub(crate) fn is_said<S: Store>(store: &S, base: usize, pieces: &[Piece], symbols: &[Sym]) -> bool
     requires within { AllByRecursion (IsWithinPlaces (length (drop base (S.stack store.now))))
         pieces.now }
     requires fits { length (S.stack store.now) < 2 ^ 64 }
