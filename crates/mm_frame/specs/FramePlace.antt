@@ -32,7 +32,7 @@ IsTypingOf statements (Some typing) h =
     (code : List ℕ) × (x : List ℕ) × Types code x h × IsNumberOf statements code typing.0.0
     × IsNumberOf statements x typing.1.0
 
--- what stands with the number of its label is that of the labelled statement
+-- the typing that stands with the number of a label is that of the statement with this number
 abbrev pub HasTyping : List Sentence → Hypothesis → Type 0
 HasTyping statements hypothesis =
     (h : Sentence) × (slice_get (labelled_sentences statements) hypothesis.id.0 ≡ Some h)

@@ -10,7 +10,7 @@ use Rattle.mm_frame.specs.declared.piece.Piece.TheVariants.{Symbol, Value}
 use Rattle.mm_frame.specs.Sentence.{Sentence}
 use Rattle.mm_frame.specs.Numbers.{labelled_sentences, AreNumbers}
 
--- the numbers of the variables of hypotheses, where they are `$f`
+-- for each hypothesis the number of its variable, if it is a `$f`; and none for a `$e`
 abbrev pub variables_of : List Hypothesis → List (Option ℕ)
 variables_of hypotheses = map (λ h. option_map (λ typing. typing.1.0) h.typing) hypotheses
 
@@ -19,16 +19,18 @@ abbrev pub is_of : ℕ → Option ℕ → Bool
 is_of n None = false
 is_of n (Some m) = m == n
 
--- no `$f` is of the symbol; or the one at this place is, and none before it
+-- no `$f` is of the symbol
 abbrev pub IsNowhere : ℕ → List (Option ℕ) → Type 0
 IsNowhere n variables = (k : ℕ) → is_of n (slice_index_or variables k None) ≡ false
 
+-- the `$f` at this place among the hypotheses is of the symbol, and none before it
 pub record IsFirstAt (n : ℕ) (variables : List (Option ℕ)) (place : ℕ) : Type 0 where
   pub within : place < length variables
   pub is : is_of n (slice_index_or variables place None) ≡ true
   pub first : (k : ℕ) → k < place → is_of n (slice_index_or variables k None) ≡ false
 
--- the piece says the symbol with the number
+-- The piece says the symbol with the number. A symbol that no mandatory `$f` is of is a constant,
+-- since each variable of an assertion and of its `$e` has an active `$f` (M15).
 abbrev pub IsPieceOf : List (Option ℕ) → ℕ → Piece → Type 0
 IsPieceOf variables n (Symbol symbol) = (symbol.0 ≡ n) × IsNowhere n variables
 IsPieceOf variables n (Value place) = IsFirstAt n variables place
@@ -43,7 +45,7 @@ AreItsPieces statements variables s pieces =
     (numbers : List ℕ) × AreNumbers statements numbers s.symbols
     × ArePieces variables numbers pieces
 
--- the part of the pieces that the hypothesis names says its symbols, if it is a `$e`
+-- the part that the hypothesis names is one of the pieces; if it is a `$e`, it says its symbols
 pub record HasPattern (statements : List Sentence) (variables : List (Option ℕ))
     (pieces : List Piece) (hypothesis : Hypothesis) : Type 0 where
   pub ordered : hypothesis.pattern.start ≤ hypothesis.pattern.end

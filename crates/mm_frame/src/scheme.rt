@@ -23,7 +23,7 @@ pub struct Scheme<'b> {
 }
 
 impl<'b> Scheme<'b> {
-    /// The pattern of a mandatory hypothesis that is a `$e`.
+    /// The pattern of one of this scheme's hypotheses that is a `$e`.
     pub fn pattern(&self, hypothesis: &Hypothesis) -> &'b [Piece]
         ensures { hypothesis.now.pattern.start ≤ hypothesis.now.pattern.end
             → hypothesis.now.pattern.end ≤ length self.now.pieces.now
