@@ -7,6 +7,10 @@ use mm_frame::LabelId;
 use std::alloc::{AllocError, Global};
 use std::marker::Model;
 
+// Of how many bytes of a database there is one of these at most, as a rule.
+const USE: usize = 24;
+const PROOF: usize = 384;
+
 /// The number of a `$p`, and where the numbers of the assertions that its proof uses stand.
 #[derive(Clone, Copy)]
 pub(crate) struct KeptProof {
@@ -44,6 +48,15 @@ impl Kept {
             used: Vec::new(alloc),
             proofs: Vec::new(alloc),
         }
+    }
+
+    /// Makes room for the proofs of a database that has so many bytes, where there is memory for it;
+    /// room that is wanting is made when it is needed.
+    pub(crate) fn prepare(&mut self, bytes: usize)
+        ensures { self.new ≡ self.old }
+    {
+        let _ = self.used.reserve(bytes / USE);
+        let _ = self.proofs.reserve(bytes / PROOF);
     }
 
     /// Keeps what the proof of a `$p` uses.

@@ -116,6 +116,27 @@ fn beginning<'a>(alloc: Global) -> Result<Progress<'a>, CheckFault<'a>>
     }
 }
 
+// How many bytes the files have, or the most that a number holds.
+fn size_of(files: &[File]) -> usize {
+    let mut size: usize = 0;
+    for file in files {
+        size = size.saturating_add(file.bytes.len());
+    }
+    size
+}
+
+/// Before the first statement, makes room for what all of them have, so that lists need not be moved
+/// while they grow. Files without a statement, which may be great, need none.
+fn make_room<'a>(files: &[File<'a>], progress: &mut Progress<'a>)
+    ensures { progress.new ≡ progress.old }
+{
+    if progress.count == 0 {
+        let size = size_of(files);
+        progress.prover.prepare(size);
+        progress.kept.prepare(size);
+    }
+}
+
 /// Reads the statements that are left, one after the other, and judges each, up to the first fault.
 fn judge_rest<'a>(
     alloc: Global,
@@ -129,6 +150,7 @@ fn judge_rest<'a>(
 {
     let mut statement = Statement::empty(alloc);
     while next(files, statements, &mut statement)? {
+        make_room(files, progress);
         judge(files, progress, &statement)?;
     }
     Ok(())

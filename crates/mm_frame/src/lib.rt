@@ -18,6 +18,7 @@ mod pairs;
 mod pattern;
 mod piece;
 mod reads;
+mod room;
 mod rule;
 mod rules;
 mod said;

@@ -48,6 +48,15 @@ impl Flat {
         }
     }
 
+    // Makes room for so many symbols, where there is memory for it; room that is wanting is made when
+    // it is needed.
+    pub(crate) fn prepare(&mut self, symbols: usize)
+        ensures stack { ⟦<Flat as Store>⟧.stack self.new ≡ ⟦<Flat as Store>⟧.stack self.old }
+        ensures kept { ⟦<Flat as Store>⟧.kept self.new ≡ ⟦<Flat as Store>⟧.kept self.old }
+    {
+        let _ = self.symbols.reserve(symbols);
+    }
+
     /// Forgets everything, and keeps the memory for what comes next.
     pub fn clear(&mut self)
         ensures stack { ⟦<Flat as Store>⟧.stack self.new ≡ [] }

@@ -31,6 +31,9 @@ use mm_text::{Statement, Token};
 use std::alloc::Global;
 use std::marker::Model;
 
+// Of how many bytes of a database a symbol of the stack is one, as a rule, in its longest proof.
+const STACK_SYMBOL: usize = 16;
+
 /// What a proof without a fault is.
 #[derive(Clone, Copy, PartialEq, Eq, Debug)]
 pub enum Proved {
@@ -81,6 +84,15 @@ impl<'a> Prover<'a> {
             }),
             Err(fault) => Err(fault),
         }
+    }
+
+    /// Makes room for a database that has so many bytes, where there is memory for it. It changes
+    /// nothing that is answered, and room that is wanting is made when it is needed.
+    pub fn prepare(&mut self, bytes: usize)
+        ensures { self.new ≡ self.old }
+    {
+        self.book.prepare(bytes);
+        self.store.prepare(bytes / STACK_SYMBOL);
     }
 
     /// The book.
