@@ -71,7 +71,8 @@ pub fn token_end(bytes: &[u8], start: usize) -> (usize, bool)
                 return (at, false);
             }
             if byte == b'$' {
-                return (ink_end(bytes, at + 1), true);
+                let end = ink_end(bytes, at + 1);
+                return (end, true);
             }
         }
     }
