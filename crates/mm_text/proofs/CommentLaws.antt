@@ -124,7 +124,7 @@ no_dollar-mark (b ∷ c ∷ text) h =
     let parts = or_parts (b == 36) (list_any (λ x. x == 36) (c ∷ text)) h in
     ap (λ d. (d && (c == 40 || c == 41)) || holds_mark (c ∷ text)) parts.0 ∙ no_dollar-mark (c ∷ text) parts.1
 
-no_dollar-spells : (text : List ℕ) (c : ℕ) → list_any (λ b. b == 36) text ≡ false → spells text (36 ∷ c ∷ []) ≡ false
+pub no_dollar-spells : (text : List ℕ) (c : ℕ) → list_any (λ b. b == 36) text ≡ false → spells text (36 ∷ c ∷ []) ≡ false
 no_dollar-spells [] c h = refl
 no_dollar-spells (b ∷ text) c h =
     ap (λ d. d && spells text (c ∷ [])) (or_parts (b == 36) (list_any (λ x. x == 36) text) h).0
@@ -221,7 +221,7 @@ legal_ink b ink = sym (or_false (is_printable b)) ∙ ap (λ s. is_printable b |
     or_false true = refl
     or_false false = refl
 
-slice_byte : (bytes : List ℕ) (start stop k : ℕ) → start + k < stop → get_or (slice_range bytes start stop) k 0 ≡ get_or bytes (start + k) 0
+pub slice_byte : (bytes : List ℕ) (start stop k : ℕ) → start + k < stop → get_or (slice_range bytes start stop) k 0 ≡ get_or bytes (start + k) 0
 slice_byte bytes start stop k lt = get_or-take (stop - start) (drop start bytes) k 0 (omega arith) ∙ get_or-drop start bytes k 0
 
 -- a token before the first byte that may not stand there holds none

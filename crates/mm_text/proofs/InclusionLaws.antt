@@ -1,8 +1,7 @@
 -- The pieces of a file, one token at a time, and the files that are put in.
-use Rattle.std.proofs.Common.{◌≡◌, ℕ, zero, suc, ◌==◌, ◌&&◌, List, [], ◌∷◌, ◌++◌, Bool, true, false, not, cond, refl, sym, ap, ◌∙◌, Some, None, append_assoc, append-nil}
+use Rattle.std.proofs.Common.{◌≡◌, ℕ, zero, suc, ◌&&◌, List, [], ◌∷◌, ◌++◌, Bool, true, false, not, cond, refl, sym, ap, ◌∙◌, Some, None, append_assoc, append-nil}
 use Rattle.std.specs.Prelude.{codes, slice_index_or, slice_set}
 use Rattle.std.specs.List.{list_any}
-use Rattle.std.proofs.lemmas.Bool.{or_parts}
 use Rattle.mm_text.specs.declared.fault.TextRule.{TextRule}
 use Rattle.mm_text.specs.declared.fault.TextRule.TheVariants.{X4, X5, X7, X9}
 use Rattle.mm_text.specs.declared.class.Keyword.{Keyword}
@@ -18,6 +17,7 @@ use Rattle.mm_text.specs.Items.{Item, Plain, Wrong, Inclusion, End, Shown, Clear
 use Rattle.mm_text.specs.Mirror.Place.{shown_at}
 use Rattle.mm_text.specs.Mirror.Next.{IsOfClass}
 use Rattle.mm_text.specs.Mirror.Nest.{pieces_with, waiting}
+use Rattle.mm_text.proofs.CommentLaws.{no_dollar-spells}
 
 -- ---- outside inclusions
 
@@ -60,10 +60,6 @@ keyword_stands Stop = refl
 keyword_stands Equals = refl
 keyword_stands Opening = refl
 keyword_stands Closes = refl
-
-no_dollar-spells : (text : List ℕ) (c : ℕ) → HoldsNoDollar text → spells text (36 ∷ c ∷ []) ≡ false
-no_dollar-spells [] c h = refl
-no_dollar-spells (b ∷ text) c h = ap (λ d. d && spells text (c ∷ [])) (or_parts (b == 36) (list_any (λ x. x == 36) text) h).0
 
 -- nor does a word
 word_stands : (text : List ℕ) → HoldsNoDollar text → broken_outside text ≡ None

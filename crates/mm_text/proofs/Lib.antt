@@ -2,6 +2,7 @@ mod Pieces
 pub mod TokenLaws
 pub mod LegalLaws
 pub mod CommentLaws
+pub mod DollarLaws
 pub mod NameLaws
 pub mod InclusionLaws
 pub mod NestLaws

@@ -55,8 +55,8 @@ pub fn is_label(text: &[u8]) -> bool
     )
 }
 
-/// The class of a token that holds a `$`.
-fn class_of_dollar(text: &[u8]) -> Class
+/// What a token that holds a `$` is, outside comments and inclusions and where it begins none.
+pub fn class_of_dollar(text: &[u8]) -> Class
     requires unread { ¬ (IsReadApart text.now) }
     requires dollar { holds_dollar text.now ≡ true }
     ensures { ClassIs text.now result }
@@ -75,26 +75,5 @@ fn class_of_dollar(text: &[u8]) -> Class
         b"$}" => Class::Keyword(Keyword::Closing),
         b"$]" => Class::Wrong(TextRule::X4),
         _ => Class::Wrong(TextRule::X9),
-    }
-}
-
-// Whether a token holds a `$`. Tokens are short, so that they are looked at byte by byte.
-#[inline(always)]
-fn has_dollar(text: &[u8]) -> bool
-    ensures { result ≡ holds_dollar text.now }
-{
-    text.iter().any(|byte| *byte == b'$')
-}
-
-/// What a token is that stands outside comments and inclusions and begins none.
-#[inline(always)]
-pub fn class_of(text: &[u8]) -> Class
-    requires unread { ¬ (IsReadApart text.now) }
-    ensures { ClassIs text.now result }
-{
-    if has_dollar(text) {
-        class_of_dollar(text)
-    } else {
-        Class::Word
     }
 }

@@ -37,8 +37,8 @@ pub enum Comment<'a> {
 /// What stands next in a file.
 #[derive(Clone, Copy)]
 pub enum Found<'a> {
-    /// A token outside comments.
-    Token(Token<'a>),
+    /// A token outside comments, and whether it holds a `$`.
+    Token(Token<'a>, bool),
     /// A comment.
     Comment,
     /// The file's end.
@@ -186,7 +186,7 @@ fn comment_step<'a>(mut place: Place<'a>, begin: Token<'a>) -> Result<Comment<'a
         });
     }
     let start = token_start(place.bytes, place.at, stop.at);
-    let end = token_end(place.bytes, start);
+    let (end, _) = token_end(place.bytes, start);
     let token = make_token(place.bytes, place.file, start, end);
     place.legal = legal_front(place.bytes, stop.legal, end);
     if place.legal < end {
@@ -234,7 +234,7 @@ fn take_one<'a>(place: &mut Place<'a>) -> Result<Found<'a>, Wrong<'a>>
     if start == place.bytes.len() {
         return Ok(Found::End);
     }
-    let end = token_end(place.bytes, start);
+    let (end, has_dollar) = token_end(place.bytes, start);
     let token = make_token(place.bytes, place.file, start, end);
     place.legal = legal_front(place.bytes, place.legal, end);
     if place.legal < end {
@@ -242,6 +242,10 @@ fn take_one<'a>(place: &mut Place<'a>) -> Result<Found<'a>, Wrong<'a>>
             rule: TextRule::X1,
             token,
         });
+    }
+    if !has_dollar {
+        place.at = end;
+        return Ok(Found::Token(token, false));
     }
     if is_close(token.text) {
         return Err(Wrong {
@@ -254,13 +258,13 @@ fn take_one<'a>(place: &mut Place<'a>) -> Result<Found<'a>, Wrong<'a>>
         return Ok(Found::Comment);
     }
     place.at = end;
-    Ok(Found::Token(token))
+    Ok(Found::Token(token, true))
 }
 
-/// Takes the next token outside comments; none at the file's end. Where the text is wrong no token
-/// is taken.
+/// Takes the next token outside comments, and tells whether it holds a `$`; none at the file's end.
+/// Where the text is wrong no token is taken.
 #[inline(always)]
-pub fn take_token<'a>(place: &mut Place<'a>) -> Result<Option<Token<'a>>, Wrong<'a>>
+pub fn take_token<'a>(place: &mut Place<'a>) -> Result<Option<(Token<'a>, bool)>, Wrong<'a>>
     requires { IsPlace place.old }
     ensures place { IsPlace place.new }
     ensures same { IsSameFile place.old place.new }
@@ -268,7 +272,7 @@ pub fn take_token<'a>(place: &mut Place<'a>) -> Result<Option<Token<'a>>, Wrong<
 {
     'comments: loop {
         match take_one(place)? {
-            Found::Token(token) => return Ok(Some(token)),
+            Found::Token(token, has_dollar) => return Ok(Some((token, has_dollar))),
             Found::Comment => {}
             Found::End => return Ok(None),
         }

@@ -10,7 +10,7 @@ ghost use Rattle.mm_text.specs.Mirror.Next.{TakesItem};
 ghost use Rattle.mm_text.specs.Mirror.Nest.{TakesPiece, TakesInner, TakesName, Enters, Includes};
 ghost use Rattle.mm_text.specs.Mirror.Nest.{IsNest, items_left, items_after};
 
-use crate::class::{Class, class_of};
+use crate::class::{Class, class_of_dollar};
 use crate::comments::{Place, Wrong, take_token};
 use crate::fault::TextRule;
 use crate::file::File;
@@ -44,17 +44,21 @@ fn take_piece<'a>(place: &mut Place<'a>) -> Next<'a>
     match take_token(place) {
         Err(wrong) => Next::Token(wrong.token, Class::Wrong(wrong.rule)),
         Ok(None) => Next::End(place.file),
-        Ok(Some(token)) => {
+        Ok(Some((token, has_dollar))) => {
+            if !has_dollar {
+                return Next::Token(token, Class::Word);
+            }
             if is_inclusion(token.text) {
                 return Next::Inclusion(token);
             }
-            Next::Token(token, class_of(token.text))
+            Next::Token(token, class_of_dollar(token.text))
         }
     }
 }
 
-/// Takes the next token of an inclusion, which the file's end leaves unfinished.
-fn take_inner<'a>(place: &mut Place<'a>, begin: Token<'a>) -> Result<Token<'a>, Wrong<'a>>
+/// Takes the next token of an inclusion, which the file's end leaves unfinished. Tells whether it
+/// holds a `$`.
+fn take_inner<'a>(place: &mut Place<'a>, begin: Token<'a>) -> Result<(Token<'a>, bool), Wrong<'a>>
     requires place { IsPlace place.old }
     requires begin { begin.at < 1073741824 }
     ensures place { IsPlace place.new }
@@ -62,7 +66,7 @@ fn take_inner<'a>(place: &mut Place<'a>, begin: Token<'a>) -> Result<Token<'a>, 
     ensures takes { TakesInner (plain_token begin.entry) place.old result place.new }
 {
     match take_token(place)? {
-        Some(token) => Ok(token),
+        Some(found) => Ok(found),
         None => Err(Wrong {
             rule: TextRule::X5,
             token: begin,
@@ -78,14 +82,14 @@ fn take_name<'a>(place: &mut Place<'a>, begin: Token<'a>) -> Result<Token<'a>, W
     ensures same { IsSameFile place.old place.new }
     ensures takes { TakesName (plain_token begin.entry) place.old result place.new }
 {
-    let name = take_inner(place, begin)?;
-    if name.text.contains(&b'$') {
+    let (name, has_dollar) = take_inner(place, begin)?;
+    if has_dollar {
         return Err(Wrong {
             rule: TextRule::X5,
             token: name,
         });
     }
-    let close = take_inner(place, begin)?;
+    let (close, _) = take_inner(place, begin)?;
     if !is_inclusion_end(close.text) {
         return Err(Wrong {
             rule: TextRule::X5,

@@ -4,6 +4,7 @@ ghost use Rattle.std.specs.Prelude.{◌≡◌, ℕ, ◌<◌, ◌≤◌, ◌+◌,
 ghost use Rattle.std.specs.Prelude.{slice_index, slice_range};
 ghost use Rattle.std.specs.List.{list_all};
 ghost use Rattle.mm_text.specs.Token.{is_space, tokens_from};
+ghost use Rattle.mm_text.specs.Items.{holds_dollar};
 ghost use Rattle.mm_text.specs.Mirror.Place.{is_legal, IsLegalFront, IsLegalUpTo};
 
 /// Whether a byte is white space.
@@ -32,23 +33,50 @@ pub fn skip_space(bytes: &[u8], start: usize) -> usize
     bytes.len()
 }
 
-/// The end of the token that begins at a place.
-pub fn token_end(bytes: &[u8], start: usize) -> usize
-    requires within { start < length bytes.now }
-    requires begins { is_space (slice_index bytes.now start) ≡ false }
-    ensures after { start < result }
+/// The place of the first byte from a place on that is white space, or the file's end.
+fn ink_end(bytes: &[u8], start: usize) -> usize
+    requires { start ≤ length bytes.now }
+    ensures from { start ≤ result }
     ensures within { result ≤ length bytes.now }
-    ensures token { (file : ℕ) → tokens_from file start (drop start bytes.now)
-        ≡ record { text = slice_range bytes.now start result; file = file; at = start }
-        ∷ tokens_from file result (drop result bytes.now) }
     ensures ink { (k : ℕ) → start ≤ k → k < result → is_space (slice_index bytes.now k) ≡ false }
+    ensures stops { result < length bytes.now → is_space (slice_index bytes.now result) ≡ true }
 {
-    for at in start + 1..bytes.len() {
+    for at in start..bytes.len() {
         if is_space(bytes[at]) {
             return at;
         }
     }
     bytes.len()
+}
+
+/// The end of the token that begins at a place, and whether it holds a `$`.
+///
+/// White space and `$` are less than nearly all other bytes, so that one test passes over a byte of
+/// a word. Where a `$` is met the rest is left to another loop, and none keeps what it saw.
+pub fn token_end(bytes: &[u8], start: usize) -> (usize, bool)
+    requires within { start < length bytes.now }
+    requires begins { is_space (slice_index bytes.now start) ≡ false }
+    ensures after { start < result.0 }
+    ensures within { result.0 ≤ length bytes.now }
+    ensures token { (file : ℕ) → tokens_from file start (drop start bytes.now)
+        ≡ record { text = slice_range bytes.now start result.0; file = file; at = start }
+        ∷ tokens_from file result.0 (drop result.0 bytes.now) }
+    ensures ink { (k : ℕ) → start ≤ k → k < result.0 → is_space (slice_index bytes.now k) ≡ false }
+    ensures dollar { result.1 ≡ holds_dollar (slice_range bytes.now start result.0) }
+{
+    for at in start..bytes.len() {
+        let byte = bytes[at];
+        if byte <= b'$' {
+            if is_space(byte) {
+                return (at, false);
+            }
+            if byte == b'$' {
+                let end = ink_end(bytes, at + 1);
+                return (end, true);
+            }
+        }
+    }
+    (bytes.len(), false)
 }
 
 /// The begin of the run of bytes that aren't white space and end with the one at a place, no

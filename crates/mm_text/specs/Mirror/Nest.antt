@@ -1,8 +1,8 @@
 -- How the code goes through the files: the one that is read, and those that wait for the end of one
 -- that they include. Private clauses speak of this.
-use Rattle.std.specs.Prelude.{◌≡◌, ℕ, ◌+◌, ◌<◌, ◌≤◌, ◌++◌, List, [], ◌∷◌, false, not, length, map}
-use Rattle.std.specs.Prelude.{count_by, if◌then◌else◌, Option, Some, None, IfSome, Result, Ok, Err}
-use Rattle.std.specs.Prelude.{vec_len, vec_capacity}
+use Rattle.std.specs.Prelude.{◌≡◌, ℕ, ◌+◌, ◌<◌, ◌≤◌, ◌++◌, List, [], ◌∷◌, Bool, false, not, length}
+use Rattle.std.specs.Prelude.{map, count_by, if◌then◌else◌, Option, Some, None, IfSome, Result, Ok}
+use Rattle.std.specs.Prelude.{Err, vec_len, vec_capacity}
 use Rattle.std.specs.List.{AllByRecursion}
 use Rattle.mm_text.specs.declared.comments.Place.{Place}
 use Rattle.mm_text.specs.declared.comments.Wrong.{Wrong}
@@ -47,8 +47,9 @@ TakesPiece old next.Nothing new = ⊥
 
 -- the first token in an inclusion is taken; where that can't be, it is a fault before the name and
 -- after it
-abbrev pub TakesInner : PlainToken → Place → Result Token Wrong → Place → Type 0
-TakesInner begin old (Ok t) new = (shown_at old ≡ Clear (plain_token t) ∷ shown_at new) × IsClear t
+abbrev pub TakesInner : PlainToken → Place → Result (Token × Bool) Wrong → Place → Type 0
+TakesInner begin old (Ok found) new =
+    (shown_at old ≡ Clear (plain_token found.0) ∷ shown_at new) × IsClear found.0 found.1
 TakesInner begin old (Err w) new =
     (pieces old.file (Naming begin) (shown_at old) ≡ Met (wrong_item w) ∷ [])
     × ((name : PlainToken)

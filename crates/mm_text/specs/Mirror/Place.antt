@@ -11,7 +11,7 @@ use Rattle.mm_text.specs.declared.comments.Found.TheVariants as found
 use Rattle.mm_text.specs.declared.comments.Wrong.{Wrong}
 use Rattle.mm_text.specs.declared.token.Token.{Token}
 use Rattle.mm_text.specs.Token.{PlainToken, plain_token, tokens_from, is_space, is_printable}
-use Rattle.mm_text.specs.Items.{Shown, Clear, Broken, without_comments, spells}
+use Rattle.mm_text.specs.Items.{Shown, Clear, Broken, without_comments, spells, holds_dollar}
 
 -- a byte may stand in a file
 abbrev pub is_legal : ℕ → Bool
@@ -60,11 +60,12 @@ pub record IsLater (old new : Place) : Type 0 where
 abbrev pub IsBroken : List Shown → Wrong → Type 0
 IsBroken shown w = (shown ≡ Broken w.rule (plain_token w.token) ∷ []) × (w.token.at < 1073741824)
 
--- a token outside comments
-pub record IsClear (t : Token) : Type 0 where
+-- a token outside comments, and whether it holds a `$`
+pub record IsClear (t : Token) (has_dollar : Bool) : Type 0 where
   pub at : t.at < 1073741824
   pub begins : spells t.text.now (codes "$(") ≡ false
   pub closes : spells t.text.now (codes "$)") ≡ false
+  pub dollar : has_dollar ≡ holds_dollar t.text.now
 
 -- what a part of a comment comes to
 abbrev pub GoesOn : Place → PlainToken → Result Comment Wrong → Type 0
@@ -79,14 +80,15 @@ EndsComment p begin (Err w) = IsBroken (comment_at begin p) w
 
 -- one token or comment is taken
 abbrev pub TakesOne : Place → Result Found Wrong → Place → Type 0
-TakesOne old (Ok (found.Token t)) new =
-    (shown_at old ≡ Clear (plain_token t) ∷ shown_at new) × IsClear t
+TakesOne old (Ok (found.Token t has_dollar)) new =
+    (shown_at old ≡ Clear (plain_token t) ∷ shown_at new) × IsClear t has_dollar
 TakesOne old (Ok found.Comment) new = (old.at < new.at) × (shown_at old ≡ shown_at new)
 TakesOne old (Ok found.End) new = shown_at old ≡ []
 TakesOne old (Err w) new = IsBroken (shown_at old) w
 
 -- the first of what stands outside comments is taken, and the rest is left
-abbrev pub TakesShown : List Shown → Result (Option Token) Wrong → List Shown → Type 0
-TakesShown old (Ok (Some t)) new = (old ≡ Clear (plain_token t) ∷ new) × IsClear t
+abbrev pub TakesShown : List Shown → Result (Option (Token × Bool)) Wrong → List Shown → Type 0
+TakesShown old (Ok (Some found)) new =
+    (old ≡ Clear (plain_token found.0) ∷ new) × IsClear found.0 found.1
 TakesShown old (Ok None) new = old ≡ []
 TakesShown old (Err w) new = IsBroken old w

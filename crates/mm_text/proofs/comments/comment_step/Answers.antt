@@ -17,7 +17,7 @@ pub returns-then-place-end : goal.returns-then-place-end
 returns-then-place-end c =
     let p = c.args.place in
     let start = c.token_start-start.result in
-    let end = c.token_end-end.result in
+    let end = c.token_end-end.result.0 in
     let t = plain_token c.make_token-token.result in
     let illegal = token_illegal p.bytes.now c.legal_front.result start end (c.legal_front.ensures.judged.stops (omega arith)) (omega arith) (omega arith) (omega arith) c.token_end-end.ensures.ink in (
       comment_token (plain_token c.args.begin) p c.comment_stop-stop.result.at start end t (omega arith) (omega arith) (omega arith)
@@ -30,7 +30,7 @@ pub returns-then-is_close : goal.returns-then-is_close
 returns-then-is_close c =
     let p = c.args.place in
     let start = c.token_start-start.result in
-    let end = c.token_end-end.result in
+    let end = c.token_end-end.result.0 in
     let t = plain_token c.make_token-token.result in
     let printable = token_printable p.bytes.now c.legal_front.result start end c.legal_front.ensures.judged.front (omega arith) (omega arith) c.token_end-end.ensures.ink in (
       later_place p end c.legal_front.result c.legal_front.ensures.judged.front (omega arith) (omega arith) c.requires.place.small,
@@ -44,7 +44,7 @@ pub returns-then-holds_mark : goal.returns-then-holds_mark
 returns-then-holds_mark c =
     let p = c.args.place in
     let start = c.token_start-start.result in
-    let end = c.token_end-end.result in
+    let end = c.token_end-end.result.0 in
     let t = plain_token c.make_token-token.result in
     let printable = token_printable p.bytes.now c.legal_front.result start end c.legal_front.ensures.judged.front (omega arith) (omega arith) c.token_end-end.ensures.ink in (
       comment_token (plain_token c.args.begin) p c.comment_stop-stop.result.at start end t (omega arith) (omega arith) (omega arith)
@@ -58,7 +58,7 @@ pub returns : goal.returns
 returns c =
     let p = c.args.place in
     let start = c.token_start-start.result in
-    let end = c.token_end-end.result in
+    let end = c.token_end-end.result.0 in
     let t = plain_token c.make_token-token.result in
     let printable = token_printable p.bytes.now c.legal_front.result start end c.legal_front.ensures.judged.front (omega arith) (omega arith) c.token_end-end.ensures.ink in (
       later_place p end c.legal_front.result c.legal_front.ensures.judged.front (omega arith) (omega arith) c.requires.place.small,

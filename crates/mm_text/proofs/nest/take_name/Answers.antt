@@ -7,12 +7,12 @@ use Rattle.mm_text.specs.Mirror.Place.{shown_at}
 use Rattle.mm_text.proofs.InclusionLaws.{naming-dollar, naming-name, closing-other, closing-close}
 use Rattle.mm_text.proofs.nest.take_name.Goals as goal
 
-pub returns-then-contains-clause-takes : goal.returns-then-contains-clause-takes
-returns-then-contains-clause-takes c =
+pub returns-then-has_dollar-clause-takes : goal.returns-then-has_dollar-clause-takes
+returns-then-has_dollar-clause-takes c =
     let p = c.args.place.now in
     let begin = plain_token c.args.begin in
     let name = plain_token c.in_ok-name.name in (
-      ap (pieces p.file (Naming begin)) c.in_ok-name.ensures.takes.0 ∙ naming-dollar p.file begin name _ (sym c.contains.ensures.value ∙ c.if-contains.true),
+      ap (pieces p.file (Naming begin)) c.in_ok-name.ensures.takes.0 ∙ naming-dollar p.file begin name _ (sym c.in_ok-name.ensures.takes.1.dollar ∙ c.if-has_dollar.true),
       c.in_ok-name.ensures.takes.1.at,
     )
 
@@ -24,7 +24,7 @@ returns-in_err-close-clause-takes c =
     let e = err_from_is_err_and c.from_residual-in_err-close.result c.from_residual-in_err-close.ensures.1 in
     rw (e.1, e.2) (
       ap (pieces p.file (Naming begin)) c.in_ok-name.ensures.takes.0
-          ∙ naming-name p.file begin name _ (sym c.contains.ensures.value ∙ c.if-contains.false)
+          ∙ naming-name p.file begin name _ (sym c.in_ok-name.ensures.takes.1.dollar ∙ c.if-has_dollar.false)
           ∙ ap (λ n. pieces n (Closing begin name) (shown_at c.take_inner.new.place)) (sym (ap (λ (q : Place). q.file) c.in_ok-name.ensures.same))
           ∙ c.in_err-close.ensures.takes.1 name,
       c.in_err-close.ensures.takes.2,
@@ -36,7 +36,7 @@ returns-then-not-is_inclusion_end-clause-takes c =
     let begin = plain_token c.args.begin in
     let name = plain_token c.in_ok-name.name in (
       ap (pieces p.file (Naming begin)) c.in_ok-name.ensures.takes.0
-          ∙ naming-name p.file begin name _ (sym c.contains.ensures.value ∙ c.if-contains.false)
+          ∙ naming-name p.file begin name _ (sym c.in_ok-name.ensures.takes.1.dollar ∙ c.if-has_dollar.false)
           ∙ ap (pieces p.file (Closing begin name)) c.in_ok-close.ensures.takes.0
           ∙ closing-other p.file begin name (plain_token c.in_ok-close.close) _ (sym c.is_inclusion_end.ensures ∙ c.if-not-is_inclusion_end.true),
       c.in_ok-close.ensures.takes.1.at,
@@ -48,7 +48,7 @@ returns-clause-takes c =
     let begin = plain_token c.args.begin in
     let name = plain_token c.in_ok-name.name in (
       ap (pieces p.file (Naming begin)) c.in_ok-name.ensures.takes.0
-          ∙ naming-name p.file begin name _ (sym c.contains.ensures.value ∙ c.if-contains.false)
+          ∙ naming-name p.file begin name _ (sym c.in_ok-name.ensures.takes.1.dollar ∙ c.if-has_dollar.false)
           ∙ ap (pieces p.file (Closing begin name)) c.in_ok-close.ensures.takes.0
           ∙ closing-close p.file begin name (plain_token c.in_ok-close.close) _ (sym c.is_inclusion_end.ensures ∙ c.if-not-is_inclusion_end.false),
       c.in_ok-name.ensures.takes.1.at,

@@ -1,7 +1,9 @@
-use Rattle.std.proofs.Common.{[], ◌∷◌, sym, ap, ◌∙◌}
+use Rattle.std.proofs.Common.{◌≡◌, false, [], ◌∷◌, sym, ap, ◌∙◌}
 use Rattle.mm_text.specs.Token.{plain_token}
-use Rattle.mm_text.specs.Items.{Outside, pieces, Met, End}
+use Rattle.mm_text.specs.declared.class.Class.TheVariants as class
+use Rattle.mm_text.specs.Items.{Outside, pieces, Met, End, holds_dollar}
 use Rattle.mm_text.specs.declared.comments.Place.{Place}
+use Rattle.mm_text.proofs.CommentLaws.{no_dollar-spells}
 use Rattle.mm_text.proofs.InclusionLaws.{pieces-end, pieces-broken, pieces-inclusion, pieces-class, class_tells}
 use Rattle.mm_text.proofs.nest.take_piece.Goals as goal
 
@@ -27,11 +29,23 @@ returns-in-Ok-None-clause-takes c =
     let h = rw c.in-Ok-None.field-0-is at c.in-Ok-None.ensures.takes in
     ap (pieces p.file Outside) h ∙ pieces-end p.file ∙ ap (λ n. Met (End n) ∷ []) (sym (ap (λ (q : Place). q.file) c.in-Ok-None.ensures.same))
 
+-- a token without `$` is a word
+pub returns-then-not-has_dollar-clause-takes : goal.returns-then-not-has_dollar-clause-takes
+returns-then-not-has_dollar-clause-takes c =
+    let p = c.args.place.now in
+    let t = plain_token c.in-Ok-Some.token in
+    let h = rw c.in-Ok-Some.field-0-is at c.in-Ok-Some.ensures.takes in
+    let lacks : holds_dollar t.text ≡ false = sym h.1.dollar ∙ c.if-not-has_dollar.true in (
+      ap (pieces p.file Outside) h.0 ∙ pieces-class p.file t _ class.Word (no_dollar-spells t.text 91 lacks) lacks,
+      lacks,
+      h.1.at,
+    )
+
 pub returns-else-is_inclusion-clause-takes : goal.returns-else-is_inclusion-clause-takes
 returns-else-is_inclusion-clause-takes c =
     let p = c.args.place.now in
     let h = rw c.in-Ok-Some.field-0-is at c.in-Ok-Some.ensures.takes in (
-      ap (pieces p.file Outside) h.0 ∙ pieces-class p.file (plain_token c.in-Ok-Some.token) _ _ (sym c.is_inclusion.ensures ∙ c.if-is_inclusion.false) c.class_of.ensures,
-      class_tells (plain_token c.in-Ok-Some.token) c.class_of.result c.class_of.ensures,
+      ap (pieces p.file Outside) h.0 ∙ pieces-class p.file (plain_token c.in-Ok-Some.token) _ _ (sym c.is_inclusion.ensures ∙ c.if-is_inclusion.false) c.class_of_dollar.ensures,
+      class_tells (plain_token c.in-Ok-Some.token) c.class_of_dollar.result c.class_of_dollar.ensures,
       h.1.at,
     )
