@@ -22,6 +22,7 @@ ghost use Rattle.mm_frame.specs.Patterned.{IsSchemeOf};
 
 use crate::answer::{Found, RuleFault, Taken};
 use crate::frame::Frame;
+use crate::framing::FrameLists;
 use crate::hypothesis::Hypothesis;
 use crate::number::{LabelId, LabelKind, Sym};
 use crate::reads::{
@@ -43,6 +44,8 @@ pub struct Book<'a> {
     /// The numbers of the symbols that the statement uses which is taken: each is looked up once,
     /// and the room is used again.
     numbers: Vec<Sym>,
+    /// The lists of which the frame of an assertion is made: their room is used again too.
+    lists: FrameLists,
 }
 
 // How many bytes some tokens have.
@@ -88,6 +91,7 @@ impl<'a> Book<'a> {
             Ok(tables) => Ok(Book {
                 tables,
                 numbers: Vec::new(alloc),
+                lists: FrameLists::new(alloc),
             }),
             Err(refused) => Err(RuleFault::from(refused)),
         }
@@ -116,7 +120,10 @@ impl<'a> Book<'a> {
             Err(refused) => return Err(RuleFault::from(refused)),
         }
         let bytes = bytes_of(statement);
-        match self.tables.grow(statement, &self.numbers, bytes) {
+        match self
+            .tables
+            .grow(statement, &self.numbers, &mut self.lists, bytes)
+        {
             Ok(taken) => Ok(taken),
             Err(refused) => Err(RuleFault::from(refused)),
         }

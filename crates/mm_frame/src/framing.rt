@@ -16,7 +16,29 @@ use crate::hypothesis::Hypothesis;
 use crate::lists::at;
 use crate::number::{LabelId, Sym};
 use crate::tables::{NO_PART, Tables};
-use std::alloc::AllocError;
+use std::alloc::{AllocError, Global};
+
+/// The lists of which the frame of an assertion is made. Their room is used again for each
+/// assertion, and nothing of what they held before is told of the next.
+#[derive(Drop)]
+pub(crate) struct FrameLists {
+    /// The places of the mandatory hypotheses, and the hypotheses that stand there.
+    pub(crate) places: Vec<usize>,
+    pub(crate) hypotheses: Vec<Hypothesis>,
+    /// The variables of those that are `$f`.
+    pub(crate) variables: Vec<Sym>,
+}
+
+impl FrameLists {
+    /// Empty lists. They take no memory.
+    pub(crate) fn new(alloc: Global) -> FrameLists {
+        FrameLists {
+            places: Vec::new(alloc),
+            hypotheses: Vec::new(alloc),
+            variables: Vec::new(alloc),
+        }
+    }
+}
 
 // The place of the latest `$f` of a symbol, if it has one.
 fn floating(tables: &Tables, symbol: Sym) -> Option<usize>
@@ -46,34 +68,42 @@ fn add_floating(
     Ok(())
 }
 
-// The places of the mandatory hypotheses, in no order and with repetitions.
-fn mandatory_unsorted(tables: &Tables, expression: &[Sym]) -> Result<Vec<usize>, AllocError>
+// Finds the places of the mandatory hypotheses, in no order and with repetitions.
+fn find_unsorted(
+    tables: &Tables,
+    expression: &[Sym],
+    places: &mut Vec<usize>,
+) -> Result<(), AllocError>
     requires { AreTables tables.now }
     ensures { (s : Sentence)
         → AreNumbers (statements_of tables.now) (map (λ n. n.0) expression.now) s.symbols
-        → IfOk result (λ places. AreGathered
-        (statements_of tables.now) tables.now.essentials.items s places.items) }
+        → OnOk result (AreGathered
+        (statements_of tables.now) tables.now.essentials.items s places.new.items) }
 {
-    let mut places = Vec::with_capacity(tables.alloc, expression.len())?;
-    add_floating(tables, expression, &mut places)?;
+    places.clear();
+    add_floating(tables, expression, places)?;
     for place in &tables.essentials {
         places.push(*place)?;
-        add_floating(tables, tables.symbols_at(*place), &mut places)?;
+        add_floating(tables, tables.symbols_at(*place), places)?;
     }
-    Ok(places)
+    Ok(())
 }
 
-/// The places of the mandatory hypotheses of an assertion, in order.
-pub(crate) fn mandatory(tables: &Tables, expression: &[Sym]) -> Result<Vec<usize>, AllocError>
+/// Finds the places of the mandatory hypotheses of an assertion, in order.
+pub(crate) fn find_mandatory(
+    tables: &Tables,
+    expression: &[Sym],
+    places: &mut Vec<usize>,
+) -> Result<(), AllocError>
     requires { AreTables tables.now }
     ensures { (s : Sentence) → IsMeant (statements_of tables.now) s → IsStated s.kind
         → AreNumbers (statements_of tables.now) (map (λ n. n.0) expression.now) s.symbols
-        → IfOk result (λ places. ArePlaces (statements_of tables.now) s places.items) }
+        → OnOk result (ArePlaces (statements_of tables.now) s places.new.items) }
 {
-    let mut places = mandatory_unsorted(tables, expression)?;
+    find_unsorted(tables, expression, places)?;
     places.sort_unstable();
     places.dedup();
-    Ok(places)
+    Ok(())
 }
 
 // The number of the label of the statement at a place, if it has one.
@@ -86,17 +116,17 @@ fn label_at(tables: &Tables, place: usize) -> Option<LabelId>
     }
 }
 
-/// The mandatory hypotheses that stand at some places.
-pub(crate) fn hypotheses_at(
+/// Finds the mandatory hypotheses that stand at some places.
+pub(crate) fn find_hypotheses(
     tables: &Tables,
     places: &[usize],
-) -> Result<Vec<Hypothesis>, AllocError>
+    hypotheses: &mut Vec<Hypothesis>,
+) -> Result<(), AllocError>
     requires { AreTables tables.now }
     ensures { (s : Sentence) → ArePlaces (statements_of tables.now) s places.now
-        → IfOk result (λ hypotheses. AreThoseAt
-        (statements_of tables.now) places.now hypotheses.items) }
+        → OnOk result (AreThoseAt (statements_of tables.now) places.now hypotheses.new.items) }
 {
-    let mut hypotheses = Vec::with_capacity(tables.alloc, places.len())?;
+    hypotheses.clear();
     for place in places {
         match label_at(tables, *place) {
             Some(id) => hypotheses.push(Hypothesis {
@@ -107,24 +137,27 @@ pub(crate) fn hypotheses_at(
             None => {}
         }
     }
-    Ok(hypotheses)
+    Ok(())
 }
 
-// The variables of the `$f` at some places, and nothing of a `$e`.
-fn typed_by(tables: &Tables, places: &[usize]) -> Result<Vec<Sym>, AllocError>
+// Finds the variables of the `$f` at some places, and nothing of a `$e`.
+fn find_variables(
+    tables: &Tables,
+    places: &[usize],
+    variables: &mut Vec<Sym>,
+) -> Result<(), AllocError>
     requires { AreTables tables.now }
     ensures { (s : Sentence) → ArePlaces (statements_of tables.now) s places.now
-        → IfOk result (λ variables.
-        AreVariables (statements_of tables.now) places.now variables.items) }
+        → OnOk result (AreVariables (statements_of tables.now) places.now variables.new.items) }
 {
-    let mut variables = Vec::with_capacity(tables.alloc, places.len())?;
+    variables.clear();
     for place in places {
         match tables.floating_variable(*place) {
             Some(variable) => variables.push(variable)?,
             None => {}
         }
     }
-    Ok(variables)
+    Ok(())
 }
 
 // The distinct pairs of one variable with some others.
@@ -152,9 +185,11 @@ fn add_pairs(
 }
 
 /// The mandatory distinct pairs of an assertion whose mandatory hypotheses stand at these places.
+/// The variables of the hypotheses are left in `variables`.
 pub(crate) fn mandatory_pairs(
     tables: &Tables,
     places: &[usize],
+    variables: &mut Vec<Sym>,
 ) -> Result<Vec<(Sym, Sym)>, AllocError>
     requires { AreTables tables.now }
     ensures { (s : Sentence) (more : List Sentence) → IsMeant (statements_of tables.now) s
@@ -166,7 +201,7 @@ pub(crate) fn mandatory_pairs(
         })
         (map (λ pair. (pair.0.0, pair.1.0)) pairs.items)) }
 {
-    let variables = typed_by(tables, places)?;
+    find_variables(tables, places, variables)?;
     let mut pairs = Vec::new(tables.alloc);
     for i in 0..variables.len() {
         add_pairs(tables, variables[i], &variables[..i], &mut pairs)?;

@@ -21,6 +21,7 @@ ghost use Rattle.mm_frame.specs.Form.{IsFormedSentence};
 ghost use Rattle.mm_frame.specs.declared.answer.Taken.TheVariants.{Opened, Closed};
 
 use crate::answer::Taken;
+use crate::framing::FrameLists;
 use crate::lists::put;
 use crate::number::{LabelId, Sym};
 use crate::scopes::Scopes;
@@ -108,6 +109,7 @@ impl<'a> Tables<'a> {
         kind: Kind,
         label: &'a [u8],
         numbers: &[Sym],
+        lists: &mut FrameLists,
         bytes: u64,
     ) -> Result<Taken, AllocError>
         requires tables { AreTables self.old }
@@ -124,7 +126,7 @@ impl<'a> Tables<'a> {
         match kind {
             Kind::Floating => self.give_type(label, numbers, bytes),
             Kind::Essential => self.suppose(label, numbers, bytes),
-            _ => self.assert(kind, label, numbers, bytes),
+            _ => self.assert(kind, label, numbers, lists, bytes),
         }
     }
 
@@ -133,6 +135,7 @@ impl<'a> Tables<'a> {
         &mut self,
         statement: &Statement<'a>,
         numbers: &[Sym],
+        lists: &mut FrameLists,
         bytes: u64,
     ) -> Result<Taken, AllocError>
         requires tables { AreTables self.old }
@@ -148,17 +151,18 @@ impl<'a> Tables<'a> {
         ensures err { OnErr result (IsSame self.old self.new) }
     {
         match &statement.label {
-            Some(label) => self.take_labelled(statement.kind, label.text, numbers, bytes),
+            Some(label) => self.take_labelled(statement.kind, label.text, numbers, lists, bytes),
             None => self.separate_all(numbers, bytes),
         }
     }
 
     /// Takes a statement in that breaks no rule, whose symbols have these numbers where it uses
-    /// some, and whose tokens have so many bytes.
+    /// some, and whose tokens have so many bytes. What the lists hold is of no meaning.
     pub(crate) fn grow(
         &mut self,
         statement: &Statement<'a>,
         numbers: &[Sym],
+        lists: &mut FrameLists,
         bytes: u64,
     ) -> Result<Taken, AllocError>
         requires tables { AreTables self.old }
@@ -178,7 +182,7 @@ impl<'a> Tables<'a> {
             Kind::Opening => self.open(bytes),
             Kind::Closing => self.close(bytes),
             Kind::Constants | Kind::Variables => self.declare_all(statement, bytes),
-            _ => self.take_use(statement, numbers, bytes),
+            _ => self.take_use(statement, numbers, lists, bytes),
         }
     }
 }

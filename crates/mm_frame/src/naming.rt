@@ -14,7 +14,7 @@ ghost use Rattle.mm_frame.specs.Grows.{Grows, IsSame};
 ghost use Rattle.mm_frame.specs.Naming.{Named, HaveNameRoom, part_after};
 
 use crate::answer::Taken;
-use crate::framing::{hypotheses_at, mandatory, mandatory_pairs};
+use crate::framing::{FrameLists, find_hypotheses, find_mandatory, mandatory_pairs};
 use crate::lists::{at, put};
 use crate::number::{LabelId, Sym};
 use crate::pattern::add_patterns;
@@ -144,6 +144,7 @@ impl<'a> Tables<'a> {
         kind: Kind,
         label: &'a [u8],
         numbers: &[Sym],
+        lists: &mut FrameLists,
         bytes: u64,
     ) -> Result<Taken, AllocError>
         requires tables { AreTables self.old }
@@ -157,21 +158,21 @@ impl<'a> Tables<'a> {
             → Grows self.old self.new s bytes)) }
         ensures err { OnErr result (IsSame self.old self.new) }
     {
-        let places = mandatory(self, numbers)?;
-        let mut hypotheses = hypotheses_at(self, &places)?;
-        let pairs = mandatory_pairs(self, &places)?;
+        find_mandatory(self, numbers, &mut lists.places)?;
+        find_hypotheses(self, &lists.places, &mut lists.hypotheses)?;
+        let pairs = mandatory_pairs(self, &lists.places, &mut lists.variables)?;
         self.reserve(numbers.len())?;
-        self.hypotheses.reserve(hypotheses.len())?;
+        self.hypotheses.reserve(lists.hypotheses.len())?;
         self.pairs.reserve(pairs.len())?;
         let conclusion = add_patterns(
             &mut self.pieces,
-            &mut hypotheses,
-            &places,
+            &mut lists.hypotheses,
+            &lists.places,
             &self.log,
             &self.flat,
             numbers,
         )?;
-        let hypotheses = add_part(&mut self.hypotheses, &hypotheses);
+        let hypotheses = add_part(&mut self.hypotheses, &lists.hypotheses);
         let pairs = add_part(&mut self.pairs, &pairs);
         let frame = (hypotheses, pairs, conclusion);
         let id = self.name(kind, label, numbers, frame, bytes);

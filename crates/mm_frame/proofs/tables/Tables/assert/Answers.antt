@@ -80,7 +80,7 @@ returns-clause-ok c =
     let st = statements_of t in
     let same = c.reserve.ensures.same in
     let b = before_same t c.reserve.new.self same in
-    let bare = c.in_ok-hypotheses.hypotheses.items in
+    let bare = c.find_hypotheses.new.hypotheses.items in
     let hs = c.add_patterns.new.hypotheses.items in
     let pairs = c.in_ok-pairs.pairs.items in
     let numbers = map (λ (n : Sym). n.0) c.args.numbers.now in
@@ -94,12 +94,12 @@ returns-clause-ok c =
       assertion_taken t c.args.kind c.name-id.result c.requires.tables c.requires.kind (c.name-id.ensures.id ∙ ap length same.labels),
       λ s kind label numbered meant formed.
           let stated : IsStated s.kind = inr (subst IsAssertion (sym kind) c.requires.kind) in
-          let places = c.in_ok-places.ensures s meant stated numbered in
+          let places = c.in_ok-find_mandatory.ensures s meant stated numbered in
           let first : ArePlaces st s c.deref.result.now = rw c.deref.ensures.value places in
           let second : ArePlaces st s c.deref-2.result.now = rw c.deref-2.ensures.value places in
           let third : ArePlaces st s c.deref-3.result.now = rw c.deref-3.ensures.value places in
-          let at = c.in_ok-places.places.items in
-          let those : AreThoseAt st at bare = subst (λ ps. AreThoseAt st ps bare) c.deref.ensures.value (c.in_ok-hypotheses.ensures s first) in
+          let at = c.find_mandatory.new.places.items in
+          let those : AreThoseAt st at bare = subst (λ ps. AreThoseAt st ps bare) c.deref.ensures.value (c.in_ok-find_hypotheses.ensures s first) in
           let patterned = c.in_ok-conclusion.ensures.patterned t (record {
             tables = c.requires.tables;
             log_is = sym same.log ∙ sym c.deref-4.ensures.value;

@@ -3,8 +3,8 @@ use Rattle.std.proofs.lemmas.List.{take_all}
 use Rattle.mm_frame.specs.Layout.{statements_of}
 use Rattle.mm_frame.specs.Gathered.{AreThoseAt}
 use Rattle.mm_frame.proofs.LabelIds.{those_step, ids_never}
-use Rattle.mm_frame.proofs.framing.hypotheses_at.Goals as goal
-use Rattle.mm_frame.proofs.framing.hypotheses_at.Goals.{in-Some+in_ok-push-in-Some, in-None}
+use Rattle.mm_frame.proofs.framing.find_hypotheses.Goals as goal
+use Rattle.mm_frame.proofs.framing.find_hypotheses.Goals.{in-Some+in_ok-push-in-Some, in-None}
 
 pub loop-place-preserved : goal.loop-place-preserved
 loop-place-preserved c s are =

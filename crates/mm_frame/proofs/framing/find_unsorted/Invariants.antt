@@ -3,7 +3,7 @@ use Rattle.mm_frame.specs.Sentence.{Sentence}
 use Rattle.mm_frame.specs.Numbers.{AreNumbers}
 use Rattle.mm_frame.specs.Layout.{statements_of}
 use Rattle.mm_frame.specs.Gathered.{AreGathered}
-use Rattle.mm_frame.proofs.framing.mandatory_unsorted.Given as goal
+use Rattle.mm_frame.proofs.framing.find_unsorted.Given as goal
 
 abbrev pub invariant-loop-place : goal.invariant-loop-place
 invariant-loop-place l =

@@ -2,13 +2,13 @@ use Rattle.std.proofs.Common.{ap, sym, subst, ◌∙◌, ◌++◌, []}
 use Rattle.mm_frame.specs.Layout.{statements_of}
 use Rattle.mm_frame.specs.Gathered.{AreGathered, floatings}
 use Rattle.mm_frame.proofs.Gather.{gathered_first, gathered_step}
-use Rattle.mm_frame.proofs.framing.mandatory_unsorted.Goals as goal
+use Rattle.mm_frame.proofs.framing.find_unsorted.Goals as goal
 
 pub loop-place-init : goal.loop-place-init
 loop-place-init c s numbers =
     let t = c.args.tables.now in
     let st = statements_of t in
-    let places = c.in_ok-add_floating.ensures ∙ ap (λ xs. xs ++ floatings t.infos.items c.args.expression.now) c.in_ok-places.ensures.items in
+    let places = c.in_ok-add_floating.ensures ∙ ap (λ xs. xs ++ floatings t.infos.items c.args.expression.now) c.clear.ensures.items in
     subst (λ xs. AreGathered st [] s xs) (sym places) (gathered_first st t.symbols.names t.infos.items c.args.expression.now s c.requires.infos numbers)
 
 pub loop-place-preserved : goal.loop-place-preserved

@@ -2,7 +2,7 @@ use Rattle.std.proofs.Common.{take}
 use Rattle.mm_frame.specs.Sentence.{Sentence}
 use Rattle.mm_frame.specs.Layout.{statements_of}
 use Rattle.mm_frame.specs.Gathered.{ArePlaces, AreThoseAt}
-use Rattle.mm_frame.proofs.framing.hypotheses_at.Given as goal
+use Rattle.mm_frame.proofs.framing.find_hypotheses.Given as goal
 
 abbrev pub invariant-loop-place : goal.invariant-loop-place
 invariant-loop-place l =

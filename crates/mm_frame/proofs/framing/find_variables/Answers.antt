@@ -3,8 +3,8 @@ use Rattle.std.proofs.lemmas.List.{take_all}
 use Rattle.mm_frame.specs.Layout.{statements_of}
 use Rattle.mm_frame.specs.Gathered.{AreVariables}
 use Rattle.mm_frame.proofs.MandatoryPairs.{variables_step}
-use Rattle.mm_frame.proofs.framing.typed_by.Goals as goal
-use Rattle.mm_frame.proofs.framing.typed_by.Goals.{in-Some+in_ok-push-in-Some, in-None}
+use Rattle.mm_frame.proofs.framing.find_variables.Goals as goal
+use Rattle.mm_frame.proofs.framing.find_variables.Goals.{in-Some+in_ok-push-in-Some, in-None}
 
 pub loop-place-preserved : goal.loop-place-preserved
 loop-place-preserved c s are =
