@@ -216,8 +216,7 @@ called_all st at entries calls marks count ids moves past all each marked n = (
       let o = (all n).0 c in
       let m = marked.named o.0 o.2.0 in
       let call = zip_right (IsCallOf st at) (ids_in entries) calls o.0 o.2.1 each o.2.2 in
-      let same : call.0 ≡ n = same_Some call.0 n (sym call.1 ∙ o.1) in
-      (
+      let same : call.0 ≡ n = same_Some call.0 n (sym call.1 ∙ o.1) in (
         (m.0, m.3 ∙ ap (λ k. Some (name k)) (same_Some m.1 n (sym m.2 ∙ o.1))),
         called_assertion st at n o.2.1 (subst (λ k. IsCallOf st at k o.2.1) same call.2) o.2.3,
       ),
