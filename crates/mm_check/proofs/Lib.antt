@@ -1,6 +1,7 @@
 pub mod Numbers
 pub mod Ranges
 pub mod Order
+pub mod Ordered
 pub mod Trees
 pub mod Known
 pub mod Unproved

@@ -32,6 +32,15 @@ marked_none old = record {
   only = λ n h. inl h;
 }
 
+-- a list with the same numbers is as good
+pub marked_as : (old new : List Bool) (ns ms : List ℕ) → ((n : ℕ) → Contains ns n ↔ Contains ms n) → IsMarkedBy old new ns → IsMarkedBy old new ms
+marked_as old new ns ms same h = record {
+  same = h.same;
+  kept = h.kept;
+  marked = λ n k. h.marked n ((same n).1 k);
+  only = λ n k. elim (h.only n k) [ inl before ↦ inl before | inr among ↦ inr ((same n).0 among) ];
+}
+
 -- a number that is marked is one of a mark
 pub marked_within : (marks : List Bool) (n : ℕ) → IsMarked marks n → n < length marks
 marked_within [] n h = absurd cc

@@ -13,6 +13,8 @@ use Rattle.mm_proof.specs.Proof.{IsWithin, expression_limit, IsProved, IsProvedW
 use Rattle.mm_proof.specs.Used.{AreUsed}
 use Rattle.mm_proof.proofs.Limits.{derive_any}
 use Rattle.mm_check.specs.Conclusion.{ProofUses, numbers_of}
+use Rattle.mm_check.specs.Ordered.{ordered}
+use Rattle.mm_check.proofs.Ordered.{ordered_used}
 use Rattle.mm_check.specs.Verdict.{sentences, proof_of, is_proof}
 use Rattle.mm_check.specs.Rests.{IsAt, IsNumberWhere, AreInOrder, tree_of, HasTree, AreUses}
 use Rattle.mm_check.specs.Judged.{IsProvedUsing, KeepsProof}
@@ -139,7 +141,7 @@ uses_grow statements more u (place, t, has, used) =
 
 uses_last : (statements : List PlainStatement) (s : PlainStatement) (used : List ℕ) → is_some (sentence_of s).label ≡ true → is_proof s ≡ true
     → IsProvedUsing (sentences statements) s used
-    → AreUsesOf (statements ++ s ∷ []) (record { number = length (labelled_sentences (sentences statements)); used = used })
+    → AreUsesOf (statements ++ s ∷ []) (record { number = length (labelled_sentences (sentences statements)); used = ordered used })
 unfolding any_proof
 uses_last statements s used named complete proved =
     let front : statements ≡ take (length statements) (statements ++ s ∷ []) = sym (take-append_seam statements (s ∷ [])) in
@@ -148,7 +150,8 @@ uses_last statements s used named complete proved =
       length statements,
       tree_of proved.proof,
       record { s = s; at = at_last statements s named; complete = complete; proof = proof.0; spelled = proof.1 },
-      subst (λ (front : List PlainStatement). AreUsed (sentences front) (tree_of proved.proof) used) front proved.all,
+      subst (λ (front : List PlainStatement). AreUsed (sentences front) (tree_of proved.proof) (ordered used)) front
+          (ordered_used (sentences statements) (tree_of proved.proof) used proved.all),
     )
 
 -- what is kept of one statement more
@@ -158,7 +161,7 @@ pub uses_more : (statements : List PlainStatement) (s : PlainStatement) (old new
     → AreUses (statements ++ s ∷ []) new
 uses_more statements s old new named uses true e keeps =
     let one = keeps.some refl in
-    let u : ProofUses = record { number = length (labelled_sentences (sentences statements)); used = one.0 } in
+    let u : ProofUses = record { number = length (labelled_sentences (sentences statements)); used = ordered one.0 } in
     let numbers : numbers_of old ++ u.number ∷ [] ≡ numbers_of (old ++ u ∷ []) = sym (map-append (λ (v : ProofUses). v.number) old (u ∷ [])) in
     let whole : AreUses (statements ++ s ∷ []) (old ++ u ∷ []) = record {
       proofs = subst (λ (ns : List ℕ). AreInOrder (IsNumberWhere (statements ++ s ∷ []) (λ t. is_proof t ≡ true)) ns) numbers

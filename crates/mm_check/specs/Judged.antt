@@ -15,7 +15,7 @@ use Rattle.mm_proof.specs.declared.fault.ProofFault.{ProofFault}
 use Rattle.mm_proof.specs.declared.prover.Proved.{Proved}
 use Rattle.mm_proof.specs.declared.prover.Proved.TheVariants as proved
 use Rattle.mm_proof.specs.Answer.{OnRule}
-use Rattle.mm_proof.specs.Used.{AreUsed}
+use Rattle.mm_proof.specs.Used.{AreUsedNumbers}
 use Rattle.mm_proof.specs.Proof.{IsProvedWithin, IsWithin, expression_limit, IsFault}
 use Rattle.mm_check.specs.declared.rule.Rule.{Rule}
 use Rattle.mm_check.specs.declared.fault.CheckFault.{CheckFault}
@@ -26,6 +26,7 @@ use Rattle.mm_check.specs.Verdict.{sentences, proof_of, proofs_of, labels_of, un
 use Rattle.mm_check.specs.Verdict.{is_incomplete, is_proof, is_unproved}
 use Rattle.mm_check.specs.Answer.{verdict_of_fault}
 use Rattle.mm_check.specs.Conclusion.{ProofUses}
+use Rattle.mm_check.specs.Ordered.{ordered}
 use Rattle.mm_check.specs.Rests.{tree_of, IsNumberWhere, AreInOrder, AreUses}
 
 -- Memory was wanting, or the statement, which comes after so many others, is refused for its fault.
@@ -64,11 +65,11 @@ pub record IsLastProof (statements : List Sentence) (id : ℕ) (s : PlainStateme
   pub provable : s.kind ≡ Provable
 
 -- the proof of a `$p` after the statements before is proved, and these are the numbers of the
--- assertions in its tree
+-- assertions in its tree, in any order, each once or more
 pub record IsProvedUsing (before : List Sentence) (s : PlainStatement)
     (used : List ℕ) : Type 0 where
   pub proof : IsProvedWithin (IsWithin expression_limit) before (sentence_of s) (proof_of s)
-  pub all : AreUsed before (tree_of proof) used
+  pub all : AreUsedNumbers before (tree_of proof) used
 
 -- the proof is incomplete; or it is complete, and proved by a tree in which these assertions stand
 abbrev pub IsJudged : List Sentence → PlainStatement → List ℕ → Proved → Type 0
@@ -88,13 +89,13 @@ JudgesProof statements s result used =
     (before : List Sentence) → statements ≡ before ++ sentence_of s ∷ []
     → MatchResult result (IsJudged before s used) (Fails before s)
 
--- of a statement with this number, after those before it, what its proof uses is kept, if that is
--- complete
+-- of a statement with this number, after those before it, what its proof uses is kept, each number
+-- once and in order, if that is complete
 pub record KeepsProof (before : List Sentence) (s : PlainStatement) (id : ℕ) (complete : Bool)
     (old new : List ProofUses) : Type 0 where
   pub some : complete ≡ true
       → (used : List ℕ) × IsProvedUsing before s used
-      × (new ≡ old ++ record { number = id; used = used } ∷ [])
+      × (new ≡ old ++ record { number = id; used = ordered used } ∷ [])
   pub none : complete ≡ false → new ≡ old
 
 -- the proof of the last statement was counted, and what it uses kept, or it was noted as incomplete

@@ -2,6 +2,7 @@ pub mod Verdict
 pub mod Reply
 pub mod Status
 pub mod Conclusion
+pub mod Ordered
 pub mod Ranges
 pub mod Rests
 pub mod Shown

@@ -1,13 +1,15 @@
--- Lists of numbers as ranges of one list: it mirrors the code.
+-- Lists of numbers as ranges of one list, each put in order: it mirrors the code.
 use Rattle.std.specs.Prelude.{◌≡◌, ℕ, ◌≤◌, List, map, slice_get, slice_range, Some}
 use Rattle.mm_frame.specs.declared.number.LabelId.{LabelId}
 use Rattle.mm_proof.specs.CodeSteps.{ids_in}
 use Rattle.mm_check.specs.declared.kept.KeptProof.{KeptProof}
 use Rattle.mm_check.specs.Conclusion.{ProofUses}
+use Rattle.mm_check.specs.Ordered.{ordered}
 
 -- what is kept of one proof
 abbrev pub uses_at : List LabelId → KeptProof → ProofUses
-uses_at labels p = record { number = p.id.0; used = ids_in (slice_range labels p.start p.end) }
+uses_at labels p =
+    record { number = p.id.0; used = ordered (ids_in (slice_range labels p.start p.end)) }
 
 -- what is kept of all
 abbrev pub uses_in : List LabelId → List KeptProof → List ProofUses

@@ -1,7 +1,9 @@
 //! What is kept of the complete proofs, for the questions that come after the check.
 
-ghost use Rattle.std.specs.Prelude.{◌≡◌, ◌<◌, ◌++◌, [], ◌∷◌, map, length, slice_get, OnOk, Some};
+ghost use Rattle.std.specs.Prelude.{◌≡◌, ◌<◌, ◌++◌, ◌↔◌, ℕ, [], ◌∷◌, map, length, slice_get};
+ghost use Rattle.std.specs.Prelude.{Contains, OnOk, Some};
 ghost use Rattle.mm_check.specs.Conclusion.{ProofUses};
+ghost use Rattle.mm_check.specs.Ordered.{ordered};
 
 use mm_frame::LabelId;
 use std::alloc::{AllocError, Global};
@@ -20,13 +22,14 @@ pub(crate) struct KeptProof {
 }
 
 /// Of each `$p` with a complete proof, in database order: its number, and those of the assertions
-/// that its proof uses. All of these stand in one list.
+/// that its proof uses. All of these stand in one list, in the order in which the prover gave them.
 #[derive(Drop)]
 pub(crate) struct Kept {
     used: Vec<LabelId>,
     proofs: Vec<KeptProof>,
 }
 
+// What a proof uses is seen as a set: each number once, in order.
 impl Model for Kept {
     ghost use Rattle.std.specs.Prelude.{List, length};
     ghost use Rattle.mm_check.specs.Conclusion.{ProofUses};
@@ -62,7 +65,7 @@ impl Kept {
     /// Keeps what the proof of a `$p` uses.
     pub(crate) fn push(&mut self, id: LabelId, used: &[LabelId]) -> Result<(), AllocError>
         ensures { OnOk result (self.new ≡ self.old
-            ++ record { number = id.0; used = map (λ l. l.0) used.now } ∷ []) }
+            ++ record { number = id.0; used = ordered (map (λ l. l.0) used.now) } ∷ []) }
     {
         let start = self.used.len();
         self.used.extend_from_slice(used)?;
@@ -86,11 +89,12 @@ impl Kept {
         self.proofs[at].id
     }
 
-    /// The numbers of the assertions that the proof at a place uses.
+    /// The numbers of the assertions that the proof at a place uses, in no order, some perhaps more
+    /// than once.
     pub(crate) fn used(&self, at: usize) -> &[LabelId]
         requires { at < length self.now }
         ensures { (u : ProofUses) → slice_get self.now at ≡ Some u
-            → map (λ l. l.0) result.now ≡ u.used }
+            → (n : ℕ) → Contains (map (λ l. l.0) result.now) n ↔ Contains u.used n }
     {
         let proof = self.proofs[at];
         &self.used[proof.start..proof.end]

@@ -1,17 +1,23 @@
 -- The labels that moves name, by their numbers.
 use Rattle.std.proofs.Common.{◌≡◌, ℕ, zero, suc, ◌+◌, ◌<◌, ◌≤◌, List, [], ◌∷◌, ◌++◌, length, take, slice_get, get_or, set, eqb, Contains, Bool, true, false, IsTrue, Some, ◌⊎◌, inl, inr, ⊎_elim, sym, ap, subst, refl, ◌∙◌, arith}
+use Rattle.std.specs.List.{AllZip}
 use Rattle.std.proofs.lemmas.Bool.{false≢true, cases_lt}
 use Rattle.std.proofs.lemmas.Bool.Decides.{Decides-eqb}
-use Rattle.std.proofs.lemmas.Option.{same_Some, none-some, slice_get_within}
+use Rattle.std.proofs.lemmas.Option.{same_Some, none-some, slice_get_within, slice_get-get_or}
 use Rattle.std.proofs.lemmas.List.{map-append, take_all, length-map, get_or-set_same, get_or-set_other}
 use Rattle.std.proofs.lemmas.List.Elements.{Contains-push, Contains-push_cases, Contains-append_left}
+use Rattle.mm_frame.specs.Sentence.{Sentence}
 use Rattle.mm_frame.specs.declared.number.LabelId.{LabelId}
 use Rattle.mm_proof.specs.declared.moves.NumberedMove.{NumberedMove}
 use Rattle.mm_proof.specs.declared.moves.NumberedMove.TheVariants as code
 use Rattle.mm_proof.specs.Moves.{Move, name}
 use Rattle.mm_proof.specs.CodeSteps.{ids_in, move_in, moves_in}
-use Rattle.mm_proof.specs.CodeRun.{ArePicked, AreMarked}
+use Rattle.mm_proof.specs.CodeRun.{ArePicked, AreMarked, AreNamed}
+use Rattle.mm_proof.specs.declared.call.Call.{Call}
+use Rattle.mm_proof.specs.CodeApply.{IsCallOf, IsOfAssertion}
 use Rattle.mm_proof.proofs.Places.{get_append}
+use Rattle.mm_proof.proofs.Derived.{zip_left, zip_right}
+use Rattle.mm_proof.proofs.Calls.{called_assertion, assertion_called}
 use Rattle.mm_proof.proofs.Running.{front_more}
 
 -- ---- one more at the end of a list
@@ -123,24 +129,32 @@ pub marked_push : (entries : List ℕ) (moves : List NumberedMove) (m : Numbered
     → AreMarked entries (moves_in (moves ++ m ∷ [])) marks
 marked_push entries moves m marks all = subst (λ front. AreMarked entries front marks) (sym (map-append move_in moves (m ∷ []))) all
 
--- ---- the marked ones of the first entries
+-- ---- those of the first entries at whose places something holds
 
-abbrev pub AreFirstMarked : List LabelId → List Bool → ℕ → List LabelId → Type 0
-AreFirstMarked entries marks count ids =
-    (n : ℕ) → (Contains (ids_in ids) n → (place : ℕ) × (slice_get (ids_in entries) place ≡ Some n) × IsTrue (get_or marks place false))
-    × ((place : ℕ) → place < count → slice_get (ids_in entries) place ≡ Some n → IsTrue (get_or marks place false) → Contains (ids_in ids) n)
+abbrev pub AreFirst : (ℕ → Type 0) → List LabelId → ℕ → List LabelId → Type 0
+AreFirst P entries count ids =
+    (n : ℕ) → (Contains (ids_in ids) n → (place : ℕ) × (slice_get (ids_in entries) place ≡ Some n) × P place)
+    × ((place : ℕ) → place < count → slice_get (ids_in entries) place ≡ Some n → P place → Contains (ids_in ids) n)
+
+-- the entry there is marked
+abbrev pub IsMarkedAt : List Bool → ℕ → Type 0
+IsMarkedAt marks place = IsTrue (get_or marks place false)
+
+-- it is marked, and stands for an assertion
+abbrev pub IsCalledAt : List Call → List Bool → ℕ → Type 0
+IsCalledAt calls marks place = IsTrue (get_or marks place false) × (call : Call) × (slice_get calls place ≡ Some call) × IsOfAssertion call
 
 pub entry_at : (entries : List LabelId) (place : ℕ) (d : LabelId) → place < length entries → slice_get (ids_in entries) place ≡ Some (get_or entries place d).0
 entry_at [] place d less = absurd (omega arith)
 entry_at (x ∷ entries) zero d less = refl
 entry_at (x ∷ entries) (suc place) d less = entry_at entries place d (omega arith)
 
-pub first_none : (entries : List LabelId) (marks : List Bool) → AreFirstMarked entries marks 0 []
-first_none entries marks n = ((λ c. absurd (let less : c.0 < 0 = c.1 in omega arith)), λ place less e t. absurd (omega arith))
+pub first_none : (P : ℕ → Type 0) (entries : List LabelId) → AreFirst P entries 0 []
+first_none P entries n = ((λ c. absurd (let less : c.0 < 0 = c.1 in omega arith)), λ place less e t. absurd (omega arith))
 
-pub first_more : (entries : List LabelId) (marks : List Bool) (at : ℕ) (d : LabelId) (ids : List LabelId) → at < length entries → IsTrue (get_or marks at false)
-    → AreFirstMarked entries marks at ids → AreFirstMarked entries marks (at + 1) (ids ++ get_or entries at d ∷ [])
-first_more entries marks at d ids less marked old n = (to, from)
+pub first_more : (P : ℕ → Type 0) (entries : List LabelId) (at : ℕ) (d : LabelId) (ids : List LabelId) → at < length entries → P at
+    → AreFirst P entries at ids → AreFirst P entries (at + 1) (ids ++ get_or entries at d ∷ [])
+first_more P entries at d ids less holds old n = (to, from)
   where
     id : LabelId
     id = get_or entries at d
@@ -148,10 +162,10 @@ first_more entries marks at d ids less marked old n = (to, from)
     more : ids_in (ids ++ id ∷ []) ≡ ids_in ids ++ id.0 ∷ []
     more = map-append (λ (i : LabelId). i.0) ids (id ∷ [])
 
-    to : Contains (ids_in (ids ++ id ∷ [])) n → (place : ℕ) × (slice_get (ids_in entries) place ≡ Some n) × IsTrue (get_or marks place false)
-    to h = ⊎_elim (λ c. (old n).0 c) (λ same. (at, entry_at entries at d less ∙ ap Some same, marked)) (Contains-push_cases (ids_in ids) id.0 n (subst (λ l. Contains l n) more h))
+    to : Contains (ids_in (ids ++ id ∷ [])) n → (place : ℕ) × (slice_get (ids_in entries) place ≡ Some n) × P place
+    to h = ⊎_elim (λ c. (old n).0 c) (λ same. (at, entry_at entries at d less ∙ ap Some same, holds)) (Contains-push_cases (ids_in ids) id.0 n (subst (λ l. Contains l n) more h))
 
-    from : (place : ℕ) → place < at + 1 → slice_get (ids_in entries) place ≡ Some n → IsTrue (get_or marks place false) → Contains (ids_in (ids ++ id ∷ [])) n
+    from : (place : ℕ) → place < at + 1 → slice_get (ids_in entries) place ≡ Some n → P place → Contains (ids_in (ids ++ id ∷ [])) n
     from place before e t = subst (λ l. Contains l n) (sym more) (⊎_elim
         (λ front. Contains-append_left (ids_in ids) (id.0 ∷ []) n ((old n).1 place front e t))
         (λ last.
@@ -160,17 +174,30 @@ first_more entries marks at d ids less marked old n = (to, from)
         subst (Contains (ids_in ids ++ id.0 ∷ [])) same (Contains-push (ids_in ids) id.0))
         (cases_lt place at))
 
-pub first_skipped : (entries : List LabelId) (marks : List Bool) (at : ℕ) (ids : List LabelId) → get_or marks at false ≡ false
-    → AreFirstMarked entries marks at ids → AreFirstMarked entries marks (at + 1) ids
-first_skipped entries marks at ids not old n = ((old n).0, from)
+pub first_skipped : (P : ℕ → Type 0) (entries : List LabelId) (at : ℕ) (ids : List LabelId) → (P at → ⊥) → AreFirst P entries at ids → AreFirst P entries (at + 1) ids
+first_skipped P entries at ids not old n = ((old n).0, from)
   where
-    from : (place : ℕ) → place < at + 1 → slice_get (ids_in entries) place ≡ Some n → IsTrue (get_or marks place false) → Contains (ids_in ids) n
+    from : (place : ℕ) → place < at + 1 → slice_get (ids_in entries) place ≡ Some n → P place → Contains (ids_in ids) n
     from place before e t = ⊎_elim (λ front. (old n).1 place front e t)
-        (λ last. let here : place ≡ at = omega (arith, last, before) in absurd (false≢true (sym not ∙ ap (λ k. get_or marks k false) (sym here) ∙ t)))
+        (λ last. let here : place ≡ at = omega (arith, last, before) in absurd (not (subst P here t)))
         (cases_lt place at)
 
+-- what is said of the call there
+pub called_there : (calls : List Call) (marks : List Bool) (place : ℕ) (d : Call) → place < length calls → IsTrue (get_or marks place false) × IsOfAssertion (get_or calls place d)
+    → IsCalledAt calls marks place
+called_there calls marks place d less (marked, is) = (marked, get_or calls place d, slice_get-get_or calls place d less, is)
+
+pub there_called : (calls : List Call) (marks : List Bool) (place : ℕ) (d : Call) → place < length calls → IsCalledAt calls marks place
+    → IsTrue (get_or marks place false) × IsOfAssertion (get_or calls place d)
+there_called calls marks place d less (marked, call, there, is) =
+    (marked, subst IsOfAssertion (same_Some call (get_or calls place d) (sym there ∙ slice_get-get_or calls place d less)) is)
+
+-- an entry is before the end
+entry_within : (entries : List LabelId) (place n : ℕ) → slice_get (ids_in entries) place ≡ Some n → place < length entries
+entry_within entries place n e = omega (arith, slice_get_within (ids_in entries) place n e, length-map entries (λ (i : LabelId). i.0))
+
 pub first_all : (entries : List LabelId) (marks : List Bool) (count : ℕ) (ids : List LabelId) (moves : List (Move ℕ)) → length entries ≤ count
-    → AreFirstMarked entries marks count ids → AreMarked (ids_in entries) moves marks → ArePicked moves (ids_in ids)
+    → AreFirst (IsMarkedAt marks) entries count ids → AreMarked (ids_in entries) moves marks → ArePicked moves (ids_in ids)
 first_all entries marks count ids moves past all marked n = (
   λ c.
       let o = (all n).0 c in
@@ -178,5 +205,23 @@ first_all entries marks count ids moves past all marked n = (
       (m.0, m.3 ∙ ap (λ k. Some (name k)) (same_Some m.1 n (sym m.2 ∙ o.1))),
   λ h.
       let o = marked.marked h.0 n h.1 in
-      (all n).1 o.0 (omega (arith, slice_get_within (ids_in entries) o.0 n o.1, length-map entries (λ (i : LabelId). i.0), past)) o.1 o.2,
+      (all n).1 o.0 (omega (arith, entry_within entries o.0 n o.1, past)) o.1 o.2,
+)
+
+-- where each call is that of its entry, these are the assertions that the moves name
+pub called_all : (st : List Sentence) (at : ℕ) (entries : List LabelId) (calls : List Call) (marks : List Bool) (count : ℕ) (ids : List LabelId) (moves : List (Move ℕ)) → length entries ≤ count
+    → AreFirst (IsCalledAt calls marks) entries count ids → AllZip (IsCallOf st at) (ids_in entries) calls → AreMarked (ids_in entries) moves marks → AreNamed st moves (ids_in ids)
+called_all st at entries calls marks count ids moves past all each marked n = (
+  λ c.
+      let o = (all n).0 c in
+      let m = marked.named o.0 o.2.0 in
+      let call = zip_right (IsCallOf st at) (ids_in entries) calls o.0 o.2.1 each o.2.2 in
+      let same : call.0 ≡ n = same_Some call.0 n (sym call.1 ∙ o.1) in (
+        (m.0, m.3 ∙ ap (λ k. Some (name k)) (same_Some m.1 n (sym m.2 ∙ o.1))),
+        called_assertion st at n o.2.1 (subst (λ k. IsCallOf st at k o.2.1) same call.2) o.2.3,
+      ),
+  λ h.
+      let o = marked.marked h.0.0 n h.0.1 in
+      let call = zip_left (IsCallOf st at) (ids_in entries) calls o.0 n each o.1 in
+      (all n).1 o.0 (omega (arith, entry_within entries o.0 n o.1, past)) o.1 (o.2, call.0, call.1, assertion_called st at n call.0 call.2 h.1),
 )

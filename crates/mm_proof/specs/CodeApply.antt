@@ -65,6 +65,11 @@ pub record IsEarlierScheme (statements : List Sentence) (place id : ℕ)
   pub patterned : HavePatterns statements (variables_of scheme.hypotheses.now) scheme.pieces.now
       scheme.hypotheses.now
 
+-- the call is of an assertion
+abbrev pub IsOfAssertion : Call → Type 0
+IsOfAssertion (calls.Hypothesis symbols) = ⊥
+IsOfAssertion (calls.Assertion scheme) = Unit {0}
+
 -- the call is what the label with the number stands for in a proof at the place
 abbrev pub IsCallOf : List Sentence → (place id : ℕ) → Call → Type 0
 IsCallOf statements place id (calls.Hypothesis symbols) =

@@ -65,11 +65,15 @@ abbrev pub IsNamedByMove : List Sentence → List (Move ℕ) → ℕ → Type 0
 IsNamedByMove statements moves id =
     ((i : ℕ) × (slice_get moves i ≡ Some (name id))) × IsAssertionNumber statements id
 
--- the numbers of the assertions that the moves name, rising
-pub record AreNamed (statements : List Sentence) (moves : List (Move ℕ))
+-- these are the numbers of the assertions that the moves name, in any order, each once or more
+abbrev pub AreNamed : List Sentence → List (Move ℕ) → List ℕ → Type 0
+AreNamed statements moves ids = (id : ℕ) → Contains ids id ↔ IsNamedByMove statements moves id
+
+-- they are these, rising
+pub record AreNamedInOrder (statements : List Sentence) (moves : List (Move ℕ))
     (ids : List ℕ) : Type 0 where
   pub rising : (i j a b : ℕ) → i < j → slice_get ids i ≡ Some a → slice_get ids j ≡ Some b → a < b
-  pub each : (id : ℕ) → Contains ids id ↔ IsNamedByMove statements moves id
+  pub each : AreNamed statements moves ids
 
 -- what is on the stack at the end breaks this rule, where the statement's expression is the second
 abbrev pub EndsWrong : ProofRule → List (List ℕ) → List ℕ → Type 0

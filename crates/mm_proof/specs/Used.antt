@@ -11,7 +11,12 @@ IsUsedNumber statements trees id =
     × IsAssertion a.kind
     × IsLabelled label a × Contains (spelling trees) label
 
--- these are the numbers of the assertions in the trees, each once, in database order
+-- these are the numbers of the assertions in the trees, in any order, each once or more
+abbrev pub AreUsedNumbers : List Sentence → Trees → List ℕ → Type 0
+AreUsedNumbers statements trees ids =
+    (id : ℕ) → Contains ids id ↔ IsUsedNumber statements trees id
+
+-- they are these, each once, in database order
 pub record AreUsed (statements : List Sentence) (trees : Trees) (ids : List ℕ) : Type 0 where
   pub rising : (i j a b : ℕ) → i < j → slice_get ids i ≡ Some a → slice_get ids j ≡ Some b → a < b
-  pub each : (id : ℕ) → Contains ids id ↔ IsUsedNumber statements trees id
+  pub each : AreUsedNumbers statements trees ids

@@ -7,7 +7,7 @@ use Rattle.mm_proof.specs.declared.fault.ProofRule.{ProofRule}
 use Rattle.mm_proof.specs.Proof.{IsWithin, expression_limit, Prove, IsProvedWithin}
 use Rattle.mm_proof.specs.Proof.{IsMovesFault, IsFault}
 use Rattle.mm_proof.specs.Steps.{AreNumberedMoves, IsProofNumber}
-use Rattle.mm_proof.specs.Used.{AreUsed}
+use Rattle.mm_proof.specs.Used.{AreUsedNumbers, AreUsed}
 
 -- of the `$p` with this number and its moves, by names, this holds
 abbrev pub OfMoves : List Sentence → ℕ → List (Move ℕ)
@@ -16,7 +16,13 @@ OfMoves statements id steps P =
     (place : ℕ) (s : Sentence) (moves : List (Move (List ℕ))) → IsProofNumber statements id place s
     → AreNumberedMoves statements steps moves → P place s moves
 
--- the moves prove the statement, and these are the assertions of its tree
+-- the moves prove the statement, and these are the assertions of its tree, in any order
+abbrev pub ProvesUsing : List Sentence → ℕ → Sentence → List (Move (List ℕ)) → List ℕ → Type 0
+ProvesUsing statements place s moves used =
+    (p : Prove (IsWithin expression_limit) (take place statements) s moves)
+    × AreUsedNumbers (take place statements) (tree p.label p.below none) used
+
+-- and these are they, each once, in database order
 abbrev pub ProvesWith : List Sentence → ℕ → Sentence → List (Move (List ℕ)) → List ℕ → Type 0
 ProvesWith statements place s moves used =
     (p : Prove (IsWithin expression_limit) (take place statements) s moves)
@@ -28,11 +34,12 @@ abbrev pub FailsWith : List Sentence → (place : ℕ) → Sentence → List (Mo
 FailsWith statements place s moves rule step =
     IsMovesFault (IsWithin expression_limit) (take place statements) s moves rule step
 
--- The tokens prove the statement after those before it, and these are the assertions of its tree.
+-- The tokens prove the statement after those before it, and these are the assertions of its tree,
+-- in any order, each once or more.
 pub record TokensProve (before : List Sentence) (s : Sentence) (tokens : List (List ℕ))
     (used : List ℕ) : Type 0 where
   pub proof : IsProvedWithin (IsWithin expression_limit) before s tokens
-  pub all : AreUsed before (tree proof.proves.label proof.proves.below none) used
+  pub all : AreUsedNumbers before (tree proof.proves.label proof.proves.below none) used
 
 -- the first fault of the tokens, as a proof of the statement after those before it, is this rule at
 -- this step

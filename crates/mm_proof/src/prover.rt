@@ -195,8 +195,8 @@ impl<'a> Prover<'a> {
         }
     }
 
-    /// The assertions that the proof uses which was answered to be complete last, each once, in
-    /// database order.
+    /// The assertions that the proof uses which was answered to be complete last, in no order, some
+    /// perhaps more than once.
     pub fn used(&self) -> &[LabelId]
         ensures { map (λ id. id.0) result.now ≡ self.now.used }
     {
@@ -264,7 +264,7 @@ fn prove_by_codes<'a>(
         store,
         made,
         named,
-        &mut lists.picked,
+        &mut lists.picked.marks,
         book,
         own,
         id,

@@ -15,13 +15,13 @@ ghost use Rattle.mm_proof.specs.CodeSteps.{MayAllBeUsed, entry_move, code_moves,
 ghost use Rattle.mm_proof.specs.CodeVerify.{AreStackEntries, all_names_at};
 ghost use Rattle.mm_proof.specs.CodeRun.{HasRun, AreMarked};
 ghost use Rattle.mm_proof.specs.CodeApply.{IsCallOf};
-ghost use Rattle.mm_proof.specs.Verified.{OfMoves, ProvesWith, FailsWith};
+ghost use Rattle.mm_proof.specs.Verified.{OfMoves, ProvesUsing, FailsWith};
 
 use crate::call::{Call, call_of, step_by};
 use crate::fault::{ProofFault, ProofRule};
-use crate::picked::{Picked, fill_marked, unmark};
+use crate::picked::unmark;
 use crate::store::Store;
-use crate::used::{Named, fill_used};
+use crate::used::{Named, fill_called};
 use crate::verdict::{ending, mark, step_again};
 use mm_code::Code;
 use mm_frame::{Book, Frame, LabelId, Sym, one_number};
@@ -159,7 +159,6 @@ pub(crate) fn run_codes<S: Store>(
 // Whether the codes derive the expression of the `$p`, whose frame is handed in, or their first
 // fault. The entries that they name are marked.
 fn derive_codes<S: Store>(
-    alloc: Global,
     store: &mut S,
     made: &mut Vec<Sym>,
     marks: &mut Vec<bool>,
@@ -167,15 +166,19 @@ fn derive_codes<S: Store>(
     own: &Frame,
     id: LabelId,
     entries: &[LabelId],
+    calls: &[Call],
     codes: &[Code],
 ) -> Result<(), ProofFault>
     requires own { own.now.statements ≡ book.now.statements }
     requires number { (s : Sentence) × IsNumbered book.now.statements id.0 own.now.place s }
     requires sound { IsSound book.now.statements }
+    requires spelled { All HasSpelling codes.now }
+    requires calls { AllZip (IsCallOf book.now.statements own.now.place) (ids_in entries.now)
+        calls.now }
+    requires long { length marks.old.items ≡ length entries.now }
+    requires unmarked { AreMarked (ids_in entries.now) [] marks.old.items }
     requires stack { S.stack store.old ≡ [] }
     requires kept { S.kept store.old ≡ [] }
-    requires usable { MayAllBeUsed book.now.statements own.now.place (ids_in entries.now) }
-    requires spelled { All HasSpelling codes.now }
     ensures proved { OnOk result (OfMoves book.now.statements id.0
         (code_moves (ids_in entries.now) codes.now) (λ place s names.
         Prove (IsWithin expression_limit) (take place book.now.statements) s names)) }
@@ -187,21 +190,20 @@ fn derive_codes<S: Store>(
         (λ place s names. FailsWith book.now.statements place s names rule step))) }
 {
     one_number();
-    let calls = calls_of(alloc, book, entries)?;
-    unmark(marks, entries.len())?;
-    let count = run_codes(store, made, marks, book, own, entries, &calls, codes)?;
+    let count = run_codes(store, made, marks, book, own, entries, calls, codes)?;
     ending(store, own.expression(), count + 1)?;
     Ok(())
 }
 
-/// Fills the list with the assertions of the tree that the codes make, or tells their first fault,
-/// where the frame is that of the `$p`, and numbers stand for the entries and then for tags.
+/// Fills the list with the assertions of the tree that the codes make, in the order of the entries,
+/// or tells their first fault, where the frame is that of the `$p`, and numbers stand for the
+/// entries and then for tags.
 pub(crate) fn judgement_of_codes<S: Store>(
     alloc: Global,
     store: &mut S,
     made: &mut Vec<Sym>,
     named: &mut Named,
-    picked: &mut Picked,
+    marks: &mut Vec<bool>,
     book: &Book,
     own: &Frame,
     id: LabelId,
@@ -219,23 +221,14 @@ pub(crate) fn judgement_of_codes<S: Store>(
         (code_moves (ids_in entries.now) codes.now) }
     ensures proved { OnOk result (OfMoves book.now.statements id.0
         (code_moves (ids_in entries.now) codes.now) (λ place s names.
-        ProvesWith book.now.statements place s names (ids_in named.new.ids.items))) }
+        ProvesUsing book.now.statements place s names (ids_in named.new.ids.items))) }
     ensures fault { IfErr result (λ e. OnRule e (λ rule step. OfMoves book.now.statements id.0
         (code_moves (ids_in entries.now) codes.now)
         (λ place s names. FailsWith book.now.statements place s names rule step))) }
 {
-    derive_codes(
-        alloc,
-        store,
-        made,
-        &mut picked.marks,
-        book,
-        own,
-        id,
-        entries,
-        codes,
-    )?;
-    fill_marked(&mut picked.ids, entries, &picked.marks)?;
-    fill_used(named, book, &picked.ids)?;
+    let calls = calls_of(alloc, book, entries)?;
+    unmark(marks, entries.len())?;
+    derive_codes(store, made, marks, book, own, id, entries, &calls, codes)?;
+    fill_called(named, entries, &calls, marks)?;
     Ok(())
 }

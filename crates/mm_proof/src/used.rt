@@ -1,11 +1,15 @@
 //! The assertions that a proof uses.
 
-ghost use Rattle.std.specs.Prelude.{◌≡◌, ◌↔◌, ℕ, List, Contains, IsTrue, OnOk};
+ghost use Rattle.std.specs.Prelude.{◌≡◌, ◌↔◌, ℕ, List, Contains, IsTrue, length, OnOk};
+ghost use Rattle.std.specs.List.{AllZip};
+ghost use Rattle.mm_frame.specs.Sentence.{Sentence};
 ghost use Rattle.mm_frame.specs.Numbers.{IsAssertionNumber};
 ghost use Rattle.mm_proof.specs.Moves.{Move};
 ghost use Rattle.mm_proof.specs.CodeSteps.{MayBeUsed, ids_in};
-ghost use Rattle.mm_proof.specs.CodeRun.{ArePicked, AreNamed};
+ghost use Rattle.mm_proof.specs.CodeApply.{IsCallOf, IsOfAssertion};
+ghost use Rattle.mm_proof.specs.CodeRun.{ArePicked, AreMarked, AreNamed, AreNamedInOrder};
 
+use crate::call::Call;
 use mm_frame::{Book, LabelId, LabelKind};
 use std::alloc::{AllocError, Global};
 use std::marker::Model;
@@ -37,7 +41,7 @@ impl Used {
     }
 }
 
-/// The assertions that the last proof uses.
+/// The assertions that the last proof uses, perhaps in no order and some more than once.
 #[derive(Drop)]
 pub(crate) struct Named {
     pub(crate) ids: Vec<LabelId>,
@@ -86,10 +90,44 @@ pub(crate) fn fill_used(
     requires known { (place : ℕ) × ((id : ℕ) → Contains (ids_in picked.now) id
         → (label : List ℕ) × MayBeUsed book.now.statements place label id) }
     ensures { OnOk result ((moves : List (Move ℕ)) → ArePicked moves (ids_in picked.now)
-        → AreNamed book.now.statements moves (ids_in named.new.ids.items)) }
+        → AreNamedInOrder book.now.statements moves (ids_in named.new.ids.items)) }
 {
     fill_named(named, book, picked)?;
     named.ids.sort_unstable();
     named.ids.dedup();
+    Ok(())
+}
+
+// Whether an entry is listed, by whether it is marked and what it stands for.
+fn is_called(is_marked: bool, call: &Call) -> bool
+    ensures { IsTrue result ↔ (IsTrue is_marked × IsOfAssertion call.now) }
+{
+    match call {
+        Call::Hypothesis(_) => false,
+        Call::Assertion(_) => is_marked,
+    }
+}
+
+/// Fills the list with the assertions among the marked entries, in the order of the entries. What
+/// each entry stands for is handed in.
+pub(crate) fn fill_called(
+    named: &mut Named,
+    entries: &[LabelId],
+    calls: &[Call],
+    marks: &[bool],
+) -> Result<(), AllocError>
+    requires calls { length calls.now ≡ length entries.now }
+    requires marks { length marks.now ≡ length entries.now }
+    ensures { OnOk result ((statements : List Sentence) (place : ℕ) (moves : List (Move ℕ))
+        → AllZip (IsCallOf statements place) (ids_in entries.now) calls.now
+        → AreMarked (ids_in entries.now) moves marks.now
+        → AreNamed statements moves (ids_in named.new.ids.items)) }
+{
+    named.ids.clear();
+    for (place, id) in entries.iter().enumerate() {
+        if is_called(marks[place], &calls[place]) {
+            named.ids.push(*id)?;
+        }
+    }
     Ok(())
 }

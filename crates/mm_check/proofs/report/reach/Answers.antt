@@ -1,12 +1,12 @@
 -- The proofs are passed from the last one down.
-use Rattle.std.proofs.Common.{◌≡◌, ℕ, suc, ◌+◌, ◌-◌, ◌<◌, ◌≤◌, ◌⊎◌, inl, inr, List, map, length, slice_get, Contains, Bool, Some, sym, subst, ◌∙◌, arith}
+use Rattle.std.proofs.Common.{◌≡◌, ◌↔◌, ℕ, suc, ◌+◌, ◌-◌, ◌<◌, ◌≤◌, ◌⊎◌, inl, inr, List, map, length, slice_get, Contains, Bool, Some, sym, subst, ◌∙◌, arith}
 use Rattle.std.proofs.lemmas.List.{with_items_is}
 use Rattle.mm_frame.specs.declared.number.LabelId.{LabelId}
 use Rattle.mm_frame.proofs.Numbered.{contains_from_at}
 use Rattle.mm_frame.proofs.Pushed.{get_within}
 use Rattle.mm_check.specs.Conclusion.{ProofUses}
 use Rattle.mm_check.specs.Marks.{IsMarked}
-use Rattle.mm_check.proofs.Marking.{IsMarkedBy, marked_within, marking_starts, marking_passes, marking_marks, marking_ends}
+use Rattle.mm_check.proofs.Marking.{IsMarkedBy, marked_as, marked_within, marking_starts, marking_passes, marking_marks, marking_ends}
 use Rattle.mm_check.proofs.report.reach.Goals as goal
 use Rattle.mm_check.proofs.report.reach.Goals.{then-is_reached, else-is_reached}
 
@@ -24,9 +24,9 @@ reached_within : (marks : List Bool) (theorem number : ℕ) → length marks ≡
 reached_within marks theorem number long (inl own) = omega arith
 reached_within marks theorem number long (inr marked) = let less : number < length marks = marked_within marks number marked in omega arith
 
-marked_same : (old old' new new' : List Bool) (ns ns' : List ℕ) → old ≡ old' → new ≡ new' → ns ≡ ns' → IsMarkedBy old new ns → IsMarkedBy old' new' ns'
+marked_same : (old old' new new' : List Bool) (ns ns' : List ℕ) → old ≡ old' → new ≡ new' → ((n : ℕ) → Contains ns n ↔ Contains ns' n) → IsMarkedBy old new ns → IsMarkedBy old' new' ns'
 marked_same old old' new new' ns ns' e f g h =
-    subst (λ (a : List Bool). IsMarkedBy a new' ns') e (subst (λ (b : List Bool). IsMarkedBy old b ns') f (subst (λ (ms : List ℕ). IsMarkedBy old new ms) g h))
+    subst (λ (a : List Bool). IsMarkedBy a new' ns') e (subst (λ (b : List Bool). IsMarkedBy old b ns') f (marked_as old new ns ns' g h))
 
 pub mark-requires : goal.mark-requires
 mark-requires c = λ n holds.
@@ -35,7 +35,7 @@ mark-requires c = λ n holds.
     let within : place < length uses = omega arith in
     let found = get_within uses place within in
     let u : ProofUses = found.0 in
-    let used : Contains u.used n = subst (λ (ns : List ℕ). Contains ns n) (c.used.ensures u found.1) holds in
+    let used : Contains u.used n = (c.used.ensures u found.1 n).0 holds in
     let less : n < u.number = c.requires.below u n (contains_from_at uses u (place, found.1)) used in
     let reached = reached_at c.loop-step.marks.items c.deref.result.now c.args.theorem.0 c.proof-id.result.0 u.number c.deref.ensures.value (c.proof-id.ensures u found.1)
     (c.is_reached.ensures.0 c.if-is_reached.true) in

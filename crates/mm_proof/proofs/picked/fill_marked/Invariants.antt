@@ -1,5 +1,5 @@
-use Rattle.mm_proof.proofs.Picking.{AreFirstMarked}
+use Rattle.mm_proof.proofs.Picking.{AreFirst, IsMarkedAt}
 use Rattle.mm_proof.proofs.picked.fill_marked.Given as goal
 
 abbrev pub invariant-loop-place : goal.invariant-loop-place
-invariant-loop-place l = AreFirstMarked l.entries l.marks l.place l.ids.items
+invariant-loop-place l = AreFirst (IsMarkedAt l.marks) l.entries l.place l.ids.items

@@ -7,7 +7,7 @@ use Rattle.mm_proof.specs.Steps.{AreSteps}
 use Rattle.mm_proof.specs.CodeSteps.{ids_in, moves_in, token_texts}
 use Rattle.mm_proof.specs.CodeRun.{ArePicked}
 use Rattle.mm_proof.proofs.Answering.{on_rule_map, rules_map}
-use Rattle.mm_proof.proofs.Whole.{tokens_prove, tokens_fail}
+use Rattle.mm_proof.proofs.Whole.{in_any_order, tokens_prove, tokens_fail}
 use Rattle.mm_proof.proofs.prover.prove_by_moves.Goals as goal
 
 pub judgement_in_frame-requires-clause-steps : goal.judgement_in_frame-requires-clause-steps
@@ -25,7 +25,9 @@ returns-clause-proved c =
     let texts = token_texts c.args.tokens.now in
     let says = subst (λ (ms : List NumberedMove). OfProof st c.args.id.0 (λ place s. SaySteps st place s texts (moves_in ms))) (sym c.deref.ensures.value) c.in_ok-fill_steps.ensures.steps in
     on_ok_weaker c.judgement_in_frame.result (λ p. λ place s proof.
-    tokens_prove st c.args.id.0 texts (moves_in c.deref.result.now) (ids_in c.judgement_in_frame.new.named.ids.items) says p place s proof) c.judgement_in_frame.ensures.proved
+    let moves = moves_in c.deref.result.now in
+    let used = ids_in c.judgement_in_frame.new.named.ids.items in
+    tokens_prove st c.args.id.0 texts moves used says (in_any_order st c.args.id.0 moves used p) place s proof) c.judgement_in_frame.ensures.proved
 
 pub returns-clause-fault : goal.returns-clause-fault
 returns-clause-fault c =

@@ -1,30 +1,16 @@
-use Rattle.std.proofs.Common.{List, Err, ap, sym, subst, ◌∙◌}
-use Rattle.std.specs.List.{AllZip}
+use Rattle.std.proofs.Common.{List, Err, ap, subst, ◌∙◌}
 use Rattle.std.proofs.lemmas.Result.{err_from_is_err_and}
 use Rattle.mm_frame.specs.Sentence.{Sentence}
 use Rattle.mm_frame.specs.FramePlace.{AreItsSymbols}
-use Rattle.mm_proof.specs.declared.call.Call.{Call}
 use Rattle.mm_proof.specs.Stores.{numbers_in}
 use Rattle.mm_proof.specs.CodeSteps.{ids_in, code_moves}
-use Rattle.mm_proof.specs.CodeApply.{IsCallOf}
 use Rattle.mm_proof.proofs.Ending.{proved_end, wrong_end, wrong_move, on_rule_from}
 use Rattle.mm_proof.proofs.run.derive_codes.Goals as goal
-
-pub calls_of-requires : goal.calls_of-requires
-calls_of-requires g c = (c.args.own.now.place, c.requires.usable)
-
-pub run_codes-requires-clause-calls : goal.run_codes-requires-clause-calls
-run_codes-requires-clause-calls g c =
-    subst (λ (l : List Call). AllZip (IsCallOf c.args.book.now.statements c.args.own.now.place) (ids_in c.args.entries.now) l) (sym c.deref.ensures.value)
-    (c.in_ok-calls.ensures c.args.own.now.place c.requires.usable)
-
-pub run_codes-requires-clause-unmarked : goal.run_codes-requires-clause-unmarked
-run_codes-requires-clause-unmarked g c = c.in_ok-unmark.ensures.none (ids_in c.args.entries.now)
 
 pub returns-in_err-count-clause-fault : goal.returns-in_err-count-clause-fault
 returns-in_err-count-clause-fault g c =
     let own = c.requires.number in
-    let p = err_from_is_err_and c.from_residual-in_err-count.result c.from_residual-in_err-count.ensures.1 in
+    let p = err_from_is_err_and c.from_residual.result c.from_residual.ensures.1 in
     rw (p.1, p.2) (on_rule_from c.in_err-count.field-0.0 _ (λ rule at is.
     wrong_move c.args.book.now.statements c.args.id.0 c.args.own.now.place own.0 (code_moves (ids_in c.args.entries.now) c.args.codes.now) rule at own.1
     (λ names numbered. c.run_codes.ensures.fault rule at (c.in_err-count.was ∙ ap Err is) names numbered)))

@@ -1,6 +1,7 @@
 -- What was kept stays, and what is put at the end is the last.
 use Rattle.std.proofs.Common.{◌++◌, [], ◌∷◌, List, map, length, ap, ◌∙◌, arith}
 use Rattle.mm_check.specs.Conclusion.{ProofUses}
+use Rattle.mm_check.specs.Ordered.{ordered}
 use Rattle.mm_check.proofs.Ranges.{uses_push}
 use Rattle.mm_check.proofs.kept.Kept.push.Goals as goal
 
@@ -8,4 +9,4 @@ pub returns : goal.returns
 returns c =
     rw (c.in_ok-push.ensures.items, c.in_ok-extend_from_slice.ensures.items)
     (uses_push c.self.inside.used.items c.args.used.now c.self.inside.proofs.items _ c.self.invariant (omega arith) (omega (arith, ap length c.in_ok-extend_from_slice.ensures.items))
-    ∙ ap (λ (us : List ProofUses). us ++ record { number = c.args.id.0; used = map (λ l. l.0) c.args.used.now } ∷ []) c.self.view_is)
+    ∙ ap (λ (us : List ProofUses). us ++ record { number = c.args.id.0; used = ordered (map (λ l. l.0) c.args.used.now) } ∷ []) c.self.view_is)
