@@ -14,6 +14,7 @@ ghost use Rattle.mm_frame.specs.Grows.{Grows, IsSame};
 ghost use Rattle.mm_frame.specs.Naming.{Named, HaveNameRoom, part_after};
 
 use crate::answer::Taken;
+use crate::distinct::placed_pairs;
 use crate::framing::{hypotheses_at, mandatory, mandatory_pairs};
 use crate::lists::{at, put};
 use crate::number::{LabelId, Sym};
@@ -159,7 +160,8 @@ impl<'a> Tables<'a> {
     {
         let places = mandatory(self, numbers)?;
         let mut hypotheses = hypotheses_at(self, &places)?;
-        let pairs = mandatory_pairs(self, &places)?;
+        let apart = mandatory_pairs(self, &places)?;
+        let pairs = placed_pairs(self.alloc, &hypotheses, &apart)?;
         self.reserve(numbers.len())?;
         self.hypotheses.reserve(hypotheses.len())?;
         self.pairs.reserve(pairs.len())?;
