@@ -4,8 +4,8 @@ use Rattle.std.specs.List.{slice_get, slice_range}
 use Rattle.std.proofs.lemmas.Option.{slice_get_within}
 use Rattle.std.proofs.lemmas.List.{take-append-le}
 use Rattle.mm_text.specs.declared.statement.Kind.TheVariants.{Distinct}
+use Rattle.mm_frame.specs.declared.distinct.DistinctPair.{DistinctPair}
 use Rattle.mm_frame.specs.declared.hypothesis.Hypothesis.{Hypothesis}
-use Rattle.mm_frame.specs.declared.number.Sym.{Sym}
 use Rattle.mm_frame.specs.declared.piece.Piece.{Piece}
 use Rattle.mm_frame.specs.declared.tables.Part.{Part}
 use Rattle.mm_frame.specs.declared.tables.LabelInfo.{LabelInfo}
@@ -17,7 +17,7 @@ use Rattle.mm_frame.specs.Numbers.{symbols_of}
 use Rattle.mm_frame.specs.FramePlace.{FramePlace, AreHypotheses, ArePairs, AreItsSymbols}
 use Rattle.mm_frame.specs.Layout.{IsPartWithin, IsFrameInfo, AreFrames, AreLabelInfos, AreStated}
 use Rattle.mm_frame.specs.Stated.{Stated}
-use Rattle.mm_frame.specs.Pieces.{variables_of, AreItsPieces, HavePatterns}
+use Rattle.mm_frame.specs.Pieces.{variables_of, AreItsPieces, HavePatterns, HavePlaces}
 use Rattle.mm_frame.proofs.Pushed.{get_kept, get_pushed, pushed_cases, get_before}
 use Rattle.mm_frame.proofs.Numbered.{symbols_grow, numbers_grow, symbols_unique, number_from_declared}
 use Rattle.mm_frame.proofs.Labelled.{labels_grow}
@@ -66,7 +66,7 @@ its_symbols_grow st more place numbers are = record {
 part_grow : {X : Type 0} (xs ys : List X) (part : Part) → IsPartWithin part (length xs) → IsPartWithin part (length (xs ++ ys))
 part_grow xs ys part within = let inside = within.within in let more = longer xs ys in record { ordered = within.ordered; within = omega arith }
 
-pub frame_grow : (st more : List Sentence) (hs a : List Hypothesis) (pairs b : List (Sym × Sym)) (pieces c : List Piece) (info : LabelInfo) → IsFrameInfo st hs pairs pieces info → IsFrameInfo (st ++ more) (hs ++ a) (pairs ++ b) (pieces ++ c) info
+pub frame_grow : (st more : List Sentence) (hs a : List Hypothesis) (pairs b : List DistinctPair) (pieces c : List Piece) (info : LabelInfo) → IsFrameInfo st hs pairs pieces info → IsFrameInfo (st ++ more) (hs ++ a) (pairs ++ b) (pieces ++ c) info
 frame_grow st more hs a pairs b pieces c info is =
     let h = is.hypotheses_in in
     let p = is.pairs_in in
@@ -80,7 +80,9 @@ frame_grow st more hs a pairs b pieces c info is =
       are_hypotheses = hypotheses_grow st more info.place _
           (subst (λ (ids : List Hypothesis). AreHypotheses (at_place st info.place) (map (λ h. h.id.0) ids)) (sym (slice_left hs a info.hypotheses.start info.hypotheses.end h.ordered h.within)) is.are_hypotheses);
       are_pairs = pairs_grow st more info.place _
-          (subst (λ (ps : List (Sym × Sym)). ArePairs (at_place st info.place) (map (λ pair. (pair.0.0, pair.1.0)) ps)) (sym (slice_left pairs b info.pairs.start info.pairs.end p.ordered p.within)) is.are_pairs);
+          (subst (λ (ps : List DistinctPair). ArePairs (at_place st info.place) (map (λ pair. (pair.variables.0.0, pair.variables.1.0)) ps)) (sym (slice_left pairs b info.pairs.start info.pairs.end p.ordered p.within)) is.are_pairs);
+      placed = subst (λ (ids : List Hypothesis). HavePlaces (variables_of ids) (slice_range (pairs ++ b) info.pairs.start info.pairs.end)) (sym kept)
+          (subst (HavePlaces (variables_of (slice_range hs info.hypotheses.start info.hypotheses.end))) (sym (slice_left pairs b info.pairs.start info.pairs.end p.ordered p.within)) is.placed);
       concluded = (
         s,
         get_kept st more info.place s there,
@@ -102,13 +104,13 @@ pub frames_none : AreFrames [] [] [] [] []
 frames_none id info s there at is = absurd (cc)
 
 -- a statement with no label
-pub frames_other : (st : List Sentence) (e : Sentence) (hs a : List Hypothesis) (pairs b : List (Sym × Sym)) (pieces c : List Piece) (named : List LabelInfo) → ArePlaced st named → AreFrames st hs pairs pieces named
+pub frames_other : (st : List Sentence) (e : Sentence) (hs a : List Hypothesis) (pairs b : List DistinctPair) (pieces c : List Piece) (named : List LabelInfo) → ArePlaced st named → AreFrames st hs pairs pieces named
     → AreFrames (st ++ e ∷ []) (hs ++ a) (pairs ++ b) (pieces ++ c) named
 frames_other st e hs a pairs b pieces c named within are id info s there at is =
     frame_grow st (e ∷ []) hs a pairs b pieces c info (are id info s there (get_before st (e ∷ []) info.place s (within id info there) at) is)
 
 -- a hypothesis
-pub frames_hypothesis : (st : List Sentence) (e : Sentence) (hs a : List Hypothesis) (pairs b : List (Sym × Sym)) (pieces c : List Piece) (named : List LabelInfo) (new : LabelInfo) → ArePlaced st named → AreFrames st hs pairs pieces named
+pub frames_hypothesis : (st : List Sentence) (e : Sentence) (hs a : List Hypothesis) (pairs b : List DistinctPair) (pieces c : List Piece) (named : List LabelInfo) (new : LabelInfo) → ArePlaced st named → AreFrames st hs pairs pieces named
     → new.place ≡ length st → ¬ (IsAssertion e.kind) → AreFrames (st ++ e ∷ []) (hs ++ a) (pairs ++ b) (pieces ++ c) (named ++ new ∷ [])
 frames_hypothesis st e hs a pairs b pieces c named new within are place other id info s there at is = elim (pushed_cases named new id info there) [
   | inl before ↦ frames_other st e hs a pairs b pieces c named within are id info s before at is
@@ -119,7 +121,7 @@ frames_hypothesis st e hs a pairs b pieces c named new within are place other id
 ]
 
 -- an assertion
-pub frames_assertion : (st : List Sentence) (e : Sentence) (hs a : List Hypothesis) (pairs b : List (Sym × Sym)) (pieces c : List Piece) (named : List LabelInfo) (new : LabelInfo) → ArePlaced st named → AreFrames st hs pairs pieces named
+pub frames_assertion : (st : List Sentence) (e : Sentence) (hs a : List Hypothesis) (pairs b : List DistinctPair) (pieces c : List Piece) (named : List LabelInfo) (new : LabelInfo) → ArePlaced st named → AreFrames st hs pairs pieces named
     → IsFrameInfo (st ++ e ∷ []) (hs ++ a) (pairs ++ b) (pieces ++ c) new → AreFrames (st ++ e ∷ []) (hs ++ a) (pairs ++ b) (pieces ++ c) (named ++ new ∷ [])
 frames_assertion st e hs a pairs b pieces c named new within are frame id info s there at is = elim (pushed_cases named new id info there) [
   | inl before ↦ frames_other st e hs a pairs b pieces c named within are id info s before at is

@@ -40,6 +40,7 @@ pub mod Forgotten
 pub mod Blocks
 pub mod SameTables
 pub mod Patterned
+pub mod Placed
 pub mod Assembled
 pub mod ReadLaws
 pub mod DeclaredSymbols

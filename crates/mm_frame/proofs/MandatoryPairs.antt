@@ -21,7 +21,7 @@ use Rattle.mm_frame.proofs.Needed.{latest_from_active, mandatory_typed}
 use Rattle.mm_frame.proofs.Those.{distinct_other}
 use Rattle.mm_frame.proofs.FrameLaws.{at_place}
 
-one_sentence : (st : List Sentence) (p : ℕ) (s t : Sentence) → slice_get st p ≡ Some s → slice_get st p ≡ Some t → s ≡ t
+pub one_sentence : (st : List Sentence) (p : ℕ) (s t : Sentence) → slice_get st p ≡ Some s → slice_get st p ≡ Some t → s ≡ t
 one_sentence st p s t one other = cc
 
 one_element : (xs : List Sym) (i j : ℕ) (a b : Sym) → i ≡ j → slice_get xs i ≡ Some a → slice_get xs j ≡ Some b → a ≡ b
@@ -77,7 +77,7 @@ variables_pass st places p f variables there other are = record {
   once = are.once;
 }
 
-second_of : (a b c d : List ℕ) (symbols : List (List ℕ)) → symbols ≡ a ∷ b ∷ [] → symbols ≡ c ∷ d ∷ [] → b ≡ d
+pub second_of : (a b c d : List ℕ) (symbols : List (List ℕ)) → symbols ≡ a ∷ b ∷ [] → symbols ≡ c ∷ d ∷ [] → b ≡ d
 second_of a b c d symbols one other = cc
 
 -- one place more, of a `$f`
@@ -261,7 +261,7 @@ pair_at [] m p there = absurd (cc)
 pair_at (q ∷ pairs) zero p there = (q, refl, cc)
 pair_at (q ∷ pairs) (suc m) p there = pair_at pairs m p there
 
-pair_there : (pairs : List (Sym × Sym)) (m : ℕ) (q : Sym × Sym) → slice_get pairs m ≡ Some q → Contains {X = ℕ × ℕ} (map (λ pair. (pair.0.0, pair.1.0)) pairs) (q.0.0, q.1.0)
+pub pair_there : (pairs : List (Sym × Sym)) (m : ℕ) (q : Sym × Sym) → slice_get pairs m ≡ Some q → Contains {X = ℕ × ℕ} (map (λ pair. (pair.0.0, pair.1.0)) pairs) (q.0.0, q.1.0)
 pair_there pairs m q there =
     let named : Sym × Sym → ℕ × ℕ = λ pair. (pair.0.0, pair.1.0) in
     let at : slice_get (map named pairs) m ≡ Some (named q) = slice_get-map named pairs m ∙ ap (option_map named) there in

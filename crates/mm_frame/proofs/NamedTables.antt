@@ -6,6 +6,7 @@ use Rattle.std.proofs.lemmas.List.{append-nil}
 use Rattle.mm_text.specs.Statement.{FitsCount}
 use Rattle.mm_text.specs.declared.statement.Kind.{Kind}
 use Rattle.mm_text.specs.declared.statement.Kind.TheVariants.{Floating, Essential, Distinct, Closing}
+use Rattle.mm_frame.specs.declared.distinct.DistinctPair.{DistinctPair}
 use Rattle.mm_frame.specs.declared.hypothesis.Hypothesis.{Hypothesis}
 use Rattle.mm_frame.specs.declared.number.LabelId.{LabelId}
 use Rattle.mm_frame.specs.declared.number.Sym.{Sym}
@@ -28,7 +29,7 @@ use Rattle.mm_frame.specs.Grows.{Grows, SameLists, entry_of}
 use Rattle.mm_frame.specs.Naming.{Named, FrameParts, label_info, part_after}
 use Rattle.mm_frame.specs.FramePlace.{AreHypotheses, HaveTypings, ArePairs}
 use Rattle.mm_frame.specs.Gathered.{ArePlaces, AreThoseAt}
-use Rattle.mm_frame.specs.Pieces.{variables_of, AreItsPieces, HavePatterns}
+use Rattle.mm_frame.specs.Pieces.{variables_of, AreItsPieces, HavePatterns, HavePlaces}
 use Rattle.mm_frame.specs.Patterned.{ArePatterned}
 use Rattle.mm_frame.proofs.FrameOf.{hypotheses_from_places}
 use Rattle.mm_frame.proofs.Pushed.{get_pushed, get_within}
@@ -81,7 +82,7 @@ numbers_within names (m ∷ numbers) (x ∷ xs) are (suc i) n there =
     numbers_within names numbers xs rest i n there
 
 -- the lists before a label is written: those of a book, but for what is known of symbols and for the active `$e`, and with more of frames
-pub record Before (t u : Tables) (a : List Hypothesis) (b : List (Sym × Sym)) (c : List Piece) : Type 0 where
+pub record Before (t u : Tables) (a : List Hypothesis) (b : List DistinctPair) (c : List Piece) : Type 0 where
   pub symbols : u.symbols.names ≡ t.symbols.names
   pub labels : u.labels.names ≡ t.labels.names
   pub named : u.named.items ≡ t.named.items
@@ -121,7 +122,7 @@ pub record IsWritten (t : Tables) (s : Sentence) (kind : Kind) (l : List ℕ) (n
 by_names : (t : Tables) (numbers : List Sym) (xs : List (List ℕ)) → AreTables t → AreNumbers (statements_of t) (map (λ n. n.0) numbers) xs → map (slice_get t.symbols.names) (map (λ n. n.0) numbers) ≡ map (λ x. Some x) xs
 by_names t numbers xs are numbered = subst (λ (names : List (List ℕ)). map (slice_get names) (map (λ n. n.0) numbers) ≡ map (λ x. Some x) xs) (sym are.infos.all) numbered
 
-appended : (t u v : Tables) (s : Sentence) (kind : Kind) (l : List ℕ) (numbers : List Sym) (frame : FrameParts) (id : LabelId) (a : List Hypothesis) (b : List (Sym × Sym)) (c : List Piece) (bytes : ℕ)
+appended : (t u v : Tables) (s : Sentence) (kind : Kind) (l : List ℕ) (numbers : List Sym) (frame : FrameParts) (id : LabelId) (a : List Hypothesis) (b : List DistinctPair) (c : List Piece) (bytes : ℕ)
     → AreTables t → Before t u a b c → Named u v kind l numbers frame id bytes → id.0 ≡ length u.labels.names → IsWritten t s kind l numbers
     → AreAppended t v [] (l ∷ []) numbers (entry_of kind (Some id) (length t.flat.items) (length (t.flat.items ++ numbers))) s
 appended t u v s kind l numbers frame id a b c bytes are before named number is =
@@ -149,7 +150,7 @@ same_symbols : (t : Tables) (s : Sentence) → AreTables t → declared_by s ≡
 same_symbols t s are none = append-nil t.symbols.names ∙ are.infos.all ∙ sym (symbols_push (statements_of t) s ∙ ap (fold with_name (symbols_of (statements_of t))) none)
 
 -- the lists once a label and its statement are written, but for infos, essentials and frames
-grown : (t u v : Tables) (s : Sentence) (kind : Kind) (l : List ℕ) (numbers : List Sym) (frame : FrameParts) (id : LabelId) (a : List Hypothesis) (b : List (Sym × Sym)) (c : List Piece) (bytes : ℕ)
+grown : (t u v : Tables) (s : Sentence) (kind : Kind) (l : List ℕ) (numbers : List Sym) (frame : FrameParts) (id : LabelId) (a : List Hypothesis) (b : List DistinctPair) (c : List Piece) (bytes : ℕ)
     → AreTables t → Before t u a b c → Named u v kind l numbers frame id bytes → id.0 ≡ length u.labels.names → IsWritten t s kind l numbers
     → declared_by s ≡ [] → ¬ (kind ≡ Closing) → ¬ (kind ≡ Distinct)
     → AreInfos (statements_of t ++ s ∷ []) t.symbols.names u.infos.items → AreEssentials (statements_of t ++ s ∷ []) u.essentials.items
@@ -181,7 +182,7 @@ grown t u v s kind l numbers frame id a b c bytes are before named number is non
       stated = rw (app.symbols, named.stated, before.stated) kept;
     }
 
-pub named_grows : (t u v : Tables) (s : Sentence) (kind : Kind) (l : List ℕ) (numbers : List Sym) (frame : FrameParts) (id : LabelId) (a : List Hypothesis) (b : List (Sym × Sym)) (c : List Piece) (bytes : ℕ)
+pub named_grows : (t u v : Tables) (s : Sentence) (kind : Kind) (l : List ℕ) (numbers : List Sym) (frame : FrameParts) (id : LabelId) (a : List Hypothesis) (b : List DistinctPair) (c : List Piece) (bytes : ℕ)
     → AreTables t → Before t u a b c → Named u v kind l numbers frame id bytes → id.0 ≡ length u.labels.names → IsWritten t s kind l numbers
     → declared_by s ≡ [] → ¬ (kind ≡ Closing) → ¬ (kind ≡ Distinct)
     → AreInfos (statements_of t ++ s ∷ []) t.symbols.names u.infos.items → AreEssentials (statements_of t ++ s ∷ []) u.essentials.items
@@ -247,7 +248,7 @@ typed t u v s code x n info l numbers frame id bytes are before says at there in
     (rw infos known) (rw essentials active) (hypothesis_frames t s (entry_of Floating (Some id) (length t.flat.items) (length (t.flat.items ++ numbers))) frame are (no_assertion s Floating is.kinds floating_asserts)) (typings_none st) enough room
 
 -- a `$a` or `$p`
-pub asserted : (t u v : Tables) (s : Sentence) (kind : Kind) (l : List ℕ) (numbers : List Sym) (frame : FrameParts) (id : LabelId) (a : List Hypothesis) (b : List (Sym × Sym)) (c : List Piece) (bytes : ℕ)
+pub asserted : (t u v : Tables) (s : Sentence) (kind : Kind) (l : List ℕ) (numbers : List Sym) (frame : FrameParts) (id : LabelId) (a : List Hypothesis) (b : List DistinctPair) (c : List Piece) (bytes : ℕ)
     → AreTables t → IsAssertion kind → Before t u a b c → u.infos.items ≡ t.infos.items → u.essentials.items ≡ t.essentials.items
     → Named u v kind l numbers frame id bytes → id.0 ≡ length u.labels.names → IsWritten t s kind l numbers
     → IsFrameInfo (statements_of t ++ s ∷ []) (t.hypotheses.items ++ a) (t.pairs.items ++ b) (t.pieces.items ++ c) (label_info (length t.log.items) (entry_of kind (Some id) (length t.flat.items) (length (t.flat.items ++ numbers))) frame)
@@ -308,11 +309,11 @@ noted old told new m n info p q same is place there tells =
     ∙ ap (λ r. set told n.0 (record info { floating = Some r })) place
 
 -- the frame of a new assertion, at the ends of the lists of hypotheses, of pairs and of pieces
-pub framed : (t : Tables) (s : Sentence) (e : Entry) (places numbers : List ℕ) (old a : List Hypothesis) (b : List (Sym × Sym)) (c : List Piece) (conclusion : Part) → AreTables t → ArePlaces (statements_of t) s places
-    → AreThoseAt (statements_of t) places old → ArePairs (at_place (statements_of t ++ s ∷ []) (length (statements_of t))) (map (λ pair. (pair.0.0, pair.1.0)) b)
+pub framed : (t : Tables) (s : Sentence) (e : Entry) (places numbers : List ℕ) (old a : List Hypothesis) (b : List DistinctPair) (c : List Piece) (conclusion : Part) → AreTables t → ArePlaces (statements_of t) s places
+    → AreThoseAt (statements_of t) places old → ArePairs (at_place (statements_of t ++ s ∷ []) (length (statements_of t))) (map (λ pair. (pair.variables.0.0, pair.variables.1.0)) b) → HavePlaces (variables_of a) b
     → AreNumbers (statements_of t) numbers s.symbols → ArePatterned (statements_of t) numbers old a (t.pieces.items ++ c) conclusion
     → IsFrameInfo (statements_of t ++ s ∷ []) (t.hypotheses.items ++ a) (t.pairs.items ++ b) (t.pieces.items ++ c) (label_info (length t.log.items) e (part_after t.hypotheses.items a, part_after t.pairs.items b, conclusion))
-framed t s e places numbers old a b c conclusion are at those pairs numbered patterned =
+framed t s e places numbers old a b c conclusion are at those pairs placed numbered patterned =
     let st = statements_of t in
     let size = length-sentences t.symbols.names t.labels.names t.flat.items t.log.items in
     let hs : AreHypotheses (at_place (st ++ s ∷ []) (length st)) (map (λ h. h.id.0) a) =
@@ -325,8 +326,10 @@ framed t s e places numbers old a b c conclusion are at those pairs numbered pat
       conclusion_in = record { ordered = concluded.ordered; within = concluded.within };
       are_hypotheses = subst (λ n. AreHypotheses (at_place (st ++ s ∷ []) n) (map (λ h. h.id.0) (slice_range (t.hypotheses.items ++ a) (length t.hypotheses.items) (length (t.hypotheses.items ++ a))))) size
           (subst (λ (hs : List Hypothesis). AreHypotheses (at_place (st ++ s ∷ []) (length st)) (map (λ h. h.id.0) hs)) (sym added) hs);
-      are_pairs = subst (λ n. ArePairs (at_place (st ++ s ∷ []) n) (map (λ pair. (pair.0.0, pair.1.0)) (slice_range (t.pairs.items ++ b) (length t.pairs.items) (length (t.pairs.items ++ b))))) size
-          (subst (λ (ps : List (Sym × Sym)). ArePairs (at_place (st ++ s ∷ []) (length st)) (map (λ pair. (pair.0.0, pair.1.0)) ps)) (sym (added_part t.pairs.items b)) pairs);
+      are_pairs = subst (λ n. ArePairs (at_place (st ++ s ∷ []) n) (map (λ pair. (pair.variables.0.0, pair.variables.1.0)) (slice_range (t.pairs.items ++ b) (length t.pairs.items) (length (t.pairs.items ++ b))))) size
+          (subst (λ (ps : List DistinctPair). ArePairs (at_place (st ++ s ∷ []) (length st)) (map (λ pair. (pair.variables.0.0, pair.variables.1.0)) ps)) (sym (added_part t.pairs.items b)) pairs);
+      placed = subst (λ (hs : List Hypothesis). HavePlaces (variables_of hs) (slice_range (t.pairs.items ++ b) (length t.pairs.items) (length (t.pairs.items ++ b)))) (sym added)
+          (subst (HavePlaces (variables_of a)) (sym (added_part t.pairs.items b)) placed);
       concluded = (
         s,
         subst (λ n. slice_get (st ++ s ∷ []) n ≡ Some s) size (get_pushed st s),

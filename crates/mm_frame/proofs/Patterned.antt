@@ -104,7 +104,7 @@ counted t log flat places old hs i of same lt =
     omega arith
 
 -- the label of the hypothesis at a place
-id_same : (st : List Sentence) (places : List ℕ) (hs : List Hypothesis) (i place : ℕ) (h : Hypothesis) → map (λ h. h.id.0) hs ≡ map (λ p. length (labelled_sentences (take p st))) places
+pub id_same : (st : List Sentence) (places : List ℕ) (hs : List Hypothesis) (i place : ℕ) (h : Hypothesis) → map (λ h. h.id.0) hs ≡ map (λ p. length (labelled_sentences (take p st))) places
     → slice_get places i ≡ Some place → slice_get hs i ≡ Some h → length (labelled_sentences (take place st)) ≡ h.id.0
 id_same st places hs i place h numbers there at =
     let one = get_mapped (λ (k : Hypothesis). k.id.0) hs i h at in

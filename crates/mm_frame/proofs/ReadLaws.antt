@@ -1,7 +1,8 @@
 -- What is read under a label's number, in terms of the statements.
-use Rattle.std.proofs.Common.{◌≡◌, ℕ, ◌≤◌, length, List, map, Option, Some, None, slice_range, sym, ap, ◌∙◌, subst, arith}
+use Rattle.std.proofs.Common.{◌≡◌, ℕ, ◌≤◌, length, List, map, Option, Some, None, slice_range, refl, sym, ap, ◌∙◌, subst, arith}
 use Rattle.std.specs.List.{slice_get}
 use Rattle.mm_text.specs.declared.statement.Kind.{Kind}
+use Rattle.mm_frame.specs.declared.distinct.DistinctPair.{DistinctPair}
 use Rattle.mm_frame.specs.declared.hypothesis.Hypothesis.{Hypothesis}
 use Rattle.mm_frame.specs.declared.number.Sym.{Sym}
 use Rattle.mm_frame.specs.declared.piece.Piece.{Piece}
@@ -11,7 +12,7 @@ use Rattle.mm_frame.specs.Sentence.{Sentence, IsLabelled, IsAssertion}
 use Rattle.mm_frame.specs.Form.{HasItsLabel, AllFormed}
 use Rattle.mm_frame.specs.Numbers.{labelled_sentences, IsNumbered}
 use Rattle.mm_frame.specs.FramePlace.{AreHypotheses, HaveTypings, ArePairs}
-use Rattle.mm_frame.specs.Pieces.{variables_of, AreItsPieces, HavePatterns}
+use Rattle.mm_frame.specs.Pieces.{variables_of, AreItsPieces, HavePatterns, HavePlaces, HaveMandatoryPlaces}
 use Rattle.mm_frame.specs.Layout.{sentences_by, sentence_by, AreLabelInfos, AreFrames}
 use Rattle.mm_frame.proofs.Pushed.{get_within}
 use Rattle.mm_frame.proofs.NameLists.{get_mapped, get_unmapped}
@@ -79,7 +80,7 @@ pub named_kind : (st : List Sentence) (place : ℕ) (s : Sentence) (l : List ℕ
 named_kind st place s l formed there named = subst (λ (o : Option (List ℕ)). HasItsLabel s.kind o) named (formed place s there).label
 
 -- a part of the hypotheses of all assertions
-pub frame_hypotheses : (st : List Sentence) (labels : List (List ℕ)) (named : List LabelInfo) (log : List Entry) (hs : List Hypothesis) (pairs : List (Sym × Sym)) (pieces : List Piece) (id place : ℕ) (s : Sentence) (info : LabelInfo) (part : List Hypothesis)
+pub frame_hypotheses : (st : List Sentence) (labels : List (List ℕ)) (named : List LabelInfo) (log : List Entry) (hs : List Hypothesis) (pairs : List DistinctPair) (pieces : List Piece) (id place : ℕ) (s : Sentence) (info : LabelInfo) (part : List Hypothesis)
     → AreLabelInfos st labels named log → AreFrames st hs pairs pieces named → slice_get named id ≡ Some info
     → (info.hypotheses.start ≤ info.hypotheses.end → info.hypotheses.end ≤ length hs → part ≡ slice_range hs info.hypotheses.start info.hypotheses.end)
     → IsNumbered st id place s → IsAssertion s.kind → AreHypotheses (at_place st place) (map (λ h. h.id.0) part)
@@ -91,7 +92,7 @@ frame_hypotheses st labels named log hs pairs pieces id place s info part are fr
     subst (λ (hs' : List Hypothesis). AreHypotheses (at_place st place) (map (λ h. h.id.0) hs')) (sym part_is)
     (subst (λ (p : ℕ). AreHypotheses (at_place st p) (map (λ h. h.id.0) (slice_range hs info.hypotheses.start info.hypotheses.end))) same frame.are_hypotheses)
 
-pub frame_typings : (st : List Sentence) (labels : List (List ℕ)) (named : List LabelInfo) (log : List Entry) (hs : List Hypothesis) (pairs : List (Sym × Sym)) (pieces : List Piece) (id place : ℕ) (s : Sentence) (info : LabelInfo) (part : List Hypothesis)
+pub frame_typings : (st : List Sentence) (labels : List (List ℕ)) (named : List LabelInfo) (log : List Entry) (hs : List Hypothesis) (pairs : List DistinctPair) (pieces : List Piece) (id place : ℕ) (s : Sentence) (info : LabelInfo) (part : List Hypothesis)
     → AreLabelInfos st labels named log → AreFrames st hs pairs pieces named → HaveTypings st hs → slice_get named id ≡ Some info
     → (info.hypotheses.start ≤ info.hypotheses.end → info.hypotheses.end ≤ length hs → part ≡ slice_range hs info.hypotheses.start info.hypotheses.end)
     → IsNumbered st id place s → IsAssertion s.kind → HaveTypings st part
@@ -102,20 +103,47 @@ frame_typings st labels named log hs pairs pieces id place s info part are frame
     typings_part st hs part info.hypotheses.start info.hypotheses.end (is within.ordered within.within) have
 
 -- a part of the distinct pairs of all assertions
-pub frame_pairs : (st : List Sentence) (labels : List (List ℕ)) (named : List LabelInfo) (log : List Entry) (hs : List Hypothesis) (pairs : List (Sym × Sym)) (pieces : List Piece) (id place : ℕ) (s : Sentence) (info : LabelInfo) (part : List (Sym × Sym))
+pub frame_pairs : (st : List Sentence) (labels : List (List ℕ)) (named : List LabelInfo) (log : List Entry) (hs : List Hypothesis) (pairs : List DistinctPair) (pieces : List Piece) (id place : ℕ) (s : Sentence) (info : LabelInfo) (part : List DistinctPair)
     → AreLabelInfos st labels named log → AreFrames st hs pairs pieces named → slice_get named id ≡ Some info
     → (info.pairs.start ≤ info.pairs.end → info.pairs.end ≤ length pairs → part ≡ slice_range pairs info.pairs.start info.pairs.end)
-    → IsNumbered st id place s → IsAssertion s.kind → ArePairs (at_place st place) (map (λ pair. (pair.0.0, pair.1.0)) part)
+    → IsNumbered st id place s → IsAssertion s.kind → ArePairs (at_place st place) (map (λ pair. (pair.variables.0.0, pair.variables.1.0)) part)
 frame_pairs st labels named log hs pairs pieces id place s info part are frames there is numbered asserts =
     let same = same_place st labels named log id place s info are there numbered in
     let frame = frames id info s there (subst (λ (p : ℕ). slice_get st p ≡ Some s) (sym same) numbered.there) asserts in
     let within = frame.pairs_in in
     let part_is = is within.ordered within.within in
-    subst (λ (ps : List (Sym × Sym)). ArePairs (at_place st place) (map (λ pair. (pair.0.0, pair.1.0)) ps)) (sym part_is)
-    (subst (λ (p : ℕ). ArePairs (at_place st p) (map (λ pair. (pair.0.0, pair.1.0)) (slice_range pairs info.pairs.start info.pairs.end))) same frame.are_pairs)
+    subst (λ (ps : List DistinctPair). ArePairs (at_place st place) (map (λ pair. (pair.variables.0.0, pair.variables.1.0)) ps)) (sym part_is)
+    (subst (λ (p : ℕ). ArePairs (at_place st p) (map (λ pair. (pair.variables.0.0, pair.variables.1.0)) (slice_range pairs info.pairs.start info.pairs.end))) same frame.are_pairs)
+
+-- the places of their variables are those among a part of the hypotheses
+pub frame_places : (st : List Sentence) (labels : List (List ℕ)) (named : List LabelInfo) (log : List Entry) (hs : List Hypothesis) (pairs : List DistinctPair) (pieces : List Piece) (id place : ℕ) (s : Sentence) (info : LabelInfo) (part : List Hypothesis) (among : List DistinctPair)
+    → AreLabelInfos st labels named log → AreFrames st hs pairs pieces named → slice_get named id ≡ Some info
+    → (info.hypotheses.start ≤ info.hypotheses.end → info.hypotheses.end ≤ length hs → part ≡ slice_range hs info.hypotheses.start info.hypotheses.end)
+    → (info.pairs.start ≤ info.pairs.end → info.pairs.end ≤ length pairs → among ≡ slice_range pairs info.pairs.start info.pairs.end)
+    → IsNumbered st id place s → IsAssertion s.kind → HavePlaces (variables_of part) among
+frame_places st labels named log hs pairs pieces id place s info part among are frames there is pairs_are numbered asserts =
+    let same = same_place st labels named log id place s info are there numbered in
+    let frame = frames id info s there (subst (λ (p : ℕ). slice_get st p ≡ Some s) (sym same) numbered.there) asserts in
+    let part_is = is frame.hypotheses_in.ordered frame.hypotheses_in.within in
+    let among_are = pairs_are frame.pairs_in.ordered frame.pairs_in.within in
+    subst (λ (ks : List Hypothesis). HavePlaces (variables_of ks) among) (sym part_is)
+    (subst (HavePlaces (variables_of (slice_range hs info.hypotheses.start info.hypotheses.end))) (sym among_are) frame.placed)
+
+-- they are those among the mandatory hypotheses
+pub mandatory_places : (st : List Sentence) (labels : List (List ℕ)) (named : List LabelInfo) (log : List Entry) (hs : List Hypothesis) (pairs : List DistinctPair) (pieces : List Piece) (id place : ℕ) (s : Sentence) (info : LabelInfo) (among : List DistinctPair)
+    → AreLabelInfos st labels named log → AreFrames st hs pairs pieces named → HaveTypings st hs → slice_get named id ≡ Some info
+    → (info.pairs.start ≤ info.pairs.end → info.pairs.end ≤ length pairs → among ≡ slice_range pairs info.pairs.start info.pairs.end)
+    → IsNumbered st id place s → IsAssertion s.kind → HaveMandatoryPlaces (at_place st place) among
+mandatory_places st labels named log hs pairs pieces id place s info among are frames typed there pairs_are numbered asserts =
+    let part = slice_range hs info.hypotheses.start info.hypotheses.end in (
+      part,
+      frame_hypotheses st labels named log hs pairs pieces id place s info part are frames there (λ ordered within. refl) numbered asserts,
+      frame_typings st labels named log hs pairs pieces id place s info part are frames typed there (λ ordered within. refl) numbered asserts,
+      frame_places st labels named log hs pairs pieces id place s info part among are frames there (λ ordered within. refl) pairs_are numbered asserts,
+    )
 
 -- the patterns of an assertion and of its `$e`
-pub frame_patterns : (st : List Sentence) (labels : List (List ℕ)) (named : List LabelInfo) (log : List Entry) (hs : List Hypothesis) (pairs : List (Sym × Sym)) (pieces : List Piece) (id place : ℕ) (s : Sentence) (info : LabelInfo) (part : List Hypothesis) (conclusion : List Piece)
+pub frame_patterns : (st : List Sentence) (labels : List (List ℕ)) (named : List LabelInfo) (log : List Entry) (hs : List Hypothesis) (pairs : List DistinctPair) (pieces : List Piece) (id place : ℕ) (s : Sentence) (info : LabelInfo) (part : List Hypothesis) (conclusion : List Piece)
     → AreLabelInfos st labels named log → AreFrames st hs pairs pieces named → slice_get named id ≡ Some info
     → (info.hypotheses.start ≤ info.hypotheses.end → info.hypotheses.end ≤ length hs → part ≡ slice_range hs info.hypotheses.start info.hypotheses.end)
     → (info.conclusion.start ≤ info.conclusion.end → info.conclusion.end ≤ length pieces → conclusion ≡ slice_range pieces info.conclusion.start info.conclusion.end)

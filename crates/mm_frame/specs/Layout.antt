@@ -3,6 +3,7 @@
 use Rattle.std.specs.Prelude.{◌≡◌, ℕ, ◌+◌, ◌*◌, ◌<◌, ◌≤◌, List, [], length, map, take, slice_get}
 use Rattle.std.specs.Prelude.{slice_range, Option, Some, None, Contains, unwrap_or, ◌⊎◌}
 use Rattle.mm_text.specs.declared.statement.Kind.TheVariants.{Variables, Essential, Distinct}
+use Rattle.mm_frame.specs.declared.distinct.DistinctPair.{DistinctPair}
 use Rattle.mm_frame.specs.declared.hypothesis.Hypothesis.{Hypothesis}
 use Rattle.mm_frame.specs.declared.number.LabelId.{LabelId}
 use Rattle.mm_frame.specs.declared.number.Sym.{Sym}
@@ -17,7 +18,7 @@ use Rattle.mm_frame.specs.Active.{IsActive, IsConstant, IsVariable}
 use Rattle.mm_frame.specs.Form.{IsSound}
 use Rattle.mm_frame.specs.Numbers.{symbols_of, labelled_sentences, IsNumbered}
 use Rattle.mm_frame.specs.FramePlace.{AreHypotheses, HaveTypings, ArePairs}
-use Rattle.mm_frame.specs.Pieces.{variables_of, AreItsPieces, HavePatterns}
+use Rattle.mm_frame.specs.Pieces.{variables_of, AreItsPieces, HavePatterns, HavePlaces}
 use Rattle.mm_frame.specs.Database.{Database}
 use Rattle.mm_frame.specs.Latest.{IsLatest}
 use Rattle.mm_frame.specs.ScopesOf.{HaveScopes}
@@ -128,14 +129,18 @@ pub record AreEssentials (statements : List Sentence) (places : List ℕ) : Type
 
 -- the frame of an assertion
 pub record IsFrameInfo (statements : List Sentence) (hypotheses : List Hypothesis)
-    (pairs : List (Sym × Sym)) (pieces : List Piece) (info : LabelInfo) : Type 0 where
+    (pairs : List DistinctPair) (pieces : List Piece) (info : LabelInfo) : Type 0 where
   pub hypotheses_in : IsPartWithin info.hypotheses (length hypotheses)
   pub pairs_in : IsPartWithin info.pairs (length pairs)
   pub conclusion_in : IsPartWithin info.conclusion (length pieces)
   pub are_hypotheses : AreHypotheses (record { statements = statements; place = info.place })
       (map (λ h. h.id.0) (slice_range hypotheses info.hypotheses.start info.hypotheses.end))
   pub are_pairs : ArePairs (record { statements = statements; place = info.place })
-      (map (λ pair. (pair.0.0, pair.1.0)) (slice_range pairs info.pairs.start info.pairs.end))
+      (map (λ pair. (pair.variables.0.0, pair.variables.1.0))
+      (slice_range pairs info.pairs.start info.pairs.end))
+  pub placed : HavePlaces
+      (variables_of (slice_range hypotheses info.hypotheses.start info.hypotheses.end))
+      (slice_range pairs info.pairs.start info.pairs.end)
   pub concluded : (s : Sentence) × (slice_get statements info.place ≡ Some s)
       × AreItsPieces statements
       (variables_of (slice_range hypotheses info.hypotheses.start info.hypotheses.end)) s
@@ -145,7 +150,7 @@ pub record IsFrameInfo (statements : List Sentence) (hypotheses : List Hypothesi
       (slice_range hypotheses info.hypotheses.start info.hypotheses.end)
 
 -- the frames of all assertions
-abbrev pub AreFrames : List Sentence → List Hypothesis → List (Sym × Sym) → List Piece
+abbrev pub AreFrames : List Sentence → List Hypothesis → List DistinctPair → List Piece
     → List LabelInfo → Type 0
 AreFrames statements hypotheses pairs pieces named =
     (id : ℕ) (info : LabelInfo) (s : Sentence) → slice_get named id ≡ Some info

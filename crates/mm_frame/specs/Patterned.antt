@@ -12,7 +12,7 @@ use Rattle.mm_frame.specs.declared.tables.Part.{Part}
 use Rattle.mm_frame.specs.declared.tables.Tables.{Tables}
 use Rattle.mm_frame.specs.Sentence.{Sentence}
 use Rattle.mm_frame.specs.Pieces.{variables_of, ArePieces, AreItsPieces}
-use Rattle.mm_frame.specs.Pieces.{HasPattern, HavePatterns}
+use Rattle.mm_frame.specs.Pieces.{HasPattern, HavePatterns, HavePlaces, IsNowhere}
 use Rattle.mm_frame.specs.FramePlace.{FramePlace, AreHypotheses, HaveTypings, ArePairs}
 use Rattle.mm_frame.specs.Layout.{AreTables, statements_of}
 use Rattle.mm_frame.specs.Gathered.{ArePlaces, AreThoseAt}
@@ -68,11 +68,19 @@ pub record ArePatterned (statements : List Sentence) (numbers : List ℕ) (old n
   pub concluded : IsPatternAt (variables_of new) numbers pieces conclusion
   pub patterned : HavePatterns statements (variables_of new) pieces new
 
+-- each variable of the pairs is that of a `$f` among the hypotheses
+abbrev pub AreAmong : List (Option ℕ) → List (Sym × Sym) → Type 0
+AreAmong variables pairs =
+    (i : ℕ) (pair : Sym × Sym) → slice_get pairs i ≡ Some pair
+    → ¬ (IsNowhere pair.0.0 variables) × ¬ (IsNowhere pair.1.0 variables)
+
 -- this is what a step by the assertion at a place in its book asks of it
 pub record IsSchemeOf (frame : FramePlace) (scheme : Scheme) : Type 0 where
   pub ids : AreHypotheses frame (map (λ h. h.id.0) scheme.hypotheses.now)
   pub typed : HaveTypings frame.statements scheme.hypotheses.now
-  pub pairs : ArePairs frame (map (λ pair. (pair.0.0, pair.1.0)) scheme.pairs.now)
+  pub pairs : ArePairs frame
+      (map (λ pair. (pair.variables.0.0, pair.variables.1.0)) scheme.pairs.now)
+  pub places : HavePlaces (variables_of scheme.hypotheses.now) scheme.pairs.now
   pub conclusion : (s : Sentence) × (slice_get frame.statements frame.place ≡ Some s)
       × AreItsPieces frame.statements (variables_of scheme.hypotheses.now) s scheme.conclusion.now
   pub patterns : HavePatterns frame.statements (variables_of scheme.hypotheses.now)

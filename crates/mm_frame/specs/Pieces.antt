@@ -4,11 +4,13 @@
 use Rattle.std.specs.Prelude.{◌≡◌, ℕ, ◌<◌, ◌≤◌, ◌==◌, List, length, map, slice_get, slice_range}
 use Rattle.std.specs.Prelude.{slice_index_or, Bool, true, false, Option, Some, None, option_map}
 use Rattle.std.specs.List.{AllZip}
+use Rattle.mm_frame.specs.declared.distinct.DistinctPair.{DistinctPair}
 use Rattle.mm_frame.specs.declared.hypothesis.Hypothesis.{Hypothesis}
 use Rattle.mm_frame.specs.declared.piece.Piece.{Piece}
 use Rattle.mm_frame.specs.declared.piece.Piece.TheVariants.{Symbol, Value}
 use Rattle.mm_frame.specs.Sentence.{Sentence}
 use Rattle.mm_frame.specs.Numbers.{labelled_sentences, AreNumbers}
+use Rattle.mm_frame.specs.FramePlace.{FramePlace, AreHypotheses, HaveTypings}
 
 -- for each hypothesis the number of its variable, if it is a `$f`; and none for a `$e`
 abbrev pub variables_of : List Hypothesis → List (Option ℕ)
@@ -60,3 +62,20 @@ abbrev pub HavePatterns : List Sentence → List (Option ℕ) → List Piece →
 HavePatterns statements variables pieces hypotheses =
     (i : ℕ) (hypothesis : Hypothesis) → slice_get hypotheses i ≡ Some hypothesis
     → HasPattern statements variables pieces hypothesis
+
+-- the place of each variable of the pair is that of its `$f` among the hypotheses
+abbrev pub HasPlaces : List (Option ℕ) → DistinctPair → Type 0
+HasPlaces variables pair =
+    IsFirstAt pair.variables.0.0 variables pair.places.0
+    × IsFirstAt pair.variables.1.0 variables pair.places.1
+
+-- the places of each of these pairs are so
+abbrev pub HavePlaces : List (Option ℕ) → List DistinctPair → Type 0
+HavePlaces variables pairs =
+    (i : ℕ) (pair : DistinctPair) → slice_get pairs i ≡ Some pair → HasPlaces variables pair
+
+-- the places of each of these pairs are those among the mandatory hypotheses
+abbrev pub HaveMandatoryPlaces : FramePlace → List DistinctPair → Type 0
+HaveMandatoryPlaces frame pairs =
+    (hypotheses : List Hypothesis) × AreHypotheses frame (map (λ h. h.id.0) hypotheses)
+    × HaveTypings frame.statements hypotheses × HavePlaces (variables_of hypotheses) pairs

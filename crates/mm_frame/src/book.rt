@@ -18,9 +18,11 @@ ghost use Rattle.mm_frame.specs.Numbers.{IsAssertionNumber};
 ghost use Rattle.mm_frame.specs.Found.{Finds};
 ghost use Rattle.mm_frame.specs.Taken.{TakenAs, kind_behind};
 ghost use Rattle.mm_frame.specs.FramePlace.{AreHypotheses, HaveTypings, ArePairs};
+ghost use Rattle.mm_frame.specs.Pieces.{HaveMandatoryPlaces};
 ghost use Rattle.mm_frame.specs.Patterned.{IsSchemeOf};
 
 use crate::answer::{Found, RuleFault, Taken};
+use crate::distinct::DistinctPair;
 use crate::frame::Frame;
 use crate::framing::FrameLists;
 use crate::hypothesis::Hypothesis;
@@ -245,11 +247,15 @@ impl<'a> Book<'a> {
     }
 
     // The mandatory distinct pairs of an assertion.
-    pub(crate) fn pairs(&self, id: LabelId) -> &[(Sym, Sym)]
-        ensures { (place : ℕ) (s : Sentence) → IsNumbered self.now.statements id.0 place s
+    pub(crate) fn pairs(&self, id: LabelId) -> &[DistinctPair]
+        ensures variables { (place : ℕ) (s : Sentence) → IsNumbered self.now.statements id.0 place s
             → IsAssertion s.kind → ArePairs
             (record { statements = self.now.statements; place = place })
-            (map (λ pair. (pair.0.0, pair.1.0)) result.now) }
+            (map (λ pair. (pair.variables.0.0, pair.variables.1.0)) result.now) }
+        ensures places { (place : ℕ) (s : Sentence)
+            → IsNumbered self.now.statements id.0 place s → IsAssertion s.kind
+            → HaveMandatoryPlaces
+            (record { statements = self.now.statements; place = place }) result.now }
     {
         label_pairs(&self.tables, id)
     }

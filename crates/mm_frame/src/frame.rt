@@ -8,8 +8,10 @@ ghost use Rattle.mm_frame.specs.Numbers.{IsNumbered, IsNumberOf};
 ghost use Rattle.mm_frame.specs.FramePlace.{AreHypotheses, HaveTypings, ArePairs};
 ghost use Rattle.mm_frame.specs.FramePlace.{AreItsSymbols, before_it};
 ghost use Rattle.mm_frame.specs.Pieces.{variables_of, AreItsPieces, HavePatterns};
+ghost use Rattle.mm_frame.specs.Pieces.{HavePlaces, HaveMandatoryPlaces};
 
 use crate::book::Book;
+use crate::distinct::DistinctPair;
 use crate::hypothesis::Hypothesis;
 use crate::number::{LabelId, Sym};
 use crate::scheme::Scheme;
@@ -43,7 +45,9 @@ impl<'b, 'a> Frame<'b, 'a> {
     pub fn scheme(&self) -> Scheme<'b>
         ensures ids { AreHypotheses self.now (map (λ h. h.id.0) result.hypotheses.now) }
         ensures typed { HaveTypings self.now.statements result.hypotheses.now }
-        ensures pairs { ArePairs self.now (map (λ pair. (pair.0.0, pair.1.0)) result.pairs.now) }
+        ensures pairs { ArePairs self.now
+            (map (λ pair. (pair.variables.0.0, pair.variables.1.0)) result.pairs.now) }
+        ensures places { HavePlaces (variables_of result.hypotheses.now) result.pairs.now }
         ensures conclusion { (s : Sentence)
             × (slice_get self.now.statements self.now.place ≡ Some s)
             × AreItsPieces self.now.statements (variables_of result.hypotheses.now) s
@@ -62,9 +66,11 @@ impl<'b, 'a> Frame<'b, 'a> {
         self.book.hypotheses(self.id)
     }
 
-    /// The mandatory distinct pairs, each in one order.
-    pub fn pairs(&self) -> &'b [(Sym, Sym)]
-        ensures { ArePairs self.now (map (λ pair. (pair.0.0, pair.1.0)) result.now) }
+    /// The mandatory distinct pairs, each once.
+    pub fn pairs(&self) -> &'b [DistinctPair]
+        ensures variables { ArePairs self.now
+            (map (λ pair. (pair.variables.0.0, pair.variables.1.0)) result.now) }
+        ensures places { HaveMandatoryPlaces self.now result.now }
     {
         self.book.pairs(self.id)
     }

@@ -4,6 +4,7 @@
 mod answer;
 mod book;
 mod declare;
+mod distinct;
 mod frame;
 mod framing;
 mod growth;
@@ -30,6 +31,7 @@ mod tables;
 
 pub use answer::{Found, RuleFault, Taken};
 pub use book::Book;
+pub use distinct::DistinctPair;
 pub use frame::Frame;
 pub use hypothesis::Hypothesis;
 pub use laws::{

@@ -14,6 +14,7 @@ ghost use Rattle.mm_frame.specs.Grows.{Grows, IsSame};
 ghost use Rattle.mm_frame.specs.Naming.{Named, HaveNameRoom, part_after};
 
 use crate::answer::Taken;
+use crate::distinct::placed_pairs;
 use crate::framing::{FrameLists, find_hypotheses, find_mandatory, mandatory_pairs};
 use crate::lists::{at, put};
 use crate::number::{LabelId, Sym};
@@ -160,7 +161,8 @@ impl<'a> Tables<'a> {
     {
         find_mandatory(self, numbers, &mut lists.places)?;
         find_hypotheses(self, &lists.places, &mut lists.hypotheses)?;
-        let pairs = mandatory_pairs(self, &lists.places, &mut lists.variables)?;
+        let apart = mandatory_pairs(self, &lists.places, &mut lists.variables)?;
+        let pairs = placed_pairs(self.alloc, &lists.hypotheses, &apart)?;
         self.reserve(numbers.len())?;
         self.hypotheses.reserve(lists.hypotheses.len())?;
         self.pairs.reserve(pairs.len())?;

@@ -9,10 +9,12 @@ ghost use Rattle.mm_frame.specs.Numbers.{AreNumbers, IsNumbered};
 ghost use Rattle.mm_frame.specs.Found.{Finds};
 ghost use Rattle.mm_frame.specs.Taken.{kind_behind};
 ghost use Rattle.mm_frame.specs.FramePlace.{AreHypotheses, HaveTypings, ArePairs};
+ghost use Rattle.mm_frame.specs.Pieces.{HaveMandatoryPlaces};
 ghost use Rattle.mm_frame.specs.Layout.{AreTables, statements_of};
 ghost use Rattle.mm_frame.specs.Patterned.{IsSchemeOf};
 
 use crate::answer::Found;
+use crate::distinct::DistinctPair;
 use crate::hypothesis::Hypothesis;
 use crate::number::{LabelId, LabelKind, Sym};
 use crate::scheme::Scheme;
@@ -144,12 +146,16 @@ pub(crate) fn label_hypotheses<'b>(tables: &'b Tables, id: LabelId) -> &'b [Hypo
 }
 
 // The mandatory distinct pairs of an assertion.
-pub(crate) fn label_pairs<'b>(tables: &'b Tables, id: LabelId) -> &'b [(Sym, Sym)]
+pub(crate) fn label_pairs<'b>(tables: &'b Tables, id: LabelId) -> &'b [DistinctPair]
     requires { AreTables tables.now }
-    ensures { (place : ℕ) (s : Sentence) → IsNumbered (statements_of tables.now) id.0 place s
+    ensures variables { (place : ℕ) (s : Sentence) → IsNumbered (statements_of tables.now) id.0 place s
         → IsAssertion s.kind → ArePairs
         (record { statements = statements_of tables.now; place = place })
-        (map (λ pair. (pair.0.0, pair.1.0)) result.now) }
+        (map (λ pair. (pair.variables.0.0, pair.variables.1.0)) result.now) }
+    ensures places { (place : ℕ) (s : Sentence)
+        → IsNumbered (statements_of tables.now) id.0 place s → IsAssertion s.kind
+        → HaveMandatoryPlaces
+        (record { statements = statements_of tables.now; place = place }) result.now }
 {
     match tables.label_info(id) {
         Some(info) => part_of(&tables.pairs, info.pairs),

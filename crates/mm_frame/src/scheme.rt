@@ -3,6 +3,7 @@
 ghost use Rattle.std.specs.Prelude.{◌≡◌, ◌≤◌, MatchOption, length, slice_range};
 ghost use Rattle.mm_frame.specs.Pieces.{variables_of, IsNowhere, IsFirstAt};
 
+use crate::distinct::DistinctPair;
 use crate::hypothesis::Hypothesis;
 use crate::number::Sym;
 use crate::piece::Piece;
@@ -14,8 +15,8 @@ use crate::tables::part_of;
 pub struct Scheme<'b> {
     /// The mandatory hypotheses, in database order.
     pub hypotheses: &'b [Hypothesis],
-    /// The mandatory distinct pairs, each in one order.
-    pub pairs: &'b [(Sym, Sym)],
+    /// The mandatory distinct pairs, each once.
+    pub pairs: &'b [DistinctPair],
     /// The pattern of the assertion.
     pub conclusion: &'b [Piece],
     /// The list in which the patterns of the `$e` are parts.

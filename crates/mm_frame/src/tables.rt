@@ -6,6 +6,7 @@ ghost use Rattle.mm_frame.specs.Sentence.{Sentence};
 ghost use Rattle.mm_frame.specs.Numbers.{AreNumbers};
 ghost use Rattle.mm_frame.specs.Layout.{AreTables, statements_of};
 
+use crate::distinct::DistinctPair;
 use crate::hypothesis::Hypothesis;
 use crate::lists::at;
 use crate::names::Names;
@@ -107,7 +108,7 @@ pub struct Tables<'a> {
     pub(crate) essentials: Vec<usize>,
     /// The mandatory hypotheses of all assertions, one after the other, and their distinct pairs.
     pub(crate) hypotheses: Vec<Hypothesis>,
-    pub(crate) pairs: Vec<(Sym, Sym)>,
+    pub(crate) pairs: Vec<DistinctPair>,
     /// The patterns of all assertions and of their `$e`, one after the other.
     pub(crate) pieces: Vec<Piece>,
     /// The pairs that `$d` state.

@@ -3,6 +3,7 @@ use Rattle.std.proofs.Common.{◌≡◌, ℕ, zero, suc, ◌+◌, ◌<◌, ◌�
 use Rattle.std.proofs.lemmas.Bool.{false≢true, cases_lt}
 use Rattle.std.proofs.lemmas.List.{length-map, get_or_default}
 use Rattle.mm_text.specs.declared.statement.Kind.TheVariants.{Constants, Variables}
+use Rattle.mm_frame.specs.declared.distinct.DistinctPair.{DistinctPair}
 use Rattle.mm_frame.specs.declared.number.Sym.{Sym}
 use Rattle.mm_frame.specs.Sentence.{Sentence, Declares}
 use Rattle.mm_frame.specs.Active.{IsVariable}
@@ -124,18 +125,24 @@ near_told st place e f k all se sf less near distinct =
     decided (yes d) u v f = d
     decided (no n) u v f = absurd (u (λ x. v (λ y. n (f x y))))
 
+rest_symbols : (st before : List Sentence) (l : List ℕ) → AreDeclaredSymbols st before l → AreDeclaredSymbols st before (drop 1 l)
+rest_symbols st before [] all = tt
+rest_symbols st before (n ∷ l) all = all.1
+
+-- what follows the type code of an entry has symbols
+pub entry_symbols : (st before : List Sentence) (es : List (List ℕ)) (i : ℕ) → AreStackEntries st before es → AreDeclaredSymbols st before (drop 1 (get_or es i []))
+entry_symbols st before [] i all = tt
+entry_symbols st before (e ∷ es) zero all = rest_symbols st before e all.0
+entry_symbols st before (e ∷ es) (suc i) all = entry_symbols st before es i all.1
+
 -- what replaces a symbol has symbols
 pub value_symbols : (st before : List Sentence) (vs : List (Option ℕ)) (es : List (List ℕ)) (n : ℕ) (v : List ℕ) → AreStackEntries st before es → value_of vs es n ≡ Some v → AreDeclaredSymbols st before v
 value_symbols st before [] es n v all is = absurd cc
 value_symbols st before (x ∷ vs) [] n v all is = absurd cc
 value_symbols st before (x ∷ vs) (e ∷ es) n v all is = go (is_of n x) is (value_symbols st before vs es n v all.1)
   where
-    tail : (l : List ℕ) → AreDeclaredSymbols st before l → AreDeclaredSymbols st before (drop 1 l)
-    tail [] a = tt
-    tail (y ∷ l) a = a.1
-
     go : (b : Bool) → cond b (Some (drop 1 e)) (value_of vs es n) ≡ Some v → (value_of vs es n ≡ Some v → AreDeclaredSymbols st before v) → AreDeclaredSymbols st before v
-    go true s later = subst (AreDeclaredSymbols st before) (same_Some (drop 1 e) v s) (tail e all.0)
+    go true s later = subst (AreDeclaredSymbols st before) (same_Some (drop 1 e) v s) (rest_symbols st before e all.0)
     go false s later = later s
 
 -- the one pair of values is so or not
@@ -151,26 +158,26 @@ values_apart σ x y e f P true at_x at_y h =
     λ a b p q. subst (λ l. P l b) (same_Some e a (sym at_x ∙ p)) (subst (P e) (same_Some f b (sym at_y ∙ q)) h)
 values_apart σ x y e f P false at_x at_y h = (e, f, at_x, at_y, h)
 
-pub pair_at : (pairs : List (Sym × Sym)) (k : ℕ) (d : Sym × Sym) → k < length pairs → slice_get (pairs_in pairs) k ≡ Some ((get_or pairs k d).0.0, (get_or pairs k d).1.0)
+pub pair_at : (pairs : List DistinctPair) (k : ℕ) (d : DistinctPair) → k < length pairs → slice_get (pairs_in pairs) k ≡ Some ((get_or pairs k d).variables.0.0, (get_or pairs k d).variables.1.0)
 pair_at [] k d less = absurd (omega arith)
 pair_at (p ∷ pairs) zero d less = refl
 pair_at (p ∷ pairs) (suc k) d less = pair_at pairs k d (omega arith)
 
-pub pairs_more : (σ : ℕ → Option (List ℕ)) (pairs : List (Sym × Sym)) (P : List ℕ → List ℕ → Type 0) (n : ℕ) (d : Sym × Sym) → n < length pairs
-    → ((k : ℕ) (p : ℕ × ℕ) → k < n → slice_get (pairs_in pairs) k ≡ Some p → EachValues σ p.0 p.1 P) → EachValues σ (get_or pairs n d).0.0 (get_or pairs n d).1.0 P
+pub pairs_more : (σ : ℕ → Option (List ℕ)) (pairs : List DistinctPair) (P : List ℕ → List ℕ → Type 0) (n : ℕ) (d : DistinctPair) → n < length pairs
+    → ((k : ℕ) (p : ℕ × ℕ) → k < n → slice_get (pairs_in pairs) k ≡ Some p → EachValues σ p.0 p.1 P) → EachValues σ (get_or pairs n d).variables.0.0 (get_or pairs n d).variables.1.0 P
     → (k : ℕ) (p : ℕ × ℕ) → k < n + 1 → slice_get (pairs_in pairs) k ≡ Some p → EachValues σ p.0 p.1 P
 pairs_more σ pairs P n d less below here k p lt at = elim (cases_lt k n) [
   | inl l ↦ below k p l at
   | inr m ↦
       let same : k ≡ n = omega arith in
-      let one = same_Some ((get_or pairs n d).0.0, (get_or pairs n d).1.0) p (sym (pair_at pairs n d less) ∙ ap (slice_get (pairs_in pairs)) (sym same) ∙ at) in
+      let one = same_Some ((get_or pairs n d).variables.0.0, (get_or pairs n d).variables.1.0) p (sym (pair_at pairs n d less) ∙ ap (slice_get (pairs_in pairs)) (sym same) ∙ at) in
       subst (λ (q : ℕ × ℕ). EachValues σ q.0 q.1 P) one here
 ]
 
 -- what a pair that isn't there is read as
-abbrev pub no_pair : Sym × Sym
-no_pair = (record { 0 = 0 }, record { 0 = 0 })
+abbrev pub no_pair : DistinctPair
+no_pair = record { variables = (record { 0 = 0 }, record { 0 = 0 }); places = (0, 0) }
 
-pub pairs_length : (pairs : List (Sym × Sym)) → length (pairs_in pairs) ≡ length pairs
+pub pairs_length : (pairs : List DistinctPair) → length (pairs_in pairs) ≡ length pairs
 pairs_length [] = refl
 pairs_length (p ∷ pairs) = ap suc (pairs_length pairs)

@@ -35,6 +35,11 @@ value_first n (v ∷ variables) (x ∷ entries) (suc place) e f at =
     rw (f.first 0 (omega arith)) (value_first n variables entries place e
     (record { within = (let l : suc place < suc (length variables) = f.within in omega arith); is = f.is; first = λ k less. f.first (suc k) (omega arith) }) at)
 
+-- what replaces the variable whose `$f` stands at the place
+pub value_placed : (n : ℕ) (variables : List (Option ℕ)) (entries : List (List ℕ)) (place : ℕ) (v : List ℕ) → IsFirstAt n variables place → place < length entries → v ≡ drop 1 (get_or entries place [])
+    → value_of variables entries n ≡ Some v
+value_placed n variables entries place v first less is = value_first n variables entries place (get_or entries place []) first (slice_get-get_or entries place [] less) ∙ ap Some (sym is)
+
 pub drop_get : {X : Type 0} (xs : List X) (base i : ℕ) → slice_get (drop base xs) i ≡ slice_get xs (base + i)
 drop_get xs zero i = let e : 0 + i ≡ i = omega arith in ap (slice_get xs) (sym e)
 drop_get [] (suc base) i = refl

@@ -4,7 +4,7 @@ use Rattle.mm_frame.specs.Sentence.{Sentence, IsAssertion, IsHypothesis}
 use Rattle.mm_frame.specs.Frame.{AreMandatory}
 use Rattle.mm_frame.specs.Numbers.{IsNumbered, AreNumbers}
 use Rattle.mm_frame.specs.FramePlace.{ArePairs, AreHypotheses, HaveTypings}
-use Rattle.mm_frame.specs.Pieces.{variables_of, AreItsPieces, HavePatterns}
+use Rattle.mm_frame.specs.Pieces.{variables_of, AreItsPieces, HavePatterns, HavePlaces}
 use Rattle.mm_frame.specs.declared.piece.Piece.{Piece}
 use Rattle.mm_frame.specs.declared.scheme.Scheme.{Scheme}
 use Rattle.mm_proof.specs.declared.call.Call.{Call}
@@ -60,6 +60,7 @@ pub record IsEarlierScheme (statements : List Sentence) (place id : ℕ)
       (label_ids scheme.hypotheses.now)
   pub typed : HaveTypings statements scheme.hypotheses.now
   pub pairs : ArePairs (record { statements = statements; place = at }) (pairs_in scheme.pairs.now)
+  pub placed : HavePlaces (variables_of scheme.hypotheses.now) scheme.pairs.now
   pub concluded : AreItsPieces statements (variables_of scheme.hypotheses.now) s
       scheme.conclusion.now
   pub patterned : HavePatterns statements (variables_of scheme.hypotheses.now) scheme.pieces.now

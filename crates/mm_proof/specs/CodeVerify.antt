@@ -5,7 +5,7 @@ use Rattle.std.specs.Prelude.{true, option_map, is_some, unwrap_or, if◌then◌
 use Rattle.std.specs.List.{flat_map, AllByRecursion, AllZip}
 use Rattle.mm_text.specs.declared.statement.Kind.TheVariants.{Floating, Essential}
 use Rattle.mm_proof.specs.Substitution.{instance_of}
-use Rattle.mm_frame.specs.declared.number.Sym.{Sym}
+use Rattle.mm_frame.specs.declared.distinct.DistinctPair.{DistinctPair}
 use Rattle.mm_frame.specs.declared.piece.Piece.{Piece}
 use Rattle.mm_frame.specs.declared.piece.Piece.TheVariants as pieces
 use Rattle.mm_frame.specs.Pieces.{is_of}
@@ -136,8 +136,8 @@ abbrev pub SomeValues : (ℕ → Option (List ℕ)) → ℕ → ℕ → (List �
 SomeValues σ x y P = (e : List ℕ) × (f : List ℕ) × (σ x ≡ Some e) × (σ y ≡ Some f) × P e f
 
 -- pairs of symbols by numbers
-abbrev pub pairs_in : List (Sym × Sym) → List (ℕ × ℕ)
-pairs_in pairs = map (λ p. (p.0.0, p.1.0)) pairs
+abbrev pub pairs_in : List DistinctPair → List (ℕ × ℕ)
+pairs_in pairs = map (λ p. (p.variables.0.0, p.variables.1.0)) pairs
 
 abbrev pub EachPairValues : (ℕ → Option (List ℕ)) → List (ℕ × ℕ) → (List ℕ → List ℕ → Type 0)
     → Type 0

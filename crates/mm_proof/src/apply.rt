@@ -6,7 +6,7 @@ ghost use Rattle.std.specs.List.{AllByRecursion};
 ghost use Rattle.mm_frame.specs.Sentence.{Sentence};
 ghost use Rattle.mm_frame.specs.Form.{IsSound};
 ghost use Rattle.mm_frame.specs.FramePlace.{ArePairs, HaveTypings};
-ghost use Rattle.mm_frame.specs.Pieces.{variables_of, HavePatterns};
+ghost use Rattle.mm_frame.specs.Pieces.{variables_of, HavePatterns, HavePlaces};
 ghost use Rattle.mm_proof.specs.CodeSteps.{label_ids};
 ghost use Rattle.mm_proof.specs.CodeVerify.{AreVariablesOf, AreStackEntries, EachIsSome};
 ghost use Rattle.mm_proof.specs.CodeVerify.{EachEntry, IsWithinPlaces};
@@ -36,6 +36,7 @@ fn rule_broken<S: Store>(
     requires typed { HaveTypings book.now.statements scheme.now.hypotheses.now }
     requires patterns { HavePatterns book.now.statements (variables_of scheme.now.hypotheses.now)
         scheme.now.pieces.now scheme.now.hypotheses.now }
+    requires places { HavePlaces (variables_of scheme.now.hypotheses.now) scheme.now.pairs.now }
     requires floating { IsTrue floating → EachIsSome (variables_of scheme.now.hypotheses.now) }
     requires entries { base + length scheme.now.hypotheses.now ≡ length (S.stack store.now) }
     requires fits { length (S.stack store.now) < 2 ^ 64 }
@@ -61,10 +62,10 @@ fn rule_broken<S: Store>(
     // What is apart shares nothing, so that where all is well one question is enough. Where some
     // pair isn't apart, P12 is broken; but P11 comes before it, and so is asked before P12 is
     // answered.
-    if are_apart_pairs(store, base, scheme.hypotheses, book, own, scheme.pairs) {
+    if are_apart_pairs(store, base, book, own, scheme) {
         return None;
     }
-    if has_shared_pair(store, base, scheme.hypotheses, book, own, scheme.pairs) {
+    if has_shared_pair(store, base, book, own, scheme) {
         return Some(ProofRule::P11);
     }
     Some(ProofRule::P12)

@@ -1,11 +1,11 @@
 //! The distinct pairs of a step by an assertion: P11 and P12.
 
-ghost use Rattle.std.specs.Prelude.{◌≡◌, ◌↔◌, ◌+◌, ◌<◌, ◌^◌, length, drop, take, Contains, IsTrue};
-ghost use Rattle.std.specs.Prelude.{MatchBool};
+ghost use Rattle.std.specs.Prelude.{◌≡◌, ◌↔◌, ℕ, ◌+◌, ◌<◌, ◌^◌, List, length, drop, take};
+ghost use Rattle.std.specs.Prelude.{Contains, IsTrue, MatchBool, Option};
 ghost use Rattle.mm_frame.specs.Active.{IsVariable};
 ghost use Rattle.mm_frame.specs.Form.{IsSound};
 ghost use Rattle.mm_frame.specs.Numbers.{symbols_of};
-ghost use Rattle.mm_frame.specs.Pieces.{variables_of};
+ghost use Rattle.mm_frame.specs.Pieces.{variables_of, HasPlaces, HavePlaces};
 ghost use Rattle.mm_proof.specs.Tree.{ShareNoVariable, AreDistinct};
 ghost use Rattle.mm_proof.specs.Stores.{numbers_in};
 ghost use Rattle.mm_proof.specs.CodeVerify.{AreDeclaredSymbols, AreStackEntries, SomeValues};
@@ -15,8 +15,8 @@ ghost use Rattle.mm_proof.specs.CodeVerify.{IsApart, IsApartFromEach, name_at};
 ghost use Rattle.mm_proof.specs.CodeVerify.{names_at};
 
 use crate::store::Store;
-use crate::substitution::value;
-use mm_frame::{Book, Frame, Hypothesis, Sym, one_number};
+use crate::substitution::value_at;
+use mm_frame::{Book, DistinctPair, Frame, Scheme, Sym, one_number};
 
 // Whether the symbol is one of these.
 fn has_symbol(symbols: &[Sym], symbol: Sym) -> bool
@@ -135,34 +135,31 @@ fn are_apart(book: &Book, own: &Frame, e: &[Sym], f: &[Sym]) -> bool
 fn is_shared_pair<S: Store>(
     store: &S,
     base: usize,
-    hypotheses: &[Hypothesis],
     book: &Book,
     own: &Frame,
-    pair: (Sym, Sym),
+    pair: DistinctPair,
 ) -> bool
     requires sound { IsSound book.now.statements }
     requires book { own.now.statements ≡ book.now.statements }
-    requires entries { base + length hypotheses.now ≡ length (S.stack store.now) }
+    requires first { base + pair.places.0 < length (S.stack store.now) }
+    requires second { base + pair.places.1 < length (S.stack store.now) }
     requires fits { length (S.stack store.now) < 2 ^ 64 }
     requires symbols { AreStackEntries book.now.statements (take own.now.place book.now.statements)
         (drop base (S.stack store.now)) }
-    ensures { let before = take own.now.place book.now.statements in
-        let σ = value_of (variables_of hypotheses.now) (drop base (S.stack store.now)) in
+    ensures { (variables : List (Option ℕ)) → HasPlaces variables pair
+        → let before = take own.now.place book.now.statements in
+        let σ = value_of variables (drop base (S.stack store.now)) in
         MatchBool
         result
-        (SomeValues σ pair.0.0 pair.1.0 (λ e f.
+        (SomeValues σ pair.variables.0.0 pair.variables.1.0 (λ e f.
         ¬ (ShareNoVariable before (names_at book.now.statements e)
         (names_at book.now.statements f))))
-        (EachValues σ pair.0.0 pair.1.0 (λ e f.
+        (EachValues σ pair.variables.0.0 pair.variables.1.0 (λ e f.
         ShareNoVariable before (names_at book.now.statements e) (names_at book.now.statements f))) }
 {
-    match value(store, base, hypotheses, pair.0) {
-        Some(e) => match value(store, base, hypotheses, pair.1) {
-            Some(f) => share_variable(book, own, e, f),
-            None => false,
-        },
-        None => false,
-    }
+    let e = value_at(store, base, pair.places.0);
+    let f = value_at(store, base, pair.places.1);
+    share_variable(book, own, e, f)
 }
 
 /// Whether the variables of what replaces two variables are active pairs. It is a call, as few
@@ -171,33 +168,30 @@ fn is_shared_pair<S: Store>(
 fn is_apart_pair<S: Store>(
     store: &S,
     base: usize,
-    hypotheses: &[Hypothesis],
     book: &Book,
     own: &Frame,
-    pair: (Sym, Sym),
+    pair: DistinctPair,
 ) -> bool
     requires sound { IsSound book.now.statements }
     requires book { own.now.statements ≡ book.now.statements }
-    requires entries { base + length hypotheses.now ≡ length (S.stack store.now) }
+    requires first { base + pair.places.0 < length (S.stack store.now) }
+    requires second { base + pair.places.1 < length (S.stack store.now) }
     requires fits { length (S.stack store.now) < 2 ^ 64 }
     requires symbols { AreStackEntries book.now.statements (take own.now.place book.now.statements)
         (drop base (S.stack store.now)) }
-    ensures { let before = take own.now.place book.now.statements in
-        let σ = value_of (variables_of hypotheses.now) (drop base (S.stack store.now)) in
+    ensures { (variables : List (Option ℕ)) → HasPlaces variables pair
+        → let before = take own.now.place book.now.statements in
+        let σ = value_of variables (drop base (S.stack store.now)) in
         MatchBool
         result
-        (EachValues σ pair.0.0 pair.1.0 (λ e f.
+        (EachValues σ pair.variables.0.0 pair.variables.1.0 (λ e f.
         AreDistinct before (names_at book.now.statements e) (names_at book.now.statements f)))
-        (SomeValues σ pair.0.0 pair.1.0 (λ e f.
+        (SomeValues σ pair.variables.0.0 pair.variables.1.0 (λ e f.
         ¬ (AreDistinct before (names_at book.now.statements e) (names_at book.now.statements f)))) }
 {
-    match value(store, base, hypotheses, pair.0) {
-        Some(e) => match value(store, base, hypotheses, pair.1) {
-            Some(f) => are_apart(book, own, e, f),
-            None => true,
-        },
-        None => true,
-    }
+    let e = value_at(store, base, pair.places.0);
+    let f = value_at(store, base, pair.places.1);
+    are_apart(book, own, e, f)
 }
 
 /// Whether what replaces the members of some mandatory pair shares a variable.
@@ -206,29 +200,30 @@ fn is_apart_pair<S: Store>(
 pub(crate) fn has_shared_pair<S: Store>(
     store: &S,
     base: usize,
-    hypotheses: &[Hypothesis],
     book: &Book,
     own: &Frame,
-    pairs: &[(Sym, Sym)],
+    scheme: &Scheme,
 ) -> bool
     requires sound { IsSound book.now.statements }
     requires book { own.now.statements ≡ book.now.statements }
-    requires entries { base + length hypotheses.now ≡ length (S.stack store.now) }
+    requires places { HavePlaces (variables_of scheme.now.hypotheses.now) scheme.now.pairs.now }
+    requires entries { base + length scheme.now.hypotheses.now ≡ length (S.stack store.now) }
     requires fits { length (S.stack store.now) < 2 ^ 64 }
     requires symbols { AreStackEntries book.now.statements (take own.now.place book.now.statements)
         (drop base (S.stack store.now)) }
     ensures { let before = take own.now.place book.now.statements in
-        let σ = value_of (variables_of hypotheses.now) (drop base (S.stack store.now)) in
+        let σ = value_of (variables_of scheme.now.hypotheses.now)
+        (drop base (S.stack store.now)) in
         MatchBool
         result
-        (SomePairValues σ (pairs_in pairs.now) (λ e f.
+        (SomePairValues σ (pairs_in scheme.now.pairs.now) (λ e f.
         ¬ (ShareNoVariable before (names_at book.now.statements e)
         (names_at book.now.statements f))))
-        (EachPairValues σ (pairs_in pairs.now) (λ e f.
+        (EachPairValues σ (pairs_in scheme.now.pairs.now) (λ e f.
         ShareNoVariable before (names_at book.now.statements e) (names_at book.now.statements f))) }
 {
-    for pair in pairs {
-        if is_shared_pair(store, base, hypotheses, book, own, *pair) {
+    for pair in scheme.pairs {
+        if is_shared_pair(store, base, book, own, *pair) {
             return true;
         }
     }
@@ -239,28 +234,29 @@ pub(crate) fn has_shared_pair<S: Store>(
 pub(crate) fn are_apart_pairs<S: Store>(
     store: &S,
     base: usize,
-    hypotheses: &[Hypothesis],
     book: &Book,
     own: &Frame,
-    pairs: &[(Sym, Sym)],
+    scheme: &Scheme,
 ) -> bool
     requires sound { IsSound book.now.statements }
     requires book { own.now.statements ≡ book.now.statements }
-    requires entries { base + length hypotheses.now ≡ length (S.stack store.now) }
+    requires places { HavePlaces (variables_of scheme.now.hypotheses.now) scheme.now.pairs.now }
+    requires entries { base + length scheme.now.hypotheses.now ≡ length (S.stack store.now) }
     requires fits { length (S.stack store.now) < 2 ^ 64 }
     requires symbols { AreStackEntries book.now.statements (take own.now.place book.now.statements)
         (drop base (S.stack store.now)) }
     ensures { let before = take own.now.place book.now.statements in
-        let σ = value_of (variables_of hypotheses.now) (drop base (S.stack store.now)) in
+        let σ = value_of (variables_of scheme.now.hypotheses.now)
+        (drop base (S.stack store.now)) in
         MatchBool
         result
-        (EachPairValues σ (pairs_in pairs.now) (λ e f.
+        (EachPairValues σ (pairs_in scheme.now.pairs.now) (λ e f.
         AreDistinct before (names_at book.now.statements e) (names_at book.now.statements f)))
-        (SomePairValues σ (pairs_in pairs.now) (λ e f.
+        (SomePairValues σ (pairs_in scheme.now.pairs.now) (λ e f.
         ¬ (AreDistinct before (names_at book.now.statements e) (names_at book.now.statements f)))) }
 {
-    for pair in pairs {
-        if !is_apart_pair(store, base, hypotheses, book, own, *pair) {
+    for pair in scheme.pairs {
+        if !is_apart_pair(store, base, book, own, *pair) {
             return false;
         }
     }

@@ -2,15 +2,14 @@
 //! the type code in the entry of its `$f` (the Metamath book, section 4.1.4).
 
 ghost use Rattle.std.specs.Prelude.{◌≡◌, ◌↔◌, ◌+◌, ◌≤◌, ◌<◌, ◌^◌, ◌∷◌, ◌++◌, [], ℕ, List, length};
-ghost use Rattle.std.specs.Prelude.{drop, slice_index_or, option_map, IsTrue, IfOk, MatchOption};
+ghost use Rattle.std.specs.Prelude.{drop, slice_index_or, IsTrue, IfOk, MatchOption};
 ghost use Rattle.std.specs.Prelude.{MatchBool, false};
 ghost use Rattle.std.specs.List.{AllByRecursion};
-ghost use Rattle.mm_frame.specs.Pieces.{variables_of, IsNowhere, IsFirstAt};
 ghost use Rattle.mm_proof.specs.Stores.{numbers_in};
-ghost use Rattle.mm_proof.specs.CodeVerify.{value_of, said_by, all_said_by, IsWithinPlaces};
+ghost use Rattle.mm_proof.specs.CodeVerify.{said_by, all_said_by, IsWithinPlaces};
 
 use crate::store::Store;
-use mm_frame::{Hypothesis, Piece, Sym, place_of};
+use mm_frame::{Piece, Sym};
 use std::alloc::AllocError;
 
 /// The most symbols of an expression on the stack, its type code counted.
@@ -35,27 +34,9 @@ fn after_first(entry: &[Sym]) -> &[Sym]
     }
 }
 
-/// What replaces the symbol, if it is the variable of one of the hypotheses, whose entries stand
-/// from a place of the stack on.
-pub(crate) fn value<'s, S: Store>(
-    store: &'s S,
-    base: usize,
-    hypotheses: &[Hypothesis],
-    symbol: Sym,
-) -> Option<&'s [Sym]>
-    requires entries { base + length hypotheses.now ≡ length (S.stack store.now) }
-    requires fits { length (S.stack store.now) < 2 ^ 64 }
-    ensures { option_map (λ v. numbers_in v.now) result
-        ≡ value_of (variables_of hypotheses.now) (drop base (S.stack store.now)) symbol.0 }
-{
-    match place_of(hypotheses, symbol) {
-        Some(place) => Some(after_first(store.at(base + place))),
-        None => None,
-    }
-}
-
-// What replaces the variable of the hypothesis at a place.
-fn value_at<S: Store>(store: &S, base: usize, place: u32) -> &[Sym]
+/// What replaces the variable of the hypothesis at a place among those whose entries stand from the
+/// base on.
+pub(crate) fn value_at<S: Store>(store: &S, base: usize, place: u32) -> &[Sym]
     requires entry { base + place < length (S.stack store.now) }
     requires fits { length (S.stack store.now) < 2 ^ 64 }
     ensures { numbers_in result.now

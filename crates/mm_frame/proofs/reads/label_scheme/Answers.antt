@@ -1,7 +1,7 @@
 use Rattle.std.proofs.Common.{sym, subst}
 use Rattle.mm_frame.specs.Pieces.{variables_of, HavePatterns}
 use Rattle.mm_frame.specs.Layout.{statements_of}
-use Rattle.mm_frame.proofs.ReadLaws.{frame_hypotheses, frame_typings, frame_pairs, frame_patterns, no_info}
+use Rattle.mm_frame.proofs.ReadLaws.{frame_hypotheses, frame_typings, frame_pairs, frame_places, frame_patterns, no_info}
 use Rattle.mm_frame.proofs.reads.label_scheme.Goals as goal
 
 pub returns-in-Some : goal.returns-in-Some
@@ -21,6 +21,8 @@ returns-in-Some c place s numbered asserts =
           c.requires.labels c.requires.frames c.requires.typed there hypotheses numbered asserts;
       pairs = frame_pairs st t.labels.names t.named.items t.log.items t.hypotheses.items t.pairs.items t.pieces.items c.args.id.0 place s c.in-Some.info c.part_of-in-Some.result.now
           c.requires.labels c.requires.frames there pairs numbered asserts;
+      places = frame_places st t.labels.names t.named.items t.log.items t.hypotheses.items t.pairs.items t.pieces.items c.args.id.0 place s c.in-Some.info c.part_of.result.now c.part_of-in-Some.result.now
+          c.requires.labels c.requires.frames there hypotheses pairs numbered asserts;
       conclusion = concluded;
       patterns = subst (λ ps. HavePatterns st (variables_of c.part_of.result.now) ps c.part_of.result.now) (sym c.deref-in-Some-3.ensures.value) patterned;
     }

@@ -24,4 +24,4 @@ returns-in_default c place label u =
     let same : u.at ≡ at = one_place st c.args.id.0 u.at at u.s p.0 u.numbered p.1 in
     let its = c.scheme.ensures.conclusion in
     scheme_of c.frame.result.statements st place c.args.id.0 at p.0 its.0 c.scheme.result c.frame.ensures.book p.1 p.2 (subst (λ (n : ℕ). n < place) same u.before)
-    c.scheme.ensures.ids c.scheme.ensures.typed c.scheme.ensures.pairs its.1 its.2 c.scheme.ensures.patterns
+    c.scheme.ensures.ids c.scheme.ensures.typed c.scheme.ensures.pairs c.scheme.ensures.places its.1 its.2 c.scheme.ensures.patterns

@@ -6,6 +6,6 @@ use Rattle.mm_proof.proofs.pairs.has_shared_pair.Given as goal
 
 abbrev pub invariant-loop-pair : goal.invariant-loop-pair
 invariant-loop-pair g l =
-    (k : ℕ) (p : ℕ × ℕ) → k < l.pair-index → slice_get (pairs_in l.pairs) k ≡ Some p
-    → EachValues (value_of (variables_of l.hypotheses) (drop l.base (g.S.Store.stack l.store))) p.0 p.1
+    (k : ℕ) (p : ℕ × ℕ) → k < l.pair-index → slice_get (pairs_in l.scheme.pairs.now) k ≡ Some p
+    → EachValues (value_of (variables_of l.scheme.hypotheses.now) (drop l.base (g.S.Store.stack l.store))) p.0 p.1
     (λ e f. ShareNoVariable (take l.fn.own.place l.fn.book.statements) (names_at l.fn.book.statements e) (names_at l.fn.book.statements f))

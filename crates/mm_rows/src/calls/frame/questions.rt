@@ -102,9 +102,10 @@ fn is_pair(book: &Book, assertion: &[u8], a: &[u8], b: &[u8]) -> bool {
         variable_of(book, a),
         variable_of(book, b),
     ) {
-        (Found::Assertion(id), Some(a), Some(b)) => {
-            book.frame(id).pairs() == [(a, b)].as_slice()
-        }
+        (Found::Assertion(id), Some(a), Some(b)) => match book.frame(id).pairs() {
+            [pair] => pair.variables == (a, b),
+            _ => false,
+        },
         _ => false,
     }
 }

@@ -1,6 +1,6 @@
 //! The scheme of an assertion, beside its frame.
 
-use mm_frame::{Book, Frame, Hypothesis, Piece, Scheme, Sym, place_of};
+use mm_frame::{Book, DistinctPair, Frame, Hypothesis, Piece, Scheme, Sym, place_of};
 
 /// Whether the piece says the symbol, where these are the mandatory hypotheses.
 fn is_said(hypotheses: &[Hypothesis], piece: Piece, symbol: Sym) -> bool {
@@ -29,11 +29,22 @@ fn has_pattern(book: &Book, scheme: &Scheme, hypothesis: &Hypothesis) -> bool {
         )
 }
 
-/// Whether the scheme of an assertion has what its frame has, and the patterns of its symbols.
+/// Whether the places of the pair are those of its variables.
+fn has_places(hypotheses: &[Hypothesis], pair: &DistinctPair) -> bool {
+    place_of(hypotheses, pair.variables.0) == Some(pair.places.0 as usize)
+        && place_of(hypotheses, pair.variables.1) == Some(pair.places.1 as usize)
+}
+
+/// Whether the scheme of an assertion has what its frame has, the places of the variables of its
+/// pairs, and the patterns of its symbols.
 pub(crate) fn is_scheme(book: &Book, frame: &Frame) -> bool {
     let scheme = frame.scheme();
     scheme.hypotheses == frame.hypotheses()
         && scheme.pairs == frame.pairs()
+        && scheme
+            .pairs
+            .iter()
+            .all(|pair| has_places(scheme.hypotheses, pair))
         && is_pattern(scheme.hypotheses, scheme.conclusion, frame.expression())
         && scheme
             .hypotheses

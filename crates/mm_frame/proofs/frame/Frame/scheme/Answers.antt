@@ -15,6 +15,11 @@ returns-clause-pairs c =
     let (s, numbered, is) = c.self.invariant in
     rw (← c.self.view_is) (c.scheme.ensures c.self.inside.place s numbered is).pairs
 
+pub returns-clause-places : goal.returns-clause-places
+returns-clause-places c =
+    let (s, numbered, is) = c.self.invariant in
+    (c.scheme.ensures c.self.inside.place s numbered is).places
+
 pub returns-clause-conclusion : goal.returns-clause-conclusion
 returns-clause-conclusion c =
     let (s, numbered, is) = c.self.invariant in

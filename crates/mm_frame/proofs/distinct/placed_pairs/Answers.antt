@@ -1,0 +1,18 @@
+use Rattle.std.proofs.Common.{refl, ◌∙◌}
+use Rattle.std.proofs.lemmas.List.{take_all}
+use Rattle.std.proofs.lemmas.Option.{slice_get-get_or}
+use Rattle.mm_frame.proofs.Placed.{variables_more, places_more}
+use Rattle.mm_frame.specs.Pieces.{variables_of}
+use Rattle.mm_frame.proofs.distinct.placed_pairs.Goals as goal
+
+pub loop-pair-preserved : goal.loop-pair-preserved
+loop-pair-preserved c = record {
+  variables = rw c.in_ok-push.ensures.items (variables_more c.args.pairs.now c.loop-pair.pair-index _ c.loop-pair.placed.items _ c.loop-pair-test.true c.loop-pair.invariant.variables refl);
+  places = λ few among.
+      let (first, second) = among c.loop-pair.pair-index _ (slice_get-get_or c.args.pairs.now c.loop-pair.pair-index _ c.loop-pair-test.true) in
+      rw c.in_ok-push.ensures.items
+      (places_more (variables_of c.args.hypotheses.now) c.loop-pair.placed.items _ (c.loop-pair.invariant.places few among) (c.place_among.ensures few first, c.place_among-in-loop-pair.ensures few second));
+}
+
+pub returns-clause-variables : goal.returns-clause-variables
+returns-clause-variables c = c.loop-pair.invariant.variables ∙ take_all c.loop-pair.pair-index c.args.pairs.now c.loop-pair-test.false

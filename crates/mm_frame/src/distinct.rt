@@ -1,0 +1,61 @@
+//! Mandatory distinct pairs, with the places of their variables.
+
+ghost use Rattle.std.specs.Prelude.{◌≡◌, ◌<◌, IfOk, length, map};
+ghost use Rattle.mm_frame.specs.Pieces.{variables_of, IsNowhere, IsFirstAt, HavePlaces};
+ghost use Rattle.mm_frame.specs.Patterned.{AreAmong};
+
+use crate::hypothesis::Hypothesis;
+use crate::number::Sym;
+use crate::scheme::place_of;
+use std::alloc::{AllocError, Global};
+
+/// A mandatory distinct pair of an assertion. Each step by the assertion asks what replaces its
+/// variables: by their places that is read, and nothing is looked for by a variable.
+#[derive(Clone, Copy, PartialEq, Eq, Debug)]
+pub struct DistinctPair {
+    /// The two variables, in one order.
+    pub variables: (Sym, Sym),
+    /// The place of the `$f` of each among the mandatory hypotheses.
+    pub places: (u32, u32),
+}
+
+// The place of the `$f` of a variable among hypotheses of which one is its `$f`.
+fn place_among(hypotheses: &[Hypothesis], variable: Sym) -> u32
+    ensures { length hypotheses.now < 4294967296
+        → ¬ (IsNowhere variable.0 (variables_of hypotheses.now))
+        → IsFirstAt variable.0 (variables_of hypotheses.now) result }
+{
+    match place_of(hypotheses, variable) {
+        Some(place) => match u32::try_from(place) {
+            Ok(value) => value,
+            // A book has fewer statements than there are numbers.
+            Err(_) => 0,
+        },
+        None => 0,
+    }
+}
+
+/// The pairs of variables, each with the places of its variables among the hypotheses.
+pub(crate) fn placed_pairs(
+    alloc: Global,
+    hypotheses: &[Hypothesis],
+    pairs: &[(Sym, Sym)],
+) -> Result<Vec<DistinctPair>, AllocError>
+    ensures variables { IfOk result (λ placed.
+        map (λ pair. pair.variables) placed.items ≡ pairs.now) }
+    ensures places { length hypotheses.now < 4294967296
+        → AreAmong (variables_of hypotheses.now) pairs.now
+        → IfOk result (λ placed. HavePlaces (variables_of hypotheses.now) placed.items) }
+{
+    let mut placed = Vec::with_capacity(alloc, pairs.len())?;
+    for pair in pairs {
+        placed.push(DistinctPair {
+            variables: *pair,
+            places: (
+                place_among(hypotheses, pair.0),
+                place_among(hypotheses, pair.1),
+            ),
+        })?;
+    }
+    Ok(placed)
+}
