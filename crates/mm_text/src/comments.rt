@@ -243,10 +243,6 @@ fn take_one<'a>(place: &mut Place<'a>) -> Result<Found<'a>, Wrong<'a>>
             token,
         });
     }
-    if !has_dollar {
-        place.at = end;
-        return Ok(Found::Token(token, false));
-    }
     if is_close(token.text) {
         return Err(Wrong {
             rule: TextRule::X4,
@@ -258,7 +254,7 @@ fn take_one<'a>(place: &mut Place<'a>) -> Result<Found<'a>, Wrong<'a>>
         return Ok(Found::Comment);
     }
     place.at = end;
-    Ok(Found::Token(token, true))
+    Ok(Found::Token(token, has_dollar))
 }
 
 /// Takes the next token outside comments, and tells whether it holds a `$`; none at the file's end.

@@ -33,15 +33,19 @@ pub fn skip_space(bytes: &[u8], start: usize) -> usize
     bytes.len()
 }
 
-/// The place of the first byte from a place on that is white space, or the file's end.
+/// The end of the run of bytes that aren't white space and begin at a place.
+///
+/// It is a call of its own, so that the loop of `token_end` keeps nothing for it.
+#[inline(never)]
 fn ink_end(bytes: &[u8], start: usize) -> usize
-    requires { start ≤ length bytes.now }
-    ensures from { start ≤ result }
+    requires within { start < length bytes.now }
+    requires begins { is_space (slice_index bytes.now start) ≡ false }
+    ensures after { start < result }
     ensures within { result ≤ length bytes.now }
     ensures ink { (k : ℕ) → start ≤ k → k < result → is_space (slice_index bytes.now k) ≡ false }
     ensures stops { result < length bytes.now → is_space (slice_index bytes.now result) ≡ true }
 {
-    for at in start..bytes.len() {
+    for at in start + 1..bytes.len() {
         if is_space(bytes[at]) {
             return at;
         }
@@ -52,7 +56,7 @@ fn ink_end(bytes: &[u8], start: usize) -> usize
 /// The end of the token that begins at a place, and whether it holds a `$`.
 ///
 /// White space and `$` are less than nearly all other bytes, so that one test passes over a byte of
-/// a word. Where a `$` is met the rest is left to another loop, and none keeps what it saw.
+/// a word. Where a `$` is met another loop goes on, so that this one needn't keep whether one was.
 pub fn token_end(bytes: &[u8], start: usize) -> (usize, bool)
     requires within { start < length bytes.now }
     requires begins { is_space (slice_index bytes.now start) ≡ false }
@@ -71,7 +75,7 @@ pub fn token_end(bytes: &[u8], start: usize) -> (usize, bool)
                 return (at, false);
             }
             if byte == b'$' {
-                let end = ink_end(bytes, at + 1);
+                let end = ink_end(bytes, at);
                 return (end, true);
             }
         }

@@ -1,10 +1,10 @@
-use Rattle.std.proofs.Common.{◌≡◌, false, sym, ap, ◌∙◌, arith, refl}
+use Rattle.std.proofs.Common.{sym, ap, ◌∙◌, arith, refl}
 use Rattle.std.specs.List.{list_all}
 use Rattle.std.proofs.lemmas.Result.{err_from_is_err_and}
 use Rattle.mm_text.specs.Token.{PlainToken, plain_token, is_printable}
 use Rattle.mm_text.specs.Items.{without_comments, holds_dollar}
 use Rattle.mm_text.proofs.TokenLaws.{tokens_from-end}
-use Rattle.mm_text.proofs.CommentLaws.{outside_token, outside-end, outside-illegal, outside-close, outside-begin, outside-clear, spells_other, no_dollar-spells, token_printable, token_illegal, skipped_legal}
+use Rattle.mm_text.proofs.CommentLaws.{outside_token, outside-end, outside-illegal, outside-close, outside-begin, outside-clear, spells_other, token_printable, token_illegal, skipped_legal}
 use Rattle.mm_text.proofs.comments.take_one.Goals as goal
 
 -- nothing but white space is left
@@ -24,22 +24,6 @@ returns-then-place-end-clause-takes c =
       outside_token p start end t c.skip_space-start.ensures.same_tokens c.token_end-end.ensures.token c.make_token-token.ensures.token
           ∙ outside-illegal t _ (ap (λ (u : PlainToken). list_all is_printable u.text) c.make_token-token.ensures.token ∙ illegal),
       c.make_token-token.ensures.at,
-    )
-
--- a token without `$` is none that begins or ends a comment
-pub returns-then-not-has_dollar-clause-takes : goal.returns-then-not-has_dollar-clause-takes
-returns-then-not-has_dollar-clause-takes c =
-    let p = c.args.place.now in
-    let start = c.skip_space-start.result in
-    let end = c.token_end-end.result.0 in
-    let t = plain_token c.make_token-token.result in
-    let printable = token_printable p.bytes.now c.legal_front-place.result start end c.legal_front-place.ensures.judged.front (omega arith) (omega arith) c.token_end-end.ensures.ink in
-    let lacks : holds_dollar t.text ≡ false = ap (λ (u : PlainToken). holds_dollar u.text) c.make_token-token.ensures.token ∙ sym c.token_end-end.ensures.dollar ∙ c.if-not-has_dollar.true in
-    let begins = no_dollar-spells t.text 40 lacks in
-    let closes = no_dollar-spells t.text 41 lacks in (
-      outside_token p start end t c.skip_space-start.ensures.same_tokens c.token_end-end.ensures.token c.make_token-token.ensures.token
-          ∙ outside-clear t _ (ap (λ (u : PlainToken). list_all is_printable u.text) c.make_token-token.ensures.token ∙ printable) begins closes,
-      record { at = c.make_token-token.ensures.at; begins = begins; closes = closes; dollar = sym lacks },
     )
 
 pub returns-then-is_close-clause-takes : goal.returns-then-is_close-clause-takes
@@ -97,6 +81,8 @@ returns-clause-takes c =
         at = c.make_token-token.ensures.at;
         begins = sym c.is_begin.ensures ∙ c.if-is_begin.false;
         closes = sym c.is_close.ensures ∙ c.if-is_close.false;
-        dollar = sym c.if-not-has_dollar.false ∙ c.token_end-end.ensures.dollar ∙ ap (λ (u : PlainToken). holds_dollar u.text) (sym c.make_token-token.ensures.token);
+        dollar =
+            c.token_end-end.ensures.dollar
+            ∙ ap (λ (u : PlainToken). holds_dollar u.text) (sym c.make_token-token.ensures.token);
       },
     )

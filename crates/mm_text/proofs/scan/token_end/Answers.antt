@@ -1,8 +1,7 @@
-use Rattle.std.proofs.Common.{◌≡◌, ◌+◌, ◌<◌, ◌≤◌, get_or, length, true, ⊎_elim, ◌∙◌, sym, arith}
+use Rattle.std.proofs.Common.{◌≡◌, ◌<◌, ◌≤◌, get_or, length, true, ⊎_elim, ◌∙◌, sym, arith}
 use Rattle.std.proofs.str.Laws.{order}
 use Rattle.mm_text.specs.Token.{is_space}
 use Rattle.mm_text.proofs.TokenLaws.{tokens_from-token, space_after}
-use Rattle.mm_text.proofs.CommentLaws.{below_more_from}
 use Rattle.mm_text.proofs.DollarLaws.{lacks_dollar, has_dollar}
 use Rattle.mm_text.proofs.scan.token_end.Goals as goal
 
@@ -26,12 +25,11 @@ pub returns-then-byte-eq36-clause-token : goal.returns-then-byte-eq36-clause-tok
 returns-then-byte-eq36-clause-token c file =
     let start = c.args.start in
     let at = c.loop-at.at in
-    let here = sym c.is_space.ensures ∙ c.if-is_space.false in
     tokens_from-token c.args.bytes.now file start c.ink_end-end.result (omega arith) (omega arith)
     (λ k from below. ⊎_elim
-    (λ (less : k < at + 1). below_more_from _ start at c.loop-at.invariant.ink here k from less)
-    (λ (more : at + 1 ≤ k). c.ink_end-end.ensures.ink k more below)
-    (order k (at + 1)))
+    (λ (less : k < at). c.loop-at.invariant.ink k from less)
+    (λ (more : at ≤ k). c.ink_end-end.ensures.ink k more below)
+    (order k at))
     c.ink_end-end.ensures.stops
 
 pub returns-then-byte-eq36-clause-dollar : goal.returns-then-byte-eq36-clause-dollar
