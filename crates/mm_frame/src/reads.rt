@@ -148,8 +148,8 @@ pub(crate) fn label_hypotheses<'b>(tables: &'b Tables, id: LabelId) -> &'b [Hypo
 // The mandatory distinct pairs of an assertion.
 pub(crate) fn label_pairs<'b>(tables: &'b Tables, id: LabelId) -> &'b [DistinctPair]
     requires { AreTables tables.now }
-    ensures variables { (place : ℕ) (s : Sentence) → IsNumbered (statements_of tables.now) id.0 place s
-        → IsAssertion s.kind → ArePairs
+    ensures variables { (place : ℕ) (s : Sentence)
+        → IsNumbered (statements_of tables.now) id.0 place s → IsAssertion s.kind → ArePairs
         (record { statements = statements_of tables.now; place = place })
         (map (λ pair. (pair.variables.0.0, pair.variables.1.0)) result.now) }
     ensures places { (place : ℕ) (s : Sentence)
