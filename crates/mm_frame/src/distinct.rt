@@ -1,13 +1,13 @@
 //! Mandatory distinct pairs, with the places of their variables.
 
-ghost use Rattle.std.specs.Prelude.{◌≡◌, ◌<◌, IfOk, length, map};
+ghost use Rattle.std.specs.Prelude.{◌≡◌, ◌<◌, OnOk, length, map};
 ghost use Rattle.mm_frame.specs.Pieces.{variables_of, IsNowhere, IsFirstAt, HavePlaces};
 ghost use Rattle.mm_frame.specs.Patterned.{AreAmong};
 
 use crate::hypothesis::Hypothesis;
 use crate::number::Sym;
 use crate::scheme::place_of;
-use std::alloc::{AllocError, Global};
+use std::alloc::AllocError;
 
 /// A mandatory distinct pair of an assertion. Each step by the assertion asks what replaces its
 /// variables: by their places that is read, and nothing is looked for by a variable.
@@ -35,19 +35,19 @@ fn place_among(hypotheses: &[Hypothesis], variable: Sym) -> u32
     }
 }
 
-/// The pairs of variables, each with the places of its variables among the hypotheses.
-pub(crate) fn placed_pairs(
-    alloc: Global,
+/// Fills the list with the pairs of variables, each with the places of its variables among the
+/// hypotheses.
+pub(crate) fn find_places(
     hypotheses: &[Hypothesis],
     pairs: &[(Sym, Sym)],
-) -> Result<Vec<DistinctPair>, AllocError>
-    ensures variables { IfOk result (λ placed.
-        map (λ pair. pair.variables) placed.items ≡ pairs.now) }
+    placed: &mut Vec<DistinctPair>,
+) -> Result<(), AllocError>
+    ensures variables { OnOk result (map (λ pair. pair.variables) placed.new.items ≡ pairs.now) }
     ensures places { length hypotheses.now < 4294967296
         → AreAmong (variables_of hypotheses.now) pairs.now
-        → IfOk result (λ placed. HavePlaces (variables_of hypotheses.now) placed.items) }
+        → OnOk result (HavePlaces (variables_of hypotheses.now) placed.new.items) }
 {
-    let mut placed = Vec::with_capacity(alloc, pairs.len())?;
+    placed.clear();
     for pair in pairs {
         placed.push(DistinctPair {
             variables: *pair,
@@ -57,5 +57,5 @@ pub(crate) fn placed_pairs(
             ),
         })?;
     }
-    Ok(placed)
+    Ok(())
 }

@@ -1,7 +1,7 @@
 //! The frame of an assertion, from the lists as they are before it.
 
 ghost use Rattle.std.specs.Prelude.{◌≡◌, ℕ, ◌+◌, ◌++◌, ◌∷◌, List, Some, length, map, take};
-ghost use Rattle.std.specs.Prelude.{slice_get, OnOk, IfOk};
+ghost use Rattle.std.specs.Prelude.{slice_get, OnOk};
 ghost use Rattle.std.specs.Option.{option_and_then};
 ghost use Rattle.mm_frame.specs.Sentence.{Sentence, IsStated};
 ghost use Rattle.mm_frame.specs.Rules.{IsMeant};
@@ -12,6 +12,7 @@ ghost use Rattle.mm_frame.specs.Layout.{AreTables, statements_of};
 ghost use Rattle.mm_frame.specs.Gathered.{floating_of, floatings, AreGathered, ArePlaces};
 ghost use Rattle.mm_frame.specs.Gathered.{AreVariables, AreFound, AreThoseAt};
 
+use crate::distinct::DistinctPair;
 use crate::hypothesis::Hypothesis;
 use crate::lists::at;
 use crate::number::{LabelId, Sym};
@@ -27,6 +28,9 @@ pub(crate) struct FrameLists {
     pub(crate) hypotheses: Vec<Hypothesis>,
     /// The variables of those that are `$f`.
     pub(crate) variables: Vec<Sym>,
+    /// The mandatory distinct pairs, and the same with the places of their variables.
+    pub(crate) pairs: Vec<(Sym, Sym)>,
+    pub(crate) placed: Vec<DistinctPair>,
 }
 
 impl FrameLists {
@@ -36,6 +40,8 @@ impl FrameLists {
             places: Vec::new(alloc),
             hypotheses: Vec::new(alloc),
             variables: Vec::new(alloc),
+            pairs: Vec::new(alloc),
+            placed: Vec::new(alloc),
         }
     }
 }
@@ -186,25 +192,26 @@ fn add_pairs(
 
 /// The mandatory distinct pairs of an assertion whose mandatory hypotheses stand at these places.
 /// The variables of the hypotheses are left in `variables`.
-pub(crate) fn mandatory_pairs(
+pub(crate) fn find_pairs(
     tables: &Tables,
     places: &[usize],
     variables: &mut Vec<Sym>,
-) -> Result<Vec<(Sym, Sym)>, AllocError>
+    pairs: &mut Vec<(Sym, Sym)>,
+) -> Result<(), AllocError>
     requires { AreTables tables.now }
     ensures { (s : Sentence) (more : List Sentence) → IsMeant (statements_of tables.now) s
         → IsStated s.kind → ArePlaces (statements_of tables.now) s places.now
-        → IfOk result (λ pairs. ArePairs
+        → OnOk result (ArePairs
         (record {
           statements = statements_of tables.now ++ s ∷ more;
           place = length (statements_of tables.now);
         })
-        (map (λ pair. (pair.0.0, pair.1.0)) pairs.items)) }
+        (map (λ pair. (pair.0.0, pair.1.0)) pairs.new.items)) }
 {
     find_variables(tables, places, variables)?;
-    let mut pairs = Vec::new(tables.alloc);
+    pairs.clear();
     for i in 0..variables.len() {
-        add_pairs(tables, variables[i], &variables[..i], &mut pairs)?;
+        add_pairs(tables, variables[i], &variables[..i], pairs)?;
     }
-    Ok(pairs)
+    Ok(())
 }

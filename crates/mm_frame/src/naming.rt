@@ -14,8 +14,8 @@ ghost use Rattle.mm_frame.specs.Grows.{Grows, IsSame};
 ghost use Rattle.mm_frame.specs.Naming.{Named, HaveNameRoom, part_after};
 
 use crate::answer::Taken;
-use crate::distinct::placed_pairs;
-use crate::framing::{FrameLists, find_hypotheses, find_mandatory, mandatory_pairs};
+use crate::distinct::find_places;
+use crate::framing::{FrameLists, find_hypotheses, find_mandatory, find_pairs};
 use crate::lists::{at, put};
 use crate::number::{LabelId, Sym};
 use crate::pattern::add_patterns;
@@ -161,11 +161,11 @@ impl<'a> Tables<'a> {
     {
         find_mandatory(self, numbers, &mut lists.places)?;
         find_hypotheses(self, &lists.places, &mut lists.hypotheses)?;
-        let apart = mandatory_pairs(self, &lists.places, &mut lists.variables)?;
-        let pairs = placed_pairs(self.alloc, &lists.hypotheses, &apart)?;
+        find_pairs(self, &lists.places, &mut lists.variables, &mut lists.pairs)?;
+        find_places(&lists.hypotheses, &lists.pairs, &mut lists.placed)?;
         self.reserve(numbers.len())?;
         self.hypotheses.reserve(lists.hypotheses.len())?;
-        self.pairs.reserve(pairs.len())?;
+        self.pairs.reserve(lists.placed.len())?;
         let conclusion = add_patterns(
             &mut self.pieces,
             &mut lists.hypotheses,
@@ -175,7 +175,7 @@ impl<'a> Tables<'a> {
             numbers,
         )?;
         let hypotheses = add_part(&mut self.hypotheses, &lists.hypotheses);
-        let pairs = add_part(&mut self.pairs, &pairs);
+        let pairs = add_part(&mut self.pairs, &lists.placed);
         let frame = (hypotheses, pairs, conclusion);
         let id = self.name(kind, label, numbers, frame, bytes);
         Ok(Taken::Assertion(id))

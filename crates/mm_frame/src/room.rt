@@ -13,14 +13,20 @@ use crate::tables::Tables;
 // about half as many. Where there are more, the lists grow as they would without this; and where
 // there are fewer, the room takes no memory until it is written.
 const STATEMENT: usize = 64;
+
 const LABEL: usize = 128;
+
 const SYMBOL: usize = 12;
+
 const PIECE: usize = 10;
+
 const HYPOTHESIS: usize = 64;
+
 const PAIR: usize = 96;
 
 // The table by which labels are found is written as soon as it is made, so that it is made for few.
 const NAME: usize = 384;
+
 const MOST_NAMES: usize = 65_536;
 
 impl Scopes {

@@ -87,7 +87,7 @@ returns-clause-ok c =
     let b = before_same t c.reserve.new.self same in
     let bare = c.find_hypotheses.new.hypotheses.items in
     let hs = c.add_patterns.new.hypotheses.items in
-    let pairs = c.in_ok-pairs.pairs.items in
+    let pairs = c.find_places.new.placed.items in
     let numbers = map (λ (n : Sym). n.0) c.args.numbers.now in
     let (more, longer) = c.add_patterns.ensures.longer in
     let conclusion = c.in_ok-conclusion.conclusion in
@@ -115,14 +115,14 @@ returns-clause-ok c =
           } in
           let patterned = c.in_ok-conclusion.ensures.patterned t of in
           let patterns : ArePatterned st numbers bare hs (t.pieces.items ++ more) conclusion = subst (λ ps. ArePatterned st numbers bare hs ps conclusion) new_pieces patterned in
-          let found = c.in_ok-apart.ensures s [] meant stated second in
-          let variables : map (λ (pair : DistinctPair). pair.variables) pairs ≡ c.in_ok-apart.apart.items = c.in_ok-pairs.ensures.variables ∙ c.deref-4.ensures.value in
+          let found = c.in_ok-find_pairs.ensures s [] meant stated second in
+          let variables : map (λ (pair : DistinctPair). pair.variables) pairs ≡ c.find_pairs.new.pairs.items = c.in_ok-find_places.ensures.variables ∙ c.deref-4.ensures.value in
           let are_pairs : ArePairs (at_place (st ++ s ∷ []) (length st)) (map (λ pair. (pair.variables.0.0, pair.variables.1.0)) pairs) =
-          pairs_named (at_place (st ++ s ∷ []) (length st)) c.in_ok-apart.apart.items pairs variables found in
+          pairs_named (at_place (st ++ s ∷ []) (length st)) c.find_pairs.new.pairs.items pairs variables found in
           let few : length c.deref-3.result.now < 4294967296 = rw c.deref-3.ensures.value (few_hypotheses t _ _ _ bare of) in
           let among : AreAmong (variables_of c.deref-3.result.now) c.deref-4.result.now =
-          rw (c.deref-3.ensures.value, c.deref-4.ensures.value) (pairs_among st s at bare c.in_ok-apart.apart.items c.requires.tables.sound meant stated places those found) in
-          let placed_first : HavePlaces (variables_of bare) pairs = subst (λ ks. HavePlaces (variables_of ks) pairs) c.deref-3.ensures.value (c.in_ok-pairs.ensures.places few among) in
+          rw (c.deref-3.ensures.value, c.deref-4.ensures.value) (pairs_among st s at bare c.find_pairs.new.pairs.items c.requires.tables.sound meant stated places those found) in
+          let placed_first : HavePlaces (variables_of bare) pairs = subst (λ ks. HavePlaces (variables_of ks) pairs) c.deref-3.ensures.value (c.in_ok-find_places.ensures.places few among) in
           let placed : HavePlaces (variables_of hs) pairs = subst (λ vs. HavePlaces vs pairs) (sym (variables_same bare hs patterns.same)) placed_first in
           let new = entry_of c.args.kind (Some c.name-id.result) (length t.flat.items) (length (t.flat.items ++ c.args.numbers.now)) in
           let framed_at : IsFrameInfo (st ++ s ∷ []) (t.hypotheses.items ++ hs) (t.pairs.items ++ pairs) (t.pieces.items ++ more)

@@ -1,7 +1,7 @@
 use Rattle.std.proofs.Common.{ℕ, List}
 use Rattle.mm_frame.specs.Layout.{statements_of}
 use Rattle.mm_frame.specs.Gathered.{AreVariables, AreFound}
-use Rattle.mm_frame.proofs.framing.mandatory_pairs.Given as goal
+use Rattle.mm_frame.proofs.framing.find_pairs.Given as goal
 
 abbrev pub invariant-loop-i : goal.invariant-loop-i
 invariant-loop-i l = (places : List ℕ) → AreVariables (statements_of l.tables) places l.variables.items → AreFound (statements_of l.tables) l.variables.items l.i 0 l.pairs.items

@@ -1,7 +1,7 @@
 use Rattle.std.proofs.Common.{◌≡◌, length, arith}
 use Rattle.mm_frame.specs.Layout.{statements_of}
 use Rattle.mm_frame.proofs.MandatoryPairs.{pairs_from_found}
-use Rattle.mm_frame.proofs.framing.mandatory_pairs.Goals as goal
+use Rattle.mm_frame.proofs.framing.find_pairs.Goals as goal
 
 pub returns : goal.returns
 returns c s more meant stated are =

@@ -1,7 +1,7 @@
 use Rattle.std.proofs.Common.{◌≡◌, ◌<◌, length, map, take}
 use Rattle.mm_frame.specs.Pieces.{variables_of, HavePlaces}
 use Rattle.mm_frame.specs.Patterned.{AreAmong}
-use Rattle.mm_frame.proofs.distinct.placed_pairs.Given as goal
+use Rattle.mm_frame.proofs.distinct.find_places.Given as goal
 
 abbrev pub invariant-loop-pair : goal.invariant-loop-pair
 invariant-loop-pair l = record {
