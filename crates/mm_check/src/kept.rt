@@ -53,8 +53,8 @@ impl Kept {
         }
     }
 
-    /// Makes room for the proofs of a database that has so many bytes, where there is memory for it;
-    /// room that is wanting is made when it is needed.
+    /// Makes room for the proofs of a database that has so many bytes, where there is memory for
+    /// it; room that is wanting is made when it is needed.
     pub(crate) fn prepare(&mut self, bytes: usize)
         ensures { self.new ≡ self.old }
     {

@@ -125,8 +125,8 @@ fn size_of(files: &[File]) -> usize {
     size
 }
 
-/// Before the first statement, makes room for what all of them have, so that lists need not be moved
-/// while they grow. Files without a statement, which may be great, need none.
+/// Before the first statement, makes room for what all of them have, so that lists need not be
+/// moved while they grow. Files without a statement, which may be great, need none.
 fn make_room<'a>(files: &[File<'a>], progress: &mut Progress<'a>)
     ensures { progress.new ≡ progress.old }
 {

@@ -48,8 +48,8 @@ impl Flat {
         }
     }
 
-    // Makes room for so many symbols, where there is memory for it; room that is wanting is made when
-    // it is needed.
+    // Makes room for so many symbols, where there is memory for it; room that is wanting is made
+    // when it is needed.
     pub(crate) fn prepare(&mut self, symbols: usize)
         ensures stack { ⟦<Flat as Store>⟧.stack self.new ≡ ⟦<Flat as Store>⟧.stack self.old }
         ensures kept { ⟦<Flat as Store>⟧.kept self.new ≡ ⟦<Flat as Store>⟧.kept self.old }

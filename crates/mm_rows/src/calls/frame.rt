@@ -25,6 +25,16 @@ fn book_of_nothing(rt: HostRuntime) -> Result<(), Fail> {
 }
 
 #[test]
+fn room_is_no_statement(rt: HostRuntime) -> Result<(), Fail> {
+    let mut book = empty_book(rt.alloc())?;
+    book.prepare(1 << 20);
+    let is_new = book.depth() == 0 && book.bytes() == 0 && !book.is_variable(Sym(0));
+    drop(book);
+    assert!(rt; is_new);
+    Ok(())
+}
+
+#[test]
 fn faults_have_messages(rt: HostRuntime) -> Result<(), Fail> {
     let text = format!(in rt.alloc(); "{}", RuleFault::Rule(MeaningRule::M7))?;
     assert!(rt; text.as_str() == "the statement breaks M7");
