@@ -71,7 +71,8 @@ pub record IsProvedUsing (before : List Sentence) (s : PlainStatement)
   pub proof : IsProvedWithin (IsWithin expression_limit) before (sentence_of s) (proof_of s)
   pub all : AreUsedNumbers before (tree_of proof) used
 
--- the proof is incomplete; or it is complete, and proved by a tree in which these assertions stand
+-- the proof is incomplete; or it is complete, and proved by a tree whose assertions have exactly
+-- these numbers, in any order, each once or more
 abbrev pub IsJudged : List Sentence → PlainStatement → List ℕ → Proved → Type 0
 IsJudged before s used proved.Incomplete = is_incomplete (proof_of s) ≡ true
 IsJudged before s used proved.Complete =
@@ -89,8 +90,8 @@ JudgesProof statements s result used =
     (before : List Sentence) → statements ≡ before ++ sentence_of s ∷ []
     → MatchResult result (IsJudged before s used) (Fails before s)
 
--- of a statement with this number, after those before it, what its proof uses is kept, each number
--- once and in order, if that is complete
+-- if the proof of the statement, which has this number, is complete, it is kept with the numbers of
+-- the assertions that it uses, each once, in database order; else nothing is added
 pub record KeepsProof (before : List Sentence) (s : PlainStatement) (id : ℕ) (complete : Bool)
     (old new : List ProofUses) : Type 0 where
   pub some : complete ≡ true

@@ -1,4 +1,5 @@
--- Lists of numbers as ranges of one list, each put in order: it mirrors the code.
+-- Lists of numbers as ranges of one list, which holds them in any order, each once or more; said of
+-- each list: its numbers, each once, in rising order. This file mirrors the code.
 use Rattle.std.specs.Prelude.{◌≡◌, ℕ, ◌≤◌, List, map, slice_get, slice_range, Some}
 use Rattle.mm_frame.specs.declared.number.LabelId.{LabelId}
 use Rattle.mm_proof.specs.CodeSteps.{ids_in}
@@ -6,7 +7,7 @@ use Rattle.mm_check.specs.declared.kept.KeptProof.{KeptProof}
 use Rattle.mm_check.specs.Conclusion.{ProofUses}
 use Rattle.mm_check.specs.Ordered.{ordered}
 
--- what is kept of one proof
+-- the number of one proof, and those of the assertions that it uses, each once, in order
 abbrev pub uses_at : List LabelId → KeptProof → ProofUses
 uses_at labels p =
     record { number = p.id.0; used = ordered (ids_in (slice_range labels p.start p.end)) }

@@ -11,6 +11,7 @@ use std::marker::Model;
 
 // Of how many bytes of a database there is one of these at most, as a rule.
 const USE: usize = 24;
+
 const PROOF: usize = 384;
 
 /// The number of a `$p`, and where the numbers of the assertions that its proof uses stand.
@@ -89,8 +90,8 @@ impl Kept {
         self.proofs[at].id
     }
 
-    /// The numbers of the assertions that the proof at a place uses, in no order, some perhaps more
-    /// than once.
+    /// The numbers of the assertions that the proof at a place uses, in any order, each once or
+    /// more.
     pub(crate) fn used(&self, at: usize) -> &[LabelId]
         requires { at < length self.now }
         ensures { (u : ProofUses) → slice_get self.now at ≡ Some u

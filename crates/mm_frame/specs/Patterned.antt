@@ -68,7 +68,7 @@ pub record ArePatterned (statements : List Sentence) (numbers : List ℕ) (old n
   pub concluded : IsPatternAt (variables_of new) numbers pieces conclusion
   pub patterned : HavePatterns statements (variables_of new) pieces new
 
--- each variable of the pairs is that of a `$f` among the hypotheses
+-- each variable of these pairs has a `$f` among the hypotheses
 abbrev pub AreAmong : List (Option ℕ) → List (Sym × Sym) → Type 0
 AreAmong variables pairs =
     (i : ℕ) (pair : Sym × Sym) → slice_get pairs i ≡ Some pair

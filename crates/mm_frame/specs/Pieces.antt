@@ -1,6 +1,6 @@
 -- Patterns: the symbols of an assertion and of its `$e`, as a step by the assertion takes them (the
 -- Metamath book, section 4.1.4). A variable stands there as the place of its `$f` among the
--- mandatory hypotheses.
+-- mandatory hypotheses. Likewise each distinct pair has the places of the `$f` of its variables.
 use Rattle.std.specs.Prelude.{◌≡◌, ℕ, ◌<◌, ◌≤◌, ◌==◌, List, length, map, slice_get, slice_range}
 use Rattle.std.specs.Prelude.{slice_index_or, Bool, true, false, Option, Some, None, option_map}
 use Rattle.std.specs.List.{AllZip}
@@ -63,18 +63,19 @@ HavePatterns statements variables pieces hypotheses =
     (i : ℕ) (hypothesis : Hypothesis) → slice_get hypotheses i ≡ Some hypothesis
     → HasPattern statements variables pieces hypothesis
 
--- the place of each variable of the pair is that of its `$f` among the hypotheses
+-- with each variable of the pair stands the place, from 0, of its `$f` among the hypotheses
 abbrev pub HasPlaces : List (Option ℕ) → DistinctPair → Type 0
 HasPlaces variables pair =
     IsFirstAt pair.variables.0.0 variables pair.places.0
     × IsFirstAt pair.variables.1.0 variables pair.places.1
 
--- the places of each of these pairs are so
+-- each of these pairs has the places of its `$f`
 abbrev pub HavePlaces : List (Option ℕ) → List DistinctPair → Type 0
 HavePlaces variables pairs =
     (i : ℕ) (pair : DistinctPair) → slice_get pairs i ≡ Some pair → HasPlaces variables pair
 
--- the places of each of these pairs are those among the mandatory hypotheses
+-- with each of these pairs stand the places, from 0, of the `$f` of its two variables among the
+-- mandatory hypotheses of the assertion; which pairs these are, `ArePairs` says
 abbrev pub HaveMandatoryPlaces : FramePlace → List DistinctPair → Type 0
 HaveMandatoryPlaces frame pairs =
     (hypotheses : List Hypothesis) × AreHypotheses frame (map (λ h. h.id.0) hypotheses)

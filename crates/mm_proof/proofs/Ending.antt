@@ -20,8 +20,8 @@ use Rattle.mm_proof.specs.Steps.{IsNumberedMove, AreNumberedMoves, IsUsable, IsU
 use Rattle.mm_proof.specs.CodeSteps.{MayBeUsed, moves_in}
 use Rattle.mm_proof.specs.declared.moves.NumberedMove.{NumberedMove}
 use Rattle.mm_proof.specs.CodeVerify.{IsSymbol, AreStackEntries, AreBelow, names_at, all_names_at}
-use Rattle.mm_proof.specs.Verified.{ProvesUsing, ProvesWith, OfMoves}
-use Rattle.mm_proof.specs.CodeRun.{HasRun, MayBeMade, AreNamed, AreNamedInOrder, EndsWrong}
+use Rattle.mm_proof.specs.Verified.{ProvesUsingNumbers, ProvesUsing, OfMoves}
+use Rattle.mm_proof.specs.CodeRun.{HasRun, MayBeMade, AreNamedNumbers, AreNamed, EndsWrong}
 use Rattle.mm_proof.proofs.Places.{get_from_take}
 use Rattle.mm_proof.proofs.Meaning.{one_label}
 use Rattle.mm_proof.proofs.Named.{named_is, below_is, named_once}
@@ -123,18 +123,18 @@ proved_end st id own t xs stack kept count numbers n symbols run is place s name
     prove_at_end (IsWithin expression_limit) (take place st) s names (all_names_at st kept) passed
 
 -- what is proved, with the assertions that the moves name
-pub proved_with : (st : List Sentence) (id : ℕ) (xs : List (Move ℕ)) (used : List ℕ) → AllMeant st → AreSteps st id xs → AreNamed st xs used
+pub proved_with : (st : List Sentence) (id : ℕ) (xs : List (Move ℕ)) (used : List ℕ) → AllMeant st → AreSteps st id xs → AreNamedNumbers st xs used
     → OfMoves st id xs (λ place s names. Prove (IsWithin expression_limit) (take place st) s names)
-    → OfMoves st id xs (λ place s names. ProvesUsing st place s names used)
+    → OfMoves st id xs (λ place s names. ProvesUsingNumbers st place s names used)
 proved_with st id xs used all a named_so proved place s names proof numbered =
     let p = proved place s names proof numbered in
     let uses = used_numbers st place xs names (tree p.label p.below none) p.kept all numbered (usable_names st id xs place s names a proof.numbered numbered) p.made in
     (p, λ k. ((λ h. (uses k).1 ((named_so k).0 h)), λ h. (named_so k).1 ((uses k).0 h)))
 
 -- each once, in order
-pub proved_in_order : (st : List Sentence) (id : ℕ) (xs : List (Move ℕ)) (used : List ℕ) → AllMeant st → AreSteps st id xs → AreNamedInOrder st xs used
+pub proved_in_order : (st : List Sentence) (id : ℕ) (xs : List (Move ℕ)) (used : List ℕ) → AllMeant st → AreSteps st id xs → AreNamed st xs used
     → OfMoves st id xs (λ place s names. Prove (IsWithin expression_limit) (take place st) s names)
-    → OfMoves st id xs (λ place s names. ProvesWith st place s names used)
+    → OfMoves st id xs (λ place s names. ProvesUsing st place s names used)
 proved_in_order st id xs used all a named_so proved place s names proof numbered =
     let p = proved_with st id xs used all a named_so.each proved place s names proof numbered in
     (p.0, record { rising = named_so.rising; each = p.1 })

@@ -14,7 +14,7 @@ use Rattle.mm_frame.specs.Numbers.{labelled_sentences, IsAssertionNumber}
 use Rattle.mm_frame.specs.Taken.{kind_behind}
 use Rattle.mm_proof.specs.Moves.{Move}
 use Rattle.mm_proof.specs.CodeSteps.{MayBeUsed, ids_in}
-use Rattle.mm_proof.specs.CodeRun.{ArePicked, AreNamedInOrder}
+use Rattle.mm_proof.specs.CodeRun.{ArePicked, AreNamed}
 use Rattle.mm_proof.proofs.Numbered.{numbered_at}
 
 -- ---- one label more
@@ -118,7 +118,7 @@ numbers_rise (x ∷ xs) h (suc i) (suc j) a b less p q = numbers_rise xs h.1 i j
 
 -- the same labels, each once and in order, are named
 pub named_sorted : (st : List Sentence) (moves : List (Move ℕ)) (picked ids sorted : List LabelId) → ArePicked moves (ids_in picked) → Gathered st picked ids → IsStrictlySortedBy (λ x y. nat_cmp x.0 y.0) sorted
-    → ((x : LabelId) → Contains ids x → Contains sorted x) → ((x : LabelId) → Contains sorted x → Contains ids x) → AreNamedInOrder st moves (ids_in sorted)
+    → ((x : LabelId) → Contains ids x → Contains sorted x) → ((x : LabelId) → Contains sorted x → Contains ids x) → AreNamed st moves (ids_in sorted)
 named_sorted st moves picked ids sorted names all order keeps only = record {
   rising = numbers_rise sorted order;
   each = λ n. (

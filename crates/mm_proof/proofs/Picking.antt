@@ -12,7 +12,7 @@ use Rattle.mm_proof.specs.declared.moves.NumberedMove.{NumberedMove}
 use Rattle.mm_proof.specs.declared.moves.NumberedMove.TheVariants as code
 use Rattle.mm_proof.specs.Moves.{Move, name}
 use Rattle.mm_proof.specs.CodeSteps.{ids_in, move_in, moves_in}
-use Rattle.mm_proof.specs.CodeRun.{ArePicked, AreMarked, AreNamed}
+use Rattle.mm_proof.specs.CodeRun.{ArePicked, AreMarked, AreNamedNumbers}
 use Rattle.mm_proof.specs.declared.call.Call.{Call}
 use Rattle.mm_proof.specs.CodeApply.{IsCallOf, IsOfAssertion}
 use Rattle.mm_proof.proofs.Places.{get_append}
@@ -210,7 +210,7 @@ first_all entries marks count ids moves past all marked n = (
 
 -- where each call is that of its entry, these are the assertions that the moves name
 pub called_all : (st : List Sentence) (at : ℕ) (entries : List LabelId) (calls : List Call) (marks : List Bool) (count : ℕ) (ids : List LabelId) (moves : List (Move ℕ)) → length entries ≤ count
-    → AreFirst (IsCalledAt calls marks) entries count ids → AllZip (IsCallOf st at) (ids_in entries) calls → AreMarked (ids_in entries) moves marks → AreNamed st moves (ids_in ids)
+    → AreFirst (IsCalledAt calls marks) entries count ids → AllZip (IsCallOf st at) (ids_in entries) calls → AreMarked (ids_in entries) moves marks → AreNamedNumbers st moves (ids_in ids)
 called_all st at entries calls marks count ids moves past all each marked n = (
   λ c.
       let o = (all n).0 c in

@@ -14,7 +14,7 @@ use Rattle.mm_proof.specs.Answer.{OnRule, IsUnlessMemory}
 use Rattle.mm_proof.specs.Moves.{Move}
 use Rattle.mm_proof.specs.Tokens.{SayMoves}
 use Rattle.mm_proof.specs.Proof.{IsWhole, IsWholeFault, IsProvedWithin, IsWithin, expression_limit}
-use Rattle.mm_proof.specs.Verified.{OfMoves, ProvesUsing, ProvesWith, FailsWith, TokensProve, TokensFail}
+use Rattle.mm_proof.specs.Verified.{OfMoves, ProvesUsingNumbers, ProvesUsing, FailsWith, TokensProve, TokensFail}
 use Rattle.mm_proof.specs.Steps.{AreSteps, IsProofNumber, IsUsableMove}
 use Rattle.mm_proof.specs.Parsed.{OfProof, SaySteps}
 use Rattle.mm_proof.specs.CodeSteps.{IsReading, token_texts}
@@ -53,15 +53,15 @@ whole_fault_there st id own t tokens rule step number f place s proof =
 -- ---- the tokens, from what is said of their moves
 
 pub tokens_prove : (st : List Sentence) (id : ℕ) (tokens : List (List ℕ)) (steps : List (Move ℕ)) (used : List ℕ) → OfProof st id (λ place s. SaySteps st place s tokens steps)
-    → OfMoves st id steps (λ place s moves. ProvesUsing st place s moves used) → OfProof st id (λ place s. TokensProve (take place st) s tokens used)
+    → OfMoves st id steps (λ place s moves. ProvesUsingNumbers st place s moves used) → OfProof st id (λ place s. TokensProve (take place st) s tokens used)
 tokens_prove st id tokens steps used says proves place s proof =
     let said = says place s proof in
     let p = proves place s said.1 proof said.3 in
     record { proof = record { whole = said.0; moves = said.1; said = said.2; proves = p.0 }; all = p.1 }
 
 -- what is said of the assertions in order is said of them in any order
-pub in_any_order : (st : List Sentence) (id : ℕ) (steps : List (Move ℕ)) (used : List ℕ) → OfMoves st id steps (λ place s moves. ProvesWith st place s moves used)
-    → OfMoves st id steps (λ place s moves. ProvesUsing st place s moves used)
+pub in_any_order : (st : List Sentence) (id : ℕ) (steps : List (Move ℕ)) (used : List ℕ) → OfMoves st id steps (λ place s moves. ProvesUsing st place s moves used)
+    → OfMoves st id steps (λ place s moves. ProvesUsingNumbers st place s moves used)
 in_any_order st id steps used proves place s moves proof numbered = let p = proves place s moves proof numbered in (p.0, p.1.each)
 
 pub tokens_fail : (st : List Sentence) (id : ℕ) (tokens : List (List ℕ)) (steps : List (Move ℕ)) (rule : ProofRule) (step : ℕ) → OfProof st id (λ place s. SaySteps st place s tokens steps)

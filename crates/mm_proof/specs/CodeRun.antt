@@ -66,14 +66,15 @@ IsNamedByMove statements moves id =
     ((i : ℕ) × (slice_get moves i ≡ Some (name id))) × IsAssertionNumber statements id
 
 -- these are the numbers of the assertions that the moves name, in any order, each once or more
-abbrev pub AreNamed : List Sentence → List (Move ℕ) → List ℕ → Type 0
-AreNamed statements moves ids = (id : ℕ) → Contains ids id ↔ IsNamedByMove statements moves id
+abbrev pub AreNamedNumbers : List Sentence → List (Move ℕ) → List ℕ → Type 0
+AreNamedNumbers statements moves ids =
+    (id : ℕ) → Contains ids id ↔ IsNamedByMove statements moves id
 
--- they are these, rising
-pub record AreNamedInOrder (statements : List Sentence) (moves : List (Move ℕ))
+-- the same numbers, each once, in database order
+pub record AreNamed (statements : List Sentence) (moves : List (Move ℕ))
     (ids : List ℕ) : Type 0 where
   pub rising : (i j a b : ℕ) → i < j → slice_get ids i ≡ Some a → slice_get ids j ≡ Some b → a < b
-  pub each : AreNamed statements moves ids
+  pub each : AreNamedNumbers statements moves ids
 
 -- what is on the stack at the end breaks this rule, where the statement's expression is the second
 abbrev pub EndsWrong : ProofRule → List (List ℕ) → List ℕ → Type 0

@@ -135,7 +135,7 @@ EachValues σ x y P = (e f : List ℕ) → σ x ≡ Some e → σ y ≡ Some f �
 abbrev pub SomeValues : (ℕ → Option (List ℕ)) → ℕ → ℕ → (List ℕ → List ℕ → Type 0) → Type 0
 SomeValues σ x y P = (e : List ℕ) × (f : List ℕ) × (σ x ≡ Some e) × (σ y ≡ Some f) × P e f
 
--- pairs of symbols by numbers
+-- the variables of distinct pairs, by numbers
 abbrev pub pairs_in : List DistinctPair → List (ℕ × ℕ)
 pairs_in pairs = map (λ p. (p.variables.0.0, p.variables.1.0)) pairs
 

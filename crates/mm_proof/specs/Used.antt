@@ -16,7 +16,7 @@ abbrev pub AreUsedNumbers : List Sentence → Trees → List ℕ → Type 0
 AreUsedNumbers statements trees ids =
     (id : ℕ) → Contains ids id ↔ IsUsedNumber statements trees id
 
--- they are these, each once, in database order
+-- the same numbers, each once, in database order
 pub record AreUsed (statements : List Sentence) (trees : Trees) (ids : List ℕ) : Type 0 where
   pub rising : (i j a b : ℕ) → i < j → slice_get ids i ≡ Some a → slice_get ids j ≡ Some b → a < b
   pub each : AreUsedNumbers statements trees ids

@@ -16,15 +16,18 @@ OfMoves statements id steps P =
     (place : ℕ) (s : Sentence) (moves : List (Move (List ℕ))) → IsProofNumber statements id place s
     → AreNumberedMoves statements steps moves → P place s moves
 
--- the moves prove the statement, and these are the assertions of its tree, in any order
-abbrev pub ProvesUsing : List Sentence → ℕ → Sentence → List (Move (List ℕ)) → List ℕ → Type 0
-ProvesUsing statements place s moves used =
+-- the moves prove the statement, and these are the numbers of the assertions of its tree, in any
+-- order, each once or more
+abbrev pub ProvesUsingNumbers : List Sentence → ℕ → Sentence → List (Move (List ℕ)) → List ℕ
+    → Type 0
+ProvesUsingNumbers statements place s moves used =
     (p : Prove (IsWithin expression_limit) (take place statements) s moves)
     × AreUsedNumbers (take place statements) (tree p.label p.below none) used
 
--- and these are they, each once, in database order
-abbrev pub ProvesWith : List Sentence → ℕ → Sentence → List (Move (List ℕ)) → List ℕ → Type 0
-ProvesWith statements place s moves used =
+-- the moves prove the statement, and these are the numbers of the assertions of its tree, each
+-- once, in database order
+abbrev pub ProvesUsing : List Sentence → ℕ → Sentence → List (Move (List ℕ)) → List ℕ → Type 0
+ProvesUsing statements place s moves used =
     (p : Prove (IsWithin expression_limit) (take place statements) s moves)
     × AreUsed (take place statements) (tree p.label p.below none) used
 
@@ -34,8 +37,8 @@ abbrev pub FailsWith : List Sentence → (place : ℕ) → Sentence → List (Mo
 FailsWith statements place s moves rule step =
     IsMovesFault (IsWithin expression_limit) (take place statements) s moves rule step
 
--- The tokens prove the statement after those before it, and these are the assertions of its tree,
--- in any order, each once or more.
+-- The tokens prove the statement after those before it, and these are the numbers of the assertions
+-- of its tree, in any order, each once or more.
 pub record TokensProve (before : List Sentence) (s : Sentence) (tokens : List (List ℕ))
     (used : List ℕ) : Type 0 where
   pub proof : IsProvedWithin (IsWithin expression_limit) before s tokens

@@ -195,8 +195,8 @@ impl<'a> Prover<'a> {
         }
     }
 
-    /// The assertions that the proof uses which was answered to be complete last, in no order, some
-    /// perhaps more than once.
+    /// The assertions that the proof uses which was answered to be complete last, in any order,
+    /// each once or more.
     pub fn used(&self) -> &[LabelId]
         ensures { map (λ id. id.0) result.now ≡ self.now.used }
     {

@@ -15,7 +15,7 @@ ghost use Rattle.mm_proof.specs.CodeSteps.{MayAllBeUsed, entry_move, code_moves,
 ghost use Rattle.mm_proof.specs.CodeVerify.{AreStackEntries, all_names_at};
 ghost use Rattle.mm_proof.specs.CodeRun.{HasRun, AreMarked};
 ghost use Rattle.mm_proof.specs.CodeApply.{IsCallOf};
-ghost use Rattle.mm_proof.specs.Verified.{OfMoves, ProvesUsing, FailsWith};
+ghost use Rattle.mm_proof.specs.Verified.{OfMoves, ProvesUsingNumbers, FailsWith};
 
 use crate::call::{Call, call_of, step_by};
 use crate::fault::{ProofFault, ProofRule};
@@ -221,7 +221,7 @@ pub(crate) fn judgement_of_codes<S: Store>(
         (code_moves (ids_in entries.now) codes.now) }
     ensures proved { OnOk result (OfMoves book.now.statements id.0
         (code_moves (ids_in entries.now) codes.now) (λ place s names.
-        ProvesUsing book.now.statements place s names (ids_in named.new.ids.items))) }
+        ProvesUsingNumbers book.now.statements place s names (ids_in named.new.ids.items))) }
     ensures fault { IfErr result (λ e. OnRule e (λ rule step. OfMoves book.now.statements id.0
         (code_moves (ids_in entries.now) codes.now)
         (λ place s names. FailsWith book.now.statements place s names rule step))) }

@@ -7,7 +7,7 @@ ghost use Rattle.mm_frame.specs.Numbers.{IsAssertionNumber};
 ghost use Rattle.mm_proof.specs.Moves.{Move};
 ghost use Rattle.mm_proof.specs.CodeSteps.{MayBeUsed, ids_in};
 ghost use Rattle.mm_proof.specs.CodeApply.{IsCallOf, IsOfAssertion};
-ghost use Rattle.mm_proof.specs.CodeRun.{ArePicked, AreMarked, AreNamed, AreNamedInOrder};
+ghost use Rattle.mm_proof.specs.CodeRun.{ArePicked, AreMarked, AreNamedNumbers, AreNamed};
 
 use crate::call::Call;
 use mm_frame::{Book, LabelId, LabelKind};
@@ -41,7 +41,7 @@ impl Used {
     }
 }
 
-/// The assertions that the last proof uses, perhaps in no order and some more than once.
+/// The assertions that the last proof uses, in any order, each once or more.
 #[derive(Drop)]
 pub(crate) struct Named {
     pub(crate) ids: Vec<LabelId>,
@@ -90,7 +90,7 @@ pub(crate) fn fill_used(
     requires known { (place : ℕ) × ((id : ℕ) → Contains (ids_in picked.now) id
         → (label : List ℕ) × MayBeUsed book.now.statements place label id) }
     ensures { OnOk result ((moves : List (Move ℕ)) → ArePicked moves (ids_in picked.now)
-        → AreNamedInOrder book.now.statements moves (ids_in named.new.ids.items)) }
+        → AreNamed book.now.statements moves (ids_in named.new.ids.items)) }
 {
     fill_named(named, book, picked)?;
     named.ids.sort_unstable();
@@ -121,7 +121,7 @@ pub(crate) fn fill_called(
     ensures { OnOk result ((statements : List Sentence) (place : ℕ) (moves : List (Move ℕ))
         → AllZip (IsCallOf statements place) (ids_in entries.now) calls.now
         → AreMarked (ids_in entries.now) moves marks.now
-        → AreNamed statements moves (ids_in named.new.ids.items)) }
+        → AreNamedNumbers statements moves (ids_in named.new.ids.items)) }
 {
     named.ids.clear();
     for (place, id) in entries.iter().enumerate() {

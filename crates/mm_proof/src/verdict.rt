@@ -15,7 +15,7 @@ ghost use Rattle.mm_proof.specs.CodeSteps.{MayBeUsed, ids_in, moves_in};
 ghost use Rattle.mm_proof.specs.CodeVerify.{AreStackEntries};
 ghost use Rattle.mm_proof.specs.CodeRun.{CarriesOn, StopsAt, MayBeMade, HasRun};
 ghost use Rattle.mm_proof.specs.CodeRun.{EndsWrong, ArePicked};
-ghost use Rattle.mm_proof.specs.Verified.{OfMoves, ProvesWith, FailsWith};
+ghost use Rattle.mm_proof.specs.Verified.{OfMoves, ProvesUsing, FailsWith};
 
 use crate::call::{call_of, step_by};
 use crate::fault::{ProofFault, ProofRule};
@@ -213,7 +213,7 @@ pub(crate) fn judgement_in_frame<S: Store>(
     requires picked { ArePicked (moves_in moves.now) (ids_in picked.now) }
     ensures proved { OnOk result (OfMoves book.now.statements id.0 (moves_in moves.now)
         (λ place s names.
-        ProvesWith book.now.statements place s names (ids_in named.new.ids.items))) }
+        ProvesUsing book.now.statements place s names (ids_in named.new.ids.items))) }
     ensures fault { IfErr result (λ e.
         OnRule e (λ rule step. OfMoves book.now.statements id.0 (moves_in moves.now)
         (λ place s names. FailsWith book.now.statements place s names rule step))) }
@@ -238,7 +238,7 @@ fn judgement<S: Store>(
     requires steps { AreSteps book.now.statements id.0 (moves_in moves.now) }
     ensures proved { OnOk result (OfMoves book.now.statements id.0 (moves_in moves.now)
         (λ place s names.
-        ProvesWith book.now.statements place s names (ids_in named.new.ids.items))) }
+        ProvesUsing book.now.statements place s names (ids_in named.new.ids.items))) }
     ensures fault { IfErr result (λ e.
         OnRule e (λ rule step. OfMoves book.now.statements id.0 (moves_in moves.now)
         (λ place s names. FailsWith book.now.statements place s names rule step))) }
@@ -264,7 +264,7 @@ pub(crate) fn answer<S: Store>(
     requires kept { S.kept store.old ≡ [] }
     requires steps { AreSteps book.now.statements id.0 steps.now }
     ensures proved { IfOk result (λ used. OfMoves book.now.statements id.0 steps.now
-        (λ place s names. ProvesWith book.now.statements place s names used)) }
+        (λ place s names. ProvesUsing book.now.statements place s names used)) }
     ensures fault { (rule : ProofRule) → (step : ℕ) → result ≡ Err (ProofFault.Rule rule step)
         → OfMoves book.now.statements id.0 steps.now
         (λ place s names. FailsWith book.now.statements place s names rule step) }
@@ -300,7 +300,7 @@ pub fn verify<S: Store + Drop>(
     requires steps { AreSteps book.now.statements id.0 steps.now }
     // What is answered `Ok` is proved, and these are the assertions of its tree.
     ensures proved { IfOk result (λ used. OfMoves book.now.statements id.0 steps.now
-        (λ place s moves. ProvesWith book.now.statements place s moves used)) }
+        (λ place s moves. ProvesUsing book.now.statements place s moves used)) }
 
     // The rule and the step are those of the first fault.
     ensures fault { (rule : ProofRule) → (step : ℕ) → result ≡ Err (ProofFault.Rule rule step)

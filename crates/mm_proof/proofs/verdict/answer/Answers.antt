@@ -3,7 +3,7 @@ use Rattle.mm_frame.specs.declared.number.LabelId.{LabelId}
 use Rattle.mm_proof.specs.declared.fault.ProofFault.{ProofFault}
 use Rattle.mm_proof.specs.Proof.{IsWithin, expression_limit}
 use Rattle.mm_proof.specs.CodeSteps.{ids_in}
-use Rattle.mm_proof.specs.Verified.{ProvesWith}
+use Rattle.mm_proof.specs.Verified.{ProvesUsing}
 use Rattle.mm_proof.proofs.Ending.{same_moves}
 use Rattle.mm_proof.proofs.Answering.{on_rule_map}
 use Rattle.mm_proof.proofs.Meaning.{meant_front}
@@ -12,7 +12,7 @@ use Rattle.mm_proof.proofs.verdict.answer.Goals as goal
 
 pub returns-in_ok-labels-in-Ok-clause-proved : goal.returns-in_ok-labels-in-Ok-clause-proved
 returns-in_ok-labels-in-Ok-clause-proved g c place s moves proof numbered =
-    subst (λ (ids : List LabelId). ProvesWith c.args.book.now.statements place s moves (ids_in ids)) (sym (c.in_ok-labels-in-Ok.ensures.items ∙ c.deref-in-Ok.ensures.value))
+    subst (λ (ids : List LabelId). ProvesUsing c.args.book.now.statements place s moves (ids_in ids)) (sym (c.in_ok-labels-in-Ok.ensures.items ∙ c.deref-in-Ok.ensures.value))
     (c.in-Ok.ensures.proved place s moves proof (same_moves c.args.book.now.statements _ _ _ moves c.deref.ensures.value (sym c.steps.view_is) numbered))
 
 pub returns-in_ok-labels-in-Ok-clause-refuses : goal.returns-in_ok-labels-in-Ok-clause-refuses
