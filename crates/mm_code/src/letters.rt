@@ -77,12 +77,12 @@ fn put_letter(
     ensures reads { (rest : List ℕ) → PutsOn slots.new result rest
         (with_front (take place slots.old) (reading value (byte ∷ rest))) }
 {
-    let digit = byte.wrapping_sub(b'A');
+    let digit = u32::from(byte).wrapping_sub(65);
     if digit >= 25 || value > CALM {
         return put_any(slots, place, value, byte);
     }
-    let longer = 5 * value + u32::from(digit.wrapping_sub(19));
-    slots[place] = Code::Number(20 * value + u32::from(digit + 1));
+    let longer = (5 * value + digit).wrapping_sub(19);
+    slots[place] = Code::Number(20 * value + digit + 1);
     if digit < 20 {
         Ok((place + 1, 0))
     } else {
@@ -138,8 +138,8 @@ fn put_token(
 {
     let mut place = from;
     let mut value = leading;
-    for (at, byte) in token.iter().enumerate() {
-        match put_letter(slots, place, value, *byte) {
+    for at in 0..token.len() {
+        match put_letter(slots, place, value, token[at]) {
             Ok(next) => (place, value) = next,
             Err(fault) => return Err(fault_with(fault, &token[at + 1..])),
         }
