@@ -1,6 +1,7 @@
 -- The items that are left, as a file's pieces are taken, a file is gone into and a file ends.
-use Rattle.std.proofs.Common.{◌≡◌, ℕ, zero, suc, ◌+◌, ◌-◌, ◌<◌, ◌≤◌, List, [], ◌∷◌, ◌++◌, length, map, Bool, true, false, not, cond, refl, sym, ap, ◌∙◌, Some, None, count_by, get_or, drop, replicate, append-nil, arith}
+use Rattle.std.proofs.Common.{◌≡◌, ℕ, zero, suc, ◌+◌, ◌-◌, ◌<◌, ◌≤◌, List, [], ◌∷◌, ◌++◌, length, map, Bool, true, false, not, cond, refl, sym, ap, ◌∙◌, Option, Some, None, count_by, get_or, drop, replicate, append-nil, arith}
 use Rattle.std.specs.Prelude.{slice_index_or, slice_set, slice_get, sum_by, if◌then◌else◌}
+use Rattle.std.specs.Option.{is_some}
 use Rattle.std.proofs.lemmas.List.Sums.{sum_by-set, sum_by_from}
 use Rattle.std.proofs.lemmas.List.Quantifiers.{position-Some}
 use Rattle.std.proofs.lemmas.List.{length-map}
@@ -15,13 +16,14 @@ use Rattle.mm_text.specs.declared.token.Token.{Token}
 use Rattle.mm_text.specs.Token.{PlainToken, plain_token, tokens_from}
 use Rattle.mm_text.specs.Files.{PlainFile, plain_file, total_bytes}
 use Rattle.mm_text.specs.Items as items
-use Rattle.mm_text.specs.Items.{Item, Plain, Inclusion, End, Piece, Met, Named, Outside, Naming, pieces, pieces_of, without_comments, spells, file_number, put_before, put_in}
+use Rattle.mm_text.specs.Items.{Item, Plain, Inclusion, End, Piece, Met, Named, Outside, Naming, pieces, pieces_of, without_comments, spells, holds_dollar, file_number, put_before, put_in}
 use Rattle.mm_text.specs.Mirror.Names.{number_among}
-use Rattle.mm_text.specs.Mirror.Place.{IsSameFile, shown_at}
-use Rattle.mm_text.specs.Mirror.Next.{items_with}
+use Rattle.mm_text.specs.Mirror.Place.{IsSameFile, TakesWordAt, shown_at}
+use Rattle.mm_text.specs.Mirror.Next.{items_with, TakesWord}
 use Rattle.mm_text.specs.Mirror.Nest.{IsNest, pieces_with, wrong_item, waiting, spot_of, put_into, pieces_left, items_after, items_left}
 use Rattle.mm_text.proofs.NameLaws.{position-names}
-use Rattle.mm_text.proofs.InclusionLaws.{put_in-plain, put_in-wrong, put_in-inclusion, put_in-end, put_in-nil, put_in-unknown, put_in-again, put_in-first, waiting-push}
+use Rattle.mm_text.proofs.CommentLaws.{no_dollar-spells}
+use Rattle.mm_text.proofs.InclusionLaws.{pieces-class, put_in-plain, put_in-wrong, put_in-inclusion, put_in-end, put_in-nil, put_in-unknown, put_in-again, put_in-first, waiting-push}
 
 -- before the top file's end
 pub left_on : (n : Nest) → n.is_over ≡ false → items_left n ≡ put_into n (pieces_left n)
@@ -55,6 +57,27 @@ takes_token n q t kind over naming same e =
     ∙ put_in-with (map plain_file n.files.now) (count_by not n.named.items) n.named.items t kind (pieces n.place.file Outside (shown_at q)) (waiting n.«open».items)
     ∙ ap (λ f. items_with t kind (put_into n (pieces f Outside (shown_at q) ++ waiting n.«open».items))) (sym (same_file n.place q same))
     ∙ ap (items_with t kind) (sym (left_outside (record n { place = q }) over naming))
+
+-- what is taken at once is a word, or nothing
+pub takes_word : (n : Nest) (q : Place) (found : Option Token) → n.is_over ≡ false
+    → n.naming ≡ None → IsSameFile n.place q → TakesWordAt n.place found q
+    → TakesWord (items_left n) found (items_left (record n { place = q }))
+takes_word n q (Some token) over naming same taken =
+    let t = plain_token token in
+    let lacks : holds_dollar t.text ≡ false = sym taken.1.dollar in
+    record {
+      first = takes_token n q t class.Word over naming same
+          (ap (pieces n.place.file Outside) taken.0
+          ∙ pieces-class n.place.file t _ class.Word (no_dollar-spells t.text 91 lacks) lacks);
+      text = lacks;
+      at = taken.1.at;
+    }
+takes_word n q None over naming same taken =
+    ap (λ (p : Place). items_left (record n { place = p })) taken
+
+pub none_there : {X : Type 0} (o : Option X) → is_some o ≡ false → o ≡ None
+none_there None e = refl
+none_there (Some x) e = absurd cc
 
 pub takes_inclusion : (n : Nest) (q : Place) (begin : Token) → n.is_over ≡ false → n.naming ≡ None → IsSameFile n.place q
     → pieces n.place.file Outside (shown_at n.place) ≡ Met (Inclusion (plain_token begin)) ∷ pieces n.place.file (Naming (plain_token begin)) (shown_at q)

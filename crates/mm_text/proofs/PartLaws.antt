@@ -20,7 +20,7 @@ use Rattle.mm_text.specs.Items.{Item, Plain, Wrong, Inclusion, End}
 use Rattle.mm_text.specs.Mirror.Next.{items_with, IsOfClass, TakesToken, TakesItem}
 use Rattle.mm_text.specs.Reading.{PlainFault}
 use Rattle.mm_text.specs.Mirror.Reader.{Part, step, More, Whole, Faulty, PlainScope, scope_after_opening, fault_in, unfinished_fault, end_fault, inclusion_fault, has_none, unless, part_label, part_first, Between, bare_statement, PlainReading, only_ending, with_statement, reading_of}
-use Rattle.mm_text.specs.Mirror.Steps.{fault_of, TakesPlain, AnswersFault, GivesPart, GivesFirst, TakesFirst, TellsFault, Opens, Closes, StepsTo}
+use Rattle.mm_text.specs.Mirror.Steps.{fault_of, TakesPlain, AnswersFault, GivesPart, GivesFirst, TakesFirst, TellsFault, Opens, Closes, StepsTo, ReadsOn}
 use Rattle.mm_text.proofs.StepLaws.{read_nothing, read_end, read_inclusion, read_wrong, read_more, read_whole, read_opened, read_closing, read_faulty, step_opens, step_closes}
 use Rattle.mm_text.proofs.MoreLeft.{HasMore, IsUnfinished, more_left, statement_more}
 
@@ -129,6 +129,10 @@ gives_same scope reading other r into new e h = subst (λ x. GivesPart scope x r
 -- a fault that is passed on
 pub gives_err : (scope : PlainScope) (reading : PlainReading) (r : Result Unit TextFault) (fault passed_on : TextFault) (into : PlainStatement) (new : List Item) → r ≡ Err passed_on → passed_on ≡ fault → AnswersFault reading fault → GivesPart scope reading r into new
 gives_err scope reading r fault passed_on into new is same h = subst (λ r. GivesPart scope reading r into new) (sym (is ∙ ap Err same)) (record { answer = h })
+
+-- a fault that is passed on, where what was read is told apart from what is left
+pub reads_err : (reading other : PlainReading) (r : Result Unit TextFault) (fault passed_on : TextFault) → r ≡ Err passed_on → passed_on ≡ fault → AnswersFault reading fault → ReadsOn reading r other
+reads_err reading other r fault passed_on is same h = subst (λ r. ReadsOn reading r other) (sym (is ∙ ap Err same)) h
 
 -- a token that doesn't end the part
 pub same_more : (scope : PlainScope) (part next : Part) (items rest : List Item) (t : PlainToken) → items ≡ Plain t ∷ rest → step part t ≡ More next → reading_of scope part items ≡ reading_of scope next rest

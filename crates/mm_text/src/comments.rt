@@ -6,7 +6,7 @@ ghost use Rattle.mm_text.specs.Token.{plain_token, is_space};
 ghost use Rattle.mm_text.specs.Items.{holds_mark, spells};
 ghost use Rattle.mm_text.specs.Mirror.Place.{is_quiet, IsLegalFront, IsLegalUpTo, IsPlace};
 ghost use Rattle.mm_text.specs.Mirror.Place.{IsSameFile, GoesOn, EndsComment, TakesOne};
-ghost use Rattle.mm_text.specs.Mirror.Place.{TakesShown, shown_at};
+ghost use Rattle.mm_text.specs.Mirror.Place.{TakesWordAt, TakesShown, shown_at};
 
 use crate::fault::TextRule;
 use crate::scan::{legal_end, skip_space, token_end, token_start};
@@ -255,6 +255,27 @@ fn take_one<'a>(place: &mut Place<'a>) -> Result<Found<'a>, Wrong<'a>>
     }
     place.at = end;
     Ok(Found::Token(token, has_dollar))
+}
+
+/// Takes the next token where it is a word whose bytes are judged already and that no comment comes
+/// before; else takes nothing. For most tokens it does what `take_token` does for each, and sooner.
+#[inline(always)]
+pub fn take_word<'a>(place: &mut Place<'a>) -> Option<Token<'a>>
+    requires { IsPlace place.old }
+    ensures place { IsPlace place.new }
+    ensures same { IsSameFile place.old place.new }
+    ensures takes { TakesWordAt place.old result place.new }
+{
+    let start = skip_space(place.bytes, place.at);
+    if start == place.bytes.len() {
+        return None;
+    }
+    let (end, has_dollar) = token_end(place.bytes, start);
+    if has_dollar || place.legal < end {
+        return None;
+    }
+    place.at = end;
+    Some(make_token(place.bytes, place.file, start, end))
 }
 
 /// Takes the next token outside comments, and tells whether it holds a `$`; none at the file's end.

@@ -2,7 +2,7 @@
 
 ghost use Rattle.std.specs.Prelude.{◌≡◌, map};
 ghost use Rattle.mm_text.specs.Files.{plain_file};
-ghost use Rattle.mm_text.specs.Mirror.Next.{TakesItem, IsFirstCursor};
+ghost use Rattle.mm_text.specs.Mirror.Next.{TakesItem, TakesWord, IsFirstCursor};
 
 use crate::fault::{LoadRule, TextFault};
 use crate::file::File;
@@ -10,6 +10,7 @@ use crate::handed::is_within_limit;
 use crate::names::Names;
 use crate::nest::Nest;
 use crate::next::Next;
+use crate::token::Token;
 use std::alloc::Global;
 use std::marker::Model;
 
@@ -51,6 +52,15 @@ impl<'a> Cursor<'a> {
         }
         let nest = Nest::begin(alloc, files, names)?;
         Ok(Cursor { nest })
+    }
+
+    /// Takes the next item where it is a word that is told at once; else takes nothing, and `next`
+    /// tells what comes. Most items are words.
+    #[inline(always)]
+    pub fn word(&mut self) -> Option<Token<'a>>
+        ensures { TakesWord self.old result self.new }
+    {
+        self.nest.word()
     }
 
     /// Takes the next item. It takes no memory.

@@ -6,12 +6,12 @@ ghost use Rattle.mm_text.specs.Token.{plain_token};
 ghost use Rattle.mm_text.specs.Files.{plain_file, total_bytes};
 ghost use Rattle.mm_text.specs.Items.{spells, items};
 ghost use Rattle.mm_text.specs.Mirror.Place.{IsPlace, IsSameFile};
-ghost use Rattle.mm_text.specs.Mirror.Next.{TakesItem};
+ghost use Rattle.mm_text.specs.Mirror.Next.{TakesItem, TakesWord};
 ghost use Rattle.mm_text.specs.Mirror.Nest.{TakesPiece, TakesInner, TakesName, Enters, Includes};
 ghost use Rattle.mm_text.specs.Mirror.Nest.{IsNest, items_left, items_after};
 
 use crate::class::{Class, class_of_dollar};
-use crate::comments::{Place, Wrong, take_token};
+use crate::comments::{Place, Wrong, take_token, take_word};
 use crate::fault::TextRule;
 use crate::file::File;
 use crate::names::Names;
@@ -223,6 +223,19 @@ impl<'a> Nest<'a> {
             Next::Nothing => {}
         }
         next
+    }
+
+    /// Takes the next item where it is a word that is told at once; else takes nothing.
+    #[inline(always)]
+    pub fn word(&mut self) -> Option<Token<'a>>
+        requires { IsNest self.old }
+        ensures nest { IsNest self.new }
+        ensures takes { TakesWord (items_left self.old) result (items_left self.new) }
+    {
+        if self.is_over || self.naming.is_some() {
+            return None;
+        }
+        take_word(&mut self.place)
     }
 
     /// Takes the next item.

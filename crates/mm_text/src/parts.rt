@@ -13,6 +13,7 @@ ghost use Rattle.mm_text.specs.Statement.{is_provable};
 ghost use Rattle.mm_text.specs.Mirror.Reader.{same_text};
 ghost use Rattle.mm_text.specs.Mirror.Steps.{plain_scope, TakesWithin, TakesFirst, GivesPart};
 ghost use Rattle.mm_text.specs.Mirror.Steps.{GivesFirst, GivesStatement, StepsTo, is_block_sign};
+ghost use Rattle.mm_text.specs.Mirror.Steps.{ReadsOn};
 ghost use Rattle.mm_text.specs.Mirror.Steps.{bare_kind, labelled_kind, ends_symbols};
 
 use crate::class::{Class, Keyword, is_label};
@@ -93,8 +94,8 @@ fn is_full(kind: Kind, count: usize) -> bool
 }
 
 /// Takes the next token of a statement with this first token and this label, and tells which
-/// keyword it is; none for a word.
-#[inline(always)]
+/// keyword it is; none for a word. It is a call, as most words are taken before it is asked.
+#[inline(never)]
 fn token_within<'a>(
     cursor: &mut Cursor<'a>,
     scope: &Scope,
@@ -148,6 +149,24 @@ fn add_to_proof<'a>(
     Ok(())
 }
 
+/// Adds the words that come next to the proof of a statement, as many as are told at once.
+fn words_of_proof<'a>(
+    cursor: &mut Cursor<'a>,
+    into: &mut Statement<'a>,
+    scope: &Scope,
+) -> Result<(), TextFault<'a>>
+    ensures reads { ReadsOn
+        (reading_of (plain_scope scope.now) (InProof (plain_statement into.old)) cursor.old)
+        result
+        (reading_of (plain_scope scope.now) (InProof (plain_statement into.new)) cursor.new) }
+    ensures fewer { length cursor.new ≤ length cursor.old }
+{
+    while let Some(word) = cursor.word() {
+        add_to_proof(into, scope, word)?;
+    }
+    Ok(())
+}
+
 /// Reads the proof of a statement, of which everything up to the `$=` was read, and its `$.`.
 fn proof<'a>(
     cursor: &mut Cursor<'a>,
@@ -160,6 +179,7 @@ fn proof<'a>(
         result (plain_statement into.new) cursor.new }
 {
     loop {
+        words_of_proof(cursor, into, scope)?;
         let (token, sign) = token_within(cursor, scope, into.first, into.label)?;
         match sign {
             Some(keyword) => {
@@ -203,6 +223,25 @@ fn after_symbols<'a>(
     Ok(())
 }
 
+/// Adds the words that come next to the symbols of a statement, as many as are told at once.
+fn words_of_body<'a>(
+    cursor: &mut Cursor<'a>,
+    into: &mut Statement<'a>,
+    scope: &Scope,
+) -> Result<(), TextFault<'a>>
+    requires { scope.now.count ≤ 1073741824 }
+    ensures reads { ReadsOn
+        (reading_of (plain_scope scope.now) (InBody (plain_statement into.old)) cursor.old)
+        result
+        (reading_of (plain_scope scope.now) (InBody (plain_statement into.new)) cursor.new) }
+    ensures fewer { length cursor.new ≤ length cursor.old }
+{
+    while let Some(word) = cursor.word() {
+        add_symbol(into, scope, word)?;
+    }
+    Ok(())
+}
+
 /// Reads the symbols of a statement, of which everything up to its keyword was read, and what
 /// follows them.
 fn body<'a>(
@@ -216,6 +255,7 @@ fn body<'a>(
         result (plain_statement into.new) cursor.new }
 {
     loop {
+        words_of_body(cursor, into, scope)?;
         let (token, sign) = token_within(cursor, scope, into.first, into.label)?;
         match sign {
             Some(keyword) => return after_symbols(cursor, into, scope, token, keyword),

@@ -1,9 +1,10 @@
 -- What a cursor takes from the items that are left. Private clauses speak of this.
-use Rattle.std.specs.Prelude.{◌≡◌, ◌<◌, List, [], ◌∷◌, Result, Ok, Err, ⊤}
+use Rattle.std.specs.Prelude.{◌≡◌, ◌<◌, List, [], ◌∷◌, Option, Some, None, Result, Ok, Err, ⊤}
 use Rattle.mm_text.specs.declared.class.Class.{Class}
 use Rattle.mm_text.specs.declared.class.Class.TheVariants as class
 use Rattle.mm_text.specs.declared.next.Next.{Next}
 use Rattle.mm_text.specs.declared.next.Next.TheVariants as next
+use Rattle.mm_text.specs.declared.token.Token.{Token}
 use Rattle.mm_text.specs.declared.fault.TextFault.{TextFault}
 use Rattle.mm_text.specs.declared.fault.TextFault.TheVariants.{Load, Fault, Memory}
 use Rattle.mm_text.specs.Mirror.Class.{keyword_bytes}
@@ -37,6 +38,11 @@ TakesItem old (next.Token t kind) new = TakesToken old (plain_token t) kind new
 TakesItem old (next.Inclusion t) new = old ≡ Inclusion (plain_token t) ∷ new
 TakesItem old (next.End file) new = old ≡ End file ∷ new
 TakesItem old next.Nothing new = (old ≡ []) × (new ≡ [])
+
+-- the first of the items is taken, a word; or none is
+abbrev pub TakesWord : List Item → Option Token → List Item → Type 0
+TakesWord old (Some t) new = TakesToken old (plain_token t) class.Word new
+TakesWord old None new = new ≡ old
 
 -- The items of the files are left, and no rule is broken by the files as a whole; or one is, or
 -- memory is wanting.

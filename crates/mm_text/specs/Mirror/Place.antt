@@ -86,6 +86,12 @@ TakesOne old (Ok found.Comment) new = (old.at < new.at) × (shown_at old ≡ sho
 TakesOne old (Ok found.End) new = shown_at old ≡ []
 TakesOne old (Err w) new = IsBroken (shown_at old) w
 
+-- the next token is taken, a word that no comment comes before; or nothing is
+abbrev pub TakesWordAt : Place → Option Token → Place → Type 0
+TakesWordAt old (Some t) new =
+    (shown_at old ≡ Clear (plain_token t) ∷ shown_at new) × IsClear t false
+TakesWordAt old None new = new ≡ old
+
 -- the first of what stands outside comments is taken, and the rest is left
 abbrev pub TakesShown : List Shown → Result (Option (Token × Bool)) Wrong → List Shown → Type 0
 TakesShown old (Ok (Some found)) new =

@@ -67,6 +67,11 @@ TakesWithin scope first label old (Err fault) new =
     (part : Part) → part_first part ≡ Some first → part_label part ≡ label
     → AnswersFault (reading_of scope part old) fault
 
+-- A part of the reader read on, and the reading is the same; or it met the fault that ends it.
+abbrev pub ReadsOn : PlainReading → Result Unit TextFault → PlainReading → Type 0
+ReadsOn old (Ok unit) new = old ≡ new
+ReadsOn old (Err fault) new = AnswersFault old fault
+
 -- what a part of the reader answers of the reading that it is in, by its result
 abbrev pub AnswersPart : PlainScope → PlainReading → Result Unit TextFault → PlainStatement
     → List Item → Type 0

@@ -5,8 +5,8 @@ use Rattle.mm_text.specs.Mirror.Steps.{plain_scope}
 use Rattle.mm_text.proofs.parts.proof.Given as goal
 
 -- what was read so far and what is left give the same reading
-abbrev pub invariant-loop-token : goal.invariant-loop-token
-invariant-loop-token l = reading_of (plain_scope l.scope) (InProof (plain_statement l.initial.into)) l.initial.cursor ≡ reading_of (plain_scope l.scope) (InProof (plain_statement l.into)) l.cursor
+abbrev pub invariant-loop-cursor : goal.invariant-loop-cursor
+invariant-loop-cursor l = reading_of (plain_scope l.scope) (InProof (plain_statement l.initial.into)) l.initial.cursor ≡ reading_of (plain_scope l.scope) (InProof (plain_statement l.into)) l.cursor
 
-abbrev pub decreases-loop-token : goal.decreases-loop-token
-decreases-loop-token l = length l.cursor
+abbrev pub decreases-loop-cursor : goal.decreases-loop-cursor
+decreases-loop-cursor l = length l.cursor

@@ -1,0 +1,32 @@
+use Rattle.std.proofs.Common.{◌≡◌, false, sym, ap, ◌∙◌, arith}
+use Rattle.std.specs.List.{list_all}
+use Rattle.mm_text.specs.Token.{PlainToken, plain_token, is_printable}
+use Rattle.mm_text.specs.Items.{holds_dollar}
+use Rattle.mm_text.proofs.CommentLaws.{outside_token, outside-clear, no_dollar-spells, token_printable}
+use Rattle.mm_text.proofs.comments.take_word.Goals as goal
+
+-- a token without `$` neither begins nor closes a comment
+pub returns-clause-takes : goal.returns-clause-takes
+returns-clause-takes c =
+    let p = c.args.place.now in
+    let start = c.skip_space-start.result in
+    let end = c.token_end-end.result.0 in
+    let t = plain_token c.make_token.result in
+    let printable = token_printable p.bytes.now p.legal start end c.requires.front
+    (omega arith) (omega arith) c.token_end-end.ensures.ink in
+    let lacks : holds_dollar t.text ≡ false =
+    ap (λ (u : PlainToken). holds_dollar u.text) c.make_token.ensures.token
+    ∙ sym c.token_end-end.ensures.dollar ∙ c.if-has_dollar.false in (
+      outside_token p start end t c.skip_space-start.ensures.same_tokens
+          c.token_end-end.ensures.token c.make_token.ensures.token
+          ∙ outside-clear t _
+          (ap (λ (u : PlainToken). list_all is_printable u.text) c.make_token.ensures.token
+          ∙ printable)
+          (no_dollar-spells t.text 40 lacks) (no_dollar-spells t.text 41 lacks),
+      record {
+        at = c.make_token.ensures.at;
+        begins = no_dollar-spells t.text 40 lacks;
+        closes = no_dollar-spells t.text 41 lacks;
+        dollar = sym lacks;
+      },
+    )
