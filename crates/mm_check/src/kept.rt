@@ -9,10 +9,10 @@ use mm_frame::LabelId;
 use std::alloc::{AllocError, Global};
 use std::marker::Model;
 
-// Of how many bytes of a database there is one of these at most, as a rule.
-const USE: usize = 24;
+// In so many bytes of a database there is one used assertion at most, or one proof, as a rule.
+const USE_BYTES: usize = 24;
 
-const PROOF: usize = 384;
+const PROOF_BYTES: usize = 384;
 
 /// The number of a `$p`, and where the numbers of the assertions that its proof uses stand.
 #[derive(Clone, Copy)]
@@ -59,8 +59,8 @@ impl Kept {
     pub(crate) fn prepare(&mut self, bytes: usize)
         ensures { self.new ≡ self.old }
     {
-        let _ = self.used.reserve(bytes / USE);
-        let _ = self.proofs.reserve(bytes / PROOF);
+        let _ = self.used.reserve(bytes / USE_BYTES);
+        let _ = self.proofs.reserve(bytes / PROOF_BYTES);
     }
 
     /// Keeps what the proof of a `$p` uses.

@@ -9,23 +9,23 @@ use crate::book::Book;
 use crate::scopes::Scopes;
 use crate::tables::Tables;
 
-// Of how many bytes of a database there is one of these at most, as a rule: great databases have
-// about half as many. Where there are more, the lists grow as they would without this; and where
-// there are fewer, the room takes no memory until it is written.
-const STATEMENT: usize = 64;
+// In so many bytes of a database there is one statement at most, one label and so on, as a rule:
+// great databases have about half as many. Where there are more, the lists grow as they would
+// without this; and where there are fewer, the room takes no memory until it is written.
+const STATEMENT_BYTES: usize = 64;
 
-const LABEL: usize = 128;
+const LABEL_BYTES: usize = 128;
 
-const SYMBOL: usize = 12;
+const SYMBOL_BYTES: usize = 12;
 
-const PIECE: usize = 10;
+const PIECE_BYTES: usize = 10;
 
-const HYPOTHESIS: usize = 64;
+const HYPOTHESIS_BYTES: usize = 64;
 
-const PAIR: usize = 96;
+const PAIR_BYTES: usize = 96;
 
 // The table by which labels are found is written as soon as it is made, so that it is made for few.
-const NAME: usize = 384;
+const NAME_BYTES: usize = 384;
 
 const MOST_NAMES: usize = 65_536;
 
@@ -43,14 +43,14 @@ impl<'a> Tables<'a> {
     fn prepare(&mut self, bytes: usize)
         ensures { SameLists self.old self.new }
     {
-        let _ = self.log.reserve(bytes / STATEMENT);
-        let _ = self.flat.reserve(bytes / SYMBOL);
-        let _ = self.named.reserve(bytes / LABEL);
-        let _ = self.labels.reserve(MOST_NAMES.min(bytes / NAME));
-        let _ = self.hypotheses.reserve(bytes / HYPOTHESIS);
-        let _ = self.pairs.reserve(bytes / PAIR);
-        let _ = self.pieces.reserve(bytes / PIECE);
-        self.scopes.prepare(bytes / STATEMENT);
+        let _ = self.log.reserve(bytes / STATEMENT_BYTES);
+        let _ = self.flat.reserve(bytes / SYMBOL_BYTES);
+        let _ = self.named.reserve(bytes / LABEL_BYTES);
+        let _ = self.labels.reserve(MOST_NAMES.min(bytes / NAME_BYTES));
+        let _ = self.hypotheses.reserve(bytes / HYPOTHESIS_BYTES);
+        let _ = self.pairs.reserve(bytes / PAIR_BYTES);
+        let _ = self.pieces.reserve(bytes / PIECE_BYTES);
+        self.scopes.prepare(bytes / STATEMENT_BYTES);
     }
 }
 
