@@ -111,7 +111,23 @@ impl<'a> Names<'a> {
         self.table.len()
     }
 
+    // The number of a name, if it is one of them, by its hash. It is a call, as a name of one byte
+    // is told without it.
+    #[inline(never)]
+    fn find_by_hash(&self, name: &[u8]) -> Option<u32>
+        ensures { MatchOption
+            result
+            (¬ (Contains self.now.names name.now))
+            (λ number. slice_get self.now.names number ≡ Some name.now) }
+    {
+        match self.table.get_index_of(&Name(name)) {
+            Some(number) => Some(number as u32),
+            None => None,
+        }
+    }
+
     /// The number of a name, if it is one of them.
+    #[inline(always)]
     pub(crate) fn find(&self, name: &[u8]) -> Option<u32>
         ensures { MatchOption
             result
@@ -121,10 +137,7 @@ impl<'a> Names<'a> {
         if let [only] = name {
             return self.by_byte[*only as usize];
         }
-        match self.table.get_index_of(&Name(name)) {
-            Some(number) => Some(number as u32),
-            None => None,
-        }
+        self.find_by_hash(name)
     }
 
     /// The name with a number.

@@ -1,5 +1,4 @@
-use Rattle.std.proofs.Common.{None, Some, sym, ◌∙◌, map, arith}
-use Rattle.mm_frame.proofs.NameLists.{place_of_name}
+use Rattle.std.proofs.Common.{map, arith}
 use Rattle.mm_frame.proofs.ByByte.{found_by_byte}
 use Rattle.mm_frame.proofs.names.Names.find.Goals as goal
 
@@ -10,13 +9,3 @@ returns-in-len1 c =
     rw (← c.self.view_is)
     (found_by_byte (map (λ k. k.0.now) c.self.inside.table.keys) c.self.inside.by_byte c.args.name.now (omega arith)
     (let byte = c.type_inv.name 0 in omega arith) c.self.invariant.1)
-
-pub returns-in-Some : goal.returns-in-Some
-returns-in-Some c =
-    rw (← c.self.view_is)
-    (place_of_name (λ k. k.0.now) c.args.name.now c.self.inside.table.keys (Some c.in-Some.number) (sym c.get_index_of.ensures.index ∙ c.in-Some.is))
-
-pub returns-in-None : goal.returns-in-None
-returns-in-None c =
-    rw (← c.self.view_is)
-    (place_of_name (λ k. k.0.now) c.args.name.now c.self.inside.table.keys None (sym c.get_index_of.ensures.index ∙ c.in-None.is))
