@@ -77,6 +77,7 @@ fn put_letter(
     ensures reads { (rest : List ℕ) → PutsOn slots.new result rest
         (with_front (take place slots.old) (reading value (byte ∷ rest))) }
 {
+    // 65 is the letter `A`. It is counted in 32 bits, as all that follows is.
     let digit = u32::from(byte).wrapping_sub(65);
     if digit >= 25 || value > CALM {
         return put_any(slots, place, value, byte);
@@ -138,6 +139,7 @@ fn put_token(
 {
     let mut place = from;
     let mut value = leading;
+    // By place, since a letter at fault is told with those behind it.
     for at in 0..token.len() {
         match put_letter(slots, place, value, token[at]) {
             Ok(next) => (place, value) = next,

@@ -31,8 +31,8 @@ use mm_text::{Statement, Token};
 use std::alloc::Global;
 use std::marker::Model;
 
-// Of how many bytes of a database a symbol of the stack is one, as a rule, in its longest proof.
-const STACK_SYMBOL: usize = 16;
+// In so many bytes of a database its longest proof has one symbol on the stack, as a rule.
+const STACK_SYMBOL_BYTES: usize = 16;
 
 /// What a proof without a fault is.
 #[derive(Clone, Copy, PartialEq, Eq, Debug)]
@@ -92,7 +92,7 @@ impl<'a> Prover<'a> {
         ensures { self.new ≡ self.old }
     {
         self.book.prepare(bytes);
-        self.store.prepare(bytes / STACK_SYMBOL);
+        self.store.prepare(bytes / STACK_SYMBOL_BYTES);
     }
 
     /// The book.
