@@ -91,7 +91,7 @@ Examples:
   mm explain P8
 ";
 
-const VERSION: &str = "mm 0.1.0, proved with rattle-kit-13b logic dac8208d650f15bf\n";
+const VERSION: &str = "mm 0.1.0, proved with rattle-kit-13f logic dac8208d650f15bf\n";
 
 /// The texts of the program.
 pub(crate) const TEXTS: Texts<'static> = Texts {
