@@ -99,7 +99,9 @@ impl<'a> Tables<'a> {
 
     // Makes room for a `$c` or `$v` of so many symbols.
     fn make_room(&mut self, symbols: usize) -> Result<(), AllocError>
-        requires { length self.old.symbols.names + symbols < 4294967296 }
+        requires names { length self.old.symbols.names + symbols < 4294967296 }
+        requires few { length self.old.log.items + length self.old.flat.items + symbols
+            < 4294967296 }
         ensures same { SameLists self.old self.new }
         ensures entry { OnOk result (HaveRoom self.new symbols) }
         ensures space { OnOk result (HasSpace self.new symbols) }
@@ -126,7 +128,7 @@ impl<'a> Tables<'a> {
         ensures err { OnErr result (IsSame self.old self.new) }
     {
         self.make_room(statement.symbols.len())?;
-        let start = self.flat.len();
+        let start = self.flat.len() as u32;
         self.declare_each(&statement.symbols, statement.kind);
         self.enter(statement.kind, None, start, bytes);
         Ok(Taken::Declared)

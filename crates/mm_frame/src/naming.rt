@@ -16,7 +16,7 @@ ghost use Rattle.mm_frame.specs.Naming.{Named, HaveNameRoom, part_after};
 use crate::answer::Taken;
 use crate::distinct::find_places;
 use crate::framing::{FrameLists, find_hypotheses, find_mandatory, find_pairs};
-use crate::lists::{at, put};
+use crate::lists::{at, put, reserve_part};
 use crate::number::{LabelId, Sym};
 use crate::pattern::add_patterns;
 use crate::tables::{LabelInfo, NO_PART, Part, SymbolInfo, Tables};
@@ -28,15 +28,16 @@ const NO_FRAME: (Part, Part, Part) = (NO_PART, NO_PART, NO_PART);
 
 // Adds elements to the end of a list that has room, and says where they stand.
 fn add_part<T: Copy + Drop>(list: &mut Vec<T>, more: &[T]) -> Part
-    requires { vec_len list.old + length more.now ≤ vec_capacity list.old }
+    requires room { vec_len list.old + length more.now ≤ vec_capacity list.old }
+    requires few { length list.old.items + length more.now < 4294967296 }
     ensures items { list.new.items ≡ list.old.items ++ more.now }
     ensures part { result ≡ part_after list.old.items more.now }
 {
-    let start = list.len();
+    let start = list.len() as u32;
     let _ = list.extend_from_slice(more);
     Part {
         start,
-        end: list.len(),
+        end: list.len() as u32,
     }
 }
 
@@ -68,11 +69,11 @@ impl<'a> Tables<'a> {
     {
         let id = LabelId(self.labels.len() as u32);
         let place = self.log.len();
-        let start = self.flat.len();
+        let start = self.flat.len() as u32;
         let _ = self.flat.extend_from_slice(numbers);
         let symbols = Part {
             start,
-            end: self.flat.len(),
+            end: self.flat.len() as u32,
         };
         self.labels.add(label);
         put(
@@ -164,8 +165,8 @@ impl<'a> Tables<'a> {
         find_pairs(self, &lists.places, &mut lists.variables, &mut lists.pairs)?;
         find_places(&lists.hypotheses, &lists.pairs, &mut lists.placed)?;
         self.reserve(numbers.len())?;
-        self.hypotheses.reserve(lists.hypotheses.len())?;
-        self.pairs.reserve(lists.placed.len())?;
+        reserve_part(&mut self.hypotheses, lists.hypotheses.len())?;
+        reserve_part(&mut self.pairs, lists.placed.len())?;
         let conclusion = add_patterns(
             &mut self.pieces,
             &mut lists.hypotheses,

@@ -20,8 +20,8 @@ use std::alloc::{AllocError, Global};
 /// A part of a list: the places from `start` up to and without `end`.
 #[derive(Clone, Copy, PartialEq, Eq, Debug)]
 pub struct Part {
-    pub start: usize,
-    pub end: usize,
+    pub start: u32,
+    pub end: u32,
 }
 
 /// Nothing of a list.
@@ -32,7 +32,9 @@ pub(crate) fn part_of<T>(list: &[T], part: Part) -> &[T]
     ensures { part.start ≤ part.end → part.end ≤ length list.now
         → result.now ≡ slice_range list.now part.start part.end }
 {
-    list.get(part.start..part.end).unwrap_or(&[])
+    let start = part.start as usize;
+    let end = part.end as usize;
+    list.get(start..end).unwrap_or(&[])
 }
 
 /// A statement.
