@@ -68,7 +68,7 @@ impl<'a> Tables<'a> {
         ensures named { Named self.old self.new kind label.now numbers.now frame result bytes }
     {
         let id = LabelId(self.labels.len() as u32);
-        let place = self.log.len();
+        let place = self.log.len() as u32;
         let start = self.flat.len() as u32;
         let _ = self.flat.extend_from_slice(numbers);
         let symbols = Part {

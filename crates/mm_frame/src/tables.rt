@@ -59,7 +59,7 @@ pub(crate) struct SymbolInfo {
 /// any order: so one place of memory is read, and not that of the entry too.
 #[derive(Clone, Copy)]
 pub(crate) struct LabelInfo {
-    pub(crate) place: usize,
+    pub(crate) place: u32,
     /// What its entry says.
     pub(crate) kind: Kind,
     pub(crate) symbols: Part,
