@@ -42,7 +42,7 @@ fn add_part<T: Copy + Drop>(list: &mut Vec<T>, more: &[T]) -> Part
 }
 
 // Notes the place of a variable's latest `$f`.
-fn note_floating(infos: &mut Vec<SymbolInfo>, variable: Sym, place: usize)
+fn note_floating(infos: &mut Vec<SymbolInfo>, variable: Sym, place: u32)
     ensures { (info : SymbolInfo) → slice_get infos.old.items variable.0 ≡ Some info
         → infos.new.items ≡ set infos.old.items variable.0 (record info { floating = Some place }) }
 {
@@ -110,7 +110,7 @@ impl<'a> Tables<'a> {
     {
         self.reserve(numbers.len())?;
         match at(numbers, 1) {
-            Some(variable) => note_floating(&mut self.infos, variable, self.log.len()),
+            Some(variable) => note_floating(&mut self.infos, variable, self.log.len() as u32),
             None => {}
         }
         let id = self.name(Kind::Floating, label, numbers, NO_FRAME, bytes);

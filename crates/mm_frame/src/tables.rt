@@ -50,9 +50,9 @@ pub(crate) struct Entry {
 #[derive(Clone, Copy)]
 pub(crate) struct SymbolInfo {
     /// The place of the latest `$v` that declares it; a constant has none.
-    pub(crate) variable: Option<usize>,
+    pub(crate) variable: Option<u32>,
     /// The place of its latest `$f`.
-    pub(crate) floating: Option<usize>,
+    pub(crate) floating: Option<u32>,
 }
 
 /// A labelled statement. What the steps of proofs ask of it stands together, as they name labels in
