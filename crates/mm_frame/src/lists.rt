@@ -23,9 +23,9 @@ pub(crate) fn put<T: Drop>(list: &mut Vec<T>, value: T)
     let _ = list.push(value);
 }
 
-/// Makes room for elements in a list of which parts are told by numbers of 32 bits. Where it would
-/// be longer than such numbers can say, this is refused as memory is.
-pub(crate) fn reserve_part<T: Drop>(list: &mut Vec<T>, more: usize) -> Result<(), AllocError>
+/// Makes room for elements in a list whose places are told by numbers of 32 bits. Where it would be
+/// longer than such numbers can say, this is refused as memory is.
+pub(crate) fn reserve_numbered<T: Drop>(list: &mut Vec<T>, more: usize) -> Result<(), AllocError>
     ensures items { list.new.items ≡ list.old.items }
     ensures room { OnOk result (vec_len list.new + more ≤ vec_capacity list.new) }
     ensures few { OnOk result (length list.new.items + more < 4294967296) }
@@ -37,7 +37,7 @@ pub(crate) fn reserve_part<T: Drop>(list: &mut Vec<T>, more: usize) -> Result<()
 }
 
 /// Writes an element over the one at a place.
-pub(crate) fn write(list: &mut Vec<usize>, place: usize, value: usize)
+pub(crate) fn write(list: &mut Vec<u32>, place: usize, value: u32)
     ensures { place < length list.old.items
         → list.new.items ≡ slice_set list.old.items place value }
 {

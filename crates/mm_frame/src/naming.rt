@@ -16,7 +16,7 @@ ghost use Rattle.mm_frame.specs.Naming.{Named, HaveNameRoom, part_after};
 use crate::answer::Taken;
 use crate::distinct::find_places;
 use crate::framing::{FrameLists, find_hypotheses, find_mandatory, find_pairs};
-use crate::lists::{at, put, reserve_part};
+use crate::lists::{at, put, reserve_numbered};
 use crate::number::{LabelId, Sym};
 use crate::pattern::add_patterns;
 use crate::tables::{LabelInfo, NO_PART, Part, SymbolInfo, Tables};
@@ -165,8 +165,8 @@ impl<'a> Tables<'a> {
         find_pairs(self, &lists.places, &mut lists.variables, &mut lists.pairs)?;
         find_places(&lists.hypotheses, &lists.pairs, &mut lists.placed)?;
         self.reserve(numbers.len())?;
-        reserve_part(&mut self.hypotheses, lists.hypotheses.len())?;
-        reserve_part(&mut self.pairs, lists.placed.len())?;
+        reserve_numbered(&mut self.hypotheses, lists.hypotheses.len())?;
+        reserve_numbered(&mut self.pairs, lists.placed.len())?;
         let conclusion = add_patterns(
             &mut self.pieces,
             &mut lists.hypotheses,
