@@ -194,6 +194,13 @@ names_fit t p bytes tables form is room =
     let enough = bytes_enough p form in
     omega arith
 
+-- there are fewer symbols than numbers for their places
+pub symbols_fit : (t : Tables) (p : PlainStatement) (bytes : ℕ) → AreTables t → HasForm p → bytes ≡ bytes_in p → t.bytes + bytes ≤ 1073741824 → length t.log.items + length t.flat.items + length p.symbols < 4294967296
+symbols_fit t p bytes tables form is room =
+    let counted = tables.counted in
+    let enough = bytes_enough p form in
+    omega arith
+
 -- room is made, the symbols are taken in, and the entry is written
 pub declares : (t m d v : Tables) (p : PlainStatement) (start bytes : ℕ) → AreTables t → SameLists t m → IsMeant (statements_of t) (sentence_of p) → HasForm p → IsDeclaration p.kind
     → bytes ≡ bytes_in p → t.bytes + bytes ≤ 1073741824 → TakesSymbols m d p.kind (sentence_of p).symbols → start ≡ length m.flat.items → Entered d v p.kind None start bytes → Grows t v (sentence_of p) bytes

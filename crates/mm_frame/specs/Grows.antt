@@ -46,6 +46,7 @@ pub record HaveRoom (t : Tables) (symbols : ℕ) : Type 0 where
   pub named : vec_len t.named < vec_capacity t.named
   pub labels : 0 < t.labels.room
   pub scopes : HasRoom t.scopes
+  pub few : length t.log.items + length t.flat.items + symbols < 4294967296
 
 abbrev pub entry_of : Kind → Option LabelId → ℕ → ℕ → Entry
 entry_of kind label start end =

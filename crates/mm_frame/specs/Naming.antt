@@ -41,6 +41,7 @@ pub record HaveNameRoom (t : Tables) (symbols : ℕ) : Type 0 where
   pub named : vec_len t.named < vec_capacity t.named
   pub labels : 0 < t.labels.room
   pub scopes : HasRoom t.scopes
+  pub few : length t.log.items + length t.flat.items + symbols < 4294967296
 
 -- one label more was written, and the entry of its statement, which has these symbols
 pub record Named (old new : Tables) (kind : Kind) (label : List ℕ) (numbers : List Sym)

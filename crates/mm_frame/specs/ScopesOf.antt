@@ -1,5 +1,5 @@
 -- What the code's scopes hold. This file mirrors the code, and is cited by private contracts alone.
-use Rattle.std.specs.Prelude.{◌≡◌, ◌<◌, List, vec_len, vec_capacity}
+use Rattle.std.specs.Prelude.{◌≡◌, ◌<◌, List, length, vec_len, vec_capacity}
 use Rattle.mm_frame.specs.declared.scopes.Scopes.{Scopes}
 use Rattle.mm_frame.specs.declared.scopes.TheConstants.{NEVER}
 use Rattle.mm_frame.specs.Sentence.{Sentence}
@@ -14,6 +14,8 @@ pub record HasRoom (s : Scopes) : Type 0 where
   pub blocks : vec_len s.blocks < vec_capacity s.blocks
   pub ends : vec_len s.ends < vec_capacity s.ends
   pub open_blocks : vec_len s.open < vec_capacity s.open
+  pub few_statements : length s.blocks.items < 4294967296
+  pub few_blocks : length s.ends.items < 4294967296
 
 -- the same lists
 pub record HaveSameLists (s t : Scopes) : Type 0 where

@@ -21,7 +21,7 @@ use std::alloc::AllocError;
 
 impl<'a> Tables<'a> {
     // Notes the place of the latest `$v` that declares a symbol.
-    fn note_variable(&mut self, number: u32, variable: usize)
+    fn note_variable(&mut self, number: u32, variable: u32)
         ensures infos { (info : SymbolInfo) → slice_get self.old.infos.items number ≡ Some info
             → self.new.infos.items ≡ slice_set self.old.infos.items number
             (record { variable = Some variable; floating = info.floating }) }
@@ -36,7 +36,7 @@ impl<'a> Tables<'a> {
     }
 
     // Takes a symbol in that has no number yet.
-    fn add_symbol(&mut self, symbol: &'a [u8], variable: Option<usize>)
+    fn add_symbol(&mut self, symbol: &'a [u8], variable: Option<u32>)
         requires fresh { ¬ (Contains self.old.symbols.names symbol.now) }
         requires names { length self.old.symbols.names + 1 < 4294967296 }
         requires room { 0 < self.old.symbols.room }
@@ -57,7 +57,7 @@ impl<'a> Tables<'a> {
     }
 
     // Takes a declared symbol in, where it is new.
-    fn declare(&mut self, symbol: &'a [u8], variable: Option<usize>)
+    fn declare(&mut self, symbol: &'a [u8], variable: Option<u32>)
         requires { HasSpace self.old 1 }
         ensures taken { TakesSymbol self.old self.new symbol.now variable }
         ensures room { (more : ℕ) → HasSpace self.old (suc more) → HasSpace self.new more }
@@ -88,7 +88,7 @@ impl<'a> Tables<'a> {
             (map (λ token. token.text.now) symbols.now) }
     {
         let variable = if kind == Kind::Variables {
-            Some(self.log.len())
+            Some(self.log.len() as u32)
         } else {
             None
         };
@@ -99,7 +99,9 @@ impl<'a> Tables<'a> {
 
     // Makes room for a `$c` or `$v` of so many symbols.
     fn make_room(&mut self, symbols: usize) -> Result<(), AllocError>
-        requires { length self.old.symbols.names + symbols < 4294967296 }
+        requires names { length self.old.symbols.names + symbols < 4294967296 }
+        requires few { length self.old.log.items + length self.old.flat.items + symbols
+            < 4294967296 }
         ensures same { SameLists self.old self.new }
         ensures entry { OnOk result (HaveRoom self.new symbols) }
         ensures space { OnOk result (HasSpace self.new symbols) }
@@ -126,7 +128,7 @@ impl<'a> Tables<'a> {
         ensures err { OnErr result (IsSame self.old self.new) }
     {
         self.make_room(statement.symbols.len())?;
-        let start = self.flat.len();
+        let start = self.flat.len() as u32;
         self.declare_each(&statement.symbols, statement.kind);
         self.enter(statement.kind, None, start, bytes);
         Ok(Taken::Declared)

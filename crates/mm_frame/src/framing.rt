@@ -47,7 +47,7 @@ impl FrameLists {
 }
 
 // The place of the latest `$f` of a symbol, if it has one.
-fn floating(tables: &Tables, symbol: Sym) -> Option<usize>
+fn floating(tables: &Tables, symbol: Sym) -> Option<u32>
     ensures { result ≡ floating_of tables.now.infos.items symbol }
 {
     match tables.info(symbol) {
@@ -67,7 +67,7 @@ fn add_floating(
 {
     for symbol in expression {
         match floating(tables, *symbol) {
-            Some(place) => places.push(place)?,
+            Some(place) => places.push(place as usize)?,
             None => {}
         }
     }

@@ -30,8 +30,10 @@ use mm_text::{Kind, Statement};
 use std::alloc::AllocError;
 
 impl<'a> Tables<'a> {
-    // Makes room for a statement of so many symbols, and for its label.
+    // Makes room for a statement of so many symbols, and for its label. A database has no more
+    // statements and symbols than bytes, so their places are numbers of 32 bits.
     pub(crate) fn reserve(&mut self, symbols: usize) -> Result<(), AllocError>
+        requires { length self.old.log.items + length self.old.flat.items + symbols < 4294967296 }
         ensures same { SameLists self.old self.new }
         ensures room { OnOk result (HaveRoom self.new symbols) }
     {
@@ -44,15 +46,16 @@ impl<'a> Tables<'a> {
     }
 
     // Writes the entry of a statement whose symbols stand at the end of the list of symbols.
-    pub(crate) fn enter(&mut self, kind: Kind, label: Option<LabelId>, start: usize, bytes: u64)
+    pub(crate) fn enter(&mut self, kind: Kind, label: Option<LabelId>, start: u32, bytes: u64)
         requires scopes { HasRoom self.old.scopes }
+        requires symbols { length self.old.flat.items < 4294967296 }
         requires log { vec_len self.old.log < vec_capacity self.old.log }
         requires few { self.old.bytes + bytes ≤ 1073741824 }
         ensures { Entered self.old self.new kind label start bytes }
     {
         let symbols = Part {
             start,
-            end: self.flat.len(),
+            end: self.flat.len() as u32,
         };
         self.scopes.push(kind);
         put(
@@ -78,7 +81,7 @@ impl<'a> Tables<'a> {
         ensures err { OnErr result (IsSame self.old self.new) }
     {
         self.reserve(0)?;
-        let start = self.flat.len();
+        let start = self.flat.len() as u32;
         self.enter(Kind::Opening, None, start, bytes);
         Ok(Taken::Opened)
     }
@@ -97,7 +100,7 @@ impl<'a> Tables<'a> {
         ensures err { OnErr result (IsSame self.old self.new) }
     {
         self.reserve(0)?;
-        let start = self.flat.len();
+        let start = self.flat.len() as u32;
         self.enter(Kind::Closing, None, start, bytes);
         forget_inactive(&mut self.essentials, &self.scopes, self.log.len());
         Ok(Taken::Closed)

@@ -1,7 +1,9 @@
 //! Reading and writing lists at a place.
 
-ghost use Rattle.std.specs.Prelude.{◌≡◌, ◌<◌, ◌∷◌, [], ◌++◌, length, slice_get, slice_set, vec_len};
-ghost use Rattle.std.specs.Prelude.{vec_capacity};
+ghost use Rattle.std.specs.Prelude.{◌≡◌, ◌+◌, ◌<◌, ◌≤◌, ◌∷◌, [], ◌++◌, length, slice_get, slice_set};
+ghost use Rattle.std.specs.Prelude.{vec_len, vec_capacity, OnOk};
+
+use std::alloc::AllocError;
 
 /// The element at a place, if there is one.
 pub(crate) fn at<T: Copy>(list: &[T], place: usize) -> Option<T>
@@ -21,8 +23,21 @@ pub(crate) fn put<T: Drop>(list: &mut Vec<T>, value: T)
     let _ = list.push(value);
 }
 
+/// Makes room for elements in a list whose places are told by numbers of 32 bits. Where it would be
+/// longer than such numbers can say, this is refused as memory is.
+pub(crate) fn reserve_numbered<T: Drop>(list: &mut Vec<T>, more: usize) -> Result<(), AllocError>
+    ensures items { list.new.items ≡ list.old.items }
+    ensures room { OnOk result (vec_len list.new + more ≤ vec_capacity list.new) }
+    ensures few { OnOk result (length list.new.items + more < 4294967296) }
+{
+    match list.len().checked_add(more) {
+        Some(len) if u32::try_from(len).is_ok() => list.reserve(more),
+        _ => Err(AllocError),
+    }
+}
+
 /// Writes an element over the one at a place.
-pub(crate) fn write(list: &mut Vec<usize>, place: usize, value: usize)
+pub(crate) fn write(list: &mut Vec<u32>, place: usize, value: u32)
     ensures { place < length list.old.items
         → list.new.items ≡ slice_set list.old.items place value }
 {

@@ -16,7 +16,7 @@ ghost use Rattle.mm_frame.specs.Naming.{Named, HaveNameRoom, part_after};
 use crate::answer::Taken;
 use crate::distinct::find_places;
 use crate::framing::{FrameLists, find_hypotheses, find_mandatory, find_pairs};
-use crate::lists::{at, put};
+use crate::lists::{at, put, reserve_numbered};
 use crate::number::{LabelId, Sym};
 use crate::pattern::add_patterns;
 use crate::tables::{LabelInfo, NO_PART, Part, SymbolInfo, Tables};
@@ -28,20 +28,21 @@ const NO_FRAME: (Part, Part, Part) = (NO_PART, NO_PART, NO_PART);
 
 // Adds elements to the end of a list that has room, and says where they stand.
 fn add_part<T: Copy + Drop>(list: &mut Vec<T>, more: &[T]) -> Part
-    requires { vec_len list.old + length more.now ≤ vec_capacity list.old }
+    requires room { vec_len list.old + length more.now ≤ vec_capacity list.old }
+    requires few { length list.old.items + length more.now < 4294967296 }
     ensures items { list.new.items ≡ list.old.items ++ more.now }
     ensures part { result ≡ part_after list.old.items more.now }
 {
-    let start = list.len();
+    let start = list.len() as u32;
     let _ = list.extend_from_slice(more);
     Part {
         start,
-        end: list.len(),
+        end: list.len() as u32,
     }
 }
 
 // Notes the place of a variable's latest `$f`.
-fn note_floating(infos: &mut Vec<SymbolInfo>, variable: Sym, place: usize)
+fn note_floating(infos: &mut Vec<SymbolInfo>, variable: Sym, place: u32)
     ensures { (info : SymbolInfo) → slice_get infos.old.items variable.0 ≡ Some info
         → infos.new.items ≡ set infos.old.items variable.0 (record info { floating = Some place }) }
 {
@@ -67,12 +68,12 @@ impl<'a> Tables<'a> {
         ensures named { Named self.old self.new kind label.now numbers.now frame result bytes }
     {
         let id = LabelId(self.labels.len() as u32);
-        let place = self.log.len();
-        let start = self.flat.len();
+        let place = self.log.len() as u32;
+        let start = self.flat.len() as u32;
         let _ = self.flat.extend_from_slice(numbers);
         let symbols = Part {
             start,
-            end: self.flat.len(),
+            end: self.flat.len() as u32,
         };
         self.labels.add(label);
         put(
@@ -109,7 +110,7 @@ impl<'a> Tables<'a> {
     {
         self.reserve(numbers.len())?;
         match at(numbers, 1) {
-            Some(variable) => note_floating(&mut self.infos, variable, self.log.len()),
+            Some(variable) => note_floating(&mut self.infos, variable, self.log.len() as u32),
             None => {}
         }
         let id = self.name(Kind::Floating, label, numbers, NO_FRAME, bytes);
@@ -164,8 +165,8 @@ impl<'a> Tables<'a> {
         find_pairs(self, &lists.places, &mut lists.variables, &mut lists.pairs)?;
         find_places(&lists.hypotheses, &lists.pairs, &mut lists.placed)?;
         self.reserve(numbers.len())?;
-        self.hypotheses.reserve(lists.hypotheses.len())?;
-        self.pairs.reserve(lists.placed.len())?;
+        reserve_numbered(&mut self.hypotheses, lists.hypotheses.len())?;
+        reserve_numbered(&mut self.pairs, lists.placed.len())?;
         let conclusion = add_patterns(
             &mut self.pieces,
             &mut lists.hypotheses,

@@ -50,6 +50,17 @@ fn piece_of(hypotheses: &[Hypothesis], endings: &[bool; 256], symbol: Sym) -> Pi
     }
 }
 
+// The part of a list from a place up to its end, which is refused as memory is where the list is
+// longer than a part can say.
+fn part_from(start: usize, end: usize) -> Result<Part, AllocError>
+    ensures { IfOk result (λ part. part ≡ record { start = start; end = end }) }
+{
+    match (u32::try_from(start), u32::try_from(end)) {
+        (Ok(start), Ok(end)) => Ok(Part { start, end }),
+        _ => Err(AllocError),
+    }
+}
+
 // Adds the pattern of some symbols, and says where it stands.
 fn push_pattern(
     pieces: &mut Vec<Piece>,
@@ -65,10 +76,7 @@ fn push_pattern(
     for symbol in symbols {
         pieces.push(piece_of(hypotheses, &endings, *symbol))?;
     }
-    Ok(Part {
-        start,
-        end: pieces.len(),
-    })
+    part_from(start, pieces.len())
 }
 
 // Whether the hypothesis at a place among others is a `$e`.

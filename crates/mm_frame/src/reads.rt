@@ -28,7 +28,7 @@ pub(crate) fn label_place(tables: &Tables, id: LabelId) -> usize
         → result ≡ place }
 {
     match tables.label_info(id) {
-        Some(info) => info.place,
+        Some(info) => info.place as usize,
         None => 0,
     }
 }

@@ -7,23 +7,23 @@ ghost use Rattle.mm_frame.specs.Sentence.{Sentence};
 ghost use Rattle.mm_frame.specs.Active.{IsOpen, IsActive, open_marks, close_marks};
 ghost use Rattle.mm_frame.specs.ScopesOf.{HaveScopes, HasRoom, HaveSameLists};
 
-use crate::lists::{at as at_place, put, write};
+use crate::lists::{at as at_place, put, reserve_numbered, write};
 use mm_text::Kind;
 use std::alloc::{AllocError, Global};
 
 /// The end of a block that is open.
-pub(crate) const NEVER: usize = 18446744073709551615;
+pub(crate) const NEVER: u32 = 4294967295;
 
 /// The blocks of the statements so far. The whole database counts as block 0; each `${` begins the
 /// next number's block. Closing a block is one write.
 #[derive(Drop)]
 pub struct Scopes {
     /// The block that directly holds each statement.
-    pub(crate) blocks: Vec<usize>,
+    pub(crate) blocks: Vec<u32>,
     /// The place of each block's `$}`, or `NEVER`.
-    pub(crate) ends: Vec<usize>,
+    pub(crate) ends: Vec<u32>,
     /// The open blocks, the outermost first.
-    pub(crate) open: Vec<usize>,
+    pub(crate) open: Vec<u32>,
 }
 
 impl Scopes {
@@ -49,8 +49,8 @@ impl Scopes {
             → (IsTrue result ↔ IsActive (take at statements) place) }
     {
         match at_place(&self.blocks, place) {
-            Some(block) => match at_place(&self.ends, block) {
-                Some(end) => at <= end,
+            Some(block) => match at_place(&self.ends, block as usize) {
+                Some(end) => at <= end as usize,
                 None => false,
             },
             None => false,
@@ -78,13 +78,13 @@ impl Scopes {
         ensures same { HaveSameLists self.old self.new }
         ensures room { OnOk result (HasRoom self.new) }
     {
-        self.blocks.reserve(1)?;
-        self.ends.reserve(1)?;
+        reserve_numbered(&mut self.blocks, 1)?;
+        reserve_numbered(&mut self.ends, 1)?;
         self.open.reserve(1)
     }
 
     // The innermost open block.
-    fn innermost(&self) -> usize
+    fn innermost(&self) -> u32
         ensures { (k : ℕ) → length self.now.open.items ≡ suc k
             → slice_get self.now.open.items k ≡ Some result }
     {
@@ -101,9 +101,9 @@ impl Scopes {
             → e.kind ≡ Closing → close_marks statements < open_marks statements
             → HaveScopes (statements ++ e ∷ []) self.new }
     {
-        let place = self.blocks.len();
+        let place = self.blocks.len() as u32;
         let block = self.innermost();
-        write(&mut self.ends, block, place);
+        write(&mut self.ends, block as usize, place);
         let _ = self.open.pop();
         let outer = self.innermost();
         put(&mut self.blocks, outer);
@@ -117,7 +117,7 @@ impl Scopes {
     {
         let block = self.innermost();
         put(&mut self.blocks, block);
-        put(&mut self.open, self.ends.len());
+        put(&mut self.open, self.ends.len() as u32);
         put(&mut self.ends, NEVER);
     }
 

@@ -79,7 +79,7 @@ impl<'a> Tables<'a> {
         self.reserve(numbers.len())?;
         self.distinct.reserve(pairs.len())?;
         let place = self.log.len();
-        let start = self.flat.len();
+        let start = self.flat.len() as u32;
         let _ = self.flat.extend_from_slice(numbers);
         state(&mut self.distinct, &pairs, place);
         self.enter(Kind::Distinct, None, start, bytes);

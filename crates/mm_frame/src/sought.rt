@@ -94,7 +94,7 @@ pub(crate) fn is_active_number(tables: &Tables, symbol: Sym) -> bool
 {
     match tables.info(symbol) {
         Some(info) => match info.variable {
-            Some(place) => tables.is_active_now(place),
+            Some(place) => tables.is_active_now(place as usize),
             None => true,
         },
         None => false,
@@ -109,7 +109,7 @@ pub(crate) fn is_typed_number(tables: &Tables, variable: Sym) -> bool
 {
     match tables.info(variable) {
         Some(info) => match info.floating {
-            Some(place) => tables.is_active_now(place),
+            Some(place) => tables.is_active_now(place as usize),
             None => false,
         },
         None => false,

@@ -20,8 +20,8 @@ use std::alloc::{AllocError, Global};
 /// A part of a list: the places from `start` up to and without `end`.
 #[derive(Clone, Copy, PartialEq, Eq, Debug)]
 pub struct Part {
-    pub start: usize,
-    pub end: usize,
+    pub start: u32,
+    pub end: u32,
 }
 
 /// Nothing of a list.
@@ -32,7 +32,9 @@ pub(crate) fn part_of<T>(list: &[T], part: Part) -> &[T]
     ensures { part.start ≤ part.end → part.end ≤ length list.now
         → result.now ≡ slice_range list.now part.start part.end }
 {
-    list.get(part.start..part.end).unwrap_or(&[])
+    let start = part.start as usize;
+    let end = part.end as usize;
+    list.get(start..end).unwrap_or(&[])
 }
 
 /// A statement.
@@ -48,16 +50,16 @@ pub(crate) struct Entry {
 #[derive(Clone, Copy)]
 pub(crate) struct SymbolInfo {
     /// The place of the latest `$v` that declares it; a constant has none.
-    pub(crate) variable: Option<usize>,
+    pub(crate) variable: Option<u32>,
     /// The place of its latest `$f`.
-    pub(crate) floating: Option<usize>,
+    pub(crate) floating: Option<u32>,
 }
 
 /// A labelled statement. What the steps of proofs ask of it stands together, as they name labels in
 /// any order: so one place of memory is read, and not that of the entry too.
 #[derive(Clone, Copy)]
 pub(crate) struct LabelInfo {
-    pub(crate) place: usize,
+    pub(crate) place: u32,
     /// What its entry says.
     pub(crate) kind: Kind,
     pub(crate) symbols: Part,

@@ -19,10 +19,10 @@ use Rattle.mm_frame.proofs.tables.Tables.assert.Goals as goal
 pub returns-in_err-reserve-clause-err : goal.returns-in_err-reserve-clause-err
 returns-in_err-reserve-clause-err c = on_err c.from_residual-in_err-reserve.result (same_tables _ _ c.requires.tables c.reserve.ensures.same)
 
-pub returns-in_err-reserve-2-clause-err : goal.returns-in_err-reserve-2-clause-err
-returns-in_err-reserve-2-clause-err c =
+pub returns-in_err-reserve_numbered-clause-err : goal.returns-in_err-reserve_numbered-clause-err
+returns-in_err-reserve_numbered-clause-err c =
     let same = c.reserve.ensures.same in
-    on_err c.from_residual-in_err-reserve-2.result (same_tables _ _ c.requires.tables (record {
+    on_err c.from_residual-in_err-reserve_numbered.result (same_tables _ _ c.requires.tables (record {
       symbols = same.symbols;
       infos = same.infos;
       labels = same.labels;
@@ -31,17 +31,17 @@ returns-in_err-reserve-2-clause-err c =
       flat = same.flat;
       scopes = same.scopes;
       essentials = same.essentials;
-      hypotheses = c.reserve-2.ensures.items ∙ same.hypotheses;
+      hypotheses = c.reserve_numbered.ensures.items ∙ same.hypotheses;
       pairs = same.pairs;
       pieces = same.pieces;
       stated = same.stated;
       bytes = same.bytes;
     }))
 
-pub returns-in_err-reserve-3-clause-err : goal.returns-in_err-reserve-3-clause-err
-returns-in_err-reserve-3-clause-err c =
+pub returns-in_err-reserve_numbered-2-clause-err : goal.returns-in_err-reserve_numbered-2-clause-err
+returns-in_err-reserve_numbered-2-clause-err c =
     let same = c.reserve.ensures.same in
-    on_err c.from_residual-in_err-reserve-3.result (same_tables _ _ c.requires.tables (record {
+    on_err c.from_residual-in_err-reserve_numbered-2.result (same_tables _ _ c.requires.tables (record {
       symbols = same.symbols;
       infos = same.infos;
       labels = same.labels;
@@ -50,8 +50,8 @@ returns-in_err-reserve-3-clause-err c =
       flat = same.flat;
       scopes = same.scopes;
       essentials = same.essentials;
-      hypotheses = c.reserve-2.ensures.items ∙ same.hypotheses;
-      pairs = c.reserve-3.ensures.items ∙ same.pairs;
+      hypotheses = c.reserve_numbered.ensures.items ∙ same.hypotheses;
+      pairs = c.reserve_numbered-2.ensures.items ∙ same.pairs;
       pieces = same.pieces;
       stated = same.stated;
       bytes = same.bytes;
@@ -69,8 +69,8 @@ returns-in_err-conclusion-clause-err c =
       flat = same.flat;
       scopes = same.scopes;
       essentials = same.essentials;
-      hypotheses = c.reserve-2.ensures.items ∙ same.hypotheses;
-      pairs = c.reserve-3.ensures.items ∙ same.pairs;
+      hypotheses = c.reserve_numbered.ensures.items ∙ same.hypotheses;
+      pairs = c.reserve_numbered-2.ensures.items ∙ same.pairs;
       pieces = c.in_err-conclusion.ensures.err ∙ same.pieces;
       stated = same.stated;
       bytes = same.bytes;
@@ -91,8 +91,8 @@ returns-clause-ok c =
     let numbers = map (λ (n : Sym). n.0) c.args.numbers.now in
     let (more, longer) = c.add_patterns.ensures.longer in
     let conclusion = c.in_ok-conclusion.conclusion in
-    let old_hypotheses : c.reserve-2.new.self.items ≡ t.hypotheses.items = c.reserve-2.ensures.items ∙ same.hypotheses in
-    let old_pairs : c.reserve-3.new.self.items ≡ t.pairs.items = c.reserve-3.ensures.items ∙ same.pairs in
+    let old_hypotheses : c.reserve_numbered.new.list.items ≡ t.hypotheses.items = c.reserve_numbered.ensures.items ∙ same.hypotheses in
+    let old_pairs : c.reserve_numbered-2.new.list.items ≡ t.pairs.items = c.reserve_numbered-2.ensures.items ∙ same.pairs in
     let new_hypotheses : c.add_part-hypotheses.new.list.items ≡ t.hypotheses.items ++ hs = rw (c.add_part-hypotheses.ensures.items, old_hypotheses, c.deref-8.ensures.value) refl in
     let new_pairs : c.add_part-pairs.new.list.items ≡ t.pairs.items ++ pairs = rw (c.add_part-pairs.ensures.items, old_pairs, c.deref-9.ensures.value) refl in
     let new_pieces : c.add_patterns.new.pieces.items ≡ t.pieces.items ++ more = longer ∙ ap (λ ps. ps ++ more) same.pieces in (
