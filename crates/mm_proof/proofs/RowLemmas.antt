@@ -1,8 +1,9 @@
 -- Elements of a list that a contract sees as something else.
-use Rattle.std.proofs.Common.{◌≡◌, ℕ, ◌<◌, ◌-◌, List, [], ◌∷◌, ◌++◌, map, take, length, get_or, Some, refl, arith}
+use Rattle.std.proofs.Common.{◌≡◌, ℕ, ◌<◌, ◌+◌, ◌-◌, List, [], ◌∷◌, ◌++◌, map, take, drop, length, get_or, option_map, Some, refl, ap, ◌∙◌, arith}
 use Rattle.std.specs.List.{slice_get}
 use Rattle.std.proofs.lemmas.List.{take-map, length-map, map-append}
-use Rattle.std.proofs.lemmas.Option.{slice_get-map, slice_get_read}
+use Rattle.std.proofs.lemmas.Option.{slice_get-map, slice_get_read, slice_get-get_or, get_or_from_slice_get}
+use Rattle.mm_proof.proofs.Values.{drop_get}
 
 -- what is read at a place is seen as what stands there
 pub read-at : {X Y : Type 0} (f : X → Y) (xs : List X) (i : ℕ) (x : X) (y : Y) → i < length (map f xs)
@@ -33,3 +34,11 @@ pub push-seen : {X Y : Type 0} (f : X → Y) (xs : List X) (x : X) (y : Y) → f
 push-seen f xs x y is =
     let whole = map-append f xs (x ∷ []) in
     cc
+
+-- what is read behind a base is seen as what stands there
+pub read-behind : {X Y : Type 0} (f : X → Y) (xs : List X) (base i : ℕ) (d : X) (e : Y) → base + i < length xs
+    → get_or (drop base (map f xs)) i e ≡ f (get_or xs (base + i) d)
+read-behind f xs base i d e less =
+    let there : slice_get (drop base (map f xs)) i ≡ Some (f (get_or xs (base + i) d)) =
+    drop_get (map f xs) base i ∙ slice_get-map f xs (base + i) ∙ ap (option_map f) (slice_get-get_or xs (base + i) d less) in
+    get_or_from_slice_get (drop base (map f xs)) i (f (get_or xs (base + i) d)) e there

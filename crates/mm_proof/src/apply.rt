@@ -18,8 +18,7 @@ use crate::fault::{ProofFault, ProofRule};
 use crate::pairs::{are_apart_pairs, has_shared_pair};
 use crate::step::{are_equal, typing_of};
 use crate::store::Store;
-use crate::substitution::fill_said;
-use mm_frame::{Book, Frame, Scheme, Sym, one_number};
+use mm_frame::{Book, Frame, Scheme, one_number};
 
 // The first of P10 to P12 that the step breaks, where the entries from the base on are as many as
 // the hypotheses, and begin with their type codes. It is told whether all of these are `$f`.
@@ -76,7 +75,6 @@ fn rule_broken<S: Store>(
 fn conclude<S: Store>(
     store: &mut S,
     base: usize,
-    made: &mut Vec<Sym>,
     scheme: &Scheme,
     number: usize,
 ) -> Result<(), ProofFault>
@@ -104,14 +102,12 @@ fn conclude<S: Store>(
         → StopsAt statements place id (S.stack store.old) rule) }
 {
     one_number();
-    if !fill_said(made, store, base, scheme.conclusion)? {
+    if !store.conclude(base, scheme.conclusion)? {
         return Err(ProofFault::Rule {
             rule: ProofRule::L1,
             step: number,
         });
     }
-    store.drop_last(scheme.hypotheses.len());
-    store.push(made)?;
     Ok(())
 }
 
@@ -119,7 +115,6 @@ fn conclude<S: Store>(
 /// are replaced by what it makes of them.
 pub(crate) fn apply<S: Store>(
     store: &mut S,
-    made: &mut Vec<Sym>,
     book: &Book,
     own: &Frame,
     scheme: &Scheme,
@@ -158,6 +153,6 @@ pub(crate) fn apply<S: Store>(
     };
     match rule_broken(store, base, book, own, scheme, floating) {
         Some(rule) => Err(ProofFault::Rule { rule, step: number }),
-        None => conclude(store, base, made, scheme, number),
+        None => conclude(store, base, scheme, number),
     }
 }

@@ -39,7 +39,6 @@ pub(crate) fn call_of<'b>(book: &'b Book<'_>, id: LabelId) -> Call<'b>
 #[inline(always)]
 pub(crate) fn step_by<S: Store>(
     store: &mut S,
-    made: &mut Vec<Sym>,
     book: &Book,
     own: &Frame,
     call: &Call,
@@ -73,6 +72,6 @@ pub(crate) fn step_by<S: Store>(
             store.push(expression)?;
             Ok(())
         }
-        Call::Assertion(scheme) => apply(store, made, book, own, scheme, number),
+        Call::Assertion(scheme) => apply(store, book, own, scheme, number),
     }
 }

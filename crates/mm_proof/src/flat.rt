@@ -1,10 +1,17 @@
 //! A store that has one buffer for the symbols of all its expressions.
 
-ghost use Rattle.std.specs.Prelude.{◌≡◌, ◌≤◌, ℕ, List, [], ◌++◌, length, OnOk};
-ghost use Rattle.mm_proof.specs.Buffer.{AreParts};
+ghost use Rattle.std.specs.Prelude.{◌≡◌, ◌<◌, ◌≤◌, ◌+◌, ◌-◌, ℕ, List, [], ◌∷◌, ◌++◌, length};
+ghost use Rattle.std.specs.Prelude.{take, drop, false, OnOk, OnErr, IfOk, MatchBool};
+ghost use Rattle.std.specs.List.{AllByRecursion};
+ghost use Rattle.mm_frame.specs.declared.number.Sym.{Sym};
+ghost use Rattle.mm_proof.specs.Buffer.{AreParts, parts_of};
+ghost use Rattle.mm_proof.specs.Stores.{numbers_in};
+ghost use Rattle.mm_proof.specs.CodeVerify.{said_by, all_said_by, IsWithinPlaces};
 
-use crate::store::Store;
-use mm_frame::Sym;
+use crate::buffer::Buffer;
+use crate::store::{Store, put_last};
+use crate::substitution::EXPRESSION_LIMIT;
+use mm_frame::{Piece, Sym};
 use std::alloc::{AllocError, Global};
 
 /// Where an expression stands in the buffer.
@@ -25,13 +32,13 @@ const FIRST_CUT: usize = 1 << 22;
 /// cut off.
 #[derive(Drop)]
 pub struct Flat {
-    symbols: Vec<Sym>,
+    symbols: Buffer,
     stack: Vec<Entry>,
     kept: Vec<Entry>,
     /// How long the buffer is when its end is cut off next.
     next_cut: usize,
-    ghost stacked: { AreParts (length symbols.items) stack.items },
-    ghost saved: { AreParts (length symbols.items) kept.items },
+    ghost stacked: { AreParts (length symbols) stack.items },
+    ghost saved: { AreParts (length symbols) kept.items },
 }
 
 impl Flat {
@@ -41,7 +48,7 @@ impl Flat {
         ensures kept { ⟦<Flat as Store>⟧.kept result ≡ [] }
     {
         Flat {
-            symbols: Vec::new(alloc),
+            symbols: Buffer::new(alloc),
             stack: Vec::new(alloc),
             kept: Vec::new(alloc),
             next_cut: FIRST_CUT,
@@ -54,7 +61,7 @@ impl Flat {
         ensures stack { ⟦<Flat as Store>⟧.stack self.new ≡ ⟦<Flat as Store>⟧.stack self.old }
         ensures kept { ⟦<Flat as Store>⟧.kept self.new ≡ ⟦<Flat as Store>⟧.kept self.old }
     {
-        let _ = self.symbols.reserve(symbols);
+        self.symbols.prepare(symbols);
     }
 
     /// Forgets everything, and keeps the memory for what comes next.
@@ -62,7 +69,7 @@ impl Flat {
         ensures stack { ⟦<Flat as Store>⟧.stack self.new ≡ [] }
         ensures kept { ⟦<Flat as Store>⟧.kept self.new ≡ [] }
     {
-        self.symbols.clear();
+        self.symbols.truncate(0);
         self.stack.clear();
         self.kept.clear();
         self.next_cut = FIRST_CUT;
@@ -79,15 +86,41 @@ impl Flat {
         self.symbols.truncate(needed);
         self.next_cut = FIRST_CUT.max(needed.saturating_mul(2));
     }
+
+    // The conclusion that stands in the buffer from a place on takes the place of the entries from
+    // the base on, and is moved down to where nothing before it is unused. It is a call, since it
+    // is rare.
+    #[cold]
+    #[inline(never)]
+    fn conclude_at_cut(&mut self, base: usize, start: usize) -> Result<(), AllocError>
+        requires base { base ≤ length self.old.stack.items }
+        requires start { start ≤ length self.old.symbols }
+        requires stacked { AreParts start self.old.stack.items }
+        requires saved { AreParts start self.old.kept.items }
+        ensures said { OnOk result (⟦<Flat as Store>⟧.stack self.new
+            ≡ take base (⟦<Flat as Store>⟧.stack self.old)
+            ++ numbers_in (drop start self.old.symbols) ∷ []) }
+        ensures refused { OnErr result
+            (⟦<Flat as Store>⟧.stack self.new ≡ ⟦<Flat as Store>⟧.stack self.old) }
+        ensures kept { ⟦<Flat as Store>⟧.kept self.new ≡ ⟦<Flat as Store>⟧.kept self.old }
+    {
+        let needed = needed_length(&self.stack[..base]).max(needed_length(&self.kept));
+        let end = self.symbols.len() - (start - needed);
+        let entry = Entry { start: needed, end };
+        put_last(&mut self.stack, base, entry)?;
+        self.symbols.move_down(start, needed);
+        self.next_cut = FIRST_CUT.max(end.saturating_mul(2));
+        Ok(())
+    }
 }
 
 // Appends the expression. A hypothesis is mostly two symbols, for which the copy of a list takes
 // longer.
 #[inline(always)]
-fn append(symbols: &mut Vec<Sym>, expression: &[Sym]) -> Result<(), AllocError>
-    ensures appended { OnOk result (symbols.new.items ≡ symbols.old.items ++ expression.now) }
-    ensures grown { (rest : List Sym) × (symbols.new.items ≡ symbols.old.items ++ rest) }
-    ensures long { length symbols.old.items ≤ length symbols.new.items }
+fn append(symbols: &mut Buffer, expression: &[Sym]) -> Result<(), AllocError>
+    ensures appended { OnOk result (symbols.new ≡ symbols.old ++ expression.now) }
+    ensures grown { (rest : List Sym) × (symbols.new ≡ symbols.old ++ rest) }
+    ensures long { length symbols.old ≤ length symbols.new }
 {
     match expression {
         [code, variable] => {
@@ -96,10 +129,84 @@ fn append(symbols: &mut Vec<Sym>, expression: &[Sym]) -> Result<(), AllocError>
             Ok(())
         }
         _ => {
-            symbols.extend_from_slice(expression)?;
+            symbols.append(expression)?;
             Ok(())
         }
     }
+}
+
+// Where the value of an entry begins: behind its first symbol.
+fn value_start(entry: Entry) -> usize
+    requires { entry.start ≤ entry.end }
+    ensures order { entry.start ≤ result }
+    ensures within { result ≤ entry.end }
+    ensures behind { entry.start < entry.end → result ≡ entry.start + 1 }
+    ensures none { entry.end ≤ entry.start → result ≡ entry.end }
+{
+    if entry.start < entry.end {
+        entry.start + 1
+    } else {
+        entry.end
+    }
+}
+
+// Appends what the piece says of the entries from the base on, and answers false where that isn't
+// one symbol and what stands from the start on passes the limit.
+#[inline(always)]
+fn append_piece(
+    symbols: &mut Buffer,
+    stack: &[Entry],
+    base: usize,
+    piece: Piece,
+    start: usize,
+) -> Result<bool, AllocError>
+    requires parts { AreParts (length symbols.old) stack.now }
+    requires start { start ≤ length symbols.old }
+    requires within { IsWithinPlaces (length stack.now - base) piece }
+    ensures said { IfOk result (λ fits. (more : List Sym) × (symbols.new ≡ symbols.old ++ more)
+        × (numbers_in more ≡ said_by (drop base (parts_of symbols.old stack.now)) piece)) }
+    ensures over { IfOk result (λ fits. fits ≡ false → 1048576 < length symbols.new - start) }
+    ensures grown { (rest : List Sym) × (symbols.new ≡ symbols.old ++ rest) }
+{
+    match piece {
+        Piece::Symbol(symbol) => {
+            symbols.push(symbol)?;
+            Ok(true)
+        }
+        Piece::Value(place) => {
+            let entry = stack[base + place as usize];
+            let first = value_start(entry);
+            symbols.append_part(first, entry.end)?;
+            Ok(entry.end - first == 1 || symbols.len() - start <= EXPRESSION_LIMIT)
+        }
+    }
+}
+
+// Appends what the pieces say of the entries from the base on, where it is within the limit; else
+// false is answered, and a front of it may be there.
+fn append_pieces(
+    symbols: &mut Buffer,
+    stack: &[Entry],
+    base: usize,
+    pieces: &[Piece],
+) -> Result<bool, AllocError>
+    requires parts { AreParts (length symbols.old) stack.now }
+    requires within { AllByRecursion (IsWithinPlaces (length stack.now - base)) pieces.now }
+    ensures said { IfOk result (λ fits.
+        let whole = all_said_by (drop base (parts_of symbols.old stack.now)) pieces.now in MatchBool
+        fits
+        ((length whole ≤ 1048576) × (more : List Sym) × (symbols.new ≡ symbols.old ++ more)
+        × (numbers_in more ≡ whole))
+        (1048576 < length whole)) }
+    ensures grown { (rest : List Sym) × (symbols.new ≡ symbols.old ++ rest) }
+{
+    let start = symbols.len();
+    for piece in pieces {
+        if !append_piece(symbols, stack, base, *piece, start)? {
+            return Ok(false);
+        }
+    }
+    Ok(symbols.len() - start <= EXPRESSION_LIMIT)
 }
 
 // How much of the buffer the entries need.
@@ -116,11 +223,9 @@ fn needed_length(entries: &[Entry]) -> usize
 }
 
 impl Store for Flat {
-    ghost use Rattle.mm_proof.specs.Buffer.{parts_of};
+    ghost stack = { λ flat. parts_of flat.symbols flat.stack.items };
 
-    ghost stack = { λ flat. parts_of flat.symbols.items flat.stack.items };
-
-    ghost kept = { λ flat. parts_of flat.symbols.items flat.kept.items };
+    ghost kept = { λ flat. parts_of flat.symbols flat.kept.items };
 
     fn len(&self) -> usize {
         self.stack.len()
@@ -128,7 +233,7 @@ impl Store for Flat {
 
     fn at(&self, place: usize) -> &[Sym] {
         let entry = self.stack[place];
-        &self.symbols[entry.start..entry.end]
+        self.symbols.part(entry.start, entry.end)
     }
 
     #[inline(always)]
@@ -160,5 +265,22 @@ impl Store for Flat {
         if self.symbols.len() >= self.next_cut {
             self.cut();
         }
+    }
+
+    fn conclude(&mut self, base: usize, pieces: &[Piece]) -> Result<bool, AllocError> {
+        let start = self.symbols.len();
+        if !append_pieces(&mut self.symbols, &self.stack, base, pieces)? {
+            return Ok(false);
+        }
+        if self.symbols.len() >= self.next_cut {
+            self.conclude_at_cut(base, start)?;
+            return Ok(true);
+        }
+        let entry = Entry {
+            start,
+            end: self.symbols.len(),
+        };
+        put_last(&mut self.stack, base, entry)?;
+        Ok(true)
     }
 }

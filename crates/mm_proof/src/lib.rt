@@ -2,6 +2,7 @@
 #![tactic(auto)]
 
 mod apply;
+mod buffer;
 mod call;
 mod fault;
 mod flat;

@@ -83,7 +83,6 @@ fn lines_of<S: Store>(
     ensures fault { (rule : ProofRule) → (at : ℕ) → result ≡ Err (ProofFault.Rule rule at)
         → BreaksAt book.now.statements own.now.place (moves_in moves.now) rule at }
 {
-    let mut made = Vec::new(alloc);
     let mut lines = Vec::new(alloc);
     // For each mark, the number of the step before it.
     let mut tags = Vec::new(alloc);
@@ -91,7 +90,7 @@ fn lines_of<S: Store>(
         let number = lines.len() + 1;
         match one {
             NumberedMove::Name(id) => {
-                step(store, &mut made, book, own, *id, number)?;
+                step(store, book, own, *id, number)?;
                 lines.push(last_line(alloc, store, Name::Label(*id))?)?;
             }
             NumberedMove::Again(tag) => {

@@ -26,7 +26,7 @@ use crate::parse::{ParseLists, fill_steps, is_byte, is_incomplete, read_compress
 use crate::run::judgement_of_codes;
 use crate::used::Named;
 use crate::verdict::judgement_in_frame;
-use mm_frame::{Book, Frame, LabelId, RuleFault, Sym, Taken};
+use mm_frame::{Book, Frame, LabelId, RuleFault, Taken};
 use mm_text::{Statement, Token};
 use std::alloc::Global;
 use std::marker::Model;
@@ -52,7 +52,6 @@ pub struct Prover<'a> {
     book: Book<'a>,
     lists: ParseLists<'a>,
     store: Flat,
-    made: Vec<Sym>,
     named: Named,
 }
 
@@ -79,7 +78,6 @@ impl<'a> Prover<'a> {
                 book,
                 lists: ParseLists::new(alloc),
                 store: Flat::new(alloc),
-                made: Vec::new(alloc),
                 named: Named::new(alloc),
             }),
             Err(fault) => Err(fault),
@@ -176,7 +174,6 @@ impl<'a> Prover<'a> {
         match prove_tokens(
             self.alloc,
             &mut self.store,
-            &mut self.made,
             &mut self.named,
             &mut self.lists,
             &self.book,
@@ -208,7 +205,6 @@ impl<'a> Prover<'a> {
 // assertions of its tree, or tells their first fault.
 fn prove_by_moves<'a>(
     store: &mut Flat,
-    made: &mut Vec<Sym>,
     named: &mut Named,
     lists: &mut ParseLists<'a>,
     book: &Book,
@@ -230,7 +226,7 @@ fn prove_by_moves<'a>(
     fill_steps(lists, book, own, id, tokens)?;
     store.clear();
     let picked = &lists.picked.ids;
-    judgement_in_frame(store, made, named, book, own, id, &lists.moves, picked)
+    judgement_in_frame(store, named, book, own, id, &lists.moves, picked)
 }
 
 // Whether the tokens, of which these come after the `(`, prove the `$p` of the frame, by the codes
@@ -238,7 +234,6 @@ fn prove_by_moves<'a>(
 fn prove_by_codes<'a>(
     alloc: Global,
     store: &mut Flat,
-    made: &mut Vec<Sym>,
     named: &mut Named,
     lists: &mut ParseLists<'a>,
     book: &Book,
@@ -262,7 +257,6 @@ fn prove_by_codes<'a>(
     judgement_of_codes(
         alloc,
         store,
-        made,
         named,
         &mut lists.picked.marks,
         book,
@@ -278,7 +272,6 @@ fn prove_by_codes<'a>(
 fn prove_in_frame<'a>(
     alloc: Global,
     store: &mut Flat,
-    made: &mut Vec<Sym>,
     named: &mut Named,
     lists: &mut ParseLists<'a>,
     book: &Book,
@@ -299,9 +292,9 @@ fn prove_in_frame<'a>(
 {
     match tokens {
         [first, rest @ ..] if is_byte(first.text, b'(') => {
-            prove_by_codes(alloc, store, made, named, lists, book, own, id, rest)
+            prove_by_codes(alloc, store, named, lists, book, own, id, rest)
         }
-        _ => prove_by_moves(store, made, named, lists, book, own, id, tokens),
+        _ => prove_by_moves(store, named, lists, book, own, id, tokens),
     }
 }
 
@@ -310,7 +303,6 @@ fn prove_in_frame<'a>(
 fn prove_tokens<'a>(
     alloc: Global,
     store: &mut Flat,
-    made: &mut Vec<Sym>,
     named: &mut Named,
     lists: &mut ParseLists<'a>,
     book: &Book,
@@ -327,5 +319,5 @@ fn prove_tokens<'a>(
     ensures sound { IsSound book.now.statements }
 {
     let own = book.frame(id);
-    prove_in_frame(alloc, store, made, named, lists, book, &own, id, tokens)
+    prove_in_frame(alloc, store, named, lists, book, &own, id, tokens)
 }

@@ -1,10 +1,14 @@
 //! A store that has a list of its own for each expression.
 
-ghost use Rattle.std.specs.Prelude.{◌≡◌, []};
-ghost use Rattle.mm_proof.specs.Stores.{rows_in};
+ghost use Rattle.std.specs.Prelude.{◌≡◌, ◌+◌, ◌<◌, ◌≤◌, ◌^◌, [], ◌++◌, length, drop};
+ghost use Rattle.std.specs.Prelude.{slice_index_or, false, IfOk, MatchBool};
+ghost use Rattle.std.specs.List.{AllByRecursion};
+ghost use Rattle.mm_proof.specs.Stores.{numbers_in, rows_in};
+ghost use Rattle.mm_proof.specs.CodeVerify.{said_by, all_said_by, IsWithinPlaces};
 
-use crate::store::Store;
-use mm_frame::Sym;
+use crate::store::{Store, put_last};
+use crate::substitution::{EXPRESSION_LIMIT, after_first, append_value};
+use mm_frame::{Piece, Sym};
 use std::alloc::{AllocError, Global};
 
 /// A store that has a list of its own for each expression.
@@ -27,6 +31,65 @@ impl Rows {
             kept: Vec::new(alloc),
         }
     }
+}
+
+// What replaces the variable of the hypothesis at a place among those whose rows stand from the
+// base on.
+fn value_in(rows: &[Vec<Sym>], base: usize, place: u32) -> &[Sym]
+    requires entry { base + place < length rows.now }
+    requires fits { length rows.now < 2 ^ 64 }
+    ensures { numbers_in result.now
+        ≡ drop 1 (slice_index_or (drop base (rows_in rows.now)) place []) }
+{
+    after_first(rows[base + place as usize].as_slice())
+}
+
+// Appends what the piece says, and answers false where that is more than one symbol and passes the
+// limit.
+fn append_said(
+    made: &mut Vec<Sym>,
+    rows: &[Vec<Sym>],
+    base: usize,
+    piece: Piece,
+) -> Result<bool, AllocError>
+    requires within { IsWithinPlaces (length (drop base (rows_in rows.now))) piece }
+    requires fits { length rows.now < 2 ^ 64 }
+    ensures made { IfOk result (λ fits. numbers_in made.new.items
+        ≡ numbers_in made.old.items ++ said_by (drop base (rows_in rows.now)) piece) }
+    ensures over { IfOk result (λ fits. fits ≡ false → 1048576 < length made.new.items) }
+{
+    match piece {
+        Piece::Symbol(symbol) => {
+            made.push(symbol)?;
+            Ok(true)
+        }
+        Piece::Value(place) => append_value(made, value_in(rows, base, place)),
+    }
+}
+
+// Fills the list with what the pieces say, where it is within the limit; else false is answered.
+fn fill_said(
+    made: &mut Vec<Sym>,
+    rows: &[Vec<Sym>],
+    base: usize,
+    pieces: &[Piece],
+) -> Result<bool, AllocError>
+    requires within { AllByRecursion (IsWithinPlaces (length (drop base (rows_in rows.now))))
+        pieces.now }
+    requires fits { length rows.now < 2 ^ 64 }
+    ensures { IfOk result (λ fits.
+        let whole = all_said_by (drop base (rows_in rows.now)) pieces.now in MatchBool
+        fits
+        ((length whole ≤ 1048576) × (numbers_in made.new.items ≡ whole))
+        (1048576 < length whole)) }
+{
+    made.clear();
+    for piece in pieces {
+        if !append_said(made, rows, base, *piece)? {
+            return Ok(false);
+        }
+    }
+    Ok(made.len() <= EXPRESSION_LIMIT)
 }
 
 impl Store for Rows {
@@ -63,5 +126,14 @@ impl Store for Rows {
 
     fn drop_last(&mut self, count: usize) {
         self.stack.truncate(self.stack.len() - count);
+    }
+
+    fn conclude(&mut self, base: usize, pieces: &[Piece]) -> Result<bool, AllocError> {
+        let mut row = Vec::new(self.alloc);
+        if !fill_said(&mut row, &self.stack, base, pieces)? {
+            return Ok(false);
+        }
+        put_last(&mut self.stack, base, row)?;
+        Ok(true)
     }
 }

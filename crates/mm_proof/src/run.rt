@@ -24,7 +24,7 @@ use crate::store::Store;
 use crate::used::{Named, fill_called};
 use crate::verdict::{ending, mark, step_again};
 use mm_code::Code;
-use mm_frame::{Book, Frame, LabelId, Sym, one_number};
+use mm_frame::{Book, Frame, LabelId, one_number};
 use std::alloc::{AllocError, Global};
 
 /// What each of the entries, labels that numbers stand for, stands for itself.
@@ -49,7 +49,6 @@ pub(crate) fn calls_of<'b>(
 #[inline(always)]
 fn step_at<S: Store>(
     store: &mut S,
-    made: &mut Vec<Sym>,
     marks: &mut Vec<bool>,
     book: &Book,
     own: &Frame,
@@ -88,7 +87,7 @@ fn step_at<S: Store>(
     match calls.get(place) {
         Some(call) => {
             marks[place] = true;
-            step_by(store, made, book, own, call, number)
+            step_by(store, book, own, call, number)
         }
         None => step_again(store, place - calls.len(), kept, number),
     }
@@ -97,7 +96,6 @@ fn step_at<S: Store>(
 /// All codes, one after the other: how many are steps. The entries that they name are marked.
 pub(crate) fn run_codes<S: Store>(
     store: &mut S,
-    made: &mut Vec<Sym>,
     marks: &mut Vec<bool>,
     book: &Book,
     own: &Frame,
@@ -135,7 +133,6 @@ pub(crate) fn run_codes<S: Store>(
                 let place = *number as usize - 1;
                 step_at(
                     store,
-                    made,
                     marks,
                     book,
                     own,
@@ -160,7 +157,6 @@ pub(crate) fn run_codes<S: Store>(
 // fault. The entries that they name are marked.
 fn derive_codes<S: Store>(
     store: &mut S,
-    made: &mut Vec<Sym>,
     marks: &mut Vec<bool>,
     book: &Book,
     own: &Frame,
@@ -190,7 +186,7 @@ fn derive_codes<S: Store>(
         (λ place s names. FailsWith book.now.statements place s names rule step))) }
 {
     one_number();
-    let count = run_codes(store, made, marks, book, own, entries, calls, codes)?;
+    let count = run_codes(store, marks, book, own, entries, calls, codes)?;
     ending(store, own.expression(), count + 1)?;
     Ok(())
 }
@@ -201,7 +197,6 @@ fn derive_codes<S: Store>(
 pub(crate) fn judgement_of_codes<S: Store>(
     alloc: Global,
     store: &mut S,
-    made: &mut Vec<Sym>,
     named: &mut Named,
     marks: &mut Vec<bool>,
     book: &Book,
@@ -228,7 +223,7 @@ pub(crate) fn judgement_of_codes<S: Store>(
 {
     let calls = calls_of(alloc, book, entries)?;
     unmark(marks, entries.len())?;
-    derive_codes(store, made, marks, book, own, id, entries, &calls, codes)?;
+    derive_codes(store, marks, book, own, id, entries, &calls, codes)?;
     fill_called(named, entries, &calls, marks)?;
     Ok(())
 }

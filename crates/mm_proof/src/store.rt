@@ -1,6 +1,8 @@
 //! What a proof's run keeps: a stack of expressions, and those that are kept for later.
 
-use mm_frame::Sym;
+ghost use Rattle.std.specs.Prelude.{◌≡◌, ◌≤◌, [], ◌∷◌, ◌++◌, length, take, OnOk, OnErr};
+
+use mm_frame::{Piece, Sym};
 use std::alloc::AllocError;
 
 /// A stack of expressions and a list of kept ones, both by the numbers of their symbols.
@@ -8,8 +10,11 @@ use std::alloc::AllocError;
 /// Each call changes one of the two at most, and none where a growth was refused.
 pub trait Store {
     ghost use Rattle.std.specs.Prelude.{◌≡◌, ℕ, ◌-◌, ◌<◌, ◌≤◌, List, [], ◌∷◌, ◌++◌, length};
-    ghost use Rattle.std.specs.Prelude.{take, slice_get, OnOk, OnErr, Some};
+    ghost use Rattle.std.specs.Prelude.{◌^◌, take, drop, slice_get, OnOk, OnErr, Some};
+    ghost use Rattle.std.specs.Prelude.{IfOk, MatchBool};
+    ghost use Rattle.std.specs.List.{AllByRecursion};
     ghost use Rattle.mm_proof.specs.Stores.{numbers_in};
+    ghost use Rattle.mm_proof.specs.CodeVerify.{all_said_by, IsWithinPlaces};
 
     /// The expressions on the stack, the topmost one last.
     ghost stack: { Self → List (List ℕ) };
@@ -55,4 +60,36 @@ pub trait Store {
         requires { count ≤ length (stack self.old) }
         ensures stack { stack self.new ≡ take (length (stack self.old) - count) (stack self.old) }
         ensures kept { kept self.new ≡ kept self.old };
+
+    /// What the pieces say of the entries from the base on takes their place, where it is within
+    /// the limit of 1,048,576 symbols; else false is answered, and nothing is changed.
+    fn conclude(&mut self, base: usize, pieces: &[Piece]) -> Result<bool, AllocError>
+        requires base { base ≤ length (stack self.old) }
+        requires within { AllByRecursion (IsWithinPlaces (length (drop base (stack self.old))))
+            pieces.now }
+        requires fits { length (stack self.old) < 2 ^ 64 }
+        ensures said { IfOk result (λ fits.
+            let whole = all_said_by (drop base (stack self.old)) pieces.now in MatchBool
+            fits
+            ((length whole ≤ 1048576) × (stack self.new ≡ take base (stack self.old) ++ whole ∷ []))
+            ((1048576 < length whole) × (stack self.new ≡ stack self.old))) }
+        ensures refused { OnErr result (stack self.new ≡ stack self.old) }
+        ensures kept { kept self.new ≡ kept self.old };
+}
+
+/// Puts an item at a place of the list, and drops what stood there and behind it. Only an item that
+/// stands behind all others needs a growth, so that nothing is dropped where that is refused.
+#[inline(always)]
+pub(crate) fn put_last<T: Drop>(list: &mut Vec<T>, place: usize, item: T) -> Result<(), AllocError>
+    requires { place ≤ length list.old.items }
+    ensures put { OnOk result (list.new.items ≡ take place list.old.items ++ item ∷ []) }
+    ensures same { OnErr result (list.new.items ≡ list.old.items) }
+{
+    if place < list.len() {
+        list[place] = item;
+        list.truncate(place + 1);
+        return Ok(());
+    }
+    list.push(item)?;
+    Ok(())
 }

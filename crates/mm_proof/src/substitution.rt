@@ -2,8 +2,7 @@
 //! the type code in the entry of its `$f` (the Metamath book, section 4.1.4).
 
 ghost use Rattle.std.specs.Prelude.{◌≡◌, ◌↔◌, ◌+◌, ◌≤◌, ◌<◌, ◌^◌, ◌∷◌, ◌++◌, [], ℕ, List, length};
-ghost use Rattle.std.specs.Prelude.{drop, slice_index_or, IsTrue, IfOk, MatchOption};
-ghost use Rattle.std.specs.Prelude.{MatchBool, false};
+ghost use Rattle.std.specs.Prelude.{drop, slice_index_or, false, IsTrue, IfOk, MatchOption};
 ghost use Rattle.std.specs.List.{AllByRecursion};
 ghost use Rattle.mm_proof.specs.Stores.{numbers_in};
 ghost use Rattle.mm_proof.specs.CodeVerify.{said_by, all_said_by, IsWithinPlaces};
@@ -25,7 +24,8 @@ fn none_after(entry: &[Sym]) -> &[Sym]
     entry
 }
 
-fn after_first(entry: &[Sym]) -> &[Sym]
+/// What follows the first symbol.
+pub(crate) fn after_first(entry: &[Sym]) -> &[Sym]
     ensures { numbers_in result.now ≡ drop 1 (numbers_in entry.now) }
 {
     match entry {
@@ -141,8 +141,8 @@ pub(crate) fn is_said<S: Store>(store: &S, base: usize, pieces: &[Piece], symbol
     rest.is_empty()
 }
 
-// Appends the value, and answers false where it is more than one symbol and passes the limit.
-fn append_value(made: &mut Vec<Sym>, value: &[Sym]) -> Result<bool, AllocError>
+/// Appends the value, and answers false where it is more than one symbol and passes the limit.
+pub(crate) fn append_value(made: &mut Vec<Sym>, value: &[Sym]) -> Result<bool, AllocError>
     ensures made { IfOk result (λ fits.
         numbers_in made.new.items ≡ numbers_in made.old.items ++ numbers_in value.now) }
     ensures over { IfOk result (λ fits. fits ≡ false → 1048576 < length made.new.items) }
@@ -155,52 +155,4 @@ fn append_value(made: &mut Vec<Sym>, value: &[Sym]) -> Result<bool, AllocError>
         }
     }
     Ok(true)
-}
-
-// Appends what the piece says, and answers false where that is more than one symbol and passes the
-// limit.
-fn append_said<S: Store>(
-    made: &mut Vec<Sym>,
-    store: &S,
-    base: usize,
-    piece: Piece,
-) -> Result<bool, AllocError>
-    requires within { IsWithinPlaces (length (drop base (S.stack store.now))) piece }
-    requires fits { length (S.stack store.now) < 2 ^ 64 }
-    ensures made { IfOk result (λ fits. numbers_in made.new.items
-        ≡ numbers_in made.old.items ++ said_by (drop base (S.stack store.now)) piece) }
-    ensures over { IfOk result (λ fits. fits ≡ false → 1048576 < length made.new.items) }
-{
-    match piece {
-        Piece::Symbol(symbol) => {
-            made.push(symbol)?;
-            Ok(true)
-        }
-        Piece::Value(place) => append_value(made, value_at(store, base, place)),
-    }
-}
-
-/// Fills the list with what the pieces say, where it is within the limit; else false is answered.
-pub(crate) fn fill_said<S: Store>(
-    made: &mut Vec<Sym>,
-    store: &S,
-    base: usize,
-    pieces: &[Piece],
-) -> Result<bool, AllocError>
-    requires within { AllByRecursion (IsWithinPlaces (length (drop base (S.stack store.now))))
-        pieces.now }
-    requires fits { length (S.stack store.now) < 2 ^ 64 }
-    ensures { IfOk result (λ fits.
-        let whole = all_said_by (drop base (S.stack store.now)) pieces.now in MatchBool
-        fits
-        ((length whole ≤ 1048576) × (numbers_in made.new.items ≡ whole))
-        (1048576 < length whole)) }
-{
-    made.clear();
-    for piece in pieces {
-        if !append_said(made, store, base, *piece)? {
-            return Ok(false);
-        }
-    }
-    Ok(made.len() <= EXPRESSION_LIMIT)
 }

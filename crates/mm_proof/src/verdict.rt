@@ -38,7 +38,6 @@ fn fault_at_step(rule: ProofRule, step: usize) -> Result<(), ProofFault>
 #[inline(always)]
 pub(crate) fn step<S: Store>(
     store: &mut S,
-    made: &mut Vec<Sym>,
     book: &Book,
     own: &Frame,
     id: LabelId,
@@ -58,7 +57,7 @@ pub(crate) fn step<S: Store>(
     ensures fault { (rule : ProofRule) → (at : ℕ) → result ≡ Err (ProofFault.Rule rule at)
         → (at ≡ number) × StopsAt book.now.statements own.now.place id.0 (S.stack store.old) rule }
 {
-    step_by(store, made, book, own, &call_of(book, id), number)
+    step_by(store, book, own, &call_of(book, id), number)
 }
 
 // The step by a tag.
@@ -102,7 +101,6 @@ pub(crate) fn mark<S: Store>(store: &mut S, number: usize) -> Result<(), ProofFa
 // All moves, one after the other: how many are steps.
 fn run<S: Store>(
     store: &mut S,
-    made: &mut Vec<Sym>,
     book: &Book,
     own: &Frame,
     moves: &[NumberedMove],
@@ -128,7 +126,7 @@ fn run<S: Store>(
     for one in moves {
         match one {
             NumberedMove::Name(id) => {
-                step(store, made, book, own, *id, steps + 1)?;
+                step(store, book, own, *id, steps + 1)?;
                 steps += 1;
             }
             NumberedMove::Again(tag) => {
@@ -167,7 +165,6 @@ pub(crate) fn ending<S: Store>(
 // fault.
 fn derive<S: Store>(
     store: &mut S,
-    made: &mut Vec<Sym>,
     book: &Book,
     own: &Frame,
     id: LabelId,
@@ -187,7 +184,7 @@ fn derive<S: Store>(
         (λ place s names. FailsWith book.now.statements place s names rule step))) }
 {
     one_number();
-    let count = run(store, made, book, own, moves)?;
+    let count = run(store, book, own, moves)?;
     ending(store, own.expression(), count + 1)?;
     Ok(())
 }
@@ -196,7 +193,6 @@ fn derive<S: Store>(
 // where the frame is that of the `$p`, and the labels are those that the moves name.
 pub(crate) fn judgement_in_frame<S: Store>(
     store: &mut S,
-    made: &mut Vec<Sym>,
     named: &mut Named,
     book: &Book,
     own: &Frame,
@@ -218,7 +214,7 @@ pub(crate) fn judgement_in_frame<S: Store>(
         OnRule e (λ rule step. OfMoves book.now.statements id.0 (moves_in moves.now)
         (λ place s names. FailsWith book.now.statements place s names rule step))) }
 {
-    derive(store, made, book, own, id, moves)?;
+    derive(store, book, own, id, moves)?;
     fill_used(named, book, picked)?;
     Ok(())
 }
@@ -227,7 +223,6 @@ pub(crate) fn judgement_in_frame<S: Store>(
 fn judgement<S: Store>(
     alloc: Global,
     store: &mut S,
-    made: &mut Vec<Sym>,
     named: &mut Named,
     book: &Book,
     id: LabelId,
@@ -247,14 +242,13 @@ fn judgement<S: Store>(
     let own = book.frame(id);
     let mut picked = Vec::new(alloc);
     fill_picked(&mut picked, moves)?;
-    judgement_in_frame(store, made, named, book, &own, id, moves, &picked)
+    judgement_in_frame(store, named, book, &own, id, moves, &picked)
 }
 
 // The answer on the moves of a proof. The store is handed in empty.
 pub(crate) fn answer<S: Store>(
     alloc: Global,
     store: &mut S,
-    made: &mut Vec<Sym>,
     named: &mut Named,
     book: &Book,
     id: LabelId,
@@ -276,7 +270,7 @@ pub(crate) fn answer<S: Store>(
         → FailsWith book.now.statements place s names rule step
         → IsUnlessMemory result (Err (ProofFault.Rule rule step))) }
 {
-    match judgement(alloc, store, made, named, book, id, &steps.moves) {
+    match judgement(alloc, store, named, book, id, &steps.moves) {
         Ok(()) => {
             let labels = Vec::from_slice(alloc, &named.ids)?;
             Ok(Used { labels })
@@ -317,7 +311,6 @@ pub fn verify<S: Store + Drop>(
         (rule : ProofRule) → (step : ℕ) → FailsWith book.now.statements place s moves rule step
         → IsUnlessMemory result (Err (ProofFault.Rule rule step))) }
 {
-    let mut made = Vec::new(alloc);
     let mut named = Named::new(alloc);
-    answer(alloc, &mut store, &mut made, &mut named, book, id, steps)
+    answer(alloc, &mut store, &mut named, book, id, steps)
 }

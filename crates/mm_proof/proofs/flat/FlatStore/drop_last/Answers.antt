@@ -7,8 +7,8 @@ use Rattle.mm_proof.proofs.flat.FlatStore.drop_last.Goals as goal
 pub returns-then-len-self-clause-stack : goal.returns-then-len-self-clause-stack
 returns-then-len-self-clause-stack c =
     c.cut.ensures.stack
-    ∙ rw c.truncate.ensures.items (take-seen (λ e. numbers_in (slice_range c.args.self.now.symbols.items e.start e.end)) c.args.self.now.stack.items _ c.args.count (omega arith))
+    ∙ rw c.truncate.ensures.items (take-seen (λ e. numbers_in (slice_range c.args.self.now.symbols e.start e.end)) c.args.self.now.stack.items _ c.args.count (omega arith))
 
 pub returns-else-len-self-clause-stack : goal.returns-else-len-self-clause-stack
 returns-else-len-self-clause-stack c =
-    rw c.truncate.ensures.items (take-seen (λ e. numbers_in (slice_range c.args.self.now.symbols.items e.start e.end)) c.args.self.now.stack.items _ c.args.count (omega arith))
+    rw c.truncate.ensures.items (take-seen (λ e. numbers_in (slice_range c.args.self.now.symbols e.start e.end)) c.args.self.now.stack.items _ c.args.count (omega arith))

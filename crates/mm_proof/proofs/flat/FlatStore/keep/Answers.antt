@@ -6,7 +6,7 @@ use Rattle.mm_proof.proofs.flat.FlatStore.keep.Goals as goal
 
 pub returns-clause-kept : goal.returns-clause-kept
 returns-clause-kept c e there =
-    let is = read-last (λ a. numbers_in (slice_range c.args.self.now.symbols.items a.start a.end)) c.args.self.now.stack.items _ c.index-last.result.now e
+    let is = read-last (λ a. numbers_in (slice_range c.args.self.now.symbols a.start a.end)) c.args.self.now.stack.items _ c.index-last.result.now e
     c.requires (omega arith) c.index-last.ensures there in
     rw c.in_ok-push.ensures.items
-    (push-seen (λ a. numbers_in (slice_range c.args.self.now.symbols.items a.start a.end)) c.args.self.now.kept.items _ e is)
+    (push-seen (λ a. numbers_in (slice_range c.args.self.now.symbols a.start a.end)) c.args.self.now.kept.items _ e is)

@@ -15,7 +15,7 @@ returns-in_err-push-clause-kept c =
 pub returns-clause-pushed : goal.returns-clause-pushed
 returns-clause-pushed c =
     rw (c.in_ok-push.ensures.items, c.in_ok-append.ensures.appended)
-    (parts-push c.args.self.now.symbols.items c.args.expression.now c.args.self.now.stack.items _ c.args.self.now.stacked (omega arith) (omega (arith, ap length c.in_ok-append.ensures.appended)))
+    (parts-push c.args.self.now.symbols c.args.expression.now c.args.self.now.stack.items _ c.args.self.now.stacked (omega arith) (omega (arith, ap length c.in_ok-append.ensures.appended)))
 
 pub returns-clause-kept : goal.returns-clause-kept
 returns-clause-kept c =

@@ -1,0 +1,32 @@
+use Rattle.std.proofs.Common.{◌+◌, ◌++◌, drop, length, ap, arith}
+use Rattle.std.proofs.lemmas.List.{length-map, length-append}
+use Rattle.mm_proof.specs.Buffer.{parts_of}
+use Rattle.mm_proof.specs.CodeVerify.{said_by}
+use Rattle.mm_proof.proofs.Values.{said_over}
+use Rattle.mm_proof.proofs.Parts.{pieces-step}
+use Rattle.mm_proof.proofs.flat.append_pieces.Goals as goal
+
+pub returns-then-not-branch-clause-said : goal.returns-then-not-branch-clause-said
+returns-then-not-branch-clause-said c =
+    let said = c.in_ok-append_piece.ensures.said in
+    let more = c.loop-piece.invariant.0 in
+    let step = pieces-step c.args.symbols.now c.loop-piece.symbols c.append_piece.new.symbols more said.0 c.args.stack.now c.args.base c.loop-piece.piece-index c.args.pieces.now
+    c.requires.parts c.loop-piece-test.true c.loop-piece.invariant.1 c.loop-piece.invariant.2 said.1 said.2 in
+    said_over (said_by (drop c.args.base (parts_of c.args.symbols.now c.args.stack.now))) c.args.pieces.now (c.loop-piece.piece-index + 1) 1048576
+    (omega (
+      arith,
+      c.in_ok-append_piece.ensures.over c.if-not-branch.true,
+      c.len-start.ensures,
+      ap length step.0,
+      ap length step.1,
+      length-append c.args.symbols.now (more ++ said.0),
+      length-map (more ++ said.0) (λ s. s.0),
+    ))
+
+pub loop-piece-preserved : goal.loop-piece-preserved
+loop-piece-preserved c =
+    let said = c.in_ok-append_piece.ensures.said in
+    let more = c.loop-piece.invariant.0 in
+    let step = pieces-step c.args.symbols.now c.loop-piece.symbols c.append_piece.new.symbols more said.0 c.args.stack.now c.args.base c.loop-piece.piece-index c.args.pieces.now
+    c.requires.parts c.loop-piece-test.true c.loop-piece.invariant.1 c.loop-piece.invariant.2 said.1 said.2 in
+    (more ++ said.0, step.0, step.1)

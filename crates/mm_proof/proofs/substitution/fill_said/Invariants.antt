@@ -1,8 +1,0 @@
-use Rattle.std.proofs.Common.{◌≡◌, take, drop}
-use Rattle.mm_proof.specs.Stores.{numbers_in}
-use Rattle.mm_proof.specs.CodeVerify.{all_said_by}
-use Rattle.mm_proof.proofs.substitution.fill_said.Given as goal
-
-abbrev pub invariant-loop-piece : goal.invariant-loop-piece
-invariant-loop-piece g l =
-    numbers_in l.made.items ≡ all_said_by (drop l.base (g.S.Store.stack l.store)) (take l.piece-index l.pieces)
