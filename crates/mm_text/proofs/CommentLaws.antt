@@ -10,11 +10,11 @@ use Rattle.memchr.specs.Find.{Nowhere, Passes, is_byte}
 use Rattle.mm_text.specs.declared.fault.TextRule.TheVariants.{X1, X2, X3, X4}
 use Rattle.mm_text.specs.Token.{PlainToken, is_space, is_printable, with_byte, tokens_from}
 use Rattle.mm_text.specs.Items.{Clear, Broken, without_comments, spells, holds_mark}
-use Rattle.mm_text.specs.Mirror.Place.{is_legal, is_quiet, IsLegalFront, IsLegalUpTo, IsSameFile, IsLater, comment_at, shown_at}
+use Rattle.mm_text.specs.Mirror.Place.{is_legal, is_quiet, IsLegalFront, IsLegalUpTo, IsMarkAt, IsClosedAt, IsSameFile, IsLater, comment_at, shown_at}
 use Rattle.std.specs.Cmp.Lexicographic.{bytes_decides}
 use Rattle.mm_text.proofs.LegalLaws.{all_from_places}
 use Rattle.mm_text.specs.declared.comments.Place.{Place}
-use Rattle.mm_text.proofs.TokenLaws.{tokens_from-space, tokens_from-byte, tokens_from-nil, tokens_from-step, BeginFrom, tokens_from_begin, with_byte_apart, BeginsWithSpace, space_from_place}
+use Rattle.mm_text.proofs.TokenLaws.{tokens_from-space, tokens_from-byte, tokens_from-nil, tokens_from-step, tokens_from-run, BeginFrom, tokens_from_begin, with_byte_apart, BeginsWithSpace, space_from_place}
 
 -- ---- marks
 
@@ -311,3 +311,60 @@ skipped_legal bytes legal at start stop judged from within space =
     ⊎_elim (λ (less : legal < start).
     absurd (both_ways _ (judged.stops (omega arith)) (or_right (is_printable (get_or bytes legal 0)) (is_space (get_or bytes legal 0)) (space legal from less))))
     (λ (le : start ≤ legal). le) (order legal start)
+
+-- ---- marks that are told at once
+
+-- the bytes from such a mark on
+mark_bytes : (bytes : List ℕ) (second at legal : ℕ) → legal ≤ length bytes
+    → IsMarkAt bytes second at legal → drop at bytes ≡ 36 ∷ second ∷ drop (at + 2) bytes
+mark_bytes bytes second at legal within mark =
+    let back : at + 1 + 1 ≡ at + 2 = omega arith in
+    let low : at < length bytes = omega (arith, mark.within) in
+    let high : at + 1 < length bytes = omega (arith, mark.within) in
+    drop_more bytes at 0 low
+    ∙ ap (λ b. b ∷ drop (at + 1) bytes) mark.dollar
+    ∙ ap (λ l. 36 ∷ l) (drop_more bytes (at + 1) 0 high)
+    ∙ ap (λ b. 36 ∷ b ∷ drop (at + 1 + 1) bytes) mark.other
+    ∙ ap (λ n. 36 ∷ second ∷ drop n bytes) back
+
+-- it is a token
+mark_token : (bytes : List ℕ) (file second at legal : ℕ) → legal ≤ length bytes
+    → IsMarkAt bytes second at legal → is_space second ≡ false
+    → tokens_from file at (drop at bytes)
+    ≡ record { text = 36 ∷ second ∷ []; file = file; at = at } ∷ tokens_from file (at + 2) (drop (at + 2) bytes)
+mark_token bytes file second at legal within mark ink =
+    let rest = drop (at + 2) bytes in
+    let space : BeginsWithSpace rest = space_from_place rest (λ lt.
+    ap is_space (get_or-drop (at + 2) bytes 0 0 ∙ ap (λ n. get_or bytes n 0) (omega arith)) ∙ mark.right) in
+    ap (tokens_from file at) (mark_bytes bytes second at legal within mark)
+    ∙ tokens_from-run file at 36 (second ∷ []) rest (refl, (ink, tt)) space
+    ∙ ap (λ n. record { text = 36 ∷ second ∷ []; file = file; at = at } ∷ tokens_from file n rest) (omega arith)
+
+-- a `$)` closes the comment that it is met in
+pub closed_at : (begin : PlainToken) (p : Place) (at legal : ℕ) → IsLegalFront p.bytes.now legal
+    → p.at ≤ at → ((k : ℕ) → p.at ≤ k → k < at → is_quiet (get_or p.bytes.now k 0) ≡ true)
+    → IsClosedAt p.bytes.now at legal
+    → comment_at begin p ≡ shown_at (record p { at = at + 2; legal = legal })
+closed_at begin p at legal front from quiet closed =
+    let bytes = p.bytes.now in
+    let t : PlainToken = record { text = 36 ∷ 41 ∷ []; file = p.file; at = at } in
+    passed_to begin bytes p.file p.at at from (omega (arith, front.within, closed.mark.within)) quiet (inr closed.left)
+    ∙ ap (without_comments (Some begin)) (mark_token bytes p.file 41 at legal front.within closed.mark refl)
+    ∙ in_comment-close begin t _ refl refl
+
+-- a `$(` begins one outside comments
+pub begins_at : (p : Place) (start legal : ℕ) (t : PlainToken) → IsLegalFront p.bytes.now legal
+    → ((file : ℕ) → tokens_from file p.at (drop p.at p.bytes.now) ≡ tokens_from file start (drop start p.bytes.now))
+    → IsMarkAt p.bytes.now 40 start legal
+    → t ≡ record { text = slice_range p.bytes.now start (start + 2); file = p.file; at = start }
+    → shown_at p ≡ comment_at t (record p { at = start + 2 })
+begins_at p start legal t front skipped mark same =
+    let bytes = p.bytes.now in
+    let begin : PlainToken = record { text = 36 ∷ 40 ∷ []; file = p.file; at = start } in
+    let two : start + 2 - start ≡ 2 = omega arith in
+    let text : slice_range bytes start (start + 2) ≡ 36 ∷ 40 ∷ [] =
+    ap (λ n. take n (drop start bytes)) two ∙ ap (take 2) (mark_bytes bytes 40 start legal front.within mark) in
+    let token : begin ≡ t = ap (λ (l : List ℕ). record { text = l; file = p.file; at = start }) (sym text) ∙ sym same in
+    ap (without_comments None) (skipped p.file ∙ mark_token bytes p.file 40 start legal front.within mark refl)
+    ∙ outside-begin begin _ refl refl
+    ∙ ap (λ (u : PlainToken). comment_at u (record p { at = start + 2 })) token

@@ -5,11 +5,12 @@ ghost use Rattle.std.specs.Prelude.{slice_index, slice_range};
 ghost use Rattle.mm_text.specs.Token.{plain_token, is_space};
 ghost use Rattle.mm_text.specs.Items.{holds_mark, spells};
 ghost use Rattle.mm_text.specs.Mirror.Place.{is_quiet, IsLegalFront, IsLegalUpTo, IsPlace};
+ghost use Rattle.mm_text.specs.Mirror.Place.{IsMarkAt, IsClosedAt, BeginsNext};
 ghost use Rattle.mm_text.specs.Mirror.Place.{IsSameFile, GoesOn, EndsComment, TakesOne};
 ghost use Rattle.mm_text.specs.Mirror.Place.{TakesWordAt, TakesShown, shown_at};
 
 use crate::fault::TextRule;
-use crate::scan::{legal_end, skip_space, token_end, token_start};
+use crate::scan::{is_space, legal_end, skip_space, token_end, token_start};
 use crate::token::Token;
 use memchr::memchr;
 
@@ -172,6 +173,32 @@ fn comment_stop(bytes: &[u8], at: usize, mut legal: usize) -> Stop
     }
 }
 
+/// Whether a `$` and another byte stand at a place and white space after them, and all three are
+/// judged. A token that begins there is then those two bytes.
+#[inline(always)]
+fn is_mark_at(bytes: &[u8], second: u8, at: usize, legal: usize) -> bool
+    requires { IsLegalFront bytes.now legal }
+    ensures { result ≡ true → IsMarkAt bytes.now second at legal }
+{
+    if at >= legal || legal - at <= 2 {
+        return false;
+    }
+    bytes[at] == b'$' && bytes[at + 1] == second && is_space(bytes[at + 2])
+}
+
+/// Whether such a `$)` stands at a stop of a comment, after white space: nearly every comment ends
+/// so, and this tells it before the token is looked for in both directions.
+#[inline(always)]
+fn is_closed_at(bytes: &[u8], low: usize, stop: Stop) -> bool
+    requires { IsLegalFront bytes.now stop.legal }
+    ensures { result ≡ true → IsClosedAt bytes.now stop.at stop.legal }
+{
+    if !is_mark_at(bytes, b')', stop.at, stop.legal) {
+        return false;
+    }
+    stop.at > low && is_space(bytes[stop.at - 1])
+}
+
 /// What a comment comes to at its next token that holds a `$` or a byte that no token may hold.
 fn comment_step<'a>(mut place: Place<'a>, begin: Token<'a>) -> Result<Comment<'a>, Wrong<'a>>
     requires place { IsPlace place }
@@ -184,6 +211,11 @@ fn comment_step<'a>(mut place: Place<'a>, begin: Token<'a>) -> Result<Comment<'a
             rule: TextRule::X2,
             token: begin,
         });
+    }
+    place.legal = stop.legal;
+    if is_closed_at(place.bytes, place.at, stop) {
+        let at = stop.at + 2;
+        return Ok(Comment::Closed(Place { at, ..place }));
     }
     let start = token_start(place.bytes, place.at, stop.at);
     let (end, _) = token_end(place.bytes, start);
@@ -207,9 +239,27 @@ fn comment_step<'a>(mut place: Place<'a>, begin: Token<'a>) -> Result<Comment<'a
     Ok(Comment::Open(Place { at: end, ..place }))
 }
 
+/// The place after a `$(` that stands next, and that token, where white space comes after it and
+/// all bytes up to there are judged; else none.
+#[inline(always)]
+fn next_begin<'a>(place: Place<'a>) -> Option<(Place<'a>, Token<'a>)>
+    requires { IsPlace place }
+    ensures { BeginsNext place.entry result }
+{
+    let start = skip_space(place.bytes, place.at);
+    if is_mark_at(place.bytes, b'(', start, place.legal) {
+        let end = start + 2;
+        let begin = make_token(place.bytes, place.file, start, end);
+        return Some((Place { at: end, ..place }, begin));
+    }
+    None
+}
+
 /// The place after the comment that begins with a `$(` before a place.
+///
+/// Comments that come right after it are passed over too, which spares a call for each.
 #[inline(never)]
-fn comment_end<'a>(mut place: Place<'a>, begin: Token<'a>) -> Result<Place<'a>, Wrong<'a>>
+fn comment_end<'a>(mut place: Place<'a>, mut begin: Token<'a>) -> Result<Place<'a>, Wrong<'a>>
     requires place { IsPlace place }
     requires begin { begin.at < 1073741824 }
     ensures { EndsComment place.entry (plain_token begin.entry) result }
@@ -217,7 +267,13 @@ fn comment_end<'a>(mut place: Place<'a>, begin: Token<'a>) -> Result<Place<'a>, 
     'parts: loop {
         match comment_step(place, begin)? {
             Comment::Open(after) => place = after,
-            Comment::Closed(after) => return Ok(after),
+            Comment::Closed(after) => match next_begin(after) {
+                Some((inside, next)) => {
+                    place = inside;
+                    begin = next;
+                }
+                None => return Ok(after),
+            },
         }
     }
 }

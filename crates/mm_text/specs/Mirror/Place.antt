@@ -1,6 +1,6 @@
 -- How the code goes through a file: from a place on, knowing up to where the bytes may stand in a
 -- file. Private clauses speak of this.
-use Rattle.std.specs.Prelude.{◌≡◌, ℕ, ◌<◌, ◌≤◌, ◌||◌, List, [], ◌∷◌, length, drop, ◌&&◌, ◌==◌, not}
+use Rattle.std.specs.Prelude.{◌≡◌, ℕ, ◌+◌, ◌<◌, ◌≤◌, ◌||◌, List, [], ◌∷◌, length, drop, ◌&&◌, ◌==◌, not}
 use Rattle.std.specs.Prelude.{Bool, true, false, codes, Option, Some, None, Result, Ok, Err}
 use Rattle.std.specs.Prelude.{slice_index}
 use Rattle.mm_text.specs.declared.comments.Place.{Place}
@@ -31,6 +31,18 @@ pub record IsLegalFront (bytes : List ℕ) (stop : ℕ) : Type 0 where
 pub record IsLegalUpTo (bytes : List ℕ) (stop wanted : ℕ) : Type 0 where
   pub front : IsLegalFront bytes stop
   pub stops : stop < wanted → is_legal (slice_index bytes stop) ≡ false
+
+-- a `$` and another byte stand at a place and white space after them, and all three were judged
+pub record IsMarkAt (bytes : List ℕ) (second at legal : ℕ) : Type 0 where
+  pub within : at + 2 < legal
+  pub dollar : slice_index bytes at ≡ 36
+  pub other : slice_index bytes (at + 1) ≡ second
+  pub right : is_space (slice_index bytes (at + 2)) ≡ true
+
+-- such a `$)` stands at a place after white space
+pub record IsClosedAt (bytes : List ℕ) (at legal : ℕ) : Type 0 where
+  pub mark : IsMarkAt bytes 41 at legal
+  pub left : (k : ℕ) → k + 1 ≡ at → is_space (slice_index bytes k) ≡ true
 
 -- what holds of each place that is handed on
 pub record IsPlace (p : Place) : Type 0 where
@@ -77,6 +89,13 @@ GoesOn p begin (Err w) = IsBroken (comment_at begin p) w
 abbrev pub EndsComment : Place → PlainToken → Result Place Wrong → Type 0
 EndsComment p begin (Ok after) = IsLater p after × (comment_at begin p ≡ shown_at after)
 EndsComment p begin (Err w) = IsBroken (comment_at begin p) w
+
+-- a comment comes next: the place after its `$(`, and that token
+abbrev pub BeginsNext : Place → Option (Place × Token) → Type 0
+BeginsNext p (Some found) =
+    IsLater p found.0 × (shown_at p ≡ comment_at (plain_token found.1) found.0)
+    × (found.1.at < 1073741824)
+BeginsNext p None = Unit {0}
 
 -- one token or comment is taken
 abbrev pub TakesOne : Place → Result Found Wrong → Place → Type 0

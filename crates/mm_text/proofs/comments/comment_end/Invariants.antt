@@ -1,15 +1,16 @@
-use Rattle.std.proofs.Common.{◌≡◌, ◌≤◌, ◌-◌, length}
+use Rattle.std.proofs.Common.{◌≡◌, ◌<◌, ◌≤◌, ◌-◌, length}
 use Rattle.mm_text.specs.Token.{plain_token}
 use Rattle.mm_text.specs.Mirror.Place.{IsPlace, IsSameFile, comment_at}
 use Rattle.mm_text.proofs.comments.comment_end.Given as goal
 
--- what was passed leaves the comment open
+-- what was passed leaves a comment open
 abbrev pub invariant-parts : goal.invariant-parts
 invariant-parts l = record {
   place : IsPlace l.place;
   from : l.fn.place.at ≤ l.place.at;
   same : IsSameFile l.fn.place l.place;
-  left : comment_at (plain_token l.begin) l.fn.place ≡ comment_at (plain_token l.begin) l.place;
+  begin : l.begin.at < 1073741824;
+  left : comment_at (plain_token l.fn.begin) l.fn.place ≡ comment_at (plain_token l.begin) l.place;
 }
 
 abbrev pub decreases-parts : goal.decreases-parts

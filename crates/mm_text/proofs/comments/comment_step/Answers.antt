@@ -1,7 +1,7 @@
-use Rattle.std.proofs.Common.{sym, ap, ◌∙◌, arith}
+use Rattle.std.proofs.Common.{sym, ap, ◌∙◌, ◌+◌, arith}
 use Rattle.std.specs.List.{list_all}
 use Rattle.mm_text.specs.Token.{PlainToken, plain_token, is_printable}
-use Rattle.mm_text.proofs.CommentLaws.{comment_token, passed_all, in_comment-illegal, in_comment-close, in_comment-mark, in_comment-more, token_printable, token_illegal, later_place}
+use Rattle.mm_text.proofs.CommentLaws.{comment_token, passed_all, in_comment-illegal, in_comment-close, in_comment-mark, in_comment-more, token_printable, token_illegal, later_place, closed_at}
 use Rattle.mm_text.proofs.comments.comment_step.Goals as goal
 
 -- no `$)` is left
@@ -11,6 +11,17 @@ returns-then-stop-place c =
       passed_all (plain_token c.args.begin) p.bytes.now p.file p.at (omega (arith, c.comment_stop-stop.ensures.front.within))
           (λ k low high. c.comment_stop-stop.ensures.quiet k low (omega arith)),
       c.requires.begin,
+    )
+
+-- a `$)` is told at once
+pub returns-then-is_closed_at : goal.returns-then-is_closed_at
+returns-then-is_closed_at c =
+    let p = c.args.place in
+    let stop = c.comment_stop-stop.result in
+    let front = c.comment_stop-stop.ensures.front in
+    let closed = c.is_closed_at.ensures c.if-is_closed_at.true in (
+      later_place p (stop.at + 2) stop.legal front (omega (arith, closed.mark.within)) (omega arith) c.requires.place.small,
+      closed_at (plain_token c.args.begin) p stop.at stop.legal front (omega arith) c.comment_stop-stop.ensures.quiet closed,
     )
 
 pub returns-then-place-end : goal.returns-then-place-end
