@@ -200,11 +200,12 @@ fn legal_up_to(bytes: &[u8], start: usize, wanted: usize) -> usize
     end.max(wanted)
 }
 
-/// So many bytes are judged beyond those that are wanted, so at least a whole block. Then they are
-/// read, which finds them in the processor's cache, and the next ones come from memory meanwhile.
-const AHEAD: usize = BLOCK - 1;
+/// So many bytes are judged beyond those that are wanted, so at least four whole blocks. Then they
+/// are read, which finds them in the processor's cache, and the next ones come from memory meanwhile.
+/// The search of a comment's end stops where the judged bytes do, so that few of them cost it more.
+const AHEAD: usize = 4 * BLOCK - 1;
 
-/// As `legal_up_to`, and up to a block further.
+/// As `legal_up_to`, and up to four blocks further.
 #[inline(never)]
 pub fn legal_end(bytes: &[u8], start: usize, wanted: usize) -> usize
     requires front { IsLegalFront bytes.now start }
