@@ -1,7 +1,7 @@
 //! Reading and writing lists at a place.
 
-ghost use Rattle.std.specs.Prelude.{◌≡◌, ◌+◌, ◌<◌, ◌≤◌, ◌∷◌, [], ◌++◌, length, slice_get, slice_set};
-ghost use Rattle.std.specs.Prelude.{vec_len, vec_capacity, OnOk};
+ghost use Rattle.std.specs.Prelude.{◌≡◌, ◌+◌, ◌<◌, ◌≤◌, ◌∷◌, [], ◌++◌, length, slice_get};
+ghost use Rattle.std.specs.Prelude.{slice_set, vec_len, vec_capacity, OnOk};
 
 use std::alloc::AllocError;
 
