@@ -1,13 +1,13 @@
 -- The last bytes of the numbers of variables.
-use Rattle.std.proofs.Common.{◌≡◌, ℕ, zero, suc, ◌+◌, ◌<◌, ◌≤◌, ◌%◌, inl, inr, length, get_or, set, List, [], ◌∷◌, Bool, true, false, eqb, Option, option_map, Some, None, refl, sym, ap, subst, ◌∙◌, arith}
+use Rattle.std.proofs.Common.{◌≡◌, ℕ, ◌+◌, ◌<◌, ◌≤◌, ◌%◌, inl, inr, length, get_or, set, List, Bool, true, false, eqb, Option, option_map, Some, None, refl, sym, ap, ◌∙◌, arith}
 use Rattle.std.proofs.lemmas.Bool.{false≢true, cases_lt}
 use Rattle.std.proofs.lemmas.Bool.Decides.{Decides-eqb}
-use Rattle.std.proofs.lemmas.List.{length-set, get_or-set_same, get_or-set_other}
+use Rattle.std.proofs.lemmas.List.{get_or-set_same, get_or-set_other}
 use Rattle.mm_frame.specs.declared.number.Sym.{Sym}
 use Rattle.mm_frame.specs.declared.hypothesis.Hypothesis.{Hypothesis}
 use Rattle.mm_frame.specs.Pieces.{variables_of, is_of, IsNowhere}
 use Rattle.mm_frame.specs.Patterned.{AreEndings}
-use Rattle.mm_frame.proofs.Patterns.{variable_at, variables_counted, none_behind}
+use Rattle.mm_frame.proofs.Patterns.{variable_at, none_behind}
 
 -- a number with another ending is that of no variable
 pub ends_nowhere : (variables : List (Option ℕ)) (endings : List Bool) (n : ℕ) → AreEndings variables endings → get_or endings (n % 256) false ≡ false → IsNowhere n variables

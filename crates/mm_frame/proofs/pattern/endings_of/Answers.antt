@@ -1,4 +1,4 @@
-use Rattle.std.proofs.Common.{◌≡◌, ◌%◌, ◌<◌, length, true, sym, ◌∙◌, arith}
+use Rattle.std.proofs.Common.{◌%◌, ◌<◌, length, true, ◌∙◌, arith}
 use Rattle.std.proofs.lemmas.List.{length-set}
 use Rattle.mm_frame.proofs.Endings.{endings_more, endings_same, endings_all}
 use Rattle.mm_frame.proofs.pattern.endings_of.Goals as goal

@@ -1,4 +1,4 @@
-use Rattle.std.proofs.Common.{None, Some, sym, ◌∙◌, map}
+use Rattle.std.proofs.Common.{None, Some, sym, ◌∙◌}
 use Rattle.mm_frame.proofs.NameLists.{place_of_name}
 use Rattle.mm_frame.proofs.names.Names.find_by_hash.Goals as goal
 
