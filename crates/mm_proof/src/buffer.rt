@@ -89,8 +89,8 @@ impl Buffer {
         self.used
     }
 
-    /// Makes room for so many symbols, where there is memory for it; room that is wanting is made
-    /// when it is needed.
+    /// Sets memory aside for so many symbols, where there is any; what is wanting is asked for when
+    /// it is needed. None of it is filled before that.
     pub(crate) fn prepare(&mut self, symbols: usize)
         ensures { self.new ≡ self.old }
     {

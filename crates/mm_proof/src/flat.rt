@@ -88,8 +88,8 @@ impl Flat {
     }
 
     // The conclusion that stands in the buffer from a place on takes the place of the entries from
-    // the base on, and is moved down to where nothing before it is unused. It is a call, since it
-    // is rare.
+    // the base on, and is moved down to behind what the others need of the buffer. It is a call,
+    // since it is rare.
     #[cold]
     #[inline(never)]
     fn conclude_at_cut(&mut self, base: usize, start: usize) -> Result<(), AllocError>
