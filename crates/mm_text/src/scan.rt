@@ -53,23 +53,6 @@ fn ink_end(bytes: &[u8], start: usize) -> usize
     bytes.len()
 }
 
-/// As `ink_end`, from a `$` on. Nearly always one byte more is left of its token, and white space
-/// comes after it: that is told here, which spares the call.
-#[inline(always)]
-fn dollar_end(bytes: &[u8], start: usize) -> usize
-    requires within { start < length bytes.now }
-    requires begins { is_space (slice_index bytes.now start) ≡ false }
-    ensures after { start < result }
-    ensures within { result ≤ length bytes.now }
-    ensures ink { (k : ℕ) → start ≤ k → k < result → is_space (slice_index bytes.now k) ≡ false }
-    ensures stops { result < length bytes.now → is_space (slice_index bytes.now result) ≡ true }
-{
-    if bytes.len() - start > 2 && is_space(bytes[start + 2]) && !is_space(bytes[start + 1]) {
-        return start + 2;
-    }
-    ink_end(bytes, start)
-}
-
 /// The end of the token that begins at a place, and whether it holds a `$`.
 ///
 /// White space and `$` are less than nearly all other bytes, so that one test passes over a byte of
@@ -92,7 +75,7 @@ pub fn token_end(bytes: &[u8], start: usize) -> (usize, bool)
                 return (at, false);
             }
             if byte == b'$' {
-                let end = dollar_end(bytes, at);
+                let end = ink_end(bytes, at);
                 return (end, true);
             }
         }

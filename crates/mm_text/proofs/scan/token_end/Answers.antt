@@ -25,12 +25,12 @@ pub returns-then-byte-eq36-clause-token : goal.returns-then-byte-eq36-clause-tok
 returns-then-byte-eq36-clause-token c file =
     let start = c.args.start in
     let at = c.loop-at.at in
-    tokens_from-token c.args.bytes.now file start c.dollar_end-end.result (omega arith) (omega arith)
+    tokens_from-token c.args.bytes.now file start c.ink_end-end.result (omega arith) (omega arith)
     (λ k from below. ⊎_elim
     (λ (less : k < at). c.loop-at.invariant.ink k from less)
-    (λ (more : at ≤ k). c.dollar_end-end.ensures.ink k more below)
+    (λ (more : at ≤ k). c.ink_end-end.ensures.ink k more below)
     (order k at))
-    c.dollar_end-end.ensures.stops
+    c.ink_end-end.ensures.stops
 
 pub returns-then-byte-eq36-clause-dollar : goal.returns-then-byte-eq36-clause-dollar
 returns-then-byte-eq36-clause-dollar c =
@@ -38,7 +38,7 @@ returns-then-byte-eq36-clause-dollar c =
     let start = c.args.start in
     let at = c.loop-at.at in
     let dollar : get_or bytes at 0 ≡ 36 = omega (arith, c.if-byte-eq36.true) in
-    sym (has_dollar bytes start at c.dollar_end-end.result (omega arith) (omega arith) (omega arith) dollar)
+    sym (has_dollar bytes start at c.ink_end-end.result (omega arith) (omega arith) (omega arith) dollar)
 
 -- the token ends with the file
 pub returns-clause-token : goal.returns-clause-token
