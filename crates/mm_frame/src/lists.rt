@@ -24,7 +24,7 @@ pub(crate) fn put<T: Drop>(list: &mut Vec<T>, value: T)
 }
 
 /// Makes room for elements in a list whose places are told by numbers of 32 bits. Where it would be
-/// longer than such numbers can say, this is refused as memory is.
+/// longer than such numbers can say, more is asked for than there can be, so that it is refused.
 pub(crate) fn reserve_numbered<T: Drop>(list: &mut Vec<T>, more: usize) -> Result<(), AllocError>
     ensures items { list.new.items ≡ list.old.items }
     ensures room { OnOk result (vec_len list.new + more ≤ vec_capacity list.new) }
@@ -32,7 +32,7 @@ pub(crate) fn reserve_numbered<T: Drop>(list: &mut Vec<T>, more: usize) -> Resul
 {
     match list.len().checked_add(more) {
         Some(len) if u32::try_from(len).is_ok() => list.reserve(more),
-        _ => Err(AllocError),
+        _ => list.reserve(usize::MAX),
     }
 }
 

@@ -11,7 +11,7 @@ ghost use Rattle.mm_frame.specs.Patterned.{IsLonger, IsPatternAt, AreMandatoryOf
 ghost use Rattle.mm_frame.specs.Patterned.{HaveFirstPatterns, ArePatterned, AreEndings};
 
 use crate::hypothesis::Hypothesis;
-use crate::lists::at;
+use crate::lists::{at, reserve_numbered};
 use crate::number::Sym;
 use crate::piece::Piece;
 use crate::scheme::place_of;
@@ -50,17 +50,6 @@ fn piece_of(hypotheses: &[Hypothesis], endings: &[bool; 256], symbol: Sym) -> Pi
     }
 }
 
-// The part of a list from a place up to its end, which is refused as memory is where the list is
-// longer than a part can say.
-fn part_from(start: usize, end: usize) -> Result<Part, AllocError>
-    ensures { IfOk result (λ part. part ≡ record { start = start; end = end }) }
-{
-    match (u32::try_from(start), u32::try_from(end)) {
-        (Ok(start), Ok(end)) => Ok(Part { start, end }),
-        _ => Err(AllocError),
-    }
-}
-
 // Adds the pattern of some symbols, and says where it stands.
 fn push_pattern(
     pieces: &mut Vec<Piece>,
@@ -76,7 +65,11 @@ fn push_pattern(
     for symbol in symbols {
         pieces.push(piece_of(hypotheses, &endings, *symbol))?;
     }
-    part_from(start, pieces.len())
+    reserve_numbered(pieces, 0)?;
+    Ok(Part {
+        start: start as u32,
+        end: pieces.len() as u32,
+    })
 }
 
 // Whether the hypothesis at a place among others is a `$e`.

@@ -2,8 +2,7 @@ use Rattle.std.proofs.Common.{◌≡◌, ◌++◌, ◌∷◌, List, [], length, 
 use Rattle.std.proofs.lemmas.List.{take_all}
 use Rattle.mm_frame.specs.declared.number.Sym.{Sym}
 use Rattle.mm_frame.specs.Pieces.{variables_of, ArePieces}
-use Rattle.mm_frame.specs.Patterned.{IsPatternAt}
-use Rattle.mm_frame.proofs.Patterned.{if_ok_more, pieces_step, pieces_added, same_part}
+use Rattle.mm_frame.proofs.Patterned.{pieces_step, pieces_added, same_part}
 use Rattle.mm_frame.proofs.pattern.push_pattern.Goals as goal
 
 pub loop-symbol-init : goal.loop-symbol-init
@@ -25,6 +24,6 @@ returns-clause-part c few =
     let all : ArePieces (variables_of c.args.hypotheses.now) numbers more =
     subst (λ (ns : List Sym). ArePieces (variables_of c.args.hypotheses.now) (map (λ n. n.0) ns) more) (take_all c.loop-symbol.symbol-index c.args.symbols.now c.loop-symbol-test.false) (says few) in
     let start : c.len-start.result ≡ length old = c.len-start.ensures ∙ c.args.pieces.now.ok.0 in
-    let end : c.len.result ≡ length (old ++ more) = c.len.ensures ∙ c.loop-symbol.pieces.ok.0 ∙ ap length is in
-    if_ok_more _ (IsPatternAt (variables_of c.args.hypotheses.now) numbers c.loop-symbol.pieces.items) c.part_from.result
-    (λ part at. pieces_added (variables_of c.args.hypotheses.now) numbers old c.loop-symbol.pieces.items more part is all (at ∙ same_part _ _ _ _ start end)) c.part_from.ensures
+    let same = c.reserve_numbered.ensures.items ∙ is in
+    let end : c.len.result ≡ length (old ++ more) = c.len.ensures ∙ c.reserve_numbered.new.list.ok.0 ∙ ap length same in
+    pieces_added (variables_of c.args.hypotheses.now) numbers old c.reserve_numbered.new.list.items more _ same all (same_part _ _ _ _ start end)
