@@ -18,6 +18,8 @@ mod files;
 #[cfg(test)]
 mod incomplete;
 #[cfg(test)]
+mod names;
+#[cfg(test)]
 mod one_file;
 #[cfg(test)]
 mod orders;

@@ -2,7 +2,8 @@
 
 use crate::databases::{DEMO, HEAD};
 use crate::{
-    Part, Row, compressed, damaged, files, incomplete, one_file, orders, proofs, questions, scopes,
+    Part, Row, compressed, damaged, files, incomplete, names, one_file, orders, proofs, questions,
+    scopes,
 };
 use mm_check::{Checked, Command, RunFault, check, run};
 use mm_text::{Counted, File, Statement, Statements};
@@ -167,6 +168,11 @@ fn blocks(rt: HostRuntime) -> Result<(), Fail> {
 #[test]
 fn hypotheses(rt: HostRuntime) -> Result<(), Fail> {
     compare(&rt, rt.alloc(), &scopes::HYPOTHESES)
+}
+
+#[test]
+fn names(rt: HostRuntime) -> Result<(), Fail> {
+    compare(&rt, rt.alloc(), &names::NAMES)
 }
 
 #[test]
