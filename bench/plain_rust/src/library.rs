@@ -211,7 +211,7 @@ fn hash_of<K: Hash>(key: &K) -> u32 {
     (hash ^ (hash >> 32)) as u32
 }
 
-impl<K: Hash + Eq + Copy, V> IndexMap<K, V> {
+impl<K: Hash + Eq, V> IndexMap<K, V> {
     pub fn new(_: Global) -> Self {
         IndexMap {
             groups: std::vec::Vec::new(),
@@ -297,7 +297,7 @@ impl<K: Hash + Eq + Copy, V> IndexMap<K, V> {
 
 pub struct IndexSet<K>(IndexMap<K, ()>);
 
-impl<K: Hash + Eq + Copy> IndexSet<K> {
+impl<K: Hash + Eq> IndexSet<K> {
     pub fn new(alloc: Global) -> Self {
         IndexSet(IndexMap::new(alloc))
     }
@@ -317,10 +317,12 @@ impl<K: Hash + Eq + Copy> IndexSet<K> {
         Ok(self.0.insert(key, ())?.is_none())
     }
     pub fn insert_full(&mut self, key: K) -> Result<(usize, bool), AllocError> {
-        let is_new = self.insert(key)?;
         match self.0.number_of(&key) {
-            Some(number) => Ok((number, is_new)),
-            None => Err(AllocError),
+            Some(number) => Ok((number, false)),
+            None => {
+                self.insert(key)?;
+                Ok((self.0.len() - 1, true))
+            }
         }
     }
 }

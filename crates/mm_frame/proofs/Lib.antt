@@ -5,6 +5,7 @@ pub mod Actives
 pub mod Depth
 pub mod Stays
 pub mod Meant
+pub mod NameKeys
 pub mod NameLists
 pub mod ScopeCode
 pub mod LookupLaws

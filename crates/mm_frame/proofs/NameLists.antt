@@ -1,6 +1,6 @@
 -- Names in lists of keys, by their bytes.
-use Rattle.std.proofs.Common.{◌≡◌, ℕ, zero, suc, ◌+◌, ◌<◌, ◌≤◌, ◌⊎◌, inl, inr, not, ◌||◌, Bool, true, false, cond, List, [], ◌∷◌, ◌++◌, map, length, Option, Some, None, Contains, refl, sym, ap, ◌∙◌, subst, arith}
-use Rattle.std.specs.List.{slice_get, position, position_or_len, list_any}
+use Rattle.std.proofs.Common.{◌≡◌, ℕ, zero, suc, ◌+◌, ◌<◌, ◌≤◌, ◌⊎◌, inl, inr, not, Bool, true, false, cond, List, [], ◌∷◌, ◌++◌, map, length, Option, Some, None, Contains, refl, sym, ap, ◌∙◌, subst, arith}
+use Rattle.std.specs.List.{slice_get, position, position_or_len}
 use Rattle.std.specs.Option.{MatchOption}
 use Rattle.std.proofs.Common.{Result, Ok, Err, IsOk}
 use Rattle.std.specs.Result.{IfOk}
@@ -8,66 +8,55 @@ use Rattle.std.specs.Str.{bytes_eq}
 use Rattle.std.proofs.lemmas.Slice.Eq.{bytes_eq-Decides}
 use Rattle.std.proofs.lemmas.Option.{slice_get_read}
 use Rattle.std.proofs.lemmas.Bool.{cases_lt, false≢true, le-ltb, lt-ltb}
-use Rattle.mm_frame.specs.Numbers.{with_name}
-
-pub list_any_map : {X Y : Type 0} (f : X → Y) (p : Y → Bool) (xs : List X) → list_any p (map f xs) ≡ list_any (λ x. p (f x)) xs
-list_any_map f p [] = refl
-list_any_map f p (x ∷ xs) = ap (λ b. p (f x) || b) (list_any_map f p xs)
 
 pub map_snoc : {X Y : Type 0} (f : X → Y) (xs : List X) (x : X) → map f (xs ++ x ∷ []) ≡ map f xs ++ f x ∷ []
 map_snoc f [] x = refl
 map_snoc f (y ∷ xs) x = ap (λ ys. f y ∷ ys) (map_snoc f xs x)
 
 -- how far the first key with a name stands
-abbrev name_len : {X : Type 0} (f : X → List ℕ) (name : List ℕ) (xs : List X) → ℕ
-name_len f name xs = position_or_len (λ x. bytes_eq name (f x)) xs
+abbrev name_len : List ℕ → List (List ℕ) → ℕ
+name_len name names = position_or_len (bytes_eq name) names
 
-found_step : {X : Type 0} (f : X → List ℕ) (name : List ℕ) (x : X) (xs : List X) (b : Bool) → bytes_eq name (f x) ≡ b
-    → (name_len f name xs < length xs → slice_get (map f xs) (name_len f name xs) ≡ Some name)
-    → cond (not b) (1 + name_len f name xs) 0 < suc (length xs) → slice_get (f x ∷ map f xs) (cond (not b) (1 + name_len f name xs) 0) ≡ Some name
-found_step f name x xs true e rest h = ap Some (sym ((bytes_eq-Decides name (f x)).0 e))
-found_step f name x xs false e rest h =
-    let next : suc (name_len f name xs) ≡ 1 + name_len f name xs = omega arith in
-    subst (λ (k : ℕ). slice_get (f x ∷ map f xs) k ≡ Some name) next (rest (omega arith))
+found_step : (name x : List ℕ) (xs : List (List ℕ)) (b : Bool) → bytes_eq name x ≡ b
+    → (name_len name xs < length xs → slice_get xs (name_len name xs) ≡ Some name)
+    → cond (not b) (1 + name_len name xs) 0 < suc (length xs) → slice_get (x ∷ xs) (cond (not b) (1 + name_len name xs) 0) ≡ Some name
+found_step name x xs true e rest h = ap Some (sym ((bytes_eq-Decides name x).0 e))
+found_step name x xs false e rest h =
+    let next : suc (name_len name xs) ≡ 1 + name_len name xs = omega arith in
+    subst (λ (k : ℕ). slice_get (x ∷ xs) k ≡ Some name) next (rest (omega arith))
 
-found_name : {X : Type 0} (f : X → List ℕ) (name : List ℕ) (xs : List X) → name_len f name xs < length xs → slice_get (map f xs) (name_len f name xs) ≡ Some name
-found_name f name [] lt = absurd (omega arith)
-found_name f name (x ∷ xs) lt = found_step f name x xs (bytes_eq name (f x)) refl (found_name f name xs) lt
+found_name : (name : List ℕ) (xs : List (List ℕ)) → name_len name xs < length xs → slice_get xs (name_len name xs) ≡ Some name
+found_name name [] lt = absurd (omega arith)
+found_name name (x ∷ xs) lt = found_step name x xs (bytes_eq name x) refl (found_name name xs) lt
 
-some_step : {X : Type 0} (f : X → List ℕ) (name : List ℕ) (x : X) (xs : List X) (b : Bool) → bytes_eq name (f x) ≡ b
-    → ((i : ℕ) → slice_get (map f xs) i ≡ Some name → name_len f name xs < length xs)
-    → (i : ℕ) → slice_get (f x ∷ map f xs) i ≡ Some name → cond (not b) (1 + name_len f name xs) 0 < suc (length xs)
-some_step f name x xs true e rest i h = omega arith
-some_step f name x xs false e rest zero h = let same : name ≡ f x = cc in absurd (false≢true (sym e ∙ (bytes_eq-Decides name (f x)).1 same))
-some_step f name x xs false e rest (suc i) h = let more = rest i h in omega arith
+some_step : (name x : List ℕ) (xs : List (List ℕ)) (b : Bool) → bytes_eq name x ≡ b
+    → ((i : ℕ) → slice_get xs i ≡ Some name → name_len name xs < length xs)
+    → (i : ℕ) → slice_get (x ∷ xs) i ≡ Some name → cond (not b) (1 + name_len name xs) 0 < suc (length xs)
+some_step name x xs true e rest i h = omega arith
+some_step name x xs false e rest zero h = let same : name ≡ x = cc in absurd (false≢true (sym e ∙ (bytes_eq-Decides name x).1 same))
+some_step name x xs false e rest (suc i) h = let more = rest i h in omega arith
 
-some_name : {X : Type 0} (f : X → List ℕ) (name : List ℕ) (xs : List X) (i : ℕ) → slice_get (map f xs) i ≡ Some name → name_len f name xs < length xs
-some_name f name [] i there = absurd (cc)
-some_name f name (x ∷ xs) i there = some_step f name x xs (bytes_eq name (f x)) refl (some_name f name xs) i there
+some_name : (name : List ℕ) (xs : List (List ℕ)) (i : ℕ) → slice_get xs i ≡ Some name → name_len name xs < length xs
+some_name name [] i there = absurd (cc)
+some_name name (x ∷ xs) i there = some_step name x xs (bytes_eq name x) refl (some_name name xs) i there
 
 -- what a name's place among keys says of the names
-pub place_of_name : {X : Type 0} (f : X → List ℕ) (name : List ℕ) (xs : List X) (o : Option ℕ) → position (λ x. bytes_eq name (f x)) xs ≡ o
-    → MatchOption o (¬ (Contains (map f xs) name)) (λ n. slice_get (map f xs) n ≡ Some name)
-place_of_name {X} f name xs o is = by (cases_lt (name_len f name xs) (length xs)) o is
+pub place_of_name : (name : List ℕ) (xs : List (List ℕ)) (o : Option ℕ) → position (bytes_eq name) xs ≡ o
+    → MatchOption o (¬ (Contains xs name)) (λ n. slice_get xs n ≡ Some name)
+place_of_name name xs o is = by (cases_lt (name_len name xs) (length xs)) o is
   where
-    at : (o : Option ℕ) → Some (name_len f name xs) ≡ o → slice_get (map f xs) (name_len f name xs) ≡ Some name → MatchOption o (¬ (Contains (map f xs) name)) (λ n. slice_get (map f xs) n ≡ Some name)
+    at : (o : Option ℕ) → Some (name_len name xs) ≡ o → slice_get xs (name_len name xs) ≡ Some name → MatchOption o (¬ (Contains xs name)) (λ n. slice_get xs n ≡ Some name)
     at None e h = absurd (cc)
-    at (Some n) e h = let same : name_len f name xs ≡ n = cc in subst (λ (k : ℕ). slice_get (map f xs) k ≡ Some name) same h
+    at (Some n) e h = let same : name_len name xs ≡ n = cc in subst (λ (k : ℕ). slice_get xs k ≡ Some name) same h
 
-    none : (o : Option ℕ) → None ≡ o → ¬ (name_len f name xs < length xs) → MatchOption o (¬ (Contains (map f xs) name)) (λ n. slice_get (map f xs) n ≡ Some name)
-    none None e h = λ c. h (some_name f name xs c.0 (slice_get_read (map f xs) (length (map f xs)) c.0 name refl c.1 (sym c.2)))
+    none : (o : Option ℕ) → None ≡ o → ¬ (name_len name xs < length xs) → MatchOption o (¬ (Contains xs name)) (λ n. slice_get xs n ≡ Some name)
+    none None e h = λ c. h (some_name name xs c.0 (slice_get_read xs (length xs) c.0 name refl c.1 (sym c.2)))
     none (Some n) e h = absurd (cc)
 
-    by : (name_len f name xs < length xs) ⊎ (length xs ≤ name_len f name xs) → (o : Option ℕ) → position (λ x. bytes_eq name (f x)) xs ≡ o
-        → MatchOption o (¬ (Contains (map f xs) name)) (λ n. slice_get (map f xs) n ≡ Some name)
-    by (inl lt) o is = at o (rw (lt-ltb _ _ lt) at is) (found_name f name xs lt)
+    by : (name_len name xs < length xs) ⊎ (length xs ≤ name_len name xs) → (o : Option ℕ) → position (bytes_eq name) xs ≡ o
+        → MatchOption o (¬ (Contains xs name)) (λ n. slice_get xs n ≡ Some name)
+    by (inl lt) o is = at o (rw (lt-ltb _ _ lt) at is) (found_name name xs lt)
     by (inr ge) o is = none o (rw (le-ltb _ _ ge) at is) (λ lt. absurd (omega arith))
-
--- the names once a key was added
-pub added_name : {X : Type 0} (f : X → List ℕ) (xs : List X) (x : X) → map f (cond (list_any (λ y. bytes_eq (f x) (f y)) xs) xs (xs ++ x ∷ [])) ≡ with_name (map f xs) (f x)
-added_name f xs x =
-    rw (list_any_map f (bytes_eq (f x)) xs)
-    (elim (list_any (λ y. bytes_eq (f x) (f y)) xs) as (λ b. map f (cond b xs (xs ++ x ∷ [])) ≡ cond b (map f xs) (map f xs ++ f x ∷ [])) [ true ↦ refl | false ↦ map_snoc f xs x ])
 
 -- what holds of the value of a success
 pub holds_if_ok : {T E : Type 0} (r : Result T E) (P : Type 0) → IsOk r → IfOk r (λ _. P) → P

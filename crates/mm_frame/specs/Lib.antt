@@ -12,6 +12,7 @@ pub mod Taken
 pub mod FramePlace
 pub mod Scopes
 pub mod Latest
+pub mod NameKey
 pub mod NameTable
 pub mod Stated
 pub mod ScopesOf

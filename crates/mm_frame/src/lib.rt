@@ -12,6 +12,7 @@ mod hypothesis;
 mod laws;
 mod lists;
 mod lookups;
+mod name;
 mod names;
 mod naming;
 mod number;

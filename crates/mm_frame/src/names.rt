@@ -5,50 +5,10 @@ ghost use Rattle.std.specs.Prelude.{option_map, MatchOption, Contains, OnOk};
 ghost use Rattle.mm_frame.specs.NameTable.{AreByByte};
 ghost use Rattle.mm_frame.specs.Numbers.{with_name};
 
+use crate::name::Name;
 use indexmap::IndexSet;
 use std::alloc::{AllocError, Global};
-use std::hash::{Hash, Hasher};
 use std::marker::Model;
-
-/// A name as a key. It is hashed by one write of its bytes, which is faster than a slice's own
-/// hash.
-#[derive(Clone, Copy)]
-pub struct Name<'a>(pub &'a [u8]);
-
-impl PartialEq for Name<'_> {
-    ghost use Rattle.std.specs.Str.{bytes_eq};
-    ghost use Rattle.std.specs.Cmp.Rules.{comparing};
-    ghost use Rattle.std.proofs.Common.{rules};
-
-    ghost eq = { λ a b. bytes_eq a.0.now b.0.now };
-
-    ghost laws = { Prim.search (comparing, rules) };
-
-    fn eq(&self, other: &Self) -> bool {
-        self.0 == other.0
-    }
-}
-
-impl Eq for Name<'_> {
-    ghost use Rattle.std.specs.Cmp.Rules.{comparing};
-    ghost use Rattle.std.proofs.Common.{rules};
-
-    ghost laws = { Prim.search (comparing, rules) };
-}
-
-impl Hash for Name<'_> {
-    ghost use Rattle.std.specs.Prelude.{[], ◌∷◌};
-    ghost use Rattle.std.specs.Cmp.Rules.{hashing};
-    ghost use Rattle.std.proofs.Common.{rules};
-
-    ghost hash_input = { λ a. a.0.now ∷ [] };
-
-    ghost respects_eq = { Prim.search (hashing, rules) };
-
-    fn hash<H: Hasher>(&self, state: &mut H) {
-        state.write(self.0);
-    }
-}
 
 /// Names, each once: a name's number is its place.
 #[derive(Drop)]
@@ -60,16 +20,16 @@ pub struct Names<'a> {
 }
 
 impl<'a> Model for Names<'a> {
-    ghost use Rattle.std.specs.Prelude.{ℕ, ◌<◌, length, map};
+    ghost use Rattle.std.specs.Prelude.{ℕ, ◌<◌, length};
     ghost use Rattle.indexmap.specs.IndexSet.{spare};
     ghost use Rattle.mm_frame.specs.NameTable.{NameTable, AreByByte};
 
     ghost Value = { NameTable };
 
-    ghost view = { λ n. record { names = map (λ k. k.0.now) n.table.keys; room = spare n.table } };
+    ghost view = { λ n. record { names = n.table.keys; room = spare n.table } };
 
     ghost invariant = { λ n. (length n.table.keys < 4294967296)
-        × AreByByte (map (λ k. k.0.now) n.table.keys) n.by_byte };
+        × AreByByte n.table.keys n.by_byte };
 }
 
 // The table where no name is one byte long.
@@ -120,7 +80,7 @@ impl<'a> Names<'a> {
             (¬ (Contains self.now.names name.now))
             (λ number. slice_get self.now.names number ≡ Some name.now) }
     {
-        match self.table.get_index_of(&Name(name)) {
+        match self.table.get_index_of(&Name::new(name)) {
             Some(number) => Some(number as u32),
             None => None,
         }
@@ -145,7 +105,7 @@ impl<'a> Names<'a> {
         ensures { option_map (λ name. name.now) result ≡ slice_get self.now.names number }
     {
         match self.table.get_index(number as usize) {
-            Some(name) => Some(name.0),
+            Some(name) => Some(name.bytes()),
             None => None,
         }
     }
@@ -166,6 +126,6 @@ impl<'a> Names<'a> {
         ensures room { self.old.room ≤ self.new.room + 1 }
     {
         note_byte(&mut self.by_byte, name, self.table.len() as u32);
-        let _ = self.table.insert(Name(name));
+        let _ = self.table.insert(Name::new(name));
     }
 }

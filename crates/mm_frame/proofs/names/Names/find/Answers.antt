@@ -1,4 +1,4 @@
-use Rattle.std.proofs.Common.{map, arith}
+use Rattle.std.proofs.Common.{arith}
 use Rattle.mm_frame.proofs.ByByte.{found_by_byte}
 use Rattle.mm_frame.proofs.names.Names.find.Goals as goal
 
@@ -7,5 +7,5 @@ returns-in-len1 c =
     let a = c.in-len1.len_at_least in
     let b = c.in-len1.len_below in
     rw (← c.self.view_is)
-    (found_by_byte (map (λ k. k.0.now) c.self.inside.table.keys) c.self.inside.by_byte c.args.name.now (omega arith)
+    (found_by_byte c.self.inside.table.keys c.self.inside.by_byte c.args.name.now (omega arith)
     (let byte = c.type_inv.name 0 in omega arith) c.self.invariant.1)

@@ -1,0 +1,19 @@
+use Rattle.std.proofs.Common.{◌≡◌, ◌<◌, ◌≤◌, length, refl, ap, arith}
+use Rattle.std.proofs.lemmas.Bool.{lt-ltb, le-ltb}
+use Rattle.mm_frame.specs.NameKey.{ends_of, hashed}
+use Rattle.mm_frame.proofs.name.NameHash.hash.Goals as goal
+
+pub returns-then-self-gt-MOST_IN_ENDS : goal.returns-then-self-gt-MOST_IN_ENDS
+unfolding hashed
+returns-then-self-gt-MOST_IN_ENDS g c =
+    let long : 16 < length c.self.inside.bytes.now = let f = c.if-self-gt-MOST_IN_ENDS.true in omega arith in
+    rw (← c.self.view_is, lt-ltb 16 (length c.self.inside.bytes.now) long) c.write.ensures
+
+pub returns-else-self-gt-MOST_IN_ENDS : goal.returns-else-self-gt-MOST_IN_ENDS
+unfolding hashed
+returns-else-self-gt-MOST_IN_ENDS g c =
+    let f = c.if-self-gt-MOST_IN_ENDS.false in
+    let front : c.self.inside.front ≡ (ends_of c.self.inside.bytes.now).0 = ap (λ p. p.0) c.self.invariant.ends in
+    let back : c.self.inside.back ≡ (ends_of c.self.inside.bytes.now).1 = ap (λ p. p.1) c.self.invariant.ends in
+    let short : length c.self.inside.bytes.now ≤ 16 = omega arith in
+    rw (← c.self.view_is, le-ltb 16 (length c.self.inside.bytes.now) short, ← front, ← back, c.write_u64-else-self-gt-MOST_IN_ENDS.ensures, c.write_u64.ensures) refl

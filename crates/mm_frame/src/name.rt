@@ -1,0 +1,159 @@
+//! A name as a key, which two numbers tell from others where it is short.
+
+ghost use Rattle.std.specs.Prelude.{◌≡◌, ℕ, ◌+◌, ◌≤◌, length};
+ghost use Rattle.std.specs.Int.{w16, w32, w64};
+ghost use Rattle.mm_frame.specs.NameKey.{number_at, ends_of};
+
+use std::hash::{Hash, Hasher};
+use std::marker::Model;
+
+// A name of so many bytes and more has ends,
+const FEWEST_WITH_ENDS: usize = 2;
+
+// and one of so many bytes at most has no others.
+const MOST_IN_ENDS: usize = 16;
+
+// Two bytes from a place on, as a number.
+fn two_at(bytes: &[u8], at: usize) -> u16
+    requires { at + 2 ≤ length bytes.now }
+    ensures { result ≡ number_at w16 2 bytes.now at }
+{
+    u16::from_le_bytes([bytes[at], bytes[at + 1]])
+}
+
+// Four bytes from a place on, as a number.
+fn four_at(bytes: &[u8], at: usize) -> u32
+    requires { at + 4 ≤ length bytes.now }
+    ensures { result ≡ number_at w32 4 bytes.now at }
+{
+    u32::from_le_bytes([bytes[at], bytes[at + 1], bytes[at + 2], bytes[at + 3]])
+}
+
+// Eight bytes from a place on, as a number.
+fn eight_at(bytes: &[u8], at: usize) -> u64
+    requires { at + 8 ≤ length bytes.now }
+    ensures { result ≡ number_at w64 8 bytes.now at }
+{
+    u64::from_le_bytes([
+        bytes[at],
+        bytes[at + 1],
+        bytes[at + 2],
+        bytes[at + 3],
+        bytes[at + 4],
+        bytes[at + 5],
+        bytes[at + 6],
+        bytes[at + 7],
+    ])
+}
+
+// The first bytes of a name and its last, as numbers.
+fn ends(bytes: &[u8]) -> (u64, u64)
+    ensures { result ≡ ends_of bytes.now }
+{
+    let count = bytes.len();
+    if count >= 8 {
+        return (eight_at(bytes, 0), eight_at(bytes, count - 8));
+    }
+    if count >= 4 {
+        let front = four_at(bytes, 0);
+        let back = four_at(bytes, count - 4);
+        return (u64::from(front), u64::from(back));
+    }
+    if count >= FEWEST_WITH_ENDS {
+        let front = two_at(bytes, 0);
+        let back = two_at(bytes, count - 2);
+        return (u64::from(front), u64::from(back));
+    }
+    (0, 0)
+}
+
+/// A name as a key.
+///
+/// Its ends stand beside it as numbers: its first bytes and its last, 8 of each, or 4, or 2, as many
+/// as it has. A name of 2 to 16 bytes is told by them and its length, without a look at where it
+/// stands in a file, which is mostly not in the cache.
+#[derive(Drop)]
+pub struct Name<'a> {
+    bytes: &'a [u8],
+    front: u64,
+    back: u64,
+}
+
+impl<'a> Model for Name<'a> {
+    ghost use Rattle.std.specs.Prelude.{ℕ, List};
+    ghost use Rattle.mm_frame.specs.NameKey.{IsKey};
+
+    ghost Value = { List ℕ };
+
+    ghost view = { λ n. n.bytes.now };
+
+    ghost invariant = { λ n. IsKey n.bytes.now n.front n.back };
+}
+
+impl<'a> Name<'a> {
+    /// The key of a name.
+    pub(crate) fn new(bytes: &'a [u8]) -> Name<'a>
+        ensures { result ≡ bytes.now }
+    {
+        let (front, back) = ends(bytes);
+        Name { bytes, front, back }
+    }
+
+    /// The name.
+    pub(crate) fn bytes(&self) -> &'a [u8]
+        ensures { result.now ≡ self.now }
+    {
+        self.bytes
+    }
+}
+
+impl PartialEq for Name<'_> {
+    ghost use Rattle.std.specs.Str.{bytes_eq};
+    ghost use Rattle.std.specs.Cmp.Rules.{comparing};
+    ghost use Rattle.std.proofs.Common.{rules};
+
+    ghost eq = { λ a b. bytes_eq a b };
+
+    ghost laws = { Prim.search (comparing, rules) };
+
+    fn eq(&self, other: &Self) -> bool {
+        if self.front != other.front || self.back != other.back {
+            return false;
+        }
+        let count = self.bytes.len();
+        if count != other.bytes.len() {
+            return false;
+        }
+        if count >= FEWEST_WITH_ENDS && count <= MOST_IN_ENDS {
+            return true;
+        }
+        self.bytes == other.bytes
+    }
+}
+
+impl Eq for Name<'_> {
+    ghost use Rattle.std.specs.Cmp.Rules.{comparing};
+    ghost use Rattle.std.proofs.Common.{rules};
+
+    ghost laws = { Prim.search (comparing, rules) };
+}
+
+impl Hash for Name<'_> {
+    ghost use Rattle.std.specs.Cmp.Rules.{hashing};
+    ghost use Rattle.std.proofs.Common.{rules};
+    ghost use Rattle.mm_frame.specs.NameKey.{hashed};
+
+    ghost hash_input = { hashed };
+
+    ghost respects_eq = { Prim.search (hashing, rules) };
+
+    // The ends of a longer name aren't all of it, and many may have the same.
+    fn hash<H: Hasher>(&self, state: &mut H) {
+        if self.bytes.len() > MOST_IN_ENDS {
+            state.write(self.bytes);
+        } else {
+            state.write_u64(self.front);
+            state.write_u64(self.back);
+        }
+    }
+}
