@@ -12,7 +12,7 @@ use Rattle.mm_frame.proofs.Pushed.{get_pushed, pushed_cases}
 use Rattle.mm_frame.proofs.Numbered.{at_from_contains, contains_from_at, with_name_cases, kept_with_name}
 
 -- what is told of a text: its number among the names, or that it is none of them
-abbrev IsTold : List (List ℕ) → List ℕ → Option ℕ → Type 0
+abbrev pub IsTold : List (List ℕ) → List ℕ → Option ℕ → Type 0
 IsTold names text number = MatchOption number (¬ (Contains names text)) (λ n. slice_get names n ≡ Some text)
 
 abbrev no_number : Option ℕ
@@ -35,7 +35,7 @@ by_byte_of_none = record {
     long = length-replicate 256 no_number
 
 -- what is told of a text stays so when a name is added, unless it is this text and new
-still_told : (names : List (List ℕ)) (name text : List ℕ) (number : Option ℕ) → (number ≡ None → ¬ (name ≡ text)) → IsTold names text number → IsTold (with_name names name) text number
+pub still_told : (names : List (List ℕ)) (name text : List ℕ) (number : Option ℕ) → (number ≡ None → ¬ (name ≡ text)) → IsTold names text number → IsTold (with_name names name) text number
 still_told names name text (Some n) other there = kept_with_name names name n text there
 still_told names name text None other none = λ c. elim (with_name_cases names name) [
   | inl (found, same) ↦ none (subst (λ (ns : List (List ℕ)). Contains ns text) same c)
@@ -48,7 +48,7 @@ still_told names name text None other none = λ c. elim (with_name_cases names n
 ]
 
 -- a new name gets the number after those before it
-newly_told : (names : List (List ℕ)) (name : List ℕ) → ¬ (Contains names name) → slice_get (with_name names name) (length names) ≡ Some name
+pub newly_told : (names : List (List ℕ)) (name : List ℕ) → ¬ (Contains names name) → slice_get (with_name names name) (length names) ≡ Some name
 newly_told names name new = elim (with_name_cases names name) [
   | inl (found, same) ↦ absurd (new (contains_from_at names name found))
   | inr (absent, longer) ↦ subst (λ (ns : List (List ℕ)). slice_get ns (length names) ≡ Some name) (sym longer) (get_pushed names name)

@@ -29,6 +29,9 @@ const NAME_BYTES: usize = 384;
 
 const MOST_NAMES: usize = 65_536;
 
+// The table of names of two bytes is written too, so that it is made where there are so many bytes.
+const PAIRS_FROM: usize = 1_048_576;
+
 impl Scopes {
     // Makes room for the blocks of so many statements.
     fn prepare(&mut self, statements: usize)
@@ -47,6 +50,10 @@ impl<'a> Tables<'a> {
         let _ = self.flat.reserve(bytes / SYMBOL_BYTES);
         let _ = self.named.reserve(bytes / LABEL_BYTES);
         let _ = self.labels.reserve(MOST_NAMES.min(bytes / NAME_BYTES));
+        if bytes >= PAIRS_FROM {
+            self.symbols.prepare_pairs();
+            self.labels.prepare_pairs();
+        }
         let _ = self.hypotheses.reserve(bytes / HYPOTHESIS_BYTES);
         let _ = self.pairs.reserve(bytes / PAIR_BYTES);
         let _ = self.pieces.reserve(bytes / PIECE_BYTES);
