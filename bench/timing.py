@@ -6,6 +6,7 @@ import pathlib
 import resource
 import shutil
 import signal
+import statistics
 import subprocess
 import sys
 import tempfile
@@ -69,19 +70,41 @@ def peak(words):
         return int(told.read().strip() or 0) * 1024
 
 
-def fastest(commands, runs):
-    """The fastest run of each command. They take turns, so that other work hits them alike."""
+class Measured(NamedTuple):
+    """The fastest run of a command, and the seconds of all its runs, in the order of the turns."""
+    best: Run
+    seconds: list
+
+    def times_as_long(self, other):
+        """How many times as long as the other's a run of this command took: the median of turns.
+
+        The two runs of a turn are seconds apart, so that both mostly meet the machine in one state,
+        which the fastest run of each need not do.
+        """
+        return statistics.median(mine / its for mine, its in zip(self.seconds, other.seconds))
+
+
+def measured(commands, runs):
+    """What runs of the commands took. They take turns, so that other work hits them alike."""
     best = [None] * len(commands)
+    seconds = [[] for _ in commands]
     for _ in range(runs):
         for place, words in enumerate(commands):
             if best[place] and best[place].took_too_long():
                 continue
             latest = run(words)
+            seconds[place].append(latest.seconds)
             if not best[place] or latest.took_too_long() or latest.seconds < best[place].seconds:
                 best[place] = latest
     own = resource.getrusage(resource.RUSAGE_SELF).ru_maxrss * 1024
-    return [result if result.memory > own or result.took_too_long()
+    best = [result if result.memory > own or result.took_too_long()
             else result._replace(memory=peak(words)) for words, result in zip(commands, best)]
+    return [Measured(*pair) for pair in zip(best, seconds)]
+
+
+def fastest(commands, runs):
+    """The fastest run of each command."""
+    return [command.best for command in measured(commands, runs)]
 
 
 def install(*packages):
