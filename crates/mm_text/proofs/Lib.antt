@@ -1,6 +1,8 @@
 mod Pieces
 pub mod TokenLaws
+pub mod Lanes
 pub mod LegalLaws
+pub mod LowBytes
 pub mod CommentLaws
 pub mod DollarLaws
 pub mod NameLaws

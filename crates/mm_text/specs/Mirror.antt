@@ -8,4 +8,5 @@ pub mod Next
 pub mod Place
 pub mod Reader
 pub mod ReaderState
+pub mod Sought
 pub mod Steps

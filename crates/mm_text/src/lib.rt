@@ -16,6 +16,7 @@ mod next;
 mod parts;
 mod scan;
 mod scope;
+mod sought;
 mod statement;
 mod statements;
 mod token;

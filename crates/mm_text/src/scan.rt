@@ -7,6 +7,8 @@ ghost use Rattle.mm_text.specs.Token.{is_space, tokens_from};
 ghost use Rattle.mm_text.specs.Items.{holds_dollar};
 ghost use Rattle.mm_text.specs.Mirror.Place.{is_legal, IsLegalFront, IsLegalUpTo};
 
+use crate::sought::{Low, first_sought};
+
 /// Whether a byte is white space.
 pub fn is_space(byte: u8) -> bool
     ensures { result ≡ is_space byte }
@@ -55,8 +57,9 @@ fn ink_end(bytes: &[u8], start: usize) -> usize
 
 /// The end of the token that begins at a place, and whether it holds a `$`.
 ///
-/// White space and `$` are less than nearly all other bytes, so that one test passes over a byte of
-/// a word. Where a `$` is met another loop goes on, so that this one needn't keep whether one was.
+/// White space and `$` are less than nearly all other bytes, so that one test passes over a whole
+/// word of up to 16 bytes. Where a `$` is met another loop goes on, so that this one needn't keep
+/// whether one was.
 pub fn token_end(bytes: &[u8], start: usize) -> (usize, bool)
     requires within { start < length bytes.now }
     requires begins { is_space (slice_index bytes.now start) ≡ false }
@@ -68,19 +71,22 @@ pub fn token_end(bytes: &[u8], start: usize) -> (usize, bool)
     ensures ink { (k : ℕ) → start ≤ k → k < result.0 → is_space (slice_index bytes.now k) ≡ false }
     ensures dollar { result.1 ≡ holds_dollar (slice_range bytes.now start result.0) }
 {
-    for at in start..bytes.len() {
-        let byte = bytes[at];
-        if byte <= b'$' {
-            if is_space(byte) {
-                return (at, false);
-            }
-            if byte == b'$' {
-                let end = ink_end(bytes, at);
-                return (end, true);
-            }
+    let mut from = start;
+    'words: loop {
+        let at = first_sought::<Low>(bytes, from);
+        if at == bytes.len() {
+            return (at, false);
         }
+        let byte = bytes[at];
+        if is_space(byte) {
+            return (at, false);
+        }
+        if byte == b'$' {
+            let end = ink_end(bytes, at);
+            return (end, true);
+        }
+        from = at + 1;
     }
-    (bytes.len(), false)
 }
 
 /// The begin of the run of bytes that aren't white space and end with the one at a place, no

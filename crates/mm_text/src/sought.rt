@@ -1,0 +1,95 @@
+//! The first byte of a kind that is looked for, 16 bytes at a time.
+
+ghost use Rattle.std.specs.Prelude.{◌≡◌, ℕ, ◌+◌, ◌<◌, ◌≤◌, nat_lt, true, false, length};
+ghost use Rattle.std.specs.Prelude.{slice_index};
+ghost use Rattle.mm_text.specs.Mirror.Sought.{IsRunIn, first_set};
+
+use std::simd::prelude::*;
+
+/// So many bytes are looked at at once.
+const LANES: usize = 16;
+
+/// Bytes that are looked for: those that aren't passed over.
+pub trait Sought {
+    ghost use Rattle.std.specs.Prelude.{◌≡◌, ℕ, Bool, ◌+◌, ◌≤◌, length};
+    ghost use Rattle.mm_text.specs.Mirror.Sought.{IsRunIn};
+
+    /// Whether a byte is passed over.
+    ghost passed: { ℕ → Bool };
+
+    /// Whether a byte is passed over.
+    fn is_passed(byte: u8) -> bool
+        ensures { result ≡ passed byte };
+
+    /// How many of the 16 bytes from a place on are passed over before one that isn't.
+    fn passed_run(bytes: &[u8], at: usize) -> usize
+        requires { at + 16 ≤ length bytes.now }
+        ensures { IsRunIn passed bytes.now at 16 result };
+}
+
+/// The place of the lowest bit of a mask that is set, or 16.
+#[inline(always)]
+fn first_set(mask: u64) -> usize
+    ensures { result ≡ first_set mask 16 }
+{
+    if mask == 0 {
+        LANES
+    } else {
+        mask.trailing_zeros() as usize
+    }
+}
+
+/// White space and `$`, and the few other bytes that are less than these.
+pub struct Low;
+
+impl Sought for Low {
+    ghost passed = { nat_lt 36 };
+
+    fn is_passed(byte: u8) -> bool {
+        byte > b'$'
+    }
+
+    #[inline(always)]
+    fn passed_run(bytes: &[u8], at: usize) -> usize {
+        let low = u8x16::from_slice(&bytes[at..]).simd_le(u8x16::splat(b'$'));
+        first_set(low.to_bitmask())
+    }
+}
+
+/// Does as `first_sought`, byte by byte. It is a call, since it is rare: where a file ends.
+#[cold]
+#[inline(never)]
+fn first_slowly<S: Sought>(bytes: &[u8], start: usize) -> usize
+    requires { start ≤ length bytes.now }
+    ensures from { start ≤ result }
+    ensures within { result ≤ length bytes.now }
+    ensures passed { (k : ℕ) → start ≤ k → k < result → S.passed (slice_index bytes.now k) ≡ true }
+    ensures stops { result < length bytes.now → S.passed (slice_index bytes.now result) ≡ false }
+{
+    for at in start..bytes.len() {
+        if !S::is_passed(bytes[at]) {
+            return at;
+        }
+    }
+    bytes.len()
+}
+
+/// The place of the first byte from a place on that isn't passed over, or the file's end.
+#[inline(always)]
+pub fn first_sought<S: Sought>(bytes: &[u8], start: usize) -> usize
+    requires { start ≤ length bytes.now }
+    ensures from { start ≤ result }
+    ensures within { result ≤ length bytes.now }
+    ensures passed { (k : ℕ) → start ≤ k → k < result → S.passed (slice_index bytes.now k) ≡ true }
+    ensures stops { result < length bytes.now → S.passed (slice_index bytes.now result) ≡ false }
+{
+    let mut at = start;
+    while bytes.len() - at >= LANES {
+        let run = S::passed_run(bytes, at);
+        if run < LANES {
+            return at + run;
+        }
+        at += LANES;
+    }
+    first_slowly::<S>(bytes, at)
+}
