@@ -3,10 +3,9 @@ use Rattle.std.proofs.Common.{◌≡◌, ℕ, ⊎_elim, zero, append-nil, ◌+�
 use Rattle.std.specs.Prelude.{slice_range, codes}
 use Rattle.std.specs.List.{list_any, list_all, AllByRecursion}
 use Rattle.std.proofs.lemmas.List.{drop_more, drop-drop, take-append-drop, get_or-drop, get_or-take, length-drop, length-take-le}
-use Rattle.std.proofs.lemmas.Bool.{or_parts, or_right, both_ways, false_from_ne_true}
+use Rattle.std.proofs.lemmas.Bool.{or_parts, or_right, both_ways}
 use Rattle.std.proofs.str.Laws.{order}
 use Rattle.std.proofs.lemmas.List.Folds.{list_all_at}
-use Rattle.memchr.specs.Find.{Nowhere, Passes, is_byte}
 use Rattle.mm_text.specs.declared.fault.TextRule.TheVariants.{X1, X2, X3, X4}
 use Rattle.mm_text.specs.Token.{PlainToken, is_space, is_printable, with_byte, tokens_from}
 use Rattle.mm_text.specs.Items.{Clear, Broken, without_comments, spells, holds_mark}
@@ -187,30 +186,44 @@ passed_all begin bytes file at within quiet =
     ∙ ap (without_comments (Some begin)) (tokens_from-nil file (at + length front))
     ∙ in_comment-end begin
 
--- no `$` was found, and no byte that may not stand there
-pub quiet_before : (bytes : List ℕ) (at legal n : ℕ) → IsLegalFront bytes legal → at + n ≤ legal → Nowhere (Passes (is_byte 36) (slice_range bytes at legal)) 0 n
-    → (k : ℕ) → at ≤ k → k < at + n → is_quiet (get_or bytes k 0) ≡ true
-quiet_before bytes at legal n front within none k low high =
-    let place : at + (k - at) ≡ k = omega arith in
-    let byte : get_or (slice_range bytes at legal) (k - at) 0 ≡ get_or bytes k 0 =
-    get_or-take (legal - at) (drop at bytes) (k - at) 0 (omega arith) ∙ get_or-drop at bytes (k - at) 0 ∙ ap (λ m. get_or bytes m 0) place in
-    let other : (get_or bytes k 0 == 36) ≡ false = false_from_ne_true _ (λ e. none (k - at) (omega arith) (omega arith) (ap (λ b. b == 36) byte ∙ e)) in
-    ap (λ l. l && not (get_or bytes k 0 == 36)) (front.front k (omega arith)) ∙ ap not other
+-- what holds from one place up to another, and there
+pub below_more_from : (P : ℕ → Type 0) (low i : ℕ) → ((k : ℕ) → low ≤ k → k < i → P k) → P i → (k : ℕ) → low ≤ k → k < i + 1 → P k
+below_more_from P low i below here k from lt = ⊎_elim (λ (less : k < i). below k from less) (λ (e : i ≤ k). subst P (omega arith) here) (order k i)
 
--- the same, where no byte before was such a one
-pub quiet_further : (bytes : List ℕ) (at from legal n : ℕ) → IsLegalFront bytes legal → from + n ≤ legal → Nowhere (Passes (is_byte 36) (slice_range bytes from legal)) 0 n
-    → ((k : ℕ) → at ≤ k → k < from → is_quiet (get_or bytes k 0) ≡ true)
-    → (k : ℕ) → at ≤ k → k < from + n → is_quiet (get_or bytes k 0) ≡ true
-quiet_further bytes at from legal n front within none before k low high =
-    ⊎_elim (λ (less : k < from). before k low less) (λ (further : from ≤ k). quiet_before bytes from legal n front within none k further high) (order k from)
+-- ---- how far bytes are judged
 
--- none was found at all
-pub quiet_to_end : (bytes : List ℕ) (at from legal : ℕ) → IsLegalFront bytes legal → from ≤ legal → Nowhere (Passes (is_byte 36) (slice_range bytes from legal)) 0 (length (slice_range bytes from legal))
-    → ((k : ℕ) → at ≤ k → k < from → is_quiet (get_or bytes k 0) ≡ true)
-    → (k : ℕ) → at ≤ k → k < legal → is_quiet (get_or bytes k 0) ≡ true
-quiet_to_end bytes at from legal front within none before k low high =
-    let long : length (slice_range bytes from legal) ≡ legal - from = length-take-le (legal - from) (drop from bytes) (omega (arith, length-drop from bytes, front.within)) in
-    quiet_further bytes at from legal (legal - from) front (omega arith) (λ j first below. none j first (omega arith)) before k low (omega arith)
+pub quiet_legal : (legal dollar : Bool) → (legal && not dollar) ≡ true → legal ≡ true
+quiet_legal true dollar q = refl
+quiet_legal false dollar q = q
+
+-- up to a place further on, where the bytes between may stand in a file
+pub legal_further : (bytes : List ℕ) (legal at stop n : ℕ) → IsLegalFront bytes legal → at ≤ legal → stop ≤ length bytes
+    → ((k : ℕ) → at ≤ k → k < stop → is_legal (get_or bytes k 0) ≡ true) → n ≤ length bytes → (legal < n → n ≤ stop) → IsLegalFront bytes n
+legal_further bytes legal at stop n front from within each inside most = record {
+  within = inside;
+  front = λ k high. ⊎_elim (λ (less : k < legal). front.front k less) (λ (more : legal ≤ k). each k (omega arith) (let last = most (omega arith) in omega arith)) (order k legal);
+}
+
+-- behind bytes at which a comment neither ends nor is wrong
+pub legal_behind_quiet : (bytes : List ℕ) (legal at stop n : ℕ) → IsLegalFront bytes legal → at ≤ legal → stop ≤ length bytes
+    → ((k : ℕ) → at ≤ k → k < stop → is_quiet (get_or bytes k 0) ≡ true) → n ≤ length bytes → (legal < n → n ≤ stop) → IsLegalFront bytes n
+legal_behind_quiet bytes legal at stop n front from within quiet =
+    legal_further bytes legal at stop n front from within (λ k low high. quiet_legal _ (get_or bytes k 0 == 36) (quiet k low high))
+
+-- and behind a mark
+pub legal_behind_mark : (bytes : List ℕ) (second at place legal n : ℕ) → is_legal second ≡ true → IsMarkAt bytes second place → IsLegalFront bytes legal → at ≤ legal
+    → ((k : ℕ) → at ≤ k → k < place → is_legal (get_or bytes k 0) ≡ true) → n ≤ length bytes → (legal < n → n ≤ place + 2) → IsLegalFront bytes n
+legal_behind_mark bytes second at place legal n right mark front from each =
+    let dollar : is_legal (get_or bytes place 0) ≡ true = ap is_legal mark.dollar in
+    let other : is_legal (get_or bytes (place + 1) 0) ≡ true = ap is_legal mark.other ∙ right in
+    let two : place + 1 + 1 ≡ place + 2 = omega arith in
+    legal_further bytes legal at (place + 2) n front from (omega (arith, mark.within))
+    (subst (λ m. (k : ℕ) → at ≤ k → k < m → is_legal (get_or bytes k 0) ≡ true) two
+    (below_more_from (λ k. is_legal (get_or bytes k 0) ≡ true) at (place + 1) (below_more_from (λ k. is_legal (get_or bytes k 0) ≡ true) at place each dollar) other))
+
+-- white space is legal
+pub space_legal : (b : ℕ) → is_space b ≡ true → is_legal b ≡ true
+space_legal b space = or_right (is_printable b) (is_space b) space
 
 -- ---- the bytes of a token
 
@@ -301,10 +314,6 @@ later_place p at legal front within after small = record {
 pub same_file_on : (p q r : Place) → IsSameFile p q → IsSameFile q r → IsSameFile p r
 same_file_on p q r e f = f ∙ ap (λ (s : Place). record s { at = r.at; legal = r.legal }) e
 
--- what holds from one place up to another, and there
-pub below_more_from : (P : ℕ → Type 0) (low i : ℕ) → ((k : ℕ) → low ≤ k → k < i → P k) → P i → (k : ℕ) → low ≤ k → k < i + 1 → P k
-below_more_from P low i below here k from lt = ⊎_elim (λ (less : k < i). below k from less) (λ (e : i ≤ k). subst P (omega arith) here) (order k i)
-
 -- a byte that may not stand there isn't skipped as white space
 pub skipped_legal : (bytes : List ℕ) (legal at start stop : ℕ) → IsLegalUpTo bytes legal stop → at ≤ legal → start < stop → ((k : ℕ) → at ≤ k → k < start → is_space (get_or bytes k 0) ≡ true) → start ≤ legal
 skipped_legal bytes legal at start stop judged from within space =
@@ -315,9 +324,9 @@ skipped_legal bytes legal at start stop judged from within space =
 -- ---- marks that are told at once
 
 -- the bytes from such a mark on
-mark_bytes : (bytes : List ℕ) (second at legal : ℕ) → legal ≤ length bytes
-    → IsMarkAt bytes second at legal → drop at bytes ≡ 36 ∷ second ∷ drop (at + 2) bytes
-mark_bytes bytes second at legal within mark =
+mark_bytes : (bytes : List ℕ) (second at : ℕ) → IsMarkAt bytes second at
+    → drop at bytes ≡ 36 ∷ second ∷ drop (at + 2) bytes
+mark_bytes bytes second at mark =
     let back : at + 1 + 1 ≡ at + 2 = omega arith in
     let low : at < length bytes = omega (arith, mark.within) in
     let high : at + 1 < length bytes = omega (arith, mark.within) in
@@ -328,43 +337,42 @@ mark_bytes bytes second at legal within mark =
     ∙ ap (λ n. 36 ∷ second ∷ drop n bytes) back
 
 -- it is a token
-mark_token : (bytes : List ℕ) (file second at legal : ℕ) → legal ≤ length bytes
-    → IsMarkAt bytes second at legal → is_space second ≡ false
+mark_token : (bytes : List ℕ) (file second at : ℕ) → IsMarkAt bytes second at → is_space second ≡ false
     → tokens_from file at (drop at bytes)
     ≡ record { text = 36 ∷ second ∷ []; file = file; at = at } ∷ tokens_from file (at + 2) (drop (at + 2) bytes)
-mark_token bytes file second at legal within mark ink =
+mark_token bytes file second at mark ink =
     let rest = drop (at + 2) bytes in
     let space : BeginsWithSpace rest = space_from_place rest (λ lt.
     ap is_space (get_or-drop (at + 2) bytes 0 0 ∙ ap (λ n. get_or bytes n 0) (omega arith)) ∙ mark.right) in
-    ap (tokens_from file at) (mark_bytes bytes second at legal within mark)
+    ap (tokens_from file at) (mark_bytes bytes second at mark)
     ∙ tokens_from-run file at 36 (second ∷ []) rest (refl, (ink, tt)) space
     ∙ ap (λ n. record { text = 36 ∷ second ∷ []; file = file; at = at } ∷ tokens_from file n rest) (omega arith)
 
 -- a `$)` closes the comment that it is met in
-pub closed_at : (begin : PlainToken) (p : Place) (at legal : ℕ) → IsLegalFront p.bytes.now legal
+pub closed_at : (begin : PlainToken) (p : Place) (at legal : ℕ)
     → p.at ≤ at → ((k : ℕ) → p.at ≤ k → k < at → is_quiet (get_or p.bytes.now k 0) ≡ true)
-    → IsClosedAt p.bytes.now at legal
+    → IsClosedAt p.bytes.now at
     → comment_at begin p ≡ shown_at (record p { at = at + 2; legal = legal })
-closed_at begin p at legal front from quiet closed =
+closed_at begin p at legal from quiet closed =
     let bytes = p.bytes.now in
     let t : PlainToken = record { text = 36 ∷ 41 ∷ []; file = p.file; at = at } in
-    passed_to begin bytes p.file p.at at from (omega (arith, front.within, closed.mark.within)) quiet (inr closed.left)
-    ∙ ap (without_comments (Some begin)) (mark_token bytes p.file 41 at legal front.within closed.mark refl)
+    passed_to begin bytes p.file p.at at from (omega (arith, closed.mark.within)) quiet (inr closed.left)
+    ∙ ap (without_comments (Some begin)) (mark_token bytes p.file 41 at closed.mark refl)
     ∙ in_comment-close begin t _ refl refl
 
 -- a `$(` begins one outside comments
-pub begins_at : (p : Place) (start legal : ℕ) (t : PlainToken) → IsLegalFront p.bytes.now legal
+pub begins_at : (p : Place) (start legal : ℕ) (t : PlainToken)
     → ((file : ℕ) → tokens_from file p.at (drop p.at p.bytes.now) ≡ tokens_from file start (drop start p.bytes.now))
-    → IsMarkAt p.bytes.now 40 start legal
+    → IsMarkAt p.bytes.now 40 start
     → t ≡ record { text = slice_range p.bytes.now start (start + 2); file = p.file; at = start }
-    → shown_at p ≡ comment_at t (record p { at = start + 2 })
-begins_at p start legal t front skipped mark same =
+    → shown_at p ≡ comment_at t (record p { at = start + 2; legal = legal })
+begins_at p start legal t skipped mark same =
     let bytes = p.bytes.now in
     let begin : PlainToken = record { text = 36 ∷ 40 ∷ []; file = p.file; at = start } in
     let two : start + 2 - start ≡ 2 = omega arith in
     let text : slice_range bytes start (start + 2) ≡ 36 ∷ 40 ∷ [] =
-    ap (λ n. take n (drop start bytes)) two ∙ ap (take 2) (mark_bytes bytes 40 start legal front.within mark) in
+    ap (λ n. take n (drop start bytes)) two ∙ ap (take 2) (mark_bytes bytes 40 start mark) in
     let token : begin ≡ t = ap (λ (l : List ℕ). record { text = l; file = p.file; at = start }) (sym text) ∙ sym same in
-    ap (without_comments None) (skipped p.file ∙ mark_token bytes p.file 40 start legal front.within mark refl)
+    ap (without_comments None) (skipped p.file ∙ mark_token bytes p.file 40 start mark refl)
     ∙ outside-begin begin _ refl refl
-    ∙ ap (λ (u : PlainToken). comment_at u (record p { at = start + 2 })) token
+    ∙ ap (λ (u : PlainToken). comment_at u (record p { at = start + 2; legal = legal })) token

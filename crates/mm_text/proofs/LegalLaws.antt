@@ -25,7 +25,7 @@ all_from_places p [] h = refl
 all_from_places p (x ∷ xs) h = ap (λ b. b && list_all p xs) (h 0 (omega arith)) ∙ all_from_places p xs (λ k lt. h (suc k) (omega arith))
 
 -- a printable byte or a space
-shown_legal : (b : ℕ) → 32 ≤ b → b ≤ 126 → is_legal b ≡ true
+pub shown_legal : (b : ℕ) → 32 ≤ b → b ≤ 126 → is_legal b ≡ true
 shown_legal b low high = ⊎_elim
     (λ (more : 32 < b). ap (λ t. (t && nat_le b 126) || is_space b) (le-leb 33 b more) ∙ ap (λ t. t || is_space b) (le-leb b 126 high))
     (λ (least : b ≤ 32). let space : b ≡ 32 = omega arith in ap is_legal space)

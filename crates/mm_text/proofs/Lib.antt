@@ -3,6 +3,7 @@ pub mod TokenLaws
 pub mod Lanes
 pub mod LegalLaws
 pub mod LowBytes
+pub mod OddBytes
 pub mod CommentLaws
 pub mod DollarLaws
 pub mod NameLaws

@@ -11,8 +11,8 @@ ghost use Rattle.mm_text.specs.Mirror.Place.{TakesWordAt, TakesShown, shown_at};
 
 use crate::fault::TextRule;
 use crate::scan::{is_space, legal_end, skip_space, token_end, token_start};
+use crate::sought::{Odd, first_sought};
 use crate::token::Token;
-use memchr::memchr;
 
 /// The place up to which a file was read.
 #[derive(Clone, Copy)]
@@ -135,52 +135,33 @@ fn make_token<'a>(bytes: &'a [u8], file: usize, start: usize, end: usize) -> Tok
     }
 }
 
-/// Where a comment may end or be wrong, and up to where the bytes may stand in a file.
-#[derive(Clone, Copy)]
-struct Stop {
-    at: usize,
-    legal: usize,
-}
-
 /// The next place at which a comment may end or be wrong: that of a `$`, or of a byte that no token
-/// may hold; the file's end where there is none.
-fn comment_stop(bytes: &[u8], at: usize, mut legal: usize) -> Stop
-    requires front { IsLegalFront bytes.now legal }
-    requires within { at ≤ legal }
-    ensures front { IsLegalFront bytes.now result.legal }
-    ensures from { at ≤ result.at }
-    ensures within { result.at ≤ result.legal }
-    ensures quiet { (k : ℕ) → at ≤ k → k < result.at → is_quiet (slice_index bytes.now k) ≡ true }
-    ensures stops { result.at < length bytes.now
-        → is_space (slice_index bytes.now result.at) ≡ false }
+/// may hold; the file's end where there is none. So the bytes before it are judged as well.
+fn comment_stop(bytes: &[u8], at: usize) -> usize
+    requires { at ≤ length bytes.now }
+    ensures from { at ≤ result }
+    ensures within { result ≤ length bytes.now }
+    ensures quiet { (k : ℕ) → at ≤ k → k < result → is_quiet (slice_index bytes.now k) ≡ true }
+    ensures stops { result < length bytes.now → is_space (slice_index bytes.now result) ≡ false }
 {
     let mut from = at;
-    'pieces: loop {
-        if let Some(ahead) = memchr(b'$', &bytes[from..legal]) {
-            return Stop {
-                at: from + ahead,
-                legal,
-            };
+    'lines: loop {
+        let stop = first_sought::<Odd>(bytes, from);
+        if stop == bytes.len() || !is_space(bytes[stop]) {
+            return stop;
         }
-        if legal == bytes.len() {
-            return Stop { at: legal, legal };
-        }
-        from = legal;
-        legal = legal_end(bytes, from, from + 1);
-        if legal == from {
-            return Stop { at: from, legal };
-        }
+        from = stop + 1;
     }
 }
 
-/// Whether a `$` and another byte stand at a place and white space after them, and all three are
-/// judged. A token that begins there is then those two bytes.
+/// Whether a `$` and another byte stand at a place and white space after them. A token that begins
+/// there is then those two bytes.
 #[inline(always)]
-fn is_mark_at(bytes: &[u8], second: u8, at: usize, legal: usize) -> bool
-    requires { IsLegalFront bytes.now legal }
-    ensures { result ≡ true → IsMarkAt bytes.now second at legal }
+fn is_mark_at(bytes: &[u8], second: u8, at: usize) -> bool
+    requires { at ≤ length bytes.now }
+    ensures { result ≡ true → IsMarkAt bytes.now second at }
 {
-    if at >= legal || legal - at <= 2 {
+    if bytes.len() - at <= 2 {
         return false;
     }
     bytes[at] == b'$' && bytes[at + 1] == second && is_space(bytes[at + 2])
@@ -189,14 +170,14 @@ fn is_mark_at(bytes: &[u8], second: u8, at: usize, legal: usize) -> bool
 /// Whether such a `$)` stands at a stop of a comment, after white space: nearly every comment ends
 /// so, and this tells it before the token is looked for in both directions.
 #[inline(always)]
-fn is_closed_at(bytes: &[u8], low: usize, stop: Stop) -> bool
-    requires { IsLegalFront bytes.now stop.legal }
-    ensures { result ≡ true → IsClosedAt bytes.now stop.at stop.legal }
+fn is_closed_at(bytes: &[u8], low: usize, at: usize) -> bool
+    requires { at ≤ length bytes.now }
+    ensures { result ≡ true → IsClosedAt bytes.now at }
 {
-    if !is_mark_at(bytes, b')', stop.at, stop.legal) {
+    if !is_mark_at(bytes, b')', at) {
         return false;
     }
-    stop.at > low && is_space(bytes[stop.at - 1])
+    at > low && is_space(bytes[at - 1])
 }
 
 /// What a comment comes to at its next token that holds a `$` or a byte that no token may hold.
@@ -205,22 +186,22 @@ fn comment_step<'a>(mut place: Place<'a>, begin: Token<'a>) -> Result<Comment<'a
     requires begin { begin.at < 1073741824 }
     ensures { GoesOn place.entry (plain_token begin.entry) result }
 {
-    let stop = comment_stop(place.bytes, place.at, place.legal);
-    if stop.at == place.bytes.len() {
+    let stop = comment_stop(place.bytes, place.at);
+    if stop == place.bytes.len() {
         return Err(Wrong {
             rule: TextRule::X2,
             token: begin,
         });
     }
-    place.legal = stop.legal;
     if is_closed_at(place.bytes, place.at, stop) {
-        let at = stop.at + 2;
-        return Ok(Comment::Closed(Place { at, ..place }));
+        let at = stop + 2;
+        let legal = place.legal.max(at);
+        return Ok(Comment::Closed(Place { at, legal, ..place }));
     }
-    let start = token_start(place.bytes, place.at, stop.at);
+    let start = token_start(place.bytes, place.at, stop);
     let (end, _) = token_end(place.bytes, start);
     let token = make_token(place.bytes, place.file, start, end);
-    place.legal = legal_front(place.bytes, stop.legal, end);
+    place.legal = legal_front(place.bytes, place.legal.max(stop), end);
     if place.legal < end {
         return Err(Wrong {
             rule: TextRule::X1,
@@ -239,18 +220,24 @@ fn comment_step<'a>(mut place: Place<'a>, begin: Token<'a>) -> Result<Comment<'a
     Ok(Comment::Open(Place { at: end, ..place }))
 }
 
-/// The place after a `$(` that stands next, and that token, where white space comes after it and
-/// all bytes up to there are judged; else none.
+/// The place after a `$(` that stands next, and that token, where white space comes after it; else
+/// none.
 #[inline(always)]
 fn next_begin<'a>(place: Place<'a>) -> Option<(Place<'a>, Token<'a>)>
     requires { IsPlace place }
     ensures { BeginsNext place.entry result }
 {
     let start = skip_space(place.bytes, place.at);
-    if is_mark_at(place.bytes, b'(', start, place.legal) {
+    if is_mark_at(place.bytes, b'(', start) {
         let end = start + 2;
+        let legal = place.legal.max(end);
         let begin = make_token(place.bytes, place.file, start, end);
-        return Some((Place { at: end, ..place }, begin));
+        let inside = Place {
+            at: end,
+            legal,
+            ..place
+        };
+        return Some((inside, begin));
     }
     None
 }

@@ -191,7 +191,7 @@ fn legal_up_to(bytes: &[u8], start: usize, wanted: usize) -> usize
 
 /// So many bytes are judged beyond those that are wanted, so at least four whole blocks. Then they
 /// are read, which finds them in the processor's cache, and the next ones come from memory
-/// meanwhile. A look for a comment's end stops where the judged bytes do, and so few times.
+/// meanwhile.
 const AHEAD: usize = 4 * BLOCK - 1;
 
 /// As `legal_up_to`, and up to four blocks further.

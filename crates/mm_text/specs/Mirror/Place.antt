@@ -2,7 +2,7 @@
 -- file. Private clauses speak of this.
 use Rattle.std.specs.Prelude.{◌≡◌, ℕ, ◌+◌, ◌<◌, ◌≤◌, ◌||◌, List, [], ◌∷◌, length, drop, ◌&&◌, ◌==◌, not}
 use Rattle.std.specs.Prelude.{Bool, true, false, codes, Option, Some, None, Result, Ok, Err}
-use Rattle.std.specs.Prelude.{slice_index}
+use Rattle.std.specs.Prelude.{slice_index, nat_le}
 use Rattle.mm_text.specs.declared.comments.Place.{Place}
 use Rattle.mm_text.specs.declared.comments.Comment.{Comment}
 use Rattle.mm_text.specs.declared.comments.Comment.TheVariants.{Open, Closed}
@@ -21,6 +21,10 @@ is_legal b = is_printable b || is_space b
 abbrev pub is_quiet : ℕ → Bool
 is_quiet b = is_legal b && not (b == 36)
 
+-- a printable byte, a space or a line feed, and no `$`, as nearly all bytes of comments are
+abbrev pub is_plain : ℕ → Bool
+is_plain b = (b == 10 || nat_le 32 b && nat_le b 126) && not (b == 36)
+
 -- the bytes up to a place may stand in a file
 pub record IsLegalFront (bytes : List ℕ) (stop : ℕ) : Type 0 where
   pub within : stop ≤ length bytes
@@ -32,16 +36,16 @@ pub record IsLegalUpTo (bytes : List ℕ) (stop wanted : ℕ) : Type 0 where
   pub front : IsLegalFront bytes stop
   pub stops : stop < wanted → is_legal (slice_index bytes stop) ≡ false
 
--- a `$` and another byte stand at a place and white space after them, and all three were judged
-pub record IsMarkAt (bytes : List ℕ) (second at legal : ℕ) : Type 0 where
-  pub within : at + 2 < legal
+-- a `$` and another byte stand at a place and white space after them
+pub record IsMarkAt (bytes : List ℕ) (second at : ℕ) : Type 0 where
+  pub within : at + 2 < length bytes
   pub dollar : slice_index bytes at ≡ 36
   pub other : slice_index bytes (at + 1) ≡ second
   pub right : is_space (slice_index bytes (at + 2)) ≡ true
 
 -- such a `$)` stands at a place after white space
-pub record IsClosedAt (bytes : List ℕ) (at legal : ℕ) : Type 0 where
-  pub mark : IsMarkAt bytes 41 at legal
+pub record IsClosedAt (bytes : List ℕ) (at : ℕ) : Type 0 where
+  pub mark : IsMarkAt bytes 41 at
   pub left : (k : ℕ) → k + 1 ≡ at → is_space (slice_index bytes k) ≡ true
 
 -- what holds of each place that is handed on

@@ -1,14 +1,14 @@
-use Rattle.std.proofs.Common.{sym, ap, ◌∙◌, ◌+◌, arith}
+use Rattle.std.proofs.Common.{refl, sym, ap, ◌∙◌, ◌+◌, arith}
 use Rattle.std.specs.List.{list_all}
 use Rattle.mm_text.specs.Token.{PlainToken, plain_token, is_printable}
-use Rattle.mm_text.proofs.CommentLaws.{comment_token, passed_all, in_comment-illegal, in_comment-close, in_comment-mark, in_comment-more, token_printable, token_illegal, later_place, closed_at}
+use Rattle.mm_text.proofs.CommentLaws.{comment_token, passed_all, in_comment-illegal, in_comment-close, in_comment-mark, in_comment-more, token_printable, token_illegal, later_place, legal_behind_mark, quiet_legal, closed_at}
 use Rattle.mm_text.proofs.comments.comment_step.Goals as goal
 
 -- no `$)` is left
 pub returns-then-stop-place : goal.returns-then-stop-place
 returns-then-stop-place c =
     let p = c.args.place in (
-      passed_all (plain_token c.args.begin) p.bytes.now p.file p.at (omega (arith, c.comment_stop-stop.ensures.front.within))
+      passed_all (plain_token c.args.begin) p.bytes.now p.file p.at (omega (arith, c.requires.place.within, c.requires.place.front.within))
           (λ k low high. c.comment_stop-stop.ensures.quiet k low (omega arith)),
       c.requires.begin,
     )
@@ -18,10 +18,13 @@ pub returns-then-is_closed_at : goal.returns-then-is_closed_at
 returns-then-is_closed_at c =
     let p = c.args.place in
     let stop = c.comment_stop-stop.result in
-    let front = c.comment_stop-stop.ensures.front in
-    let closed = c.is_closed_at.ensures c.if-is_closed_at.true in (
-      later_place p (stop.at + 2) stop.legal front (omega (arith, closed.mark.within)) (omega arith) c.requires.place.small,
-      closed_at (plain_token c.args.begin) p stop.at stop.legal front (omega arith) c.comment_stop-stop.ensures.quiet closed,
+    let legal = c.max-legal.result in
+    let quiet = c.comment_stop-stop.ensures.quiet in
+    let closed = c.is_closed_at.ensures c.if-is_closed_at.true in
+    let front = legal_behind_mark p.bytes.now 41 p.at stop p.legal legal refl closed.mark c.requires.place.front c.requires.place.within
+    (λ k low high. quiet_legal _ _ (quiet k low high)) (omega (arith, c.max-legal.ensures, c.requires.place.front.within, closed.mark.within)) (λ more. omega (arith, c.max-legal.ensures, more)) in (
+      later_place p (stop + 2) legal front (omega (arith, c.max-legal.ensures)) (omega arith) c.requires.place.small,
+      closed_at (plain_token c.args.begin) p stop legal (omega arith) quiet closed,
     )
 
 pub returns-then-place-end : goal.returns-then-place-end
@@ -31,7 +34,7 @@ returns-then-place-end c =
     let end = c.token_end-end.result.0 in
     let t = plain_token c.make_token-token.result in
     let illegal = token_illegal p.bytes.now c.legal_front.result start end (c.legal_front.ensures.judged.stops (omega arith)) (omega arith) (omega arith) (omega arith) c.token_end-end.ensures.ink in (
-      comment_token (plain_token c.args.begin) p c.comment_stop-stop.result.at start end t (omega arith) (omega arith) (omega arith)
+      comment_token (plain_token c.args.begin) p c.comment_stop-stop.result start end t (omega arith) (omega arith) (omega arith)
           c.comment_stop-stop.ensures.quiet c.token_start-start.ensures.apart c.token_end-end.ensures.token c.make_token-token.ensures.token
           ∙ in_comment-illegal (plain_token c.args.begin) t _ (ap (λ (u : PlainToken). list_all is_printable u.text) c.make_token-token.ensures.token ∙ illegal),
       c.make_token-token.ensures.at,
@@ -45,7 +48,7 @@ returns-then-is_close c =
     let t = plain_token c.make_token-token.result in
     let printable = token_printable p.bytes.now c.legal_front.result start end c.legal_front.ensures.judged.front (omega arith) (omega arith) c.token_end-end.ensures.ink in (
       later_place p end c.legal_front.result c.legal_front.ensures.judged.front (omega arith) (omega arith) c.requires.place.small,
-      comment_token (plain_token c.args.begin) p c.comment_stop-stop.result.at start end t (omega arith) (omega arith) (omega arith)
+      comment_token (plain_token c.args.begin) p c.comment_stop-stop.result start end t (omega arith) (omega arith) (omega arith)
           c.comment_stop-stop.ensures.quiet c.token_start-start.ensures.apart c.token_end-end.ensures.token c.make_token-token.ensures.token
           ∙ in_comment-close (plain_token c.args.begin) t _ (ap (λ (u : PlainToken). list_all is_printable u.text) c.make_token-token.ensures.token ∙ printable)
           (sym c.is_close.ensures ∙ c.if-is_close.true),
@@ -58,7 +61,7 @@ returns-then-holds_mark c =
     let end = c.token_end-end.result.0 in
     let t = plain_token c.make_token-token.result in
     let printable = token_printable p.bytes.now c.legal_front.result start end c.legal_front.ensures.judged.front (omega arith) (omega arith) c.token_end-end.ensures.ink in (
-      comment_token (plain_token c.args.begin) p c.comment_stop-stop.result.at start end t (omega arith) (omega arith) (omega arith)
+      comment_token (plain_token c.args.begin) p c.comment_stop-stop.result start end t (omega arith) (omega arith) (omega arith)
           c.comment_stop-stop.ensures.quiet c.token_start-start.ensures.apart c.token_end-end.ensures.token c.make_token-token.ensures.token
           ∙ in_comment-mark (plain_token c.args.begin) t _ (ap (λ (u : PlainToken). list_all is_printable u.text) c.make_token-token.ensures.token ∙ printable)
           (sym c.is_close.ensures ∙ c.if-is_close.false) (sym c.holds_mark.ensures ∙ c.if-holds_mark.true),
@@ -73,7 +76,7 @@ returns c =
     let t = plain_token c.make_token-token.result in
     let printable = token_printable p.bytes.now c.legal_front.result start end c.legal_front.ensures.judged.front (omega arith) (omega arith) c.token_end-end.ensures.ink in (
       later_place p end c.legal_front.result c.legal_front.ensures.judged.front (omega arith) (omega arith) c.requires.place.small,
-      comment_token (plain_token c.args.begin) p c.comment_stop-stop.result.at start end t (omega arith) (omega arith) (omega arith)
+      comment_token (plain_token c.args.begin) p c.comment_stop-stop.result start end t (omega arith) (omega arith) (omega arith)
           c.comment_stop-stop.ensures.quiet c.token_start-start.ensures.apart c.token_end-end.ensures.token c.make_token-token.ensures.token
           ∙ in_comment-more (plain_token c.args.begin) t _ (ap (λ (u : PlainToken). list_all is_printable u.text) c.make_token-token.ensures.token ∙ printable)
           (sym c.is_close.ensures ∙ c.if-is_close.false) (sym c.holds_mark.ensures ∙ c.if-holds_mark.false),

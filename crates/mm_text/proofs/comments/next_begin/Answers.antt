@@ -1,6 +1,6 @@
-use Rattle.std.proofs.Common.{◌+◌, arith}
+use Rattle.std.proofs.Common.{get_or, refl, ◌+◌, arith}
 use Rattle.mm_text.specs.Token.{plain_token}
-use Rattle.mm_text.proofs.CommentLaws.{begins_at, later_place}
+use Rattle.mm_text.proofs.CommentLaws.{begins_at, later_place, legal_behind_mark, space_legal}
 use Rattle.mm_text.proofs.comments.next_begin.Goals as goal
 
 -- a `$(` is told at once
@@ -8,10 +8,12 @@ pub returns-then-is_mark_at : goal.returns-then-is_mark_at
 returns-then-is_mark_at c =
     let p = c.args.place in
     let start = c.skip_space-start.result in
-    let front = c.requires.front in
-    let mark = c.is_mark_at.ensures c.if-is_mark_at.true in (
-      later_place p (start + 2) p.legal front (omega (arith, mark.within)) (omega arith) c.requires.small,
-      begins_at p start p.legal (plain_token c.make_token-begin.result) front c.skip_space-start.ensures.same_tokens mark
+    let legal = c.max-legal.result in
+    let mark = c.is_mark_at.ensures c.if-is_mark_at.true in
+    let front = legal_behind_mark p.bytes.now 40 p.at start p.legal legal refl mark c.requires.front c.requires.within
+    (λ k low high. space_legal (get_or p.bytes.now k 0) (c.skip_space-start.ensures.space k low high)) (omega (arith, c.max-legal.ensures, c.requires.front.within, mark.within)) (λ more. omega (arith, c.max-legal.ensures, more)) in (
+      later_place p (start + 2) legal front (omega (arith, c.max-legal.ensures)) (omega arith) c.requires.small,
+      begins_at p start legal (plain_token c.make_token-begin.result) c.skip_space-start.ensures.same_tokens mark
           c.make_token-begin.ensures.token,
       c.make_token-begin.ensures.at,
     )

@@ -1,4 +1,4 @@
-use Rattle.std.proofs.Common.{◌≡◌, ◌<◌, ◌≤◌, ◌==◌, get_or, length, true, ⊎_elim, ◌∙◌, sym, arith}
+use Rattle.std.proofs.Common.{◌≡◌, ◌<◌, ◌≤◌, ◌==◌, get_or, true, ⊎_elim, ◌∙◌, sym, arith}
 use Rattle.std.proofs.str.Laws.{order}
 use Rattle.mm_text.specs.Token.{is_space}
 use Rattle.mm_text.proofs.TokenLaws.{tokens_from-token, space_after}
