@@ -1,8 +1,9 @@
 //! What stands in a file outside comments.
 
 ghost use Rattle.std.specs.Prelude.{◌≡◌, ℕ, ◌==◌, ◌&&◌, ◌||◌, ◌≤◌, ◌<◌, true, false, length, codes};
+ghost use Rattle.std.specs.Prelude.{drop};
 ghost use Rattle.std.specs.Prelude.{slice_index, slice_range};
-ghost use Rattle.mm_text.specs.Token.{plain_token, is_space};
+ghost use Rattle.mm_text.specs.Token.{plain_token, is_space, tokens_from};
 ghost use Rattle.mm_text.specs.Items.{holds_mark, spells};
 ghost use Rattle.mm_text.specs.Mirror.Place.{is_quiet, IsLegalFront, IsLegalUpTo, IsPlace};
 ghost use Rattle.mm_text.specs.Mirror.Place.{IsMarkAt, IsClosedAt, BeginsNext};
@@ -300,6 +301,20 @@ fn take_one<'a>(place: &mut Place<'a>) -> Result<Found<'a>, Wrong<'a>>
     Ok(Found::Token(token, has_dollar))
 }
 
+/// The place after the white space at a place, where some stands there and is judged.
+#[inline(always)]
+fn after_blank(bytes: &[u8], at: usize, legal: usize) -> usize
+    requires within { at ≤ legal }
+    requires front { IsLegalFront bytes.now legal }
+    requires blank { at < length bytes.now → is_space (slice_index bytes.now at) ≡ true }
+    ensures from { at ≤ result }
+    ensures within { result ≤ legal }
+    ensures same_tokens { (file : ℕ) → tokens_from file at (drop at bytes.now)
+        ≡ tokens_from file result (drop result bytes.now) }
+{
+    if at < legal { at + 1 } else { at }
+}
+
 /// Takes the next token where it is a word whose bytes are judged already and that no comment comes
 /// before; else takes nothing. For most tokens it does what `take_token` does for each, and sooner.
 #[inline(always)]
@@ -317,7 +332,8 @@ pub fn take_word<'a>(place: &mut Place<'a>) -> Option<Token<'a>>
     if has_dollar || place.legal < end {
         return None;
     }
-    place.at = end;
+    // The next look for a token then begins where nearly always one does.
+    place.at = after_blank(place.bytes, end, place.legal);
     Some(make_token(place.bytes, place.file, start, end))
 }
 

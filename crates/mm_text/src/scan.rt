@@ -70,6 +70,8 @@ pub fn token_end(bytes: &[u8], start: usize) -> (usize, bool)
         ∷ tokens_from file result.0 (drop result.0 bytes.now) }
     ensures ink { (k : ℕ) → start ≤ k → k < result.0 → is_space (slice_index bytes.now k) ≡ false }
     ensures dollar { result.1 ≡ holds_dollar (slice_range bytes.now start result.0) }
+    ensures stops { result.0 < length bytes.now
+        → is_space (slice_index bytes.now result.0) ≡ true }
 {
     let mut from = start;
     'words: loop {

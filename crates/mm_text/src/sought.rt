@@ -1,14 +1,11 @@
-//! The first byte of a kind that is looked for, 16 bytes at a time.
+//! The first byte of a kind that is looked for, many bytes at a time.
 
-ghost use Rattle.std.specs.Prelude.{◌≡◌, ℕ, ◌+◌, ◌<◌, ◌≤◌, nat_lt, true, false, length};
+ghost use Rattle.std.specs.Prelude.{◌≡◌, ℕ, ◌<◌, ◌≤◌, nat_lt, true, false, length};
 ghost use Rattle.std.specs.Prelude.{slice_index};
 ghost use Rattle.mm_text.specs.Mirror.Place.{is_plain};
 ghost use Rattle.mm_text.specs.Mirror.Sought.{IsRunIn, first_set};
 
 use std::simd::prelude::*;
-
-/// So many bytes are looked at at once.
-const LANES: usize = 16;
 
 /// Bytes that are looked for: those that aren't passed over.
 pub trait Sought {
@@ -18,23 +15,31 @@ pub trait Sought {
     /// Whether a byte is passed over.
     ghost passed: { ℕ → Bool };
 
+    /// So many bytes are looked at at once.
+    ghost lanes: { ℕ };
+
+    /// So many bytes are looked at at once.
+    fn lanes() -> usize
+        ensures lanes { result ≡ lanes }
+        ensures some { 1 ≤ result };
+
     /// Whether a byte is passed over.
     fn is_passed(byte: u8) -> bool
         ensures { result ≡ passed byte };
 
-    /// How many of the 16 bytes from a place on are passed over before one that isn't.
+    /// How many of so many bytes from a place on are passed over before one that isn't.
     fn passed_run(bytes: &[u8], at: usize) -> usize
-        requires { at + 16 ≤ length bytes.now }
-        ensures { IsRunIn passed bytes.now at 16 result };
+        requires { at + lanes ≤ length bytes.now }
+        ensures { IsRunIn passed bytes.now at lanes result };
 }
 
-/// The place of the lowest bit of a mask that is set, or 16.
+/// The place of the lowest bit of a mask that is set, or how many bits it has where none is.
 #[inline(always)]
-fn first_set(mask: u64) -> usize
-    ensures { result ≡ first_set mask 16 }
+fn first_set(mask: u64, lanes: usize) -> usize
+    ensures { result ≡ first_set mask lanes }
 {
     if mask == 0 {
-        LANES
+        lanes
     } else {
         mask.trailing_zeros() as usize
     }
@@ -46,6 +51,14 @@ pub struct Low;
 impl Sought for Low {
     ghost passed = { nat_lt 36 };
 
+    ghost lanes = { 16 };
+
+    // Nearly all words are shorter.
+    #[inline(always)]
+    fn lanes() -> usize {
+        16
+    }
+
     fn is_passed(byte: u8) -> bool {
         byte > b'$'
     }
@@ -53,7 +66,7 @@ impl Sought for Low {
     #[inline(always)]
     fn passed_run(bytes: &[u8], at: usize) -> usize {
         let low = u8x16::from_slice(&bytes[at..]).simd_le(u8x16::splat(b'$'));
-        first_set(low.to_bitmask())
+        first_set(low.to_bitmask(), 16)
     }
 }
 
@@ -64,18 +77,26 @@ pub struct Odd;
 impl Sought for Odd {
     ghost passed = { is_plain };
 
+    ghost lanes = { 64 };
+
+    // Comments are long: one question is enough for four vectors of the processor.
+    #[inline(always)]
+    fn lanes() -> usize {
+        64
+    }
+
     fn is_passed(byte: u8) -> bool {
         (byte == b'\n' || (byte >= b' ' && byte <= b'~')) && byte != b'$'
     }
 
     #[inline(always)]
     fn passed_run(bytes: &[u8], at: usize) -> usize {
-        let block = u8x16::from_slice(&bytes[at..]);
+        let block = u8x64::from_slice(&bytes[at..]);
         // From a space on to `~` there are 95 bytes.
-        let unprintable = (block - u8x16::splat(b' ')).simd_ge(u8x16::splat(95));
-        let odd = unprintable & block.simd_ne(u8x16::splat(b'\n'))
-            | block.simd_eq(u8x16::splat(b'$'));
-        first_set(odd.to_bitmask())
+        let unprintable = (block - u8x64::splat(b' ')).simd_ge(u8x64::splat(95));
+        let odd = unprintable & block.simd_ne(u8x64::splat(b'\n'))
+            | block.simd_eq(u8x64::splat(b'$'));
+        first_set(odd.to_bitmask(), 64)
     }
 }
 
@@ -107,12 +128,12 @@ pub fn first_sought<S: Sought>(bytes: &[u8], start: usize) -> usize
     ensures stops { result < length bytes.now → S.passed (slice_index bytes.now result) ≡ false }
 {
     let mut at = start;
-    while bytes.len() - at >= LANES {
+    while bytes.len() - at >= S::lanes() {
         let run = S::passed_run(bytes, at);
-        if run < LANES {
+        if run < S::lanes() {
             return at + run;
         }
-        at += LANES;
+        at += S::lanes();
     }
     first_slowly::<S>(bytes, at)
 }

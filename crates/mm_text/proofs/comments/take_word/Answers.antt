@@ -1,7 +1,7 @@
-use Rattle.std.proofs.Common.{◌≡◌, false, sym, ap, ◌∙◌, arith}
+use Rattle.std.proofs.Common.{◌≡◌, ◌∷◌, None, false, sym, ap, ◌∙◌, arith}
 use Rattle.std.specs.List.{list_all}
 use Rattle.mm_text.specs.Token.{PlainToken, plain_token, is_printable}
-use Rattle.mm_text.specs.Items.{holds_dollar}
+use Rattle.mm_text.specs.Items.{Clear, without_comments, holds_dollar}
 use Rattle.mm_text.proofs.CommentLaws.{outside_token, outside-clear, no_dollar-spells, token_printable}
 use Rattle.mm_text.proofs.comments.take_word.Goals as goal
 
@@ -22,7 +22,8 @@ returns-clause-takes c =
           ∙ outside-clear t _
           (ap (λ (u : PlainToken). list_all is_printable u.text) c.make_token.ensures.token
           ∙ printable)
-          (no_dollar-spells t.text 40 lacks) (no_dollar-spells t.text 41 lacks),
+          (no_dollar-spells t.text 40 lacks) (no_dollar-spells t.text 41 lacks)
+          ∙ ap (λ tokens. Clear t ∷ without_comments None tokens) (c.after_blank-place.ensures.same_tokens p.file),
       record {
         at = c.make_token.ensures.at;
         begins = no_dollar-spells t.text 40 lacks;

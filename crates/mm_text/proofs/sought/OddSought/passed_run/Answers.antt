@@ -7,7 +7,7 @@ use Rattle.mm_text.proofs.sought.OddSought.passed_run.Goals as goal
 
 pub returns : goal.returns
 returns c =
-    let v = chunk c.args.at 16 c.args.bytes.now in
-    let long = length-chunk c.args.at 16 c.args.bytes.now c.requires in
-    run_in is_plain c.args.bytes.now c.args.at 16 _ _ c.requires (omega arith) c.type_inv.bytes c.first_set.ensures _
-    (joined _ _ _ v (joined bit_and _ _ v (joined (λ a b. cond (leb a b) 255 0) _ _ v (splat_is v 16 95 long) (zip2_splat {Y = ℕ} _ v 16 32 long)) (zip2_splat {Y = ℕ} _ v 16 10 long)) (zip2_splat {Y = ℕ} _ v 16 36 long)) refl
+    let v = chunk c.args.at 64 c.args.bytes.now in
+    let long = length-chunk c.args.at 64 c.args.bytes.now c.requires in
+    run_in is_plain c.args.bytes.now c.args.at 64 _ _ c.requires (omega arith) c.type_inv.bytes c.first_set.ensures _
+    (joined _ _ _ v (joined bit_and _ _ v (joined (λ a b. cond (leb a b) 255 0) _ _ v (splat_is v 64 95 long) (zip2_splat {Y = ℕ} _ v 64 32 long)) (zip2_splat {Y = ℕ} _ v 64 10 long)) (zip2_splat {Y = ℕ} _ v 64 36 long)) refl
