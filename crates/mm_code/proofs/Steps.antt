@@ -1,9 +1,9 @@
 -- One step of `reading`, for each kind of byte.
 use Rattle.std.proofs.Common.{◌≡◌, ℕ, ◌+◌, ◌-◌, ◌<◌, ◌≤◌, Bool, true, false, cond, ◌&&◌, List, [], ◌∷◌, ◌++◌, length, get_or, set, take, drop, subst, Bor, Result, Ok, Err, refl, sym, ap, ◌∙◌, append_assoc, arith}
 use Rattle.std.proofs.lemmas.Bool.{lt-ltb, le-ltb, eq-eqb, ne_eqb}
-use Rattle.std.proofs.lemmas.List.{take_more_set, take-set, take_rest, drop_more, at_drop_more, at_drop_all, append-nil}
+use Rattle.std.proofs.lemmas.List.{take-append-drop, drop-drop, take_more_set, take-set, take_rest, drop_more, at_drop_more, at_drop_all, append-nil}
 use Rattle.std.proofs.lemmas.List.Folds.{list_all-append}
-use Rattle.std.specs.List.{list_all, flat_map}
+use Rattle.std.specs.List.{list_all, flat_map, slice_range}
 use Rattle.std.specs.Char.{is_ascii_uppercase}
 use Rattle.mm_code.specs.declared.code.Code.{Code}
 use Rattle.mm_code.specs.declared.code.Code.TheVariants.{Number, Tag}
@@ -131,6 +131,24 @@ pub reading_at : (codes : List Code) (value : ℕ) (bytes : List ℕ) (i byte : 
     → with_front codes (reading value (drop i bytes ++ rest)) ≡ with_front codes (reading value (byte ∷ (drop (i + 1) bytes ++ rest)))
 reading_at codes value bytes i byte rest lt is =
     ap (λ (b : List ℕ). with_front codes (reading value (b ++ rest))) (drop_more bytes i byte lt ∙ ap (λ (x : ℕ). x ∷ drop (i + 1) bytes) (sym is))
+
+-- a byte and what stands behind it
+pub reading_more : (codes : List Code) (value : ℕ) (bytes : List ℕ) (i d : ℕ) (rest : List ℕ) → i < length bytes
+    → with_front codes (reading value (get_or bytes i d ∷ (drop (i + 1) bytes ++ rest))) ≡ with_front codes (reading value (drop i bytes ++ rest))
+reading_more codes value bytes i d rest lt = ap (λ (b : List ℕ). with_front codes (reading value (b ++ rest))) (sym (drop_more bytes i d lt))
+
+block_and_rest : (bytes : List ℕ) (i n : ℕ) → slice_range bytes i (i + n) ++ drop (i + n) bytes ≡ drop i bytes
+block_and_rest bytes i n =
+    let few : i + n - i ≡ n = omega arith in
+    let behind : drop (i + n) bytes ≡ drop n (drop i bytes) = ap (λ k. drop k bytes) (omega arith) ∙ sym (drop-drop n i bytes) in
+    ap (λ k. take k (drop i bytes) ++ drop (i + n) bytes) few ∙ ap (λ l. take n (drop i bytes) ++ l) behind ∙ take-append-drop n (drop i bytes)
+
+-- a block of so many, and what stands behind it
+pub reading_block : (codes : List Code) (value : ℕ) (bytes : List ℕ) (i n : ℕ) (rest : List ℕ)
+    → with_front codes (reading value (slice_range bytes i (i + n) ++ (drop (i + n) bytes ++ rest))) ≡ with_front codes (reading value (drop i bytes ++ rest))
+reading_block codes value bytes i n rest =
+    ap (λ b. with_front codes (reading value b))
+    (sym (append_assoc (slice_range bytes i (i + n)) (drop (i + n) bytes) rest) ∙ ap (λ l. l ++ rest) (block_and_rest bytes i n))
 
 -- ---- the end of the letters
 

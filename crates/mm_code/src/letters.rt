@@ -32,6 +32,10 @@ fn number_after(value: u32, digit: u8) -> u32
 /// The largest leading value behind which no letter reaches the largest `u32`, or less.
 const CALM: u32 = 0x0800_0000;
 
+/// The largest leading value behind which eight letters can be put, each of them behind a leading
+/// value of at most `CALM`: a letter brings a value to five times as much and five, at most.
+const SMALL: u32 = 1716;
+
 /// Takes any letter behind leading digits of this value (0 for none): puts the code that it ends
 /// in the slot at the place, and answers the place and the leading digits' value behind it.
 #[tactic(auto, using(crate::proofs::Steps::reading_steps))]
@@ -44,6 +48,7 @@ fn put_any(
     requires { place < length slots.old }
     ensures size { length slots.new ≡ length slots.old }
     ensures next { IfOk result (λ next. next.0 ≤ place + 1) }
+    ensures value { IfOk result (λ next. next.1 ≤ 5 * value + 5) }
     ensures reads { (rest : List ℕ) → PutsOn slots.new result rest
         (with_front (take place slots.old) (reading value (byte ∷ rest))) }
 {
@@ -62,9 +67,40 @@ fn put_any(
     }
 }
 
-/// Does as `put_any`, and sooner: a letter ends a number about as often as not, so no branch asks
-/// whether it does. What a leading digit puts in the slot is put over.
+/// Does as `put_any`, and sooner, behind leading digits of a value that no letter brings above the
+/// largest `u32`: a letter ends a number about as often as not, so no branch asks whether it does.
+/// What a leading digit puts in the slot is put over.
+#[inline(always)]
 #[tactic(auto, using(crate::proofs::Steps::reading_steps))]
+fn put_calm(
+    slots: &mut [Code],
+    place: usize,
+    value: u32,
+    byte: u8,
+) -> Result<(usize, u32), CodeFault>
+    requires slot { place < length slots.old }
+    requires calm { value ≤ 134217728 }
+    ensures size { length slots.new ≡ length slots.old }
+    ensures next { IfOk result (λ next. next.0 ≤ place + 1) }
+    ensures value { IfOk result (λ next. next.1 ≤ 5 * value + 5) }
+    ensures reads { (rest : List ℕ) → PutsOn slots.new result rest
+        (with_front (take place slots.old) (reading value (byte ∷ rest))) }
+{
+    // 65 is the letter `A`. It is counted in 32 bits, as all that follows is.
+    let digit = u32::from(byte).wrapping_sub(65);
+    if digit >= 25 {
+        return put_any(slots, place, value, byte);
+    }
+    let longer = (5 * value + digit).wrapping_sub(19);
+    slots[place] = Code::Number(20 * value + digit + 1);
+    if digit < 20 {
+        Ok((place + 1, 0))
+    } else {
+        Ok((place, longer))
+    }
+}
+
+/// Does as `put_any`, and sooner for nearly every value.
 fn put_letter(
     slots: &mut [Code],
     place: usize,
@@ -77,17 +113,10 @@ fn put_letter(
     ensures reads { (rest : List ℕ) → PutsOn slots.new result rest
         (with_front (take place slots.old) (reading value (byte ∷ rest))) }
 {
-    // 65 is the letter `A`. It is counted in 32 bits, as all that follows is.
-    let digit = u32::from(byte).wrapping_sub(65);
-    if digit >= 25 || value > CALM {
-        return put_any(slots, place, value, byte);
-    }
-    let longer = (5 * value + digit).wrapping_sub(19);
-    slots[place] = Code::Number(20 * value + digit + 1);
-    if digit < 20 {
-        Ok((place + 1, 0))
+    if value <= CALM {
+        put_calm(slots, place, value, byte)
     } else {
-        Ok((place, longer))
+        put_any(slots, place, value, byte)
     }
 }
 
@@ -124,9 +153,37 @@ fn fault_with(fault: CodeFault, bytes: &[u8]) -> CodeFault
     }
 }
 
-/// Puts the codes of a token's letters behind leading digits of this value in the slots from the
-/// place on, and answers the place and the leading digits' value behind the token.
-fn put_token(
+/// Puts the codes of eight letters, which stand in a token from a place on, behind leading digits
+/// of a small value: none of the eight is met behind a value that has to be looked at.
+#[inline(always)]
+#[tactic(auto, using(crate::proofs::Calm::calm_steps))]
+fn put_block(
+    slots: &mut [Code],
+    from: usize,
+    leading: u32,
+    block: &[u8],
+) -> Result<(usize, u32), CodeFault>
+    requires eight { length block.now ≡ 8 }
+    requires slots { from + 8 ≤ length slots.old }
+    requires small { leading ≤ 1716 }
+    ensures size { length slots.new ≡ length slots.old }
+    ensures next { IfOk result (λ next. next.0 ≤ from + 8) }
+    ensures reads { (rest : List ℕ) → PutsOn slots.new result rest
+        (with_front (take from slots.old) (reading leading (block.now ++ rest))) }
+{
+    let mut place = from;
+    let mut value = leading;
+    for at in 0..8 {
+        match put_calm(slots, place, value, block[at]) {
+            Ok(next) => (place, value) = next,
+            Err(fault) => return Err(fault_with(fault, &block[at + 1..])),
+        }
+    }
+    Ok((place, value))
+}
+
+/// Puts the codes of letters behind leading digits of this value, one after the other.
+fn put_rest(
     slots: &mut [Code],
     from: usize,
     leading: u32,
@@ -134,6 +191,7 @@ fn put_token(
 ) -> Result<(usize, u32), CodeFault>
     requires { from + length token.now ≤ length slots.old }
     ensures size { length slots.new ≡ length slots.old }
+    ensures next { IfOk result (λ next. next.0 ≤ from + length token.now) }
     ensures reads { (rest : List ℕ) → PutsOn slots.new result rest
         (with_front (take from slots.old) (reading leading (token.now ++ rest))) }
 {
@@ -147,6 +205,35 @@ fn put_token(
         }
     }
     Ok((place, value))
+}
+
+/// Puts the codes of a token's letters behind leading digits of this value in the slots from the
+/// place on, and answers the place and the leading digits' value behind the token.
+///
+/// Letters are put by eights, nearly all of them behind a small value, so that the end of the token
+/// and the size of the value are asked once for eight.
+fn put_token(
+    slots: &mut [Code],
+    from: usize,
+    leading: u32,
+    token: &[u8],
+) -> Result<(usize, u32), CodeFault>
+    requires { from + length token.now ≤ length slots.old }
+    ensures size { length slots.new ≡ length slots.old }
+    ensures reads { (rest : List ℕ) → PutsOn slots.new result rest
+        (with_front (take from slots.old) (reading leading (token.now ++ rest))) }
+{
+    let mut place = from;
+    let mut value = leading;
+    let mut at = 0;
+    while token.len() - at >= 8 && value <= SMALL {
+        match put_block(slots, place, value, &token[at..at + 8]) {
+            Ok(next) => (place, value) = next,
+            Err(fault) => return Err(fault_with(fault, &token[at + 8..])),
+        }
+        at += 8;
+    }
+    put_rest(slots, place, value, &token[at..])
 }
 
 /// Takes a token's letters behind leading digits of this value, and answers their value behind the

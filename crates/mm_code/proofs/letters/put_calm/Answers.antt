@@ -2,11 +2,11 @@
 use Rattle.std.proofs.Common.{arith, ◌+◌, ◌*◌, ◌%◌}
 use Rattle.mm_code.specs.declared.code.Code.TheVariants.{Number}
 use Rattle.mm_code.proofs.Steps.{put_last, put_leading}
-use Rattle.mm_code.proofs.letters.put_letter.Goals as goal
+use Rattle.mm_code.proofs.letters.put_calm.Goals as goal
 
 pub returns-then-digit-lt20-clause-reads : goal.returns-then-digit-lt20-clause-reads
 returns-then-digit-lt20-clause-reads c rest =
-    put_last c.args.slots.now c.args.place _ c.args.value c.args.byte (20 * c.args.value + (c.from-digit.result + 4294967231) % 4294967296 + 1) rest c.requires (omega arith) (omega arith) (omega arith) (omega arith)
+    put_last c.args.slots.now c.args.place _ c.args.value c.args.byte (20 * c.args.value + (c.from-digit.result + 4294967231) % 4294967296 + 1) rest c.requires.slot (omega arith) (omega arith) (omega arith) (omega arith)
 
 pub returns-else-digit-lt20-clause-reads : goal.returns-else-digit-lt20-clause-reads
 returns-else-digit-lt20-clause-reads c rest =
