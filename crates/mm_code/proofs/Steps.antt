@@ -132,11 +132,6 @@ pub reading_at : (codes : List Code) (value : ℕ) (bytes : List ℕ) (i byte : 
 reading_at codes value bytes i byte rest lt is =
     ap (λ (b : List ℕ). with_front codes (reading value (b ++ rest))) (drop_more bytes i byte lt ∙ ap (λ (x : ℕ). x ∷ drop (i + 1) bytes) (sym is))
 
--- a byte and what stands behind it
-pub reading_more : (codes : List Code) (value : ℕ) (bytes : List ℕ) (i d : ℕ) (rest : List ℕ) → i < length bytes
-    → with_front codes (reading value (get_or bytes i d ∷ (drop (i + 1) bytes ++ rest))) ≡ with_front codes (reading value (drop i bytes ++ rest))
-reading_more codes value bytes i d rest lt = ap (λ (b : List ℕ). with_front codes (reading value (b ++ rest))) (sym (drop_more bytes i d lt))
-
 block_and_rest : (bytes : List ℕ) (i n : ℕ) → slice_range bytes i (i + n) ++ drop (i + n) bytes ≡ drop i bytes
 block_and_rest bytes i n =
     let few : i + n - i ≡ n = omega arith in
@@ -149,6 +144,16 @@ pub reading_block : (codes : List Code) (value : ℕ) (bytes : List ℕ) (i n : 
 reading_block codes value bytes i n rest =
     ap (λ b. with_front codes (reading value b))
     (sym (append_assoc (slice_range bytes i (i + n)) (drop (i + n) bytes) rest) ∙ ap (λ l. l ++ rest) (block_and_rest bytes i n))
+
+-- a fault in the first bytes, once the others are looked at
+pub fault_of_front : (fault : CodeFault) (codes : List Code) (value : ℕ) (bytes : List ℕ) (n : ℕ) (rest : List ℕ)
+    → FaultOf fault (drop n bytes ++ rest) (with_front codes (reading value (take n bytes ++ (drop n bytes ++ rest))))
+    → FaultOf fault (take (length bytes - n) (drop n bytes) ++ rest) (with_front codes (reading value (bytes ++ rest)))
+fault_of_front fault codes value bytes n rest h =
+    let parts = sym (append_assoc (take n bytes) (drop n bytes) rest) ∙ ap (λ l. l ++ rest) (take-append-drop n bytes) in
+    let whole = with_front codes (reading value (bytes ++ rest)) in
+    subst (λ l. FaultOf fault (l ++ rest) whole) (sym (take_rest bytes n))
+    (subst (FaultOf fault (drop n bytes ++ rest)) (ap (λ l. with_front codes (reading value l)) parts) h)
 
 -- ---- the end of the letters
 

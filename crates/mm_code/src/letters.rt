@@ -153,33 +153,74 @@ fn fault_with(fault: CodeFault, bytes: &[u8]) -> CodeFault
     }
 }
 
-/// Puts the codes of eight letters, which stand in a token from a place on, behind leading digits
-/// of a small value: none of the eight is met behind a value that has to be looked at.
+/// Puts the codes of two letters of a token behind leading digits of a small value.
 #[inline(always)]
-#[tactic(auto, using(crate::proofs::Calm::calm_steps))]
-fn put_block(
+fn put_two(
     slots: &mut [Code],
     from: usize,
     leading: u32,
-    block: &[u8],
+    letters: &[u8],
 ) -> Result<(usize, u32), CodeFault>
-    requires eight { length block.now ≡ 8 }
+    requires count { length letters.now ≡ 2 }
+    requires slots { from + 2 ≤ length slots.old }
+    requires small { leading ≤ 26843544 }
+    ensures size { length slots.new ≡ length slots.old }
+    ensures next { IfOk result (λ next. next.0 ≤ from + 2) }
+    ensures value { IfOk result (λ next. next.1 ≤ 25 * leading + 30) }
+    ensures reads { (rest : List ℕ) → PutsOn slots.new result rest
+        (with_front (take from slots.old) (reading leading (letters.now ++ rest))) }
+{
+    match put_calm(slots, from, leading, letters[0]) {
+        Ok((place, value)) => put_calm(slots, place, value, letters[1]),
+        Err(fault) => Err(fault_with(fault, &letters[1..])),
+    }
+}
+
+/// Puts the codes of four letters of a token behind leading digits of a small value.
+#[inline(always)]
+fn put_four(
+    slots: &mut [Code],
+    from: usize,
+    leading: u32,
+    letters: &[u8],
+) -> Result<(usize, u32), CodeFault>
+    requires count { length letters.now ≡ 4 }
+    requires slots { from + 4 ≤ length slots.old }
+    requires small { leading ≤ 1073740 }
+    ensures size { length slots.new ≡ length slots.old }
+    ensures next { IfOk result (λ next. next.0 ≤ from + 4) }
+    ensures value { IfOk result (λ next. next.1 ≤ 625 * leading + 780) }
+    ensures reads { (rest : List ℕ) → PutsOn slots.new result rest
+        (with_front (take from slots.old) (reading leading (letters.now ++ rest))) }
+{
+    match put_two(slots, from, leading, &letters[..2]) {
+        Ok((place, value)) => put_two(slots, place, value, &letters[2..]),
+        Err(fault) => Err(fault_with(fault, &letters[2..])),
+    }
+}
+
+/// Puts the codes of eight letters of a token behind leading digits of a small value: none of the
+/// eight is met behind a value that has to be looked at. Written out, they need no count.
+#[inline(always)]
+fn put_eight(
+    slots: &mut [Code],
+    from: usize,
+    leading: u32,
+    letters: &[u8],
+) -> Result<(usize, u32), CodeFault>
+    requires count { length letters.now ≡ 8 }
     requires slots { from + 8 ≤ length slots.old }
     requires small { leading ≤ 1716 }
     ensures size { length slots.new ≡ length slots.old }
     ensures next { IfOk result (λ next. next.0 ≤ from + 8) }
+    ensures value { IfOk result (λ next. next.1 ≤ 390625 * leading + 488280) }
     ensures reads { (rest : List ℕ) → PutsOn slots.new result rest
-        (with_front (take from slots.old) (reading leading (block.now ++ rest))) }
+        (with_front (take from slots.old) (reading leading (letters.now ++ rest))) }
 {
-    let mut place = from;
-    let mut value = leading;
-    for at in 0..8 {
-        match put_calm(slots, place, value, block[at]) {
-            Ok(next) => (place, value) = next,
-            Err(fault) => return Err(fault_with(fault, &block[at + 1..])),
-        }
+    match put_four(slots, from, leading, &letters[..4]) {
+        Ok((place, value)) => put_four(slots, place, value, &letters[4..]),
+        Err(fault) => Err(fault_with(fault, &letters[4..])),
     }
-    Ok((place, value))
 }
 
 /// Puts the codes of letters behind leading digits of this value, one after the other.
@@ -227,7 +268,7 @@ fn put_token(
     let mut value = leading;
     let mut at = 0;
     while token.len() - at >= 8 && value <= SMALL {
-        match put_block(slots, place, value, &token[at..at + 8]) {
+        match put_eight(slots, place, value, &token[at..at + 8]) {
             Ok(next) => (place, value) = next,
             Err(fault) => return Err(fault_with(fault, &token[at + 8..])),
         }
