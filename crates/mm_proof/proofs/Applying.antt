@@ -25,7 +25,7 @@ use Rattle.mm_proof.specs.Tree.{Names, ShareNoVariable, AreDistinct}
 use Rattle.mm_proof.specs.Moves.{name}
 use Rattle.mm_proof.specs.Proof.{MeetsHypotheses, SomePair, Passed, IsWithin, expression_limit}
 use Rattle.mm_proof.specs.Steps.{IsNumberedMove}
-use Rattle.mm_proof.specs.CodeVerify.{name_at, names_at, all_names_at, value_of, replaced_in, all_said_by, pairs_in, IsSymbol, AreDeclaredSymbols, AreStackEntries, AreBelow, IsRightCode, IsWrongCode, IsEqual, IsUnequal, EachEntry, EachPairValues, SomePairValues, Replaces, AreHypothesesOf, AreVariablesOf}
+use Rattle.mm_proof.specs.CodeVerify.{name_at, names_at, all_names_at, value_of, replaced_in, all_said_by, pairs_in, IsSymbol, AreDeclaredSymbols, AreStackEntries, AreBelow, IsRightCode, IsWrongCode, IsEqual, IsUnequal, EachEntry, EachPairValues, SomePairValues, Replaces, AreVariablesOf}
 use Rattle.mm_proof.specs.CodeSteps.{MayBeUsed, label_ids}
 use Rattle.mm_proof.specs.CodeRun.{CarriesOn, StopsAt}
 use Rattle.mm_proof.specs.CodeApply.{IsAppliedAssertion, IsMatched, IsReady, IsEarlierScheme}

@@ -12,6 +12,7 @@ pub mod Searches
 pub mod Replacements
 pub mod Letters
 pub mod SaidMoves
+pub mod Saying
 pub mod Verdicts
 pub mod Judged
 pub mod Limits

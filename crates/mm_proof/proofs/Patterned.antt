@@ -1,5 +1,5 @@
 -- What a step knows of the patterns of an assertion's `$e`.
-use Rattle.std.proofs.Common.{◌≡◌, ℕ, ◌<◌, ◌≤◌, List, length, get_or, slice_get, slice_range, drop, Bool, false, true, IsTrue, MatchBool, is_some, Option, Some, None, refl, sym, subst, ◌∙◌}
+use Rattle.std.proofs.Common.{◌≡◌, ℕ, ◌<◌, ◌≤◌, List, length, get_or, slice_get, slice_range, Bool, false, IsTrue, MatchBool, is_some, Option, Some, None, refl, sym, subst, ◌∙◌}
 use Rattle.std.specs.List.{AllByRecursion}
 use Rattle.std.proofs.lemmas.Bool.{false≢true}
 use Rattle.std.proofs.lemmas.Option.{same_Some, slice_get-get_or}
@@ -10,7 +10,7 @@ use Rattle.mm_frame.specs.declared.piece.Piece.{Piece}
 use Rattle.mm_frame.specs.Sentence.{Sentence}
 use Rattle.mm_frame.specs.Numbers.{labelled_sentences}
 use Rattle.mm_frame.specs.Laws.{OneNumber}
-use Rattle.mm_frame.specs.Pieces.{variables_of, AreItsPieces, HavePatterns}
+use Rattle.mm_frame.specs.Pieces.{AreItsPieces, HavePatterns}
 use Rattle.mm_proof.specs.CodeVerify.{names_at, AreBelow, all_said_by, IsWithinPlaces, IsEqual, IsUnequal, Replaces}
 use Rattle.mm_proof.proofs.Values.{pattern_says, pattern_within}
 use Rattle.mm_proof.proofs.Replacing.{equal_told}

@@ -1,9 +1,17 @@
 //! A list of symbols to whose end parts of it are copied.
 
 ghost use Rattle.std.specs.Prelude.{◌≡◌, ◌+◌, ◌-◌, ◌≤◌, [], ◌∷◌, ◌++◌, length, take, drop};
-ghost use Rattle.std.specs.Prelude.{slice_range, OnOk, OnErr};
+ghost use Rattle.std.specs.Prelude.{List, slice_range, OnOk, OnErr, MatchBool};
+ghost use Rattle.std.specs.List.{AllByRecursion};
+ghost use Rattle.mm_frame.specs.declared.number.Sym.{Sym};
+ghost use Rattle.mm_proof.specs.Buffer.{AreParts, parts_of};
+ghost use Rattle.mm_proof.specs.Stores.{numbers_in};
+ghost use Rattle.mm_proof.specs.CodeVerify.{all_said_by, IsWithinPlaces};
 
-use mm_frame::Sym;
+use crate::flat::Entry;
+use crate::said::{put_part_behind, put_pieces};
+use crate::substitution::EXPRESSION_LIMIT;
+use mm_frame::{Piece, Sym};
 use std::alloc::{AllocError, Global};
 use std::marker::Model;
 
@@ -55,20 +63,6 @@ fn put_behind(room: &mut [Sym], used: usize, symbols: &[Sym])
     let (_, behind) = room.split_at_mut(used);
     let (into, _) = behind.split_at_mut(symbols.len());
     into.copy_from_slice(symbols);
-}
-
-// Puts a copy of a part of those that are used behind them.
-fn put_part_behind(room: &mut [Sym], used: usize, start: usize, end: usize)
-    requires order { start ≤ end }
-    requires within { end ≤ used }
-    requires room { used + (end - start) ≤ length room.old }
-    ensures put { take (used + (end - start)) room.new
-        ≡ take used room.old ++ slice_range (take used room.old) start end }
-    ensures long { length room.new ≡ length room.old }
-{
-    let (front, behind) = room.split_at_mut(used);
-    let (into, _) = behind.split_at_mut(end - start);
-    into.copy_from_slice(&front[start..end]);
 }
 
 impl Buffer {
@@ -124,16 +118,25 @@ impl Buffer {
     }
 
     /// Adds a symbol.
-    #[inline(always)]
     pub(crate) fn push(&mut self, symbol: Sym) -> Result<(), AllocError>
         ensures pushed { OnOk result (self.new ≡ self.old ++ symbol ∷ []) }
         ensures same { OnErr result (self.new ≡ self.old) }
     {
-        if self.used >= self.room.len() {
-            return self.append(&[symbol]);
+        self.append(&[symbol])
+    }
+
+    /// Adds two symbols.
+    #[inline(always)]
+    pub(crate) fn push_two(&mut self, first: Sym, second: Sym) -> Result<(), AllocError>
+        ensures pushed { OnOk result (self.new ≡ self.old ++ first ∷ second ∷ []) }
+        ensures same { OnErr result (self.new ≡ self.old) }
+    {
+        if self.room.len() - self.used < 2 {
+            return self.append(&[first, second]);
         }
-        self.room[self.used] = symbol;
-        self.used += 1;
+        self.room[self.used] = first;
+        self.room[self.used + 1] = second;
+        self.used += 2;
         Ok(())
     }
 
@@ -150,24 +153,40 @@ impl Buffer {
         Ok(())
     }
 
-    /// Adds a copy of the symbols from a place up to and without another. Most of what is copied
-    /// is one symbol, for which the copy of a list takes longer.
-    #[inline(always)]
+    /// Adds a copy of the symbols from a place up to and without another.
     pub(crate) fn append_part(&mut self, start: usize, end: usize) -> Result<(), AllocError>
         requires order { start ≤ end }
         requires within { end ≤ length self.old }
         ensures appended { OnOk result (self.new ≡ self.old ++ slice_range self.old start end) }
         ensures same { OnErr result (self.new ≡ self.old) }
     {
-        if end - start == 1 {
-            let only = self.room[start];
-            return self.push(only);
-        }
         if self.room.len() - self.used < end - start {
             make_room(&mut self.room, self.used, end - start)?;
         }
         put_part_behind(&mut self.room, self.used, start, end);
         self.used += end - start;
         Ok(())
+    }
+
+    /// Adds what the pieces say of the entries from the base on, where there is room for it and it
+    /// is within the limit; else false is answered, and nothing is added.
+    #[inline(always)]
+    pub(crate) fn has_put(&mut self, stack: &[Entry], base: usize, pieces: &[Piece]) -> bool
+        requires parts { AreParts (length self.old) stack.now }
+        requires within { AllByRecursion (IsWithinPlaces (length stack.now - base)) pieces.now }
+        ensures { let whole = all_said_by (drop base (parts_of self.old stack.now)) pieces.now in
+            MatchBool
+            result
+            ((length whole ≤ 1048576) × (more : List Sym) × (self.new ≡ self.old ++ more)
+            × (numbers_in more ≡ whole))
+            (self.new ≡ self.old) }
+    {
+        match put_pieces(&mut self.room, self.used, stack, base, pieces) {
+            Some(end) if end - self.used <= EXPRESSION_LIMIT => {
+                self.used = end;
+                true
+            }
+            _ => false,
+        }
     }
 }

@@ -124,8 +124,7 @@ fn append(symbols: &mut Buffer, expression: &[Sym]) -> Result<(), AllocError>
 {
     match expression {
         [code, variable] => {
-            symbols.push(*code)?;
-            symbols.push(*variable)?;
+            symbols.push_two(*code, *variable)?;
             Ok(())
         }
         _ => {
@@ -136,7 +135,7 @@ fn append(symbols: &mut Buffer, expression: &[Sym]) -> Result<(), AllocError>
 }
 
 // Where the value of an entry begins: behind its first symbol.
-fn value_start(entry: Entry) -> usize
+pub(crate) fn value_start(entry: Entry) -> usize
     requires { entry.start ≤ entry.end }
     ensures order { entry.start ≤ result }
     ensures within { result ≤ entry.end }
@@ -152,7 +151,6 @@ fn value_start(entry: Entry) -> usize
 
 // Appends what the piece says of the entries from the base on, and answers false where that isn't
 // one symbol and what stands from the start on passes the limit.
-#[inline(always)]
 fn append_piece(
     symbols: &mut Buffer,
     stack: &[Entry],
@@ -183,7 +181,10 @@ fn append_piece(
 }
 
 // Appends what the pieces say of the entries from the base on, where it is within the limit; else
-// false is answered, and a front of it may be there.
+// false is answered, and a front of it may be there. It is a call, since it is rare: mostly there is
+// room for it.
+#[cold]
+#[inline(never)]
 fn append_pieces(
     symbols: &mut Buffer,
     stack: &[Entry],
@@ -207,6 +208,30 @@ fn append_pieces(
         }
     }
     Ok(symbols.len() - start <= EXPRESSION_LIMIT)
+}
+
+// Does as `append_pieces`, and sooner where there is room for what the pieces say.
+#[inline(always)]
+fn put_said(
+    symbols: &mut Buffer,
+    stack: &[Entry],
+    base: usize,
+    pieces: &[Piece],
+) -> Result<bool, AllocError>
+    requires parts { AreParts (length symbols.old) stack.now }
+    requires within { AllByRecursion (IsWithinPlaces (length stack.now - base)) pieces.now }
+    ensures said { IfOk result (λ fits.
+        let whole = all_said_by (drop base (parts_of symbols.old stack.now)) pieces.now in MatchBool
+        fits
+        ((length whole ≤ 1048576) × (more : List Sym) × (symbols.new ≡ symbols.old ++ more)
+        × (numbers_in more ≡ whole))
+        (1048576 < length whole)) }
+    ensures grown { (rest : List Sym) × (symbols.new ≡ symbols.old ++ rest) }
+{
+    if symbols.has_put(stack, base, pieces) {
+        return Ok(true);
+    }
+    append_pieces(symbols, stack, base, pieces)
 }
 
 // How much of the buffer the entries need.
@@ -269,7 +294,7 @@ impl Store for Flat {
 
     fn conclude(&mut self, base: usize, pieces: &[Piece]) -> Result<bool, AllocError> {
         let start = self.symbols.len();
-        if !append_pieces(&mut self.symbols, &self.stack, base, pieces)? {
+        if !put_said(&mut self.symbols, &self.stack, base, pieces)? {
             return Ok(false);
         }
         if self.symbols.len() >= self.next_cut {

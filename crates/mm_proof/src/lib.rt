@@ -16,6 +16,7 @@ mod picked;
 mod prover;
 mod rows;
 mod run;
+mod said;
 mod step;
 mod store;
 mod substitution;

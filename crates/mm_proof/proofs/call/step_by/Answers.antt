@@ -2,7 +2,6 @@ use Rattle.std.proofs.Common.{◌≡◌, ◌<◌, ◌≤◌, ℕ, List, length, 
 use Rattle.std.proofs.lemmas.List.{length-map}
 use Rattle.mm_proof.specs.declared.fault.ProofRule.{ProofRule}
 use Rattle.mm_proof.specs.declared.fault.ProofRule.TheVariants.{L1}
-use Rattle.mm_proof.specs.declared.call.Call.{Call}
 use Rattle.mm_proof.specs.Stores.{numbers_in}
 use Rattle.mm_proof.specs.CodeRun.{CarriesOn, StopsAt}
 use Rattle.mm_proof.specs.CodeVerify.{AreStackEntries}

@@ -1,4 +1,4 @@
-use Rattle.std.proofs.Common.{◌≡◌, ◌<◌, length, drop, not, ap, sym, ◌∙◌, arith, false, is_some, get_or, Bool, true}
+use Rattle.std.proofs.Common.{◌≡◌, length, drop, not, ap, ◌∙◌, arith}
 use Rattle.std.proofs.lemmas.Option.{slice_get_within}
 use Rattle.std.proofs.lemmas.List.{length-drop}
 use Rattle.mm_frame.specs.Pieces.{variables_of}

@@ -1,4 +1,4 @@
-use Rattle.std.proofs.Common.{◌≡◌, ℕ, List, Some, None, inl, inr, arith, subst, sym, ap, ◌∙◌, is_some, get_or, true, Bool, IsTrue}
+use Rattle.std.proofs.Common.{◌≡◌, None, inl, inr, arith, subst, sym, ◌∙◌, is_some, get_or, true}
 use Rattle.std.proofs.lemmas.Option.{slice_get_within, same_Some}
 use Rattle.std.proofs.lemmas.Bool.{false≢true, cases_lt}
 use Rattle.mm_frame.specs.Pieces.{variables_of}

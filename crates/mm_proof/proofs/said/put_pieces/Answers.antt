@@ -1,0 +1,24 @@
+use Rattle.std.proofs.Common.{◌++◌, take, ◌∙◌, arith}
+use Rattle.mm_proof.proofs.Parts.{pieces-step}
+use Rattle.mm_proof.proofs.Saying.{front_stays, parts_used}
+use Rattle.mm_proof.proofs.said.put_pieces.Goals as goal
+
+pub returns-in_err-end-clause-front : goal.returns-in_err-end-clause-front
+returns-in_err-end-clause-front c =
+    front_stays c.args.used c.loop-piece.end _ c.loop-piece.room c.args.room.now c.loop-piece.invariant.0 c.put_piece.ensures.front c.loop-piece.invariant.3
+
+pub loop-piece-preserved : goal.loop-piece-preserved
+loop-piece-preserved c =
+    let before = c.loop-piece.invariant in
+    let used = take c.args.used c.args.room.now in
+    let said = c.in_ok-end.ensures.said in
+    let step = pieces-step used (take c.loop-piece.end c.loop-piece.room) (take c.in_ok-end.end c.put_piece.new.room) before.4 said.0 c.args.stack.now c.args.base c.loop-piece.piece-index c.args.pieces.now
+    (parts_used c.args.used c.args.room.now c.args.stack.now c.requires.used c.requires.parts) c.loop-piece-test.true before.5 before.6 said.1 said.2 in (
+      omega (arith, before.0, c.in_ok-end.ensures.order),
+      c.in_ok-end.ensures.within,
+      c.in_ok-end.ensures.long ∙ before.2,
+      front_stays c.args.used c.loop-piece.end _ c.loop-piece.room c.args.room.now before.0 c.in_ok-end.ensures.front before.3,
+      before.4 ++ said.0,
+      step.0,
+      step.1,
+    )

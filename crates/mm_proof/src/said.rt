@@ -1,0 +1,132 @@
+//! What pieces say of entries, put into a room that is long enough for it.
+//!
+//! A room is a list of symbols of which only the first ones are used. Nearly always a conclusion
+//! fits behind these: then no list grows, and how many are used is counted in a register.
+
+ghost use Rattle.std.specs.Prelude.{◌≡◌, ◌+◌, ◌-◌, ◌≤◌, [], ◌∷◌, ◌++◌, List, length, take, drop};
+ghost use Rattle.std.specs.Prelude.{slice_range, IfSome};
+ghost use Rattle.std.specs.List.{AllByRecursion};
+ghost use Rattle.mm_frame.specs.declared.number.Sym.{Sym};
+ghost use Rattle.mm_proof.specs.Buffer.{AreParts, parts_of};
+ghost use Rattle.mm_proof.specs.Stores.{numbers_in};
+ghost use Rattle.mm_proof.specs.CodeVerify.{said_by, all_said_by, IsWithinPlaces};
+
+use crate::flat::{Entry, value_start};
+use mm_frame::{Piece, Sym};
+
+/// Puts a copy of a part of those that are used behind them.
+pub(crate) fn put_part_behind(room: &mut [Sym], used: usize, start: usize, end: usize)
+    requires order { start ≤ end }
+    requires within { end ≤ used }
+    requires room { used + (end - start) ≤ length room.old }
+    ensures put { take (used + (end - start)) room.new
+        ≡ take used room.old ++ slice_range (take used room.old) start end }
+    ensures front { take used room.new ≡ take used room.old }
+    ensures long { length room.new ≡ length room.old }
+{
+    let (front, behind) = room.split_at_mut(used);
+    let (into, _) = behind.split_at_mut(end - start);
+    into.copy_from_slice(&front[start..end]);
+}
+
+// Puts a symbol behind those that are used, and answers how many are used then; none where the
+// room ends there.
+#[inline(always)]
+fn put_symbol(room: &mut [Sym], used: usize, symbol: Sym) -> Option<usize>
+    requires { used ≤ length room.old }
+    ensures put { IfSome result (λ end. take end room.new ≡ take used room.old ++ symbol ∷ []) }
+    ensures order { IfSome result (λ end. used ≤ end) }
+    ensures within { IfSome result (λ end. end ≤ length room.new) }
+    ensures front { take used room.new ≡ take used room.old }
+    ensures long { length room.new ≡ length room.old }
+{
+    if used >= room.len() {
+        return None;
+    }
+    room[used] = symbol;
+    Some(used + 1)
+}
+
+// Puts a copy of a part of those that are used behind them, and answers how many are used then;
+// none where the room is too short for it. Most parts are one symbol, for which the copy of a list
+// takes longer.
+#[inline(always)]
+fn put_part(room: &mut [Sym], used: usize, start: usize, end: usize) -> Option<usize>
+    requires order { start ≤ end }
+    requires inside { end ≤ used }
+    requires used { used ≤ length room.old }
+    ensures put { IfSome result (λ next. take next room.new
+        ≡ take used room.old ++ slice_range (take used room.old) start end) }
+    ensures order { IfSome result (λ next. used ≤ next) }
+    ensures within { IfSome result (λ next. next ≤ length room.new) }
+    ensures front { take used room.new ≡ take used room.old }
+    ensures long { length room.new ≡ length room.old }
+{
+    if end - start == 1 {
+        let only = room[start];
+        return put_symbol(room, used, only);
+    }
+    if room.len() - used < end - start {
+        return None;
+    }
+    put_part_behind(room, used, start, end);
+    Some(used + (end - start))
+}
+
+// Puts what the piece says of the entries from the base on behind the symbols that are used, and
+// answers how many are used then; none where the room is too short for it.
+#[inline(always)]
+fn put_piece(
+    room: &mut [Sym],
+    used: usize,
+    stack: &[Entry],
+    base: usize,
+    piece: Piece,
+) -> Option<usize>
+    requires parts { AreParts used stack.now }
+    requires used { used ≤ length room.old }
+    requires within { IsWithinPlaces (length stack.now - base) piece }
+    ensures said { IfSome result (λ end. (more : List Sym)
+        × (take end room.new ≡ take used room.old ++ more)
+        × (numbers_in more ≡ said_by (drop base (parts_of (take used room.old) stack.now)) piece)) }
+    ensures order { IfSome result (λ end. used ≤ end) }
+    ensures within { IfSome result (λ end. end ≤ length room.new) }
+    ensures front { take used room.new ≡ take used room.old }
+    ensures long { length room.new ≡ length room.old }
+{
+    match piece {
+        Piece::Symbol(symbol) => put_symbol(room, used, symbol),
+        Piece::Value(place) => {
+            let entry = stack[base + place as usize];
+            put_part(room, used, value_start(entry), entry.end)
+        }
+    }
+}
+
+/// Puts what the pieces say of the entries from the base on behind the symbols that are used, and
+/// answers how many are used then; none where the room is too short for it.
+pub(crate) fn put_pieces(
+    room: &mut [Sym],
+    used: usize,
+    stack: &[Entry],
+    base: usize,
+    pieces: &[Piece],
+) -> Option<usize>
+    requires parts { AreParts used stack.now }
+    requires used { used ≤ length room.old }
+    requires within { AllByRecursion (IsWithinPlaces (length stack.now - base)) pieces.now }
+    ensures said { IfSome result (λ end. (more : List Sym)
+        × (take end room.new ≡ take used room.old ++ more)
+        × (numbers_in more
+        ≡ all_said_by (drop base (parts_of (take used room.old) stack.now)) pieces.now)) }
+    ensures order { IfSome result (λ end. used ≤ end) }
+    ensures within { IfSome result (λ end. end ≤ length room.new) }
+    ensures front { take used room.new ≡ take used room.old }
+    ensures long { length room.new ≡ length room.old }
+{
+    let mut end = used;
+    for piece in pieces {
+        end = put_piece(room, end, stack, base, *piece)?;
+    }
+    Some(end)
+}
