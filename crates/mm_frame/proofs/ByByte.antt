@@ -1,5 +1,5 @@
 -- The table of the numbers of names that are one byte long, as names are added.
-use Rattle.std.proofs.Common.{◌≡◌, ◌≢◌, ℕ, ◌<◌, ◌≤◌, ◌⊎◌, inl, inr, length, get_or, List, [], ◌∷◌, Contains, Option, None, Some, refl, sym, ap, ◌∙◌, subst, arith}
+use Rattle.std.proofs.Common.{◌≡◌, ◌≢◌, ℕ, ◌<◌, ◌≤◌, ◌⊎◌, inl, inr, length, get_or, List, [], ◌∷◌, Contains, Option, None, Some, is_some, true, false, refl, sym, ap, ◌∙◌, subst, arith}
 use Rattle.std.specs.List.{slice_get}
 use Rattle.std.specs.Option.{MatchOption}
 use Rattle.std.proofs.Math.ListN.{set, replicate}
@@ -14,6 +14,15 @@ use Rattle.mm_frame.proofs.Numbered.{at_from_contains, contains_from_at, with_na
 -- what is told of a text: its number among the names, or that it is none of them
 abbrev pub IsTold : List (List ℕ) → List ℕ → Option ℕ → Type 0
 IsTold names text number = MatchOption number (¬ (Contains names text)) (λ n. slice_get names n ≡ Some text)
+
+-- a number that isn't there is none
+pub none_if : (number : Option ℕ) → is_some number ≡ false → number ≡ None
+none_if None is = refl
+none_if (Some n) is = absurd (cc)
+
+-- and one that is isn't
+pub not_none : (number : Option ℕ) → is_some number ≡ true → number ≢ None
+not_none number is none = absurd (let e = ap is_some none in cc (e, is))
 
 abbrev no_number : Option ℕ
 no_number = None

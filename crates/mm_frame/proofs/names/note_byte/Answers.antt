@@ -1,15 +1,7 @@
-use Rattle.std.proofs.Common.{true, false, not, ◌≡◌, ◌≢◌, ℕ, length, Option, None, Some, refl, ap, ◌∙◌, ◌<◌, ◌≤◌, rules, arith}
+use Rattle.std.proofs.Common.{not, ◌≡◌, length, ap, ◌∙◌, ◌<◌, ◌≤◌, rules, arith}
 use borrow.Author.Tests.{tests}
-use Rattle.std.specs.Option.{is_some}
-use Rattle.mm_frame.proofs.ByByte.{by_byte_of_longer, by_byte_of_known, by_byte_of_new}
+use Rattle.mm_frame.proofs.ByByte.{none_if, not_none, by_byte_of_longer, by_byte_of_known, by_byte_of_new}
 use Rattle.mm_frame.proofs.names.note_byte.Goals as goal
-
-none_if : (o : Option ℕ) → is_some o ≡ false → o ≡ None
-none_if None is = refl
-none_if (Some n) is = absurd (cc)
-
-not_none : (o : Option ℕ) → is_some o ≡ true → o ≢ None
-not_none o is none = absurd (let e = ap is_some none in cc (e, is))
 
 pub returns-then-name-lt1 : goal.returns-then-name-lt1
 returns-then-name-lt1 c = λ names are count.

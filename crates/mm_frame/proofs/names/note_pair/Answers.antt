@@ -1,16 +1,9 @@
-use Rattle.std.proofs.Common.{true, false, not, ◌≡◌, ◌≢◌, ℕ, length, inl, inr, Option, None, Some, refl, sym, ap, ◌∙◌, arith}
+use Rattle.std.proofs.Common.{not, length, inl, inr, None, sym, ap, ◌∙◌, arith}
 use Rattle.std.proofs.lemmas.List.{get_or_default}
-use Rattle.std.specs.Option.{is_some}
+use Rattle.mm_frame.proofs.ByByte.{none_if, not_none}
 use Rattle.mm_frame.proofs.ByPair.{pair_at, by_pair_of_other, by_pair_of_known, by_pair_of_new}
 use Rattle.mm_frame.proofs.names.note_pair.Goals.{else-place-len-via-then-place-len+else-is_none, else-place-len-via-else-place-len}
 use Rattle.mm_frame.proofs.names.note_pair.Goals as goal
-
-none_if : (o : Option ℕ) → is_some o ≡ false → o ≡ None
-none_if None is = refl
-none_if (Some n) is = absurd (cc)
-
-not_none : (o : Option ℕ) → is_some o ≡ true → o ≢ None
-not_none o is none = absurd (let e = ap is_some none in cc (e, is))
 
 pub returns-then-is_none : goal.returns-then-is_none
 returns-then-is_none c = λ names tables count. elim tables [
