@@ -95,19 +95,6 @@ pub fn filled<T: Copy>(element: T, count: usize) -> Vec<T> {
     Vec(vec![element; count])
 }
 
-pub fn memchr(byte: u8, bytes: &[u8]) -> Option<usize> {
-    let mut pieces = bytes.chunks_exact(16);
-    for (place, piece) in pieces.by_ref().enumerate() {
-        let found = lanes_with(piece, byte);
-        if found != 0 {
-            return Some(16 * place + found.trailing_zeros() as usize);
-        }
-    }
-    let rest = pieces.remainder();
-    let found = rest.iter().position(|one| *one == byte)?;
-    Some(bytes.len() - rest.len() + found)
-}
-
 /// A bit for each of 16 bytes that is the wanted one.
 fn lanes_with(bytes: &[u8], wanted: u8) -> u32 {
     use std::arch::x86_64::*;

@@ -1,4 +1,5 @@
 #![allow(warnings)]
+#![feature(portable_simd)]
 mod library;
 mod mm_check;
 mod mm_code;
