@@ -1,7 +1,8 @@
 #!/bin/sh
 # usage: scripts/edits.sh [--check] [CRATE..]
-# Tries the further planted bugs, edits/CRATE/NAME.edit: each must be refused by the prover, as those in a crate's must-fail
-# folder, which `rt ci` tries. It takes hours, or some minutes for one crate. --check only sees that each can be applied.
+# Tries the further planted bugs, edits/CRATE/NAME.edit: each must be refused by the prover, as
+# those in a crate's must-fail folder, which `rt ci` tries. It takes hours, or some minutes for one
+# crate. --check only sees that each can be applied.
 set -eu
 top=$(CDPATH='' cd -- "$(dirname -- "$0")/.." && pwd)
 is_check=false
@@ -22,7 +23,8 @@ room=$(mktemp -d)
 trap 'rm -rf "$room"' EXIT
 trap 'exit 1' HUP INT TERM
 
-# A copy of the repository, with what is proved unless this is only a look, in which these edits stand for those of the gate.
+# A copy of the repository, with what is proved unless this is only a look, in which these edits
+# stand for those of the gate.
 cp "$top/crates.txt" "$top/HANDLES" "$room/"
 mkdir "$room/crates"
 for crate in "$top"/crates/*/; do

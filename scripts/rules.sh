@@ -1,7 +1,7 @@
 #!/bin/sh
-# Writes crates/mm_tool/src/rules.rt and code_lines.rt, the texts of `mm explain`, from docs/RULES.md:
-# a rule that is built has a paragraph there that begins with its code in bold, or a row in the table
-# of the files. `scripts/rules.sh --check` compares them.
+# Writes crates/mm_tool/src/rules.rt and code_lines.rt, the texts of `mm explain`, from
+# docs/RULES.md: a rule that is built has a paragraph there that begins with its code in bold, or a
+# row in the table of the files. `scripts/rules.sh --check` compares them.
 set -eu
 top=$(CDPATH='' cd -- "$(dirname -- "$0")/.." && pwd)
 source=$top/docs/RULES.md
@@ -18,7 +18,8 @@ made() {
     function finish() {
         if (code != "") {
             codes = codes cut(quoted(sentence)) "\n"
-            rules = rules "    RuleText {\n        code: \"" code "\",\n        text: \"" quoted(body) "\",\n    },\n"
+            rules = rules "    RuleText {\n        code: \"" code "\",\n"
+            rules = rules "        text: \"" quoted(body) "\",\n    },\n"
         }
         code = ""
         body = ""
@@ -82,20 +83,31 @@ made() {
     }
     code == "" { next }
     # A question is no part of its file: the file alone breaks no rule of questions.
-    /^```mm$/ { body = body (code ~ /^A/ ? "\nA file:\n" : "\nThis file breaks it:\n"); fenced = 1; next }
+    /^```mm$/ {
+        body = body (code ~ /^A/ ? "\nA file:\n" : "\nThis file breaks it:\n")
+        fenced = 1
+        next
+    }
     /^```reply$/ { body = body "\nThe reply:\n"; fenced = 1; next }
-    /^```reply / { sub(/^```reply /, ""); body = body "\nThe reply to `mm " $0 " f.mm`:\n"; fenced = 1; next }
+    /^```reply / {
+        sub(/^```reply /, "")
+        body = body "\nThe reply to `mm " $0 " f.mm`:\n"
+        fenced = 1
+        next
+    }
     /^```$/ { fenced = 0; next }
     fenced { body = body "    " $0 "\n"; next }
     /^$/ { finish() }
     END {
         finish()
         if (name == "rules") {
-            printf "//! The rules, as `mm explain` tells them. Made by scripts/rules.sh from docs/RULES.md: edit that.\n\n"
+            printf "//! The rules, as `mm explain` tells them. "
+            printf "Made by scripts/rules.sh from docs/RULES.md: edit that.\n\n"
             printf "use crate::texts::RuleText;\n\n"
             printf "pub(crate) const RULES: &[RuleText<'"'"'static>] = &[\n%s];\n", rules
         } else {
-            printf "//! The codes of the rules. Made by scripts/rules.sh from docs/RULES.md: edit that.\n\n"
+            printf "//! The codes of the rules. "
+            printf "Made by scripts/rules.sh from docs/RULES.md: edit that.\n\n"
             printf "/// A line for each code.\n"
             printf "pub(crate) const CODES: &str =\n    \"%s\";\n", codes
         }

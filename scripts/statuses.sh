@@ -1,8 +1,8 @@
 #!/bin/sh
 # usage: scripts/statuses.sh [PROGRAM]
-# Drives the built program, through the launcher or by the absolute path given: each status that it can end with, with the
-# bytes of standard output and of standard error, and each text that it prints. No contract reaches `main` nor says what the
-# texts are, so this is what tests them.
+# Drives the built program, through the launcher or by the absolute path given: each status that it
+# can end with, with the bytes of standard output and of standard error, and each text that it
+# prints. No contract reaches `main` nor says what the texts are, so this is what tests them.
 set -eu
 top=$(CDPATH='' cd -- "$(dirname -- "$0")/.." && pwd)
 mm=${1-$top/mm}
@@ -12,10 +12,12 @@ trap 'exit 1' HUP INT TERM
 cd "$folder"
 failures=0
 
-# The program is built first, so that no message of the launcher is among the bytes that are compared.
+# The program is built first, so that no message of the launcher is among the bytes that are
+# compared.
 "$mm" help >/dev/null
 
-# ends STATUS OUT ERR WORDS..: the program, run with these words, ends so. The two texts are written by printf's rules.
+# ends STATUS OUT ERR WORDS..: the program, run with these words, ends so. The two texts are written
+# by printf's rules.
 ends() {
     wanted=$1
     printf "$2" >wanted.out
@@ -23,7 +25,8 @@ ends() {
     shift 3
     status=0
     "$mm" "$@" >got.out 2>got.err || status=$?
-    if [ "$status" != "$wanted" ] || ! cmp -s got.out wanted.out || ! cmp -s got.err wanted.err; then
+    if [ "$status" != "$wanted" ] ||
+        ! cmp -s got.out wanted.out || ! cmp -s got.err wanted.err; then
         echo "statuses.sh: mm $*: status $status, wanted $wanted" >&2
         diff wanted.out got.out >&2 || :
         diff wanted.err got.err >&2 || :
@@ -39,7 +42,8 @@ begins() {
     shift 3
     status=0
     "$mm" "$@" >got.out 2>got.err || status=$?
-    if [ "$status" != "$wanted" ] || [ "$(sed q got.out)" != "$out" ] || [ "$(sed q got.err)" != "$err" ]; then
+    if [ "$status" != "$wanted" ] ||
+        [ "$(sed q got.out)" != "$out" ] || [ "$(sed q got.err)" != "$err" ]; then
         echo "statuses.sh: mm $*: status $status, wanted $wanted" >&2
         cat got.out got.err >&2
         failures=$((failures + 1))
@@ -59,11 +63,19 @@ prints() {
     fi
 }
 
-# misused WORDS..: the program refuses these words with status 2, and standard error says which it takes.
+# unknown CODE NEAREST: no rule has this code, and of those that there are this one is the nearest.
+unknown() {
+    ends 2 '' "mm: no rule has the code $1; the nearest is $2\n\`mm explain\` lists all codes\n" \
+        explain "$1"
+}
+
+# misused WORDS..: the program refuses these words with status 2, and standard error says which it
+# takes.
 misused() {
     status=0
     "$mm" "$@" >got.out 2>got.err || status=$?
-    if [ "$status" != 2 ] || [ -s got.out ] || ! grep -q 'Usage: mm' got.err || [ -n "$(tail -c 1 got.err)" ]; then
+    if [ "$status" != 2 ] || [ -s got.out ] ||
+        ! grep -q 'Usage: mm' got.err || [ -n "$(tail -c 1 got.err)" ]; then
         echo "statuses.sh: mm $*: status $status, wanted 2" >&2
         cat got.out got.err >&2
         failures=$((failures + 1))
@@ -83,7 +95,8 @@ full() {
     fi
 }
 
-# mute STATUS WORDS..: standard error takes nothing, and the program ends with this status all the same.
+# mute STATUS WORDS..: standard error takes nothing, and the program ends with this status all the
+# same.
 mute() {
     wanted=$1
     shift
@@ -187,9 +200,9 @@ misused help nonsense
 misused explain P8 P9
 begins 2 '' 'error: the following required arguments were not provided:' axioms th
 begins 2 '' "error: unexpected argument '--strict' found" check --strict first.mm
-ends 2 '' 'mm: no rule has the code M222; the nearest is M2\n`mm explain` lists all codes\n' explain M222
-ends 2 '' 'mm: no rule has the code p8; the nearest is P8\n`mm explain` lists all codes\n' explain p8
-ends 2 '' 'mm: no rule has the code X0; the nearest is X1\n`mm explain` lists all codes\n' explain X0
+unknown M222 M2
+unknown p8 P8
+unknown X0 X1
 ends 2 '' 'mm: a word is not UTF-8\n' check "$(printf '\377')"
 ends 3 'incomplete 1\nq\n' '' check open.mm
 ends 3 '? q\n' '' axioms r open.mm
@@ -223,7 +236,8 @@ rm long.mm
     "$mm" check many.mm 2>got.err || status=$?
     echo "$status" >got.status
 } | head -n 1 >got.out
-if [ "$(cat got.out)" != 'incomplete 20000' ] || [ "$(cat got.status)" != 4 ] || [ "$(cat got.err)" != 'mm: cannot write' ]; then
+if [ "$(cat got.out)" != 'incomplete 20000' ] || [ "$(cat got.status)" != 4 ] ||
+    [ "$(cat got.err)" != 'mm: cannot write' ]; then
     echo "statuses.sh: mm check many.mm | head: status $(cat got.status), wanted 4" >&2
     failures=$((failures + 1))
 fi

@@ -1,5 +1,6 @@
 -- What the key of a name is. It is cited by private contracts alone.
-use Rattle.std.specs.Prelude.{◌≡◌, ℕ, ◌<◌, ◌-◌, if◌then◌else◌, nat_lt, List, [], ◌∷◌, ◌++◌, length, take, drop, get_or}
+use Rattle.std.specs.Prelude.{◌≡◌, ℕ, ◌<◌, ◌-◌, if◌then◌else◌, nat_lt}
+use Rattle.std.specs.Prelude.{List, [], ◌∷◌, ◌++◌, length, take, drop, get_or}
 use Rattle.std.specs.Int.{Width, w16, w32, w64, from_le_bytes}
 use Rattle.std.specs.Hash as fed
 
@@ -11,11 +12,15 @@ number_at w count bytes at = from_le_bytes w (take count (drop at bytes))
 abbrev pub ends_by : Width → ℕ → List ℕ → ℕ × ℕ
 ends_by w count bytes = (number_at w count bytes 0, number_at w count bytes (length bytes - count))
 
+-- the ends of a name of less than 4 bytes: 2 bytes of each, if it has them
+abbrev pub short_ends : List ℕ → ℕ × ℕ
+short_ends bytes = if nat_lt (length bytes) 2 then (0, 0) else ends_by w16 2 bytes
+
 -- the ends of a name as numbers: 8 bytes of each, or 4, or 2, as many as it has
 unfoldable pub ends_of : List ℕ → ℕ × ℕ
 ends_of bytes =
     if nat_lt (length bytes) 8
-    then (if nat_lt (length bytes) 4 then (if nat_lt (length bytes) 2 then (0, 0) else ends_by w16 2 bytes) else ends_by w32 4 bytes)
+    then (if nat_lt (length bytes) 4 then short_ends bytes else ends_by w32 4 bytes)
     else ends_by w64 8 bytes
 
 -- the numbers stand beside a name as its ends
@@ -25,4 +30,7 @@ pub record IsKey (bytes : List ℕ) (front back : ℕ) : Type 0 where
 
 -- what is hashed of a name: its ends, or all of it where they are not all of it
 unfoldable pub hashed : List ℕ → List (List ℕ)
-hashed bytes = if nat_lt 16 (length bytes) then bytes ∷ [] else fed.u64 (ends_of bytes).0 ++ fed.u64 (ends_of bytes).1
+hashed bytes =
+    if nat_lt 16 (length bytes)
+    then bytes ∷ []
+    else fed.u64 (ends_of bytes).0 ++ fed.u64 (ends_of bytes).1

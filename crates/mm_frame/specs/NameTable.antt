@@ -1,5 +1,6 @@
 -- What is seen of a table of names. It is cited by private contracts alone.
-use Rattle.std.specs.Prelude.{◌≡◌, ℕ, ◌+◌, ◌*◌, ◌<◌, ◌⊎◌, List, [], ◌∷◌, length, slice_get, Contains, Option}
+use Rattle.std.specs.Prelude.{◌≡◌, ℕ, ◌+◌, ◌*◌, ◌<◌, ◌⊎◌}
+use Rattle.std.specs.Prelude.{List, [], ◌∷◌, length, slice_get, Contains, Option}
 use Rattle.std.specs.Prelude.{Some, MatchOption}
 
 -- the names by number, and for how many more there is room

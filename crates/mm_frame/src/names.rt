@@ -165,8 +165,8 @@ impl<'a> Names<'a> {
         self.table.reserve(more)
     }
 
-    /// Makes the table of names of two bytes, where there is no name yet, and memory for it. Where it
-    /// isn't made they are found by their hash.
+    /// Makes the table of names of two bytes, where there is no name yet, and memory for it. Where
+    /// it isn't made they are found by their hash.
     pub(crate) fn prepare_pairs(&mut self)
         ensures { self.new ≡ self.old }
     {

@@ -181,8 +181,8 @@ fn append_piece(
 }
 
 // Appends what the pieces say of the entries from the base on, where it is within the limit; else
-// false is answered, and a front of it may be there. It is a call, since it is rare: mostly there is
-// room for it.
+// false is answered, and a front of it may be there. It is a call, since it is rare: mostly there
+// is room for it.
 #[cold]
 #[inline(never)]
 fn append_pieces(

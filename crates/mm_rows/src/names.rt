@@ -3,8 +3,8 @@
 use crate::Part::Text;
 use crate::Row;
 
-/// Names that differ in their length alone, or between their first bytes and their last, are others;
-/// names that are the same are one, however long they are.
+/// Names that differ in their length alone, or between their first bytes and their last, are
+/// others; names that are the same are one, however long they are.
 pub(crate) const NAMES: [Row; 8] = [
     Row {
         name: "symbols that differ in their length alone",

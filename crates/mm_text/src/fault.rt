@@ -81,7 +81,7 @@ pub enum TextFault<'a> {
     #[error("the files break {0:?}")]
     Load(LoadRule),
     /// The first fault met in the text.
-    #[error("file {file}, byte {at}: statement {statement}{words} breaks {rule:?}", words = LabelWords(.label))]
+    #[error("file {file}, byte {at}: statement {statement}{} breaks {rule:?}", LabelWords(.label))]
     Fault {
         rule: TextRule,
         /// The number of the handed file in which it stands, from 0.

@@ -70,8 +70,8 @@ impl Sought for Low {
     }
 }
 
-/// `$`, and what is neither a printable byte nor a space nor a line feed: where a comment may end or
-/// be wrong, or stands white space that is rare.
+/// `$`, and what is neither a printable byte nor a space nor a line feed: where a comment may end
+/// or be wrong, or stands white space that is rare.
 pub struct Odd;
 
 impl Sought for Odd {
