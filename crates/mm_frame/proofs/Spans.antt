@@ -5,7 +5,6 @@ use Rattle.std.specs.Option.{option_and_then, option_map}
 use Rattle.std.proofs.lemmas.Option.{slice_get_within, slice_get-map}
 use Rattle.std.proofs.lemmas.Bool.{cases_lt, cases_order, cases_Bool, and_parts, and_from, eqb-true, eq-eqb}
 use Rattle.std.specs.Map.{update}
-use Rattle.indexmap.specs.IndexMap.{IndexMap, get}
 use Rattle.mm_frame.specs.declared.pairs.Span.{Span}
 use Rattle.mm_frame.specs.Stated.{Stated, stated_by, IsLastSpan, IsLatestStated, AreOlder, AreLinked, is_same_key}
 use Rattle.mm_frame.proofs.Pushed.{get_kept, get_pushed, pushed_cases, get_before}
@@ -159,24 +158,24 @@ same_key p q is =
 key_same : (p q : ℕ × ℕ) → p ≡ q → is_same_key p q ≡ true
 key_same p q same = and_from (p.0 == q.0) (p.1 == q.1) (eq-eqb p.0 q.0 (ap (λ r. r.0) same)) (eq-eqb p.1 q.1 (ap (λ r. r.1) same))
 
-pub linked_push : {S : Type 0} (spans : List Span) (old new : IndexMap (ℕ × ℕ) ℕ S) (pair : ℕ × ℕ) (place : ℕ) → AreLinked spans old
-    → ((q : ℕ × ℕ) → get is_same_key new q ≡ update is_same_key (get is_same_key old) pair (Some (length spans)) q)
-    → AreLinked (spans ++ record { pair = pair; place = place; older = get is_same_key old pair } ∷ []) new
+pub linked_push : (spans : List Span) (old new : ℕ × ℕ → Option ℕ) (pair : ℕ × ℕ) (place : ℕ) → AreLinked spans old
+    → ((q : ℕ × ℕ) → new q ≡ update is_same_key old pair (Some (length spans)) q)
+    → AreLinked (spans ++ record { pair = pair; place = place; older = old pair } ∷ []) new
 linked_push spans old new pair place linked updates =
-    let s : Span = record { pair = pair; place = place; older = get is_same_key old pair } in
+    let s : Span = record { pair = pair; place = place; older = old pair } in
     let here = get_pushed spans s in
     let size = length-append spans (s ∷ []) in
     let next : suc (length spans) ≡ length (spans ++ s ∷ []) = omega arith in
     record {
-      last = λ p. subst (λ n. IsLastSpan (spans ++ s ∷ []) n p (get is_same_key new p)) next (elim (cases_Bool (is_same_key pair p)) [
+      last = λ p. subst (λ n. IsLastSpan (spans ++ s ∷ []) n p (new p)) next (elim (cases_Bool (is_same_key pair p)) [
         | inl is ↦
-            let value : get is_same_key new p ≡ Some (length spans) = updates p ∙ ap (λ b. cond b (Some (length spans)) (get is_same_key old p)) is in
+            let value : new p ≡ Some (length spans) = updates p ∙ ap (λ b. cond b (Some (length spans)) (old p)) is in
             subst (λ o. IsLastSpan (spans ++ s ∷ []) (suc (length spans)) p o) (sym value) (last_here (spans ++ s ∷ []) (length spans) p s here (same_key pair p is))
         | inr is_not ↦
-            let value : get is_same_key new p ≡ get is_same_key old p = updates p ∙ ap (λ b. cond b (Some (length spans)) (get is_same_key old p)) is_not in
+            let value : new p ≡ old p = updates p ∙ ap (λ b. cond b (Some (length spans)) (old p)) is_not in
             let other : pair ≢ p = λ same. let t = key_same pair p same in absurd (cc) in
             subst (λ o. IsLastSpan (spans ++ s ∷ []) (suc (length spans)) p o) (sym value)
-            (last_passed (spans ++ s ∷ []) (length spans) p (get is_same_key old p) s here other (last_grow spans (s ∷ []) (length spans) p (get is_same_key old p) (omega arith) (linked.last p)))
+            (last_passed (spans ++ s ∷ []) (length spans) p (old p) s here other (last_grow spans (s ∷ []) (length spans) p (old p) (omega arith) (linked.last p)))
       ]);
       older = λ i span there. elim (pushed_cases spans s i span there) [
         | inl before ↦
@@ -184,6 +183,6 @@ linked_push spans old new pair place linked updates =
             last_grow spans (s ∷ []) i span.pair span.older (omega arith) (linked.older i span before)
         | inr (at_end, same) ↦
             subst (λ (t : Span). IsLastSpan (spans ++ s ∷ []) i t.pair t.older) same
-            (subst (λ n. IsLastSpan (spans ++ s ∷ []) n pair (get is_same_key old pair)) (sym at_end) (last_grow spans (s ∷ []) (length spans) pair (get is_same_key old pair) (omega arith) (linked.last pair)))
+            (subst (λ n. IsLastSpan (spans ++ s ∷ []) n pair (old pair)) (sym at_end) (last_grow spans (s ∷ []) (length spans) pair (old pair) (omega arith) (linked.last pair)))
       ];
     }

@@ -1,7 +1,8 @@
 -- The pairs that `$d` state, and how they are linked. This file mirrors the code, and is cited by
 -- private contracts alone.
-use Rattle.std.specs.Prelude.{◌≡◌, ◌≢◌, ℕ, ◌<◌, ◌≤◌, List, length, slice_get, Option, Some, None}
-use Rattle.std.specs.Prelude.{Bool, ◌==◌, ◌&&◌}
+use Rattle.std.specs.Prelude.{◌≡◌, ◌≢◌, ℕ, ◌+◌, ◌*◌, ◌<◌, ◌≤◌, List, length, slice_get}
+use Rattle.std.specs.Prelude.{slice_index_or, Option, Some, None, Bool, ◌==◌, ◌&&◌}
+use Rattle.std.specs.Prelude.{if◌then◌else◌, nat_lt}
 use Rattle.indexmap.specs.IndexMap.{IndexMap, get}
 use Rattle.mm_frame.specs.declared.pairs.Span.{Span}
 
@@ -46,7 +47,22 @@ abbrev pub AreOlder : List Span → Type 0
 AreOlder spans =
     (i : ℕ) (span : Span) → slice_get spans i ≡ Some span → IsLastSpan spans i span.pair span.older
 
--- each span names the one of its pair before it, and the map names each pair's last
-pub record AreLinked {S : Type 0} (spans : List Span) (newest : IndexMap (ℕ × ℕ) ℕ S) : Type 0 where
-  pub last : (pair : ℕ × ℕ) → IsLastSpan spans (length spans) pair (get is_same_key newest pair)
+-- the place in the table of a pair of two numbers that are below 256
+abbrev pub near_place : ℕ × ℕ → Option ℕ
+near_place p =
+    if (nat_lt p.0 256) && (nat_lt p.1 256) then Some (p.0 * 256 + p.1) else None
+
+-- what the table has of a place of it, or else what the map has
+abbrev pub number_in : List (Option ℕ) → Option ℕ → Option ℕ → Option ℕ
+number_in near None far = far
+number_in near (Some place) far =
+    if nat_lt place (length near) then slice_index_or near place None else far
+
+-- the number of the newest span of a pair
+abbrev pub newest_of : {S : Type 0} → List (Option ℕ) → IndexMap (ℕ × ℕ) ℕ S → ℕ × ℕ → Option ℕ
+newest_of {S} near far p = number_in near (near_place p) (get is_same_key far p)
+
+-- each span names the one of its pair before it, and of each pair the newest one is known
+pub record AreLinked (spans : List Span) (newest : ℕ × ℕ → Option ℕ) : Type 0 where
+  pub last : (pair : ℕ × ℕ) → IsLastSpan spans (length spans) pair (newest pair)
   pub older : AreOlder spans

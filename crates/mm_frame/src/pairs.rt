@@ -1,9 +1,12 @@
 //! Distinct pairs of variables, by the places of the `$d` that state them.
 
 ghost use Rattle.std.specs.Prelude.{◌≡◌, ℕ, ◌+◌, ◌<◌, ◌≤◌, [], ◌∷◌, ◌++◌, length, map, slice_get};
-ghost use Rattle.std.specs.Prelude.{if◌then◌else◌, nat_lt, OnOk};
+ghost use Rattle.std.specs.Prelude.{if◌then◌else◌, nat_lt, OnOk, Some};
 ghost use Rattle.std.specs.Option.{option_and_then};
+ghost use Rattle.std.specs.Map.{update};
+ghost use Rattle.indexmap.specs.IndexMap.{spare};
 ghost use Rattle.mm_frame.specs.Stated.{IsLatestStated, IsLastSpan, AreOlder, stated_by};
+ghost use Rattle.mm_frame.specs.Stated.{near_place, newest_of, is_same_key};
 
 use crate::lists::at;
 use indexmap::IndexMap;
@@ -25,7 +28,11 @@ pub(crate) struct Span {
 #[derive(Drop)]
 pub struct Pairs {
     spans: Vec<Span>,
-    /// The newest span of each pair.
+    /// The newest span of each pair of two numbers below 256, at the place that they make. Nearly
+    /// all pairs are such, and are found sooner in this table than by a hash. It is empty before it
+    /// is prepared.
+    near: Vec<Option<usize>>,
+    /// That of each other pair.
     newest: IndexMap<(u32, u32), usize>,
 }
 
@@ -63,10 +70,63 @@ fn latest_from(spans: &[Span], newest: Option<usize>, before: usize) -> Option<u
     None
 }
 
+// The two numbers of a pair that has a place in the table are below this,
+const NEAR: u32 = 256;
+
+// and so many pairs are made of two of them.
+const NEAR_PAIRS: usize = 65_536;
+
+// The place of a pair in the table, if it may have one.
+#[inline(always)]
+fn near_place(pair: (u32, u32)) -> Option<usize>
+    ensures { result ≡ near_place pair }
+{
+    if pair.0 < NEAR && pair.1 < NEAR {
+        Some((pair.0 * NEAR + pair.1) as usize)
+    } else {
+        None
+    }
+}
+
+// The number of the newest span of a pair.
+#[inline(always)]
+fn newest_of(
+    near: &[Option<usize>],
+    far: &IndexMap<(u32, u32), usize>,
+    pair: (u32, u32),
+) -> Option<usize>
+    ensures { result ≡ newest_of near.now far.now pair }
+{
+    match near_place(pair) {
+        Some(place) if place < near.len() => near[place],
+        _ => far.get(&pair).copied(),
+    }
+}
+
+// Notes the number of the newest span of a pair.
+fn note_newest(
+    near: &mut Vec<Option<usize>>,
+    far: &mut IndexMap<(u32, u32), usize>,
+    pair: (u32, u32),
+    number: usize,
+)
+    requires room { 0 < spare far.old }
+    ensures noted { (q : ℕ × ℕ) → newest_of near.new.items far.new q
+        ≡ update is_same_key (newest_of near.old.items far.old) pair (Some number) q }
+    ensures room { spare far.old ≤ spare far.new + 1 }
+{
+    match near_place(pair) {
+        Some(place) if place < near.len() => near[place] = Some(number),
+        _ => {
+            let _ = far.insert(pair, number);
+        }
+    }
+}
+
 impl Model for Pairs {
     ghost use Rattle.std.specs.Prelude.{◌-◌, map, min, vec_len, vec_capacity};
     ghost use Rattle.indexmap.specs.IndexMap.{spare};
-    ghost use Rattle.mm_frame.specs.Stated.{PairTable, stated_by, AreLinked};
+    ghost use Rattle.mm_frame.specs.Stated.{PairTable, stated_by, newest_of, AreLinked};
 
     ghost Value = { PairTable };
 
@@ -75,7 +135,7 @@ impl Model for Pairs {
       room = min (vec_capacity p.spans - vec_len p.spans) (spare p.newest);
     } };
 
-    ghost invariant = { λ p. AreLinked p.spans.items p.newest };
+    ghost invariant = { λ p. AreLinked p.spans.items (newest_of p.near.items p.newest) };
 }
 
 impl Pairs {
@@ -85,6 +145,7 @@ impl Pairs {
     {
         Pairs {
             spans: Vec::new(alloc),
+            near: Vec::new(alloc),
             newest: IndexMap::new(alloc),
         }
     }
@@ -98,11 +159,21 @@ impl Pairs {
         self.newest.reserve(more)
     }
 
+    /// Makes the table of pairs of two numbers below 256, where there is no pair yet, and memory
+    /// for it. Where it isn't made they are found by their hash.
+    pub(crate) fn prepare(&mut self)
+        ensures { self.new ≡ self.old }
+    {
+        if self.spans.len() == 0 && self.near.len() == 0 {
+            let _ = self.near.resize(NEAR_PAIRS, None);
+        }
+    }
+
     /// The place of the latest `$d` before a place that states a pair.
     pub(crate) fn latest(&self, pair: (u32, u32), before: usize) -> Option<usize>
         ensures { IsLatestStated self.now.stated pair before result }
     {
-        latest_from(&self.spans, self.newest.get(&pair).copied(), before)
+        latest_from(&self.spans, newest_of(&self.near, &self.newest, pair), before)
     }
 
     /// Takes a pair of a `$d` in.
@@ -113,8 +184,8 @@ impl Pairs {
         ensures room { self.old.room ≤ self.new.room + 1 }
     {
         let number = self.spans.len();
-        let older = self.newest.get(&pair).copied();
+        let older = newest_of(&self.near, &self.newest, pair);
         let _ = self.spans.push(Span { pair, place, older });
-        let _ = self.newest.insert(pair, number);
+        note_newest(&mut self.near, &mut self.newest, pair, number);
     }
 }

@@ -29,7 +29,8 @@ const NAME_BYTES: usize = 384;
 
 const MOST_NAMES: usize = 65_536;
 
-// The table of names of two bytes is written too, so that it is made where there are so many bytes.
+// The tables of names of two bytes and of near pairs are written too, so that they are made where
+// there are so many bytes.
 const PAIRS_FROM: usize = 1_048_576;
 
 impl Scopes {
@@ -53,6 +54,7 @@ impl<'a> Tables<'a> {
         if bytes >= PAIRS_FROM {
             self.symbols.prepare_pairs();
             self.labels.prepare_pairs();
+            self.distinct.prepare();
         }
         let _ = self.hypotheses.reserve(bytes / HYPOTHESIS_BYTES);
         let _ = self.pairs.reserve(bytes / PAIR_BYTES);
