@@ -8,7 +8,7 @@ ghost use Rattle.indexmap.specs.IndexMap.{spare};
 ghost use Rattle.mm_frame.specs.Stated.{IsLatestStated, IsLastSpan, AreOlder, stated_by};
 ghost use Rattle.mm_frame.specs.Stated.{near_place, newest_of, is_same_key};
 
-use crate::lists::at;
+use crate::lists::{at, reserve_numbered};
 use indexmap::IndexMap;
 use std::alloc::{AllocError, Global};
 use std::marker::Model;
@@ -19,9 +19,9 @@ pub(crate) struct Span {
     /// The numbers of the two variables, the lesser one first.
     pub(crate) pair: (u32, u32),
     /// The place of the `$d`.
-    pub(crate) place: usize,
+    pub(crate) place: u32,
     /// The span of the same pair before it.
-    pub(crate) older: Option<usize>,
+    pub(crate) older: Option<u32>,
 }
 
 /// The pairs that were stated, in the order of their `$d`.
@@ -31,9 +31,9 @@ pub struct Pairs {
     /// The newest span of each pair of two numbers below 256, at the place that they make. Nearly
     /// all pairs are such, and are found sooner in this table than by a hash. It is empty before it
     /// is prepared.
-    near: Vec<Option<usize>>,
+    near: Vec<Option<u32>>,
     /// That of each other pair.
-    newest: IndexMap<(u32, u32), usize>,
+    newest: IndexMap<(u32, u32), u32>,
 }
 
 /// The pair of two numbers, the lesser one first.
@@ -44,17 +44,17 @@ pub(crate) fn in_order(a: u32, b: u32) -> (u32, u32)
 }
 
 // The span with a number.
-fn span_at(spans: &[Span], number: Option<usize>) -> Option<Span>
+fn span_at(spans: &[Span], number: Option<u32>) -> Option<Span>
     ensures { result ≡ option_and_then (λ n. slice_get spans.now n) number }
 {
     match number {
-        Some(number) => at(spans, number),
+        Some(number) => at(spans, number as usize),
         None => None,
     }
 }
 
 // The place of the latest span before a place, from the newest of a pair on.
-fn latest_from(spans: &[Span], newest: Option<usize>, before: usize) -> Option<usize>
+fn latest_from(spans: &[Span], newest: Option<u32>, before: usize) -> Option<usize>
     requires { AreOlder spans.now }
     ensures { (pair : ℕ × ℕ) → IsLastSpan spans.now (length spans.now) pair newest
         → IsLatestStated (map stated_by spans.now) pair before result }
@@ -62,7 +62,7 @@ fn latest_from(spans: &[Span], newest: Option<usize>, before: usize) -> Option<u
     let mut next = newest;
     for _ in 0..spans.len() {
         match span_at(spans, next) {
-            Some(span) if span.place < before => return Some(span.place),
+            Some(span) if (span.place as usize) < before => return Some(span.place as usize),
             Some(span) => next = span.older,
             None => return None,
         }
@@ -91,10 +91,10 @@ fn near_place(pair: (u32, u32)) -> Option<usize>
 // The number of the newest span of a pair.
 #[inline(always)]
 fn newest_of(
-    near: &[Option<usize>],
-    far: &IndexMap<(u32, u32), usize>,
+    near: &[Option<u32>],
+    far: &IndexMap<(u32, u32), u32>,
     pair: (u32, u32),
-) -> Option<usize>
+) -> Option<u32>
     ensures { result ≡ newest_of near.now far.now pair }
 {
     match near_place(pair) {
@@ -105,10 +105,10 @@ fn newest_of(
 
 // Notes the number of the newest span of a pair.
 fn note_newest(
-    near: &mut Vec<Option<usize>>,
-    far: &mut IndexMap<(u32, u32), usize>,
+    near: &mut Vec<Option<u32>>,
+    far: &mut IndexMap<(u32, u32), u32>,
     pair: (u32, u32),
-    number: usize,
+    number: u32,
 )
     requires room { 0 < spare far.old }
     ensures noted { (q : ℕ × ℕ) → newest_of near.new.items far.new q
@@ -132,7 +132,8 @@ impl Model for Pairs {
 
     ghost view = { λ p. record {
       stated = map stated_by p.spans.items;
-      room = min (vec_capacity p.spans - vec_len p.spans) (spare p.newest);
+      room = min (min (vec_capacity p.spans - vec_len p.spans) (spare p.newest))
+          (4294967295 - vec_len p.spans);
     } };
 
     ghost invariant = { λ p. AreLinked p.spans.items (newest_of p.near.items p.newest) };
@@ -150,12 +151,12 @@ impl Pairs {
         }
     }
 
-    /// Makes room for more spans.
+    /// Makes room for more spans, whose numbers are of 32 bits.
     pub(crate) fn reserve(&mut self, more: usize) -> Result<(), AllocError>
         ensures stated { self.new.stated ≡ self.old.stated }
         ensures room { OnOk result (more ≤ self.new.room) }
     {
-        self.spans.reserve(more)?;
+        reserve_numbered(&mut self.spans, more)?;
         self.newest.reserve(more)
     }
 
@@ -179,13 +180,18 @@ impl Pairs {
     /// Takes a pair of a `$d` in.
     pub(crate) fn add(&mut self, pair: (u32, u32), place: usize)
         requires room { 0 < self.old.room }
+        requires place { place < 4294967296 }
         ensures stated { self.new.stated
             ≡ self.old.stated ++ record { pair = pair; place = place } ∷ [] }
         ensures room { self.old.room ≤ self.new.room + 1 }
     {
-        let number = self.spans.len();
+        let number = self.spans.len() as u32;
         let older = newest_of(&self.near, &self.newest, pair);
-        let _ = self.spans.push(Span { pair, place, older });
+        let _ = self.spans.push(Span {
+            pair,
+            place: place as u32,
+            older,
+        });
         note_newest(&mut self.near, &mut self.newest, pair, number);
     }
 }

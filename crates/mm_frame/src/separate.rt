@@ -20,7 +20,8 @@ use std::alloc::AllocError;
 
 // Notes that a `$d` at a place states some pairs.
 fn state(distinct: &mut Pairs, pairs: &[(u32, u32)], place: usize)
-    requires { length pairs.now ≤ distinct.old.room }
+    requires room { length pairs.now ≤ distinct.old.room }
+    requires place { place < 4294967296 }
     ensures { distinct.new.stated ≡ distinct.old.stated ++ map (stated_at place) pairs.now }
 {
     for pair in pairs {
