@@ -1,5 +1,6 @@
 pub mod Sentence
 pub mod Active
+pub mod ShortPieces
 pub mod Pieces
 pub mod Rules
 pub mod Frame

@@ -39,7 +39,7 @@ pub use laws::{
     active_statements, one_frame, one_label_number, one_number, open_blocks, open_count,
 };
 pub use number::{LabelId, LabelKind, Sym};
-pub use piece::Piece;
+pub use piece::{Piece, ShortPiece};
 pub use rule::MeaningRule;
 pub use scheme::{Scheme, place_of};
 pub use tables::Part;

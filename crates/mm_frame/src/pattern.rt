@@ -1,7 +1,7 @@
 //! The patterns of an assertion and of its `$e`, as they are made once.
 
 ghost use Rattle.std.specs.Prelude.{◌≡◌, ℕ, ◌<◌, Some, IfOk, OnErr, OnOk, length, map};
-ghost use Rattle.std.specs.Prelude.{set, slice_get};
+ghost use Rattle.std.specs.Prelude.{set, slice_get, ◌++◌, ◌∷◌, []};
 ghost use Rattle.std.specs.Option.{is_none};
 ghost use Rattle.mm_frame.specs.declared.hypothesis.Hypothesis.{Hypothesis};
 ghost use Rattle.mm_frame.specs.declared.tables.Tables.{Tables};
@@ -13,7 +13,7 @@ ghost use Rattle.mm_frame.specs.Patterned.{HaveFirstPatterns, ArePatterned, AreE
 use crate::hypothesis::Hypothesis;
 use crate::lists::{at, reserve_numbered};
 use crate::number::Sym;
-use crate::piece::Piece;
+use crate::piece::{Piece, ShortPiece};
 use crate::scheme::place_of;
 use crate::tables::{Entry, NO_PART, Part, symbols_in};
 use std::alloc::AllocError;
@@ -50,9 +50,26 @@ fn piece_of(hypotheses: &[Hypothesis], endings: &[bool; 256], symbol: Sym) -> Pi
     }
 }
 
+// Adds a piece. For one with a number that can't be stored more is asked for than there can be, so
+// that it is refused.
+#[inline(always)]
+fn push_piece(pieces: &mut Vec<ShortPiece>, piece: Piece) -> Result<(), AllocError>
+    ensures pushed { OnOk result (pieces.new.items ≡ pieces.old.items ++ piece ∷ []) }
+    ensures longer { IsLonger pieces.old.items pieces.new.items }
+{
+    match ShortPiece::of(piece) {
+        Some(short) => pieces.push(short)?,
+        None => {
+            pieces.reserve(usize::MAX)?;
+            unreachable!()
+        }
+    }
+    Ok(())
+}
+
 // Adds the pattern of some symbols, and says where it stands.
 fn push_pattern(
-    pieces: &mut Vec<Piece>,
+    pieces: &mut Vec<ShortPiece>,
     hypotheses: &[Hypothesis],
     symbols: &[Sym],
 ) -> Result<Part, AllocError>
@@ -63,7 +80,7 @@ fn push_pattern(
     let start = pieces.len();
     let endings = endings_of(hypotheses);
     for symbol in symbols {
-        pieces.push(piece_of(hypotheses, &endings, *symbol))?;
+        push_piece(pieces, piece_of(hypotheses, &endings, *symbol))?;
     }
     reserve_numbered(pieces, 0)?;
     Ok(Part {
@@ -97,7 +114,7 @@ fn set_pattern(hypotheses: &mut Vec<Hypothesis>, place: usize, pattern: Part)
 
 // Adds the patterns of the `$e` among the hypotheses that stand at some places, and notes where.
 fn push_patterns(
-    pieces: &mut Vec<Piece>,
+    pieces: &mut Vec<ShortPiece>,
     hypotheses: &mut Vec<Hypothesis>,
     places: &[usize],
     log: &[Entry],
@@ -124,7 +141,7 @@ fn push_patterns(
 // Adds the patterns of an assertion and of its `$e`, of which some may stand there where memory
 // was refused.
 fn push_all(
-    pieces: &mut Vec<Piece>,
+    pieces: &mut Vec<ShortPiece>,
     hypotheses: &mut Vec<Hypothesis>,
     places: &[usize],
     log: &[Entry],
@@ -146,7 +163,7 @@ fn push_all(
 /// among the hypotheses that stand at some places. Notes in each `$e` where its pattern stands, and
 /// says where the assertion's stands.
 pub(crate) fn add_patterns(
-    pieces: &mut Vec<Piece>,
+    pieces: &mut Vec<ShortPiece>,
     hypotheses: &mut Vec<Hypothesis>,
     places: &[usize],
     log: &[Entry],

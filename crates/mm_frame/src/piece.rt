@@ -1,6 +1,10 @@
 //! Patterns: the symbols of an assertion, and of its `$e`, as a step by the assertion takes them.
 
+ghost use Rattle.std.specs.Prelude.{◌≡◌, ◌≤◌, MatchOption};
+ghost use Rattle.mm_frame.specs.ShortPieces.{number_in};
+
 use crate::number::Sym;
+use std::marker::Model;
 
 /// A symbol of a pattern.
 #[derive(Clone, Copy, PartialEq, Eq, Debug)]
@@ -9,4 +13,59 @@ pub enum Piece {
     Symbol(Sym),
     /// A variable: what replaces it is the value of the mandatory hypothesis at this place.
     Value(u32),
+}
+
+// A piece of a symbol is stored as the symbol's number, which is below this; and one of a value as
+// this and the place.
+const FIRST_VALUE: u32 = 2_147_483_648;
+
+/// A piece as it is stored, in half of the bytes: the pieces of most assertions aren't in the
+/// cache when a step reads them, so fewer bytes are fewer waits.
+#[derive(Clone, Copy)]
+pub struct ShortPiece(u32);
+
+impl Model for ShortPiece {
+    ghost use Rattle.mm_frame.specs.declared.piece.Piece.{Piece};
+    ghost use Rattle.mm_frame.specs.ShortPieces.{piece_by, stored, stored_by};
+
+    ghost Value = { Piece };
+
+    ghost view = { λ p. piece_by p.0 };
+
+    ghost inverse = { λ piece. record { 0 = stored piece } };
+
+    ghost inverse_ok = { λ p valid. stored_by p };
+}
+
+impl ShortPiece {
+    /// The piece, stored; none where its number is 2,147,483,648 or above.
+    pub fn of(piece: Piece) -> Option<ShortPiece>
+        ensures { MatchOption result (2147483648 ≤ number_in piece) (λ short. short ≡ piece) }
+    {
+        match piece {
+            Piece::Symbol(symbol) => {
+                if symbol.0 < FIRST_VALUE {
+                    return Some(ShortPiece(symbol.0));
+                }
+            }
+            Piece::Value(place) => {
+                if place < FIRST_VALUE {
+                    return Some(ShortPiece(FIRST_VALUE + place));
+                }
+            }
+        }
+        None
+    }
+
+    /// The piece that is stored.
+    #[inline(always)]
+    pub fn piece(self) -> Piece
+        ensures { result ≡ self }
+    {
+        if self.0 < FIRST_VALUE {
+            Piece::Symbol(Sym(self.0))
+        } else {
+            Piece::Value(self.0 - FIRST_VALUE)
+        }
+    }
 }

@@ -6,7 +6,7 @@ ghost use Rattle.mm_frame.specs.Pieces.{variables_of, IsNowhere, IsFirstAt};
 use crate::distinct::DistinctPair;
 use crate::hypothesis::Hypothesis;
 use crate::number::Sym;
-use crate::piece::Piece;
+use crate::piece::ShortPiece;
 use crate::tables::part_of;
 
 /// What a step by an assertion asks of it: the assertion is a scheme, of which the step makes an
@@ -18,14 +18,14 @@ pub struct Scheme<'b> {
     /// The mandatory distinct pairs, each once.
     pub pairs: &'b [DistinctPair],
     /// The pattern of the assertion.
-    pub conclusion: &'b [Piece],
+    pub conclusion: &'b [ShortPiece],
     /// The list in which the patterns of the `$e` are parts.
-    pub pieces: &'b [Piece],
+    pub pieces: &'b [ShortPiece],
 }
 
 impl<'b> Scheme<'b> {
     /// The pattern of one of this scheme's hypotheses that is a `$e`.
-    pub fn pattern(&self, hypothesis: &Hypothesis) -> &'b [Piece]
+    pub fn pattern(&self, hypothesis: &Hypothesis) -> &'b [ShortPiece]
         ensures { hypothesis.now.pattern.start ≤ hypothesis.now.pattern.end
             → hypothesis.now.pattern.end ≤ length self.now.pieces.now
             → result.now ≡ slice_range self.now.pieces.now hypothesis.now.pattern.start

@@ -12,7 +12,7 @@ use crate::lists::at;
 use crate::names::Names;
 use crate::number::{LabelId, Sym};
 use crate::pairs::{Pairs, in_order};
-use crate::piece::Piece;
+use crate::piece::ShortPiece;
 use crate::scopes::Scopes;
 use mm_text::Kind;
 use std::alloc::{AllocError, Global};
@@ -112,7 +112,7 @@ pub struct Tables<'a> {
     pub(crate) hypotheses: Vec<Hypothesis>,
     pub(crate) pairs: Vec<DistinctPair>,
     /// The patterns of all assertions and of their `$e`, one after the other.
-    pub(crate) pieces: Vec<Piece>,
+    pub(crate) pieces: Vec<ShortPiece>,
     /// The pairs that `$d` state.
     pub(crate) distinct: Pairs,
     /// How many bytes the statements' tokens have.

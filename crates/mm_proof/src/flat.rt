@@ -11,7 +11,7 @@ ghost use Rattle.mm_proof.specs.CodeVerify.{said_by, all_said_by, IsWithinPlaces
 use crate::buffer::Buffer;
 use crate::store::{Store, put_last};
 use crate::substitution::EXPRESSION_LIMIT;
-use mm_frame::{Piece, Sym};
+use mm_frame::{Piece, ShortPiece, Sym};
 use std::alloc::{AllocError, Global};
 
 /// Where an expression stands in the buffer.
@@ -189,7 +189,7 @@ fn append_pieces(
     symbols: &mut Buffer,
     stack: &[Entry],
     base: usize,
-    pieces: &[Piece],
+    pieces: &[ShortPiece],
 ) -> Result<bool, AllocError>
     requires parts { AreParts (length symbols.old) stack.now }
     requires within { AllByRecursion (IsWithinPlaces (length stack.now - base)) pieces.now }
@@ -203,7 +203,7 @@ fn append_pieces(
 {
     let start = symbols.len();
     for piece in pieces {
-        if !append_piece(symbols, stack, base, *piece, start)? {
+        if !append_piece(symbols, stack, base, piece.piece(), start)? {
             return Ok(false);
         }
     }
@@ -216,7 +216,7 @@ fn put_said(
     symbols: &mut Buffer,
     stack: &[Entry],
     base: usize,
-    pieces: &[Piece],
+    pieces: &[ShortPiece],
 ) -> Result<bool, AllocError>
     requires parts { AreParts (length symbols.old) stack.now }
     requires within { AllByRecursion (IsWithinPlaces (length stack.now - base)) pieces.now }
@@ -292,7 +292,7 @@ impl Store for Flat {
         }
     }
 
-    fn conclude(&mut self, base: usize, pieces: &[Piece]) -> Result<bool, AllocError> {
+    fn conclude(&mut self, base: usize, pieces: &[ShortPiece]) -> Result<bool, AllocError> {
         let start = self.symbols.len();
         if !put_said(&mut self.symbols, &self.stack, base, pieces)? {
             return Ok(false);

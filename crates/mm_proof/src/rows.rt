@@ -8,7 +8,7 @@ ghost use Rattle.mm_proof.specs.CodeVerify.{said_by, all_said_by, IsWithinPlaces
 
 use crate::store::{Store, put_last};
 use crate::substitution::{EXPRESSION_LIMIT, after_first, append_value};
-use mm_frame::{Piece, Sym};
+use mm_frame::{Piece, ShortPiece, Sym};
 use std::alloc::{AllocError, Global};
 
 /// A store that has a list of its own for each expression.
@@ -72,7 +72,7 @@ fn fill_said(
     made: &mut Vec<Sym>,
     rows: &[Vec<Sym>],
     base: usize,
-    pieces: &[Piece],
+    pieces: &[ShortPiece],
 ) -> Result<bool, AllocError>
     requires within { AllByRecursion (IsWithinPlaces (length (drop base (rows_in rows.now))))
         pieces.now }
@@ -85,7 +85,7 @@ fn fill_said(
 {
     made.clear();
     for piece in pieces {
-        if !append_said(made, rows, base, *piece)? {
+        if !append_said(made, rows, base, piece.piece())? {
             return Ok(false);
         }
     }
@@ -128,7 +128,7 @@ impl Store for Rows {
         self.stack.truncate(self.stack.len() - count);
     }
 
-    fn conclude(&mut self, base: usize, pieces: &[Piece]) -> Result<bool, AllocError> {
+    fn conclude(&mut self, base: usize, pieces: &[ShortPiece]) -> Result<bool, AllocError> {
         let mut row = Vec::new(self.alloc);
         if !fill_said(&mut row, &self.stack, base, pieces)? {
             return Ok(false);

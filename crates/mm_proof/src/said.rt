@@ -12,7 +12,7 @@ ghost use Rattle.mm_proof.specs.Stores.{numbers_in};
 ghost use Rattle.mm_proof.specs.CodeVerify.{said_by, all_said_by, IsWithinPlaces};
 
 use crate::flat::{Entry, value_start};
-use mm_frame::{Piece, Sym};
+use mm_frame::{Piece, ShortPiece, Sym};
 
 /// Puts a copy of a part of those that are used behind them.
 pub(crate) fn put_part_behind(room: &mut [Sym], used: usize, start: usize, end: usize)
@@ -110,7 +110,7 @@ pub(crate) fn put_pieces(
     used: usize,
     stack: &[Entry],
     base: usize,
-    pieces: &[Piece],
+    pieces: &[ShortPiece],
 ) -> Option<usize>
     requires parts { AreParts used stack.now }
     requires used { used ≤ length room.old }
@@ -126,7 +126,7 @@ pub(crate) fn put_pieces(
 {
     let mut end = used;
     for piece in pieces {
-        end = put_piece(room, end, stack, base, *piece)?;
+        end = put_piece(room, end, stack, base, piece.piece())?;
     }
     Some(end)
 }

@@ -2,7 +2,7 @@
 
 ghost use Rattle.std.specs.Prelude.{◌≡◌, ◌≤◌, [], ◌∷◌, ◌++◌, length, take, OnOk, OnErr};
 
-use mm_frame::{Piece, Sym};
+use mm_frame::{ShortPiece, Sym};
 use std::alloc::AllocError;
 
 /// A stack of expressions and a list of kept ones, both by the numbers of their symbols.
@@ -63,7 +63,7 @@ pub trait Store {
 
     /// What the pieces say of the entries from the base on takes their place, where it is within
     /// the limit of 1,048,576 symbols; else false is answered, and nothing is changed.
-    fn conclude(&mut self, base: usize, pieces: &[Piece]) -> Result<bool, AllocError>
+    fn conclude(&mut self, base: usize, pieces: &[ShortPiece]) -> Result<bool, AllocError>
         requires base { base ≤ length (stack self.old) }
         requires within { AllByRecursion (IsWithinPlaces (length (drop base (stack self.old))))
             pieces.now }

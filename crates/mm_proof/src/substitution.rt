@@ -8,7 +8,7 @@ ghost use Rattle.mm_proof.specs.Stores.{numbers_in};
 ghost use Rattle.mm_proof.specs.CodeVerify.{said_by, all_said_by, IsWithinPlaces};
 
 use crate::store::Store;
-use mm_frame::{Piece, Sym};
+use mm_frame::{Piece, ShortPiece, Sym};
 use std::alloc::AllocError;
 
 /// The most symbols of an expression on the stack, its type code counted.
@@ -124,7 +124,7 @@ fn after_said<'e, S: Store>(
 }
 
 /// Whether the symbols are what the pieces say.
-pub(crate) fn is_said<S: Store>(store: &S, base: usize, pieces: &[Piece], symbols: &[Sym]) -> bool
+pub(crate) fn is_said<S: Store>(store: &S, base: usize, pieces: &[ShortPiece], symbols: &[Sym]) -> bool
     requires within { AllByRecursion (IsWithinPlaces (length (drop base (S.stack store.now))))
         pieces.now }
     requires fits { length (S.stack store.now) < 2 ^ 64 }
@@ -133,7 +133,7 @@ pub(crate) fn is_said<S: Store>(store: &S, base: usize, pieces: &[Piece], symbol
 {
     let mut rest = symbols;
     for piece in pieces {
-        match after_said(store, base, *piece, rest) {
+        match after_said(store, base, piece.piece(), rest) {
             Some(others) => rest = others,
             None => return false,
         }

@@ -10,7 +10,7 @@ ghost use Rattle.mm_frame.specs.Taken.{TakenAs};
 ghost use Rattle.mm_proof.specs.Steps.{IsProofNumber};
 ghost use Rattle.mm_code.specs.Layout.{texts};
 
-use mm_frame::{Book, Found, LabelId, Piece, Sym, Taken};
+use mm_frame::{Book, Found, LabelId, Piece, ShortPiece, Sym, Taken};
 use mm_proof::{
     Flat, Line, Name, Parsed, ProofFault, ProofRule, Rows, Steps, Store, Used, by_spelling,
     by_word, limits_aside, listing, mark_before_any_step, one_fit, one_tree, one_verdict, one_word,
@@ -548,12 +548,16 @@ fn expect_conclusion<S: Store + Drop>(rt: &impl Abort, mut store: S) -> Result<(
 {
     store.push(&[Sym(1)])?;
     store.push(&[Sym(2), Sym(3), Sym(4)])?;
-    let pieces = [
-        Piece::Symbol(Sym(5)),
-        Piece::Value(0),
-        Piece::Symbol(Sym(6)),
-    ];
-    assert!(rt; store.conclude(1, &pieces)?);
+    let Some(first) = ShortPiece::of(Piece::Symbol(Sym(5))) else {
+        unreachable!()
+    };
+    let Some(value) = ShortPiece::of(Piece::Value(0)) else {
+        unreachable!()
+    };
+    let Some(last) = ShortPiece::of(Piece::Symbol(Sym(6))) else {
+        unreachable!()
+    };
+    assert!(rt; store.conclude(1, &[first, value, last])?);
     assert_eq!(rt; store.len(), 2);
     assert_eq!(rt; store.at(0), [Sym(1)].as_slice());
     assert_eq!(rt; store.at(1), [Sym(5), Sym(3), Sym(4), Sym(6)].as_slice());

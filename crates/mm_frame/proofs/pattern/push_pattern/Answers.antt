@@ -12,7 +12,7 @@ pub loop-symbol-preserved : goal.loop-symbol-preserved
 loop-symbol-preserved c =
     let (more, is, says) = c.loop-symbol.invariant in (
       more ++ c.piece_of.result ∷ [],
-      c.in_ok-push.ensures.items ∙ ap (λ ps. ps ++ c.piece_of.result ∷ []) is ∙ append_assoc c.args.pieces.now.items more (c.piece_of.result ∷ []),
+      c.in_ok-push_piece.ensures.pushed ∙ ap (λ ps. ps ++ c.piece_of.result ∷ []) is ∙ append_assoc c.args.pieces.now.items more (c.piece_of.result ∷ []),
       λ few. pieces_step (variables_of c.args.hypotheses.now) c.args.symbols.now c.loop-symbol.symbol-index _ more c.piece_of.result c.loop-symbol-test.true (says few) (c.piece_of.ensures few c.endings_of-endings.ensures),
     )
 

@@ -1,24 +1,25 @@
-use Rattle.std.proofs.Common.{drop, ap, ◌+◌, length, arith}
+use Rattle.std.proofs.Common.{◌≡◌, ◌++◌, drop, ap, ◌+◌, ◌∙◌, subst, length, arith}
+use Rattle.mm_frame.specs.declared.piece.Piece.{Piece}
 use Rattle.std.proofs.lemmas.List.{length-map}
 use Rattle.mm_proof.specs.Stores.{numbers_in, rows_in}
 use Rattle.mm_proof.specs.CodeVerify.{said_by, IsWithinPlaces}
-use Rattle.mm_proof.proofs.Values.{said_over, said_appended, no_piece, within_at}
+use Rattle.mm_proof.proofs.Values.{said_over, said_appended, within_at}
 use Rattle.mm_proof.proofs.rows.fill_said.Goals as goal
 
 pub append_said-requires-clause-within : goal.append_said-requires-clause-within
 append_said-requires-clause-within c =
-    within_at (IsWithinPlaces (length (drop c.args.base (rows_in c.args.rows.now)))) c.args.pieces.now c.loop-piece.piece-index _ c.requires.within c.loop-piece-test.true
+    rw (c.piece.ensures ∙ c.piece-item.is) (within_at (IsWithinPlaces (length (drop c.args.base (rows_in c.args.rows.now)))) c.args.pieces.now c.loop-piece.piece-index _ c.requires.within c.loop-piece-test.true)
 
 pub returns-then-not-branch : goal.returns-then-not-branch
 returns-then-not-branch c =
     let made = said_appended (said_by (drop c.args.base (rows_in c.args.rows.now))) c.args.pieces.now
-    c.loop-piece.piece-index no_piece (numbers_in c.loop-piece.made.items) (numbers_in c.append_said.new.made.items) c.loop-piece-test.true c.loop-piece.invariant
-    c.in_ok-append_said.ensures.made in
+    c.loop-piece.piece-index c.piece-item.result (numbers_in c.loop-piece.made.items) (numbers_in c.append_said.new.made.items) c.loop-piece-test.true c.loop-piece.invariant
+    (subst (λ (p : Piece). numbers_in c.append_said.new.made.items ≡ numbers_in c.loop-piece.made.items ++ said_by (drop c.args.base (rows_in c.args.rows.now)) p) (c.piece.ensures ∙ c.piece-item.is) c.in_ok-append_said.ensures.made) in
     said_over (said_by (drop c.args.base (rows_in c.args.rows.now))) c.args.pieces.now
     (c.loop-piece.piece-index + 1) 1048576 (omega (arith, c.in_ok-append_said.ensures.over c.if-not-branch.true, ap length made, length-map c.append_said.new.made.items (λ s. s.0)))
 
 pub loop-piece-preserved : goal.loop-piece-preserved
 loop-piece-preserved c =
     said_appended (said_by (drop c.args.base (rows_in c.args.rows.now))) c.args.pieces.now
-    c.loop-piece.piece-index no_piece (numbers_in c.loop-piece.made.items) (numbers_in c.append_said.new.made.items) c.loop-piece-test.true c.loop-piece.invariant
-    c.in_ok-append_said.ensures.made
+    c.loop-piece.piece-index c.piece-item.result (numbers_in c.loop-piece.made.items) (numbers_in c.append_said.new.made.items) c.loop-piece-test.true c.loop-piece.invariant
+    (subst (λ (p : Piece). numbers_in c.append_said.new.made.items ≡ numbers_in c.loop-piece.made.items ++ said_by (drop c.args.base (rows_in c.args.rows.now)) p) (c.piece.ensures ∙ c.piece-item.is) c.in_ok-append_said.ensures.made)
