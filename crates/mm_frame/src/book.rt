@@ -25,11 +25,12 @@ use crate::answer::{Found, RuleFault, Taken};
 use crate::distinct::DistinctPair;
 use crate::frame::Frame;
 use crate::framing::FrameLists;
+use crate::guesses::Guesses;
 use crate::hypothesis::Hypothesis;
 use crate::number::{LabelId, LabelKind, Sym};
 use crate::reads::{
-    find_label, is_label_active, label_hypotheses, label_kind, label_pairs, label_place,
-    label_scheme, label_symbols, label_text,
+    find_label, find_label_guessed, is_label_active, label_hypotheses, label_kind, label_pairs,
+    label_place, label_scheme, label_symbols, label_text,
 };
 use crate::rules::first_broken;
 use crate::scheme::Scheme;
@@ -151,6 +152,15 @@ impl<'a> Book<'a> {
         ensures sound { IsSound self.now.statements }
     {
         find_label(&self.tables, label)
+    }
+
+    /// What stands under a label, as `find` answers it. Where the guesses were handed in with this
+    /// label lately, it is found sooner.
+    pub fn find_guessed(&self, guesses: &mut Guesses, label: &[u8]) -> Found
+        ensures found { Finds self.now.statements label.now result }
+        ensures sound { IsSound self.now.statements }
+    {
+        find_label_guessed(&self.tables, guesses, label)
     }
 
     // Whether a labelled statement is active after the statements before a place.

@@ -8,6 +8,7 @@ mod distinct;
 mod frame;
 mod framing;
 mod growth;
+mod guesses;
 mod hypothesis;
 mod laws;
 mod lists;
@@ -34,6 +35,7 @@ pub use answer::{Found, RuleFault, Taken};
 pub use book::Book;
 pub use distinct::DistinctPair;
 pub use frame::Frame;
+pub use guesses::Guesses;
 pub use hypothesis::Hypothesis;
 pub use laws::{
     active_statements, one_frame, one_label_number, one_number, open_blocks, open_count,

@@ -1,9 +1,10 @@
 //! A name as a key, which two numbers tell from others where it is short.
 
-ghost use Rattle.std.specs.Prelude.{◌≡◌, ℕ, ◌+◌, ◌≤◌, length};
+ghost use Rattle.std.specs.Prelude.{◌≡◌, ℕ, ◌+◌, ◌<◌, ◌≤◌, length};
 ghost use Rattle.std.specs.Int.{w16, w32, w64};
 ghost use Rattle.mm_frame.specs.NameKey.{number_at, ends_of};
 
+use crate::guesses::GUESSES;
 use std::hash::{Hash, Hasher};
 use std::marker::Model;
 
@@ -12,6 +13,16 @@ const FEWEST_WITH_ENDS: usize = 2;
 
 // and one of so many bytes at most has no others.
 const MOST_IN_ENDS: usize = 16;
+
+// For a name's place among guesses, its back is turned by so many bits before it meets its front,
+// so that the two ends of a short name don't cancel each other.
+const BACK_TURN: u32 = 29;
+
+// Then they are spread by this factor, 2 to the 64 over the golden ratio,
+const SPREAD: u64 = 0x9e37_79b9_7f4a_7c15;
+
+// and the bits above so many, on which all bits of them have a say, are the place.
+const PLACE_SHIFT: u32 = 52;
 
 // Two bytes from a place on, as a number.
 fn two_at(bytes: &[u8], at: usize) -> u16
@@ -104,6 +115,15 @@ impl<'a> Name<'a> {
         ensures { result.now ≡ self.now }
     {
         self.bytes
+    }
+
+    /// The place of the guess of its number, which its ends tell.
+    #[inline(always)]
+    pub(crate) fn place(&self) -> usize
+        ensures below { result < 4096 }
+    {
+        let ends = self.front ^ self.back.rotate_left(BACK_TURN);
+        (ends.wrapping_mul(SPREAD) >> PLACE_SHIFT) as usize % GUESSES
     }
 }
 

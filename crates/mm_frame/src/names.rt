@@ -5,6 +5,7 @@ ghost use Rattle.std.specs.Prelude.{option_map, MatchOption, Contains, OnOk};
 ghost use Rattle.mm_frame.specs.NameTable.{AreByByte, IsPair, IsPairTable};
 ghost use Rattle.mm_frame.specs.Numbers.{with_name};
 
+use crate::guesses::Guesses;
 use crate::name::Name;
 use indexmap::IndexSet;
 use std::alloc::{AllocError, Global};
@@ -113,6 +114,20 @@ impl<'a> Names<'a> {
         self.table.len()
     }
 
+    // The number of the name that a key stands for, if it is one of them.
+    #[inline(always)]
+    fn find_key(&self, key: &Name) -> Option<u32>
+        ensures { MatchOption
+            result
+            (¬ (Contains self.now.names key.now))
+            (λ number. slice_get self.now.names number ≡ Some key.now) }
+    {
+        match self.table.get_index_of(key) {
+            Some(number) => Some(number as u32),
+            None => None,
+        }
+    }
+
     // The number of a name, if it is one of them, by its hash. It is a call, as a name of one byte
     // or two is told without it.
     #[inline(never)]
@@ -122,10 +137,31 @@ impl<'a> Names<'a> {
             (¬ (Contains self.now.names name.now))
             (λ number. slice_get self.now.names number ≡ Some name.now) }
     {
-        match self.table.get_index_of(&Name::new(name)) {
-            Some(number) => Some(number as u32),
-            None => None,
+        self.find_key(&Name::new(name))
+    }
+
+    // The number of a name, if it is one of them, by the guess at its place, or else by its hash.
+    // The guess is looked at first, and is replaced where it is that of another name.
+    #[inline(never)]
+    fn find_by_guess(&self, guesses: &mut Guesses, name: &[u8]) -> Option<u32>
+        ensures { MatchOption
+            result
+            (¬ (Contains self.now.names name.now))
+            (λ number. slice_get self.now.names number ≡ Some name.now) }
+    {
+        let key = Name::new(name);
+        let place = key.place();
+        let guess = guesses.at(place);
+        if let Some(other) = self.table.get_index(guess as usize) {
+            if *other == key {
+                return Some(guess);
+            }
         }
+        let found = self.find_key(&key);
+        if let Some(number) = found {
+            guesses.set(place, number);
+        }
+        found
     }
 
     /// The number of a name, if it is one of them.
@@ -145,6 +181,23 @@ impl<'a> Names<'a> {
             }
         }
         self.find_by_hash(name)
+    }
+
+    /// The number of a name, if it is one of them, as `find` tells it. A name that was looked up
+    /// lately is found sooner, by its guess.
+    #[inline(always)]
+    pub(crate) fn find_guessed(&self, guesses: &mut Guesses, name: &[u8]) -> Option<u32>
+        ensures { MatchOption
+            result
+            (¬ (Contains self.now.names name.now))
+            (λ number. slice_get self.now.names number ≡ Some name.now) }
+    {
+        if let Some(place) = pair_place(name) {
+            if place < self.by_pair.len() {
+                return self.by_pair[place];
+            }
+        }
+        self.find_by_guess(guesses, name)
     }
 
     /// The name with a number.

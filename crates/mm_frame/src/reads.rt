@@ -15,6 +15,7 @@ ghost use Rattle.mm_frame.specs.Patterned.{IsSchemeOf};
 
 use crate::answer::Found;
 use crate::distinct::DistinctPair;
+use crate::guesses::Guesses;
 use crate::hypothesis::Hypothesis;
 use crate::number::{LabelId, LabelKind, Sym};
 use crate::scheme::Scheme;
@@ -123,6 +124,17 @@ pub(crate) fn find_label(tables: &Tables, label: &[u8]) -> Found
     ensures { Finds (statements_of tables.now) label.now result }
 {
     match tables.labels.find(label) {
+        Some(number) => find_number(tables, LabelId(number)),
+        None => Found::None,
+    }
+}
+
+// What stands under a label, which is looked for by its guess first.
+pub(crate) fn find_label_guessed(tables: &Tables, guesses: &mut Guesses, label: &[u8]) -> Found
+    requires { AreTables tables.now }
+    ensures { Finds (statements_of tables.now) label.now result }
+{
+    match tables.labels.find_guessed(guesses, label) {
         Some(number) => find_number(tables, LabelId(number)),
         None => Found::None,
     }

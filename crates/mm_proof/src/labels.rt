@@ -7,7 +7,7 @@ ghost use Rattle.mm_proof.specs.Answer.{OnRule};
 ghost use Rattle.mm_proof.specs.CodeSteps.{IsUseOf, AreFor, BreaksLabels, ids_in, token_texts};
 
 use crate::fault::{ProofFault, ProofRule};
-use mm_frame::{Book, Found, Frame, LabelId};
+use mm_frame::{Book, Found, Frame, Guesses, LabelId};
 use mm_text::Token;
 
 /// What a label of a proof stands for.
@@ -21,12 +21,12 @@ enum Use {
 }
 
 // What the label stands for in the proof of the `$p` with a number.
-fn use_of(book: &Book, own: &Frame, id: LabelId, label: &[u8]) -> Use
+fn use_of(book: &Book, guesses: &mut Guesses, own: &Frame, id: LabelId, label: &[u8]) -> Use
     requires book { own.now.statements ≡ book.now.statements }
     requires own { (s : Sentence) × IsNumbered book.now.statements id.0 own.now.place s }
     ensures { IsUseOf book.now.statements own.now.place label.now result }
 {
-    match book.find(label) {
+    match book.find_guessed(guesses, label) {
         Found::Assertion(found) if found.0 < id.0 => Use::Number(found),
         Found::Hypothesis { id: found, .. } if found.0 < id.0 => {
             if own.active(found) {
@@ -45,6 +45,7 @@ fn use_of(book: &Book, own: &Frame, id: LabelId, label: &[u8]) -> Use
 pub(crate) fn fill_numbers(
     ids: &mut Vec<LabelId>,
     book: &Book,
+    guesses: &mut Guesses,
     own: &Frame,
     id: LabelId,
     labels: &[Token],
@@ -59,7 +60,7 @@ pub(crate) fn fill_numbers(
     ids.clear();
     let mut idle = false;
     for label in labels {
-        match use_of(book, own, id, label.text) {
+        match use_of(book, guesses, own, id, label.text) {
             Use::Number(number) => ids.push(number)?,
             Use::Idle => idle = true,
             Use::Unknown => {

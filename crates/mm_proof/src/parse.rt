@@ -26,7 +26,7 @@ use crate::labels::fill_numbers;
 use crate::moves::{NumberedMove, Parsed, Steps};
 use crate::picked::{Picked, fill_marked, fill_picked, unmark};
 use mm_code::{Code, CodeFault, CodeRule, fill_codes};
-use mm_frame::{Book, Frame, Hypothesis, LabelId};
+use mm_frame::{Book, Frame, Guesses, Hypothesis, LabelId};
 use mm_text::Token;
 use std::alloc::{AllocError, Global};
 
@@ -35,6 +35,8 @@ use std::alloc::{AllocError, Global};
 pub(crate) struct ParseLists<'a> {
     /// The numbers of the labels.
     ids: Vec<LabelId>,
+    /// Guesses of these numbers, which stay from one proof to the next.
+    guesses: Guesses,
     /// What the first numbers stand for: the mandatory hypotheses, and then the listed labels.
     pub(crate) entries: Vec<LabelId>,
     /// The letters, as white space cuts them.
@@ -51,6 +53,7 @@ impl<'a> ParseLists<'a> {
     pub(crate) fn new(alloc: Global) -> ParseLists<'a> {
         ParseLists {
             ids: Vec::new(alloc),
+            guesses: Guesses::new(),
             entries: Vec::new(alloc),
             letters: Vec::new(alloc),
             codes: Vec::new(alloc),
@@ -122,7 +125,7 @@ fn fill_normal(
     ensures fault { IfErr result (λ e. OnRule e (λ rule step. (step ≡ 0)
         × IsWholeFault (take own.now.place book.now.statements) (token_texts tokens.now) rule)) }
 {
-    fill_numbers(&mut lists.ids, book, own, id, tokens)?;
+    fill_numbers(&mut lists.ids, book, &mut lists.guesses, own, id, tokens)?;
     fill_names(&mut lists.moves, &lists.ids)?;
     fill_picked(&mut lists.picked.ids, &lists.moves)?;
     Ok(())
@@ -308,7 +311,7 @@ pub(crate) fn read_compressed<'a>(
             step: 0,
         });
     };
-    fill_numbers(&mut lists.ids, book, own, id, listed)?;
+    fill_numbers(&mut lists.ids, book, &mut lists.guesses, own, id, listed)?;
     match read_letters(&mut lists.letters, &mut lists.codes, letters) {
         Ok(()) => {}
         Err(fault) => return Err(letter_fault(fault)),

@@ -77,3 +77,16 @@ ${ $v x $. fx $f a x $. $}
 ${ $v x $. fy $f a x $. $}
 ",
 }];
+
+/// Labels of one byte, and labels of more than 16 whose first 8 and last 8 are the same.
+pub(crate) const SAME_ENDS: [File<'static>; 1] = [File {
+    name: b"s.mm",
+    bytes: b"\
+$c c w $.
+$v x y $.
+a $f w x $.
+b $f w y $.
+same-ends-one-same-ends $a c $.
+same-ends-two-same-ends $a c x $.
+",
+}];
