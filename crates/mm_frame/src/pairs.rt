@@ -4,7 +4,7 @@ ghost use Rattle.std.specs.Prelude.{◌≡◌, ℕ, ◌+◌, ◌<◌, ◌≤◌,
 ghost use Rattle.std.specs.Prelude.{if◌then◌else◌, nat_lt, OnOk, Some};
 ghost use Rattle.std.specs.Option.{option_and_then};
 ghost use Rattle.std.specs.Map.{update};
-ghost use Rattle.indexmap.specs.IndexMap.{spare};
+ghost use Rattle.indexmap.specs.IndexMap.{get, spare};
 ghost use Rattle.mm_frame.specs.Stated.{IsLatestStated, IsLastSpan, AreOlder, stated_by};
 ghost use Rattle.mm_frame.specs.Stated.{near_place, newest_of, is_same_key};
 
@@ -88,6 +88,16 @@ fn near_place(pair: (u32, u32)) -> Option<usize>
     }
 }
 
+// The number of the newest span of a pair, by the map. It is a call, since it is rare where there
+// is a table.
+#[cold]
+#[inline(never)]
+fn far_newest(far: &IndexMap<(u32, u32), u32>, pair: (u32, u32)) -> Option<u32>
+    ensures { result ≡ get is_same_key far.now pair }
+{
+    far.get(&pair).copied()
+}
+
 // The number of the newest span of a pair.
 #[inline(always)]
 fn newest_of(
@@ -99,7 +109,7 @@ fn newest_of(
 {
     match near_place(pair) {
         Some(place) if place < near.len() => near[place],
-        _ => far.get(&pair).copied(),
+        _ => far_newest(far, pair),
     }
 }
 

@@ -15,9 +15,9 @@ pub enum Piece {
     Value(u32),
 }
 
-// A piece of a symbol is stored as the symbol's number, which is below this; and one of a value as
-// this and the place.
-const FIRST_VALUE: u32 = 2_147_483_648;
+// A piece of a symbol is stored as the symbol's number, and one of a value as what the place leaves
+// of the greatest number. Either number is below this, so that the two are apart.
+const NUMBERS: u32 = 2_147_483_648;
 
 /// A piece as it is stored, in half of the bytes: the pieces of most assertions aren't in the
 /// cache when a step reads them, so fewer bytes are fewer waits.
@@ -25,6 +25,7 @@ const FIRST_VALUE: u32 = 2_147_483_648;
 pub struct ShortPiece(u32);
 
 impl Model for ShortPiece {
+    ghost use Rattle.std.specs.Prelude.{◌≤◌};
     ghost use Rattle.mm_frame.specs.declared.piece.Piece.{Piece};
     ghost use Rattle.mm_frame.specs.ShortPieces.{piece_by, stored, stored_by};
 
@@ -32,9 +33,11 @@ impl Model for ShortPiece {
 
     ghost view = { λ p. piece_by p.0 };
 
+    ghost invariant = { λ p. p.0 ≤ 4294967295 };
+
     ghost inverse = { λ piece. record { 0 = stored piece } };
 
-    ghost inverse_ok = { λ p valid. stored_by p };
+    ghost inverse_ok = { stored_by };
 }
 
 impl ShortPiece {
@@ -44,13 +47,13 @@ impl ShortPiece {
     {
         match piece {
             Piece::Symbol(symbol) => {
-                if symbol.0 < FIRST_VALUE {
+                if symbol.0 < NUMBERS {
                     return Some(ShortPiece(symbol.0));
                 }
             }
             Piece::Value(place) => {
-                if place < FIRST_VALUE {
-                    return Some(ShortPiece(FIRST_VALUE + place));
+                if place < NUMBERS {
+                    return Some(ShortPiece(u32::MAX - place));
                 }
             }
         }
@@ -62,10 +65,10 @@ impl ShortPiece {
     pub fn piece(self) -> Piece
         ensures { result ≡ self }
     {
-        if self.0 < FIRST_VALUE {
+        if self.0 < NUMBERS {
             Piece::Symbol(Sym(self.0))
         } else {
-            Piece::Value(self.0 - FIRST_VALUE)
+            Piece::Value(u32::MAX - self.0)
         }
     }
 }
