@@ -100,11 +100,7 @@ fn far_newest(far: &IndexMap<(u32, u32), u32>, pair: (u32, u32)) -> Option<u32>
 
 // The number of the newest span of a pair.
 #[inline(always)]
-fn newest_of(
-    near: &[Option<u32>],
-    far: &IndexMap<(u32, u32), u32>,
-    pair: (u32, u32),
-) -> Option<u32>
+fn newest_of(near: &[Option<u32>], far: &IndexMap<(u32, u32), u32>, pair: (u32, u32)) -> Option<u32>
     ensures { result ≡ newest_of near.now far.now pair }
 {
     match near_place(pair) {
@@ -184,7 +180,11 @@ impl Pairs {
     pub(crate) fn latest(&self, pair: (u32, u32), before: usize) -> Option<usize>
         ensures { IsLatestStated self.now.stated pair before result }
     {
-        latest_from(&self.spans, newest_of(&self.near, &self.newest, pair), before)
+        latest_from(
+            &self.spans,
+            newest_of(&self.near, &self.newest, pair),
+            before,
+        )
     }
 
     /// Takes a pair of a `$d` in.

@@ -124,7 +124,12 @@ fn after_said<'e, S: Store>(
 }
 
 /// Whether the symbols are what the pieces say.
-pub(crate) fn is_said<S: Store>(store: &S, base: usize, pieces: &[ShortPiece], symbols: &[Sym]) -> bool
+pub(crate) fn is_said<S: Store>(
+    store: &S,
+    base: usize,
+    pieces: &[ShortPiece],
+    symbols: &[Sym],
+) -> bool
     requires within { AllByRecursion (IsWithinPlaces (length (drop base (S.stack store.now))))
         pieces.now }
     requires fits { length (S.stack store.now) < 2 ^ 64 }

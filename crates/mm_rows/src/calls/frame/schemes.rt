@@ -1,8 +1,6 @@
 //! The scheme of an assertion, beside its frame.
 
-use mm_frame::{
-    Book, DistinctPair, Frame, Hypothesis, Piece, Scheme, ShortPiece, Sym, place_of,
-};
+use mm_frame::{Book, DistinctPair, Frame, Hypothesis, Piece, Scheme, ShortPiece, Sym, place_of};
 
 /// Whether the piece says the symbol, where these are the mandatory hypotheses.
 fn is_said(hypotheses: &[Hypothesis], piece: Piece, symbol: Sym) -> bool {
@@ -15,10 +13,11 @@ fn is_said(hypotheses: &[Hypothesis], piece: Piece, symbol: Sym) -> bool {
 /// Whether the pattern says the symbols.
 fn is_pattern(hypotheses: &[Hypothesis], pattern: &[ShortPiece], symbols: &[Sym]) -> bool {
     pattern.len() == symbols.len()
-        && pattern
-            .iter()
-            .zip(symbols)
-            .all(|(piece, symbol)| is_said(hypotheses, piece.piece(), *symbol))
+        && pattern.iter().zip(symbols).all(|(piece, symbol)| is_said(
+            hypotheses,
+            piece.piece(),
+            *symbol,
+        ))
 }
 
 /// Whether the hypothesis is a `$f`, or has the pattern of its symbols.
