@@ -13,6 +13,11 @@ abbrev pub number_in : Piece → ℕ
 number_in (Symbol symbol) = symbol.0
 number_in (Value place) = place
 
+-- a value replaces the piece
+abbrev pub IsReplaced : Piece → Type 0
+IsReplaced (Symbol symbol) = ⊥
+IsReplaced (Value place) = Unit {0}
+
 -- the piece that is stored as a number
 abbrev pub piece_by : ℕ → Piece
 piece_by n = if nat_lt n 2147483648 then Symbol (record { 0 = n }) else Value (4294967295 - n)

@@ -53,14 +53,14 @@ near_place p =
     if (nat_lt p.0 256) && (nat_lt p.1 256) then Some (p.0 * 256 + p.1) else None
 
 -- what the table has of a place of it, or else what the map has
-abbrev pub number_in : List (Option ℕ) → Option ℕ → Option ℕ → Option ℕ
-number_in near None far = far
-number_in near (Some place) far =
+abbrev pub newest_in : List (Option ℕ) → Option ℕ → Option ℕ → Option ℕ
+newest_in near None far = far
+newest_in near (Some place) far =
     if nat_lt place (length near) then slice_index_or near place None else far
 
 -- the number of the newest span of a pair
 abbrev pub newest_of : {S : Type 0} → List (Option ℕ) → IndexMap (ℕ × ℕ) ℕ S → ℕ × ℕ → Option ℕ
-newest_of {S} near far p = number_in near (near_place p) (get is_same_key far p)
+newest_of {S} near far p = newest_in near (near_place p) (get is_same_key far p)
 
 -- each span names the one of its pair before it, and of each pair the newest one is known
 pub record AreLinked (spans : List Span) (newest : ℕ × ℕ → Option ℕ) : Type 0 where

@@ -1,7 +1,8 @@
 //! Patterns: the symbols of an assertion, and of its `$e`, as a step by the assertion takes them.
 
 ghost use Rattle.std.specs.Prelude.{◌≡◌, ◌≤◌, MatchOption};
-ghost use Rattle.mm_frame.specs.ShortPieces.{number_in};
+ghost use Rattle.mm_frame.specs.declared.piece.Piece.TheVariants.{Symbol, Value};
+ghost use Rattle.mm_frame.specs.ShortPieces.{number_in, IsReplaced};
 
 use crate::number::Sym;
 use std::marker::Model;
@@ -58,6 +59,28 @@ impl ShortPiece {
             }
         }
         None
+    }
+
+    /// The symbol; none where a value replaces the piece. A loop over pieces asks for this and then
+    /// for the place: of `piece` the compiler makes both numbers before it asks which one it is.
+    #[inline(always)]
+    pub fn symbol(self) -> Option<Sym>
+        ensures { MatchOption result (IsReplaced self) (λ symbol. self ≡ Symbol symbol) }
+    {
+        if self.0 < NUMBERS {
+            Some(Sym(self.0))
+        } else {
+            None
+        }
+    }
+
+    /// The place of the mandatory hypothesis whose value replaces the piece.
+    #[inline(always)]
+    pub fn place(self) -> u32
+        requires { IsReplaced self }
+        ensures { self ≡ Value result }
+    {
+        u32::MAX - self.0
     }
 
     /// The piece that is stored.

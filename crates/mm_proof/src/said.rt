@@ -12,7 +12,7 @@ ghost use Rattle.mm_proof.specs.Stores.{numbers_in};
 ghost use Rattle.mm_proof.specs.CodeVerify.{said_by, all_said_by, IsWithinPlaces};
 
 use crate::flat::{Entry, value_start};
-use mm_frame::{Piece, ShortPiece, Sym};
+use mm_frame::{ShortPiece, Sym};
 
 /// Puts a copy of a part of those that are used behind them.
 pub(crate) fn put_part_behind(room: &mut [Sym], used: usize, start: usize, end: usize)
@@ -81,7 +81,7 @@ fn put_piece(
     used: usize,
     stack: &[Entry],
     base: usize,
-    piece: Piece,
+    piece: ShortPiece,
 ) -> Option<usize>
     requires parts { AreParts used stack.now }
     requires used { used ≤ length room.old }
@@ -94,13 +94,11 @@ fn put_piece(
     ensures front { take used room.new ≡ take used room.old }
     ensures long { length room.new ≡ length room.old }
 {
-    match piece {
-        Piece::Symbol(symbol) => put_symbol(room, used, symbol),
-        Piece::Value(place) => {
-            let entry = stack[base + place as usize];
-            put_part(room, used, value_start(entry), entry.end)
-        }
+    if let Some(symbol) = piece.symbol() {
+        return put_symbol(room, used, symbol);
     }
+    let entry = stack[base + piece.place() as usize];
+    put_part(room, used, value_start(entry), entry.end)
 }
 
 /// Puts what the pieces say of the entries from the base on behind the symbols that are used, and
@@ -126,7 +124,7 @@ pub(crate) fn put_pieces(
 {
     let mut end = used;
     for piece in pieces {
-        end = put_piece(room, end, stack, base, piece.piece())?;
+        end = put_piece(room, end, stack, base, *piece)?;
     }
     Some(end)
 }

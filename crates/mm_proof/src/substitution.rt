@@ -8,7 +8,7 @@ ghost use Rattle.mm_proof.specs.Stores.{numbers_in};
 ghost use Rattle.mm_proof.specs.CodeVerify.{said_by, all_said_by, IsWithinPlaces};
 
 use crate::store::Store;
-use mm_frame::{Piece, ShortPiece, Sym};
+use mm_frame::{ShortPiece, Sym};
 use std::alloc::AllocError;
 
 /// The most symbols of an expression on the stack, its type code counted.
@@ -107,7 +107,7 @@ fn after_value<'e>(value: &[Sym], symbols: &'e [Sym]) -> Option<&'e [Sym]>
 fn after_said<'e, S: Store>(
     store: &S,
     base: usize,
-    piece: Piece,
+    piece: ShortPiece,
     symbols: &'e [Sym],
 ) -> Option<&'e [Sym]>
     requires within { IsWithinPlaces (length (drop base (S.stack store.now))) piece }
@@ -117,9 +117,9 @@ fn after_said<'e, S: Store>(
         ((rest : List ℕ) → ¬ (numbers_in symbols.now ≡ front ++ rest))
         (λ rest. numbers_in symbols.now ≡ front ++ numbers_in rest.now) }
 {
-    match piece {
-        Piece::Symbol(symbol) => after_one(symbols, symbol),
-        Piece::Value(place) => after_value(value_at(store, base, place), symbols),
+    match piece.symbol() {
+        Some(symbol) => after_one(symbols, symbol),
+        None => after_value(value_at(store, base, piece.place()), symbols),
     }
 }
 
@@ -138,7 +138,7 @@ pub(crate) fn is_said<S: Store>(
 {
     let mut rest = symbols;
     for piece in pieces {
-        match after_said(store, base, piece.piece(), rest) {
+        match after_said(store, base, *piece, rest) {
             Some(others) => rest = others,
             None => return false,
         }

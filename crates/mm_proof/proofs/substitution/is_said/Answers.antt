@@ -9,14 +9,14 @@ use Rattle.mm_proof.proofs.substitution.is_said.Goals as goal
 
 pub after_said-requires-clause-within : goal.after_said-requires-clause-within
 after_said-requires-clause-within g c =
-    rw (c.piece.ensures ∙ c.piece-item.is) (within_at (IsWithinPlaces (length (drop c.args.base (g.S.Store.stack c.args.store.now)))) c.args.pieces.now c.loop-piece.piece-index _ c.requires.within c.loop-piece-test.true)
+    rw c.piece-item.is (within_at (IsWithinPlaces (length (drop c.args.base (g.S.Store.stack c.args.store.now)))) c.args.pieces.now c.loop-piece.piece-index _ c.requires.within c.loop-piece-test.true)
 
 pub returns-in-None : goal.returns-in-None
 returns-in-None g c = (
   λ f. absurd (false≢true f),
   λ is. absurd (said_none (said_by (drop c.args.base (g.S.Store.stack c.args.store.now))) c.args.pieces.now
       c.loop-piece.piece-index c.piece-item.result (numbers_in c.args.symbols.now) (numbers_in c.loop-piece.rest.now) c.loop-piece-test.true c.loop-piece.invariant
-      (subst (λ (p : Piece). (others : List ℕ) → ¬ (numbers_in c.loop-piece.rest.now ≡ said_by (drop c.args.base (g.S.Store.stack c.args.store.now)) p ++ others)) (c.piece.ensures ∙ c.piece-item.is) c.in-None.ensures) is),
+      (subst (λ (p : Piece). (others : List ℕ) → ¬ (numbers_in c.loop-piece.rest.now ≡ said_by (drop c.args.base (g.S.Store.stack c.args.store.now)) p ++ others)) c.piece-item.is c.in-None.ensures) is),
 )
 
 pub loop-piece-preserved : goal.loop-piece-preserved
@@ -24,7 +24,7 @@ loop-piece-preserved g c =
     said_step (said_by (drop c.args.base (g.S.Store.stack c.args.store.now))) c.args.pieces.now
     c.loop-piece.piece-index c.piece-item.result (numbers_in c.args.symbols.now) (numbers_in c.loop-piece.rest.now) (numbers_in c.in-Some.others.now) c.loop-piece-test.true
     c.loop-piece.invariant
-    (subst (λ (p : Piece). numbers_in c.loop-piece.rest.now ≡ said_by (drop c.args.base (g.S.Store.stack c.args.store.now)) p ++ numbers_in c.in-Some.others.now) (c.piece.ensures ∙ c.piece-item.is) c.in-Some.ensures)
+    (subst (λ (p : Piece). numbers_in c.loop-piece.rest.now ≡ said_by (drop c.args.base (g.S.Store.stack c.args.store.now)) p ++ numbers_in c.in-Some.others.now) c.piece-item.is c.in-Some.ensures)
 
 pub returns : goal.returns
 returns g c =
