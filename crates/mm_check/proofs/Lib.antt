@@ -20,3 +20,4 @@ pub mod Handed
 pub mod Rereading
 pub mod Listings
 pub mod Reports
+pub mod AlikeVerdicts

@@ -11,3 +11,4 @@ pub mod Marks
 pub mod Answer
 pub mod Judged
 pub mod Laws
+pub mod Alike

@@ -23,7 +23,7 @@ pub use ask::AskFault;
 pub use checked::Checked;
 pub use command::{Command, RunFault, run};
 pub use fault::{CheckFault, Refusal};
-pub use laws::{one_report, one_verdict, some_verdict};
+pub use laws::{alike_files_have_one_reply, one_report, one_verdict, some_verdict};
 pub use mm_frame::LabelId;
 pub use report::Report;
 pub use rule::Rule;

@@ -36,3 +36,11 @@ pub mod ItemTokens
 pub mod ReaderLaws
 pub mod PlaceLaws
 pub mod SettledLaws
+pub mod AlikeLists
+pub mod AlikeItems
+pub mod AlikeBeginnings
+pub mod AlikeEndings
+pub mod AlikeFronts
+pub mod AlikeReadings
+pub mod Dropped
+pub mod Hollowing

@@ -9,4 +9,5 @@ pub mod Blocks
 pub mod Token
 pub mod Empty
 pub mod Laws
+pub mod Alike
 pub mod Mirror

@@ -2,6 +2,7 @@
 -- alone speak of them, and lemmas join them to the definitions, which are the other files of
 -- specs/.
 pub mod Class
+pub mod Hollow
 pub mod Names
 pub mod Nest
 pub mod Next

@@ -1,6 +1,7 @@
 //! What holds of the tokens and of the readings of all files. A law is the contract of a function
 //! that does nothing: what it ensures is proved, and there is no need to call it.
 
+ghost use Rattle.mm_text.specs.Alike.{AlikeFilesAreReadAlike};
 ghost use Rattle.mm_text.specs.ItemLaws.{FilesArePutInOnce, InclusionsEnd, TokensFitFiles};
 ghost use Rattle.mm_text.specs.ItemLaws.{TopFileEndsLast};
 ghost use Rattle.mm_text.specs.Laws.{BeginningsBeginStatements, EachHasOneReading};
@@ -75,4 +76,12 @@ pub fn readings_are_balanced()
 /// read twice. Counted of a statement are its first token, its symbols and its proof.
 pub fn readings_fit()
     ensures { ReadingsFit }
+{}
+
+/// What comments say has no effect (the Metamath book, section 4.1.2): files with the same names that show
+/// the same tokens outside comments, on the same lines, have the same readings, but for the places
+/// of their tokens. If in one of them a comment is at fault, then in the other there is a fault of
+/// that rule on that line.
+pub fn alike_files_are_read_alike()
+    ensures { AlikeFilesAreReadAlike }
 {}

@@ -8,6 +8,7 @@ mod cursor;
 mod fault;
 mod file;
 mod handed;
+mod hollow;
 mod laws;
 mod load;
 mod names;
@@ -26,11 +27,11 @@ pub use fault::{LoadRule, TextFault, TextRule};
 pub use file::File;
 pub use handed::BYTE_LIMIT;
 pub use laws::{
-    beginnings_begin_statements, faults_end_longest_fronts, files_are_put_in_once, inclusions_end,
-    one_reading, readings_are_balanced, readings_fit, statements_are_formed_in_place,
-    tokens_are_longest_runs, tokens_fit_files, top_file_ends_last,
+    alike_files_are_read_alike, beginnings_begin_statements, faults_end_longest_fronts,
+    files_are_put_in_once, inclusions_end, one_reading, readings_are_balanced, readings_fit,
+    statements_are_formed_in_place, tokens_are_longest_runs, tokens_fit_files, top_file_ends_last,
 };
-pub use load::{LoadFault, read_all};
+pub use load::{HollowBytes, LoadFault, read_all, read_hollow};
 pub use statement::{Kind, Statement};
 pub use statements::Statements;
 pub use token::Token;

@@ -1,11 +1,13 @@
 //! Reading a device to its end, up to a limit.
 ghost use Rattle.std.specs.Prelude.{◌≡◌, ◌+◌, ◌<◌, ◌≤◌, ◌↔◌, length, OnOk, IfOk, IfSome, IsErrOf};
-ghost use Rattle.std.specs.Prelude.{vec_len, []};
+ghost use Rattle.std.specs.Prelude.{vec_len, [], ℕ, List};
+ghost use Rattle.mm_text.specs.Alike.{ShowAlike};
 ghost use Rattle.std.specs.Io.KnownBytes.{IsAtEnd};
 ghost use Rattle.mm_text.specs.Device.{faults_of, inner_of, CameWithin, CameSome, CameOver};
 ghost use Rattle.mm_text.specs.declared.load.LoadFault.TheVariants.{Memory};
 
 use crate::counted::{Counted, Source};
+use crate::hollow::Hollow;
 use std::alloc::{AllocError, Global};
 use thiserror::Error;
 
@@ -92,4 +94,64 @@ pub fn read_all<S: Source>(
         }
         bytes.extend_from_slice(&piece[..count])?;
     }
+}
+
+/// The bytes of a source without what its comments say. They show the same: outside comments the
+/// same tokens, or a fault of the same rule, on the same lines.
+#[derive(Drop)]
+pub struct HollowBytes {
+    pub bytes: Vec<u8>,
+    /// How many bytes the source gave.
+    pub count: usize,
+}
+
+/// Reads as `read_all` does, and leaves out what comments say.
+///
+/// # Errors
+///
+/// Those of `read_all`.
+pub fn read_hollow<S: Source>(
+    alloc: Global,
+    reader: &mut Counted<S>,
+    max: usize,
+) -> Result<HollowBytes, LoadFault>
+    requires { faults_of reader.old < u64.MAX }
+    ensures within { IfOk result (λ hollow. hollow.count ≤ max) }
+    ensures short { IfOk result (λ hollow. vec_len hollow.bytes ≤ hollow.count) }
+    ensures all { IfOk result (λ hollow. (all : List ℕ)
+        × IfSome (S.left (inner_of reader.old)) (λ left. all ≡ left)
+        × (length all ≡ hollow.count)
+        × ShowAlike all hollow.bytes.items) }
+    ensures end { OnOk result (IsAtEnd (S.left (inner_of reader.new))) }
+    ensures over { IsErrOf result LoadFault.TooLong →
+        CameOver (S.left (inner_of reader.old)) (S.left (inner_of reader.new)) max }
+    ensures too_long { IsErrOf result LoadFault.TooLong →
+        IfSome (S.left (inner_of reader.old)) (λ all. max < length all) }
+    ensures under { IsErrOf result LoadFault.Device →
+        CameWithin (S.left (inner_of reader.old)) (S.left (inner_of reader.new)) max }
+    ensures memory { IsErrOf result LoadFault.Memory →
+        CameSome (S.left (inner_of reader.old)) (S.left (inner_of reader.new)) max }
+    ensures device { IsErrOf result LoadFault.Device ↔
+        (faults_of reader.new ≡ faults_of reader.old + 1) }
+    ensures cause { IsErrOf result LoadFault.Device → S.may_fail (inner_of reader.old) }
+    ensures uncounted { ¬ IsErrOf result LoadFault.Device →
+        faults_of reader.new ≡ faults_of reader.old }
+{
+    let mut piece = [0; PIECE];
+    let mut hollow = Hollow::new(room_for(alloc, reader.length_hint().min(max)));
+    let mut count = 0;
+    loop {
+        let more = match reader.read(&mut piece) {
+            Ok(0) => break,
+            Ok(more) => more,
+            Err(_) => return Err(LoadFault::Device),
+        };
+        if more > max - count {
+            return Err(LoadFault::TooLong);
+        }
+        count += more;
+        hollow.take(&piece[..more])?;
+    }
+    let bytes = hollow.finish()?;
+    Ok(HollowBytes { bytes, count })
 }

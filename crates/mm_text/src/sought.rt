@@ -1,8 +1,9 @@
 //! The first byte of a kind that is looked for, many bytes at a time.
 
-ghost use Rattle.std.specs.Prelude.{◌≡◌, ℕ, ◌<◌, ◌≤◌, nat_lt, true, false, length};
+ghost use Rattle.std.specs.Prelude.{◌≡◌, ℕ, ◌<◌, ◌≤◌, ◌==◌, nat_lt, not, true, false, length};
 ghost use Rattle.std.specs.Prelude.{slice_index};
 ghost use Rattle.mm_text.specs.Mirror.Place.{is_plain};
+ghost use Rattle.mm_text.specs.Mirror.Hollow.{is_spoken};
 ghost use Rattle.mm_text.specs.Mirror.Sought.{IsRunIn, first_set};
 
 use std::simd::prelude::*;
@@ -97,6 +98,60 @@ impl Sought for Odd {
         let odd = unprintable & block.simd_ne(u8x64::splat(b'\n'))
             | block.simd_eq(u8x64::splat(b'$'));
         first_set(odd.to_bitmask(), 64)
+    }
+}
+
+/// `$` alone.
+pub struct Dollar;
+
+impl Sought for Dollar {
+    ghost passed = { λ b. not (b == 36) };
+
+    ghost lanes = { 64 };
+
+    #[inline(always)]
+    fn lanes() -> usize {
+        64
+    }
+
+    fn is_passed(byte: u8) -> bool {
+        byte != b'$'
+    }
+
+    #[inline(always)]
+    fn passed_run(bytes: &[u8], at: usize) -> usize {
+        let block = u8x64::from_slice(&bytes[at..]);
+        first_set(block.simd_eq(u8x64::splat(b'$')).to_bitmask(), 64)
+    }
+}
+
+/// `$`, line feeds, and what is neither a printable byte nor a space: what isn't simply left out of
+/// a comment.
+pub struct Spoken;
+
+impl Sought for Spoken {
+    ghost passed = { is_spoken };
+
+    ghost lanes = { 64 };
+
+    #[inline(always)]
+    fn lanes() -> usize {
+        64
+    }
+
+    fn is_passed(byte: u8) -> bool {
+        byte >= b' ' && byte <= b'~' && byte != b'$'
+    }
+
+    #[inline(always)]
+    fn passed_run(bytes: &[u8], at: usize) -> usize {
+        let block = u8x64::from_slice(&bytes[at..]);
+        // From a space on to `~` there are 95 bytes.
+        let unprintable = (block - u8x64::splat(b' ')).simd_ge(u8x64::splat(95));
+        first_set(
+            (unprintable | block.simd_eq(u8x64::splat(b'$'))).to_bitmask(),
+            64,
+        )
     }
 }
 

@@ -3,3 +3,4 @@ pub mod Asked
 pub mod FilesRead
 pub mod Runs
 pub mod Tellings
+pub mod WholeFiles

@@ -3,7 +3,7 @@ use Rattle.std.proofs.Common.{◌≡◌, ℕ, List, codes, Option, Result, Ok, E
 use Rattle.mm_text.specs.declared.counted.Counted.{Counted}
 use Rattle.mm_text.specs.Device.{faults_of, inner_of}
 use Rattle.mm_text.specs.Files.{PlainFile, total_bytes}
-use Rattle.mm_check.specs.Reply.{WritesBeginningOf}
+use Rattle.mm_check.specs.Reply.{IsReplyTo, WritesBeginningOf}
 use Rattle.mm_check.specs.declared.command.Command.{Command}
 use Rattle.mm_check.specs.declared.command.RunFault.{RunFault}
 use Rattle.mm_check.specs.declared.command.RunFault.TheVariants as run
@@ -44,13 +44,12 @@ stops_run contents holds may_fail command names max run.Memory files old new hel
 
 pub stops_at_run : {O T : Type 0} (contents : O → Option (List ℕ)) (holds : List ℕ → Option (List ℕ)) (may_fail : List ℕ → Type 0)
     (command : Command) (names : List (List ℕ)) (max : ℕ) (r : Result T Stop) (fault : RunFault) (given files : List PlainFile) (old new : Counted O)
-    → IsErrAnd r (λ stop. stop ≡ stop_of fault) → given ≡ files → AreHeld holds names files → total_bytes files ≤ max
+    → IsErrAnd r (λ stop. stop ≡ stop_of fault) → ((text : List ℕ) (status : ℕ) → IsReplyTo given command text status → IsReplyTo files command text status) → AreHeld holds names files → total_bytes files ≤ max
     → (IsErrOf (run_error fault) run.Device → WritesBeginningOf given command (contents (inner_of old)) (contents (inner_of new)))
     → (IsErrOf (run_error fault) run.Memory → inner_of new ≡ inner_of old)
     → (IsErrOf (run_error fault) run.Device → faults_of new ≡ faults_of old + 1)
     → ((IsErrOf (run_error fault) run.Device → ⊥) → faults_of new ≡ faults_of old)
     → IfErr r (λ stop. StopsRun contents holds may_fail command names max stop old new)
 stops_at_run contents holds may_fail command names max r fault given files old new is same held within device memory counted uncounted =
-    let Begins : List PlainFile → Type 0 = λ list. WritesBeginningOf list command (contents (inner_of old)) (contents (inner_of new)) in
     error_keeps r (stop_of fault) (λ stop. StopsRun contents holds may_fail command names max stop old new) is
-    (stops_run contents holds may_fail command names max fault files old new held within (λ e. subst Begins same (device e)) memory counted uncounted)
+    (stops_run contents holds may_fail command names max fault files old new held within (λ e. let (text, status, reply, beginning) = device e in (text, status, same text status reply, beginning)) memory counted uncounted)

@@ -1,3 +1,4 @@
 pub mod Ending
 pub mod Folder
 pub mod Words
+pub mod ReadFiles

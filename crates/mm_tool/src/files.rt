@@ -1,15 +1,27 @@
 //! Reading the files that the words name.
 
-ghost use Rattle.std.specs.Prelude.{◌≡◌, ◌<◌, ◌≤◌, length, IfOk, IfErr, IfSome, IsErrOf, map};
-ghost use Rattle.std.specs.Prelude.{vec_len};
-ghost use Rattle.mm_text.specs.Files.{total_bytes};
+ghost use Rattle.std.specs.Prelude.{◌≡◌, ◌<◌, ◌≤◌, ℕ, List, length, map};
+ghost use Rattle.std.specs.Prelude.{IfOk, IfErr, IfSome, IsErrOf};
+ghost use Rattle.std.specs.List.{AllZip};
+ghost use Rattle.mm_text.specs.Device.{faults_of, inner_of};
+ghost use Rattle.mm_text.specs.Files.{PlainFile, total_bytes};
 ghost use Rattle.mm_tool.specs.Folder.{AreHeld, IsFileFault, IsHeld, plain_read};
+ghost use Rattle.mm_tool.specs.ReadFiles.{AreReadAs, IsReadAs};
 ghost use Rattle.mm_tool.specs.declared.files.FileFault.TheVariants.{Memory};
 
 use crate::folder::Folder;
-use mm_text::{Counted, LoadFault, read_all};
+use mm_text::{Counted, HollowBytes, LoadFault, Source, read_all, read_hollow};
 use std::alloc::{AllocFailed, Global};
 use thiserror::Error;
+
+/// Whether what comments say is kept as a file is read.
+#[derive(Clone, Copy, PartialEq, Eq, Debug)]
+pub(crate) enum Comments {
+    Kept,
+    /// It is left out, but for line feeds and faults, as it changes no reply to `check`: a file then
+    /// takes less memory. Other commands, and proofs in files of their own, need files as they are.
+    LeftOut,
+}
 
 /// A file that was read to its end.
 #[derive(Drop)]
@@ -17,6 +29,8 @@ pub(crate) struct ReadFile<'a> {
     /// The word that names it.
     pub(crate) name: &'a str,
     pub(crate) bytes: Vec<u8>,
+    /// How many bytes the file holds.
+    pub(crate) count: usize,
 }
 
 /// Why not all files were read.
@@ -41,16 +55,44 @@ impl<'a, T: Drop> From<AllocFailed<T>> for FileFault<'a> {
     }
 }
 
+/// Reads a source to its end, at most `max` bytes.
+fn read_bytes<S: Source>(
+    alloc: Global,
+    reader: &mut Counted<S>,
+    max: usize,
+    comments: Comments,
+) -> Result<HollowBytes, LoadFault>
+    requires { faults_of reader.old < u64.MAX }
+    ensures within { IfOk result (λ read. read.count ≤ max) }
+    ensures read { IfOk result (λ read. (all : List ℕ)
+        × IfSome (S.left (inner_of reader.old)) (λ left. all ≡ left)
+        × (length all ≡ read.count) × AreReadAs comments all read.bytes.items) }
+    ensures too_long { IsErrOf result LoadFault.TooLong →
+        IfSome (S.left (inner_of reader.old)) (λ all. max < length all) }
+    ensures cause { IsErrOf result LoadFault.Device → S.may_fail (inner_of reader.old) }
+{
+    match comments {
+        Comments::LeftOut => read_hollow(alloc, reader, max),
+        Comments::Kept => {
+            let bytes = read_all(alloc, reader, max)?;
+            let count = bytes.len();
+            Ok(HollowBytes { bytes, count })
+        }
+    }
+}
+
 /// Reads one file, which may hold at most `max` bytes.
 fn read_file<'a, F: Folder>(
     alloc: Global,
     folder: &F,
     name: &'a str,
     max: usize,
+    comments: Comments,
 ) -> Result<ReadFile<'a>, FileFault<'a>>
-    ensures name { IfOk result (λ file. file.name.now ≡ name.entry.now) }
-    ensures within { IfOk result (λ file. vec_len file.bytes ≤ max) }
-    ensures is_held { IfOk result (λ file. IsHeld (F.holds folder.now) (plain_read file)) }
+    ensures within { IfOk result (λ file. file.count ≤ max) }
+    ensures read { IfOk result (λ file. (whole : PlainFile)
+        × (whole.name ≡ name.entry.now) × IsHeld (F.holds folder.now) whole
+        × (length whole.bytes ≡ file.count) × IsReadAs comments whole (plain_read file)) }
     ensures named { (word : _) → result ≡ Err (FileFault.CannotRead word) → word ≡ name.entry }
     ensures unreadable { (word : _) → result ≡ Err (FileFault.CannotRead word)
         → F.may_fail folder.now name.entry.now }
@@ -60,8 +102,8 @@ fn read_file<'a, F: Folder>(
     let Ok(file) = folder.open(name) else {
         return Err(FileFault::CannotRead(name));
     };
-    match read_all(alloc, &mut Counted::new(file), max) {
-        Ok(bytes) => Ok(ReadFile { name, bytes }),
+    match read_bytes(alloc, &mut Counted::new(file), max, comments) {
+        Ok(HollowBytes { bytes, count }) => Ok(ReadFile { name, bytes, count }),
         Err(LoadFault::Device) => Err(FileFault::CannotRead(name)),
         Err(LoadFault::TooLong) => Err(FileFault::TooLong),
         Err(LoadFault::Memory) => Err(FileFault::Memory),
@@ -80,18 +122,20 @@ pub(crate) fn read_files<'a, F: Folder>(
     folder: &F,
     names: &[&'a str],
     max: usize,
+    comments: Comments,
 ) -> Result<Vec<ReadFile<'a>>, FileFault<'a>>
-    ensures are_held { IfOk result (λ files. AreHeld (F.holds folder.now)
-        (map (λ n. n.now) names.now) (map plain_read files.items)) }
-    ensures within { IfOk result (λ files. total_bytes (map plain_read files.items) ≤ max) }
+    ensures read { IfOk result (λ files. (wholes : List PlainFile)
+        × AreHeld (F.holds folder.now) (map (λ n. n.now) names.now) wholes
+        × (total_bytes wholes ≤ max)
+        × AllZip (IsReadAs comments) wholes (map plain_read files.items)) }
     ensures fault { IfErr result (IsFileFault (F.holds folder.now) (F.may_fail folder.now)
         (map (λ n. n.now) names.now) max) }
 {
     let mut files = Vec::new(alloc);
     let mut left = max;
     for name in names {
-        let file = read_file(alloc, folder, *name, left)?;
-        left -= file.bytes.len();
+        let file = read_file(alloc, folder, *name, left, comments)?;
+        left -= file.count;
         files.push(file)?;
     }
     Ok(files)

@@ -9,15 +9,17 @@ ghost use Rattle.mm_check.specs.Status.{number_of};
 ghost use Rattle.mm_tool.specs.Ending.{BreaksOff, Ends, EndsUnread, AnswersWords, IsReplyOver};
 ghost use Rattle.mm_tool.specs.Ending.{IsExplanation, IsUnknownCode, IsExplanationFault, Stops};
 ghost use Rattle.mm_tool.specs.Ending.{StopsRun, TakesWhole, TellsLine, error_line, stop_status};
+ghost use Rattle.mm_check.specs.declared.command.Command.TheVariants.{Check};
 ghost use Rattle.mm_tool.specs.Folder.{plain_read};
+ghost use Rattle.mm_tool.specs.declared.files.Comments.TheVariants.{LeftOut};
 ghost use Rattle.mm_tool.specs.declared.stop.Stop.TheVariants.{CannotWrite};
 
-use crate::files::{FileFault, ReadFile, read_files};
+use crate::files::{Comments, FileFault, ReadFile, read_files};
 use crate::folder::{Arguments, Folder};
 use crate::stop::Stop;
 use crate::texts::{RuleText, Texts};
 use crate::words::{Request, request_of};
-use mm_check::{Command, Status, run};
+use mm_check::{Command, Status, alike_files_have_one_reply, run};
 use mm_text::{BYTE_LIMIT, Counted, File};
 use std::alloc::{AllocError, Global};
 use std::io::Write;
@@ -65,6 +67,17 @@ fn plain_files<'f>(alloc: Global, files: &'f [ReadFile<'_>]) -> Result<Vec<File<
     Ok(plain)
 }
 
+/// What becomes of comments as files are read for a command. Its law is about `check`, and about
+/// files that `check` takes.
+fn comments_for(command: &Command<'_>, max: usize) -> Comments
+    ensures { result ≡ LeftOut → (command.now ≡ Check) × (max ≤ BYTE_LIMIT) }
+{
+    match command {
+        Command::Check if max <= BYTE_LIMIT => Comments::LeftOut,
+        _ => Comments::Kept,
+    }
+}
+
 /// Runs a command over the database in the files with these names, which may hold at most `max`
 /// bytes in all, and writes the reply.
 ///
@@ -89,7 +102,8 @@ pub(crate) fn run_over<'a, F: Folder, O: Write>(
         (F.may_fail folder.now) command.now
         (map (λ name. name.now) names.now) max stop out.old out.new) }
 {
-    let files = match read_files(alloc, folder, names, max) {
+    alike_files_have_one_reply();
+    let files = match read_files(alloc, folder, names, max, comments_for(command, max)) {
         Ok(files) => files,
         Err(FileFault::CannotRead(name)) => return Err(Stop::CannotRead(name)),
         Err(FileFault::TooLong) => return reply(out, TOO_LONG, Status::Stopped),

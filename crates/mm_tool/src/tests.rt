@@ -19,7 +19,7 @@ tpl $a term ( t + r ) $.
 th $p term ( 0 + 0 ) $= tze tze tpl $.
 ";
 
-const ENTRIES: [Entry; 3] = [
+const ENTRIES: [Entry; 4] = [
     Entry {
         name: "first.mm",
         bytes: FIRST,
@@ -33,6 +33,11 @@ const ENTRIES: [Entry; 3] = [
     Entry {
         name: "four.mm",
         bytes: b"1234",
+        breaks: false,
+    },
+    Entry {
+        name: "twice.mm",
+        bytes: b"$( one\ntwo $)\n$c 0 $.\n$c 0 $.\n",
         breaks: false,
     },
 ];
@@ -75,6 +80,15 @@ fn replies(rt: HostRuntime) {
         assert!(rt; out.as_slice() == reply, "at {words:?}");
         assert!(rt; err.is_empty(), "at {words:?}");
     }
+}
+
+// What a comment says is left out as the file is read, but not its line feeds.
+#[test]
+fn counts_the_lines_of_comments(rt: HostRuntime) {
+    let (status, out, err) = outcome_of(rt.alloc(), &["mm", "check", "twice.mm"]);
+    assert_eq!(rt; status, 1);
+    assert!(rt; out.as_slice() == b"no twice.mm 4 - M2 0\n".as_slice());
+    assert!(rt; err.is_empty());
 }
 
 // The file can be opened, and its last read fails.

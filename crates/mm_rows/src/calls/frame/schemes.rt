@@ -2,22 +2,27 @@
 
 use mm_frame::{Book, DistinctPair, Frame, Hypothesis, Piece, Scheme, ShortPiece, Sym, place_of};
 
-/// Whether the piece says the symbol, where these are the mandatory hypotheses.
-fn is_said(hypotheses: &[Hypothesis], piece: Piece, symbol: Sym) -> bool {
-    match piece {
-        Piece::Symbol(same) => same == symbol && place_of(hypotheses, symbol).is_none(),
-        Piece::Value(place) => place_of(hypotheses, symbol) == Some(place as usize),
+/// Whether the piece says the symbol, where these are the mandatory hypotheses, also as it is asked
+/// for its symbol and its place.
+fn is_said(hypotheses: &[Hypothesis], piece: ShortPiece, symbol: Sym) -> bool {
+    let place = place_of(hypotheses, symbol);
+    match piece.symbol() {
+        Some(same) => {
+            same == symbol && place.is_none() && piece.piece() == Piece::Symbol(symbol)
+        }
+        None => {
+            place == Some(piece.place() as usize) && piece.piece() == Piece::Value(piece.place())
+        }
     }
 }
 
 /// Whether the pattern says the symbols.
 fn is_pattern(hypotheses: &[Hypothesis], pattern: &[ShortPiece], symbols: &[Sym]) -> bool {
     pattern.len() == symbols.len()
-        && pattern.iter().zip(symbols).all(|(piece, symbol)| is_said(
-            hypotheses,
-            piece.piece(),
-            *symbol,
-        ))
+        && pattern
+            .iter()
+            .zip(symbols)
+            .all(|(piece, symbol)| is_said(hypotheses, *piece, *symbol))
 }
 
 /// Whether the hypothesis is a `$f`, or has the pattern of its symbols.

@@ -1,9 +1,12 @@
 -- What `read_files`, `reply` and `run` say of their failing is what is said of the command over the files.
-use Rattle.std.proofs.Common.{map, ap, ◌∙◌, subst}
+use Rattle.std.proofs.Common.{map, ap, ◌∙◌, subst, inl}
 use Rattle.mm_text.specs.Files.{plain_file}
 use Rattle.mm_tool.specs.Folder.{IsFileFault, plain_read}
 use Rattle.mm_tool.specs.declared.files.FileFault.{FileFault}
+use Rattle.mm_check.specs.Reply.{IsReplyTo}
+use Rattle.mm_check.specs.Status.{number_of}
 use Rattle.mm_tool.proofs.Runs.{stops_at_run, stops_too_long}
+use Rattle.mm_tool.proofs.WholeFiles.{reply_over}
 use Rattle.mm_tool.proofs.serve.run_over.Goals as goal
 
 pub returns-in-Err-TooLong-clause-stops : goal.returns-in-Err-TooLong-clause-stops
@@ -15,9 +18,28 @@ returns-in-Err-TooLong-clause-stops g c =
 
 pub returns-in_err-run-clause-stops : goal.returns-in_err-run-clause-stops
 returns-in_err-run-clause-stops g c =
+    let (wholes, held, within, reads) = c.in-Ok.ensures.read in
+    let given = ap (map plain_file) c.deref-2.ensures.value ∙ c.in_ok-files.ensures ∙ ap (map plain_read) c.deref.ensures.value in
     stops_at_run g.O.Write.contents (g.F.Folder.holds c.args.folder.now) (g.F.Folder.may_fail c.args.folder.now) c.args.command.now _ c.args.max
-    c.from_residual-in_err-run.result c.in_err-run.field-0.0 (map plain_file c.deref-2.result.now) (map plain_read c.in-Ok.files.items) _ _
+    c.from_residual-in_err-run.result c.in_err-run.field-0.0 (map plain_file c.deref-2.result.now) wholes _ _
     c.from_residual-in_err-run.ensures.1
-    (ap (map plain_file) c.deref-2.ensures.value ∙ c.in_ok-files.ensures ∙ ap (map plain_read) c.deref.ensures.value)
-    c.in-Ok.ensures.are_held c.in-Ok.ensures.within
+    (λ text status reply. reply_over c.alike_files_have_one_reply.ensures c.comments_for.result c.args.command.now c.args.max c.comments_for.ensures wholes _ reads within text status
+    (subst (λ l. IsReplyTo l c.args.command.now text status) given reply))
+    held within
     c.in_err-run.ensures.device c.in_err-run.ensures.memory c.in_err-run.ensures.counted.0 c.in_err-run.ensures.uncounted
+
+pub returns-clause-replies : goal.returns-clause-replies
+returns-clause-replies g c =
+    let (wholes, held, within, reads) = c.in-Ok.ensures.read in
+    let given = ap (map plain_file) c.deref-2.ensures.value ∙ c.in_ok-files.ensures ∙ ap (map plain_read) c.deref.ensures.value in
+    let (text, reply, appended) = c.in_ok-run.ensures.reply in (
+      text,
+      inl (
+        wholes,
+        held,
+        within,
+        reply_over c.alike_files_have_one_reply.ensures c.comments_for.result c.args.command.now c.args.max c.comments_for.ensures wholes _ reads within text _
+            (subst (λ l. IsReplyTo l c.args.command.now text (number_of c.in_ok-run.field-0)) given reply),
+      ),
+      (appended, c.in_ok-run.ensures.uncounted (λ other. absurd cc)),
+    )

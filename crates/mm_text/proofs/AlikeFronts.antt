@@ -1,0 +1,314 @@
+-- Viable fronts of items that show the same.
+use Rattle.std.proofs.Common.{◌≡◌, ℕ, ◌+◌, map, take, List, [], ◌∷◌, ◌++◌, Bool, true, false, cond, refl, sym, ap, subst, ◌∙◌, Some, None, arith}
+use Rattle.std.specs.Prelude.{option_map}
+use Rattle.std.specs.List.{list_all}
+use Rattle.std.proofs.lemmas.List.{take-map}
+use Rattle.std.proofs.lemmas.List.Sums.{sum_by-cons}
+use Rattle.mm_text.specs.declared.statement.Kind.{Kind}
+use Rattle.mm_text.specs.declared.statement.Kind.TheVariants.{Constants, Variables, Distinct, Floating, Essential, Axiom, Provable, Opening, Closing}
+use Rattle.mm_text.specs.Token.{PlainToken, IsLabel, is_label_byte, HoldsNoDollar}
+use Rattle.mm_text.specs.Statement.{PlainStatement, IsBareHead, IsLabelledHead, IsHead, AreSymbols, FitsCount, label_in, EndsAtOnce, EndsInProof, IsTail, Spells, SpellsAll}
+use Rattle.mm_text.specs.Items.{Item, Plain, Wrong, Inclusion, End, plain_tokens, HoldNoFault}
+use Rattle.mm_text.specs.Blocks.{is_opening, is_closing, openings, closings, AreBalanced, AreClosed}
+use Rattle.mm_text.specs.Reading.{IsBeginning, AreOutside, Viable}
+use Rattle.mm_text.specs.Alike.{token_on, item_on, statement_on}
+use Rattle.mm_text.proofs.AlikeLists.{cons_split, nil_split, append_split, same_length, each_alike}
+
+-- ---- lists
+
+-- what corresponds to one element
+one_split : {A B C : Type 0} (f : A → C) (g : B → C) (a : A) (ys : List B) → map f (a ∷ []) ≡ map g ys → (b : B) × (ys ≡ b ∷ []) × (f a ≡ g b)
+one_split f g a ys e =
+    let (b, bs, whole, same, rest) = cons_split f g a [] ys e in
+    (b, whole ∙ ap (λ l. b ∷ l) (nil_split f g bs rest), same)
+
+-- a list in two parts, the first of them in two
+three_parts : {A : Type 0} (all front a b tail : List A) → all ≡ front ++ tail → front ≡ a ++ b → all ≡ a ++ b ++ tail
+three_parts all front a b tail e split = e ∙ ap (λ l. l ++ tail) split
+
+-- a list from its first element, and from parts of the rest, of which the last is one element
+ended_parts : {A : Type 0} (all : List A) (x : A) (rest a end : List A) (y : A) → all ≡ x ∷ rest → rest ≡ a ++ end → end ≡ y ∷ [] → all ≡ x ∷ a ++ y ∷ []
+ended_parts all x rest a end y e split last = e ∙ ap (λ l. x ∷ l) (split ∙ ap (λ l. a ++ l) last)
+
+-- a list from two parts, the second of them from its first element
+cut_parts : {A : Type 0} (all a rest : List A) (x y : A) (b : List A) → all ≡ a ++ rest → rest ≡ x ∷ b → x ≡ y → all ≡ a ++ y ∷ b
+cut_parts all a rest x y b e split is = e ∙ ap (λ l. a ++ l) (split ∙ ap (λ z. z ∷ b) is)
+
+-- ---- tokens
+
+-- tokens that differ in places alone have one text
+pub same_text_on : (h k : ℕ → ℕ → ℕ) (t u : PlainToken) → token_on h t ≡ token_on k u → t.text ≡ u.text
+same_text_on h k t u e = ap (λ (x : PlainToken). x.text) e
+
+-- the one are symbols as the others are
+pub symbols_alike : (h k : ℕ → ℕ → ℕ) (tokens others : List PlainToken) → map (token_on h) tokens ≡ map (token_on k) others → AreSymbols tokens → AreSymbols others
+symbols_alike h k tokens others e all =
+    each_alike (token_on h) (token_on k) (λ t. HoldsNoDollar t.text) (λ t. HoldsNoDollar t.text) (λ t u same p. subst HoldsNoDollar (same_text_on h k t u same) p) tokens others e all
+
+bare_alike : (h k : ℕ → ℕ → ℕ) (kind : Kind) (tokens others : List PlainToken) → map (token_on h) tokens ≡ map (token_on k) others → IsBareHead kind tokens → IsBareHead kind others
+bare_alike h k kind tokens others e b =
+    let (u, whole, same) = one_split (token_on h) (token_on k) b.keyword others (ap (map (token_on h)) (sym b.tokens) ∙ e) in
+    record { keyword = u; tokens = whole; sign = sym (same_text_on h k b.keyword u same) ∙ b.sign }
+
+labelled_alike : (h k : ℕ → ℕ → ℕ) (kind : Kind) (tokens others : List PlainToken) → map (token_on h) tokens ≡ map (token_on k) others → IsLabelledHead kind tokens → IsLabelledHead kind others
+labelled_alike h k kind tokens others e b =
+    let (l, ls, whole, named, more) = cons_split (token_on h) (token_on k) b.label (b.keyword ∷ []) others (ap (map (token_on h)) (sym b.tokens) ∙ e) in
+    let (u, all, same) = one_split (token_on h) (token_on k) b.keyword ls more in
+    record {
+      label = l;
+      keyword = u;
+      tokens = ended_parts others l ls [] ls u whole refl all;
+      named = subst IsLabel (same_text_on h k b.label l named) b.named;
+      sign = sym (same_text_on h k b.keyword u same) ∙ b.sign;
+    }
+
+-- the one are a head as the others are
+pub head_alike : (h k : ℕ → ℕ → ℕ) (kind : Kind) (tokens others : List PlainToken) → map (token_on h) tokens ≡ map (token_on k) others → IsHead kind tokens → IsHead kind others
+head_alike h k Constants tokens others e b = bare_alike h k Constants tokens others e b
+head_alike h k Variables tokens others e b = bare_alike h k Variables tokens others e b
+head_alike h k Distinct tokens others e b = bare_alike h k Distinct tokens others e b
+head_alike h k Floating tokens others e b = labelled_alike h k Floating tokens others e b
+head_alike h k Essential tokens others e b = labelled_alike h k Essential tokens others e b
+head_alike h k Axiom tokens others e b = labelled_alike h k Axiom tokens others e b
+head_alike h k Provable tokens others e b = labelled_alike h k Provable tokens others e b
+head_alike h k Opening tokens others e b = bare_alike h k Opening tokens others e b
+head_alike h k Closing tokens others e b = bare_alike h k Closing tokens others e b
+
+label_if : (h k : ℕ → ℕ → ℕ) (t u : PlainToken) (b : Bool) → token_on h t ≡ token_on k u → option_map (token_on h) (cond b (Some t) None) ≡ option_map (token_on k) (cond b (Some u) None)
+label_if h k t u true e = ap (λ (x : PlainToken). Some x) e
+label_if h k t u false e = refl
+
+-- the label in the one differs from that in the others in places alone
+pub label_alike : (h k : ℕ → ℕ → ℕ) (tokens others : List PlainToken) → map (token_on h) tokens ≡ map (token_on k) others → option_map (token_on h) (label_in tokens) ≡ option_map (token_on k) (label_in others)
+label_alike h k [] others e = ap (λ (x : List PlainToken). option_map (token_on k) (label_in x)) (sym (nil_split (token_on h) (token_on k) others e))
+label_alike h k (t ∷ tokens) others e =
+    let (u, us, whole, same, rest) = cons_split (token_on h) (token_on k) t tokens others e in
+    label_if h k t u (list_all is_label_byte t.text) same
+    ∙ ap (λ (x : List ℕ). option_map (token_on k) (cond (list_all is_label_byte x) (Some u) None)) (same_text_on h k t u same)
+    ∙ ap (λ (x : List PlainToken). option_map (token_on k) (label_in x)) (sym whole)
+
+-- ---- the tail of a statement
+
+-- the proof and its place in what corresponds to a statement's tail
+record TailAlike (h k : ℕ → ℕ → ℕ) (s : PlainStatement) (kind : Kind) (others : List PlainToken) : Type 0 where
+  pub proof : List PlainToken
+  pub span : ℕ × ℕ
+  pub same : map (token_on h) s.proof ≡ map (token_on k) proof
+  pub ends : (o : PlainStatement) → o.proof ≡ proof → o.span ≡ span → IsTail o kind others
+
+-- what corresponds to a `$.` alone
+record OnceAlike (h k : ℕ → ℕ → ℕ) (s : PlainStatement) (others : List PlainToken) : Type 0 where
+  pub same : map (token_on h) s.proof ≡ []
+  pub ends : (o : PlainStatement) → o.proof ≡ [] → o.span ≡ (0, 0) → EndsAtOnce o others
+
+once_alike : (h k : ℕ → ℕ → ℕ) (s : PlainStatement) (tail others : List PlainToken) → map (token_on h) tail ≡ map (token_on k) others → EndsAtOnce s tail → OnceAlike h k s others
+once_alike h k s tail others e b =
+    let (u, whole, same) = one_split (token_on h) (token_on k) b.stop others (ap (map (token_on h)) (sym b.tokens) ∙ e) in
+    record {
+      same = ap (map (token_on h)) b.proof;
+      ends = λ o p q. record {
+        stop = u;
+        tokens = whole;
+        end = sym (same_text_on h k b.stop u same) ∙ b.end;
+        proof = p;
+        span = q;
+      };
+    }
+
+proof_alike : (h k : ℕ → ℕ → ℕ) (s : PlainStatement) (tail others : List PlainToken) → map (token_on h) tail ≡ map (token_on k) others → EndsInProof s tail → TailAlike h k s Provable others
+proof_alike h k s tail others e b =
+    let (q, qs, whole, sign, more) = cons_split (token_on h) (token_on k) b.equals (s.proof ++ b.stop ∷ []) others (ap (map (token_on h)) (sym b.tokens) ∙ e) in
+    let (steps, end, split, proofs, last) = append_split (token_on h) (token_on k) s.proof (b.stop ∷ []) qs more in
+    let (u, all, same) = one_split (token_on h) (token_on k) b.stop end last in
+    record {
+      proof = steps;
+      span = (q.at + 2, u.at);
+      same = proofs;
+      ends = λ o p r. record {
+        equals = q;
+        stop = u;
+        tokens = subst (λ (x : List PlainToken). others ≡ q ∷ x ++ u ∷ []) (sym p) (ended_parts others q qs steps end u whole split all);
+        sign = sym (same_text_on h k b.equals q sign) ∙ b.sign;
+        end = sym (same_text_on h k b.stop u same) ∙ b.end;
+        proof = subst AreSymbols (sym p) (symbols_alike h k s.proof steps proofs b.proof);
+        span = r;
+      };
+    }
+
+tail_alike : (h k : ℕ → ℕ → ℕ) (s : PlainStatement) (kind : Kind) (tail others : List PlainToken) → map (token_on h) tail ≡ map (token_on k) others → IsTail s kind tail → TailAlike h k s kind others
+tail_alike h k s Constants tail others e b = let a = once_alike h k s tail others e b in record { proof = []; span = (0, 0); same = a.same; ends = a.ends }
+tail_alike h k s Variables tail others e b = let a = once_alike h k s tail others e b in record { proof = []; span = (0, 0); same = a.same; ends = a.ends }
+tail_alike h k s Distinct tail others e b = let a = once_alike h k s tail others e b in record { proof = []; span = (0, 0); same = a.same; ends = a.ends }
+tail_alike h k s Floating tail others e b = let a = once_alike h k s tail others e b in record { proof = []; span = (0, 0); same = a.same; ends = a.ends }
+tail_alike h k s Essential tail others e b = let a = once_alike h k s tail others e b in record { proof = []; span = (0, 0); same = a.same; ends = a.ends }
+tail_alike h k s Axiom tail others e b = let a = once_alike h k s tail others e b in record { proof = []; span = (0, 0); same = a.same; ends = a.ends }
+tail_alike h k s Provable tail others e b = proof_alike h k s tail others e b
+tail_alike h k s Opening tail others e b = record { proof = []; span = (0, 0); same = ap (map (token_on h)) b.1; ends = λ o p q. (nil_split (token_on h) (token_on k) others (ap (map (token_on h)) (sym b.0) ∙ e), p, q) }
+tail_alike h k s Closing tail others e b = record { proof = []; span = (0, 0); same = ap (map (token_on h)) b.1; ends = λ o p q. (nil_split (token_on h) (token_on k) others (ap (map (token_on h)) (sym b.0) ∙ e), p, q) }
+
+-- ---- statements
+
+-- what corresponds to a statement's tokens is a statement that differs in places alone
+pub statement_alike : (h k : ℕ → ℕ → ℕ) (tokens others : List PlainToken) (s : PlainStatement) → map (token_on h) tokens ≡ map (token_on k) others → Spells tokens s
+    → (o : PlainStatement) × Spells others o × (statement_on h s ≡ statement_on k o)
+statement_alike h k tokens others s e b =
+    let (front, tail, whole, fronts, tails) = append_split (token_on h) (token_on k) (b.head ++ s.symbols) b.tail others (ap (map (token_on h)) (sym b.whole) ∙ e) in
+    let (head, symbols, split, heads, same_symbols) = append_split (token_on h) (token_on k) b.head s.symbols front fronts in
+    let (first, more, begins, same_first, mores) = cons_split (token_on h) (token_on k) s.first b.first.0 head (ap (map (token_on h)) (sym b.first.1) ∙ heads) in
+    let end = tail_alike h k s s.kind b.tail tail tails b.ends in
+    let o : PlainStatement = record { kind = s.kind; first = first; label = label_in head; symbols = symbols; proof = end.proof; span = end.span } in
+    let same_label : option_map (token_on h) s.label ≡ option_map (token_on k) (label_in head) = ap (option_map (token_on h)) b.label ∙ label_alike h k b.head head heads in (
+      o,
+      record {
+        head = head;
+        tail = tail;
+        whole = three_parts others front head symbols tail whole split;
+        begins = head_alike h k s.kind b.head head heads b.begins;
+        first = (more, begins);
+        label = refl;
+        symbols = symbols_alike h k s.symbols symbols same_symbols b.symbols;
+        count = subst (FitsCount s.kind) (same_length (token_on h) (token_on k) s.symbols symbols same_symbols) b.count;
+        ends = end.ends o refl refl;
+      },
+      λ i. record { kind = s.kind; first = same_first i; label = same_label i; symbols = same_symbols i; proof = end.same i; span = (0, 0) },
+    )
+
+-- what corresponds to the tokens of statements is statements that differ in places alone
+pub statements_alike : (h k : ℕ → ℕ → ℕ) (tokens others : List PlainToken) (statements : List PlainStatement) → map (token_on h) tokens ≡ map (token_on k) others → SpellsAll tokens statements
+    → (same : List PlainStatement) × SpellsAll others same × (map (statement_on h) statements ≡ map (statement_on k) same)
+statements_alike h k tokens others [] e b = ([], nil_split (token_on h) (token_on k) others (ap (map (token_on h)) (sym b) ∙ e), refl)
+statements_alike h k tokens others (s ∷ statements) e b =
+    let (front, rest, whole, fronts, rests) = append_split (token_on h) (token_on k) b.0 b.1 others (ap (map (token_on h)) (sym b.2) ∙ e) in
+    let (o, spelled, same) = statement_alike h k b.0 front s fronts b.3 in
+    let (more, all, sames) = statements_alike h k b.1 rest statements rests b.4 in
+    (o ∷ more, (front, rest, whole, spelled, all), λ i. same i ∷ sames i)
+
+-- ---- blocks
+
+openings_on : (h : ℕ → ℕ → ℕ) (statements : List PlainStatement) → openings (map (statement_on h) statements) ≡ openings statements
+openings_on h [] = refl
+openings_on h (s ∷ statements) = sum_by-cons _ (statement_on h s) (map (statement_on h) statements) ∙ ap (λ (n : ℕ). cond (is_opening s.kind) 1 0 + n) (openings_on h statements) ∙ sym (sum_by-cons _ s statements)
+
+closings_on : (h : ℕ → ℕ → ℕ) (statements : List PlainStatement) → closings (map (statement_on h) statements) ≡ closings statements
+closings_on h [] = refl
+closings_on h (s ∷ statements) = sum_by-cons _ (statement_on h s) (map (statement_on h) statements) ∙ ap (λ (n : ℕ). cond (is_closing s.kind) 1 0 + n) (closings_on h statements) ∙ sym (sum_by-cons _ s statements)
+
+openings_alike : (h k : ℕ → ℕ → ℕ) (statements same : List PlainStatement) → map (statement_on h) statements ≡ map (statement_on k) same → openings statements ≡ openings same
+openings_alike h k statements same e = sym (openings_on h statements) ∙ ap openings e ∙ openings_on k same
+
+closings_alike : (h k : ℕ → ℕ → ℕ) (statements same : List PlainStatement) → map (statement_on h) statements ≡ map (statement_on k) same → closings statements ≡ closings same
+closings_alike h k statements same e = sym (closings_on h statements) ∙ ap closings e ∙ closings_on k same
+
+-- the one close all blocks as the others do
+pub closed_alike : (h k : ℕ → ℕ → ℕ) (statements same : List PlainStatement) → map (statement_on h) statements ≡ map (statement_on k) same → AreClosed statements → AreClosed same
+closed_alike h k statements same e c = sym (openings_alike h k statements same e) ∙ c ∙ closings_alike h k statements same e
+
+-- no `$}` of the one lacks its `${`, as in the others
+pub balanced_alike : (h k : ℕ → ℕ → ℕ) (statements same : List PlainStatement) → map (statement_on h) statements ≡ map (statement_on k) same → AreBalanced statements → AreBalanced same
+balanced_alike h k statements same e b n =
+    let cut : map (statement_on h) (take n statements) ≡ map (statement_on k) (take n same) = sym (take-map (statement_on h) n statements) ∙ ap (take n) e ∙ take-map (statement_on k) n same in
+    omega (arith, b n, openings_alike h k (take n statements) (take n same) cut, closings_alike h k (take n statements) (take n same) cut)
+
+-- ---- items
+
+-- an item that is alike to an inclusion is one
+inclusion_alike : (h k : ℕ → ℕ → ℕ) (t : PlainToken) (item : Item) → item_on h (Inclusion t) ≡ item_on k item → (u : PlainToken) × (item ≡ Inclusion u)
+inclusion_alike h k t (Plain u) e = absurd cc
+inclusion_alike h k t (Wrong rule u) e = absurd cc
+inclusion_alike h k t (Inclusion u) e = (u, refl)
+inclusion_alike h k t (End file) e = absurd cc
+
+-- an item that is alike to the end of a file is that
+end_alike : (h k : ℕ → ℕ → ℕ) (file : ℕ) (item : Item) → item_on h (End file) ≡ item_on k item → item ≡ End file
+end_alike h k file (Plain u) e = absurd cc
+end_alike h k file (Wrong rule u) e = absurd cc
+end_alike h k file (Inclusion u) e = absurd cc
+end_alike h k file (End other) e = cc
+
+plain_tokens_on : (h : ℕ → ℕ → ℕ) (its : List Item) → plain_tokens (map (item_on h) its) ≡ map (token_on h) (plain_tokens its)
+plain_tokens_on h [] = refl
+plain_tokens_on h (Plain t ∷ its) = ap (λ (x : List PlainToken). token_on h t ∷ x) (plain_tokens_on h its)
+plain_tokens_on h (Wrong rule t ∷ its) = plain_tokens_on h its
+plain_tokens_on h (Inclusion t ∷ its) = plain_tokens_on h its
+plain_tokens_on h (End file ∷ its) = plain_tokens_on h its
+
+-- the tokens in items that are alike are alike
+pub plain_tokens_alike : (h k : ℕ → ℕ → ℕ) (its others : List Item) → map (item_on h) its ≡ map (item_on k) others → map (token_on h) (plain_tokens its) ≡ map (token_on k) (plain_tokens others)
+plain_tokens_alike h k its others e = sym (plain_tokens_on h its) ∙ ap plain_tokens e ∙ plain_tokens_on k others
+
+clean_on : (h : ℕ → ℕ → ℕ) (its : List Item) → HoldNoFault its → HoldNoFault (map (item_on h) its)
+clean_on h [] c = tt
+clean_on h (Plain t ∷ its) c = clean_on h its c
+clean_on h (Wrong rule t ∷ its) c = absurd c
+clean_on h (Inclusion t ∷ its) c = clean_on h its c
+clean_on h (End file ∷ its) c = clean_on h its c
+
+clean_off : (h : ℕ → ℕ → ℕ) (its : List Item) → HoldNoFault (map (item_on h) its) → HoldNoFault its
+clean_off h [] c = tt
+clean_off h (Plain t ∷ its) c = clean_off h its c
+clean_off h (Wrong rule t ∷ its) c = absurd c
+clean_off h (Inclusion t ∷ its) c = clean_off h its c
+clean_off h (End file ∷ its) c = clean_off h its c
+
+-- the one hold no fault as the others do
+pub clean_alike : (h k : ℕ → ℕ → ℕ) (its others : List Item) → map (item_on h) its ≡ map (item_on k) others → HoldNoFault its → HoldNoFault others
+clean_alike h k its others e c = clean_off k others (subst HoldNoFault e (clean_on h its c))
+
+-- the one are whole statements with no block open, as the others are
+pub outside_alike : (h k : ℕ → ℕ → ℕ) (tokens others : List PlainToken) → map (token_on h) tokens ≡ map (token_on k) others → AreOutside tokens → AreOutside others
+outside_alike h k tokens others e out =
+    let (same, spelled, sames) = statements_alike h k tokens others out.statements e out.spelled in
+    record { statements = same; spelled = spelled; closed = closed_alike h k out.statements same sames out.closed }
+
+-- ---- fronts
+
+-- where an inclusion stands in the one, one stands in the other
+cut_inclusion : (h k : ℕ → ℕ → ℕ) (front other before after : List Item) (t : PlainToken) → map (item_on h) front ≡ map (item_on k) other → other ≡ before ++ Inclusion t ∷ after
+    → (earlier : List Item) × (later : List Item) × (u : PlainToken) × (front ≡ earlier ++ Inclusion u ∷ later) × (map (item_on h) earlier ≡ map (item_on k) before)
+cut_inclusion h k front other before after t e cut =
+    let (earlier, rest, whole, befores, rests) = append_split (item_on k) (item_on h) before (Inclusion t ∷ after) front (ap (map (item_on k)) (sym cut) ∙ sym e) in
+    let (item, later, split, one, afters) = cons_split (item_on k) (item_on h) (Inclusion t) after rest rests in
+    let (u, is) = inclusion_alike k h t item one in
+    (earlier, later, u, cut_parts front earlier rest item (Inclusion u) later whole split is, sym befores)
+
+-- where a file ends in the one, it ends in the other
+cut_end : (h k : ℕ → ℕ → ℕ) (front other before after : List Item) (file : ℕ) → map (item_on h) front ≡ map (item_on k) other → other ≡ before ++ End file ∷ after
+    → (earlier : List Item) × (later : List Item) × (front ≡ earlier ++ End file ∷ later) × (map (item_on h) earlier ≡ map (item_on k) before)
+cut_end h k front other before after file e cut =
+    let (earlier, rest, whole, befores, rests) = append_split (item_on k) (item_on h) before (End file ∷ after) front (ap (map (item_on k)) (sym cut) ∙ sym e) in
+    let (item, later, split, one, afters) = cons_split (item_on k) (item_on h) (End file) after rest rests in
+    let is = end_alike k h file item one in
+    (earlier, later, whole ∙ ap (λ (x : List Item). earlier ++ x) (split ∙ ap (λ (x : Item). x ∷ later) is), sym befores)
+
+-- what is alike to a front that reads as statements reads as statements that differ in places alone
+pub viable_alike : ((h k : ℕ → ℕ → ℕ) (tokens others : List PlainToken) → map (token_on h) tokens ≡ map (token_on k) others → IsBeginning tokens → IsBeginning others)
+    → (h k : ℕ → ℕ → ℕ) (front other : List Item) (statements : List PlainStatement) (unfinished : List PlainToken) → map (item_on h) front ≡ map (item_on k) other → Viable front statements unfinished
+    → (same : List PlainStatement) × (begun : List PlainToken) × Viable other same begun × (map (statement_on h) statements ≡ map (statement_on k) same) × (map (token_on h) unfinished ≡ map (token_on k) begun)
+viable_alike beginning_alike h k front other statements unfinished e v =
+    let tokens : map (token_on h) (v.finished ++ unfinished) ≡ map (token_on k) (plain_tokens other) = ap (map (token_on h)) (sym v.whole) ∙ plain_tokens_alike h k front other e in
+    let (finished, begun, whole, finisheds, beguns) = append_split (token_on h) (token_on k) v.finished unfinished (plain_tokens other) tokens in
+    let (same, spelled, sames) = statements_alike h k v.finished finished statements finisheds v.spelled in (
+      same,
+      begun,
+      record {
+        clean = clean_alike h k front other e v.clean;
+        finished = finished;
+        whole = whole;
+        spelled = spelled;
+        begun = beginning_alike h k unfinished begun beguns v.begun;
+        balanced = balanced_alike h k statements same sames v.balanced;
+        included = λ before after t cut.
+            let (earlier, later, u, split, befores) = cut_inclusion h k front other before after t e cut in
+            outside_alike h k (plain_tokens earlier) (plain_tokens before) (plain_tokens_alike h k earlier before befores) (v.included earlier later u split);
+        ended = λ before after file cut.
+            let (earlier, later, split, befores) = cut_end h k front other before after file e cut in
+            let read = v.ended earlier later file split in
+            let (others, all, _) = statements_alike h k (plain_tokens earlier) (plain_tokens before) read.0 (plain_tokens_alike h k earlier before befores) read.1 in
+            (others, all);
+        top_ended = λ before after cut.
+            let (earlier, later, split, befores) = cut_end h k front other before after 0 e cut in
+            outside_alike h k (plain_tokens earlier) (plain_tokens before) (plain_tokens_alike h k earlier before befores) (v.top_ended earlier later split);
+      },
+      sames,
+      beguns,
+    )

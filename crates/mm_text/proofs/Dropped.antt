@@ -1,0 +1,448 @@
+-- A byte of what a comment says may be left out: the file shows the same.
+use Rattle.std.proofs.Common.{◌≡◌, ℕ, suc, ◌+◌, ◌≤◌, ◌==◌, ◌&&◌, ◌||◌, ◌≢◌, List, [], ◌∷◌, ◌++◌, length, map, take, Bool, true, false, not, cond, refl, sym, ap, ◌∙◌, subst, arith, codes, Option, Some, None, count_by, append_assoc, add-zero, eq-eqb}
+use Rattle.std.specs.Prelude.{option_map}
+use Rattle.std.specs.List.{list_all}
+use Rattle.std.proofs.lemmas.Bool.{ne_eqb, both_ways, and_parts}
+use Rattle.std.proofs.lemmas.List.Sums.{sum_by-cons}
+use Rattle.mm_text.specs.Token.{PlainToken, is_space, is_printable, with_byte, tokens_from}
+use Rattle.mm_text.specs.Items.{Shown, Clear, without_comments, spells, holds_mark}
+use Rattle.mm_text.specs.Alike.{feeds_before, token_on, shown_on, shows}
+use Rattle.mm_text.specs.Mirror.Place.{is_quiet}
+use Rattle.mm_text.specs.Mirror.Hollow.{ShowSame, IsBoundary, IsOpen, ink, feeds}
+use Rattle.mm_text.proofs.TokenLaws.{BeginFrom, with_byte_apart}
+use Rattle.mm_text.proofs.CommentLaws.{outside-begin, in_comment-mark, in_comment-more}
+
+-- ---- tokens told from their begin on
+
+-- the bytes up to the next white space
+abbrev run : List ℕ → List ℕ
+run [] = []
+run (b ∷ bytes) = cond (is_space b) [] (b ∷ run bytes)
+
+-- The tokens of bytes, each with a number in place of its place: the number goes on at each byte. At
+-- the begin a token may go on that began before.
+abbrev ahead : ℕ → (ℕ → ℕ → ℕ) → Bool → ℕ → List ℕ → List PlainToken
+ahead file step inside n [] = []
+ahead file step inside n (b ∷ bytes) =
+    cond (is_space b) (ahead file step false (step n b) bytes)
+    (cond inside (ahead file step true (step n b) bytes)
+    (record { text = b ∷ run bytes; file = file; at = n } ∷ ahead file step true (step n b) bytes))
+
+-- the number is a place
+abbrev by_place : ℕ → ℕ → ℕ
+by_place n b = n + 1
+
+-- the number is that of the line feeds before
+abbrev by_line : ℕ → ℕ → ℕ
+by_line n b = n + cond (b == 10) 1 0
+
+-- what begins after a place begins at or after it
+begin_earlier : (at : ℕ) (tokens : List PlainToken) → BeginFrom (at + 1) tokens → BeginFrom at tokens
+begin_earlier at [] h = tt
+begin_earlier at (t ∷ tokens) h = omega arith
+
+-- what is told from a place on begins there or later
+ahead_begins : (file : ℕ) (inside : Bool) (at : ℕ) (bytes : List ℕ) → BeginFrom at (ahead file by_place inside at bytes)
+ahead_begins file inside at [] = tt
+ahead_begins file inside at (b ∷ bytes) =
+    let apart = begin_earlier at _ (ahead_begins file false (at + 1) bytes) in
+    let more = begin_earlier at _ (ahead_begins file true (at + 1) bytes) in
+    elim (is_space b) as (λ s. BeginFrom at (cond s (ahead file by_place false (at + 1) bytes) (cond inside (ahead file by_place true (at + 1) bytes) (record { text = b ∷ run bytes; file = file; at = at } ∷ ahead file by_place true (at + 1) bytes)))) [
+      | true ↦ apart
+      | false ↦ elim inside as (λ p. BeginFrom at (cond p (ahead file by_place true (at + 1) bytes) (record { text = b ∷ run bytes; file = file; at = at } ∷ ahead file by_place true (at + 1) bytes))) [
+        | true ↦ more
+        | false ↦ omega arith
+      ]
+    ]
+
+-- a byte onto the front of the token after it
+byte_joined : (file at b : ℕ) (text : List ℕ) (tokens : List PlainToken) → with_byte file at b (record { text = text; file = file; at = at + 1 } ∷ tokens) ≡ record { text = b ∷ text; file = file; at = at } ∷ tokens
+byte_joined file at b text tokens =
+    let same : (at + 1 == at + 1) ≡ true = eq-eqb _ _ refl in
+    simp same
+
+-- a byte before the rest of what is told
+extended : (file at b : ℕ) (bytes : List ℕ) → with_byte file at b (ahead file by_place false (at + 1) bytes) ≡ record { text = b ∷ run bytes; file = file; at = at } ∷ ahead file by_place true (at + 1) bytes
+extended file at b [] = refl
+extended file at b (c ∷ bytes) =
+    let later = ahead file by_place false (at + 1 + 1) bytes in
+    let more = ahead file by_place true (at + 1 + 1) bytes in
+    let far : BeginFrom (at + 2) later = subst (λ n. BeginFrom n later) (omega arith) (ahead_begins file false (at + 1 + 1) bytes) in
+    elim (is_space c) as (λ s. with_byte file at b (cond s later (record { text = c ∷ run bytes; file = file; at = at + 1 } ∷ more)) ≡ record { text = b ∷ cond s [] (c ∷ run bytes); file = file; at = at } ∷ cond s later more) [
+      | true ↦ with_byte_apart file at b later far
+      | false ↦ byte_joined file at b (c ∷ run bytes) more
+    ]
+
+-- the tokens of a file are told so
+tokens_ahead : (file at : ℕ) (bytes : List ℕ) → tokens_from file at bytes ≡ ahead file by_place false at bytes
+unfolding tokens_from
+tokens_ahead file at [] = refl
+tokens_ahead file at (b ∷ bytes) =
+    let rest = tokens_ahead file (at + 1) bytes in
+    elim (is_space b) as (λ s. cond s (tokens_from file (at + 1) bytes) (with_byte file at b (tokens_from file (at + 1) bytes)) ≡ cond s (ahead file by_place false (at + 1) bytes) (record { text = b ∷ run bytes; file = file; at = at } ∷ ahead file by_place true (at + 1) bytes)) [
+      | true ↦ rest
+      | false ↦ ap (with_byte file at b) rest ∙ extended file at b bytes
+    ]
+
+-- places are line numbers in the other telling
+lines_ahead : (file : ℕ) (line : ℕ → ℕ → ℕ) (inside : Bool) (at n : ℕ) (bytes : List ℕ) → ((i : ℕ) → line file (at + i) ≡ n + count_by (λ b. b == 10) (take i bytes))
+    → map (token_on line) (ahead file by_place inside at bytes) ≡ ahead file by_line inside n bytes
+lines_ahead file line inside at n [] h = refl
+lines_ahead file line inside at n (b ∷ bytes) h =
+    let here : line file at ≡ n = ap (line file) (sym (add-zero at)) ∙ h 0 ∙ add-zero n in
+    let rest : (s : Bool) → map (token_on line) (ahead file by_place s (at + 1) bytes) ≡ ahead file by_line s (n + cond (b == 10) 1 0) bytes = λ s.
+    lines_ahead file line s (at + 1) (n + cond (b == 10) 1 0) bytes (λ i.
+    ap (line file) (omega arith) ∙ h (suc i) ∙ omega (arith, sum_by-cons (λ x. cond (x == 10) 1 0) b (take i bytes))) in
+    elim (is_space b) as (λ p. map (token_on line) (cond p (ahead file by_place false (at + 1) bytes) (cond inside (ahead file by_place true (at + 1) bytes) (record { text = b ∷ run bytes; file = file; at = at } ∷ ahead file by_place true (at + 1) bytes)))
+    ≡ cond p (ahead file by_line false (n + cond (b == 10) 1 0) bytes) (cond inside (ahead file by_line true (n + cond (b == 10) 1 0) bytes) (record { text = b ∷ run bytes; file = file; at = n } ∷ ahead file by_line true (n + cond (b == 10) 1 0) bytes))) [
+      | true ↦ rest false
+      | false ↦ elim inside as (λ p. map (token_on line) (cond p (ahead file by_place true (at + 1) bytes) (record { text = b ∷ run bytes; file = file; at = at } ∷ ahead file by_place true (at + 1) bytes))
+          ≡ cond p (ahead file by_line true (n + cond (b == 10) 1 0) bytes) (record { text = b ∷ run bytes; file = file; at = n } ∷ ahead file by_line true (n + cond (b == 10) 1 0) bytes)) [
+            | true ↦ rest true
+            | false ↦ λ i. record { text = b ∷ run bytes; file = file; at = here i } ∷ rest true i
+          ]
+    ]
+
+-- ---- what is shown of tokens that carry their lines
+
+-- with nothing of what the texts of faults say
+abbrev strip : List Shown → List Shown
+strip shown = map (shown_on (λ file at. at)) shown
+
+-- what is shown of tokens, where a comment is open or none is
+abbrev seen : Option PlainToken → List PlainToken → List Shown
+seen begin tokens = strip (without_comments begin tokens)
+
+-- two choices by one test
+choice_mapped : {A B C : Type 0} (f : A → C) (g : B → C) (c : Bool) (x y : A) (u v : B) → f x ≡ g u → f y ≡ g v → f (cond c x y) ≡ g (cond c u v)
+choice_mapped f g true x y u v h k = h
+choice_mapped f g false x y u v h k = k
+
+-- two choices by tests that come out the same
+choices_mapped : {A B C : Type 0} (f : A → C) (g : B → C) (c d : Bool) (x y : A) (u v : B) → c ≡ d → f x ≡ g u → f y ≡ g v → f (cond c x y) ≡ g (cond d u v)
+choices_mapped f g c d x y u v e h k = choice_mapped f g c x y u v h k ∙ ap (λ p. g (cond p u v)) e
+
+-- lines may be put in before comments are left out
+lines_seen : (line : ℕ → ℕ → ℕ) (begin : Option PlainToken) (tokens : List PlainToken) → map (shown_on line) (without_comments begin tokens) ≡ seen (option_map (token_on line) begin) (map (token_on line) tokens)
+unfolding without_comments
+lines_seen line None [] = refl
+lines_seen line (Some begin) [] = refl
+lines_seen line None (t ∷ tokens) =
+    let inside = lines_seen line (Some t) tokens in
+    let outside = lines_seen line None tokens in
+    choice_mapped (map (shown_on line)) strip (not (list_all is_printable t.text)) _ _ _ _ refl
+    (choice_mapped (map (shown_on line)) strip (spells t.text (codes "$(")) _ _ _ _ inside
+    (choice_mapped (map (shown_on line)) strip (spells t.text (codes "$)")) _ _ _ _ refl
+    (ap (λ (l : List Shown). Clear (token_on line t) ∷ l) outside)))
+lines_seen line (Some begin) (t ∷ tokens) =
+    let inside = lines_seen line (Some begin) tokens in
+    let outside = lines_seen line None tokens in
+    choice_mapped (map (shown_on line)) strip (not (list_all is_printable t.text)) _ _ _ _ refl
+    (choice_mapped (map (shown_on line)) strip (spells t.text (codes "$)")) _ _ _ _ outside
+    (choice_mapped (map (shown_on line)) strip (holds_mark t.text) _ _ _ _ refl inside))
+
+-- what is shown of bytes, from a line on
+abbrev told : ℕ → Option PlainToken → Bool → ℕ → List ℕ → List Shown
+told file begin inside n bytes = seen begin (ahead file by_line inside n bytes)
+
+-- what a file shows is told so
+shows_told : (file : ℕ) (bytes : List ℕ) → shows file bytes ≡ told file None false 0 bytes
+shows_told file bytes =
+    let line : (i : ℕ) → feeds_before bytes (0 + i) ≡ 0 + feeds_before bytes i = λ i.
+    let place : 0 + i ≡ i = omega arith in
+    ap (feeds_before bytes) place ∙ omega arith in
+    lines_seen (λ file at. feeds_before bytes at) None (tokens_from file 0 bytes)
+    ∙ ap (λ l. seen None (map (token_on (λ file at. feeds_before bytes at)) l)) (tokens_ahead file 0 bytes)
+    ∙ ap (seen None) (lines_ahead file (λ file at. feeds_before bytes at) false 0 0 bytes line)
+
+-- the same token before what shows the same
+token_seen : (t : PlainToken) (tokens others : List PlainToken) → ((begin : Option PlainToken) → seen begin tokens ≡ seen begin others) → (begin : Option PlainToken) → seen begin (t ∷ tokens) ≡ seen begin (t ∷ others)
+unfolding without_comments
+token_seen t tokens others same None =
+    choice_mapped strip strip (not (list_all is_printable t.text)) _ _ _ _ refl
+    (choice_mapped strip strip (spells t.text (codes "$(")) _ _ _ _ (same (Some t))
+    (choice_mapped strip strip (spells t.text (codes "$)")) _ _ _ _ refl
+    (ap (λ (l : List Shown). Clear t ∷ l) (same None))))
+token_seen t tokens others same (Some begin) =
+    choice_mapped strip strip (not (list_all is_printable t.text)) _ _ _ _ refl
+    (choice_mapped strip strip (spells t.text (codes "$)")) _ _ _ _ (same None)
+    (choice_mapped strip strip (holds_mark t.text) _ _ _ _ refl (same (Some begin))))
+
+-- ---- behind a front that ends with white space
+
+-- the last byte is white space; where there is none, no token goes on from before
+abbrev EndsApart : Bool → List ℕ → Type 0
+EndsApart inside [] = inside ≡ false
+EndsApart inside (b ∷ bytes) = EndsApart (not (is_space b)) bytes
+
+-- bytes over whose end no token reaches end so
+ends_apart : (inside : Bool) (bytes : List ℕ) → (length bytes ≡ 0 → inside ≡ false) → IsBoundary bytes → EndsApart inside bytes
+ends_apart inside [] none boundary = none refl
+ends_apart inside (b ∷ bytes) none boundary =
+    ends_apart (not (is_space b)) bytes (λ e. ap not (boundary 0 (omega arith))) (λ k e. boundary (suc k) (omega arith))
+
+-- what comes behind such bytes belongs to no run in them
+run_apart : (front one other : List ℕ) → EndsApart true front → run (front ++ one) ≡ run (front ++ other)
+run_apart [] one other ends = absurd cc
+run_apart (b ∷ front) one other ends =
+    (elim (is_space b) as (λ s. EndsApart (not s) front → cond s [] (b ∷ run (front ++ one)) ≡ cond s [] (b ∷ run (front ++ other))) [
+      | true ↦ λ h. refl
+      | false ↦ λ h. ap (λ l. b ∷ l) (run_apart front one other h)
+    ]) ends
+
+-- such bytes before what shows the same
+front_told : (file : ℕ) (one other : List ℕ) → ((begin : Option PlainToken) (n : ℕ) → told file begin false n one ≡ told file begin false n other)
+    → (inside : Bool) (n : ℕ) (front : List ℕ) → EndsApart inside front → (begin : Option PlainToken) → told file begin inside n (front ++ one) ≡ told file begin inside n (front ++ other)
+front_told file one other same inside n [] ends begin =
+    ap (λ s. told file begin s n one) ends ∙ same begin n ∙ ap (λ s. told file begin s n other) (sym ends)
+front_told file one other same inside n (b ∷ front) ends begin =
+    (elim (is_space b) as (λ s. EndsApart (not s) front → seen begin (cond s (ahead file by_line false (by_line n b) (front ++ one)) (cond inside (ahead file by_line true (by_line n b) (front ++ one)) (record { text = b ∷ run (front ++ one); file = file; at = n } ∷ ahead file by_line true (by_line n b) (front ++ one))))
+    ≡ seen begin (cond s (ahead file by_line false (by_line n b) (front ++ other)) (cond inside (ahead file by_line true (by_line n b) (front ++ other)) (record { text = b ∷ run (front ++ other); file = file; at = n } ∷ ahead file by_line true (by_line n b) (front ++ other))))) [
+      | true ↦ λ h. front_told file one other same false (by_line n b) front h begin
+      | false ↦ λ h. elim inside as (λ p. seen begin (cond p (ahead file by_line true (by_line n b) (front ++ one)) (record { text = b ∷ run (front ++ one); file = file; at = n } ∷ ahead file by_line true (by_line n b) (front ++ one)))
+          ≡ seen begin (cond p (ahead file by_line true (by_line n b) (front ++ other)) (record { text = b ∷ run (front ++ other); file = file; at = n } ∷ ahead file by_line true (by_line n b) (front ++ other)))) [
+            | true ↦ front_told file one other same true (by_line n b) front h begin
+            | false ↦
+                token_seen (record { text = b ∷ run (front ++ one); file = file; at = n }) _ _ (front_told file one other same true (by_line n b) front h) begin
+                ∙ ap (λ (l : List ℕ). seen begin (record { text = b ∷ l; file = file; at = n } ∷ ahead file by_line true (by_line n b) (front ++ other))) (run_apart front one other h)
+          ]
+    ]) ends
+
+-- ---- single bytes
+
+-- white space is skipped
+space_told : (file : ℕ) (begin : Option PlainToken) (inside : Bool) (n b : ℕ) (rest : List ℕ) → is_space b ≡ true → told file begin inside n (b ∷ rest) ≡ told file begin false (by_line n b) rest
+space_told file begin inside n b rest e =
+    ap (λ s. seen begin (cond s (ahead file by_line false (by_line n b) rest) (cond inside (ahead file by_line true (by_line n b) rest) (record { text = b ∷ run rest; file = file; at = n } ∷ ahead file by_line true (by_line n b) rest)))) e
+
+-- a byte of a token isn't a line feed
+ink_line : (n b : ℕ) → is_space b ≡ false → by_line n b ≡ n
+ink_line n b e =
+    let apart : (b == 10) ≡ false = ne_eqb b 10 (λ same. both_ways (is_space b) e (ap is_space same)) in
+    ap (λ s. n + cond s 1 0) apart ∙ add-zero n
+
+-- a token begins
+ink_ahead : (file n b : ℕ) (rest : List ℕ) → is_space b ≡ false → ahead file by_line false n (b ∷ rest) ≡ record { text = b ∷ run rest; file = file; at = n } ∷ ahead file by_line true n rest
+ink_ahead file n b rest e =
+    ap (λ s. cond s (ahead file by_line false (by_line n b) rest) (record { text = b ∷ run rest; file = file; at = n } ∷ ahead file by_line true (by_line n b) rest)) e
+    ∙ ap (λ m. record { text = b ∷ run rest; file = file; at = n } ∷ ahead file by_line true m rest) (ink_line n b e)
+
+-- a token goes on
+ink_inside : (file n b : ℕ) (rest : List ℕ) → is_space b ≡ false → ahead file by_line true n (b ∷ rest) ≡ ahead file by_line true n rest
+ink_inside file n b rest e =
+    ap (λ s. cond s (ahead file by_line false (by_line n b) rest) (ahead file by_line true (by_line n b) rest)) e
+    ∙ ap (λ m. ahead file by_line true m rest) (ink_line n b e)
+
+-- another byte belongs to a run
+run_ink : (b : ℕ) (rest : List ℕ) → is_space b ≡ false → run (b ∷ rest) ≡ b ∷ run rest
+run_ink b rest e = ap (λ s. cond s [] (b ∷ run rest)) e
+
+-- white space ends one
+run_space : (b : ℕ) (rest : List ℕ) → is_space b ≡ true → run (b ∷ rest) ≡ []
+run_space b rest e = ap (λ s. cond s [] (b ∷ run rest)) e
+
+-- white space may be replaced by its line feed
+fed : (file : ℕ) (begin : Option PlainToken) (n b : ℕ) (rest : List ℕ) → is_space b ≡ true → told file begin false n (feeds (b ∷ []) ++ rest) ≡ told file begin false n (b ∷ rest)
+fed file begin n b rest space = go (b == 10) refl
+  where
+    go : (p : Bool) → (b == 10) ≡ p → told file begin false n (cond p (b ∷ []) [] ++ rest) ≡ told file begin false n (b ∷ rest)
+    go true e = refl
+    go false e =
+        ap (λ m. told file begin false m rest) (sym (ap (λ s. n + cond s 1 0) e ∙ add-zero n))
+        ∙ sym (space_told file begin false n b rest space)
+
+-- ---- a comment's tokens
+
+-- in a comment they come to the same
+record IsLike (text other : List ℕ) : Type 0 where
+  printable : list_all is_printable text ≡ list_all is_printable other
+  closes : spells text (codes "$)") ≡ spells other (codes "$)")
+  mark : holds_mark text ≡ holds_mark other
+
+-- such texts show the same, as the text of a fault shows nothing
+like_seen : (begin : PlainToken) (file n : ℕ) (text other : List ℕ) (tokens : List PlainToken) → IsLike text other
+    → seen (Some begin) (record { text = text; file = file; at = n } ∷ tokens) ≡ seen (Some begin) (record { text = other; file = file; at = n } ∷ tokens)
+unfolding without_comments
+like_seen begin file n text other tokens like =
+    choices_mapped strip strip (not (list_all is_printable text)) (not (list_all is_printable other)) _ _ _ _ (ap not like.printable) refl
+    (choices_mapped strip strip (spells text (codes "$)")) (spells other (codes "$)")) _ _ _ _ like.closes refl
+    (choices_mapped strip strip (holds_mark text) (holds_mark other) _ _ _ _ like.mark refl refl))
+
+-- a byte of a token that isn't a `$`
+quiet_ink : (printable space dollar : Bool) → ((printable || space) && not dollar) ≡ true → space ≡ false → (printable ≡ true) × (dollar ≡ false)
+quiet_ink true false false q s = (refl, refl)
+quiet_ink true false true q s = (refl, absurd cc)
+quiet_ink false false dollar q s = absurd cc
+quiet_ink printable true dollar q s = absurd cc
+
+-- a comment's text is no `$)` where its first byte isn't a `$`
+spells_closing : (b : ℕ) (text : List ℕ) → (b == 36) ≡ false → spells (b ∷ text) (codes "$)") ≡ false
+spells_closing b text e = ap (λ d. d && spells text (41 ∷ [])) e
+
+-- or its second one isn't a `)`
+spells_dollar : (b : ℕ) (text : List ℕ) → (b == 41) ≡ false → spells (36 ∷ b ∷ text) (codes "$)") ≡ false
+spells_dollar b text e = ap (λ d. d && spells text []) e
+
+-- such a byte before others adds no mark
+mark_behind : (b c : ℕ) (text : List ℕ) → (b == 36) ≡ false → holds_mark (b ∷ c ∷ text) ≡ holds_mark (c ∷ text)
+mark_behind b c text e = ap (λ d. (d && (c == 40 || c == 41)) || holds_mark (c ∷ text)) e
+
+-- nor a `$` before one that isn't a bracket
+mark_dollar : (b : ℕ) (text : List ℕ) → (b == 40) ≡ false → (b == 41) ≡ false → holds_mark (36 ∷ b ∷ text) ≡ holds_mark (b ∷ text)
+mark_dollar b text e f = ap (λ d. (d || (b == 41)) || holds_mark (b ∷ text)) e ∙ ap (λ d. d || holds_mark (b ∷ text)) f
+
+-- a printable byte before others doesn't matter to whether all are
+printable_more : (b : ℕ) (text : List ℕ) → is_printable b ≡ true → list_all is_printable (b ∷ text) ≡ list_all is_printable text
+printable_more b text e = ap (λ p. p && list_all is_printable text) e
+
+-- one more byte that is neither white space nor a `$`
+more_like : (last b : ℕ) (text : List ℕ) → is_quiet last ≡ true → is_space last ≡ false → spells (b ∷ text) (codes "$)") ≡ false → IsLike (last ∷ b ∷ text) (b ∷ text)
+more_like last b text q e closes =
+    let parts = quiet_ink (is_printable last) (is_space last) (last == 36) q e in
+    record {
+      printable = printable_more last (b ∷ text) parts.0;
+      closes = spells_closing last (b ∷ text) parts.1 ∙ sym closes;
+      mark = mark_behind last b text parts.1;
+    }
+
+-- a `$` more before such a byte
+dollar_like : (b : ℕ) (text : List ℕ) → is_quiet b ≡ true → is_space b ≡ false → b ≢ 40 → b ≢ 41 → IsLike (36 ∷ b ∷ text) (b ∷ text)
+dollar_like b text q e left right =
+    let parts = quiet_ink (is_printable b) (is_space b) (b == 36) q e in
+    record {
+      printable = refl;
+      closes = spells_dollar b text (ne_eqb b 41 right) ∙ sym (spells_closing b text parts.1);
+      mark = mark_dollar b text (ne_eqb b 40 left) (ne_eqb b 41 right);
+    }
+
+-- ---- the dropped bytes
+
+-- two bytes begin a token
+two_ahead : (file n a b : ℕ) (rest : List ℕ) → is_space a ≡ false → is_space b ≡ false → ahead file by_line false n (a ∷ b ∷ rest) ≡ record { text = a ∷ b ∷ run rest; file = file; at = n } ∷ ahead file by_line true n rest
+two_ahead file n a b rest e f =
+    ink_ahead file n a (b ∷ rest) e
+    ∙ ap (λ (l : List ℕ). record { text = a ∷ l; file = file; at = n } ∷ ahead file by_line true n (b ∷ rest)) (run_ink b rest f)
+    ∙ ap (λ (l : List PlainToken). record { text = a ∷ b ∷ run rest; file = file; at = n } ∷ l) (ink_inside file n b rest f)
+
+-- a token before white space is passed over in a comment
+passed : (begin : PlainToken) (file n b : ℕ) (text rest : List ℕ) → list_all is_printable text ≡ true → spells text (codes "$)") ≡ false → holds_mark text ≡ false → is_space b ≡ true
+    → seen (Some begin) (record { text = text; file = file; at = n } ∷ ahead file by_line true n (b ∷ rest)) ≡ told file (Some begin) false n (b ∷ rest)
+passed begin file n b text rest e f g space =
+    ap strip (in_comment-more begin (record { text = text; file = file; at = n }) (ahead file by_line true n (b ∷ rest)) e f g)
+    ∙ space_told file (Some begin) true n b rest space
+    ∙ sym (space_told file (Some begin) false n b rest space)
+
+-- what is left of a byte shows what the byte shows
+left_told : (file : ℕ) (begin : Option PlainToken) (n b : ℕ) (rest : List ℕ) (t : Bool) → is_space b ≡ t → told file begin false n (feeds (b ∷ []) ++ (cond t [] (b ∷ []) ++ rest)) ≡ told file begin false n (b ∷ rest)
+left_told file begin n b rest true e = fed file begin n b rest e
+left_told file begin n b rest false e =
+    let apart : (b == 10) ≡ false = ne_eqb b 10 (λ same. both_ways (is_space b) e (ap is_space same)) in
+    ap (λ p. told file begin false n (cond p (b ∷ []) [] ++ (b ∷ rest))) apart
+
+-- what the last byte of a word and a byte show, the byte shows alone
+byte_told : (file : ℕ) (begin : PlainToken) (n last b : ℕ) (rest : List ℕ) (s t : Bool) → is_space last ≡ s → is_space b ≡ t → is_quiet last ≡ true → is_quiet b ≡ true
+    → told file (Some begin) false n (cond s [] (last ∷ []) ++ (b ∷ rest)) ≡ told file (Some begin) false n (b ∷ rest)
+byte_told file begin n last b rest true t e f q r = refl
+byte_told file begin n last b rest false true e f q r =
+    let parts = quiet_ink (is_printable last) (is_space last) (last == 36) q e in
+    ap (seen (Some begin)) (ink_ahead file n last (b ∷ rest) e)
+    ∙ ap (λ (l : List ℕ). seen (Some begin) (record { text = last ∷ l; file = file; at = n } ∷ ahead file by_line true n (b ∷ rest))) (run_space b rest f)
+    ∙ passed begin file n b (last ∷ []) rest (printable_more last [] parts.0) (spells_closing last [] parts.1) refl f
+byte_told file begin n last b rest false false e f q r =
+    let parts = quiet_ink (is_printable b) (is_space b) (b == 36) r f in
+    ap (seen (Some begin)) (two_ahead file n last b rest e f)
+    ∙ like_seen begin file n (last ∷ b ∷ run rest) (b ∷ run rest) (ahead file by_line true n rest) (more_like last b (run rest) q e (spells_closing b (run rest) parts.1))
+    ∙ ap (seen (Some begin)) (sym (ink_ahead file n b rest f))
+
+-- and so with a `$` between them
+dollar_told : (file : ℕ) (begin : PlainToken) (n last b : ℕ) (rest : List ℕ) (s t : Bool) → is_space last ≡ s → is_space b ≡ t → is_quiet last ≡ true → is_quiet b ≡ true → b ≢ 40 → b ≢ 41
+    → told file (Some begin) false n (cond s [] (last ∷ []) ++ (36 ∷ b ∷ rest)) ≡ told file (Some begin) false n (b ∷ rest)
+dollar_told file begin n last b rest true true e f q r left right =
+    ap (seen (Some begin)) (ink_ahead file n 36 (b ∷ rest) refl)
+    ∙ ap (λ (l : List ℕ). seen (Some begin) (record { text = 36 ∷ l; file = file; at = n } ∷ ahead file by_line true n (b ∷ rest))) (run_space b rest f)
+    ∙ passed begin file n b (36 ∷ []) rest refl refl refl f
+dollar_told file begin n last b rest true false e f q r left right =
+    ap (seen (Some begin)) (two_ahead file n 36 b rest refl f)
+    ∙ like_seen begin file n (36 ∷ b ∷ run rest) (b ∷ run rest) (ahead file by_line true n rest) (dollar_like b (run rest) r f left right)
+    ∙ ap (seen (Some begin)) (sym (ink_ahead file n b rest f))
+dollar_told file begin n last b rest false true e f q r left right =
+    let parts = quiet_ink (is_printable last) (is_space last) (last == 36) q e in
+    ap (seen (Some begin)) (two_ahead file n last 36 (b ∷ rest) e refl)
+    ∙ ap (λ (l : List ℕ). seen (Some begin) (record { text = last ∷ 36 ∷ l; file = file; at = n } ∷ ahead file by_line true n (b ∷ rest))) (run_space b rest f)
+    ∙ passed begin file n b (last ∷ 36 ∷ []) rest (printable_more last (36 ∷ []) parts.0) (spells_closing last (36 ∷ []) parts.1) (mark_behind last 36 [] parts.1) f
+dollar_told file begin n last b rest false false e f q r left right =
+    ap (seen (Some begin)) (two_ahead file n last 36 (b ∷ rest) e refl)
+    ∙ ap (λ (l : List ℕ). seen (Some begin) (record { text = last ∷ 36 ∷ l; file = file; at = n } ∷ ahead file by_line true n (b ∷ rest))) (run_ink b rest f)
+    ∙ ap (λ (l : List PlainToken). seen (Some begin) (record { text = last ∷ 36 ∷ b ∷ run rest; file = file; at = n } ∷ l)) (ink_inside file n b rest f)
+    ∙ like_seen begin file n (last ∷ 36 ∷ b ∷ run rest) (36 ∷ b ∷ run rest) (ahead file by_line true n rest) (more_like last 36 (b ∷ run rest) q e (spells_dollar b (run rest) (ne_eqb b 41 right)))
+    ∙ like_seen begin file n (36 ∷ b ∷ run rest) (b ∷ run rest) (ahead file by_line true n rest) (dollar_like b (run rest) r f left right)
+    ∙ ap (seen (Some begin)) (sym (ink_ahead file n b rest f))
+
+-- ---- behind a `$(`
+
+-- white space before what shows the same
+spaces_told : (file : ℕ) (begin : Option PlainToken) (one other : List ℕ) → ((n : ℕ) → told file begin false n one ≡ told file begin false n other)
+    → (inside : Bool) (n : ℕ) (spaces : List ℕ) → (length spaces ≡ 0 → inside ≡ false) → list_all is_space spaces ≡ true → told file begin inside n (spaces ++ one) ≡ told file begin inside n (spaces ++ other)
+spaces_told file begin one other same inside n [] some each =
+    ap (λ s. told file begin s n one) (some refl) ∙ same n ∙ ap (λ s. told file begin s n other) (sym (some refl))
+spaces_told file begin one other same inside n (b ∷ spaces) some each =
+    let parts = and_parts (is_space b) (list_all is_space spaces) each in
+    space_told file begin inside n b (spaces ++ one) parts.0
+    ∙ spaces_told file begin one other same false (by_line n b) spaces (λ e. refl) parts.1
+    ∙ sym (space_told file begin inside n b (spaces ++ other) parts.0)
+
+-- a `$(` before white space is a token
+mark_ahead : (file n b : ℕ) (rest : List ℕ) → is_space b ≡ true → ahead file by_line false n (36 ∷ 40 ∷ b ∷ rest) ≡ record { text = 36 ∷ 40 ∷ []; file = file; at = n } ∷ ahead file by_line true n (b ∷ rest)
+mark_ahead file n b rest e =
+    two_ahead file n 36 40 (b ∷ rest) refl refl
+    ∙ ap (λ (l : List ℕ). record { text = 36 ∷ 40 ∷ l; file = file; at = n } ∷ ahead file by_line true n (b ∷ rest)) (run_space b rest e)
+
+-- it opens a comment, or is a fault in one
+mark_told : (file : ℕ) (one other : List ℕ) → ((begin : PlainToken) (n : ℕ) → told file (Some begin) false n one ≡ told file (Some begin) false n other)
+    → (spaces : List ℕ) → 1 ≤ length spaces → list_all is_space spaces ≡ true → (begin : Option PlainToken) (n : ℕ) → told file begin false n (36 ∷ 40 ∷ spaces ++ one) ≡ told file begin false n (36 ∷ 40 ∷ spaces ++ other)
+mark_told file one other same [] some each begin n = absurd (omega arith)
+mark_told file one other same (b ∷ spaces) some each begin n =
+    let parts = and_parts (is_space b) (list_all is_space spaces) each in
+    ap (seen begin) (mark_ahead file n b (spaces ++ one) parts.0) ∙ go begin ∙ ap (seen begin) (sym (mark_ahead file n b (spaces ++ other) parts.0))
+  where
+    go : (begin : Option PlainToken) → seen begin (record { text = 36 ∷ 40 ∷ []; file = file; at = n } ∷ ahead file by_line true n (b ∷ spaces ++ one)) ≡ seen begin (record { text = 36 ∷ 40 ∷ []; file = file; at = n } ∷ ahead file by_line true n (b ∷ spaces ++ other))
+    go None =
+        let t : PlainToken = record { text = 36 ∷ 40 ∷ []; file = file; at = n } in
+        ap strip (outside-begin t (ahead file by_line true n (b ∷ spaces ++ one)) refl refl)
+        ∙ spaces_told file (Some t) one other (same t) true n (b ∷ spaces) (λ e. absurd (omega (arith, e))) each
+        ∙ ap strip (sym (outside-begin t (ahead file by_line true n (b ∷ spaces ++ other)) refl refl))
+    go (Some begun) =
+        let t : PlainToken = record { text = 36 ∷ 40 ∷ []; file = file; at = n } in
+        ap strip (in_comment-mark begun t (ahead file by_line true n (b ∷ spaces ++ one)) refl refl refl)
+        ∙ ap strip (sym (in_comment-mark begun t (ahead file by_line true n (b ∷ spaces ++ other)) refl refl refl))
+
+-- what shows the same in a comment, behind an open one
+opened : (file : ℕ) (bytes one other : List ℕ) → IsOpen bytes → ((begin : PlainToken) (n : ℕ) → told file (Some begin) false n one ≡ told file (Some begin) false n other) → shows file (bytes ++ one) ≡ shows file (bytes ++ other)
+opened file bytes one other comment same = whole one ∙ middle ∙ sym (whole other)
+  where
+    whole : (behind : List ℕ) → shows file (bytes ++ behind) ≡ told file None false 0 (comment.front ++ (36 ∷ 40 ∷ comment.behind ++ behind))
+    whole behind =
+        ap (λ l. shows file (l ++ behind)) comment.whole
+        ∙ ap (shows file) (append_assoc (comment.front ++ codes "$(") comment.behind behind ∙ append_assoc comment.front (codes "$(") (comment.behind ++ behind))
+        ∙ shows_told file (comment.front ++ (36 ∷ 40 ∷ comment.behind ++ behind))
+
+    middle : told file None false 0 (comment.front ++ (36 ∷ 40 ∷ comment.behind ++ one)) ≡ told file None false 0 (comment.front ++ (36 ∷ 40 ∷ comment.behind ++ other))
+    middle =
+        front_told file (36 ∷ 40 ∷ comment.behind ++ one) (36 ∷ 40 ∷ comment.behind ++ other) (mark_told file one other same comment.behind comment.some comment.spaces)
+        false 0 comment.front (ends_apart false comment.front (λ e. refl) comment.boundary) None
+
+-- a byte of what a comment says may be left out, but for its line feed and for the last byte of a word
+pub byte_dropped : (bytes : List ℕ) (last b : ℕ) → IsOpen bytes → is_quiet last ≡ true → is_quiet b ≡ true → ShowSame (bytes ++ ink last ++ b ∷ []) (bytes ++ feeds (b ∷ []) ++ ink b)
+byte_dropped bytes last b comment q r file rest =
+    ap (shows file) (append_assoc (bytes ++ ink last) (b ∷ []) rest ∙ append_assoc bytes (ink last) (b ∷ rest))
+    ∙ opened file bytes (ink last ++ (b ∷ rest)) (feeds (b ∷ []) ++ (ink b ++ rest)) comment (λ begin n.
+    byte_told file begin n last b rest (is_space last) (is_space b) refl refl q r ∙ sym (left_told file (Some begin) n b rest (is_space b) refl))
+    ∙ ap (shows file) (sym (append_assoc (bytes ++ feeds (b ∷ [])) (ink b) rest ∙ append_assoc bytes (feeds (b ∷ [])) (ink b ++ rest)))
+
+-- and so may a `$` before such a byte, where the two are no mark
+pub dollar_dropped : (bytes : List ℕ) (last b : ℕ) → IsOpen bytes → is_quiet last ≡ true → is_quiet b ≡ true → b ≢ 40 → b ≢ 41 → ShowSame (bytes ++ ink last ++ 36 ∷ b ∷ []) (bytes ++ feeds (b ∷ []) ++ ink b)
+dollar_dropped bytes last b comment q r left right file rest =
+    ap (shows file) (append_assoc (bytes ++ ink last) (36 ∷ b ∷ []) rest ∙ append_assoc bytes (ink last) (36 ∷ b ∷ rest))
+    ∙ opened file bytes (ink last ++ (36 ∷ b ∷ rest)) (feeds (b ∷ []) ++ (ink b ++ rest)) comment (λ begin n.
+    dollar_told file begin n last b rest (is_space last) (is_space b) refl refl q r left right ∙ sym (left_told file (Some begin) n b rest (is_space b) refl))
+    ∙ ap (shows file) (sym (append_assoc (bytes ++ feeds (b ∷ [])) (ink b) rest ∙ append_assoc bytes (feeds (b ∷ [])) (ink b ++ rest)))

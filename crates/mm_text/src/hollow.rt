@@ -1,0 +1,280 @@
+//! Comments without what they say.
+//!
+//! What a comment says is of no effect, but for its line feeds, by which lines are counted, and for
+//! its faults. So of a comment its `$(`, its line feeds and its `$)` are kept as its file is read,
+//! and not what it says: a file then takes less memory, and nothing goes over the comments again.
+//! Where a comment holds what ends or breaks one, it is kept from there on.
+
+ghost use Rattle.std.specs.Prelude.{◌≡◌, ◌<◌, ◌≤◌, ◌++◌, ◌∷◌, [], ℕ, List, length};
+ghost use Rattle.std.specs.Prelude.{IfOk, IsOk, OnOk};
+ghost use Rattle.std.specs.Prelude.{slice_range};
+ghost use Rattle.mm_text.specs.Alike.{ShowAlike};
+ghost use Rattle.mm_text.specs.Mirror.Place.{is_quiet};
+ghost use Rattle.mm_text.specs.Mirror.Hollow.{IsAt, IsHollow, feeds, held, ink};
+ghost use Rattle.mm_text.specs.declared.hollow.State.TheVariants.{Inside, Marked};
+
+use crate::scan::is_space;
+use crate::sought::{Dollar, Spoken, first_sought};
+use std::alloc::AllocError;
+
+/// Where a file ends that was read so far.
+#[derive(Clone, Copy)]
+pub enum State {
+    /// Outside the comments whose words are left out.
+    Outside,
+    /// There, after white space or at the file's begin.
+    Blank,
+    /// There, after a `$` that begins a token.
+    Dollar,
+    /// There, after a `$(` that begins a token.
+    Begun,
+    /// In a comment, after this byte of it; that is held back where it is one of a word.
+    Inside(u8),
+    /// In a comment, after this byte of it and a `$`; both are held back.
+    Marked(u8),
+}
+
+impl State {
+    // Where the file ends after one more byte that is kept.
+    fn after(self, byte: u8) -> State
+        ensures at { (kept : List ℕ) → IsAt kept self → IsAt (kept ++ byte ∷ []) result }
+        ensures none { held result ≡ [] }
+    {
+        match self {
+            State::Begun if is_space(byte) => State::Inside(byte),
+            _ if is_space(byte) => State::Blank,
+            State::Blank if byte == b'$' => State::Dollar,
+            State::Dollar if byte == b'(' => State::Begun,
+            _ => State::Outside,
+        }
+    }
+}
+
+// Whether a comment goes on after the byte, which isn't at fault in one.
+fn is_quiet(byte: u8) -> bool
+    ensures { result ≡ is_quiet byte }
+{
+    byte != b'$' && (byte > b' ' && byte <= b'~' || is_space(byte))
+}
+
+// The place of the first `$` from a place on that a `(` follows, or that is the last byte; or the
+// end.
+fn mark_place(piece: &[u8], start: usize) -> usize
+    requires { start ≤ length piece.now }
+    ensures from { start ≤ result }
+    ensures within { result ≤ length piece.now }
+{
+    let mut at = start;
+    while at < piece.len() {
+        at = first_sought::<Dollar>(piece, at);
+        if at + 1 >= piece.len() || piece[at + 1] == b'(' {
+            return at;
+        }
+        at += 1;
+    }
+    at
+}
+
+/// A file without what its comments say, as far as it was read.
+#[derive(Drop)]
+pub struct Hollow {
+    pub kept: Vec<u8>,
+    pub state: State,
+}
+
+impl Hollow {
+    /// Nothing of a file yet. The list is empty, and has room for what is kept.
+    pub fn new(kept: Vec<u8>) -> Hollow
+        requires { kept.items ≡ [] }
+        ensures hollow { IsHollow [] result.kept.items result.state }
+        ensures none { held result.state ≡ [] }
+    {
+        Hollow {
+            kept,
+            state: State::Blank,
+        }
+    }
+
+    // Keeps the byte, where it is one of a word.
+    fn keep_ink(&mut self, byte: u8) -> Result<(), AllocError>
+        ensures kept { OnOk result (self.new.kept.items ≡ self.old.kept.items ++ ink byte) }
+        ensures calm { ink byte ≡ [] → IsOk result }
+        ensures state { self.new.state ≡ self.old.state }
+    {
+        if !is_space(byte) {
+            self.kept.push(byte)?;
+        }
+        Ok(())
+    }
+
+    // Keeps what is held back.
+    fn keep_held(&mut self) -> Result<(), AllocError>
+        ensures kept { OnOk result
+            (self.new.kept.items ≡ self.old.kept.items ++ held self.old.state) }
+        ensures calm { held self.old.state ≡ [] → IsOk result }
+    {
+        match self.state {
+            State::Inside(last) => self.keep_ink(last)?,
+            State::Marked(last) => {
+                self.keep_ink(last)?;
+                self.kept.push(b'$')?;
+            }
+            _ => {}
+        }
+        Ok(())
+    }
+
+    // Keeps what is held back, and the byte behind it.
+    fn keep_all(&mut self, byte: u8) -> Result<(), AllocError>
+        ensures { OnOk result ((bytes : List ℕ)
+            → IsHollow bytes self.old.kept.items self.old.state
+            → IsHollow (bytes ++ byte ∷ []) self.new.kept.items self.new.state) }
+    {
+        self.keep_held()?;
+        self.kept.push(byte)?;
+        self.state = State::Outside;
+        Ok(())
+    }
+
+    // Leaves out a byte of a comment, but for its line feed.
+    fn leave_out(&mut self, byte: u8) -> Result<(), AllocError>
+        ensures kept { OnOk result
+            (self.new.kept.items ≡ self.old.kept.items ++ feeds (byte ∷ [])) }
+        ensures state { OnOk result (self.new.state ≡ Inside byte) }
+    {
+        if byte == b'\n' {
+            self.kept.push(byte)?;
+        }
+        self.state = State::Inside(byte);
+        Ok(())
+    }
+
+    // Takes the next byte of a comment, which may begin a mark.
+    fn take_spoken(&mut self, last: u8, byte: u8) -> Result<(), AllocError>
+        requires { self.old.state ≡ Inside last }
+        ensures { OnOk result ((bytes : List ℕ)
+            → IsHollow bytes self.old.kept.items self.old.state
+            → IsHollow (bytes ++ byte ∷ []) self.new.kept.items self.new.state) }
+    {
+        if is_quiet(byte) {
+            self.leave_out(byte)
+        } else if byte == b'$' {
+            self.state = State::Marked(last);
+            Ok(())
+        } else {
+            self.keep_all(byte)
+        }
+    }
+
+    // Takes the byte of a comment that comes behind a `$`.
+    fn take_marked(&mut self, last: u8, byte: u8) -> Result<(), AllocError>
+        requires { self.old.state ≡ Marked last }
+        ensures { OnOk result ((bytes : List ℕ)
+            → IsHollow bytes self.old.kept.items self.old.state
+            → IsHollow (bytes ++ byte ∷ []) self.new.kept.items self.new.state) }
+    {
+        if is_quiet(byte) && byte != b'(' && byte != b')' {
+            self.leave_out(byte)
+        } else {
+            self.keep_all(byte)
+        }
+    }
+
+    // Keeps the byte, where none is held back.
+    fn keep(&mut self, byte: u8) -> Result<(), AllocError>
+        requires { held self.old.state ≡ [] }
+        ensures { OnOk result ((bytes : List ℕ)
+            → IsHollow bytes self.old.kept.items self.old.state
+            → IsHollow (bytes ++ byte ∷ []) self.new.kept.items self.new.state) }
+    {
+        self.kept.push(byte)?;
+        self.state = self.state.after(byte);
+        Ok(())
+    }
+
+    // Takes the next byte.
+    fn take_one(&mut self, byte: u8) -> Result<(), AllocError>
+        ensures { OnOk result ((bytes : List ℕ)
+            → IsHollow bytes self.old.kept.items self.old.state
+            → IsHollow (bytes ++ byte ∷ []) self.new.kept.items self.new.state) }
+    {
+        match self.state {
+            State::Inside(last) => self.take_spoken(last, byte),
+            State::Marked(last) => self.take_marked(last, byte),
+            _ => self.keep(byte),
+        }
+    }
+
+    // Keeps bytes among which no comment begins.
+    fn keep_run(&mut self, run: &[u8]) -> Result<(), AllocError>
+        requires some { 1 ≤ length run.now }
+        requires none { held self.old.state ≡ [] }
+        ensures { OnOk result ((bytes : List ℕ)
+            → IsHollow bytes self.old.kept.items self.old.state
+            → IsHollow (bytes ++ run.now) self.new.kept.items self.new.state) }
+    {
+        self.kept.extend_from_slice(run)?;
+        self.state = if is_space(run[run.len() - 1]) {
+            State::Blank
+        } else {
+            State::Outside
+        };
+        Ok(())
+    }
+
+    // Takes the bytes from a place on up to the place that is answered.
+    fn take_some(&mut self, piece: &[u8], at: usize) -> Result<usize, AllocError>
+        requires { at < length piece.now }
+        ensures from { IfOk result (λ end. at < end) }
+        ensures within { IfOk result (λ end. end ≤ length piece.now) }
+        ensures hollow { IfOk result (λ end. (bytes : List ℕ)
+            → IsHollow bytes self.old.kept.items self.old.state
+            → IsHollow (bytes ++ slice_range piece.now at end)
+            self.new.kept.items self.new.state) }
+    {
+        match self.state {
+            State::Outside | State::Blank => {
+                let end = mark_place(piece, at);
+                if end > at {
+                    self.keep_run(&piece[at..end])?;
+                    return Ok(end);
+                }
+            }
+            State::Inside(_) => {
+                let end = first_sought::<Spoken>(piece, at);
+                if end > at {
+                    self.state = State::Inside(piece[end - 1]);
+                    return Ok(end);
+                }
+            }
+            _ => {}
+        }
+        self.take_one(piece[at])?;
+        Ok(at + 1)
+    }
+
+    /// Takes the next bytes of the file.
+    pub fn take(&mut self, piece: &[u8]) -> Result<(), AllocError>
+        ensures { OnOk result ((bytes : List ℕ)
+            → IsHollow bytes self.old.kept.items self.old.state
+            → IsHollow (bytes ++ piece.now) self.new.kept.items self.new.state) }
+    {
+        let mut at = 0;
+        while at < piece.len() {
+            at = self.take_some(piece, at)?;
+        }
+        Ok(())
+    }
+
+    /// What was kept of the file, which ends here.
+    pub fn finish(mut self) -> Result<Vec<u8>, AllocError>
+        ensures calm { held self.state ≡ [] → IsOk result }
+        ensures same { IfOk result (λ kept. (bytes : List ℕ)
+            → IsHollow bytes self.kept.items self.state
+            → ShowAlike bytes kept.items
+            × (length kept.items ≤ length bytes)) }
+    {
+        self.keep_held()?;
+        Ok(self.kept)
+    }
+}

@@ -1,0 +1,94 @@
+-- Files that were read, beside what they are read of.
+use Rattle.std.proofs.Common.{◌≡◌, ℕ, ◌+◌, ◌<◌, ◌≤◌, List, [], ◌∷◌, ◌++◌, length, map, take, get_or, refl, sym, ap, ap₂, ◌∙◌, subst, arith, Bor, Option, Some, None, IfSome}
+use Rattle.std.proofs.lemmas.List.{map-append, take_more}
+use Rattle.std.proofs.lemmas.List.Sums.{sum_by-append, sum_by_push}
+use Rattle.std.specs.List.{AllByRecursion, AllZip}
+use Rattle.mm_text.specs.Alike.{AreAlike}
+use Rattle.mm_text.specs.Files.{PlainFile, total_bytes}
+use Rattle.mm_check.specs.Alike.{AlikeFilesHaveOneReply}
+use Rattle.mm_check.specs.Reply.{IsReplyTo, WritesBeginningOf}
+use Rattle.mm_check.specs.declared.command.Command.{Command}
+use Rattle.mm_check.specs.declared.command.Command.TheVariants.{Check}
+use Rattle.mm_tool.specs.declared.files.Comments.{Comments}
+use Rattle.mm_tool.specs.declared.files.Comments.TheVariants.{Kept, LeftOut}
+use Rattle.mm_tool.specs.ReadFiles.{AreReadAs, IsReadAs}
+
+-- ## One file more
+
+pub more_each : {X : Type 0} (P : X → Type 0) (xs : List X) (x : X) → AllByRecursion P xs → P x → AllByRecursion P (xs ++ x ∷ [])
+more_each P [] x all one = (one, tt)
+more_each P (y ∷ xs) x all one = (all.0, more_each P xs x all.1 one)
+
+pub more_pairs : {X Y : Type 0} (R : X → Y → Type 0) (xs : List X) (ys : List Y) (x : X) (y : Y) → AllZip R xs ys → R x y → AllZip R (xs ++ x ∷ []) (ys ++ y ∷ [])
+more_pairs R [] [] x y all one = (one, tt)
+more_pairs R [] (b ∷ ys) x y all one = absurd all
+more_pairs R (a ∷ xs) [] x y all one = absurd all
+more_pairs R (a ∷ xs) (b ∷ ys) x y all one = (all.0, more_pairs R xs ys x y all.1 one)
+
+byte_count : (file : PlainFile) (files : List PlainFile) → total_bytes (file ∷ files) ≡ length file.bytes + total_bytes files
+byte_count file files =
+    let parts = sum_by-append (λ (f : PlainFile). length f.bytes) (file ∷ []) files in
+    omega (arith, parts)
+
+pub more_bytes : (files : List PlainFile) (file : PlainFile) → total_bytes (files ++ file ∷ []) ≡ total_bytes files + length file.bytes
+more_bytes files file = sum_by_push (λ (f : PlainFile). length f.bytes) files file
+
+pub more_names : (files : List PlainFile) (file : PlainFile) (names : List (Bor (List ℕ))) (i : ℕ) (d : Bor (List ℕ)) → i < length names → map (λ f. f.name) files ≡ map (λ n. n.now) (take i names) → file.name ≡ (get_or names i d).now
+    → map (λ f. f.name) (files ++ file ∷ []) ≡ map (λ n. n.now) (take (i + 1) names)
+more_names files file names i d within named name =
+    map-append (λ (f : PlainFile). f.name) files (file ∷ [])
+    ∙ ap (λ l. l ++ file.name ∷ []) named ∙ ap (λ (n : List ℕ). map (λ (n : Bor (List ℕ)). n.now) (take i names) ++ n ∷ []) name
+    ∙ sym (map-append (λ (n : Bor (List ℕ)). n.now) (take i names) (get_or names i d ∷ []))
+    ∙ ap (map (λ (n : Bor (List ℕ)). n.now)) (sym (take_more names i d within))
+
+-- ## The reply over what was read is that over the whole files
+
+-- nothing was left out
+same_files : (wholes reads : List PlainFile) → AllZip (IsReadAs Kept) wholes reads → reads ≡ wholes
+same_files [] [] all = refl
+same_files [] (read ∷ reads) all = absurd all
+same_files (whole ∷ wholes) [] all = absurd all
+same_files (whole ∷ wholes) (read ∷ reads) all =
+    let name = all.0.0 in
+    let bytes = all.0.1 in
+    let rest = same_files wholes reads all.1 in
+    let first : read ≡ whole = ap₂ (λ (n b : List ℕ). let f : PlainFile = record { name = n; bytes = b } in f) (sym name) bytes in
+    ap (λ f. f ∷ reads) first ∙ ap (λ l. whole ∷ l) rest
+
+-- what comments say was left out
+alike_files : (wholes reads : List PlainFile) → AllZip (IsReadAs LeftOut) wholes reads → AllZip AreAlike reads wholes
+alike_files [] [] all = tt
+alike_files [] (read ∷ reads) all = absurd all
+alike_files (whole ∷ wholes) [] all = absurd all
+alike_files (whole ∷ wholes) (read ∷ reads) all = ((sym all.0.0, λ file. sym (all.0.1.0 file)), alike_files wholes reads all.1)
+
+fewer_bytes : (wholes reads : List PlainFile) → AllZip (IsReadAs LeftOut) wholes reads → total_bytes reads ≤ total_bytes wholes
+fewer_bytes [] [] all = omega arith
+fewer_bytes [] (read ∷ reads) all = absurd all
+fewer_bytes (whole ∷ wholes) [] all = absurd all
+fewer_bytes (whole ∷ wholes) (read ∷ reads) all =
+    let rest = fewer_bytes wholes reads all.1 in
+    let first = all.0.1.1 in
+    let one = byte_count whole wholes in
+    let other = byte_count read reads in
+    omega (arith, rest, first, one, other)
+
+pub reply_over : AlikeFilesHaveOneReply → (comments : Comments) (command : Command) (max : ℕ) → (comments ≡ LeftOut → (command ≡ Check) × (max ≤ 1073741824)) → (wholes reads : List PlainFile) → AllZip (IsReadAs comments) wholes reads → total_bytes wholes ≤ max
+    → (text : List ℕ) (status : ℕ) → IsReplyTo reads command text status → IsReplyTo wholes command text status
+reply_over law Kept command max only wholes reads all within text status reply =
+    subst (λ l. IsReplyTo l command text status) (same_files wholes reads all) reply
+reply_over law LeftOut command max only wholes reads all within text status reply =
+    let (is, few) = only refl in
+    let fewer = fewer_bytes wholes reads all in
+    subst (λ k. IsReplyTo wholes k text status) (sym is)
+    (law reads wholes (alike_files wholes reads all) (omega (arith, fewer, within, few)) (omega (arith, within, few)) text status
+    (subst (λ k. IsReplyTo reads k text status) is reply))
+
+-- ## One file
+
+-- what a source holds, where that is known, is what its file holds
+pub held_by : (known left : Option (List ℕ)) (all : List ℕ) → IfSome known (λ bytes. left ≡ Some bytes) → IfSome left (λ bytes. all ≡ bytes) → IfSome known (λ bytes. all ≡ bytes)
+held_by None left all one other = tt
+held_by (Some bytes) left all one other =
+    let Known : Option (List ℕ) → Type 0 = λ o. IfSome o (λ bytes. all ≡ bytes) in
+    subst Known one other
