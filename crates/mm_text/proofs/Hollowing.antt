@@ -9,7 +9,7 @@ use Rattle.mm_text.specs.declared.hollow.State.{State}
 use Rattle.mm_text.specs.Token.{is_space}
 use Rattle.mm_text.specs.Alike.{shows}
 use Rattle.mm_text.specs.Mirror.Place.{is_quiet}
-use Rattle.mm_text.specs.Mirror.Hollow.{ShowSame, IsOpen, IsHollow, IsAt, held, ink, feeds, is_spoken}
+use Rattle.mm_text.specs.Mirror.Hollow.{ShowSame, IsOpen, IsHollow, IsAt, held, ink, feeds, is_spoken, last_before}
 use Rattle.mm_text.proofs.Dropped.{byte_dropped, dollar_dropped}
 
 -- what comes behind both shows the same too
@@ -148,11 +148,6 @@ spoken_quiet b spoken =
     let ends = and_parts _ _ parts.0 in
     ap (λ l. l && not (b == 36)) (shown_legal b (leb-true 32 b ends.0) (leb-true b 126 ends.1)) ∙ parts.1
 
--- the byte before a place so far behind another, or the one that was last there
-abbrev last_before : List ℕ → ℕ → ℕ → ℕ → ℕ
-last_before piece at last zero = last
-last_before piece at last (suc n) = get_or piece (at + n) 0
-
 -- such bytes of a comment are left out
 run_left_out : (bytes kept piece : List ℕ) (at last n : ℕ) → at + n ≤ length piece → ((k : ℕ) → at ≤ k → k < at + n → is_spoken (get_or piece k 0) ≡ true) → IsHollow bytes kept (Inside last)
     → IsHollow (bytes ++ take n (drop at piece)) kept (Inside (last_before piece at last n))
@@ -170,15 +165,23 @@ run_left_out bytes kept piece at last (suc n) within all hollow =
     (subst (λ l. IsHollow (bytes ++ take n (drop at piece) ++ b ∷ []) l (Inside b)) same_kept one)
 
 -- so are the bytes of a piece up to a place, as the code says it
-pub run_left_out_so : (bytes kept piece : List ℕ) (state : State) (at last end : ℕ) → state ≡ Inside last → at < end → end ≤ length piece → ((k : ℕ) → at ≤ k → k < end → is_spoken (get_or piece k 0) ≡ true) → IsHollow bytes kept state
-    → IsHollow (bytes ++ take (end - at) (drop at piece)) kept (Inside (get_or piece (end - 1) 0))
-run_left_out_so bytes kept piece state at last end is some within all hollow =
-    let n = end - at - 1 in
-    let long : suc n ≡ end - at = omega (arith, some) in
-    let there : at + n ≡ end - 1 = omega (arith, some) in
-    subst (λ m. IsHollow (bytes ++ take m (drop at piece)) kept (Inside (get_or piece (end - 1) 0))) long
-    (subst (λ k. IsHollow (bytes ++ take (suc n) (drop at piece)) kept (Inside (get_or piece k 0))) there
-    (run_left_out bytes kept piece at last (suc n) (omega (arith, long, within)) (λ k low high. all k low (omega (arith, high, long))) (subst (λ s. IsHollow bytes kept s) is hollow)))
+pub run_left_out_so : (bytes kept piece : List ℕ) (state : State) (at last end before : ℕ) → state ≡ Inside last → at ≤ end → end ≤ length piece → ((k : ℕ) → at ≤ k → k < end → is_spoken (get_or piece k 0) ≡ true) → before ≡ last_before piece at last (end - at) → IsHollow bytes kept state
+    → IsHollow (bytes ++ take (end - at) (drop at piece)) kept (Inside before)
+run_left_out_so bytes kept piece state at last end before is order within all there hollow =
+    let whole : at + (end - at) ≡ end = omega (arith, order) in
+    subst (λ b. IsHollow (bytes ++ take (end - at) (drop at piece)) kept (Inside b)) (sym there)
+    (run_left_out bytes kept piece at last (end - at) (omega (arith, whole, within)) (λ k low high. all k low (omega (arith, high, whole))) (subst (λ s. IsHollow bytes kept s) is hollow))
+
+-- and one byte more
+pub run_and_one : (bytes piece : List ℕ) (at end : ℕ) → at ≤ end → end < length piece → bytes ++ take (end - at) (drop at piece) ++ get_or piece end 0 ∷ [] ≡ bytes ++ take (end + 1 - at) (drop at piece)
+run_and_one bytes piece at end order within =
+    let n = end - at in
+    let there : at + n ≡ end = omega (arith, order) in
+    let more : end + 1 - at ≡ n + 1 = omega (arith, order) in
+    append_assoc bytes (take n (drop at piece)) (get_or piece end 0 ∷ [])
+    ∙ ap (λ l. bytes ++ l) (sym (ap (λ m. take m (drop at piece)) more
+    ∙ take_more (drop at piece) n 0 (omega (arith, there, within, length-drop at piece))
+    ∙ ap (λ d. take n (drop at piece) ++ d ∷ []) (get_or-drop at piece n 0 ∙ ap (λ k. get_or piece k 0) there)))
 
 -- one byte of a piece
 pub one_of : (piece : List ℕ) (at : ℕ) → at < length piece → take (at + 1 - at) (drop at piece) ≡ get_or piece at 0 ∷ []

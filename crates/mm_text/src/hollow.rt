@@ -5,17 +5,18 @@
 //! and not what it says: a file then takes less memory, and nothing goes over the comments again.
 //! Where a comment holds what ends or breaks one, it is kept from there on.
 
-ghost use Rattle.std.specs.Prelude.{◌≡◌, ◌<◌, ◌≤◌, ◌++◌, ◌∷◌, [], ℕ, List, length};
+ghost use Rattle.std.specs.Prelude.{◌≡◌, ◌+◌, ◌-◌, ◌<◌, ◌≤◌, ◌++◌, ◌∷◌, [], ℕ, List, length};
 ghost use Rattle.std.specs.Prelude.{IfOk, IsOk, OnOk};
 ghost use Rattle.std.specs.Prelude.{slice_range};
 ghost use Rattle.mm_text.specs.Alike.{ShowAlike};
 ghost use Rattle.mm_text.specs.Mirror.Place.{is_quiet};
-ghost use Rattle.mm_text.specs.Mirror.Hollow.{IsAt, IsHollow, feeds, held, ink};
+ghost use Rattle.mm_text.specs.Mirror.Hollow.{IsAt, IsHollow, feeds, held, ink, last_before};
 ghost use Rattle.mm_text.specs.declared.hollow.State.TheVariants.{Inside, Marked};
 
 use crate::scan::is_space;
-use crate::sought::{Dollar, Spoken, first_sought};
+use crate::sought::{Spoken, first_set, first_sought};
 use std::alloc::AllocError;
+use std::simd::prelude::*;
 
 /// Where a file ends that was read so far.
 #[derive(Clone, Copy)]
@@ -57,22 +58,58 @@ fn is_quiet(byte: u8) -> bool
     byte != b'$' && (byte > b' ' && byte <= b'~' || is_space(byte))
 }
 
+// How many of 64 bytes from a place on come before a `$` that a `(` follows; 64 where there is none.
+#[inline(always)]
+fn run_before_mark(piece: &[u8], at: usize) -> usize
+    requires { at + 64 < length piece.now }
+    ensures { result ≤ 64 }
+{
+    let dollars = u8x64::from_slice(&piece[at..]).simd_eq(u8x64::splat(b'$'));
+    let begins = u8x64::from_slice(&piece[at + 1..]).simd_eq(u8x64::splat(b'('));
+    first_set((dollars & begins).to_bitmask(), 64)
+}
+
+// Does as `mark_place`, byte by byte. It is a call, since it is rare: where a piece ends.
+#[cold]
+#[inline(never)]
+fn mark_slowly(piece: &[u8], start: usize) -> usize
+    requires { start ≤ length piece.now }
+    ensures from { start ≤ result }
+    ensures within { result ≤ length piece.now }
+{
+    for at in start..piece.len() {
+        if piece[at] == b'$' && (at + 1 == piece.len() || piece[at + 1] == b'(') {
+            return at;
+        }
+    }
+    piece.len()
+}
+
 // The place of the first `$` from a place on that a `(` follows, or that is the last byte; or the
-// end.
+// end. What is kept doesn't rest on it: all up to there is kept as it is.
 fn mark_place(piece: &[u8], start: usize) -> usize
     requires { start ≤ length piece.now }
     ensures from { start ≤ result }
     ensures within { result ≤ length piece.now }
 {
     let mut at = start;
-    while at < piece.len() {
-        at = first_sought::<Dollar>(piece, at);
-        if at + 1 >= piece.len() || piece[at + 1] == b'(' {
+    while piece.len() - at > 64 {
+        let run = run_before_mark(piece, at);
+        at += run;
+        if run < 64 {
             return at;
         }
-        at += 1;
     }
-    at
+    mark_slowly(piece, at)
+}
+
+// The byte before a place, or the one that was last before the piece's part that begins at another.
+fn byte_before(piece: &[u8], start: usize, at: usize, last: u8) -> u8
+    requires order { start ≤ at }
+    requires within { at ≤ length piece.now }
+    ensures { result ≡ last_before piece.now start last (at - start) }
+{
+    if at > start { piece[at - 1] } else { last }
 }
 
 /// A file without what its comments say, as far as it was read.
@@ -222,6 +259,28 @@ impl Hollow {
         Ok(())
     }
 
+    // Takes bytes of a comment from a place on up to the place that is answered: those that are
+    // simply left out, and the byte behind them.
+    fn take_inside(&mut self, piece: &[u8], at: usize, last: u8) -> Result<usize, AllocError>
+        requires inside { self.old.state ≡ Inside last }
+        requires within { at < length piece.now }
+        ensures from { IfOk result (λ end. at < end) }
+        ensures within { IfOk result (λ end. end ≤ length piece.now) }
+        ensures hollow { IfOk result (λ end. (bytes : List ℕ)
+            → IsHollow bytes self.old.kept.items self.old.state
+            → IsHollow (bytes ++ slice_range piece.now at end)
+            self.new.kept.items self.new.state) }
+    {
+        let end = first_sought::<Spoken>(piece, at);
+        let before = byte_before(piece, at, end, last);
+        self.state = State::Inside(before);
+        if end == piece.len() {
+            return Ok(end);
+        }
+        self.take_spoken(before, piece[end])?;
+        Ok(end + 1)
+    }
+
     // Takes the bytes from a place on up to the place that is answered.
     fn take_some(&mut self, piece: &[u8], at: usize) -> Result<usize, AllocError>
         requires { at < length piece.now }
@@ -240,13 +299,7 @@ impl Hollow {
                     return Ok(end);
                 }
             }
-            State::Inside(_) => {
-                let end = first_sought::<Spoken>(piece, at);
-                if end > at {
-                    self.state = State::Inside(piece[end - 1]);
-                    return Ok(end);
-                }
-            }
+            State::Inside(last) => return self.take_inside(piece, at, last),
             _ => {}
         }
         self.take_one(piece[at])?;

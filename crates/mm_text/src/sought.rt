@@ -1,6 +1,6 @@
 //! The first byte of a kind that is looked for, many bytes at a time.
 
-ghost use Rattle.std.specs.Prelude.{◌≡◌, ℕ, ◌<◌, ◌≤◌, ◌==◌, nat_lt, not, true, false, length};
+ghost use Rattle.std.specs.Prelude.{◌≡◌, ℕ, ◌<◌, ◌≤◌, nat_lt, true, false, length};
 ghost use Rattle.std.specs.Prelude.{slice_index};
 ghost use Rattle.mm_text.specs.Mirror.Place.{is_plain};
 ghost use Rattle.mm_text.specs.Mirror.Hollow.{is_spoken};
@@ -36,7 +36,7 @@ pub trait Sought {
 
 /// The place of the lowest bit of a mask that is set, or how many bits it has where none is.
 #[inline(always)]
-fn first_set(mask: u64, lanes: usize) -> usize
+pub fn first_set(mask: u64, lanes: usize) -> usize
     ensures { result ≡ first_set mask lanes }
 {
     if mask == 0 {
@@ -98,30 +98,6 @@ impl Sought for Odd {
         let odd = unprintable & block.simd_ne(u8x64::splat(b'\n'))
             | block.simd_eq(u8x64::splat(b'$'));
         first_set(odd.to_bitmask(), 64)
-    }
-}
-
-/// `$` alone.
-pub struct Dollar;
-
-impl Sought for Dollar {
-    ghost passed = { λ b. not (b == 36) };
-
-    ghost lanes = { 64 };
-
-    #[inline(always)]
-    fn lanes() -> usize {
-        64
-    }
-
-    fn is_passed(byte: u8) -> bool {
-        byte != b'$'
-    }
-
-    #[inline(always)]
-    fn passed_run(bytes: &[u8], at: usize) -> usize {
-        let block = u8x64::from_slice(&bytes[at..]);
-        first_set(block.simd_eq(u8x64::splat(b'$')).to_bitmask(), 64)
     }
 }
 

@@ -1,7 +1,7 @@
 -- Comments without what they say. This file mirrors the code, and is cited by private contracts
 -- alone.
 use Rattle.std.specs.Prelude.{◌≡◌, ℕ, ◌+◌, ◌≤◌, ◌==◌, List, [], ◌∷◌, ◌++◌, length, true}
-use Rattle.std.specs.Prelude.{if◌then◌else◌, slice_index, filter, codes, Bool, nat_le, ◌&&◌, not}
+use Rattle.std.specs.Prelude.{if◌then◌else◌, slice_index, filter, codes, Bool, nat_le, ◌&&◌, not, zero, suc}
 use Rattle.std.specs.List.{list_all}
 use Rattle.mm_text.specs.declared.hollow.State.{State}
 use Rattle.mm_text.specs.declared.hollow.State.TheVariants.{Outside, Blank, Dollar, Begun}
@@ -36,6 +36,11 @@ ink b = if is_space b then [] else b ∷ []
 -- a printable byte or a space, and no `$`
 abbrev pub is_spoken : ℕ → Bool
 is_spoken b = nat_le 32 b && nat_le b 126 && not (b == 36)
+
+-- the byte before a place so far behind another one, or the one that was last there
+abbrev pub last_before : List ℕ → ℕ → ℕ → ℕ → ℕ
+last_before piece at last zero = last
+last_before piece at last (suc n) = slice_index piece (at + n)
 
 -- the line feeds
 abbrev pub feeds : List ℕ → List ℕ
