@@ -1,7 +1,7 @@
 -- What is kept of a file as its bytes come.
-use Rattle.std.proofs.Common.{◌≡◌, ◌≢◌, ℕ, ◌+◌, ◌≤◌, ◌==◌, ◌&&◌, List, [], ◌∷◌, ◌++◌, length, true, not, refl, sym, ap, subst, ◌∙◌, append_assoc, append-nil, arith, length-append, zero, suc, take, drop, ◌-◌, ◌<◌, get_or, codes, Bool, ap₂, inl, inr, Result, Ok, Err, OnOk}
+use Rattle.std.proofs.Common.{◌≡◌, ◌≢◌, ℕ, ◌+◌, ◌≤◌, ◌==◌, ◌&&◌, List, [], ◌∷◌, ◌++◌, length, true, not, refl, sym, ap, subst, ◌∙◌, append_assoc, append-nil, arith, length-append, take-add, zero, suc, take, drop, ◌-◌, ◌<◌, get_or, codes, Bool, ap₂, inl, inr, Result, Ok, Err, OnOk}
 use Rattle.std.specs.List.{list_all}
-use Rattle.std.proofs.lemmas.List.{take_more, get_or-drop, length-drop}
+use Rattle.std.proofs.lemmas.List.{take_more, get_or-drop, length-drop, drop-drop}
 use Rattle.std.proofs.lemmas.Bool.{and_parts, cases_eq, cases_Bool, ne_eqb, leb-true}
 use Rattle.mm_text.proofs.LegalLaws.{shown_legal}
 use Rattle.mm_text.specs.declared.hollow.State.TheVariants.{Outside, Inside, Marked}
@@ -172,16 +172,8 @@ run_left_out_so bytes kept piece state at last end before is order within all th
     subst (λ b. IsHollow (bytes ++ take (end - at) (drop at piece)) kept (Inside b)) (sym there)
     (run_left_out bytes kept piece at last (end - at) (omega (arith, whole, within)) (λ k low high. all k low (omega (arith, high, whole))) (subst (λ s. IsHollow bytes kept s) is hollow))
 
--- and one byte more
-pub run_and_one : (bytes piece : List ℕ) (at end : ℕ) → at ≤ end → end < length piece → bytes ++ take (end - at) (drop at piece) ++ get_or piece end 0 ∷ [] ≡ bytes ++ take (end + 1 - at) (drop at piece)
-run_and_one bytes piece at end order within =
-    let n = end - at in
-    let there : at + n ≡ end = omega (arith, order) in
-    let more : end + 1 - at ≡ n + 1 = omega (arith, order) in
-    append_assoc bytes (take n (drop at piece)) (get_or piece end 0 ∷ [])
-    ∙ ap (λ l. bytes ++ l) (sym (ap (λ m. take m (drop at piece)) more
-    ∙ take_more (drop at piece) n 0 (omega (arith, there, within, length-drop at piece))
-    ∙ ap (λ d. take n (drop at piece) ++ d ∷ []) (get_or-drop at piece n 0 ∙ ap (λ k. get_or piece k 0) there)))
+one_more : (end : ℕ) → end + (end + 1 - end) ≡ end + 1
+one_more end = omega arith
 
 -- one byte of a piece
 pub one_of : (piece : List ℕ) (at : ℕ) → at < length piece → take (at + 1 - at) (drop at piece) ≡ get_or piece at 0 ∷ []
@@ -190,3 +182,51 @@ one_of piece at within =
     let first : at + 0 ≡ at = omega arith in
     ap (λ m. take m (drop at piece)) one ∙ take_more (drop at piece) 0 0 (omega (arith, within, length-drop at piece))
     ∙ ap (λ d. d ∷ []) (get_or-drop at piece 0 0 ∙ ap (λ k. get_or piece k 0) first)
+
+-- a part of a piece, and the part behind it
+two_parts : (bytes piece : List ℕ) (start at n : ℕ) → start ≤ at → bytes ++ take (at - start) (drop start piece) ++ take n (drop at piece) ≡ bytes ++ take (at + n - start) (drop start piece)
+two_parts bytes piece start at n order =
+    let k = at - start in
+    let there : start + k ≡ at = omega (arith, order) in
+    let whole : k + n ≡ at + n - start = omega (arith, order) in
+    append_assoc bytes (take k (drop start piece)) (take n (drop at piece))
+    ∙ ap (λ l. bytes ++ l) (sym (ap (λ m. take m (drop start piece)) (sym whole) ∙ take-add k n (drop start piece)
+    ∙ ap (λ l. take k (drop start piece) ++ take n l) (drop-drop k start piece ∙ ap (λ m. drop m piece) there)))
+
+-- the end of a part of lines that are left out
+pub lines_end : (bytes kept next piece : List ℕ) (state after : State) (start at end last : ℕ) → start ≤ at → at ≤ end → end ≤ length piece → ((k : ℕ) → at ≤ k → k < end → is_spoken (get_or piece k 0) ≡ true)
+    → state ≡ Inside last → next ≡ kept → after ≡ Inside (last_before piece at last (end - at)) → IsHollow (bytes ++ take (at - start) (drop start piece)) kept state
+    → IsHollow (bytes ++ take (end - start) (drop start piece)) next after
+lines_end bytes kept next piece state after start at end last from order within all is same where_to hollow =
+    let whole : at + (end - at) ≡ end = omega (arith, order) in
+    let front = bytes ++ take (at - start) (drop start piece) in
+    let run = run_left_out_so front kept piece state at last end (last_before piece at last (end - at)) is order within all refl hollow in
+    subst (λ s. IsHollow (bytes ++ take (end - start) (drop start piece)) next s) (sym where_to)
+    (subst (λ l. IsHollow (bytes ++ take (end - start) (drop start piece)) l (Inside (last_before piece at last (end - at)))) (sym same)
+    (subst (λ l. IsHollow l kept (Inside (last_before piece at last (end - at)))) (two_parts bytes piece start at (end - at) from ∙ ap (λ m. bytes ++ take (m - start) (drop start piece)) whole) run))
+
+-- a line feed that ends a line
+feed_quiet : is_quiet 10 ≡ true
+feed_quiet = refl
+
+-- one more line that is left out
+pub lines_more : (bytes kept next piece : List ℕ) (state after : State) (start at end last : ℕ) → start ≤ at → at ≤ end → end < length piece → ((k : ℕ) → at ≤ k → k < end → is_spoken (get_or piece k 0) ≡ true)
+    → get_or piece end 0 ≡ 10 → state ≡ Inside last → next ≡ kept ++ feeds (10 ∷ []) → after ≡ Inside 10 → IsHollow (bytes ++ take (at - start) (drop start piece)) kept state
+    → IsHollow (bytes ++ take (end + 1 - start) (drop start piece)) next after
+lines_more bytes kept next piece state after start at end last from order within all feed is what where_to hollow =
+    let b = last_before piece at last (end - at) in
+    let line = lines_end bytes kept kept piece state (Inside b) start at end last from order (omega (arith, within)) all is refl refl hollow in
+    let one = left_out (bytes ++ take (end - start) (drop start piece)) kept b 10 feed_quiet line in
+    let whole = ap (λ d. bytes ++ take (end - start) (drop start piece) ++ d ∷ []) (sym feed)
+    ∙ ap (λ l. bytes ++ take (end - start) (drop start piece) ++ l) (sym (one_of piece end within))
+    ∙ two_parts bytes piece start end (end + 1 - end) (omega (arith, from, order))
+    ∙ ap (λ m. bytes ++ take (m - start) (drop start piece)) (one_more end) in
+    subst (λ s. IsHollow (bytes ++ take (end + 1 - start) (drop start piece)) next s) (sym where_to)
+    (subst (λ l. IsHollow (bytes ++ take (end + 1 - start) (drop start piece)) l (Inside 10)) (sym what)
+    (subst (λ l. IsHollow l (kept ++ feeds (10 ∷ [])) (Inside 10)) whole one))
+
+-- no byte of a piece
+pub none_of : (bytes piece : List ℕ) (at end : ℕ) → end ≡ at → bytes ++ take (end - at) (drop at piece) ≡ bytes
+none_of bytes piece at end is =
+    let zero_more : end - at ≡ 0 = omega (arith, is) in
+    ap (λ m. bytes ++ take m (drop at piece)) zero_more ∙ append-nil bytes

@@ -1,6 +1,6 @@
--- Files that show the same: the same tokens outside comments, up to the first fault of comments, and
--- that fault, on the same lines. A comment without a fault shows nothing (the Metamath book, sections
--- 4.1.2 and 4.4.1).
+-- Files that show the same: the same tokens outside comments, up to the first fault of comments,
+-- and that fault, on the same lines. A comment without a fault shows nothing (the Metamath book,
+-- sections 4.1.2 and 4.4.1).
 use Rattle.std.specs.Prelude.{◌≡◌, ℕ, ◌==◌, List, [], map, take, count_by, slice_get}
 use Rattle.std.specs.Prelude.{Option, None, option_map, unwrap_or}
 use Rattle.std.specs.List.{AllZip}
@@ -77,8 +77,8 @@ ShowAlike bytes others = (file : ℕ) → shows file bytes ≡ shows file others
 abbrev pub AreAlike : PlainFile → PlainFile → Type 0
 AreAlike one other = (one.name ≡ other.name) × ShowAlike one.bytes other.bytes
 
--- The other files have a reading that is these statements and this ending, but for places: lines are
--- the same.
+-- The other files have a reading that is these statements and this ending, but for places: lines
+-- are the same.
 pub record AreReadAlike (files others : List PlainFile) (statements : List PlainStatement)
     (ending : Option PlainFault) : Type 0 where
   pub same : List PlainStatement

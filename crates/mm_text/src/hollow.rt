@@ -58,7 +58,8 @@ fn is_quiet(byte: u8) -> bool
     byte != b'$' && (byte > b' ' && byte <= b'~' || is_space(byte))
 }
 
-// How many of 64 bytes from a place on come before a `$` that a `(` follows; 64 where there is none.
+// How many of 64 bytes from a place on come before a `$` that a `(` follows; all where there is
+// none.
 #[inline(always)]
 fn run_before_mark(piece: &[u8], at: usize) -> usize
     requires { at + 64 < length piece.now }
@@ -101,15 +102,6 @@ fn mark_place(piece: &[u8], start: usize) -> usize
         }
     }
     mark_slowly(piece, at)
-}
-
-// The byte before a place, or the one that was last before the piece's part that begins at another.
-fn byte_before(piece: &[u8], start: usize, at: usize, last: u8) -> u8
-    requires order { start ≤ at }
-    requires within { at ≤ length piece.now }
-    ensures { result ≡ last_before piece.now start last (at - start) }
-{
-    if at > start { piece[at - 1] } else { last }
 }
 
 /// A file without what its comments say, as far as it was read.
@@ -259,26 +251,41 @@ impl Hollow {
         Ok(())
     }
 
-    // Takes bytes of a comment from a place on up to the place that is answered: those that are
-    // simply left out, and the byte behind them.
-    fn take_inside(&mut self, piece: &[u8], at: usize, last: u8) -> Result<usize, AllocError>
-        requires inside { self.old.state ≡ Inside last }
-        requires within { at < length piece.now }
-        ensures from { IfOk result (λ end. at < end) }
+    // Leaves out what a comment says from a place on, up to the first byte of it that isn't simply
+    // left out and no line feed; or up to the end.
+    fn leave_out_lines(&mut self, piece: &[u8], start: usize) -> Result<usize, AllocError>
+        requires inside { (last : ℕ) × (self.old.state ≡ Inside last) }
+        requires within { start ≤ length piece.now }
+        ensures from { IfOk result (λ end. start ≤ end) }
         ensures within { IfOk result (λ end. end ≤ length piece.now) }
         ensures hollow { IfOk result (λ end. (bytes : List ℕ)
             → IsHollow bytes self.old.kept.items self.old.state
-            → IsHollow (bytes ++ slice_range piece.now at end)
+            → IsHollow (bytes ++ slice_range piece.now start end)
             self.new.kept.items self.new.state) }
     {
-        let end = first_sought::<Spoken>(piece, at);
-        let before = byte_before(piece, at, end, last);
-        self.state = State::Inside(before);
-        if end == piece.len() {
-            return Ok(end);
+        let mut at = start;
+        loop {
+            let end = first_sought::<Spoken>(piece, at);
+            if end == piece.len() || piece[end] != b'\n' {
+                self.pass(piece, at, end);
+                return Ok(end);
+            }
+            self.leave_out(b'\n')?;
+            at = end + 1;
         }
-        self.take_spoken(before, piece[end])?;
-        Ok(end + 1)
+    }
+
+    // Notes the last byte of a part of a comment that is left out.
+    fn pass(&mut self, piece: &[u8], start: usize, end: usize)
+        requires order { start ≤ end }
+        requires within { end ≤ length piece.now }
+        ensures kept { self.new.kept.items ≡ self.old.kept.items }
+        ensures state { (last : ℕ) → self.old.state ≡ Inside last
+            → self.new.state ≡ Inside (last_before piece.now start last (end - start)) }
+    {
+        if start < end {
+            self.state = State::Inside(piece[end - 1]);
+        }
     }
 
     // Takes the bytes from a place on up to the place that is answered.
@@ -299,7 +306,12 @@ impl Hollow {
                     return Ok(end);
                 }
             }
-            State::Inside(last) => return self.take_inside(piece, at, last),
+            State::Inside(_) => {
+                let end = self.leave_out_lines(piece, at)?;
+                if end > at {
+                    return Ok(end);
+                }
+            }
             _ => {}
         }
         self.take_one(piece[at])?;

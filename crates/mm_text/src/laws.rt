@@ -78,10 +78,10 @@ pub fn readings_fit()
     ensures { ReadingsFit }
 {}
 
-/// What comments say has no effect (the Metamath book, section 4.1.2): files with the same names that show
-/// the same tokens outside comments, on the same lines, have the same readings, but for the places
-/// of their tokens. If in one of them a comment is at fault, then in the other there is a fault of
-/// that rule on that line.
+/// What comments say has no effect (the Metamath book, section 4.1.2): files with the same names
+/// that show the same tokens outside comments, on the same lines, have the same readings, but for
+/// the places of their tokens. If in one of them a comment is at fault, then in the other there is
+/// a fault of that rule on that line.
 pub fn alike_files_are_read_alike()
     ensures { AlikeFilesAreReadAlike }
 {}

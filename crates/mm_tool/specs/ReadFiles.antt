@@ -5,8 +5,8 @@ use Rattle.mm_text.specs.Files.{PlainFile}
 use Rattle.mm_tool.specs.declared.files.Comments.{Comments}
 use Rattle.mm_tool.specs.declared.files.Comments.TheVariants.{Kept, LeftOut}
 
--- These bytes were read from a file that holds all of those: just these, or some that show the same,
--- with the line feeds of comments and their faults, and are no more.
+-- These bytes were read from a file that holds all of those: just these, or some that show the
+-- same, with the line feeds of comments and their faults, and are no more.
 abbrev pub AreReadAs : Comments → List ℕ → List ℕ → Type 0
 AreReadAs Kept all bytes = bytes ≡ all
 AreReadAs LeftOut all bytes =

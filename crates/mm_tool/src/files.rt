@@ -18,8 +18,8 @@ use thiserror::Error;
 #[derive(Clone, Copy, PartialEq, Eq, Debug)]
 pub(crate) enum Comments {
     Kept,
-    /// It is left out, but for line feeds and faults, as it changes no reply to `check`: a file then
-    /// takes less memory. Other commands, and proofs in files of their own, need files as they are.
+    /// It is left out, but for line feeds and faults, as it changes no reply to `check`: a file
+    /// then takes less memory. Other commands need files as they are.
     LeftOut,
 }
 

@@ -1,7 +1,8 @@
 -- Comments without what they say. This file mirrors the code, and is cited by private contracts
 -- alone.
 use Rattle.std.specs.Prelude.{◌≡◌, ℕ, ◌+◌, ◌≤◌, ◌==◌, List, [], ◌∷◌, ◌++◌, length, true}
-use Rattle.std.specs.Prelude.{if◌then◌else◌, slice_index, filter, codes, Bool, nat_le, ◌&&◌, not, zero, suc}
+use Rattle.std.specs.Prelude.{if◌then◌else◌, slice_index, filter, codes, Bool, nat_le, ◌&&◌, not}
+use Rattle.std.specs.Prelude.{zero, suc}
 use Rattle.std.specs.List.{list_all}
 use Rattle.mm_text.specs.declared.hollow.State.{State}
 use Rattle.mm_text.specs.declared.hollow.State.TheVariants.{Outside, Blank, Dollar, Begun}
