@@ -24,21 +24,21 @@ all_but_first [] = []
 all_but_first (x ∷ xs) = xs
 
 -- lists whose elements correspond map to one
-zip_mapped : {A B C : Type 0} (f : A → C) (g : B → C) (xs : List A) (ys : List B) → AllZip (λ x y. f x ≡ g y) xs ys → map f xs ≡ map g ys
+pub zip_mapped : {A B C : Type 0} (f : A → C) (g : B → C) (xs : List A) (ys : List B) → AllZip (λ x y. f x ≡ g y) xs ys → map f xs ≡ map g ys
 zip_mapped f g [] [] h = refl
 zip_mapped f g [] (y ∷ ys) h = absurd h
 zip_mapped f g (x ∷ xs) [] h = absurd h
 zip_mapped f g (x ∷ xs) (y ∷ ys) h = λ i. h.0 i ∷ zip_mapped f g xs ys h.1 i
 
 -- and the other way round
-mapped_zip : {A B C : Type 0} (f : A → C) (g : B → C) (R : A → B → Type 0) → ((x : A) (y : B) → f x ≡ g y → R x y) → (xs : List A) (ys : List B) → map f xs ≡ map g ys → AllZip R xs ys
+pub mapped_zip : {A B C : Type 0} (f : A → C) (g : B → C) (R : A → B → Type 0) → ((x : A) (y : B) → f x ≡ g y → R x y) → (xs : List A) (ys : List B) → map f xs ≡ map g ys → AllZip R xs ys
 mapped_zip f g R step [] [] is = tt
 mapped_zip f g R step [] (y ∷ ys) is = absurd cc
 mapped_zip f g R step (x ∷ xs) [] is = absurd cc
 mapped_zip f g R step (x ∷ xs) (y ∷ ys) is = (step x y (ap (first_or (f x)) is), mapped_zip f g R step xs ys (ap all_but_first is))
 
 -- lists that correspond, after lists that do
-zip_append : {A B : Type 0} (R : A → B → Type 0) (xs : List A) (ys : List B) (us : List A) (vs : List B) → AllZip R xs ys → AllZip R us vs → AllZip R (xs ++ us) (ys ++ vs)
+pub zip_append : {A B : Type 0} (R : A → B → Type 0) (xs : List A) (ys : List B) (us : List A) (vs : List B) → AllZip R xs ys → AllZip R us vs → AllZip R (xs ++ us) (ys ++ vs)
 zip_append R [] [] us vs h k = k
 zip_append R [] (y ∷ ys) us vs h k = absurd h
 zip_append R (x ∷ xs) [] us vs h k = absurd h
@@ -117,21 +117,21 @@ shown_of_file files n f there =
 -- ---- two readings of tokens that correspond
 
 -- pieces correspond
-abbrev SamePiece : (ℕ → ℕ → ℕ) → (ℕ → ℕ → ℕ) → Piece → Piece → Type 0
+abbrev pub SamePiece : (ℕ → ℕ → ℕ) → (ℕ → ℕ → ℕ) → Piece → Piece → Type 0
 SamePiece h k (Met a) (Met b) = item_on h a ≡ item_on k b
 SamePiece h k (Met a) (Named m) = ⊥
 SamePiece h k (Named n) (Met b) = ⊥
 SamePiece h k (Named n) (Named m) = token_on h n ≡ token_on k m
 
 -- what files show corresponds
-abbrev SameShown : (ℕ → ℕ → ℕ) → (ℕ → ℕ → ℕ) → Shown → Shown → Type 0
+abbrev pub SameShown : (ℕ → ℕ → ℕ) → (ℕ → ℕ → ℕ) → Shown → Shown → Type 0
 SameShown h k (Clear t) (Clear u) = token_on h t ≡ token_on k u
 SameShown h k (Clear t) (Broken rule u) = ⊥
 SameShown h k (Broken rule t) (Clear u) = ⊥
 SameShown h k (Broken rule t) (Broken law u) = (rule ≡ law) × (faulty_on h t ≡ faulty_on k u)
 
 -- spots correspond
-abbrev SameSpot : (ℕ → ℕ → ℕ) → (ℕ → ℕ → ℕ) → Spot → Spot → Type 0
+abbrev pub SameSpot : (ℕ → ℕ → ℕ) → (ℕ → ℕ → ℕ) → Spot → Spot → Type 0
 SameSpot h k Outside Outside = Unit {0}
 SameSpot h k (Naming t) (Naming u) = token_on h t ≡ token_on k u
 SameSpot h k (Closing t name) (Closing u other) = (token_on h t ≡ token_on k u) × (token_on h name ≡ token_on k other)
@@ -153,7 +153,7 @@ shown_rule (Clear t) = X5
 shown_rule (Broken rule t) = rule
 
 -- what is one with lines for places corresponds
-shown_same : (h k : ℕ → ℕ → ℕ) (x y : Shown) → shown_on h x ≡ shown_on k y → SameShown h k x y
+pub shown_same : (h k : ℕ → ℕ → ℕ) (x y : Shown) → shown_on h x ≡ shown_on k y → SameShown h k x y
 shown_same h k (Clear t) (Clear u) e = ap shown_token e
 shown_same h k (Broken rule t) (Broken law u) e = (ap shown_rule e, ap shown_token e)
 shown_same h k (Clear t) (Broken rule u) e = let no : true ≡ false = ap is_clear e in absurd cc
@@ -165,7 +165,7 @@ some_rule None = X5
 some_rule (Some rule) = rule
 
 -- an item is a fault
-abbrev is_wrong : Item → Bool
+abbrev pub is_wrong : Item → Bool
 is_wrong (Plain t) = false
 is_wrong (Wrong rule t) = true
 is_wrong (Inclusion t) = false
@@ -180,12 +180,12 @@ wrong_on h (End file) = refl
 
 module _ (files : List PlainFile) (named : List Bool) (next : ℕ → List Piece → List Item) where
   -- nothing is left
-  spliced_nil : with_inclusions files named next [] ≡ []
+  pub spliced_nil : with_inclusions files named next [] ≡ []
   unfolding with_inclusions
   spliced_nil = refl
 
   -- an item, after which nothing follows if it is a fault
-  spliced_met : (a : Item) (rest : List Piece) → with_inclusions files named next (Met a ∷ rest) ≡ cond (is_wrong a) (a ∷ []) (a ∷ with_inclusions files named next rest)
+  pub spliced_met : (a : Item) (rest : List Piece) → with_inclusions files named next (Met a ∷ rest) ≡ cond (is_wrong a) (a ∷ []) (a ∷ with_inclusions files named next rest)
   unfolding with_inclusions
   spliced_met (Plain t) rest = refl
   spliced_met (Wrong rule t) rest = refl
@@ -193,7 +193,7 @@ module _ (files : List PlainFile) (named : List Bool) (next : ℕ → List Piece
   spliced_met (End file) rest = refl
 
   -- the name of a file
-  spliced_name : (name : PlainToken) (rest : List Piece) → with_inclusions files named next (Named name ∷ rest)
+  pub spliced_name : (name : PlainToken) (rest : List Piece) → with_inclusions files named next (Named name ∷ rest)
       ≡ elim (file_number files name.text) [ None ↦ Wrong X7 name ∷ [] | Some n ↦ cond (slice_index_or named n true) (with_inclusions files named next rest) (next n rest) ]
   unfolding with_inclusions
   spliced_name name rest = refl
@@ -220,7 +220,7 @@ module _ (h k : ℕ → ℕ → ℕ) where
   outside_same t u e ps qs s (Some rule) None i = absurd cc
 
   -- what corresponds has pieces that correspond
-  pieces_same : (file : ℕ) (s r : Spot) (a b : List Shown) → SameSpot h k s r → AllZip (SameShown h k) a b → AllZip (SamePiece h k) (pieces file s a) (pieces file r b)
+  pub pieces_same : (file : ℕ) (s r : Spot) (a b : List Shown) → SameSpot h k s r → AllZip (SameShown h k) a b → AllZip (SamePiece h k) (pieces file s a) (pieces file r b)
   unfolding pieces
   pieces_same file Outside Outside [] [] w z = (refl, tt)
   pieces_same file (Naming t) (Naming u) [] [] w z = wrong_piece X5 t u w

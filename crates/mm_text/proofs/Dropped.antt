@@ -106,11 +106,11 @@ lines_ahead file line inside at n (b ∷ bytes) h =
 -- ---- what is shown of tokens that carry their lines
 
 -- with nothing of what the texts of faults say
-abbrev strip : List Shown → List Shown
+abbrev pub strip : List Shown → List Shown
 strip shown = map (shown_on (λ file at. at)) shown
 
 -- what is shown of tokens, where a comment is open or none is
-abbrev seen : Option PlainToken → List PlainToken → List Shown
+abbrev pub seen : Option PlainToken → List PlainToken → List Shown
 seen begin tokens = strip (without_comments begin tokens)
 
 -- two choices by one test
@@ -123,7 +123,7 @@ choices_mapped : {A B C : Type 0} (f : A → C) (g : B → C) (c d : Bool) (x y 
 choices_mapped f g c d x y u v e h k = choice_mapped f g c x y u v h k ∙ ap (λ p. g (cond p u v)) e
 
 -- lines may be put in before comments are left out
-lines_seen : (line : ℕ → ℕ → ℕ) (begin : Option PlainToken) (tokens : List PlainToken) → map (shown_on line) (without_comments begin tokens) ≡ seen (option_map (token_on line) begin) (map (token_on line) tokens)
+pub lines_seen : (line : ℕ → ℕ → ℕ) (begin : Option PlainToken) (tokens : List PlainToken) → map (shown_on line) (without_comments begin tokens) ≡ seen (option_map (token_on line) begin) (map (token_on line) tokens)
 unfolding without_comments
 lines_seen line None [] = refl
 lines_seen line (Some begin) [] = refl

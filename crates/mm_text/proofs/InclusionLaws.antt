@@ -35,13 +35,13 @@ pub pieces-inclusion : (file : ℕ) (t : PlainToken) (rest : List Shown) → spe
 unfolding pieces
 pieces-inclusion file t rest e = simp e
 
-pieces-wrong : (file : ℕ) (t : PlainToken) (rest : List Shown) (rule : TextRule) → spells t.text (codes "$[") ≡ false → broken_outside t.text ≡ Some rule → pieces file Outside (Clear t ∷ rest) ≡ Met (Wrong rule t) ∷ []
+pub pieces-wrong : (file : ℕ) (t : PlainToken) (rest : List Shown) (rule : TextRule) → spells t.text (codes "$[") ≡ false → broken_outside t.text ≡ Some rule → pieces file Outside (Clear t ∷ rest) ≡ Met (Wrong rule t) ∷ []
 unfolding pieces
 pieces-wrong file t rest rule e b =
     ap (λ c. cond c (Met (Inclusion t) ∷ pieces file (Naming t) rest) (elim (broken_outside t.text) [ Some r ↦ Met (Wrong r t) ∷ [] | None ↦ Met (Plain t) ∷ pieces file Outside rest ])) e
     ∙ ap (λ o. elim o [ Some r ↦ Met (Wrong r t) ∷ [] | None ↦ Met (Plain t) ∷ pieces file Outside rest ]) b
 
-pieces-plain : (file : ℕ) (t : PlainToken) (rest : List Shown) → spells t.text (codes "$[") ≡ false → broken_outside t.text ≡ None → pieces file Outside (Clear t ∷ rest) ≡ Met (Plain t) ∷ pieces file Outside rest
+pub pieces-plain : (file : ℕ) (t : PlainToken) (rest : List Shown) → spells t.text (codes "$[") ≡ false → broken_outside t.text ≡ None → pieces file Outside (Clear t ∷ rest) ≡ Met (Plain t) ∷ pieces file Outside rest
 unfolding pieces
 pieces-plain file t rest e b =
     ap (λ c. cond c (Met (Inclusion t) ∷ pieces file (Naming t) rest) (elim (broken_outside t.text) [ Some r ↦ Met (Wrong r t) ∷ [] | None ↦ Met (Plain t) ∷ pieces file Outside rest ])) e

@@ -1,5 +1,6 @@
 mod Pieces
 pub mod TokenLaws
+pub mod CutTokens
 pub mod Lanes
 pub mod LegalLaws
 pub mod LowBytes
@@ -38,9 +39,19 @@ pub mod PlaceLaws
 pub mod SettledLaws
 pub mod AlikeLists
 pub mod AlikeItems
+pub mod FollowedRuns
+pub mod CutShown
 pub mod AlikeBeginnings
 pub mod AlikeEndings
 pub mod AlikeFronts
 pub mod AlikeReadings
 pub mod Dropped
+pub mod ReplacedFile
+pub mod AlteredItems
+pub mod ReplacedItems
+pub mod ReplacedReading
+pub mod ReplacedProofs
+pub mod StatementHomes
+pub mod ReplacedFiles
+pub mod ProofSpans
 pub mod Hollowing

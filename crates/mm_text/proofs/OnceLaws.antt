@@ -58,7 +58,7 @@ one_end file files =
 -- ---- tokens
 
 -- tokens of a file, each at a later place than those before it
-abbrev Rises : ℕ → ℕ → List PlainToken → Type 0
+abbrev pub Rises : ℕ → ℕ → List PlainToken → Type 0
 Rises file n [] = Unit {0}
 Rises file n (t ∷ tokens) = (n ≤ t.at) × (t.file ≡ file) × Rises file (t.at + 1) tokens
 
@@ -74,7 +74,7 @@ with_byte_rises file at b (t ∷ tokens) r = go (t.at == at + 1)
     go true = (omega arith, refl, rises_earlier file (at + 1) (t.at + 1) tokens (omega (arith, r.0)) r.2)
     go false = (omega arith, refl, r)
 
-tokens_rise : (file at : ℕ) (bytes : List ℕ) → Rises file at (tokens_from file at bytes)
+pub tokens_rise : (file at : ℕ) (bytes : List ℕ) → Rises file at (tokens_from file at bytes)
 unfolding tokens_from
 tokens_rise file at [] = tt
 tokens_rise file at (b ∷ bytes) = go (is_space b) (tokens_rise file (at + 1) bytes)
@@ -83,7 +83,7 @@ tokens_rise file at (b ∷ bytes) = go (is_space b) (tokens_rise file (at + 1) b
     go true r = rises_earlier file at (at + 1) _ (omega arith) r
     go false r = with_byte_rises file at b _ r
 
-abbrev token_weight : ℕ → ℕ → PlainToken → ℕ
+abbrev pub token_weight : ℕ → ℕ → PlainToken → ℕ
 token_weight file at t = cond (t.file == file && t.at == at) 1 0
 
 after_none : (file at k n : ℕ) (tokens : List PlainToken) → at < n → Rises k n tokens → weigh_tokens (token_weight file at) tokens ≤ 0
@@ -95,7 +95,7 @@ after_none file at k n (t ∷ tokens) h r = go (t.file == file) (t.at == at) ref
     go true false e rest = omega arith
     go false b e rest = omega arith
 
-one_token : (file at k n : ℕ) (tokens : List PlainToken) → Rises k n tokens → weigh_tokens (token_weight file at) tokens ≤ cond (k == file) 1 0
+pub one_token : (file at k n : ℕ) (tokens : List PlainToken) → Rises k n tokens → weigh_tokens (token_weight file at) tokens ≤ cond (k == file) 1 0
 one_token file at k n [] r = go (k == file)
   where
     go : (b : Bool) → 0 ≤ cond b 1 0

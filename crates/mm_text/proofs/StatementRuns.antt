@@ -90,11 +90,11 @@ closing_counted s t sign c = closing_step s t sign ∙ cond-true (has_count s.ki
 pub closing_short : (s : PlainStatement) (t : PlainToken) → t.text ≡ closes_symbols s.kind → ¬ (FitsCount s.kind (length s.symbols)) → step (InBody s) t ≡ Faulty S5
 closing_short s t sign c = closing_step s t sign ∙ cond-false (has_count s.kind (length s.symbols)) _ _ (false_from_ne_true _ (λ e. c (has_count-true s.kind (length s.symbols) e)))
 
-proof_step : (s : PlainStatement) (t : PlainToken) → HoldsNoDollar t.text → step (InProof s) t ≡ More (InProof (record s { proof = s.proof ++ t ∷ [] }))
+pub proof_step : (s : PlainStatement) (t : PlainToken) → HoldsNoDollar t.text → step (InProof s) t ≡ More (InProof (record s { proof = s.proof ++ t ∷ [] }))
 unfolding step
 proof_step s t h = cond-false (is_keyword t.text) _ _ (symbol-is_keyword t.text h)
 
-proof_stop : (s : PlainStatement) (t : PlainToken) → t.text ≡ codes "$." → step (InProof s) t ≡ Whole (record s { span = (s.span.0, t.at) })
+pub proof_stop : (s : PlainStatement) (t : PlainToken) → t.text ≡ codes "$." → step (InProof s) t ≡ Whole (record s { span = (s.span.0, t.at) })
 unfolding step
 proof_stop s t e = rw e refl
 

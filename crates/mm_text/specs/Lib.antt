@@ -11,3 +11,4 @@ pub mod Empty
 pub mod Laws
 pub mod Alike
 pub mod Mirror
+pub mod Replaced

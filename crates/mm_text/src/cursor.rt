@@ -10,6 +10,7 @@ use crate::handed::is_within_limit;
 use crate::names::Names;
 use crate::nest::Nest;
 use crate::next::Next;
+use crate::seed::Seed;
 use crate::token::Token;
 use std::alloc::Global;
 use std::marker::Model;
@@ -40,13 +41,17 @@ impl<'a> Cursor<'a> {
     /// `Load(F2)` where two have one name, `Load(F3)` where they hold over 1,073,741,824 bytes in
     /// all. Else `Memory` alone can be wanting: for their names, and for those that are open at
     /// once.
-    pub fn new(alloc: Global, files: &'a [File<'a>]) -> Result<Cursor<'a>, TextFault<'a>>
+    pub fn new(
+        alloc: Global,
+        seed: Seed,
+        files: &'a [File<'a>],
+    ) -> Result<Cursor<'a>, TextFault<'a>>
         ensures { IsFirstCursor (map plain_file files.now) result }
     {
         if files.is_empty() {
             return Err(TextFault::Load(LoadRule::F1));
         }
-        let names = Names::of(alloc, files)?;
+        let names = Names::of(alloc, seed, files)?;
         if !is_within_limit(files) {
             return Err(TextFault::Load(LoadRule::F3));
         }

@@ -7,6 +7,7 @@ ghost use Rattle.mm_text.specs.ItemLaws.{TopFileEndsLast};
 ghost use Rattle.mm_text.specs.Laws.{BeginningsBeginStatements, EachHasOneReading};
 ghost use Rattle.mm_text.specs.Laws.{FaultsEndLongestFronts, ReadingsAreBalanced};
 ghost use Rattle.mm_text.specs.Laws.{ReadingsAreFormedInPlace, ReadingsFit, TokensAreLongestRuns};
+ghost use Rattle.mm_text.specs.Replaced.{ProofsStandInSpans, ReplacedProofsAreRead};
 
 /// The tokens of a file are its longest runs of bytes that aren't white space (the Metamath book,
 /// section 4.1.1): each token is the slice of the file at its place and such a run, each such run
@@ -84,4 +85,17 @@ pub fn readings_fit()
 /// a fault of that rule on that line.
 pub fn alike_files_are_read_alike()
     ensures { AlikeFilesAreReadAlike }
+{}
+
+/// The bytes of a proof stand in the file of its statement's first token, where the statement's span
+/// says.
+pub fn proofs_stand_in_spans()
+    ensures { ProofsStandInSpans }
+{}
+
+/// A proof may be replaced in the bytes of its file: with other tokens of a proof between its `$=`
+/// and its `$.`, files without a fault are read as the same statements, but for that proof, and but
+/// for the places of what comes after it.
+pub fn replaced_proofs_are_read()
+    ensures { ReplacedProofsAreRead }
 {}

@@ -17,6 +17,7 @@ mod next;
 mod parts;
 mod scan;
 mod scope;
+mod seed;
 mod sought;
 mod statement;
 mod statements;
@@ -28,10 +29,12 @@ pub use file::File;
 pub use handed::BYTE_LIMIT;
 pub use laws::{
     alike_files_are_read_alike, beginnings_begin_statements, faults_end_longest_fronts,
-    files_are_put_in_once, inclusions_end, one_reading, readings_are_balanced, readings_fit,
-    statements_are_formed_in_place, tokens_are_longest_runs, tokens_fit_files, top_file_ends_last,
+    files_are_put_in_once, inclusions_end, one_reading, proofs_stand_in_spans,
+    readings_are_balanced, readings_fit, replaced_proofs_are_read, statements_are_formed_in_place,
+    tokens_are_longest_runs, tokens_fit_files, top_file_ends_last,
 };
 pub use load::{HollowBytes, LoadFault, read_all, read_hollow};
+pub use seed::Seed;
 pub use statement::{Kind, Statement};
 pub use statements::Statements;
 pub use token::Token;

@@ -33,8 +33,8 @@ impl From<AllocError> for LoadFault {
     }
 }
 
-/// How many bytes one call of the source may give.
-const PIECE: usize = 64 * 1024;
+/// How many bytes one call of the source may give. They stand on the stack, which may be small.
+const PIECE: usize = 16 * 1024;
 
 /// Room for so many bytes, or none where so much is refused.
 fn room_for(alloc: Global, count: usize) -> Vec<u8>

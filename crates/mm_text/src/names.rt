@@ -9,6 +9,7 @@ ghost use Rattle.mm_text.specs.Mirror.Names.{number_among, AreNames};
 
 use crate::fault::{LoadRule, TextFault};
 use crate::file::File;
+use crate::seed::Seed;
 use indexmap::IndexSet;
 use std::alloc::Global;
 use std::hash::{Hash, Hasher};
@@ -45,7 +46,7 @@ impl<'a> Hash for Name<'a> {
 /// The names of the handed files in their order, no two of them equal. Contracts see a list.
 #[derive(Drop)]
 pub struct Names<'a> {
-    numbers: IndexSet<Name<'a>>,
+    numbers: IndexSet<Name<'a>, Seed>,
 }
 
 impl<'a> Model for Names<'a> {
@@ -58,10 +59,10 @@ impl<'a> Model for Names<'a> {
 
 impl<'a> Names<'a> {
     /// The names of the files. `Load(F2)` where two are equal; else `Memory` alone can be wanting.
-    pub fn of(alloc: Global, files: &'a [File<'a>]) -> Result<Names<'a>, TextFault<'a>>
+    pub fn of(alloc: Global, seed: Seed, files: &'a [File<'a>]) -> Result<Names<'a>, TextFault<'a>>
         ensures { AreNames (map plain_file files.now) result }
     {
-        let mut numbers = IndexSet::new(alloc);
+        let mut numbers = IndexSet::with_hasher(alloc, seed);
         for file in files {
             let (_, is_new) = numbers.insert_full(Name(file.name))?;
             if !is_new {

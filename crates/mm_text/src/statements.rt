@@ -13,6 +13,7 @@ use crate::fault::TextFault;
 use crate::file::File;
 use crate::parts::statement;
 use crate::scope::Scope;
+use crate::seed::Seed;
 use crate::statement::Statement;
 use std::alloc::Global;
 use std::marker::Model;
@@ -72,13 +73,18 @@ impl<'a> Statements<'a> {
     ///
     /// The files are judged as a whole first, in this order: `Load(F1)` where there is none,
     /// `Load(F2)` where two have one name, `Load(F3)` where they hold over 1,073,741,824 bytes in
-    /// all. Else `Memory` alone can be wanting: the names and the open files are kept.
-    pub fn new(alloc: Global, files: &'a [File<'a>]) -> Result<Statements<'a>, TextFault<'a>>
+    /// all. Else `Memory` alone can be wanting: the names and the open files are kept. The hashes
+    /// of the files' names begin from the seed.
+    pub fn new(
+        alloc: Global,
+        seed: Seed,
+        files: &'a [File<'a>],
+    ) -> Result<Statements<'a>, TextFault<'a>>
         ensures { Begins (map plain_file files.now) result }
     {
         Ok(Statements {
             files,
-            cursor: Cursor::new(alloc, files)?,
+            cursor: Cursor::new(alloc, seed, files)?,
             scope: Scope::new(alloc),
             state: State::Reading,
         })

@@ -1,0 +1,165 @@
+-- The pieces of a file in which other bytes stand between the `$=` and the `$.` of a statement.
+use Rattle.std.proofs.Common.{◌≡◌, ℕ, ◌+◌, ◌-◌, List, [], ◌∷◌, ◌++◌, length, map, take, drop, true, false, refl, sym, ap, ◌∙◌, subst, codes, None, append_assoc, arith}
+use Rattle.std.specs.List.{AllZip, AllByRecursion, list_all}
+use Rattle.std.proofs.lemmas.List.{map-append, length-append}
+use Rattle.std.proofs.Math.Seq.{take-append_seam, drop-append_seam}
+use Rattle.mm_text.specs.Token.{PlainToken, is_printable, tokens_from, HoldsNoDollar}
+use Rattle.mm_text.specs.Files.{PlainFile}
+use Rattle.mm_text.specs.Items.{Plain, Shown, Clear, without_comments, spells, Outside, Piece, Met, broken_outside, pieces, pieces_of}
+use Rattle.mm_text.specs.Alike.{token_on, shown_on}
+use Rattle.mm_text.proofs.CommentLaws.{outside-clear, no_dollar-spells}
+use Rattle.mm_text.proofs.InclusionLaws.{pieces-plain}
+use Rattle.mm_text.proofs.AlikeItems.{SamePiece, SameShown, mapped_zip, shown_same, pieces_same}
+use Rattle.mm_text.proofs.Dropped.{seen, lines_seen}
+use Rattle.mm_text.proofs.CutTokens.{IsSpaced, Moves, replaced_between}
+use Rattle.mm_text.proofs.FollowedRuns.{IsPlainIn, AllPlainIn, StandsInFile}
+use Rattle.mm_text.proofs.CutShown.{clear_shown}
+
+-- no place matters
+abbrev pub nowhere : ℕ → ℕ → ℕ
+nowhere file at = 0
+
+-- a token that a proof may have
+abbrev pub IsProofToken : PlainToken → Type 0
+IsProofToken t = (list_all is_printable t.text ≡ true) × HoldsNoDollar t.text
+
+-- a text that may stand between a `$=` and a `$.`: white space at both ends, and tokens of a proof
+pub record IsProofText (text : List ℕ) : Type 0 where
+  pub spaced : IsSpaced text
+  pub tokens : (file at : ℕ) → AllByRecursion IsProofToken (tokens_from file at text)
+
+-- the bytes with others in place of those from one place up to another
+abbrev pub with_span : List ℕ → ℕ → ℕ → List ℕ → List ℕ
+with_span bytes start stop text = take start bytes ++ (text ++ drop stop bytes)
+
+-- ---- tokens of a proof
+
+shown_clear : (t : PlainToken) (more : List PlainToken) → list_all is_printable t.text ≡ true → spells t.text (codes "$(") ≡ false → spells t.text (codes "$)") ≡ false
+    → without_comments None (t ∷ more) ≡ Clear t ∷ without_comments None more
+shown_clear t more p o c = outside-clear t more p o c
+
+all_clear : (tokens more : List PlainToken) → AllByRecursion IsProofToken tokens → without_comments None (tokens ++ more) ≡ map Clear tokens ++ without_comments None more
+all_clear [] more h = refl
+all_clear (t ∷ tokens) more h =
+    outside-clear t (tokens ++ more) h.0.0 (no_dollar-spells t.text 40 h.0.1) (no_dollar-spells t.text 41 h.0.1)
+    ∙ ap (λ (l : List Shown). Clear t ∷ l) (all_clear tokens more h.1)
+
+broken_none : (text : List ℕ) → spells text (codes "$]") ≡ false → HoldsNoDollar text → broken_outside text ≡ None
+broken_none text e h = simp (e, h)
+
+plain_word : (number : ℕ) (t : PlainToken) → HoldsNoDollar t.text → IsPlainIn number t
+plain_word number t h more = pieces-plain number t more (no_dollar-spells t.text 91 h) (broken_none t.text (no_dollar-spells t.text 93 h) h)
+
+all_plain : (number : ℕ) (tokens : List PlainToken) → AllByRecursion IsProofToken tokens → AllPlainIn number tokens
+all_plain number [] h = tt
+all_plain number (t ∷ tokens) h = (plain_word number t h.0.1, all_plain number tokens h.1)
+
+-- ---- the `$.`
+
+plain_stop : (number : ℕ) (t : PlainToken) → t.text ≡ codes "$." → IsPlainIn number t
+plain_stop number t e more =
+    pieces-plain number t more (ap (λ (l : List ℕ). spells l (codes "$[")) e) (ap broken_outside e)
+
+clear_stop : (t : PlainToken) (more : List PlainToken) → t.text ≡ codes "$." → without_comments None (t ∷ more) ≡ Clear t ∷ without_comments None more
+clear_stop t more e =
+    outside-clear t more (ap (list_all is_printable) e) (ap (λ (l : List ℕ). spells l (codes "$(")) e) (ap (λ (l : List ℕ). spells l (codes "$)")) e)
+
+-- ---- pieces
+
+-- a piece for each of the tokens
+abbrev pub met : List PlainToken → List Piece
+met tokens = map (λ t. Met (Plain t)) tokens
+
+pieces_met : (number : ℕ) (tokens : List PlainToken) (rest : List Shown) → AllPlainIn number tokens → pieces number Outside (map Clear tokens ++ rest) ≡ met tokens ++ pieces number Outside rest
+pieces_met number [] rest h = refl
+pieces_met number (t ∷ tokens) rest h = h.0 (map Clear tokens ++ rest) ∙ ap (λ (l : List Piece). Met (Plain t) ∷ l) (pieces_met number tokens rest h.1)
+
+plain_append : (number : ℕ) (tokens others : List PlainToken) → AllPlainIn number tokens → AllPlainIn number others → AllPlainIn number (tokens ++ others)
+plain_append number [] others h k = k
+plain_append number (t ∷ tokens) others h k = (h.0, plain_append number tokens others h.1 k)
+
+-- ---- tokens that stand elsewhere
+
+nowhere_twice : (line : ℕ → ℕ → ℕ) (tokens : List PlainToken) → map (token_on nowhere) (map (token_on line) tokens) ≡ map (token_on nowhere) tokens
+nowhere_twice line [] = refl
+nowhere_twice line (t ∷ tokens) = ap (λ (l : List PlainToken). token_on nowhere t ∷ l) (nowhere_twice line tokens)
+
+moved_pieces : (number : ℕ) (line : ℕ → ℕ → ℕ) (tokens : List PlainToken)
+    → AllZip (SamePiece nowhere nowhere) (pieces number Outside (without_comments None tokens)) (pieces number Outside (without_comments None (map (token_on line) tokens)))
+moved_pieces number line tokens =
+    let others : List PlainToken = map (token_on line) tokens in
+    let same : map (shown_on nowhere) (without_comments None tokens) ≡ map (shown_on nowhere) (without_comments None others) =
+    lines_seen nowhere None tokens ∙ ap (seen None) (sym (nowhere_twice line tokens)) ∙ sym (lines_seen nowhere None others) in
+    pieces_same nowhere nowhere number Outside Outside (without_comments None tokens) (without_comments None others) tt
+    (mapped_zip (shown_on nowhere) (shown_on nowhere) (SameShown nowhere nowhere) (shown_same nowhere nowhere) (without_comments None tokens) (without_comments None others) same)
+
+-- ---- the file
+
+pub record ReplacedPieces (number : ℕ) (file : PlainFile) (text : List ℕ) (equals : PlainToken) (proof : List PlainToken) (stop : PlainToken) : Type 0 where
+  pub before : List Piece
+  pub after : List Piece
+  pub others : List Piece
+  pub old : pieces_of number file ≡ before ++ (met (equals ∷ (proof ++ stop ∷ [])) ++ after)
+  pub new : let start : ℕ = equals.at + length equals.text in
+      pieces_of number (record file { bytes = with_span file.bytes start stop.at text })
+      ≡ before ++ (met (equals ∷ (tokens_from number start text ++ record stop { at = start + length text } ∷ [])) ++ others)
+  pub same : AllZip (SamePiece nowhere nowhere) after others
+
+moves_to : (number at to : ℕ) → Moves (λ file n. to + (n - at)) number at to
+moves_to number at to i = omega arith
+
+pub replaced_pieces : (files : List PlainFile) (text : List ℕ) (equals : PlainToken) (proof : List PlainToken) (stop : PlainToken) → IsProofText text → stop.text ≡ codes "$."
+    → (s : StandsInFile files equals (proof ++ stop ∷ [])) → ReplacedPieces s.number s.place.file text equals proof stop
+replaced_pieces files text equals proof stop is_text sign s =
+    let number : ℕ = s.number in
+    let file : PlainFile = s.place.file in
+    let r = s.place.reached in
+    let shown : without_comments None (tokens_from number 0 file.bytes) ≡ map Clear r.tokens ++ Clear equals ∷ (map Clear (proof ++ stop ∷ []) ++ s.rest) =
+    s.place.whole ∙ ap (λ (l : List Shown). l ++ Clear equals ∷ (map Clear (proof ++ stop ∷ []) ++ s.rest)) r.clear in
+    let one = clear_shown None (tokens_from number 0 file.bytes) r.tokens equals (map Clear (proof ++ stop ∷ []) ++ s.rest) shown in
+    let split : without_comments None one.after ≡ map Clear proof ++ Clear stop ∷ s.rest =
+    sym one.later ∙ ap (λ (l : List Shown). l ++ s.rest) (map-append Clear proof (stop ∷ [])) ∙ append_assoc (map Clear proof) (Clear stop ∷ []) s.rest in
+    let two = clear_shown None one.after proof stop s.rest split in
+    let all : tokens_from number 0 file.bytes ≡ one.before ++ equals ∷ (two.before ++ stop ∷ two.after) = one.whole ∙ ap (λ (l : List PlainToken). one.before ++ equals ∷ l) two.whole in
+    let b = replaced_between number file.bytes text one.before equals two.before stop two.after all is_text.spaced in
+    let start : ℕ = equals.at + length equals.text in
+    let line : ℕ → ℕ → ℕ = λ f n. length b.front + length text + (n - stop.at) in
+    let put : List PlainToken = tokens_from number (length b.front) text in
+    let moved : PlainToken = token_on line stop in
+    let later : List PlainToken = map (token_on line) two.after in
+    let bytes : with_span file.bytes start stop.at text ≡ b.front ++ (text ++ b.back) = cut file.bytes b.front b.within b.back text start stop.at b.whole b.start b.stop in
+    let told : without_comments None (tokens_from number 0 (b.front ++ (text ++ b.back))) ≡ map Clear r.tokens ++ (map Clear (equals ∷ (put ++ moved ∷ [])) ++ without_comments None later) =
+    ap (without_comments None) (b.tokens line (moves_to number stop.at (length b.front + length text)))
+    ∙ one.others (put ++ moved ∷ later)
+    ∙ ap (λ (l : List Shown). map Clear r.tokens ++ Clear equals ∷ l)
+    (all_clear put (moved ∷ later) (is_text.tokens number (length b.front)) ∙ ap (λ (l : List Shown). map Clear put ++ l) (clear_stop moved later sign)
+    ∙ sym (ap (λ (l : List Shown). l ++ without_comments None later) (map-append Clear put (moved ∷ [])) ∙ append_assoc (map Clear put) (Clear moved ∷ []) (without_comments None later))) in
+    let reach : (more : List Shown) → pieces number Outside (map Clear r.tokens ++ more) ≡ r.front ++ pieces number Outside more = λ more.
+    ap (λ (l : List Shown). pieces number Outside (l ++ more)) (sym r.clear) ∙ r.before more in
+    let plain : AllPlainIn number (equals ∷ (put ++ moved ∷ [])) =
+    (s.plain.0, plain_append number put (moved ∷ []) (all_plain number put (is_text.tokens number (length b.front))) (plain_stop number moved sign, tt)) in
+    let place : line stop.file stop.at ≡ start + length text = omega (arith, b.start) in
+    let found : pieces_of number (record file { bytes = with_span file.bytes start stop.at text }) ≡ r.front ++ (met (equals ∷ (put ++ moved ∷ [])) ++ pieces number Outside (without_comments None later)) =
+    ap (λ (l : List ℕ). pieces number Outside (without_comments None (tokens_from number 0 l))) bytes
+    ∙ ap (pieces number Outside) told ∙ reach (map Clear (equals ∷ (put ++ moved ∷ [])) ++ without_comments None later)
+    ∙ ap (λ (l : List Piece). r.front ++ l) (pieces_met number (equals ∷ (put ++ moved ∷ [])) (without_comments None later) plain) in
+    record {
+      before = r.front;
+      after = pieces number Outside s.rest;
+      others = pieces number Outside (without_comments None later);
+      old = ap (pieces number Outside) shown ∙ reach (map Clear (equals ∷ (proof ++ stop ∷ [])) ++ s.rest)
+          ∙ ap (λ (l : List Piece). r.front ++ l) (pieces_met number (equals ∷ (proof ++ stop ∷ [])) s.rest s.plain);
+      new = found
+          ∙ ap (λ (n : ℕ). r.front ++ (met (equals ∷ (put ++ record stop { at = n } ∷ [])) ++ pieces number Outside (without_comments None later))) place
+          ∙ ap (λ (n : ℕ). r.front ++ (met (equals ∷ (tokens_from number n text ++ record stop { at = start + length text } ∷ [])) ++ pieces number Outside (without_comments None later))) (sym b.start);
+      same = subst (λ (l : List Shown). AllZip (SamePiece nowhere nowhere) (pieces number Outside l) (pieces number Outside (without_comments None later))) (sym two.later) (moved_pieces number line two.after);
+    }
+  where
+    cut : (bytes front within back text : List ℕ) (start stop : ℕ) → bytes ≡ front ++ (within ++ back) → start ≡ length front → stop ≡ length front + length within
+        → with_span bytes start stop text ≡ front ++ (text ++ back)
+    cut bytes front within back text start stop e a b =
+        let first : take start bytes ≡ front =
+        ap (λ (n : ℕ). take n bytes) a ∙ ap (take (length front)) e ∙ take-append_seam front (within ++ back) in
+        let last : drop stop bytes ≡ back =
+        ap (λ (n : ℕ). drop n bytes) (b ∙ sym (length-append front within)) ∙ ap (drop (length (front ++ within))) (e ∙ sym (append_assoc front within back)) ∙ drop-append_seam (front ++ within) back in
+        ap (λ (l : List ℕ). l ++ (text ++ drop stop bytes)) first ∙ ap (λ (l : List ℕ). front ++ (text ++ l)) last

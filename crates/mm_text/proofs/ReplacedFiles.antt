@@ -1,0 +1,50 @@
+-- The law of replaced proofs, by the file in which the statement stands.
+use Rattle.std.proofs.Common.{◌≡◌, ℕ, ◌+◌, List, [], ◌∷◌, ◌++◌, length, take, drop, refl, sym, ap, ◌∙◌, subst, Option, Some, None}
+use Rattle.std.specs.Prelude.{slice_get, slice_set}
+use Rattle.mm_text.specs.declared.statement.Kind.TheVariants.{Provable}
+use Rattle.mm_text.specs.Token.{PlainToken, tokens_from}
+use Rattle.mm_text.specs.Files.{PlainFile}
+use Rattle.mm_text.specs.Statement.{PlainStatement}
+use Rattle.mm_text.specs.Items.{items}
+use Rattle.mm_text.specs.Reading.{Reads}
+use Rattle.mm_text.specs.Replaced.{IsProofText, with_span, with_bytes, ReplacedProofsAreRead}
+use Rattle.mm_text.proofs.TokenLaws.{BeginsWithSpace}
+use Rattle.mm_text.proofs.ReplacedFile.{IsProofText as Spaced}
+use Rattle.mm_text.proofs.ReplacedItems.{some_same}
+use Rattle.mm_text.proofs.ReplacedReading.{proof_at}
+use Rattle.mm_text.proofs.ReplacedProofs.{replaced_proofs_are_read}
+use Rattle.mm_text.proofs.StatementHomes.{one_home}
+
+spaced : (text : List ℕ) → IsProofText text → Spaced text
+spaced text t = record {
+  spaced = record { inner = t.inner; last = t.last; whole = t.ends; begins = subst BeginsWithSpace (sym t.begins) t.first_space; ends = t.last_space };
+  tokens = t.tokens;
+}
+
+-- the `$=` is of the file of the first token
+pub equals_home : (files : List PlainFile) (before : List PlainStatement) (s : PlainStatement) (after : List PlainStatement) (reads : Reads files (before ++ s ∷ after) None) (p : s.kind ≡ Provable)
+    → (proof_at (items files) before s after reads p).ends.equals.file ≡ s.first.file
+equals_home files before s after reads p =
+    let a = proof_at (items files) before s after reads p in
+    let h = a.parts.here in
+    let k = a.ends in
+    one_home files (before ++ s ∷ after) before after reads s a.parts ((h.first.0 ++ s.symbols) ++ k.equals ∷ (s.proof ++ k.stop ∷ [])) (h.first.0 ++ s.symbols) (s.proof ++ k.stop ∷ []) k.equals
+    (h.whole ∙ ap (λ (l : List PlainToken). (l ++ s.symbols) ++ h.tail) h.first.1 ∙ ap (λ (l : List PlainToken). s.first ∷ ((h.first.0 ++ s.symbols) ++ l)) k.tokens) refl
+
+pub replaced_proofs_are_read_holds : ReplacedProofsAreRead
+replaced_proofs_are_read_holds files before s after file text reads p there is_text =
+    let a = proof_at (items files) before s after reads p in
+    let r = replaced_proofs_are_read files before s after text reads a (spaced text is_text) in
+    let number : r.number ≡ s.first.file = sym r.own_home ∙ equals_home files before s after reads p in
+    let same_file : r.file ≡ file = some_same r.file file (sym r.there ∙ ap (slice_get files) number ∙ there) in
+    let changed : slice_set files r.number (record r.file { bytes = take s.span.0 r.file.bytes ++ (text ++ drop s.span.1 r.file.bytes) }) ≡ with_bytes files s.first.file (with_span file.bytes s.span text) =
+    (λ i. slice_set files (number i) (record (same_file i) { bytes = take s.span.0 (same_file i).bytes ++ (text ++ drop s.span.1 (same_file i).bytes) }))
+    ∙ sym (ap (λ (o : Option PlainFile). elim o [ None ↦ files | Some f ↦ slice_set files s.first.file (record f { bytes = with_span file.bytes s.span text }) ]) there) in
+    let own : r.own ≡ record s { proof = tokens_from s.first.file s.span.0 text; span = (s.span.0, s.span.0 + length text) } =
+    r.is ∙ ap (λ (n : ℕ). record s { proof = tokens_from n s.span.0 text; span = (s.span.0, s.span.0 + length text) }) number in
+    record {
+      later = r.later;
+      reads = subst (λ (o : PlainStatement). Reads (with_bytes files s.first.file (with_span file.bytes s.span text)) (before ++ o ∷ r.later) None) own
+          (subst (λ (fs : List PlainFile). Reads fs (before ++ r.own ∷ r.later) None) changed r.reads);
+      same = r.same;
+    }

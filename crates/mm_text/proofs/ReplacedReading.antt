@@ -1,0 +1,314 @@
+-- The reading of items in which a statement has another proof.
+use Rattle.std.proofs.Common.{◌≡◌, ◌+◌, List, [], ◌∷◌, ◌++◌, length, map, refl, sym, ap, ◌∙◌, subst, codes, Option, None, inr, append_assoc, append-nil}
+use Rattle.std.specs.List.{AllZip}
+use Rattle.std.proofs.lemmas.List.{map-append}
+use Rattle.mm_text.specs.declared.statement.Kind.{Kind}
+use Rattle.mm_text.specs.declared.statement.Kind.TheVariants.{Provable}
+use Rattle.mm_text.specs.Token.{PlainToken}
+use Rattle.mm_text.specs.Files.{PlainFile}
+use Rattle.mm_text.specs.Statement.{PlainStatement, AreSymbols, IsHead, FitsCount, IsTail, EndsInProof, Spells, SpellsAll}
+use Rattle.mm_text.specs.Items.{Item, Plain, Wrong, Inclusion, End, plain_tokens, HoldNoFault, items}
+use Rattle.mm_text.specs.Reading.{PlainFault, Viable, Reads}
+use Rattle.mm_text.specs.Alike.{statement_on, token_on, item_on}
+use Rattle.mm_text.specs.Mirror.Reader.{Between, InProof, PlainScope, outermost, PlainReading, with_statement, scope_after_statement, reading_of}
+use Rattle.mm_text.proofs.Fronts.{cons_parts, nil_append, plain_tokens-append, clean_behind}
+use Rattle.mm_text.proofs.PartFacts.{IsPartProof}
+use Rattle.mm_text.proofs.StepLaws.{read_more, read_whole}
+use Rattle.mm_text.proofs.Runs.{runs_parts}
+use Rattle.mm_text.proofs.StatementRuns.{spelled_run, whole_run, proof_step, proof_stop}
+use Rattle.mm_text.proofs.BlockFacts.{scope_of, balanced_front}
+use Rattle.mm_text.proofs.OneReading.{with_statements, front_reading, reads_reading}
+use Rattle.mm_text.proofs.ReaderLaws.{files_reading, reading_reads}
+use Rattle.mm_text.proofs.AlikeLists.{nil_split}
+use Rattle.mm_text.proofs.AlikeItems.{zip_mapped}
+use Rattle.mm_text.proofs.AlikeBeginnings.{beginning_alike}
+use Rattle.mm_text.proofs.AlikeFronts.{viable_alike}
+use Rattle.mm_text.proofs.ReplacedFile.{nowhere}
+use Rattle.mm_text.proofs.AlteredItems.{SameItem}
+
+-- ---- the parts of tokens and items
+
+-- the tokens of statements, of one after them, and of those after that
+pub record Parts (tokens : List PlainToken) (before : List PlainStatement) (s : PlainStatement) (after : List PlainStatement) : Type 0 where
+  pub front : List PlainToken
+  pub own : List PlainToken
+  pub back : List PlainToken
+  pub whole : tokens ≡ front ++ (own ++ back)
+  pub earlier : SpellsAll front before
+  pub here : Spells own s
+  pub later : SpellsAll back after
+
+pub parts_of : (tokens : List PlainToken) (before : List PlainStatement) (s : PlainStatement) (after : List PlainStatement) → SpellsAll tokens (before ++ s ∷ after) → Parts tokens before s after
+parts_of tokens [] s after h = record { front = []; own = h.0; back = h.1; whole = h.2; earlier = refl; here = h.3; later = h.4 }
+parts_of tokens (b ∷ before) s after h =
+    let p = parts_of h.1 before s after h.4 in
+    record {
+      front = h.0 ++ p.front;
+      own = p.own;
+      back = p.back;
+      whole = h.2 ∙ ap (λ (l : List PlainToken). h.0 ++ l) p.whole ∙ sym (append_assoc h.0 p.front (p.own ++ p.back));
+      earlier = (h.0, p.front, refl, h.3, p.earlier);
+      here = p.here;
+      later = p.later;
+    }
+
+-- a token among those of items is one of them
+pub record TokenAt (its : List Item) (before : List PlainToken) (t : PlainToken) (after : List PlainToken) : Type 0 where
+  pub front : List Item
+  pub back : List Item
+  pub whole : its ≡ front ++ Plain t ∷ back
+  pub first : plain_tokens front ≡ before
+  pub last : plain_tokens back ≡ after
+
+further : (item : Item) (its : List Item) (before : List PlainToken) (t : PlainToken) (after : List PlainToken) → plain_tokens (item ∷ []) ≡ [] → plain_tokens (item ∷ its) ≡ plain_tokens its → TokenAt its before t after → TokenAt (item ∷ its) before t after
+further item its before t after none same p = record {
+  front = item ∷ p.front;
+  back = p.back;
+  whole = ap (λ (l : List Item). item ∷ l) p.whole;
+  first = plain_tokens-append (item ∷ []) p.front ∙ ap (λ (l : List PlainToken). l ++ plain_tokens p.front) none ∙ p.first;
+  last = p.last;
+}
+
+pub token_at : (its : List Item) (before : List PlainToken) (t : PlainToken) (after : List PlainToken) → plain_tokens its ≡ before ++ t ∷ after → TokenAt its before t after
+token_at [] before t after e = absurd (nil_append before t after e)
+token_at (Plain u ∷ its) [] t after e =
+    let (same, rest) = cons_parts u t (plain_tokens its) after e in
+    record { front = []; back = its; whole = ap (λ (x : PlainToken). Plain x ∷ its) same; first = refl; last = rest }
+token_at (Plain u ∷ its) (b ∷ before) t after e =
+    let (same, rest) = cons_parts u b (plain_tokens its) (before ++ t ∷ after) e in
+    let p = token_at its before t after rest in
+    record { front = Plain u ∷ p.front; back = p.back; whole = ap (λ (l : List Item). Plain u ∷ l) p.whole; first = ap (λ (l : List PlainToken). u ∷ l) p.first ∙ ap (λ (x : PlainToken). x ∷ before) same; last = p.last }
+token_at (Wrong rule u ∷ its) before t after e = further (Wrong rule u) its before t after refl refl (token_at its before t after e)
+token_at (Inclusion u ∷ its) before t after e = further (Inclusion u) its before t after refl refl (token_at its before t after e)
+token_at (End file ∷ its) before t after e = further (End file) its before t after refl refl (token_at its before t after e)
+
+-- ---- an unfinished proof
+
+-- the tokens of a `$p` up to a part of its proof
+begun : (own : List PlainToken) (s : PlainStatement) (h : Spells own s) (k : EndsInProof s h.tail) (part : List PlainToken) → s.kind ≡ Provable → AreSymbols part
+    → IsPartProof (record s { proof = part; span = (k.equals.at + 2, 0) }) ((h.head ++ s.symbols) ++ k.equals ∷ part)
+begun own s h k part p steps = record {
+  kind = p;
+  head = h.head;
+  others = h.first.0;
+  equals = k.equals;
+  whole = refl;
+  begins = subst (λ (x : Kind). IsHead x h.head) p h.begins;
+  first = h.first.1;
+  label = h.label;
+  spelled = h.symbols;
+  some = subst (λ (x : Kind). FitsCount x (length s.symbols)) p h.count;
+  sign = k.sign;
+  steps = steps;
+  span = refl;
+}
+
+apart : (x : PlainStatement) → Between ≡ InProof x → ⊥
+apart x e = cc
+
+-- are no whole statements
+not_whole : (front unfinished tokens : List PlainToken) (before earlier : List PlainStatement) (x : PlainStatement) → SpellsAll front before → IsPartProof x unfinished → tokens ≡ front ++ unfinished → ¬ (SpellsAll tokens earlier)
+not_whole front unfinished tokens before earlier x h d e all =
+    apart x (runs_parts earlier before Between (InProof x) (sym (whole_run tokens earlier all) ∙ spelled_run tokens front unfinished before (InProof x) e h d)).1
+
+-- so a token comes next, and nothing else
+pub next_token : (its : List Item) (statements : List PlainStatement) (v : Viable its statements []) (front back : List Item) (t : PlainToken) (rest : List PlainToken) → its ≡ front ++ back
+    → ((earlier : List PlainStatement) → ¬ (SpellsAll (plain_tokens front) earlier)) → plain_tokens back ≡ t ∷ rest → (more : List Item) × (back ≡ Plain t ∷ more) × (plain_tokens more ≡ rest)
+next_token its statements v front [] t rest e never is = absurd (nil_append [] t rest is)
+next_token its statements v front (Plain u ∷ back) t rest e never is =
+    let (same, others) = cons_parts u t (plain_tokens back) rest is in
+    (back, ap (λ (x : PlainToken). Plain x ∷ back) same, others)
+next_token its statements v front (Wrong rule u ∷ back) t rest e never is = absurd (clean_behind front rule u back (subst HoldNoFault e v.clean))
+next_token its statements v front (Inclusion u ∷ back) t rest e never is =
+    let out = v.included front back u e in
+    absurd (never out.statements out.spelled)
+next_token its statements v front (End file ∷ back) t rest e never is =
+    let ended = v.ended front back file e in
+    absurd (never ended.0 ended.1)
+
+module _ (its : List Item) (statements before : List PlainStatement) (v : Viable its statements []) (front own : List PlainToken) (s : PlainStatement) (earlier : SpellsAll front before) (h : Spells own s) (p : s.kind ≡ Provable)
+    (k : EndsInProof s h.tail) where
+  -- the rest of the proof and its `$.` follow
+  proof_follows : (part rest : List PlainToken) (past back : List Item) (after : List PlainToken) → AreSymbols part → AreSymbols rest → its ≡ past ++ back
+      → plain_tokens past ≡ front ++ ((h.head ++ s.symbols) ++ k.equals ∷ part) → plain_tokens back ≡ rest ++ k.stop ∷ after
+      → (more : List Item) × (back ≡ map Plain (rest ++ k.stop ∷ []) ++ more) × (plain_tokens more ≡ after)
+  proof_follows part [] past back after x y e done left =
+      next_token its statements v past back k.stop after e (λ all. not_whole front ((h.head ++ s.symbols) ++ k.equals ∷ part) (plain_tokens past) before all _ earlier (begun own s h k part p x) done) left
+  proof_follows part (t ∷ rest) past back after x y e done left =
+      let (more, one, others) = next_token its statements v past back t (rest ++ k.stop ∷ after) e
+      (λ all. not_whole front ((h.head ++ s.symbols) ++ k.equals ∷ part) (plain_tokens past) before all _ earlier (begun own s h k part p x) done) left in
+      let further_on : plain_tokens (past ++ Plain t ∷ []) ≡ front ++ ((h.head ++ s.symbols) ++ k.equals ∷ (part ++ t ∷ [])) =
+      plain_tokens-append past (Plain t ∷ []) ∙ ap (λ (l : List PlainToken). l ++ t ∷ []) done ∙ append_assoc front ((h.head ++ s.symbols) ++ k.equals ∷ part) (t ∷ [])
+      ∙ ap (λ (l : List PlainToken). front ++ l) (append_assoc (h.head ++ s.symbols) (k.equals ∷ part) (t ∷ [])) in
+      let (last, split, none) = proof_follows (part ++ t ∷ []) rest (past ++ Plain t ∷ []) more after (symbols_more part t x (y.0, tt)) y.1 (e ∙ ap (λ (l : List Item). past ++ l) one ∙ sym (append_assoc past (Plain t ∷ []) more)) further_on others in
+      (last, one ∙ ap (λ (l : List Item). Plain t ∷ l) split, none)
+    where
+      symbols_more : (part : List PlainToken) (t : PlainToken) → AreSymbols part → AreSymbols (t ∷ []) → AreSymbols (part ++ t ∷ [])
+      symbols_more [] t x y = y
+      symbols_more (u ∷ part) t x y = (x.0, symbols_more part t x.1 y)
+
+-- ---- where the proof stands
+
+-- where the proof of a statement stands among the items
+pub record ProofAt (its : List Item) (before : List PlainStatement) (s : PlainStatement) (after : List PlainStatement) : Type 0 where
+  pub parts : Parts (plain_tokens its) before s after
+  pub kind : s.kind ≡ Provable
+  pub ends : EndsInProof s parts.here.tail
+  pub front : List Item
+  pub back : List Item
+  pub whole : its ≡ front ++ (map Plain (ends.equals ∷ (s.proof ++ ends.stop ∷ [])) ++ back)
+  pub done : plain_tokens front ≡ parts.front ++ (parts.here.head ++ s.symbols)
+  pub left : plain_tokens back ≡ parts.back
+
+pub proof_at : (its : List Item) (before : List PlainStatement) (s : PlainStatement) (after : List PlainStatement) → Viable its (before ++ s ∷ after) [] → s.kind ≡ Provable → ProofAt its before s after
+proof_at its before s after v p =
+    let parts = parts_of (plain_tokens its) before s after (subst (λ (l : List PlainToken). SpellsAll l (before ++ s ∷ after)) (sym (v.whole ∙ append-nil v.finished)) v.spelled) in
+    let h = parts.here in
+    let k : EndsInProof s h.tail = subst (λ (x : Kind). IsTail s x h.tail) p h.ends in
+    let told : plain_tokens its ≡ (parts.front ++ (h.head ++ s.symbols)) ++ k.equals ∷ (s.proof ++ k.stop ∷ parts.back) =
+    parts.whole
+    ∙ ap (λ (l : List PlainToken). parts.front ++ (l ++ parts.back)) (h.whole ∙ ap (λ (l : List PlainToken). (h.head ++ s.symbols) ++ l) k.tokens)
+    ∙ ap (λ (l : List PlainToken). parts.front ++ l) (append_assoc (h.head ++ s.symbols) (k.equals ∷ s.proof ++ k.stop ∷ []) parts.back
+    ∙ ap (λ (l : List PlainToken). (h.head ++ s.symbols) ++ k.equals ∷ l) (append_assoc s.proof (k.stop ∷ []) parts.back))
+    ∙ sym (append_assoc parts.front (h.head ++ s.symbols) (k.equals ∷ (s.proof ++ k.stop ∷ parts.back))) in
+    let t = token_at its (parts.front ++ (h.head ++ s.symbols)) k.equals (s.proof ++ k.stop ∷ parts.back) told in
+    let past : plain_tokens (t.front ++ Plain k.equals ∷ []) ≡ parts.front ++ ((h.head ++ s.symbols) ++ k.equals ∷ []) =
+    plain_tokens-append t.front (Plain k.equals ∷ []) ∙ ap (λ (l : List PlainToken). l ++ k.equals ∷ []) t.first ∙ append_assoc parts.front (h.head ++ s.symbols) (k.equals ∷ []) in
+    let (more, split, left) = proof_follows its (before ++ s ∷ after) before v parts.front parts.own s parts.earlier h p k [] s.proof (t.front ++ Plain k.equals ∷ []) t.back parts.back tt k.proof
+    (t.whole ∙ sym (append_assoc t.front (Plain k.equals ∷ []) t.back)) past t.last in
+    record {
+      parts = parts;
+      kind = p;
+      ends = k;
+      front = t.front;
+      back = more;
+      whole = t.whole ∙ ap (λ (l : List Item). t.front ++ Plain k.equals ∷ l) split;
+      done = t.first;
+      left = left;
+    }
+
+-- ---- the reader goes through a proof
+
+proof_reading : (scope : PlainScope) (y : PlainStatement) (proof : List PlainToken) (stop : PlainToken) (rest : List Item) → AreSymbols proof → stop.text ≡ codes "$."
+    → reading_of scope (InProof y) (map Plain (proof ++ stop ∷ []) ++ rest) ≡ with_statement (record y { proof = y.proof ++ proof; span = (y.span.0, stop.at) }) (reading_of (scope_after_statement scope) Between rest)
+proof_reading scope y [] stop rest h sign =
+    read_whole scope (InProof y) stop rest (record y { span = (y.span.0, stop.at) }) (proof_stop y stop sign)
+    ∙ ap (λ (l : List PlainToken). with_statement (record y { proof = l; span = (y.span.0, stop.at) }) (reading_of (scope_after_statement scope) Between rest)) (sym (append-nil y.proof))
+proof_reading scope y (t ∷ proof) stop rest h sign =
+    let more : PlainStatement = record y { proof = y.proof ++ t ∷ [] } in
+    read_more scope (InProof y) t (map Plain (proof ++ stop ∷ []) ++ rest) (InProof more) (proof_step y t h.0)
+    ∙ proof_reading scope more proof stop rest h.1 sign
+    ∙ ap (λ (l : List PlainToken). with_statement (record y { proof = l; span = (y.span.0, stop.at) }) (reading_of (scope_after_statement scope) Between rest)) (append_assoc y.proof (t ∷ []) proof)
+
+clean_front : (a b : List Item) → HoldNoFault (a ++ b) → HoldNoFault a
+clean_front [] b h = tt
+clean_front (Plain t ∷ a) b h = clean_front a b h
+clean_front (Wrong rule t ∷ a) b h = h
+clean_front (Inclusion t ∷ a) b h = clean_front a b h
+clean_front (End file ∷ a) b h = clean_front a b h
+
+statements_read : (before : List PlainStatement) (r : PlainReading) → with_statements before r ≡ record { statements = before ++ r.statements; ending = r.ending }
+statements_read [] r = refl
+statements_read (s ∷ before) r = ap (with_statement s) (statements_read before r)
+
+module _ (its : List Item) (before : List PlainStatement) (s : PlainStatement) (after : List PlainStatement) (v : Viable its (before ++ s ∷ after) []) (a : ProofAt its before s after) where
+  abbrev stated : List PlainToken
+  stated = a.parts.here.head ++ s.symbols
+
+  abbrev proving : PlainStatement
+  proving = record s { proof = []; span = (a.ends.equals.at + 2, 0) }
+
+  abbrev until : List Item
+  until = a.front ++ Plain a.ends.equals ∷ []
+
+  cut : its ≡ until ++ (map Plain (s.proof ++ a.ends.stop ∷ []) ++ a.back)
+  cut = a.whole ∙ sym (append_assoc a.front (Plain a.ends.equals ∷ []) (map Plain (s.proof ++ a.ends.stop ∷ []) ++ a.back))
+
+  begun_here : IsPartProof proving (stated ++ a.ends.equals ∷ [])
+  begun_here = begun a.parts.own s a.parts.here a.ends [] a.kind tt
+
+  -- the items up to the `$=` are a viable front
+  front_viable : Viable until before (stated ++ a.ends.equals ∷ [])
+  front_viable = record {
+    clean = clean_front until (map Plain (s.proof ++ a.ends.stop ∷ []) ++ a.back) (subst HoldNoFault cut v.clean);
+    finished = a.parts.front;
+    whole = plain_tokens-append a.front (Plain a.ends.equals ∷ []) ∙ ap (λ (l : List PlainToken). l ++ a.ends.equals ∷ []) a.done ∙ append_assoc a.parts.front stated (a.ends.equals ∷ []);
+    spelled = a.parts.earlier;
+    begun = inr (inr (inr (record {
+      body = stated;
+      symbols = s.symbols;
+      equals = a.ends.equals;
+      proof = [];
+      whole = refl;
+      stated = record { head = a.parts.here.head; whole = refl; begins = subst (λ (x : Kind). IsHead x a.parts.here.head) a.kind a.parts.here.begins; long = tt; spelled = a.parts.here.symbols; room = λ e. absurd cc };
+      some = subst (λ (x : Kind). FitsCount x (length s.symbols)) a.kind a.parts.here.count;
+      sign = a.ends.sign;
+      steps = tt;
+    })));
+    balanced = balanced_front before (s ∷ after) v.balanced;
+    included = λ pre post t e. v.included pre (post ++ (map Plain (s.proof ++ a.ends.stop ∷ []) ++ a.back)) t (longer pre post (Inclusion t) e);
+    ended = λ pre post file e. v.ended pre (post ++ (map Plain (s.proof ++ a.ends.stop ∷ []) ++ a.back)) file (longer pre post (End file) e);
+    top_ended = λ pre post e. v.top_ended pre (post ++ (map Plain (s.proof ++ a.ends.stop ∷ []) ++ a.back)) (longer pre post (End 0) e);
+  }
+    where
+      longer : (pre post : List Item) (item : Item) → until ≡ pre ++ item ∷ post → its ≡ pre ++ item ∷ (post ++ (map Plain (s.proof ++ a.ends.stop ∷ []) ++ a.back))
+      longer pre post item e =
+          cut ∙ ap (λ (l : List Item). l ++ (map Plain (s.proof ++ a.ends.stop ∷ []) ++ a.back)) e ∙ append_assoc pre (item ∷ post) (map Plain (s.proof ++ a.ends.stop ∷ []) ++ a.back)
+
+  -- what is read with any proof in place of the own, and any items after it
+  any_proof : (proof : List PlainToken) (stop : PlainToken) (rest : List Item) → AreSymbols proof → stop.text ≡ codes "$."
+      → reading_of outermost Between (a.front ++ (map Plain (a.ends.equals ∷ (proof ++ stop ∷ [])) ++ rest))
+      ≡ with_statements before (with_statement (record s { proof = proof; span = (a.ends.equals.at + 2, stop.at) }) (reading_of (scope_after_statement (scope_of before)) Between rest))
+  any_proof proof stop rest h sign =
+      ap (reading_of outermost Between) (sym (append_assoc a.front (Plain a.ends.equals ∷ []) (map Plain (proof ++ stop ∷ []) ++ rest)))
+      ∙ front_reading until (map Plain (proof ++ stop ∷ []) ++ rest) before (stated ++ a.ends.equals ∷ []) (InProof proving) front_viable begun_here
+      ∙ ap (with_statements before) (proof_reading (scope_of before) proving proof stop rest h sign)
+
+  -- the same with items after it that are the old ones but for places
+  abbrev Later : List Item → Type 0
+  Later rest = (others : List PlainStatement)
+      × (reading_of (scope_after_statement (scope_of before)) Between rest ≡ record { statements = others; ending = None })
+      × (map (statement_on nowhere) after ≡ map (statement_on nowhere) others)
+
+  later_read : (rest : List Item) → AllZip SameItem a.back rest → Later rest
+  later_read rest z =
+      let own : List Item = map Plain (a.ends.equals ∷ (s.proof ++ a.ends.stop ∷ [])) in
+      let mixed : List Item = a.front ++ (own ++ rest) in
+      let same_rest : map (item_on nowhere) a.back ≡ map (item_on nowhere) rest = zip_mapped (item_on nowhere) (item_on nowhere) a.back rest z in
+      let same_items : map (item_on nowhere) its ≡ map (item_on nowhere) mixed =
+      ap (map (item_on nowhere)) a.whole
+      ∙ map-append (item_on nowhere) a.front (own ++ a.back)
+      ∙ ap (λ (l : List Item). map (item_on nowhere) a.front ++ l) (map-append (item_on nowhere) own a.back ∙ ap (λ (l : List Item). map (item_on nowhere) own ++ l) same_rest ∙ sym (map-append (item_on nowhere) own rest))
+      ∙ sym (map-append (item_on nowhere) a.front (own ++ rest)) in
+      let (same, nothing, viable, spelled, unfinished) = viable_alike beginning_alike nowhere nowhere its mixed (before ++ s ∷ after) [] same_items v in
+      let none : nothing ≡ [] = nil_split (token_on nowhere) (token_on nowhere) nothing unfinished in
+      let read : reading_of outermost Between mixed ≡ record { statements = same; ending = None } = reads_reading mixed same None (subst (Viable mixed same) none viable) in
+      let r : PlainReading = reading_of (scope_after_statement (scope_of before)) Between rest in
+      let t : PlainStatement = record s { proof = s.proof; span = (a.ends.equals.at + 2, a.ends.stop.at) } in
+      let both : ◌≡◌ {A = PlainReading} (record { statements = before ++ t ∷ r.statements; ending = r.ending }) (record { statements = same; ending = None }) =
+      sym (statements_read before (with_statement t r)) ∙ sym (any_proof s.proof a.ends.stop rest a.ends.proof a.ends.end) ∙ read in
+      let list : before ++ t ∷ r.statements ≡ same = ap (λ (x : PlainReading). x.statements) both in
+      let end : r.ending ≡ None = ap (λ (x : PlainReading). x.ending) both in (
+        r.statements,
+        ap (λ (e : Option PlainFault). record { statements = r.statements; ending = e }) end,
+        behind (statement_on nowhere) before before s t after r.statements refl (spelled ∙ ap (map (statement_on nowhere)) (sym list)),
+      )
+    where
+      behind : (f : PlainStatement → PlainStatement) (xs ys : List PlainStatement) (x y : PlainStatement) (us vs : List PlainStatement) → xs ≡ ys → map f (xs ++ x ∷ us) ≡ map f (ys ++ y ∷ vs) → map f us ≡ map f vs
+      behind f [] [] x y us vs e is = (cons_parts (f x) (f y) (map f us) (map f vs) is).1
+      behind f [] (z ∷ ys) x y us vs e is = absurd cc
+      behind f (z ∷ xs) [] x y us vs e is = absurd cc
+      behind f (z ∷ xs) (w ∷ ys) x y us vs e is = behind f xs ys x y us vs (cons_parts z w xs ys e).1 (cons_parts (f z) (f w) (map f (xs ++ x ∷ us)) (map f (ys ++ y ∷ vs)) is).1
+
+  -- files with these items read so
+  pub read_so : (others : List PlainFile) (proof : List PlainToken) (stop : PlainToken) (rest : List Item) → AreSymbols proof → stop.text ≡ codes "$." → AllZip SameItem a.back rest
+      → items others ≡ a.front ++ (map Plain (a.ends.equals ∷ (proof ++ stop ∷ [])) ++ rest)
+      → (later : List PlainStatement) × Reads others (before ++ record s { proof = proof; span = (a.ends.equals.at + 2, stop.at) } ∷ later) None
+      × (map (statement_on nowhere) after ≡ map (statement_on nowhere) later)
+  read_so others proof stop rest h sign z e =
+      let (later, read, same) = later_read rest z in
+      let o : PlainStatement = record s { proof = proof; span = (a.ends.equals.at + 2, stop.at) } in
+      let found : files_reading others ≡ record { statements = before ++ o ∷ later; ending = None } =
+      ap (reading_of outermost Between) e ∙ any_proof proof stop rest h sign ∙ ap (λ (r : PlainReading). with_statements before (with_statement o r)) read
+      ∙ statements_read before (with_statement o (record { statements = later; ending = None })) in
+      (later, subst (λ (r : PlainReading). Reads others r.statements r.ending) found (reading_reads others), same)
