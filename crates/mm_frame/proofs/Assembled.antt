@@ -1,5 +1,5 @@
 -- A book's lists after one statement more, from what holds of each of them.
-use Rattle.std.proofs.Common.{◌≡◌, ℕ, ◌+◌, ◌*◌, ◌<◌, ◌≤◌, length, List, [], ◌∷◌, ◌++◌, Some, ap, ◌∙◌, length-append, arith}
+use Rattle.std.proofs.Common.{◌≡◌, ℕ, ◌+◌, ◌<◌, ◌≤◌, length, List, [], ◌∷◌, ◌++◌, Some, ap, ◌∙◌, length-append, arith}
 use Rattle.std.specs.List.{slice_get}
 use Rattle.mm_frame.specs.declared.number.Sym.{Sym}
 use Rattle.mm_frame.specs.declared.number.LabelId.{LabelId}
@@ -37,7 +37,7 @@ pub record AreAppended (t v : Tables) (a b : List (List ℕ)) (c : List Sym) (ne
   pub label : (id : LabelId) → new.label ≡ Some id → id.0 < length (t.labels.names ++ b)
 
 pub assembled : (t v : Tables) (s : Sentence) (new : Entry) (a b : List (List ℕ)) (c : List Sym) (bytes : ℕ) → AreTables t → IsMeant (statements_of t) s → IsFormedSentence s
-    → AreAppended t v a b c new s → AreGrown t v s → v.bytes ≡ t.bytes + bytes → 1 + length c ≤ 2 * bytes → t.bytes + bytes ≤ 1073741824 → Grows t v s bytes
+    → AreAppended t v a b c new s → AreGrown t v s → v.bytes ≡ t.bytes + bytes → 1 + length c ≤ bytes → t.bytes + bytes ≤ 1073741824 → Grows t v s bytes
 assembled t v s new a b c bytes tables meant formed app grown counted enough room =
     let pushed = sentences_push t.symbols.names t.labels.names t.flat.items t.log.items a b c new tables.entries in
     let st : statements_of v ≡ statements_of t ++ s ∷ [] =
@@ -55,7 +55,7 @@ assembled t v s new a b c bytes tables meant formed app grown counted enough roo
     let logs = length-append t.log.items (new ∷ []) in
     let flats = length-append t.flat.items c in
     let before = tables.counted in
-    let sum : length v.log.items + length v.flat.items ≤ 2 * v.bytes = rw (app.log, app.flat, counted, logs, flats) (omega arith) in
+    let sum : length v.log.items + length v.flat.items ≤ v.bytes = rw (app.log, app.flat, counted, logs, flats) (omega arith) in
     record {
       tables = record { sound = sound; counted = sum; small = rw counted room; infos = i; labels = l; entries = n; scopes = h; essentials = e; frames = f; typed = y; stated = d };
       statements = st;

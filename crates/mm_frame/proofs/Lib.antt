@@ -12,7 +12,7 @@ pub mod LookupLaws
 pub mod SymbolsAt
 pub mod Places
 pub mod Patterns
-pub mod Endings
+pub mod FirstPlaces
 pub mod Symbols
 pub mod RepeatsCode
 pub mod Numbered

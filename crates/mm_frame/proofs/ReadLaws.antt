@@ -1,5 +1,5 @@
 -- What is read under a label's number, in terms of the statements.
-use Rattle.std.proofs.Common.{◌≡◌, ℕ, ◌≤◌, length, List, map, Option, Some, None, slice_range, refl, sym, ap, ◌∙◌, subst, arith}
+use Rattle.std.proofs.Common.{◌≡◌, ℕ, ◌+◌, ◌<◌, ◌≤◌, inl, inr, length, take, List, [], ◌∷◌, map, Option, Some, None, slice_range, refl, sym, ap, ◌∙◌, subst, arith}
 use Rattle.std.specs.List.{slice_get}
 use Rattle.mm_text.specs.declared.statement.Kind.{Kind}
 use Rattle.mm_frame.specs.declared.distinct.DistinctPair.{DistinctPair}
@@ -13,12 +13,16 @@ use Rattle.mm_frame.specs.Form.{HasItsLabel, AllFormed}
 use Rattle.mm_frame.specs.Numbers.{labelled_sentences, IsNumbered}
 use Rattle.mm_frame.specs.FramePlace.{AreHypotheses, HaveTypings, ArePairs}
 use Rattle.mm_frame.specs.Pieces.{variables_of, AreItsPieces, HavePatterns, HavePlaces, HaveMandatoryPlaces}
-use Rattle.mm_frame.specs.Layout.{sentences_by, sentence_by, AreLabelInfos, AreFrames}
+use Rattle.mm_frame.specs.Layout.{sentences_by, sentence_by, statements_of, AreLabelInfos, AreFrames, AreTables}
+use Rattle.mm_frame.specs.declared.tables.Tables.{Tables}
+use Rattle.mm_frame.specs.Frame.{AreThose, IsMandatoryAt}
+use Rattle.std.proofs.lemmas.List.{length-map, length-take-le}
+use Rattle.std.proofs.lemmas.Option.{slice_get_within}
 use Rattle.mm_frame.proofs.Pushed.{get_within}
 use Rattle.mm_frame.proofs.NameLists.{get_mapped, get_unmapped}
 use Rattle.mm_frame.proofs.Labelled.{numbered_get, numbered_within, numbered_unique, numbered_from_get}
 use Rattle.mm_frame.proofs.Labels.{labels_counted}
-use Rattle.mm_frame.proofs.Entries.{sentence_at}
+use Rattle.mm_frame.proofs.Entries.{sentence_at, length-sentences}
 use Rattle.mm_frame.proofs.FrameLaws.{at_place}
 use Rattle.mm_frame.proofs.Typings.{typings_part}
 
@@ -101,6 +105,31 @@ frame_typings st labels named log hs pairs pieces id place s info part are frame
     let frame = frames id info s there (subst (λ (p : ℕ). slice_get st p ≡ Some s) (sym same) numbered.there) asserts in
     let within = frame.hypotheses_in in
     typings_part st hs part info.hypotheses.start info.hypotheses.end (is within.ordered within.within) have
+
+-- those of a list are no more
+those_few : {X : Type 0} (P : ℕ → X → Type 0) (place : ℕ) (xs those : List X) → AreThose P place xs those → length those ≤ length xs
+those_few P place [] those are = omega (arith, ap length are)
+those_few P place (x ∷ xs) those (inl (is, others, same, are)) = let few = those_few P (place + 1) xs others are in omega (arith, ap length same)
+those_few P place (x ∷ xs) those (inr (isnt, are)) = let few = those_few P (place + 1) xs those are in omega arith
+
+-- an assertion has fewer hypotheses than there are statements
+pub few_mandatory : (st : List Sentence) (place : ℕ) (numbers : List ℕ) → AreHypotheses (at_place st place) numbers → length numbers < length st
+few_mandatory st place numbers are =
+    let within = slice_get_within st place are.assertion are.there in
+    let before = those_few (IsMandatoryAt (take place st) are.assertion) 0 (take place st) are.hypotheses are.mandatory in
+    let front = length-take-le place st (omega arith) in
+    let all = sym (length-map numbers (slice_get (labelled_sentences st))) ∙ ap length are.numbered ∙ length-map are.hypotheses (λ h. Some h) in
+    omega arith
+
+-- and so fewer than there can be bytes
+pub few_hypotheses : (t : Tables) (place : ℕ) (hs : List Hypothesis) → AreTables t → AreHypotheses (at_place (statements_of t) place) (map (λ h. h.id.0) hs) → length hs < 1073741824
+few_hypotheses t place hs tables are =
+    let few = few_mandatory (statements_of t) place (map (λ h. h.id.0) hs) are in
+    let same = length-map hs (λ h. h.id.0) in
+    let all = length-sentences t.symbols.names t.labels.names t.flat.items t.log.items in
+    let sum = tables.counted in
+    let small = tables.small in
+    omega arith
 
 -- a part of the distinct pairs of all assertions
 pub frame_pairs : (st : List Sentence) (labels : List (List ℕ)) (named : List LabelInfo) (log : List Entry) (hs : List Hypothesis) (pairs : List DistinctPair) (pieces : List Piece) (id place : ℕ) (s : Sentence) (info : LabelInfo) (part : List DistinctPair)

@@ -1,6 +1,6 @@
 -- How a book's lists hold its statements. This file mirrors the code, and is cited by private
 -- contracts alone.
-use Rattle.std.specs.Prelude.{◌≡◌, ℕ, ◌+◌, ◌*◌, ◌<◌, ◌≤◌, List, [], length, map, take, slice_get}
+use Rattle.std.specs.Prelude.{◌≡◌, ℕ, ◌+◌, ◌<◌, ◌≤◌, List, [], length, map, take, slice_get}
 use Rattle.std.specs.Prelude.{slice_range, Option, Some, None, Contains, unwrap_or, ◌⊎◌}
 use Rattle.mm_text.specs.declared.statement.Kind.TheVariants.{Variables, Essential, Distinct}
 use Rattle.mm_frame.specs.declared.distinct.DistinctPair.{DistinctPair}
@@ -182,7 +182,7 @@ pub record AreStated (statements : List Sentence) (symbols : List (List ℕ))
 -- all lists of a book, as they are between two statements
 pub record AreTables (t : Tables) : Type 0 where
   pub sound : IsSound (statements_of t)
-  pub counted : length t.log.items + length t.flat.items ≤ 2 * t.bytes
+  pub counted : length t.log.items + length t.flat.items ≤ t.bytes
   pub small : t.bytes ≤ 1073741824
   pub infos : AreInfos (statements_of t) t.symbols.names t.infos.items
   pub labels : AreLabelInfos (statements_of t) t.labels.names t.named.items t.log.items

@@ -1,7 +1,7 @@
 -- How the patterns of an assertion and of its `$e` are made. This file mirrors the code, and is
 -- cited by private contracts alone.
 use Rattle.std.specs.Prelude.{◌≡◌, ℕ, ◌<◌, ◌≤◌, List, ◌++◌, length, map, slice_get, slice_range}
-use Rattle.std.specs.Prelude.{slice_index_or, Bool, true, false, ◌%◌, Option, Some, None}
+use Rattle.std.specs.Prelude.{Option, Some}
 use Rattle.mm_frame.specs.declared.hypothesis.Hypothesis.{Hypothesis}
 use Rattle.mm_frame.specs.declared.number.LabelId.{LabelId}
 use Rattle.mm_frame.specs.declared.number.Sym.{Sym}
@@ -12,7 +12,7 @@ use Rattle.mm_frame.specs.declared.tables.Part.{Part}
 use Rattle.mm_frame.specs.declared.tables.Tables.{Tables}
 use Rattle.mm_frame.specs.Sentence.{Sentence}
 use Rattle.mm_frame.specs.Pieces.{variables_of, ArePieces, AreItsPieces}
-use Rattle.mm_frame.specs.Pieces.{HasPattern, HavePatterns, HavePlaces, IsNowhere}
+use Rattle.mm_frame.specs.Pieces.{HasPattern, HavePatterns, HavePlaces, IsNowhere, IsFirstAt}
 use Rattle.mm_frame.specs.FramePlace.{FramePlace, AreHypotheses, HaveTypings, ArePairs}
 use Rattle.mm_frame.specs.Layout.{AreTables, statements_of}
 use Rattle.mm_frame.specs.Gathered.{ArePlaces, AreThoseAt}
@@ -21,11 +21,10 @@ use Rattle.mm_frame.specs.Gathered.{ArePlaces, AreThoseAt}
 abbrev pub IsLonger : {X : Type 0} → List X → List X → Type 0
 IsLonger {X} old new = (more : List X) × (new ≡ old ++ more)
 
--- for the number of each variable it is noted that some number ends so
-pub record AreEndings (variables : List (Option ℕ)) (endings : List Bool) : Type 0 where
-  pub count : length endings ≡ 256
-  pub each : (k n : ℕ) → slice_index_or variables k None ≡ Some n
-      → slice_index_or endings (n % 256) false ≡ true
+-- for the number of each variable the place of its first `$f` is noted
+abbrev pub AreNoted : List ℕ → List (Option ℕ) → Type 0
+AreNoted places variables =
+    (n place : ℕ) → IsFirstAt n variables place → slice_get places n ≡ Some place
 
 -- the part of the pieces says the symbols with these numbers
 pub record IsPatternAt (variables : List (Option ℕ)) (numbers : List ℕ) (pieces : List Piece)

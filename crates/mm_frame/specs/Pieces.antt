@@ -63,6 +63,13 @@ HavePatterns statements variables pieces hypotheses =
     (i : ℕ) (hypothesis : Hypothesis) → slice_get hypotheses i ≡ Some hypothesis
     → HasPattern statements variables pieces hypothesis
 
+-- each of these hypotheses of the frame has its pattern in some one list of pieces, as in that of
+-- the frame's scheme
+abbrev pub HaveMandatoryPatterns : FramePlace → List Hypothesis → Type 0
+HaveMandatoryPatterns frame hypotheses =
+    (pieces : List Piece)
+    × HavePatterns frame.statements (variables_of hypotheses) pieces hypotheses
+
 -- with each variable of the pair stands the place, from 0, of its `$f` among the hypotheses
 abbrev pub HasPlaces : List (Option ℕ) → DistinctPair → Type 0
 HasPlaces variables pair =

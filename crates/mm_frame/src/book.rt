@@ -18,7 +18,7 @@ ghost use Rattle.mm_frame.specs.Numbers.{IsAssertionNumber};
 ghost use Rattle.mm_frame.specs.Found.{Finds};
 ghost use Rattle.mm_frame.specs.Taken.{TakenAs, kind_behind};
 ghost use Rattle.mm_frame.specs.FramePlace.{AreHypotheses, HaveTypings, ArePairs};
-ghost use Rattle.mm_frame.specs.Pieces.{HaveMandatoryPlaces};
+ghost use Rattle.mm_frame.specs.Pieces.{HaveMandatoryPatterns, HaveMandatoryPlaces};
 ghost use Rattle.mm_frame.specs.Patterned.{IsSchemeOf};
 
 use crate::answer::{Found, RuleFault, Taken};
@@ -35,7 +35,7 @@ use crate::reads::{
 use crate::rules::first_broken;
 use crate::scheme::Scheme;
 use crate::tables::Tables;
-use mm_text::{Statement, Token};
+use mm_text::{Seed, Statement, Token};
 use std::alloc::Global;
 use std::marker::Model;
 
@@ -85,12 +85,12 @@ impl<'a> Model for Book<'a> {
 }
 
 impl<'a> Book<'a> {
-    /// A book of no statements.
-    pub fn new(alloc: Global) -> Result<Book<'a>, RuleFault>
+    /// A book of no statements. The hashes of what it is asked for begin from the seed.
+    pub fn new(alloc: Global, seed: Seed) -> Result<Book<'a>, RuleFault>
         ensures ok { IfOk result (λ book. book ≡ record { statements = []; bytes = 0 }) }
         ensures memory { IfErr result (λ fault. fault ≡ Memory) }
     {
-        match Tables::new(alloc) {
+        match Tables::new(alloc, seed) {
             Ok(tables) => Ok(Book {
                 tables,
                 numbers: Vec::new(alloc),
@@ -137,6 +137,11 @@ impl<'a> Book<'a> {
         ensures { result ≡ open_marks self.now.statements - close_marks self.now.statements }
     {
         self.tables.scopes.depth()
+    }
+
+    /// The seed from which hashes begin.
+    pub fn seed(&self) -> Seed {
+        self.tables.seed
     }
 
     /// How many bytes the tokens of the statements have.
@@ -252,6 +257,13 @@ impl<'a> Book<'a> {
         ensures typed { (place : ℕ) (s : Sentence)
             → IsNumbered self.now.statements id.0 place s → IsAssertion s.kind
             → HaveTypings self.now.statements result.now }
+        ensures few { (place : ℕ) (s : Sentence)
+            → IsNumbered self.now.statements id.0 place s → IsAssertion s.kind
+            → length result.now < 1073741824 }
+        ensures patterns { (place : ℕ) (s : Sentence)
+            → IsNumbered self.now.statements id.0 place s → IsAssertion s.kind
+            → HaveMandatoryPatterns
+            (record { statements = self.now.statements; place = place }) result.now }
     {
         label_hypotheses(&self.tables, id)
     }

@@ -2,11 +2,11 @@
 
 ghost use Rattle.std.specs.Prelude.{◌≡◌, ◌<◌, OnOk, length, map};
 ghost use Rattle.mm_frame.specs.Pieces.{variables_of, IsNowhere, IsFirstAt, HavePlaces};
-ghost use Rattle.mm_frame.specs.Patterned.{AreAmong};
+ghost use Rattle.mm_frame.specs.Patterned.{AreAmong, AreNoted};
 
 use crate::hypothesis::Hypothesis;
+use crate::noted::NotedPlaces;
 use crate::number::Sym;
-use crate::scheme::place_of;
 use std::alloc::AllocError;
 
 /// A mandatory distinct pair of an assertion. Each step by the assertion asks what replaces its
@@ -20,12 +20,13 @@ pub struct DistinctPair {
 }
 
 // The place of the `$f` of a variable among hypotheses of which one is its `$f`.
-fn place_among(hypotheses: &[Hypothesis], variable: Sym) -> u32
+fn place_among(hypotheses: &[Hypothesis], noted: &NotedPlaces, variable: Sym) -> u32
     ensures { length hypotheses.now < 4294967296
+        → AreNoted noted.now.places.items (variables_of hypotheses.now)
         → ¬ (IsNowhere variable.0 (variables_of hypotheses.now))
         → IsFirstAt variable.0 (variables_of hypotheses.now) result }
 {
-    match place_of(hypotheses, variable) {
+    match noted.place_of(hypotheses, variable) {
         Some(place) => match u32::try_from(place) {
             Ok(value) => value,
             // A book has fewer statements than there are numbers.
@@ -36,14 +37,16 @@ fn place_among(hypotheses: &[Hypothesis], variable: Sym) -> u32
 }
 
 /// Fills the list with the pairs of variables, each with the places of its variables among the
-/// hypotheses.
+/// hypotheses, of which they are noted.
 pub(crate) fn find_places(
     hypotheses: &[Hypothesis],
+    noted: &NotedPlaces,
     pairs: &[(Sym, Sym)],
     placed: &mut Vec<DistinctPair>,
 ) -> Result<(), AllocError>
     ensures variables { OnOk result (map (λ pair. pair.variables) placed.new.items ≡ pairs.now) }
     ensures places { length hypotheses.now < 4294967296
+        → AreNoted noted.now.places.items (variables_of hypotheses.now)
         → AreAmong (variables_of hypotheses.now) pairs.now
         → OnOk result (HavePlaces (variables_of hypotheses.now) placed.new.items) }
 {
@@ -52,8 +55,8 @@ pub(crate) fn find_places(
         placed.push(DistinctPair {
             variables: *pair,
             places: (
-                place_among(hypotheses, pair.0),
-                place_among(hypotheses, pair.1),
+                place_among(hypotheses, noted, pair.0),
+                place_among(hypotheses, noted, pair.1),
             ),
         })?;
     }

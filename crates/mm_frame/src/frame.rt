@@ -1,6 +1,6 @@
 //! Frames of assertions.
 
-ghost use Rattle.std.specs.Prelude.{◌≡◌, ◌↔◌, ℕ, List, Some, IsTrue, map, slice_get};
+ghost use Rattle.std.specs.Prelude.{◌≡◌, ◌↔◌, ◌<◌, ℕ, List, Some, IsTrue, length, map, slice_get};
 ghost use Rattle.mm_frame.specs.Sentence.{Sentence};
 ghost use Rattle.mm_frame.specs.Active.{IsActive};
 ghost use Rattle.mm_frame.specs.Frame.{IsDistinct};
@@ -8,7 +8,7 @@ ghost use Rattle.mm_frame.specs.Numbers.{IsNumbered, IsNumberOf};
 ghost use Rattle.mm_frame.specs.FramePlace.{AreHypotheses, HaveTypings, ArePairs};
 ghost use Rattle.mm_frame.specs.FramePlace.{AreItsSymbols, before_it};
 ghost use Rattle.mm_frame.specs.Pieces.{variables_of, AreItsPieces, HavePatterns};
-ghost use Rattle.mm_frame.specs.Pieces.{HavePlaces, HaveMandatoryPlaces};
+ghost use Rattle.mm_frame.specs.Pieces.{HavePlaces, HaveMandatoryPatterns, HaveMandatoryPlaces};
 
 use crate::book::Book;
 use crate::distinct::DistinctPair;
@@ -58,10 +58,12 @@ impl<'b, 'a> Frame<'b, 'a> {
         self.book.scheme(self.id)
     }
 
-    /// The mandatory hypotheses, in database order.
+    /// The mandatory hypotheses, in database order. They are those of its scheme.
     pub fn hypotheses(&self) -> &'b [Hypothesis]
         ensures ids { AreHypotheses self.now (map (λ h. h.id.0) result.now) }
         ensures typed { HaveTypings self.now.statements result.now }
+        ensures few { length result.now < 1073741824 }
+        ensures patterns { HaveMandatoryPatterns self.now result.now }
     {
         self.book.hypotheses(self.id)
     }

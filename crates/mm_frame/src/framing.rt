@@ -15,6 +15,7 @@ ghost use Rattle.mm_frame.specs.Gathered.{AreVariables, AreFound, AreThoseAt};
 use crate::distinct::DistinctPair;
 use crate::hypothesis::Hypothesis;
 use crate::lists::at;
+use crate::noted::NotedPlaces;
 use crate::number::{LabelId, Sym};
 use crate::tables::{NO_PART, Tables};
 use std::alloc::{AllocError, Global};
@@ -26,6 +27,8 @@ pub(crate) struct FrameLists {
     /// The places of the mandatory hypotheses, and the hypotheses that stand there.
     pub(crate) places: Vec<usize>,
     pub(crate) hypotheses: Vec<Hypothesis>,
+    /// Where the `$f` of each variable stands among them.
+    pub(crate) noted: NotedPlaces,
     /// The variables of those that are `$f`.
     pub(crate) variables: Vec<Sym>,
     /// The mandatory distinct pairs, and the same with the places of their variables.
@@ -39,6 +42,7 @@ impl FrameLists {
         FrameLists {
             places: Vec::new(alloc),
             hypotheses: Vec::new(alloc),
+            noted: NotedPlaces::new(alloc),
             variables: Vec::new(alloc),
             pairs: Vec::new(alloc),
             placed: Vec::new(alloc),

@@ -1,6 +1,7 @@
 //! Guesses of the numbers of labels.
 
-ghost use Rattle.std.specs.Prelude.{◌<◌};
+use crate::lists::{at as at_place, write};
+use std::alloc::Global;
 
 /// How many guesses there are.
 pub(crate) const GUESSES: usize = 4096;
@@ -9,30 +10,30 @@ pub(crate) const GUESSES: usize = 4096;
 /// None of them is relied on: what is found doesn't depend on them.
 #[derive(Drop)]
 pub struct Guesses {
-    numbers: [u32; GUESSES],
+    numbers: Vec<u32>,
 }
 
 impl Guesses {
-    /// Guesses that are all the first number.
-    pub fn new() -> Guesses {
-        Guesses {
-            numbers: [0; GUESSES],
-        }
+    /// Guesses that are all the first number. Where memory for them is refused there are none, and
+    /// each label is found as without them.
+    pub fn new(alloc: Global) -> Guesses {
+        let mut numbers = Vec::new(alloc);
+        let _ = numbers.resize(GUESSES, 0);
+        Guesses { numbers }
     }
 
     /// The guess at a place.
     #[inline(always)]
-    pub(crate) fn at(&self, place: usize) -> u32
-        requires { place < 4096 }
-    {
-        self.numbers[place]
+    pub(crate) fn at(&self, place: usize) -> u32 {
+        match at_place(&self.numbers, place) {
+            Some(number) => number,
+            None => 0,
+        }
     }
 
     /// Notes a number as the guess at a place.
     #[inline(always)]
-    pub(crate) fn set(&mut self, place: usize, number: u32)
-        requires { place < 4096 }
-    {
-        self.numbers[place] = number;
+    pub(crate) fn set(&mut self, place: usize, number: u32) {
+        write(&mut self.numbers, place, number);
     }
 }

@@ -16,6 +16,7 @@ mod lookups;
 mod name;
 mod names;
 mod naming;
+mod noted;
 mod number;
 mod pairs;
 mod pattern;

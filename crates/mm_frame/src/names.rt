@@ -8,13 +8,14 @@ ghost use Rattle.mm_frame.specs.Numbers.{with_name};
 use crate::guesses::Guesses;
 use crate::name::Name;
 use indexmap::IndexSet;
+use mm_text::Seed;
 use std::alloc::{AllocError, Global};
 use std::marker::Model;
 
 /// Names, each once: a name's number is its place.
 #[derive(Drop)]
 pub struct Names<'a> {
-    table: IndexSet<Name<'a>>,
+    table: IndexSet<Name<'a>, Seed>,
     /// The number of the name that is this byte alone. Most symbols are one byte long, and are
     /// found sooner in this table than by a hash.
     by_byte: [Option<u32>; 256],
@@ -95,12 +96,12 @@ fn note_pair(by_pair: &mut Vec<Option<u32>>, name: &[u8], number: u32)
 }
 
 impl<'a> Names<'a> {
-    /// No names. It takes no memory.
-    pub(crate) fn new(alloc: Global) -> Names<'a>
+    /// No names, whose hashes begin from the seed. It takes no memory.
+    pub(crate) fn new(alloc: Global, seed: Seed) -> Names<'a>
         ensures { result.names ≡ [] }
     {
         Names {
-            table: IndexSet::new(alloc),
+            table: IndexSet::with_hasher(alloc, seed),
             by_byte: no_numbers(),
             by_pair: Vec::new(alloc),
         }

@@ -1,6 +1,6 @@
 //! Taking a statement with a label into the lists.
 
-ghost use Rattle.std.specs.Prelude.{◌≡◌, ◌+◌, ◌*◌, ◌<◌, ◌≤◌, [], ◌∷◌, ◌++◌, Some, IfOk, OnErr};
+ghost use Rattle.std.specs.Prelude.{◌≡◌, ◌+◌, ◌<◌, ◌≤◌, [], ◌∷◌, ◌++◌, Some, IfOk, OnErr};
 ghost use Rattle.std.specs.Prelude.{length, map, set, slice_get, vec_len, vec_capacity};
 ghost use Rattle.mm_text.specs.declared.statement.Kind.TheVariants.{Floating, Essential};
 ghost use Rattle.mm_frame.specs.declared.tables.SymbolInfo.{SymbolInfo};
@@ -100,7 +100,7 @@ impl<'a> Tables<'a> {
     ) -> Result<Taken, AllocError>
         requires tables { AreTables self.old }
         requires room { self.old.bytes + bytes ≤ 1073741824 }
-        requires enough { 1 + length numbers.now ≤ 2 * bytes }
+        requires enough { 1 + length numbers.now ≤ bytes }
         ensures ok { IfOk result (λ taken. TakenAs (statements_of self.old) Floating taken
             × ((s : Sentence) → s.kind ≡ Floating → s.label ≡ Some label.now
             → AreNumbers (statements_of self.old) (map (λ n. n.0) numbers.now) s.symbols
@@ -126,7 +126,7 @@ impl<'a> Tables<'a> {
     ) -> Result<Taken, AllocError>
         requires tables { AreTables self.old }
         requires room { self.old.bytes + bytes ≤ 1073741824 }
-        requires enough { 1 + length numbers.now ≤ 2 * bytes }
+        requires enough { 1 + length numbers.now ≤ bytes }
         ensures ok { IfOk result (λ taken. TakenAs (statements_of self.old) Essential taken
             × ((s : Sentence) → s.kind ≡ Essential → s.label ≡ Some label.now
             → AreNumbers (statements_of self.old) (map (λ n. n.0) numbers.now) s.symbols
@@ -152,7 +152,7 @@ impl<'a> Tables<'a> {
         requires tables { AreTables self.old }
         requires kind { IsAssertion kind }
         requires room { self.old.bytes + bytes ≤ 1073741824 }
-        requires enough { 1 + length numbers.now ≤ 2 * bytes }
+        requires enough { 1 + length numbers.now ≤ bytes }
         ensures ok { IfOk result (λ taken. TakenAs (statements_of self.old) kind taken
             × ((s : Sentence) → s.kind ≡ kind → s.label ≡ Some label.now
             → AreNumbers (statements_of self.old) (map (λ n. n.0) numbers.now) s.symbols
@@ -162,14 +162,21 @@ impl<'a> Tables<'a> {
     {
         find_mandatory(self, numbers, &mut lists.places)?;
         find_hypotheses(self, &lists.places, &mut lists.hypotheses)?;
+        lists.noted.note(&lists.hypotheses)?;
         find_pairs(self, &lists.places, &mut lists.variables, &mut lists.pairs)?;
-        find_places(&lists.hypotheses, &lists.pairs, &mut lists.placed)?;
+        find_places(
+            &lists.hypotheses,
+            &lists.noted,
+            &lists.pairs,
+            &mut lists.placed,
+        )?;
         self.reserve(numbers.len())?;
         reserve_numbered(&mut self.hypotheses, lists.hypotheses.len())?;
         reserve_numbered(&mut self.pairs, lists.placed.len())?;
         let conclusion = add_patterns(
             &mut self.pieces,
             &mut lists.hypotheses,
+            &lists.noted,
             &lists.places,
             &self.log,
             &self.flat,

@@ -10,6 +10,7 @@ ghost use Rattle.mm_frame.specs.Stated.{near_place, newest_of, is_same_key};
 
 use crate::lists::{at, reserve_numbered};
 use indexmap::IndexMap;
+use mm_text::Seed;
 use std::alloc::{AllocError, Global};
 use std::marker::Model;
 
@@ -33,7 +34,7 @@ pub struct Pairs {
     /// is prepared.
     near: Vec<Option<u32>>,
     /// That of each other pair.
-    newest: IndexMap<(u32, u32), u32>,
+    newest: IndexMap<(u32, u32), u32, Seed>,
 }
 
 /// The pair of two numbers, the lesser one first.
@@ -92,7 +93,7 @@ fn near_place(pair: (u32, u32)) -> Option<usize>
 // is a table.
 #[cold]
 #[inline(never)]
-fn far_newest(far: &IndexMap<(u32, u32), u32>, pair: (u32, u32)) -> Option<u32>
+fn far_newest(far: &IndexMap<(u32, u32), u32, Seed>, pair: (u32, u32)) -> Option<u32>
     ensures { result ≡ get is_same_key far.now pair }
 {
     far.get(&pair).copied()
@@ -100,7 +101,11 @@ fn far_newest(far: &IndexMap<(u32, u32), u32>, pair: (u32, u32)) -> Option<u32>
 
 // The number of the newest span of a pair.
 #[inline(always)]
-fn newest_of(near: &[Option<u32>], far: &IndexMap<(u32, u32), u32>, pair: (u32, u32)) -> Option<u32>
+fn newest_of(
+    near: &[Option<u32>],
+    far: &IndexMap<(u32, u32), u32, Seed>,
+    pair: (u32, u32),
+) -> Option<u32>
     ensures { result ≡ newest_of near.now far.now pair }
 {
     match near_place(pair) {
@@ -112,7 +117,7 @@ fn newest_of(near: &[Option<u32>], far: &IndexMap<(u32, u32), u32>, pair: (u32, 
 // Notes the number of the newest span of a pair.
 fn note_newest(
     near: &mut Vec<Option<u32>>,
-    far: &mut IndexMap<(u32, u32), u32>,
+    far: &mut IndexMap<(u32, u32), u32, Seed>,
     pair: (u32, u32),
     number: u32,
 )
@@ -146,14 +151,14 @@ impl Model for Pairs {
 }
 
 impl Pairs {
-    /// No pairs. It takes no memory.
-    pub(crate) fn new(alloc: Global) -> Pairs
+    /// No pairs, whose hashes begin from the seed. It takes no memory.
+    pub(crate) fn new(alloc: Global, seed: Seed) -> Pairs
         ensures { result.stated ≡ [] }
     {
         Pairs {
             spans: Vec::new(alloc),
             near: Vec::new(alloc),
-            newest: IndexMap::new(alloc),
+            newest: IndexMap::with_hasher(alloc, seed),
         }
     }
 

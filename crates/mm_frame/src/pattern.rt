@@ -8,39 +8,23 @@ ghost use Rattle.mm_frame.specs.declared.tables.Tables.{Tables};
 ghost use Rattle.mm_frame.specs.Pieces.{variables_of, IsPieceOf};
 ghost use Rattle.mm_frame.specs.Layout.{statements_of};
 ghost use Rattle.mm_frame.specs.Patterned.{IsLonger, IsPatternAt, AreMandatoryOf};
-ghost use Rattle.mm_frame.specs.Patterned.{HaveFirstPatterns, ArePatterned, AreEndings};
+ghost use Rattle.mm_frame.specs.Patterned.{HaveFirstPatterns, ArePatterned, AreNoted};
 
 use crate::hypothesis::Hypothesis;
 use crate::lists::{at, reserve_numbered};
+use crate::noted::NotedPlaces;
 use crate::number::Sym;
 use crate::piece::{Piece, ShortPiece};
-use crate::scheme::place_of;
 use crate::tables::{Entry, NO_PART, Part, symbols_in};
 use std::alloc::AllocError;
 
-// By the last byte of a number, whether some variable of the hypotheses has a number that ends so.
-// Most symbols are constants, and so most of them needn't be looked for among the hypotheses.
-fn endings_of(hypotheses: &[Hypothesis]) -> [bool; 256]
-    ensures { AreEndings (variables_of hypotheses.now) result }
+// The piece that says a symbol, by the places that are noted of the hypotheses.
+fn piece_of(hypotheses: &[Hypothesis], noted: &NotedPlaces, symbol: Sym) -> Piece
+    ensures { length hypotheses.now < 4294967296
+        → AreNoted noted.now.places.items (variables_of hypotheses.now)
+        → IsPieceOf (variables_of hypotheses.now) symbol.0 result }
 {
-    let mut endings = [false; 256];
-    for hypothesis in hypotheses {
-        if let Some((_, variable)) = hypothesis.typing {
-            endings[(variable.0 % 256) as usize] = true;
-        }
-    }
-    endings
-}
-
-// The piece that says a symbol, where the numbers of the hypotheses' variables end so.
-fn piece_of(hypotheses: &[Hypothesis], endings: &[bool; 256], symbol: Sym) -> Piece
-    ensures { length hypotheses.now < 4294967296 → AreEndings (variables_of hypotheses.now)
-        endings.now → IsPieceOf (variables_of hypotheses.now) symbol.0 result }
-{
-    if !endings[(symbol.0 % 256) as usize] {
-        return Piece::Symbol(symbol);
-    }
-    match place_of(hypotheses, symbol) {
+    match noted.place_of(hypotheses, symbol) {
         Some(place) => match u32::try_from(place) {
             Ok(value) => Piece::Value(value),
             // A book has fewer statements than there are numbers.
@@ -71,16 +55,17 @@ fn push_piece(pieces: &mut Vec<ShortPiece>, piece: Piece) -> Result<(), AllocErr
 fn push_pattern(
     pieces: &mut Vec<ShortPiece>,
     hypotheses: &[Hypothesis],
+    noted: &NotedPlaces,
     symbols: &[Sym],
 ) -> Result<Part, AllocError>
     ensures longer { IsLonger pieces.old.items pieces.new.items }
-    ensures part { length hypotheses.now < 4294967296 → IfOk result (IsPatternAt
+    ensures part { length hypotheses.now < 4294967296
+        → AreNoted noted.now.places.items (variables_of hypotheses.now) → IfOk result (IsPatternAt
         (variables_of hypotheses.now) (map (λ n. n.0) symbols.now) pieces.new.items) }
 {
     let start = pieces.len();
-    let endings = endings_of(hypotheses);
     for symbol in symbols {
-        push_piece(pieces, piece_of(hypotheses, &endings, *symbol))?;
+        push_piece(pieces, piece_of(hypotheses, noted, *symbol))?;
     }
     reserve_numbered(pieces, 0)?;
     Ok(Part {
@@ -116,6 +101,7 @@ fn set_pattern(hypotheses: &mut Vec<Hypothesis>, place: usize, pattern: Part)
 fn push_patterns(
     pieces: &mut Vec<ShortPiece>,
     hypotheses: &mut Vec<Hypothesis>,
+    noted: &NotedPlaces,
     places: &[usize],
     log: &[Entry],
     flat: &[Sym],
@@ -124,12 +110,13 @@ fn push_patterns(
     ensures count { length hypotheses.new.items ≡ length hypotheses.old.items }
     ensures patterned { (t : Tables)
         → AreMandatoryOf t log.now flat.now places.now hypotheses.old.items
+        → AreNoted noted.now.places.items (variables_of hypotheses.old.items)
         → OnOk result (HaveFirstPatterns (statements_of t) hypotheses.old.items
         hypotheses.new.items pieces.new.items (length places.now)) }
 {
     for (i, place) in places.iter().enumerate() {
         let pattern = if is_essential(hypotheses, i) {
-            push_pattern(pieces, hypotheses, symbols_in(log, flat, *place))?
+            push_pattern(pieces, hypotheses, noted, symbols_in(log, flat, *place))?
         } else {
             NO_PART
         };
@@ -143,6 +130,7 @@ fn push_patterns(
 fn push_all(
     pieces: &mut Vec<ShortPiece>,
     hypotheses: &mut Vec<Hypothesis>,
+    noted: &NotedPlaces,
     places: &[usize],
     log: &[Entry],
     flat: &[Sym],
@@ -152,19 +140,21 @@ fn push_all(
     ensures count { length hypotheses.new.items ≡ length hypotheses.old.items }
     ensures patterned { (t : Tables)
         → AreMandatoryOf t log.now flat.now places.now hypotheses.old.items
+        → AreNoted noted.now.places.items (variables_of hypotheses.old.items)
         → IfOk result (ArePatterned (statements_of t) (map (λ n. n.0) numbers.now)
         hypotheses.old.items hypotheses.new.items pieces.new.items) }
 {
-    push_patterns(pieces, hypotheses, places, log, flat)?;
-    push_pattern(pieces, hypotheses, numbers)
+    push_patterns(pieces, hypotheses, noted, places, log, flat)?;
+    push_pattern(pieces, hypotheses, noted, numbers)
 }
 
 /// Adds the patterns of an assertion, whose symbols have these numbers, and of its `$e`, which are
-/// among the hypotheses that stand at some places. Notes in each `$e` where its pattern stands, and
-/// says where the assertion's stands.
+/// among the hypotheses that stand at some places, and of which the places of the variables' `$f`
+/// are noted. Notes in each `$e` where its pattern stands, and says where the assertion's stands.
 pub(crate) fn add_patterns(
     pieces: &mut Vec<ShortPiece>,
     hypotheses: &mut Vec<Hypothesis>,
+    noted: &NotedPlaces,
     places: &[usize],
     log: &[Entry],
     flat: &[Sym],
@@ -174,12 +164,13 @@ pub(crate) fn add_patterns(
     ensures count { length hypotheses.new.items ≡ length hypotheses.old.items }
     ensures patterned { (t : Tables)
         → AreMandatoryOf t log.now flat.now places.now hypotheses.old.items
+        → AreNoted noted.now.places.items (variables_of hypotheses.old.items)
         → IfOk result (ArePatterned (statements_of t) (map (λ n. n.0) numbers.now)
         hypotheses.old.items hypotheses.new.items pieces.new.items) }
     ensures err { OnErr result (pieces.new.items ≡ pieces.old.items) }
 {
     let start = pieces.len();
-    let conclusion = push_all(pieces, hypotheses, places, log, flat, numbers);
+    let conclusion = push_all(pieces, hypotheses, noted, places, log, flat, numbers);
     if conclusion.is_err() {
         pieces.truncate(start);
     }

@@ -1,6 +1,6 @@
 //! What a book's lists hold under a label, or under its number.
 
-ghost use Rattle.std.specs.Prelude.{◌≡◌, ◌↔◌, ℕ, ◌≤◌, List, IsTrue, Some, length, map, take};
+ghost use Rattle.std.specs.Prelude.{◌≡◌, ◌↔◌, ℕ, ◌<◌, ◌≤◌, List, IsTrue, Some, length, map, take};
 ghost use Rattle.mm_text.specs.declared.statement.Kind.{Kind};
 ghost use Rattle.mm_frame.specs.Sentence.{Sentence, IsLabelled, IsAssertion};
 ghost use Rattle.mm_frame.specs.Active.{IsActive};
@@ -9,7 +9,7 @@ ghost use Rattle.mm_frame.specs.Numbers.{AreNumbers, IsNumbered};
 ghost use Rattle.mm_frame.specs.Found.{Finds};
 ghost use Rattle.mm_frame.specs.Taken.{kind_behind};
 ghost use Rattle.mm_frame.specs.FramePlace.{AreHypotheses, HaveTypings, ArePairs};
-ghost use Rattle.mm_frame.specs.Pieces.{HaveMandatoryPlaces};
+ghost use Rattle.mm_frame.specs.Pieces.{variables_of, HavePatterns, HaveMandatoryPlaces};
 ghost use Rattle.mm_frame.specs.Layout.{AreTables, statements_of};
 ghost use Rattle.mm_frame.specs.Patterned.{IsSchemeOf};
 
@@ -150,6 +150,12 @@ pub(crate) fn label_hypotheses<'b>(tables: &'b Tables, id: LabelId) -> &'b [Hypo
     ensures typed { (place : ℕ) (s : Sentence)
         → IsNumbered (statements_of tables.now) id.0 place s → IsAssertion s.kind
         → HaveTypings (statements_of tables.now) result.now }
+    ensures few { (place : ℕ) (s : Sentence)
+        → IsNumbered (statements_of tables.now) id.0 place s → IsAssertion s.kind
+        → length result.now < 1073741824 }
+    ensures patterns { (place : ℕ) (s : Sentence)
+        → IsNumbered (statements_of tables.now) id.0 place s → IsAssertion s.kind → HavePatterns
+        (statements_of tables.now) (variables_of result.now) tables.now.pieces.items result.now }
 {
     match tables.label_info(id) {
         Some(info) => part_of(&tables.hypotheses, info.hypotheses),

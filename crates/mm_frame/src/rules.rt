@@ -24,7 +24,7 @@ use crate::sought::{
     is_active_number, is_constant_number, is_typed_number, is_variable_number, look_up,
 };
 use crate::tables::Tables;
-use mm_text::{Kind, Statement, Token};
+use mm_text::{Kind, Seed, Statement, Token};
 use std::alloc::{AllocError, Global};
 
 // A `$c` stands in a block.
@@ -332,7 +332,7 @@ fn has_repeats_among_few(symbols: &[Token]) -> bool
 const FEW: usize = 8;
 
 // Whether a symbol stands twice.
-fn has_repeats(alloc: Global, symbols: &[Token]) -> Result<bool, AllocError>
+fn has_repeats(alloc: Global, seed: Seed, symbols: &[Token]) -> Result<bool, AllocError>
     requires { length symbols.now < 2147483648 }
     ensures { IfOk result (λ repeats. IsTrue repeats
         ↔ ((symbol : List ℕ) × StandsTwice (map (λ token. token.text.now) symbols.now) symbol)) }
@@ -340,7 +340,7 @@ fn has_repeats(alloc: Global, symbols: &[Token]) -> Result<bool, AllocError>
     if symbols.len() <= FEW {
         return Ok(has_repeats_among_few(symbols));
     }
-    let mut seen = Names::new(alloc);
+    let mut seen = Names::new(alloc, seed);
     seen.reserve(symbols.len())?;
     for token in symbols {
         if seen.find(token.text).is_some() {
@@ -352,12 +352,12 @@ fn has_repeats(alloc: Global, symbols: &[Token]) -> Result<bool, AllocError>
 }
 
 // Whether a symbol stands twice in a statement that states each symbol once.
-fn repeats(alloc: Global, statement: &Statement) -> Result<bool, AllocError>
+fn repeats(alloc: Global, seed: Seed, statement: &Statement) -> Result<bool, AllocError>
     requires { vec_len statement.now.symbols < 2147483648 }
     ensures { IfOk result (λ repeats. IsTold repeats (sentence_in statement.now)) }
 {
     if is_list(statement.kind) {
-        has_repeats(alloc, &statement.symbols)
+        has_repeats(alloc, seed, &statement.symbols)
     } else {
         Ok(false)
     }
@@ -408,7 +408,7 @@ pub(crate) fn first_broken(
         (statements_of tables.now) (map (λ n. n.0) numbers.new.items) (sentence_in statement.now)) }
 {
     look_up(tables, statement, numbers)?;
-    let repeats = repeats(tables.alloc, statement)?;
+    let repeats = repeats(tables.alloc, tables.seed, statement)?;
     Ok(match statement.kind {
         Kind::Constants => first_among(&FOR_CONSTANTS, tables, statement, numbers, repeats),
         Kind::Variables => first_among(&FOR_VARIABLES, tables, statement, numbers, repeats),

@@ -14,7 +14,7 @@ use crate::number::{LabelId, Sym};
 use crate::pairs::{Pairs, in_order};
 use crate::piece::ShortPiece;
 use crate::scopes::Scopes;
-use mm_text::Kind;
+use mm_text::{Kind, Seed};
 use std::alloc::{AllocError, Global};
 
 /// A part of a list: the places from `start` up to and without `end`.
@@ -97,6 +97,8 @@ fn first_two(list: &[Sym]) -> Option<(Sym, Sym)>
 #[derive(Drop)]
 pub struct Tables<'a> {
     pub(crate) alloc: Global,
+    /// Where hashes begin.
+    pub(crate) seed: Seed,
     /// The declared symbols and the labels, and what is known of each.
     pub(crate) symbols: Names<'a>,
     pub(crate) infos: Vec<SymbolInfo>,
@@ -132,16 +134,17 @@ impl<'a> Tables<'a> {
     ghost use Rattle.mm_frame.specs.Layout.{IsKnown};
 
     /// No statements.
-    pub(crate) fn new(alloc: Global) -> Result<Tables<'a>, AllocError>
+    pub(crate) fn new(alloc: Global, seed: Seed) -> Result<Tables<'a>, AllocError>
         ensures { IfOk result (λ t. AreTables t
             × (database_of t ≡ record { statements = []; bytes = 0 })) }
     {
         let scopes = Scopes::new(alloc)?;
         Ok(Tables {
             alloc,
-            symbols: Names::new(alloc),
+            seed,
+            symbols: Names::new(alloc, seed),
             infos: Vec::new(alloc),
-            labels: Names::new(alloc),
+            labels: Names::new(alloc, seed),
             named: Vec::new(alloc),
             log: Vec::new(alloc),
             flat: Vec::new(alloc),
@@ -150,7 +153,7 @@ impl<'a> Tables<'a> {
             hypotheses: Vec::new(alloc),
             pairs: Vec::new(alloc),
             pieces: Vec::new(alloc),
-            distinct: Pairs::new(alloc),
+            distinct: Pairs::new(alloc, seed),
             bytes: 0,
         })
     }

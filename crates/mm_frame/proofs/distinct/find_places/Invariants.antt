@@ -1,10 +1,10 @@
 use Rattle.std.proofs.Common.{◌≡◌, ◌<◌, length, map, take}
 use Rattle.mm_frame.specs.Pieces.{variables_of, HavePlaces}
-use Rattle.mm_frame.specs.Patterned.{AreAmong}
+use Rattle.mm_frame.specs.Patterned.{AreAmong, AreNoted}
 use Rattle.mm_frame.proofs.distinct.find_places.Given as goal
 
 abbrev pub invariant-loop-pair : goal.invariant-loop-pair
 invariant-loop-pair l = record {
   variables : map (λ pair. pair.variables) l.placed.items ≡ take l.pair-index l.pairs;
-  places : length l.hypotheses < 4294967296 → AreAmong (variables_of l.hypotheses) l.pairs → HavePlaces (variables_of l.hypotheses) l.placed.items;
+  places : length l.hypotheses < 4294967296 → AreNoted l.noted.places.items (variables_of l.hypotheses) → AreAmong (variables_of l.hypotheses) l.pairs → HavePlaces (variables_of l.hypotheses) l.placed.items;
 }

@@ -6,7 +6,7 @@ use Rattle.mm_frame.specs.Layout.{IsFrameInfo, statements_of}
 use Rattle.mm_frame.specs.Gathered.{ArePlaces, AreThoseAt}
 use Rattle.mm_frame.specs.Pieces.{variables_of, HavePlaces}
 use Rattle.mm_frame.specs.FramePlace.{ArePairs}
-use Rattle.mm_frame.specs.Patterned.{AreMandatoryOf, ArePatterned, AreAmong}
+use Rattle.mm_frame.specs.Patterned.{AreMandatoryOf, ArePatterned, AreAmong, AreNoted}
 use Rattle.mm_frame.specs.Grows.{entry_of}
 use Rattle.mm_frame.specs.Naming.{label_info}
 use Rattle.mm_frame.proofs.SameTables.{on_err, same_tables}
@@ -93,41 +93,43 @@ returns-clause-ok c =
     let conclusion = c.in_ok-conclusion.conclusion in
     let old_hypotheses : c.reserve_numbered.new.list.items ≡ t.hypotheses.items = c.reserve_numbered.ensures.items ∙ same.hypotheses in
     let old_pairs : c.reserve_numbered-2.new.list.items ≡ t.pairs.items = c.reserve_numbered-2.ensures.items ∙ same.pairs in
-    let new_hypotheses : c.add_part-hypotheses.new.list.items ≡ t.hypotheses.items ++ hs = rw (c.add_part-hypotheses.ensures.items, old_hypotheses, c.deref-8.ensures.value) refl in
-    let new_pairs : c.add_part-pairs.new.list.items ≡ t.pairs.items ++ pairs = rw (c.add_part-pairs.ensures.items, old_pairs, c.deref-9.ensures.value) refl in
+    let new_hypotheses : c.add_part-hypotheses.new.list.items ≡ t.hypotheses.items ++ hs = rw (c.add_part-hypotheses.ensures.items, old_hypotheses, c.deref-9.ensures.value) refl in
+    let new_pairs : c.add_part-pairs.new.list.items ≡ t.pairs.items ++ pairs = rw (c.add_part-pairs.ensures.items, old_pairs, c.deref-10.ensures.value) refl in
     let new_pieces : c.add_patterns.new.pieces.items ≡ t.pieces.items ++ more = longer ∙ ap (λ ps. ps ++ more) same.pieces in (
       assertion_taken t c.args.kind c.name-id.result c.requires.tables c.requires.kind (c.name-id.ensures.id ∙ ap length same.labels),
       λ s kind label numbered meant formed.
           let stated : IsStated s.kind = inr (subst IsAssertion (sym kind) c.requires.kind) in
           let places = c.in_ok-find_mandatory.ensures s meant stated numbered in
           let first : ArePlaces st s c.deref.result.now = rw c.deref.ensures.value places in
-          let second : ArePlaces st s c.deref-2.result.now = rw c.deref-2.ensures.value places in
-          let third : ArePlaces st s c.deref-5.result.now = rw c.deref-5.ensures.value places in
+          let second : ArePlaces st s c.deref-3.result.now = rw c.deref-3.ensures.value places in
+          let third : ArePlaces st s c.deref-6.result.now = rw c.deref-6.ensures.value places in
           let at = c.find_mandatory.new.places.items in
           let those : AreThoseAt st at bare = subst (λ ps. AreThoseAt st ps bare) c.deref.ensures.value (c.in_ok-find_hypotheses.ensures s first) in
-          let of : AreMandatoryOf t c.deref-6.result.now c.deref-7.result.now c.deref-5.result.now bare = record {
+          let noted_bare : AreNoted c.note.new.self.places.items (variables_of bare) = subst (λ hs. AreNoted c.note.new.self.places.items (variables_of hs)) c.deref-2.ensures.value c.in_ok-note.ensures in
+          let noted : AreNoted c.note.new.self.places.items (variables_of c.deref-4.result.now) = rw c.deref-4.ensures.value noted_bare in
+          let of : AreMandatoryOf t c.deref-7.result.now c.deref-8.result.now c.deref-6.result.now bare = record {
             tables = c.requires.tables;
-            log_is = sym same.log ∙ sym c.deref-6.ensures.value;
-            flat_is = sym same.flat ∙ sym c.deref-7.ensures.value;
+            log_is = sym same.log ∙ sym c.deref-7.ensures.value;
+            flat_is = sym same.flat ∙ sym c.deref-8.ensures.value;
             assertion = s;
             are_places = third;
-            those = rw c.deref-5.ensures.value those;
+            those = rw c.deref-6.ensures.value those;
           } in
-          let patterned = c.in_ok-conclusion.ensures.patterned t of in
+          let patterned = c.in_ok-conclusion.ensures.patterned t of noted_bare in
           let patterns : ArePatterned st numbers bare hs (t.pieces.items ++ more) conclusion = subst (λ ps. ArePatterned st numbers bare hs ps conclusion) new_pieces patterned in
           let found = c.in_ok-find_pairs.ensures s [] meant stated second in
-          let variables : map (λ (pair : DistinctPair). pair.variables) pairs ≡ c.find_pairs.new.pairs.items = c.in_ok-find_places.ensures.variables ∙ c.deref-4.ensures.value in
+          let variables : map (λ (pair : DistinctPair). pair.variables) pairs ≡ c.find_pairs.new.pairs.items = c.in_ok-find_places.ensures.variables ∙ c.deref-5.ensures.value in
           let are_pairs : ArePairs (at_place (st ++ s ∷ []) (length st)) (map (λ pair. (pair.variables.0.0, pair.variables.1.0)) pairs) =
           pairs_named (at_place (st ++ s ∷ []) (length st)) c.find_pairs.new.pairs.items pairs variables found in
-          let few : length c.deref-3.result.now < 4294967296 = rw c.deref-3.ensures.value (few_hypotheses t _ _ _ bare of) in
-          let among : AreAmong (variables_of c.deref-3.result.now) c.deref-4.result.now =
-          rw (c.deref-3.ensures.value, c.deref-4.ensures.value) (pairs_among st s at bare c.find_pairs.new.pairs.items c.requires.tables.sound meant stated places those found) in
-          let placed_first : HavePlaces (variables_of bare) pairs = subst (λ ks. HavePlaces (variables_of ks) pairs) c.deref-3.ensures.value (c.in_ok-find_places.ensures.places few among) in
+          let few : length c.deref-4.result.now < 4294967296 = rw c.deref-4.ensures.value (few_hypotheses t _ _ _ bare of) in
+          let among : AreAmong (variables_of c.deref-4.result.now) c.deref-5.result.now =
+          rw (c.deref-4.ensures.value, c.deref-5.ensures.value) (pairs_among st s at bare c.find_pairs.new.pairs.items c.requires.tables.sound meant stated places those found) in
+          let placed_first : HavePlaces (variables_of bare) pairs = subst (λ ks. HavePlaces (variables_of ks) pairs) c.deref-4.ensures.value (c.in_ok-find_places.ensures.places few noted among) in
           let placed : HavePlaces (variables_of hs) pairs = subst (λ vs. HavePlaces vs pairs) (sym (variables_same bare hs patterns.same)) placed_first in
           let new = entry_of c.args.kind (Some c.name-id.result) (length t.flat.items) (length (t.flat.items ++ c.args.numbers.now)) in
           let framed_at : IsFrameInfo (st ++ s ∷ []) (t.hypotheses.items ++ hs) (t.pairs.items ++ pairs) (t.pieces.items ++ more)
           (label_info (length t.log.items) new (c.add_part-hypotheses.result, c.add_part-pairs.result, conclusion)) =
-          rw (c.add_part-hypotheses.ensures.part, c.add_part-pairs.ensures.part, old_hypotheses, old_pairs, c.deref-8.ensures.value, c.deref-9.ensures.value)
+          rw (c.add_part-hypotheses.ensures.part, c.add_part-pairs.ensures.part, old_hypotheses, old_pairs, c.deref-9.ensures.value, c.deref-10.ensures.value)
           (framed t s new at numbers bare hs pairs more conclusion c.requires.tables places those are_pairs placed numbered patterns) in
           asserted t _ c.name-id.new.self s c.args.kind c.args.label.now c.args.numbers.now (c.add_part-hypotheses.result, c.add_part-pairs.result, conclusion) c.name-id.result hs pairs more c.args.bytes
           c.requires.tables c.requires.kind

@@ -1,0 +1,141 @@
+-- Places of variables' `$f` among hypotheses, noted by the variables' numbers.
+use Rattle.std.proofs.Common.{◌≡◌, ℕ, zero, suc, ◌+◌, ◌<◌, ◌⊎◌, inl, inr, length, get_or, take, set, List, [], ◌∷◌, ◌++◌, Bool, true, false, Option, option_map, Some, None, refl, sym, ap, ◌∙◌, subst, length-append, arith}
+use Rattle.std.specs.List.{slice_get}
+use Rattle.std.specs.Option.{MatchOption, is_some}
+use Rattle.std.proofs.lemmas.Bool.{false≢true, cases_lt}
+use Rattle.std.proofs.lemmas.Bool.Decides.{Decides-eqb}
+use Rattle.std.proofs.lemmas.List.{map_more, get_or_append_left, get_or_push}
+use Rattle.std.proofs.lemmas.Option.{same_Some}
+use Rattle.mm_frame.specs.declared.number.Sym.{Sym}
+use Rattle.mm_frame.specs.declared.hypothesis.Hypothesis.{Hypothesis}
+use Rattle.mm_frame.specs.Pieces.{variables_of, is_of, IsNowhere, IsFirstAt}
+use Rattle.mm_frame.specs.Patterned.{IsLonger, AreNoted}
+use Rattle.mm_frame.proofs.Pushed.{get_kept, get_set_same}
+
+-- ---- the first place
+
+first_behind : (n place : ℕ) (v : Option ℕ) (variables : List (Option ℕ)) → is_of n v ≡ false → IsFirstAt n variables place → IsFirstAt n (v ∷ variables) (suc place)
+first_behind n place v variables none first = record {
+  within = let lt = first.within in omega arith;
+  is = first.is;
+  first = before;
+}
+  where
+    before : (k : ℕ) → k < suc place → is_of n (get_or (v ∷ variables) k None) ≡ false
+    before zero lt = none
+    before (suc k) lt = first.first k (omega arith)
+
+-- where the symbol's `$f` is, or before it, is the first place
+first_before : (n k : ℕ) (variables : List (Option ℕ)) → is_of n (get_or variables k None) ≡ true → (place : ℕ) × IsFirstAt n variables place
+first_before n k [] is = absurd (false≢true is)
+first_before n k (v ∷ variables) is = by (is_of n v) refl k is (λ j at. first_before n j variables at)
+  where
+    by : (b : Bool) → is_of n v ≡ b → (k : ℕ) → is_of n (get_or (v ∷ variables) k None) ≡ true → ((j : ℕ) → is_of n (get_or variables j None) ≡ true → (place : ℕ) × IsFirstAt n variables place)
+        → (place : ℕ) × IsFirstAt n (v ∷ variables) place
+    by true here k is rest = (0, record { within = omega arith; is = here; first = λ j lt. absurd (omega arith) })
+    by false none zero is rest = absurd (false≢true (sym none ∙ is))
+    by false none (suc k) is rest = let (place, first) = rest k is in (suc place, first_behind n place v variables none first)
+
+-- what stands at the noted place is the `$f`: so this is the first one
+pub noted_at : (places : List ℕ) (variables : List (Option ℕ)) (n place : ℕ) → slice_get places n ≡ Some place → is_of n (get_or variables place None) ≡ true → AreNoted places variables → IsFirstAt n variables place
+noted_at places variables n place there is noted =
+    let (q, first) = first_before n place variables is in
+    let same : q ≡ place = same_Some q place (sym (noted n q first) ∙ there) in
+    subst (IsFirstAt n variables) same first
+
+-- what stands there is another: so there is none
+noted_nowhere : (places : List ℕ) (variables : List (Option ℕ)) (n : ℕ) → ((place : ℕ) → slice_get places n ≡ Some place → is_of n (get_or variables place None) ≡ false) → AreNoted places variables → IsNowhere n variables
+noted_nowhere places variables n other noted k = by (is_of n (get_or variables k None)) refl
+  where
+    by : (b : Bool) → is_of n (get_or variables k None) ≡ b → is_of n (get_or variables k None) ≡ false
+    by false none = none
+    by true is =
+        let (q, first) = first_before n k variables is in
+        absurd (false≢true (sym (other q (noted n q first)) ∙ first.is))
+
+pub noted_other : (places : List ℕ) (variables : List (Option ℕ)) (n place : ℕ) → slice_get places n ≡ Some place → is_of n (get_or variables place None) ≡ false → AreNoted places variables → IsNowhere n variables
+noted_other places variables n place there none =
+    noted_nowhere places variables n (λ q at. subst (λ k. is_of n (get_or variables k None) ≡ false) (same_Some place q (sym there ∙ at)) none)
+
+-- none is noted
+pub noted_past : (places : List ℕ) (variables : List (Option ℕ)) (n : ℕ) → slice_get places n ≡ None → AreNoted places variables → IsNowhere n variables
+noted_past places variables n none = noted_nowhere places variables n (λ q at. absurd (let e : None ≡ Some q = sym none ∙ at in cc))
+
+-- ---- one variable more
+
+-- an element stays where another place was written
+get_set_other : {X : Type 0} (xs : List X) (i j : ℕ) (x : X) → ¬ (j ≡ i) → slice_get (set xs i x) j ≡ slice_get xs j
+get_set_other [] i j x apart = refl
+get_set_other (y ∷ xs) zero zero x apart = absurd (apart refl)
+get_set_other (y ∷ xs) zero (suc j) x apart = refl
+get_set_other (y ∷ xs) (suc i) zero x apart = refl
+get_set_other (y ∷ xs) (suc i) (suc j) x apart = get_set_other xs i j x (λ same. apart (ap suc same))
+
+pub noted_none : (places : List ℕ) → AreNoted places []
+noted_none places n place first = absurd (let lt = first.within in omega arith)
+
+pub noted_longer : (old new : List ℕ) (variables : List (Option ℕ)) → IsLonger old new → AreNoted old variables → AreNoted new variables
+noted_longer old new variables (more, is) noted n place first =
+    subst (λ ps. slice_get ps n ≡ Some place) (sym is) (get_kept old more n place (noted n place first))
+
+-- the first place is among those before, or is that of the one more
+first_pushed : (n place : ℕ) (variables : List (Option ℕ)) (v : Option ℕ) → IsFirstAt n (variables ++ v ∷ []) place → IsFirstAt n variables place ⊎ ((place ≡ length variables) × (is_of n v ≡ true))
+first_pushed n place variables v first = elim (cases_lt place (length variables)) [
+  | inl before ↦
+      let kept : (k : ℕ) → k < length variables → get_or (variables ++ v ∷ []) k None ≡ get_or variables k None = λ k lt. get_or_append_left variables (v ∷ []) None k lt in
+      inl (record {
+        within = before;
+        is = ap (is_of n) (sym (kept place before)) ∙ first.is;
+        first = λ k lt. ap (is_of n) (sym (kept k (omega arith))) ∙ first.first k lt;
+      })
+  | inr from ↦
+      let within = first.within in
+      let last : place ≡ length variables = omega (arith, length-append variables (v ∷ [])) in
+      inr (last, ap (is_of n) (sym (get_or_push variables v None place (sym last))) ∙ first.is)
+]
+
+pub noted_untyped : (places : List ℕ) (variables : List (Option ℕ)) → AreNoted places variables → AreNoted places (variables ++ None ∷ [])
+noted_untyped places variables noted n place first = elim (first_pushed n place variables None first) [
+  | inl before ↦ noted n place before
+  | inr (last, is) ↦ absurd (false≢true is)
+]
+
+-- it is one of those before already
+noted_again : (places : List ℕ) (variables : List (Option ℕ)) (m q : ℕ) → IsFirstAt m variables q → AreNoted places variables → AreNoted places (variables ++ Some m ∷ [])
+noted_again places variables m q known noted n place first = elim (first_pushed n place variables (Some m) first) [
+  | inl before ↦ noted n place before
+  | inr (last, is) ↦
+      let same : m ≡ n = (Decides-eqb m n).0 is in
+      let none = first.first q (let lt = known.within in omega arith) in
+      absurd (false≢true (sym none ∙ ap (is_of n) (get_or_append_left variables (Some m ∷ []) None q known.within) ∙ ap (λ (k : ℕ). is_of k (get_or variables q None)) (sym same) ∙ known.is))
+]
+
+-- it is a new one, and is noted
+noted_new : (places : List ℕ) (variables : List (Option ℕ)) (m : ℕ) → m < length places → IsNowhere m variables → AreNoted places variables → AreNoted (set places m (length variables)) (variables ++ Some m ∷ [])
+noted_new places variables m lt nowhere noted n place first = elim (first_pushed n place variables (Some m) first) [
+  | inl before ↦
+      let apart : ¬ (n ≡ m) = λ same. false≢true (sym (nowhere place) ∙ ap (λ (k : ℕ). is_of k (get_or variables place None)) (sym same) ∙ before.is) in
+      get_set_other places m n (length variables) apart ∙ noted n place before
+  | inr (last, is) ↦
+      let same : m ≡ n = (Decides-eqb m n).0 is in
+      subst (λ k. slice_get (set places m (length variables)) k ≡ Some place) same (get_set_same places m (length variables) lt ∙ ap Some (sym last))
+]
+
+-- by what is told of the symbol among those before
+pub noted_by_none : (places : List ℕ) (variables : List (Option ℕ)) (m : ℕ) (told : Option ℕ) → is_some told ≡ false → MatchOption told (IsNowhere m variables) (IsFirstAt m variables) → m < length places → AreNoted places variables
+    → AreNoted (set places m (length variables)) (variables ++ Some m ∷ [])
+noted_by_none places variables m None is nowhere lt noted = noted_new places variables m lt nowhere noted
+noted_by_none places variables m (Some q) is known lt noted = absurd (cc)
+
+pub noted_by_some : (places : List ℕ) (variables : List (Option ℕ)) (m : ℕ) (told : Option ℕ) → is_some told ≡ true → MatchOption told (IsNowhere m variables) (IsFirstAt m variables) → AreNoted places variables
+    → AreNoted places (variables ++ Some m ∷ [])
+noted_by_some places variables m None is nowhere noted = absurd (cc)
+noted_by_some places variables m (Some q) is known noted = noted_again places variables m q known noted
+
+-- the variables of one hypothesis more
+pub noted_more : (places : List ℕ) (hs : List Hypothesis) (i : ℕ) (d : Hypothesis) (typing : Option (Sym × Sym)) → i < length hs → (get_or hs i d).typing ≡ typing
+    → AreNoted places (variables_of (take i hs) ++ option_map (λ typing. typing.1.0) typing ∷ []) → AreNoted places (variables_of (take (i + 1) hs))
+noted_more places hs i d typing lt is noted =
+    let variable : Option (Sym × Sym) → Option ℕ = option_map (λ typing. typing.1.0) in
+    let pushed : variables_of (take (i + 1) hs) ≡ variables_of (take i hs) ++ variable (get_or hs i d).typing ∷ [] = map_more (λ (h : Hypothesis). variable h.typing) hs i d lt in
+    subst (AreNoted places) (sym (pushed ∙ ap (λ t. variables_of (take i hs) ++ variable t ∷ []) is)) noted
