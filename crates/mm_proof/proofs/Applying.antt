@@ -23,7 +23,7 @@ use Rattle.mm_proof.specs.declared.fault.ProofRule.TheVariants.{P8, P9, P10, P11
 use Rattle.mm_proof.specs.Substitution.{instance_of}
 use Rattle.mm_proof.specs.Tree.{Names, ShareNoVariable, AreDistinct}
 use Rattle.mm_proof.specs.Moves.{name}
-use Rattle.mm_proof.specs.Proof.{MeetsHypotheses, SomePair, Passed, IsWithin, expression_limit}
+use Rattle.mm_proof.specs.Proof.{MeetsHypotheses, SomePair, Passed, IsWithin}
 use Rattle.mm_proof.specs.Steps.{IsNumberedMove}
 use Rattle.mm_proof.specs.CodeVerify.{name_at, names_at, all_names_at, value_of, replaced_in, all_said_by, pairs_in, IsSymbol, AreDeclaredSymbols, AreStackEntries, AreBelow, IsRightCode, IsWrongCode, IsEqual, IsUnequal, EachEntry, EachPairValues, SomePairValues, Replaces, AreVariablesOf}
 use Rattle.mm_proof.specs.CodeSteps.{MayBeUsed, label_ids}
@@ -51,7 +51,7 @@ label_of st id at s label n move =
     let label_is : move.1 ≡ label = (let e : name label ≡ name move.1 = move.4 in cc) in
     subst (λ (t : Sentence). IsLabelled label t) same (subst (λ (l : List ℕ). IsLabelled l move.0) label_is move.3)
 
-names_of : (st : List Sentence) (place id at : ℕ) (ids : List ℕ) (hs : List Sentence) (label : List ℕ) → (c : IsAppliedAssertion st place id at ids hs)
+pub names_of : (st : List Sentence) (place id at : ℕ) (ids : List ℕ) (hs : List Sentence) (label : List ℕ) → (c : IsAppliedAssertion st place id at ids hs)
     → IsNumberedMove st (name id) (name label) → Names (take place st) label at c.s hs
 names_of st place id at ids hs label c move =
     record {
@@ -86,22 +86,22 @@ value_at st σ vs es x n e r number value =
 
 -- ---- the rules
 
-pub stops_P8 : (st : List Sentence) (place id at : ℕ) (ids : List ℕ) (hs : List Sentence) (stack : List (List ℕ)) → IsAppliedAssertion st place id at ids hs → length stack < length hs
-    → StopsAt st place id stack P8
-stops_P8 st place id at ids hs stack c short label kept move =
-    first_P8 (IsWithin expression_limit) (take place st) (all_names_at st stack) kept label at c.s hs (names_of st place id at ids hs label c move)
+pub stops_P8 : (limit : ℕ) (st : List Sentence) (place id at : ℕ) (ids : List ℕ) (hs : List Sentence) (stack : List (List ℕ)) → IsAppliedAssertion st place id at ids hs → length stack < length hs
+    → StopsAt limit st place id stack P8
+stops_P8 limit st place id at ids hs stack c short label kept move =
+    first_P8 (IsWithin limit) (take place st) (all_names_at st stack) kept label at c.s hs (names_of st place id at ids hs label c move)
     (omega (arith, short, named_count st stack))
 
-pub stops_P9 : (st : List Sentence) (place id at : ℕ) (ids : List ℕ) (hs : List Sentence) (stack : List (List ℕ)) (base : ℕ) → AllMeant st → IsAppliedAssertion st place id at ids hs
-    → length (drop base stack) ≡ length hs → SomePair hs (all_names_at st (drop base stack)) IsWrongCode → StopsAt st place id stack P9
-stops_P9 st place id at ids hs stack base all c paired pair label kept move =
-    first_P9 (IsWithin expression_limit) (take place st) (all_names_at st stack) kept label (met st place id at ids hs label stack base all c move paired) (meant_front st place all) pair
+pub stops_P9 : (limit : ℕ) (st : List Sentence) (place id at : ℕ) (ids : List ℕ) (hs : List Sentence) (stack : List (List ℕ)) (base : ℕ) → AllMeant st → IsAppliedAssertion st place id at ids hs
+    → length (drop base stack) ≡ length hs → SomePair hs (all_names_at st (drop base stack)) IsWrongCode → StopsAt limit st place id stack P9
+stops_P9 limit st place id at ids hs stack base all c paired pair label kept move =
+    first_P9 (IsWithin limit) (take place st) (all_names_at st stack) kept label (met st place id at ids hs label stack base all c move paired) (meant_front st place all) pair
 
-pub stops_P10 : (st : List Sentence) (place id at : ℕ) (ids : List ℕ) (hs : List Sentence) (stack : List (List ℕ)) (base : ℕ) → AllMeant st → IsAppliedAssertion st place id at ids hs
+pub stops_P10 : (limit : ℕ) (st : List Sentence) (place id at : ℕ) (ids : List ℕ) (hs : List Sentence) (stack : List (List ℕ)) (base : ℕ) → AllMeant st → IsAppliedAssertion st place id at ids hs
     → length (drop base stack) ≡ length hs → EachEntry hs (all_names_at st (drop base stack)) IsRightCode
-    → SomePair hs (all_names_at st (drop base stack)) (IsUnequal (replaced_by hs (all_names_at st (drop base stack)))) → StopsAt st place id stack P10
-stops_P10 st place id at ids hs stack base all c paired codes pair label kept move =
-    first_P10 (IsWithin expression_limit) (take place st) (all_names_at st stack) kept label (met st place id at ids hs label stack base all c move paired) (meant_front st place all) codes pair
+    → SomePair hs (all_names_at st (drop base stack)) (IsUnequal (replaced_by hs (all_names_at st (drop base stack)))) → StopsAt limit st place id stack P10
+stops_P10 limit st place id at ids hs stack base all c paired codes pair label kept move =
+    first_P10 (IsWithin limit) (take place st) (all_names_at st stack) kept label (met st place id at ids hs label stack base all c move paired) (meant_front st place all) codes pair
 
 -- the pair of names behind a pair of numbers, with what replaces it
 pair_found : (st : List Sentence) (place id at : ℕ) (ids : List ℕ) (hs : List Sentence) (pairs : List (ℕ × ℕ)) → (c : IsAppliedAssertion st place id at ids hs)
@@ -144,28 +144,28 @@ each_pair one st place id at ids hs label stack base vs pairs P turned all c mov
     (λ h. turned (names_at st b.0) (names_at st a.0) (each h.0 (m.0.1, m.0.0) (slice_get-get_or pairs h.0 (m.0.1, m.0.0) h.1 ∙ ap Some h.2) b.0 a.0 b.1 a.1)) m.3 in
     subst (λ l. P l f) a.2 (subst (λ l. P (names_at st a.0) l) b.2 so)
 
-pub stops_P11 : OneNumber → (st : List Sentence) (place id at : ℕ) (ids : List ℕ) (hs : List Sentence) (stack : List (List ℕ)) (base : ℕ) (vs : List (Option ℕ)) (pairs : List (ℕ × ℕ)) → AllMeant st
+pub stops_P11 : (limit : ℕ) → OneNumber → (st : List Sentence) (place id at : ℕ) (ids : List ℕ) (hs : List Sentence) (stack : List (List ℕ)) (base : ℕ) (vs : List (Option ℕ)) (pairs : List (ℕ × ℕ)) → AllMeant st
     → IsAppliedAssertion st place id at ids hs → length (drop base stack) ≡ length hs → AreVariablesOf st vs hs → ArePairs (record { statements = st; place = at }) pairs
     → EachEntry hs (all_names_at st (drop base stack)) IsRightCode → EachEntry hs (all_names_at st (drop base stack)) (IsEqual (replaced_by hs (all_names_at st (drop base stack))))
-    → SomePairValues (value_of vs (drop base stack)) pairs (λ e f. ¬ (ShareNoVariable (take place st) (names_at st e) (names_at st f))) → StopsAt st place id stack P11
-stops_P11 one st place id at ids hs stack base vs pairs all c paired typed mand codes equal found label kept move =
+    → SomePairValues (value_of vs (drop base stack)) pairs (λ e f. ¬ (ShareNoVariable (take place st) (names_at st e) (names_at st f))) → StopsAt limit st place id stack P11
+stops_P11 limit one st place id at ids hs stack base vs pairs all c paired typed mand codes equal found label kept move =
     let r = replaces_by one st vs hs (drop base stack) typed in
     let σ = replaced_by hs (all_names_at st (drop base stack)) in
     let p = pair_found st place id at ids hs pairs c mand found.0 found.1 found.2 in
-    first_P11 (IsWithin expression_limit) (take place st) (all_names_at st stack) kept label (met st place id at ids hs label stack base all c move paired) (meant_front st place all) codes equal
+    first_P11 (IsWithin limit) (take place st) (all_names_at st stack) kept label (met st place id at ids hs label stack base all c move paired) (meant_front st place all) codes equal
     p.0 p.1 (names_at st found.3.0) (names_at st found.3.1) p.4
     (value_at st σ vs (drop base stack) p.0 found.1.0 found.3.0 r p.2 found.3.2) (value_at st σ vs (drop base stack) p.1 found.1.1 found.3.1 r p.3 found.3.3) found.3.4
 
-pub stops_P12 : OneNumber → (st : List Sentence) (place id at : ℕ) (ids : List ℕ) (hs : List Sentence) (stack : List (List ℕ)) (base : ℕ) (vs : List (Option ℕ)) (pairs : List (ℕ × ℕ)) → AllMeant st
+pub stops_P12 : (limit : ℕ) → OneNumber → (st : List Sentence) (place id at : ℕ) (ids : List ℕ) (hs : List Sentence) (stack : List (List ℕ)) (base : ℕ) (vs : List (Option ℕ)) (pairs : List (ℕ × ℕ)) → AllMeant st
     → IsAppliedAssertion st place id at ids hs → length (drop base stack) ≡ length hs → AreVariablesOf st vs hs → ArePairs (record { statements = st; place = at }) pairs
     → EachEntry hs (all_names_at st (drop base stack)) IsRightCode → EachEntry hs (all_names_at st (drop base stack)) (IsEqual (replaced_by hs (all_names_at st (drop base stack))))
     → EachPairValues (value_of vs (drop base stack)) pairs (λ e f. ShareNoVariable (take place st) (names_at st e) (names_at st f))
-    → SomePairValues (value_of vs (drop base stack)) pairs (λ e f. ¬ (AreDistinct (take place st) (names_at st e) (names_at st f))) → StopsAt st place id stack P12
-stops_P12 one st place id at ids hs stack base vs pairs all c paired typed mand codes equal share found label kept move =
+    → SomePairValues (value_of vs (drop base stack)) pairs (λ e f. ¬ (AreDistinct (take place st) (names_at st e) (names_at st f))) → StopsAt limit st place id stack P12
+stops_P12 limit one st place id at ids hs stack base vs pairs all c paired typed mand codes equal share found label kept move =
     let r = replaces_by one st vs hs (drop base stack) typed in
     let σ = replaced_by hs (all_names_at st (drop base stack)) in
     let p = pair_found st place id at ids hs pairs c mand found.0 found.1 found.2 in
-    first_P12 (IsWithin expression_limit) (take place st) (all_names_at st stack) kept label (met st place id at ids hs label stack base all c move paired) (meant_front st place all) codes equal
+    first_P12 (IsWithin limit) (take place st) (all_names_at st stack) kept label (met st place id at ids hs label stack base all c move paired) (meant_front st place all) codes equal
     (each_pair one st place id at ids hs label stack base vs pairs (ShareNoVariable (take place st)) (share_turned (take place st)) all c move paired typed mand share)
     p.0 p.1 (names_at st found.3.0) (names_at st found.3.1) p.4
     (value_at st σ vs (drop base stack) p.0 found.1.0 found.3.0 r p.2 found.3.2) (value_at st σ vs (drop base stack) p.1 found.1.1 found.3.1 r p.3 found.3.3) found.3.4
@@ -201,32 +201,32 @@ made_is : (st : List Sentence) (place id at : ℕ) (vs : List (Option ℕ)) (es 
     → all_said_by es conclusion ≡ replaced_in (value_of vs es) ready.concluded.0
 made_is st place id at vs es conclusion size ready = pattern_says vs es ready.concluded.0 conclusion (sym size) ready.concluded.2
 
-pub stops_L1 : OneNumber → (st : List Sentence) (place id at : ℕ) (stack : List (List ℕ)) (base : ℕ) (vs : List (Option ℕ)) (conclusion : List Piece) → AllMeant st
+pub stops_L1 : (limit : ℕ) → OneNumber → (st : List Sentence) (place id at : ℕ) (stack : List (List ℕ)) (base : ℕ) (vs : List (Option ℕ)) (conclusion : List Piece) → AllMeant st
     → IsReady st place id at vs (drop base stack) conclusion → length (drop base stack) ≡ length vs
-    → expression_limit < length (all_said_by (drop base stack) conclusion) → StopsAt st place id stack L1
-stops_L1 one st place id at stack base vs conclusion all ready as_many over label kept move =
+    → limit < length (all_said_by (drop base stack) conclusion) → StopsAt limit st place id stack L1
+stops_L1 limit one st place id at stack base vs conclusion all ready as_many over label kept move =
     let pattern = ready.concluded.0 in
     let made = made_named one st ready.hs vs (drop base stack) pattern ready.called.s.symbols ready.typed ready.concluded.1 in
     let size : length (names_at st (replaced_in (value_of vs (drop base stack)) pattern)) ≡ length (replaced_in (value_of vs (drop base stack)) pattern) = length-map _ (name_at st) in
     let said = ap length (made_is st place id at vs (drop base stack) conclusion as_many ready) in
-    first_L1 (IsWithin expression_limit) (take place st) (all_names_at st stack) kept label (all_names_at st (take base stack)) _ (meant_front st place all)
-    (λ within. let w = subst (IsWithin expression_limit) (sym made) within in omega (arith, w, size, over, said)) (step_to one st place id at label stack base vs conclusion all ready as_many move)
+    first_L1 (IsWithin limit) (take place st) (all_names_at st stack) kept label (all_names_at st (take base stack)) _ (meant_front st place all)
+    (λ within. let w = subst (IsWithin limit) (sym made) within in omega (arith, w, size, over, said)) (step_to one st place id at label stack base vs conclusion all ready as_many move)
 
 pushed_named : (st : List Sentence) (rest : List (List ℕ)) (made : List ℕ) → all_names_at st (rest ++ made ∷ []) ≡ all_names_at st rest ++ names_at st made ∷ []
 pushed_named st rest made = map-append (λ (e : List ℕ). map (name_at st) e) rest (made ∷ [])
 
-pub carries : OneNumber → (st : List Sentence) (place id at : ℕ) (stack : List (List ℕ)) (base : ℕ) (vs : List (Option ℕ)) (conclusion : List Piece) (made : List ℕ) → AllMeant st
+pub carries : (limit : ℕ) → OneNumber → (st : List Sentence) (place id at : ℕ) (stack : List (List ℕ)) (base : ℕ) (vs : List (Option ℕ)) (conclusion : List Piece) (made : List ℕ) → AllMeant st
     → IsReady st place id at vs (drop base stack) conclusion → length (drop base stack) ≡ length vs
-    → made ≡ all_said_by (drop base stack) conclusion → length made ≤ expression_limit → CarriesOn st place id stack (take base stack ++ made ∷ [])
-carries one st place id at stack base vs conclusion made all ready as_many is within label moves kept move passed =
+    → made ≡ all_said_by (drop base stack) conclusion → length made ≤ limit → CarriesOn limit st place id stack (take base stack ++ made ∷ [])
+carries limit one st place id at stack base vs conclusion made all ready as_many is within label moves kept move passed =
     let e = instance_of (replaced_by ready.hs (all_names_at st (drop base stack))) ready.called.s.symbols in
     let whole : names_at st made ≡ e = ap (names_at st) (is ∙ made_is st place id at vs (drop base stack) conclusion as_many ready)
     ∙ made_named one st ready.hs vs (drop base stack) ready.concluded.0 ready.called.s.symbols ready.typed ready.concluded.1 in
     let size : length (names_at st made) ≡ length made = length-map made (name_at st) in
-    let fits : IsWithin expression_limit (names_at st made) = omega (arith, within, size) in
-    let next = passed_name (IsWithin expression_limit) (take place st) moves (all_names_at st stack) kept label (all_names_at st (take base stack)) e (meant_front st place all) passed
-    (step_to one st place id at label stack base vs conclusion all ready as_many move) (subst (IsWithin expression_limit) whole fits) in
-    subst (λ l. Passed (IsWithin expression_limit) (take place st) (moves ++ name label ∷ []) l kept) (sym (pushed_named st (take base stack) made ∙ ap (λ x. all_names_at st (take base stack) ++ x ∷ []) whole)) next
+    let fits : IsWithin limit (names_at st made) = omega (arith, within, size) in
+    let next = passed_name (IsWithin limit) (take place st) moves (all_names_at st stack) kept label (all_names_at st (take base stack)) e (meant_front st place all) passed
+    (step_to one st place id at label stack base vs conclusion all ready as_many move) (subst (IsWithin limit) whole fits) in
+    subst (λ l. Passed (IsWithin limit) (take place st) (moves ++ name label ∷ []) l kept) (sym (pushed_named st (take base stack) made ∙ ap (λ x. all_names_at st (take base stack) ++ x ∷ []) whole)) next
 
 -- ---- the symbols of what is made
 
@@ -358,23 +358,23 @@ hypothesis_step st place id used label stack u kind move =
     step_of_hypothesis (take place st) (all_names_at st stack) label u.at u.s (get_take st place u.at u.before ∙ u.numbered.there) (is_active_hypothesis st place used id u kind)
     (label_of st id u.at u.s label u.numbered move) kind
 
-pub stops_long : (st : List Sentence) (place id : ℕ) (used : List ℕ) (stack : List (List ℕ)) (expression : List ℕ) → AllMeant st → (u : MayBeUsed st place used id) → IsHypothesis u.s.kind
-    → AreNumbers st expression u.s.symbols → expression_limit < length expression → StopsAt st place id stack L1
-stops_long st place id used stack expression all u kind numbers over label kept move =
+pub stops_long : (limit : ℕ) (st : List Sentence) (place id : ℕ) (used : List ℕ) (stack : List (List ℕ)) (expression : List ℕ) → AllMeant st → (u : MayBeUsed st place used id) → IsHypothesis u.s.kind
+    → AreNumbers st expression u.s.symbols → limit < length expression → StopsAt limit st place id stack L1
+stops_long limit st place id used stack expression all u kind numbers over label kept move =
     let is = named_is st expression u.s.symbols numbers in
     let size : length (names_at st expression) ≡ length expression = length-map expression (name_at st) in
-    first_L1 (IsWithin expression_limit) (take place st) (all_names_at st stack) kept label (all_names_at st stack) u.s.symbols (meant_front st place all)
-    (λ within. let w = subst (IsWithin expression_limit) (sym is) within in omega (arith, w, size, over)) (hypothesis_step st place id used label stack u kind move)
+    first_L1 (IsWithin limit) (take place st) (all_names_at st stack) kept label (all_names_at st stack) u.s.symbols (meant_front st place all)
+    (λ within. let w = subst (IsWithin limit) (sym is) within in omega (arith, w, size, over)) (hypothesis_step st place id used label stack u kind move)
 
-pub pushes : (st : List Sentence) (place id : ℕ) (used : List ℕ) (stack : List (List ℕ)) (expression : List ℕ) → AllMeant st → (u : MayBeUsed st place used id) → IsHypothesis u.s.kind
-    → AreNumbers st expression u.s.symbols → length expression ≤ expression_limit → CarriesOn st place id stack (stack ++ expression ∷ [])
-pushes st place id used stack expression all u kind numbers within label moves kept move passed =
+pub pushes : (limit : ℕ) (st : List Sentence) (place id : ℕ) (used : List ℕ) (stack : List (List ℕ)) (expression : List ℕ) → AllMeant st → (u : MayBeUsed st place used id) → IsHypothesis u.s.kind
+    → AreNumbers st expression u.s.symbols → length expression ≤ limit → CarriesOn limit st place id stack (stack ++ expression ∷ [])
+pushes limit st place id used stack expression all u kind numbers within label moves kept move passed =
     let is = named_is st expression u.s.symbols numbers in
     let size : length (names_at st expression) ≡ length expression = length-map expression (name_at st) in
-    let fits : IsWithin expression_limit (names_at st expression) = omega (arith, within, size) in
-    let next = passed_name (IsWithin expression_limit) (take place st) moves (all_names_at st stack) kept label (all_names_at st stack) u.s.symbols (meant_front st place all) passed
-    (hypothesis_step st place id used label stack u kind move) (subst (IsWithin expression_limit) is fits) in
-    subst (λ l. Passed (IsWithin expression_limit) (take place st) (moves ++ name label ∷ []) l kept) (sym (pushed_named st stack expression ∙ ap (λ x. all_names_at st stack ++ x ∷ []) is)) next
+    let fits : IsWithin limit (names_at st expression) = omega (arith, within, size) in
+    let next = passed_name (IsWithin limit) (take place st) moves (all_names_at st stack) kept label (all_names_at st stack) u.s.symbols (meant_front st place all) passed
+    (hypothesis_step st place id used label stack u kind move) (subst (IsWithin limit) is fits) in
+    subst (λ l. Passed (IsWithin limit) (take place st) (moves ++ name label ∷ []) l kept) (sym (pushed_named st stack expression ∙ ap (λ x. all_names_at st stack ++ x ∷ []) is)) next
 
 hypothesis_use : (k : Kind) → IsHypothesis k → IsUse k
 hypothesis_use k (inl f) = inr (inl f)

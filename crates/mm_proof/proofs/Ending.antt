@@ -15,7 +15,9 @@ use Rattle.mm_proof.specs.declared.fault.ProofFault.TheVariants.{Rule, Memory}
 use Rattle.mm_proof.specs.Answer.{OnRule}
 use Rattle.mm_proof.specs.Tree.{tree, none}
 use Rattle.mm_proof.specs.Moves.{Move, name, again, mark}
-use Rattle.mm_proof.specs.Proof.{IsWithin, expression_limit, Passed, Prove, BreaksEnd, IsMoveFault, IsMovesFault}
+use Rattle.mm_proof.specs.Proof.{IsWithin, Passed, Prove, BreaksEnd, IsMoveFault, IsMovesFault}
+use Rattle.mm_proof.specs.Profiles.{limit_of}
+use Rattle.mm_proof.specs.ReadSteps.{ReadSteps}
 use Rattle.mm_proof.specs.Steps.{IsNumberedMove, AreNumberedMoves, IsUsable, IsUsableMove, AreSteps}
 use Rattle.mm_proof.specs.CodeSteps.{MayBeUsed, moves_in}
 use Rattle.mm_proof.specs.declared.moves.NumberedMove.{NumberedMove}
@@ -34,7 +36,7 @@ use Rattle.mm_proof.proofs.Derived.{zip_once, all_mapped}
 
 -- ---- the statement with a number, and its moves
 
-one_place : (st : List Sentence) (id p q : ℕ) (s t : Sentence) → IsNumbered st id p s → IsNumbered st id q t → p ≡ q
+pub one_place : (st : List Sentence) (id p q : ℕ) (s t : Sentence) → IsNumbered st id p s → IsNumbered st id q t → p ≡ q
 one_place st id p q s t n m =
     let a = numbers_order_back st id id p q s t n m (omega arith) in
     let b = numbers_order_back st id id q p t s m n (omega arith) in
@@ -111,43 +113,43 @@ its_symbols st own place s numbers here there i =
     (named_is st numbers i.assertion.symbols i.numbered ∙ ap (λ (x : Sentence). x.symbols) same, below_is st numbers i.assertion.symbols i.numbered)
 
 -- the moves have run, and left the statement's expression
-pub proved_end : (st : List Sentence) (id own : ℕ) (t : Sentence) (xs : List (Move ℕ)) (stack kept : List (List ℕ)) (count : ℕ) (numbers : List ℕ)
-    → IsNumbered st id own t → AreItsSymbols (record { statements = st; place = own }) numbers → HasRun st own xs stack kept count → stack ≡ numbers ∷ []
-    → OfMoves st id xs (λ place s names. Prove (IsWithin expression_limit) (take place st) s names)
-proved_end st id own t xs stack kept count numbers n symbols run is place s names proof numbered =
+pub proved_end : (limit : ℕ) (st : List Sentence) (id own : ℕ) (t : Sentence) (xs : List (Move ℕ)) (stack kept : List (List ℕ)) (count : ℕ) (numbers : List ℕ)
+    → IsNumbered st id own t → AreItsSymbols (record { statements = st; place = own }) numbers → HasRun limit st own xs stack kept count → stack ≡ numbers ∷ []
+    → OfMoves st id xs (λ place s names. Prove (IsWithin limit) (take place st) s names)
+proved_end limit st id own t xs stack kept count numbers n symbols run is place s names proof numbered =
     let here : own ≡ place = one_place st id own place t s n proof.numbered in
-    let moved = subst (λ p. HasRun st p xs stack kept count) here run in
+    let moved = subst (λ p. HasRun limit st p xs stack kept count) here run in
     let expression = (its_symbols st own place s numbers here proof.numbered.there symbols).0 in
-    let passed = subst (λ l. Passed (IsWithin expression_limit) (take place st) names l (all_names_at st kept))
+    let passed = subst (λ l. Passed (IsWithin limit) (take place st) names l (all_names_at st kept))
     (ap (all_names_at st) is ∙ ap (λ e. e ∷ []) expression) (moved.passed names numbered) in
-    prove_at_end (IsWithin expression_limit) (take place st) s names (all_names_at st kept) passed
+    prove_at_end (IsWithin limit) (take place st) s names (all_names_at st kept) passed
 
 -- what is proved, with the assertions that the moves name
-pub proved_with : (st : List Sentence) (id : ℕ) (xs : List (Move ℕ)) (used : List ℕ) → AllMeant st → AreSteps st id xs → AreNamedNumbers st xs used
-    → OfMoves st id xs (λ place s names. Prove (IsWithin expression_limit) (take place st) s names)
-    → OfMoves st id xs (λ place s names. ProvesUsingNumbers st place s names used)
-proved_with st id xs used all a named_so proved place s names proof numbered =
+pub proved_with : (limit : ℕ) (st : List Sentence) (id : ℕ) (xs : List (Move ℕ)) (used : List ℕ) → AllMeant st → AreSteps st id xs → AreNamedNumbers st xs used
+    → OfMoves st id xs (λ place s names. Prove (IsWithin limit) (take place st) s names)
+    → OfMoves st id xs (λ place s names. ProvesUsingNumbers limit st place s names used)
+proved_with limit st id xs used all a named_so proved place s names proof numbered =
     let p = proved place s names proof numbered in
     let uses = used_numbers st place xs names (tree p.label p.below none) p.kept all numbered (usable_names st id xs place s names a proof.numbered numbered) p.made in
     (p, λ k. ((λ h. (uses k).1 ((named_so k).0 h)), λ h. (named_so k).1 ((uses k).0 h)))
 
 -- each once, in order
-pub proved_in_order : (st : List Sentence) (id : ℕ) (xs : List (Move ℕ)) (used : List ℕ) → AllMeant st → AreSteps st id xs → AreNamed st xs used
-    → OfMoves st id xs (λ place s names. Prove (IsWithin expression_limit) (take place st) s names)
-    → OfMoves st id xs (λ place s names. ProvesUsing st place s names used)
-proved_in_order st id xs used all a named_so proved place s names proof numbered =
-    let p = proved_with st id xs used all a named_so.each proved place s names proof numbered in
+pub proved_in_order : (limit : ℕ) (st : List Sentence) (id : ℕ) (xs : List (Move ℕ)) (used : List ℕ) → AllMeant st → AreSteps st id xs → AreNamed st xs used
+    → OfMoves st id xs (λ place s names. Prove (IsWithin limit) (take place st) s names)
+    → OfMoves st id xs (λ place s names. ProvesUsing limit st place s names used)
+proved_in_order limit st id xs used all a named_so proved place s names proof numbered =
+    let p = proved_with limit st id xs used all a named_so.each proved place s names proof numbered in
     (p.0, record { rising = named_so.rising; each = p.1 })
 
 -- they have run, and left something else
-pub wrong_end : (st : List Sentence) (id own : ℕ) (t : Sentence) (xs : List (Move ℕ)) (stack kept : List (List ℕ)) (count : ℕ) (numbers : List ℕ) (rule : ProofRule) (at : ℕ) → OneNumber
-    → IsNumbered st id own t → AreItsSymbols (record { statements = st; place = own }) numbers → HasRun st own xs stack kept count → (at ≡ count + 1) × EndsWrong rule stack numbers
-    → OfMoves st id xs (λ place s names. IsMovesFault (IsWithin expression_limit) (take place st) s names rule at)
-wrong_end st id own t xs stack kept count numbers rule at one n symbols run wrong place s names proof numbered =
+pub wrong_end : (limit : ℕ) (st : List Sentence) (id own : ℕ) (t : Sentence) (xs : List (Move ℕ)) (stack kept : List (List ℕ)) (count : ℕ) (numbers : List ℕ) (rule : ProofRule) (at : ℕ) → OneNumber
+    → IsNumbered st id own t → AreItsSymbols (record { statements = st; place = own }) numbers → HasRun limit st own xs stack kept count → (at ≡ count + 1) × EndsWrong rule stack numbers
+    → OfMoves st id xs (λ place s names. IsMovesFault (IsWithin limit) (take place st) s names rule at)
+wrong_end limit st id own t xs stack kept count numbers rule at one n symbols run wrong place s names proof numbered =
     let here : own ≡ place = one_place st id own place t s n proof.numbered in
-    let moved = subst (λ p. HasRun st p xs stack kept count) here run in
+    let moved = subst (λ p. HasRun limit st p xs stack kept count) here run in
     let expression = its_symbols st own place s numbers here proof.numbered.there symbols in
-    end_fault (IsWithin expression_limit) (take place st) s names (all_names_at st stack) (all_names_at st kept) rule at (moved.passed names numbered)
+    end_fault (IsWithin limit) (take place st) s names (all_names_at st stack) (all_names_at st kept) rule at (moved.passed names numbered)
     (broken expression.0 expression.1 moved.entries wrong.1) (wrong.0 ∙ ap (λ k. k + 1) (moved.count ∙ same_steps st xs names numbered))
   where
     broken : names_at st numbers ≡ s.symbols → AreBelow st numbers → AreStackEntries st (take place st) stack → EndsWrong rule stack numbers → BreaksEnd rule (all_names_at st stack) s.symbols
@@ -161,12 +163,12 @@ wrong_end st id own t xs stack kept count numbers rule at one n symbols run wron
         )
 
 -- a move breaks a rule
-pub wrong_move : (st : List Sentence) (id own : ℕ) (t : Sentence) (xs : List (Move ℕ)) (rule : ProofRule) (at : ℕ) → IsNumbered st id own t
-    → ((names : List (Move (List ℕ))) → AreNumberedMoves st xs names → IsMoveFault (IsWithin expression_limit) (take own st) names rule at)
-    → OfMoves st id xs (λ place s names. IsMovesFault (IsWithin expression_limit) (take place st) s names rule at)
-wrong_move st id own t xs rule at n fault place s names proof numbered =
+pub wrong_move : (limit : ℕ) (st : List Sentence) (id own : ℕ) (t : Sentence) (xs : List (Move ℕ)) (rule : ProofRule) (at : ℕ) → IsNumbered st id own t
+    → ((names : List (Move (List ℕ))) → AreNumberedMoves st xs names → IsMoveFault (IsWithin limit) (take own st) names rule at)
+    → OfMoves st id xs (λ place s names. IsMovesFault (IsWithin limit) (take place st) s names rule at)
+wrong_move limit st id own t xs rule at n fault place s names proof numbered =
     let here : own ≡ place = one_place st id own place t s n proof.numbered in
-    inl (subst (λ p. IsMoveFault (IsWithin expression_limit) (take p st) names rule at) here (fault names numbered))
+    inl (subst (λ p. IsMoveFault (IsWithin limit) (take p st) names rule at) here (fault names numbered))
 
 pub on_rule_from : (e : ProofFault) (P : ProofRule → ℕ → Type 0) → ((rule : ProofRule) (step : ℕ) → e ≡ Rule rule step → P rule step) → OnRule e P
 on_rule_from (Rule rule step) P f = f rule step refl
@@ -182,6 +184,13 @@ only_entry (y ∷ z ∷ xs) x l e = absurd (omega arith)
 pub same_fault : {X : Type 0} (a b : ProofRule) (m n : ℕ) → ◌≡◌ {A = Result X ProofFault} (Err (Rule a m)) (Err (Rule b n)) → (b ≡ a) × (n ≡ m)
 same_fault {X} a b m n e =
     let same : Rule a m ≡ Rule b n = cc in (cc, cc)
+
+-- the moves and the limit of steps are those of what is seen of them
+pub seen_moves : {a b : ReadSteps} → a ≡ b → b.moves ≡ a.moves
+seen_moves same = sym (ap (λ (v : ReadSteps). v.moves) same)
+
+pub seen_limit : {a b : ReadSteps} → a ≡ b → limit_of a.profile ≡ limit_of b.profile
+seen_limit same = ap (λ (v : ReadSteps). limit_of v.profile) same
 
 -- the moves of the list are those of the proof
 pub same_moves : (st : List Sentence) (xs : List (Move ℕ)) (given held : List NumberedMove) (names : List (Move (List ℕ))) → given ≡ held → xs ≡ moves_in held

@@ -9,7 +9,7 @@ use Rattle.mm_proof.specs.declared.fault.ProofFault.{ProofFault}
 use Rattle.mm_proof.specs.declared.fault.ProofFault.TheVariants.{Rule}
 use Rattle.mm_proof.specs.Answer.{OnRule}
 use Rattle.mm_proof.specs.Moves.{Move}
-use Rattle.mm_proof.specs.Proof.{IsWithin, expression_limit, Passed}
+use Rattle.mm_proof.specs.Proof.{IsWithin, Passed}
 use Rattle.mm_proof.specs.CodeVerify.{all_names_at}
 use Rattle.mm_proof.specs.CodeRun.{HasRun}
 use Rattle.mm_proof.specs.CodeLines.{AreLinesAt, ListsProof}
@@ -19,16 +19,16 @@ use Rattle.mm_proof.proofs.Forward.{prove_at_end}
 use Rattle.mm_proof.proofs.Ending.{its_symbols}
 
 -- the moves have run, and left the statement's expression
-pub lists_end : (st : List Sentence) (id own : ℕ) (t : Sentence) (xs : List (Move ℕ)) (stack kept : List (List ℕ)) (count : ℕ) (numbers : List ℕ) (lines : List Line)
-    → IsNumbered st id own t → AreItsSymbols (record { statements = st; place = own }) numbers → HasRun st own xs stack kept count → stack ≡ numbers ∷ []
-    → AreLinesAt st own xs lines → ListsProof st id xs lines
-lists_end st id own t xs stack kept count numbers lines n symbols run is lines_so place s names proof numbered =
+pub lists_end : (limit : ℕ) (st : List Sentence) (id own : ℕ) (t : Sentence) (xs : List (Move ℕ)) (stack kept : List (List ℕ)) (count : ℕ) (numbers : List ℕ) (lines : List Line)
+    → IsNumbered st id own t → AreItsSymbols (record { statements = st; place = own }) numbers → HasRun limit st own xs stack kept count → stack ≡ numbers ∷ []
+    → AreLinesAt st own xs lines → ListsProof limit st id xs lines
+lists_end limit st id own t xs stack kept count numbers lines n symbols run is lines_so place s names proof numbered =
     let here : own ≡ place = one_place st id own place t s n proof.numbered in
-    let moved = subst (λ p. HasRun st p xs stack kept count) here run in
+    let moved = subst (λ p. HasRun limit st p xs stack kept count) here run in
     let expression = (its_symbols st own place s numbers here proof.numbered.there symbols).0 in
-    let passed = subst (λ l. Passed (IsWithin expression_limit) (take place st) names l (all_names_at st kept))
+    let passed = subst (λ l. Passed (IsWithin limit) (take place st) names l (all_names_at st kept))
     (ap (all_names_at st) is ∙ ap (λ e. e ∷ []) expression) (moved.passed names numbered) in (
-      prove_at_end (IsWithin expression_limit) (take place st) s names (all_names_at st kept) passed,
+      prove_at_end (IsWithin limit) (take place st) s names (all_names_at st kept) passed,
       subst (λ p. AreLinesAt st p xs lines) here lines_so names numbered,
     )
 

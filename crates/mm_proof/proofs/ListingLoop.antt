@@ -12,7 +12,7 @@ use Rattle.mm_proof.specs.declared.lines.Line.{Line}
 use Rattle.mm_proof.specs.declared.lines.Name.TheVariants as names
 use Rattle.mm_proof.specs.Stores.{numbers_in}
 use Rattle.mm_proof.specs.Moves.{Move, name, again, mark, is_step, steps_in}
-use Rattle.mm_proof.specs.Proof.{IsWithin, expression_limit, Passed}
+use Rattle.mm_proof.specs.Proof.{IsWithin, Passed}
 use Rattle.mm_proof.specs.Steps.{IsNumberedMove, AreNumberedMoves}
 use Rattle.mm_proof.specs.Listing.{StepName, by_label, by_step, ListedStep, StandsAfter, IsCalled, MakeLast, AreListed, IsNameOf, TellsStep}
 use Rattle.mm_proof.specs.CodeSteps.{move_in, moves_in}
@@ -74,12 +74,12 @@ lines_none st place [] numbered = ([], record { count = refl; each = λ place mo
 lines_none st place (m ∷ moves) numbered = absurd numbered
 
 -- a step more, which is called so
-line_more : (st : List Sentence) (place : ℕ) (front : List (Move ℕ)) (x : Move ℕ) (stack kept : List (List ℕ)) (count : ℕ) (lines : List Line) (line : Line)
-    → HasRun st place (front ++ x ∷ []) stack kept count → slice_get stack (length stack - 1) ≡ Some (numbers_in line.expression.items) → is_step x ≡ true
+line_more : (limit : ℕ) (st : List Sentence) (place : ℕ) (front : List (Move ℕ)) (x : Move ℕ) (stack kept : List (List ℕ)) (count : ℕ) (lines : List Line) (line : Line)
+    → HasRun limit st place (front ++ x ∷ []) stack kept count → slice_get stack (length stack - 1) ≡ Some (numbers_in line.expression.items) → is_step x ≡ true
     → ((moves : List (Move (List ℕ))) (move : Move (List ℕ)) → AreNumberedMoves st front moves → IsNumberedMove st x move
     → (called : StepName) × IsNameOf st line.name called × IsCalled moves move called)
     → AreLinesAt st place front lines → AreLinesAt st place (front ++ x ∷ []) (lines ++ line ∷ [])
-line_more st place front x stack kept count lines line run last is calls old moves numbered =
+line_more limit st place front x stack kept count lines line run last is calls old moves numbered =
     let before : List Sentence = take place st in
     let e : List ℕ = numbers_in line.expression.items in
     let h = zip_front (IsNumberedMove st) front x moves numbered in
@@ -88,9 +88,9 @@ line_more st place front x stack kept count lines line run last is calls old mov
     let top : parts.1 ≡ e = same_Some parts.1 e (sym parts.3 ∙ last) in
     let split : stack ≡ parts.0 ++ e ∷ [] = parts.2 ∙ ap (λ x. parts.0 ++ x ∷ []) top in
     let names : all_names_at st stack ≡ all_names_at st parts.0 ++ names_at st e ∷ [] = ap (all_names_at st) split ∙ map-append (names_at st) parts.0 (e ∷ []) in
-    let passed : Passed (IsWithin expression_limit) before moves (all_names_at st parts.0 ++ names_at st e ∷ []) (all_names_at st kept) =
-    subst (λ l. Passed (IsWithin expression_limit) before moves l (all_names_at st kept)) names (run.passed moves numbered) in
-    let made : MakeLast before moves (names_at st e) = last_made (IsWithin expression_limit) before moves (all_names_at st parts.0) (all_names_at st kept) (names_at st e) passed in
+    let passed : Passed (IsWithin limit) before moves (all_names_at st parts.0 ++ names_at st e ∷ []) (all_names_at st kept) =
+    subst (λ l. Passed (IsWithin limit) before moves l (all_names_at st kept)) names (run.passed moves numbered) in
+    let made : MakeLast before moves (names_at st e) = last_made (IsWithin limit) before moves (all_names_at st parts.0) (all_names_at st kept) (names_at st e) passed in
     let entry : AreDeclaredSymbols st before e = all_at (AreDeclaredSymbols st before) stack (length stack - 1) e run.entries last in
     let below : AreBelow st e = all_mapped (IsSymbol st before) (λ k. k < length (symbols_of st)) e (λ k i. i.below) entry in
     let call = calls h.0 h.1 h.3 h.4 in
@@ -113,49 +113,49 @@ line_mark st place front lines old moves numbered =
 -- ---- the loop
 
 -- what holds before each move: those before it have run, and are listed
-pub record Listing (st : List Sentence) (place : ℕ) (moves : List NumberedMove) (i : ℕ) (stack kept : List (List ℕ)) (lines : List Line) (tags : List ℕ) : Type 0 where
-  pub turn : Turn st place moves i stack kept (length lines) (length tags)
+pub record Listing (limit : ℕ) (st : List Sentence) (place : ℕ) (moves : List NumberedMove) (i : ℕ) (stack kept : List (List ℕ)) (lines : List Line) (tags : List ℕ) : Type 0 where
+  pub turn : Turn limit st place moves i stack kept (length lines) (length tags)
   pub listed : AreLinesAt st place (take i (moves_in moves)) lines
   pub stand : AreTagsFor st (take i (moves_in moves)) tags
 
 -- before any move
-pub listing_none : (st : List Sentence) (place : ℕ) (moves : List NumberedMove) (stack kept : List (List ℕ)) → stack ≡ [] → kept ≡ [] → Listing st place moves 0 stack kept [] []
-listing_none st place moves stack kept empty none_kept = record {
-  turn = (run_none st place stack kept empty none_kept, sym (ap length none_kept), refl);
+pub listing_none : (limit : ℕ) (st : List Sentence) (place : ℕ) (moves : List NumberedMove) (stack kept : List (List ℕ)) → stack ≡ [] → kept ≡ [] → Listing limit st place moves 0 stack kept [] []
+listing_none limit st place moves stack kept empty none_kept = record {
+  turn = (run_none limit st place stack kept empty none_kept, sym (ap length none_kept), refl);
   listed = lines_none st place;
   stand = λ names numbered tag step there. absurd cc;
 }
 
 -- what a step by a label leaves isn't nothing
-pub name_stands : (st : List Sentence) (place : ℕ) (moves : List NumberedMove) (i : ℕ) (d : NumberedMove) (id : LabelId) (stack kept stack' kept' : List (List ℕ)) (lines : List Line) (tags : List ℕ)
+pub name_stands : (limit : ℕ) (st : List Sentence) (place : ℕ) (moves : List NumberedMove) (i : ℕ) (d : NumberedMove) (id : LabelId) (stack kept stack' kept' : List (List ℕ)) (lines : List Line) (tags : List ℕ)
     → (names : List (Move (List ℕ))) × AreNumberedMoves st (moves_in moves) names
-    → i < length moves → get_or moves i d ≡ code.Name id → Listing st place moves i stack kept lines tags
-    → CarriesOn st place id.0 stack stack' → AreStackEntries st (take place st) stack' → kept' ≡ kept → 0 < length stack'
-name_stands st place moves i d id stack kept stack' kept' lines tags named_so less is l carries entries same =
-    let turn = more_name st place moves i d id stack kept stack' kept' (length lines) (length tags) less is l.turn carries entries same in
+    → i < length moves → get_or moves i d ≡ code.Name id → Listing limit st place moves i stack kept lines tags
+    → CarriesOn limit st place id.0 stack stack' → AreStackEntries st (take place st) stack' → kept' ≡ kept → 0 < length stack'
+name_stands limit st place moves i d id stack kept stack' kept' lines tags named_so less is l carries entries same =
+    let turn = more_name limit st place moves i d id stack kept stack' kept' (length lines) (length tags) less is l.turn carries entries same in
     let front = zip_take (IsNumberedMove st) (moves_in moves) named_so.0 (i + 1) named_so.1 in
     let one : take (i + 1) (moves_in moves) ≡ take i (moves_in moves) ++ name id.0 ∷ [] = front_more moves i d less ∙ ap (λ m. take i (moves_in moves) ++ move_in m ∷ []) is in
     let h = zip_front (IsNumberedMove st) (take i (moves_in moves)) (name id.0) (take (i + 1) named_so.0) (subst (λ l. AreNumberedMoves st l (take (i + 1) named_so.0)) one front) in
     let passed = turn.0.passed (take (i + 1) named_so.0) front in
-    let deep : 0 < length (all_names_at st stack') = name_leaves (IsWithin expression_limit) (take place st) h.0 h.4.1 (all_names_at st stack') (all_names_at st kept')
-    (subst (λ l. Passed (IsWithin expression_limit) (take place st) l (all_names_at st stack') (all_names_at st kept')) (h.2 ∙ ap (λ m. h.0 ++ m ∷ []) h.4.4) passed) in
+    let deep : 0 < length (all_names_at st stack') = name_leaves (IsWithin limit) (take place st) h.0 h.4.1 (all_names_at st stack') (all_names_at st kept')
+    (subst (λ l. Passed (IsWithin limit) (take place st) l (all_names_at st stack') (all_names_at st kept')) (h.2 ∙ ap (λ m. h.0 ++ m ∷ []) h.4.4) passed) in
     omega (arith, length-map stack' (names_at st))
 
 -- a step by a label
-pub listing_name : (st : List Sentence) (place : ℕ) (moves : List NumberedMove) (i : ℕ) (d : NumberedMove) (id : LabelId) (stack kept stack' kept' : List (List ℕ)) (lines : List Line) (tags : List ℕ) (line : Line)
-    → i < length moves → get_or moves i d ≡ code.Name id → Listing st place moves i stack kept lines tags
-    → CarriesOn st place id.0 stack stack' → AreStackEntries st (take place st) stack' → kept' ≡ kept
+pub listing_name : (limit : ℕ) (st : List Sentence) (place : ℕ) (moves : List NumberedMove) (i : ℕ) (d : NumberedMove) (id : LabelId) (stack kept stack' kept' : List (List ℕ)) (lines : List Line) (tags : List ℕ) (line : Line)
+    → i < length moves → get_or moves i d ≡ code.Name id → Listing limit st place moves i stack kept lines tags
+    → CarriesOn limit st place id.0 stack stack' → AreStackEntries st (take place st) stack' → kept' ≡ kept
     → line.name ≡ names.Label id → slice_get stack' (length stack' - 1) ≡ Some (numbers_in line.expression.items)
-    → Listing st place moves (i + 1) stack' kept' (lines ++ line ∷ []) tags
-listing_name st place moves i d id stack kept stack' kept' lines tags line less is l carries entries same called last =
+    → Listing limit st place moves (i + 1) stack' kept' (lines ++ line ∷ []) tags
+listing_name limit st place moves i d id stack kept stack' kept' lines tags line less is l carries entries same called last =
     let count : length (lines ++ line ∷ []) ≡ length lines + 1 = length-append lines (line ∷ []) in
-    let turn = more_name st place moves i d id stack kept stack' kept' (length lines) (length tags) less is l.turn carries entries same in
+    let turn = more_name limit st place moves i d id stack kept stack' kept' (length lines) (length tags) less is l.turn carries entries same in
     let one : take (i + 1) (moves_in moves) ≡ take i (moves_in moves) ++ name id.0 ∷ [] = front_more moves i d less ∙ ap (λ m. take i (moves_in moves) ++ move_in m ∷ []) is in
-    let run = subst (λ f. HasRun st place f stack' kept' (length lines + 1)) one turn.0 in
+    let run = subst (λ f. HasRun limit st place f stack' kept' (length lines + 1)) one turn.0 in
     record {
-      turn = subst (λ n. Turn st place moves (i + 1) stack' kept' n (length tags)) (sym count) turn;
+      turn = subst (λ n. Turn limit st place moves (i + 1) stack' kept' n (length tags)) (sym count) turn;
       listed = subst (λ f. AreLinesAt st place f (lines ++ line ∷ [])) (sym one)
-          (line_more st place (take i (moves_in moves)) (name id.0) stack' kept' (length lines + 1) lines line run last refl
+          (line_more limit st place (take i (moves_in moves)) (name id.0) stack' kept' (length lines + 1) lines line run last refl
           (λ moves move numbered n. (
             by_label n.1,
             subst (λ c. IsNameOf st c (by_label n.1)) (sym called) (n.0, n.1, n.2, n.3, refl),
@@ -165,20 +165,20 @@ listing_name st place moves i d id stack kept stack' kept' lines tags line less 
     }
 
 -- a step by a tag
-pub listing_again : (st : List Sentence) (place : ℕ) (moves : List NumberedMove) (i : ℕ) (d : NumberedMove) (tag after : ℕ) (stack kept stack' kept' : List (List ℕ)) (lines : List Line) (tags : List ℕ) (line : Line)
-    → i < length moves → get_or moves i d ≡ code.Again tag → Listing st place moves i stack kept lines tags
+pub listing_again : (limit : ℕ) (st : List Sentence) (place : ℕ) (moves : List NumberedMove) (i : ℕ) (d : NumberedMove) (tag after : ℕ) (stack kept stack' kept' : List (List ℕ)) (lines : List Line) (tags : List ℕ) (line : Line)
+    → i < length moves → get_or moves i d ≡ code.Again tag → Listing limit st place moves i stack kept lines tags
     → (e : List ℕ) × (slice_get kept tag ≡ Some e) × (stack' ≡ stack ++ e ∷ []) → kept' ≡ kept → slice_get tags tag ≡ Some after
     → line.name ≡ names.Step after → slice_get stack' (length stack' - 1) ≡ Some (numbers_in line.expression.items)
-    → Listing st place moves (i + 1) stack' kept' (lines ++ line ∷ []) tags
-listing_again st place moves i d tag after stack kept stack' kept' lines tags line less is l pushed same there called last =
+    → Listing limit st place moves (i + 1) stack' kept' (lines ++ line ∷ []) tags
+listing_again limit st place moves i d tag after stack kept stack' kept' lines tags line less is l pushed same there called last =
     let count : length (lines ++ line ∷ []) ≡ length lines + 1 = length-append lines (line ∷ []) in
-    let turn = more_again st place moves i d tag stack kept stack' kept' (length lines) (length tags) less is l.turn pushed same in
+    let turn = more_again limit st place moves i d tag stack kept stack' kept' (length lines) (length tags) less is l.turn pushed same in
     let one : take (i + 1) (moves_in moves) ≡ take i (moves_in moves) ++ again tag ∷ [] = front_more moves i d less ∙ ap (λ m. take i (moves_in moves) ++ move_in m ∷ []) is in
-    let run = subst (λ f. HasRun st place f stack' kept' (length lines + 1)) one turn.0 in
+    let run = subst (λ f. HasRun limit st place f stack' kept' (length lines + 1)) one turn.0 in
     record {
-      turn = subst (λ n. Turn st place moves (i + 1) stack' kept' n (length tags)) (sym count) turn;
+      turn = subst (λ n. Turn limit st place moves (i + 1) stack' kept' n (length tags)) (sym count) turn;
       listed = subst (λ f. AreLinesAt st place f (lines ++ line ∷ [])) (sym one)
-          (line_more st place (take i (moves_in moves)) (again tag) stack' kept' (length lines + 1) lines line run last refl
+          (line_more limit st place (take i (moves_in moves)) (again tag) stack' kept' (length lines + 1) lines line run last refl
           (λ moves move numbered n. (
             by_step after,
             subst (λ c. IsNameOf st c (by_step after)) (sym called) refl,
@@ -188,40 +188,40 @@ listing_again st place moves i d tag after stack kept stack' kept' lines tags li
     }
 
 -- a mark
-pub listing_mark : (st : List Sentence) (place : ℕ) (moves : List NumberedMove) (i : ℕ) (d : NumberedMove) (stack kept stack' kept' : List (List ℕ)) (lines : List Line) (tags : List ℕ) (new : ℕ)
-    → i < length moves → get_or moves i d ≡ code.Mark → Listing st place moves i stack kept lines tags
+pub listing_mark : (limit : ℕ) (st : List Sentence) (place : ℕ) (moves : List NumberedMove) (i : ℕ) (d : NumberedMove) (stack kept stack' kept' : List (List ℕ)) (lines : List Line) (tags : List ℕ) (new : ℕ)
+    → i < length moves → get_or moves i d ≡ code.Mark → Listing limit st place moves i stack kept lines tags
     → (rest : List (List ℕ)) × (e : List ℕ) × (stack ≡ rest ++ e ∷ []) × (kept' ≡ kept ++ e ∷ []) → stack' ≡ stack → new ≡ length lines
-    → Listing st place moves (i + 1) stack' kept' lines (tags ++ new ∷ [])
-listing_mark st place moves i d stack kept stack' kept' lines tags new less is l kept_one same number =
+    → Listing limit st place moves (i + 1) stack' kept' lines (tags ++ new ∷ [])
+listing_mark limit st place moves i d stack kept stack' kept' lines tags new less is l kept_one same number =
     let count : length (tags ++ new ∷ []) ≡ length tags + 1 = length-append tags (new ∷ []) in
-    let turn = more_mark st place moves i d stack kept stack' kept' (length lines) (length tags) less is l.turn kept_one same in
+    let turn = more_mark limit st place moves i d stack kept stack' kept' (length lines) (length tags) less is l.turn kept_one same in
     let one : take (i + 1) (moves_in moves) ≡ take i (moves_in moves) ++ mark ∷ [] = front_more moves i d less ∙ ap (λ m. take i (moves_in moves) ++ move_in m ∷ []) is in
     let sum : length lines + length tags ≡ i = l.turn.2 in
     let long : length (take i (moves_in moves)) ≡ i = length-take-le i (moves_in moves) (omega (arith, length-map moves move_in)) in
     record {
-      turn = subst (λ n. Turn st place moves (i + 1) stack' kept' (length lines) n) (sym count) turn;
+      turn = subst (λ n. Turn limit st place moves (i + 1) stack' kept' (length lines) n) (sym count) turn;
       listed = subst (λ f. AreLinesAt st place f lines) (sym one) (line_mark st place (take i (moves_in moves)) lines l.listed);
       stand = subst (λ f. AreTagsFor st f (tags ++ new ∷ [])) (sym one)
           (tags_more st (take i (moves_in moves)) tags new (number ∙ l.turn.0.count) (omega arith) l.stand);
     }
 
 -- the tag of an expression that is kept is known
-pub tag_stands : (st : List Sentence) (place : ℕ) (moves : List NumberedMove) (i : ℕ) (stack kept stack' : List (List ℕ)) (lines : List Line) (tags : List ℕ) (tag : ℕ) → Listing st place moves i stack kept lines tags
+pub tag_stands : (limit : ℕ) (st : List Sentence) (place : ℕ) (moves : List NumberedMove) (i : ℕ) (stack kept stack' : List (List ℕ)) (lines : List Line) (tags : List ℕ) (tag : ℕ) → Listing limit st place moves i stack kept lines tags
     → (e : List ℕ) × (slice_get kept tag ≡ Some e) × (stack' ≡ stack ++ e ∷ []) → (tag < length tags) × (0 < length stack')
-tag_stands st place moves i stack kept stack' lines tags tag l pushed =
+tag_stands limit st place moves i stack kept stack' lines tags tag l pushed =
     let within : tag < length kept = slice_get_within kept tag pushed.0 pushed.1 in
     let same : length tags ≡ length kept = l.turn.1 in
     let long : length stack' ≡ length stack + 1 = ap length pushed.2 ∙ length-append stack (pushed.0 ∷ []) in
     (omega arith, omega arith)
 
 -- as many are listed as moves at most
-pub few_lines : (st : List Sentence) (place : ℕ) (moves : List NumberedMove) (i : ℕ) (stack kept : List (List ℕ)) (lines : List Line) (tags : List ℕ) → Listing st place moves i stack kept lines tags
+pub few_lines : (limit : ℕ) (st : List Sentence) (place : ℕ) (moves : List NumberedMove) (i : ℕ) (stack kept : List (List ℕ)) (lines : List Line) (tags : List ℕ) → Listing limit st place moves i stack kept lines tags
     → i < length moves → length lines < length moves
-few_lines st place moves i stack kept lines tags l less = let sum : length lines + length tags ≡ i = l.turn.2 in omega arith
+few_lines limit st place moves i stack kept lines tags l less = let sum : length lines + length tags ≡ i = l.turn.2 in omega arith
 
 -- at the end
-pub listing_end : (st : List Sentence) (place : ℕ) (moves : List NumberedMove) (i : ℕ) (stack kept : List (List ℕ)) (lines : List Line) (tags : List ℕ) → Listing st place moves i stack kept lines tags
-    → length moves ≤ i → HasRun st place (moves_in moves) stack kept (length lines) × AreLinesAt st place (moves_in moves) lines
-listing_end st place moves i stack kept lines tags l over =
+pub listing_end : (limit : ℕ) (st : List Sentence) (place : ℕ) (moves : List NumberedMove) (i : ℕ) (stack kept : List (List ℕ)) (lines : List Line) (tags : List ℕ) → Listing limit st place moves i stack kept lines tags
+    → length moves ≤ i → HasRun limit st place (moves_in moves) stack kept (length lines) × AreLinesAt st place (moves_in moves) lines
+listing_end limit st place moves i stack kept lines tags l over =
     let all : take i (moves_in moves) ≡ moves_in moves = take_all i (moves_in moves) (omega (arith, length-map moves move_in)) in
-    (subst (λ f. HasRun st place f stack kept (length lines)) all l.turn.0, subst (λ f. AreLinesAt st place f lines) all l.listed)
+    (subst (λ f. HasRun limit st place f stack kept (length lines)) all l.turn.0, subst (λ f. AreLinesAt st place f lines) all l.listed)

@@ -162,7 +162,7 @@ step_once before stack label rest rest' e e' all (inr p) (inr q) =
 -- ---- a step that breaks no rule breaks no rule
 
 -- one label names one assertion's hypotheses
-one_names : (before : List Sentence) (label : List ℕ) (place place' : ℕ) (a a' : Sentence) (hypotheses hypotheses' : List Sentence) → AllMeant before
+pub one_names : (before : List Sentence) (label : List ℕ) (place place' : ℕ) (a a' : Sentence) (hypotheses hypotheses' : List Sentence) → AllMeant before
     → Names before label place a hypotheses → Names before label place' a' hypotheses' → hypotheses ≡ hypotheses'
 one_names before label place place' a a' hypotheses hypotheses' all n n' =
     one_frame before place place' a a' hypotheses hypotheses' (one_label before place place' a a' label all n.there n'.there n.named n'.named)

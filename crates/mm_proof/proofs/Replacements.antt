@@ -72,7 +72,7 @@ replaced_at (h ∷ hypotheses) (e ∷ entries) once (suc i) f entry code x there
 -- ---- the mandatory hypotheses type each variable once
 
 -- two of the picked elements stand in their order in the list
-those_order : {X : Type 0} (P : ℕ → X → Type 0) (place : ℕ) (xs those : List X) (i j : ℕ) (a b : X) → AreThose P place xs those → i < j
+pub those_order : {X : Type 0} (P : ℕ → X → Type 0) (place : ℕ) (xs those : List X) (i j : ℕ) (a b : X) → AreThose P place xs those → i < j
     → slice_get those i ≡ Some a → slice_get those j ≡ Some b
     → (k : ℕ) × (l : ℕ) × (k < l) × (slice_get xs k ≡ Some a) × (slice_get xs l ≡ Some b) × P (place + k) a × P (place + l) b
 those_order P place [] those i j a b t less p q = absurd (none-some a (subst (λ l. slice_get l i ≡ Some a) t p))

@@ -12,7 +12,7 @@ use Rattle.mm_proof.specs.declared.fault.ProofRule.TheVariants.{P6, P7}
 use Rattle.mm_proof.specs.declared.moves.NumberedMove.{NumberedMove}
 use Rattle.mm_proof.specs.declared.moves.NumberedMove.TheVariants as code
 use Rattle.mm_proof.specs.Moves.{Move, name, again, mark, is_step, steps_in}
-use Rattle.mm_proof.specs.Proof.{IsWithin, expression_limit, Passed, FirstAtMove, IsMoveFault}
+use Rattle.mm_proof.specs.Proof.{IsWithin, Passed, FirstAtMove, IsMoveFault}
 use Rattle.mm_proof.specs.Steps.{IsNumberedMove, AreNumberedMoves}
 use Rattle.mm_proof.specs.CodeSteps.{move_in, moves_in}
 use Rattle.mm_proof.specs.CodeVerify.{AreDeclaredSymbols, AreStackEntries, names_at, all_names_at}
@@ -62,41 +62,41 @@ same_steps st (x ∷ xs) (m ∷ moves) z =
 -- ---- one move more
 
 -- no moves, and an empty store
-pub run_none : (st : List Sentence) (place : ℕ) (stack kept : List (List ℕ)) → stack ≡ [] → kept ≡ [] → HasRun st place [] stack kept 0
-run_none st place stack kept empty none_kept = rw (empty, none_kept) (record {
+pub run_none : (limit : ℕ) (st : List Sentence) (place : ℕ) (stack kept : List (List ℕ)) → stack ≡ [] → kept ≡ [] → HasRun limit st place [] stack kept 0
+run_none limit st place stack kept empty none_kept = rw (empty, none_kept) (record {
   count = refl;
   passed = λ moves numbered. nothing moves numbered;
   entries = tt;
   kept_entries = tt;
 })
   where
-    nothing : (moves : List (Move (List ℕ))) → AreNumberedMoves st [] moves → Passed (IsWithin expression_limit) (take place st) moves [] []
-    nothing [] z = passed_none (IsWithin expression_limit) (take place st)
+    nothing : (moves : List (Move (List ℕ))) → AreNumberedMoves st [] moves → Passed (IsWithin limit) (take place st) moves [] []
+    nothing [] z = passed_none (IsWithin limit) (take place st)
     nothing (m ∷ moves) z = absurd z
 
 -- a move that carries on what passed
-run_more : (st : List Sentence) (place : ℕ) (front : List (Move ℕ)) (x : Move ℕ) (stack kept stack' kept' : List (List ℕ)) (steps steps' : ℕ) → HasRun st place front stack kept steps
+run_more : (limit : ℕ) (st : List Sentence) (place : ℕ) (front : List (Move ℕ)) (x : Move ℕ) (stack kept stack' kept' : List (List ℕ)) (steps steps' : ℕ) → HasRun limit st place front stack kept steps
     → ((move : Move (List ℕ)) (moves : List (Move (List ℕ))) → IsNumberedMove st x move
-    → Passed (IsWithin expression_limit) (take place st) moves (all_names_at st stack) (all_names_at st kept)
-    → Passed (IsWithin expression_limit) (take place st) (moves ++ move ∷ []) (all_names_at st stack') (all_names_at st kept'))
+    → Passed (IsWithin limit) (take place st) moves (all_names_at st stack) (all_names_at st kept)
+    → Passed (IsWithin limit) (take place st) (moves ++ move ∷ []) (all_names_at st stack') (all_names_at st kept'))
     → AreStackEntries st (take place st) stack' → AreStackEntries st (take place st) kept' → steps' ≡ steps + steps_in (x ∷ [])
-    → HasRun st place (front ++ x ∷ []) stack' kept' steps'
-run_more st place front x stack kept stack' kept' steps steps' run carried entries kept_entries count = record {
+    → HasRun limit st place (front ++ x ∷ []) stack' kept' steps'
+run_more limit st place front x stack kept stack' kept' steps steps' run carried entries kept_entries count = record {
   count = count ∙ ap (λ n. n + steps_in (x ∷ [])) run.count ∙ sym (steps_in-append front (x ∷ []));
   passed = λ moves numbered.
       let h = zip_front (IsNumberedMove st) front x moves numbered in
-      subst (λ l. Passed (IsWithin expression_limit) (take place st) l (all_names_at st stack') (all_names_at st kept')) (sym h.2) (carried h.1 h.0 h.4 (run.passed h.0 h.3));
+      subst (λ l. Passed (IsWithin limit) (take place st) l (all_names_at st stack') (all_names_at st kept')) (sym h.2) (carried h.1 h.0 h.4 (run.passed h.0 h.3));
   entries = entries;
   kept_entries = kept_entries;
 }
 
 -- a step by a label
-pub run_name : (st : List Sentence) (place : ℕ) (front : List (Move ℕ)) (id : ℕ) (stack kept stack' : List (List ℕ)) (steps : ℕ) → HasRun st place front stack kept steps
-    → CarriesOn st place id stack stack' → AreStackEntries st (take place st) stack' → HasRun st place (front ++ name id ∷ []) stack' kept (steps + 1)
-run_name st place front id stack kept stack' steps run carries entries =
-    run_more st place front (name id) stack kept stack' kept steps (steps + 1) run
+pub run_name : (limit : ℕ) (st : List Sentence) (place : ℕ) (front : List (Move ℕ)) (id : ℕ) (stack kept stack' : List (List ℕ)) (steps : ℕ) → HasRun limit st place front stack kept steps
+    → CarriesOn limit st place id stack stack' → AreStackEntries st (take place st) stack' → HasRun limit st place (front ++ name id ∷ []) stack' kept (steps + 1)
+run_name limit st place front id stack kept stack' steps run carries entries =
+    run_more limit st place front (name id) stack kept stack' kept steps (steps + 1) run
     (λ move moves n passed.
-    subst (λ m. Passed (IsWithin expression_limit) (take place st) (moves ++ m ∷ []) (all_names_at st stack') (all_names_at st kept)) (sym n.4)
+    subst (λ m. Passed (IsWithin limit) (take place st) (moves ++ m ∷ []) (all_names_at st stack') (all_names_at st kept)) (sym n.4)
     (carries n.1 moves (all_names_at st kept) (n.0, n.1, n.2, n.3, refl) passed))
     entries run.kept_entries refl
 
@@ -109,12 +109,12 @@ named_push : (st : List Sentence) (entries : List (List ℕ)) (e : List ℕ) →
 named_push st entries e = map-append (names_at st) entries (e ∷ [])
 
 -- a step by a tag
-pub run_again : (st : List Sentence) (place : ℕ) (front : List (Move ℕ)) (tag : ℕ) (stack kept stack' : List (List ℕ)) (steps : ℕ) (e : List ℕ) → HasRun st place front stack kept steps
-    → slice_get kept tag ≡ Some e → stack' ≡ stack ++ e ∷ [] → HasRun st place (front ++ again tag ∷ []) stack' kept (steps + 1)
-run_again st place front tag stack kept stack' steps e run there is =
-    run_more st place front (again tag) stack kept stack' kept steps (steps + 1) run
+pub run_again : (limit : ℕ) (st : List Sentence) (place : ℕ) (front : List (Move ℕ)) (tag : ℕ) (stack kept stack' : List (List ℕ)) (steps : ℕ) (e : List ℕ) → HasRun limit st place front stack kept steps
+    → slice_get kept tag ≡ Some e → stack' ≡ stack ++ e ∷ [] → HasRun limit st place (front ++ again tag ∷ []) stack' kept (steps + 1)
+run_again limit st place front tag stack kept stack' steps e run there is =
+    run_more limit st place front (again tag) stack kept stack' kept steps (steps + 1) run
     (λ move moves n passed. rw (n, is, named_push st stack e)
-    (passed_again (IsWithin expression_limit) (take place st) moves (all_names_at st stack) (all_names_at st kept) tag (names_at st e) passed (named_there st kept tag e there)))
+    (passed_again (IsWithin limit) (take place st) moves (all_names_at st stack) (all_names_at st kept) tag (names_at st e) passed (named_there st kept tag e there)))
     (rw is (all_push (AreDeclaredSymbols st (take place st)) stack e run.entries (all_at (AreDeclaredSymbols st (take place st)) kept tag e run.kept_entries there)))
     run.kept_entries refl
 
@@ -123,13 +123,13 @@ last_is P [] e all = all.0
 last_is P (x ∷ rest) e all = last_is P rest e all.1
 
 -- a mark
-pub run_mark : (st : List Sentence) (place : ℕ) (front : List (Move ℕ)) (stack kept stack' kept' : List (List ℕ)) (steps : ℕ) (rest : List (List ℕ)) (e : List ℕ) → HasRun st place front stack kept steps
-    → stack ≡ rest ++ e ∷ [] → stack' ≡ stack → kept' ≡ kept ++ e ∷ [] → HasRun st place (front ++ mark ∷ []) stack' kept' steps
-run_mark st place front stack kept stack' kept' steps rest e run split same is =
-    run_more st place front mark stack kept stack' kept' steps steps run
+pub run_mark : (limit : ℕ) (st : List Sentence) (place : ℕ) (front : List (Move ℕ)) (stack kept stack' kept' : List (List ℕ)) (steps : ℕ) (rest : List (List ℕ)) (e : List ℕ) → HasRun limit st place front stack kept steps
+    → stack ≡ rest ++ e ∷ [] → stack' ≡ stack → kept' ≡ kept ++ e ∷ [] → HasRun limit st place (front ++ mark ∷ []) stack' kept' steps
+run_mark limit st place front stack kept stack' kept' steps rest e run split same is =
+    run_more limit st place front mark stack kept stack' kept' steps steps run
     (λ move moves n passed. rw (n, same, is, split, named_push st rest e, named_push st kept e)
-    (passed_mark (IsWithin expression_limit) (take place st) moves (all_names_at st rest) (all_names_at st kept) (names_at st e)
-    (subst (λ l. Passed (IsWithin expression_limit) (take place st) moves l (all_names_at st kept)) (ap (all_names_at st) split ∙ named_push st rest e) passed)))
+    (passed_mark (IsWithin limit) (take place st) moves (all_names_at st rest) (all_names_at st kept) (names_at st e)
+    (subst (λ l. Passed (IsWithin limit) (take place st) moves l (all_names_at st kept)) (ap (all_names_at st) split ∙ named_push st rest e) passed)))
     (rw same run.entries)
     (rw is (all_push (AreDeclaredSymbols st (take place st)) kept e run.kept_entries
     (last_is (AreDeclaredSymbols st (take place st)) rest e (subst (AreStackEntries st (take place st)) split run.entries))))
@@ -137,11 +137,11 @@ run_mark st place front stack kept stack' kept' steps rest e run split same is =
 
 -- ---- a move that breaks a rule
 
-pub run_fault : (st : List Sentence) (place : ℕ) (xs : List (Move ℕ)) (i : ℕ) (x : Move ℕ) (stack kept : List (List ℕ)) (steps : ℕ) (rule : ProofRule) (at : ℕ)
-    → slice_get xs i ≡ Some x → HasRun st place (take i xs) stack kept steps
-    → ((move : Move (List ℕ)) → IsNumberedMove st x move → FirstAtMove (IsWithin expression_limit) rule (take place st) (all_names_at st stack) (all_names_at st kept) move)
-    → at ≡ steps + 1 → (names : List (Move (List ℕ))) → AreNumberedMoves st xs names → IsMoveFault (IsWithin expression_limit) (take place st) names rule at
-run_fault st place xs i x stack kept steps rule at there run first number names numbered =
+pub run_fault : (limit : ℕ) (st : List Sentence) (place : ℕ) (xs : List (Move ℕ)) (i : ℕ) (x : Move ℕ) (stack kept : List (List ℕ)) (steps : ℕ) (rule : ProofRule) (at : ℕ)
+    → slice_get xs i ≡ Some x → HasRun limit st place (take i xs) stack kept steps
+    → ((move : Move (List ℕ)) → IsNumberedMove st x move → FirstAtMove (IsWithin limit) rule (take place st) (all_names_at st stack) (all_names_at st kept) move)
+    → at ≡ steps + 1 → (names : List (Move (List ℕ))) → AreNumberedMoves st xs names → IsMoveFault (IsWithin limit) (take place st) names rule at
+run_fault limit st place xs i x stack kept steps rule at there run first number names numbered =
     let here = zip_left (IsNumberedMove st) xs names i x numbered there in
     let front = zip_take (IsNumberedMove st) xs names i numbered in
     record {
@@ -157,22 +157,22 @@ run_fault st place xs i x stack kept steps rule at there run first number names 
     }
 
 -- a step by a label
-pub stops_first : (st : List Sentence) (place id : ℕ) (stack kept : List (List ℕ)) (rule : ProofRule) → StopsAt st place id stack rule
-    → (move : Move (List ℕ)) → IsNumberedMove st (name id) move → FirstAtMove (IsWithin expression_limit) rule (take place st) (all_names_at st stack) (all_names_at st kept) move
-stops_first st place id stack kept rule stops move n =
-    subst (λ m. FirstAtMove (IsWithin expression_limit) rule (take place st) (all_names_at st stack) (all_names_at st kept) m) (sym n.4)
+pub stops_first : (limit : ℕ) (st : List Sentence) (place id : ℕ) (stack kept : List (List ℕ)) (rule : ProofRule) → StopsAt limit st place id stack rule
+    → (move : Move (List ℕ)) → IsNumberedMove st (name id) move → FirstAtMove (IsWithin limit) rule (take place st) (all_names_at st stack) (all_names_at st kept) move
+stops_first limit st place id stack kept rule stops move n =
+    subst (λ m. FirstAtMove (IsWithin limit) rule (take place st) (all_names_at st stack) (all_names_at st kept) m) (sym n.4)
     (stops n.1 (all_names_at st kept) (n.0, n.1, n.2, n.3, refl))
 
 -- a tag of nothing kept
-pub again_first : (st : List Sentence) (place tag : ℕ) (stack kept : List (List ℕ)) (rule : ProofRule) → rule ≡ P6 → length kept ≤ tag
-    → (move : Move (List ℕ)) → IsNumberedMove st (again tag) move → FirstAtMove (IsWithin expression_limit) rule (take place st) (all_names_at st stack) (all_names_at st kept) move
-again_first st place tag stack kept rule is over move n =
-    rw (is, n) (first_P6 (IsWithin expression_limit) (take place st) (all_names_at st stack) (all_names_at st kept) tag (omega (arith, length-map kept (names_at st))))
+pub again_first : (limit : ℕ) (st : List Sentence) (place tag : ℕ) (stack kept : List (List ℕ)) (rule : ProofRule) → rule ≡ P6 → length kept ≤ tag
+    → (move : Move (List ℕ)) → IsNumberedMove st (again tag) move → FirstAtMove (IsWithin limit) rule (take place st) (all_names_at st stack) (all_names_at st kept) move
+again_first limit st place tag stack kept rule is over move n =
+    rw (is, n) (first_P6 (IsWithin limit) (take place st) (all_names_at st stack) (all_names_at st kept) tag (omega (arith, length-map kept (names_at st))))
 
 -- a mark on nothing
-pub mark_first : (st : List Sentence) (place : ℕ) (stack kept : List (List ℕ)) (rule : ProofRule) → rule ≡ P7 → stack ≡ []
-    → (move : Move (List ℕ)) → IsNumberedMove st mark move → FirstAtMove (IsWithin expression_limit) rule (take place st) (all_names_at st stack) (all_names_at st kept) move
-mark_first st place stack kept rule is empty move n = rw (is, n, empty) (first_P7 (IsWithin expression_limit) (take place st) (all_names_at st kept))
+pub mark_first : (limit : ℕ) (st : List Sentence) (place : ℕ) (stack kept : List (List ℕ)) (rule : ProofRule) → rule ≡ P7 → stack ≡ []
+    → (move : Move (List ℕ)) → IsNumberedMove st mark move → FirstAtMove (IsWithin limit) rule (take place st) (all_names_at st stack) (all_names_at st kept) move
+mark_first limit st place stack kept rule is empty move n = rw (is, n, empty) (first_P7 (IsWithin limit) (take place st) (all_names_at st kept))
 
 -- a fault that is handed on is the one of the call
 pub refused : {X : Type 0} (r : Result X ProofFault) (e f : ProofFault) → IsErrAnd r (λ x. x ≡ e) → r ≡ Err f → e ≡ f
@@ -185,36 +185,36 @@ refused {X} r e f from is =
 -- ---- the loop
 
 -- what holds before each move: the moves so far have run, so many are marks
-abbrev pub Turn : List Sentence → ℕ → List NumberedMove → ℕ → (stack kept : List (List ℕ)) → (steps count : ℕ) → Type 0
-Turn st place moves i stack kept steps count =
-    HasRun st place (take i (moves_in moves)) stack kept steps × (count ≡ length kept) × (steps + count ≡ i)
+abbrev pub Turn : (limit : ℕ) → List Sentence → ℕ → List NumberedMove → ℕ → (stack kept : List (List ℕ)) → (steps count : ℕ) → Type 0
+Turn limit st place moves i stack kept steps count =
+    HasRun limit st place (take i (moves_in moves)) stack kept steps × (count ≡ length kept) × (steps + count ≡ i)
 
-pub more_name : (st : List Sentence) (place : ℕ) (moves : List NumberedMove) (i : ℕ) (d : NumberedMove) (id : LabelId) (stack kept stack' kept' : List (List ℕ)) (steps count : ℕ)
-    → i < length moves → get_or moves i d ≡ code.Name id → Turn st place moves i stack kept steps count
-    → CarriesOn st place id.0 stack stack' → AreStackEntries st (take place st) stack' → kept' ≡ kept → Turn st place moves (i + 1) stack' kept' (steps + 1) count
-more_name st place moves i d id stack kept stack' kept' steps count less is turn carries entries same =
+pub more_name : (limit : ℕ) (st : List Sentence) (place : ℕ) (moves : List NumberedMove) (i : ℕ) (d : NumberedMove) (id : LabelId) (stack kept stack' kept' : List (List ℕ)) (steps count : ℕ)
+    → i < length moves → get_or moves i d ≡ code.Name id → Turn limit st place moves i stack kept steps count
+    → CarriesOn limit st place id.0 stack stack' → AreStackEntries st (take place st) stack' → kept' ≡ kept → Turn limit st place moves (i + 1) stack' kept' (steps + 1) count
+more_name limit st place moves i d id stack kept stack' kept' steps count less is turn carries entries same =
     rw (same, front_more moves i d less, is) (
-      run_name st place (take i (moves_in moves)) id.0 stack kept stack' steps turn.0 carries entries,
+      run_name limit st place (take i (moves_in moves)) id.0 stack kept stack' steps turn.0 carries entries,
       turn.1,
       (let e : steps + count ≡ i = turn.2 in omega arith),
     )
 
-pub more_again : (st : List Sentence) (place : ℕ) (moves : List NumberedMove) (i : ℕ) (d : NumberedMove) (tag : ℕ) (stack kept stack' kept' : List (List ℕ)) (steps count : ℕ)
-    → i < length moves → get_or moves i d ≡ code.Again tag → Turn st place moves i stack kept steps count
-    → (e : List ℕ) × (slice_get kept tag ≡ Some e) × (stack' ≡ stack ++ e ∷ []) → kept' ≡ kept → Turn st place moves (i + 1) stack' kept' (steps + 1) count
-more_again st place moves i d tag stack kept stack' kept' steps count less is turn pushed same =
+pub more_again : (limit : ℕ) (st : List Sentence) (place : ℕ) (moves : List NumberedMove) (i : ℕ) (d : NumberedMove) (tag : ℕ) (stack kept stack' kept' : List (List ℕ)) (steps count : ℕ)
+    → i < length moves → get_or moves i d ≡ code.Again tag → Turn limit st place moves i stack kept steps count
+    → (e : List ℕ) × (slice_get kept tag ≡ Some e) × (stack' ≡ stack ++ e ∷ []) → kept' ≡ kept → Turn limit st place moves (i + 1) stack' kept' (steps + 1) count
+more_again limit st place moves i d tag stack kept stack' kept' steps count less is turn pushed same =
     rw (same, front_more moves i d less, is) (
-      run_again st place (take i (moves_in moves)) tag stack kept stack' steps pushed.0 turn.0 pushed.1 pushed.2,
+      run_again limit st place (take i (moves_in moves)) tag stack kept stack' steps pushed.0 turn.0 pushed.1 pushed.2,
       turn.1,
       (let e : steps + count ≡ i = turn.2 in omega arith),
     )
 
-pub more_mark : (st : List Sentence) (place : ℕ) (moves : List NumberedMove) (i : ℕ) (d : NumberedMove) (stack kept stack' kept' : List (List ℕ)) (steps count : ℕ)
-    → i < length moves → get_or moves i d ≡ code.Mark → Turn st place moves i stack kept steps count
-    → (rest : List (List ℕ)) × (e : List ℕ) × (stack ≡ rest ++ e ∷ []) × (kept' ≡ kept ++ e ∷ []) → stack' ≡ stack → Turn st place moves (i + 1) stack' kept' steps (count + 1)
-more_mark st place moves i d stack kept stack' kept' steps count less is turn kept_one same =
+pub more_mark : (limit : ℕ) (st : List Sentence) (place : ℕ) (moves : List NumberedMove) (i : ℕ) (d : NumberedMove) (stack kept stack' kept' : List (List ℕ)) (steps count : ℕ)
+    → i < length moves → get_or moves i d ≡ code.Mark → Turn limit st place moves i stack kept steps count
+    → (rest : List (List ℕ)) × (e : List ℕ) × (stack ≡ rest ++ e ∷ []) × (kept' ≡ kept ++ e ∷ []) → stack' ≡ stack → Turn limit st place moves (i + 1) stack' kept' steps (count + 1)
+more_mark limit st place moves i d stack kept stack' kept' steps count less is turn kept_one same =
     rw (front_more moves i d less, is) (
-      run_mark st place (take i (moves_in moves)) stack kept stack' kept' steps kept_one.0 kept_one.1 turn.0 kept_one.2 same kept_one.3,
+      run_mark limit st place (take i (moves_in moves)) stack kept stack' kept' steps kept_one.0 kept_one.1 turn.0 kept_one.2 same kept_one.3,
       (let e : count ≡ length kept = turn.1 in omega (arith, ap length kept_one.3, length-append kept (kept_one.1 ∷ []))),
       (let e : steps + count ≡ i = turn.2 in omega arith),
     )

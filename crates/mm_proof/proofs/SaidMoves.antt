@@ -181,7 +181,7 @@ says_once labels (Number number) a b p q =
     go e (inr x) (inl y) = absurd (omega (arith, slice_get_within labels q.0 y.0 y.1, x.1))
     go e (inr x) (inr y) = x.2 ∙ ap again (omega (arith, x.1, y.1)) ∙ sym y.2
 
-same_somes : (xs ys : List (List ℕ)) → map Some xs ≡ map Some ys → xs ≡ ys
+pub same_somes : (xs ys : List (List ℕ)) → map Some xs ≡ map Some ys → xs ≡ ys
 same_somes [] [] e = refl
 same_somes [] (y ∷ ys) e = absurd (let p : [] ≡ Some y ∷ map Some ys = e in cc)
 same_somes (x ∷ xs) [] e = absurd (let p : Some x ∷ map Some xs ≡ [] = e in cc)
@@ -209,7 +209,7 @@ moves_once before s tokens a b (inr p) (inr q) =
 
 -- ---- tokens that break no rule over the whole proof say moves
 
-labels_of : (before : List Sentence) (s : Sentence) (hypotheses : List Sentence) → AllFormed before
+pub labels_of : (before : List Sentence) (s : Sentence) (hypotheses : List Sentence) → AllFormed before
     → ((i : ℕ) (h : Sentence) → slice_get hypotheses i ≡ Some h → (k : ℕ) × (slice_get before k ≡ Some h) × IsHypothesis h.kind)
     → (labels : List (List ℕ)) × (map (λ (h : Sentence). h.label) hypotheses ≡ map Some labels)
 labels_of before s [] formed are = ([], refl)

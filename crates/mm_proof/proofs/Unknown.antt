@@ -109,8 +109,8 @@ said_known before s tokens moves formed whole (inr said) unknown =
     compressed_known before tokens said.listed said.letters unknown.0 formed whole said.parts unknown.1 unknown.2
 
 -- what is proved has no unknown step
-pub proved_known : (st : List Sentence) (id : ℕ) (tokens : List (List ℕ)) (used : List ℕ) → AllFormed st → (place : ℕ) × (s : Sentence) × IsProofNumber st id place s
-    → OfProof st id (λ place s. TokensProve (take place st) s tokens used) → ¬ (IsIncomplete tokens)
-proved_known st id tokens used formed number proved =
+pub proved_known : (limit : ℕ) (st : List Sentence) (id : ℕ) (tokens : List (List ℕ)) (used : List ℕ) → AllFormed st → (place : ℕ) × (s : Sentence) × IsProofNumber st id place s
+    → OfProof st id (λ place s. TokensProve limit (take place st) s tokens used) → ¬ (IsIncomplete tokens)
+proved_known limit st id tokens used formed number proved =
     let p = (proved number.0 number.1 number.2).proof in
     said_known (take number.0 st) number.1 tokens p.moves (allformed_front st number.0 formed) p.whole p.said

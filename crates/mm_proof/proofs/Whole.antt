@@ -13,7 +13,7 @@ use Rattle.mm_proof.specs.declared.fault.ProofFault.TheVariants.{Rule, Memory}
 use Rattle.mm_proof.specs.Answer.{OnRule, IsUnlessMemory}
 use Rattle.mm_proof.specs.Moves.{Move}
 use Rattle.mm_proof.specs.Tokens.{SayMoves}
-use Rattle.mm_proof.specs.Proof.{IsWhole, IsWholeFault, IsProvedWithin, IsWithin, expression_limit}
+use Rattle.mm_proof.specs.Proof.{IsWhole, IsWholeFault, IsProvedWithin, IsWithin}
 use Rattle.mm_proof.specs.Verified.{OfMoves, ProvesUsingNumbers, ProvesUsing, FailsWith, TokensProve, TokensFail}
 use Rattle.mm_proof.specs.Steps.{AreSteps, IsProofNumber, IsUsableMove}
 use Rattle.mm_proof.specs.Parsed.{OfProof, SaySteps}
@@ -52,42 +52,42 @@ whole_fault_there st id own t tokens rule step number f place s proof =
 
 -- ---- the tokens, from what is said of their moves
 
-pub tokens_prove : (st : List Sentence) (id : ℕ) (tokens : List (List ℕ)) (steps : List (Move ℕ)) (used : List ℕ) → OfProof st id (λ place s. SaySteps st place s tokens steps)
-    → OfMoves st id steps (λ place s moves. ProvesUsingNumbers st place s moves used) → OfProof st id (λ place s. TokensProve (take place st) s tokens used)
-tokens_prove st id tokens steps used says proves place s proof =
+pub tokens_prove : (limit : ℕ) (st : List Sentence) (id : ℕ) (tokens : List (List ℕ)) (steps : List (Move ℕ)) (used : List ℕ) → OfProof st id (λ place s. SaySteps st place s tokens steps)
+    → OfMoves st id steps (λ place s moves. ProvesUsingNumbers limit st place s moves used) → OfProof st id (λ place s. TokensProve limit (take place st) s tokens used)
+tokens_prove limit st id tokens steps used says proves place s proof =
     let said = says place s proof in
     let p = proves place s said.1 proof said.3 in
     record { proof = record { whole = said.0; moves = said.1; said = said.2; proves = p.0 }; all = p.1 }
 
 -- what is said of the assertions in order is said of them in any order
-pub in_any_order : (st : List Sentence) (id : ℕ) (steps : List (Move ℕ)) (used : List ℕ) → OfMoves st id steps (λ place s moves. ProvesUsing st place s moves used)
-    → OfMoves st id steps (λ place s moves. ProvesUsingNumbers st place s moves used)
-in_any_order st id steps used proves place s moves proof numbered = let p = proves place s moves proof numbered in (p.0, p.1.each)
+pub in_any_order : (limit : ℕ) (st : List Sentence) (id : ℕ) (steps : List (Move ℕ)) (used : List ℕ) → OfMoves st id steps (λ place s moves. ProvesUsing limit st place s moves used)
+    → OfMoves st id steps (λ place s moves. ProvesUsingNumbers limit st place s moves used)
+in_any_order limit st id steps used proves place s moves proof numbered = let p = proves place s moves proof numbered in (p.0, p.1.each)
 
-pub tokens_fail : (st : List Sentence) (id : ℕ) (tokens : List (List ℕ)) (steps : List (Move ℕ)) (rule : ProofRule) (step : ℕ) → OfProof st id (λ place s. SaySteps st place s tokens steps)
-    → OfMoves st id steps (λ place s moves. FailsWith st place s moves rule step) → OfProof st id (λ place s. TokensFail (take place st) s tokens rule step)
-tokens_fail st id tokens steps rule step says fails place s proof =
+pub tokens_fail : (limit : ℕ) (st : List Sentence) (id : ℕ) (tokens : List (List ℕ)) (steps : List (Move ℕ)) (rule : ProofRule) (step : ℕ) → OfProof st id (λ place s. SaySteps st place s tokens steps)
+    → OfMoves st id steps (λ place s moves. FailsWith limit st place s moves rule step) → OfProof st id (λ place s. TokensFail limit (take place st) s tokens rule step)
+tokens_fail limit st id tokens steps rule step says fails place s proof =
     let said = says place s proof in inr (said.0, said.1, said.2, fails place s said.1 proof said.3)
 
 -- ---- exact answers
 
-pub tokens_accepted : {X : Type 0} (r : Result X ProofFault) (st : List Sentence) (id : ℕ) (tokens : List (List ℕ)) → AllMeant st
-    → IfErr r (λ e. OnRule e (λ rule step. OfProof st id (λ place s. TokensFail (take place st) s tokens rule step)))
-    → OfProof st id (λ place s. IsProvedWithin (IsWithin expression_limit) (take place st) s tokens → IsOkUnless r Memory)
-tokens_accepted (Ok x) st id tokens all f place s proof p = tt
-tokens_accepted (Err Memory) st id tokens all f place s proof p = refl
-tokens_accepted (Err (Rule rule step)) st id tokens all f place s proof p =
-    absurd (proved_no_fault (IsWithin expression_limit) (take place st) s tokens rule step (meant_front st place all) p (f place s proof))
+pub tokens_accepted : (limit : ℕ) → {X : Type 0} (r : Result X ProofFault) (st : List Sentence) (id : ℕ) (tokens : List (List ℕ)) → AllMeant st
+    → IfErr r (λ e. OnRule e (λ rule step. OfProof st id (λ place s. TokensFail limit (take place st) s tokens rule step)))
+    → OfProof st id (λ place s. IsProvedWithin (IsWithin limit) (take place st) s tokens → IsOkUnless r Memory)
+tokens_accepted limit (Ok x) st id tokens all f place s proof p = tt
+tokens_accepted limit (Err Memory) st id tokens all f place s proof p = refl
+tokens_accepted limit (Err (Rule rule step)) st id tokens all f place s proof p =
+    absurd (proved_no_fault (IsWithin limit) (take place st) s tokens rule step (meant_front st place all) p (f place s proof))
 
-pub tokens_refused : {X : Type 0} (r : Result X ProofFault) (st : List Sentence) (id : ℕ) (tokens : List (List ℕ)) → AllMeant st
-    → ((x : X) → r ≡ Ok x → OfProof st id (λ place s. IsProvedWithin (IsWithin expression_limit) (take place st) s tokens))
-    → IfErr r (λ e. OnRule e (λ rule step. OfProof st id (λ place s. TokensFail (take place st) s tokens rule step)))
-    → OfProof st id (λ place s. (rule : ProofRule) (step : ℕ) → TokensFail (take place st) s tokens rule step → IsUnlessMemory r (Err (Rule rule step)))
-tokens_refused (Ok x) st id tokens all p f place s proof rule step fault =
-    absurd (proved_no_fault (IsWithin expression_limit) (take place st) s tokens rule step (meant_front st place all) (p x refl place s proof) fault)
-tokens_refused (Err Memory) st id tokens all p f place s proof rule step fault = inr refl
-tokens_refused {X} (Err (Rule other at)) st id tokens all p f place s proof rule step fault =
-    let same = one_fault (IsWithin expression_limit) (take place st) s tokens other rule at step (meant_front st place all) (f place s proof) fault in
+pub tokens_refused : (limit : ℕ) → {X : Type 0} (r : Result X ProofFault) (st : List Sentence) (id : ℕ) (tokens : List (List ℕ)) → AllMeant st
+    → ((x : X) → r ≡ Ok x → OfProof st id (λ place s. IsProvedWithin (IsWithin limit) (take place st) s tokens))
+    → IfErr r (λ e. OnRule e (λ rule step. OfProof st id (λ place s. TokensFail limit (take place st) s tokens rule step)))
+    → OfProof st id (λ place s. (rule : ProofRule) (step : ℕ) → TokensFail limit (take place st) s tokens rule step → IsUnlessMemory r (Err (Rule rule step)))
+tokens_refused limit (Ok x) st id tokens all p f place s proof rule step fault =
+    absurd (proved_no_fault (IsWithin limit) (take place st) s tokens rule step (meant_front st place all) (p x refl place s proof) fault)
+tokens_refused limit (Err Memory) st id tokens all p f place s proof rule step fault = inr refl
+tokens_refused limit {X} (Err (Rule other at)) st id tokens all p f place s proof rule step fault =
+    let same = one_fault (IsWithin limit) (take place st) s tokens other rule at step (meant_front st place all) (f place s proof) fault in
     let refusal : ProofRule → ℕ → Result X ProofFault = λ r n. Err (Rule r n) in
     inl (ap (λ (r : ProofRule). refusal r at) same.0 ∙ ap (λ (n : ℕ). refusal rule n) same.1)
 

@@ -6,27 +6,28 @@ use Rattle.mm_frame.specs.Numbers.{IsAssertionNumber}
 use Rattle.mm_proof.specs.declared.fault.ProofRule.{ProofRule}
 use Rattle.mm_proof.specs.declared.fault.ProofRule.TheVariants.{P13, P14}
 use Rattle.mm_proof.specs.Moves.{Move, name, again, mark, steps_in}
-use Rattle.mm_proof.specs.Proof.{IsWithin, expression_limit, Passed, FirstAtMove}
+use Rattle.mm_proof.specs.Proof.{IsWithin, Passed, FirstAtMove}
 use Rattle.mm_proof.specs.Steps.{IsNumberedMove, AreNumberedMoves}
 use Rattle.mm_proof.specs.CodeSteps.{MayBeUsed}
 use Rattle.mm_proof.specs.CodeVerify.{all_names_at, AreStackEntries}
 
 -- the step by the label with a number carries passed moves on: from the one stack to the other
-abbrev pub CarriesOn : List Sentence → (place id : ℕ) → (old new : List (List ℕ)) → Type 0
-CarriesOn statements place id old new =
+abbrev pub CarriesOn : (limit : ℕ) → List Sentence → (place id : ℕ) → (old new : List (List ℕ))
+    → Type 0
+CarriesOn limit statements place id old new =
     (label : List ℕ) (moves : List (Move (List ℕ))) (kept : List (List (List ℕ)))
     → IsNumberedMove statements (name id) (name label)
-    → Passed (IsWithin expression_limit) (take place statements) moves
-    (all_names_at statements old) kept
-    → Passed (IsWithin expression_limit) (take place statements) (moves ++ name label ∷ [])
+    → Passed (IsWithin limit) (take place statements) moves (all_names_at statements old) kept
+    → Passed (IsWithin limit) (take place statements) (moves ++ name label ∷ [])
     (all_names_at statements new) kept
 
 -- the step by the label with a number breaks this rule first, on this stack
-abbrev pub StopsAt : List Sentence → (place id : ℕ) → List (List ℕ) → ProofRule → Type 0
-StopsAt statements place id stack rule =
+abbrev pub StopsAt : (limit : ℕ) → List Sentence → (place id : ℕ) → List (List ℕ) → ProofRule
+    → Type 0
+StopsAt limit statements place id stack rule =
     (label : List ℕ) (kept : List (List (List ℕ)))
     → IsNumberedMove statements (name id) (name label)
-    → FirstAtMove (IsWithin expression_limit) rule (take place statements)
+    → FirstAtMove (IsWithin limit) rule (take place statements)
     (all_names_at statements stack) kept (name label)
 
 -- what the move by number stands for may be made at the place
@@ -37,12 +38,12 @@ MayBeMade statements place mark = Unit {0}
 
 -- A front of the moves passed, in so many steps, whatever names it stands for, and left these lists
 -- of the store.
-pub record HasRun (statements : List Sentence) (place : ℕ) (front : List (Move ℕ))
+pub record HasRun (limit : ℕ) (statements : List Sentence) (place : ℕ) (front : List (Move ℕ))
     (stack kept : List (List ℕ)) (steps : ℕ) : Type 0 where
   pub count : steps ≡ steps_in front
   pub passed :
       (moves : List (Move (List ℕ))) → AreNumberedMoves statements front moves
-      → Passed (IsWithin expression_limit) (take place statements) moves
+      → Passed (IsWithin limit) (take place statements) moves
       (all_names_at statements stack) (all_names_at statements kept)
   pub entries : AreStackEntries statements (take place statements) stack
   pub kept_entries : AreStackEntries statements (take place statements) kept

@@ -1,9 +1,16 @@
 pub mod Substitution
 pub mod Tree
 pub mod Moves
+pub mod BigSubtrees
+pub mod Visits
+pub mod SharedSteps
+pub mod Sharing
+pub mod SharingLaws
 pub mod Tokens
 pub mod Proof
 pub mod Steps
+pub mod Profiles
+pub mod ReadSteps
 pub mod Parsed
 pub mod Used
 pub mod Listing
@@ -11,6 +18,9 @@ pub mod Verified
 pub mod Proving
 pub mod Expansion
 pub mod Laws
+pub mod OneTree
+pub mod Spelled
+pub mod Packing
 pub mod Answer
 pub mod Stores
 pub mod Buffer
@@ -19,3 +29,7 @@ pub mod CodeVerify
 pub mod CodeRun
 pub mod CodeApply
 pub mod CodeLines
+pub mod Subtrees
+pub mod Words
+pub mod CodeSharing
+pub mod Builders

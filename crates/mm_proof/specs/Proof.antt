@@ -22,10 +22,6 @@ use Rattle.mm_proof.specs.Tokens.{opening_token, closing_token, AreLabels, AreLe
 abbrev pub IsWithin : ℕ → List (List ℕ) → Type 0
 IsWithin limit e = length e ≤ limit
 
--- the most symbols of an expression that a step may make
-abbrev pub expression_limit : ℕ
-expression_limit = 1048576
-
 -- the rules that are judged over the whole proof
 abbrev pub BreaksWhole : ProofRule → List Sentence → List (List ℕ) → Type 0
 BreaksWhole P1 before tokens =

@@ -4,7 +4,7 @@ use Rattle.mm_frame.specs.Sentence.{Sentence}
 use Rattle.mm_proof.specs.Tree.{tree, none}
 use Rattle.mm_proof.specs.Moves.{Move}
 use Rattle.mm_proof.specs.declared.fault.ProofRule.{ProofRule}
-use Rattle.mm_proof.specs.Proof.{IsWithin, expression_limit, Prove, IsProvedWithin}
+use Rattle.mm_proof.specs.Proof.{IsWithin, Prove, IsProvedWithin}
 use Rattle.mm_proof.specs.Proof.{IsMovesFault, IsFault}
 use Rattle.mm_proof.specs.Steps.{AreNumberedMoves, IsProofNumber}
 use Rattle.mm_proof.specs.Used.{AreUsedNumbers, AreUsed}
@@ -18,34 +18,35 @@ OfMoves statements id steps P =
 
 -- the moves prove the statement, and these are the numbers of the assertions of its tree, in any
 -- order, each once or more
-abbrev pub ProvesUsingNumbers : List Sentence → ℕ → Sentence → List (Move (List ℕ)) → List ℕ
-    → Type 0
-ProvesUsingNumbers statements place s moves used =
-    (p : Prove (IsWithin expression_limit) (take place statements) s moves)
+abbrev pub ProvesUsingNumbers : (limit : ℕ) → List Sentence → ℕ → Sentence → List (Move (List ℕ))
+    → List ℕ → Type 0
+ProvesUsingNumbers limit statements place s moves used =
+    (p : Prove (IsWithin limit) (take place statements) s moves)
     × AreUsedNumbers (take place statements) (tree p.label p.below none) used
 
 -- the moves prove the statement, and these are the numbers of the assertions of its tree, each
 -- once, in database order
-abbrev pub ProvesUsing : List Sentence → ℕ → Sentence → List (Move (List ℕ)) → List ℕ → Type 0
-ProvesUsing statements place s moves used =
-    (p : Prove (IsWithin expression_limit) (take place statements) s moves)
+abbrev pub ProvesUsing : (limit : ℕ) → List Sentence → ℕ → Sentence → List (Move (List ℕ))
+    → List ℕ → Type 0
+ProvesUsing limit statements place s moves used =
+    (p : Prove (IsWithin limit) (take place statements) s moves)
     × AreUsed (take place statements) (tree p.label p.below none) used
 
 -- the first fault of the moves, as a proof of the statement at the place, is this rule at this step
-abbrev pub FailsWith : List Sentence → (place : ℕ) → Sentence → List (Move (List ℕ)) → ProofRule
-    → (step : ℕ) → Type 0
-FailsWith statements place s moves rule step =
-    IsMovesFault (IsWithin expression_limit) (take place statements) s moves rule step
+abbrev pub FailsWith : (limit : ℕ) → List Sentence → (place : ℕ) → Sentence
+    → List (Move (List ℕ)) → ProofRule → (step : ℕ) → Type 0
+FailsWith limit statements place s moves rule step =
+    IsMovesFault (IsWithin limit) (take place statements) s moves rule step
 
 -- The tokens prove the statement after those before it, and these are the numbers of the assertions
 -- of its tree, in any order, each once or more.
-pub record TokensProve (before : List Sentence) (s : Sentence) (tokens : List (List ℕ))
+pub record TokensProve (limit : ℕ) (before : List Sentence) (s : Sentence) (tokens : List (List ℕ))
     (used : List ℕ) : Type 0 where
-  pub proof : IsProvedWithin (IsWithin expression_limit) before s tokens
+  pub proof : IsProvedWithin (IsWithin limit) before s tokens
   pub all : AreUsedNumbers before (tree proof.proves.label proof.proves.below none) used
 
 -- the first fault of the tokens, as a proof of the statement after those before it, is this rule at
 -- this step
-abbrev pub TokensFail : List Sentence → Sentence → (tokens : List (List ℕ)) → ProofRule
-    → (step : ℕ) → Type 0
-TokensFail before s tokens rule step = IsFault (IsWithin expression_limit) before s tokens rule step
+abbrev pub TokensFail : (limit : ℕ) → List Sentence → Sentence → (tokens : List (List ℕ))
+    → ProofRule → (step : ℕ) → Type 0
+TokensFail limit before s tokens rule step = IsFault (IsWithin limit) before s tokens rule step

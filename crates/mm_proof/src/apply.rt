@@ -41,7 +41,7 @@ fn rule_broken<S: Store>(
     requires fits { length (S.stack store.now) < 2 ^ 64 }
     requires symbols { AreStackEntries book.now.statements (take own.now.place book.now.statements)
         (S.stack store.now) }
-    ensures { (id at : ℕ) (hs : List Sentence)
+    ensures { (limit id at : ℕ) (hs : List Sentence)
         → IsAppliedAssertion book.now.statements own.now.place id at
         (label_ids scheme.now.hypotheses.now) hs
         → ArePairs (record { statements = book.now.statements; place = at })
@@ -52,7 +52,7 @@ fn rule_broken<S: Store>(
         result
         (IsMatched book.now.statements own.now.place hs (variables_of scheme.now.hypotheses.now)
         (drop base (S.stack store.now)) (pairs_in scheme.now.pairs.now))
-        (λ rule. StopsAt book.now.statements own.now.place id (S.stack store.now) rule) }
+        (λ rule. StopsAt limit book.now.statements own.now.place id (S.stack store.now) rule) }
 {
     one_number();
     if !are_equal(store, base, book, scheme, floating) {
@@ -76,6 +76,7 @@ fn conclude<S: Store>(
     store: &mut S,
     base: usize,
     scheme: &Scheme,
+    limit: usize,
     number: usize,
 ) -> Result<(), ProofFault>
     requires entries { base + length scheme.now.hypotheses.now ≡ length (S.stack store.old) }
@@ -86,7 +87,7 @@ fn conclude<S: Store>(
         ((statements : List Sentence) (place id at : ℕ) → IsSound statements
         → IsReady statements place id at (variables_of scheme.now.hypotheses.now)
         (drop base (S.stack store.old)) scheme.now.conclusion.now
-        → CarriesOn statements place id (S.stack store.old) (S.stack store.new)) }
+        → CarriesOn limit statements place id (S.stack store.old) (S.stack store.new)) }
     ensures entries { OnOk result
         ((statements : List Sentence) (place id at : ℕ) → IsSound statements
         → IsReady statements place id at (variables_of scheme.now.hypotheses.now)
@@ -99,10 +100,10 @@ fn conclude<S: Store>(
         × ((statements : List Sentence) (place id at : ℕ) → IsSound statements
         → IsReady statements place id at (variables_of scheme.now.hypotheses.now)
         (drop base (S.stack store.old)) scheme.now.conclusion.now
-        → StopsAt statements place id (S.stack store.old) rule) }
+        → StopsAt limit statements place id (S.stack store.old) rule) }
 {
     one_number();
-    if !store.conclude(base, scheme.conclusion)? {
+    if !store.conclude(base, scheme.conclusion, limit)? {
         return Err(ProofFault::Rule {
             rule: ProofRule::L1,
             step: number,
@@ -118,6 +119,7 @@ pub(crate) fn apply<S: Store>(
     book: &Book,
     own: &Frame,
     scheme: &Scheme,
+    limit: usize,
     number: usize,
 ) -> Result<(), ProofFault>
     requires own { own.now.statements ≡ book.now.statements }
@@ -127,7 +129,8 @@ pub(crate) fn apply<S: Store>(
         (S.stack store.old) }
     ensures carried { OnOk result
         ((id : ℕ) → IsEarlierScheme book.now.statements own.now.place id scheme.now
-        → CarriesOn book.now.statements own.now.place id (S.stack store.old) (S.stack store.new)) }
+        → CarriesOn limit book.now.statements own.now.place id (S.stack store.old)
+        (S.stack store.new)) }
     ensures entries { OnOk result
         (AreStackEntries book.now.statements (take own.now.place book.now.statements)
         (S.stack store.new)) }
@@ -135,7 +138,7 @@ pub(crate) fn apply<S: Store>(
     ensures fault { (rule : ProofRule) → (at : ℕ) → result ≡ Err (ProofFault.Rule rule at)
         → (at ≡ number)
         × ((id : ℕ) → IsEarlierScheme book.now.statements own.now.place id scheme.now
-        → StopsAt book.now.statements own.now.place id (S.stack store.old) rule) }
+        → StopsAt limit book.now.statements own.now.place id (S.stack store.old) rule) }
 {
     let count = store.len();
     if count < scheme.hypotheses.len() {
@@ -153,6 +156,6 @@ pub(crate) fn apply<S: Store>(
     };
     match rule_broken(store, base, book, own, scheme, floating) {
         Some(rule) => Err(ProofFault::Rule { rule, step: number }),
-        None => conclude(store, base, scheme, number),
+        None => conclude(store, base, scheme, limit, number),
     }
 }

@@ -10,7 +10,6 @@ ghost use Rattle.mm_proof.specs.CodeVerify.{all_said_by, IsWithinPlaces};
 
 use crate::flat::Entry;
 use crate::said::{put_part_behind, put_pieces};
-use crate::substitution::EXPRESSION_LIMIT;
 use mm_frame::{ShortPiece, Sym};
 use std::alloc::{AllocError, Global};
 use std::marker::Model;
@@ -171,18 +170,24 @@ impl Buffer {
     /// Adds what the pieces say of the entries from the base on, where there is room for it and it
     /// is within the limit; else false is answered, and nothing is added.
     #[inline(always)]
-    pub(crate) fn has_put(&mut self, stack: &[Entry], base: usize, pieces: &[ShortPiece]) -> bool
+    pub(crate) fn has_put(
+        &mut self,
+        stack: &[Entry],
+        base: usize,
+        pieces: &[ShortPiece],
+        limit: usize,
+    ) -> bool
         requires parts { AreParts (length self.old) stack.now }
         requires within { AllByRecursion (IsWithinPlaces (length stack.now - base)) pieces.now }
         ensures { let whole = all_said_by (drop base (parts_of self.old stack.now)) pieces.now in
             MatchBool
             result
-            ((length whole ≤ 1048576) × (more : List Sym) × (self.new ≡ self.old ++ more)
+            ((length whole ≤ limit) × (more : List Sym) × (self.new ≡ self.old ++ more)
             × (numbers_in more ≡ whole))
             (self.new ≡ self.old) }
     {
         match put_pieces(&mut self.room, self.used, stack, base, pieces) {
-            Some(end) if end - self.used <= EXPRESSION_LIMIT => {
+            Some(end) if end - self.used <= limit => {
                 self.used = end;
                 true
             }

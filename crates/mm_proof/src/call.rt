@@ -10,7 +10,6 @@ ghost use Rattle.mm_proof.specs.CodeApply.{IsCallOf};
 use crate::apply::apply;
 use crate::fault::{ProofFault, ProofRule};
 use crate::store::Store;
-use crate::substitution::EXPRESSION_LIMIT;
 use mm_frame::{Book, Frame, LabelId, LabelKind, Scheme, Sym};
 
 /// What a label of a proof stands for.
@@ -42,6 +41,7 @@ pub(crate) fn step_by<S: Store>(
     book: &Book,
     own: &Frame,
     call: &Call,
+    limit: usize,
     number: usize,
 ) -> Result<(), ProofFault>
     requires own { own.now.statements ≡ book.now.statements }
@@ -51,7 +51,8 @@ pub(crate) fn step_by<S: Store>(
         (S.stack store.old) }
     ensures carried { OnOk result
         ((id : ℕ) → IsCallOf book.now.statements own.now.place id call.now
-        → CarriesOn book.now.statements own.now.place id (S.stack store.old) (S.stack store.new)) }
+        → CarriesOn limit book.now.statements own.now.place id (S.stack store.old)
+        (S.stack store.new)) }
     ensures entries { OnOk result
         (AreStackEntries book.now.statements (take own.now.place book.now.statements)
         (S.stack store.new)) }
@@ -59,11 +60,11 @@ pub(crate) fn step_by<S: Store>(
     ensures fault { (rule : ProofRule) → (at : ℕ) → result ≡ Err (ProofFault.Rule rule at)
         → (at ≡ number)
         × ((id : ℕ) → IsCallOf book.now.statements own.now.place id call.now
-        → StopsAt book.now.statements own.now.place id (S.stack store.old) rule) }
+        → StopsAt limit book.now.statements own.now.place id (S.stack store.old) rule) }
 {
     match call {
         Call::Hypothesis(expression) => {
-            if expression.len() > EXPRESSION_LIMIT {
+            if expression.len() > limit {
                 return Err(ProofFault::Rule {
                     rule: ProofRule::L1,
                     step: number,
@@ -72,6 +73,6 @@ pub(crate) fn step_by<S: Store>(
             store.push(expression)?;
             Ok(())
         }
-        Call::Assertion(scheme) => apply(store, book, own, scheme, number),
+        Call::Assertion(scheme) => apply(store, book, own, scheme, limit, number),
     }
 }

@@ -38,7 +38,8 @@ pub enum ProofRule {
     P13,
     /// That entry differs from the expression of the `$p`.
     P14,
-    /// A step pushes an expression of over 1,048,576 symbols, the type code counted.
+    /// A step pushes an expression of more symbols than the profile allows, the type code
+    /// counted.
     L1,
 }
 
@@ -67,5 +68,36 @@ impl<T: Drop> From<AllocFailed<T>> for ProofFault {
 
     fn from(_e: AllocFailed<T>) -> ProofFault {
         ProofFault::Memory
+    }
+}
+
+/// Why a proof isn't expanded.
+#[derive(Clone, Copy, PartialEq, Eq, Debug, Drop, Error)]
+pub enum ExpandFault {
+    /// It has more labels than are allowed.
+    #[error("the expanded proof has too many labels")]
+    L2,
+    /// A growth was refused.
+    #[error("out of memory")]
+    Memory,
+}
+
+impl From<AllocError> for ExpandFault {
+    ghost use Rattle.mm_proof.specs.declared.fault.ExpandFault.TheVariants as expand;
+
+    ghost from_gives = { λ _ e. e ≡ expand.Memory };
+
+    fn from(_e: AllocError) -> ExpandFault {
+        ExpandFault::Memory
+    }
+}
+
+impl<T: Drop> From<AllocFailed<T>> for ExpandFault {
+    ghost use Rattle.mm_proof.specs.declared.fault.ExpandFault.TheVariants as expand;
+
+    ghost from_gives = { λ _ e. e ≡ expand.Memory };
+
+    fn from(_e: AllocFailed<T>) -> ExpandFault {
+        ExpandFault::Memory
     }
 }

@@ -10,7 +10,6 @@ ghost use Rattle.mm_proof.specs.CodeVerify.{said_by, all_said_by, IsWithinPlaces
 
 use crate::buffer::Buffer;
 use crate::store::{Store, put_last};
-use crate::substitution::EXPRESSION_LIMIT;
 use mm_frame::{Piece, ShortPiece, Sym};
 use std::alloc::{AllocError, Global};
 
@@ -157,13 +156,14 @@ fn append_piece(
     base: usize,
     piece: Piece,
     start: usize,
+    limit: usize,
 ) -> Result<bool, AllocError>
     requires parts { AreParts (length symbols.old) stack.now }
     requires start { start ≤ length symbols.old }
     requires within { IsWithinPlaces (length stack.now - base) piece }
     ensures said { IfOk result (λ fits. (more : List Sym) × (symbols.new ≡ symbols.old ++ more)
         × (numbers_in more ≡ said_by (drop base (parts_of symbols.old stack.now)) piece)) }
-    ensures over { IfOk result (λ fits. fits ≡ false → 1048576 < length symbols.new - start) }
+    ensures over { IfOk result (λ fits. fits ≡ false → limit < length symbols.new - start) }
     ensures grown { (rest : List Sym) × (symbols.new ≡ symbols.old ++ rest) }
 {
     match piece {
@@ -175,7 +175,7 @@ fn append_piece(
             let entry = stack[base + place as usize];
             let first = value_start(entry);
             symbols.append_part(first, entry.end)?;
-            Ok(entry.end - first == 1 || symbols.len() - start <= EXPRESSION_LIMIT)
+            Ok(entry.end - first == 1 || symbols.len() - start <= limit)
         }
     }
 }
@@ -190,24 +190,25 @@ fn append_pieces(
     stack: &[Entry],
     base: usize,
     pieces: &[ShortPiece],
+    limit: usize,
 ) -> Result<bool, AllocError>
     requires parts { AreParts (length symbols.old) stack.now }
     requires within { AllByRecursion (IsWithinPlaces (length stack.now - base)) pieces.now }
     ensures said { IfOk result (λ fits.
         let whole = all_said_by (drop base (parts_of symbols.old stack.now)) pieces.now in MatchBool
         fits
-        ((length whole ≤ 1048576) × (more : List Sym) × (symbols.new ≡ symbols.old ++ more)
+        ((length whole ≤ limit) × (more : List Sym) × (symbols.new ≡ symbols.old ++ more)
         × (numbers_in more ≡ whole))
-        (1048576 < length whole)) }
+        (limit < length whole)) }
     ensures grown { (rest : List Sym) × (symbols.new ≡ symbols.old ++ rest) }
 {
     let start = symbols.len();
     for piece in pieces {
-        if !append_piece(symbols, stack, base, piece.piece(), start)? {
+        if !append_piece(symbols, stack, base, piece.piece(), start, limit)? {
             return Ok(false);
         }
     }
-    Ok(symbols.len() - start <= EXPRESSION_LIMIT)
+    Ok(symbols.len() - start <= limit)
 }
 
 // Does as `append_pieces`, and sooner where there is room for what the pieces say.
@@ -217,21 +218,22 @@ fn put_said(
     stack: &[Entry],
     base: usize,
     pieces: &[ShortPiece],
+    limit: usize,
 ) -> Result<bool, AllocError>
     requires parts { AreParts (length symbols.old) stack.now }
     requires within { AllByRecursion (IsWithinPlaces (length stack.now - base)) pieces.now }
     ensures said { IfOk result (λ fits.
         let whole = all_said_by (drop base (parts_of symbols.old stack.now)) pieces.now in MatchBool
         fits
-        ((length whole ≤ 1048576) × (more : List Sym) × (symbols.new ≡ symbols.old ++ more)
+        ((length whole ≤ limit) × (more : List Sym) × (symbols.new ≡ symbols.old ++ more)
         × (numbers_in more ≡ whole))
-        (1048576 < length whole)) }
+        (limit < length whole)) }
     ensures grown { (rest : List Sym) × (symbols.new ≡ symbols.old ++ rest) }
 {
-    if symbols.has_put(stack, base, pieces) {
+    if symbols.has_put(stack, base, pieces, limit) {
         return Ok(true);
     }
-    append_pieces(symbols, stack, base, pieces)
+    append_pieces(symbols, stack, base, pieces, limit)
 }
 
 // How much of the buffer the entries need.
@@ -292,9 +294,14 @@ impl Store for Flat {
         }
     }
 
-    fn conclude(&mut self, base: usize, pieces: &[ShortPiece]) -> Result<bool, AllocError> {
+    fn conclude(
+        &mut self,
+        base: usize,
+        pieces: &[ShortPiece],
+        limit: usize,
+    ) -> Result<bool, AllocError> {
         let start = self.symbols.len();
-        if !put_said(&mut self.symbols, &self.stack, base, pieces)? {
+        if !put_said(&mut self.symbols, &self.stack, base, pieces, limit)? {
             return Ok(false);
         }
         if self.symbols.len() >= self.next_cut {

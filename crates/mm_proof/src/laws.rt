@@ -3,6 +3,8 @@
 ghost use Rattle.mm_proof.specs.Laws.{OneFit, OneTree, OneWord, ByWord, BySpelling};
 ghost use Rattle.mm_proof.specs.Laws.{SomeProofVerdict, OneProofVerdict, LimitsAside};
 ghost use Rattle.mm_proof.specs.Laws.{MarkBeforeAnyStep, TagOverMarks};
+ghost use Rattle.mm_proof.specs.SharingLaws.{OnePacked, SomePacked};
+ghost use Rattle.mm_proof.specs.SharingLaws.{StepsMakeChildren, FewestSteps, ToldByPacked};
 
 /// A spelling spells one tree.
 ///
@@ -94,4 +96,45 @@ pub fn mark_before_any_step()
 /// `P6` exactly where it is over these and the tags so far. This holds for each limit.
 pub fn tag_over_marks()
     ensures { TagOverMarks }
+{}
+
+/// A tree has one fully shared proof at most.
+///
+/// After statements that break no rule of meaning, two fully shared proofs of one tree have the same
+/// listed labels and the same codes.
+pub fn one_packed()
+    ensures { OnePacked }
+{}
+
+/// What a proof of a tree has at least.
+///
+/// A compressed proof that makes a tree has one step, and one more for each child of each tree that
+/// its steps by labels make; a hypothesis has no children. Each subtree is among these trees.
+pub fn steps_make_children()
+    ensures { StepsMakeChildren }
+{}
+
+/// A fully shared proof has the fewest steps.
+///
+/// It makes each subtree of two or more nodes once, so that it has one step, and one more for each
+/// child of each of these subtrees. No compressed proof that makes the same tree has fewer steps.
+pub fn fewest_steps()
+    ensures { FewestSteps }
+{}
+
+/// Two trees are equal exactly if their fully shared proofs are.
+///
+/// After statements that break no rule of meaning, the listed labels and the codes of the fully
+/// shared proofs of two trees are the same exactly if the trees are.
+pub fn told_by_packed()
+    ensures { ToldByPacked }
+{}
+
+/// A tree that fits has a fully shared proof.
+///
+/// After statements in form each tree that fits (each leaf names an active hypothesis, each node an
+/// earlier assertion, with as many trees below as it has mandatory hypotheses) has one, whether it
+/// derives anything or not.
+pub fn some_packed()
+    ensures { SomePacked }
 {}

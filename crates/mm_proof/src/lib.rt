@@ -3,36 +3,51 @@
 
 mod apply;
 mod buffer;
+mod builder;
 mod call;
+mod expansion;
 mod fault;
 mod flat;
+mod label_set;
 mod labels;
 mod laws;
 mod lines;
 mod moves;
+mod packing;
 mod pairs;
 mod parse;
 mod picked;
+mod profile;
 mod prover;
 mod rows;
 mod run;
 mod said;
+mod sameness;
+mod sharing;
 mod step;
 mod store;
 mod substitution;
+mod subtree_set;
+mod subtrees;
 mod used;
 mod verdict;
+mod words;
 
-pub use fault::{ProofFault, ProofRule};
+pub use expansion::expand;
+pub use fault::{ExpandFault, ProofFault, ProofRule};
 pub use flat::Flat;
 pub use laws::{
-    by_spelling, by_word, limits_aside, mark_before_any_step, one_fit, one_tree, one_verdict,
-    one_word, some_verdict, tag_over_marks,
+    by_spelling, by_word, fewest_steps, limits_aside, mark_before_any_step, one_fit, one_packed,
+    one_tree, one_verdict, one_word, some_packed, some_verdict, steps_make_children,
+    tag_over_marks, told_by_packed,
 };
 pub use lines::{Line, Name, listing};
 pub use moves::{Parsed, Steps};
+pub use packing::{Packed, compress};
+pub use profile::Profile;
 pub use prover::{Proved, Prover};
 pub use rows::Rows;
+pub use sameness::same;
 pub use store::Store;
 pub use used::Used;
 pub use verdict::verify;

@@ -11,7 +11,8 @@ ghost use Rattle.mm_proof.specs.declared.fault.ProofRule.{ProofRule};
 ghost use Rattle.mm_proof.specs.Answer.{IsUnlessMemory};
 ghost use Rattle.mm_proof.specs.Stores.{numbers_in};
 ghost use Rattle.mm_proof.specs.Moves.{Move};
-ghost use Rattle.mm_proof.specs.Proof.{Prove, IsWithin, expression_limit, IsMovesFault};
+ghost use Rattle.mm_proof.specs.Proof.{Prove, IsWithin, IsMovesFault};
+ghost use Rattle.mm_proof.specs.Profiles.{limit_of};
 ghost use Rattle.mm_proof.specs.Steps.{AreNumberedMoves, AreSteps};
 ghost use Rattle.mm_proof.specs.Listing.{AreLinesOf};
 ghost use Rattle.mm_proof.specs.Verified.{OfMoves};
@@ -22,6 +23,7 @@ ghost use Rattle.mm_proof.specs.CodeLines.{AreLinesAt, BreaksAt, ListsProof, Fau
 use crate::fault::ProofFault;
 use crate::flat::Flat;
 use crate::moves::{NumberedMove, Steps};
+use crate::profile::Profile;
 use crate::store::Store;
 use crate::verdict::{ending, mark, step, step_again};
 use mm_frame::{Book, Frame, LabelId, Sym, one_number};
@@ -66,6 +68,7 @@ fn lines_of<S: Store>(
     book: &Book,
     own: &Frame,
     moves: &[NumberedMove],
+    limit: usize,
 ) -> Result<Vec<Line>, ProofFault>
     requires own { own.now.statements ≡ book.now.statements }
     requires sound { IsSound book.now.statements }
@@ -76,12 +79,12 @@ fn lines_of<S: Store>(
     requires room { length moves.now < 2 ^ 32 }
     requires stack { S.stack store.old ≡ [] }
     requires kept { S.kept store.old ≡ [] }
-    ensures run { IfOk result (λ lines. HasRun book.now.statements own.now.place
+    ensures run { IfOk result (λ lines. HasRun limit book.now.statements own.now.place
         (moves_in moves.now) (S.stack store.new) (S.kept store.new) (length lines.items)) }
     ensures lines { IfOk result (λ lines. AreLinesAt book.now.statements own.now.place
         (moves_in moves.now) lines.items) }
     ensures fault { (rule : ProofRule) → (at : ℕ) → result ≡ Err (ProofFault.Rule rule at)
-        → BreaksAt book.now.statements own.now.place (moves_in moves.now) rule at }
+        → BreaksAt limit book.now.statements own.now.place (moves_in moves.now) rule at }
 {
     let mut lines = Vec::new(alloc);
     // For each mark, the number of the step before it.
@@ -90,7 +93,7 @@ fn lines_of<S: Store>(
         let number = lines.len() + 1;
         match one {
             NumberedMove::Name(id) => {
-                step(store, book, own, *id, number)?;
+                step(store, book, own, *id, limit, number)?;
                 lines.push(last_line(alloc, store, Name::Label(*id))?)?;
             }
             NumberedMove::Again(tag) => {
@@ -115,6 +118,7 @@ fn lines_in_frame<S: Store>(
     own: &Frame,
     id: LabelId,
     moves: &[NumberedMove],
+    limit: usize,
 ) -> Result<Vec<Line>, ProofFault>
     requires own { own.now.statements ≡ book.now.statements }
     requires number { (s : Sentence) × IsNumbered book.now.statements id.0 own.now.place s }
@@ -123,12 +127,12 @@ fn lines_in_frame<S: Store>(
     requires stack { S.stack store.old ≡ [] }
     requires kept { S.kept store.old ≡ [] }
     requires steps { AreSteps book.now.statements id.0 (moves_in moves.now) }
-    ensures listed { IfOk result (λ lines. ListsProof book.now.statements id.0
+    ensures listed { IfOk result (λ lines. ListsProof limit book.now.statements id.0
         (moves_in moves.now) lines.items) }
-    ensures fault { IfErr result (FaultsProof book.now.statements id.0 (moves_in moves.now)) }
+    ensures fault { IfErr result (FaultsProof limit book.now.statements id.0 (moves_in moves.now)) }
 {
     one_number();
-    let lines = lines_of(alloc, store, book, own, moves)?;
+    let lines = lines_of(alloc, store, book, own, moves, limit)?;
     ending(store, own.expression(), lines.len() + 1)?;
     Ok(lines)
 }
@@ -139,17 +143,20 @@ fn lines_of_proof(
     book: &Book,
     id: LabelId,
     moves: &[NumberedMove],
+    profile: Profile,
 ) -> Result<Vec<Line>, ProofFault>
     requires room { length moves.now < 2 ^ 32 }
     requires steps { AreSteps book.now.statements id.0 (moves_in moves.now) }
-    ensures listed { IfOk result (λ lines. ListsProof book.now.statements id.0
+    ensures listed { IfOk result (λ lines. ListsProof (limit_of profile) book.now.statements id.0
         (moves_in moves.now) lines.items) }
-    ensures fault { IfErr result (FaultsProof book.now.statements id.0 (moves_in moves.now)) }
+    ensures fault { IfErr result (FaultsProof (limit_of profile) book.now.statements id.0
+        (moves_in moves.now)) }
     ensures sound { IsSound book.now.statements }
 {
     let own = book.frame(id);
     let mut store = Flat::new(alloc);
-    lines_in_frame(alloc, &mut store, book, &own, id, moves)
+    let limit = profile.limit();
+    lines_in_frame(alloc, &mut store, book, &own, id, moves, limit)
 }
 
 /// The steps of the `$p` with this number, which these moves prove, in order: what each is called,
@@ -166,30 +173,30 @@ pub fn listing(
     id: LabelId,
     steps: &Steps,
 ) -> Result<Vec<Line>, ProofFault>
-    requires { AreSteps book.now.statements id.0 steps.now }
+    requires { AreSteps book.now.statements id.0 steps.now.moves }
     // The lines are those of the steps: each with its name, and the expression that its tree
     // derives.
-    ensures listed { IfOk result (λ lines. OfMoves book.now.statements id.0 steps.now
+    ensures listed { IfOk result (λ lines. OfMoves book.now.statements id.0 steps.now.moves
         (λ place s moves. AreLinesOf book.now.statements (take place book.now.statements) moves
         lines.items)) }
 
     // The rule and the step are those of the first fault.
     ensures fault { (rule : ProofRule) → (step : ℕ) → result ≡ Err (ProofFault.Rule rule step)
-        → OfMoves book.now.statements id.0 steps.now
-        (λ place s moves. IsMovesFault (IsWithin expression_limit)
+        → OfMoves book.now.statements id.0 steps.now.moves
+        (λ place s moves. IsMovesFault (IsWithin (limit_of steps.now.profile))
         (take place book.now.statements) s moves rule step) }
 
     // What is proved is listed, unless memory is refused.
-    ensures accepts { OfMoves book.now.statements id.0 steps.now
+    ensures accepts { OfMoves book.now.statements id.0 steps.now.moves
         (λ place s moves.
-        Prove (IsWithin expression_limit) (take place book.now.statements) s moves
+        Prove (IsWithin (limit_of steps.now.profile)) (take place book.now.statements) s moves
         → IsOkUnless result ProofFault.Memory) }
 
     // What has a fault is answered with it, unless memory is refused.
-    ensures refuses { OfMoves book.now.statements id.0 steps.now
+    ensures refuses { OfMoves book.now.statements id.0 steps.now.moves
         (λ place s moves. (rule : ProofRule) → (step : ℕ) → IsMovesFault
-        (IsWithin expression_limit) (take place book.now.statements) s moves rule step
+        (IsWithin (limit_of steps.now.profile)) (take place book.now.statements) s moves rule step
         → IsUnlessMemory result (Err (ProofFault.Rule rule step))) }
 {
-    lines_of_proof(alloc, book, id, &steps.moves)
+    lines_of_proof(alloc, book, id, &steps.moves, steps.profile)
 }

@@ -2,6 +2,7 @@
 
 ghost use Rattle.std.specs.Prelude.{◌≤◌, length};
 
+use crate::profile::Profile;
 use mm_frame::LabelId;
 use std::marker::Model;
 
@@ -16,23 +17,23 @@ pub(crate) enum NumberedMove {
     Mark,
 }
 
-/// The moves of a proof, read from its tokens.
+/// The moves of a proof, read from its tokens, and the profile under which they are judged.
 #[derive(Drop)]
 pub struct Steps {
+    pub(crate) profile: Profile,
     pub(crate) moves: Vec<NumberedMove>,
     /// As many as the tokens of a proof have bytes, at most.
     ghost few: { length moves.items ≤ 1073741824 },
 }
 
 impl Model for Steps {
-    ghost use Rattle.std.specs.Prelude.{ℕ, List};
-    ghost use Rattle.mm_proof.specs.Moves.{Move};
+    ghost use Rattle.mm_proof.specs.ReadSteps.{ReadSteps};
 
-    ghost Value = { List (Move ℕ) };
+    ghost Value = { ReadSteps };
 
     ghost use Rattle.mm_proof.specs.CodeSteps.{moves_in};
 
-    ghost view = { λ s. moves_in s.moves.items };
+    ghost view = { λ s. record { profile = s.profile; moves = moves_in s.moves.items } };
 }
 
 /// What the tokens of a proof are.

@@ -15,6 +15,7 @@ ghost use Rattle.mm_proof.specs.Tokens.{opening_token, closing_token};
 ghost use Rattle.mm_proof.specs.Moves.{Move, name};
 ghost use Rattle.mm_proof.specs.Proof.{IsWholeFault};
 ghost use Rattle.mm_proof.specs.Steps.{AreSteps, IsProofNumber};
+ghost use Rattle.mm_proof.specs.ReadSteps.{ReadSteps};
 ghost use Rattle.mm_proof.specs.Parsed.{OfProof, SaySteps};
 ghost use Rattle.mm_proof.specs.CodeSteps.{IsReading, NumberSays, MayAllBeUsed, fault_behind};
 ghost use Rattle.mm_proof.specs.CodeSteps.{ids_in, label_ids, move_in, moves_in, token_texts};
@@ -25,6 +26,7 @@ use crate::fault::{ProofFault, ProofRule};
 use crate::labels::fill_numbers;
 use crate::moves::{NumberedMove, Parsed, Steps};
 use crate::picked::{Picked, fill_marked, fill_picked, unmark};
+use crate::profile::Profile;
 use mm_code::{Code, CodeFault, CodeRule, fill_codes};
 use mm_frame::{Book, Frame, Guesses, Hypothesis, LabelId};
 use mm_text::Token;
@@ -53,7 +55,7 @@ impl<'a> ParseLists<'a> {
     pub(crate) fn new(alloc: Global) -> ParseLists<'a> {
         ParseLists {
             ids: Vec::new(alloc),
-            guesses: Guesses::new(),
+            guesses: Guesses::new(alloc),
             entries: Vec::new(alloc),
             letters: Vec::new(alloc),
             codes: Vec::new(alloc),
@@ -410,6 +412,7 @@ pub(crate) fn fill_steps<'a>(
 // The moves that the tokens, none of which holds a `?`, say as a proof of the `$p` of the frame.
 fn steps_of(
     alloc: Global,
+    profile: Profile,
     book: &Book,
     own: &Frame,
     id: LabelId,
@@ -422,15 +425,19 @@ fn steps_of(
     requires filled { AllByRecursion (λ t. 1 ≤ length t) (token_texts tokens.now) }
     requires room { sum_by length (token_texts tokens.now) ≤ 1073741824 }
     ensures steps { IfOk result (λ steps. OfProof book.now.statements id.0
-        (λ place s. SaySteps book.now.statements place s (token_texts tokens.now) steps)) }
-    ensures usable { IfOk result (λ steps. AreSteps book.now.statements id.0 steps) }
+        (λ place s. SaySteps book.now.statements place s (token_texts tokens.now) steps.moves)) }
+    ensures usable { IfOk result (λ steps. AreSteps book.now.statements id.0 steps.moves) }
+    ensures profile { IfOk result (λ steps. steps.profile ≡ profile) }
     ensures fault { IfErr result (λ e. OnRule e (λ rule step.
         OfProof book.now.statements id.0 (λ place s. (step ≡ 0)
         × IsWholeFault (take place book.now.statements) (token_texts tokens.now) rule))) }
 {
     let mut lists = ParseLists::new(alloc);
     fill_steps(&mut lists, book, own, id, tokens)?;
-    Ok(Steps { moves: lists.moves })
+    Ok(Steps {
+        profile,
+        moves: lists.moves,
+    })
 }
 
 // Tokens with these texts, which stand nowhere.
@@ -449,10 +456,11 @@ fn tokens_with<'a>(alloc: Global, pieces: &[&'a [u8]]) -> Result<Vec<Token<'a>>,
 }
 
 impl Steps {
-    /// The moves that the tokens say as a proof of the `$p` with this number; or that a step is
-    /// unknown; or the first of P1 to P5 that they break, at step 0.
+    /// The moves that the tokens say as a proof of the `$p` with this number, which are judged under
+    /// the profile; or that a step is unknown; or the first of P1 to P5 that they break, at step 0.
     pub fn parse(
         alloc: Global,
+        profile: Profile,
         book: &Book,
         id: LabelId,
         tokens: &[&[u8]],
@@ -466,11 +474,15 @@ impl Steps {
         ensures complete { IsIncomplete (texts tokens.now) → result ≡ Ok Parsed.Incomplete }
 
         // The moves are what the tokens say, and each may be made.
-        ensures steps { (steps : List (Move ℕ)) → result ≡ Ok (Parsed.Steps steps)
+        ensures steps { (steps : ReadSteps) → result ≡ Ok (Parsed.Steps steps)
             → OfProof book.now.statements id.0
-            (λ place s. SaySteps book.now.statements place s (texts tokens.now) steps) }
-        ensures usable { (steps : List (Move ℕ)) → result ≡ Ok (Parsed.Steps steps)
-            → AreSteps book.now.statements id.0 steps }
+            (λ place s. SaySteps book.now.statements place s (texts tokens.now) steps.moves) }
+        ensures usable { (steps : ReadSteps) → result ≡ Ok (Parsed.Steps steps)
+            → AreSteps book.now.statements id.0 steps.moves }
+
+        // They are judged under this profile.
+        ensures profile { (steps : ReadSteps) → result ≡ Ok (Parsed.Steps steps)
+            → steps.profile ≡ profile }
 
         // The rule is the first that is broken over the whole proof.
         ensures fault { (rule : ProofRule) → (step : ℕ) → result ≡ Err (ProofFault.Rule rule step)
@@ -481,7 +493,7 @@ impl Steps {
             return Ok(Parsed::Incomplete);
         }
         let tokens = tokens_with(alloc, tokens)?;
-        match steps_of(alloc, book, &book.frame(id), id, &tokens) {
+        match steps_of(alloc, profile, book, &book.frame(id), id, &tokens) {
             Ok(steps) => Ok(Parsed::Steps(steps)),
             Err(fault) => Err(fault),
         }

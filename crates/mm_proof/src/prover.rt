@@ -14,7 +14,8 @@ ghost use Rattle.mm_frame.specs.Rules.{IsMeant, FirstBroken};
 ghost use Rattle.mm_frame.specs.Taken.{TakenAs};
 ghost use Rattle.mm_proof.specs.Answer.{OnRule, IsUnlessMemory};
 ghost use Rattle.mm_proof.specs.Tokens.{IsIncomplete, opening_token};
-ghost use Rattle.mm_proof.specs.Proof.{IsProvedWithin, IsWithin, expression_limit};
+ghost use Rattle.mm_proof.specs.Proof.{IsProvedWithin, IsWithin};
+ghost use Rattle.mm_proof.specs.Profiles.{limit_of};
 ghost use Rattle.mm_proof.specs.Steps.{IsProofNumber};
 ghost use Rattle.mm_proof.specs.Parsed.{OfProof};
 ghost use Rattle.mm_proof.specs.Verified.{TokensProve, TokensFail};
@@ -23,11 +24,12 @@ ghost use Rattle.mm_proof.specs.CodeSteps.{ids_in, token_texts};
 use crate::fault::{ProofFault, ProofRule};
 use crate::flat::Flat;
 use crate::parse::{ParseLists, fill_steps, is_byte, is_incomplete, read_compressed};
+use crate::profile::Profile;
 use crate::run::judgement_of_codes;
 use crate::used::Named;
 use crate::verdict::judgement_in_frame;
 use mm_frame::{Book, Frame, LabelId, RuleFault, Taken};
-use mm_text::{Statement, Token};
+use mm_text::{Seed, Statement, Token};
 use std::alloc::Global;
 use std::marker::Model;
 
@@ -67,12 +69,12 @@ impl<'a> Model for Prover<'a> {
 }
 
 impl<'a> Prover<'a> {
-    /// A prover with a book of no statements.
-    pub fn new(alloc: Global) -> Result<Prover<'a>, RuleFault>
+    /// A prover with a book of no statements. The hashes of what is looked up begin from the seed.
+    pub fn new(alloc: Global, seed: Seed) -> Result<Prover<'a>, RuleFault>
         ensures ok { IfOk result (λ prover. prover.book ≡ record { statements = []; bytes = 0 }) }
         ensures memory { IfErr result (λ fault. fault ≡ Memory) }
     {
-        match Book::new(alloc) {
+        match Book::new(alloc, seed) {
             Ok(book) => Ok(Prover {
                 alloc,
                 book,
@@ -129,12 +131,17 @@ impl<'a> Prover<'a> {
         self.book.take(statement)
     }
 
-    /// Whether the tokens are a proof of the `$p` with this number, unless one of them holds a `?`;
-    /// `used` then gives the assertions of its tree. Or the first of P1 to P14 and L1 that they
-    /// break, with the number of the step, 0 for P1 to P5.
+    /// Whether the tokens are, under the profile, a proof of the `$p` with this number, unless one
+    /// of them holds a `?`; `used` then gives the assertions of its tree. Or the first of P1 to P14
+    /// and L1 that they break, with the number of the step, 0 for P1 to P5.
     ///
     /// It answers what `Steps::parse` and then `verify` do, in memory that all proofs use.
-    pub fn prove(&mut self, id: LabelId, tokens: &[Token<'a>]) -> Result<Proved, ProofFault>
+    pub fn prove(
+        &mut self,
+        profile: Profile,
+        id: LabelId,
+        tokens: &[Token<'a>],
+    ) -> Result<Proved, ProofFault>
         requires { (place : ℕ) × (s : Sentence)
             × IsProofNumber self.old.book.statements id.0 place s }
         // A proof with an unknown step is told apart.
@@ -146,27 +153,27 @@ impl<'a> Prover<'a> {
         // What is answered to be complete is proved, and these are the assertions of its tree.
         ensures proved { result ≡ Ok Proved.Complete
             → OfProof self.old.book.statements id.0 (λ place s.
-            TokensProve (take place self.old.book.statements) s (token_texts tokens.now)
-            self.new.used) }
+            TokensProve (limit_of profile) (take place self.old.book.statements) s
+            (token_texts tokens.now) self.new.used) }
 
         // The rule and the step are those of the first fault.
         ensures fault { (rule : ProofRule) → (step : ℕ)
             → result ≡ Err (ProofFault.Rule rule step)
             → OfProof self.old.book.statements id.0 (λ place s.
-            TokensFail (take place self.old.book.statements) s (token_texts tokens.now)
-            rule step) }
+            TokensFail (limit_of profile) (take place self.old.book.statements) s
+            (token_texts tokens.now) rule step) }
 
         // What is proved has no fault, unless memory is refused.
         ensures accepts { OfProof self.old.book.statements id.0 (λ place s.
-            IsProvedWithin (IsWithin expression_limit) (take place self.old.book.statements) s
+            IsProvedWithin (IsWithin (limit_of profile)) (take place self.old.book.statements) s
             (token_texts tokens.now) → IsOkUnless result ProofFault.Memory) }
 
         // What has a fault is answered with it, unless a step is unknown or memory is refused.
         ensures refuses { ¬ (IsIncomplete (token_texts tokens.now))
             → OfProof self.old.book.statements id.0 (λ place s.
             (rule : ProofRule) → (step : ℕ)
-            → TokensFail (take place self.old.book.statements) s (token_texts tokens.now)
-            rule step → IsUnlessMemory result (Err (ProofFault.Rule rule step))) }
+            → TokensFail (limit_of profile) (take place self.old.book.statements) s
+            (token_texts tokens.now) rule step → IsUnlessMemory result (Err (ProofFault.Rule rule step))) }
 
         // No proof changes the book.
         ensures book { self.new.book ≡ self.old.book }
@@ -179,6 +186,7 @@ impl<'a> Prover<'a> {
             &self.book,
             id,
             tokens,
+            profile,
         ) {
             Ok(()) => Ok(Proved::Complete),
             // No label and no letter holds a `?`, so a proof with one always comes here.
@@ -211,22 +219,23 @@ fn prove_by_moves<'a>(
     own: &Frame,
     id: LabelId,
     tokens: &[Token<'a>],
+    limit: usize,
 ) -> Result<(), ProofFault>
     requires own { own.now.statements ≡ book.now.statements }
     requires number { (s : Sentence) × IsNumbered book.now.statements id.0 own.now.place s }
     requires sound { IsSound book.now.statements }
     requires proof { (place : ℕ) × (s : Sentence) × IsProofNumber book.now.statements id.0 place s }
     ensures proved { OnOk result (OfProof book.now.statements id.0 (λ place s.
-        TokensProve (take place book.now.statements) s (token_texts tokens.now)
+        TokensProve limit (take place book.now.statements) s (token_texts tokens.now)
         (ids_in named.new.ids.items))) }
     ensures fault { IfErr result (λ e. OnRule e (λ rule step.
         OfProof book.now.statements id.0 (λ place s.
-        TokensFail (take place book.now.statements) s (token_texts tokens.now) rule step))) }
+        TokensFail limit (take place book.now.statements) s (token_texts tokens.now) rule step))) }
 {
     fill_steps(lists, book, own, id, tokens)?;
     store.clear();
     let picked = &lists.picked.ids;
-    judgement_in_frame(store, named, book, own, id, &lists.moves, picked)
+    judgement_in_frame(store, named, book, own, id, &lists.moves, picked, limit)
 }
 
 // Whether the tokens, of which these come after the `(`, prove the `$p` of the frame, by the codes
@@ -240,6 +249,7 @@ fn prove_by_codes<'a>(
     own: &Frame,
     id: LabelId,
     rest: &[Token<'a>],
+    limit: usize,
 ) -> Result<(), ProofFault>
     requires own { own.now.statements ≡ book.now.statements }
     requires number { (s : Sentence) × IsNumbered book.now.statements id.0 own.now.place s }
@@ -247,10 +257,10 @@ fn prove_by_codes<'a>(
     requires proof { (place : ℕ) × (s : Sentence) × IsProofNumber book.now.statements id.0 place s }
     ensures proved { let tokens = opening_token ∷ token_texts rest.now in
         OnOk result (OfProof book.now.statements id.0 (λ place s.
-        TokensProve (take place book.now.statements) s tokens (ids_in named.new.ids.items))) }
+        TokensProve limit (take place book.now.statements) s tokens (ids_in named.new.ids.items))) }
     ensures fault { let tokens = opening_token ∷ token_texts rest.now in
         IfErr result (λ e. OnRule e (λ rule step. OfProof book.now.statements id.0 (λ place s.
-        TokensFail (take place book.now.statements) s tokens rule step))) }
+        TokensFail limit (take place book.now.statements) s tokens rule step))) }
 {
     read_compressed(lists, book, own, id, rest)?;
     store.clear();
@@ -264,6 +274,7 @@ fn prove_by_codes<'a>(
         id,
         &lists.entries,
         &lists.codes,
+        limit,
     )
 }
 
@@ -278,23 +289,24 @@ fn prove_in_frame<'a>(
     own: &Frame,
     id: LabelId,
     tokens: &[Token<'a>],
+    limit: usize,
 ) -> Result<(), ProofFault>
     requires own { own.now.statements ≡ book.now.statements }
     requires number { (s : Sentence) × IsNumbered book.now.statements id.0 own.now.place s }
     requires sound { IsSound book.now.statements }
     requires proof { (place : ℕ) × (s : Sentence) × IsProofNumber book.now.statements id.0 place s }
     ensures proved { OnOk result (OfProof book.now.statements id.0 (λ place s.
-        TokensProve (take place book.now.statements) s (token_texts tokens.now)
+        TokensProve limit (take place book.now.statements) s (token_texts tokens.now)
         (ids_in named.new.ids.items))) }
     ensures fault { IfErr result (λ e. OnRule e (λ rule step.
         OfProof book.now.statements id.0 (λ place s.
-        TokensFail (take place book.now.statements) s (token_texts tokens.now) rule step))) }
+        TokensFail limit (take place book.now.statements) s (token_texts tokens.now) rule step))) }
 {
     match tokens {
         [first, rest @ ..] if is_byte(first.text, b'(') => {
-            prove_by_codes(alloc, store, named, lists, book, own, id, rest)
+            prove_by_codes(alloc, store, named, lists, book, own, id, rest, limit)
         }
-        _ => prove_by_moves(store, named, lists, book, own, id, tokens),
+        _ => prove_by_moves(store, named, lists, book, own, id, tokens, limit),
     }
 }
 
@@ -308,16 +320,19 @@ fn prove_tokens<'a>(
     book: &Book,
     id: LabelId,
     tokens: &[Token<'a>],
+    profile: Profile,
 ) -> Result<(), ProofFault>
     requires { (place : ℕ) × (s : Sentence) × IsProofNumber book.now.statements id.0 place s }
     ensures proved { OnOk result (OfProof book.now.statements id.0 (λ place s.
-        TokensProve (take place book.now.statements) s (token_texts tokens.now)
+        TokensProve (limit_of profile) (take place book.now.statements) s (token_texts tokens.now)
         (ids_in named.new.ids.items))) }
     ensures fault { IfErr result (λ e. OnRule e (λ rule step.
         OfProof book.now.statements id.0 (λ place s.
-        TokensFail (take place book.now.statements) s (token_texts tokens.now) rule step))) }
+        TokensFail (limit_of profile) (take place book.now.statements) s (token_texts tokens.now)
+        rule step))) }
     ensures sound { IsSound book.now.statements }
 {
     let own = book.frame(id);
-    prove_in_frame(alloc, store, named, lists, book, &own, id, tokens)
+    let limit = profile.limit();
+    prove_in_frame(alloc, store, named, lists, book, &own, id, tokens, limit)
 }

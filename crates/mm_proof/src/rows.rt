@@ -7,7 +7,7 @@ ghost use Rattle.mm_proof.specs.Stores.{numbers_in, rows_in};
 ghost use Rattle.mm_proof.specs.CodeVerify.{said_by, all_said_by, IsWithinPlaces};
 
 use crate::store::{Store, put_last};
-use crate::substitution::{EXPRESSION_LIMIT, after_first, append_value};
+use crate::substitution::{after_first, append_value};
 use mm_frame::{Piece, ShortPiece, Sym};
 use std::alloc::{AllocError, Global};
 
@@ -51,19 +51,20 @@ fn append_said(
     rows: &[Vec<Sym>],
     base: usize,
     piece: Piece,
+    limit: usize,
 ) -> Result<bool, AllocError>
     requires within { IsWithinPlaces (length (drop base (rows_in rows.now))) piece }
     requires fits { length rows.now < 2 ^ 64 }
     ensures made { IfOk result (λ fits. numbers_in made.new.items
         ≡ numbers_in made.old.items ++ said_by (drop base (rows_in rows.now)) piece) }
-    ensures over { IfOk result (λ fits. fits ≡ false → 1048576 < length made.new.items) }
+    ensures over { IfOk result (λ fits. fits ≡ false → limit < length made.new.items) }
 {
     match piece {
         Piece::Symbol(symbol) => {
             made.push(symbol)?;
             Ok(true)
         }
-        Piece::Value(place) => append_value(made, value_in(rows, base, place)),
+        Piece::Value(place) => append_value(made, value_in(rows, base, place), limit),
     }
 }
 
@@ -73,6 +74,7 @@ fn fill_said(
     rows: &[Vec<Sym>],
     base: usize,
     pieces: &[ShortPiece],
+    limit: usize,
 ) -> Result<bool, AllocError>
     requires within { AllByRecursion (IsWithinPlaces (length (drop base (rows_in rows.now))))
         pieces.now }
@@ -80,16 +82,16 @@ fn fill_said(
     ensures { IfOk result (λ fits.
         let whole = all_said_by (drop base (rows_in rows.now)) pieces.now in MatchBool
         fits
-        ((length whole ≤ 1048576) × (numbers_in made.new.items ≡ whole))
-        (1048576 < length whole)) }
+        ((length whole ≤ limit) × (numbers_in made.new.items ≡ whole))
+        (limit < length whole)) }
 {
     made.clear();
     for piece in pieces {
-        if !append_said(made, rows, base, piece.piece())? {
+        if !append_said(made, rows, base, piece.piece(), limit)? {
             return Ok(false);
         }
     }
-    Ok(made.len() <= EXPRESSION_LIMIT)
+    Ok(made.len() <= limit)
 }
 
 impl Store for Rows {
@@ -128,9 +130,14 @@ impl Store for Rows {
         self.stack.truncate(self.stack.len() - count);
     }
 
-    fn conclude(&mut self, base: usize, pieces: &[ShortPiece]) -> Result<bool, AllocError> {
+    fn conclude(
+        &mut self,
+        base: usize,
+        pieces: &[ShortPiece],
+        limit: usize,
+    ) -> Result<bool, AllocError> {
         let mut row = Vec::new(self.alloc);
-        if !fill_said(&mut row, &self.stack, base, pieces)? {
+        if !fill_said(&mut row, &self.stack, base, pieces, limit)? {
             return Ok(false);
         }
         put_last(&mut self.stack, base, row)?;

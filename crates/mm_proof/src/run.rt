@@ -9,7 +9,7 @@ ghost use Rattle.mm_frame.specs.Form.{IsSound};
 ghost use Rattle.mm_frame.specs.Numbers.{IsNumbered};
 ghost use Rattle.mm_proof.specs.Answer.{OnRule};
 ghost use Rattle.mm_proof.specs.Moves.{Move};
-ghost use Rattle.mm_proof.specs.Proof.{IsWithin, expression_limit, Prove, FirstAtMove, IsMoveFault};
+ghost use Rattle.mm_proof.specs.Proof.{IsWithin, Prove, FirstAtMove, IsMoveFault};
 ghost use Rattle.mm_proof.specs.Steps.{IsNumberedMove, AreNumberedMoves, AreSteps};
 ghost use Rattle.mm_proof.specs.CodeSteps.{MayAllBeUsed, entry_move, code_moves, ids_in};
 ghost use Rattle.mm_proof.specs.CodeVerify.{AreStackEntries, all_names_at};
@@ -56,6 +56,7 @@ fn step_at<S: Store>(
     calls: &[Call],
     place: usize,
     kept: usize,
+    limit: usize,
     number: usize,
 ) -> Result<(), ProofFault>
     requires own { own.now.statements ≡ book.now.statements }
@@ -67,10 +68,10 @@ fn step_at<S: Store>(
     requires entries { AreStackEntries book.now.statements (take own.now.place book.now.statements)
         (S.stack store.old) }
     ensures ran { OnOk result ((front : List (Move ℕ)) (steps : ℕ)
-        → HasRun book.now.statements own.now.place front (S.stack store.old) (S.kept store.old)
-        steps
-        → HasRun book.now.statements own.now.place (front ++ entry_move (ids_in entries.now) place
-        ∷ []) (S.stack store.new) (S.kept store.new) (steps + 1)) }
+        → HasRun limit book.now.statements own.now.place front (S.stack store.old)
+        (S.kept store.old) steps
+        → HasRun limit book.now.statements own.now.place
+        (front ++ entry_move (ids_in entries.now) place ∷ []) (S.stack store.new) (S.kept store.new) (steps + 1)) }
     ensures long { OnOk result (length marks.new.items ≡ length entries.now) }
     ensures marked { OnOk result ((front : List (Move ℕ))
         → AreMarked (ids_in entries.now) front marks.old.items
@@ -80,14 +81,14 @@ fn step_at<S: Store>(
     ensures fault { (rule : ProofRule) → (at : ℕ) → result ≡ Err (ProofFault.Rule rule at)
         → (at ≡ number) × ((move : Move (List ℕ))
         → IsNumberedMove book.now.statements (entry_move (ids_in entries.now) place) move
-        → FirstAtMove (IsWithin expression_limit) rule (take own.now.place book.now.statements)
+        → FirstAtMove (IsWithin limit) rule (take own.now.place book.now.statements)
         (all_names_at book.now.statements (S.stack store.old))
         (all_names_at book.now.statements (S.kept store.old)) move) }
 {
     match calls.get(place) {
         Some(call) => {
             marks[place] = true;
-            step_by(store, book, own, call, number)
+            step_by(store, book, own, call, limit, number)
         }
         None => step_again(store, place - calls.len(), kept, number),
     }
@@ -102,6 +103,7 @@ pub(crate) fn run_codes<S: Store>(
     entries: &[LabelId],
     calls: &[Call],
     codes: &[Code],
+    limit: usize,
 ) -> Result<usize, ProofFault>
     requires own { own.now.statements ≡ book.now.statements }
     requires sound { IsSound book.now.statements }
@@ -113,7 +115,7 @@ pub(crate) fn run_codes<S: Store>(
     requires stack { S.stack store.old ≡ [] }
     requires kept { S.kept store.old ≡ [] }
     ensures ok { IfOk result (λ count.
-        HasRun book.now.statements own.now.place (code_moves (ids_in entries.now) codes.now)
+        HasRun limit book.now.statements own.now.place (code_moves (ids_in entries.now) codes.now)
         (S.stack store.new) (S.kept store.new) count) }
     ensures count { IfOk result (λ count. count ≤ length codes.now) }
     ensures long { OnOk result (length marks.new.items ≡ length entries.now) }
@@ -122,7 +124,7 @@ pub(crate) fn run_codes<S: Store>(
     ensures fault { (rule : ProofRule) → (at : ℕ) → result ≡ Err (ProofFault.Rule rule at)
         → (names : List (Move (List ℕ)))
         → AreNumberedMoves book.now.statements (code_moves (ids_in entries.now) codes.now) names
-        → IsMoveFault (IsWithin expression_limit)
+        → IsMoveFault (IsWithin limit)
         (take own.now.place book.now.statements) names rule at }
 {
     let mut steps = 0;
@@ -140,6 +142,7 @@ pub(crate) fn run_codes<S: Store>(
                     calls,
                     place,
                     kept,
+                    limit,
                     steps + 1,
                 )?;
                 steps += 1;
@@ -164,6 +167,7 @@ fn derive_codes<S: Store>(
     entries: &[LabelId],
     calls: &[Call],
     codes: &[Code],
+    limit: usize,
 ) -> Result<(), ProofFault>
     requires own { own.now.statements ≡ book.now.statements }
     requires number { (s : Sentence) × IsNumbered book.now.statements id.0 own.now.place s }
@@ -177,16 +181,16 @@ fn derive_codes<S: Store>(
     requires kept { S.kept store.old ≡ [] }
     ensures proved { OnOk result (OfMoves book.now.statements id.0
         (code_moves (ids_in entries.now) codes.now) (λ place s names.
-        Prove (IsWithin expression_limit) (take place book.now.statements) s names)) }
+        Prove (IsWithin limit) (take place book.now.statements) s names)) }
     ensures long { OnOk result (length marks.new.items ≡ length entries.now) }
     ensures marked { OnOk result (AreMarked (ids_in entries.now)
         (code_moves (ids_in entries.now) codes.now) marks.new.items) }
     ensures fault { IfErr result (λ e. OnRule e (λ rule step. OfMoves book.now.statements id.0
         (code_moves (ids_in entries.now) codes.now)
-        (λ place s names. FailsWith book.now.statements place s names rule step))) }
+        (λ place s names. FailsWith limit book.now.statements place s names rule step))) }
 {
     one_number();
-    let count = run_codes(store, marks, book, own, entries, calls, codes)?;
+    let count = run_codes(store, marks, book, own, entries, calls, codes, limit)?;
     ending(store, own.expression(), count + 1)?;
     Ok(())
 }
@@ -204,6 +208,7 @@ pub(crate) fn judgement_of_codes<S: Store>(
     id: LabelId,
     entries: &[LabelId],
     codes: &[Code],
+    limit: usize,
 ) -> Result<(), ProofFault>
     requires own { own.now.statements ≡ book.now.statements }
     requires number { (s : Sentence) × IsNumbered book.now.statements id.0 own.now.place s }
@@ -216,14 +221,14 @@ pub(crate) fn judgement_of_codes<S: Store>(
         (code_moves (ids_in entries.now) codes.now) }
     ensures proved { OnOk result (OfMoves book.now.statements id.0
         (code_moves (ids_in entries.now) codes.now) (λ place s names.
-        ProvesUsingNumbers book.now.statements place s names (ids_in named.new.ids.items))) }
+        ProvesUsingNumbers limit book.now.statements place s names (ids_in named.new.ids.items))) }
     ensures fault { IfErr result (λ e. OnRule e (λ rule step. OfMoves book.now.statements id.0
         (code_moves (ids_in entries.now) codes.now)
-        (λ place s names. FailsWith book.now.statements place s names rule step))) }
+        (λ place s names. FailsWith limit book.now.statements place s names rule step))) }
 {
     let calls = calls_of(alloc, book, entries)?;
     unmark(marks, entries.len())?;
-    derive_codes(store, marks, book, own, id, entries, &calls, codes)?;
+    derive_codes(store, marks, book, own, id, entries, &calls, codes, limit)?;
     fill_called(named, entries, &calls, marks)?;
     Ok(())
 }

@@ -62,8 +62,13 @@ pub trait Store {
         ensures kept { kept self.new ≡ kept self.old };
 
     /// What the pieces say of the entries from the base on takes their place, where it is within
-    /// the limit of 1,048,576 symbols; else false is answered, and nothing is changed.
-    fn conclude(&mut self, base: usize, pieces: &[ShortPiece]) -> Result<bool, AllocError>
+    /// the limit, so many symbols; else false is answered, and nothing is changed.
+    fn conclude(
+        &mut self,
+        base: usize,
+        pieces: &[ShortPiece],
+        limit: usize,
+    ) -> Result<bool, AllocError>
         requires base { base ≤ length (stack self.old) }
         requires within { AllByRecursion (IsWithinPlaces (length (drop base (stack self.old))))
             pieces.now }
@@ -71,8 +76,8 @@ pub trait Store {
         ensures said { IfOk result (λ fits.
             let whole = all_said_by (drop base (stack self.old)) pieces.now in MatchBool
             fits
-            ((length whole ≤ 1048576) × (stack self.new ≡ take base (stack self.old) ++ whole ∷ []))
-            ((1048576 < length whole) × (stack self.new ≡ stack self.old))) }
+            ((length whole ≤ limit) × (stack self.new ≡ take base (stack self.old) ++ whole ∷ []))
+            ((limit < length whole) × (stack self.new ≡ stack self.old))) }
         ensures refused { OnErr result (stack self.new ≡ stack self.old) }
         ensures kept { kept self.new ≡ kept self.old };
 }

@@ -11,9 +11,6 @@ use crate::store::Store;
 use mm_frame::{ShortPiece, Sym};
 use std::alloc::AllocError;
 
-/// The most symbols of an expression on the stack, its type code counted.
-pub(crate) const EXPRESSION_LIMIT: usize = 1_048_576;
-
 // No entry of a `$f` is empty, so that this is never called. It is a call, so that what isn't empty
 // takes one jump.
 #[cold]
@@ -147,16 +144,20 @@ pub(crate) fn is_said<S: Store>(
 }
 
 /// Appends the value, and answers false where it is more than one symbol and passes the limit.
-pub(crate) fn append_value(made: &mut Vec<Sym>, value: &[Sym]) -> Result<bool, AllocError>
+pub(crate) fn append_value(
+    made: &mut Vec<Sym>,
+    value: &[Sym],
+    limit: usize,
+) -> Result<bool, AllocError>
     ensures made { IfOk result (λ fits.
         numbers_in made.new.items ≡ numbers_in made.old.items ++ numbers_in value.now) }
-    ensures over { IfOk result (λ fits. fits ≡ false → 1048576 < length made.new.items) }
+    ensures over { IfOk result (λ fits. fits ≡ false → limit < length made.new.items) }
 {
     match value {
         [only] => made.push(*only)?,
         _ => {
             made.extend_from_slice(value)?;
-            return Ok(made.len() <= EXPRESSION_LIMIT);
+            return Ok(made.len() <= limit);
         }
     }
     Ok(true)

@@ -8,7 +8,8 @@ ghost use Rattle.mm_frame.specs.Numbers.{IsNumbered};
 ghost use Rattle.mm_proof.specs.Answer.{OnRule, IsUnlessMemory};
 ghost use Rattle.mm_proof.specs.Stores.{numbers_in};
 ghost use Rattle.mm_proof.specs.Moves.{Move};
-ghost use Rattle.mm_proof.specs.Proof.{Prove, IsWithin, expression_limit, IsMoveFault};
+ghost use Rattle.mm_proof.specs.Proof.{Prove, IsWithin, IsMoveFault};
+ghost use Rattle.mm_proof.specs.Profiles.{limit_of};
 ghost use Rattle.mm_proof.specs.Steps.{AreNumberedMoves, AreSteps};
 ghost use Rattle.mm_frame.specs.Form.{IsSound};
 ghost use Rattle.mm_proof.specs.CodeSteps.{MayBeUsed, ids_in, moves_in};
@@ -21,6 +22,7 @@ use crate::call::{call_of, step_by};
 use crate::fault::{ProofFault, ProofRule};
 use crate::moves::{NumberedMove, Steps};
 use crate::picked::fill_picked;
+use crate::profile::Profile;
 use crate::store::Store;
 use crate::substitution::is_same;
 use crate::used::{Named, Used, fill_used};
@@ -41,6 +43,7 @@ pub(crate) fn step<S: Store>(
     book: &Book,
     own: &Frame,
     id: LabelId,
+    limit: usize,
     number: usize,
 ) -> Result<(), ProofFault>
     requires own { own.now.statements ≡ book.now.statements }
@@ -49,15 +52,17 @@ pub(crate) fn step<S: Store>(
     requires entries { AreStackEntries book.now.statements (take own.now.place book.now.statements)
         (S.stack store.old) }
     ensures carried { OnOk result
-        (CarriesOn book.now.statements own.now.place id.0 (S.stack store.old) (S.stack store.new)) }
+        (CarriesOn limit book.now.statements own.now.place id.0 (S.stack store.old)
+        (S.stack store.new)) }
     ensures entries { OnOk result
         (AreStackEntries book.now.statements (take own.now.place book.now.statements)
         (S.stack store.new)) }
     ensures kept { S.kept store.new ≡ S.kept store.old }
     ensures fault { (rule : ProofRule) → (at : ℕ) → result ≡ Err (ProofFault.Rule rule at)
-        → (at ≡ number) × StopsAt book.now.statements own.now.place id.0 (S.stack store.old) rule }
+        → (at ≡ number)
+        × StopsAt limit book.now.statements own.now.place id.0 (S.stack store.old) rule }
 {
-    step_by(store, book, own, &call_of(book, id), number)
+    step_by(store, book, own, &call_of(book, id), limit, number)
 }
 
 // The step by a tag.
@@ -104,6 +109,7 @@ fn run<S: Store>(
     book: &Book,
     own: &Frame,
     moves: &[NumberedMove],
+    limit: usize,
 ) -> Result<usize, ProofFault>
     requires own { own.now.statements ≡ book.now.statements }
     requires sound { IsSound book.now.statements }
@@ -112,13 +118,13 @@ fn run<S: Store>(
     requires stack { S.stack store.old ≡ [] }
     requires kept { S.kept store.old ≡ [] }
     ensures ok { IfOk result (λ count.
-        HasRun book.now.statements own.now.place (moves_in moves.now) (S.stack store.new)
+        HasRun limit book.now.statements own.now.place (moves_in moves.now) (S.stack store.new)
         (S.kept store.new) count) }
     ensures count { IfOk result (λ count. count ≤ length moves.now) }
     ensures fault { (rule : ProofRule) → (at : ℕ) → result ≡ Err (ProofFault.Rule rule at)
         → (names : List (Move (List ℕ)))
         → AreNumberedMoves book.now.statements (moves_in moves.now) names
-        → IsMoveFault (IsWithin expression_limit)
+        → IsMoveFault (IsWithin limit)
         (take own.now.place book.now.statements) names rule at }
 {
     let mut steps = 0;
@@ -126,7 +132,7 @@ fn run<S: Store>(
     for one in moves {
         match one {
             NumberedMove::Name(id) => {
-                step(store, book, own, *id, steps + 1)?;
+                step(store, book, own, *id, limit, steps + 1)?;
                 steps += 1;
             }
             NumberedMove::Again(tag) => {
@@ -169,6 +175,7 @@ fn derive<S: Store>(
     own: &Frame,
     id: LabelId,
     moves: &[NumberedMove],
+    limit: usize,
 ) -> Result<(), ProofFault>
     requires own { own.now.statements ≡ book.now.statements }
     requires number { (s : Sentence) × IsNumbered book.now.statements id.0 own.now.place s }
@@ -178,13 +185,13 @@ fn derive<S: Store>(
     requires steps { AreSteps book.now.statements id.0 (moves_in moves.now) }
     ensures proved { OnOk result (OfMoves book.now.statements id.0 (moves_in moves.now)
         (λ place s names.
-        Prove (IsWithin expression_limit) (take place book.now.statements) s names)) }
+        Prove (IsWithin limit) (take place book.now.statements) s names)) }
     ensures fault { IfErr result (λ e.
         OnRule e (λ rule step. OfMoves book.now.statements id.0 (moves_in moves.now)
-        (λ place s names. FailsWith book.now.statements place s names rule step))) }
+        (λ place s names. FailsWith limit book.now.statements place s names rule step))) }
 {
     one_number();
-    let count = run(store, book, own, moves)?;
+    let count = run(store, book, own, moves, limit)?;
     ending(store, own.expression(), count + 1)?;
     Ok(())
 }
@@ -199,6 +206,7 @@ pub(crate) fn judgement_in_frame<S: Store>(
     id: LabelId,
     moves: &[NumberedMove],
     picked: &[LabelId],
+    limit: usize,
 ) -> Result<(), ProofFault>
     requires own { own.now.statements ≡ book.now.statements }
     requires number { (s : Sentence) × IsNumbered book.now.statements id.0 own.now.place s }
@@ -209,12 +217,12 @@ pub(crate) fn judgement_in_frame<S: Store>(
     requires picked { ArePicked (moves_in moves.now) (ids_in picked.now) }
     ensures proved { OnOk result (OfMoves book.now.statements id.0 (moves_in moves.now)
         (λ place s names.
-        ProvesUsing book.now.statements place s names (ids_in named.new.ids.items))) }
+        ProvesUsing limit book.now.statements place s names (ids_in named.new.ids.items))) }
     ensures fault { IfErr result (λ e.
         OnRule e (λ rule step. OfMoves book.now.statements id.0 (moves_in moves.now)
-        (λ place s names. FailsWith book.now.statements place s names rule step))) }
+        (λ place s names. FailsWith limit book.now.statements place s names rule step))) }
 {
-    derive(store, book, own, id, moves)?;
+    derive(store, book, own, id, moves, limit)?;
     fill_used(named, book, picked)?;
     Ok(())
 }
@@ -227,22 +235,26 @@ fn judgement<S: Store>(
     book: &Book,
     id: LabelId,
     moves: &[NumberedMove],
+    profile: Profile,
 ) -> Result<(), ProofFault>
     requires stack { S.stack store.old ≡ [] }
     requires kept { S.kept store.old ≡ [] }
     requires steps { AreSteps book.now.statements id.0 (moves_in moves.now) }
     ensures proved { OnOk result (OfMoves book.now.statements id.0 (moves_in moves.now)
         (λ place s names.
-        ProvesUsing book.now.statements place s names (ids_in named.new.ids.items))) }
+        ProvesUsing (limit_of profile) book.now.statements place s names
+        (ids_in named.new.ids.items))) }
     ensures fault { IfErr result (λ e.
         OnRule e (λ rule step. OfMoves book.now.statements id.0 (moves_in moves.now)
-        (λ place s names. FailsWith book.now.statements place s names rule step))) }
+        (λ place s names.
+        FailsWith (limit_of profile) book.now.statements place s names rule step))) }
     ensures sound { IsSound book.now.statements }
 {
     let own = book.frame(id);
     let mut picked = Vec::new(alloc);
     fill_picked(&mut picked, moves)?;
-    judgement_in_frame(store, named, book, &own, id, moves, &picked)
+    let limit = profile.limit();
+    judgement_in_frame(store, named, book, &own, id, moves, &picked, limit)
 }
 
 // The answer on the moves of a proof. The store is handed in empty.
@@ -256,21 +268,23 @@ pub(crate) fn answer<S: Store>(
 ) -> Result<Used, ProofFault>
     requires stack { S.stack store.old ≡ [] }
     requires kept { S.kept store.old ≡ [] }
-    requires steps { AreSteps book.now.statements id.0 steps.now }
-    ensures proved { IfOk result (λ used. OfMoves book.now.statements id.0 steps.now
-        (λ place s names. ProvesUsing book.now.statements place s names used)) }
+    requires steps { AreSteps book.now.statements id.0 steps.now.moves }
+    ensures proved { IfOk result (λ used. OfMoves book.now.statements id.0 steps.now.moves
+        (λ place s names.
+        ProvesUsing (limit_of steps.now.profile) book.now.statements place s names used)) }
     ensures fault { (rule : ProofRule) → (step : ℕ) → result ≡ Err (ProofFault.Rule rule step)
-        → OfMoves book.now.statements id.0 steps.now
-        (λ place s names. FailsWith book.now.statements place s names rule step) }
-    ensures accepts { OfMoves book.now.statements id.0 steps.now (λ place s names.
-        Prove (IsWithin expression_limit) (take place book.now.statements) s names
+        → OfMoves book.now.statements id.0 steps.now.moves
+        (λ place s names.
+        FailsWith (limit_of steps.now.profile) book.now.statements place s names rule step) }
+    ensures accepts { OfMoves book.now.statements id.0 steps.now.moves (λ place s names.
+        Prove (IsWithin (limit_of steps.now.profile)) (take place book.now.statements) s names
         → IsOkUnless result ProofFault.Memory) }
-    ensures refuses { OfMoves book.now.statements id.0 steps.now (λ place s names.
+    ensures refuses { OfMoves book.now.statements id.0 steps.now.moves (λ place s names.
         (rule : ProofRule) → (step : ℕ)
-        → FailsWith book.now.statements place s names rule step
+        → FailsWith (limit_of steps.now.profile) book.now.statements place s names rule step
         → IsUnlessMemory result (Err (ProofFault.Rule rule step))) }
 {
-    match judgement(alloc, store, named, book, id, &steps.moves) {
+    match judgement(alloc, store, named, book, id, &steps.moves, steps.profile) {
         Ok(()) => {
             let labels = Vec::from_slice(alloc, &named.ids)?;
             Ok(Used { labels })
@@ -279,9 +293,9 @@ pub(crate) fn answer<S: Store>(
     }
 }
 
-/// Whether the moves prove the `$p` with this number: the assertions of its tree, each once, in
-/// database order; or the first of P6 to P14 and L1 that they break, with the number of the step.
-/// The store is handed in empty.
+/// Whether the moves prove the `$p` with this number, under the profile of the steps: the
+/// assertions of its tree, each once, in database order; or the first of P6 to P14 and L1 that they
+/// break, with the number of the step. The store is handed in empty.
 pub fn verify<S: Store + Drop>(
     alloc: Global,
     mut store: S,
@@ -291,24 +305,27 @@ pub fn verify<S: Store + Drop>(
 ) -> Result<Used, ProofFault>
     requires stack { S.stack store ≡ [] }
     requires kept { S.kept store ≡ [] }
-    requires steps { AreSteps book.now.statements id.0 steps.now }
+    requires steps { AreSteps book.now.statements id.0 steps.now.moves }
     // What is answered `Ok` is proved, and these are the assertions of its tree.
-    ensures proved { IfOk result (λ used. OfMoves book.now.statements id.0 steps.now
-        (λ place s moves. ProvesUsing book.now.statements place s moves used)) }
+    ensures proved { IfOk result (λ used. OfMoves book.now.statements id.0 steps.now.moves
+        (λ place s moves.
+        ProvesUsing (limit_of steps.now.profile) book.now.statements place s moves used)) }
 
     // The rule and the step are those of the first fault.
     ensures fault { (rule : ProofRule) → (step : ℕ) → result ≡ Err (ProofFault.Rule rule step)
-        → OfMoves book.now.statements id.0 steps.now
-        (λ place s moves. FailsWith book.now.statements place s moves rule step) }
+        → OfMoves book.now.statements id.0 steps.now.moves
+        (λ place s moves.
+        FailsWith (limit_of steps.now.profile) book.now.statements place s moves rule step) }
 
     // What is proved is answered `Ok`, unless memory is refused.
-    ensures accepts { OfMoves book.now.statements id.0 steps.now (λ place s moves.
-        Prove (IsWithin expression_limit) (take place book.now.statements) s moves
+    ensures accepts { OfMoves book.now.statements id.0 steps.now.moves (λ place s moves.
+        Prove (IsWithin (limit_of steps.now.profile)) (take place book.now.statements) s moves
         → IsOkUnless result ProofFault.Memory) }
 
     // What has a fault is answered with it, unless memory is refused.
-    ensures refuses { OfMoves book.now.statements id.0 steps.now (λ place s moves.
-        (rule : ProofRule) → (step : ℕ) → FailsWith book.now.statements place s moves rule step
+    ensures refuses { OfMoves book.now.statements id.0 steps.now.moves (λ place s moves.
+        (rule : ProofRule) → (step : ℕ)
+        → FailsWith (limit_of steps.now.profile) book.now.statements place s moves rule step
         → IsUnlessMemory result (Err (ProofFault.Rule rule step))) }
 {
     let mut named = Named::new(alloc);

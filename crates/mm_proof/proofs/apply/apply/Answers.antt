@@ -29,7 +29,7 @@ returns-then-count-scheme-clause-fault g c rule step is =
           let stack = g.S.Store.stack c.args.store.now in
           let called = called_of st c.args.own.now.place id c.args.scheme.now of in
           let short : length stack < length of.hypotheses.hypotheses = omega (arith, c.if-count-scheme.true, c.len-count.ensures, as_many st xs of.hypotheses.hypotheses called.known) in
-          subst (λ (r : ProofRule). StopsAt st c.args.own.now.place id stack r) same (stops_P8 st c.args.own.now.place id of.at (label_ids xs) of.hypotheses.hypotheses stack called short),
+          subst (λ (r : ProofRule). StopsAt c.args.limit st c.args.own.now.place id stack r) same (stops_P8 c.args.limit st c.args.own.now.place id of.at (label_ids xs) of.hypotheses.hypotheses stack called short),
     )
 
 pub returns-in_default-clause-fault : goal.returns-in_default-clause-fault
@@ -45,8 +45,8 @@ returns-in_default-clause-fault g c rule step is =
           let called = called_of st c.args.own.now.place id c.args.scheme.now of in
           let paired : length (drop base stack) ≡ length of.hypotheses.hypotheses =
           omega (arith, length-drop base stack, c.len-count.ensures, c.if-count-scheme.false, as_many st xs of.hypotheses.hypotheses called.known) in
-          subst (λ (r : ProofRule). StopsAt st c.args.own.now.place id stack r) same
-          (stops_P9 st c.args.own.now.place id of.at (label_ids xs) of.hypotheses.hypotheses stack base c.requires.sound.0 called paired (c.in_default.ensures.codes st of.typed (drop_below st _ base stack c.requires.entries) of.hypotheses.hypotheses called.known)),
+          subst (λ (r : ProofRule). StopsAt c.args.limit st c.args.own.now.place id stack r) same
+          (stops_P9 c.args.limit st c.args.own.now.place id of.at (label_ids xs) of.hypotheses.hypotheses stack base c.requires.sound.0 called paired (c.in_default.ensures.codes st of.typed (drop_below st _ base stack c.requires.entries) of.hypotheses.hypotheses called.known)),
     )
 
 pub conclude-requires-clause-within : goal.conclude-requires-clause-within
@@ -70,7 +70,7 @@ returns-in-Some-rule_broken-clause-fault g c rule step is =
           let hs = of.hypotheses.hypotheses in
           let called = called_of st c.args.own.now.place id c.args.scheme.now of in
           let codes = c.in-Some.ensures.codes st of.typed (drop_below st _ base stack c.requires.entries) hs called.known in
-          subst (λ (r : ProofRule). StopsAt st c.args.own.now.place id stack r) same (c.in-Some-rule_broken.ensures id of.at hs called of.pairs codes),
+          subst (λ (r : ProofRule). StopsAt c.args.limit st c.args.own.now.place id stack r) same (c.in-Some-rule_broken.ensures c.args.limit id of.at hs called of.pairs codes),
     )
 
 -- only the limit is left to judge
@@ -82,7 +82,7 @@ returns-in-None-clause-carried g c = IfOk-weaker c.conclude.result _ _ (λ u car
     let hs = of.hypotheses.hypotheses in
     let called = called_of st c.args.own.now.place id c.args.scheme.now of in
     let codes = c.in-Some.ensures.codes st of.typed (drop_below st _ base stack c.requires.entries) hs called.known in
-    let matched = c.in-None.ensures id of.at hs called of.pairs codes in
+    let matched = c.in-None.ensures c.args.limit id of.at hs called of.pairs codes in
     carried st c.args.own.now.place id of.at c.requires.sound (ready_of st c.args.own.now.place id c.args.scheme.now (drop base stack) of matched)) c.conclude.ensures.carried
 
 pub returns-in-None-clause-entries : goal.returns-in-None-clause-entries
@@ -95,7 +95,7 @@ returns-in-None-clause-entries g c = IfOk-weaker c.conclude.result _ _ (λ u ent
     let hs = of.hypotheses.hypotheses in
     let called = called_of st c.args.own.now.place id c.args.scheme.now of in
     let codes = c.in-Some.ensures.codes st of.typed (drop_below st _ base stack c.requires.entries) hs called.known in
-    let matched = c.in-None.ensures id of.at hs called of.pairs codes in
+    let matched = c.in-None.ensures c.args.limit id of.at hs called of.pairs codes in
     entries st c.args.own.now.place id of.at c.requires.sound (ready_of st c.args.own.now.place id c.args.scheme.now (drop base stack) of matched) c.requires.entries) c.conclude.ensures.entries
 
 pub returns-in-None-clause-fault : goal.returns-in-None-clause-fault
@@ -109,6 +109,6 @@ returns-in-None-clause-fault g c rule step is =
           let hs = of.hypotheses.hypotheses in
           let called = called_of st c.args.own.now.place id c.args.scheme.now of in
           let codes = c.in-Some.ensures.codes st of.typed (drop_below st _ base stack c.requires.entries) hs called.known in
-          let matched = c.in-None.ensures id of.at hs called of.pairs codes in
+          let matched = c.in-None.ensures c.args.limit id of.at hs called of.pairs codes in
           told.1 st c.args.own.now.place id of.at c.requires.sound (ready_of st c.args.own.now.place id c.args.scheme.now (drop base stack) of matched),
     )

@@ -19,8 +19,8 @@ returns-then-not-branch-clause-fault g c rule step is =
     let same : L1 ≡ rule = cc in
     let number : step ≡ c.args.number = cc in (
       number,
-      λ st place id at sound ready. subst (λ (r : ProofRule). StopsAt st place id stack r) same
-          (stops_L1 c.one_number.ensures st place id at stack c.args.base vs c.args.scheme.now.conclusion.now sound.0 ready count over),
+      λ st place id at sound ready. subst (λ (r : ProofRule). StopsAt c.args.limit st place id stack r) same
+          (stops_L1 c.args.limit c.one_number.ensures st place id at stack c.args.base vs c.args.scheme.now.conclusion.now sound.0 ready count over),
     )
 
 pub returns-clause-carried : goal.returns-clause-carried
@@ -31,8 +31,8 @@ returns-clause-carried g c st place id at sound ready =
     let count : length (drop c.args.base stack) ≡ length vs = omega (arith, length-drop c.args.base stack, c.requires.entries, variables_count xs) in
     let made = match_true c.in_ok-conclude.field-0 _ _ c.if-not-branch.false c.in_ok-conclude.ensures.said in
     let whole = all_said_by (drop c.args.base stack) c.args.scheme.now.conclusion.now in
-    subst (λ (l : List (List ℕ)). CarriesOn st place id stack l) (sym made.1)
-    (carries c.one_number.ensures st place id at stack c.args.base vs c.args.scheme.now.conclusion.now whole sound.0 ready count refl made.0)
+    subst (λ (l : List (List ℕ)). CarriesOn c.args.limit st place id stack l) (sym made.1)
+    (carries c.args.limit c.one_number.ensures st place id at stack c.args.base vs c.args.scheme.now.conclusion.now whole sound.0 ready count refl made.0)
 
 pub returns-clause-entries : goal.returns-clause-entries
 returns-clause-entries g c st place id at sound ready entries =

@@ -13,7 +13,7 @@ are_equal-requires-clause-below g c =
     entries_below c.args.book.now.statements _ (drop c.args.base (g.S.Store.stack c.args.store.now)) (entries_drop c.args.book.now.statements _ c.args.base (g.S.Store.stack c.args.store.now) c.requires.symbols)
 
 pub returns-then-not-are_equal : goal.returns-then-not-are_equal
-returns-then-not-are_equal g c id at hs called mandatory codes =
+returns-then-not-are_equal g c limit id at hs called mandatory codes =
     let st = c.args.book.now.statements in
     let xs = c.args.scheme.now.hypotheses.now in
     let stack = g.S.Store.stack c.args.store.now in
@@ -21,18 +21,18 @@ returns-then-not-are_equal g c id at hs called mandatory codes =
     let paired : length (drop c.args.base stack) ≡ length hs =
     omega (arith, length-drop c.args.base stack, c.requires.entries, as_many st xs hs called.known) in
     let r = replaces_by c.one_number.ensures st (variables_of xs) hs (drop c.args.base stack) typed in
-    stops_P10 st c.args.own.now.place id at _ hs stack c.args.base c.requires.sound.0 called paired codes
+    stops_P10 limit st c.args.own.now.place id at _ hs stack c.args.base c.requires.sound.0 called paired codes
     (c.if-not-are_equal.ensures (replaced_by hs (all_names_at st (drop c.args.base stack))) r hs called.known)
 
 pub returns-then-are_apart_pairs : goal.returns-then-are_apart_pairs
-returns-then-are_apart_pairs g c id at hs called mandatory codes = record {
+returns-then-are_apart_pairs g c limit id at hs called mandatory codes = record {
   codes = codes;
   equal = λ σ replaces. c.if-not-are_equal.ensures σ replaces hs called.known;
   apart = c.if-are_apart_pairs.ensures;
 }
 
 pub returns-then-has_shared_pair : goal.returns-then-has_shared_pair
-returns-then-has_shared_pair g c id at hs called mandatory codes =
+returns-then-has_shared_pair g c limit id at hs called mandatory codes =
     let st = c.args.book.now.statements in
     let xs = c.args.scheme.now.hypotheses.now in
     let stack = g.S.Store.stack c.args.store.now in
@@ -40,12 +40,12 @@ returns-then-has_shared_pair g c id at hs called mandatory codes =
     let paired : length (drop c.args.base stack) ≡ length hs =
     omega (arith, length-drop c.args.base stack, c.requires.entries, as_many st xs hs called.known) in
     let r = replaces_by c.one_number.ensures st (variables_of xs) hs (drop c.args.base stack) typed in
-    stops_P11 c.one_number.ensures st c.args.own.now.place id at _ hs stack c.args.base (variables_of xs) (pairs_in c.args.scheme.now.pairs.now) c.requires.sound.0 called paired typed mandatory
+    stops_P11 limit c.one_number.ensures st c.args.own.now.place id at _ hs stack c.args.base (variables_of xs) (pairs_in c.args.scheme.now.pairs.now) c.requires.sound.0 called paired typed mandatory
     codes (c.if-not-are_equal.ensures (replaced_by hs (all_names_at st (drop c.args.base stack))) r hs called.known)
     c.if-has_shared_pair.ensures
 
 pub returns : goal.returns
-returns g c id at hs called mandatory codes =
+returns g c limit id at hs called mandatory codes =
     let st = c.args.book.now.statements in
     let xs = c.args.scheme.now.hypotheses.now in
     let stack = g.S.Store.stack c.args.store.now in
@@ -53,6 +53,6 @@ returns g c id at hs called mandatory codes =
     let paired : length (drop c.args.base stack) ≡ length hs =
     omega (arith, length-drop c.args.base stack, c.requires.entries, as_many st xs hs called.known) in
     let r = replaces_by c.one_number.ensures st (variables_of xs) hs (drop c.args.base stack) typed in
-    stops_P12 c.one_number.ensures st c.args.own.now.place id at _ hs stack c.args.base (variables_of xs) (pairs_in c.args.scheme.now.pairs.now) c.requires.sound.0 called paired typed mandatory
+    stops_P12 limit c.one_number.ensures st c.args.own.now.place id at _ hs stack c.args.base (variables_of xs) (pairs_in c.args.scheme.now.pairs.now) c.requires.sound.0 called paired typed mandatory
     codes (c.if-not-are_equal.ensures (replaced_by hs (all_names_at st (drop c.args.base stack))) r hs called.known)
     c.if-has_shared_pair.ensures c.if-are_apart_pairs.ensures

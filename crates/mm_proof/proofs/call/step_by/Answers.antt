@@ -9,26 +9,26 @@ use Rattle.mm_proof.specs.CodeApply.{IsCallOf}
 use Rattle.mm_proof.proofs.Applying.{stops_long, pushes, pushed_entries}
 use Rattle.mm_proof.proofs.call.step_by.Goals as goal
 
-pub returns-then-expression-gt-EXPRESSION_LIMIT-clause-fault : goal.returns-then-expression-gt-EXPRESSION_LIMIT-clause-fault
-returns-then-expression-gt-EXPRESSION_LIMIT-clause-fault g c rule at is =
+pub returns-then-expression-limit-clause-fault : goal.returns-then-expression-limit-clause-fault
+returns-then-expression-limit-clause-fault g c rule at is =
     let same : L1 ≡ rule = cc in
     let number : at ≡ c.args.number = cc in
-    let over : 1048576 < length (numbers_in c.in-Hypothesis.expression.now) = omega (arith, c.if-expression-gt-EXPRESSION_LIMIT.true, length-map c.in-Hypothesis.expression.now (λ s. s.0)) in (
+    let over : c.args.limit < length (numbers_in c.in-Hypothesis.expression.now) = omega (arith, c.if-expression-limit.true, length-map c.in-Hypothesis.expression.now (λ s. s.0)) in (
       number,
       λ id of.
           let st = c.args.book.now.statements in
           let u = subst (IsCallOf st c.args.own.now.place id) c.in-Hypothesis.is of in
-          subst (λ (r : ProofRule). StopsAt st c.args.own.now.place id (g.S.Store.stack c.args.store.now) r) same
-          (stops_long st c.args.own.now.place id u.0 (g.S.Store.stack c.args.store.now) (numbers_in c.in-Hypothesis.expression.now) c.requires.sound.0 u.1 u.2 u.3 over),
+          subst (λ (r : ProofRule). StopsAt c.args.limit st c.args.own.now.place id (g.S.Store.stack c.args.store.now) r) same
+          (stops_long c.args.limit st c.args.own.now.place id u.0 (g.S.Store.stack c.args.store.now) (numbers_in c.in-Hypothesis.expression.now) c.requires.sound.0 u.1 u.2 u.3 over),
     )
 
 pub returns-in_ok-push-in-Hypothesis-clause-carried : goal.returns-in_ok-push-in-Hypothesis-clause-carried
 returns-in_ok-push-in-Hypothesis-clause-carried g c id of =
     let st = c.args.book.now.statements in
     let u = subst (IsCallOf st c.args.own.now.place id) c.in-Hypothesis.is of in
-    let within : length (numbers_in c.in-Hypothesis.expression.now) ≤ 1048576 = omega (arith, c.if-expression-gt-EXPRESSION_LIMIT.false, length-map c.in-Hypothesis.expression.now (λ s. s.0)) in
-    subst (λ (l : List (List ℕ)). CarriesOn st c.args.own.now.place id (g.S.Store.stack c.args.store.now) l) (sym c.in_ok-push-in-Hypothesis.ensures.pushed)
-    (pushes st c.args.own.now.place id u.0 (g.S.Store.stack c.args.store.now) (numbers_in c.in-Hypothesis.expression.now) c.requires.sound.0 u.1 u.2 u.3 within)
+    let within : length (numbers_in c.in-Hypothesis.expression.now) ≤ c.args.limit = omega (arith, c.if-expression-limit.false, length-map c.in-Hypothesis.expression.now (λ s. s.0)) in
+    subst (λ (l : List (List ℕ)). CarriesOn c.args.limit st c.args.own.now.place id (g.S.Store.stack c.args.store.now) l) (sym c.in_ok-push-in-Hypothesis.ensures.pushed)
+    (pushes c.args.limit st c.args.own.now.place id u.0 (g.S.Store.stack c.args.store.now) (numbers_in c.in-Hypothesis.expression.now) c.requires.sound.0 u.1 u.2 u.3 within)
 
 pub returns-in_ok-push-in-Hypothesis-clause-entries : goal.returns-in_ok-push-in-Hypothesis-clause-entries
 returns-in_ok-push-in-Hypothesis-clause-entries g c =

@@ -15,7 +15,7 @@ returns-then-not-branch-clause-said c =
     let more = c.loop-piece.invariant.0 in
     let step = pieces-step c.args.symbols.now c.loop-piece.symbols c.append_piece.new.symbols more said.0 c.args.stack.now c.args.base c.loop-piece.piece-index c.args.pieces.now
     c.requires.parts c.loop-piece-test.true c.loop-piece.invariant.1 c.loop-piece.invariant.2 said.1 says in
-    said_over (said_by (drop c.args.base (parts_of c.args.symbols.now c.args.stack.now))) c.args.pieces.now (c.loop-piece.piece-index + 1) 1048576
+    said_over (said_by (drop c.args.base (parts_of c.args.symbols.now c.args.stack.now))) c.args.pieces.now (c.loop-piece.piece-index + 1) c.args.limit
     (omega (
       arith,
       c.in_ok-append_piece.ensures.over c.if-not-branch.true,

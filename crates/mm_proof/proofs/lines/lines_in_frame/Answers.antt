@@ -22,7 +22,7 @@ returns-in_err-lines-clause-fault g c =
     let own = c.requires.number in
     let p = err_from_is_err_and c.from_residual.result c.from_residual.ensures.1 in
     rw (p.1, p.2) (on_rule_from c.in_err-lines.field-0.0 _ (λ rule at is.
-    wrong_move c.args.book.now.statements c.args.id.0 c.args.own.now.place own.0 (moves_in c.args.moves.now) rule at own.1
+    wrong_move c.args.limit c.args.book.now.statements c.args.id.0 c.args.own.now.place own.0 (moves_in c.args.moves.now) rule at own.1
     (λ names numbered. c.lines_of.ensures.fault rule at (c.in_err-lines.was ∙ ap Err is) names numbered)))
 
 pub returns-in_err-ending-clause-fault : goal.returns-in_err-ending-clause-fault
@@ -32,12 +32,12 @@ returns-in_err-ending-clause-fault g c =
     let symbols = subst (λ (st : List Sentence). AreItsSymbols (record { statements = st; place = c.args.own.now.place }) (numbers_in c.expression.result.now)) c.requires.own c.expression.ensures in
     let long : vec_len c.in_ok-lines.lines ≡ length c.in_ok-lines.lines.items = search rules in
     rw (p.1, p.2) (on_rule_from c.in_err-ending.field-0.0 _ (λ rule at is.
-    wrong_end c.args.book.now.statements c.args.id.0 c.args.own.now.place own.0 (moves_in c.args.moves.now) _ _ _ _ rule at c.one_number.ensures own.1 symbols c.in_ok-lines.ensures.run
+    wrong_end c.args.limit c.args.book.now.statements c.args.id.0 c.args.own.now.place own.0 (moves_in c.args.moves.now) _ _ _ _ rule at c.one_number.ensures own.1 symbols c.in_ok-lines.ensures.run
     (let told = c.ending.ensures.fault rule at (c.in_err-ending.was ∙ ap Err is) in (told.0 ∙ ap (λ n. n + 1) (c.len.ensures ∙ long), told.1))))
 
 pub returns-clause-listed : goal.returns-clause-listed
 returns-clause-listed g c =
     let own = c.requires.number in
     let symbols = subst (λ (st : List Sentence). AreItsSymbols (record { statements = st; place = c.args.own.now.place }) (numbers_in c.expression.result.now)) c.requires.own c.expression.ensures in
-    lists_end c.args.book.now.statements c.args.id.0 c.args.own.now.place own.0 (moves_in c.args.moves.now) _ _ _ _ _ own.1 symbols
+    lists_end c.args.limit c.args.book.now.statements c.args.id.0 c.args.own.now.place own.0 (moves_in c.args.moves.now) _ _ _ _ _ own.1 symbols
     c.in_ok-lines.ensures.run c.in_ok-ending.ensures.ok c.in_ok-lines.ensures.lines

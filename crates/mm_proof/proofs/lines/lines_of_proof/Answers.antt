@@ -18,10 +18,10 @@ pub lines_in_frame-requires-clause-steps : goal.lines_in_frame-requires-clause-s
 lines_in_frame-requires-clause-steps c = c.requires.steps
 
 pub returns-clause-listed : goal.returns-clause-listed
-returns-clause-listed c = c.lines_in_frame.ensures.listed
+returns-clause-listed c = rw c.limit-limit.ensures at c.lines_in_frame.ensures.listed
 
 pub returns-clause-fault : goal.returns-clause-fault
-returns-clause-fault c = c.lines_in_frame.ensures.fault
+returns-clause-fault c = rw c.limit-limit.ensures at c.lines_in_frame.ensures.fault
 
 pub returns-clause-sound : goal.returns-clause-sound
 returns-clause-sound c = c.frame-own.ensures.sound

@@ -36,7 +36,7 @@ returns-clause-proved c =
     let moves = code_moves (ids_in c.deref.result.now) c.deref-2.result.now in
     let says = reading_said st c.args.id.0 c.args.own.now.place c.requires.number.0 texts moves c.requires.number.1 r in
     on_ok_weaker c.judgement_of_codes.result (λ p. λ place s proof.
-    tokens_prove st c.args.id.0 texts moves (ids_in c.judgement_of_codes.new.named.ids.items) says p place s proof) c.judgement_of_codes.ensures.proved
+    tokens_prove c.args.limit st c.args.id.0 texts moves (ids_in c.judgement_of_codes.new.named.ids.items) says p place s proof) c.judgement_of_codes.ensures.proved
 
 pub returns-clause-fault : goal.returns-clause-fault
 returns-clause-fault c =
@@ -47,7 +47,7 @@ returns-clause-fault c =
     let moves = code_moves (ids_in c.deref.result.now) c.deref-2.result.now in
     let says = reading_said st c.args.id.0 c.args.own.now.place c.requires.number.0 texts moves c.requires.number.1 r in
     rules_map c.judgement_of_codes.result _ _ (λ rule step f. λ place s proof.
-    tokens_fail st c.args.id.0 texts moves rule step says f place s proof) c.judgement_of_codes.ensures.fault
+    tokens_fail c.args.limit st c.args.id.0 texts moves rule step says f place s proof) c.judgement_of_codes.ensures.fault
 
 pub returns-in_err-read_compressed-clause-fault : goal.returns-in_err-read_compressed-clause-fault
 returns-in_err-read_compressed-clause-fault c =

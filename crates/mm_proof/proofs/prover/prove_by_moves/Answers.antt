@@ -27,7 +27,7 @@ returns-clause-proved c =
     on_ok_weaker c.judgement_in_frame.result (λ p. λ place s proof.
     let moves = moves_in c.deref.result.now in
     let used = ids_in c.judgement_in_frame.new.named.ids.items in
-    tokens_prove st c.args.id.0 texts moves used says (in_any_order st c.args.id.0 moves used p) place s proof) c.judgement_in_frame.ensures.proved
+    tokens_prove c.args.limit st c.args.id.0 texts moves used says (in_any_order c.args.limit st c.args.id.0 moves used p) place s proof) c.judgement_in_frame.ensures.proved
 
 pub returns-clause-fault : goal.returns-clause-fault
 returns-clause-fault c =
@@ -35,7 +35,7 @@ returns-clause-fault c =
     let texts = token_texts c.args.tokens.now in
     let says = subst (λ (ms : List NumberedMove). OfProof st c.args.id.0 (λ place s. SaySteps st place s texts (moves_in ms))) (sym c.deref.ensures.value) c.in_ok-fill_steps.ensures.steps in
     rules_map c.judgement_in_frame.result _ _ (λ rule step f. λ place s proof.
-    tokens_fail st c.args.id.0 texts (moves_in c.deref.result.now) rule step says f place s proof) c.judgement_in_frame.ensures.fault
+    tokens_fail c.args.limit st c.args.id.0 texts (moves_in c.deref.result.now) rule step says f place s proof) c.judgement_in_frame.ensures.fault
 
 pub returns-in_err-fill_steps-clause-fault : goal.returns-in_err-fill_steps-clause-fault
 returns-in_err-fill_steps-clause-fault c =

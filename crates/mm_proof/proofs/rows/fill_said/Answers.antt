@@ -16,7 +16,7 @@ returns-then-not-branch c =
     c.loop-piece.piece-index c.piece-item.result (numbers_in c.loop-piece.made.items) (numbers_in c.append_said.new.made.items) c.loop-piece-test.true c.loop-piece.invariant
     (subst (λ (p : Piece). numbers_in c.append_said.new.made.items ≡ numbers_in c.loop-piece.made.items ++ said_by (drop c.args.base (rows_in c.args.rows.now)) p) (c.piece.ensures ∙ c.piece-item.is) c.in_ok-append_said.ensures.made) in
     said_over (said_by (drop c.args.base (rows_in c.args.rows.now))) c.args.pieces.now
-    (c.loop-piece.piece-index + 1) 1048576 (omega (arith, c.in_ok-append_said.ensures.over c.if-not-branch.true, ap length made, length-map c.append_said.new.made.items (λ s. s.0)))
+    (c.loop-piece.piece-index + 1) c.args.limit (omega (arith, c.in_ok-append_said.ensures.over c.if-not-branch.true, ap length made, length-map c.append_said.new.made.items (λ s. s.0)))
 
 pub loop-piece-preserved : goal.loop-piece-preserved
 loop-piece-preserved c =

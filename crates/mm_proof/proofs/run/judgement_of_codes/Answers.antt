@@ -34,4 +34,4 @@ returns-clause-proved g c =
     let moves = code_moves ids c.args.codes.now in
     let calls = subst (λ (l : List Call). AllZip (IsCallOf st c.args.own.now.place) ids l) (sym c.deref-2.ensures.value) (c.in_ok-calls.ensures c.args.own.now.place c.requires.usable) in
     let marked = subst (λ (l : List Bool). AreMarked ids moves l) (sym c.deref-3.ensures.value) c.in_ok-derive_codes.ensures.marked in
-    proved_with st c.args.id.0 moves _ c.requires.sound.0 c.requires.steps (c.in_ok-fill_called.ensures st c.args.own.now.place moves calls marked) c.in_ok-derive_codes.ensures.proved
+    proved_with c.args.limit st c.args.id.0 moves _ c.requires.sound.0 c.requires.steps (c.in_ok-fill_called.ensures st c.args.own.now.place moves calls marked) c.in_ok-derive_codes.ensures.proved

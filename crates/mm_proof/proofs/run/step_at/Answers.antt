@@ -31,7 +31,7 @@ returns-in-Some-clause-ran g c =
     let entry = entry_of_call st at (ids_in c.args.entries.now) c.args.calls.now c.args.place _ c.requires.calls less in
     let called = subst (IsCallOf st at entry.0) (sym c.in-Some.ensures.lookup.1) entry.2 in
     on_ok_weaker c.step_by.result (λ both. λ front steps run. rw (entry.3, c.step_by.ensures.kept)
-    (run_name st at front entry.0 _ _ _ steps run (both.0 entry.0 called) both.1)) (on_ok_both c.step_by.result _ _ c.step_by.ensures.carried c.step_by.ensures.entries)
+    (run_name c.args.limit st at front entry.0 _ _ _ steps run (both.0 entry.0 called) both.1)) (on_ok_both c.step_by.result _ _ c.step_by.ensures.carried c.step_by.ensures.entries)
 
 pub returns-in-Some-clause-marked : goal.returns-in-Some-clause-marked
 returns-in-Some-clause-marked g c =
@@ -48,7 +48,7 @@ returns-in-Some-clause-fault g c rule at is =
     let entry = entry_of_call st own (ids_in c.args.entries.now) c.args.calls.now c.args.place _ c.requires.calls less in
     let called = subst (IsCallOf st own entry.0) (sym c.in-Some.ensures.lookup.1) entry.2 in
     let told = c.step_by.ensures.fault rule at is in
-    (told.0, λ move n. stops_first st own entry.0 _ _ rule (told.1 entry.0 called) move (subst (λ (m : Move ℕ). IsNumberedMove st m move) entry.3 n))
+    (told.0, λ move n. stops_first c.args.limit st own entry.0 _ _ rule (told.1 entry.0 called) move (subst (λ (m : Move ℕ). IsNumberedMove st m move) entry.3 n))
 
 pub returns-in-None-clause-ran : goal.returns-in-None-clause-ran
 returns-in-None-clause-ran g c =
@@ -57,7 +57,7 @@ returns-in-None-clause-ran g c =
     let past = ltb-false c.args.place (length c.args.calls.now) (sym c.in-None.ensures.lookup.0) in
     let tag = tag_of_place st at (ids_in c.args.entries.now) c.args.calls.now c.args.place c.requires.calls past in
     on_ok_weaker c.step_again.result (λ pushed. λ front steps run. rw (tag, c.step_again.ensures.kept)
-    (run_again st at front (c.args.place - length c.args.calls.now) _ _ _ steps pushed.0 run pushed.1 pushed.2)) c.step_again.ensures.ok
+    (run_again c.args.limit st at front (c.args.place - length c.args.calls.now) _ _ _ steps pushed.0 run pushed.1 pushed.2)) c.step_again.ensures.ok
 
 pub returns-in-None-clause-marked : goal.returns-in-None-clause-marked
 returns-in-None-clause-marked g c =
@@ -72,4 +72,4 @@ returns-in-None-clause-fault g c rule at is =
     let past = ltb-false c.args.place (length c.args.calls.now) (sym c.in-None.ensures.lookup.0) in
     let tag = tag_of_place st own (ids_in c.args.entries.now) c.args.calls.now c.args.place c.requires.calls past in
     let told = c.step_again.ensures.fault rule at is in
-    (told.0, λ move n. again_first st own (c.args.place - length c.args.calls.now) _ _ rule told.1 told.2 move (subst (λ (m : Move ℕ). IsNumberedMove st m move) tag n))
+    (told.0, λ move n. again_first c.args.limit st own (c.args.place - length c.args.calls.now) _ _ rule told.1 told.2 move (subst (λ (m : Move ℕ). IsNumberedMove st m move) tag n))

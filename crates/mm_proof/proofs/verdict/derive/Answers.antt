@@ -17,7 +17,7 @@ returns-in_err-count-clause-fault g c =
     let own = c.requires.number in
     let p = err_from_is_err_and c.from_residual.result c.from_residual.ensures.1 in
     rw (p.1, p.2) (on_rule_from c.in_err-count.field-0.0 _ (λ rule at is.
-    wrong_move c.args.book.now.statements c.args.id.0 c.args.own.now.place own.0 (moves_in c.args.moves.now) rule at own.1
+    wrong_move c.args.limit c.args.book.now.statements c.args.id.0 c.args.own.now.place own.0 (moves_in c.args.moves.now) rule at own.1
     (λ names numbered. c.run.ensures.fault rule at (c.in_err-count.was ∙ ap Err is) names numbered)))
 
 pub returns-in_err-ending-clause-fault : goal.returns-in_err-ending-clause-fault
@@ -26,12 +26,12 @@ returns-in_err-ending-clause-fault g c =
     let p = err_from_is_err_and c.from_residual-in_err-ending.result c.from_residual-in_err-ending.ensures.1 in
     let symbols = subst (λ (st : List Sentence). AreItsSymbols (record { statements = st; place = c.args.own.now.place }) (numbers_in c.expression.result.now)) c.requires.own c.expression.ensures in
     rw (p.1, p.2) (on_rule_from c.in_err-ending.field-0.0 _ (λ rule at is.
-    wrong_end c.args.book.now.statements c.args.id.0 c.args.own.now.place own.0 (moves_in c.args.moves.now) _ _ _ _ rule at c.one_number.ensures own.1 symbols c.in_ok-count.ensures.ok
+    wrong_end c.args.limit c.args.book.now.statements c.args.id.0 c.args.own.now.place own.0 (moves_in c.args.moves.now) _ _ _ _ rule at c.one_number.ensures own.1 symbols c.in_ok-count.ensures.ok
     (c.ending.ensures.fault rule at (c.in_err-ending.was ∙ ap Err is))))
 
 pub returns-clause-proved : goal.returns-clause-proved
 returns-clause-proved g c =
     let own = c.requires.number in
     let symbols = subst (λ (st : List Sentence). AreItsSymbols (record { statements = st; place = c.args.own.now.place }) (numbers_in c.expression.result.now)) c.requires.own c.expression.ensures in
-    proved_end c.args.book.now.statements c.args.id.0 c.args.own.now.place own.0 (moves_in c.args.moves.now) _ _ _ _ own.1 symbols
+    proved_end c.args.limit c.args.book.now.statements c.args.id.0 c.args.own.now.place own.0 (moves_in c.args.moves.now) _ _ _ _ own.1 symbols
     c.in_ok-count.ensures.ok c.in_ok-ending.ensures.ok

@@ -31,10 +31,10 @@ judgement_in_frame-requires-clause-picked g c =
     subst (λ (l : List LabelId). ArePicked (moves_in c.args.moves.now) (ids_in l)) (sym c.deref.ensures.value) c.in_ok-fill_picked.ensures
 
 pub returns-clause-proved : goal.returns-clause-proved
-returns-clause-proved g c = c.judgement_in_frame.ensures.proved
+returns-clause-proved g c = rw c.limit-limit.ensures at c.judgement_in_frame.ensures.proved
 
 pub returns-clause-fault : goal.returns-clause-fault
-returns-clause-fault g c = c.judgement_in_frame.ensures.fault
+returns-clause-fault g c = rw c.limit-limit.ensures at c.judgement_in_frame.ensures.fault
 
 pub returns-clause-sound : goal.returns-clause-sound
 returns-clause-sound g c = c.frame-own.ensures.sound

@@ -7,7 +7,7 @@ use Rattle.mm_proof.proofs.verdict.judgement_in_frame.Goals as goal
 
 pub returns-clause-proved : goal.returns-clause-proved
 returns-clause-proved g c =
-    proved_in_order c.args.book.now.statements c.args.id.0 (moves_in c.args.moves.now) _ c.requires.sound.0 c.requires.steps (c.in_ok-fill_used.ensures (moves_in c.args.moves.now) c.requires.picked) c.in_ok-derive.ensures.proved
+    proved_in_order c.args.limit c.args.book.now.statements c.args.id.0 (moves_in c.args.moves.now) _ c.requires.sound.0 c.requires.steps (c.in_ok-fill_used.ensures (moves_in c.args.moves.now) c.requires.picked) c.in_ok-derive.ensures.proved
 
 pub fill_used-requires : goal.fill_used-requires
 fill_used-requires g c =

@@ -10,8 +10,8 @@ returns-in-Some c =
     let size : length c.args.self.now ≡ used = omega (arith, ap length c.self.view_is, length-take used room, c.self.invariant) in
     let long : length c.put_pieces.new.room ≡ c.self.inside.room.len = omega (arith, c.put_pieces.ensures.long, c.deref_mut.ensures.len) in
     let said = rw (c.deref_mut.ensures.value, c.self.view_is) at c.in-Some.ensures.said in (
-      put_within used c.in-Some.end 1048576 c.args.self.now c.put_pieces.new.room said.0 _ size c.in-Some.ensures.within said.1 said.2
-          (omega (arith, c.if-end-self-le-EXPRESSION_LIMIT.true)),
+      put_within used c.in-Some.end c.args.limit c.args.self.now c.put_pieces.new.room said.0 _ size c.in-Some.ensures.within said.1 said.2
+          (omega (arith, c.if-end-self.true)),
       said.0,
       ap (take c.in-Some.end) (with_items_is c.self.inside.room c.put_pieces.new.room long) ∙ said.1,
       said.2,

@@ -1,0 +1,295 @@
+-- What is built of the moves so far.
+use Rattle.std.proofs.Common.{◌≡◌, ℕ, zero, suc, ◌+◌, ◌-◌, ◌<◌, ◌≤◌, List, [], ◌∷◌, ◌++◌, length, take, drop, slice_get, get_or, Some, Result, IfErr, refl, sym, ap, subst, ◌∙◌, arith}
+use Rattle.std.specs.List.{AllZip, AllByRecursion}
+use Rattle.std.specs.Result.{IsErrAnd}
+use Rattle.std.proofs.lemmas.Option.{same_Some, none-some, slice_get_within}
+use Rattle.std.proofs.lemmas.Result.{err_from_is_err_and}
+use Rattle.std.proofs.lemmas.Slice.Zip.{AllZip-long}
+use Rattle.std.proofs.lemmas.List.{length-map, length-append, length-drop, take-append-drop, drop_all}
+use Rattle.mm_frame.specs.Sentence.{Sentence}
+use Rattle.mm_frame.specs.Rules.{AllMeant}
+use Rattle.mm_proof.specs.declared.moves.NumberedMove.{NumberedMove}
+use Rattle.mm_proof.specs.Tree.{Trees, none, tree, spelling, beside, roots, MayStandOver}
+use Rattle.mm_proof.specs.Moves.{Move, name, again, mark, MakesOne, Makes}
+use Rattle.mm_proof.specs.OneTree.{MakeTree}
+use Rattle.mm_proof.specs.Steps.{IsNumberedMove, AreNumberedMoves, AreSteps, IsProofNumber}
+use Rattle.mm_proof.specs.Spelled.{IsLabelNumber}
+use Rattle.mm_proof.specs.CodeSteps.{MayBeUsed, move_in, moves_in}
+use Rattle.mm_proof.specs.CodeRun.{MayBeMade}
+use Rattle.mm_proof.specs.Builders.{Holding, MakesItem, IsKept, RepeatsItem, KeepsItem, IsFull, IsTooLong, MakeTreeAt, IsBuilt}
+use Rattle.mm_proof.proofs.Making.{roots-beside, spelling-beside}
+use Rattle.mm_proof.proofs.Derived.{zip_left, zip_right, zip_push, all_at}
+use Rattle.mm_proof.proofs.Running.{move_at, last_split}
+use Rattle.mm_proof.proofs.Ending.{steps_made}
+use Rattle.mm_proof.proofs.Widths.{same_use}
+
+-- what holds of the fault that is handed on holds of the answer
+pub handed : {X F : Type 0} {Gives : F → Type 0} (Q : F → Type 0) (r : Result X F) → IsErrAnd r Gives → ((f : F) → Gives f → Q f) → IfErr r Q
+handed {X} {F} {Gives} Q r is all = let p = err_from_is_err_and r is in subst (λ x. IfErr x Q) (sym p.1) (all p.0 p.2)
+
+-- ---- the word only grows
+
+spelled_over : (rest below : Trees) (label : List ℕ) → length (spelling (beside rest (tree label below none))) ≡ length (spelling (beside rest below)) + 1
+spelled_over rest below label =
+    let a = ap length (spelling-beside rest (tree label below none)) in
+    let b = length-append (spelling rest) (spelling below ++ label ∷ []) in
+    let c = length-append (spelling below) (label ∷ []) in
+    let d = ap length (spelling-beside rest below) in
+    let e = length-append (spelling rest) (spelling below) in
+    omega arith
+
+spelled_again : (row t : Trees) → length (spelling (beside row t)) ≡ length (spelling row) + length (spelling t)
+spelled_again row t = ap length (spelling-beside row t) ∙ length-append (spelling row) (spelling t)
+
+grows_one : (before : List Sentence) (move : Move (List ℕ)) (row row' : Trees) (kept kept' : List Trees) → MakesOne before move row kept row' kept' → length (spelling row) ≤ length (spelling row')
+grows_one before (name label) row row' kept kept' m = omega (arith, ap (λ (x : Trees). length (spelling x)) m.2, ap (λ (x : Trees). length (spelling x)) m.4, spelled_over m.0 m.1 label)
+grows_one before (again tag) row row' kept kept' m = omega (arith, ap (λ (x : Trees). length (spelling x)) m.2, spelled_again row m.0)
+grows_one before mark row row' kept kept' m = omega (arith, ap (λ (x : Trees). length (spelling x)) m.4)
+
+word_grows : (before : List Sentence) (moves : List (Move (List ℕ))) (row last : Trees) (kept end : List Trees) → Makes before moves row kept last end → length (spelling row) ≤ length (spelling last)
+word_grows before [] row last kept end m = omega (arith, ap (λ (x : Trees). length (spelling x)) m.0)
+word_grows before (move ∷ moves) row last kept end m = omega (arith, grows_one before move row m.0 kept m.1 m.2, word_grows before moves m.0 last m.1 end m.3)
+
+-- ---- the moves so far
+
+-- The items are those of the trees that the moves before a place made; the moves that are left make the tree out of them.
+pub record At {X : Type 0} (held : Holding X) (st : List Sentence) (moves : List NumberedMove) (m : MakeTreeAt st (moves_in moves)) (i : ℕ) (stack shelf : List X) : Type 0 where
+  pub row : Trees
+  pub kept : List Trees
+  pub steps : ℕ
+  pub holds : held stack row shelf kept steps
+  pub deep : length stack ≡ roots row
+  pub ones : AllZip (λ (x : X) (t : Trees). roots t ≡ 1) shelf kept
+  pub few : steps ≤ i
+  pub made : Makes (take m.place st) (drop i m.names) row kept (tree m.label m.below none) m.makes.kept
+
+-- the steps make the tree, by the moves that are seen of them
+abbrev pub make_tree_at : (st : List Sentence) (id : ℕ) (xs ys : List (Move ℕ)) (place : ℕ) (s : Sentence) (names : List (Move (List ℕ))) (label : List ℕ) (below : Trees) → AllMeant st → AreSteps st id xs → xs ≡ ys
+    → IsProofNumber st id place s → AreNumberedMoves st xs names → MakeTree (take place st) names label below → MakeTreeAt st ys
+make_tree_at st id xs ys place s names label below all steps same proof numbered makes = record {
+  place = place;
+  names = names;
+  usable = subst (AllByRecursion (MayBeMade st place)) same (steps_made st id xs place s all steps proof.numbered);
+  numbered = subst (λ (l : List (Move ℕ)). AreNumberedMoves st l names) same numbered;
+  label = label;
+  below = below;
+  makes = makes;
+}
+
+-- ---- the next move
+
+drop_at : {X : Type 0} (xs : List X) (i : ℕ) (x : X) → slice_get xs i ≡ Some x → drop i xs ≡ x ∷ drop (suc i) xs
+drop_at [] i x e = absurd (none-some x e)
+drop_at (y ∷ xs) zero x e = ap (λ z. z ∷ xs) (same_Some y x e)
+drop_at (y ∷ xs) (suc i) x e = drop_at xs i x e
+
+record Next {X : Type 0} (held : Holding X) (st : List Sentence) (moves : List NumberedMove) (m : MakeTreeAt st (moves_in moves)) (i : ℕ) (stack shelf : List X) (x : Move ℕ) (h : At held st moves m i stack shelf) : Type 0 where
+  move : Move (List ℕ)
+  numbered : IsNumberedMove st x move
+  usable : MayBeMade st m.place x
+  row' : Trees
+  kept' : List Trees
+  one : MakesOne (take m.place st) move h.row h.kept row' kept'
+  others : Makes (take m.place st) (drop (i + 1) m.names) row' kept' (tree m.label m.below none) m.makes.kept
+
+next : {X : Type 0} (held : Holding X) (st : List Sentence) (moves : List NumberedMove) (m : MakeTreeAt st (moves_in moves)) (i : ℕ) (stack shelf : List X) (d x : NumberedMove) (h : At held st moves m i stack shelf)
+    → i < length moves → get_or moves i d ≡ x → Next held st moves m i stack shelf (move_in x) h
+next {X} held st moves m i stack shelf d x h less is =
+    let here = move_at moves i d less ∙ ap (λ y. Some (move_in y)) is in
+    let at = zip_left (IsNumberedMove st) (moves_in moves) m.names i (move_in x) m.numbered here in
+    let split : drop i m.names ≡ at.0 ∷ drop (i + 1) m.names = drop_at m.names i at.0 at.1 ∙ ap (λ (k : ℕ). at.0 ∷ drop k m.names) (let e : suc i ≡ i + 1 = omega arith in e) in
+    let left : Makes (take m.place st) (at.0 ∷ drop (i + 1) m.names) h.row h.kept (tree m.label m.below none) m.makes.kept =
+    subst (λ (l : List (Move (List ℕ))). Makes (take m.place st) l h.row h.kept (tree m.label m.below none) m.makes.kept) split h.made in
+    record { move = at.0; numbered = at.2; usable = all_at (MayBeMade st m.place) (moves_in moves) i (move_in x) m.usable here; row' = left.0; kept' = left.1; one = left.2; others = left.3 }
+
+-- a step by a label, by the trees that it takes
+pub record NextMake {X : Type 0} (held : Holding X) (st : List Sentence) (moves : List NumberedMove) (m : MakeTreeAt st (moves_in moves)) (i : ℕ) (stack shelf : List X) (id : ℕ) (h : At held st moves m i stack shelf) : Type 0 where
+  pub label : List ℕ
+  pub rest : Trees
+  pub below : Trees
+  pub named : IsLabelNumber st id label
+  pub used : MayBeUsed st m.place label id
+  pub stands : MayStandOver (take m.place st) label below
+  pub was : h.row ≡ beside rest below
+  pub others : Makes (take m.place st) (drop (i + 1) m.names) (beside rest (tree label below none)) h.kept (tree m.label m.below none) m.makes.kept
+
+pub next_make : {X : Type 0} (held : Holding X) (st : List Sentence) (moves : List NumberedMove) (m : MakeTreeAt st (moves_in moves)) (i : ℕ) (stack shelf : List X) (d x : NumberedMove) (id : ℕ) (h : At held st moves m i stack shelf)
+    → i < length moves → get_or moves i d ≡ x → move_in x ≡ name id → NextMake held st moves m i stack shelf id h
+next_make {X} held st moves m i stack shelf d x id h less is e =
+    let n = subst (λ y. Next held st moves m i stack shelf y h) e (next held st moves m i stack shelf d x h less is) in
+    let by = n.numbered in
+    let one = subst (λ y. MakesOne (take m.place st) y h.row h.kept n.row' n.kept') by.4 n.one in
+    let named : IsLabelNumber st id by.1 = record { s = by.0; there = by.2; named = by.3 } in
+    record {
+      label = by.1;
+      rest = one.0;
+      below = one.1;
+      named = named;
+      used = same_use st m.place id n.usable.0 by.1 by.0 n.usable.1 named;
+      stands = one.3;
+      was = one.2;
+      others = subst (λ k. Makes (take m.place st) (drop (i + 1) m.names) (beside one.0 (tree by.1 one.1 none)) k (tree m.label m.below none) m.makes.kept) one.5
+          (subst (λ r. Makes (take m.place st) (drop (i + 1) m.names) r n.kept' (tree m.label m.below none) m.makes.kept) one.4 n.others);
+    }
+
+-- so many trees are there
+pub make_within : {X : Type 0} (held : Holding X) (st : List Sentence) (moves : List NumberedMove) (m : MakeTreeAt st (moves_in moves)) (i : ℕ) (stack shelf : List X) (id width : ℕ) (h : At held st moves m i stack shelf)
+    → (n : NextMake held st moves m i stack shelf id h) → roots n.below ≡ width → width ≤ length stack
+make_within held st moves m i stack shelf id width h n wide = omega (arith, h.deep, ap roots n.was, roots-beside n.rest n.below, wide)
+
+pub at_make : {X : Type 0} (old new : Holding X) (st : List Sentence) (moves : List NumberedMove) (m : MakeTreeAt st (moves_in moves)) (i : ℕ) (stack shelf : List X) (item : X) (id width base : ℕ) (h : At old st moves m i stack shelf)
+    → (n : NextMake old st moves m i stack shelf id h) → roots n.below ≡ width → base ≡ length stack - width → MakesItem old new (IsLabelNumber st id) (drop base stack) item
+    → At new st moves m (i + 1) (take base stack ++ item ∷ []) shelf
+at_make {X} old new st moves m i stack shelf item id width base h n wide at makes =
+    let within = make_within old st moves m i stack shelf id width h n wide in
+    let many : roots n.below ≡ length (drop base stack) = omega (arith, length-drop base stack, wide, at, within) in
+    let split : old (take base stack ++ drop base stack) (beside n.rest n.below) shelf h.kept h.steps =
+    subst (λ s. old s (beside n.rest n.below) shelf h.kept h.steps) (sym (take-append-drop base stack)) (subst (λ r. old stack r shelf h.kept h.steps) n.was h.holds) in
+    record {
+      row = beside n.rest (tree n.label n.below none);
+      kept = h.kept;
+      steps = h.steps + 1;
+      holds = makes (take base stack) shelf n.rest n.below h.kept h.steps n.label n.named many split;
+      deep = omega (
+        arith,
+        length-append (take base stack) (item ∷ []),
+        length-drop base stack,
+        length-append (take base stack) (drop base stack),
+        ap length (take-append-drop base stack),
+        at,
+        wide,
+        within,
+        h.deep,
+        ap roots n.was,
+        roots-beside n.rest n.below,
+        roots-beside n.rest (tree n.label n.below none),
+      );
+      ones = h.ones;
+      few = let f = h.few in omega arith;
+      made = n.others;
+    }
+
+pub make_long : {X : Type 0} (held : Holding X) (st : List Sentence) (moves : List NumberedMove) (m : MakeTreeAt st (moves_in moves)) (i : ℕ) (stack shelf : List X) (id most : ℕ) (h : At held st moves m i stack shelf)
+    → NextMake held st moves m i stack shelf id h → IsFull held most → most < length (spelling (tree m.label m.below none))
+make_long held st moves m i stack shelf id most h n full =
+    omega (arith, full stack shelf h.row h.kept h.steps h.holds, ap (λ (x : Trees). length (spelling x)) n.was, spelled_over n.rest n.below n.label, word_grows _ _ _ _ _ _ n.others)
+
+-- a step by a tag, by the kept tree that has the item
+pub record NextRepeat {X : Type 0} (held : Holding X) (st : List Sentence) (moves : List NumberedMove) (m : MakeTreeAt st (moves_in moves)) (i : ℕ) (stack shelf : List X) (item : X) (h : At held st moves m i stack shelf) : Type 0 where
+  pub label : List ℕ
+  pub below : Trees
+  pub has : IsKept shelf h.kept item label below
+  pub others : Makes (take m.place st) (drop (i + 1) m.names) (beside h.row (tree label below none)) h.kept (tree m.label m.below none) m.makes.kept
+
+pub repeat_within : {X : Type 0} (held : Holding X) (st : List Sentence) (moves : List NumberedMove) (m : MakeTreeAt st (moves_in moves)) (i : ℕ) (stack shelf : List X) (d x : NumberedMove) (tag : ℕ) (h : At held st moves m i stack shelf)
+    → i < length moves → get_or moves i d ≡ x → move_in x ≡ again tag → tag < length shelf
+repeat_within {X} held st moves m i stack shelf d x tag h less is e =
+    let n = subst (λ y. Next held st moves m i stack shelf y h) e (next held st moves m i stack shelf d x h less is) in
+    let one = subst (λ y. MakesOne (take m.place st) y h.row h.kept n.row' n.kept') n.numbered n.one in
+    omega (arith, slice_get_within h.kept tag one.0 one.1, AllZip-long (λ (x : X) (t : Trees). roots t ≡ 1) shelf h.kept h.ones)
+
+one_tree : (t : Trees) → roots t ≡ 1 → (label : List ℕ) × (below : Trees) × (t ≡ tree label below none)
+one_tree none one = absurd (omega arith)
+one_tree (tree l x none) one = (l, x, refl)
+one_tree (tree l x (tree m y r)) one = absurd (omega arith)
+
+pub next_repeat : {X : Type 0} (held : Holding X) (st : List Sentence) (moves : List NumberedMove) (m : MakeTreeAt st (moves_in moves)) (i : ℕ) (stack shelf : List X) (item : X) (d x : NumberedMove) (tag : ℕ) (h : At held st moves m i stack shelf)
+    → i < length moves → get_or moves i d ≡ x → move_in x ≡ again tag → slice_get shelf tag ≡ Some item → NextRepeat held st moves m i stack shelf item h
+next_repeat {X} held st moves m i stack shelf item d x tag h less is e there =
+    let n = subst (λ y. Next held st moves m i stack shelf y h) e (next held st moves m i stack shelf d x h less is) in
+    let one = subst (λ y. MakesOne (take m.place st) y h.row h.kept n.row' n.kept') n.numbered n.one in
+    let found = zip_right (λ (x : X) (t : Trees). roots t ≡ 1) shelf h.kept tag one.0 h.ones one.1 in
+    let single = one_tree one.0 found.2 in
+    record {
+      label = single.0;
+      below = single.1;
+      has = record { tag = tag; item_there = there; tree_there = one.1 ∙ ap Some single.2 };
+      others = subst (λ t. Makes (take m.place st) (drop (i + 1) m.names) (beside h.row t) h.kept (tree m.label m.below none) m.makes.kept) single.2
+          (subst (λ k. Makes (take m.place st) (drop (i + 1) m.names) (beside h.row one.0) k (tree m.label m.below none) m.makes.kept) one.3
+          (subst (λ r. Makes (take m.place st) (drop (i + 1) m.names) r n.kept' (tree m.label m.below none) m.makes.kept) one.2 n.others));
+    }
+
+pub at_repeat : {X : Type 0} (old new : Holding X) (st : List Sentence) (moves : List NumberedMove) (m : MakeTreeAt st (moves_in moves)) (i : ℕ) (stack shelf : List X) (item more : X) (h : At old st moves m i stack shelf)
+    → NextRepeat old st moves m i stack shelf item h → RepeatsItem old new item more → At new st moves m (i + 1) (stack ++ more ∷ []) shelf
+at_repeat {X} old new st moves m i stack shelf item more h n repeats = record {
+  row = beside h.row (tree n.label n.below none);
+  kept = h.kept;
+  steps = h.steps + 1;
+  holds = repeats stack shelf h.row h.kept h.steps n.label n.below n.has h.holds;
+  deep = omega (arith, length-append stack (more ∷ []), h.deep, roots-beside h.row (tree n.label n.below none));
+  ones = h.ones;
+  few = let f = h.few in omega arith;
+  made = n.others;
+}
+
+pub repeat_long : {X : Type 0} (held : Holding X) (st : List Sentence) (moves : List NumberedMove) (m : MakeTreeAt st (moves_in moves)) (i : ℕ) (stack shelf : List X) (item : X) (most : ℕ) (h : At held st moves m i stack shelf)
+    → NextRepeat held st moves m i stack shelf item h → IsTooLong held item most → most < length (spelling (tree m.label m.below none))
+repeat_long held st moves m i stack shelf item most h n long =
+    omega (arith, long stack shelf h.row h.kept h.steps n.label n.below n.has h.holds, spelled_again h.row (tree n.label n.below none), word_grows _ _ _ _ _ _ n.others)
+
+-- a mark, by the last tree
+pub record NextKeep {X : Type 0} (held : Holding X) (st : List Sentence) (moves : List NumberedMove) (m : MakeTreeAt st (moves_in moves)) (i : ℕ) (stack shelf : List X) (h : At held st moves m i stack shelf) : Type 0 where
+  pub rest : Trees
+  pub label : List ℕ
+  pub below : Trees
+  pub some : 0 < length stack
+  pub was : h.row ≡ beside rest (tree label below none)
+  pub others : Makes (take m.place st) (drop (i + 1) m.names) (beside rest (tree label below none)) (h.kept ++ tree label below none ∷ []) (tree m.label m.below none) m.makes.kept
+
+pub next_keep : {X : Type 0} (held : Holding X) (st : List Sentence) (moves : List NumberedMove) (m : MakeTreeAt st (moves_in moves)) (i : ℕ) (stack shelf : List X) (d x : NumberedMove) (h : At held st moves m i stack shelf)
+    → i < length moves → get_or moves i d ≡ x → move_in x ≡ mark → NextKeep held st moves m i stack shelf h
+next_keep {X} held st moves m i stack shelf d x h less is e =
+    let n = subst (λ y. Next held st moves m i stack shelf y h) e (next held st moves m i stack shelf d x h less is) in
+    let one = subst (λ y. MakesOne (take m.place st) y h.row h.kept n.row' n.kept') n.numbered n.one in
+    record {
+      rest = one.0;
+      label = one.1;
+      below = one.2;
+      some = omega (arith, h.deep, ap roots one.3, roots-beside one.0 (tree one.1 one.2 none));
+      was = one.3;
+      others = subst (λ k. Makes (take m.place st) (drop (i + 1) m.names) (beside one.0 (tree one.1 one.2 none)) k (tree m.label m.below none) m.makes.kept) one.5
+          (subst (λ r. Makes (take m.place st) (drop (i + 1) m.names) r n.kept' (tree m.label m.below none) m.makes.kept) (one.4 ∙ one.3) n.others);
+    }
+
+pub at_keep : {X : Type 0} (held : Holding X) (st : List Sentence) (moves : List NumberedMove) (m : MakeTreeAt st (moves_in moves)) (i : ℕ) (stack shelf : List X) (item : X) (h : At held st moves m i stack shelf)
+    → NextKeep held st moves m i stack shelf h → slice_get stack (length stack - 1) ≡ Some item → KeepsItem held → At held st moves m (i + 1) stack (shelf ++ item ∷ [])
+at_keep {X} held st moves m i stack shelf item h n there keeps =
+    let parts = last_split stack n.some in
+    let split : stack ≡ parts.0 ++ item ∷ [] = parts.2 ∙ ap (λ x. parts.0 ++ x ∷ []) (same_Some parts.1 item (sym parts.3 ∙ there)) in
+    let t : Trees = tree n.label n.below none in
+    let holds : held (parts.0 ++ item ∷ []) (beside n.rest t) shelf h.kept h.steps = subst (λ s. held s (beside n.rest t) shelf h.kept h.steps) split (subst (λ r. held stack r shelf h.kept h.steps) n.was h.holds) in
+    record {
+      row = beside n.rest t;
+      kept = h.kept ++ t ∷ [];
+      steps = h.steps;
+      holds = subst (λ s. held s (beside n.rest t) (shelf ++ item ∷ []) (h.kept ++ t ∷ []) h.steps) (sym split) (keeps parts.0 shelf item n.rest h.kept h.steps n.label n.below holds);
+      deep = h.deep ∙ ap roots n.was;
+      ones = zip_push (λ (x : X) (t : Trees). roots t ≡ 1) shelf h.kept item t h.ones refl;
+      few = let f = h.few in omega arith;
+      made = n.others;
+    }
+
+-- ---- after all moves
+
+pub only_item : {X : Type 0} (held : Holding X) (st : List Sentence) (moves : List NumberedMove) (m : MakeTreeAt st (moves_in moves)) (i : ℕ) (stack shelf : List X) → length moves ≤ i → i ≤ length moves → At held st moves m i stack shelf
+    → (item : X) × (stack ≡ item ∷ []) × IsBuilt held m.names (tree m.label m.below none) item
+only_item {X} held st moves m i stack shelf all most h =
+    let long : length m.names ≡ length moves = AllZip-long (IsNumberedMove st) (moves_in moves) m.names m.numbered ∙ length-map moves move_in in
+    let made : Makes (take m.place st) [] h.row h.kept (tree m.label m.below none) m.makes.kept =
+    subst (λ (l : List (Move (List ℕ))). Makes (take m.place st) l h.row h.kept (tree m.label m.below none) m.makes.kept) (drop_all i m.names (omega arith)) h.made in
+    let one = one_item stack (h.deep ∙ ap roots (sym made.0)) in (
+      one.0,
+      one.1,
+      record {
+        shelf = shelf;
+        kept = h.kept;
+        steps = h.steps;
+        few = let f = h.few in omega arith;
+        holds = subst (λ s. held s (tree m.label m.below none) shelf h.kept h.steps) one.1 (subst (λ r. held stack r shelf h.kept h.steps) (sym made.0) h.holds);
+      },
+    )
+  where
+    one_item : (s : List X) → length s ≡ 1 → (item : X) × (s ≡ item ∷ [])
+    one_item [] e = absurd (omega arith)
+    one_item (x ∷ []) e = (x, refl)
+    one_item (x ∷ y ∷ s) e = absurd (omega arith)

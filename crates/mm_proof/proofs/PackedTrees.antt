@@ -1,0 +1,230 @@
+-- The listed labels and the codes of the steps of a tree are its fully shared proof.
+use Rattle.std.proofs.Common.{◌≡◌, ℕ, List, [], ◌∷◌, ◌++◌, map, take, slice_get, Contains, Some, ◌⊎◌, ◌↔◌, inl, inr, ⊎_elim, refl, sym, ap, subst, ◌∙◌}
+use Rattle.std.specs.List.{AllZip}
+use Rattle.std.proofs.lemmas.Option.{same_Some}
+use Rattle.mm_code.specs.declared.code.Code.{Code}
+use Rattle.mm_frame.specs.declared.number.LabelId.{LabelId}
+use Rattle.mm_frame.specs.Sentence.{Sentence}
+use Rattle.mm_frame.specs.Rules.{AllMeant}
+use Rattle.mm_frame.specs.Form.{AllFormed, IsSound}
+use Rattle.mm_frame.specs.Frame.{AreMandatory}
+use Rattle.mm_frame.specs.Numbers.{labelled_sentences, IsNumbered}
+use Rattle.mm_frame.specs.FramePlace.{FramePlace, AreHypotheses}
+use Rattle.mm_proof.specs.declared.subtrees.Subtree.{Subtree}
+use Rattle.mm_proof.specs.declared.subtrees.Row.{Row}
+use Rattle.mm_proof.specs.declared.sharing.SharedStep.{SharedStep}
+use Rattle.mm_proof.specs.declared.sharing.SharedStep.TheVariants.{Make, Repeat}
+use Rattle.mm_proof.specs.Tree.{Trees, none, tree, Fit}
+use Rattle.mm_proof.specs.Moves.{Move}
+use Rattle.mm_proof.specs.OneTree.{MakeTree}
+use Rattle.mm_proof.specs.Visits.{Visit, makes, repeats}
+use Rattle.mm_proof.specs.Sharing.{AreFirstUses}
+use Rattle.mm_proof.specs.Spelled.{IsLabelNumber, AreLabelsOf}
+use Rattle.mm_proof.specs.Packing.{ArePacked}
+use Rattle.mm_proof.specs.Subtrees.{AreOnce, IsTreeOf}
+use Rattle.mm_proof.specs.CodeSteps.{ids_in}
+use Rattle.mm_proof.specs.CodeSharing.{IsStepOf, AreSharedSteps, labels_made, AreFirstNumbers, AreEncoded, AreStepsPacked}
+use Rattle.mm_proof.proofs.Places.{get_from_take}
+use Rattle.mm_proof.proofs.Derived.{zip_left, zip_right}
+use Rattle.mm_proof.proofs.Expanded.{made_word}
+use Rattle.mm_proof.proofs.Ending.{one_place}
+use Rattle.mm_proof.proofs.Meaning.{meant_front}
+use Rattle.mm_proof.proofs.Members.{In, in_get, get_in, contains_in, in_contains, in_left, in_right, Once, once_places, places_once}
+use Rattle.mm_proof.proofs.SaidMoves.{labels_of, mandatory_active}
+use Rattle.mm_proof.proofs.PairOnce.{mandatory_once}
+use Rattle.mm_proof.proofs.SubtreeNumbers.{one_label_of, one_number_of, tree_once, subtree_once}
+use Rattle.mm_proof.proofs.LedMoves.{shared_moves}
+use Rattle.mm_proof.proofs.FirstUses.{labels_in, spelled_uses}
+use Rattle.mm_proof.proofs.PackedCodes.{Whole, codes_said}
+
+-- ---- numbers of labels
+
+zip_join : {A B : Type 0} (R : A → B → Type 0) (xs us : List A) (ys vs : List B) → AllZip R xs ys → AllZip R us vs → AllZip R (xs ++ us) (ys ++ vs)
+zip_join R [] us [] vs p q = q
+zip_join R [] us (y ∷ ys) vs p q = absurd p
+zip_join R (x ∷ xs) us [] vs p q = absurd p
+zip_join R (x ∷ xs) us (y ∷ ys) vs p q = (p.0, zip_join R xs us ys vs p.1 q)
+
+-- the numbers of the hypotheses are those of their labels
+own_labels : (st : List Sentence) (numbers : List ℕ) (hypotheses : List Sentence) (labels : List (List ℕ)) → map (slice_get (labelled_sentences st)) numbers ≡ map Some hypotheses
+    → map (λ (h : Sentence). h.label) hypotheses ≡ map Some labels → AllZip (IsLabelNumber st) numbers labels
+own_labels st [] [] [] p q = tt
+own_labels st [] [] (l ∷ labels) p q = absurd (let e : [] ≡ Some l ∷ map Some labels = q in cc)
+own_labels st [] (h ∷ hypotheses) labels p q = absurd (let e : [] ≡ Some h ∷ map Some hypotheses = p in cc)
+own_labels st (n ∷ numbers) [] labels p q = absurd (let e : slice_get (labelled_sentences st) n ∷ map (slice_get (labelled_sentences st)) numbers ≡ [] = p in cc)
+own_labels st (n ∷ numbers) (h ∷ hypotheses) [] p q = absurd (let e : h.label ∷ map (λ (h : Sentence). h.label) hypotheses ≡ [] = q in cc)
+own_labels st (n ∷ numbers) (h ∷ hypotheses) (l ∷ labels) p q =
+    let a = heads (slice_get (labelled_sentences st) n) (Some h) (map (slice_get (labelled_sentences st)) numbers) (map Some hypotheses) p in
+    let b = heads h.label (Some l) (map (λ (h : Sentence). h.label) hypotheses) (map Some labels) q in
+    (record { s = h; there = a.0; named = b.0 }, own_labels st numbers hypotheses labels a.1 b.1)
+  where
+    heads : {X : Type 0} (x y : X) (xs ys : List X) → x ∷ xs ≡ y ∷ ys → (x ≡ y) × (xs ≡ ys)
+    heads x y xs ys e = (cc, cc)
+
+-- different labels have different numbers
+numbers_once : (st : List Sentence) (numbers : List ℕ) (labels : List (List ℕ)) → AllZip (IsLabelNumber st) numbers labels → Once labels → Once numbers
+numbers_once st numbers labels z once = places_once numbers (λ i j n p q.
+    let a = zip_left (IsLabelNumber st) numbers labels i n z p in
+    let b = zip_left (IsLabelNumber st) numbers labels j n z q in
+    once_places labels i j b.0 once (a.1 ∙ ap Some (one_label_of st n a.0 b.0 a.2 b.2)) b.1)
+
+-- numbers that are different are all listed
+first_all : (seen numbers listed : List ℕ) → Once numbers → ((n : ℕ) → In numbers n → ¬ (In seen n)) → AreFirstNumbers seen numbers listed → listed ≡ numbers
+first_all seen [] listed once fresh u = u
+first_all seen (n ∷ numbers) listed once fresh (inl u) = absurd (fresh n (inl refl) (contains_in seen n u.0))
+first_all seen (n ∷ numbers) listed once fresh (inr u) =
+    u.2 ∙ ap (λ l. n ∷ l) (first_all (n ∷ seen) numbers u.1 once.1
+    (λ m h k. ⊎_elim (λ e. once.0 (subst (In numbers) (sym e) h)) (λ old. fresh m (inr h) old) k) u.3)
+
+-- the labels of listed numbers are the listed labels
+record Named (st : List Sentence) (listed : List ℕ) (seen word : List (List ℕ)) : Type 0 where
+  labels : List (List ℕ)
+  are : AllZip (IsLabelNumber st) listed labels
+  first : AreFirstUses seen word labels
+
+seen_number : (st : List Sentence) (seen : List ℕ) (names : List (List ℕ)) (n : ℕ) (label : List ℕ) → AllZip (IsLabelNumber st) seen names → IsLabelNumber st n label → Contains seen n → Contains names label
+seen_number st seen names n label z is has =
+    let at = in_get seen n (contains_in seen n has) in
+    let beside = zip_left (IsLabelNumber st) seen names at.0 n z at.1 in
+    in_contains names label (get_in names at.0 label (beside.1 ∙ ap Some (one_label_of st n beside.0 label beside.2 is)))
+
+seen_label : (st : List Sentence) (seen : List ℕ) (names : List (List ℕ)) (n : ℕ) (label : List ℕ) → AllMeant st → AllZip (IsLabelNumber st) seen names → IsLabelNumber st n label → Contains names label → Contains seen n
+seen_label st seen names n label all z is has =
+    let at = in_get names label (contains_in names label has) in
+    let beside = zip_right (IsLabelNumber st) seen names at.0 label z at.1 in
+    in_contains seen n (get_in seen at.0 n (beside.1 ∙ ap Some (one_number_of st beside.0 n label all beside.2 is)))
+
+named_uses : (st : List Sentence) (seen numbers listed : List ℕ) (names word : List (List ℕ)) → AllMeant st → AllZip (IsLabelNumber st) seen names → AllZip (IsLabelNumber st) numbers word
+    → AreFirstNumbers seen numbers listed → Named st listed names word
+named_uses st seen [] listed names [] all z y u = record { labels = []; are = subst (λ l. AllZip (IsLabelNumber st) l []) (sym u) tt; first = refl }
+named_uses st seen [] listed names (l ∷ word) all z y u = absurd y
+named_uses st seen (n ∷ numbers) listed names [] all z y u = absurd y
+named_uses st seen (n ∷ numbers) listed names (l ∷ word) all z y (inl u) =
+    let r = named_uses st seen numbers listed names word all z y.1 u.1 in
+    record { labels = r.labels; are = r.are; first = inl (seen_number st seen names n l z y.0 u.0, r.first) }
+named_uses st seen (n ∷ numbers) listed names (l ∷ word) all z y (inr u) =
+    let r = named_uses st (n ∷ seen) numbers u.1 (l ∷ names) word all (y.0, z) y.1 u.3 in
+    record {
+      labels = l ∷ r.labels;
+      are = subst (λ x. AllZip (IsLabelNumber st) x (l ∷ r.labels)) (sym u.2) (y.0, r.are);
+      first = inr (λ has. u.0 (seen_label st seen names n l all z y.0 has), r.labels, refl, r.first);
+    }
+
+-- each number was seen or is listed
+number_known : (seen numbers listed : List ℕ) (n : ℕ) → AreFirstNumbers seen numbers listed → In numbers n → In seen n ⊎ In listed n
+number_known seen [] listed n u h = absurd h
+number_known seen (m ∷ numbers) listed n (inl u) (inl e) = inl (subst (In seen) e (contains_in seen m u.0))
+number_known seen (m ∷ numbers) listed n (inl u) (inr h) = number_known seen numbers listed n u.1 h
+number_known seen (m ∷ numbers) listed n (inr u) (inl e) = inr (subst (λ l. In l n) (sym u.2) (inl e))
+number_known seen (m ∷ numbers) listed n (inr u) (inr h) = moved (number_known (m ∷ seen) numbers u.1 n u.3 h)
+  where
+    moved : In (m ∷ seen) n ⊎ In u.1 n → In seen n ⊎ In listed n
+    moved (inl (inl e)) = inr (subst (λ l. In l n) (sym u.2) (inl e))
+    moved (inl (inr old)) = inl old
+    moved (inr k) = inr (subst (λ l. In l n) (sym u.2) (inr k))
+
+-- the labels by which steps make trees
+step_labels : (st : List Sentence) (rows : List Row) (steps : List SharedStep) (v : List Visit) → AllZip (IsStepOf st rows) steps v → AllZip (IsLabelNumber st) (labels_made steps) (labels_in v)
+step_labels st rows [] [] z = tt
+step_labels st rows [] (x ∷ v) z = absurd z
+step_labels st rows (s ∷ steps) [] z = absurd z
+step_labels st rows (Make t ∷ steps) (x ∷ v) z =
+    let o : (label : List ℕ) × (below : Trees) × IsTreeOf st rows t label below × (x ≡ makes (tree label below none)) = z.0 in
+    subst (λ y. AllZip (IsLabelNumber st) (t.label ∷ labels_made steps) (labels_in (y ∷ v))) (sym o.3) (o.2.named, step_labels st rows steps v z.1)
+step_labels st rows (Repeat t ∷ steps) (x ∷ v) z =
+    let o : (label : List ℕ) × (below : Trees) × IsTreeOf st rows t label below × (x ≡ repeats (tree label below none)) = z.0 in
+    subst (λ y. AllZip (IsLabelNumber st) (labels_made steps) (labels_in (y ∷ v))) (sym o.3) (step_labels st rows steps v z.1)
+
+labels_of_ids : (st : List Sentence) (ids : List LabelId) (labels : List (List ℕ)) → AllZip (IsLabelNumber st) (ids_in ids) labels → AreLabelsOf st ids labels
+labels_of_ids st [] [] z = tt
+labels_of_ids st [] (l ∷ labels) z = absurd z
+labels_of_ids st (id ∷ ids) [] z = absurd z
+labels_of_ids st (id ∷ ids) (l ∷ labels) z = (z.0, labels_of_ids st ids labels z.1)
+
+-- ---- the trees that are repeated
+
+repeats_of : (st : List Sentence) (rows : List Row) (steps : List SharedStep) (v : List Visit) (repeated : List Subtree) → AllMeant st → AreOnce rows → AllZip (IsStepOf st rows) steps v
+    → ((t : Subtree) → Contains repeated t ↔ Contains steps (Repeat t))
+    → (t : Subtree) (label : List ℕ) (below : Trees) → IsTreeOf st rows t label below → Contains repeated t ↔ In v (repeats (tree label below none))
+repeats_of st rows steps v repeated all once z each t label below is = (
+  λ has.
+      let at = in_get steps (Repeat t) (contains_in steps (Repeat t) ((each t).0 has)) in
+      let beside = zip_left (IsStepOf st rows) steps v at.0 (Repeat t) z at.1 in
+      let o : (label : List ℕ) × (below : Trees) × IsTreeOf st rows t label below × (beside.0 ≡ repeats (tree label below none)) = beside.2 in
+      let same = tree_once st rows t o.0 label o.1 below o.2 is in
+      get_in v at.0 (repeats (tree label below none)) (beside.1 ∙ ap Some (o.3 ∙ ap (λ l. repeats (tree l o.1 none)) same.0 ∙ ap (λ b. repeats (tree label b none)) same.1)),
+  λ has.
+      let at = in_get v (repeats (tree label below none)) has in
+      let beside = zip_right (IsStepOf st rows) steps v at.0 (repeats (tree label below none)) z at.1 in
+      (each t).1 (in_contains steps (Repeat t) (get_in steps at.0 (Repeat t) (beside.1 ∙ ap Some (step_is beside.0 beside.2)))),
+)
+  where
+    step_is : (s : SharedStep) → IsStepOf st rows s (repeats (tree label below none)) → s ≡ Repeat t
+    step_is (Make u) o = absurd (let e : repeats (tree label below none) ≡ makes (tree o.0 o.1 none) = o.3 in cc)
+    step_is (Repeat u) o =
+        let same_label : o.0 ≡ label = (let e : repeats (tree label below none) ≡ repeats (tree o.0 o.1 none) = o.3 in cc) in
+        let same_below : o.1 ≡ below = (let e : repeats (tree label below none) ≡ repeats (tree o.0 o.1 none) = o.3 in cc) in
+        ap (λ x. Repeat x) (subtree_once st rows u t label below all once (subst (λ l. IsTreeOf st rows u l below) same_label (subst (λ b. IsTreeOf st rows u o.0 b) same_below o.2)) is)
+
+-- ---- the fully shared proof
+
+pub packed_steps : (st : List Sentence) (place : ℕ) (s : Sentence) (rows : List Row) (label : List ℕ) (below : Trees) (steps : List SharedStep) (hypotheses : List ℕ) (ids : List LabelId) (codes : List Code)
+    → AllMeant st → AllFormed (take place st) → AreOnce rows → Fit (take place st) (tree label below none) → slice_get st place ≡ Some s
+    → AreHypotheses (record { statements = st; place = place }) hypotheses
+    → AreSharedSteps st rows (tree label below none) steps → AreStepsPacked hypotheses steps (ids_in ids) codes
+    → ArePacked st place s (tree label below none) ids codes
+packed_steps st place s rows label below steps hypotheses ids codes all formed once fit there own shared packed =
+    let before = take place st in
+    let trees : Trees = tree label below none in
+    let same : own.assertion ≡ s = same_Some own.assertion s (sym own.there ∙ there) in
+    let mandatory : AreMandatory before s own.hypotheses = subst (λ a. AreMandatory before a own.hypotheses) same own.mandatory in
+    let named = labels_of before s own.hypotheses formed (λ i h e. let a = mandatory_active before s own.hypotheses i h mandatory e in (a.0, a.1, a.3)) in
+    let numbers = own_labels st hypotheses own.hypotheses named.0 own.numbered named.1 in
+    let apart : Once hypotheses = numbers_once st hypotheses named.0 numbers (mandatory_once before s own.hypotheses named.0 (meant_front st place all) mandatory named.1) in
+    let given : packed.given ≡ hypotheses = first_all [] hypotheses packed.given apart (λ n h k. k) packed.own in
+    let others : AreFirstNumbers hypotheses (labels_made steps) (ids_in ids) = subst (λ g. AreFirstNumbers g (labels_made steps) (ids_in ids)) given packed.others in
+    let uses = named_uses st hypotheses (labels_made steps) (ids_in ids) named.0 (labels_in shared.visits) all numbers (step_labels st rows steps shared.visits shared.said) others in
+    let moves = shared_moves before trees shared.visits fit shared.covers shared.careful in
+    let whole : Whole st rows (hypotheses ++ ids_in ids) (named.0 ++ uses.labels) packed.repeated shared.visits moves.kept = record {
+      meant = all;
+      rows_once = once;
+      labelled = zip_join (IsLabelNumber st) hypotheses (ids_in ids) named.0 uses.labels numbers uses.are;
+      repeats_are = repeats_of st rows steps shared.visits packed.repeated all once shared.said packed.each;
+      end_once = moves.once;
+    } in
+    let known : (n : ℕ) → In (labels_made steps) n → Contains (hypotheses ++ ids_in ids) n = λ n h.
+    in_contains (hypotheses ++ ids_in ids) n
+    (⊎_elim (λ a. in_left hypotheses (ids_in ids) n a) (λ b. in_right hypotheses (ids_in ids) n b) (number_known hypotheses (labels_made steps) (ids_in ids) n others h)) in (
+      uses.labels,
+      labels_of_ids st ids uses.labels uses.are,
+      record {
+        moves = moves.moves;
+        says = record {
+          hypotheses = own.hypotheses;
+          mandatory = mandatory;
+          labels = named.0;
+          labelled = named.1;
+          each =
+              codes_said st before rows (hypotheses ++ ids_in ids) (named.0 ++ uses.labels) packed.repeated shared.visits trees moves.kept whole
+              steps shared.visits moves.v [] [] codes packed.kept moves.moves none shared.said moves.marked moves.led tt
+              (subst (λ g. AreEncoded (g ++ ids_in ids) packed.repeated [] steps codes packed.kept) given packed.said) known;
+        };
+        shared = moves.shared;
+        uses = spelled_uses trees [] shared.visits named.0 uses.labels (λ t h. absurd h) shared.covers shared.careful uses.first;
+      },
+    )
+
+-- the frame is that of the statement at the place
+same_frame : (st : List Sentence) (place : ℕ) (own : FramePlace) (numbers : List ℕ) → own.statements ≡ st → own.place ≡ place → AreHypotheses own numbers → AreHypotheses (record { statements = st; place = place }) numbers
+same_frame st place own numbers book at are =
+    subst (λ (p : ℕ). AreHypotheses (record { statements = st; place = p }) numbers) at
+    (subst (λ (x : List Sentence). AreHypotheses (record { statements = x; place = own.place }) numbers) book are)
+
+pub packed_made : (st : List Sentence) (id place : ℕ) (s t : Sentence) (own : FramePlace) (rows : List Row) (label : List ℕ) (below : Trees) (names : List (Move (List ℕ))) (steps : List SharedStep) (hypotheses : List ℕ) (ids : List LabelId) (codes : List Code)
+    → IsSound st → AreOnce rows → IsNumbered st id place s → own.statements ≡ st → IsNumbered st id own.place t → AreHypotheses own hypotheses → MakeTree (take place st) names label below
+    → AreSharedSteps st rows (tree label below none) steps → AreStepsPacked hypotheses steps (ids_in ids) codes → ArePacked st place s (tree label below none) ids codes
+packed_made st id place s t own rows label below names steps hypotheses ids codes sound once numbered book its are made shared packed =
+    let at : own.place ≡ place = one_place st id own.place place t s its numbered in
+    let fit = made_word (take place st) names (tree label below none) made.kept made.made in
+    packed_steps st place s rows label below steps hypotheses ids codes sound.0 (λ i u e. sound.1 i u (get_from_take st place i u e).1) once fit.1 numbered.there
+    (same_frame st place own hypotheses book at are) shared packed

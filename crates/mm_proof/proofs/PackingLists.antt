@@ -1,0 +1,188 @@
+-- What is known of the labels and the codes of the steps so far.
+use Rattle.std.proofs.Common.{◌≡◌, ℕ, suc, ◌+◌, ◌<◌, ◌≤◌, List, [], ◌∷◌, ◌++◌, length, take, get_or, Contains, Bool, true, false, Some, ◌⊎◌, ◌↔◌, inl, inr, ⊎_elim, refl, sym, ap, subst, ◌∙◌, append_assoc, append-nil, arith}
+use Rattle.std.proofs.lemmas.Option.{slice_get-get_or}
+use Rattle.std.proofs.lemmas.List.{length-append, map-append}
+use Rattle.std.proofs.lemmas.List.Elements.{Contains-push, Contains-push_cases, Contains-append_left}
+use Rattle.mm_code.specs.declared.code.Code.{Code}
+use Rattle.mm_frame.specs.declared.hypothesis.Hypothesis.{Hypothesis}
+use Rattle.mm_frame.specs.declared.number.LabelId.{LabelId}
+use Rattle.mm_proof.specs.declared.subtrees.Subtree.{Subtree}
+use Rattle.mm_proof.specs.declared.sharing.SharedStep.{SharedStep}
+use Rattle.mm_proof.specs.declared.sharing.SharedStep.TheVariants.{Make, Repeat}
+use Rattle.mm_proof.specs.CodeSteps.{ids_in, label_ids}
+use Rattle.mm_proof.specs.CodeSharing.{Adds, AddsNew, labels_made, AreFirstNumbers, IsEncoded, AreEncoded}
+use Rattle.mm_proof.proofs.Places.{take_get}
+use Rattle.mm_proof.proofs.Members.{In, contains_in, in_contains, in_left, in_right, in_apart}
+
+-- ---- a front with one more
+
+pub one_more : {X : Type 0} (xs : List X) (i : ℕ) (d x : X) → i < length xs → get_or xs i d ≡ x → take (i + 1) xs ≡ take i xs ++ x ∷ []
+one_more xs i d x less is =
+    ap (λ (k : ℕ). take k xs) (let e : i + 1 ≡ suc i = omega arith in e) ∙ take_get xs i x (slice_get-get_or xs i d less ∙ ap Some is)
+
+-- ---- what is added to a list
+
+adds_old : {X : Type 0} (old new : List X) (x y : X) → Adds old x new → Contains old y → Contains new y
+adds_old old new x y (inl p) h = subst (λ l. Contains l y) (sym p.1) h
+adds_old old new x y (inr p) h = subst (λ l. Contains l y) (sym p.1) (Contains-append_left old (x ∷ []) y h)
+
+adds_new : {X : Type 0} (old new : List X) (x : X) → Adds old x new → Contains new x
+adds_new old new x (inl p) = subst (λ l. Contains l x) (sym p.1) p.0
+adds_new old new x (inr p) = subst (λ l. Contains l x) (sym p.1) (Contains-push old x)
+
+adds_only : {X : Type 0} (old new : List X) (x y : X) → Adds old x new → Contains new y → Contains old y ⊎ (x ≡ y)
+adds_only old new x y (inl p) h = inl (subst (λ l. Contains l y) p.1 h)
+adds_only old new x y (inr p) h = Contains-push_cases old x y (subst (λ l. Contains l y) p.1 h)
+
+-- ---- the trees that are repeated
+
+abbrev pub AreRepeated : List Subtree → List SharedStep → Type 0
+AreRepeated trees steps = (t : Subtree) → Contains trees t ↔ Contains steps (Repeat t)
+
+same_repeated : (t u : Subtree) → Repeat t ≡ Repeat u → t ≡ u
+same_repeated t u e = cc
+
+made_or_repeated : (t u : Subtree) → Make t ≡ Repeat u → ⊥
+made_or_repeated t u e = cc
+
+pub repeated_repeat : (trees trees' : List Subtree) (steps : List SharedStep) (t : Subtree) → Adds trees t trees' → AreRepeated trees steps → AreRepeated trees' (steps ++ Repeat t ∷ [])
+repeated_repeat trees trees' steps t adds are u = (
+  λ h. ⊎_elim
+      (λ old. Contains-append_left steps (Repeat t ∷ []) (Repeat u) ((are u).0 old))
+      (λ e. subst (λ x. Contains (steps ++ Repeat t ∷ []) (Repeat x)) e (Contains-push steps (Repeat t)))
+      (adds_only trees trees' t u adds h),
+  λ h. ⊎_elim
+      (λ old. adds_old trees trees' t u adds ((are u).1 old))
+      (λ e. subst (λ x. Contains trees' x) (same_repeated t u e) (adds_new trees trees' t adds))
+      (Contains-push_cases steps (Repeat t) (Repeat u) h),
+)
+
+pub repeated_make : (trees : List Subtree) (steps : List SharedStep) (t : Subtree) → AreRepeated trees steps → AreRepeated trees (steps ++ Make t ∷ [])
+repeated_make trees steps t are u = (
+  λ h. Contains-append_left steps (Make t ∷ []) (Repeat u) ((are u).0 h),
+  λ h. ⊎_elim (λ old. (are u).1 old) (λ e. absurd (made_or_repeated t u e)) (Contains-push_cases steps (Make t) (Repeat u) h),
+)
+
+pub repeated_none : AreRepeated [] []
+repeated_none t = (λ h. absurd (let less : h.0 < 0 = h.1 in omega arith), λ h. absurd (let less : h.0 < 0 = h.1 in omega arith))
+
+-- ---- first uses
+
+-- a number that was seen or listed lists nothing more
+first_seen : (seen numbers listed : List ℕ) (n : ℕ) → AreFirstNumbers seen numbers listed → In seen n ⊎ In listed n → AreFirstNumbers seen (numbers ++ n ∷ []) listed
+first_seen seen [] listed n e (inl h) = inl (in_contains seen n h, e)
+first_seen seen [] listed n e (inr h) = absurd (subst (λ l. In l n) e h)
+first_seen seen (m ∷ numbers) listed n (inl u) h = inl (u.0, first_seen seen numbers listed n u.1 h)
+first_seen seen (m ∷ numbers) listed n (inr u) h = inr (
+  u.0,
+  u.1,
+  u.2,
+  first_seen (m ∷ seen) numbers u.1 n u.3
+      (⊎_elim (λ a. inl (inr a)) (λ b. listed_one (subst (λ l. In l n) u.2 b)) h),
+)
+  where
+    listed_one : In (m ∷ u.1) n → In (m ∷ seen) n ⊎ In u.1 n
+    listed_one (inl e) = inl (inl e)
+    listed_one (inr k) = inr k
+
+-- another is listed
+first_new : (seen numbers listed : List ℕ) (n : ℕ) → AreFirstNumbers seen numbers listed → ¬ (In seen n) → ¬ (In listed n) → AreFirstNumbers seen (numbers ++ n ∷ []) (listed ++ n ∷ [])
+first_new seen [] listed n e unseen other = inr (λ c. unseen (contains_in seen n c), [], ap (λ l. l ++ n ∷ []) e, refl)
+first_new seen (m ∷ numbers) listed n (inl u) unseen other = inl (u.0, first_new seen numbers listed n u.1 unseen other)
+first_new seen (m ∷ numbers) listed n (inr u) unseen other =
+    let apart : ¬ (m ≡ n) = λ e. other (subst (λ l. In l n) (sym u.2) (inl e)) in
+    inr (
+      u.0,
+      u.1 ++ n ∷ [],
+      ap (λ l. l ++ n ∷ []) u.2,
+      first_new (m ∷ seen) numbers u.1 n u.3 (λ h. ⊎_elim apart unseen h) (λ h. other (subst (λ l. In l n) (sym u.2) (inr h))),
+    )
+
+-- the numbers as far as they are listed behind those that were seen
+pub record Listing (seen labels numbers listed : List ℕ) : Type 0 where
+  pub all : labels ≡ seen ++ listed
+  pub first : AreFirstNumbers seen numbers listed
+
+pub listing_none : (seen : List ℕ) → Listing seen seen [] []
+listing_none seen = record { all = sym (append-nil seen); first = refl }
+
+pub listing_old : (seen labels labels' numbers listed : List ℕ) (n : ℕ) → Listing seen labels numbers listed → AddsNew labels n false labels' → Listing seen labels' (numbers ++ n ∷ []) listed
+listing_old seen labels labels' numbers listed n l a = record {
+  all = a.1 ∙ l.all;
+  first = first_seen seen numbers listed n l.first (in_apart seen listed n (subst (λ x. In x n) l.all (contains_in labels n a.0)));
+}
+
+pub listing_new : (seen labels labels' numbers listed : List ℕ) (n : ℕ) → Listing seen labels numbers listed → AddsNew labels n true labels' → Listing seen labels' (numbers ++ n ∷ []) (listed ++ n ∷ [])
+listing_new seen labels labels' numbers listed n l a =
+    let fresh : ¬ (In (seen ++ listed) n) = λ h. a.0 (in_contains labels n (subst (λ x. In x n) (sym l.all) h)) in
+    record {
+      all = a.1 ∙ ap (λ x. x ++ n ∷ []) l.all ∙ append_assoc seen listed (n ∷ []);
+      first = first_new seen numbers listed n l.first (λ h. fresh (in_left seen listed n h)) (λ h. fresh (in_right seen listed n h));
+    }
+
+pub listing_made : (seen labels numbers numbers' listed : List ℕ) → numbers' ≡ numbers → Listing seen labels numbers listed → Listing seen labels numbers' listed
+listing_made seen labels numbers numbers' listed e l = subst (λ x. Listing seen labels x listed) (sym e) l
+
+-- where nothing was seen, and whatever is new
+pub first_added : (numbers listed listed' : List ℕ) (n : ℕ) (is_new : Bool) → AreFirstNumbers [] numbers listed → AddsNew listed n is_new listed' → AreFirstNumbers [] (numbers ++ n ∷ []) listed'
+first_added numbers listed listed' n false f a =
+    subst (λ l. AreFirstNumbers [] (numbers ++ n ∷ []) l) (sym a.1) (listing_old [] listed listed' numbers listed n (record { all = refl; first = f }) a).first
+first_added numbers listed listed' n true f a =
+    subst (λ l. AreFirstNumbers [] (numbers ++ n ∷ []) l) (sym a.1) (listing_new [] listed listed' numbers listed n (record { all = refl; first = f }) a).first
+
+-- ---- the labels of steps
+
+pub labels_made-make : (steps : List SharedStep) (t : Subtree) → labels_made (steps ++ Make t ∷ []) ≡ labels_made steps ++ t.label ∷ []
+labels_made-make [] t = refl
+labels_made-make (Make u ∷ steps) t = ap (λ l. u.label ∷ l) (labels_made-make steps t)
+labels_made-make (Repeat u ∷ steps) t = labels_made-make steps t
+
+pub labels_made-repeat : (steps : List SharedStep) (t : Subtree) → labels_made (steps ++ Repeat t ∷ []) ≡ labels_made steps
+labels_made-repeat [] t = refl
+labels_made-repeat (Make u ∷ steps) t = ap (λ l. u.label ∷ l) (labels_made-repeat steps t)
+labels_made-repeat (Repeat u ∷ steps) t = labels_made-repeat steps t
+
+pub labels_made-few : (steps : List SharedStep) → length (labels_made steps) ≤ length steps
+labels_made-few [] = omega arith
+labels_made-few (Make u ∷ steps) = let h = labels_made-few steps in omega arith
+labels_made-few (Repeat u ∷ steps) = let h = labels_made-few steps in omega arith
+
+pub first_few : (seen numbers listed : List ℕ) → AreFirstNumbers seen numbers listed → length listed ≤ length numbers
+first_few seen [] listed e = let l = ap length e in omega arith
+first_few seen (n ∷ numbers) listed (inl u) = let h = first_few seen numbers listed u.1 in omega arith
+first_few seen (n ∷ numbers) listed (inr u) = let h = first_few (n ∷ seen) numbers u.1 u.3 in let l = ap length u.2 in omega arith
+
+pub ids_more : (ids : List LabelId) (id : LabelId) → ids_in (ids ++ id ∷ []) ≡ ids_in ids ++ id.0 ∷ []
+ids_more ids id = map-append (λ (i : LabelId). i.0) ids (id ∷ [])
+
+pub label_ids-more : (hypotheses : List Hypothesis) (h : Hypothesis) → label_ids (hypotheses ++ h ∷ []) ≡ label_ids hypotheses ++ h.id.0 ∷ []
+label_ids-more hypotheses h = map-append (λ (i : Hypothesis). i.id.0) hypotheses (h ∷ [])
+
+-- ---- codes
+
+-- one step more
+pub encoded_more : (labels : List ℕ) (repeated kept : List Subtree) (steps : List SharedStep) (codes : List Code) (next : List Subtree) (one : SharedStep) (here : List Code) (kept' : List Subtree)
+    → AreEncoded labels repeated kept steps codes next → IsEncoded labels repeated next one here kept' → AreEncoded labels repeated kept (steps ++ one ∷ []) (codes ++ here) kept'
+encoded_more labels repeated kept [] codes next one here kept' a is =
+    (here, kept', [], ap (λ c. c ++ here) a.0 ∙ sym (append-nil here), subst (λ k. IsEncoded labels repeated k one here kept') a.1 is, (refl, refl))
+encoded_more labels repeated kept (s ∷ steps) codes next one here kept' a is =
+    (a.0, a.1, a.2 ++ here, ap (λ c. c ++ here) a.3 ∙ append_assoc a.0 a.2 here, a.4, encoded_more labels repeated a.1 steps a.2 next one here kept' a.5 is)
+
+-- each step tags one tree at most
+pub encoded_few : (labels : List ℕ) (repeated kept : List Subtree) (one : SharedStep) (codes : List Code) (kept' : List Subtree) → IsEncoded labels repeated kept one codes kept' → length kept' ≤ length kept + 1
+encoded_few labels repeated kept (Repeat t) codes kept' a = let l = ap length a.3 in omega arith
+encoded_few labels repeated kept (Make t) codes kept' a = ⊎_elim (λ p. added p.2) (λ p. let l = ap length p.2 in omega arith) a.2
+  where
+    added : Adds kept t kept' → length kept' ≤ length kept + 1
+    added (inl p) = let l = ap length p.1 in omega arith
+    added (inr p) = let l = ap length p.1 in let n = length-append kept (t ∷ []) in omega arith
+
+pub encoded_next : (labels : List ℕ) (repeated : List Subtree) (steps : List SharedStep) (i : ℕ) (d : SharedStep) (codes codes' : List Code) (kept kept' : List Subtree) → i < length steps → length kept ≤ i
+    → AreEncoded labels repeated [] (take i steps) codes kept → (here : List Code) × (codes' ≡ codes ++ here) × IsEncoded labels repeated kept (get_or steps i d) here kept'
+    → (length kept' ≤ i + 1) × AreEncoded labels repeated [] (take (i + 1) steps) codes' kept'
+encoded_next labels repeated steps i d codes codes' kept kept' less few are is = (
+  (let more = encoded_few labels repeated kept (get_or steps i d) is.0 kept' is.2 in omega arith),
+  subst (λ s. AreEncoded labels repeated [] s codes' kept') (sym (one_more steps i d (get_or steps i d) less refl))
+      (subst (λ c. AreEncoded labels repeated [] (take i steps ++ get_or steps i d ∷ []) c kept') (sym is.1)
+      (encoded_more labels repeated [] (take i steps) codes kept (get_or steps i d) is.0 kept' are is.2)),
+)

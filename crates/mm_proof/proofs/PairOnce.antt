@@ -1,0 +1,244 @@
+-- A tree has one fully shared proof at most, and is told by it.
+use Rattle.std.proofs.Common.{◌≡◌, ℕ, zero, suc, ◌+◌, ◌<◌, List, [], ◌∷◌, ◌++◌, length, map}
+use Rattle.std.proofs.Common.{slice_get, Option, Some, ◌⊎◌, inl, inr, ⊎_elim, refl, sym, ap, subst}
+use Rattle.std.proofs.Common.{◌∙◌, arith}
+use Rattle.std.specs.List.{AllZip}
+use Rattle.std.proofs.lemmas.Option.{none-some}
+use Rattle.std.proofs.lemmas.Bool.{cases_order}
+use Rattle.mm_code.specs.declared.code.Code.{Code}
+use Rattle.mm_code.specs.declared.code.Code.TheVariants.{Number, Tag}
+use Rattle.mm_frame.specs.Sentence.{Sentence, IsLabelled}
+use Rattle.mm_frame.specs.Frame.{AreMandatory, IsMandatoryAt}
+use Rattle.mm_frame.specs.Rules.{AllMeant}
+use Rattle.mm_frame.proofs.Those.{mandatory_unique}
+use Rattle.mm_proof.specs.Tree.{Trees, none, tree, spelling}
+use Rattle.mm_proof.specs.Moves.{Move, name, again, mark, Makes}
+use Rattle.mm_proof.specs.Tokens.{Says}
+use Rattle.mm_proof.specs.Sharing.{PairSays, AreFirstUses, IsPacked}
+use Rattle.mm_proof.specs.SharingLaws.{OnePacked, ToldByPacked}
+use Rattle.mm_proof.proofs.Meaning.{one_label}
+use Rattle.mm_proof.proofs.Derived.{zip_once}
+use Rattle.mm_proof.proofs.Making.{makes_once}
+use Rattle.mm_proof.proofs.SaidMoves.{says_once, same_somes}
+use Rattle.mm_proof.proofs.Replacements.{those_order}
+use Rattle.mm_proof.proofs.Members.{In, in_contains, in_apart, Once, once_places, places_once}
+use Rattle.mm_proof.proofs.SharedOnce.{shared_once}
+
+-- ---- the listed labels
+
+pub uses_once : (word seen listed listed' : List (List ℕ)) → AreFirstUses seen word listed
+    → AreFirstUses seen word listed' → listed ≡ listed'
+uses_once [] seen listed listed' p q = p ∙ sym q
+uses_once (label ∷ word) seen listed listed' (inl p)
+    (inl q) = uses_once word seen listed listed' p.1 q.1
+uses_once (label ∷ word) seen listed listed' (inl p) (inr q) = absurd (q.0 p.0)
+uses_once (label ∷ word) seen listed listed' (inr p) (inl q) = absurd (p.0 q.0)
+uses_once (label ∷ word) seen listed listed' (inr p) (inr q) =
+    p.2 ∙ ap (λ l. label ∷ l) (uses_once word (label ∷ seen) p.1 q.1 p.3 q.3) ∙ sym q.2
+
+-- none was seen, and none stands twice
+pub uses_apart : (word seen listed : List (List ℕ)) → AreFirstUses seen word listed → Once listed
+    × ((label : List ℕ) → In listed label → ¬ (In seen label))
+uses_apart [] seen listed p = (
+  subst Once (sym p) tt,
+  λ label h. absurd
+      (subst (λ l. In l label) p h),
+)
+uses_apart (label ∷ word) seen listed (inl p) = uses_apart word seen listed p.1
+uses_apart (label ∷ word) seen listed (inr p) =
+    let h = uses_apart word (label ∷ seen) p.1 p.3 in (
+      subst Once (sym p.2) (λ again. h.1 label again (inl refl), h.0),
+      λ other has. ⊎_elim
+          (λ e. subst (λ x. ¬ (In seen x)) e (λ s. p.0 (in_contains seen label s)))
+          (λ later s. h.1 other later (inr s))
+          (let d : In (label ∷ p.1) other = subst (λ l. In l other) p.2 has in d),
+    )
+
+-- ---- the labels of mandatory hypotheses
+
+label_at : (hypotheses : List Sentence) (labels : List (List ℕ)) (i : ℕ) (label : List ℕ)
+    → map (λ (h : Sentence). h.label) hypotheses ≡ map Some labels → slice_get labels i ≡ Some label
+    → (h : Sentence) × (slice_get hypotheses i ≡ Some h) × IsLabelled label h
+label_at [] [] i label e there = absurd (none-some label there)
+label_at [] (l ∷ labels) i label e there = absurd (let p : [] ≡ Some l ∷ map Some labels = e in cc)
+label_at (h ∷ hypotheses) [] i label e there = absurd (none-some label there)
+label_at (h ∷ hypotheses) (l ∷ labels) zero label e there =
+    let p : h.label ∷ map (λ (g : Sentence). g.label) hypotheses ≡ Some l ∷ map Some labels = e in (
+      h,
+      refl,
+      (heads (h.label) (Some l) (map (λ (g : Sentence). g.label) hypotheses)
+          (map Some labels) p).0 ∙ there,
+    )
+  where
+    heads : (a b : Option (List ℕ)) (c d : List (Option (List ℕ))) → a ∷ c ≡ b ∷ d → (a ≡ b)
+        × (c ≡ d)
+    heads a b c d e = (cc, cc)
+label_at (h ∷ hypotheses) (l ∷ labels) (suc i) label e there =
+    let p : h.label ∷ map (λ (g : Sentence). g.label) hypotheses ≡ Some l ∷ map Some labels = e in
+    label_at hypotheses labels i label
+    (heads (h.label) (Some l) (map (λ (g : Sentence). g.label) hypotheses)
+    (map Some labels) p).1 there
+  where
+    heads : (a b : Option (List ℕ)) (c d : List (Option (List ℕ))) → a ∷ c ≡ b ∷ d → (a ≡ b)
+        × (c ≡ d)
+    heads a b c d e = (cc, cc)
+
+not_twice : (before : List Sentence) (s : Sentence) (hypotheses : List Sentence)
+    (labels : List (List ℕ)) (i j : ℕ) (label : List ℕ) → AllMeant before
+    → AreMandatory before s hypotheses
+    → map (λ (h : Sentence). h.label) hypotheses ≡ map Some labels → slice_get labels i ≡ Some label
+    → slice_get labels j ≡ Some label → i < j → ⊥
+not_twice before s hypotheses labels i j label all mandatory labelled p q less =
+    let a = label_at hypotheses labels i label labelled p in
+    let b = label_at hypotheses labels j label labelled q in
+    let o = those_order (IsMandatoryAt before s) 0 before hypotheses i j a.0 b.0 mandatory less a.1
+    b.1 in
+    let same : o.0 ≡ o.1 = one_label before o.0 o.1 a.0 b.0 label all o.3 o.4 a.2 b.2 in
+    let l : o.0 < o.1 = o.2 in
+    omega arith
+
+pub mandatory_once : (before : List Sentence) (s : Sentence) (hypotheses : List Sentence)
+    (labels : List (List ℕ)) → AllMeant before → AreMandatory before s hypotheses
+    → map (λ (h : Sentence). h.label) hypotheses ≡ map Some labels → Once labels
+mandatory_once before s hypotheses labels all mandatory labelled = places_once labels
+    (λ i j label p q. elim (cases_order i j) [
+      | inl same ↦ same
+      | inr (inl less) ↦
+          absurd (not_twice before s hypotheses labels i j label all mandatory labelled p q less)
+      | inr (inr more) ↦
+          absurd (not_twice before s hypotheses labels j i label all mandatory labelled q p more)
+    ])
+
+once_joined : {X : Type 0} (xs ys : List X) → Once xs → Once ys → ((x : X) → In ys x → ¬ (In xs x))
+    → Once (xs ++ ys)
+once_joined [] ys o p apart = p
+once_joined (x ∷ xs) ys o p apart = (
+  λ h. ⊎_elim (λ a. o.0 a) (λ b. apart x b (inl refl)) (in_apart xs ys x h),
+  once_joined xs ys o.1 p (λ y h k. apart y h (inr k)),
+)
+
+-- ---- the codes
+
+one_code : (labels : List (List ℕ)) (move : Move (List ℕ)) (c d : Code) → Once labels
+    → Says labels c move → Says labels d move → c ≡ d
+one_code labels move Tag Tag once p q = refl
+one_code labels move Tag (Number n) once p q = absurd (⊎_elim
+    (λ a. mark_or_name a.0 (sym p ∙ a.2))
+    (λ a. mark_or_again a.0 (sym p ∙ a.2)) q.2)
+  where
+    mark_or_name : (label : List ℕ) → mark ≡ name label → ⊥
+    mark_or_name label e = cc
+
+    mark_or_again : (tag : ℕ) → ◌≡◌ {A = Move (List ℕ)} mark (again tag) → ⊥
+    mark_or_again tag e = cc
+one_code labels move (Number n) Tag once p q = absurd (⊎_elim
+    (λ a. mark_or_name a.0 (sym q ∙ a.2))
+    (λ a. mark_or_again a.0 (sym q ∙ a.2)) p.2)
+  where
+    mark_or_name : (label : List ℕ) → mark ≡ name label → ⊥
+    mark_or_name label e = cc
+
+    mark_or_again : (tag : ℕ) → ◌≡◌ {A = Move (List ℕ)} mark (again tag) → ⊥
+    mark_or_again tag e = cc
+one_code labels move (Number n) (Number k) once p q = ap Number
+    (omega (arith, p.1, q.1, place p.2 q.2))
+  where
+    same_name : (l m : List ℕ) → name l ≡ name m → l ≡ m
+    same_name l m e = cc
+
+    same_again : (a b : ℕ) → ◌≡◌ {A = Move (List ℕ)} (again a) (again b) → a ≡ b
+    same_again a b e = cc
+
+    name_or_again : (l : List ℕ) (b : ℕ) → name l ≡ again b → ⊥
+    name_or_again l b e = cc
+
+    place : ((label : List ℕ) × (slice_get labels p.0 ≡ Some label) × (move ≡ name label))
+        ⊎ ((tag : ℕ) × (p.0 ≡ length labels + tag) × (move ≡ again tag))
+        → ((label : List ℕ) × (slice_get labels q.0 ≡ Some label) × (move ≡ name label))
+        ⊎ ((tag : ℕ) × (q.0 ≡ length labels + tag) × (move ≡ again tag))
+        → p.0 ≡ q.0
+    place (inl a) (inl b) =
+        let same : a.0 ≡ b.0 = same_name a.0 b.0 (sym a.2 ∙ b.2) in
+        once_places labels p.0 q.0 b.0 once (a.1 ∙ ap Some same) b.1
+    place (inl a) (inr b) = absurd (name_or_again a.0 b.0 (sym a.2 ∙ b.2))
+    place (inr a) (inl b) = absurd (name_or_again b.0 a.0 (sym b.2 ∙ a.2))
+    place (inr a) (inr b) = let same : a.0 ≡ b.0 = same_again a.0 b.0 (sym a.2 ∙ b.2) in a.1
+        ∙ ap (λ t. length labels + t) same ∙ sym b.1
+
+pub codes_once : (labels : List (List ℕ)) (codes codes' : List Code) (moves : List (Move (List ℕ)))
+    → Once labels → AllZip (Says labels) codes moves → AllZip (Says labels) codes' moves
+    → codes ≡ codes'
+codes_once labels [] [] [] once p q = refl
+codes_once labels [] (d ∷ codes') [] once p q = absurd q
+codes_once labels (c ∷ codes) codes' [] once p q = absurd p
+codes_once labels [] codes' (move ∷ moves) once p q = absurd p
+codes_once labels (c ∷ codes) [] (move ∷ moves) once p q = absurd q
+codes_once labels (c ∷ codes) (d ∷ codes') (move ∷ moves) once p q =
+    ap (λ x. x ∷ codes) (one_code labels move c d once p.0 q.0)
+    ∙ ap (λ x. d ∷ x) (codes_once labels codes codes' moves once p.1 q.1)
+
+-- ---- the laws
+
+-- the labels of the mandatory hypotheses are determined
+pub same_mandatory : (before : List Sentence) (s : Sentence) (listed listed' : List (List ℕ))
+    (codes codes' : List Code) (moves moves' : List (Move (List ℕ)))
+    (p : PairSays before s listed codes moves) (q : PairSays before s listed' codes' moves')
+    → p.labels ≡ q.labels
+same_mandatory before s listed listed' codes codes' moves moves' p q =
+    same_somes p.labels q.labels
+    (sym p.labelled ∙ ap (map (λ (h : Sentence). h.label))
+    (mandatory_unique before s p.hypotheses q.hypotheses p.mandatory q.mandatory) ∙ q.labelled)
+
+pub one_pair : (before : List Sentence) (s : Sentence) (trees : Trees)
+    (listed listed' : List (List ℕ)) (codes codes' : List Code) → AllMeant before
+    → IsPacked before s trees listed codes
+    → IsPacked before s trees listed' codes' → (listed ≡ listed') × (codes ≡ codes')
+one_pair before s trees listed listed' codes codes' all p q =
+    let labels : p.says.labels ≡ q.says.labels = same_mandatory before s listed listed' codes codes'
+    p.moves q.moves p.says q.says in
+    let same : listed ≡ listed' = uses_once (spelling trees) q.says.labels listed listed'
+    (subst (λ l. AreFirstUses l (spelling trees) listed) labels p.uses) q.uses in
+    let moves : p.moves ≡ q.moves = shared_once before trees p.moves q.moves p.shared q.shared in
+    let whole : p.says.labels ++ listed ≡ q.says.labels ++ listed' = ap (λ l. l ++ listed) labels
+    ∙ ap (λ l. q.says.labels ++ l) same in
+    let each : AllZip (Says (q.says.labels ++ listed')) codes q.moves =
+    subst (λ m. AllZip (Says (q.says.labels ++ listed')) codes m) moves
+    (subst (λ l. AllZip (Says l) codes p.moves) whole p.says.each) in
+    let apart = uses_apart (spelling trees) q.says.labels listed' q.uses in
+    let once : Once (q.says.labels ++ listed') =
+    once_joined q.says.labels listed'
+    (mandatory_once before s q.says.hypotheses q.says.labels all q.says.mandatory
+    q.says.labelled) apart.0 apart.1 in
+    (same, codes_once (q.says.labels ++ listed') codes codes' q.moves once each q.says.each)
+
+pub one_packed_holds : OnePacked
+one_packed_holds before s label below listed listed' codes codes' all p q = one_pair before s
+    (tree label below none) listed listed' codes codes' all p q
+
+-- the same pair says the same moves, and these make the same
+pub same_made : (before : List Sentence) (s : Sentence) (trees trees' : Trees)
+    (listed listed' : List (List ℕ)) (codes codes' : List Code) → AllMeant before
+    → IsPacked before s trees listed codes
+    → IsPacked before s trees' listed' codes' → listed ≡ listed' → codes ≡ codes' → trees ≡ trees'
+same_made before s trees trees' listed listed' codes codes' all p q e f =
+    let labels : p.says.labels ≡ q.says.labels = same_mandatory before s listed listed' codes codes'
+    p.moves q.moves p.says q.says in
+    let whole : p.says.labels ++ listed ≡ q.says.labels ++ listed' = ap (λ l. l ++ listed) labels
+    ∙ ap (λ l. q.says.labels ++ l) e in
+    let each : AllZip (Says (q.says.labels ++ listed')) codes' p.moves =
+    subst (λ c. AllZip (Says (q.says.labels ++ listed')) c p.moves) f
+    (subst (λ l. AllZip (Says l) codes p.moves) whole p.says.each) in
+    let moves : p.moves ≡ q.moves =
+    zip_once (Says (q.says.labels ++ listed'))
+    (Says (q.says.labels ++ listed')) codes' p.moves q.moves
+    (says_once (q.says.labels ++ listed')) each q.says.each in
+    (makes_once before q.moves none trees trees' [] p.shared.kept q.shared.kept all
+    (subst (λ m. Makes before m none [] trees p.shared.kept) moves p.shared.made) q.shared.made).0
+
+pub told_by_packed_holds : ToldByPacked
+told_by_packed_holds before s l m a b listed listed' codes codes' all p q = (
+  λ same. one_pair before s (tree m b none) listed listed' codes codes' all
+      (subst (λ t. IsPacked before s t listed codes) same p) q,
+  λ e. same_made before s (tree l a none)
+      (tree m b none) listed listed' codes codes' all p q e.0 e.1,
+)

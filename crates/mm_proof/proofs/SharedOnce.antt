@@ -1,0 +1,317 @@
+-- Moves that share all and make the same trees are the same.
+use Rattle.std.proofs.Common.{◌≡◌, ℕ, suc, ◌+◌, ◌<◌, List, [], ◌∷◌, ◌++◌, length, slice_get, Some}
+use Rattle.std.proofs.Common.{inl, inr, ⊎_elim, refl, sym, ap, subst, ◌∙◌, append_assoc, append-nil}
+use Rattle.std.proofs.Common.{arith}
+use Rattle.std.proofs.lemmas.Option.{same_Some, slice_get_within}
+use Rattle.mm_frame.specs.Sentence.{Sentence}
+use Rattle.mm_proof.specs.Tree.{Trees, none, tree}
+use Rattle.mm_proof.specs.Moves.{Move, name, again, mark, Makes}
+use Rattle.mm_proof.specs.BigSubtrees.{StandOnce}
+use Rattle.mm_proof.specs.Visits.{Visit, makes, repeats, keeps, visits}
+use Rattle.mm_proof.specs.Sharing.{MakeOnce, KeepMade, ShareAll}
+use Rattle.mm_proof.proofs.Places.{get_append}
+use Rattle.mm_proof.proofs.Members.{In, in_get, get_in, contains_in, in_apart, Once, once_places}
+use Rattle.mm_proof.proofs.Covers.{strip, Covers, covers_made, Careful, one_cover}
+use Rattle.mm_proof.proofs.Tidy.{Tidy, tidy_careful, Marked, marked_once, tidy_marked, trees_kept}
+use Rattle.mm_proof.proofs.Tidy.{visit_kept, tidy_once, bare_front}
+
+-- ---- what is kept
+
+-- what is kept stays at its place
+pub kept_stays : (before : List Sentence) (moves : List (Move (List ℕ))) (row : Trees)
+    (kept : List Trees) (row' : Trees) (kept' : List Trees) → Makes before moves row kept row' kept'
+    → (i : ℕ) (t : Trees) → slice_get kept i ≡ Some t → slice_get kept' i ≡ Some t
+kept_stays before [] row kept row' kept' m i t h = subst (λ k. slice_get k i ≡ Some t) (sym m.1) h
+kept_stays before (name label ∷ moves) row kept row' kept' m i t h =
+    kept_stays before moves m.0 m.1 row' kept' m.3 i t
+    (subst (λ k. slice_get k i ≡ Some t) (sym m.2.5) h)
+kept_stays before (again tag ∷ moves) row kept row' kept' m i t h =
+    kept_stays before moves m.0 m.1 row' kept' m.3 i t
+    (subst (λ k. slice_get k i ≡ Some t) (sym m.2.3) h)
+kept_stays before (mark ∷ moves) row kept row' kept' m i t h =
+    kept_stays before moves m.0 m.1 row' kept' m.3 i t
+    (subst (λ k. slice_get k i ≡ Some t) (sym m.2.5)
+    (get_append kept (tree m.2.1 m.2.2 none ∷ []) i t h))
+
+-- the kept trees are those of the marks
+pub kept_are : (before : List Sentence) (moves : List (Move (List ℕ))) (row : Trees)
+    (kept : List Trees) (row' : Trees) (kept' : List Trees)
+    (m : Makes before moves row kept row' kept')
+    → kept' ≡ kept ++ trees_kept (visits before moves row kept row' kept' m)
+kept_are before [] row kept row' kept' m = m.1 ∙ sym (append-nil kept)
+kept_are before (name label ∷ moves) row kept row' kept' m =
+    kept_are before moves m.0 m.1 row' kept' m.3
+    ∙ ap (λ k. k ++ trees_kept (visits before moves m.0 m.1 row' kept' m.3)) m.2.5
+kept_are before (again tag ∷ moves) row kept row' kept' m =
+    kept_are before moves m.0 m.1 row' kept' m.3
+    ∙ ap (λ k. k ++ trees_kept (visits before moves m.0 m.1 row' kept' m.3)) m.2.3
+kept_are before (mark ∷ moves) row kept row' kept' m =
+    kept_are before moves m.0 m.1 row' kept' m.3
+    ∙ ap (λ k. k ++ trees_kept (visits before moves m.0 m.1 row' kept' m.3)) m.2.5
+    ∙ append_assoc kept (tree m.2.1 m.2.2 none ∷ [])
+    (trees_kept (visits before moves m.0 m.1 row' kept' m.3))
+
+-- a tag repeats what stands at its place in the end
+again_visit : (before : List Sentence) (moves : List (Move (List ℕ))) (row : Trees)
+    (kept : List Trees) (row' : Trees) (kept' : List Trees)
+    (m : Makes before moves row kept row' kept') (tag : ℕ)
+    → In moves (again tag) → (t : Trees) × (slice_get kept' tag ≡ Some t)
+    × In (visits before moves row kept row' kept' m) (repeats t)
+again_visit before [] row kept row' kept' m tag h = absurd h
+again_visit before (move ∷ moves) row kept row' kept' m tag (inr h) =
+    let g = again_visit before moves m.0 m.1 row' kept' m.3 tag h in (g.0, g.1, inr g.2)
+again_visit before (name label ∷ moves) row kept row' kept' m tag (inl e) = absurd
+    (other label tag e)
+  where
+    other : (label : List ℕ) (tag : ℕ) → name label ≡ again tag → ⊥
+    other label tag e = cc
+again_visit before (again k ∷ moves) row kept row' kept' m tag (inl e) =
+    let same : k ≡ tag = tags k tag e in
+    let there : slice_get m.1 tag ≡ Some m.2.0 = subst (λ l. slice_get l tag ≡ Some m.2.0)
+    (sym m.2.3) (subst (λ x. slice_get kept x ≡ Some m.2.0) same m.2.1) in
+    (m.2.0, kept_stays before moves m.0 m.1 row' kept' m.3 tag m.2.0 there, inl refl)
+  where
+    tags : (k tag : ℕ) → ◌≡◌ {A = Move (List ℕ)} (again k) (again tag) → k ≡ tag
+    tags k tag e = cc
+again_visit before (mark ∷ moves) row kept row' kept' m tag (inl e) = absurd (other tag e)
+  where
+    other : (tag : ℕ) → ◌≡◌ {A = Move (List ℕ)} mark (again tag) → ⊥
+    other tag e = cc
+
+-- ---- what is said by places, said one visit after the other
+
+-- the visits that are done, the last of which comes first, and then others
+abbrev pub onto : List Visit → List Visit → List Visit
+onto [] v = v
+onto (x ∷ done) v = onto done (x ∷ v)
+
+pub at_later : (done v : List Visit) (i : ℕ)
+    → slice_get (onto done v) (length done + i) ≡ slice_get v i
+at_later [] v i = let e : 0 + i ≡ i = omega arith in ap (slice_get v) e
+at_later (x ∷ done) v i =
+    let e : suc (length done) + i ≡ length done + suc i = omega arith in
+    ap (slice_get (onto done (x ∷ v))) e ∙ at_later done (x ∷ v) (suc i)
+
+pub at_earlier : (done v : List Visit) (x : Visit) → In done x → (i : ℕ) × (i < length done)
+    × (slice_get (onto done v) i ≡ Some x)
+at_earlier [] v x h = absurd h
+at_earlier (y ∷ done) v x (inl e) =
+    let there = at_later done (y ∷ v) 0 in
+    (length done + 0, omega arith, there ∙ ap Some e)
+at_earlier (y ∷ done) v x (inr h) =
+    let g = at_earlier done (y ∷ v) x h in (g.0, omega (arith, g.1), g.2)
+
+-- the visit just before
+just_done : (done v : List Visit) (j : ℕ) (x : Visit) → length done ≡ j + 1
+    → slice_get (onto done v) j ≡ Some x → (rest : List Visit) × (done ≡ x ∷ rest)
+just_done [] v j x long there = absurd (omega (arith, long))
+just_done (y ∷ done) v j x long there =
+    let at : length done + 0 ≡ j = omega (arith, long) in
+    let same : y ≡ x = same_Some y x
+    (sym (at_later done (y ∷ v) 0) ∙ ap (slice_get (onto done (y ∷ v))) at ∙ there) in
+    (done, ap (λ z. z ∷ done) same)
+
+-- what is kept so far was kept by a mark that is done
+abbrev AreDone : List Trees → List Visit → Type 0
+AreDone kept done = (t : Trees) → In kept t → In done (keeps t)
+
+pub tidy_of : (before : List Sentence) (moves : List (Move (List ℕ))) (row : Trees)
+    (kept : List Trees) (row' : Trees) (kept' : List Trees)
+    (m : Makes before moves row kept row' kept') (done : List Visit)
+    → AreDone kept done → MakeOnce (onto done (visits before moves row kept row' kept' m))
+    → KeepMade (onto done (visits before moves row kept row' kept' m))
+    → Tidy done (visits before moves row kept row' kept' m)
+tidy_of before [] row kept row' kept' m done are once marked = tt
+tidy_of before (name label ∷ moves) row kept row' kept' m done are once marked =
+    let t : Trees = tree label m.2.1 none in
+    let later : List Visit = visits before moves m.0 m.1 row' kept' m.3 in (
+      λ big has.
+          let g = at_earlier done (makes t ∷ later) (makes t) has in
+          let same : g.0 ≡ length done + 0 = once g.0 (length done + 0) t big g.2
+          (at_later done (makes t ∷ later) 0) in
+          absurd (omega (arith, g.1, same)),
+      tidy_of before moves m.0 m.1 row' kept' m.3 (makes t ∷ done)
+          (λ u h. inr (are u (subst (λ k. In k u) m.2.5 h))) once marked,
+    )
+tidy_of before (again tag ∷ moves) row kept row' kept' m done are once marked = (
+  are m.2.0 (get_in kept tag m.2.0 m.2.1),
+  tidy_of before moves m.0 m.1 row' kept' m.3 (repeats m.2.0 ∷ done)
+      (λ u h. inr (are u (subst (λ k. In k u) m.2.3 h))) once marked,
+)
+tidy_of before (mark ∷ moves) row kept row' kept' m done are once marked =
+    let t : Trees = tree m.2.1 m.2.2 none in
+    let later : List Visit = visits before moves m.0 m.1 row' kept' m.3 in
+    let g = marked (length done + 0) t (at_later done (keeps t ∷ later) 0) in (
+      g.0,
+      just_done done (keeps t ∷ later) g.1 (makes t) (omega (arith, g.2)) g.3,
+      tidy_of before moves m.0 m.1 row' kept' m.3 (keeps t ∷ done)
+          (λ u h. ⊎_elim
+          (λ a. inr (are u a))
+          (λ b. ⊎_elim (λ e. inl (ap (λ x. keeps x) e)) (λ z. absurd z) b)
+          (in_apart kept (t ∷ []) u (subst (λ k. In k u) m.2.5 h))) once marked,
+    )
+
+-- ---- the moves are told by what they do
+
+same_label : (l m : List ℕ) (a b : Trees) → makes (tree l a none) ≡ makes (tree m b none) → l ≡ m
+same_label l m a b e = cc
+
+same_keep : (t u : Trees) → keeps t ≡ keeps u → t ≡ u
+same_keep t u e = cc
+
+same_repeat : (t u : Trees) → repeats t ≡ repeats u → t ≡ u
+same_repeat t u e = cc
+
+heads : (x y : Visit) (v w : List Visit) → x ∷ v ≡ y ∷ w → (x ≡ y) × (v ≡ w)
+heads x y v w e = (cc, cc)
+
+pub moves_once : (before : List Sentence) (moves moves' : List (Move (List ℕ))) (row row₂ : Trees)
+    (kept kept₂ : List Trees) (row' row₂' : Trees) (kept' kept₂' : List Trees)
+    (m : Makes before moves row kept row' kept') (n : Makes before moves' row₂ kept₂ row₂' kept₂')
+    → kept ≡ kept₂ → kept' ≡ kept₂' → StandOnce kept₂'
+    → visits before moves row kept row' kept' m ≡ visits before moves' row₂ kept₂ row₂' kept₂' n
+    → moves ≡ moves'
+moves_once before [] [] row row₂ kept kept₂ row' row₂' kept' kept₂' m n k l once same = refl
+moves_once before [] (b ∷ moves') row row₂ kept kept₂ row' row₂' kept' kept₂' m n k l once
+    same = absurd cc
+moves_once before (a ∷ moves) [] row row₂ kept kept₂ row' row₂' kept' kept₂' m n k l once
+    same = absurd cc
+moves_once before (name x ∷ moves)
+    (name y ∷ moves') row row₂ kept kept₂ row' row₂' kept' kept₂' m n k l once same =
+    let h = heads _ _ _ _ same in
+    ap (λ z. name z ∷ moves) (same_label x y m.2.1 n.2.1 h.0)
+    ∙ ap (λ z. name y ∷ z) (moves_once before moves moves' m.0 n.0 m.1 n.1 row' row₂' kept' kept₂'
+    m.3 n.3 (m.2.5 ∙ k ∙ sym n.2.5) l once h.1)
+moves_once before (again x ∷ moves)
+    (again y ∷ moves') row row₂ kept kept₂ row' row₂' kept' kept₂' m n k l once same =
+    let h = heads _ _ _ _ same in
+    let u : m.2.0 ≡ n.2.0 = same_repeat m.2.0 n.2.0 h.0 in
+    let at_x : slice_get kept₂' x ≡ Some n.2.0 =
+    subst (λ q. slice_get q x ≡ Some n.2.0) l
+    (kept_stays before moves m.0 m.1 row' kept' m.3 x n.2.0
+    (subst (λ q. slice_get q x ≡ Some n.2.0) (sym m.2.3) (m.2.1 ∙ ap Some u))) in
+    let at_y : slice_get kept₂' y ≡ Some n.2.0 =
+    kept_stays before moves' n.0 n.1 row₂' kept₂' n.3 y n.2.0
+    (subst (λ q. slice_get q y ≡ Some n.2.0) (sym n.2.3) n.2.1) in
+    let tag : x ≡ y = once x y n.2.0 at_x at_y in
+    ap (λ z. again z ∷ moves) tag
+    ∙ ap (λ z. again y ∷ z) (moves_once before moves moves' m.0 n.0 m.1 n.1 row' row₂' kept' kept₂'
+    m.3 n.3 (m.2.3 ∙ k ∙ sym n.2.3) l once h.1)
+moves_once before (mark ∷ moves)
+    (mark ∷ moves') row row₂ kept kept₂ row' row₂' kept' kept₂' m n k l once same =
+    let h = heads _ _ _ _ same in
+    let t : tree m.2.1 m.2.2 none ≡ tree n.2.1 n.2.2 none = same_keep _ _ h.0 in
+    ap (λ z. mark ∷ z)
+    (moves_once before moves moves' m.0 n.0 m.1 n.1 row' row₂' kept' kept₂' m.3 n.3
+    (m.2.5 ∙ ap (λ q. q ++ tree m.2.1 m.2.2 none ∷ []) k ∙ ap (λ z. kept₂ ++ z ∷ []) t
+    ∙ sym n.2.5) l once h.1)
+moves_once before (name x ∷ moves)
+    (again y ∷ moves') row row₂ kept kept₂ row' row₂' kept' kept₂' m n k l once same = let h = heads
+    _ _ _ _ same in absurd (let e = h.0 in cc)
+moves_once before (name x ∷ moves)
+    (mark ∷ moves') row row₂ kept kept₂ row' row₂' kept' kept₂' m n k l once same = let h = heads _
+    _ _ _ same in absurd (let e = h.0 in cc)
+moves_once before (again x ∷ moves)
+    (name y ∷ moves') row row₂ kept kept₂ row' row₂' kept' kept₂' m n k l once same = let h = heads
+    _ _ _ _ same in absurd (let e = h.0 in cc)
+moves_once before (again x ∷ moves)
+    (mark ∷ moves') row row₂ kept kept₂ row' row₂' kept' kept₂' m n k l once same = let h = heads _
+    _ _ _ same in absurd (let e = h.0 in cc)
+moves_once before (mark ∷ moves)
+    (name y ∷ moves') row row₂ kept kept₂ row' row₂' kept' kept₂' m n k l once same = let h = heads
+    _ _ _ _ same in absurd (let e = h.0 in cc)
+moves_once before (mark ∷ moves)
+    (again y ∷ moves') row row₂ kept kept₂ row' row₂' kept' kept₂' m n k l once same = let h = heads
+    _ _ _ _ same in absurd (let e = h.0 in cc)
+
+-- ---- moves that share all
+
+strip_repeats : (v : List Visit) (t : Trees) → In (strip v) (repeats t) → In v (repeats t)
+strip_repeats [] t h = absurd h
+strip_repeats (makes u ∷ v) t (inl e) = inl e
+strip_repeats (makes u ∷ v) t (inr h) = inr (strip_repeats v t h)
+strip_repeats (repeats u ∷ v) t (inl e) = inl e
+strip_repeats (repeats u ∷ v) t (inr h) = inr (strip_repeats v t h)
+strip_repeats (keeps u ∷ v) t h = inr (strip_repeats v t h)
+
+repeats_strip : (v : List Visit) (t : Trees) → In v (repeats t) → In (strip v) (repeats t)
+repeats_strip [] t h = absurd h
+repeats_strip (makes u ∷ v) t (inl e) = inl e
+repeats_strip (makes u ∷ v) t (inr h) = inr (repeats_strip v t h)
+repeats_strip (repeats u ∷ v) t (inl e) = inl e
+repeats_strip (repeats u ∷ v) t (inr h) = inr (repeats_strip v t h)
+repeats_strip (keeps u ∷ v) t (inl e) = absurd (let f : keeps u ≡ repeats t = e in cc)
+repeats_strip (keeps u ∷ v) t (inr h) = repeats_strip v t h
+
+-- what the moves do
+abbrev pub course : (before : List Sentence) (trees : Trees) (moves : List (Move (List ℕ)))
+    → ShareAll before trees moves → List Visit
+course before trees moves s = visits before moves none [] trees s.kept s.made
+
+pub shared_tidy : (before : List Sentence) (trees : Trees) (moves : List (Move (List ℕ)))
+    (s : ShareAll before trees moves) → Tidy [] (course before trees moves s)
+shared_tidy before trees moves s = tidy_of before moves none [] trees s.kept s.made []
+    (λ t h. absurd h) s.once s.marked
+
+pub shared_careful : (before : List Sentence) (trees : Trees) (moves : List (Move (List ℕ)))
+    (s : ShareAll before trees moves) → Careful [] (strip (course before trees moves s))
+shared_careful before trees moves s = tidy_careful (course before trees moves s) []
+    (λ t h. absurd h) (shared_tidy before trees moves s)
+
+pub made_covers : (before : List Sentence) (trees : Trees) (moves : List (Move (List ℕ)))
+    (kept : List Trees) (m : Makes before moves none [] trees kept)
+    → Covers trees (strip (visits before moves none [] trees kept m))
+made_covers before trees moves kept m = covers_made before moves none [] trees kept m []
+    (λ t h. absurd h) refl
+
+-- what is kept is repeated
+shared_referred : (before : List Sentence) (trees : Trees) (moves : List (Move (List ℕ)))
+    (s : ShareAll before trees moves) (t : Trees)
+    → In (course before trees moves s) (keeps t) → In (course before trees moves s) (repeats t)
+shared_referred before trees moves s t h =
+    let among : In s.kept t = subst (λ k. In k t)
+    (sym (kept_are before moves none [] trees s.kept s.made))
+    (visit_kept (course before trees moves s) t h) in
+    let at = in_get s.kept t among in
+    let tag = contains_in moves (again at.0)
+    (s.referred at.0 (slice_get_within s.kept at.0 t at.1)) in
+    let g = again_visit before moves none [] trees s.kept s.made at.0 tag in
+    subst (λ x. In (course before trees moves s) (repeats x)) (same_Some g.0 t (sym g.1 ∙ at.1)) g.2
+
+pub shared_marked : (before : List Sentence) (trees : Trees) (moves : List (Move (List ℕ)))
+    (s : ShareAll before trees moves)
+    → Marked (strip (course before trees moves s)) (strip (course before trees moves s))
+    (course before trees moves s)
+shared_marked before trees moves s =
+    let v : List Visit = course before trees moves s in
+    let tidy = shared_tidy before trees moves s in
+    subst (Marked (strip v) (strip v)) (bare_front v tidy)
+    (tidy_marked (strip v) v [] (λ t h. absurd h) (λ t h. absurd h) tidy
+    (λ t h. inr (strip_repeats v t h))
+    (λ t h. repeats_strip v t (shared_referred before trees moves s t h)))
+
+pub shared_kept_once : (before : List Sentence) (trees : Trees) (moves : List (Move (List ℕ)))
+    (s : ShareAll before trees moves) → StandOnce s.kept
+shared_kept_once before trees moves s i j t =
+    once_places s.kept i j t (subst Once (sym (kept_are before moves none [] trees s.kept s.made))
+    (tidy_once (course before trees moves s) [] (shared_tidy before trees moves s)))
+
+pub shared_once : (before : List Sentence) (trees : Trees) (moves moves' : List (Move (List ℕ)))
+    → ShareAll before trees moves → ShareAll before trees moves' → moves ≡ moves'
+shared_once before trees moves moves' s s' =
+    let v : List Visit = course before trees moves s in
+    let w : List Visit = course before trees moves' s' in
+    let steps : strip v ≡ strip w =
+    one_cover trees [] (strip v) (strip w) (made_covers before trees moves s.kept s.made)
+    (made_covers before trees moves' s'.kept s'.made)
+    (shared_careful before trees moves s) (shared_careful before trees moves' s') in
+    let same : v ≡ w =
+    marked_once (strip w) (strip w) v w
+    (subst (λ x. Marked x x v) steps (shared_marked before trees moves s))
+    (shared_marked before trees moves' s') in
+    let kept : s.kept ≡ s'.kept =
+    kept_are before moves none [] trees s.kept s.made
+    ∙ ap (λ (x : List Visit). [] ++ trees_kept x) same
+    ∙ sym (kept_are before moves' none [] trees s'.kept s'.made) in
+    moves_once before moves moves' none none [] [] trees trees s.kept s'.kept s.made s'.made refl
+    kept (shared_kept_once before trees moves' s') same

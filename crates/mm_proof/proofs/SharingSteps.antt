@@ -1,0 +1,202 @@
+-- The steps so far of a fully shared proof, by the numbers of its subtrees.
+use Rattle.std.proofs.Common.{◌≡◌, ◌≢◌, ℕ, ◌+◌, ◌-◌, ◌≤◌, List, [], ◌∷◌, ◌++◌, length, take, Contains, ◌⊎◌, inl, inr, ⊎_elim, refl, sym, ap, subst, ◌∙◌, arith}
+use Rattle.std.specs.List.{AllZip}
+use Rattle.std.proofs.lemmas.List.{length-append, take_at, length-take}
+use Rattle.std.proofs.lemmas.List.Elements.{Contains-push, Contains-push_cases, Contains-append_left}
+use Rattle.std.proofs.lemmas.Slice.Zip.{AllZip-long}
+use Rattle.mm_frame.specs.Sentence.{Sentence}
+use Rattle.mm_frame.specs.Rules.{AllMeant}
+use Rattle.mm_proof.specs.declared.subtrees.Subtree.{Subtree}
+use Rattle.mm_proof.specs.declared.subtrees.Row.{Row}
+use Rattle.mm_proof.specs.declared.sharing.SharedStep.{SharedStep}
+use Rattle.mm_proof.specs.declared.sharing.SharedSteps.{SharedSteps}
+use Rattle.mm_proof.specs.declared.sharing.SharedStep.TheVariants as step
+use Rattle.mm_proof.specs.Tree.{Trees, none, tree, beside, roots}
+use Rattle.mm_proof.specs.BigSubtrees.{IsBig}
+use Rattle.mm_proof.specs.Visits.{Visit, makes, repeats}
+use Rattle.mm_proof.specs.Subtrees.{AreOnce, KeepNumbers, IsTreeOf, StandsFor}
+use Rattle.mm_proof.specs.CodeSharing.{IsStepOf, AreSharedSteps, IsRepeat, Shares, Sharing, SharingSteps, ShareSteps}
+use Rattle.mm_proof.proofs.Derived.{zip_push}
+use Rattle.mm_proof.proofs.Running.{zip_take}
+use Rattle.mm_proof.proofs.Members.{In}
+use Rattle.mm_proof.proofs.Covers.{after, after-append}
+use Rattle.mm_proof.proofs.SubtreeNumbers.{tree_later, tree_once, subtree_once}
+use Rattle.mm_proof.proofs.SubtreeSteps.{subtrees_keep}
+use Rattle.mm_proof.proofs.Cutting.{leaf_small, parent_big, sharing_make, sharing_cut, sharing_repeat, sharing_leaf, sharing_keep}
+
+-- ---- leaves and others
+
+-- where no tree is below, the number is 0; and where one is, it isn't
+leaf_below : (st : List Sentence) (rows : List Row) (n : ℕ) (below : Trees) → StandsFor st rows n below → n ≡ 0 → below ≡ none
+leaf_below st rows n none s e = refl
+leaf_below st rows n (tree l b r) s e = absurd (let next = s.1.next in omega arith)
+
+pub big_below : (st : List Sentence) (rows : List Row) (n : ℕ) (label : List ℕ) (below : Trees) → StandsFor st rows n below → n ≢ 0 → IsBig (tree label below none)
+big_below st rows n label none s e = absurd (e s)
+big_below st rows n label (tree l b r) s e = parent_big label l b r
+
+-- ---- the steps so far
+
+-- by a greater table
+step_later : (st : List Sentence) (old new : List Row) (x : SharedStep) (v : Visit) → KeepNumbers old new → IsStepOf st old x v → IsStepOf st new x v
+step_later st old new (step.Make t) v keep h = (h.0, h.1, tree_later st old new t h.0 h.1 keep h.2, h.3)
+step_later st old new (step.Repeat t) v keep h = (h.0, h.1, tree_later st old new t h.0 h.1 keep h.2, h.3)
+
+all_later : (st : List Sentence) (old new : List Row) (xs : List SharedStep) (vs : List Visit) → KeepNumbers old new → AllZip (IsStepOf st old) xs vs → AllZip (IsStepOf st new) xs vs
+all_later st old new [] [] keep z = tt
+all_later st old new [] (v ∷ vs) keep z = absurd z
+all_later st old new (x ∷ xs) [] keep z = absurd z
+all_later st old new (x ∷ xs) (v ∷ vs) keep z = (step_later st old new x v keep z.0, all_later st old new xs vs keep z.1)
+
+pub steps_later : (st : List Sentence) (old new : List Row) (steps : List SharedStep) (keys : List Subtree) (row : Trees) (kept : List Trees) → KeepNumbers old new → SharingSteps st old steps keys row kept
+    → SharingSteps st new steps keys row kept
+steps_later st old new steps keys row kept keep h = record {
+  v = h.v;
+  are = all_later st old new steps h.v keep h.are;
+  sharing = h.sharing;
+  known = λ label below big made. let q = h.known label below big made in (q.0, q.1, tree_later st old new q.0 label below keep q.2);
+  only = λ t has. let q = h.only t has in (q.0, q.1, tree_later st old new t q.0 q.1 keep q.2, q.3, q.4);
+}
+
+after_more : (v : List Visit) (t u : Trees) → In (after [] (v ++ makes t ∷ [])) u → (t ≡ u) ⊎ In (after [] v) u
+after_more v t u h = subst (λ x. In x u) (after-append [] v (makes t ∷ [])) h
+
+after_old : (v : List Visit) (t u : Trees) → In (after [] v) u → In (after [] (v ++ makes t ∷ [])) u
+after_old v t u h = subst (λ x. In x u) (sym (after-append [] v (makes t ∷ []))) (inr h)
+
+after_new : (v : List Visit) (t : Trees) → In (after [] (v ++ makes t ∷ [])) t
+after_new v t = subst (λ x. In x t) (sym (after-append [] v (makes t ∷ []))) (inl refl)
+
+repeat_same : (v : List Visit) (t : Trees) → after [] (v ++ repeats t ∷ []) ≡ after [] v
+repeat_same v t = after-append [] v (repeats t ∷ [])
+
+-- fewer steps at the end
+zip_front_of : (st : List Sentence) (rows : List Row) (steps : List SharedStep) (v front back : List Visit) (count : ℕ) → AllZip (IsStepOf st rows) steps v → v ≡ front ++ back → length back ≡ count
+    → AllZip (IsStepOf st rows) (take (length steps - count) steps) front
+zip_front_of st rows steps v front back count z parts long =
+    let same = AllZip-long (IsStepOf st rows) steps v z in
+    let n = length-append front back in
+    let whole = ap length parts in
+    let at : length front ≡ length steps - count = omega arith in
+    subst (AllZip (IsStepOf st rows) (take (length steps - count) steps)) (ap (take (length steps - count)) parts ∙ take_at front back (length steps - count) at)
+    (zip_take (IsStepOf st rows) steps v (length steps - count) z)
+
+pub steps_make : (st : List Sentence) (rows : List Row) (t : Subtree) (count : ℕ) (steps steps' : List SharedStep) (keys keys' : List Subtree) (rest below : Trees) (kept : List Trees) (label : List ℕ)
+    → AllMeant st → AreOnce rows → IsTreeOf st rows t label below → roots below ≡ count → Shares t count steps keys steps' keys'
+    → SharingSteps st rows steps keys (beside rest below) kept → SharingSteps st rows steps' keys' (beside rest (tree label below none)) kept
+steps_make st rows t count steps steps' keys keys' rest below kept label all once is many shares h = go shares
+  where
+    tr : Trees
+    tr = tree label below none
+
+    made_one : ¬ (IsBig tr × In (after [] h.v) tr) → (new : List SharedStep) (keys' : List Subtree) → new ≡ steps ++ step.Make t ∷ []
+        → ((l : List ℕ) (b : Trees) → IsBig (tree l b none) → In (after [] (h.v ++ makes tr ∷ [])) (tree l b none) → (u : Subtree) × Contains keys' u × IsTreeOf st rows u l b)
+        → ((u : Subtree) → Contains keys' u → (l : List ℕ) × (b : Trees) × IsTreeOf st rows u l b × IsBig (tree l b none) × In (after [] (h.v ++ makes tr ∷ [])) (tree l b none))
+        → SharingSteps st rows new keys' (beside rest tr) kept
+    made_one fresh new keys' e known only = record {
+      v = h.v ++ makes tr ∷ [];
+      are = subst (λ x. AllZip (IsStepOf st rows) x (h.v ++ makes tr ∷ [])) (sym e) (zip_push (IsStepOf st rows) steps h.v (step.Make t) (makes tr) h.are (label, below, is, refl));
+      sharing = sharing_make rest kept h.v label below h.sharing fresh;
+      known = known;
+      only = only;
+    }
+
+    same_tree : (l m : List ℕ) (b c : Trees) → tree l b none ≡ tree m c none → (l ≡ m) × (b ≡ c)
+    same_tree l m b c e = (cc, cc)
+
+    go : Shares t count steps keys steps' keys' → SharingSteps st rows steps' keys' (beside rest tr) kept
+    go (inl leaf) =
+        let bare : below ≡ none = leaf_below st rows t.below below is.stands leaf.0 in
+        let small : ¬ (IsBig tr) = subst (λ b. ¬ (IsBig (tree label b none))) (sym bare) (leaf_small label) in
+        made_one (λ p. small p.0) steps' keys' leaf.1
+        (λ l b big k. ⊎_elim
+        (λ e. absurd (small (subst IsBig (sym e) big)))
+        (λ old. let g = h.known l b big old in (g.0, subst (λ x. Contains x g.0) (sym leaf.2) g.1, g.2))
+        (after_more h.v tr (tree l b none) k))
+        (λ u k. let g = h.only u (subst (λ x. Contains x u) leaf.2 k) in (g.0, g.1, g.2, g.3, after_old h.v tr (tree g.0 g.1 none) g.4))
+    go (inr (inl cut)) =
+        let big : IsBig tr = big_below st rows t.below label below is.stands cut.0 in
+        let g = h.only t cut.1 in
+        let same = tree_once st rows t g.0 label g.1 below g.2 is in
+        let made : In (after [] h.v) tr = subst (λ b. In (after [] h.v) (tree label b none)) same.1 (subst (λ l. In (after [] h.v) (tree l g.1 none)) same.0 g.4) in
+        let c = sharing_cut rest kept h.v label below h.sharing big made in
+        record {
+          v = c.front ++ repeats tr ∷ [];
+          are = subst (λ x. AllZip (IsStepOf st rows) x (c.front ++ repeats tr ∷ [])) (sym cut.2)
+              (zip_push (IsStepOf st rows) (take (length steps - count) steps) c.front (step.Repeat t) (repeats tr) (zip_front_of st rows steps h.v c.front c.back count h.are c.parts (c.long ∙ many)) (label, below, is, refl));
+          sharing = c.sharing;
+          known = λ l b is k. let q = h.known l b is (c.only (tree l b none) k) in (q.0, subst (λ x. Contains x q.0) (sym cut.3) q.1, q.2);
+          only = λ u k. let q = h.only u (subst (λ x. Contains x u) cut.3 k) in (q.0, q.1, q.2, q.3, c.same (tree q.0 q.1 none) q.3 q.4);
+        }
+    go (inr (inr new)) =
+        let big : IsBig tr = big_below st rows t.below label below is.stands new.0 in
+        let fresh : ¬ (IsBig tr × In (after [] h.v) tr) = λ p.
+        let q = h.known label below p.0 p.1 in
+        new.1 (subst (λ x. Contains keys x) (subtree_once st rows q.0 t label below all once q.2 is) q.1) in
+        made_one fresh steps' keys' new.2
+        (λ l b is' k. ⊎_elim
+        (λ e.
+        let q = same_tree label l below b e in
+        (t, subst (λ x. Contains x t) (sym new.3) (Contains-push keys t), subst (λ y. IsTreeOf st rows t l y) q.1 (subst (λ y. IsTreeOf st rows t y below) q.0 is)))
+        (λ old. let q = h.known l b is' old in (q.0, subst (λ x. Contains x q.0) (sym new.3) (Contains-append_left keys (t ∷ []) q.0 q.1), q.2))
+        (after_more h.v tr (tree l b none) k))
+        (λ u k. ⊎_elim
+        (λ old. let q = h.only u old in (q.0, q.1, q.2, q.3, after_old h.v tr (tree q.0 q.1 none) q.4))
+        (λ e. (label, below, subst (λ x. IsTreeOf st rows x label below) e is, big, after_new h.v tr))
+        (Contains-push_cases keys t u (subst (λ x. Contains x u) new.3 k)))
+
+pub steps_repeat : (st : List Sentence) (rows : List Row) (t : Subtree) (one : SharedStep) (steps : List SharedStep) (keys : List Subtree) (row : Trees) (kept : List Trees) (label : List ℕ) (below : Trees)
+    → IsTreeOf st rows t label below → In kept (tree label below none) → IsRepeat t one → SharingSteps st rows steps keys row kept → SharingSteps st rows (steps ++ one ∷ []) keys (beside row (tree label below none)) kept
+steps_repeat st rows t one steps keys row kept label below of among is h = go is
+  where
+    tr : Trees
+    tr = tree label below none
+
+    go : IsRepeat t one → SharingSteps st rows (steps ++ one ∷ []) keys (beside row tr) kept
+    go (inl leaf) =
+        let bare : below ≡ none = leaf_below st rows t.below below of.stands leaf.0 in
+        let small : ¬ (IsBig tr) = subst (λ b. ¬ (IsBig (tree label b none))) (sym bare) (leaf_small label) in
+        record {
+          v = h.v ++ makes tr ∷ [];
+          are = zip_push (IsStepOf st rows) steps h.v one (makes tr) h.are (subst (λ x. IsStepOf st rows x (makes tr)) (sym leaf.1) (label, below, of, refl));
+          sharing = subst (λ b. Sharing (beside row (tree label b none)) kept (h.v ++ makes (tree label b none) ∷ [])) (sym bare) (sharing_leaf row kept h.v label h.sharing);
+          known = λ l b big k. ⊎_elim
+              (λ e. absurd (small (subst IsBig (sym e) big)))
+              (λ old. h.known l b big old)
+              (after_more h.v tr (tree l b none) k);
+          only = λ u k. let q = h.only u k in (q.0, q.1, q.2, q.3, after_old h.v tr (tree q.0 q.1 none) q.4);
+        }
+    go (inr more) =
+        let big : IsBig tr = big_below st rows t.below label below of.stands more.0 in
+        record {
+          v = h.v ++ repeats tr ∷ [];
+          are = zip_push (IsStepOf st rows) steps h.v one (repeats tr) h.are (subst (λ x. IsStepOf st rows x (repeats tr)) (sym more.1) (label, below, of, refl));
+          sharing = sharing_repeat row kept h.v label below h.sharing among big;
+          known = λ l b is k. h.known l b is (subst (λ x. In x (tree l b none)) (repeat_same h.v tr) k);
+          only = λ u k. let q = h.only u k in (q.0, q.1, q.2, q.3, subst (λ x. In x (tree q.0 q.1 none)) (sym (repeat_same h.v tr)) q.4);
+        }
+
+pub shared_keep : (first now : SharedSteps) (st : List Sentence) (stack shelf : List Subtree) (item : Subtree) (rest : Trees) (kept : List Trees) (steps : ℕ) (label : List ℕ) (below : Trees)
+    → ShareSteps first now st (stack ++ item ∷ []) (beside rest (tree label below none)) shelf kept steps
+    → ShareSteps first now st (stack ++ item ∷ []) (beside rest (tree label below none)) (shelf ++ item ∷ []) (kept ++ tree label below none ∷ []) steps
+shared_keep first now st stack shelf item rest kept steps label below h = record {
+  subtrees = subtrees_keep st first.table now.table stack shelf item rest below kept label h.subtrees;
+  few = h.few;
+  shared = λ all. let s = h.shared all in record { v = s.v; are = s.are; sharing = sharing_keep rest kept s.v label below s.sharing; known = s.known; only = s.only };
+}
+
+pub steps_end : (st : List Sentence) (rows : List Row) (steps : List SharedStep) (keys : List Subtree) (row : Trees) (kept : List Trees) → SharingSteps st rows steps keys row kept → AreSharedSteps st rows row steps
+steps_end st rows steps keys row kept h = record { visits = h.v; said = h.are; covers = h.sharing.covers; careful = h.sharing.careful }
+
+-- ---- how many they are
+
+pub fewer_steps : (t : Subtree) (count i : ℕ) (steps steps' : List SharedStep) (keys keys' : List Subtree) → Shares t count steps keys steps' keys' → length steps ≤ i → length steps' ≤ i + 1
+fewer_steps t count i steps steps' keys keys' (inl p) few = let n = length-append steps (step.Make t ∷ []) in let e = ap length p.1 in omega arith
+fewer_steps t count i steps steps' keys keys' (inr (inl p)) few =
+    let n = length-append (take (length steps - count) steps) (step.Repeat t ∷ []) in
+    let l = length-take (length steps - count) steps in
+    let e = ap length p.2 in omega arith
+fewer_steps t count i steps steps' keys keys' (inr (inr p)) few = let n = length-append steps (step.Make t ∷ []) in let e = ap length p.2 in omega arith
+
+pub fewer_more : (i : ℕ) (one : SharedStep) (steps : List SharedStep) → length steps ≤ i → length (steps ++ one ∷ []) ≤ i + 1
+fewer_more i one steps few = let n = length-append steps (one ∷ []) in omega arith

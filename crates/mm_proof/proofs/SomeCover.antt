@@ -1,0 +1,325 @@
+-- Each tree has steps that make no big tree twice, and visits that keep what these steps repeat.
+use Rattle.std.proofs.Common.{◌≡◌, ℕ, ◌≤◌, List, [], ◌∷◌, ◌++◌, ◌⊎◌, inl, inr, ⊎_elim, refl, sym}
+use Rattle.std.proofs.Common.{ap, subst, ◌∙◌, arith}
+use Rattle.std.proofs.lemmas.Bool.{cases_lt}
+use Rattle.std.proofs.lemmas.List.{length-append}
+use Rattle.mm_proof.specs.Tree.{Trees, none, tree, spelling}
+use Rattle.mm_proof.specs.BigSubtrees.{nodes, IsBig, IsSubtree}
+use Rattle.mm_proof.specs.Visits.{Visit, makes, repeats, keeps, trees_made}
+use Rattle.mm_proof.proofs.Decisions.{symbol_dec}
+use Rattle.mm_proof.proofs.Members.{In}
+use Rattle.mm_proof.proofs.Covers.{Covers, Careful, after, after-append, careful_join}
+use Rattle.mm_proof.proofs.Tidy.{Tidy, Marked, visit_made, made_visit}
+
+-- ---- decisions
+
+trees_dec : (t u : Trees) → Dec (t ≡ u)
+trees_dec none none = yes refl
+trees_dec none (tree m c s) = no (λ e. cc)
+trees_dec (tree l b r) none = no (λ e. cc)
+trees_dec (tree l b r) (tree m c s) = go (symbol_dec l m) (trees_dec b c) (trees_dec r s)
+  where
+    parts : tree l b r ≡ tree m c s → (l ≡ m) × (b ≡ c) × (r ≡ s)
+    parts e = (cc, cc, cc)
+
+    go : Dec (l ≡ m) → Dec (b ≡ c) → Dec (r ≡ s) → Dec (tree l b r ≡ tree m c s)
+    go (no n) y z = no (λ e. n (parts e).0)
+    go (yes x) (no n) z = no (λ e. n (parts e).1)
+    go (yes x) (yes y) (no n) = no (λ e. n (parts e).2)
+    go (yes x) (yes y) (yes z) = yes
+        (ap (λ k. tree k b r) x ∙ ap (λ k. tree m k r) y ∙ ap (λ k. tree m c k) z)
+
+in_dec : (ts : List Trees) (t : Trees) → Dec (In ts t)
+in_dec [] t = no (λ h. h)
+in_dec (u ∷ ts) t = go (trees_dec u t) (in_dec ts t)
+  where
+    go : Dec (u ≡ t) → Dec (In ts t) → Dec (In (u ∷ ts) t)
+    go (yes e) d = yes (inl e)
+    go (no n) (yes h) = yes (inr h)
+    go (no n) (no m) = no (λ h. ⊎_elim n m h)
+
+repeats_dec : (v : List Visit) (t : Trees) → Dec (In v (repeats t))
+repeats_dec [] t = no (λ h. h)
+repeats_dec (makes u ∷ v) t = go (repeats_dec v t)
+  where
+    other : makes u ≡ repeats t → ⊥
+    other e = cc
+
+    go : Dec (In v (repeats t)) → Dec (In (makes u ∷ v) (repeats t))
+    go (yes h) = yes (inr h)
+    go (no m) = no (λ h. ⊎_elim other m h)
+repeats_dec (keeps u ∷ v) t = go (repeats_dec v t)
+  where
+    other : keeps u ≡ repeats t → ⊥
+    other e = cc
+
+    go : Dec (In v (repeats t)) → Dec (In (keeps u ∷ v) (repeats t))
+    go (yes h) = yes (inr h)
+    go (no m) = no (λ h. ⊎_elim other m h)
+repeats_dec (repeats u ∷ v) t = go (trees_dec u t) (repeats_dec v t)
+  where
+    same : repeats u ≡ repeats t → u ≡ t
+    same e = cc
+
+    go : Dec (u ≡ t) → Dec (In v (repeats t)) → Dec (In (repeats u ∷ v) (repeats t))
+    go (yes e) d = yes (inl (ap (λ x. repeats x) e))
+    go (no n) (yes h) = yes (inr h)
+    go (no n) (no m) = no (λ h. ⊎_elim (λ e. n (same e)) m h)
+
+-- big, and made before
+again_dec : (made : List Trees) (t : Trees) → Dec (IsBig t × In made t)
+again_dec made t = ⊎_elim
+    (λ small. no (λ h. let big = h.0 in absurd (omega arith)))
+    (λ big. go big (in_dec made t)) (cases_lt (nodes t) 2)
+  where
+    go : IsBig t → Dec (In made t) → Dec (IsBig t × In made t)
+    go big (yes h) = yes (big, h)
+    go big (no n) = no (λ h. n h.1)
+
+-- ---- subtrees have no more nodes
+
+sub_nodes : (trees u : Trees) → IsSubtree trees u → nodes u ≤ nodes trees
+sub_nodes none u h = absurd h
+sub_nodes (tree label below right) u (inl e) =
+    let same : nodes u ≡ nodes (tree label below none) = ap nodes e in
+    let a = length-append (spelling below) (label ∷ spelling right) in
+    let b = length-append (spelling below) (label ∷ []) in
+    omega arith
+sub_nodes (tree label below right) u (inr (inl h)) =
+    let g = sub_nodes below u h in
+    let a = length-append (spelling below) (label ∷ spelling right) in
+    omega arith
+sub_nodes (tree label below right) u (inr (inr h)) =
+    let g = sub_nodes right u h in
+    let a = length-append (spelling below) (label ∷ spelling right) in
+    omega arith
+
+-- no tree stands below itself
+pub not_below : (label : List ℕ) (below : Trees) → ¬ (IsSubtree below (tree label below none))
+not_below label below h =
+    let g = sub_nodes below (tree label below none) h in
+    let a = length-append (spelling below) (label ∷ []) in
+    absurd (omega arith)
+
+-- what is made is a subtree of what is covered
+pub covered_made : (trees : Trees) (made : List Trees) (v : List Visit) (u : Trees) → Covers trees v
+    → In (after made v) u → In made u ⊎ IsSubtree trees u
+covered_made none made v u p h = inl (subst (λ x. In (after made x) u) p h)
+covered_made (tree label below right) made v u p h =
+    let t : Trees = tree label below none in
+    let parted : In (after (after made p.0) p.1) u = subst (λ ts. In ts u)
+    (ap (after made) p.2 ∙ after-append made p.0 p.1) h in
+    ⊎_elim
+    (λ earlier. ⊎_elim
+    (λ a. inl (subst (λ x. In (after made x) u) a earlier))
+    (λ a.
+    let inner : In (t ∷ after made a.0) u = subst (λ ts. In ts u)
+    (ap (after made) a.1 ∙ after-append made a.0 (makes t ∷ [])) earlier in
+    ⊎_elim
+    (λ e. inr (inl (sym e)))
+    (λ k. ⊎_elim (λ old. inl old) (λ sub. inr (inr (inl sub)))
+    (covered_made below made a.0 u a.2 k)) inner) p.4)
+    (λ later. inr (inr (inr later)))
+    (covered_made right (after made p.0) p.1 u p.3 parted)
+
+-- ---- steps
+
+pub some_cover : (trees : Trees) (made : List Trees) → (v : List Visit) × Covers trees v
+    × Careful made v
+some_cover none made = ([], refl, tt)
+some_cover (tree label below right) made = go (again_dec made (tree label below none))
+    (λ ts. some_cover below ts) (λ ts. some_cover right ts)
+  where
+    t : Trees
+    t = tree label below none
+
+    join : (here : List Visit) → Careful made here
+        → ((here ≡ repeats (tree label below none) ∷ [])
+        ⊎ ((inner : List Visit) × (here ≡ inner ++ makes (tree label below none) ∷ [])
+        × Covers below inner))
+        → (later : List Visit) × Covers right later × Careful (after made here) later
+        → (v : List Visit) × Covers (tree label below right) v × Careful made v
+    join here c is later = (
+      here ++ later.0,
+      (here, later.0, refl, later.1, is),
+      careful_join made here later.0 c later.2,
+    )
+
+    go : Dec (IsBig (tree label below none) × In made (tree label below none))
+        → ((ts : List Trees) → (v : List Visit) × Covers below v × Careful ts v)
+        → ((ts : List Trees) → (v : List Visit) × Covers right v × Careful ts v) → (v : List Visit)
+        × Covers (tree label below right) v × Careful made v
+    go (yes h) inside beside = join (repeats (tree label below none) ∷ []) (h, tt) (inl refl)
+        (beside made)
+    go (no n) inside beside =
+        let inner = inside made in
+        let fresh : ¬ (IsBig (tree label below none)
+        × In (after made inner.0) (tree label below none)) = λ h. ⊎_elim
+        (λ old. n (h.0, old))
+        (λ sub. not_below label below sub)
+        (covered_made below made inner.0 (tree label below none) inner.1 h.1) in
+        join (inner.0 ++ makes (tree label below none) ∷ [])
+        (careful_join made inner.0 (makes (tree label below none) ∷ []) inner.2 (fresh, tt))
+        (inr (inner.0, refl, inner.1))
+        (beside (after made (inner.0 ++ makes (tree label below none) ∷ [])))
+
+-- ---- marks
+
+abbrev pub NoKeeps : List Visit → Type 0
+NoKeeps [] = Unit {0}
+NoKeeps (makes t ∷ v) = NoKeeps v
+NoKeeps (repeats t ∷ v) = NoKeeps v
+NoKeeps (keeps t ∷ v) = ⊥
+
+no_keeps_join : (v w : List Visit) → NoKeeps v → NoKeeps w → NoKeeps (v ++ w)
+no_keeps_join [] w p q = q
+no_keeps_join (makes t ∷ v) w p q = no_keeps_join v w p q
+no_keeps_join (repeats t ∷ v) w p q = no_keeps_join v w p q
+no_keeps_join (keeps t ∷ v) w p q = absurd p
+
+pub covers_no_keeps : (trees : Trees) (v : List Visit) → Covers trees v → NoKeeps v
+covers_no_keeps none v p = subst NoKeeps (sym p) tt
+covers_no_keeps (tree label below right) v p =
+    let here : NoKeeps p.0 = ⊎_elim
+    (λ a. subst NoKeeps (sym a) tt)
+    (λ a. subst NoKeeps (sym a.1) (no_keeps_join a.0 (makes (tree label below none) ∷ [])
+    (covers_no_keeps below a.0 a.2) tt)) p.4 in
+    subst NoKeeps (sym p.2) (no_keeps_join p.0 p.1 here (covers_no_keeps right p.1 p.3))
+
+pub some_marks : (whole steps : List Visit) → NoKeeps steps → (v : List Visit)
+    × Marked whole steps v
+some_marks whole [] p = ([], refl)
+some_marks whole (makes t ∷ steps) p = go (repeats_dec whole t) (some_marks whole steps p)
+  where
+    go : Dec (In whole (repeats t)) → (v : List Visit) × Marked whole steps v → (v : List Visit)
+        × Marked whole (makes t ∷ steps) v
+    go (yes h) r = (makes t ∷ keeps t ∷ r.0, (r.0, r.1, inl (h, refl)))
+    go (no n) r = (makes t ∷ r.0, (r.0, r.1, inr (n, refl)))
+some_marks whole (repeats t ∷ steps) p = let r = some_marks whole steps p in
+    (repeats t ∷ r.0, (r.0, r.1, refl))
+some_marks whole (keeps t ∷ steps) p = absurd p
+
+-- what is kept is repeated by the whole
+pub marked_kept : (whole steps v : List Visit) (t : Trees) → Marked whole steps v → In v (keeps t)
+    → In whole (repeats t)
+marked_kept whole [] v t m h = absurd (subst (λ l. In l (keeps t)) m h)
+marked_kept whole (makes u ∷ steps) v t m h = ⊎_elim
+    (λ a. first (λ k. marked_kept whole steps m.0 t m.1 k) a.0 (subst (λ l. In l (keeps t)) a.1 h))
+    (λ a. second (λ k. marked_kept whole steps m.0 t m.1 k) (subst (λ l. In l (keeps t)) a.1 h)) m.2
+  where
+    other : makes u ≡ keeps t → ⊥
+    other e = cc
+
+    same : keeps u ≡ keeps t → u ≡ t
+    same e = cc
+
+    first : (In m.0 (keeps t) → In whole (repeats t)) → In whole (repeats u)
+        → In (makes u ∷ keeps u ∷ m.0) (keeps t) → In whole (repeats t)
+    first rest has (inl e) = absurd (other e)
+    first rest has (inr (inl e)) = subst (λ x. In whole (repeats x)) (same e) has
+    first rest has (inr (inr k)) = rest k
+
+    second : (In m.0 (keeps t) → In whole (repeats t)) → In (makes u ∷ m.0) (keeps t)
+        → In whole (repeats t)
+    second rest (inl e) = absurd (other e)
+    second rest (inr k) = rest k
+marked_kept whole (repeats u ∷ steps) v t m h = go (λ k. marked_kept whole steps m.0 t m.1 k)
+    (subst (λ l. In l (keeps t)) m.2 h)
+  where
+    other : repeats u ≡ keeps t → ⊥
+    other e = cc
+
+    go : (In m.0 (keeps t) → In whole (repeats t)) → In (repeats u ∷ m.0) (keeps t)
+        → In whole (repeats t)
+    go rest (inl e) = absurd (other e)
+    go rest (inr k) = rest k
+marked_kept whole (keeps u ∷ steps) v t m h = absurd m
+
+-- what the steps repeat the visits repeat
+pub marked_repeats : (whole steps v : List Visit) (t : Trees) → Marked whole steps v
+    → In steps (repeats t) → In v (repeats t)
+marked_repeats whole [] v t m h = absurd h
+marked_repeats whole (makes u ∷ steps) v t m (inl e) = absurd
+    (let f : makes u ≡ repeats t = e in cc)
+marked_repeats whole (makes u ∷ steps) v t m (inr h) =
+    let k = marked_repeats whole steps m.0 t m.1 h in
+    ⊎_elim (λ a. subst (λ l. In l (repeats t)) (sym a.1) (inr (inr k)))
+    (λ a. subst (λ l. In l (repeats t)) (sym a.1) (inr k)) m.2
+marked_repeats whole (repeats u ∷ steps) v t m (inl e) = subst (λ l. In l (repeats t)) (sym m.2)
+    (inl e)
+marked_repeats whole (repeats u ∷ steps) v t m (inr h) = subst (λ l. In l (repeats t)) (sym m.2)
+    (inr (marked_repeats whole steps m.0 t m.1 h))
+marked_repeats whole (keeps u ∷ steps) v t m h = absurd m
+
+-- what careful steps repeat is big
+careful_big : (made : List Trees) (v : List Visit) (t : Trees) → Careful made v → In v (repeats t)
+    → IsBig t
+careful_big made [] t c h = absurd h
+careful_big made (makes u ∷ v) t c (inl e) = absurd (let f : makes u ≡ repeats t = e in cc)
+careful_big made (makes u ∷ v) t c (inr h) = careful_big (u ∷ made) v t c.1 h
+careful_big made (repeats u ∷ v) t c
+    (inl e) = let same : u ≡ t = (let f : repeats u ≡ repeats t = e in cc) in subst IsBig same c.0.0
+careful_big made (repeats u ∷ v) t c (inr h) = careful_big made v t c.1 h
+careful_big made (keeps u ∷ v) t c (inl e) = absurd (let f : keeps u ≡ repeats t = e in cc)
+careful_big made (keeps u ∷ v) t c (inr h) = careful_big made v t c h
+
+-- ---- they are tidy
+
+-- what was made, and is repeated by the whole, was kept
+abbrev KeptNeeded : List Visit → List Visit → Type 0
+KeptNeeded whole done = (t : Trees) → In done (makes t) → In whole (repeats t) → In done (keeps t)
+
+marked_tidy : (whole steps v done : List Visit) → ((t : Trees) → In whole (repeats t) → IsBig t)
+    → ((t : Trees) → In steps (repeats t) → In whole (repeats t))
+    → KeptNeeded whole done → Careful (trees_made done) steps → Marked whole steps v → Tidy done v
+marked_tidy whole [] v done big parts kept c m = subst (Tidy done) (sym m) tt
+marked_tidy whole (makes t ∷ steps) v done big parts kept c m =
+    let fresh : IsBig t → ¬ (In done (makes t)) = λ is has. c.0 (is, visit_made done t has) in
+    ⊎_elim
+    (λ a. subst (Tidy done) (sym a.1) (
+      fresh,
+      (
+        big t a.0,
+        (done, refl),
+        marked_tidy whole steps m.0 (keeps t ∷ makes t ∷ done) big
+            (λ u h. parts u (inr h)) (with_mark) c.1 m.1,
+      ),
+    ))
+    (λ a. subst (Tidy done) (sym a.1) (
+      fresh,
+      marked_tidy whole steps m.0 (makes t ∷ done) big (λ u h. parts u (inr h))
+          (without a.0) c.1 m.1,
+    )) m.2
+  where
+    same : (u : Trees) → makes t ≡ makes u → t ≡ u
+    same u e = cc
+
+    other : (u : Trees) → keeps t ≡ makes u → ⊥
+    other u e = cc
+
+    with_mark : KeptNeeded whole (keeps t ∷ makes t ∷ done)
+    with_mark u (inl e) needed = absurd (other u e)
+    with_mark u (inr (inl e)) needed = inl (ap (λ x. keeps x) (same u e))
+    with_mark u (inr (inr h)) needed = inr (inr (kept u h needed))
+
+    without : ¬ (In whole (repeats t)) → KeptNeeded whole (makes t ∷ done)
+    without n u (inl e) needed = absurd
+        (n (subst (λ x. In whole (repeats x)) (sym (same u e)) needed))
+    without n u (inr h) needed = inr (kept u h needed)
+marked_tidy whole (repeats t ∷ steps) v done big parts kept c m =
+    subst (Tidy done) (sym m.2) (
+      kept t (made_visit done t c.0.1) (parts t (inl refl)),
+      marked_tidy whole steps m.0 (repeats t ∷ done) big (λ u h. parts u (inr h)) later c.1 m.1,
+    )
+  where
+    other : (u : Trees) → repeats t ≡ makes u → ⊥
+    other u e = cc
+
+    later : KeptNeeded whole (repeats t ∷ done)
+    later u (inl e) needed = absurd (other u e)
+    later u (inr h) needed = inr (kept u h needed)
+marked_tidy whole (keeps t ∷ steps) v done big parts kept c m = absurd m
+
+pub careful_tidy : (steps v : List Visit) → Careful [] steps → Marked steps steps v → Tidy [] v
+careful_tidy steps v c m = marked_tidy steps steps v [] (λ t h. careful_big [] steps t c h)
+    (λ t h. h) (λ t h needed. absurd h) c m

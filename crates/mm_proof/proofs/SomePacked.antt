@@ -1,0 +1,141 @@
+-- A tree that fits has a fully shared proof.
+use Rattle.std.proofs.Common.{◌≡◌, ℕ, ◌+◌, List, [], ◌∷◌, ◌++◌, length, Contains, inl, inr, refl}
+use Rattle.std.proofs.Common.{sym, ap, subst}
+use Rattle.std.specs.List.{AllZip}
+use Rattle.mm_code.specs.declared.code.Code.{Code}
+use Rattle.mm_code.specs.declared.code.Code.TheVariants.{Number, Tag}
+use Rattle.mm_frame.specs.Sentence.{Sentence}
+use Rattle.mm_frame.specs.Frame.{AreMandatory, IsMandatoryAt}
+use Rattle.mm_proof.specs.Tree.{Trees, none, tree, spelling}
+use Rattle.mm_proof.specs.Moves.{Move, name, again, mark, Makes}
+use Rattle.mm_proof.specs.Tokens.{Says}
+use Rattle.mm_proof.specs.BigSubtrees.{IsSubtree}
+use Rattle.mm_proof.specs.Visits.{visits, trees_made}
+use Rattle.mm_proof.specs.Sharing.{AreFirstUses}
+use Rattle.mm_proof.specs.SharingLaws.{SomePacked}
+use Rattle.mm_proof.proofs.Decisions.{contains_dec}
+use Rattle.mm_proof.proofs.Searches.{mandatory_at_dec, those_of}
+use Rattle.mm_proof.proofs.SaidMoves.{labels_of, mandatory_active}
+use Rattle.mm_proof.proofs.Members.{In, in_get, contains_in, in_left, in_right}
+use Rattle.mm_proof.proofs.ChildSums.{made_subtrees}
+use Rattle.mm_proof.proofs.LedMoves.{some_shared}
+
+-- ---- the listed labels
+
+some_uses : (word seen : List (List ℕ)) → (listed : List (List ℕ)) × AreFirstUses seen word listed
+some_uses [] seen = ([], refl)
+some_uses (label ∷ word) seen = go (contains_dec seen label) (λ s. some_uses word s)
+  where
+    go : Dec (Contains seen label) → ((s : List (List ℕ)) → (listed : List (List ℕ))
+        × AreFirstUses s word listed) → (listed : List (List ℕ))
+        × AreFirstUses seen (label ∷ word) listed
+    go (yes c) rest = let r = rest seen in (r.0, inl (c, r.1))
+    go (no n) rest = let r = rest (label ∷ seen) in (label ∷ r.0, inr (n, r.0, refl, r.1))
+
+-- each label was seen or is listed
+uses_have : (word seen listed : List (List ℕ)) (label : List ℕ) → AreFirstUses seen word listed
+    → In word label → In (seen ++ listed) label
+uses_have [] seen listed label u h = absurd h
+uses_have (l ∷ word) seen listed label (inl u) (inl e) = subst (In (seen ++ listed)) e
+    (in_left seen listed l (contains_in seen l u.0))
+uses_have (l ∷ word) seen listed label (inl u) (inr h) = uses_have word seen listed label u.1 h
+uses_have (l ∷ word) seen listed label (inr u) (inl e) = in_right seen listed label
+    (subst (λ x. In x label) (sym u.2) (inl e))
+uses_have (l ∷ word) seen listed label (inr u) (inr h) = moved seen u.1 listed
+    (λ x k. subst (λ y. In y x) (sym u.2) k) (uses_have word (l ∷ seen) u.1 label u.3 h)
+  where
+    within : (xs ys zs : List (List ℕ)) (x : List ℕ) → ((x : List ℕ) → In ys x → In zs x)
+        → In (xs ++ ys) x → In (xs ++ zs) x
+    within [] ys zs x f h = f x h
+    within (y ∷ xs) ys zs x f (inl e) = inl e
+    within (y ∷ xs) ys zs x f (inr h) = inr (within xs ys zs x f h)
+
+    moved : (xs ys zs : List (List ℕ)) → ((x : List ℕ) → In (l ∷ ys) x → In zs x)
+        → In (l ∷ (xs ++ ys)) label → In (xs ++ zs) label
+    moved xs ys zs f (inl e) = in_right xs zs label (f label (inl e))
+    moved xs ys zs f (inr h) = within xs ys zs label (λ x k. f x (inr k)) h
+
+-- ---- the labels of moves
+
+sub_label : (trees : Trees) (label : List ℕ) (below : Trees)
+    → IsSubtree trees (tree label below none) → In (spelling trees) label
+sub_label none label below h = absurd h
+sub_label (tree l b r) label below (inl e) =
+    let same : l ≡ label = (let f : tree label below none ≡ tree l b none = e in cc) in
+    in_right (spelling b) (l ∷ spelling r) label (inl same)
+sub_label (tree l b r) label below (inr (inl h)) = in_left (spelling b) (l ∷ spelling r) label
+    (sub_label b label below h)
+sub_label (tree l b r) label below (inr (inr h)) = in_right (spelling b) (l ∷ spelling r) label
+    (inr (sub_label r label below h))
+
+-- a step by a label makes a tree with this label
+label_made : (before : List Sentence) (moves : List (Move (List ℕ))) (row : Trees)
+    (kept : List Trees) (row' : Trees) (kept' : List Trees)
+    (m : Makes before moves row kept row' kept') (label : List ℕ)
+    → In moves (name label) → (below : Trees)
+    × In (trees_made (visits before moves row kept row' kept' m)) (tree label below none)
+label_made before [] row kept row' kept' m label h = absurd h
+label_made before (name l ∷ moves) row kept row' kept' m label (inl e) =
+    let same : l ≡ label = (let f : name l ≡ name label = e in cc) in
+    (m.2.1, inl (ap (λ x. tree x m.2.1 none) same))
+label_made before (name l ∷ moves) row kept row' kept' m label
+    (inr h) = let g = label_made before moves m.0 m.1 row' kept' m.3 label h in (g.0, inr g.1)
+label_made before (again tag ∷ moves) row kept row' kept' m label (inl e) = absurd
+    (let f : again tag ≡ name label = e in cc)
+label_made before (again tag ∷ moves) row kept row' kept' m label
+    (inr h) = label_made before moves m.0 m.1 row' kept' m.3 label h
+label_made before (mark ∷ moves) row kept row' kept' m label (inl e) = absurd
+    (let f : mark ≡ name label = e in cc)
+label_made before (mark ∷ moves) row kept row' kept' m label
+    (inr h) = label_made before moves m.0 m.1 row' kept' m.3 label h
+
+-- ---- codes
+
+some_codes : (labels : List (List ℕ)) (moves : List (Move (List ℕ)))
+    → ((label : List ℕ) → In moves (name label) → In labels label) → (codes : List Code)
+    × AllZip (Says labels) codes moves
+some_codes labels [] known = ([], tt)
+some_codes labels (name label ∷ moves) known =
+    let at = in_get labels label (known label (inl refl)) in
+    let rest = some_codes labels moves (λ l h. known l (inr h)) in
+    (Number (at.0 + 1) ∷ rest.0, ((at.0, refl, inl (label, at.1, refl)), rest.1))
+some_codes labels (again tag ∷ moves) known =
+    let rest = some_codes labels moves (λ l h. known l (inr h)) in (
+      Number (length labels + tag + 1) ∷ rest.0,
+      ((length labels + tag, refl, inr (tag, refl, refl)), rest.1),
+    )
+some_codes labels (mark ∷ moves) known =
+    let rest = some_codes labels moves (λ l h. known l (inr h)) in
+    (Tag ∷ rest.0, (refl, rest.1))
+
+pub some_packed_holds : SomePacked
+some_packed_holds before s label below formed fit =
+    let trees : Trees = tree label below none in
+    let frame : (hypotheses : List Sentence)
+    × AreMandatory before s hypotheses = those_of (IsMandatoryAt before s)
+    (mandatory_at_dec before s) 0 before in
+    let named = labels_of before s frame.0 formed
+    (λ i h e. let a = mandatory_active before s frame.0 i h frame.1 e in (a.0, a.1, a.3)) in
+    let uses = some_uses (spelling trees) named.0 in
+    let shared = some_shared before trees fit in
+    let known : (l : List ℕ) → In shared.0 (name l) → In (named.0 ++ uses.0) l = λ l h.
+    let g = label_made before shared.0 none [] trees shared.1.kept shared.1.made l h in
+    let sub = made_subtrees before shared.0 none [] trees shared.1.kept shared.1.made
+    (tree l g.0 none) g.1 in
+    uses_have (spelling trees) named.0 uses.0 l uses.1 (sub_label trees l g.0 sub) in
+    let said = some_codes (named.0 ++ uses.0) shared.0 known in (
+      uses.0,
+      said.0,
+      record {
+        moves = shared.0;
+        says = record {
+          hypotheses = frame.0;
+          mandatory = frame.1;
+          labels = named.0;
+          labelled = named.1;
+          each = said.1;
+        };
+        shared = shared.1;
+        uses = uses.1;
+      },
+    )

@@ -1,0 +1,186 @@
+-- The labels of a tree, and the tokens of a fully shared proof of it, are a proof of what it derives.
+use Rattle.std.proofs.Common.{◌≡◌, ℕ, zero, suc, ◌<◌, List, [], ◌∷◌, ◌++◌, map, drop, length, slice_get, Contains, Some, ◌⊎◌, inl, inr, refl, sym, ap, subst, ◌∙◌, arith, append_assoc}
+use Rattle.std.proofs.lemmas.Option.{slice_get_within, get_or_from_slice_get}
+use Rattle.std.specs.List.{flat_map}
+use Rattle.std.proofs.lemmas.List.Elements.{Contains-append_left, Contains-append_right, Contains-append_cases}
+use Rattle.mm_code.specs.declared.code.Code.{Code}
+use Rattle.mm_code.specs.declared.code.CodeRule.{CodeRule}
+use Rattle.mm_code.specs.declared.code.CodeRule.TheVariants as code
+use Rattle.mm_code.specs.Letters.{Letters, LettersBreak}
+use Rattle.mm_code.specs.Layout.{in_parentheses}
+use Rattle.mm_frame.specs.Sentence.{Sentence, SomeSentence, IsLabelled, IsHypothesis, IsAssertion}
+use Rattle.mm_frame.specs.Active.{IsActive}
+use Rattle.mm_frame.specs.Rules.{AllMeant}
+use Rattle.mm_frame.proofs.Meant.{one_label}
+use Rattle.mm_proof.specs.declared.fault.ProofRule.TheVariants.{P1, P2, P3, P4, P5, P6, P7, P8, P9, P10, P11, P12, P13, P14, L1}
+use Rattle.mm_proof.specs.Tree.{Trees, none, tree, spelling, MayStandOver, Fit, DeriveAll}
+use Rattle.mm_proof.specs.Moves.{name}
+use Rattle.mm_proof.specs.Tokens.{opening_token, closing_token, IsNormal, IsCompressed, AreLabels, AreLetters}
+use Rattle.mm_proof.specs.Proof.{BreaksWhole, IsWhole, IsProvedWithin}
+use Rattle.mm_proof.specs.Sharing.{AreFirstUses, IsPacked}
+use Rattle.mm_proof.proofs.Making.{derive_fits, fit_makes}
+use Rattle.mm_proof.proofs.SaidMoves.{normal_or_compressed, labels_once, letters_once}
+use Rattle.mm_proof.proofs.Letters.{coded_not_broken}
+
+-- ---- members
+
+member_at : (xs : List (List ℕ)) (i : ℕ) (x : List ℕ) → slice_get xs i ≡ Some x → Contains xs x
+member_at xs i x e = (i, slice_get_within xs i x e, get_or_from_slice_get xs i x x e)
+
+member_first : (y : List ℕ) (xs : List (List ℕ)) → Contains (y ∷ xs) y
+member_first y xs = member_at (y ∷ xs) 0 y refl
+
+member_later : (y : List ℕ) (xs : List (List ℕ)) (x : List ℕ) → Contains xs x → Contains (y ∷ xs) x
+member_later y xs x h = (suc h.0, let less : h.0 < length xs = h.1 in omega arith, h.2)
+
+member_cases : (y : List ℕ) (xs : List (List ℕ)) (x : List ℕ) → Contains (y ∷ xs) x → (y ≡ x) ⊎ Contains xs x
+member_cases y xs x (zero, less, e) = inl e
+member_cases y xs x (suc i, less, e) = let h : suc i < length (y ∷ xs) = less in inr (i, let k : i < length xs = omega (arith, h) in k, e)
+
+no_member : (x : List ℕ) → Contains [] x → ⊥
+no_member x (i, less, e) = let h : i < 0 = less in absurd (omega (arith, h))
+
+-- ---- labels of trees that fit
+
+-- each label may stand over some trees
+pub label_fits : (before : List Sentence) (trees : Trees) (label : List ℕ) → Fit before trees → Contains (spelling trees) label → (below : Trees) × MayStandOver before label below
+label_fits before none label fit c = absurd (no_member label c)
+label_fits before (tree own below right) label fit c =
+    go (label_fits before below label fit.1) (label_fits before right label fit.2) (Contains-append_cases (spelling below) (own ∷ spelling right) label c)
+  where
+    later : (Contains (spelling right) label → (under : Trees) × MayStandOver before label under) → ((own ≡ label) ⊎ Contains (spelling right) label) → (under : Trees) × MayStandOver before label under
+    later right_fits (inl same) = (below, subst (λ (l : List ℕ). MayStandOver before l below) same fit.0)
+    later right_fits (inr h) = right_fits h
+
+    go : (Contains (spelling below) label → (under : Trees) × MayStandOver before label under) → (Contains (spelling right) label → (under : Trees) × MayStandOver before label under)
+        → (Contains (spelling below) label ⊎ Contains (own ∷ spelling right) label) → (under : Trees) × MayStandOver before label under
+    go below_fits right_fits (inl h) = below_fits h
+    go below_fits right_fits (inr h) = later right_fits (member_cases own (spelling right) label h)
+
+-- it is that of a statement
+pub stands_known : (before : List Sentence) (label : List ℕ) (below : Trees) → MayStandOver before label below → SomeSentence before (IsLabelled label)
+stands_known before label below (inl (bare, (place, h, there, active, (named, kind)))) = (place, h, there, named)
+stands_known before label below (inr (place, assertion, hypotheses, names, many)) = (place, assertion, names.there, names.named)
+
+not_both : (s : Sentence) → IsHypothesis s.kind → IsAssertion s.kind → ⊥
+not_both s (inl f) (inl a) = cc
+not_both s (inl f) (inr a) = cc
+not_both s (inr f) (inl a) = cc
+not_both s (inr f) (inr a) = cc
+
+-- a hypothesis with it is active
+stands_active : (before : List Sentence) (label : List ℕ) (below : Trees) → AllMeant before → MayStandOver before label below
+    → (place : ℕ) (h : Sentence) → slice_get before place ≡ Some h → IsLabelled label h → IsHypothesis h.kind → IsActive before place
+stands_active before label below meant (inl (bare, (at, g, there', active, (named', kind')))) place h there named kind =
+    subst (IsActive before) (one_label before label at place g h meant there' there named' named) active
+stands_active before label below meant (inr (at, assertion, hypotheses, names, many)) place h there named kind =
+    let here : at ≡ place = one_label before label at place assertion h meant names.there there names.named named in
+    let one : Some assertion ≡ Some h = sym names.there ∙ ap (slice_get before) here ∙ there in
+    let same : assertion ≡ h = cc in
+    absurd (not_both h kind (subst (λ (s : Sentence). IsAssertion s.kind) same names.kind))
+
+-- ---- proofs that break no rule over the whole of them
+
+whole_of : (before : List Sentence) (tokens labels : List (List ℕ)) → AllMeant before → ¬ (BreaksWhole P1 before tokens)
+    → ((others : List (List ℕ)) → AreLabels tokens others → others ≡ labels) → ((label : List ℕ) → Contains labels label → (below : Trees) × MayStandOver before label below)
+    → ((text : List ℕ) (rule : CodeRule) → AreLetters tokens text → ¬ (LettersBreak rule text)) → IsWhole before tokens
+whole_of before tokens labels meant ends only fits letters P1 broken = ends broken
+whole_of before tokens labels meant ends only fits letters P2 (others, are, label, used, unknown) =
+    let here : Contains labels label = subst (λ (ls : List (List ℕ)). Contains ls label) (only others are) used in
+    let f = fits label here in unknown (stands_known before label f.0 f.1)
+whole_of before tokens labels meant ends only fits letters P3 (others, are, label, used, place, h, there, named, kind, closed) =
+    let here : Contains labels label = subst (λ (ls : List (List ℕ)). Contains ls label) (only others are) used in
+    let f = fits label here in closed (stands_active before label f.0 meant f.1 place h there named kind)
+whole_of before tokens labels meant ends only fits letters P4 (text, are, broken) = letters text code.P4 are broken
+whole_of before tokens labels meant ends only fits letters P5 (text, are, broken) = letters text code.P5 are broken
+whole_of before tokens labels meant ends only fits letters P6 broken = broken
+whole_of before tokens labels meant ends only fits letters P7 broken = broken
+whole_of before tokens labels meant ends only fits letters P8 broken = broken
+whole_of before tokens labels meant ends only fits letters P9 broken = broken
+whole_of before tokens labels meant ends only fits letters P10 broken = broken
+whole_of before tokens labels meant ends only fits letters P11 broken = broken
+whole_of before tokens labels meant ends only fits letters P12 broken = broken
+whole_of before tokens labels meant ends only fits letters P13 broken = broken
+whole_of before tokens labels meant ends only fits letters P14 broken = broken
+whole_of before tokens labels meant ends only fits letters L1 broken = broken
+
+-- a proof of the statement that spells this tree
+abbrev pub IsProofBy : (List (List ℕ) → Type 0) → List Sentence → Sentence → List (List ℕ) → (label : List ℕ) → Trees → Type 0
+IsProofBy Fits before s tokens label below =
+    (p : IsProvedWithin Fits before s tokens) × (tree p.proves.label p.proves.below none ≡ tree label below none)
+
+-- ---- the labels of a tree
+
+pub spelled_proves : (Fits : List (List ℕ) → Type 0) (before : List Sentence) (s : Sentence) (label : List ℕ) (below : Trees) → AllMeant before
+    → ¬ (Contains (spelling (tree label below none)) opening_token) → DeriveAll Fits before (tree label below none) (s.symbols ∷ [])
+    → IsProofBy Fits before s (spelling (tree label below none)) label below
+spelled_proves Fits before s label below meant apart derived =
+    let trees : Trees = tree label below none in
+    let tokens : List (List ℕ) = spelling trees in
+    let fit : Fit before trees = derive_fits Fits before trees (s.symbols ∷ []) derived in
+    let normal : IsNormal tokens = λ e. apart (member_at tokens 0 opening_token e) in
+    let whole : IsWhole before tokens = whole_of before tokens tokens meant (λ broken. normal broken.0) (λ others are. labels_once tokens others tokens are (inl (normal, refl)))
+    (λ l used. label_fits before trees l fit used) (λ text rule are. absurd (normal_or_compressed tokens are.0 are.1 normal are.2)) in (
+      record {
+        whole = whole;
+        moves = map name tokens;
+        said = inl (normal, refl);
+        proves = record { label = label; below = below; kept = []; made = fit_makes before trees none [] fit; derived = derived };
+      },
+      refl,
+    )
+
+-- ---- the tokens of a fully shared proof
+
+-- listed labels are among those of the tree
+first_used : (seen word listed : List (List ℕ)) (label : List ℕ) → AreFirstUses seen word listed → Contains listed label → Contains word label
+first_used seen [] listed label uses c = absurd (no_member label (subst (λ (ls : List (List ℕ)). Contains ls label) uses c))
+first_used seen (own ∷ word) listed label (inl (old, uses)) c = member_later own word label (first_used seen word listed label uses c)
+first_used seen (own ∷ word) listed label (inr (new, others, e, uses)) c =
+    go (first_used (own ∷ seen) word others label uses) (member_cases own others label (subst (λ (ls : List (List ℕ)). Contains ls label) e c))
+  where
+    go : (Contains others label → Contains word label) → ((own ≡ label) ⊎ Contains others label) → Contains (own ∷ word) label
+    go used (inl same) = subst (Contains (own ∷ word)) same (member_first own word)
+    go used (inr h) = member_later own word label (used h)
+
+pub packed_listed : (before : List Sentence) (s : Sentence) (trees : Trees) (listed : List (List ℕ)) (codes : List Code) (label : List ℕ) → IsPacked before s trees listed codes → Contains listed label → Contains (spelling trees) label
+packed_listed before s trees listed codes label p c = first_used p.says.labels (spelling trees) listed label p.uses c
+
+pub packed_proves : (Fits : List (List ℕ) → Type 0) (before : List Sentence) (s : Sentence) (label : List ℕ) (below : Trees) (listed : List (List ℕ)) (codes : List Code) (letters : List ℕ) (pieces : List (List ℕ)) → AllMeant before
+    → IsPacked before s (tree label below none) listed codes → Letters letters codes → flat_map (λ piece. piece) pieces ≡ letters
+    → ¬ (Contains (spelling (tree label below none)) closing_token) → DeriveAll Fits before (tree label below none) (s.symbols ∷ [])
+    → IsProofBy Fits before s (in_parentheses listed ++ pieces) label below
+packed_proves Fits before s label below listed codes letters pieces meant p coded joined apart derived =
+    let trees : Trees = tree label below none in
+    let tokens : List (List ℕ) = in_parentheses listed ++ pieces in
+    let fit : Fit before trees = derive_fits Fits before trees (s.symbols ∷ []) derived in
+    let parts : IsCompressed tokens listed pieces = record {
+      whole = ap (λ (l : List (List ℕ)). opening_token ∷ l) (append_assoc listed (closing_token ∷ []) pieces);
+      first = λ c. apart (packed_listed before s trees listed codes closing_token p c);
+    } in
+    let read : Letters (flat_map (λ piece. piece) pieces) codes = subst (λ (text : List ℕ). Letters text codes) (sym joined) coded in
+    let closes : Contains (drop 1 tokens) closing_token =
+    Contains-append_left (listed ++ closing_token ∷ []) pieces closing_token (Contains-append_right listed (closing_token ∷ []) closing_token (member_first closing_token [])) in
+    let broken_not : (text : List ℕ) (rule : CodeRule) → AreLetters tokens text → ¬ (LettersBreak rule text) = λ text rule are broken.
+    let same : text ≡ flat_map (λ piece. piece) pieces = letters_once tokens text (flat_map (λ piece. piece) pieces) are (listed, pieces, parts, refl) in
+    coded_not_broken (flat_map (λ piece. piece) pieces) codes rule read (subst (LettersBreak rule) same broken) in (
+      record {
+        whole = whole_of before tokens listed meant (λ broken. broken.1 closes) (λ others are. labels_once tokens others listed are (inr (pieces, parts)))
+            (λ l used. label_fits before trees l fit (packed_listed before s trees listed codes l p used)) broken_not;
+        moves = p.moves;
+        said = inr (record {
+          listed = listed;
+          letters = pieces;
+          parts = parts;
+          codes = codes;
+          coded = read;
+          hypotheses = p.says.hypotheses;
+          mandatory = p.says.mandatory;
+          labels = p.says.labels;
+          labelled = p.says.labelled;
+          each = p.says.each;
+        });
+        proves = record { label = label; below = below; kept = p.shared.kept; made = p.shared.made; derived = derived };
+      },
+      refl,
+    )

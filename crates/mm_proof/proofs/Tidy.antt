@@ -1,0 +1,335 @@
+-- What moves that share all do, said of each visit by those before it; and that it is told by the
+-- steps alone.
+use Rattle.std.proofs.Common.{◌≡◌, List, [], ◌∷◌, ◌⊎◌, inl, inr, ⊎_elim, refl, sym, ap, subst, ◌∙◌}
+use Rattle.mm_proof.specs.Tree.{Trees}
+use Rattle.mm_proof.specs.BigSubtrees.{IsBig}
+use Rattle.mm_proof.specs.Visits.{Visit, makes, repeats, keeps, trees_made}
+use Rattle.mm_proof.proofs.Members.{In, Once}
+use Rattle.mm_proof.proofs.Covers.{strip, Careful}
+
+-- The visits, after those done, the last of which comes first: none makes a big tree again, each
+-- repeats a kept one, and each keeps the big tree that was just made.
+abbrev pub Tidy : (done : List Visit) → List Visit → Type 0
+Tidy done [] = Unit {0}
+Tidy done (makes t ∷ v) = (IsBig t → ¬ (In done (makes t))) × Tidy (makes t ∷ done) v
+Tidy done (repeats t ∷ v) = In done (keeps t) × Tidy (repeats t ∷ done) v
+Tidy done (keeps t ∷ v) = IsBig t × ((rest : List Visit) × (done ≡ makes t ∷ rest))
+    × Tidy (keeps t ∷ done) v
+
+-- ---- constructors are told apart
+
+same_made : (t u : Trees) → makes t ≡ makes u → t ≡ u
+same_made t u e = cc
+
+same_repeated : (t u : Trees) → repeats t ≡ repeats u → t ≡ u
+same_repeated t u e = cc
+
+same_kept : (t u : Trees) → keeps t ≡ keeps u → t ≡ u
+same_kept t u e = cc
+
+made_no_keep : (t u : Trees) → makes t ≡ keeps u → ⊥
+made_no_keep t u e = cc
+
+made_no_repeat : (t u : Trees) → makes t ≡ repeats u → ⊥
+made_no_repeat t u e = cc
+
+repeat_no_keep : (t u : Trees) → repeats t ≡ keeps u → ⊥
+repeat_no_keep t u e = cc
+
+repeat_no_make : (t u : Trees) → repeats t ≡ makes u → ⊥
+repeat_no_make t u e = cc
+
+keep_no_make : (t u : Trees) → keeps t ≡ makes u → ⊥
+keep_no_make t u e = cc
+
+keep_no_repeat : (t u : Trees) → keeps t ≡ repeats u → ⊥
+keep_no_repeat t u e = cc
+
+same_heads : (x y : Visit) (v w : List Visit) → x ∷ v ≡ y ∷ w → (x ≡ y) × (v ≡ w)
+same_heads x y v w e = (cc, cc)
+
+-- ---- what the visits that are done say
+
+-- what is kept is big, and was made
+abbrev pub KeepsMade : List Visit → Type 0
+KeepsMade done = (t : Trees) → In done (keeps t) → IsBig t × In done (makes t)
+
+-- what is repeated was kept
+abbrev pub RepeatsKept : List Visit → Type 0
+RepeatsKept done = (t : Trees) → In done (repeats t) → In done (keeps t)
+
+keeps_after_make : (done : List Visit) (u : Trees) → KeepsMade done → KeepsMade (makes u ∷ done)
+keeps_after_make done u k t (inl e) = absurd (made_no_keep u t e)
+keeps_after_make done u k t (inr h) = let g = k t h in (g.0, inr g.1)
+
+keeps_after_repeat : (done : List Visit) (u : Trees) → KeepsMade done → KeepsMade (repeats u ∷ done)
+keeps_after_repeat done u k t (inl e) = absurd (repeat_no_keep u t e)
+keeps_after_repeat done u k t (inr h) = let g = k t h in (g.0, inr g.1)
+
+keeps_after_keep : (done rest : List Visit) (u : Trees) → IsBig u → done ≡ makes u ∷ rest
+    → KeepsMade done → KeepsMade (keeps u ∷ done)
+keeps_after_keep done rest u big e k t (inl s) =
+    let same : u ≡ t = same_kept u t s in
+    (subst IsBig same big, inr (subst (λ d. In d (makes t)) (sym e) (inl (ap (λ x. makes x) same))))
+keeps_after_keep done rest u big e k t (inr h) = let g = k t h in (g.0, inr g.1)
+
+repeats_after_make : (done : List Visit) (u : Trees) → RepeatsKept done
+    → RepeatsKept (makes u ∷ done)
+repeats_after_make done u k t (inl e) = absurd (made_no_repeat u t e)
+repeats_after_make done u k t (inr h) = inr (k t h)
+
+repeats_after_keep : (done : List Visit) (u : Trees) → RepeatsKept done
+    → RepeatsKept (keeps u ∷ done)
+repeats_after_keep done u k t (inl e) = absurd (keep_no_repeat u t e)
+repeats_after_keep done u k t (inr h) = inr (k t h)
+
+repeats_after_repeat : (done : List Visit) (u : Trees) → In done (keeps u) → RepeatsKept done
+    → RepeatsKept (repeats u ∷ done)
+repeats_after_repeat done u here k t (inl e) = inr
+    (subst (λ x. In done (keeps x)) (same_repeated u t e) here)
+repeats_after_repeat done u here k t (inr h) = inr (k t h)
+
+-- ---- the trees made, and the visits that make them
+
+pub made_visit : (v : List Visit) (t : Trees) → In (trees_made v) t → In v (makes t)
+made_visit [] t h = absurd h
+made_visit (makes u ∷ v) t (inl e) = inl (ap (λ x. makes x) e)
+made_visit (makes u ∷ v) t (inr h) = inr (made_visit v t h)
+made_visit (repeats u ∷ v) t h = inr (made_visit v t h)
+made_visit (keeps u ∷ v) t h = inr (made_visit v t h)
+
+pub visit_made : (v : List Visit) (t : Trees) → In v (makes t) → In (trees_made v) t
+visit_made [] t h = absurd h
+visit_made (makes u ∷ v) t (inl e) = inl (same_made u t e)
+visit_made (makes u ∷ v) t (inr h) = inr (visit_made v t h)
+visit_made (repeats u ∷ v) t (inl e) = absurd (repeat_no_make u t e)
+visit_made (repeats u ∷ v) t (inr h) = visit_made v t h
+visit_made (keeps u ∷ v) t (inl e) = absurd (keep_no_make u t e)
+visit_made (keeps u ∷ v) t (inr h) = visit_made v t h
+
+-- tidy visits are careful steps
+pub tidy_careful : (v done : List Visit) → KeepsMade done → Tidy done v
+    → Careful (trees_made done) (strip v)
+tidy_careful [] done k c = tt
+tidy_careful (makes t ∷ v) done k c = (
+  λ h. c.0 h.0 (made_visit done t h.1),
+  tidy_careful v (makes t ∷ done) (keeps_after_make done t k) c.1,
+)
+tidy_careful (repeats t ∷ v) done k c =
+    let g = k t c.0 in (
+      (g.0, visit_made done t g.1),
+      tidy_careful v (repeats t ∷ done)
+          (keeps_after_repeat done t k) c.1,
+    )
+tidy_careful (keeps t ∷ v) done k c =
+    tidy_careful v (keeps t ∷ done) (keeps_after_keep done c.1.0 t c.0 c.1.1 k) c.2
+
+-- ---- a tree that was made and isn't kept next is never kept, and so never repeated
+
+abbrev pub IsNotNext : List Visit → Trees → Type 0
+IsNotNext v t = (rest : List Visit) → v ≡ keeps t ∷ rest → ⊥
+
+-- the visit before one that keeps made the tree
+next_keeps : (x : Visit) (done v rest : List Visit) (t : Trees) → Tidy (x ∷ done) v
+    → v ≡ keeps t ∷ rest → IsBig t × (x ≡ makes t)
+next_keeps x done v rest t c e =
+    let d : Tidy (x ∷ done) (keeps t ∷ rest) = subst (Tidy (x ∷ done)) e c in
+    (d.0, (same_heads x (makes t) done d.1.0 d.1.1).0)
+
+pub not_kept : (v done : List Visit) (t : Trees) → Tidy done v → In done (makes t) → IsNotNext v t
+    → In v (keeps t) → ⊥
+not_kept [] done t c made next h = h
+not_kept (makes u ∷ v) done t c made next (inl e) = made_no_keep u t e
+not_kept (makes u ∷ v) done t c made next (inr h) =
+    not_kept v (makes u ∷ done) t c.1 (inr made)
+    (λ rest e.
+    let n = next_keeps (makes u) done v rest t c.1 e in
+    let same : u ≡ t = same_made u t n.1 in
+    c.0 (subst IsBig (sym same) n.0) (subst (λ x. In done (makes x)) (sym same) made)) h
+not_kept (repeats u ∷ v) done t c made next (inl e) = repeat_no_keep u t e
+not_kept (repeats u ∷ v) done t c made next (inr h) =
+    not_kept v (repeats u ∷ done) t c.1 (inr made)
+    (λ rest e. repeat_no_make u t (next_keeps (repeats u) done v rest t c.1 e).1) h
+not_kept (keeps u ∷ v) done t c made next (inl e) = next v (ap (λ x. x ∷ v) e)
+not_kept (keeps u ∷ v) done t c made next (inr h) =
+    not_kept v (keeps u ∷ done) t c.2 (inr made)
+    (λ rest e. keep_no_make u t (next_keeps (keeps u) done v rest t c.2 e).1) h
+
+-- what is repeated is kept before
+repeated_kept : (v done : List Visit) (t : Trees) → Tidy done v → In v (repeats t)
+    → In done (keeps t) ⊎ In v (keeps t)
+repeated_kept [] done t c h = absurd h
+repeated_kept (makes u ∷ v) done t c (inl e) = absurd (made_no_repeat u t e)
+repeated_kept (makes u ∷ v) done t c (inr h) = ⊎_elim
+    (λ a. ⊎_elim (λ e. absurd (made_no_keep u t e)) (λ k. inl k) a)
+    (λ b. inr (inr b)) (repeated_kept v (makes u ∷ done) t c.1 h)
+repeated_kept (repeats u ∷ v) done t c (inl e) = inl
+    (subst (λ x. In done (keeps x)) (same_repeated u t e) c.0)
+repeated_kept (repeats u ∷ v) done t c (inr h) = ⊎_elim
+    (λ a. ⊎_elim (λ e. absurd (repeat_no_keep u t e)) (λ k. inl k) a)
+    (λ b. inr (inr b)) (repeated_kept v (repeats u ∷ done) t c.1 h)
+repeated_kept (keeps u ∷ v) done t c (inl e) = absurd (keep_no_repeat u t e)
+repeated_kept (keeps u ∷ v) done t c (inr h) = ⊎_elim
+    (λ a. ⊎_elim (λ e. inr (inl e)) (λ k. inl k) a)
+    (λ b. inr (inr b)) (repeated_kept v (keeps u ∷ done) t c.2 h)
+
+-- ---- where marks stand is told by the steps
+
+-- the visits are the steps, with a mark after each that makes a tree which one of the whole repeats
+abbrev pub Marked : (whole steps v : List Visit) → Type 0
+Marked whole [] v = v ≡ []
+Marked whole (makes t ∷ steps) v =
+    (rest : List Visit) × Marked whole steps rest
+    × ((In whole (repeats t) × (v ≡ makes t ∷ keeps t ∷ rest))
+    ⊎ (¬ (In whole (repeats t)) × (v ≡ makes t ∷ rest)))
+Marked whole (repeats t ∷ steps) v = (rest : List Visit) × Marked whole steps rest
+    × (v ≡ repeats t ∷ rest)
+Marked whole (keeps t ∷ steps) v = ⊥
+
+pub marked_once : (whole steps v w : List Visit) → Marked whole steps v → Marked whole steps w
+    → v ≡ w
+marked_once whole [] v w p q = p ∙ sym q
+marked_once whole (makes t ∷ steps) v w p q =
+    let same = marked_once whole steps p.0 q.0 p.1 q.1 in
+    ⊎_elim
+    (λ a. ⊎_elim
+    (λ b. a.1 ∙ ap (λ x. makes t ∷ keeps t ∷ x) same ∙ sym b.1)
+    (λ b. absurd (b.0 a.0)) q.2)
+    (λ a. ⊎_elim
+    (λ b. absurd (a.0 b.0))
+    (λ b. a.1 ∙ ap (λ x. makes t ∷ x) same ∙ sym b.1) q.2) p.2
+marked_once whole (repeats t ∷ steps) v w p q = p.2
+    ∙ ap (λ x. repeats t ∷ x) (marked_once whole steps p.0 q.0 p.1 q.1) ∙ sym q.2
+marked_once whole (keeps t ∷ steps) v w p q = absurd p
+
+-- the visits without a mark that they begin with
+abbrev pub unmark : List Visit → List Visit
+unmark [] = []
+unmark (makes t ∷ v) = makes t ∷ v
+unmark (repeats t ∷ v) = repeats t ∷ v
+unmark (keeps t ∷ v) = v
+
+first_kept : (v : List Visit) → ((t : Trees) × (rest : List Visit) × (v ≡ keeps t ∷ rest))
+    ⊎ (((t : Trees) → IsNotNext v t) × (unmark v ≡ v))
+first_kept [] = inr (λ t rest e. cc, refl)
+first_kept (makes u ∷ v) = inr (
+  λ t rest e. made_no_keep u t
+      (same_heads (makes u) (keeps t) v rest e).0,
+  refl,
+)
+first_kept (repeats u ∷ v) = inr
+    (λ t rest e. repeat_no_keep u t (same_heads (repeats u) (keeps t) v rest e).0, refl)
+first_kept (keeps u ∷ v) = inl (u, v, refl)
+
+-- a mark follows only what is made
+bare_after : (x : Visit) (done v : List Visit) → Tidy (x ∷ done) v → ((t : Trees) → x ≡ makes t → ⊥)
+    → unmark v ≡ v
+bare_after x done v c other = ⊎_elim
+    (λ k. absurd (other k.0 (next_keeps x done v k.1 k.0 c k.2).1))
+    (λ b. b.1) (first_kept v)
+
+kept_first : (v rest : List Visit) (t u : Trees) → v ≡ keeps u ∷ rest → t ≡ u
+    → v ≡ keeps t ∷ unmark v
+kept_first v rest t u e same = e ∙ ap (λ x. keeps x ∷ rest) (sym same)
+    ∙ ap (λ x. keeps t ∷ x) (sym (ap unmark e))
+
+pub tidy_marked : (whole v done : List Visit) → KeepsMade done → RepeatsKept done → Tidy done v
+    → ((t : Trees) → In whole (repeats t) → In done (repeats t) ⊎ In v (repeats t))
+    → ((t : Trees) → In v (keeps t) → In whole (repeats t))
+    → Marked whole (strip v) (unmark v)
+tidy_marked whole [] done k r c parts refer = refl
+tidy_marked whole (makes t ∷ v) done k r c parts refer =
+    let rest : Marked whole (strip v) (unmark v) = tidy_marked whole v (makes t ∷ done)
+    (keeps_after_make done t k) (repeats_after_make done t r) c.1
+    (λ u h. ⊎_elim
+    (λ a. inl (inr a))
+    (λ b. ⊎_elim (λ e. absurd (made_no_repeat t u e)) (λ l. inr l) b) (parts u h))
+    (λ u h. refer u (inr h)) in
+    ⊎_elim
+    (λ f.
+    let n = next_keeps (makes t) done v f.1 f.0 c.1 f.2 in
+    let same : t ≡ f.0 = same_made t f.0 n.1 in
+    let again : v ≡ keeps t ∷ unmark v = kept_first v f.1 t f.0 f.2 same in (
+      unmark v,
+      rest,
+      inl (
+        refer t (inr (subst (λ l. In l (keeps t)) (sym again) (inl refl))),
+        ap
+            (λ x. makes t ∷ x) again,
+      ),
+    ))
+    (λ b. (
+      unmark v,
+      rest,
+      inr (
+        λ whole_has. ⊎_elim
+            (λ d. let g = k t (r t d) in c.0 g.0 g.1)
+            (λ l. ⊎_elim
+            (λ e. made_no_repeat t t e)
+            (λ here. ⊎_elim
+            (λ d. ⊎_elim (λ e. made_no_keep t t e) (λ d. let g = k t d in c.0 g.0 g.1) d)
+            (λ h. not_kept v (makes t ∷ done) t c.1 (inl refl) (b.0 t) h)
+            (repeated_kept v (makes t ∷ done) t c.1 here)) l) (parts t whole_has),
+        ap (λ x. makes t ∷ x) (sym b.1),
+      ),
+    )) (first_kept v)
+tidy_marked whole (repeats t ∷ v) done k r c parts refer = (
+  v,
+  subst (Marked whole (strip v)) (bare_after (repeats t) done v c.1 (λ u e. repeat_no_make t u e))
+      (tidy_marked whole v (repeats t ∷ done) (keeps_after_repeat done t k)
+      (repeats_after_repeat done t c.0 r) c.1
+      (λ u h. ⊎_elim
+      (λ a. inl (inr a))
+      (λ b. ⊎_elim (λ e. inl (inl e)) (λ l. inr l) b) (parts u h))
+      (λ u h. refer u (inr h))),
+  refl,
+)
+tidy_marked whole (keeps t ∷ v) done k r c parts refer =
+    subst (Marked whole (strip v)) (bare_after (keeps t) done v c.2 (λ u e. keep_no_make t u e))
+    (tidy_marked whole v (keeps t ∷ done) (keeps_after_keep done c.1.0 t c.0 c.1.1 k)
+    (repeats_after_keep done t r) c.2
+    (λ u h. ⊎_elim
+    (λ a. inl (inr a))
+    (λ b. ⊎_elim (λ e. absurd (keep_no_repeat t u e)) (λ l. inr l) b) (parts u h))
+    (λ u h. refer u (inr h)))
+
+-- ---- what is kept is kept once
+
+abbrev pub trees_kept : List Visit → List Trees
+trees_kept [] = []
+trees_kept (makes t ∷ v) = trees_kept v
+trees_kept (repeats t ∷ v) = trees_kept v
+trees_kept (keeps t ∷ v) = t ∷ trees_kept v
+
+pub kept_visit : (v : List Visit) (t : Trees) → In (trees_kept v) t → In v (keeps t)
+kept_visit [] t h = absurd h
+kept_visit (makes u ∷ v) t h = inr (kept_visit v t h)
+kept_visit (repeats u ∷ v) t h = inr (kept_visit v t h)
+kept_visit (keeps u ∷ v) t (inl e) = inl (ap (λ x. keeps x) e)
+kept_visit (keeps u ∷ v) t (inr h) = inr (kept_visit v t h)
+
+pub visit_kept : (v : List Visit) (t : Trees) → In v (keeps t) → In (trees_kept v) t
+visit_kept [] t h = absurd h
+visit_kept (makes u ∷ v) t (inl e) = absurd (made_no_keep u t e)
+visit_kept (makes u ∷ v) t (inr h) = visit_kept v t h
+visit_kept (repeats u ∷ v) t (inl e) = absurd (repeat_no_keep u t e)
+visit_kept (repeats u ∷ v) t (inr h) = visit_kept v t h
+visit_kept (keeps u ∷ v) t (inl e) = inl (same_kept u t e)
+visit_kept (keeps u ∷ v) t (inr h) = inr (visit_kept v t h)
+
+pub tidy_once : (v done : List Visit) → Tidy done v → Once (trees_kept v)
+tidy_once [] done c = tt
+tidy_once (makes t ∷ v) done c = tidy_once v (makes t ∷ done) c.1
+tidy_once (repeats t ∷ v) done c = tidy_once v (repeats t ∷ done) c.1
+tidy_once (keeps t ∷ v) done c = (
+  λ h. not_kept v (keeps t ∷ done) t c.2 (inr (subst (λ d. In d (makes t)) (sym c.1.1) (inl refl)))
+      (λ rest e. keep_no_make t t (next_keeps (keeps t) done v rest t c.2 e).1) (kept_visit v t h),
+  tidy_once v (keeps t ∷ done) c.2,
+)
+
+-- no mark comes first
+pub bare_front : (v : List Visit) → Tidy [] v → unmark v ≡ v
+bare_front [] c = refl
+bare_front (makes t ∷ v) c = refl
+bare_front (repeats t ∷ v) c = refl
+bare_front (keeps t ∷ v) c = absurd (let e : [] ≡ makes t ∷ c.1.0 = c.1.1 in cc)

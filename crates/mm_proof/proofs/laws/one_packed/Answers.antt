@@ -1,0 +1,5 @@
+use Rattle.mm_proof.proofs.PairOnce.{one_packed_holds}
+use Rattle.mm_proof.proofs.laws.one_packed.Goals as goal
+
+pub returns : goal.returns
+returns c = one_packed_holds

@@ -1,0 +1,22 @@
+use Rattle.std.proofs.Common.{[], subst}
+use Rattle.std.proofs.lemmas.List.{take_all}
+use Rattle.mm_proof.specs.CodeSharing.{AreEncoded}
+use Rattle.mm_proof.proofs.PackingLists.{encoded_next}
+use Rattle.mm_proof.proofs.packing.codes_of.Goals as goal
+
+pub loop-one-preserved : goal.loop-one-preserved
+loop-one-preserved c =
+    let next = encoded_next c.args.labels.now c.args.repeated.now c.args.steps.now c.loop-one.one-index _ c.loop-one.codes.items c.encode.new.codes.items c.loop-one.kept c.encode.new.kept
+    c.loop-one-test.true c.loop-one.invariant.few c.loop-one.invariant.said c.in_ok-encode.ensures.said in
+    record {
+      few = next.0;
+      said = next.1;
+      spelled = c.in_ok-encode.ensures.spelled c.loop-one.invariant.spelled;
+      exact = c.in_ok-encode.ensures.exact c.loop-one.invariant.exact;
+    }
+
+pub returns-clause-said : goal.returns-clause-said
+returns-clause-said c = (
+  c.loop-one.kept,
+  subst (λ steps. AreEncoded c.args.labels.now c.args.repeated.now [] steps c.loop-one.codes.items c.loop-one.kept) (take_all c.loop-one.one-index c.args.steps.now c.loop-one-test.false) c.loop-one.invariant.said,
+)

@@ -1,0 +1,11 @@
+use Rattle.std.proofs.Common.{[], take, refl, sym, ap, subst, ◌∙◌}
+use Rattle.mm_proof.specs.CodeSteps.{label_ids}
+use Rattle.mm_proof.specs.CodeSharing.{AreFirstNumbers}
+use Rattle.mm_proof.proofs.PackingLists.{one_more, label_ids-more, first_added}
+use Rattle.mm_proof.proofs.packing.hypothesis_labels.Goals as goal
+
+pub loop-hypothesis-preserved : goal.loop-hypothesis-preserved
+loop-hypothesis-preserved c =
+    subst (λ n. AreFirstNumbers [] n c.add.new.self)
+    (sym (ap label_ids (one_more c.args.hypotheses.now c.loop-hypothesis.hypothesis-index _ _ c.loop-hypothesis-test.true refl) ∙ label_ids-more (take c.loop-hypothesis.hypothesis-index c.args.hypotheses.now) _))
+    (first_added _ _ _ _ _ c.loop-hypothesis.invariant c.in_ok-add.ensures)

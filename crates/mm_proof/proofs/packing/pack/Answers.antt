@@ -1,0 +1,18 @@
+use Rattle.std.proofs.Common.{[], length, ap, ◌∙◌, arith}
+use Rattle.std.proofs.lemmas.List.{length-append, length-map}
+use Rattle.mm_proof.specs.CodeSteps.{ids_in, label_ids}
+use Rattle.mm_proof.specs.CodeSharing.{labels_made}
+use Rattle.mm_proof.proofs.PackingLists.{first_few, labels_made-few}
+use Rattle.mm_proof.proofs.packing.pack.Goals as goal
+
+pub codes_of-requires-clause-labels : goal.codes_of-requires-clause-labels
+codes_of-requires-clause-labels c =
+    let own = first_few [] (label_ids c.args.hypotheses.now) c.in_ok-known.known c.in_ok-known.ensures in
+    let many = length-map c.args.hypotheses.now (λ h. h.id.0) in
+    let listed = c.in_ok-labels.ensures in
+    let others = first_few c.in_ok-known.known (labels_made c.args.steps.now) (ids_in c.in_ok-labels.labels.items) listed.1 in
+    let few = labels_made-few c.args.steps.now in
+    let whole = ap length listed.0 ∙ length-append c.in_ok-known.known (ids_in c.in_ok-labels.labels.items) in
+    let most = c.requires.hypotheses in
+    let steps = c.requires.steps in
+    omega (arith, own, many, others, few, whole, most, steps)

@@ -1,0 +1,6 @@
+use Rattle.std.proofs.Common.{take}
+use Rattle.mm_proof.proofs.PackingLists.{AreRepeated}
+use Rattle.mm_proof.proofs.packing.repeated_trees.Given as goal
+
+abbrev pub invariant-loop-one : goal.invariant-loop-one
+invariant-loop-one l = AreRepeated l.trees (take l.one-index l.steps)

@@ -1,0 +1,10 @@
+use Rattle.std.proofs.Common.{List, drop}
+use Rattle.mm_frame.specs.Sentence.{Sentence}
+use Rattle.mm_proof.specs.Tree.{Trees}
+use Rattle.mm_proof.specs.Subtrees.{AreOnce, KeepNumbers, AreTreesOf, StandsFor}
+use Rattle.mm_proof.proofs.subtrees.Subtrees.number_row.Given as goal
+
+abbrev pub invariant-loop-place : goal.invariant-loop-place
+invariant-loop-place l =
+    KeepNumbers l.fn.self l.self × (AreOnce l.fn.self → AreOnce l.self)
+    × ((st : List Sentence) (row : Trees) → AreTreesOf st l.fn.self (drop l.place l.trees) row → StandsFor st l.self l.right row)

@@ -1,0 +1,91 @@
+-- What is built from the moves of a proof, as the code keeps it: it mirrors the code.
+use Rattle.std.specs.Prelude.{◌≡◌, ℕ, ◌+◌, ◌<◌, ◌≤◌, List, [], ◌∷◌, ◌++◌, length, take}
+use Rattle.std.specs.Prelude.{slice_get, Some}
+use Rattle.std.specs.List.{AllByRecursion}
+use Rattle.mm_frame.specs.Sentence.{Sentence}
+use Rattle.mm_proof.specs.Tree.{Trees, none, tree, spelling, beside, roots}
+use Rattle.mm_proof.specs.Moves.{Move}
+use Rattle.mm_proof.specs.OneTree.{MakeTree}
+use Rattle.mm_proof.specs.Steps.{AreNumberedMoves}
+use Rattle.mm_proof.specs.CodeRun.{MayBeMade}
+
+-- that items stand for the trees of a row, and others for the kept trees, after so many steps
+abbrev pub Holding : Type 0 → Type 1
+Holding X = (stack : List X) → Trees → (shelf : List X) → List Trees → (steps : ℕ) → Type 0
+
+-- the item is that of the tree with such a label, over the trees whose items are these, the last
+-- ones
+abbrev pub MakesItem : {X : Type 0} → (old new : Holding X) → (List ℕ → Type 0)
+    → (below : List X) → X → Type 0
+MakesItem {X} old new IsLabel items item =
+    (stack shelf : List X) (rest below : Trees) (kept : List Trees) (steps : ℕ) (label : List ℕ)
+    → IsLabel label → roots below ≡ length items
+    → old (stack ++ items) (beside rest below) shelf kept steps
+    → new (stack ++ item ∷ []) (beside rest (tree label below none)) shelf kept (steps + 1)
+
+-- the kept tree with this label and these trees below has the item
+pub record IsKept {X : Type 0} (shelf : List X) (kept : List Trees) (item : X) (label : List ℕ)
+    (below : Trees) : Type 0 where
+  pub tag : ℕ
+  pub item_there : slice_get shelf tag ≡ Some item
+  pub tree_there : slice_get kept tag ≡ Some (tree label below none)
+
+-- some kept tree does
+pub record IsOnShelf {X : Type 0} (held : Holding X) (item : X) : Type 0 where
+  pub stack : List X
+  pub row : Trees
+  pub shelf : List X
+  pub kept : List Trees
+  pub steps : ℕ
+  pub label : List ℕ
+  pub below : Trees
+  pub holds : held stack row shelf kept steps
+  pub has : IsKept shelf kept item label below
+
+-- the second item is that of a kept tree, whose item is the first, at the row's end
+abbrev pub RepeatsItem : {X : Type 0} → (old new : Holding X) → X → X → Type 0
+RepeatsItem {X} old new item again =
+    (stack shelf : List X) (row : Trees) (kept : List Trees) (steps : ℕ) (label : List ℕ)
+    (below : Trees) → IsKept shelf kept item label below → old stack row shelf kept steps
+    → new (stack ++ again ∷ []) (beside row (tree label below none)) shelf kept (steps + 1)
+
+-- the last tree is kept, and its item with it
+abbrev pub KeepsItem : {X : Type 0} → Holding X → Type 0
+KeepsItem {X} held =
+    (stack shelf : List X) (item : X) (rest : Trees) (kept : List Trees) (steps : ℕ)
+    (label : List ℕ) (below : Trees)
+    → held (stack ++ item ∷ []) (beside rest (tree label below none)) shelf kept steps
+    → held (stack ++ item ∷ []) (beside rest (tree label below none)) (shelf ++ item ∷ [])
+    (kept ++ tree label below none ∷ []) steps
+
+-- one label more is too many
+abbrev pub IsFull : {X : Type 0} → Holding X → (most : ℕ) → Type 0
+IsFull {X} held most =
+    (stack shelf : List X) (row : Trees) (kept : List Trees) (steps : ℕ)
+    → held stack row shelf kept steps → most < length (spelling row) + 1
+
+-- the labels of the kept tree with the item are too many
+abbrev pub IsTooLong : {X : Type 0} → Holding X → X → (most : ℕ) → Type 0
+IsTooLong {X} held item most =
+    (stack shelf : List X) (row : Trees) (kept : List Trees) (steps : ℕ) (label : List ℕ)
+    (below : Trees) → IsKept shelf kept item label below → held stack row shelf kept steps
+    → most < length (spelling row) + length (spelling (tree label below none))
+
+-- Moves, by numbers, each of which may be made at the place: they make one tree.
+pub record MakeTreeAt (statements : List Sentence) (moves : List (Move ℕ)) : Type 0 where
+  pub place : ℕ
+  pub names : List (Move (List ℕ))
+  pub usable : AllByRecursion (MayBeMade statements place) moves
+  pub numbered : AreNumberedMoves statements moves names
+  pub label : List ℕ
+  pub below : Trees
+  pub makes : MakeTree (take place statements) names label below
+
+-- the item is that of the tree that the moves make
+pub record IsBuilt {X : Type 0} (held : Holding X) (moves : List (Move (List ℕ))) (t : Trees)
+    (item : X) : Type 0 where
+  pub shelf : List X
+  pub kept : List Trees
+  pub steps : ℕ
+  pub few : steps ≤ length moves
+  pub holds : held (item ∷ []) t shelf kept steps

@@ -1,0 +1,23 @@
+-- The fully shared proof of the tree that moves make, by the numbers of its labels.
+use Rattle.std.specs.Prelude.{ℕ, List, take}
+use Rattle.mm_code.specs.declared.code.Code.{Code}
+use Rattle.mm_frame.specs.declared.number.LabelId.{LabelId}
+use Rattle.mm_frame.specs.Sentence.{Sentence}
+use Rattle.mm_proof.specs.Tree.{Trees, none, tree}
+use Rattle.mm_proof.specs.Moves.{Move}
+use Rattle.mm_proof.specs.OneTree.{MakeTree}
+use Rattle.mm_proof.specs.Spelled.{AreLabelsOf}
+use Rattle.mm_proof.specs.Sharing.{IsPacked}
+
+-- of the tree that the moves make this holds
+abbrev pub OfTree : List Sentence → List (Move (List ℕ)) → (Trees → Type 0) → Type 0
+OfTree before moves P =
+    (label : List ℕ) (below : Trees) → MakeTree before moves label below → P (tree label below none)
+
+-- The labels with these numbers and the codes are the fully shared proof of the trees, as a proof of
+-- the statement at the place.
+abbrev pub ArePacked : List Sentence → (place : ℕ) → Sentence → Trees → List LabelId → List Code
+    → Type 0
+ArePacked statements place s trees ids codes =
+    (listed : List (List ℕ)) × AreLabelsOf statements ids listed
+    × IsPacked (take place statements) s trees listed codes

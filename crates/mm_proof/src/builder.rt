@@ -1,0 +1,157 @@
+//! What is built from the moves of a proof, one after the other.
+
+ghost use Rattle.std.specs.Prelude.{◌≡◌, ◌<◌, ◌≤◌, ℕ, List, [], take, length, IfOk, IfErr};
+ghost use Rattle.mm_frame.specs.Form.{IsSound};
+ghost use Rattle.mm_proof.specs.Tree.{Trees, tree, none, spelling, MayStandOver, roots};
+ghost use Rattle.mm_proof.specs.OneTree.{MakeOneTree};
+ghost use Rattle.mm_proof.specs.Steps.{AreSteps};
+ghost use Rattle.mm_proof.specs.Spelled.{OfSpelling};
+ghost use Rattle.mm_proof.specs.Packing.{OfTree};
+ghost use Rattle.mm_proof.specs.Verified.{OfMoves};
+ghost use Rattle.mm_proof.specs.CodeSteps.{MayBeUsed, moves_in};
+ghost use Rattle.mm_proof.specs.Builders.{KeepsItem, MakeTreeAt, IsBuilt};
+
+use crate::call::{Call, call_of};
+use crate::moves::{NumberedMove, Steps};
+use crate::store::put_last;
+use mm_frame::{Book, LabelId};
+use std::alloc::{AllocError, Global};
+
+/// What is built from the moves of a proof: each tree that they make has an item. The items of the
+/// row and of the kept trees are handed in; a mark keeps one, and asks nothing.
+pub(crate) trait Builder {
+    ghost use Rattle.std.specs.Prelude.{ℕ, List, IfOk, IfErr};
+    ghost use Rattle.std.specs.declared.alloc.AllocError.{AllocError};
+    ghost use Rattle.mm_frame.specs.Sentence.{Sentence};
+    ghost use Rattle.mm_proof.specs.Tree.{Trees};
+    ghost use Rattle.mm_proof.specs.Spelled.{IsLabelNumber};
+    ghost use Rattle.mm_proof.specs.Builders.{MakesItem, RepeatsItem, IsOnShelf};
+    ghost use Rattle.mm_proof.specs.Builders.{IsFull, IsTooLong};
+
+    /// What stands for a tree.
+    type Item: Copy;
+
+    /// Why it isn't built.
+    type Fault: From<AllocError>;
+
+    /// What was built since the first state: the items of a row of trees, and of the kept trees,
+    /// in so many steps.
+    ghost holds: { Self → Self → List Sentence → List Self.Item → Trees → List Self.Item
+        → List Trees → ℕ → Type 0 };
+
+    /// The most labels that may be spelled, where there is a limit.
+    ghost most: { Self → ℕ } = { λ _. 0 };
+
+    /// Whether the fault is that there are more.
+    ghost is_long: { Self.Fault → Type 0 } = { λ _. ⊥ };
+
+    /// A step by a label makes a tree, over the trees that have these items, the last ones.
+    fn make(&mut self, id: LabelId, below: &[Self::Item]) -> Result<Self::Item, Self::Fault>
+        ensures made { IfOk result (λ item. (first : Self) (statements : List Sentence)
+            → MakesItem (holds first self.old statements) (holds first self.new statements)
+            (IsLabelNumber statements id.0) below.now item) }
+        ensures long { IfErr result (λ fault. is_long fault
+            → (first : Self) (statements : List Sentence)
+            → IsFull (holds first self.old statements) (most first)) };
+
+    /// A step by a tag repeats the kept tree that has the item.
+    fn repeat(&mut self, item: Self::Item) -> Result<Self::Item, Self::Fault>
+        requires { (first : Self) × (statements : List Sentence)
+            × IsOnShelf (holds first self.old statements) item }
+        ensures made { IfOk result (λ again. (first : Self) (statements : List Sentence)
+            → RepeatsItem (holds first self.old statements) (holds first self.new statements) item
+            again) }
+        ensures long { IfErr result (λ fault. is_long fault
+            → (first : Self) (statements : List Sentence)
+            → IsTooLong (holds first self.old statements) item (most first)) };
+
+    /// A refused growth is another fault.
+    ghost memory: { (e : AllocError) (fault : Self.Fault) → Self.Fault.from_gives e fault
+        → is_long fault → ⊥ };
+}
+
+// How many trees the label stands over.
+fn width(book: &Book, id: LabelId) -> usize
+    requires sound { IsSound book.now.statements }
+    requires used { (place : ℕ) × (label : List ℕ)
+        × MayBeUsed book.now.statements place label id.0 }
+    ensures { (place : ℕ) (label : List ℕ) (below : Trees)
+        → MayBeUsed book.now.statements place label id.0
+        → MayStandOver (take place book.now.statements) label below
+        → roots below ≡ result }
+{
+    match call_of(book, id) {
+        Call::Hypothesis(_) => 0,
+        Call::Assertion(scheme) => scheme.hypotheses.len(),
+    }
+}
+
+// All moves, one after the other: the item of the tree that they make.
+fn build_moves<B: Builder>(
+    alloc: Global,
+    builder: &mut B,
+    book: &Book,
+    moves: &[NumberedMove],
+) -> Result<B::Item, B::Fault>
+    requires sound { IsSound book.now.statements }
+    requires made { MakeTreeAt book.now.statements (moves_in moves.now) }
+    requires nothing { B.holds builder.old builder.old book.now.statements [] none [] [] 0 }
+    requires marks { (now : B) → KeepsItem (B.holds builder.old now book.now.statements) }
+    ensures built { IfOk result (λ item. (m : MakeTreeAt book.now.statements (moves_in moves.now))
+        → IsBuilt (B.holds builder.old builder.new book.now.statements) m.names
+        (tree m.label m.below none) item) }
+    ensures long { IfErr result (λ fault. B.is_long fault
+        → (m : MakeTreeAt book.now.statements (moves_in moves.now))
+        → B.most builder.old < length (spelling (tree m.label m.below none))) }
+{
+    let mut stack = Vec::new(alloc);
+    let mut shelf = Vec::new(alloc);
+    for one in moves {
+        match one {
+            NumberedMove::Name(id) => {
+                let base = stack.len() - width(book, *id);
+                let item = builder.make(*id, &stack[base..])?;
+                put_last(&mut stack, base, item)?;
+            }
+            NumberedMove::Again(tag) => {
+                let item = builder.repeat(shelf[*tag as usize])?;
+                let end = stack.len();
+                put_last(&mut stack, end, item)?;
+            }
+            NumberedMove::Mark => {
+                let item = stack[stack.len() - 1];
+                let end = shelf.len();
+                put_last(&mut shelf, end, item)?;
+            }
+        }
+    }
+    Ok(stack[0])
+}
+
+/// The item of the tree that the steps of the `$p` with this number make. The builder is handed in
+/// empty. A mark does not change it: what it holds of the last tree holds of it as a kept one too.
+pub(crate) fn build<B: Builder>(
+    alloc: Global,
+    builder: &mut B,
+    book: &Book,
+    id: LabelId,
+    steps: &Steps,
+) -> Result<B::Item, B::Fault>
+    requires steps { AreSteps book.now.statements id.0 steps.now.moves }
+    requires makes { OfMoves book.now.statements id.0 steps.now.moves
+        (λ place s moves. MakeOneTree (take place book.now.statements) moves) }
+    requires nothing { B.holds builder.old builder.old book.now.statements [] none [] [] 0 }
+    requires marks { (now : B) → KeepsItem (B.holds builder.old now book.now.statements) }
+    ensures sound { IsSound book.now.statements }
+    ensures few { length steps.now.moves ≤ 1073741824 }
+    ensures built { IfOk result (λ item. OfMoves book.now.statements id.0 steps.now.moves
+        (λ place s moves. OfTree (take place book.now.statements) moves (λ t.
+        IsBuilt (B.holds builder.old builder.new book.now.statements) moves t item))) }
+    ensures long { IfErr result (λ fault. B.is_long fault
+        → OfMoves book.now.statements id.0 steps.now.moves
+        (λ place s moves. OfSpelling (take place book.now.statements) moves
+        (λ spelled. B.most builder.old < length spelled))) }
+{
+    let _own = book.frame(id);
+    build_moves(alloc, builder, book, &steps.moves)
+}

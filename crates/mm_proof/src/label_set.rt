@@ -1,0 +1,61 @@
+//! The labels that the numbers of a compressed proof stand for.
+
+ghost use Rattle.std.specs.Prelude.{◌≡◌, ◌≤◌, [], length, slice_get, Some, Contains, IfOk};
+ghost use Rattle.mm_proof.specs.CodeSharing.{AddsNew};
+
+use indexmap::IndexSet;
+use mm_frame::LabelId;
+use mm_text::Seed;
+use std::alloc::{AllocError, Global};
+use std::marker::Model;
+
+/// Labels, each once, in the order in which they came.
+#[derive(Drop)]
+pub(crate) struct LabelSet {
+    set: IndexSet<u32, Seed>,
+}
+
+impl Model for LabelSet {
+    ghost use Rattle.std.specs.Prelude.{ℕ, List};
+
+    ghost Value = { List ℕ };
+
+    ghost view = { λ s. s.set.keys };
+}
+
+impl LabelSet {
+    /// No labels, whose hashes begin from the seed. It takes no memory.
+    pub(crate) fn new(alloc: Global, seed: Seed) -> LabelSet
+        ensures { result ≡ [] }
+    {
+        LabelSet {
+            set: IndexSet::with_hasher(alloc, seed),
+        }
+    }
+
+    /// How many there are.
+    pub(crate) fn len(&self) -> usize
+        ensures { result ≡ length self.now }
+    {
+        self.set.len()
+    }
+
+    /// The place of a label that is among them.
+    pub(crate) fn place(&self, id: LabelId) -> usize
+        ensures there { Contains self.now id.0 → slice_get self.now result ≡ Some id.0 }
+        ensures within { result ≤ length self.now }
+    {
+        match self.set.get_index_of(&id.0) {
+            Some(place) => place,
+            None => 0,
+        }
+    }
+
+    /// Puts the label behind the others, if it isn't among them, and answers whether it wasn't.
+    pub(crate) fn add(&mut self, id: LabelId) -> Result<bool, AllocError>
+        ensures { IfOk result (λ is_new. AddsNew self.old id.0 is_new self.new) }
+    {
+        let is_new = self.set.insert(id.0)?;
+        Ok(is_new)
+    }
+}

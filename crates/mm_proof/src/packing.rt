@@ -1,0 +1,200 @@
+//! The fully shared proof of a tree: its listed labels and its codes (the Metamath book, section 4.3
+//! and appendix B).
+
+ghost use Rattle.std.specs.Prelude.{◌≡◌, ◌≤◌, ◌<◌, ◌↔◌, ◌++◌, ℕ, List, [], length, take, Contains};
+ghost use Rattle.std.specs.Prelude.{All, IfOk, OnOk};
+ghost use Rattle.mm_code.specs.declared.code.Code.{Code};
+ghost use Rattle.mm_code.specs.Letters.{HasSpelling, IsExact};
+ghost use Rattle.mm_proof.specs.declared.subtrees.Subtree.{Subtree};
+ghost use Rattle.mm_proof.specs.declared.sharing.SharedStep.TheVariants.{Repeat};
+ghost use Rattle.mm_proof.specs.OneTree.{MakeOneTree};
+ghost use Rattle.mm_proof.specs.Packing.{OfTree, ArePacked};
+ghost use Rattle.mm_proof.specs.Steps.{AreSteps};
+ghost use Rattle.mm_proof.specs.Verified.{OfMoves};
+ghost use Rattle.mm_proof.specs.CodeSteps.{ids_in, label_ids};
+ghost use Rattle.mm_proof.specs.CodeSharing.{AreFirstNumbers, labels_made, IsEncoded, AreEncoded};
+ghost use Rattle.mm_proof.specs.CodeSharing.{AreStepsPacked};
+
+use crate::builder::build;
+use crate::label_set::LabelSet;
+use crate::moves::Steps;
+use crate::sharing::{SharedStep, SharedSteps};
+use crate::subtree_set::SubtreeSet;
+use mm_code::Code;
+use mm_frame::{Book, Hypothesis, LabelId};
+use mm_text::Seed;
+use std::alloc::{AllocError, Global};
+
+/// A compressed proof, by numbers.
+#[derive(Drop)]
+pub struct Packed {
+    /// The listed labels.
+    pub labels: Vec<LabelId>,
+    /// What the letters say. The first numbers stand for the mandatory hypotheses, the next ones for
+    /// the listed labels, and those above for tags.
+    pub codes: Vec<Code>,
+}
+
+// The trees that the steps repeat.
+fn repeated_trees(alloc: Global, seed: Seed, steps: &[SharedStep]) -> Result<SubtreeSet, AllocError>
+    ensures { IfOk result (λ trees. (t : Subtree)
+        → Contains trees t ↔ Contains steps.now (Repeat t)) }
+{
+    let mut trees = SubtreeSet::new(alloc, seed);
+    for one in steps {
+        match one {
+            SharedStep::Make(_) => {}
+            SharedStep::Repeat(tree) => trees.add(*tree)?,
+        }
+    }
+    Ok(trees)
+}
+
+// The labels of the hypotheses.
+fn hypothesis_labels(
+    alloc: Global,
+    seed: Seed,
+    hypotheses: &[Hypothesis],
+) -> Result<LabelSet, AllocError>
+    ensures { IfOk result (λ labels. AreFirstNumbers [] (label_ids hypotheses.now) labels) }
+{
+    let mut labels = LabelSet::new(alloc, seed);
+    for hypothesis in hypotheses {
+        labels.add(hypothesis.id)?;
+    }
+    Ok(labels)
+}
+
+// The labels by which the steps make trees, without those that are given: they are put behind those.
+fn list_labels(
+    alloc: Global,
+    labels: &mut LabelSet,
+    steps: &[SharedStep],
+) -> Result<Vec<LabelId>, AllocError>
+    ensures { IfOk result (λ listed. (labels.new ≡ labels.old ++ ids_in listed.items)
+        × AreFirstNumbers labels.old (labels_made steps.now) (ids_in listed.items)) }
+{
+    let mut listed = Vec::new(alloc);
+    for one in steps {
+        match one {
+            SharedStep::Make(tree) => {
+                let id = LabelId(tree.label);
+                if labels.add(id)? {
+                    listed.push(id)?;
+                }
+            }
+            SharedStep::Repeat(_) => {}
+        }
+    }
+    Ok(listed)
+}
+
+// Puts the codes of a step behind those before it.
+fn encode(
+    codes: &mut Vec<Code>,
+    kept: &mut SubtreeSet,
+    labels: &LabelSet,
+    repeated: &SubtreeSet,
+    one: SharedStep,
+) -> Result<(), AllocError>
+    requires labels { length labels.now ≤ 2147483648 }
+    requires kept { length kept.old ≤ 1073741824 }
+    ensures said { OnOk result ((here : List Code) × (codes.new.items ≡ codes.old.items ++ here)
+        × IsEncoded labels.now repeated.now kept.old one here kept.new) }
+    ensures spelled { OnOk result (All HasSpelling codes.old.items
+        → All HasSpelling codes.new.items) }
+    ensures exact { OnOk result (All IsExact codes.old.items → All IsExact codes.new.items) }
+{
+    match one {
+        SharedStep::Make(tree) => {
+            let place = labels.place(LabelId(tree.label));
+            codes.push(Code::Number((place + 1) as u32))?;
+            if repeated.has(tree) {
+                codes.push(Code::Tag)?;
+                kept.add(tree)?;
+                return Ok(());
+            }
+            Ok(())
+        }
+        SharedStep::Repeat(tree) => {
+            let place = labels.len() + kept.place(tree);
+            codes.push(Code::Number((place + 1) as u32))?;
+            Ok(())
+        }
+    }
+}
+
+// The codes of the steps.
+fn codes_of(
+    alloc: Global,
+    seed: Seed,
+    labels: &LabelSet,
+    repeated: &SubtreeSet,
+    steps: &[SharedStep],
+) -> Result<Vec<Code>, AllocError>
+    requires labels { length labels.now ≤ 2147483648 }
+    requires few { length steps.now ≤ 1073741824 }
+    ensures said { IfOk result (λ codes. (kept : List Subtree)
+        × AreEncoded labels.now repeated.now [] steps.now codes.items kept) }
+    ensures spelled { IfOk result (λ codes. All HasSpelling codes.items) }
+    ensures exact { IfOk result (λ codes. All IsExact codes.items) }
+{
+    let mut codes = Vec::new(alloc);
+    let mut kept = SubtreeSet::new(alloc, seed);
+    for one in steps {
+        encode(&mut codes, &mut kept, labels, repeated, *one)?;
+    }
+    Ok(codes)
+}
+
+// The listed labels and the codes of the steps.
+fn pack(
+    alloc: Global,
+    seed: Seed,
+    hypotheses: &[Hypothesis],
+    steps: &[SharedStep],
+) -> Result<Packed, AllocError>
+    requires hypotheses { length hypotheses.now < 1073741824 }
+    requires steps { length steps.now ≤ 1073741824 }
+    ensures packed { IfOk result (λ packed. AreStepsPacked (label_ids hypotheses.now) steps.now
+        (ids_in packed.labels.items) packed.codes.items) }
+    ensures spelled { IfOk result (λ packed. All HasSpelling packed.codes.items) }
+    ensures exact { IfOk result (λ packed. All IsExact packed.codes.items) }
+{
+    let repeated = repeated_trees(alloc, seed, steps)?;
+    let mut known = hypothesis_labels(alloc, seed, hypotheses)?;
+    let labels = list_labels(alloc, &mut known, steps)?;
+    let codes = codes_of(alloc, seed, &known, &repeated, steps)?;
+    Ok(Packed { labels, codes })
+}
+
+/// The fully shared proof of the tree that the steps of the `$p` with this number make: each subtree
+/// of two or more nodes is made once, and tagged where it is used again. They are handed in where
+/// they make one tree: so does what `verify` accepts. The proof's own tree is never written out.
+///
+/// # Errors
+///
+/// Only where a growth was refused.
+pub fn compress(
+    alloc: Global,
+    book: &Book,
+    id: LabelId,
+    steps: &Steps,
+) -> Result<Packed, AllocError>
+    requires steps { AreSteps book.now.statements id.0 steps.now.moves }
+    requires makes { OfMoves book.now.statements id.0 steps.now.moves
+        (λ place s moves. MakeOneTree (take place book.now.statements) moves) }
+    // The labels and the codes are the fully shared proof of the tree that the steps make.
+    ensures packed { IfOk result (λ packed. OfMoves book.now.statements id.0 steps.now.moves
+        (λ place s moves. OfTree (take place book.now.statements) moves
+        (λ t. ArePacked book.now.statements place s t packed.labels.items packed.codes.items))) }
+
+    // Each code can be written in letters, and each number stands for itself alone.
+    ensures spelled { IfOk result (λ packed. All HasSpelling packed.codes.items) }
+    ensures exact { IfOk result (λ packed. All IsExact packed.codes.items) }
+{
+    let mut shared = SharedSteps::new(alloc, book.seed());
+    build(alloc, &mut shared, book, id, steps)?;
+    let own = book.frame(id);
+    pack(alloc, book.seed(), own.hypotheses(), &shared.steps)
+}

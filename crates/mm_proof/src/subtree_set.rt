@@ -1,0 +1,70 @@
+//! Lists of subtrees without repetition, with the place of each.
+
+ghost use Rattle.std.specs.Prelude.{◌≡◌, ◌≤◌, ◌↔◌, [], length, slice_get, Some, Contains};
+ghost use Rattle.std.specs.Prelude.{OnOk, IsTrue};
+ghost use Rattle.mm_proof.specs.CodeSharing.{Adds};
+
+use crate::subtrees::Subtree;
+use indexmap::IndexSet;
+use mm_text::Seed;
+use std::alloc::{AllocError, Global};
+use std::marker::Model;
+
+/// Subtrees, each once, in the order in which they came.
+#[derive(Drop)]
+pub(crate) struct SubtreeSet {
+    set: IndexSet<Subtree, Seed>,
+}
+
+impl Model for SubtreeSet {
+    ghost use Rattle.std.specs.Prelude.{List};
+    ghost use Rattle.mm_proof.specs.declared.subtrees.Subtree.{Subtree};
+
+    ghost Value = { List Subtree };
+
+    ghost view = { λ s. s.set.keys };
+}
+
+impl SubtreeSet {
+    /// No subtrees, whose hashes begin from the seed. It takes no memory.
+    pub(crate) fn new(alloc: Global, seed: Seed) -> SubtreeSet
+        ensures { result ≡ [] }
+    {
+        SubtreeSet {
+            set: IndexSet::with_hasher(alloc, seed),
+        }
+    }
+
+    /// How many there are.
+    pub(crate) fn len(&self) -> usize
+        ensures { result ≡ length self.now }
+    {
+        self.set.len()
+    }
+
+    /// Whether the subtree is among them.
+    pub(crate) fn has(&self, tree: Subtree) -> bool
+        ensures { IsTrue result ↔ Contains self.now tree }
+    {
+        self.set.contains(&tree)
+    }
+
+    /// The place of a subtree that is among them.
+    pub(crate) fn place(&self, tree: Subtree) -> usize
+        ensures there { Contains self.now tree → slice_get self.now result ≡ Some tree }
+        ensures within { result ≤ length self.now }
+    {
+        match self.set.get_index_of(&tree) {
+            Some(place) => place,
+            None => 0,
+        }
+    }
+
+    /// Puts the subtree behind the others, if it isn't among them.
+    pub(crate) fn add(&mut self, tree: Subtree) -> Result<(), AllocError>
+        ensures { OnOk result (Adds self.old tree self.new) }
+    {
+        self.set.insert(tree)?;
+        Ok(())
+    }
+}
