@@ -12,7 +12,9 @@ use Rattle.mm_frame.specs.declared.rule.MeaningRule.{MeaningRule}
 use Rattle.mm_frame.specs.Sentence.{Sentence, sentence_of}
 use Rattle.mm_frame.specs.Rules.{FirstBroken, IsMeant}
 use Rattle.mm_proof.specs.declared.fault.ProofRule.{ProofRule}
-use Rattle.mm_proof.specs.Proof.{IsProvedWithin, IsWithin, expression_limit, IsFault}
+use Rattle.mm_proof.specs.Proof.{IsProvedWithin, IsWithin, IsFault}
+use Rattle.mm_proof.specs.declared.profile.Profile.TheVariants.{Lenient}
+use Rattle.mm_proof.specs.Profiles.{limit_of}
 use Rattle.mm_check.specs.declared.rule.Rule.{Rule}
 use Rattle.mm_check.specs.Verdict.{Verdict, Load, Refused, Incomplete, Yes, PlainRefusal, HasVerdict, Obeys, AllObey, HasFault, RefusesStatement, RefusesText, AreAccepted, CanBeRead, sentences, proof_of, is_proof, is_incomplete, is_unproved, label_of, unproved_of, proofs_of, refusal_of, text_refusal, text_rule, meaning_rule, proof_rule}
 use Rattle.mm_check.specs.Reply.{text_of, name_of, line_with, refusal_word, code_of}
@@ -84,23 +86,23 @@ unproved_on h (s ∷ ss) =
 
 -- ## What is said of statements is said of others that differ in places alone
 
-same_sentence : (h k : ℕ → ℕ → ℕ) (s t : PlainStatement) → statement_on h s ≡ statement_on k t → sentence_of s ≡ sentence_of t
+pub same_sentence : (h k : ℕ → ℕ → ℕ) (s t : PlainStatement) → statement_on h s ≡ statement_on k t → sentence_of s ≡ sentence_of t
 same_sentence h k s t is = sentence_on h s ∙ ap sentence_of is ∙ sym (sentence_on k t)
 
-same_proof : (h k : ℕ → ℕ → ℕ) (s t : PlainStatement) → statement_on h s ≡ statement_on k t → proof_of s ≡ proof_of t
+pub same_proof : (h k : ℕ → ℕ → ℕ) (s t : PlainStatement) → statement_on h s ≡ statement_on k t → proof_of s ≡ proof_of t
 same_proof h k s t is = proof_on h s ∙ ap proof_of is ∙ sym (proof_on k t)
 
-same_sentences : (h k : ℕ → ℕ → ℕ) (ss us : List PlainStatement) → map (statement_on h) ss ≡ map (statement_on k) us → sentences ss ≡ sentences us
+pub same_sentences : (h k : ℕ → ℕ → ℕ) (ss us : List PlainStatement) → map (statement_on h) ss ≡ map (statement_on k) us → sentences ss ≡ sentences us
 same_sentences h k ss us is = sentences_on h ss ∙ ap sentences is ∙ sym (sentences_on k us)
 
-same_proofs : (h k : ℕ → ℕ → ℕ) (ss us : List PlainStatement) → map (statement_on h) ss ≡ map (statement_on k) us → proofs_of ss ≡ proofs_of us
+pub same_proofs : (h k : ℕ → ℕ → ℕ) (ss us : List PlainStatement) → map (statement_on h) ss ≡ map (statement_on k) us → proofs_of ss ≡ proofs_of us
 same_proofs h k ss us is = proofs_on h ss ∙ ap proofs_of is ∙ sym (proofs_on k us)
 
-same_unproved : (h k : ℕ → ℕ → ℕ) (ss us : List PlainStatement) → map (statement_on h) ss ≡ map (statement_on k) us → unproved_of ss ≡ unproved_of us
+pub same_unproved : (h k : ℕ → ℕ → ℕ) (ss us : List PlainStatement) → map (statement_on h) ss ≡ map (statement_on k) us → unproved_of ss ≡ unproved_of us
 same_unproved h k ss us is = unproved_on h ss ∙ ap unproved_of is ∙ sym (unproved_on k us)
 
 -- what is said of three values is said of the same ones
-moved : {X Y Z : Type 0} (P : X → Y → Z → Type 0) (x x' : X) (y y' : Y) (z z' : Z) → x ≡ x' → y ≡ y' → z ≡ z' → P x y z → P x' y' z'
+pub moved : {X Y Z : Type 0} (P : X → Y → Z → Type 0) (x x' : X) (y y' : Y) (z z' : Z) → x ≡ x' → y ≡ y' → z ≡ z' → P x y z → P x' y' z'
 moved {X} {Y} {Z} P x x' y y' z z' e f g h =
     subst (λ (w : Z). P x' y' w) g (subst (λ (w : Y). P x' w z) f (subst (λ (w : X). P w y z) e h))
 
@@ -108,9 +110,9 @@ moved {X} {Y} {Z} P x x' y y' z z' e f g h =
 abbrev ObeysAs : List Sentence → Sentence → List (List ℕ) → Type 0
 ObeysAs before x p =
     IsMeant before x
-    × (is_provable x.kind && not (is_incomplete p) ≡ true → IsProvedWithin (IsWithin expression_limit) before x p)
+    × (is_provable x.kind && not (is_incomplete p) ≡ true → IsProvedWithin (IsWithin (limit_of Lenient)) before x p)
 
-obeys_alike : (before others : List Sentence) (s t : PlainStatement) → before ≡ others → sentence_of s ≡ sentence_of t → proof_of s ≡ proof_of t
+pub obeys_alike : (before others : List Sentence) (s t : PlainStatement) → before ≡ others → sentence_of s ≡ sentence_of t → proof_of s ≡ proof_of t
     → Obeys before s → Obeys others t
 obeys_alike before others s t e f g obeyed =
     let moved_to : ObeysAs others (sentence_of t) (proof_of t) =
@@ -122,7 +124,7 @@ abbrev HasFaultAs : Rule → ℕ → List Sentence → Sentence → List (List �
 HasFaultAs rule step before x p =
     ((broken : MeaningRule) × FirstBroken broken before x × (rule ≡ meaning_rule broken) × (step ≡ 0))
     ⊎ (IsMeant before x × (is_provable x.kind && not (is_incomplete p) ≡ true)
-    × (broken : ProofRule) × IsFault (IsWithin expression_limit) before x p broken step × (rule ≡ proof_rule broken))
+    × (broken : ProofRule) × IsFault (IsWithin (limit_of Lenient)) before x p broken step × (rule ≡ proof_rule broken))
 
 fault_alike : (before others : List Sentence) (s t : PlainStatement) (rule : Rule) (step : ℕ) → before ≡ others → sentence_of s ≡ sentence_of t → proof_of s ≡ proof_of t
     → HasFault before s rule step → HasFault others t rule step

@@ -167,7 +167,7 @@ no_axiom_kind statements id k told other (place, s, numbered, kind) =
 
 -- ---- the tree of a proof is one
 
-same_tree : (before : List Sentence) (s : Sentence) (tokens : List (List ℕ)) (p q : IsProved before s tokens) → AllMeant before → tree_of p ≡ tree_of q
+pub same_tree : (before : List Sentence) (s : Sentence) (tokens : List (List ℕ)) (p q : IsProved before s tokens) → AllMeant before → tree_of p ≡ tree_of q
 same_tree before s tokens p q all =
     let moves : p.moves ≡ q.moves = moves_once before s tokens p.moves q.moves p.said q.said in
     let made : Makes before q.moves no_trees [] (tree_of p) p.proves.kept =

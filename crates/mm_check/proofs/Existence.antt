@@ -15,7 +15,8 @@ use Rattle.mm_text.proofs.FormedLaws.{readings_are_formed_in_place}
 use Rattle.mm_frame.specs.Sentence.{sentence_of}
 use Rattle.mm_frame.specs.Rules.{IsMeant}
 use Rattle.mm_frame.specs.Form.{HasItsLabel, IsFormedSentence, AllFormed}
-use Rattle.mm_proof.specs.Proof.{expression_limit}
+use Rattle.mm_proof.specs.declared.profile.Profile.TheVariants.{Lenient}
+use Rattle.mm_proof.specs.Profiles.{limit_of}
 use Rattle.mm_proof.proofs.Decisions.{dec_both, dec_as, dec_some, dec_le, symbol_dec}
 use Rattle.mm_proof.proofs.Judged.{some_verdict_holds}
 use Rattle.mm_check.specs.declared.rule.Rule.{Rule}
@@ -76,7 +77,7 @@ formed_said s formed = record {
   label = named_of s.kind s.label formed.label;
 }
 
-formed_sentences : (statements : List PlainStatement) → AllByRecursion HasForm statements → AllFormed (sentences statements)
+pub formed_sentences : (statements : List PlainStatement) → AllByRecursion HasForm statements → AllFormed (sentences statements)
 formed_sentences [] all place s e = absurd cc
 formed_sentences (t ∷ statements) all zero s e = let same : sentence_of t ≡ s = cc in subst IsFormedSentence same (formed_said t all.0)
 formed_sentences (t ∷ statements) all (suc place) s e = formed_sentences statements all.1 place s e
@@ -86,7 +87,7 @@ obeys_or_fails : (before : List PlainStatement) (s : PlainStatement) → AllObey
     → IsMeant (sentences before) (sentence_of s) → Obeys (sentences before) s ⊎ ((rule : Rule) × (step : ℕ) × HasFault (sentences before) s rule step)
 obeys_or_fails before s obeyed formed false e meant = inl (record { meant = meant; proved = λ f. absurd cc })
 obeys_or_fails before s obeyed formed true e meant =
-    elim (some_verdict_holds expression_limit (sentences before) (sentence_of s) (proof_of s) (all_meant before obeyed) formed) [
+    elim (some_verdict_holds (limit_of Lenient) (sentences before) (sentence_of s) (proof_of s) (all_meant before obeyed) formed) [
       | inl proved ↦ inl (record { meant = meant; proved = λ f. proved })
       | inr fault ↦ inr (proof_rule fault.0, fault.1, inr (meant, e, fault.0, fault.2, refl))
     ]

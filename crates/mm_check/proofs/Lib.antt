@@ -18,6 +18,16 @@ pub mod Asked
 pub mod Course
 pub mod Handed
 pub mod Rereading
+pub mod Theorems
+pub mod Texts
+pub mod Comparing
+pub mod PackedTexts
+pub mod Saving
+pub mod SavedTokens
+pub mod SavedProofs
+pub mod SavedStatements
+pub mod SavedFiles
+pub mod SavedOnce
 pub mod Listings
 pub mod Reports
 pub mod AlikeVerdicts

@@ -26,7 +26,7 @@ reply_of files answer text status holds said ends = reply_at files (verdict_of_a
 -- ---- questions
 
 -- nothing is at fault in what is kept
-accepted_with : (files : List PlainFile) (c : Conclusion) (numbers : List ℕ) → HasVerdict files (verdict_where_incomplete c numbers) → (statements : List PlainStatement) × AreAccepted files statements
+pub accepted_with : (files : List PlainFile) (c : Conclusion) (numbers : List ℕ) → HasVerdict files (verdict_where_incomplete c numbers) → (statements : List PlainStatement) × AreAccepted files statements
 accepted_with files c [] h = (h.0, h.1)
 accepted_with files c (n ∷ numbers) h = (h.0, h.1)
 

@@ -13,7 +13,9 @@ use Rattle.mm_text.proofs.ReaderLaws.{each_has_one_reading}
 use Rattle.mm_frame.specs.Sentence.{Sentence, sentence_of, IsLabelled}
 use Rattle.mm_frame.specs.Rules.{AllMeant}
 use Rattle.mm_frame.proofs.Meant.{parts_at, one_label}
-use Rattle.mm_proof.specs.Proof.{IsProvedWithin, IsWithin, expression_limit}
+use Rattle.mm_proof.specs.Proof.{IsProvedWithin, IsWithin}
+use Rattle.mm_proof.specs.declared.profile.Profile.TheVariants.{Lenient}
+use Rattle.mm_proof.specs.Profiles.{limit_of}
 use Rattle.mm_check.specs.Conclusion.{Conclusion}
 use Rattle.mm_check.specs.Verdict.{AllObey, AreAccepted, CanBeRead, sentences, proof_of, is_proof, is_incomplete}
 use Rattle.mm_text.specs.Statement.{is_provable}
@@ -21,8 +23,11 @@ use Rattle.mm_check.specs.Answer.{IsKeptOf}
 use Rattle.mm_check.specs.Judged.{TakesNext}
 use Rattle.mm_check.specs.Marks.{IsKeptFrom}
 use Rattle.mm_check.specs.Rests.{IsAt, IsNamed}
-use Rattle.mm_check.specs.Shown.{Stands, IsListingText, IsShown}
-use Rattle.mm_check.specs.CodeShown.{IsStillLeft, IsProofOf, IsTextFor}
+use Rattle.mm_proof.specs.Moves.{Move}
+use Rattle.mm_proof.specs.Tokens.{SayMoves}
+use Rattle.mm_proof.specs.Steps.{IsProofNumber}
+use Rattle.mm_check.specs.Shown.{Stands}
+use Rattle.mm_check.specs.CodeShown.{IsStillLeft, IsProofOf, SayStepsOf, AreStepsOf}
 use Rattle.mm_check.proofs.Judging.{incomplete_is}
 use Rattle.mm_check.proofs.OnTheWay.{within_limit}
 use Rattle.mm_check.proofs.Asked.{map-take}
@@ -89,7 +94,7 @@ pub read_statements : (c : Conclusion) (statements : List PlainStatement) → Is
 read_statements c statements o reads =
     subst (λ (ss : List PlainStatement). AreOf c ss) (same_reading c.files o.statements statements None None o.accepted.reads reads).0 (own_statements c o)
 
-said_there : (statements : List PlainStatement) (place : ℕ) (s : PlainStatement) → slice_get statements place ≡ Some s → slice_get (sentences statements) place ≡ Some (sentence_of s)
+pub said_there : (statements : List PlainStatement) (place : ℕ) (s : PlainStatement) → slice_get statements place ≡ Some s → slice_get (sentences statements) place ≡ Some (sentence_of s)
 said_there [] place s e = absurd cc
 said_there (t ∷ statements) zero s e = let same : t ≡ s = cc in ap (λ (u : PlainStatement). Some (sentence_of u)) same
 said_there (t ∷ statements) (suc place) s e = said_there statements place s e
@@ -103,7 +108,7 @@ one_stands statements label place s t all there named (other, at, labelled) =
     let here : slice_get statements place ≡ Some t = subst (λ (n : ℕ). slice_get statements n ≡ Some t) same at in
     cc
 
-provable_kind : (kind : Kind) (rest : Bool) → (is_provable kind && rest) ≡ true → kind ≡ Provable
+pub provable_kind : (kind : Kind) (rest : Bool) → (is_provable kind && rest) ≡ true → kind ≡ Provable
 provable_kind Provable rest e = refl
 provable_kind kind rest e = absurd cc
 
@@ -116,14 +121,14 @@ pub proof_stands : (statements : List PlainStatement) (id place : ℕ) (s : Plai
     → IsProofOf (sentences statements) id (proof_of s)
 proof_stands statements id place s obeyed at complete =
     let parted : statements ≡ take place statements ++ s ∷ drop (suc place) statements = parts_at statements place s at.there in
-    let proved : IsProvedWithin (IsWithin expression_limit) (sentences (take place statements)) (sentence_of s) (proof_of s) =
+    let proved : IsProvedWithin (IsWithin (limit_of Lenient)) (sentences (take place statements)) (sentence_of s) (proof_of s) =
     (obeyed (take place statements) (drop (suc place) statements) s parted).proved complete in
     record {
       place = place;
       s = sentence_of s;
       number = record { numbered = at.numbered; provable = provable_kind s.kind (not (is_incomplete (proof_of s))) complete };
       complete = λ h. complete_test (is_provable s.kind) (is_incomplete (proof_of s)) complete (incomplete_is (proof_of s) h);
-      proved = subst (λ (ss : List Sentence). IsProvedWithin (IsWithin expression_limit) ss (sentence_of s) (proof_of s)) (map-take place statements) proved;
+      proved = subst (λ (ss : List Sentence). IsProvedWithin (IsWithin (limit_of Lenient)) ss (sentence_of s) (proof_of s)) (map-take place statements) proved;
     }
 
 -- ---- room for its tokens
@@ -169,26 +174,29 @@ pub shown_room : (c : Conclusion) (statements : List PlainStatement) (label : Li
     → sum_by length (proof_of t) ≤ 1073741824
 shown_room c statements label t of (place, there, named) = proof_fits c.files statements place t of.accepted.readable of.accepted.reads there
 
--- the text is that of the listing
-pub shown_text : (c : Conclusion) (statements : List PlainStatement) (label : List ℕ) (id : ℕ) (t : PlainStatement) (text : List ℕ) → AreOf c statements → AllMeant c.sentences
-    → IsNamed statements label (λ s. is_proof s ≡ true) id → Stands statements label t → IsTextFor c.sentences id (proof_of t) text → IsShown statements label text
-shown_text c statements label id t text of all named stands laid =
+-- the steps that its tokens say are those of the theorem
+pub theorem_steps : (c : Conclusion) (statements : List PlainStatement) (label : List ℕ) (id : ℕ) (t : PlainStatement) (steps : List (Move ℕ)) → AreOf c statements → AllMeant c.sentences
+    → IsNamed statements label (λ s. is_proof s ≡ true) id → Stands statements label t → SayStepsOf c.sentences id (proof_of t) steps → AreStepsOf statements label id steps
+theorem_steps c statements label id t steps of all named stands said =
     let meant : AllMeant (sentences statements) = subst AllMeant of.kept.sentences all in
     let s : PlainStatement = named.1 in
     let same : t ≡ s = found_again statements label id t meant named stands in
-    let here : IsTextFor (sentences statements) id (proof_of s) text =
-    subst (λ (u : PlainStatement). IsTextFor (sentences statements) id (proof_of u) text) same
-    (subst (λ (ss : List Sentence). IsTextFor ss id (proof_of t) text) of.kept.sentences laid) in
-    let listed : IsListingText (take named.0 (sentences statements)) (sentence_of s) (proof_of s) text =
-    here named.0 (sentence_of s)
-    (record { numbered = named.2.numbered; provable = provable_kind s.kind (not (is_incomplete (proof_of s))) named.3.1 }) in
+    let here : SayStepsOf (sentences statements) id (proof_of s) steps =
+    subst (λ (u : PlainStatement). SayStepsOf (sentences statements) id (proof_of u) steps) same
+    (subst (λ (ss : List Sentence). SayStepsOf ss id (proof_of t) steps) of.kept.sentences said) in
+    let number : IsProofNumber (sentences statements) id named.0 (sentence_of s) =
+    record { numbered = named.2.numbered; provable = provable_kind s.kind (not (is_incomplete (proof_of s))) named.3.1 } in
+    let told = here named.0 (sentence_of s) number in
     record {
       place = named.0;
       s = s;
       there = named.2.there;
       named = named.3.0;
       complete = named.3.1;
-      shown = subst (λ (ss : List Sentence). IsListingText ss (sentence_of s) (proof_of s) text) (sym (map-take named.0 statements)) listed;
+      number = number;
+      moves = told.0;
+      told = subst (λ (ss : List Sentence). SayMoves ss (sentence_of s) (proof_of s) told.0) (sym (map-take named.0 statements)) told.1;
+      numbered = told.2;
     }
 
 -- what holds of a fault that is passed on

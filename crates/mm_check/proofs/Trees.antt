@@ -9,7 +9,9 @@ use Rattle.mm_frame.specs.Numbers.{labelled_sentences, IsNumbered}
 use Rattle.mm_frame.proofs.Pushed.{get_kept, get_pushed, pushed_cases}
 use Rattle.mm_frame.proofs.Labelled.{numbered_grow, numbered_fall, numbered_last, numbered_within}
 use Rattle.mm_proof.specs.Tree.{Trees, none, tree}
-use Rattle.mm_proof.specs.Proof.{IsWithin, expression_limit, IsProved, IsProvedWithin}
+use Rattle.mm_proof.specs.Proof.{IsWithin, IsProved, IsProvedWithin}
+use Rattle.mm_proof.specs.declared.profile.Profile.TheVariants.{Lenient}
+use Rattle.mm_proof.specs.Profiles.{limit_of}
 use Rattle.mm_proof.specs.Used.{AreUsed}
 use Rattle.mm_proof.proofs.Limits.{derive_any}
 use Rattle.mm_check.specs.Conclusion.{ProofUses, numbers_of}
@@ -100,7 +102,7 @@ front_kept : (statements more : List PlainStatement) (place : ℕ) → place ≤
 front_kept statements more place within = take-append-le place statements more within
 
 -- a proof within the limit is a proof, of the same tree
-pub any_proof : (before : List Sentence) (s : Sentence) (tokens : List (List ℕ)) → IsProvedWithin (IsWithin expression_limit) before s tokens → IsProved before s tokens
+pub any_proof : (before : List Sentence) (s : Sentence) (tokens : List (List ℕ)) → IsProvedWithin (IsWithin (limit_of Lenient)) before s tokens → IsProved before s tokens
 any_proof before s tokens p = record {
   whole = p.whole;
   moves = p.moves;
@@ -110,7 +112,7 @@ any_proof before s tokens p = record {
     below = p.proves.below;
     kept = p.proves.kept;
     made = p.proves.made;
-    derived = derive_any (IsWithin expression_limit) before (tree p.proves.label p.proves.below none) (s.symbols ∷ []) p.proves.derived;
+    derived = derive_any (IsWithin (limit_of Lenient)) before (tree p.proves.label p.proves.below none) (s.symbols ∷ []) p.proves.derived;
   };
 }
 

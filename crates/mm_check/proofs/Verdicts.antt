@@ -11,7 +11,8 @@ use Rattle.mm_text.proofs.FormedLaws.{readings_are_formed_in_place}
 use Rattle.mm_frame.specs.declared.rule.MeaningRule.{MeaningRule}
 use Rattle.mm_frame.specs.Sentence.{Sentence, sentence_of}
 use Rattle.mm_frame.specs.Rules.{FirstBroken, AllMeant, rank}
-use Rattle.mm_proof.specs.Proof.{expression_limit}
+use Rattle.mm_proof.specs.declared.profile.Profile.TheVariants.{Lenient}
+use Rattle.mm_proof.specs.Profiles.{limit_of}
 use Rattle.mm_proof.specs.declared.fault.ProofRule.TheVariants as proof
 use Rattle.mm_proof.proofs.Verdicts.{one_verdict_holds}
 use Rattle.mm_proof.proofs.Limits.{limits_aside_holds}
@@ -54,7 +55,7 @@ obeying_faultless : (before : List Sentence) (s : PlainStatement) (rule : Rule) 
     → HasFault before s rule step → ⊥
 obeying_faultless before s rule step meant obeyed (inl f) = obeyed.meant f.0 f.1.broken
 obeying_faultless before s rule step meant obeyed (inr f) =
-    (one_verdict_holds expression_limit before (sentence_of s) (proof_of s) meant).0 (obeyed.proved f.1) f.2 step f.3
+    (one_verdict_holds (limit_of Lenient) before (sentence_of s) (proof_of s) meant).0 (obeyed.proved f.1) f.2 step f.3
 
 -- the fault of a statement is one
 one_statement_fault : (before : List Sentence) (s : PlainStatement) (rule rule' : Rule) (step step' : ℕ) → AllMeant before
@@ -64,7 +65,7 @@ one_statement_fault before s rule rule' step step' meant (inl f) (inl g) =
 one_statement_fault before s rule rule' step step' meant (inl f) (inr g) = absurd (g.0 f.0 f.1.broken)
 one_statement_fault before s rule rule' step step' meant (inr f) (inl g) = absurd (f.0 g.0 g.1.broken)
 one_statement_fault before s rule rule' step step' meant (inr f) (inr g) =
-    let same = (one_verdict_holds expression_limit before (sentence_of s) (proof_of s) meant).1 f.2 g.2 step step' f.3 g.3 in
+    let same = (one_verdict_holds (limit_of Lenient) before (sentence_of s) (proof_of s) meant).1 f.2 g.2 step step' f.3 g.3 in
     (f.4 ∙ ap proof_rule same.0 ∙ sym g.4, same.1)
 
 -- ## The first statement at fault
@@ -142,7 +143,7 @@ same_ending files a b d e r q =
     let one = each_has_one_reading files in (one.only a d r).1 ∙ sym (one.only b e q).1
 
 -- files that are read to the end, each statement obeying the rules, aren't refused
-accepted_or_refused : (files : List PlainFile) (a b : List PlainStatement) (ending : Option PlainFault) (refusal : PlainRefusal)
+pub accepted_or_refused : (files : List PlainFile) (a b : List PlainStatement) (ending : Option PlainFault) (refusal : PlainRefusal)
     → AreAccepted files a → Reads files b ending
     → RefusesStatement files b refusal ⊎ RefusesText files b ending refusal → ⊥
 accepted_or_refused files a b ending refusal accepted reads (inl r) =
@@ -198,7 +199,7 @@ yes_obeys files n p h = record {
       complete_where_none before after s (subst (λ (ss : List PlainStatement). AllByRecursion HasForm ss) split (readings_are_formed_in_place files h.0 None h.1.reads).formed)
       (sym (ap unproved_of split) ∙ h.2) provable in (
         complete,
-        (limits_aside_holds expression_limit (sentences before) (sentence_of s) (proof_of s)
+        (limits_aside_holds (limit_of Lenient) (sentences before) (sentence_of s) (proof_of s)
             (all_meant before (λ earlier later t e. h.1.obeyed earlier (later ++ s ∷ after) t
             (split ∙ ap (λ (xs : List PlainStatement). xs ++ s ∷ after) e ∙ append_assoc earlier (t ∷ later) (s ∷ after))))).0
             ((h.1.obeyed before after s split).proved (proof_there s provable complete)),
@@ -211,7 +212,7 @@ over_the_limit : (files : List PlainFile) (profile : ObeyTheProfile files) (refu
 over_the_limit files profile refusal r = elim (r.fault) [
   | inl f ↦ absurd (profile.meant r.before r.after r.s r.split f.0 f.1.broken)
   | inr f ↦
-      let law = limits_aside_holds expression_limit (sentences r.before) (sentence_of r.s) (proof_of r.s) (all_meant _ r.obeyed) in
+      let law = limits_aside_holds (limit_of Lenient) (sentences r.before) (sentence_of r.s) (proof_of r.s) (all_meant _ r.obeyed) in
       let proved = profile.proved r.before r.after r.s r.split (provable_proof r.s.kind (is_incomplete (proof_of r.s)) f.1) in
       let over : f.2 ≡ proof.L1 = law.2 proved.1 f.2 r.step f.3 in
       ap (λ (q : PlainRefusal). q.rule) r.refused ∙ f.4 ∙ ap proof_rule over

@@ -1,15 +1,20 @@
 -- What the code of `show` knows on its way: it mirrors the code.
-use Rattle.std.specs.Prelude.{◌≡◌, ℕ, List, take, None}
+use Rattle.std.specs.Prelude.{◌≡◌, ℕ, List, take, slice_get, true, Some, None}
 use Rattle.mm_text.specs.Statement.{PlainStatement}
 use Rattle.mm_text.specs.Remaining.{Remaining}
-use Rattle.mm_frame.specs.Sentence.{Sentence}
-use Rattle.mm_proof.specs.declared.lines.Line.{Line}
+use Rattle.mm_frame.specs.Sentence.{Sentence, sentence_of, IsLabelled}
 use Rattle.mm_proof.specs.Moves.{Move}
 use Rattle.mm_proof.specs.Tokens.{IsIncomplete, SayMoves}
-use Rattle.mm_proof.specs.Proof.{IsProvedWithin, IsWithin, expression_limit}
-use Rattle.mm_proof.specs.Steps.{IsProofNumber}
-use Rattle.mm_proof.specs.Listing.{AreLinesOf}
-use Rattle.mm_check.specs.Shown.{IsListingText, Stands}
+use Rattle.mm_proof.specs.Proof.{Prove, IsProvedWithin, IsWithin}
+use Rattle.mm_proof.specs.declared.profile.Profile.TheVariants.{Lenient}
+use Rattle.mm_proof.specs.Profiles.{limit_of}
+use Rattle.mm_proof.specs.Steps.{AreNumberedMoves, IsProofNumber}
+use Rattle.mm_proof.specs.ReadSteps.{ReadSteps}
+use Rattle.mm_proof.specs.Parsed.{OfProof, SaySteps}
+use Rattle.mm_proof.specs.Verified.{OfMoves}
+use Rattle.mm_proof.specs.Listing.{ListedStep, AreListed}
+use Rattle.mm_check.specs.Verdict.{proof_of, is_proof, sentences}
+use Rattle.mm_check.specs.Shown.{listing_text, Stands}
 
 -- the tokens are a complete proof of the `$p` with this number, each step within the limit
 pub record IsProofOf (statements : List Sentence) (id : ℕ) (tokens : List (List ℕ)) : Type 0 where
@@ -17,21 +22,44 @@ pub record IsProofOf (statements : List Sentence) (id : ℕ) (tokens : List (Lis
   pub s : Sentence
   pub number : IsProofNumber statements id place s
   pub complete : ¬ (IsIncomplete tokens)
-  pub proved : IsProvedWithin (IsWithin expression_limit) (take place statements) s tokens
+  pub proved : IsProvedWithin (IsWithin (limit_of Lenient)) (take place statements) s tokens
 
--- the lines are the listing of the moves that the tokens say as a proof of the `$p` with this
--- number
-abbrev pub AreLinesFor : List Sentence → (id : ℕ) → (tokens : List (List ℕ)) → List Line → Type 0
-AreLinesFor statements id tokens lines =
-    (place : ℕ) (s : Sentence) → IsProofNumber statements id place s
-    → (moves : List (Move (List ℕ))) × SayMoves (take place statements) s tokens moves
-    × AreLinesOf statements (take place statements) moves lines
+-- the steps of the `$p` with this number are the moves that the tokens say
+abbrev pub SayStepsOf : List Sentence → (id : ℕ) → (tokens : List (List ℕ)) → List (Move ℕ) → Type 0
+SayStepsOf statements id tokens steps =
+    OfProof statements id (λ place s.
+    (moves : List (Move (List ℕ))) × SayMoves (take place statements) s tokens moves
+    × AreNumberedMoves statements steps moves)
 
--- the text is that of this listing
-abbrev pub IsTextFor : List Sentence → (id : ℕ) → (tokens : List (List ℕ)) → List ℕ → Type 0
-IsTextFor statements id tokens text =
-    (place : ℕ) (s : Sentence) → IsProofNumber statements id place s
-    → IsListingText (take place statements) s tokens text
+-- the same, where the tokens break no rule that is judged over the whole proof
+abbrev pub SayWholeSteps : List Sentence → (id : ℕ) → (tokens : List (List ℕ)) → List (Move ℕ)
+    → Type 0
+SayWholeSteps statements id tokens steps =
+    OfProof statements id (λ place s. SaySteps statements place s tokens steps)
+
+-- the steps prove the `$p` with this number, within what their profile allows
+abbrev pub AreProvedSteps : List Sentence → (id : ℕ) → ReadSteps → Type 0
+AreProvedSteps statements id steps =
+    OfMoves statements id steps.moves (λ place s moves.
+    Prove (IsWithin (limit_of steps.profile)) (take place statements) s moves)
+
+-- the steps are those of the theorem with the label, which has this number and a complete proof
+pub record AreStepsOf (statements : List PlainStatement) (label : List ℕ) (id : ℕ)
+    (steps : List (Move ℕ)) : Type 0 where
+  pub place : ℕ
+  pub s : PlainStatement
+  pub there : slice_get statements place ≡ Some s
+  pub named : IsLabelled label (sentence_of s)
+  pub complete : is_proof s ≡ true
+  pub number : IsProofNumber (sentences statements) id place (sentence_of s)
+  pub moves : List (Move (List ℕ))
+  pub told : SayMoves (sentences (take place statements)) (sentence_of s) (proof_of s) moves
+  pub numbered : AreNumberedMoves (sentences statements) steps moves
+
+-- the text is that of the listing of the moves
+abbrev pub IsListingOf : (before : List Sentence) → List (Move (List ℕ)) → List ℕ → Type 0
+IsListingOf before moves text =
+    (steps : List ListedStep) × AreListed before moves steps × (text ≡ listing_text steps)
 
 -- A statement with the label is left, and what is left was left at first.
 pub record IsStillLeft (label : List ℕ) (first left : Remaining) : Type 0 where

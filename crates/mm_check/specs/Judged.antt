@@ -1,6 +1,6 @@
 -- What checking has come to, and what is answered of one statement and of the text's end.
 use Rattle.std.specs.Prelude.{◌≡◌, ℕ, ◌+◌, List, [], ◌∷◌, ◌++◌, map, length, sum_by, slice_get, not}
-use Rattle.std.specs.Prelude.{Bool, true, false, if◌then◌else◌, Option, Some, None, Result}
+use Rattle.std.specs.Prelude.{Bool, true, false, if◌then◌else◌, Some, None, Result}
 use Rattle.std.specs.Prelude.{MatchResult, ◌⊎◌}
 use Rattle.mm_text.specs.declared.fault.LoadRule.{LoadRule}
 use Rattle.mm_text.specs.declared.statement.Kind.TheVariants.{Provable}
@@ -16,7 +16,9 @@ use Rattle.mm_proof.specs.declared.prover.Proved.{Proved}
 use Rattle.mm_proof.specs.declared.prover.Proved.TheVariants as proved
 use Rattle.mm_proof.specs.Answer.{OnRule}
 use Rattle.mm_proof.specs.Used.{AreUsedNumbers}
-use Rattle.mm_proof.specs.Proof.{IsProvedWithin, IsWithin, expression_limit, IsFault}
+use Rattle.mm_proof.specs.Proof.{IsProvedWithin, IsWithin, IsFault}
+use Rattle.mm_proof.specs.declared.profile.Profile.TheVariants.{Lenient}
+use Rattle.mm_proof.specs.Profiles.{limit_of}
 use Rattle.mm_check.specs.declared.rule.Rule.{Rule}
 use Rattle.mm_check.specs.declared.fault.CheckFault.{CheckFault}
 use Rattle.mm_check.specs.declared.progress.Progress.{Progress}
@@ -68,7 +70,7 @@ pub record IsLastProof (statements : List Sentence) (id : ℕ) (s : PlainStateme
 -- assertions in its tree, in any order, each once or more
 pub record IsProvedUsing (before : List Sentence) (s : PlainStatement)
     (used : List ℕ) : Type 0 where
-  pub proof : IsProvedWithin (IsWithin expression_limit) before (sentence_of s) (proof_of s)
+  pub proof : IsProvedWithin (IsWithin (limit_of Lenient)) before (sentence_of s) (proof_of s)
   pub all : AreUsedNumbers before (tree_of proof) used
 
 -- the proof is incomplete; or it is complete, and proved by a tree whose assertions have exactly
@@ -82,7 +84,7 @@ IsJudged before s used proved.Complete =
 abbrev pub Fails : List Sentence → PlainStatement → ProofFault → Type 0
 Fails before s fault = OnRule fault (λ rule step.
     (is_incomplete (proof_of s) ≡ false)
-    × IsFault (IsWithin expression_limit) before (sentence_of s) (proof_of s) rule step)
+    × IsFault (IsWithin (limit_of Lenient)) before (sentence_of s) (proof_of s) rule step)
 
 -- the verdict on the proof of the last statement, which uses these assertions if it is complete
 abbrev pub JudgesProof : List Sentence → PlainStatement → Result Proved ProofFault → List ℕ → Type 0
@@ -104,7 +106,7 @@ pub record CountsProof (old : Progress) (id : ℕ) (s : PlainStatement)
     (new : Progress) : Type 0 where
   pub proved : (before : List Sentence) → old.prover.book.statements ≡ before ++ sentence_of s ∷ []
       → is_incomplete (proof_of s) ≡ false
-      → IsProvedWithin (IsWithin expression_limit) before (sentence_of s) (proof_of s)
+      → IsProvedWithin (IsWithin (limit_of Lenient)) before (sentence_of s) (proof_of s)
   pub book : new.prover.book ≡ old.prover.book
   pub count : new.count ≡ old.count
   pub proofs : new.proofs ≡ old.proofs + (if is_incomplete (proof_of s) then 0 else 1)
@@ -120,7 +122,7 @@ RefusesProof files old s fault =
     (verdict_of_fault fault ≡ None)
     ⊎ ((rule : ProofRule) × (step : ℕ) × (is_incomplete (proof_of s) ≡ false)
     × ((before : List Sentence) → old.prover.book.statements ≡ before ++ sentence_of s ∷ []
-    → IsFault (IsWithin expression_limit) before (sentence_of s) (proof_of s) rule step)
+    → IsFault (IsWithin (limit_of Lenient)) before (sentence_of s) (proof_of s) rule step)
     × (verdict_of_fault fault
     ≡ Some (Refused (refusal_of files old.count s (proof_rule rule) step))))
 

@@ -7,8 +7,16 @@ pub mod Ranges
 pub mod Rests
 pub mod Shown
 pub mod CodeShown
+pub mod CodeReply
+pub mod Forms
+pub mod Compared
+pub mod CodeCompared
+pub mod Saved
+pub mod CodeSaved
 pub mod Marks
 pub mod Answer
 pub mod Judged
 pub mod Laws
+pub mod FormLaws
+pub mod SavedLaws
 pub mod Alike

@@ -1,5 +1,6 @@
 -- The reply to a command: its text and its status.
 use Rattle.std.specs.Prelude.{◌≡◌, ℕ, List, [], ◌∷◌, ◌++◌, map, length, slice_get, Option}
+use Rattle.std.specs.Prelude.{Bool, true, false}
 use Rattle.std.specs.Prelude.{option_map, unwrap_or, Result, MatchOption, ◌⊎◌, codes, decimal}
 use Rattle.std.specs.List.{flat_map}
 use Rattle.std.specs.Io.KnownBytes.{Appends}
@@ -19,9 +20,15 @@ use Rattle.mm_check.specs.Answer.{verdict_of_answer, labels_at}
 use Rattle.mm_check.specs.declared.ask.AskFault.{AskFault}
 use Rattle.mm_check.specs.declared.ask.AskFault.TheVariants as ask
 use Rattle.mm_check.specs.declared.command.Command.{Command}
-use Rattle.mm_check.specs.declared.command.Command.TheVariants.{Check, Axioms, Show}
+use Rattle.mm_check.specs.declared.command.Command.TheVariants.{Check, Axioms, Show, Normal}
+use Rattle.mm_check.specs.declared.command.Command.TheVariants.{Packed, Same}
 use Rattle.mm_check.specs.Rests.{IsAskFault, IsReport}
 use Rattle.mm_check.specs.Shown.{IsShown}
+use Rattle.mm_check.specs.declared.form.Form.{Form}
+use Rattle.mm_check.specs.declared.form.Form.TheVariants as form
+use Rattle.mm_check.specs.Forms.{IsNormalOf, IsPackedOf, IsNormalFault}
+use Rattle.mm_check.specs.Compared.{IsCompared, IsSameFault}
+use Rattle.mm_check.specs.Saved.{IsSaved, FitsSaved, IsSaveFault}
 use Rattle.mm_check.specs.Verdict.{Verdict, Load, Refused, Incomplete, Yes, HasVerdict, AreAccepted}
 use Rattle.mm_check.specs.Verdict.{labels_of}
 
@@ -153,6 +160,14 @@ pub record IsRefused (files : List PlainFile) (text : List ℕ) (status : ℕ) :
   pub said : text ≡ text_of files verdict
   pub ends : status ≡ status_of verdict
 
+-- the status where a proof's text that is handed in is refused: 3 where it is incomplete, 4 where a
+-- limit was passed, else 1
+abbrev pub text_status : Rule → ℕ
+text_status A3 = 3
+text_status L1 = 4
+text_status F3 = 4
+text_status rule = 1
+
 -- the text and the status where a question about a label has no answer
 abbrev pub IsAskReply : AskFault → List ℕ → List ℕ → ℕ → Type 0
 IsAskReply ask.A1 label text status =
@@ -161,6 +176,12 @@ IsAskReply ask.A2 label text status =
     (text ≡ line_with (codes "ask") (codes "A2" ∷ label ∷ [])) × (status ≡ 1)
 IsAskReply ask.A3 label text status =
     (text ≡ line_with (codes "ask") (codes "A3" ∷ label ∷ [])) × (status ≡ 3)
+IsAskReply ask.L2 label text status =
+    (text ≡ line_with (codes "ask") (codes "L2" ∷ label ∷ [])) × (status ≡ 4)
+IsAskReply (ask.Text rule step) label text status =
+    (text ≡ line_with (codes "text") (code_of rule ∷ decimal step ∷ [])) × (status ≡ text_status rule)
+IsAskReply ask.F3 label text status =
+    (text ≡ line_with (codes "ask") (codes "F3" ∷ label ∷ [])) × (status ≡ 4)
 IsAskReply ask.Memory label text status = ⊥
 
 -- the text of a report: a line for each axiom, and then one for each unproved theorem, after a
@@ -189,6 +210,45 @@ IsShowReply label statements text status =
     ((fault : AskFault) × IsAskFault statements label fault × IsAskReply fault label text status)
     ⊎ (IsShown statements label text × (status ≡ 0))
 
+-- the reply to the question for the normal proof of the theorem with a label
+abbrev pub IsNormalReply : List ℕ → List PlainStatement → List ℕ → ℕ → Type 0
+IsNormalReply label statements text status =
+    ((fault : AskFault) × IsNormalFault statements label fault × IsAskReply fault label text status)
+    ⊎ (IsNormalOf statements label text × (status ≡ 0))
+
+-- the reply to the question for the packed proof of the theorem with a label
+abbrev pub IsPackedReply : List ℕ → List PlainStatement → List ℕ → ℕ → Type 0
+IsPackedReply label statements text status =
+    ((fault : AskFault) × IsAskFault statements label fault × IsAskReply fault label text status)
+    ⊎ (IsPackedOf statements label text × (status ≡ 0))
+
+-- the line and the status that tell whether two proofs are the same
+abbrev pub same_text : Bool → List ℕ
+same_text true = line_with (codes "same") []
+same_text false = line_with (codes "different") []
+
+abbrev pub same_status : Bool → ℕ
+same_status true = 0
+same_status false = 1
+
+-- the reply to the question whether a proof's text is the same proof as that of the theorem with a
+-- label
+abbrev pub IsSameReply : (label proof : List ℕ) → List PlainStatement → List ℕ → ℕ → Type 0
+IsSameReply label proof statements text status =
+    ((fault : AskFault) × IsSameFault statements label proof fault
+    × IsAskReply fault label text status)
+    ⊎ ((same : Bool) × IsCompared statements label proof same
+    × (text ≡ same_text same) × (status ≡ same_status same))
+
+-- the reply to the question for the file in which the theorem with a label stands, with its proof in a
+-- form: the bytes of the file, and nothing else
+abbrev pub IsSavedReply : Form → List PlainFile → List ℕ → List PlainStatement → List ℕ → ℕ → Type 0
+IsSavedReply form files label statements text status =
+    ((fault : AskFault) × IsSaveFault form files statements label fault
+    × IsAskReply fault label text status)
+    ⊎ ((number : ℕ) × IsSaved form files statements label number text
+    × FitsSaved files number text × (status ≡ 0))
+
 -- The reply to a question about the database: the refusal, if it is refused, else the answer over
 -- its statements.
 abbrev pub IsQuestionReply : List PlainFile → (List PlainStatement → List ℕ → ℕ → Type 0) → List ℕ
@@ -206,6 +266,16 @@ IsReplyTo files Check text status = IsReply files text status
 IsReplyTo files (Axioms label) text status =
     IsQuestionReply files (IsAxiomsReply label.now) text status
 IsReplyTo files (Show label) text status = IsQuestionReply files (IsShowReply label.now) text status
+IsReplyTo files (Normal label false) text status =
+    IsQuestionReply files (IsNormalReply label.now) text status
+IsReplyTo files (Normal label true) text status =
+    IsQuestionReply files (IsSavedReply form.Normal files label.now) text status
+IsReplyTo files (Packed label false) text status =
+    IsQuestionReply files (IsPackedReply label.now) text status
+IsReplyTo files (Same label proof) text status =
+    IsQuestionReply files (IsSameReply label.now proof.now) text status
+IsReplyTo files (Packed label true) text status =
+    IsQuestionReply files (IsSavedReply form.Packed files label.now) text status
 
 -- The reply's text was put after what the writer held, where that is known.
 abbrev pub Writes : List PlainFile → Command → ℕ → Option (List ℕ) → Option (List ℕ) → Type 0

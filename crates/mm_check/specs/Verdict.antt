@@ -19,7 +19,9 @@ use Rattle.mm_frame.specs.Sentence.{Sentence, sentence_of}
 use Rattle.mm_frame.specs.Rules.{FirstBroken, IsMeant}
 use Rattle.mm_proof.specs.declared.fault.ProofRule.{ProofRule}
 use Rattle.mm_proof.specs.declared.fault.ProofRule.TheVariants as proof
-use Rattle.mm_proof.specs.Proof.{IsProvedWithin, IsProved, IsWithin, expression_limit, IsFault}
+use Rattle.mm_proof.specs.Proof.{IsProvedWithin, IsProved, IsWithin, IsFault}
+use Rattle.mm_proof.specs.declared.profile.Profile.TheVariants.{Lenient}
+use Rattle.mm_proof.specs.Profiles.{limit_of}
 use Rattle.mm_check.specs.declared.rule.Rule.{Rule}
 use Rattle.mm_check.specs.declared.rule.Rule.TheVariants.{F1, F2, F3, X1, X2, X3, X4, X5, X6, X7}
 use Rattle.mm_check.specs.declared.rule.Rule.TheVariants.{X8, X9, S1, S2, S3, S4, S5, S6, S7, M1}
@@ -155,7 +157,7 @@ sentences statements = map sentence_of statements
 pub record Obeys (before : List Sentence) (s : PlainStatement) : Type 0 where
   pub meant : IsMeant before (sentence_of s)
   pub proved : is_proof s ≡ true
-      → IsProvedWithin (IsWithin expression_limit) before (sentence_of s) (proof_of s)
+      → IsProvedWithin (IsWithin (limit_of Lenient)) before (sentence_of s) (proof_of s)
 
 -- each of the statements does
 abbrev pub AllObey : List PlainStatement → Type 0
@@ -171,7 +173,7 @@ HasFault before s rule step =
     × (rule ≡ meaning_rule broken) × (step ≡ 0))
     ⊎ (IsMeant before (sentence_of s) × (is_proof s ≡ true)
     × (broken : ProofRule)
-    × IsFault (IsWithin expression_limit) before (sentence_of s) (proof_of s) broken step
+    × IsFault (IsWithin (limit_of Lenient)) before (sentence_of s) (proof_of s) broken step
     × (rule ≡ proof_rule broken))
 
 -- The first statement at fault, after statements that obey the rules.

@@ -3,6 +3,8 @@
 ghost use Rattle.std.specs.Prelude.{◌≡◌};
 ghost use Rattle.mm_check.specs.declared.ask.AskFault.TheVariants.{Memory};
 
+use crate::rule::Rule;
+use mm_proof::ProofFault;
 use std::alloc::{AllocError, AllocFailed};
 use thiserror::Error;
 
@@ -18,6 +20,15 @@ pub enum AskFault {
     /// The proof of the `$p` is incomplete.
     #[error("the proof is incomplete")]
     A3,
+    /// The normal proof of the `$p` has over 16,777,216 labels.
+    #[error("the normal proof has too many labels")]
+    L2,
+    /// With the proof written anew in its file, the files would have over 1,073,741,824 bytes.
+    #[error("the files would have too many bytes")]
+    F3,
+    /// A proof's text that is handed in breaks this rule, at this step.
+    #[error("the text breaks {rule:?} at step {step}")]
+    Text { rule: Rule, step: usize },
     /// A growth was refused.
     #[error("out of memory")]
     Memory,
@@ -36,5 +47,22 @@ impl<T: Drop> From<AllocFailed<T>> for AskFault {
 
     fn from(_e: AllocFailed<T>) -> AskFault {
         AskFault::Memory
+    }
+}
+
+// Of a proof's text that is handed in.
+impl From<ProofFault> for AskFault {
+    ghost use Rattle.mm_check.specs.Compared.{text_fault};
+
+    ghost from_gives = { λ broken fault. fault ≡ text_fault broken };
+
+    fn from(broken: ProofFault) -> AskFault {
+        match broken {
+            ProofFault::Rule { rule, step } => AskFault::Text {
+                rule: Rule::from(rule),
+                step,
+            },
+            ProofFault::Memory => AskFault::Memory,
+        }
     }
 }

@@ -5,11 +5,16 @@ ghost use Rattle.std.specs.Prelude.{true, Some, None, IsTrue, IfOk, IfErr};
 ghost use Rattle.std.specs.List.{AllByRecursion};
 
 use crate::ask::AskFault;
+use crate::comparison::is_same;
+use crate::form::Form;
+use crate::forms::{normal_text, packed_text, proof_text};
 use crate::kept::Kept;
 use crate::progress::Progress;
 use crate::report::{Report, axioms_among, marked_among, reach};
 use crate::reread::{proof_of, reread};
+use crate::save::put_in;
 use crate::shown::listing_text;
+use crate::theorem::{Theorem, theorem_of};
 use mm_frame::{Book, Found, LabelId, LabelKind};
 use mm_text::File;
 use std::alloc::Global;
@@ -66,10 +71,16 @@ impl<'a> Checked<'a> {
     ghost use Rattle.mm_frame.specs.Form.{IsSound};
     ghost use Rattle.mm_check.specs.Conclusion.{labels_in};
     ghost use Rattle.mm_check.specs.Marks.{IsKeptWell, UsedIn};
-    ghost use Rattle.mm_check.specs.Verdict.{is_proof};
+    ghost use Rattle.mm_check.specs.Verdict.{is_proof, sentences};
     ghost use Rattle.mm_check.specs.Rests.{IsNamed, IsAskFault, IsReport, RestsOn};
+    ghost use Rattle.mm_proof.specs.Steps.{AreSteps};
     ghost use Rattle.mm_check.specs.Shown.{IsShown};
+    ghost use Rattle.mm_check.specs.Compared.{IsCompared, IsSameFault};
+    ghost use Rattle.mm_check.specs.Forms.{IsNormalOf, IsNormalFault, IsPackedOf};
+    ghost use Rattle.mm_check.specs.CodeShown.{AreProvedSteps, AreStepsOf};
     ghost use Rattle.mm_check.specs.Answer.{IsKeptOf};
+    ghost use Rattle.mm_check.specs.Saved.{IsSaved, FitsSaved, IsSaveFault};
+    ghost use Rattle.mm_check.specs.CodeSaved.{IsHomeOf};
 
     /// What the progress over the files has come to, once nothing is left.
     pub(crate) fn new(files: &'a [File<'a>], progress: Progress<'a>) -> Checked<'a>
@@ -181,12 +192,34 @@ impl<'a> Checked<'a> {
         Ok(Report { axioms, unproved })
     }
 
+    /// The `$p` with this label, and the steps of its proof. No proof is kept by `check`, so the
+    /// files are read again up to the `$p`.
+    fn read_theorem(&self, alloc: Global, label: &[u8]) -> Result<Theorem, AskFault>
+        ensures usable { IfOk result (λ theorem.
+            AreSteps self.now.sentences theorem.id.0 theorem.steps.moves) }
+        ensures proved { IfOk result (λ theorem.
+            AreProvedSteps self.now.sentences theorem.id.0 theorem.steps) }
+        ensures read { IfOk result (λ theorem. (statements : List PlainStatement)
+            → Reads self.now.files statements None
+            → (self.now.sentences ≡ sentences statements)
+            × AreStepsOf statements label.now theorem.id.0 theorem.steps.moves) }
+        ensures home { IfOk result (λ theorem. (statements : List PlainStatement)
+            → Reads self.now.files statements None
+            → IsHomeOf statements label.now theorem.file theorem.span) }
+        ensures fault { IfErr result (λ fault. (statements : List PlainStatement)
+            → Reads self.now.files statements None → IsAskFault statements label.now fault) }
+    {
+        let files = self.files;
+        let id = self.theorem(label)?;
+        let statement = reread(alloc, self.book.seed(), files, label)?;
+        let tokens = proof_of(alloc, &statement)?;
+        theorem_of(alloc, &self.book, id, &statement, &tokens)
+    }
+
     /// The listing of the proof of the `$p` with this label, a line for each step in order: its
     /// number, its name, and the symbols of the expression that it puts on the stack, with one
     /// space between each two. The name is the label of the hypothesis or of the assertion; for a
     /// step by a tag it is `@` and the number of the step that the tag stands after.
-    ///
-    /// No proof is kept by `check`, so the files are read again up to the `$p`.
     ///
     /// # Errors
     ///
@@ -199,10 +232,86 @@ impl<'a> Checked<'a> {
         ensures fault { IfErr result (λ fault. (statements : List PlainStatement)
             → Reads self.now.files statements None → IsAskFault statements label.now fault) }
     {
-        let files = self.files;
-        let theorem = self.theorem(label)?;
-        let statement = reread(alloc, files, label)?;
-        let tokens = proof_of(alloc, &statement)?;
-        listing_text(alloc, &self.book, theorem, &tokens)
+        let theorem = self.read_theorem(alloc, label)?;
+        listing_text(alloc, &self.book, &theorem)
+    }
+
+    /// The normal proof of the `$p` with this label, laid out in lines: the labels that its proof's
+    /// tree spells.
+    ///
+    /// # Errors
+    ///
+    /// As for `axioms`; and `L2` where there are over 16,777,216 labels.
+    pub fn normal(&self, alloc: Global, label: &[u8]) -> Result<Vec<u8>, AskFault>
+        ensures text { IfOk result (λ text. (statements : List PlainStatement)
+            → Reads self.now.files statements None
+            → IsNormalOf statements label.now text.items) }
+        ensures fault { IfErr result (λ fault. (statements : List PlainStatement)
+            → Reads self.now.files statements None → IsNormalFault statements label.now fault) }
+    {
+        let theorem = self.read_theorem(alloc, label)?;
+        normal_text(alloc, &self.book, &theorem)
+    }
+
+    /// The packed proof of the `$p` with this label, laid out in lines: the one fully shared proof
+    /// of its proof's tree.
+    ///
+    /// # Errors
+    ///
+    /// As for `axioms`.
+    pub fn packed(&self, alloc: Global, label: &[u8]) -> Result<Vec<u8>, AskFault>
+        ensures text { IfOk result (λ text. (statements : List PlainStatement)
+            → Reads self.now.files statements None
+            → IsPackedOf statements label.now text.items) }
+        ensures fault { IfErr result (λ fault. (statements : List PlainStatement)
+            → Reads self.now.files statements None → IsAskFault statements label.now fault) }
+    {
+        let theorem = self.read_theorem(alloc, label)?;
+        packed_text(alloc, &self.book, &theorem)
+    }
+
+    /// Whether a text, as a proof of the `$p` with this label, is the same proof as its own: whether
+    /// both make the same tree.
+    ///
+    /// The text is cut into tokens by white space, and has no comments.
+    ///
+    /// # Errors
+    ///
+    /// As for `axioms`, before anything is said of the text; then `Text` with the first rule that
+    /// the text breaks, and its step: `F3` where it has over 1,073,741,824 bytes, `X1` where a token
+    /// holds a byte that none may hold, `X9` where one holds a `$`, `A3` where one holds a `?`, all
+    /// of them at step 0; then the rules of a proof, `P1` to `P14` and `L1`.
+    pub fn same_text(&self, alloc: Global, label: &[u8], text: &[u8]) -> Result<bool, AskFault>
+        ensures compared { IfOk result (λ same. (statements : List PlainStatement)
+            → Reads self.now.files statements None
+            → IsCompared statements label.now text.now same) }
+        ensures fault { IfErr result (λ fault. (statements : List PlainStatement)
+            → Reads self.now.files statements None
+            → IsSameFault statements label.now text.now fault) }
+    {
+        let theorem = self.read_theorem(alloc, label)?;
+        is_same(alloc, &self.book, &theorem, text)
+    }
+
+    /// The number of the file in which the `$p` with this label stands, and the bytes of that file
+    /// with the proof written in a form.
+    pub(crate) fn saved(
+        &self,
+        alloc: Global,
+        label: &[u8],
+        form: Form,
+    ) -> Result<(usize, Vec<u8>), AskFault>
+        ensures saved { IfOk result (λ new. (statements : List PlainStatement)
+            → Reads self.now.files statements None
+            → IsSaved form self.now.files statements label.now new.0 new.1.items) }
+        ensures fits { IfOk result (λ new. FitsSaved self.now.files new.0 new.1.items) }
+        ensures fault { IfErr result (λ fault. (statements : List PlainStatement)
+            → Reads self.now.files statements None
+            → IsSaveFault form self.now.files statements label.now fault) }
+    {
+        let theorem = self.read_theorem(alloc, label)?;
+        let text = proof_text(alloc, &self.book, &theorem, form)?;
+        let bytes = put_in(alloc, self.files, theorem.file, theorem.span, &text)?;
+        Ok((theorem.file, bytes))
     }
 }

@@ -4,13 +4,15 @@ ghost use Rattle.std.specs.Prelude.{◌≡◌, ◌+◌, ◌<◌, ◌↔◌, map,
 ghost use Rattle.mm_text.specs.Files.{plain_file};
 ghost use Rattle.mm_text.specs.Device.{faults_of, inner_of};
 ghost use Rattle.mm_check.specs.Status.{number_of};
+ghost use Rattle.mm_check.specs.CodeReply.{question_in};
 ghost use Rattle.mm_check.specs.Reply.{IsReplyTo, Writes, WritesBeginningOf};
 ghost use Rattle.mm_check.specs.declared.command.RunFault.TheVariants.{Memory};
 
 use crate::fault::CheckFault;
-use crate::question::{Reply, axioms_reply, check_reply, show_reply};
+use crate::form::Form;
+use crate::question::{Question, Reply, axioms_reply, check_reply, question_reply};
 use crate::status::Status;
-use mm_text::{Counted, File};
+use mm_text::{Counted, File, Seed};
 use std::alloc::{AllocError, Global};
 use std::io::Write;
 use thiserror::Error;
@@ -24,6 +26,13 @@ pub enum Command<'a> {
     Axioms { label: &'a [u8] },
     /// How the theorem with this label is proved, step by step.
     Show { label: &'a [u8] },
+    /// The normal proof of the theorem with this label; of its whole file the bytes, with this proof
+    /// in place of its own, if `whole`.
+    Normal { label: &'a [u8], whole: bool },
+    /// The fully shared proof of the theorem with this label, or its whole file with this proof.
+    Packed { label: &'a [u8], whole: bool },
+    /// Whether this text is the same proof as that of the theorem with this label.
+    Same { label: &'a [u8], text: &'a [u8] },
 }
 
 /// Why a reply wasn't written, or not to its end.
@@ -45,15 +54,52 @@ impl From<AllocError> for RunFault {
     }
 }
 
+/// The question for the proof of a theorem in a form, or for its whole file with it.
+fn question_for<'a>(form: Form, whole: bool) -> Question<'a>
+    ensures { result ≡ question_in form whole }
+{
+    match form {
+        _ if whole => Question::Saved(form),
+        Form::Normal => Question::Normal,
+        Form::Packed => Question::Packed,
+    }
+}
+
 /// The reply to a command over the files.
-fn reply_to(alloc: Global, command: &Command, files: &[File]) -> Result<Reply, AllocError>
+fn reply_to(
+    alloc: Global,
+    seed: Seed,
+    command: &Command,
+    files: &[File],
+) -> Result<Reply, AllocError>
     ensures { IfOk result (λ reply. IsReplyTo (map plain_file files.now) command.now
         reply.text.items (number_of reply.status)) }
 {
     match command {
-        Command::Check => check_reply(alloc, files),
-        Command::Axioms { label } => axioms_reply(alloc, files, label),
-        Command::Show { label } => show_reply(alloc, files, label),
+        Command::Check => check_reply(alloc, seed, files),
+        Command::Axioms { label } => axioms_reply(alloc, seed, files, label),
+        Command::Show { label } => question_reply(alloc, seed, files, &Question::Show, label),
+        Command::Normal { label, whole } => {
+            question_reply(
+                alloc,
+                seed,
+                files,
+                &question_for(Form::Normal, *whole),
+                label,
+            )
+        }
+        Command::Packed { label, whole } => {
+            question_reply(
+                alloc,
+                seed,
+                files,
+                &question_for(Form::Packed, *whole),
+                label,
+            )
+        }
+        Command::Same { label, text } => {
+            question_reply(alloc, seed, files, &Question::Same(text), label)
+        }
     }
 }
 
@@ -66,6 +112,7 @@ fn reply_to(alloc: Global, command: &Command, files: &[File]) -> Result<Reply, A
 /// growth was refused, and then nothing is written.
 pub fn run<W: Write>(
     alloc: Global,
+    seed: Seed,
     command: &Command,
     files: &[File],
     out: &mut Counted<W>,
@@ -80,7 +127,7 @@ pub fn run<W: Write>(
     ensures counted { IsErrOf result RunFault.Device ↔ (faults_of out.new ≡ faults_of out.old + 1) }
     ensures uncounted { ¬ IsErrOf result RunFault.Device → faults_of out.new ≡ faults_of out.old }
 {
-    let reply = reply_to(alloc, command, files)?;
+    let reply = reply_to(alloc, seed, command, files)?;
     match out.write_all(&reply.text) {
         Ok(()) => Ok(reply.status),
         Err(_) => Err(RunFault::Device),

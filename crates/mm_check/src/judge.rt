@@ -19,7 +19,7 @@ use crate::place::line_of;
 use crate::progress::Progress;
 use crate::rule::Rule;
 use mm_frame::{LabelId, RuleFault, Taken};
-use mm_proof::{ProofFault, Proved, Prover};
+use mm_proof::{Profile, ProofFault, Proved, Prover};
 use mm_text::{File, Kind, Statement};
 
 /// The text of the statement's label, if it has one.
@@ -68,7 +68,7 @@ fn judge_proof<'a>(
         result prover.new.used }
     ensures book { prover.new.book ≡ prover.old.book }
 {
-    prover.prove(id, &statement.proof)
+    prover.prove(Profile::Lenient, id, &statement.proof)
 }
 
 /// Judges the proof of a `$p`, which the book took last, counts it and keeps what it uses, or notes

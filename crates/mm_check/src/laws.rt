@@ -1,7 +1,10 @@
 //! Laws of verdicts and of reports. The functions do nothing: their contracts are the laws.
 
 ghost use Rattle.mm_check.specs.Alike.{AlikeFilesHaveOneReply};
+ghost use Rattle.mm_check.specs.FormLaws.{PackedTextsTell};
 ghost use Rattle.mm_check.specs.Laws.{OneVerdict, SomeVerdict, OneReport};
+ghost use Rattle.mm_check.specs.SavedLaws.{SavingChangesNoAnswer, OneSaved};
+ghost use Rattle.mm_check.specs.SavedLaws.{OneSaveAnswer, SavingAgainChangesNothing};
 
 /// Files have at most one verdict: it can't be said of them both that they obey the rules and that
 /// a statement is at fault, nor that two statements are, nor that one is in two ways.
@@ -25,4 +28,33 @@ pub fn one_report()
 /// as long as neither are more bytes than can be taken.
 pub fn alike_files_have_one_reply()
     ensures { AlikeFilesHaveOneReply }
+{}
+
+/// Two proofs of a statement are the same, in that they make one tree, exactly if the texts of their
+/// packed proofs are equal. This holds in files in which nothing is at fault.
+pub fn packed_texts_tell()
+    ensures { PackedTextsTell }
+{}
+
+/// Saving changes nothing that is answered: with the new bytes in place of the old, the files have
+/// the same verdict, each complete proof has the same tree, and each theorem rests on the same axioms
+/// and unproved theorems.
+pub fn saving_changes_no_answer()
+    ensures { SavingChangesNoAnswer }
+{}
+
+/// What is saved of a theorem in a form is one: one number of a file, and its bytes.
+pub fn one_saved()
+    ensures { OneSaved }
+{}
+
+/// Where a theorem can be saved, no fault is told of it but F3, exactly if the files would have too
+/// many bytes, and want of memory.
+pub fn one_save_answer()
+    ensures { OneSaveAnswer }
+{}
+
+/// Saving a theorem again in the same form gives equal bytes.
+pub fn saving_again_changes_nothing()
+    ensures { SavingAgainChangesNothing }
 {}

@@ -4,7 +4,10 @@
 mod ask;
 mod checked;
 mod command;
+mod comparison;
 mod fault;
+mod form;
+mod forms;
 mod judge;
 mod kept;
 mod laws;
@@ -15,17 +18,25 @@ mod reply;
 mod report;
 mod reread;
 mod rule;
+mod save;
 mod shown;
 mod status;
+mod text;
+mod theorem;
 mod verdict;
 
 pub use ask::AskFault;
 pub use checked::Checked;
 pub use command::{Command, RunFault, run};
 pub use fault::{CheckFault, Refusal};
-pub use laws::{alike_files_have_one_reply, one_report, one_verdict, some_verdict};
+pub use form::Form;
+pub use laws::{
+    alike_files_have_one_reply, one_report, one_save_answer, one_saved, one_verdict,
+    packed_texts_tell, saving_again_changes_nothing, saving_changes_no_answer, some_verdict,
+};
 pub use mm_frame::LabelId;
 pub use report::Report;
 pub use rule::Rule;
+pub use save::{SaveFault, saved};
 pub use status::Status;
 pub use verdict::check;

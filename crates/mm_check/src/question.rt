@@ -1,7 +1,7 @@
 //! Whole replies: to `check`, and to questions about a theorem.
 
 ghost use Rattle.std.specs.Prelude.{◌≡◌, ◌<◌, ◌++◌, [], ◌∷◌, List, ℕ, map, length, OnOk, IfOk};
-ghost use Rattle.std.specs.Prelude.{IfSome, None, codes};
+ghost use Rattle.std.specs.Prelude.{IfSome, None, codes, decimal};
 ghost use Rattle.std.specs.List.{AllByRecursion};
 ghost use Rattle.mm_text.specs.Statement.{PlainStatement};
 ghost use Rattle.mm_text.specs.Files.{plain_file};
@@ -12,19 +12,23 @@ ghost use Rattle.mm_check.specs.Verdict.{labels_of};
 ghost use Rattle.mm_check.specs.Status.{number_of};
 ghost use Rattle.mm_check.specs.Reply.{code_of, line_with, lines_of, status_of as status_at, Tells};
 ghost use Rattle.mm_check.specs.Reply.{IsReply, IsAskReply, IsAxiomsReply, IsShowReply};
+ghost use Rattle.mm_check.specs.Reply.{IsNormalReply, IsPackedReply, IsSavedReply, IsSameReply};
+ghost use Rattle.mm_check.specs.Reply.{same_text, same_status, text_status as text_status_at};
+ghost use Rattle.mm_check.specs.CodeReply.{Answers};
 ghost use Rattle.mm_check.specs.Reply.{IsQuestionReply, report_text as report_text_at};
 ghost use Rattle.mm_check.specs.Reply.{report_status as report_status_at};
 
 use crate::ask::AskFault;
 use crate::checked::Checked;
 use crate::fault::CheckFault;
-use crate::reply::{push_label, push_labels, push_word, status_of, text_of};
+use crate::form::Form;
+use crate::reply::{push_label, push_labels, push_number, push_word, status_of, text_of};
 use crate::report::Report;
 use crate::rule::Rule;
 use crate::status::Status;
 use crate::verdict::check;
 use mm_frame::LabelId;
-use mm_text::File;
+use mm_text::{File, Seed};
 use std::alloc::{AllocError, Global};
 
 /// The text of a reply, and the status that goes with it.
@@ -32,6 +36,21 @@ use std::alloc::{AllocError, Global};
 pub(crate) struct Reply {
     pub(crate) text: Vec<u8>,
     pub(crate) status: Status,
+}
+
+/// A question about the proof of a theorem.
+#[derive(Clone, Copy)]
+pub(crate) enum Question<'a> {
+    /// How the theorem is proved, step by step.
+    Show,
+    /// For its normal proof.
+    Normal,
+    /// For its packed proof.
+    Packed,
+    /// Whether this text is the same proof.
+    Same(&'a [u8]),
+    /// For the bytes of its file, with its proof in this form.
+    Saved(Form),
 }
 
 /// A line for the label of each of these numbers, after a question mark.
@@ -92,6 +111,31 @@ fn ask_text(alloc: Global, rule: Rule, label: &[u8]) -> Result<Vec<u8>, AllocErr
     Ok(out)
 }
 
+/// The line that says why a proof's text that is handed in is refused.
+#[tactic(auto, using(crate::proofs::Lines::three_words))]
+fn refused_text(alloc: Global, rule: Rule, step: usize) -> Result<Vec<u8>, AllocError>
+    ensures { IfOk result (λ text. text.items
+        ≡ line_with (codes "text") (code_of rule ∷ decimal step ∷ [])) }
+{
+    let mut out = Vec::new(alloc);
+    out.extend_from_slice(b"text")?;
+    push_word(&mut out, rule.code())?;
+    push_number(&mut out, step)?;
+    out.push(b'\n')?;
+    Ok(out)
+}
+
+/// The status where a proof's text that is handed in is refused.
+fn text_status(rule: Rule) -> Status
+    ensures { number_of result ≡ text_status_at rule }
+{
+    match rule {
+        Rule::A3 => Status::Incomplete,
+        Rule::L1 | Rule::F3 => Status::Stopped,
+        _ => Status::Refused,
+    }
+}
+
 /// The reply where a question about a label has no answer.
 fn ask_reply(alloc: Global, label: &[u8], fault: AskFault) -> Result<Reply, AllocError>
     ensures { IfOk result (λ reply.
@@ -109,6 +153,18 @@ fn ask_reply(alloc: Global, label: &[u8], fault: AskFault) -> Result<Reply, Allo
         AskFault::A3 => Ok(Reply {
             text: ask_text(alloc, Rule::A3, label)?,
             status: Status::Incomplete,
+        }),
+        AskFault::L2 => Ok(Reply {
+            text: ask_text(alloc, Rule::L2, label)?,
+            status: Status::Stopped,
+        }),
+        AskFault::F3 => Ok(Reply {
+            text: ask_text(alloc, Rule::F3, label)?,
+            status: Status::Stopped,
+        }),
+        AskFault::Text { rule, step } => Ok(Reply {
+            text: refused_text(alloc, rule, step)?,
+            status: text_status(rule),
         }),
         AskFault::Memory => Err(AllocError),
     }
@@ -145,6 +201,119 @@ fn show_answer(alloc: Global, checked: &Checked, label: &[u8]) -> Result<Reply, 
     }
 }
 
+/// The reply of a database in which nothing is at fault to the question for a normal proof.
+fn normal_answer(alloc: Global, checked: &Checked, label: &[u8]) -> Result<Reply, AllocError>
+    ensures { IfOk result (λ reply. (statements : List PlainStatement)
+        → Reads checked.now.files statements None
+        → IsNormalReply label.now statements reply.text.items (number_of reply.status)) }
+{
+    match checked.normal(alloc, label) {
+        Ok(text) => Ok(Reply {
+            text,
+            status: Status::Done,
+        }),
+        Err(fault) => ask_reply(alloc, label, fault),
+    }
+}
+
+/// The reply of a database in which nothing is at fault to the question for a packed proof.
+fn packed_answer(alloc: Global, checked: &Checked, label: &[u8]) -> Result<Reply, AllocError>
+    ensures { IfOk result (λ reply. (statements : List PlainStatement)
+        → Reads checked.now.files statements None
+        → IsPackedReply label.now statements reply.text.items (number_of reply.status)) }
+{
+    match checked.packed(alloc, label) {
+        Ok(text) => Ok(Reply {
+            text,
+            status: Status::Done,
+        }),
+        Err(fault) => ask_reply(alloc, label, fault),
+    }
+}
+
+/// The text of the answer whether two proofs are the same.
+fn sameness_text(alloc: Global, same: bool) -> Result<Vec<u8>, AllocError>
+    ensures { IfOk result (λ text. text.items ≡ same_text same) }
+{
+    if same {
+        Vec::from_slice(alloc, b"same\n")
+    } else {
+        Vec::from_slice(alloc, b"different\n")
+    }
+}
+
+/// The status of the answer whether two proofs are the same.
+fn sameness_status(same: bool) -> Status
+    ensures { number_of result ≡ same_status same }
+{
+    if same { Status::Done } else { Status::Refused }
+}
+
+/// The reply of a database in which nothing is at fault to the question whether a text is the same
+/// proof.
+fn same_answer(
+    alloc: Global,
+    checked: &Checked,
+    label: &[u8],
+    proof: &[u8],
+) -> Result<Reply, AllocError>
+    ensures { IfOk result (λ reply. (statements : List PlainStatement)
+        → Reads checked.now.files statements None
+        → IsSameReply label.now proof.now statements reply.text.items (number_of reply.status)) }
+{
+    match checked.same_text(alloc, label, proof) {
+        Ok(same) => {
+            let text = sameness_text(alloc, same)?;
+            let status = sameness_status(same);
+            Ok(Reply { text, status })
+        }
+        Err(fault) => ask_reply(alloc, label, fault),
+    }
+}
+
+/// The reply of a database in which nothing is at fault to the question for the bytes of a file with
+/// a proof in a form.
+fn saved_answer(
+    alloc: Global,
+    checked: &Checked,
+    label: &[u8],
+    form: Form,
+) -> Result<Reply, AllocError>
+    ensures { IfOk result (λ reply. (statements : List PlainStatement)
+        → Reads checked.now.files statements None
+        → IsSavedReply form checked.now.files label.now statements reply.text.items
+        (number_of reply.status)) }
+{
+    match checked.saved(alloc, label, form) {
+        Ok((_, text)) => Ok(Reply {
+            text,
+            status: Status::Done,
+        }),
+        Err(fault) => ask_reply(alloc, label, fault),
+    }
+}
+
+/// The reply of a database in which nothing is at fault to a question about a proof.
+fn answer_to(
+    alloc: Global,
+    checked: &Checked,
+    question: &Question,
+    label: &[u8],
+) -> Result<Reply, AllocError>
+    ensures { IfOk result (λ reply. (statements : List PlainStatement)
+        → Reads checked.now.files statements None
+        → Answers checked.now.files question.now label.now statements reply.text.items
+        (number_of reply.status)) }
+{
+    match question {
+        Question::Show => show_answer(alloc, checked, label),
+        Question::Normal => normal_answer(alloc, checked, label),
+        Question::Packed => packed_answer(alloc, checked, label),
+        Question::Same(text) => same_answer(alloc, checked, label, text),
+        Question::Saved(form) => saved_answer(alloc, checked, label, *form),
+    }
+}
+
 /// The reply that tells the verdict.
 fn verdict_reply(
     alloc: Global,
@@ -163,11 +332,11 @@ fn verdict_reply(
 }
 
 /// The reply to `check`.
-pub(crate) fn check_reply(alloc: Global, files: &[File]) -> Result<Reply, AllocError>
+pub(crate) fn check_reply(alloc: Global, seed: Seed, files: &[File]) -> Result<Reply, AllocError>
     ensures { IfOk result (λ reply.
         IsReply (map plain_file files.now) reply.text.items (number_of reply.status)) }
 {
-    let answer = check(alloc, files);
+    let answer = check(alloc, seed, files);
     let reply = verdict_reply(alloc, files, &answer);
     drop(answer);
     reply
@@ -194,42 +363,56 @@ fn axioms_or_verdict(
 }
 
 /// The reply to the question what the theorem with a label rests on.
-pub(crate) fn axioms_reply(alloc: Global, files: &[File], label: &[u8]) -> Result<Reply, AllocError>
+pub(crate) fn axioms_reply(
+    alloc: Global,
+    seed: Seed,
+    files: &[File],
+    label: &[u8],
+) -> Result<Reply, AllocError>
     ensures { IfOk result (λ reply. IsQuestionReply (map plain_file files.now)
         (IsAxiomsReply label.now) reply.text.items (number_of reply.status)) }
 {
-    let answer = check(alloc, files);
+    let answer = check(alloc, seed, files);
     let reply = axioms_or_verdict(alloc, files, &answer, label);
     drop(answer);
     reply
 }
 
-/// The reply to the question how the theorem with a label is proved, where this is the answer of
+/// The reply to a question about the proof of the theorem with a label, where this is the answer of
 /// `check`.
-fn show_or_verdict(
+fn answer_or_verdict(
     alloc: Global,
     files: &[File],
     answer: &Result<Checked, CheckFault>,
+    question: &Question,
     label: &[u8],
 ) -> Result<Reply, AllocError>
     requires verdict { IsVerdict (map plain_file files.now) answer.now }
     requires files { IfOk answer.now (KeepsFiles (map plain_file files.now)) }
     ensures { IfOk result (λ reply. IsQuestionReply (map plain_file files.now)
-        (IsShowReply label.now) reply.text.items (number_of reply.status)) }
+        (Answers (map plain_file files.now) question.now label.now) reply.text.items
+        (number_of reply.status)) }
 {
     match answer {
-        Ok(checked) => show_answer(alloc, checked, label),
+        Ok(checked) => answer_to(alloc, checked, question, label),
         Err(_) => verdict_reply(alloc, files, answer),
     }
 }
 
-/// The reply to the question how the theorem with a label is proved.
-pub(crate) fn show_reply(alloc: Global, files: &[File], label: &[u8]) -> Result<Reply, AllocError>
+/// The reply to a question about the proof of the theorem with a label.
+pub(crate) fn question_reply(
+    alloc: Global,
+    seed: Seed,
+    files: &[File],
+    question: &Question,
+    label: &[u8],
+) -> Result<Reply, AllocError>
     ensures { IfOk result (λ reply. IsQuestionReply (map plain_file files.now)
-        (IsShowReply label.now) reply.text.items (number_of reply.status)) }
+        (Answers (map plain_file files.now) question.now label.now) reply.text.items
+        (number_of reply.status)) }
 {
-    let answer = check(alloc, files);
-    let reply = show_or_verdict(alloc, files, &answer, label);
+    let answer = check(alloc, seed, files);
+    let reply = answer_or_verdict(alloc, files, &answer, question, label);
     drop(answer);
     reply
 }

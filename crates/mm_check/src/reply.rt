@@ -30,7 +30,7 @@ pub(crate) fn push_word(out: &mut Vec<u8>, word: &[u8]) -> Result<(), AllocError
 }
 
 /// Puts a space and a number, in decimal, at the end.
-fn push_number(out: &mut Vec<u8>, number: usize) -> Result<(), AllocError>
+pub(crate) fn push_number(out: &mut Vec<u8>, number: usize) -> Result<(), AllocError>
     ensures { OnOk result (out.new.items ≡ out.old.items ++ codes " " ++ decimal number) }
 {
     let mut digits = Buffer::new();

@@ -12,7 +12,7 @@ ghost use Rattle.mm_check.specs.Judged.{TakesNext};
 ghost use Rattle.mm_check.specs.Shown.{Stands};
 
 use crate::ask::AskFault;
-use mm_text::{File, Statement, Statements, TextFault};
+use mm_text::{File, Seed, Statement, Statements, TextFault};
 use std::alloc::{AllocError, Global};
 
 /// Whether a statement has a label.
@@ -26,12 +26,12 @@ fn has_label(statement: &Statement, label: &[u8]) -> bool
 }
 
 /// A reader of files that can be read.
-fn reader<'a>(alloc: Global, files: &'a [File<'a>]) -> Result<Statements<'a>, AskFault>
+fn reader<'a>(alloc: Global, seed: Seed, files: &'a [File<'a>]) -> Result<Statements<'a>, AskFault>
     requires { CanBeRead (map plain_file files.now) }
     ensures unread { IfOk result (IsUnread (map plain_file files.now)) }
     ensures memory { IfErr result (λ fault. fault ≡ Memory) }
 {
-    match Statements::new(alloc, files) {
+    match Statements::new(alloc, seed, files) {
         Ok(statements) => Ok(statements),
         Err(TextFault::Memory) => Err(AskFault::Memory),
         Err(TextFault::Load(_) | TextFault::Fault { .. }) => unreachable!(),
@@ -77,6 +77,7 @@ fn seek<'a>(
 /// Reads the files up to a statement with this label, which stands in them.
 pub(crate) fn reread<'a>(
     alloc: Global,
+    seed: Seed,
     files: &'a [File<'a>],
     label: &[u8],
 ) -> Result<Statement<'a>, AskFault>
@@ -89,7 +90,7 @@ pub(crate) fn reread<'a>(
     ensures formed { IfOk result (λ statement. HasForm (plain_statement statement)) }
     ensures memory { IfErr result (λ fault. fault ≡ Memory) }
 {
-    let mut statements = reader(alloc, files)?;
+    let mut statements = reader(alloc, seed, files)?;
     let mut statement = Statement::empty(alloc);
     let found = seek(&mut statements, label, &mut statement);
     drop(statements);

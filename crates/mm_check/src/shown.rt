@@ -1,24 +1,25 @@
 //! The listing of a proof, as text.
 
-ghost use Rattle.std.specs.Prelude.{◌≡◌, ◌<◌, ◌≤◌, ◌++◌, List, map, length, sum_by, OnOk, IfOk};
+ghost use Rattle.std.specs.Prelude.{◌≡◌, ◌<◌, ◌++◌, List, take, length, OnOk, IfOk};
 ghost use Rattle.std.specs.Prelude.{IfErr, decimal};
 ghost use Rattle.std.specs.List.{AllZip, AllByRecursion};
 ghost use Rattle.mm_frame.specs.Numbers.{symbols_of};
 ghost use Rattle.mm_proof.specs.Stores.{numbers_in};
-ghost use Rattle.mm_proof.specs.Parsed.{OfProof, SaySteps};
 ghost use Rattle.mm_proof.specs.Steps.{AreSteps};
-ghost use Rattle.mm_proof.specs.Listing.{StepName, ListedStep, IsNameOf, TellsStep};
+ghost use Rattle.mm_proof.specs.Verified.{OfMoves};
+ghost use Rattle.mm_proof.specs.Listing.{StepName, ListedStep, IsNameOf, TellsStep, AreLinesOf};
 ghost use Rattle.mm_check.specs.declared.ask.AskFault.TheVariants.{Memory};
 ghost use Rattle.mm_check.specs.Answer.{labels_at};
 ghost use Rattle.mm_check.specs.Shown.{name_text, symbols_text, step_text};
 ghost use Rattle.mm_check.specs.Shown.{listing_text as text_of_listing};
-ghost use Rattle.mm_check.specs.CodeShown.{IsProofOf, AreLinesFor, IsTextFor};
+ghost use Rattle.mm_check.specs.CodeShown.{AreProvedSteps, IsListingOf};
 
 use crate::ask::AskFault;
 use crate::reply::push_word;
+use crate::theorem::Theorem;
 use itoa::Buffer;
-use mm_frame::{Book, LabelId, Sym};
-use mm_proof::{Line, Name, Parsed, ProofFault, Steps, listing};
+use mm_frame::{Book, Sym};
+use mm_proof::{Line, Name, ProofFault, listing};
 use std::alloc::{AllocError, Global};
 
 /// Puts a number, in decimal, at the end.
@@ -85,60 +86,36 @@ fn text_of(alloc: Global, book: &Book, lines: &[Line]) -> Result<Vec<u8>, AllocE
     Ok(out)
 }
 
-/// The steps of a `$p`, whose complete proof has no fault.
-fn steps_of(alloc: Global, book: &Book, id: LabelId, tokens: &[&[u8]]) -> Result<Steps, AskFault>
-    requires proof { IsProofOf book.now.statements id.0 (map (λ t. t.now) tokens.now) }
-    requires filled { AllByRecursion (λ t. 1 ≤ length t) (map (λ t. t.now) tokens.now) }
-    requires room { sum_by length (map (λ t. t.now) tokens.now) ≤ 1073741824 }
-    ensures said { IfOk result (λ steps. OfProof book.now.statements id.0 (λ place s.
-        SaySteps book.now.statements place s (map (λ t. t.now) tokens.now) steps)) }
-    ensures usable { IfOk result (λ steps. AreSteps book.now.statements id.0 steps) }
-    ensures memory { IfErr result (λ fault. fault ≡ Memory) }
-{
-    match Steps::parse(alloc, book, id, tokens) {
-        Ok(Parsed::Steps(steps)) => Ok(steps),
-        Err(ProofFault::Memory) => Err(AskFault::Memory),
-        Ok(Parsed::Incomplete) => unreachable!(),
-        Err(ProofFault::Rule { .. }) => unreachable!(),
-    }
-}
-
-/// The lines of the listing of a `$p`, whose complete proof has no fault.
-fn lines_of(
-    alloc: Global,
-    book: &Book,
-    id: LabelId,
-    tokens: &[&[u8]],
-) -> Result<Vec<Line>, AskFault>
-    requires proof { IsProofOf book.now.statements id.0 (map (λ t. t.now) tokens.now) }
-    requires filled { AllByRecursion (λ t. 1 ≤ length t) (map (λ t. t.now) tokens.now) }
-    requires room { sum_by length (map (λ t. t.now) tokens.now) ≤ 1073741824 }
+/// The lines of the listing of a theorem's proof.
+fn lines_of(alloc: Global, book: &Book, theorem: &Theorem) -> Result<Vec<Line>, AskFault>
+    requires steps { AreSteps book.now.statements theorem.now.id.0 theorem.now.steps.moves }
+    requires proved { AreProvedSteps book.now.statements theorem.now.id.0 theorem.now.steps }
     ensures listed { IfOk result (λ lines.
-        AreLinesFor book.now.statements id.0 (map (λ t. t.now) tokens.now) lines.items) }
+        OfMoves book.now.statements theorem.now.id.0 theorem.now.steps.moves
+        (λ place s moves. AreLinesOf book.now.statements (take place book.now.statements) moves
+        lines.items)) }
     ensures memory { IfErr result (λ fault. fault ≡ Memory) }
 {
-    let steps = steps_of(alloc, book, id, tokens)?;
-    match listing(alloc, book, id, &steps) {
+    match listing(alloc, book, theorem.id, &theorem.steps) {
         Ok(lines) => Ok(lines),
         Err(ProofFault::Memory) => Err(AskFault::Memory),
         Err(ProofFault::Rule { .. }) => unreachable!(),
     }
 }
 
-/// The text of the listing of a `$p`, whose complete proof has no fault.
+/// The text of the listing of a theorem's proof.
 pub(crate) fn listing_text(
     alloc: Global,
     book: &Book,
-    id: LabelId,
-    tokens: &[&[u8]],
+    theorem: &Theorem,
 ) -> Result<Vec<u8>, AskFault>
-    requires proof { IsProofOf book.now.statements id.0 (map (λ t. t.now) tokens.now) }
-    requires filled { AllByRecursion (λ t. 1 ≤ length t) (map (λ t. t.now) tokens.now) }
-    requires room { sum_by length (map (λ t. t.now) tokens.now) ≤ 1073741824 }
+    requires steps { AreSteps book.now.statements theorem.now.id.0 theorem.now.steps.moves }
+    requires proved { AreProvedSteps book.now.statements theorem.now.id.0 theorem.now.steps }
     ensures text { IfOk result (λ text.
-        IsTextFor book.now.statements id.0 (map (λ t. t.now) tokens.now) text.items) }
+        OfMoves book.now.statements theorem.now.id.0 theorem.now.steps.moves
+        (λ place s moves. IsListingOf (take place book.now.statements) moves text.items)) }
     ensures memory { IfErr result (λ fault. fault ≡ Memory) }
 {
-    let lines = lines_of(alloc, book, id, tokens)?;
+    let lines = lines_of(alloc, book, theorem)?;
     Ok(text_of(alloc, book, &lines)?)
 }

@@ -1,10 +1,10 @@
 //! The verdict over a database.
 
-ghost use Rattle.std.specs.Prelude.{◌≡◌, ◌⊎◌, true, map, option_map, [], IfOk, IfErr, OnOk, Ok};
+ghost use Rattle.std.specs.Prelude.{◌≡◌, ◌≤◌, ◌⊎◌, true, map, option_map, [], IfOk, IfErr, OnOk, Ok};
 ghost use Rattle.std.specs.Prelude.{IsOkUnless};
 ghost use Rattle.mm_text.specs.Token.{plain_token};
 ghost use Rattle.mm_text.specs.Statement.{plain_statement, HasForm};
-ghost use Rattle.mm_text.specs.Files.{plain_file};
+ghost use Rattle.mm_text.specs.Files.{plain_file, total_bytes};
 ghost use Rattle.mm_text.specs.Remaining.{IsUnread};
 ghost use Rattle.mm_check.specs.Verdict.{ObeyTheProfile, CanBeRead};
 ghost use Rattle.mm_check.specs.Verdict.{text_refusal as text_refusal_at};
@@ -23,16 +23,20 @@ use crate::progress::Progress;
 use crate::rule::Rule;
 use mm_frame::RuleFault;
 use mm_proof::Prover;
-use mm_text::{File, Statement, Statements, TextFault, TextRule, Token};
+use mm_text::{File, Seed, Statement, Statements, TextFault, TextRule, Token};
 use std::alloc::Global;
 
 /// Why the files can't be taken as a whole.
-fn load<'a>(alloc: Global, files: &'a [File<'a>]) -> Result<Statements<'a>, CheckFault<'a>>
+fn load<'a>(
+    alloc: Global,
+    seed: Seed,
+    files: &'a [File<'a>],
+) -> Result<Statements<'a>, CheckFault<'a>>
     ensures unread { IfOk result (IsUnread (map plain_file files.now)) }
     ensures readable { OnOk result (CanBeRead (map plain_file files.now)) }
     ensures load { IfErr result (RefusesLoad (map plain_file files.now)) }
 {
-    match Statements::new(alloc, files) {
+    match Statements::new(alloc, seed, files) {
         Ok(statements) => Ok(statements),
         Err(TextFault::Load(rule)) => Err(CheckFault::Load(Rule::from(rule))),
         // No fault of the text comes before a token is read.
@@ -99,11 +103,11 @@ fn next<'a>(
 }
 
 /// The progress before any statement.
-fn beginning<'a>(alloc: Global) -> Result<Progress<'a>, CheckFault<'a>>
+fn beginning<'a>(alloc: Global, seed: Seed) -> Result<Progress<'a>, CheckFault<'a>>
     ensures ok { IfOk result (Knows []) }
     ensures fault { IsOkUnless result CheckFault.Memory }
 {
-    match Prover::new(alloc) {
+    match Prover::new(alloc, seed) {
         Ok(prover) => Ok(Progress {
             prover,
             count: 0,
@@ -116,8 +120,11 @@ fn beginning<'a>(alloc: Global) -> Result<Progress<'a>, CheckFault<'a>>
     }
 }
 
-// How many bytes the files have, or the most that a number holds.
-fn size_of(files: &[File]) -> usize {
+/// How many bytes the files hold in all; where they hold more than they may, some number.
+pub(crate) fn size_of(files: &[File]) -> usize
+    ensures { total_bytes (map plain_file files.now) ≤ 1073741824
+        → result ≡ total_bytes (map plain_file files.now) }
+{
     let mut size: usize = 0;
     for file in files {
         size = size.saturating_add(file.bytes.len());
@@ -159,6 +166,7 @@ fn judge_rest<'a>(
 /// Judges the statements that a new reader has, up to the first fault: what checking comes to.
 fn last_progress<'a>(
     alloc: Global,
+    seed: Seed,
     files: &[File<'a>],
     statements: &mut Statements<'a>,
 ) -> Result<Progress<'a>, CheckFault<'a>>
@@ -168,7 +176,7 @@ fn last_progress<'a>(
         IsAtEnd (map plain_file files.now) progress statements.new) }
     ensures refused { IfErr result (TellsVerdict (map plain_file files.now)) }
 {
-    let mut progress = beginning(alloc)?;
+    let mut progress = beginning(alloc, seed)?;
     match judge_rest(alloc, files, statements, &mut progress) {
         Ok(()) => Ok(progress),
         Err(fault) => {
@@ -179,15 +187,19 @@ fn last_progress<'a>(
 }
 
 /// Judges all statements of the files.
-fn judge_all<'a>(alloc: Global, files: &'a [File<'a>]) -> Result<Checked<'a>, CheckFault<'a>>
+fn judge_all<'a>(
+    alloc: Global,
+    seed: Seed,
+    files: &'a [File<'a>],
+) -> Result<Checked<'a>, CheckFault<'a>>
     ensures verdict { IsVerdict (map plain_file files.now) result }
     ensures labels { IfOk result (KeepsLabels (map plain_file files.now)) }
     ensures counts { IfOk result (KeepsCounts (map plain_file files.now)) }
     ensures uses { IfOk result (KeepsUses (map plain_file files.now)) }
     ensures files { IfOk result (KeepsFiles (map plain_file files.now)) }
 {
-    let mut statements = load(alloc, files)?;
-    let outcome = last_progress(alloc, files, &mut statements);
+    let mut statements = load(alloc, seed, files)?;
+    let outcome = last_progress(alloc, seed, files, &mut statements);
     drop(statements);
     let progress = outcome?;
     Ok(Checked::new(files, progress))
@@ -204,7 +216,11 @@ fn judge_all<'a>(alloc: Global, files: &'a [File<'a>]) -> Result<Checked<'a>, Ch
 ///
 /// `Load` where the files can't be taken as a whole, else `Refused` with the first statement at
 /// fault and its rule; `Memory` where a growth was refused, and nothing is said of the files then.
-pub fn check<'a>(alloc: Global, files: &'a [File<'a>]) -> Result<Checked<'a>, CheckFault<'a>>
+pub fn check<'a>(
+    alloc: Global,
+    seed: Seed,
+    files: &'a [File<'a>],
+) -> Result<Checked<'a>, CheckFault<'a>>
     // What is answered is the verdict over the files, and there is no other.
     ensures verdict { IsVerdict (map plain_file files.now) result }
     ensures only { IsOnlyVerdict (map plain_file files.now) result }
@@ -230,5 +246,5 @@ pub fn check<'a>(alloc: Global, files: &'a [File<'a>]) -> Result<Checked<'a>, Ch
     // A refusal's file is one of those that were handed in.
     ensures file { NamesFile (map plain_file files.now) result }
 {
-    judge_all(alloc, files)
+    judge_all(alloc, seed, files)
 }

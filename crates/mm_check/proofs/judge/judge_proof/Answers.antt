@@ -1,6 +1,5 @@
 -- The prover judges the last statement at its place.
-use Rattle.std.proofs.Common.{◌≡◌, List, map, length, ap, ◌∙◌}
-use Rattle.mm_text.specs.declared.token.Token.{Token}
+use Rattle.std.proofs.Common.{◌≡◌, length, ap, ◌∙◌}
 use Rattle.mm_text.specs.Statement.{PlainStatement, plain_statement}
 use Rattle.mm_frame.specs.Sentence.{sentence_of}
 use Rattle.mm_proof.specs.CodeSteps.{token_texts}

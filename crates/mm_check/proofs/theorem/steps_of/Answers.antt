@@ -1,6 +1,6 @@
 -- The proof is complete, and breaks no rule over the whole of it.
 use Rattle.std.proofs.Common.{Ok, Err, ap, ◌∙◌}
-use Rattle.mm_check.proofs.shown.steps_of.Goals as goal
+use Rattle.mm_check.proofs.theorem.steps_of.Goals as goal
 
 pub unreachable-requires : goal.unreachable-requires
 unreachable-requires c = c.requires.proof.complete (c.parse.ensures.incomplete (c.in-Ok-Incomplete.is ∙ ap Ok c.in-Ok-Incomplete.field-0-is))
@@ -14,3 +14,6 @@ unreachable-requires-in-Err-Rule c =
 
 pub returns-in-Ok-Steps-clause-said : goal.returns-in-Ok-Steps-clause-said
 returns-in-Ok-Steps-clause-said c = c.parse.ensures.steps c.in-Ok-Steps.steps (c.in-Ok-Steps.is ∙ ap Ok c.in-Ok-Steps.field-0-is)
+
+pub returns-in-Ok-Steps-clause-profile : goal.returns-in-Ok-Steps-clause-profile
+returns-in-Ok-Steps-clause-profile c = c.parse.ensures.profile c.in-Ok-Steps.steps (c.in-Ok-Steps.is ∙ ap Ok c.in-Ok-Steps.field-0-is)

@@ -1,0 +1,120 @@
+-- What is told of a handed text is told of it as a proof of the theorem.
+use Rattle.std.proofs.Common.{◌≡◌, ◌↔◌, ◌⊎◌, ℕ, Bool, IsTrue, List, take, inl, inr, refl, sym, subst}
+use Rattle.mm_text.specs.Statement.{PlainStatement}
+use Rattle.mm_code.specs.Words.{tokens_in}
+use Rattle.mm_frame.specs.Sentence.{Sentence, sentence_of}
+use Rattle.mm_proof.specs.declared.fault.ProofRule.{ProofRule}
+use Rattle.mm_proof.specs.declared.fault.ProofFault.{ProofFault}
+use Rattle.mm_proof.specs.declared.fault.ProofFault.TheVariants as proof_faults
+use Rattle.mm_proof.specs.declared.profile.Profile.{Profile}
+use Rattle.mm_proof.specs.declared.profile.Profile.TheVariants.{Lenient}
+use Rattle.mm_proof.specs.Profiles.{limit_of}
+use Rattle.mm_proof.specs.Moves.{Move}
+use Rattle.mm_proof.specs.OneTree.{MakeSameTree}
+use Rattle.mm_proof.specs.Steps.{AreNumberedMoves}
+use Rattle.mm_proof.specs.ReadSteps.{ReadSteps}
+use Rattle.mm_proof.specs.Parsed.{OfProof}
+use Rattle.mm_proof.specs.Verified.{OfMoves, FailsWith}
+use Rattle.mm_proof.specs.Proof.{IsWithin, IsProvedWithin, Prove}
+use Rattle.mm_check.specs.declared.rule.Rule.TheVariants.{A3}
+use Rattle.mm_check.specs.declared.ask.AskFault.{AskFault}
+use Rattle.mm_check.specs.declared.ask.AskFault.TheVariants as ask
+use Rattle.mm_check.specs.Verdict.{sentences, proof_rule}
+use Rattle.mm_check.specs.Rests.{IsAskFault}
+use Rattle.mm_check.specs.Compared.{IsProofText, IsTextFault, text_fault, IsCompared, IsSameFault}
+use Rattle.mm_check.specs.CodeShown.{SayWholeSteps, AreProvedSteps, AreStepsOf}
+use Rattle.mm_check.specs.CodeCompared.{IsLegalText, IsIllegal, FailsAs, IsUnproved, AreRefused, IsTextRefused, IsComparedWith}
+use Rattle.mm_check.proofs.Asked.{map-take}
+use Rattle.mm_check.proofs.Theorems.{of_theorem}
+
+-- ---- a fault of the handed proof
+
+pub fails_as : (e : ProofFault) (P : ProofRule → ℕ → Type 0) → ((rule : ProofRule) (step : ℕ) → e ≡ proof_faults.Rule rule step → P rule step)
+    → (text_fault e ≡ ask.Memory) ⊎ ((rule : ProofRule) × (step : ℕ) × (text_fault e ≡ ask.Text (proof_rule rule) step) × P rule step)
+fails_as (proof_faults.Rule rule step) P tells = inr (rule, step, refl, tells rule step refl)
+fails_as proof_faults.Memory P tells = inl refl
+
+-- where the moves fail, the tokens do
+pub unproved_of : (st : List Sentence) (id : ℕ) (tokens : List (List ℕ)) (steps : ReadSteps) (fault : AskFault) → steps.profile ≡ Lenient → SayWholeSteps st id tokens steps.moves
+    → FailsAs st id steps fault → IsUnproved st id tokens fault
+unproved_of st id tokens steps fault lenient said (inl memory) = inl memory
+unproved_of st id tokens steps fault lenient said (inr (rule, step, is, fails)) =
+    inr (
+      rule,
+      step,
+      is,
+      λ place s number.
+          let told = said place s number in
+          let fault : FailsWith (limit_of Lenient) st place s told.1 rule step =
+          subst (λ (p : Profile). FailsWith (limit_of p) st place s told.1 rule step) lenient (fails place s told.1 number told.3) in
+          inr (told.0, told.1, told.2, fault),
+    )
+
+-- ---- a fault of the handed text
+
+pub text_refused : (st : List Sentence) (id : ℕ) (text : List ℕ) (fault : AskFault) → IsLegalText text → AreRefused st id (tokens_in text) fault → IsTextRefused st id text fault
+text_refused st id text fault legal (inl (incomplete, is)) =
+    inr (A3, 0, is, λ place s number. inl (refl, (legal.taken, legal.printable, legal.plain, incomplete)))
+text_refused st id text fault legal (inr (complete, inl memory)) = inl memory
+text_refused st id text fault legal (inr (complete, inr (rule, step, is, fails))) =
+    let whole : IsProofText text = record { taken = legal.taken; printable = legal.printable; plain = legal.plain; complete = complete } in
+    inr (proof_rule rule, step, is, λ place s number. inr (whole, rule, refl, fails place s number))
+
+pub illegal_refused : (st : List Sentence) (id : ℕ) (text : List ℕ) (fault : AskFault) → IsIllegal text fault → IsTextRefused st id text fault
+illegal_refused st id text fault (inl memory) = inl memory
+illegal_refused st id text fault (inr (rule, breaks, is)) = inr (rule, 0, is, λ place s number. inl (refl, breaks))
+
+-- ---- the comparison
+
+pub compared_with : (st : List Sentence) (id : ℕ) (own : List (Move ℕ)) (steps : ReadSteps) (text : List ℕ) (same : Bool) → IsProofText text → steps.profile ≡ Lenient
+    → SayWholeSteps st id (tokens_in text) steps.moves → AreProvedSteps st id steps
+    → OfMoves st id own (λ place s moves. (others : List (Move (List ℕ))) → AreNumberedMoves st steps.moves others → IsTrue same ↔ MakeSameTree (take place st) moves others)
+    → IsComparedWith st id own text same
+compared_with st id own steps text same legal lenient said proved told = (
+  legal,
+  λ place s moves number numbered.
+      let says = said place s number in
+      let proves : Prove (IsWithin (limit_of Lenient)) (take place st) s says.1 =
+      subst (λ (p : Profile). Prove (IsWithin (limit_of p)) (take place st) s says.1) lenient (proved place s says.1 number says.3) in (
+        record { whole = says.0; moves = says.1; said = says.2; proves = proves },
+        told place s moves number numbered says.1 says.3,
+      ),
+)
+
+-- ---- told of the theorem
+
+pub compared_of : (ss : List Sentence) (statements : List PlainStatement) (label : List ℕ) (id : ℕ) (steps : List (Move ℕ)) (text : List ℕ) (same : Bool)
+    → ss ≡ sentences statements → AreStepsOf statements label id steps → IsComparedWith ss id steps text same → IsCompared statements label text same
+compared_of ss statements label id steps text same is r compared =
+    let told = of_theorem ss statements label id steps
+    (λ before s moves. (p : IsProvedWithin (IsWithin (limit_of Lenient)) before s (tokens_in text)) × (IsTrue same ↔ MakeSameTree before moves p.moves)) is r compared.1 in
+    record {
+      place = r.place;
+      s = r.s;
+      theorem = record { there = r.there; named = r.named; complete = r.complete };
+      moves = r.moves;
+      told = r.told;
+      legal = compared.0;
+      proved = told.0;
+      answer = told.1;
+    }
+
+pub same_fault : (ss : List Sentence) (statements : List PlainStatement) (label : List ℕ) (id : ℕ) (steps : List (Move ℕ)) (text : List ℕ) (fault : AskFault)
+    → ss ≡ sentences statements → AreStepsOf statements label id steps → IsTextRefused ss id text fault → IsSameFault statements label text fault
+same_fault ss statements label id steps text fault is r (inl memory) = subst (IsSameFault statements label text) (sym memory) tt
+same_fault ss statements label id steps text fault is r (inr (rule, step, told, refused)) =
+    let here : OfProof (sentences statements) id (λ place s. IsTextFault (take place (sentences statements)) s text rule step) =
+    subst (λ (x : List Sentence). OfProof x id (λ place s. IsTextFault (take place x) s text rule step)) is refused in
+    let broken : IsTextFault (sentences (take r.place statements)) (sentence_of r.s) text rule step =
+    subst (λ (x : List Sentence). IsTextFault x (sentence_of r.s) text rule step) (sym (map-take r.place statements)) (here r.place (sentence_of r.s) r.number) in
+    subst (IsSameFault statements label text) (sym told)
+    (r.place, r.s, record { there = r.there; named = r.named; complete = r.complete }, broken)
+
+pub asked_fault : (statements : List PlainStatement) (label text : List ℕ) (fault : AskFault) → IsAskFault statements label fault → IsSameFault statements label text fault
+asked_fault statements label text ask.A1 h = h
+asked_fault statements label text ask.A2 h = h
+asked_fault statements label text ask.A3 h = h
+asked_fault statements label text ask.L2 h = h
+asked_fault statements label text ask.F3 h = h
+asked_fault statements label text (ask.Text rule step) h = absurd h
+asked_fault statements label text ask.Memory h = h

@@ -1,0 +1,264 @@
+-- Files in which one proof is put in for another are accepted alike.
+use Rattle.std.proofs.Common.{◌≡◌, ◌≢◌, ℕ, zero, suc, ◌+◌, ◌≤◌, ◌<◌, List, [], ◌∷◌, ◌++◌, map, take, drop, length, filter, flat_map, count_by, cond, slice_get, slice_set, Bool, true, false, not, ◌&&◌, Some, None, ◌⊎◌, inl, inr, refl, sym, ap, subst, ◌∙◌, arith, length-append}
+use Rattle.std.proofs.Math.Seq.{take-append_seam}
+use Rattle.mm_text.specs.declared.fault.LoadRule.{LoadRule}
+use Rattle.mm_text.specs.declared.fault.LoadRule.TheVariants as load
+use Rattle.mm_text.specs.Token.{tokens_from}
+use Rattle.mm_text.specs.Statement.{PlainStatement, is_provable}
+use Rattle.mm_text.specs.Files.{PlainFile, total_bytes, BreaksLoad}
+use Rattle.mm_text.specs.Replaced.{placeless, with_bytes}
+use Rattle.mm_text.proofs.AlikeLists.{same_length}
+use Rattle.mm_frame.specs.Sentence.{Sentence, sentence_of}
+use Rattle.mm_frame.specs.Rules.{AllMeant}
+use Rattle.mm_frame.proofs.Counts.{count_append}
+use Rattle.mm_frame.proofs.Meant.{parts_at}
+use Rattle.mm_proof.specs.Tree.{Trees, none, tree, AnyExpression}
+use Rattle.mm_proof.specs.Moves.{Move}
+use Rattle.mm_proof.specs.Tokens.{SayMoves}
+use Rattle.mm_proof.specs.OneTree.{MakeTree}
+use Rattle.mm_proof.specs.Proof.{IsProvedWithin, IsProved, IsWithin}
+use Rattle.mm_proof.specs.declared.profile.Profile.TheVariants.{Lenient}
+use Rattle.mm_proof.specs.Profiles.{limit_of}
+use Rattle.mm_proof.proofs.SpelledProofs.{IsProofBy}
+use Rattle.mm_check.specs.Verdict.{Verdict, Load, Refused, Incomplete, Yes, HasVerdict, AreAccepted, AllObey, Obeys, CanBeRead, sentences, proof_of, is_proof, is_unproved, is_incomplete, label_of, unproved_of, proofs_of}
+use Rattle.mm_check.specs.Rests.{tree_of}
+use Rattle.mm_check.specs.Saved.{total_with}
+use Rattle.mm_check.proofs.AlikeVerdicts.{moved, obeys_alike, same_sentence, same_proof, same_sentences, same_proofs, same_unproved}
+use Rattle.mm_check.proofs.Asked.{same_tree}
+use Rattle.mm_check.proofs.Known.{unproved_of-append}
+use Rattle.mm_check.proofs.Rereading.{same_reading}
+use Rattle.mm_check.proofs.Saving.{with_bytes_is}
+use Rattle.mm_check.proofs.Trees.{any_proof}
+use Rattle.mm_check.proofs.Verdicts.{accepted_or_refused}
+use Rattle.mm_check.proofs.SavedTokens.{texts_in, words_after_feed, fine_complete}
+use Rattle.mm_check.proofs.SavedProofs.{ReadsAsProof, tree_is, tree_derives}
+use Rattle.mm_check.proofs.SavedStatements.{AreAlikeAt, alike_at, Carries, front_told}
+
+-- ---- the statement with its new proof
+
+abbrev pub nowhere : ℕ → ℕ → ℕ
+nowhere file at = 0
+
+-- with the tokens of a text as its proof
+abbrev pub put_anew : PlainStatement → List ℕ → PlainStatement
+put_anew s text = record s { proof = tokens_from s.first.file s.span.0 text; span = (s.span.0, s.span.0 + length text) }
+
+-- what is told of its proof
+pub record IsProvedAnew (front : List Sentence) (t : PlainStatement) (root : List ℕ) (below : Trees) : Type 0 where
+  pub complete : is_proof t ≡ true
+  pub within : IsProvedWithin (IsWithin (limit_of Lenient)) front (sentence_of t) (proof_of t)
+  pub proof : IsProved front (sentence_of t) (proof_of t)
+  pub spelled : tree_of proof ≡ tree root below none
+
+provable_part : (a b : Bool) → (a && b) ≡ true → a ≡ true
+provable_part true b h = refl
+provable_part false b h = absurd cc
+
+complete_again : (s : PlainStatement) (tokens : List (List ℕ)) → is_proof s ≡ true → is_incomplete tokens ≡ false → (is_provable s.kind && not (is_incomplete tokens)) ≡ true
+complete_again s tokens complete known =
+    let kind : is_provable s.kind ≡ true = provable_part (is_provable s.kind) (not (is_incomplete (proof_of s))) complete in
+    λ i. kind i && not (known i)
+
+pub proved_anew : (front : List Sentence) (s : PlainStatement) (root : List ℕ) (below : Trees) (moves : List (Move (List ℕ))) (text : List ℕ) → AllMeant front → is_proof s ≡ true
+    → IsProvedWithin (IsWithin (limit_of Lenient)) front (sentence_of s) (proof_of s) → SayMoves front (sentence_of s) (proof_of s) moves → MakeTree front moves root below
+    → ReadsAsProof front (sentence_of s) root below text → IsProvedAnew front (put_anew s (10 ∷ text)) root below
+proved_anew front s root below moves text meant complete old told made ra =
+    let t : PlainStatement = put_anew s (10 ∷ text) in
+    let Fits : List (List ℕ) → Type 0 = IsWithin (limit_of Lenient) in
+    let tokens : proof_of t ≡ ra.tokens = texts_in s.first.file s.span.0 (10 ∷ text) ∙ words_after_feed text ∙ ra.read in
+    let within : IsProofBy Fits front (sentence_of s) ra.tokens root below = ra.proves Fits (tree_derives Fits front (sentence_of s) (proof_of s) moves root below meant old told made) in
+    let any : IsProofBy AnyExpression front (sentence_of s) ra.tokens root below =
+    ra.proves AnyExpression (tree_derives AnyExpression front (sentence_of s) (proof_of s) moves root below meant (any_proof front (sentence_of s) (proof_of s) old) told made) in
+    let here : IsProofBy AnyExpression front (sentence_of s) (proof_of t) root below = subst (λ (ts : List (List ℕ)). IsProofBy AnyExpression front (sentence_of s) ts root below) (sym tokens) any in
+    record {
+      complete = complete_again s (proof_of t) complete (ap is_incomplete tokens ∙ fine_complete ra.tokens ra.fine);
+      within = subst (λ (ts : List (List ℕ)). IsProvedWithin Fits front (sentence_of s) ts) (sym tokens) within.0;
+      proof = here.0;
+      spelled = here.1;
+    }
+
+not_unproved : (a b : Bool) → (a && not b) ≡ true → (a && b) ≡ false
+not_unproved true true h = absurd cc
+not_unproved true false h = refl
+not_unproved false b h = absurd cc
+
+pub proof_not_unproved : (s : PlainStatement) → is_proof s ≡ true → is_unproved s ≡ false
+proof_not_unproved s h = not_unproved (is_provable s.kind) (is_incomplete (proof_of s)) h
+
+-- it is alike, one way and the other
+pub anew_alike : (front : List Sentence) (s : PlainStatement) (root : List ℕ) (below : Trees) (moves : List (Move (List ℕ))) (text : List ℕ) → AllMeant front → is_proof s ≡ true
+    → SayMoves front (sentence_of s) (proof_of s) moves → MakeTree front moves root below → IsProvedAnew front (put_anew s text) root below → AreAlikeAt front s (put_anew s text)
+anew_alike front s root below moves text meant complete told made new = record {
+  said = refl;
+  proofs = complete ∙ sym new.complete;
+  unproved = proof_not_unproved s complete ∙ sym (proof_not_unproved (put_anew s text) new.complete);
+  tree = λ c p. (new.proof, tree_is AnyExpression front (sentence_of s) (proof_of s) moves root below meant p told made ∙ sym new.spelled);
+}
+
+pub alike_anew : (front : List Sentence) (s : PlainStatement) (root : List ℕ) (below : Trees) (moves : List (Move (List ℕ))) (text : List ℕ) → AllMeant front → is_proof s ≡ true
+    → IsProved front (sentence_of s) (proof_of s) → SayMoves front (sentence_of s) (proof_of s) moves → MakeTree front moves root below → IsProvedAnew front (put_anew s text) root below
+    → AreAlikeAt front (put_anew s text) s
+alike_anew front s root below moves text meant complete old told made new = record {
+  said = refl;
+  proofs = new.complete ∙ sym complete;
+  unproved = proof_not_unproved (put_anew s text) new.complete ∙ sym (proof_not_unproved s complete);
+  tree = λ c p. (
+    old,
+    same_tree front (sentence_of s) (proof_of (put_anew s text)) p new.proof meant ∙ new.spelled
+        ∙ sym (tree_is AnyExpression front (sentence_of s) (proof_of s) moves root below meant old told made),
+  );
+}
+
+-- ---- the statements, one by one
+
+abbrev pub Near : ℕ → (s t : PlainStatement) → (place : ℕ) → (x y : PlainStatement) → Type 0
+Near n s t place x y = ((sentence_of x ≡ sentence_of y) × (proof_of x ≡ proof_of y)) ⊎ ((place ≡ n) × ((x ≡ s) × (y ≡ t)))
+
+placeless_at : (after later : List PlainStatement) → map placeless after ≡ map placeless later → (place : ℕ) (x : PlainStatement) → slice_get after place ≡ Some x
+    → (y : PlainStatement) × (slice_get later place ≡ Some y) × (placeless x ≡ placeless y)
+placeless_at [] later same place x e = absurd cc
+placeless_at (a ∷ after) [] same place x e = absurd cc
+placeless_at (a ∷ after) (l ∷ later) same zero x e =
+    let is : a ≡ x = cc in
+    let head : placeless a ≡ placeless l = cc in
+    (l, refl, subst (λ (u : PlainStatement). placeless u ≡ placeless l) is head)
+placeless_at (a ∷ after) (l ∷ later) same (suc place) x e = let tail : map placeless after ≡ map placeless later = cc in placeless_at after later tail place x e
+
+pub near_at : (before : List PlainStatement) (s t : PlainStatement) (after later : List PlainStatement) → map placeless after ≡ map placeless later → (place : ℕ) (x : PlainStatement)
+    → slice_get (before ++ s ∷ after) place ≡ Some x → (y : PlainStatement) × (slice_get (before ++ t ∷ later) place ≡ Some y) × Near (length before) s t place x y
+near_at [] s t after later same zero x e = let is : s ≡ x = cc in (t, refl, inr (refl, (sym is, refl)))
+near_at [] s t after later same (suc place) x e =
+    let (y, there, is) = placeless_at after later same place x e in
+    (y, there, inl (same_sentence nowhere nowhere x y is, same_proof nowhere nowhere x y is))
+near_at (b ∷ before) s t after later same zero x e = let is : b ≡ x = cc in (b, refl, inl (ap sentence_of (sym is), ap proof_of (sym is)))
+near_at (b ∷ before) s t after later same (suc place) x e =
+    let (y, there, near) = near_at before s t after later same place x e in (y, there, further near)
+  where
+    further : {y : PlainStatement} → Near (length before) s t place x y → Near (suc (length before)) s t (suc place) x y
+    further (inl h) = inl h
+    further (inr (is, both)) = inr (ap suc is, both)
+
+pub said_alike : (before : List PlainStatement) (s t : PlainStatement) (after later : List PlainStatement) → sentence_of s ≡ sentence_of t → map placeless after ≡ map placeless later
+    → sentences (before ++ s ∷ after) ≡ sentences (before ++ t ∷ later)
+said_alike [] s t after later own same = let rest = same_sentences nowhere nowhere after later same in λ i. own i ∷ rest i
+said_alike (b ∷ before) s t after later own same = ap (λ (ss : List Sentence). sentence_of b ∷ ss) (said_alike before s t after later own same)
+
+pub carries_of : (before : List PlainStatement) (s t : PlainStatement) (after later : List PlainStatement) → map placeless after ≡ map placeless later → AreAlikeAt (sentences before) s t
+    → Carries (before ++ s ∷ after) (before ++ t ∷ later)
+carries_of before s t after later same own = record {
+  told = said_alike before s t after later own.said same;
+  at = λ place x e.
+      let (y, there, near) = near_at before s t after later same place x e in (
+        y,
+        there,
+        elim near [
+          | inl both ↦ alike_at (sentences (take place (before ++ s ∷ after))) x y both.0 both.1
+          | inr (is, both) ↦
+              let front : sentences before ≡ sentences (take place (before ++ s ∷ after)) =
+              ap sentences (sym (ap (λ (n : ℕ). take n (before ++ s ∷ after)) is ∙ take-append_seam before (s ∷ after))) in
+              moved AreAlikeAt (sentences before) (sentences (take place (before ++ s ∷ after))) s x t y front (sym both.0) (sym both.1) own
+        ],
+      );
+}
+
+-- ---- each obeys the rules
+
+seam_at : (before : List PlainStatement) (s : PlainStatement) (after : List PlainStatement) → slice_get (before ++ s ∷ after) (length before) ≡ Some s
+seam_at [] s after = refl
+seam_at (b ∷ before) s after = seam_at before s after
+
+obeys_at : (before : List PlainStatement) (s t : PlainStatement) (after later : List PlainStatement) → sentence_of s ≡ sentence_of t → map placeless after ≡ map placeless later → AllObey (before ++ s ∷ after)
+    → Obeys (sentences before) t → (place : ℕ) (y : PlainStatement) → slice_get (before ++ t ∷ later) place ≡ Some y → Obeys (sentences (take place (before ++ t ∷ later))) y
+obeys_at before s t after later own same obeyed new place y there =
+    let st : List PlainStatement = before ++ s ∷ after in
+    let su : List PlainStatement = before ++ t ∷ later in
+    let (x, at, near) = near_at before t s later after (sym same) place y there in
+    let front : sentences (take place st) ≡ sentences (take place su) = front_told st su place (said_alike before s t after later own same) in
+    elim near [
+      | inl both ↦ obeys_alike (sentences (take place st)) (sentences (take place su)) x y front (sym both.0) (sym both.1) (obeyed (take place st) (drop (suc place) st) x (parts_at st place x at))
+      | inr (is, both) ↦
+          let here : sentences before ≡ sentences (take place su) = ap sentences (sym (ap (λ (n : ℕ). take n su) is ∙ take-append_seam before (t ∷ later))) in
+          subst (λ (u : PlainStatement). Obeys (sentences (take place su)) u) (sym both.0) (subst (λ (ss : List Sentence). Obeys ss t) here new)
+    ]
+
+pub all_obey_anew : (before : List PlainStatement) (s t : PlainStatement) (after later : List PlainStatement) → sentence_of s ≡ sentence_of t → map placeless after ≡ map placeless later → AllObey (before ++ s ∷ after)
+    → Obeys (sentences before) t → AllObey (before ++ t ∷ later)
+all_obey_anew before s t after later own same obeyed new earlier rest y split =
+    let su : List PlainStatement = before ++ t ∷ later in
+    let there : slice_get su (length earlier) ≡ Some y = ap (λ (ss : List PlainStatement). slice_get ss (length earlier)) split ∙ seam_at earlier y rest in
+    let front : take (length earlier) su ≡ earlier = ap (take (length earlier)) split ∙ take-append_seam earlier (y ∷ rest) in
+    subst (λ (ss : List PlainStatement). Obeys (sentences ss) y) front (obeys_at before s t after later own same obeyed new (length earlier) y there)
+
+-- ---- the files as a whole
+
+named_back : (files : List PlainFile) (k : ℕ) (f : PlainFile) (bytes : List ℕ) → slice_get files k ≡ Some f → (i : ℕ) (x : PlainFile) → slice_get (slice_set files k (record f { bytes = bytes })) i ≡ Some x
+    → (y : PlainFile) × (slice_get files i ≡ Some y) × (y.name ≡ x.name)
+named_back [] k f bytes there i x e = absurd cc
+named_back (h ∷ files) zero f bytes there zero x e =
+    let is : h ≡ f = cc in
+    let same : record f { bytes = bytes } ≡ x = cc in
+    (h, refl, ap (λ (u : PlainFile). u.name) is ∙ ap (λ (u : PlainFile). u.name) same)
+named_back (h ∷ files) zero f bytes there (suc i) x e = (x, e, refl)
+named_back (h ∷ files) (suc k) f bytes there zero x e = (x, e, refl)
+named_back (h ∷ files) (suc k) f bytes there (suc i) x e = named_back files k f bytes there i x e
+
+none_back : (files : List PlainFile) (k : ℕ) (f g : PlainFile) → slice_get files k ≡ Some f → slice_set files k g ≡ [] → ⊥
+none_back [] k f g there e = absurd cc
+none_back (h ∷ files) zero f g there e = absurd cc
+none_back (h ∷ files) (suc k) f g there e = absurd cc
+
+some_files : (files : List PlainFile) (k : ℕ) (f : PlainFile) → slice_get files k ≡ Some f → files ≢ []
+some_files [] k f there e = absurd cc
+some_files (h ∷ files) k f there e = absurd cc
+
+pub readable_anew : (files : List PlainFile) (k : ℕ) (f : PlainFile) (bytes : List ℕ) → slice_get files k ≡ Some f → total_with files k bytes ≤ 1073741824 → CanBeRead files → CanBeRead (with_bytes files k bytes)
+readable_anew files k f bytes there fits readable rule broken = by_rule rule (subst (λ (fs : List PlainFile). BreaksLoad fs rule) (with_bytes_is files k f bytes there) broken)
+  where
+    others : List PlainFile
+    others = slice_set files k (record f { bytes = bytes })
+
+    small : total_bytes (slice_set files k (record f { bytes = bytes })) ≤ 1073741824
+    small = subst (λ (fs : List PlainFile). total_bytes fs ≤ 1073741824) (with_bytes_is files k f bytes there) fits
+
+    by_rule : (r : LoadRule) → BreaksLoad (slice_set files k (record f { bytes = bytes })) r → ⊥
+    by_rule load.F1 e = none_back files k f (record f { bytes = bytes }) there e
+    by_rule load.F2 (some, twins) =
+        let (x, at_i, one) = named_back files k f bytes there twins.i twins.one twins.at_i in
+        let (y, at_j, two) = named_back files k f bytes there twins.j twins.other twins.at_j in
+        readable load.F2 (some_files files k f there, record { i = twins.i; j = twins.j; one = x; other = y; apart = twins.apart; at_i = at_i; at_j = at_j; same = one ∙ twins.same ∙ sym two })
+    by_rule load.F3 e = let large : 1073741824 < total_bytes (slice_set files k (record f { bytes = bytes })) = e.2 in let less = small in absurd (omega (arith, large, less))
+
+-- ---- the verdict
+
+pub verdict_carried : (files others : List PlainFile) (st su : List PlainStatement) → AreAccepted files st → AreAccepted others su → unproved_of st ≡ unproved_of su → length st ≡ length su → proofs_of st ≡ proofs_of su
+    → (v : Verdict) → HasVerdict files v → HasVerdict others v
+verdict_carried files others st su one other unproved long proofs (Load rule) (broken, breaks, is) = absurd (one.readable broken breaks)
+verdict_carried files others st su one other unproved long proofs (Refused refusal) holds = absurd (accepted_or_refused files st holds.1 holds.2 refusal one holds.3 holds.4)
+verdict_carried files others st su one other unproved long proofs (Incomplete labels) (ss, accepted, is, some) =
+    let same : ss ≡ st = (same_reading files ss st None None accepted.reads one.reads).0 in
+    (su, other, is ∙ ap unproved_of same ∙ unproved, some)
+verdict_carried files others st su one other unproved long proofs (Yes count done) (ss, accepted, none_left, counted, proved) =
+    let same : ss ≡ st = (same_reading files ss st None None accepted.reads one.reads).0 in
+    (su, other, sym unproved ∙ sym (ap unproved_of same) ∙ none_left, counted ∙ ap (λ (l : List PlainStatement). length l) same ∙ long, proved ∙ ap proofs_of same ∙ proofs)
+
+skipped : (s : PlainStatement) (after : List PlainStatement) → is_unproved s ≡ false → unproved_of (s ∷ after) ≡ unproved_of after
+skipped s after e = ap (λ (b : Bool). flat_map label_of (cond b (s ∷ filter is_unproved after) (filter is_unproved after))) e
+
+pub same_left : (before : List PlainStatement) (s t : PlainStatement) (after later : List PlainStatement) → is_unproved s ≡ false → is_unproved t ≡ false → map placeless after ≡ map placeless later
+    → unproved_of (before ++ s ∷ after) ≡ unproved_of (before ++ t ∷ later)
+same_left before s t after later e f same =
+    unproved_of-append before (s ∷ after)
+    ∙ ap (λ (ls : List (List ℕ)). unproved_of before ++ ls) (skipped s after e ∙ same_unproved nowhere nowhere after later same ∙ sym (skipped t later f))
+    ∙ sym (unproved_of-append before (t ∷ later))
+
+pub same_count : (before : List PlainStatement) (s t : PlainStatement) (after later : List PlainStatement) → is_proof s ≡ is_proof t → map placeless after ≡ map placeless later
+    → proofs_of (before ++ s ∷ after) ≡ proofs_of (before ++ t ∷ later)
+same_count before s t after later e same =
+    let one : count_by is_proof (s ∷ []) ≡ count_by is_proof (t ∷ []) = ap (λ (b : Bool). 0 + cond b 1 0) e in
+    let own : count_by is_proof (s ∷ after) ≡ count_by is_proof (t ∷ later) =
+    count_append is_proof (s ∷ []) after ∙ (λ i. one i + same_proofs nowhere nowhere after later same i) ∙ sym (count_append is_proof (t ∷ []) later) in
+    count_append is_proof before (s ∷ after) ∙ ap (λ (n : ℕ). proofs_of before + n) own ∙ sym (count_append is_proof before (t ∷ later))
+
+pub same_many : (before : List PlainStatement) (s t : PlainStatement) (after later : List PlainStatement) → map placeless after ≡ map placeless later → length (before ++ s ∷ after) ≡ length (before ++ t ∷ later)
+same_many before s t after later same =
+    length-append before (s ∷ after) ∙ ap (λ (n : ℕ). length before + suc n) (same_length placeless placeless after later same) ∙ sym (length-append before (t ∷ later))

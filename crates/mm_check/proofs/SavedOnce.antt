@@ -1,0 +1,336 @@
+-- Saving changes nothing that is answered, and saving again changes nothing.
+use Rattle.std.proofs.Common.{◌≡◌, ℕ, suc, ◌+◌, ◌≤◌, ◌<◌, List, [], ◌∷◌, ◌++◌, map, take, drop, length, slice_get, true, Some, None, inl, inr, refl, sym, ap, subst, ◌∙◌, arith, append_assoc, length-append, is_some}
+use Rattle.std.proofs.Math.Seq.{take-append_seam, drop-append_seam}
+use Rattle.mm_text.specs.Statement.{PlainStatement}
+use Rattle.mm_text.specs.Files.{PlainFile}
+use Rattle.mm_text.specs.Replaced.{placeless, with_span, with_bytes, IsProofSpan, AreReadBut}
+use Rattle.mm_text.proofs.ReplacedFiles.{replaced_proofs_are_read_holds}
+use Rattle.mm_text.proofs.ReplacedItems.{some_same, set_there}
+use Rattle.mm_text.proofs.ProofSpans.{proofs_stand_in_spans_holds}
+use Rattle.mm_code.specs.declared.code.Code.{Code}
+use Rattle.mm_code.specs.Letters.{SpellsCodes}
+use Rattle.mm_code.specs.Layout.{CompressedLaidOut}
+use Rattle.mm_code.proofs.OneLayout.{one_text_of_tokens, one_text_of_compressed}
+use Rattle.mm_code.proofs.Unique.{one_text_only}
+use Rattle.mm_text.specs.Token.{IsLabel}
+use Rattle.mm_frame.specs.Sentence.{Sentence, SomeSentence, sentence_of, IsLabelled}
+use Rattle.mm_frame.specs.Rules.{AllMeant}
+use Rattle.mm_frame.specs.Numbers.{labelled_sentences}
+use Rattle.mm_frame.proofs.Meant.{parts_at, allmeant_front, one_label}
+use Rattle.mm_proof.specs.Tree.{Trees, none, tree, spelling, Fit}
+use Rattle.mm_proof.specs.Moves.{Move, Makes}
+use Rattle.mm_proof.specs.Tokens.{SayMoves}
+use Rattle.mm_proof.specs.OneTree.{MakeTree}
+use Rattle.mm_proof.specs.Proof.{IsProvedWithin, IsWithin}
+use Rattle.mm_proof.specs.declared.profile.Profile.TheVariants.{Lenient}
+use Rattle.mm_proof.specs.Profiles.{limit_of}
+use Rattle.mm_proof.proofs.Making.{makes_once, derive_fits}
+use Rattle.mm_proof.proofs.PairOnce.{one_packed_holds}
+use Rattle.mm_proof.proofs.SaidMoves.{moves_once}
+use Rattle.mm_check.specs.declared.form.Form.{Form}
+use Rattle.mm_check.specs.declared.form.Form.TheVariants as form
+use Rattle.mm_check.specs.declared.ask.AskFault.TheVariants as ask
+use Rattle.mm_check.specs.Verdict.{AreAccepted, AllObey, Obeys, sentences, proof_of, is_proof, is_unproved}
+use Rattle.mm_check.specs.Rests.{IsNamed, IsAskFault}
+use Rattle.mm_check.specs.Forms.{HasProofTree, most_labels}
+use Rattle.mm_check.specs.Saved.{IsTextIn, IsSaved, FitsSaved, IsFormFault, total_with}
+use Rattle.mm_check.specs.SavedLaws.{SayTheSame, SavingChangesNoAnswer, OneSaved, OneSaveAnswer, SavingAgainChangesNothing}
+use Rattle.mm_check.proofs.Asked.{map-take}
+use Rattle.mm_check.proofs.Rereading.{same_reading, said_there, one_stands}
+use Rattle.mm_check.proofs.Saving.{provable_proof, with_bytes_is}
+use Rattle.mm_check.proofs.Trees.{any_proof}
+use Rattle.mm_check.proofs.Unproved.{all_meant}
+use Rattle.mm_check.proofs.SavedTokens.{is_proof_text}
+use Rattle.mm_check.proofs.SavedProofs.{have_labels, ReadsAsProof, text_reads, tree_derives}
+use Rattle.mm_check.proofs.SavedStatements.{Carries, tree_carried, report_carried}
+use Rattle.mm_check.proofs.SavedFiles.{put_anew, IsProvedAnew, proved_anew, proof_not_unproved, anew_alike, alike_anew, carries_of, all_obey_anew, readable_anew, verdict_carried, same_left, same_count, same_many}
+
+pub front_meant : (statements : List PlainStatement) (n : ℕ) → AllObey statements → AllMeant (sentences (take n statements))
+front_meant statements n obeyed = subst AllMeant (sym (map-take n statements)) (allmeant_front (sentences statements) n (all_meant statements obeyed))
+
+-- ---- the files with the text put in
+
+-- what is known of a theorem whose proof is to be written anew
+pub record IsToPut (f : Form) (files : List PlainFile) (before : List PlainStatement) (s : PlainStatement) (after : List PlainStatement) (file : PlainFile) (text : List ℕ) : Type 0 where
+  pub accepted : AreAccepted files (before ++ s ∷ after)
+  pub complete : is_proof s ≡ true
+  pub root : List ℕ
+  pub below : Trees
+  pub moves : List (Move (List ℕ))
+  pub told : SayMoves (sentences before) (sentence_of s) (proof_of s) moves
+  pub made : MakeTree (sentences before) moves root below
+  pub laid : IsTextIn f (sentences before) (sentence_of s) (tree root below none) text
+  pub handed : slice_get files s.first.file ≡ Some file
+  pub fits : total_with files s.first.file (with_span file.bytes s.span (10 ∷ text)) ≤ 1073741824
+
+abbrev files_anew : List PlainFile → PlainStatement → PlainFile → List ℕ → List PlainFile
+files_anew files s file text = with_bytes files s.first.file (with_span file.bytes s.span (10 ∷ text))
+
+meant_before : (before : List PlainStatement) (s : PlainStatement) (after : List PlainStatement) → AllObey (before ++ s ∷ after) → AllMeant (sentences before)
+meant_before before s after obeyed =
+    subst (λ (ss : List PlainStatement). AllMeant (sentences ss)) (take-append_seam before (s ∷ after)) (front_meant (before ++ s ∷ after) (length before) obeyed)
+
+-- the theorem's new proof
+pub anew_of : (f : Form) (files : List PlainFile) (before : List PlainStatement) (s : PlainStatement) (after : List PlainStatement) (file : PlainFile) (text : List ℕ)
+    → (p : IsToPut f files before s after file text) → ReadsAsProof (sentences before) (sentence_of s) p.root p.below text × IsProvedAnew (sentences before) (put_anew s (10 ∷ text)) p.root p.below
+anew_of f files before s after file text p =
+    let front : List Sentence = sentences before in
+    let Fits : List (List ℕ) → Type 0 = IsWithin (limit_of Lenient) in
+    let meant : AllMeant front = meant_before before s after p.accepted.obeyed in
+    let old : IsProvedWithin Fits front (sentence_of s) (proof_of s) = (p.accepted.obeyed before after s refl).proved p.complete in
+    let fit : Fit front (tree p.root p.below none) =
+    derive_fits Fits front (tree p.root p.below none) ((sentence_of s).symbols ∷ []) (tree_derives Fits front (sentence_of s) (proof_of s) p.moves p.root p.below meant old p.told p.made) in
+    let labels = subst (λ (ss : List PlainStatement). (label : List ℕ) → SomeSentence (sentences ss) (IsLabelled label) → IsLabel label × (1 ≤ length label)) (take-append_seam before (s ∷ after))
+    (have_labels files (before ++ s ∷ after) (length before) p.accepted.reads) in
+    let ra = text_reads f front (sentence_of s) p.root p.below text meant labels fit p.laid in
+    (ra, proved_anew front s p.root p.below p.moves text meant p.complete old p.told p.made ra)
+
+pub record ArePutAnew (files : List PlainFile) (before : List PlainStatement) (s : PlainStatement) (after : List PlainStatement) (file : PlainFile) (text : List ℕ) : Type 0 where
+  pub later : List PlainStatement
+  pub accepted : AreAccepted (files_anew files s file text) (before ++ put_anew s (10 ∷ text) ∷ later)
+  pub same : map placeless after ≡ map placeless later
+
+-- the files with the text put in are accepted
+pub are_put_anew : (f : Form) (files : List PlainFile) (before : List PlainStatement) (s : PlainStatement) (after : List PlainStatement) (file : PlainFile) (text : List ℕ) → IsToPut f files before s after file text
+    → ArePutAnew files before s after file text
+are_put_anew f files before s after file text p =
+    let both = anew_of f files before s after file text p in
+    let ra = both.0 in
+    let new = both.1 in
+    let read : AreReadBut (files_anew files s file text) before s after (10 ∷ text) =
+    replaced_proofs_are_read_holds files before s after file (10 ∷ text) p.accepted.reads (provable_proof s p.complete) p.handed (is_proof_text text ra.tokens ra.read ra.fine ra.ends) in
+    let obeys : Obeys (sentences before) (put_anew s (10 ∷ text)) = record { meant = (p.accepted.obeyed before after s refl).meant; proved = λ complete. new.within } in
+    record {
+      later = read.later;
+      accepted = record {
+        readable = readable_anew files s.first.file file (with_span file.bytes s.span (10 ∷ text)) p.handed p.fits p.accepted.readable;
+        reads = read.reads;
+        obeyed = all_obey_anew before s (put_anew s (10 ∷ text)) after read.later refl read.same p.accepted.obeyed obeys;
+      };
+      same = read.same;
+    }
+
+pub same_said : (f : Form) (files : List PlainFile) (before : List PlainStatement) (s : PlainStatement) (after : List PlainStatement) (file : PlainFile) (text : List ℕ) (p : IsToPut f files before s after file text)
+    → (put : ArePutAnew files before s after file text) → SayTheSame files (files_anew files s file text) (before ++ s ∷ after) (before ++ put_anew s (10 ∷ text) ∷ put.later)
+same_said f files before s after file text p put =
+    let front : List Sentence = sentences before in
+    let t : PlainStatement = put_anew s (10 ∷ text) in
+    let st : List PlainStatement = before ++ s ∷ after in
+    let su : List PlainStatement = before ++ t ∷ put.later in
+    let others : List PlainFile = files_anew files s file text in
+    let meant : AllMeant front = meant_before before s after p.accepted.obeyed in
+    let old = any_proof front (sentence_of s) (proof_of s) ((p.accepted.obeyed before after s refl).proved p.complete) in
+    let both = anew_of f files before s after file text p in
+    let new : IsProvedAnew front t p.root p.below = both.1 in
+    let to : Carries st su = carries_of before s t after put.later put.same (anew_alike front s p.root p.below p.moves (10 ∷ text) meant p.complete p.told p.made new) in
+    let from : Carries su st = carries_of before t s put.later after (sym put.same) (alike_anew front s p.root p.below p.moves (10 ∷ text) meant p.complete old p.told p.made new) in
+    let left = same_left before s t after put.later (proof_not_unproved s p.complete) (proof_not_unproved t new.complete) put.same in
+    let many = same_many before s t after put.later put.same in
+    let count = same_count before s t after put.later (p.complete ∙ sym new.complete) put.same in
+    record {
+      accepted = put.accepted;
+      told = to.told;
+      verdict = λ v. (verdict_carried files others st su p.accepted put.accepted left many count v, verdict_carried others files su st put.accepted p.accepted (sym left) (sym many) (sym count) v);
+      trees = λ id place u. (tree_carried st su id place u to, tree_carried su st id place u from);
+      rests = λ label axioms unproved. (report_carried st su label axioms unproved to from, report_carried su st label axioms unproved from to);
+    }
+
+-- ---- what is saved is put in
+
+pub to_put : (f : Form) (files : List PlainFile) (statements : List PlainStatement) (label : List ℕ) (number : ℕ) (bytes : List ℕ) → AreAccepted files statements → (sv : IsSaved f files statements label number bytes)
+    → FitsSaved files number bytes → IsToPut f files (take sv.place statements) sv.s (drop (suc sv.place) statements) sv.file sv.text
+to_put f files statements label number bytes accepted sv fits =
+    let parted : statements ≡ take sv.place statements ++ sv.s ∷ drop (suc sv.place) statements = parts_at statements sv.place sv.s sv.proof.there in
+    record {
+      accepted = subst (λ (ss : List PlainStatement). AreAccepted files ss) parted accepted;
+      complete = sv.proof.complete;
+      root = sv.root;
+      below = sv.below;
+      moves = sv.proof.moves;
+      told = sv.proof.told;
+      made = sv.proof.made;
+      laid = sv.laid;
+      handed = ap (slice_get files) (sym sv.home) ∙ sv.handed;
+      fits = subst (λ (n : ℕ). n ≤ 1073741824) (λ i. total_with files (sv.home i) (sv.whole i)) fits;
+    }
+
+pub saving_changes_no_answer : SavingChangesNoAnswer
+saving_changes_no_answer f files statements label number bytes accepted sv fits =
+    let before : List PlainStatement = take sv.place statements in
+    let after : List PlainStatement = drop (suc sv.place) statements in
+    let parted : statements ≡ before ++ sv.s ∷ after = parts_at statements sv.place sv.s sv.proof.there in
+    let p = to_put f files statements label number bytes accepted sv fits in
+    let put = are_put_anew f files before sv.s after sv.file sv.text p in
+    let su : List PlainStatement = before ++ put_anew sv.s (10 ∷ sv.text) ∷ put.later in
+    let others : files_anew files sv.s sv.file sv.text ≡ with_bytes files number bytes = λ i. with_bytes files (sym sv.home i) (sym sv.whole i) in (
+      su,
+      subst (λ (ss : List PlainStatement). SayTheSame files (with_bytes files number bytes) ss su) (sym parted)
+          (subst (λ (fs : List PlainFile). SayTheSame files fs (before ++ sv.s ∷ after) su) others (same_said f files before sv.s after sv.file sv.text p put)),
+    )
+
+-- ---- what is saved is one
+
+texts_once : (f : Form) (front : List Sentence) (s : Sentence) (root : List ℕ) (below : Trees) (a b : List ℕ) → AllMeant front → IsTextIn f front s (tree root below none) a → IsTextIn f front s (tree root below none) b → a ≡ b
+texts_once form.Normal front s root below a b meant x y = one_text_of_tokens (spelling (tree root below none)) a b x.1 y.1
+texts_once form.Packed front s root below a b meant x y =
+    let same = one_packed_holds front s root below x.listed y.listed x.codes y.codes meant x.packed y.packed in
+    let letters : x.letters ≡ y.letters = one_text_only x.letters y.letters x.codes x.spelled (subst (λ (codes : List Code). SpellsCodes y.letters codes) (sym same.1) y.spelled) in
+    let laid : CompressedLaidOut x.listed x.letters b =
+    subst (λ (ls : List ℕ). CompressedLaidOut x.listed ls b) (sym letters) (subst (λ (ls : List (List ℕ)). CompressedLaidOut ls y.letters b) (sym same.0) y.laid) in
+    one_text_of_compressed x.listed x.letters a b x.laid laid
+
+one_tree_made : (front : List Sentence) (s : Sentence) (tokens : List (List ℕ)) (a b : List (Move (List ℕ))) (root other : List ℕ) (below under : Trees) → AllMeant front
+    → SayMoves front s tokens a → SayMoves front s tokens b → MakeTree front a root below → MakeTree front b other under → tree root below none ≡ tree other under none
+one_tree_made front s tokens a b root other below under meant told said made done =
+    let same : a ≡ b = moves_once front s tokens a b told said in
+    (makes_once front b none (tree root below none) (tree other under none) [] made.kept done.kept meant
+    (subst (λ (ms : List (Move (List ℕ))). Makes front ms none [] (tree root below none) made.kept) same made.made) done.made).0
+
+-- a theorem has one place, and its proof one tree
+pub one_proof_tree : (statements : List PlainStatement) (label : List ℕ) (place other : ℕ) (s t : PlainStatement) (root under : List ℕ) (below beneath : Trees) → AllObey statements
+    → HasProofTree statements label place s root below → HasProofTree statements label other t under beneath → (other ≡ place) × ((t ≡ s) × (tree under beneath none ≡ tree root below none))
+one_proof_tree statements label place other s t root under below beneath obeyed h k =
+    let meant : AllMeant (sentences statements) = all_meant statements obeyed in
+    let here : other ≡ place =
+    one_label (sentences statements) label other place (sentence_of t) (sentence_of s) meant (said_there statements other t k.there) (said_there statements place s h.there) k.named h.named in
+    let one : Some t ≡ Some s = sym k.there ∙ ap (slice_get statements) here ∙ h.there in
+    let same : t ≡ s = cc in
+    let moved : HasProofTree statements label place s under beneath =
+    subst (λ (u : PlainStatement). HasProofTree statements label place u under beneath) same (subst (λ (n : ℕ). HasProofTree statements label n t under beneath) here k) in
+    (here, (same, one_tree_made (sentences (take place statements)) (sentence_of s) (proof_of s) moved.moves h.moves under root beneath below (front_meant statements place obeyed) moved.told h.told moved.made h.made))
+
+pub one_saved : OneSaved
+one_saved f files statements label number other bytes others accepted sv sw =
+    let (here, (same, trees)) = one_proof_tree statements label sv.place sw.place sv.s sw.s sv.root sw.root sv.below sw.below accepted.obeyed sv.proof sw.proof in
+    let front : List Sentence = sentences (take sv.place statements) in
+    let laid : IsTextIn f front (sentence_of sv.s) (tree sv.root sv.below none) sw.text =
+    subst (λ (t : Trees). IsTextIn f front (sentence_of sv.s) t sw.text) trees
+    (subst (λ (s : PlainStatement). IsTextIn f front (sentence_of s) (tree sw.root sw.below none) sw.text) same
+    (subst (λ (n : ℕ). IsTextIn f (sentences (take n statements)) (sentence_of sw.s) (tree sw.root sw.below none) sw.text) here sw.laid)) in
+    let text : sv.text ≡ sw.text = texts_once f front (sentence_of sv.s) sv.root sv.below sv.text sw.text (front_meant statements sv.place accepted.obeyed) sv.laid laid in
+    let home : number ≡ other = sv.home ∙ ap (λ (s : PlainStatement). s.first.file) (sym same) ∙ sym sw.home in
+    let file : sv.file ≡ sw.file = some_same sv.file sw.file (sym sv.handed ∙ ap (slice_get files) home ∙ sw.handed) in
+    (home, sv.whole ∙ (λ i. with_span (file i).bytes (sym same i).span (10 ∷ text i)) ∙ sym sw.whole)
+
+-- ---- no other fault where something is saved
+
+numbered_so : (statements : List PlainStatement) (place : ℕ) (s : PlainStatement) (label : List ℕ) → slice_get statements place ≡ Some s → IsLabelled label (sentence_of s)
+    → (id : ℕ) × IsNamed statements label (λ t. Unit {0}) id
+numbered_so statements place s label there named = (
+  length (labelled_sentences (take place (sentences statements))),
+  (place, s, record { there = there; numbered = record { there = said_there statements place s there; named = ap is_some named; number = refl } }, (named, tt)),
+)
+
+unproved_not : (s t : PlainStatement) → t ≡ s → is_proof s ≡ true → is_unproved t ≡ true → ⊥
+unproved_not s t same complete open_one = let none_left = proof_not_unproved s complete in let some : is_unproved s ≡ true = ap is_unproved (sym same) ∙ open_one in cc
+
+not_over : (n : ℕ) → n ≤ most_labels → most_labels < n → ⊥
+not_over n h k = omega (arith, h, k)
+
+pub one_save_answer : OneSaveAnswer
+one_save_answer f files statements label number bytes ask.A1 accepted sv why = absurd (no_a1 f why)
+  where
+    no_a1 : (g : Form) → IsFormFault g statements label ask.A1 → ⊥
+    no_a1 form.Normal h = let n = numbered_so statements sv.place sv.s label sv.proof.there sv.proof.named in h n.0 n.1
+    no_a1 form.Packed h = let n = numbered_so statements sv.place sv.s label sv.proof.there sv.proof.named in h n.0 n.1
+one_save_answer f files statements label number bytes ask.A2 accepted sv why = absurd (no_a2 f why)
+  where
+    other : IsAskFault statements label ask.A2 → ⊥
+    other (id, (place, t, at, (named, kind))) =
+        let same : t ≡ sv.s = one_stands statements label sv.place sv.s t (all_meant statements accepted.obeyed) sv.proof.there sv.proof.named (place, at.there, named) in
+        kind (ap (λ (u : PlainStatement). u.kind) same ∙ provable_proof sv.s sv.proof.complete)
+
+    no_a2 : (g : Form) → IsFormFault g statements label ask.A2 → ⊥
+    no_a2 form.Normal h = other h
+    no_a2 form.Packed h = other h
+one_save_answer f files statements label number bytes ask.A3 accepted sv why = absurd (no_a3 f why)
+  where
+    other : IsAskFault statements label ask.A3 → ⊥
+    other (id, (place, t, at, (named, unproved))) =
+        unproved_not sv.s t (one_stands statements label sv.place sv.s t (all_meant statements accepted.obeyed) sv.proof.there sv.proof.named (place, at.there, named)) sv.proof.complete unproved
+
+    no_a3 : (g : Form) → IsFormFault g statements label ask.A3 → ⊥
+    no_a3 form.Normal h = other h
+    no_a3 form.Packed h = other h
+one_save_answer form.Normal files statements label number bytes ask.L2 accepted sv (place, t, root, below, has, over) =
+    let (here, (same, trees)) = one_proof_tree statements label sv.place place sv.s t sv.root root sv.below below accepted.obeyed sv.proof has in
+    absurd (not_over (length (spelling (tree sv.root sv.below none))) sv.laid.0 (subst (λ (u : Trees). most_labels < length (spelling u)) trees over))
+one_save_answer form.Packed files statements label number bytes ask.L2 accepted sv why = absurd why
+one_save_answer f files statements label number bytes ask.F3 accepted sv (other, others, sw, over) =
+    let once = one_saved f files statements label number other bytes others accepted sv sw in
+    inr (refl, subst (λ (n : ℕ). 1073741824 < n) (λ i. total_with files (sym once.0 i) (sym once.1 i)) over)
+one_save_answer form.Normal files statements label number bytes (ask.Text rule step) accepted sv why = absurd why
+one_save_answer form.Packed files statements label number bytes (ask.Text rule step) accepted sv why = absurd why
+one_save_answer f files statements label number bytes ask.Memory accepted sv why = inl refl
+
+-- ---- saving again
+
+-- a text put in place of itself changes nothing
+put_again : (s : PlainStatement) (bytes text : List ℕ) → IsProofSpan s bytes → with_span (with_span bytes s.span text) (s.span.0, s.span.0 + length text) text ≡ with_span bytes s.span text
+put_again s bytes text p =
+    let all : List ℕ = with_span bytes s.span text in
+    let first : take s.span.0 bytes ≡ p.front = ap (λ (n : ℕ). take n bytes) p.start ∙ ap (take (length p.front)) p.whole ∙ take-append_seam p.front (p.within ++ p.back) in
+    let is : all ≡ p.front ++ (text ++ drop s.span.1 bytes) = ap (λ (l : List ℕ). l ++ (text ++ drop s.span.1 bytes)) first in
+    let front : take s.span.0 all ≡ take s.span.0 bytes = ap (λ (n : ℕ). take n all) p.start ∙ ap (take (length p.front)) is ∙ take-append_seam p.front (text ++ drop s.span.1 bytes) ∙ sym first in
+    let back : drop (s.span.0 + length text) all ≡ drop s.span.1 bytes =
+    ap (λ (n : ℕ). drop (n + length text) all) p.start ∙ ap (λ (n : ℕ). drop n all) (sym (length-append p.front text))
+    ∙ ap (drop (length (p.front ++ text))) (is ∙ sym (append_assoc p.front text (drop s.span.1 bytes))) ∙ drop-append_seam (p.front ++ text) (drop s.span.1 bytes) in
+    λ i. front i ++ (text ++ back i)
+
+-- the files with the text put in are saved as they are
+again_saved : (f : Form) (files : List PlainFile) (label : List ℕ) (before : List PlainStatement) (s : PlainStatement) (after : List PlainStatement) (file : PlainFile) (text : List ℕ) → IsLabelled label (sentence_of s)
+    → (p : IsToPut f files before s after file text) → (put : ArePutAnew files before s after file text)
+    → IsSaved f (files_anew files s file text) (before ++ put_anew s (10 ∷ text) ∷ put.later) label s.first.file (with_span file.bytes s.span (10 ∷ text))
+again_saved f files label before s after file text named p put =
+    let t : PlainStatement = put_anew s (10 ∷ text) in
+    let su : List PlainStatement = before ++ t ∷ put.later in
+    let bytes : List ℕ = with_span file.bytes s.span (10 ∷ text) in
+    let both = anew_of f files before s after file text p in
+    let new : IsProvedAnew (sentences before) t p.root p.below = both.1 in
+    let q = new.proof.proves in
+    let made : MakeTree (sentences before) new.proof.moves p.root p.below =
+    record { kept = q.kept; made = subst (λ (u : Trees). Makes (sentences before) new.proof.moves none [] u q.kept) new.spelled q.made } in
+    let front : sentences before ≡ sentences (take (length before) su) = ap sentences (sym (take-append_seam before (t ∷ put.later))) in
+    record {
+      place = length before;
+      s = t;
+      root = p.root;
+      below = p.below;
+      proof = record {
+        there = seam before t put.later;
+        named = named;
+        complete = new.complete;
+        moves = new.proof.moves;
+        told = subst (λ (ss : List Sentence). SayMoves ss (sentence_of s) (proof_of t) new.proof.moves) front new.proof.said;
+        made = subst (λ (ss : List Sentence). MakeTree ss new.proof.moves p.root p.below) front made;
+      };
+      text = text;
+      laid = subst (λ (ss : List Sentence). IsTextIn f ss (sentence_of s) (tree p.root p.below none) text) front p.laid;
+      home = refl;
+      file = record file { bytes = bytes };
+      handed = ap (λ (fs : List PlainFile). slice_get fs s.first.file) (with_bytes_is files s.first.file file bytes p.handed) ∙ set_there files s.first.file file (record file { bytes = bytes }) p.handed;
+      whole = sym (put_again s file.bytes (10 ∷ text) (proofs_stand_in_spans_holds files before s after file p.accepted.reads (provable_proof s p.complete) p.handed));
+    }
+  where
+    seam : (ss : List PlainStatement) (x : PlainStatement) (more : List PlainStatement) → slice_get (ss ++ x ∷ more) (length ss) ≡ Some x
+    seam [] x more = refl
+    seam (b ∷ ss) x more = seam ss x more
+
+pub saving_again : SavingAgainChangesNothing
+saving_again f files statements same label number again bytes others accepted sv fits reads sw =
+    let before : List PlainStatement = take sv.place statements in
+    let after : List PlainStatement = drop (suc sv.place) statements in
+    let p = to_put f files statements label number bytes accepted sv fits in
+    let put = are_put_anew f files before sv.s after sv.file sv.text p in
+    let su : List PlainStatement = before ++ put_anew sv.s (10 ∷ sv.text) ∷ put.later in
+    let changed : files_anew files sv.s sv.file sv.text ≡ with_bytes files number bytes = λ i. with_bytes files (sym sv.home i) (sym sv.whole i) in
+    let ok : AreAccepted (with_bytes files number bytes) su = subst (λ (fs : List PlainFile). AreAccepted fs su) changed put.accepted in
+    let own : IsSaved f (with_bytes files number bytes) su label number bytes =
+    subst (λ (b : List ℕ). IsSaved f (with_bytes files number bytes) su label number b) (sym sv.whole)
+    (subst (λ (n : ℕ). IsSaved f (with_bytes files number bytes) su label n (with_span sv.file.bytes sv.s.span (10 ∷ sv.text))) (sym sv.home)
+    (subst (λ (fs : List PlainFile). IsSaved f fs su label sv.s.first.file (with_span sv.file.bytes sv.s.span (10 ∷ sv.text))) changed
+    (again_saved f files label before sv.s after sv.file sv.text sv.proof.named p put))) in
+    let read : same ≡ su = (same_reading (with_bytes files number bytes) same su None None reads ok.reads).0 in
+    let once = one_saved f (with_bytes files number bytes) su label number again bytes others ok own
+    (subst (λ (ss : List PlainStatement). IsSaved f (with_bytes files number bytes) ss label again others) read sw) in
+    (sym once.0, sym once.1)

@@ -1,0 +1,112 @@
+-- What is said of theorems is said where other proofs of the same trees stand.
+use Rattle.std.proofs.Common.{◌≡◌, ℕ, List, take, slice_get, true, not, ◌&&◌, Some, refl, sym, ap, subst, ◌∙◌}
+use Rattle.mm_text.specs.declared.statement.Kind.TheVariants.{Axiom}
+use Rattle.mm_text.specs.Statement.{PlainStatement, is_provable}
+use Rattle.mm_frame.specs.Sentence.{Sentence, sentence_of, IsLabelled}
+use Rattle.mm_frame.specs.Numbers.{IsNumbered}
+use Rattle.mm_proof.specs.Tree.{Trees}
+use Rattle.mm_proof.specs.Proof.{IsProved}
+use Rattle.mm_proof.specs.Used.{IsUsedNumber}
+use Rattle.mm_check.specs.Verdict.{sentences, proof_of, is_proof, is_unproved, is_incomplete}
+use Rattle.mm_check.specs.Rests.{IsAt, IsNumberWhere, AreInOrder, HasTree, Uses, IsClosed, RestsOn, IsReport, tree_of}
+use Rattle.mm_check.proofs.Asked.{map-take}
+
+-- ---- two statements at one place
+
+pub record AreAlikeAt (front : List Sentence) (s t : PlainStatement) : Type 0 where
+  pub said : sentence_of s ≡ sentence_of t
+  pub proofs : is_proof s ≡ is_proof t
+  pub unproved : is_unproved s ≡ is_unproved t
+  pub tree : is_proof s ≡ true → (p : IsProved front (sentence_of s) (proof_of s)) → (q : IsProved front (sentence_of t) (proof_of t)) × (tree_of p ≡ tree_of q)
+
+-- the same proof of the same
+proof_moved : (front : List Sentence) (x y : Sentence) (a b : List (List ℕ)) → x ≡ y → a ≡ b → (p : IsProved front x a) → (q : IsProved front y b) × (tree_of p ≡ tree_of q)
+proof_moved front x y a b e f p =
+    subst (λ (z : List (List ℕ)). (q : IsProved front y z) × (tree_of p ≡ tree_of q)) f
+    (subst (λ (w : Sentence). (q : IsProved front w a) × (tree_of p ≡ tree_of q)) e (p, refl))
+
+pub alike_at : (front : List Sentence) (s t : PlainStatement) → sentence_of s ≡ sentence_of t → proof_of s ≡ proof_of t → AreAlikeAt front s t
+alike_at front s t said proof = record {
+  said = said;
+  proofs = λ i. is_provable (said i).kind && not (is_incomplete (proof i));
+  unproved = λ i. is_provable (said i).kind && is_incomplete (proof i);
+  tree = λ complete p. proof_moved front (sentence_of s) (sentence_of t) (proof_of s) (proof_of t) said proof p;
+}
+
+-- ---- two lists of statements
+
+pub record Carries (statements others : List PlainStatement) : Type 0 where
+  pub told : sentences statements ≡ sentences others
+  pub at : (place : ℕ) (s : PlainStatement) → slice_get statements place ≡ Some s
+      → (t : PlainStatement) × (slice_get others place ≡ Some t) × AreAlikeAt (sentences (take place statements)) s t
+
+pub front_told : (statements others : List PlainStatement) (place : ℕ) → sentences statements ≡ sentences others → sentences (take place statements) ≡ sentences (take place others)
+front_told statements others place told = map-take place statements ∙ ap (take place) told ∙ sym (map-take place others)
+
+place_carried : (statements others : List PlainStatement) (id place : ℕ) (s t : PlainStatement) → sentences statements ≡ sentences others → sentence_of s ≡ sentence_of t → slice_get others place ≡ Some t
+    → IsAt statements id place s → IsAt others id place t
+place_carried statements others id place s t told said there at = record {
+  there = there;
+  numbered = subst (λ (x : Sentence). IsNumbered (sentences others) id place x) said (subst (λ (ss : List Sentence). IsNumbered ss id place (sentence_of s)) told at.numbered);
+}
+
+-- the tree of a proof
+pub tree_carried : (statements others : List PlainStatement) (id place : ℕ) (t : Trees) → Carries statements others → HasTree statements id place t → HasTree others id place t
+tree_carried statements others id place t carries has =
+    let (u, there, alike) = carries.at place has.s has.at.there in
+    let (q, same) = alike.tree has.complete has.proof in
+    let moved : (p : IsProved (sentences (take place others)) (sentence_of u) (proof_of u)) × (t ≡ tree_of p) =
+    subst (λ (front : List Sentence). (p : IsProved front (sentence_of u) (proof_of u)) × (t ≡ tree_of p)) (front_told statements others place carries.told) (q, has.spelled ∙ same) in
+    record {
+      s = u;
+      at = place_carried statements others id place has.s u carries.told alike.said there has.at;
+      complete = sym alike.proofs ∙ has.complete;
+      proof = moved.0;
+      spelled = moved.1;
+    }
+
+uses_carried : (statements others : List PlainStatement) (id used : ℕ) → Carries statements others → Uses statements id used → Uses others id used
+uses_carried statements others id used carries (place, t, has, number) =
+    (place, t, tree_carried statements others id place t carries has, subst (λ (front : List Sentence). IsUsedNumber front t used) (front_told statements others place carries.told) number)
+
+rests_carried : (statements others : List PlainStatement) (theorem id : ℕ) → Carries statements others → RestsOn (Uses statements) theorem id → RestsOn (Uses others) theorem id
+rests_carried statements others theorem id carries rests set closed =
+    let own : IsClosed (Uses statements) theorem set = record {
+      own = λ used h. closed.own used (uses_carried statements others theorem used carries h);
+      others = λ n used there h. closed.others n used there (uses_carried statements others n used carries h);
+    } in
+    rests set own
+
+-- the number of a statement
+number_carried : (statements others : List PlainStatement) (P Q : PlainStatement → Type 0) (id : ℕ) → Carries statements others
+    → ((front : List Sentence) (s t : PlainStatement) → AreAlikeAt front s t → P s → Q t) → IsNumberWhere statements P id → IsNumberWhere others Q id
+number_carried statements others P Q id carries so (place, s, at, is) =
+    let (t, there, alike) = carries.at place s at.there in
+    (place, t, place_carried statements others id place s t carries.told alike.said there at, so (sentences (take place statements)) s t alike is)
+
+order_carried : (P Q : ℕ → Type 0) (ids : List ℕ) → ((n : ℕ) → P n → Q n) → ((n : ℕ) → Q n → P n) → AreInOrder P ids → AreInOrder Q ids
+order_carried P Q ids to from order = record {
+  rising = order.rising;
+  each = λ id. ((λ c. to id ((order.each id).0 c)), (λ q. (order.each id).1 (from id q)));
+}
+
+axiom_carried : (front : List Sentence) (s t : PlainStatement) → AreAlikeAt front s t → s.kind ≡ Axiom → t.kind ≡ Axiom
+axiom_carried front s t alike is = sym (ap (λ (x : Sentence). x.kind) alike.said) ∙ is
+
+unproved_carried : (front : List Sentence) (s t : PlainStatement) → AreAlikeAt front s t → is_unproved s ≡ true → is_unproved t ≡ true
+unproved_carried front s t alike is = sym alike.unproved ∙ is
+
+-- a report
+pub report_carried : (statements others : List PlainStatement) (label : List ℕ) (axioms unproved : List ℕ) → Carries statements others → Carries others statements
+    → IsReport statements label axioms unproved → IsReport others label axioms unproved
+report_carried statements others label axioms unproved to from r = record {
+  id = r.id;
+  theorem = number_carried statements others (λ s. IsLabelled label (sentence_of s) × (is_proof s ≡ true)) (λ s. IsLabelled label (sentence_of s) × (is_proof s ≡ true)) r.id to
+      (λ front s t alike is. (subst (IsLabelled label) alike.said is.0, sym alike.proofs ∙ is.1)) r.theorem;
+  are_axioms = order_carried (λ n. IsNumberWhere statements (λ s. s.kind ≡ Axiom) n × RestsOn (Uses statements) r.id n) (λ n. IsNumberWhere others (λ s. s.kind ≡ Axiom) n × RestsOn (Uses others) r.id n) axioms
+      (λ n h. (number_carried statements others (λ s. s.kind ≡ Axiom) (λ s. s.kind ≡ Axiom) n to axiom_carried h.0, rests_carried statements others r.id n to h.1))
+      (λ n h. (number_carried others statements (λ s. s.kind ≡ Axiom) (λ s. s.kind ≡ Axiom) n from axiom_carried h.0, rests_carried others statements r.id n from h.1)) r.are_axioms;
+  are_unproved = order_carried (λ n. IsNumberWhere statements (λ s. is_unproved s ≡ true) n × RestsOn (Uses statements) r.id n) (λ n. IsNumberWhere others (λ s. is_unproved s ≡ true) n × RestsOn (Uses others) r.id n) unproved
+      (λ n h. (number_carried statements others (λ s. is_unproved s ≡ true) (λ s. is_unproved s ≡ true) n to unproved_carried h.0, rests_carried statements others r.id n to h.1))
+      (λ n h. (number_carried others statements (λ s. is_unproved s ≡ true) (λ s. is_unproved s ≡ true) n from unproved_carried h.0, rests_carried others statements r.id n from h.1)) r.are_unproved;
+}

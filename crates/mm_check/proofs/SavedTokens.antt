@@ -1,0 +1,295 @@
+-- The tokens of a text that is laid out in lines are those of a proof.
+use Rattle.std.proofs.Common.{◌≡◌, ◌≢◌, ℕ, ◌+◌, ◌≤◌, ◌==◌, ◌||◌, ◌&&◌, List, [], ◌∷◌, ◌++◌, map, cond, Bool, true, false, refl, sym, ap, subst, ◌∙◌, arith, append_assoc, append-nil, eq-eqb}
+use Rattle.std.specs.Prelude.{nat_le}
+use Rattle.std.specs.List.{AllByRecursion, AllZip, flat_map, list_all, list_any, onto_first}
+use Rattle.std.proofs.lemmas.Bool.{leb-true, eqb-true, le-leb, ne_eqb}
+use Rattle.mm_text.specs.Token.{PlainToken, is_space, is_printable, is_label_byte, IsLabel, HoldsNoDollar, with_byte, tokens_from}
+use Rattle.mm_text.specs.Replaced.{IsProofToken, IsProofText}
+use Rattle.mm_text.proofs.TokenLaws.{BeginFrom, tokens_from-nil, tokens_from-space, tokens_from-byte, tokens_from_begin, with_byte_apart}
+use Rattle.mm_code.specs.declared.code.Code.{Code}
+use Rattle.mm_code.specs.declared.code.Code.TheVariants.{Number, Tag}
+use Rattle.mm_code.specs.Letters.{IsLeadingDigit, leading_letter, last_letter, SaysCode, SpellsCodes}
+use Rattle.mm_code.specs.Layout.{indent, token_line, LaidOut, CompressedLaidOut, in_parentheses}
+use Rattle.mm_code.specs.Words.{is_white_space, tokens_in, LacksWhiteSpace}
+use Rattle.mm_check.specs.Verdict.{is_incomplete}
+
+-- ---- the words of a text are the texts of its tokens
+
+same_of_five : (a b c d e : Bool) → (a || b || c || d || e) ≡ (a || c || b || d || e)
+same_of_five true b c d e = refl
+same_of_five false true true d e = refl
+same_of_five false true false d e = refl
+same_of_five false false true d e = refl
+same_of_five false false false d e = refl
+
+white_is : (b : ℕ) → is_space b ≡ is_white_space b
+white_is b = same_of_five (b == 32) (b == 9) (b == 10) (b == 12) (b == 13)
+
+words-nil : tokens_in [] ≡ []
+unfolding tokens_in
+words-nil = refl
+
+words-last : (byte : ℕ) → is_white_space byte ≡ false → tokens_in (byte ∷ []) ≡ (byte ∷ []) ∷ []
+unfolding tokens_in
+words-last byte dark = rw dark refl
+
+words-space : (byte : ℕ) (bytes : List ℕ) → is_white_space byte ≡ true → tokens_in (byte ∷ bytes) ≡ tokens_in bytes
+unfolding tokens_in
+words-space byte [] white = rw white refl
+words-space byte (next ∷ bytes) white = rw white refl
+
+words-end : (byte next : ℕ) (bytes : List ℕ) → is_white_space byte ≡ false → is_white_space next ≡ true → tokens_in (byte ∷ next ∷ bytes) ≡ (byte ∷ []) ∷ tokens_in (next ∷ bytes)
+unfolding tokens_in
+words-end byte next bytes dark white = rw (dark, white) refl
+
+words-on : (byte next : ℕ) (bytes : List ℕ) → is_white_space byte ≡ false → is_white_space next ≡ false → tokens_in (byte ∷ next ∷ bytes) ≡ onto_first byte (tokens_in (next ∷ bytes))
+unfolding tokens_in
+words-on byte next bytes dark dark_next = rw (dark, dark_next) refl
+
+abbrev pub texts_of : List PlainToken → List (List ℕ)
+texts_of tokens = map (λ t. t.text) tokens
+
+-- a byte begins the first token
+begins_first : (file at b : ℕ) (tokens : List PlainToken) → (text : List ℕ) × (others : List PlainToken) × (with_byte file at b tokens ≡ record { text = text; file = file; at = at } ∷ others)
+begins_first file at b [] = (b ∷ [], [], refl)
+begins_first file at b (t ∷ tokens) =
+    elim (t.at == at + 1) as (λ joined. (text : List ℕ) × (others : List PlainToken)
+    × (cond joined (record { text = b ∷ t.text; file = file; at = at } ∷ tokens) (record { text = b ∷ []; file = file; at = at } ∷ t ∷ tokens) ≡ record { text = text; file = file; at = at } ∷ others)) [
+      | true ↦ (b ∷ t.text, tokens, refl)
+      | false ↦ (b ∷ [], t ∷ tokens, refl)
+    ]
+
+joined_first : (file at b : ℕ) (text : List ℕ) (tokens : List PlainToken) → with_byte file at b (record { text = text; file = file; at = at + 1 } ∷ tokens) ≡ record { text = b ∷ text; file = file; at = at } ∷ tokens
+joined_first file at b text tokens =
+    let same : (at + 1 == at + 1) ≡ true = eq-eqb _ _ refl in
+    simp same
+
+-- a byte before one that is no white space
+byte_on : (file at b next : ℕ) (bytes : List ℕ) → is_space b ≡ false → is_space next ≡ false → texts_of (tokens_from file (at + 1) (next ∷ bytes)) ≡ tokens_in (next ∷ bytes)
+    → texts_of (tokens_from file at (b ∷ next ∷ bytes)) ≡ tokens_in (b ∷ next ∷ bytes)
+byte_on file at b next bytes dark dark_next rest =
+    let (text, others, e) = begins_first file (at + 1) next (tokens_from file (at + 1 + 1) bytes) in
+    let first : tokens_from file (at + 1) (next ∷ bytes) ≡ record { text = text; file = file; at = at + 1 } ∷ others = tokens_from-byte file (at + 1) next bytes dark_next ∙ e in
+    let read : text ∷ texts_of others ≡ tokens_in (next ∷ bytes) = sym (ap texts_of first) ∙ rest in
+    ap texts_of (tokens_from-byte file at b (next ∷ bytes) dark ∙ ap (with_byte file at b) first ∙ joined_first file at b text others)
+    ∙ ap (onto_first b) read
+    ∙ sym (words-on b next bytes (sym (white_is b) ∙ dark) (sym (white_is next) ∙ dark_next))
+
+-- a byte before white space
+byte_alone : (file at b next : ℕ) (bytes : List ℕ) → is_space b ≡ false → is_space next ≡ true → texts_of (tokens_from file (at + 1) (next ∷ bytes)) ≡ tokens_in (next ∷ bytes)
+    → texts_of (tokens_from file at (b ∷ next ∷ bytes)) ≡ tokens_in (b ∷ next ∷ bytes)
+byte_alone file at b next bytes dark white rest =
+    let further : at + 1 + 1 ≡ at + 2 = omega arith in
+    let later : BeginFrom (at + 2) (tokens_from file (at + 1) (next ∷ bytes)) =
+    subst (BeginFrom (at + 2)) (sym (tokens_from-space file (at + 1) next bytes white))
+    (subst (λ (n : ℕ). BeginFrom n (tokens_from file (at + 1 + 1) bytes)) further (tokens_from_begin file (at + 1 + 1) bytes)) in
+    ap texts_of (tokens_from-byte file at b (next ∷ bytes) dark ∙ with_byte_apart file at b (tokens_from file (at + 1) (next ∷ bytes)) later)
+    ∙ ap (λ (ws : List (List ℕ)). (b ∷ []) ∷ ws) rest
+    ∙ sym (words-end b next bytes (sym (white_is b) ∙ dark) (sym (white_is next) ∙ white))
+
+pub texts_in : (file at : ℕ) (bytes : List ℕ) → texts_of (tokens_from file at bytes) ≡ tokens_in bytes
+texts_in file at [] = ap texts_of (tokens_from-nil file at) ∙ sym words-nil
+texts_in file at (b ∷ []) = go (is_space b) refl
+  where
+    go : (s : Bool) → is_space b ≡ s → texts_of (tokens_from file at (b ∷ [])) ≡ tokens_in (b ∷ [])
+    go true white = ap texts_of (tokens_from-space file at b [] white ∙ tokens_from-nil file (at + 1)) ∙ sym (words-space b [] (sym (white_is b) ∙ white) ∙ words-nil)
+    go false dark = ap texts_of (tokens_from-byte file at b [] dark ∙ ap (with_byte file at b) (tokens_from-nil file (at + 1))) ∙ sym (words-last b (sym (white_is b) ∙ dark))
+texts_in file at (b ∷ next ∷ bytes) = go (texts_in file (at + 1) (next ∷ bytes)) (is_space b) refl (is_space next) refl
+  where
+    go : texts_of (tokens_from file (at + 1) (next ∷ bytes)) ≡ tokens_in (next ∷ bytes) → (s : Bool) → is_space b ≡ s → (n : Bool) → is_space next ≡ n → texts_of (tokens_from file at (b ∷ next ∷ bytes)) ≡ tokens_in (b ∷ next ∷ bytes)
+    go rest true white n e = ap texts_of (tokens_from-space file at b (next ∷ bytes) white) ∙ rest ∙ sym (words-space b (next ∷ bytes) (sym (white_is b) ∙ white))
+    go rest false dark true white = byte_alone file at b next bytes dark white rest
+    go rest false dark false dark_next = byte_on file at b next bytes dark dark_next rest
+
+-- ---- bytes of labels and letters
+
+-- a byte that a token of a complete proof may hold
+abbrev pub IsFine : ℕ → Type 0
+IsFine b = (33 ≤ b) × ((b ≤ 126) × ((b ≢ 36) × (b ≢ 63)))
+
+abbrev pub AreFine : List ℕ → Type 0
+AreFine text = AllByRecursion IsFine text
+
+one_of_six : (a b c d e f : Bool) (P : Type 0) → (a || b || c || d || e || f) ≡ true → (a ≡ true → P) → (b ≡ true → P) → (c ≡ true → P) → (d ≡ true → P) → (e ≡ true → P) → (f ≡ true → P) → P
+one_of_six true b c d e f P h pa pb pc pd pe pf = pa refl
+one_of_six false true c d e f P h pa pb pc pd pe pf = pb refl
+one_of_six false false true d e f P h pa pb pc pd pe pf = pc refl
+one_of_six false false false true e f P h pa pb pc pd pe pf = pd refl
+one_of_six false false false false true f P h pa pb pc pd pe pf = pe refl
+one_of_six false false false false false true P h pa pb pc pd pe pf = pf refl
+one_of_six false false false false false false P h pa pb pc pd pe pf = absurd cc
+
+both_true : (a b : Bool) → (a && b) ≡ true → (a ≡ true) × (b ≡ true)
+both_true true b h = (refl, h)
+both_true false b h = absurd cc
+
+label_range : (b low high : ℕ) → (nat_le low b && nat_le b high) ≡ true → (low ≤ b) × (b ≤ high)
+label_range b low high h = let both = both_true (nat_le low b) (nat_le b high) h in (leb-true low b both.0, leb-true b high both.1)
+
+label_is : (b n : ℕ) → (b == n) ≡ true → b ≡ n
+label_is b n h = eqb-true b n h
+
+pub fine_in : (b low high : ℕ) → low ≤ b → b ≤ high → 42 ≤ low → high ≤ 126 → ((low ≤ 63) → high ≤ 62) → IsFine b
+fine_in b low high more less from to apart =
+    (omega (arith, more, from), (omega (arith, less, to), ((λ e. omega (arith, e, more, from)), (λ e. let up : high ≤ 62 = apart (omega (arith, e, more)) in omega (arith, e, less, up)))))
+
+pub label_fine : (b : ℕ) → is_label_byte b ≡ true → IsFine b × (42 ≤ b)
+label_fine b h =
+    one_of_six (nat_le 65 b && nat_le b 90) (nat_le 97 b && nat_le b 122) (nat_le 48 b && nat_le b 57) (b == 45) (b == 95) (b == 46) (IsFine b × (42 ≤ b)) h
+    (λ e. let r = label_range b 65 90 e in (fine_in b 65 90 r.0 r.1 (omega arith) (omega arith) (λ x. absurd (omega (arith, x))), omega (arith, r.0)))
+    (λ e. let r = label_range b 97 122 e in (fine_in b 97 122 r.0 r.1 (omega arith) (omega arith) (λ x. absurd (omega (arith, x))), omega (arith, r.0)))
+    (λ e. let r = label_range b 48 57 e in (fine_in b 48 57 r.0 r.1 (omega arith) (omega arith) (λ x. omega arith), omega (arith, r.0)))
+    (λ e. let r = label_is b 45 e in (fine_in b 45 45 (omega (arith, r)) (omega (arith, r)) (omega arith) (omega arith) (λ x. omega arith), omega (arith, r)))
+    (λ e. let r = label_is b 95 e in (fine_in b 95 95 (omega (arith, r)) (omega (arith, r)) (omega arith) (omega arith) (λ x. absurd (omega (arith, x))), omega (arith, r)))
+    (λ e. let r = label_is b 46 e in (fine_in b 46 46 (omega (arith, r)) (omega (arith, r)) (omega arith) (omega arith) (λ x. omega arith), omega (arith, r)))
+
+pub label_all_fine : (text : List ℕ) → IsLabel text → AreFine text
+label_all_fine [] h = tt
+label_all_fine (b ∷ text) h =
+    let both = both_true (is_label_byte b) (list_all is_label_byte text) h in ((label_fine b both.0).0, label_all_fine text both.1)
+
+-- a parenthesis is no label
+pub no_parenthesis : (b : ℕ) → b ≤ 41 → ¬ (IsLabel (b ∷ []))
+no_parenthesis b small h =
+    let both = both_true (is_label_byte b) true h in
+    let more = (label_fine b both.0).1 in absurd (omega (arith, more, small))
+
+-- ---- letters
+
+pub all_joined : (P : ℕ → Type 0) (a b : List ℕ) → AllByRecursion P a → AllByRecursion P b → AllByRecursion P (a ++ b)
+all_joined P [] b h k = k
+all_joined P (x ∷ a) b h k = (h.0, all_joined P a b h.1 k)
+
+all_first : (P : ℕ → Type 0) (a b : List ℕ) → AllByRecursion P (a ++ b) → AllByRecursion P a
+all_first P [] b h = tt
+all_first P (x ∷ a) b h = (h.0, all_first P a b h.1)
+
+all_last : (P : ℕ → Type 0) (a b : List ℕ) → AllByRecursion P (a ++ b) → AllByRecursion P b
+all_last P [] b h = h
+all_last P (x ∷ a) b h = all_last P a b h.1
+
+leading_fine : (digits : List ℕ) → AllByRecursion IsLeadingDigit digits → AreFine (map leading_letter digits)
+leading_fine [] h = tt
+leading_fine (d ∷ digits) h =
+    let more = h.0.0 in let less = h.0.1 in
+    (fine_in (84 + d) 85 89 (omega (arith, more)) (omega (arith, less)) (omega arith) (omega arith) (λ x. absurd (omega (arith, x))), leading_fine digits h.1)
+
+piece_fine : (piece : List ℕ) (code : Code) → SaysCode piece code → AreFine piece
+piece_fine piece (Number number) s =
+    let more = s.is_last.0 in let less = s.is_last.1 in
+    subst AreFine (sym s.letters) (all_joined IsFine (map leading_letter s.leading) (last_letter s.last ∷ []) (leading_fine s.leading s.are_leading)
+    (fine_in (64 + s.last) 65 84 (omega (arith, more)) (omega (arith, less)) (omega arith) (omega arith) (λ x. absurd (omega (arith, x))), tt))
+piece_fine piece Tag s = subst AreFine (sym s) (fine_in 90 90 90 (omega arith) (omega arith) (omega arith) (omega arith) (λ x. absurd (omega (arith, x))), tt)
+
+pieces_fine : (pieces : List (List ℕ)) (codes : List Code) → AllZip SaysCode pieces codes → AreFine (flat_map (λ piece. piece) pieces)
+pieces_fine [] codes h = tt
+pieces_fine (piece ∷ pieces) [] h = absurd h
+pieces_fine (piece ∷ pieces) (code ∷ codes) h = all_joined IsFine piece (flat_map (λ p. p) pieces) (piece_fine piece code h.0) (pieces_fine pieces codes h.1)
+
+pub letters_fine : (letters : List ℕ) (codes : List Code) → SpellsCodes letters codes → AreFine letters
+letters_fine letters codes s = subst AreFine (sym s.joined) (pieces_fine s.pieces codes s.each)
+
+pub cut_fine : (pieces : List (List ℕ)) → AreFine (flat_map (λ piece. piece) pieces) → AllByRecursion AreFine pieces
+cut_fine [] h = tt
+cut_fine (piece ∷ pieces) h =
+    (all_first IsFine piece (flat_map (λ p. p) pieces) h, cut_fine pieces (all_last IsFine piece (flat_map (λ p. p) pieces) h))
+
+-- ---- tokens of fine bytes
+
+fine_dark : (b : ℕ) → IsFine b → is_white_space b ≡ false
+fine_dark b f =
+    let more = f.0 in
+    let a : (b == 32) ≡ false = ne_eqb b 32 (λ e. omega (arith, e, more)) in
+    let c : (b == 10) ≡ false = ne_eqb b 10 (λ e. omega (arith, e, more)) in
+    let d : (b == 9) ≡ false = ne_eqb b 9 (λ e. omega (arith, e, more)) in
+    let g : (b == 12) ≡ false = ne_eqb b 12 (λ e. omega (arith, e, more)) in
+    let h : (b == 13) ≡ false = ne_eqb b 13 (λ e. omega (arith, e, more)) in
+    λ i. a i || c i || d i || g i || h i
+
+pub fine_lacks : (text : List ℕ) → AreFine text → LacksWhiteSpace text
+fine_lacks [] h = tt
+fine_lacks (b ∷ text) h = (fine_dark b h.0, fine_lacks text h.1)
+
+fine_printable : (text : List ℕ) → AreFine text → list_all is_printable text ≡ true
+fine_printable [] h = refl
+fine_printable (b ∷ text) h =
+    let low : nat_le 33 b ≡ true = le-leb 33 b h.0.0 in
+    let high : nat_le b 126 ≡ true = le-leb b 126 h.0.1.0 in
+    let rest = fine_printable text h.1 in
+    λ i. (low i && high i) && rest i
+
+fine_dollar : (text : List ℕ) → AreFine text → HoldsNoDollar text
+fine_dollar [] h = refl
+fine_dollar (b ∷ text) h =
+    let first : (b == 36) ≡ false = ne_eqb b 36 h.0.1.1.0 in
+    let rest = fine_dollar text h.1 in
+    λ i. first i || rest i
+
+fine_known : (text : List ℕ) → AreFine text → list_any (λ b. b == 63) text ≡ false
+fine_known [] h = refl
+fine_known (b ∷ text) h =
+    let first : (b == 63) ≡ false = ne_eqb b 63 h.0.1.1.1 in
+    let rest = fine_known text h.1 in
+    λ i. first i || rest i
+
+pub fine_complete : (tokens : List (List ℕ)) → AllByRecursion AreFine tokens → is_incomplete tokens ≡ false
+fine_complete [] h = refl
+fine_complete (t ∷ tokens) h =
+    let first = fine_known t h.0 in
+    let rest = fine_complete tokens h.1 in
+    λ i. first i || rest i
+
+fine_tokens : (tokens : List PlainToken) → AllByRecursion AreFine (texts_of tokens) → AllByRecursion IsProofToken tokens
+fine_tokens [] h = tt
+fine_tokens (t ∷ tokens) h = ((fine_printable t.text h.0, fine_dollar t.text h.0), fine_tokens tokens h.1)
+
+-- ---- the end of the text
+
+-- after a line feed, the text ends in one
+abbrev pub EndsLine : List ℕ → Type 0
+EndsLine text = (inner : List ℕ) × (10 ∷ text ≡ inner ++ 10 ∷ [])
+
+line_before : (line text : List ℕ) → EndsLine text → EndsLine ((line ++ 10 ∷ []) ++ text)
+line_before line text (inner, e) = (
+  10 ∷ (line ++ inner),
+  ap (λ (l : List ℕ). 10 ∷ l) (append_assoc line (10 ∷ []) text ∙ ap (λ (l : List ℕ). line ++ l) e ∙ sym (append_assoc line inner (10 ∷ []))),
+)
+
+lines_end : (lines : List (List (List ℕ))) (text : List ℕ) → EndsLine text → EndsLine (flat_map (λ line. token_line line ++ 10 ∷ []) lines ++ text)
+lines_end [] text h = h
+lines_end (line ∷ lines) text h =
+    let rest : List ℕ = flat_map (λ l. token_line l ++ 10 ∷ []) lines in
+    subst EndsLine (sym (append_assoc (token_line line ++ 10 ∷ []) rest text)) (line_before (token_line line) (rest ++ text) (lines_end lines text h))
+
+letter_lines_end : (lines : List (List ℕ)) (front : List ℕ) → EndsLine (flat_map (λ line. (front ++ line) ++ 10 ∷ []) lines)
+letter_lines_end [] front = ([], refl)
+letter_lines_end (line ∷ lines) front = line_before (front ++ line) (flat_map (λ l. (front ++ l) ++ 10 ∷ []) lines) (letter_lines_end lines front)
+
+pub laid_ends : (tokens : List (List ℕ)) (text more : List ℕ) → LaidOut tokens text → EndsLine more → EndsLine (text ++ more)
+laid_ends tokens text more laid h = subst (λ (l : List ℕ). EndsLine (l ++ more)) (sym laid.printed) (lines_end laid.lines more h)
+
+pub normal_ends : (tokens : List (List ℕ)) (text : List ℕ) → LaidOut tokens text → EndsLine text
+normal_ends tokens text laid = subst EndsLine (append-nil text) (laid_ends tokens text [] laid ([], refl))
+
+pub compressed_ends : (labels : List (List ℕ)) (letters text : List ℕ) → CompressedLaidOut labels letters text → EndsLine text
+compressed_ends labels letters text laid =
+    let block : EndsLine laid.block = subst EndsLine (sym laid.letters_laid_out.printed) (letter_lines_end laid.letters_laid_out.lines indent) in
+    subst EndsLine (sym laid.whole) (laid_ends (in_parentheses labels) laid.list laid.block laid.list_laid_out block)
+
+-- ---- a text that may stand between a `$=` and a `$.`
+
+pub words_after_feed : (text : List ℕ) → tokens_in (10 ∷ text) ≡ tokens_in text
+words_after_feed text = words-space 10 text refl
+
+pub is_proof_text : (text : List ℕ) (tokens : List (List ℕ)) → tokens_in text ≡ tokens → AllByRecursion AreFine tokens → EndsLine text → IsProofText (10 ∷ text)
+is_proof_text text tokens read fine (inner, ends) = record {
+  first = 10;
+  more = text;
+  begins = refl;
+  first_space = refl;
+  inner = inner;
+  last = 10;
+  ends = ends;
+  last_space = refl;
+  tokens = λ file at. fine_tokens (tokens_from file at (10 ∷ text)) (subst (AllByRecursion AreFine) (sym (texts_in file at (10 ∷ text) ∙ words_after_feed text ∙ read)) fine);
+}

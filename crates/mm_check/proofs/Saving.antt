@@ -1,0 +1,194 @@
+-- What is put into a file, and why nothing is.
+use Rattle.std.proofs.Common.{◌≡◌, ℕ, zero, suc, ◌+◌, ◌-◌, ◌<◌, ◌≤◌, ◌↔◌, List, [], ◌∷◌, ◌++◌, map, take, drop, length, slice_get, slice_set, slice_index_or, nat_lt, true, not, IsTrue, Option, Some, None, Result, Ok, inl, inr, refl, sym, ap, subst, ◌∙◌, arith, rules, length-append}
+use Rattle.std.specs.List.{AllByRecursion}
+use Rattle.std.proofs.lemmas.List.Sums.{sum_by-cons}
+use Rattle.mm_text.specs.declared.file.File.{File}
+use Rattle.mm_text.specs.declared.statement.Kind.TheVariants.{Provable}
+use Rattle.mm_text.specs.Statement.{PlainStatement}
+use Rattle.mm_text.specs.Files.{PlainFile, plain_file, total_bytes}
+use Rattle.mm_text.specs.Reading.{Reads, IsInPlace}
+use Rattle.mm_text.specs.Replaced.{with_span, with_bytes, IsProofSpan}
+use Rattle.mm_text.proofs.FormedLaws.{readings_are_formed_in_place}
+use Rattle.mm_text.proofs.ProofSpans.{proofs_stand_in_spans_holds}
+use Rattle.mm_frame.specs.Sentence.{Sentence}
+use Rattle.mm_frame.specs.Rules.{AllMeant}
+use Rattle.mm_frame.proofs.Meant.{parts_at}
+use Rattle.mm_proof.specs.ReadSteps.{ReadSteps}
+use Rattle.mm_proof.specs.Packing.{OfTree}
+use Rattle.mm_check.specs.declared.form.Form.{Form}
+use Rattle.mm_check.specs.declared.form.Form.TheVariants as form
+use Rattle.mm_check.specs.declared.ask.AskFault.{AskFault}
+use Rattle.mm_check.specs.declared.ask.AskFault.TheVariants as ask
+use Rattle.mm_check.specs.declared.fault.CheckFault.{CheckFault}
+use Rattle.mm_check.specs.Conclusion.{Conclusion}
+use Rattle.mm_check.specs.Verdict.{AreAccepted, sentences, proof_of, is_proof, is_incomplete}
+use Rattle.mm_check.specs.Answer.{verdict_of_answer, verdict_of_conclusion, IsVerdict}
+use Rattle.mm_check.specs.Rests.{IsAskFault}
+use Rattle.mm_check.specs.Shown.{Stands}
+use Rattle.mm_check.specs.Saved.{IsTextIn, IsSaved, total_with, IsFormFault, IsSaveFault}
+use Rattle.mm_check.specs.CodeShown.{AreProvedSteps, AreStepsOf}
+use Rattle.mm_check.specs.CodeSaved.{IsHomeOf, IsTextOf, IsTextFault, HoldsSpan, IsPutIn, IsPutFault}
+use Rattle.mm_check.proofs.Replies.{accepted_with}
+use Rattle.mm_check.proofs.Rereading.{one_stands, provable_kind}
+use Rattle.mm_check.proofs.Theorems.{of_theorem, tree_made, has_tree, normal_fault, ask_fault}
+
+-- ---- files
+
+-- the file at a place
+pub file_at : (files : List File) (k : ℕ) (d : File) → k < length files → slice_get (map plain_file files) k ≡ Some (plain_file (slice_index_or files k d))
+file_at [] k d less = absurd (omega arith)
+file_at (f ∷ files) zero d less = refl
+file_at (f ∷ files) (suc k) d less = file_at files k d (omega arith)
+
+pub number_within : (files : List File) (k : ℕ) (f : PlainFile) → slice_get (map plain_file files) k ≡ Some f → k < length files
+number_within [] k f is = absurd cc
+number_within (g ∷ files) zero f is = omega arith
+number_within (g ∷ files) (suc k) f is = omega (arith, number_within files k f is)
+
+-- it has no more bytes than all
+pub file_within : (files : List PlainFile) (k : ℕ) (f : PlainFile) → slice_get files k ≡ Some f → length f.bytes ≤ total_bytes files
+file_within [] k f is = absurd cc
+file_within (g ∷ files) zero f is =
+    let same : g ≡ f = cc is in omega (arith, ap (λ (h : PlainFile). length h.bytes) same, sum_by-cons (λ (h : PlainFile). length h.bytes) g files)
+file_within (g ∷ files) (suc k) f is = omega (arith, file_within files k f is, sum_by-cons (λ (h : PlainFile). length h.bytes) g files)
+
+pub own_within : (files : List File) (k : ℕ) (d : File) (total : ℕ) → k < length files → total ≡ total_bytes (map plain_file files) → length (slice_index_or files k d).bytes.now ≤ total
+own_within files k d total less same = let own = file_within (map plain_file files) k (plain_file (slice_index_or files k d)) (file_at files k d less) in omega (arith, own, same)
+
+-- with others in their place
+replaced_at : (files : List PlainFile) (k : ℕ) (f g : PlainFile) → slice_get files k ≡ Some f → total_bytes (slice_set files k g) + length f.bytes ≡ total_bytes files + length g.bytes
+replaced_at [] k f g is = absurd cc
+replaced_at (h ∷ files) zero f g is =
+    let same : h ≡ f = cc is in
+    omega (arith, ap (λ (x : PlainFile). length x.bytes) same, sum_by-cons (λ (x : PlainFile). length x.bytes) h files, sum_by-cons (λ (x : PlainFile). length x.bytes) g files)
+replaced_at (h ∷ files) (suc k) f g is =
+    omega (arith, replaced_at files k f g is, sum_by-cons (λ (x : PlainFile). length x.bytes) h files, sum_by-cons (λ (x : PlainFile). length x.bytes) h (slice_set files k g))
+
+pub with_bytes_is : (files : List PlainFile) (k : ℕ) (f : PlainFile) (bytes : List ℕ) → slice_get files k ≡ Some f → with_bytes files k bytes ≡ slice_set files k (record f { bytes = bytes })
+with_bytes_is files k f bytes there = ap (λ (o : Option PlainFile). elim o [ None ↦ files | Some g ↦ slice_set files k (record g { bytes = bytes }) ]) there
+
+pub total_replaced : (files : List PlainFile) (k : ℕ) (f : PlainFile) (bytes : List ℕ) → slice_get files k ≡ Some f → total_with files k bytes + length f.bytes ≡ total_bytes files + length bytes
+total_replaced files k f bytes there =
+    ap (λ (fs : List PlainFile). total_bytes fs + length f.bytes) (with_bytes_is files k f bytes there) ∙ replaced_at files k f (record f { bytes = bytes }) there
+
+-- whether there are too many
+pub over_is : (files : List PlainFile) (k : ℕ) (f : PlainFile) (bytes : List ℕ) (count total : ℕ) → slice_get files k ≡ Some f → total_bytes files ≤ 1073741824 → total ≡ total_bytes files → length bytes ≡ count
+    → IsTrue (nat_lt (1073741824 - (total - length f.bytes)) count) ↔ (1073741824 < total_with files k bytes)
+over_is files k f bytes count total there within same long =
+    let own = file_within files k f there in
+    let put = total_replaced files k f bytes there in (
+      λ h. let less : 1073741824 - (total - length f.bytes) < count = search (rules, h) in omega (arith, less, own, put, same, long, within),
+      λ h. let less : 1073741824 - (total - length f.bytes) < count = omega (arith, h, own, put, same, long, within) in search (rules, less),
+    )
+
+pub file_over : (files : List File) (k : ℕ) (d : File) (bytes : List ℕ) (count total : ℕ) → k < length files → total_bytes (map plain_file files) ≤ 1073741824 → total ≡ total_bytes (map plain_file files) → length bytes ≡ count
+    → IsTrue (nat_lt (1073741824 - (total - length (slice_index_or files k d).bytes.now)) count) ↔ (1073741824 < total_with (map plain_file files) k bytes)
+file_over files k d bytes count total less within same long =
+    over_is (map plain_file files) k (plain_file (slice_index_or files k d)) bytes count total (file_at files k d less) within same long
+
+-- ---- where a theorem stands
+
+member_at : {X : Type 0} (P : X → Type 0) (xs : List X) (k : ℕ) (x : X) → AllByRecursion P xs → slice_get xs k ≡ Some x → P x
+member_at P [] k x all is = absurd cc
+member_at P (y ∷ xs) zero x all is = let same : y ≡ x = cc is in subst P same all.0
+member_at P (y ∷ xs) (suc k) x all is = member_at P xs k x all.1 is
+
+pub home_file : (files : List PlainFile) (statements : List PlainStatement) (place : ℕ) (s : PlainStatement) → Reads files statements None → slice_get statements place ≡ Some s
+    → (file : PlainFile) × (slice_get files s.first.file ≡ Some file)
+home_file files statements place s reads there =
+    let placed : IsInPlace files s = member_at (IsInPlace files) statements place s (readings_are_formed_in_place files statements None reads).in_place there in
+    (placed.first.0, placed.first.1)
+
+pub provable_proof : (s : PlainStatement) → is_proof s ≡ true → s.kind ≡ Provable
+provable_proof s complete = provable_kind s.kind (not (is_incomplete (proof_of s))) complete
+
+within_bytes : (s : PlainStatement) (bytes : List ℕ) → IsProofSpan s bytes → (s.span.0 ≤ length bytes) × (s.span.1 ≤ length bytes)
+within_bytes s bytes p =
+    let long : length bytes ≡ length p.front + (length p.within + length p.back) =
+    ap length p.whole ∙ length-append p.front (p.within ++ p.back) ∙ ap (λ (n : ℕ). length p.front + n) (length-append p.within p.back) in
+    (omega (arith, long, p.start), omega (arith, long, p.stop))
+
+pub holds_span : (files : List PlainFile) (statements : List PlainStatement) (place : ℕ) (s : PlainStatement) (number : ℕ) (span : ℕ × ℕ) → Reads files statements None → slice_get statements place ≡ Some s
+    → is_proof s ≡ true → number ≡ s.first.file → span ≡ s.span → HoldsSpan files number span
+holds_span files statements place s number span reads there complete home same =
+    let parted : statements ≡ take place statements ++ s ∷ drop (suc place) statements = parts_at statements place s there in
+    let (file, handed) = home_file files statements place s reads there in
+    let stands : IsProofSpan s file.bytes =
+    proofs_stand_in_spans_holds files (take place statements) s (drop (suc place) statements) file (subst (λ (ss : List PlainStatement). Reads files ss None) parted reads) (provable_proof s complete) handed in
+    let (start, stop) = within_bytes s file.bytes stands in
+    (file, ap (slice_get files) home ∙ handed, subst (λ (p : ℕ × ℕ). p.0 ≤ length file.bytes) (sym same) start, subst (λ (p : ℕ × ℕ). p.1 ≤ length file.bytes) (sym same) stop)
+
+-- what stands under a label stands in one place
+pub home_of : (statements : List PlainStatement) (label : List ℕ) (t : PlainStatement) (number : ℕ) (span : ℕ × ℕ) → AllMeant (sentences statements) → Stands statements label t
+    → number ≡ t.first.file → span ≡ t.span → IsHomeOf statements label number span
+home_of statements label t number span all stands home same s (place, there, named) =
+    let one : t ≡ s = one_stands statements label place s t all there named stands in
+    (home ∙ ap (λ (u : PlainStatement). u.first.file) one, same ∙ ap (λ (u : PlainStatement). u.span) one)
+
+-- ---- its file with another proof
+
+pub saved_of : (form : Form) (ss : List Sentence) (files : List PlainFile) (statements : List PlainStatement) (label : List ℕ) (id : ℕ) (steps : ReadSteps) (number : ℕ) (span : ℕ × ℕ) (text bytes : List ℕ)
+    → ss ≡ sentences statements → AreStepsOf statements label id steps.moves → AreProvedSteps ss id steps → IsTextOf form ss id steps.moves text
+    → IsHomeOf statements label number span → IsPutIn files number span text bytes → IsSaved form files statements label number bytes
+saved_of form ss files statements label id steps number span text bytes same r proved laid home put =
+    let t = tree_made ss statements label id steps same r proved in
+    let told = of_theorem ss statements label id steps.moves (λ before s moves. OfTree before moves (λ trees. IsTextIn form before s trees text)) same r laid in
+    let stands : Stands statements label r.s = (r.place, r.there, r.named) in
+    let at = home r.s stands in
+    record {
+      place = r.place;
+      s = r.s;
+      root = t.0;
+      below = t.1;
+      proof = has_tree statements label id steps.moves r t.0 t.1 t.2;
+      text = text;
+      laid = told t.0 t.1 t.2;
+      home = at.0;
+      file = put.0;
+      handed = put.1;
+      whole = put.2 ∙ ap (λ (p : ℕ × ℕ). with_span put.0.bytes p (10 ∷ text)) at.1;
+    }
+
+-- ---- why there is none
+
+form_save_fault : (form : Form) (files : List PlainFile) (statements : List PlainStatement) (label : List ℕ) (fault : AskFault) → IsFormFault form statements label fault → IsSaveFault form files statements label fault
+form_save_fault form files statements label ask.A1 h = h
+form_save_fault form files statements label ask.A2 h = h
+form_save_fault form files statements label ask.A3 h = h
+form_save_fault form files statements label ask.L2 h = h
+form_save_fault form.Normal files statements label ask.F3 h = absurd h
+form_save_fault form.Packed files statements label ask.F3 h = absurd h
+form_save_fault form files statements label (ask.Text rule step) h = h
+form_save_fault form files statements label ask.Memory h = h
+
+asked_fault : (form : Form) (statements : List PlainStatement) (label : List ℕ) (fault : AskFault) → IsAskFault statements label fault → IsFormFault form statements label fault
+asked_fault form.Normal statements label fault h = ask_fault statements label fault h
+asked_fault form.Packed statements label fault h = h
+
+pub ask_save_fault : (form : Form) (files : List PlainFile) (statements : List PlainStatement) (label : List ℕ) (fault : AskFault) → IsAskFault statements label fault → IsSaveFault form files statements label fault
+ask_save_fault form files statements label fault h = form_save_fault form files statements label fault (asked_fault form statements label fault h)
+
+memory_fault : (form : Form) (files : List PlainFile) (statements : List PlainStatement) (label : List ℕ) (fault : AskFault) → fault ≡ ask.Memory → IsSaveFault form files statements label fault
+memory_fault form files statements label fault is = ask_save_fault form files statements label fault (subst (IsAskFault statements label) (sym is) tt)
+
+pub text_save_fault : (form : Form) (ss : List Sentence) (files : List PlainFile) (statements : List PlainStatement) (label : List ℕ) (id : ℕ) (steps : ReadSteps) (fault : AskFault)
+    → ss ≡ sentences statements → AreStepsOf statements label id steps.moves → AreProvedSteps ss id steps → IsTextFault form ss id steps.moves fault → IsSaveFault form files statements label fault
+text_save_fault form.Normal ss files statements label id steps fault same r proved why =
+    form_save_fault form.Normal files statements label fault (normal_fault ss statements label id steps fault same r proved why)
+text_save_fault form.Packed ss files statements label id steps fault same r proved why = memory_fault form.Packed files statements label fault why
+
+pub put_save_fault : (form : Form) (ss : List Sentence) (files : List PlainFile) (statements : List PlainStatement) (label : List ℕ) (id : ℕ) (steps : ReadSteps) (number : ℕ) (span : ℕ × ℕ) (text : List ℕ) (fault : AskFault)
+    → ss ≡ sentences statements → AreStepsOf statements label id steps.moves → AreProvedSteps ss id steps → IsTextOf form ss id steps.moves text
+    → IsHomeOf statements label number span → IsPutFault files number span text fault → IsSaveFault form files statements label fault
+put_save_fault form ss files statements label id steps number span text fault same r proved laid home (inl memory) = memory_fault form files statements label fault memory
+put_save_fault form ss files statements label id steps number span text fault same r proved laid home (inr (is, bytes, put, over)) =
+    let saved : IsSaved form files statements label number bytes = saved_of form ss files statements label id steps number span text bytes same r proved laid home put in
+    let here : IsSaveFault form files statements label ask.F3 = (number, bytes, saved, over) in
+    subst (IsSaveFault form files statements label) (sym is) here
+
+-- ---- files that are accepted
+
+pub accepted_of : (files : List PlainFile) (answer : Result Conclusion CheckFault) (c : Conclusion) → answer ≡ Ok c → IsVerdict files answer → (statements : List PlainStatement) × AreAccepted files statements
+accepted_of files answer c is holds =
+    let told : verdict_of_answer answer ≡ Some (verdict_of_conclusion c) = ap verdict_of_answer is in
+    accepted_with files c c.incomplete (holds (verdict_of_conclusion c) told)

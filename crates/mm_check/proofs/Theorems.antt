@@ -1,0 +1,206 @@
+-- What is told of a theorem's steps is told of the theorem.
+use Rattle.std.proofs.Common.{◌≡◌, ℕ, zero, suc, ◌+◌, ◌<◌, ◌≤◌, List, [], ◌∷◌, ◌++◌, take, length, get_or, slice_get, Some, Result, Ok, Err, IfErr, ◌⊎◌, inl, inr, refl, sym, ap, subst, ◌∙◌, arith}
+use Rattle.std.specs.Result.{IsOkUnless}
+use Rattle.std.proofs.lemmas.Option.{same_Some}
+use Rattle.mm_text.specs.Statement.{PlainStatement}
+use Rattle.mm_frame.specs.declared.number.LabelId.{LabelId}
+use Rattle.mm_frame.specs.Sentence.{Sentence, sentence_of, IsLabelled}
+use Rattle.mm_frame.specs.Numbers.{labelled_sentences}
+use Rattle.mm_proof.specs.declared.profile.Profile.{Profile}
+use Rattle.mm_proof.specs.declared.profile.Profile.TheVariants.{Lenient}
+use Rattle.mm_proof.specs.declared.fault.ExpandFault.{ExpandFault}
+use Rattle.mm_proof.specs.declared.fault.ExpandFault.TheVariants as expand
+use Rattle.mm_proof.specs.Profiles.{limit_of}
+use Rattle.mm_proof.specs.Tree.{Trees, spelling}
+use Rattle.mm_proof.specs.Moves.{Move, name, again, mark}
+use Rattle.mm_proof.specs.OneTree.{MakeTree, MakeOneTree}
+use Rattle.mm_proof.specs.Spelled.{AreLabelsOf}
+use Rattle.mm_proof.specs.Packing.{OfTree}
+use Rattle.mm_proof.specs.Proof.{IsWithin, IsProvedWithin, Prove}
+use Rattle.mm_proof.specs.ReadSteps.{ReadSteps}
+use Rattle.mm_proof.specs.Steps.{IsNumberedMove}
+use Rattle.mm_proof.specs.Verified.{OfMoves}
+use Rattle.mm_proof.proofs.Derived.{zip_once}
+use Rattle.mm_proof.proofs.Ending.{one_place}
+use Rattle.mm_check.specs.declared.ask.AskFault.{AskFault}
+use Rattle.mm_check.specs.declared.ask.AskFault.TheVariants as ask
+use Rattle.mm_check.specs.Verdict.{sentences}
+use Rattle.mm_check.specs.Rests.{IsAskFault}
+use Rattle.mm_check.specs.Shown.{IsShown}
+use Rattle.mm_check.specs.Forms.{most_labels, HasProofTree, IsNormalText, IsPackedText, IsNormalOf, IsPackedOf, IsNormalFault}
+use Rattle.mm_check.specs.CodeShown.{IsProofOf, SayStepsOf, AreProvedSteps, AreStepsOf, IsListingOf}
+use Rattle.mm_check.proofs.Asked.{map-take}
+use Rattle.mm_check.proofs.Listings.{moves_prove}
+
+-- ---- the steps of a theorem prove it
+
+one_move : (st : List Sentence) (x : Move ℕ) (y z : Move (List ℕ)) → IsNumberedMove st x y → IsNumberedMove st x z → y ≡ z
+one_move st (name id) y z a b =
+    let same : a.0 ≡ b.0 = same_Some a.0 b.0 (sym a.2 ∙ b.2) in
+    let labelled_so : IsLabelled a.1 b.0 = subst (IsLabelled a.1) same a.3 in
+    let label : a.1 ≡ b.1 = same_Some a.1 b.1 (sym labelled_so ∙ b.3) in
+    a.4 ∙ ap name label ∙ sym b.4
+one_move st (again tag) y z a b = a ∙ sym b
+one_move st mark y z a b = a ∙ sym b
+
+pub steps_prove : (st : List Sentence) (id : ℕ) (tokens : List (List ℕ)) (steps : ReadSteps) → IsProofOf st id tokens → steps.profile ≡ Lenient → SayStepsOf st id tokens steps.moves
+    → AreProvedSteps st id steps
+steps_prove st id tokens steps proof lenient said place s moves number numbered =
+    let Fits : List (List ℕ) → Type 0 = IsWithin (limit_of Lenient) in
+    let told = said place s number in
+    let here : proof.place ≡ place = one_place st id proof.place place proof.s s proof.number.numbered number.numbered in
+    let same : proof.s ≡ s = same_Some proof.s s (sym proof.number.numbered.there ∙ ap (slice_get st) here ∙ number.numbered.there) in
+    let proved : IsProvedWithin Fits (take place st) s tokens =
+    subst (λ (t : Sentence). IsProvedWithin Fits (take place st) t tokens) same
+    (subst (λ (p : ℕ). IsProvedWithin Fits (take p st) proof.s tokens) here proof.proved) in
+    let proves : Prove Fits (take place st) s told.0 = moves_prove Fits (take place st) s tokens told.0 proved told.1 in
+    let those : told.0 ≡ moves = zip_once (IsNumberedMove st) (IsNumberedMove st) steps.moves told.0 moves (one_move st) told.2 numbered in
+    subst (λ (p : Profile). Prove (IsWithin (limit_of p)) (take place st) s moves) (sym lenient)
+    (subst (λ (ms : List (Move (List ℕ))). Prove Fits (take place st) s ms) those proves)
+
+-- so they make one tree
+pub steps_make : (st : List Sentence) (id : ℕ) (steps : ReadSteps) → AreProvedSteps st id steps → OfMoves st id steps.moves (λ place s moves. MakeOneTree (take place st) moves)
+steps_make st id steps proved place s moves number numbered =
+    let p = proved place s moves number numbered in (p.label, p.below, record { kept = p.kept; made = p.made })
+
+-- ---- what is told of them is told of the moves that the theorem's tokens say
+
+pub of_theorem : (ss : List Sentence) (statements : List PlainStatement) (label : List ℕ) (id : ℕ) (steps : List (Move ℕ)) (P : List Sentence → Sentence → List (Move (List ℕ)) → Type 0)
+    → ss ≡ sentences statements → (r : AreStepsOf statements label id steps) → OfMoves ss id steps (λ place s moves. P (take place ss) s moves)
+    → P (sentences (take r.place statements)) (sentence_of r.s) r.moves
+of_theorem ss statements label id steps P same r holds =
+    let here : OfMoves (sentences statements) id steps (λ place s moves. P (take place (sentences statements)) s moves) =
+    subst (λ (x : List Sentence). OfMoves x id steps (λ place s moves. P (take place x) s moves)) same holds in
+    subst (λ (x : List Sentence). P x (sentence_of r.s) r.moves) (sym (map-take r.place statements)) (here r.place (sentence_of r.s) r.moves r.number r.numbered)
+
+-- the listing
+pub shown_of : (ss : List Sentence) (statements : List PlainStatement) (label : List ℕ) (id : ℕ) (steps : List (Move ℕ)) (text : List ℕ)
+    → ss ≡ sentences statements → AreStepsOf statements label id steps → OfMoves ss id steps (λ place s moves. IsListingOf (take place ss) moves text)
+    → IsShown statements label text
+shown_of ss statements label id steps text same r holds =
+    let listed = of_theorem ss statements label id steps (λ before s moves. IsListingOf before moves text) same r holds in
+    record {
+      place = r.place;
+      s = r.s;
+      there = r.there;
+      named = r.named;
+      complete = r.complete;
+      shown = record { moves = r.moves; told = r.told; steps = listed.0; listed = listed.1; laid = listed.2 };
+    }
+
+-- its tree
+pub tree_made : (ss : List Sentence) (statements : List PlainStatement) (label : List ℕ) (id : ℕ) (steps : ReadSteps) → ss ≡ sentences statements → (r : AreStepsOf statements label id steps.moves)
+    → AreProvedSteps ss id steps → MakeOneTree (sentences (take r.place statements)) r.moves
+tree_made ss statements label id steps same r proved =
+    of_theorem ss statements label id steps.moves (λ before s moves. MakeOneTree before moves) same r (steps_make ss id steps proved)
+
+pub has_tree : (statements : List PlainStatement) (label : List ℕ) (id : ℕ) (steps : List (Move ℕ)) (r : AreStepsOf statements label id steps) (root : List ℕ) (below : Trees)
+    → MakeTree (sentences (take r.place statements)) r.moves root below → HasProofTree statements label r.place r.s root below
+has_tree statements label id steps r root below made =
+    record { there = r.there; named = r.named; complete = r.complete; moves = r.moves; told = r.told; made = made }
+
+-- its normal proof
+pub normal_of : (ss : List Sentence) (statements : List PlainStatement) (label : List ℕ) (id : ℕ) (steps : ReadSteps) (text : List ℕ)
+    → ss ≡ sentences statements → AreStepsOf statements label id steps.moves → AreProvedSteps ss id steps
+    → OfMoves ss id steps.moves (λ place s moves. OfTree (take place ss) moves (λ trees. IsNormalText trees text)) → IsNormalOf statements label text
+normal_of ss statements label id steps text same r proved holds =
+    let t = tree_made ss statements label id steps same r proved in
+    let told = of_theorem ss statements label id steps.moves (λ before s moves. OfTree before moves (λ trees. IsNormalText trees text)) same r holds in
+    (r.place, r.s, t.0, t.1, has_tree statements label id steps.moves r t.0 t.1 t.2, told t.0 t.1 t.2)
+
+-- its packed proof
+pub packed_of : (ss : List Sentence) (statements : List PlainStatement) (label : List ℕ) (id : ℕ) (steps : ReadSteps) (text : List ℕ)
+    → ss ≡ sentences statements → AreStepsOf statements label id steps.moves → AreProvedSteps ss id steps
+    → OfMoves ss id steps.moves (λ place s moves. OfTree (take place ss) moves (λ trees. IsPackedText (take place ss) s trees text)) → IsPackedOf statements label text
+packed_of ss statements label id steps text same r proved holds =
+    let t = tree_made ss statements label id steps same r proved in
+    let told = of_theorem ss statements label id steps.moves (λ before s moves. OfTree before moves (λ trees. IsPackedText before s trees text)) same r holds in
+    (r.place, r.s, t.0, t.1, has_tree statements label id steps.moves r t.0 t.1 t.2, told t.0 t.1 t.2)
+
+-- why it has no normal proof that is written
+too_long : (ss : List Sentence) (statements : List PlainStatement) (label : List ℕ) (id : ℕ) (steps : ReadSteps)
+    → ss ≡ sentences statements → AreStepsOf statements label id steps.moves → AreProvedSteps ss id steps
+    → OfMoves ss id steps.moves (λ place s moves. OfTree (take place ss) moves (λ trees. most_labels < length (spelling trees))) → IsNormalFault statements label ask.L2
+too_long ss statements label id steps same r proved holds =
+    let t = tree_made ss statements label id steps same r proved in
+    let told = of_theorem ss statements label id steps.moves (λ before s moves. OfTree before moves (λ trees. most_labels < length (spelling trees))) same r holds in
+    (r.place, r.s, t.0, t.1, has_tree statements label id steps.moves r t.0 t.1 t.2, told t.0 t.1 t.2)
+
+pub normal_fault : (ss : List Sentence) (statements : List PlainStatement) (label : List ℕ) (id : ℕ) (steps : ReadSteps) (fault : AskFault)
+    → ss ≡ sentences statements → AreStepsOf statements label id steps.moves → AreProvedSteps ss id steps
+    → ((fault ≡ ask.Memory) ⊎ ((fault ≡ ask.L2) × OfMoves ss id steps.moves (λ place s moves. OfTree (take place ss) moves (λ trees. most_labels < length (spelling trees)))))
+    → IsNormalFault statements label fault
+normal_fault ss statements label id steps fault same r proved (inl memory) = subst (IsNormalFault statements label) (sym memory) tt
+normal_fault ss statements label id steps fault same r proved (inr (long, holds)) =
+    subst (IsNormalFault statements label) (sym long) (too_long ss statements label id steps same r proved holds)
+
+pub ask_fault : (statements : List PlainStatement) (label : List ℕ) (fault : AskFault) → IsAskFault statements label fault → IsNormalFault statements label fault
+ask_fault statements label ask.A1 h = h
+ask_fault statements label ask.A2 h = h
+ask_fault statements label ask.A3 h = h
+ask_fault statements label ask.L2 h = absurd h
+ask_fault statements label (ask.Text rule step) h = absurd h
+ask_fault statements label ask.F3 h = absurd h
+ask_fault statements label ask.Memory h = h
+
+-- ---- expansions
+
+within_or_over : (n m : ℕ) → (n ≤ m) ⊎ (m < n)
+within_or_over zero m = inl (omega arith)
+within_or_over (suc n) zero = inr (omega arith)
+within_or_over (suc n) (suc m) = go (within_or_over n m)
+  where
+    go : ((n ≤ m) ⊎ (m < n)) → (suc n ≤ suc m) ⊎ (suc m < suc n)
+    go (inl h) = inl (omega arith)
+    go (inr h) = inr (omega arith)
+
+-- what is given is within the most
+pub given_is_within : {X : Type 0} (x : X) (max n : ℕ) → (max < n → (◌≡◌ {A = Result X ExpandFault} (Ok x) (Err expand.L2)) ⊎ (◌≡◌ {A = Result X ExpandFault} (Ok x) (Err expand.Memory))) → n ≤ max
+given_is_within {X} x max n over = go (within_or_over n max)
+  where
+    no : ((◌≡◌ {A = Result X ExpandFault} (Ok x) (Err expand.L2)) ⊎ (◌≡◌ {A = Result X ExpandFault} (Ok x) (Err expand.Memory))) → ⊥
+    no (inl e) = cc
+    no (inr e) = cc
+
+    go : ((n ≤ max) ⊎ (max < n)) → n ≤ max
+    go (inl h) = h
+    go (inr h) = absurd (no (over h))
+
+-- what is refused is over the most
+pub refused_is_over : {X : Type 0} (r : Result X ExpandFault) (max n : ℕ) → r ≡ Err expand.L2 → (n ≤ max → IsOkUnless r expand.Memory) → max < n
+refused_is_over {X} r max n is within = go (within_or_over n max)
+  where
+    no : IsOkUnless r expand.Memory → ⊥
+    no h = let e : expand.L2 ≡ expand.Memory = subst (λ (q : Result X ExpandFault). IsOkUnless q expand.Memory) is h in cc
+
+    go : ((n ≤ max) ⊎ (max < n)) → max < n
+    go (inl h) = absurd (no (within h))
+    go (inr h) = h
+
+-- what holds of a fault
+pub why : {X E : Type 0} (r : Result X E) (P Q : E → Type 0) → ((e : E) → P e → Q e) → IfErr r P → IfErr r Q
+why (Ok x) P Q f h = tt
+why (Err e) P Q f h = f e h
+
+-- ---- labels by numbers
+
+next_name : (st : List Sentence) (ids : List LabelId) (labels : List (List ℕ)) (k : ℕ) (d : LabelId) (label : List ℕ) → AreLabelsOf st ids labels → k < length ids
+    → ((s : Sentence) → slice_get (labelled_sentences st) (get_or ids k d).0 ≡ Some s → IsLabelled label s) → take (suc k) labels ≡ take k labels ++ label ∷ []
+next_name st [] labels k d label are less named = absurd (omega arith)
+next_name st (id ∷ ids) [] k d label are less named = absurd are
+next_name st (id ∷ ids) (first ∷ labels) zero d label are less named =
+    let same : first ≡ label = same_Some first label (sym are.0.named ∙ named are.0.s are.0.there) in ap (λ (l : List ℕ). l ∷ []) same
+next_name st (id ∷ ids) (first ∷ labels) (suc k) d label are less named =
+    ap (λ (ls : List (List ℕ)). first ∷ ls) (next_name st ids labels k d label are.1 (omega arith) named)
+
+pub one_more_name : (st : List Sentence) (ids : List LabelId) (labels : List (List ℕ)) (k : ℕ) (d : LabelId) (label : List ℕ) → AreLabelsOf st ids labels → k < length ids
+    → ((s : Sentence) → slice_get (labelled_sentences st) (get_or ids k d).0 ≡ Some s → IsLabelled label s) → take (k + 1) labels ≡ take k labels ++ label ∷ []
+one_more_name st ids labels k d label are less named =
+    let next : k + 1 ≡ suc k = omega arith in
+    ap (λ (n : ℕ). take n labels) next ∙ next_name st ids labels k d label are less named
+
+pub as_many_names : (st : List Sentence) (ids : List LabelId) (labels : List (List ℕ)) → AreLabelsOf st ids labels → length labels ≡ length ids
+as_many_names st [] [] are = refl
+as_many_names st [] (label ∷ labels) are = absurd are
+as_many_names st (id ∷ ids) [] are = absurd are
+as_many_names st (id ∷ ids) (label ∷ labels) are = ap suc (as_many_names st ids labels are.1)

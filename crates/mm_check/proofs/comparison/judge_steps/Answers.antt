@@ -1,0 +1,21 @@
+-- What is accepted is proved; what is not has its first fault.
+use Rattle.std.proofs.Common.{ℕ, Err, ap}
+use Rattle.mm_proof.specs.declared.fault.ProofRule.{ProofRule}
+use Rattle.mm_proof.specs.Profiles.{limit_of}
+use Rattle.mm_proof.specs.Verified.{OfMoves, FailsWith}
+use Rattle.mm_check.specs.Compared.{text_fault}
+use Rattle.mm_check.specs.CodeCompared.{FailsAs}
+use Rattle.mm_check.proofs.Comparing.{fails_as}
+use Rattle.mm_check.proofs.Rereading.{passed_on}
+use Rattle.mm_check.proofs.comparison.judge_steps.Goals as goal
+
+pub returns-in_err-_used-clause-fault : goal.returns-in_err-_used-clause-fault
+returns-in_err-_used-clause-fault c =
+    passed_on c.from_residual.result (text_fault c.in_err-_used.field-0.0) (FailsAs c.args.book.now.statements c.args.id.0 c.args.steps.now) c.from_residual.ensures.1
+    (fails_as c.in_err-_used.field-0.0
+    (λ (rule : ProofRule) (step : ℕ). OfMoves c.args.book.now.statements c.args.id.0 c.args.steps.now.moves
+    (λ place s moves. FailsWith (limit_of c.args.steps.now.profile) c.args.book.now.statements place s moves rule step))
+    (λ rule step is. c.in_err-_used.ensures.fault rule step (ap Err is)))
+
+pub returns-clause-proved : goal.returns-clause-proved
+returns-clause-proved c = λ place s moves number numbered. (c.in_ok-_used.ensures.proved place s moves number numbered).0

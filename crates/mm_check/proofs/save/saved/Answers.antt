@@ -1,0 +1,30 @@
+-- The statements are those that were checked.
+use Rattle.std.proofs.Common.{◌≡◌, List, map, None, sym, subst}
+use Rattle.mm_text.specs.Files.{PlainFile, plain_file}
+use Rattle.mm_text.specs.Reading.{Reads}
+use Rattle.mm_check.specs.Saved.{IsSaved, FitsSaved, IsSaveFault}
+use Rattle.mm_check.proofs.Saving.{accepted_of}
+use Rattle.mm_check.proofs.save.saved.Goals as goal
+
+pub returns-in-Ok-answer-clause-saved : goal.returns-in-Ok-answer-clause-saved
+returns-in-Ok-answer-clause-saved c =
+    let files : List PlainFile = map plain_file c.args.files.now in
+    let found = accepted_of files c.check.result c.in-Ok.checked c.in-Ok.is c.check.ensures.verdict in
+    let kept : c.in-Ok.checked.files ≡ files = c.in-Ok.ensures.files in
+    let reads : Reads c.in-Ok.checked.files found.0 None = subst (λ (fs : List PlainFile). Reads fs found.0 None) (sym kept) found.1.reads in (
+      found.0,
+      found.1,
+      subst (λ (fs : List PlainFile). IsSaved c.args.form fs found.0 c.args.label.now c.in-Ok-answer.new.0 c.in-Ok-answer.new.1.items) kept (c.in-Ok-answer.ensures.saved found.0 reads),
+      subst (λ (fs : List PlainFile). FitsSaved fs c.in-Ok-answer.new.0 c.in-Ok-answer.new.1.items) kept c.in-Ok-answer.ensures.fits,
+    )
+
+pub returns-in-Err-answer-clause-fault : goal.returns-in-Err-answer-clause-fault
+returns-in-Err-answer-clause-fault c =
+    let files : List PlainFile = map plain_file c.args.files.now in
+    let found = accepted_of files c.check.result c.in-Ok.checked c.in-Ok.is c.check.ensures.verdict in
+    let kept : c.in-Ok.checked.files ≡ files = c.in-Ok.ensures.files in
+    let reads : Reads c.in-Ok.checked.files found.0 None = subst (λ (fs : List PlainFile). Reads fs found.0 None) (sym kept) found.1.reads in (
+      found.0,
+      found.1,
+      subst (λ (fs : List PlainFile). IsSaveFault c.args.form fs found.0 c.args.label.now c.in-Err-answer.fault) kept (c.in-Err-answer.ensures.fault found.0 reads),
+    )

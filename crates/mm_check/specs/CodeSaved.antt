@@ -1,0 +1,60 @@
+-- What the code of `saved` knows on its way: it mirrors the code.
+use Rattle.std.specs.Prelude.{◌≡◌, ℕ, ◌<◌, ◌≤◌, List, ◌∷◌, take, length, slice_get, Some, ◌⊎◌}
+use Rattle.mm_text.specs.Statement.{PlainStatement}
+use Rattle.mm_text.specs.Files.{PlainFile}
+use Rattle.mm_text.specs.Replaced.{with_span}
+use Rattle.mm_frame.specs.Sentence.{Sentence}
+use Rattle.mm_proof.specs.Moves.{Move}
+use Rattle.mm_proof.specs.Tree.{spelling}
+use Rattle.mm_proof.specs.Verified.{OfMoves}
+use Rattle.mm_proof.specs.Packing.{OfTree}
+use Rattle.mm_check.specs.declared.form.Form.{Form}
+use Rattle.mm_check.specs.declared.form.Form.TheVariants.{Normal, Packed}
+use Rattle.mm_check.specs.declared.ask.AskFault.{AskFault}
+use Rattle.mm_check.specs.declared.ask.AskFault.TheVariants.{F3, L2, Memory}
+use Rattle.mm_check.specs.Shown.{Stands}
+use Rattle.mm_check.specs.Forms.{most_labels}
+use Rattle.mm_check.specs.Saved.{IsTextIn, total_with}
+
+-- the file and the span are those of the proof of the statement with the label
+abbrev pub IsHomeOf : List PlainStatement → (label : List ℕ) → (file : ℕ) → (span : ℕ × ℕ) → Type 0
+IsHomeOf statements label file span =
+    (s : PlainStatement) → Stands statements label s → (file ≡ s.first.file) × (span ≡ s.span)
+
+-- the text is the proof of the theorem with this number in this form
+abbrev pub IsTextOf : Form → List Sentence → (id : ℕ) → List (Move ℕ) → (text : List ℕ) → Type 0
+IsTextOf form statements id steps text =
+    OfMoves statements id steps (λ place s moves. OfTree (take place statements) moves
+    (λ trees. IsTextIn form (take place statements) s trees text))
+
+-- its normal proof has more labels than are written
+abbrev pub IsTooLong : List Sentence → (id : ℕ) → List (Move ℕ) → Type 0
+IsTooLong statements id steps =
+    OfMoves statements id steps (λ place s moves. OfTree (take place statements) moves
+    (λ trees. most_labels < length (spelling trees)))
+
+-- why it has no text in this form
+abbrev pub IsTextFault : Form → List Sentence → (id : ℕ) → List (Move ℕ) → AskFault → Type 0
+IsTextFault Normal statements id steps fault =
+    (fault ≡ Memory) ⊎ ((fault ≡ L2) × IsTooLong statements id steps)
+IsTextFault Packed statements id steps fault = fault ≡ Memory
+
+-- there is a file with the number, and the span is one of its bytes
+abbrev pub HoldsSpan : List PlainFile → (number : ℕ) → (span : ℕ × ℕ) → Type 0
+HoldsSpan files number span =
+    (file : PlainFile) × (slice_get files number ≡ Some file) × (span.0 ≤ length file.bytes)
+    × (span.1 ≤ length file.bytes)
+
+-- the bytes are those of the file with the number, with a line feed and the text in place of the span
+abbrev pub IsPutIn : List PlainFile → (number : ℕ) → (span : ℕ × ℕ) → (text bytes : List ℕ) → Type 0
+IsPutIn files number span text bytes =
+    (file : PlainFile) × (slice_get files number ≡ Some file)
+    × (bytes ≡ with_span file.bytes span (10 ∷ text))
+
+-- why they aren't given: want of memory, or the files would have too many bytes
+abbrev pub IsPutFault : List PlainFile → (number : ℕ) → (span : ℕ × ℕ) → (text : List ℕ) → AskFault
+    → Type 0
+IsPutFault files number span text fault =
+    (fault ≡ Memory)
+    ⊎ ((fault ≡ F3) × (bytes : List ℕ) × IsPutIn files number span text bytes
+    × (1073741824 < total_with files number bytes))

@@ -1,0 +1,100 @@
+-- Whether a text is a proof of a theorem that spells the same tree as its own: what is wrong with
+-- the text, and the answer (the Metamath book, sections 4.1.1, 4.3 and 4.4.4, appendix B).
+use Rattle.std.specs.Prelude.{◌≡◌, ◌↔◌, ◌⊎◌, ℕ, ◌<◌, ◌≤◌, ◌==◌, Bool, true, false, IsTrue, List, take}
+use Rattle.std.specs.Prelude.{length, slice_get, Some}
+use Rattle.std.specs.List.{list_any, list_all}
+use Rattle.mm_text.specs.Token.{is_printable}
+use Rattle.mm_text.specs.Statement.{PlainStatement}
+use Rattle.mm_code.specs.Words.{tokens_in}
+use Rattle.mm_frame.specs.Sentence.{Sentence, sentence_of, IsLabelled}
+use Rattle.mm_proof.specs.declared.fault.ProofRule.{ProofRule}
+use Rattle.mm_proof.specs.declared.fault.ProofFault.{ProofFault}
+use Rattle.mm_proof.specs.declared.fault.ProofFault.TheVariants as proof_faults
+use Rattle.mm_proof.specs.declared.profile.Profile.TheVariants.{Lenient}
+use Rattle.mm_proof.specs.Profiles.{limit_of}
+use Rattle.mm_proof.specs.Moves.{Move}
+use Rattle.mm_proof.specs.Tokens.{SayMoves}
+use Rattle.mm_proof.specs.OneTree.{MakeSameTree}
+use Rattle.mm_proof.specs.Proof.{IsWithin, IsProvedWithin, IsFault}
+use Rattle.mm_check.specs.declared.rule.Rule.{Rule}
+use Rattle.mm_check.specs.declared.rule.Rule.TheVariants.{F3, X1, X9, A3}
+use Rattle.mm_check.specs.declared.ask.AskFault.{AskFault}
+use Rattle.mm_check.specs.declared.ask.AskFault.TheVariants.{Text, Memory}
+use Rattle.mm_check.specs.Verdict.{proof_of, is_proof, is_incomplete, proof_rule, sentences}
+use Rattle.mm_check.specs.Rests.{IsAskFault}
+
+-- the most bytes of a text that is taken
+abbrev pub most_bytes : ℕ
+most_bytes = 1073741824
+
+-- each token holds only bytes that a token may hold
+abbrev pub are_printable : List (List ℕ) → Bool
+are_printable tokens = list_all (list_all is_printable) tokens
+
+-- some token holds a `$`
+abbrev pub hold_dollar : List (List ℕ) → Bool
+hold_dollar tokens = list_any (list_any (λ b. b == 36)) tokens
+
+-- The text may be taken, and its tokens may stand in a proof with no unknown step.
+pub record IsProofText (text : List ℕ) : Type 0 where
+  pub taken : length text ≤ most_bytes
+  pub printable : are_printable (tokens_in text) ≡ true
+  pub plain : hold_dollar (tokens_in text) ≡ false
+  pub complete : is_incomplete (tokens_in text) ≡ false
+
+-- The first of these rules that the text breaks, whatever it is to prove: it is too long; a token
+-- holds a byte that none may hold; or one that holds a `$`; or one that holds a `?`.
+abbrev pub BreaksText : Rule → (text : List ℕ) → Type 0
+BreaksText F3 text = most_bytes < length text
+BreaksText X1 text = (length text ≤ most_bytes) × (are_printable (tokens_in text) ≡ false)
+BreaksText X9 text =
+    (length text ≤ most_bytes) × (are_printable (tokens_in text) ≡ true)
+    × (hold_dollar (tokens_in text) ≡ true)
+BreaksText A3 text =
+    (length text ≤ most_bytes) × (are_printable (tokens_in text) ≡ true)
+    × (hold_dollar (tokens_in text) ≡ false) × (is_incomplete (tokens_in text) ≡ true)
+BreaksText rule text = ⊥
+
+-- the first fault of the text as a proof of the statement: one of the text alone, at step 0; else
+-- that of the proof that its tokens are
+abbrev pub IsTextFault : (before : List Sentence) → Sentence → (text : List ℕ) → Rule → (step : ℕ)
+    → Type 0
+IsTextFault before s text rule step =
+    ((step ≡ 0) × BreaksText rule text)
+    ⊎ (IsProofText text
+    × (broken : ProofRule) × (rule ≡ proof_rule broken)
+    × IsFault (IsWithin (limit_of Lenient)) before s (tokens_in text) broken step)
+
+-- the fault that a fault of the handed proof is answered with
+abbrev pub text_fault : ProofFault → AskFault
+text_fault (proof_faults.Rule rule step) = Text (proof_rule rule) step
+text_fault proof_faults.Memory = Memory
+
+-- a theorem with the label, whose proof is complete, stands at this place
+pub record IsTheorem (statements : List PlainStatement) (label : List ℕ) (place : ℕ)
+    (s : PlainStatement) : Type 0 where
+  pub there : slice_get statements place ≡ Some s
+  pub named : IsLabelled label (sentence_of s)
+  pub complete : is_proof s ≡ true
+
+-- The text is a proof of the theorem with the label, and this tells whether it makes the same tree
+-- as the theorem's own proof.
+pub record IsCompared (statements : List PlainStatement) (label text : List ℕ)
+    (same : Bool) : Type 0 where
+  pub place : ℕ
+  pub s : PlainStatement
+  pub theorem : IsTheorem statements label place s
+  pub moves : List (Move (List ℕ))
+  pub told : SayMoves (sentences (take place statements)) (sentence_of s) (proof_of s) moves
+  pub legal : IsProofText text
+  pub proved : IsProvedWithin (IsWithin (limit_of Lenient)) (sentences (take place statements))
+      (sentence_of s) (tokens_in text)
+  pub answer : IsTrue same ↔ MakeSameTree (sentences (take place statements)) moves proved.moves
+
+-- Why the text is not compared with the theorem's proof: a fault of the question, or else of the
+-- text as a proof of the theorem.
+abbrev pub IsSameFault : List PlainStatement → (label text : List ℕ) → AskFault → Type 0
+IsSameFault statements label text (Text rule step) =
+    (place : ℕ) × (s : PlainStatement) × IsTheorem statements label place s
+    × IsTextFault (sentences (take place statements)) (sentence_of s) text rule step
+IsSameFault statements label text fault = IsAskFault statements label fault

@@ -1,0 +1,72 @@
+-- A file in which the proof of one theorem is written anew, in lines, and all else is kept. The forms
+-- of proofs are those of the Metamath book, sections 4.3 and 4.4.3 and appendix B; what is kept is
+-- this project's own.
+use Rattle.std.specs.Prelude.{◌≡◌, ℕ, ◌<◌, ◌≤◌, List, ◌∷◌, take, slice_get, Some}
+use Rattle.mm_text.specs.Statement.{PlainStatement}
+use Rattle.mm_text.specs.Files.{PlainFile, total_bytes}
+use Rattle.mm_text.specs.Replaced.{with_span, with_bytes}
+use Rattle.mm_frame.specs.Sentence.{Sentence, sentence_of}
+use Rattle.mm_proof.specs.Tree.{Trees, none, tree}
+use Rattle.mm_check.specs.declared.form.Form.{Form}
+use Rattle.mm_check.specs.declared.form.Form.TheVariants.{Normal, Packed}
+use Rattle.mm_check.specs.declared.ask.AskFault.{AskFault}
+use Rattle.mm_check.specs.declared.ask.AskFault.TheVariants.{F3}
+use Rattle.mm_check.specs.declared.save.SaveFault.{SaveFault}
+use Rattle.mm_check.specs.declared.save.SaveFault.TheVariants.{Check, Ask}
+use Rattle.mm_check.specs.Verdict.{Verdict, HasVerdict, AreAccepted, sentences}
+use Rattle.mm_check.specs.Answer.{verdict_of_fault}
+use Rattle.mm_check.specs.Rests.{IsAskFault}
+use Rattle.mm_check.specs.Forms.{HasProofTree, IsNormalText, IsPackedText, IsNormalFault}
+
+-- the text is the proof of the trees in this form
+abbrev pub IsTextIn : Form → (before : List Sentence) → Sentence → Trees → (text : List ℕ) → Type 0
+IsTextIn Normal before s trees text = IsNormalText trees text
+IsTextIn Packed before s trees text = IsPackedText before s trees text
+
+-- These are the bytes of the file with the number, in which the theorem with the label stands, with
+-- a line feed and its proof in this form in place of what stands between its `$=` and its `$.`.
+pub record IsSaved (form : Form) (files : List PlainFile) (statements : List PlainStatement)
+    (label : List ℕ) (number : ℕ) (bytes : List ℕ) : Type 0 where
+  pub place : ℕ
+  pub s : PlainStatement
+  pub root : List ℕ
+  pub below : Trees
+  pub proof : HasProofTree statements label place s root below
+  pub text : List ℕ
+  pub laid : IsTextIn form (sentences (take place statements)) (sentence_of s) (tree root below none)
+      text
+  pub home : number ≡ s.first.file
+  pub file : PlainFile
+  pub handed : slice_get files number ≡ Some file
+  pub whole : bytes ≡ with_span file.bytes s.span (10 ∷ text)
+
+-- how many bytes the files hold in all, with these in the file with the number
+abbrev pub total_with : List PlainFile → (number : ℕ) → (bytes : List ℕ) → ℕ
+total_with files number bytes = total_bytes (with_bytes files number bytes)
+
+-- the files have no more bytes than they may, with these in the file with the number
+abbrev pub FitsSaved : List PlainFile → (number : ℕ) → (bytes : List ℕ) → Type 0
+FitsSaved files number bytes = total_with files number bytes ≤ 1073741824
+
+-- why the theorem with the label has no proof that is written in this form
+abbrev pub IsFormFault : Form → List PlainStatement → (label : List ℕ) → AskFault → Type 0
+IsFormFault Normal statements label fault = IsNormalFault statements label fault
+IsFormFault Packed statements label fault = IsAskFault statements label fault
+
+-- Why no file is written anew: the proof isn't written in this form, or the files would have more
+-- bytes than they may.
+abbrev pub IsSaveFault : Form → List PlainFile → List PlainStatement → (label : List ℕ) → AskFault
+    → Type 0
+IsSaveFault form files statements label F3 =
+    (number : ℕ) × (bytes : List ℕ) × IsSaved form files statements label number bytes
+    × (1073741824 < total_with files number bytes)
+IsSaveFault form files statements label fault = IsFormFault form statements label fault
+
+-- Why saving gives nothing: the verdict over the files isn't that they are accepted, or they are, and
+-- no file is written anew.
+abbrev pub IsSavingFault : Form → List PlainFile → (label : List ℕ) → SaveFault → Type 0
+IsSavingFault form files label (Check fault) =
+    (verdict : Verdict) → verdict_of_fault fault ≡ Some verdict → HasVerdict files verdict
+IsSavingFault form files label (Ask fault) =
+    (statements : List PlainStatement) × AreAccepted files statements
+    × IsSaveFault form files statements label fault

@@ -1,0 +1,62 @@
+-- Laws of saving: what it changes, and that it changes nothing else.
+use Rattle.std.specs.Prelude.{◌≡◌, ℕ, ◌<◌, List, None, ◌↔◌, ◌⊎◌}
+use Rattle.mm_text.specs.Statement.{PlainStatement}
+use Rattle.mm_text.specs.Files.{PlainFile}
+use Rattle.mm_text.specs.Replaced.{with_bytes}
+use Rattle.mm_text.specs.Reading.{Reads}
+use Rattle.mm_proof.specs.Tree.{Trees}
+use Rattle.mm_check.specs.declared.form.Form.{Form}
+use Rattle.mm_check.specs.declared.ask.AskFault.{AskFault}
+use Rattle.mm_check.specs.declared.ask.AskFault.TheVariants.{F3, Memory}
+use Rattle.mm_check.specs.Verdict.{Verdict, HasVerdict, AreAccepted, sentences}
+use Rattle.mm_check.specs.Rests.{HasTree, IsReport}
+use Rattle.mm_check.specs.Saved.{IsSaved, FitsSaved, IsSaveFault, total_with}
+
+-- The others say the same: their statements say what those of the files say; they have the verdicts
+-- of the files; each complete proof has the same tree; and each theorem rests on the same.
+pub record SayTheSame (files others : List PlainFile) (statements same : List PlainStatement)
+    : Type 0 where
+  pub accepted : AreAccepted others same
+  pub told : sentences statements ≡ sentences same
+  pub verdict : (v : Verdict) → HasVerdict files v ↔ HasVerdict others v
+  pub trees : (id place : ℕ) (t : Trees) → HasTree statements id place t ↔ HasTree same id place t
+  pub rests : (label : List ℕ) (axioms unproved : List ℕ)
+      → IsReport statements label axioms unproved ↔ IsReport same label axioms unproved
+
+-- With the new bytes in place of the old, nothing that is answered changes.
+abbrev pub SavingChangesNoAnswer : Type 0
+SavingChangesNoAnswer =
+    (form : Form) (files : List PlainFile) (statements : List PlainStatement) (label : List ℕ)
+    (number : ℕ) (bytes : List ℕ) → AreAccepted files statements
+    → IsSaved form files statements label number bytes → FitsSaved files number bytes
+    → (same : List PlainStatement)
+    × SayTheSame files (with_bytes files number bytes) statements same
+
+-- what is saved is one
+abbrev pub OneSaved : Type 0
+OneSaved =
+    (form : Form) (files : List PlainFile) (statements : List PlainStatement) (label : List ℕ)
+    (number other : ℕ) (bytes others : List ℕ) → AreAccepted files statements
+    → IsSaved form files statements label number bytes
+    → IsSaved form files statements label other others
+    → (number ≡ other) × (bytes ≡ others)
+
+-- Where a theorem can be saved, there is no other fault than want of memory, or that the files would
+-- have too many bytes; and this is one exactly if they would.
+abbrev pub OneSaveAnswer : Type 0
+OneSaveAnswer =
+    (form : Form) (files : List PlainFile) (statements : List PlainStatement) (label : List ℕ)
+    (number : ℕ) (bytes : List ℕ) (fault : AskFault) → AreAccepted files statements
+    → IsSaved form files statements label number bytes
+    → IsSaveFault form files statements label fault
+    → (fault ≡ Memory) ⊎ ((fault ≡ F3) × (1073741824 < total_with files number bytes))
+
+-- Saving again gives equal bytes.
+abbrev pub SavingAgainChangesNothing : Type 0
+SavingAgainChangesNothing =
+    (form : Form) (files : List PlainFile) (statements same : List PlainStatement)
+    (label : List ℕ) (number again : ℕ) (bytes others : List ℕ) → AreAccepted files statements
+    → IsSaved form files statements label number bytes → FitsSaved files number bytes
+    → Reads (with_bytes files number bytes) same None
+    → IsSaved form (with_bytes files number bytes) same label again others
+    → (again ≡ number) × (others ≡ bytes)

@@ -1,0 +1,128 @@
+//! A proof's text that is handed in, and its tokens.
+
+ghost use Rattle.std.specs.Prelude.{◌≡◌, ◌<◌, ◌≤◌, ◌==◌, List, take, length, slice_index, true};
+ghost use Rattle.std.specs.Prelude.{IfOk, IfErr};
+ghost use Rattle.std.specs.List.{AllByRecursion, list_any, list_all, sum_by};
+ghost use Rattle.mm_text.specs.Token.{is_printable};
+ghost use Rattle.mm_code.specs.Layout.{texts};
+ghost use Rattle.mm_code.specs.Words.{is_white_space, tokens_in, LacksWhiteSpace};
+ghost use Rattle.mm_check.specs.Compared.{are_printable, hold_dollar};
+ghost use Rattle.mm_check.specs.CodeCompared.{IsLegalText, IsIllegal};
+
+use crate::ask::AskFault;
+use crate::rule::Rule;
+use std::alloc::{AllocError, Global};
+
+// The most bytes of a text that is taken.
+const MOST_BYTES: usize = 1_073_741_824;
+
+/// Whether a byte is white space.
+fn is_space(byte: u8) -> bool
+    ensures { result ≡ is_white_space byte }
+{
+    matches!(byte, b' ' | b'\n' | b'\t' | 12 | b'\r')
+}
+
+/// How many bytes stand before the first white space.
+fn word_len(text: &[u8]) -> usize
+    ensures within { result ≤ length text.now }
+    ensures word { LacksWhiteSpace (take result text.now) }
+    ensures stop { result < length text.now
+        → is_white_space (slice_index text.now result) ≡ true }
+{
+    for at in 0..text.len() {
+        if is_space(text[at]) {
+            return at;
+        }
+    }
+    text.len()
+}
+
+/// The tokens of a text: its longest runs of bytes that aren't white space.
+fn tokens_of<'a>(alloc: Global, text: &'a [u8]) -> Result<Vec<&'a [u8]>, AllocError>
+    ensures tokens { IfOk result (λ tokens. texts tokens.items ≡ tokens_in text.now) }
+    ensures filled { IfOk result (λ tokens. AllByRecursion (λ t. 1 ≤ length t)
+        (texts tokens.items)) }
+    ensures room { IfOk result (λ tokens. sum_by length (texts tokens.items)
+        ≤ length text.now) }
+{
+    let mut tokens = Vec::new(alloc);
+    let mut rest = text;
+    while let Some((first, others)) = rest.split_first() {
+        if is_space(*first) {
+            rest = others;
+        } else {
+            let (token, after) = rest.split_at(word_len(rest));
+            tokens.push(token)?;
+            rest = after;
+        }
+    }
+    Ok(tokens)
+}
+
+/// Whether each byte of a token is one that a token may hold.
+fn is_printable(token: &[u8]) -> bool
+    ensures { result ≡ list_all is_printable token.now }
+{
+    token.iter().all(|byte| matches!(*byte, 0x21..=0x7e))
+}
+
+/// Whether each byte of the tokens is one that a token may hold.
+fn all_printable(tokens: &[&[u8]]) -> bool
+    ensures { result ≡ are_printable (texts tokens.now) }
+{
+    for token in tokens {
+        if !is_printable(token) {
+            return false;
+        }
+    }
+    true
+}
+
+/// Whether a token holds a `$`.
+fn has_dollar(token: &[u8]) -> bool
+    ensures { result ≡ list_any (λ b. b == 36) token.now }
+{
+    token.iter().any(|byte| *byte == b'$')
+}
+
+/// Whether some token holds a `$`.
+fn any_dollar(tokens: &[&[u8]]) -> bool
+    ensures { result ≡ hold_dollar (texts tokens.now) }
+{
+    for token in tokens {
+        if has_dollar(token) {
+            return true;
+        }
+    }
+    false
+}
+
+/// A fault of the text alone.
+fn broken<T>(rule: Rule) -> Result<T, AskFault>
+    ensures { result ≡ Err (AskFault.Text rule 0) }
+{
+    Err(AskFault::Text { rule, step: 0 })
+}
+
+/// The tokens of a text, where they may stand in a proof, be it an incomplete one.
+pub(crate) fn legal_tokens<'a>(alloc: Global, text: &'a [u8]) -> Result<Vec<&'a [u8]>, AskFault>
+    ensures tokens { IfOk result (λ tokens. texts tokens.items ≡ tokens_in text.now) }
+    ensures filled { IfOk result (λ tokens. AllByRecursion (λ t. 1 ≤ length t)
+        (texts tokens.items)) }
+    ensures room { IfOk result (λ tokens. sum_by length (texts tokens.items) ≤ 1073741824) }
+    ensures legal { IfOk result (λ tokens. IsLegalText text.now) }
+    ensures fault { IfErr result (IsIllegal text.now) }
+{
+    if text.len() > MOST_BYTES {
+        return broken(Rule::F3);
+    }
+    let tokens = tokens_of(alloc, text)?;
+    if !all_printable(&tokens) {
+        return broken(Rule::X1);
+    }
+    if any_dollar(&tokens) {
+        return broken(Rule::X9);
+    }
+    Ok(tokens)
+}

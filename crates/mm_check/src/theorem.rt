@@ -1,0 +1,77 @@
+//! A theorem and the steps of its proof.
+
+ghost use Rattle.std.specs.Prelude.{◌≡◌, ◌≤◌, map, length, sum_by, IfOk, IfErr};
+ghost use Rattle.std.specs.List.{AllByRecursion};
+ghost use Rattle.mm_text.specs.Statement.{plain_statement};
+ghost use Rattle.mm_proof.specs.declared.profile.Profile.TheVariants.{Lenient};
+ghost use Rattle.mm_proof.specs.Parsed.{OfProof, SaySteps};
+ghost use Rattle.mm_proof.specs.Steps.{AreSteps};
+ghost use Rattle.mm_check.specs.declared.ask.AskFault.TheVariants.{Memory};
+ghost use Rattle.mm_check.specs.CodeShown.{IsProofOf, AreProvedSteps, SayStepsOf};
+
+use crate::ask::AskFault;
+use mm_frame::{Book, LabelId};
+use mm_proof::{Parsed, Profile, ProofFault, Steps};
+use mm_text::Statement;
+use std::alloc::Global;
+
+/// A `$p` whose proof is complete, by its number: the steps of that proof, and the file and the span
+/// in which it stands.
+#[derive(Drop)]
+pub(crate) struct Theorem {
+    pub(crate) id: LabelId,
+    pub(crate) steps: Steps,
+    pub(crate) file: usize,
+    pub(crate) span: (u32, u32),
+}
+
+/// The steps of a `$p`, whose complete proof has no fault.
+fn steps_of(alloc: Global, book: &Book, id: LabelId, tokens: &[&[u8]]) -> Result<Steps, AskFault>
+    requires proof { IsProofOf book.now.statements id.0 (map (λ t. t.now) tokens.now) }
+    requires filled { AllByRecursion (λ t. 1 ≤ length t) (map (λ t. t.now) tokens.now) }
+    requires room { sum_by length (map (λ t. t.now) tokens.now) ≤ 1073741824 }
+    ensures said { IfOk result (λ steps. OfProof book.now.statements id.0 (λ place s.
+        SaySteps book.now.statements place s (map (λ t. t.now) tokens.now) steps.moves)) }
+    ensures usable { IfOk result (λ steps. AreSteps book.now.statements id.0 steps.moves) }
+    ensures profile { IfOk result (λ steps. steps.profile ≡ Lenient) }
+    ensures memory { IfErr result (λ fault. fault ≡ Memory) }
+{
+    match Steps::parse(alloc, Profile::Lenient, book, id, tokens) {
+        Ok(Parsed::Steps(steps)) => Ok(steps),
+        Err(ProofFault::Memory) => Err(AskFault::Memory),
+        Ok(Parsed::Incomplete) => unreachable!(),
+        Err(ProofFault::Rule { .. }) => unreachable!(),
+    }
+}
+
+/// A `$p` with the steps of its complete proof, which has no fault.
+pub(crate) fn theorem_of(
+    alloc: Global,
+    book: &Book,
+    id: LabelId,
+    statement: &Statement,
+    tokens: &[&[u8]],
+) -> Result<Theorem, AskFault>
+    requires proof { IsProofOf book.now.statements id.0 (map (λ t. t.now) tokens.now) }
+    requires filled { AllByRecursion (λ t. 1 ≤ length t) (map (λ t. t.now) tokens.now) }
+    requires room { sum_by length (map (λ t. t.now) tokens.now) ≤ 1073741824 }
+    ensures id { IfOk result (λ theorem. theorem.id.0 ≡ id.0) }
+    ensures home { IfOk result (λ theorem.
+        (theorem.file ≡ (plain_statement statement.now).first.file)
+        × (theorem.span ≡ (plain_statement statement.now).span)) }
+    ensures said { IfOk result (λ theorem. SayStepsOf book.now.statements theorem.id.0
+        (map (λ t. t.now) tokens.now) theorem.steps.moves) }
+    ensures usable { IfOk result (λ theorem.
+        AreSteps book.now.statements theorem.id.0 theorem.steps.moves) }
+    ensures proved { IfOk result (λ theorem.
+        AreProvedSteps book.now.statements theorem.id.0 theorem.steps) }
+    ensures memory { IfErr result (λ fault. fault ≡ Memory) }
+{
+    let steps = steps_of(alloc, book, id, tokens)?;
+    Ok(Theorem {
+        id,
+        steps,
+        file: statement.first.file,
+        span: statement.span,
+    })
+}
