@@ -11,7 +11,7 @@ use Rattle.clap.proofs.OnLiterals.{clap_on_literals}
 use Rattle.clap.proofs.WalkLemmas.{first_value-rows, raw_values-rows}
 use Rattle.mm_tool.specs.Words.{AreMatchesOf, Asks, Commands, IsAccepted, IsFaultOfKind, IsOfKind, IsWordFault, command_line}
 use Rattle.mm_tool.specs.declared.words.Request.{Request}
-use Rattle.mm_tool.specs.declared.words.Request.TheVariants.{Help, Version, Explain, Run}
+use Rattle.mm_tool.specs.declared.words.Request.TheVariants.{Help, Version, Explain, Run, Compare}
 use Rattle.mm_tool.specs.declared.stop.Stop.{Stop}
 use Rattle.mm_tool.specs.declared.stop.Stop.TheVariants.{Usage, NotText, CannotRead, CannotWrite, Memory}
 
@@ -60,6 +60,7 @@ request_asked app words e (Ok Help) is kinds h = inl (among_faults words e Displ
 request_asked app words e (Ok Version) is kinds h = among_faults words e DisplayVersion (kind_among app words e is kinds) h (λ same. absurd (cc))
 request_asked app words e (Ok (Explain asked)) is kinds h = absurd h
 request_asked app words e (Ok (Run command names)) is kinds h = absurd h
+request_asked app words e (Ok (Compare label proof names)) is kinds h = absurd h
 request_asked app words e (Err fault) is kinds h = h
 
 -- Else the words are refused, or memory was wanting.

@@ -6,12 +6,12 @@ use Rattle.std.specs.List.{AllByRecursion, AllZip}
 use Rattle.mm_text.specs.Alike.{AreAlike}
 use Rattle.mm_text.specs.Files.{PlainFile, total_bytes}
 use Rattle.mm_check.specs.Alike.{AlikeFilesHaveOneReply}
-use Rattle.mm_check.specs.Reply.{IsReplyTo, WritesBeginningOf}
+use Rattle.mm_check.specs.Reply.{IsReplyTo}
 use Rattle.mm_check.specs.declared.command.Command.{Command}
 use Rattle.mm_check.specs.declared.command.Command.TheVariants.{Check}
 use Rattle.mm_tool.specs.declared.files.Comments.{Comments}
 use Rattle.mm_tool.specs.declared.files.Comments.TheVariants.{Kept, LeftOut}
-use Rattle.mm_tool.specs.ReadFiles.{AreReadAs, IsReadAs}
+use Rattle.mm_tool.specs.ReadFiles.{IsReadAs}
 
 -- ## One file more
 

@@ -1,6 +1,6 @@
 -- How the program ends: with an answer on standard output and its status, or with a line on
 -- standard error.
-use Rattle.std.specs.Prelude.{◌≡◌, ◌≢◌, ℕ, ◌+◌, ◌≤◌, List, [], ◌∷◌, ◌++◌, Option, Contains, codes}
+use Rattle.std.specs.Prelude.{◌≡◌, ◌≢◌, ℕ, ◌+◌, ◌<◌, ◌≤◌, length, IfSome, List, [], ◌∷◌, ◌++◌, Option, Contains, codes}
 use Rattle.std.specs.Prelude.{string_bytes, ◌⊎◌}
 use Rattle.std.specs.List.{AllByRecursion}
 use Rattle.std.specs.Io.KnownBytes.{Appends}
@@ -10,13 +10,15 @@ use Rattle.mm_text.specs.declared.counted.Counted.{Counted}
 use Rattle.mm_check.specs.Reply.{IsReplyTo}
 use Rattle.mm_check.specs.Status.{number_of}
 use Rattle.mm_check.specs.declared.command.Command.{Command}
+use Rattle.mm_check.specs.declared.command.Command.TheVariants.{Same}
 use Rattle.mm_check.specs.declared.command.RunFault.{RunFault}
 use Rattle.mm_check.specs.declared.command.RunFault.TheVariants as run
 use Rattle.mm_check.specs.declared.status.Status.{Status}
 use Rattle.mm_check.specs.declared.status.Status.TheVariants as status
 use Rattle.clap.specs.Words.{Text}
-use Rattle.mm_tool.specs.Folder.{AreHeld, AreTooLong, IsUnreadable}
-use Rattle.mm_tool.specs.Words.{AsksHelp, AsksVersion, AsksExplain, AsksRun, AreRefusedWords}
+use Rattle.mm_tool.specs.Folder.{AreHeld, AreTooLong, IsHeld, IsUnreadable}
+use Rattle.mm_tool.specs.Words.{AsksHelp, AsksVersion, AsksExplain, AsksRun, AsksSame}
+use Rattle.mm_tool.specs.Words.{AreRefusedWords}
 use Rattle.mm_tool.specs.declared.folder.ArgumentFault.{ArgumentFault}
 use Rattle.mm_tool.specs.declared.folder.ArgumentFault.TheVariants as argument
 use Rattle.mm_tool.specs.declared.texts.RuleText.{RuleText}
@@ -55,6 +57,21 @@ IsReplyOver holds command names max text status =
     × IsReplyTo files command text status)
     ⊎ (AreTooLong holds names max × (text ≡ codes "load F3\n") × (status ≡ 4))
 
+-- the command asks whether this text is the same proof as that of the theorem with this label
+abbrev pub IsSameCommand : (label text : List ℕ) → Command → Type 0
+IsSameCommand label text (Same asked given) = (asked.now ≡ label) × (given.now ≡ text)
+IsSameCommand label text other = ⊥
+
+-- This is the reply to the question whether the text in the file with this name is the same proof as
+-- that of the theorem with this label, or the one that says that it holds too many bytes.
+abbrev pub IsSameReplyOver : (List ℕ → Option (List ℕ)) → (label proof : Text) → List Text → ℕ
+    → List ℕ → ℕ → Type 0
+IsSameReplyOver holds label proof names max text status =
+    (IfSome (holds proof) (λ all. max < length all) × (text ≡ codes "text F3 0\n") × (status ≡ 4))
+    ⊎ ((given : PlainFile) × (given.name ≡ proof) × IsHeld holds given × (length given.bytes ≤ max)
+    × (command : Command) × IsSameCommand label given.bytes command
+    × IsReplyOver holds command names max text status)
+
 -- This is the text of the rule with the asked code; where none is asked for, the list of the codes.
 abbrev pub IsExplanation : Texts → List Text → List ℕ → Type 0
 IsExplanation texts [] text = text ≡ texts.codes.now
@@ -80,8 +97,10 @@ AnswersWords holds texts max words text status =
     ⊎ ((AsksVersion words × (text ≡ texts.version.now) × (status ≡ 0))
     ⊎ (((asked : List Text) × AsksExplain words asked × IsExplanation texts asked text
     × (status ≡ 0))
-    ⊎ ((command : Command) × (names : List Text) × AsksRun words command names
-    × IsReplyOver holds command names max text status)))
+    ⊎ (((command : Command) × (names : List Text) × AsksRun words command names
+    × IsReplyOver holds command names max text status)
+    ⊎ ((label proof : Text) × (names : List Text) × AsksSame words label proof names
+    × IsSameReplyOver holds label proof names max text status))))
 
 -- ---- ends without an answer
 
@@ -124,6 +143,24 @@ StopsRun contents holds may_fail command names max CannotWrite old new =
 StopsRun contents holds may_fail command names max Memory old new = IsUntouched old new
 StopsRun contents holds may_fail command names max other old new = ⊥
 
+-- The file with the proof, or one of the others, couldn't be opened, or a read of it failed.
+abbrev pub IsProofUnreadable : (List ℕ → Option (List ℕ)) → (List ℕ → Type 0) → (proof : Text)
+    → List Text → ℕ → List ℕ → Type 0
+IsProofUnreadable holds may_fail proof names max name =
+    ((name ≡ proof) × may_fail proof) ⊎ IsUnreadable holds may_fail names max name
+
+-- The comparison with the proof in a file ended so, and that is what standard output shows of it.
+abbrev pub StopsSame : {O : Type 0} → (O → Option (List ℕ)) → (List ℕ → Option (List ℕ))
+    → (List ℕ → Type 0) → (label proof : Text) → List Text → ℕ
+    → Stop → Counted O → Counted O → Type 0
+StopsSame contents holds may_fail label proof names max (CannotRead name) old new =
+    IsProofUnreadable holds may_fail proof names max name.now × IsUntouched old new
+StopsSame contents holds may_fail label proof names max CannotWrite old new =
+    (text : List ℕ) × (status : ℕ) × IsSameReplyOver holds label proof names max text status
+    × BreaksOff contents text old new
+StopsSame contents holds may_fail label proof names max Memory old new = IsUntouched old new
+StopsSame contents holds may_fail label proof names max other old new = ⊥
+
 -- The words have no answer, and that is what standard output shows of it.
 abbrev pub Stops : {O : Type 0} → (O → Option (List ℕ)) → (List ℕ → Option (List ℕ))
     → (List ℕ → Type 0) → Texts → ℕ → List Text
@@ -134,8 +171,10 @@ Stops contents holds may_fail texts max words (Usage text) old new =
     × IsUntouched old new
 Stops contents holds may_fail texts max words NotText old new = ⊥
 Stops contents holds may_fail texts max words (CannotRead name) old new =
-    (command : Command) × (names : List Text) × AsksRun words command names
-    × IsUnreadable holds may_fail names max name.now
+    (((command : Command) × (names : List Text) × AsksRun words command names
+    × IsUnreadable holds may_fail names max name.now)
+    ⊎ ((label proof : Text) × (names : List Text) × AsksSame words label proof names
+    × IsProofUnreadable holds may_fail proof names max name.now))
     × IsUntouched old new
 Stops contents holds may_fail texts max words CannotWrite old new =
     (text : List ℕ) × (status : ℕ) × AnswersWords holds texts max words text status

@@ -1,19 +1,22 @@
 -- What the words ask for, as `clap` defines which words a command line takes and what it finds in
 -- them. The first word is the program's name.
-use Rattle.std.specs.Prelude.{◌≡◌, ◌≢◌, List, [], map, Some, true, codes, unwrap_or, ◌⊎◌}
+use Rattle.std.specs.Prelude.{◌≡◌, ◌≢◌, ◌↔◌, List, [], map, Some, Bool, true, IsTrue, codes}
+use Rattle.std.specs.Prelude.{unwrap_or, ◌⊎◌}
 use Rattle.clap.specs.Lexer.{usize_max}
 use Rattle.clap.specs.Words.{App, Row, Rule, Text, IsAmong, all_of, fault_of, first_of, new_app}
 use Rattle.clap.specs.Words.{new_rule, subcommand_of, subcommand_rows_of, with_rule}
 use Rattle.clap.specs.Words.{with_subcommand}
 use Rattle.clap.specs.declared.parser.matches.ArgMatches.{ArgMatches}
-use Rattle.clap.specs.declared.builder.action.ArgAction.TheVariants.{Append, Set}
+use Rattle.clap.specs.declared.builder.action.ArgAction.TheVariants.{Append, Set, SetTrue}
 use Rattle.clap.specs.declared.error.kind.ErrorKind.{ErrorKind}
 use Rattle.clap.specs.declared.error.kind.ErrorKind.TheVariants.{DisplayHelp, DisplayVersion}
 use Rattle.clap.specs.declared.error.kind.ErrorKind.TheVariants.{OutOfMemory}
 use Rattle.mm_check.specs.declared.command.Command.{Command}
-use Rattle.mm_check.specs.declared.command.Command.TheVariants.{Check, Axioms, Show}
+use Rattle.mm_check.specs.declared.command.Command.TheVariants.{Check, Axioms, Show, Normal}
+use Rattle.mm_check.specs.declared.command.Command.TheVariants.{Packed, Same}
 use Rattle.mm_tool.specs.declared.words.Request.{Request}
 use Rattle.mm_tool.specs.declared.words.Request.TheVariants.{Help, Version, Explain, Run}
+use Rattle.mm_tool.specs.declared.words.Request.TheVariants.{Compare}
 use Rattle.mm_tool.specs.declared.stop.Stop.{Stop}
 use Rattle.mm_tool.specs.declared.stop.Stop.TheVariants as stop
 
@@ -28,6 +31,20 @@ files_rule = record (new_rule (codes "FILES")) {
 -- `LABEL`: one
 abbrev pub label_rule : Rule
 label_rule = record (new_rule (codes "LABEL")) {
+  required = true;
+  action = Some Set;
+}
+
+-- `--file`: a flag
+abbrev pub file_rule : Rule
+file_rule = record (new_rule (codes "file")) {
+  long = Some (codes "file");
+  action = Some SetTrue;
+}
+
+-- `PROOF`: one
+abbrev pub proof_rule : Rule
+proof_rule = record (new_rule (codes "PROOF")) {
   required = true;
   action = Some Set;
 }
@@ -55,6 +72,23 @@ axioms_line = question_line (codes "axioms")
 abbrev pub show_line : App
 show_line = question_line (codes "show")
 
+-- a question for the proof of the theorem with a label in a form: the command's name, and then
+-- `[--file] LABEL FILES..`
+abbrev pub form_line : Text → App
+form_line name = with_rule (with_rule (with_rule (new_app name) file_rule) label_rule) files_rule
+
+-- `normal [--file] LABEL FILES..`
+abbrev pub normal_line : App
+normal_line = form_line (codes "normal")
+
+-- `packed [--file] LABEL FILES..`
+abbrev pub packed_line : App
+packed_line = form_line (codes "packed")
+
+-- `same LABEL PROOF FILES..`
+abbrev pub same_line : App
+same_line = with_rule (with_rule (with_rule (new_app (codes "same")) label_rule) proof_rule) files_rule
+
 -- `explain [CODE]`
 abbrev pub explain_line : App
 explain_line = with_rule (new_app (codes "explain")) code_rule
@@ -79,10 +113,18 @@ database_line =
     with_subcommand
     (with_subcommand (with_subcommand bare_line check_line.top) axioms_line.top) show_line.top
 
--- `mm check FILES..`, `mm axioms LABEL FILES..`, `mm show LABEL FILES..`, `mm explain [CODE]`,
--- `mm help`, `mm --version`, and everywhere `--help`
+-- and those that ask for the forms of a proof
+abbrev pub forms_line : App
+forms_line =
+    with_subcommand
+    (with_subcommand (with_subcommand database_line normal_line.top) packed_line.top) same_line.top
+
+-- `mm check FILES..`, `mm axioms LABEL FILES..`, `mm show LABEL FILES..`,
+-- `mm normal [--file] LABEL FILES..`, `mm packed [--file] LABEL FILES..`,
+-- `mm same LABEL PROOF FILES..`, `mm explain [CODE]`, `mm help`, `mm --version`, and everywhere
+-- `--help`
 abbrev pub command_line : App
-command_line = with_subcommand (with_subcommand database_line explain_line.top) help_line.top
+command_line = with_subcommand (with_subcommand forms_line explain_line.top) help_line.top
 
 -- The words are accepted.
 abbrev pub IsAccepted : List Text → Type 0
@@ -127,11 +169,39 @@ AsksQuestion name words label names =
     × (unwrap_or (first_of (codes "LABEL") rows) [] ≡ label)
     × (unwrap_or (all_of (codes "FILES") rows) [] ≡ names)
 
--- They ask to run this command over the files with these names.
+-- The flag is given, if so it is said: for a flag that is given `clap` finds the word `true`, and
+-- else the word `false`.
+abbrev pub IsGiven : (flag : Text) → List Row → Bool → Type 0
+IsGiven flag rows given =
+    IsTrue given ↔ (unwrap_or (first_of flag rows) [] ≡ codes "true")
+
+-- They ask, by the command with this name, for the proof of the theorem with this label in the files
+-- with these names, or by `--file` for its whole file.
+abbrev pub AsksForm : Text → List Text → (label : Text) → (whole : Bool) → List Text → Type 0
+AsksForm name words label whole names =
+    (rows : List Row) × Commands words name rows
+    × (unwrap_or (first_of (codes "LABEL") rows) [] ≡ label)
+    × IsGiven (codes "file") rows whole
+    × (unwrap_or (all_of (codes "FILES") rows) [] ≡ names)
+
+-- They ask whether the text in the file with this name is the same proof as that of the theorem with
+-- this label in the files with these names.
+abbrev pub AsksSame : List Text → (label proof : Text) → List Text → Type 0
+AsksSame words label proof names =
+    (rows : List Row) × Commands words (codes "same") rows
+    × (unwrap_or (first_of (codes "LABEL") rows) [] ≡ label)
+    × (unwrap_or (first_of (codes "PROOF") rows) [] ≡ proof)
+    × (unwrap_or (all_of (codes "FILES") rows) [] ≡ names)
+
+-- They ask to run this command over the files with these names. A command that has the bytes of a
+-- further file is no words' own.
 abbrev pub AsksRun : List Text → Command → List Text → Type 0
 AsksRun words Check names = AsksCheck words names
 AsksRun words (Axioms label) names = AsksQuestion (codes "axioms") words label.now names
 AsksRun words (Show label) names = AsksQuestion (codes "show") words label.now names
+AsksRun words (Normal label whole) names = AsksForm (codes "normal") words label.now whole names
+AsksRun words (Packed label whole) names = AsksForm (codes "packed") words label.now whole names
+AsksRun words (Same label text) names = ⊥
 
 -- They ask for what the request says.
 abbrev pub Asks : List Text → Request → Type 0
@@ -139,6 +209,8 @@ Asks words Help = AsksHelp words
 Asks words Version = AsksVersion words
 Asks words (Explain asked) = AsksExplain words (map (λ code. code.now) asked.items)
 Asks words (Run command names) = AsksRun words command (map (λ name. name.now) names.items)
+Asks words (Compare label proof names) =
+    AsksSame words label.now proof.now (map (λ name. name.now) names.items)
 
 -- The words are refused, by a fault that is no wish for help or for the version.
 abbrev pub IsFaulty : List Text → Type 0
@@ -146,9 +218,16 @@ IsFaulty words =
     (kind : ErrorKind) × IsAmong kind (fault_of command_line words) × (kind ≢ DisplayHelp)
     × (kind ≢ DisplayVersion)
 
+-- They name no command that asks for a form of a proof.
+abbrev pub NamesNoForm : List Text → Type 0
+NamesNoForm words =
+    (rows : List Row)
+    → ¬ Commands words (codes "normal") rows × ¬ Commands words (codes "packed") rows
+    × ¬ Commands words (codes "same") rows
+
 -- They are accepted, but name no command.
 abbrev pub NamesNoCommand : List Text → Type 0
-NamesNoCommand words = IsAccepted words
+NamesNoCommand words = IsAccepted words × NamesNoForm words
     × ((rows : List Row)
     → ¬ Commands words (codes "check") rows × ¬ Commands words (codes "axioms") rows
     × ¬ Commands words (codes "show") rows × ¬ Commands words (codes "explain") rows

@@ -62,4 +62,5 @@ P14: that entry differs from the expression of the `$p`.
 A1: no statement has the asked label.
 A2: the asked label isn't that of a `$p`, but of an axiom or a hypothesis.
 A3: the proof of the asked `$p` is incomplete.
+L2: the normal proof of the asked `$p` has more than 16,777,216 labels.
 ";

@@ -82,7 +82,7 @@ fn read_bytes<S: Source>(
 }
 
 /// Reads one file, which may hold at most `max` bytes.
-fn read_file<'a, F: Folder>(
+pub(crate) fn read_file<'a, F: Folder>(
     alloc: Global,
     folder: &F,
     name: &'a str,

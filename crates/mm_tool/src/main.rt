@@ -11,16 +11,27 @@ mod texts;
 mod words;
 
 use folder::Host;
-use mm_text::Counted;
+use mm_text::{Counted, Seed};
 use std::process::ExitCode;
+use std::random::RandomSource;
 use texts::TEXTS;
+
+/// A seed from the system's random source, or the one that everybody knows where that gives none.
+fn seed_from(source: &impl RandomSource) -> Seed {
+    let mut bytes = [0; 8];
+    match source.fill_bytes(&mut bytes) {
+        Ok(()) => Seed::new(u64::from_le_bytes(bytes)),
+        Err(_) => Seed::known(),
+    }
+}
 
 /// Serves the words that the program was started with, on its host's files and devices.
 fn main(rt: HostRuntime) -> ExitCode {
     let mut out = Counted::new(rt.stdout());
     let mut err = Counted::new(rt.stderr());
     let host = Host(&rt);
-    ExitCode::from(serve::start(rt.alloc(), &host, &host, &TEXTS, &mut out, &mut err))
+    let seed = seed_from(&rt);
+    ExitCode::from(serve::start(rt.alloc(), seed, &host, &host, &TEXTS, &mut out, &mut err))
 }
 
 #[cfg(test)]

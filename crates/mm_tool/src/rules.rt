@@ -748,4 +748,20 @@ The reply to `mm show p f.mm`:
     ask A3 p
 ",
     },
+    RuleText {
+        code: "L2",
+        text: "L2: the normal proof of the asked `$p` has more than 16,777,216 labels. It is
+judged after A1 to A3, for `mm normal` alone. Here each use of `cat` but the
+first takes the expression before it twice, so that there are 33,554,431 labels.
+
+A file:
+    $c e $. $v x y $. fx $f e x $. fy $f e y $. nil $a e $. cat $a e x y $.
+    p $p e $= ( nil cat )
+      AABZCBZDBZEBZFBZGBZHBZIBZJBZKBZLBZMB
+      ZNBZOBZPBZQBZRBZSBZTBZUABZUBBZUCBZUDBZUEB $.
+
+The reply to `mm normal p f.mm`:
+    ask L2 p
+",
+    },
 ];

@@ -8,24 +8,27 @@ ghost use Rattle.mm_text.specs.Files.{plain_file};
 ghost use Rattle.mm_check.specs.Status.{number_of};
 ghost use Rattle.mm_tool.specs.Ending.{BreaksOff, Ends, EndsUnread, AnswersWords, IsReplyOver};
 ghost use Rattle.mm_tool.specs.Ending.{IsExplanation, IsUnknownCode, IsExplanationFault, Stops};
+ghost use Rattle.mm_tool.specs.Ending.{IsSameReplyOver, StopsSame};
 ghost use Rattle.mm_tool.specs.Ending.{StopsRun, TakesWhole, TellsLine, error_line, stop_status};
 ghost use Rattle.mm_check.specs.declared.command.Command.TheVariants.{Check};
 ghost use Rattle.mm_tool.specs.Folder.{plain_read};
 ghost use Rattle.mm_tool.specs.declared.files.Comments.TheVariants.{LeftOut};
 ghost use Rattle.mm_tool.specs.declared.stop.Stop.TheVariants.{CannotWrite};
 
-use crate::files::{Comments, FileFault, ReadFile, read_files};
+use crate::files::{Comments, FileFault, ReadFile, read_file, read_files};
 use crate::folder::{Arguments, Folder};
 use crate::stop::Stop;
 use crate::texts::{RuleText, Texts};
 use crate::words::{Request, request_of};
 use mm_check::{Command, Status, alike_files_have_one_reply, run};
-use mm_text::{BYTE_LIMIT, Counted, File};
+use mm_text::{BYTE_LIMIT, Counted, File, Seed};
 use std::alloc::{AllocError, Global};
 use std::io::Write;
 use strsim::damerau_levenshtein;
 
 const TOO_LONG: &[u8] = b"load F3\n";
+
+const TOO_LONG_PROOF: &[u8] = b"text F3 0\n";
 
 const CANNOT_READ: &[u8] = b"mm: cannot read ";
 
@@ -88,6 +91,7 @@ fn comments_for(command: &Command<'_>, max: usize) -> Comments
 /// written.
 pub(crate) fn run_over<'a, F: Folder, O: Write>(
     alloc: Global,
+    seed: Seed,
     folder: &F,
     command: &Command<'_>,
     names: &[&'a str],
@@ -110,7 +114,45 @@ pub(crate) fn run_over<'a, F: Folder, O: Write>(
         Err(FileFault::Memory) => return Err(Stop::Memory),
     };
     let files = plain_files(alloc, &files)?;
-    Ok(run(alloc, command, &files, out)?)
+    Ok(run(alloc, seed, command, &files, out)?)
+}
+
+/// Tells whether the text in the file `proof` is the same proof as that of the theorem with a label,
+/// in the database in the files with these names, and writes the reply. The file with the proof is
+/// read first; its bytes are counted apart.
+///
+/// # Errors
+///
+/// As for `run_over`.
+fn compare_over<'a, F: Folder, O: Write>(
+    alloc: Global,
+    seed: Seed,
+    folder: &F,
+    label: &'a str,
+    proof: &'a str,
+    names: &[&'a str],
+    max: usize,
+    out: &mut Counted<O>,
+) -> Result<Status, Stop<'a>>
+    requires { faults_of out.old < u64.MAX }
+    ensures replies { IfOk result (λ status. (text : _) × IsSameReplyOver (F.holds folder.now)
+        label.entry.now proof.entry.now (map (λ name. name.now) names.now) max text
+        (number_of status) × TakesWhole O.contents text out.old out.new) }
+    ensures stops { IfErr result (λ stop. StopsSame O.contents (F.holds folder.now)
+        (F.may_fail folder.now) label.entry.now proof.entry.now
+        (map (λ name. name.now) names.now) max stop out.old out.new) }
+{
+    let file = match read_file(alloc, folder, proof, max, Comments::Kept) {
+        Ok(file) => file,
+        Err(FileFault::CannotRead(name)) => return Err(Stop::CannotRead(name)),
+        Err(FileFault::TooLong) => return reply(out, TOO_LONG_PROOF, Status::Stopped),
+        Err(FileFault::Memory) => return Err(Stop::Memory),
+    };
+    let command = Command::Same {
+        label: label.as_bytes(),
+        text: &file.bytes,
+    };
+    run_over(alloc, seed, folder, &command, names, max, out)
 }
 
 /// The rule with this code.
@@ -177,6 +219,7 @@ fn explanation<'t, 'a>(
 /// Does what the words ask for, and gives back the status that goes with the answer.
 fn answer<'a, F: Folder, O: Write>(
     alloc: Global,
+    seed: Seed,
     folder: &F,
     texts: &Texts<'_>,
     words: &'a [&'a str],
@@ -198,8 +241,13 @@ fn answer<'a, F: Folder, O: Write>(
             reply(out, text.as_bytes(), Status::Done)
         }
         Request::Run { command, names } => {
-            run_over(alloc, folder, &command, &names, BYTE_LIMIT, out)
+            run_over(alloc, seed, folder, &command, &names, BYTE_LIMIT, out)
         }
+        Request::Compare {
+            label,
+            proof,
+            names,
+        } => compare_over(alloc, seed, folder, label, proof, &names, BYTE_LIMIT, out),
     }
 }
 
@@ -266,8 +314,10 @@ pub(crate) fn tell<E: Write>(stop: &Stop<'_>, err: &mut Counted<E>) -> Status
 /// the folder, writes the answer to standard output, or why there is none to standard error, and
 /// gives back the status with which the program ends:
 ///
-/// - 0: the reply is yes, or what was asked for: axioms, steps, help, version or an explanation;
-/// - 1: the reply is no, or the asked label isn't that of a theorem;
+/// - 0: the reply is yes, or what was asked for: axioms, steps, a proof, help, version or an
+///   explanation; or two proofs are the same;
+/// - 1: the reply is no, or the asked label isn't that of a theorem, or two proofs differ, or a text
+///   is no proof of the theorem;
 /// - 2: the words aren't understood;
 /// - 3: a proof is incomplete, in the database or among those that are asked about;
 /// - 4: a file, a device, a limit or memory stood in the way.
@@ -276,6 +326,7 @@ pub(crate) fn tell<E: Write>(stop: &Stop<'_>, err: &mut Counted<E>) -> Status
 /// changes no status.
 pub(crate) fn serve<F: Folder, O: Write, E: Write>(
     alloc: Global,
+    seed: Seed,
     folder: &F,
     texts: &Texts<'_>,
     words: &[&str],
@@ -288,7 +339,7 @@ pub(crate) fn serve<F: Folder, O: Write, E: Write>(
     ensures ends { Ends O.contents E.contents (F.holds folder.now) (F.may_fail folder.now) texts.now
         BYTE_LIMIT (map (λ word. word.now) words.entry.now) result out.old out.new err.old err.new }
 {
-    match answer(alloc, folder, texts, words, out) {
+    match answer(alloc, seed, folder, texts, words, out) {
         Ok(status) => status.number(),
         Err(stop) => tell(&stop, err).number(),
     }
@@ -309,6 +360,7 @@ fn texts_of(alloc: Global, words: &[String]) -> Result<Vec<&str>, AllocError>
 /// Serves the words with which the program was started.
 pub(crate) fn start<A: Arguments, F: Folder, O: Write, E: Write>(
     alloc: Global,
+    seed: Seed,
     arguments: &A,
     folder: &F,
     texts: &Texts<'_>,
@@ -328,7 +380,7 @@ pub(crate) fn start<A: Arguments, F: Folder, O: Write, E: Write>(
         Err(fault) => return tell(&Stop::from(fault), err).number(),
     };
     match texts_of(alloc, &words) {
-        Ok(words) => serve(alloc, folder, texts, &words, out, err),
+        Ok(words) => serve(alloc, seed, folder, texts, &words, out, err),
         Err(fault) => tell(&Stop::from(fault), err).number(),
     }
 }

@@ -7,7 +7,7 @@ use crate::serve::{run_over, serve};
 use crate::texts::Texts;
 use folder::{Entry, Shelf};
 use mm_check::{Command, Status};
-use mm_text::Counted;
+use mm_text::{Counted, Seed};
 use std::alloc::Global;
 
 const FIRST: &[u8] = b"$c 0 + ( ) term $.
@@ -17,6 +17,19 @@ tr $f term r $.
 tze $a term 0 $.
 tpl $a term ( t + r ) $.
 th $p term ( 0 + 0 ) $= tze tze tpl $.
+";
+
+/// The same with the packed proof.
+const PACKED: &[u8] = b"$c 0 + ( ) term $.
+$v t r $.
+tt $f term t $.
+tr $f term r $.
+tze $a term 0 $.
+tpl $a term ( t + r ) $.
+th $p term ( 0 + 0 ) $=
+      ( tze tpl )
+      AAB
+$.
 ";
 
 const ENTRIES: [Entry; 4] = [
@@ -55,7 +68,15 @@ fn outcome_of(alloc: Global, words: &[&str]) -> (u8, Vec<u8>, Vec<u8>) {
     let entries = ENTRIES;
     let mut out = Counted::new(Vec::new(alloc));
     let mut err = Counted::new(Vec::new(alloc));
-    let status = serve(alloc, &Shelf(&entries), &TEXTS, words, &mut out, &mut err);
+    let status = serve(
+        alloc,
+        Seed::known(),
+        &Shelf(&entries),
+        &TEXTS,
+        words,
+        &mut out,
+        &mut err,
+    );
     (status, out.into_inner(), err.into_inner())
 }
 
@@ -73,6 +94,10 @@ fn replies(rt: HostRuntime) {
         (
             ["mm", "show", "th", "first.mm"].as_slice(),
             b"1 tze term 0\n2 tze term 0\n3 tpl term ( 0 + 0 )\n".as_slice(),
+        ),
+        (
+            ["mm", "packed", "--file", "th", "first.mm"].as_slice(),
+            PACKED,
         ),
     ] {
         let (status, out, err) = outcome_of(rt.alloc(), words);
@@ -107,12 +132,28 @@ fn refuses_files_that_are_too_long(rt: HostRuntime) {
     let folder = Shelf(&entries);
     let names = ["four.mm", "four.mm", "none.mm"];
     let mut out = Counted::new(Vec::new(rt.alloc()));
-    let answer = run_over(rt.alloc(), &folder, &Command::Check, &names, 7, &mut out);
+    let answer = run_over(
+        rt.alloc(),
+        Seed::known(),
+        &folder,
+        &Command::Check,
+        &names,
+        7,
+        &mut out,
+    );
     assert_eq!(rt; answer.ok(), Some(Status::Stopped));
     assert!(rt; out.into_inner().as_slice() == b"load F3\n".as_slice());
 
     let mut out = Counted::new(Vec::new(rt.alloc()));
-    let answer = run_over(rt.alloc(), &folder, &Command::Check, &names, 8, &mut out);
+    let answer = run_over(
+        rt.alloc(),
+        Seed::known(),
+        &folder,
+        &Command::Check,
+        &names,
+        8,
+        &mut out,
+    );
     assert!(rt; answer.is_err());
     assert!(rt; out.into_inner().is_empty());
 }

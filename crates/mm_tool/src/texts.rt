@@ -33,6 +33,16 @@ Commands:
                          label rests on
   show LABEL FILES..     checks the database, and lists the steps of the proof of the theorem with
                          this label
+  normal [--file] LABEL FILES..
+                         checks the database, and writes the normal proof of the theorem with this
+                         label; with --file the whole file in which the theorem stands, with that
+                         proof in place of its own
+  packed [--file] LABEL FILES..
+                         likewise with the one compressed proof of the theorem with this label that
+                         makes each part of it once
+  same LABEL PROOF FILES..
+                         checks the database, and tells whether the text in the file PROOF is the
+                         same proof as that of the theorem with this label
   explain [CODE]         says what the rule with this code is; without a code, lists all codes
   help                   prints this help, as does --help
 
@@ -67,7 +77,22 @@ Reply of show, on standard output:
       A step of the proof: its number, from 1; the label that it names, or @N where it repeats the
       expression of step N; and the symbols of its expression. Status 0.
 
-Other replies of axioms and show: that of check, where it is no, limit or load; and
+Replies of normal and packed, on standard output:
+  the proof, in lines; with --file the bytes of the file with it, and nothing else
+      Status 0.
+  ask L2 LABEL
+      The normal proof has more than 16777216 labels. Status 4.
+  ask F3 LABEL
+      With --file: the files would then hold more than 1073741824 bytes in all. Status 4.
+
+Replies of same, on standard output:
+  same, or different
+      Both proofs make the same tree, or two. Status 0, or 1.
+  text RULE STEP
+      The text is no proof of the theorem: the code of the rule that it breaks, and the step.
+      Status 1; 3 for A3, a `?` in the text; 4 for L1 and F3.
+
+Other replies to a LABEL: that of check, where it is no, limit or load; and
   ask A1 LABEL
       No statement has this label. Status 1.
   ask A2 LABEL
@@ -76,8 +101,9 @@ Other replies of axioms and show: that of check, where it is no, limit or load; 
       The proof of this theorem holds a `?`. Status 3.
 
 Statuses:
-  0  yes; or axioms or steps; or help, the version or an explanation was asked for
-  1  no: a statement is at fault; or the label is not that of a theorem
+  0  yes, or same; or axioms, steps or a proof; or help, the version or an explanation was asked for
+  1  no: a statement is at fault; or the label is not that of a theorem; or different, or a text is
+     no proof of the theorem
   2  the words are not understood
   3  incomplete: a proof is unfinished, in the database or among those that are asked about
   4  a file, a device, a limit or memory stood in the way
@@ -88,6 +114,8 @@ Examples:
   mm check set.mm
   mm axioms id set.mm
   mm show id set.mm
+  mm packed id set.mm
+  mm same id proof.txt set.mm
   mm explain P8
 ";
 

@@ -1,6 +1,6 @@
 //! What the program is asked by its words.
 
-ghost use Rattle.std.specs.Prelude.{◌≡◌, [], List, map, IfOk, IfErr, codes, false, unwrap_or};
+ghost use Rattle.std.specs.Prelude.{◌≡◌, [], List, map, IfOk, IfErr, IfSome, IfNone, false, unwrap_or};
 ghost use Rattle.clap.specs.Words.{Text, all_of, app_of, first_of, found_of, kind_of};
 ghost use Rattle.clap.specs.Words.{rows_of, rule_of};
 ghost use Rattle.clap.specs.declared.builder.command.Command.TheViews.{out-Command};
@@ -8,6 +8,8 @@ ghost use Rattle.mm_tool.specs.Words.{Asks, IsOfKind, IsFaultOfKind, IsWordFault
 ghost use Rattle.mm_tool.specs.Words.{AreMatchesOf, bare_line, check_line, code_rule};
 ghost use Rattle.mm_tool.specs.Words.{command_line, database_line, explain_line, files_rule};
 ghost use Rattle.mm_tool.specs.Words.{help_line, label_rule, question_line, show_line};
+ghost use Rattle.mm_tool.specs.Words.{proof_rule, normal_line, packed_line, same_line, forms_line};
+ghost use Rattle.mm_tool.specs.Words.{NamesNoForm, IsGiven, file_rule, form_line};
 
 use crate::stop::Stop;
 use clap::error::ErrorKind;
@@ -22,6 +24,12 @@ const AXIOMS: &str = "axioms";
 
 const SHOW: &str = "show";
 
+const NORMAL: &str = "normal";
+
+const PACKED: &str = "packed";
+
+const SAME: &str = "same";
+
 const EXPLAIN: &str = "explain";
 
 const HELP: &str = "help";
@@ -29,6 +37,13 @@ const HELP: &str = "help";
 const FILES: &str = "FILES";
 
 const LABEL: &str = "LABEL";
+
+const FILE: &str = "file";
+
+/// What `clap` finds for a flag that is given.
+const GIVEN: &str = "true";
+
+const PROOF: &str = "PROOF";
 
 const CODE: &str = "CODE";
 
@@ -44,6 +59,13 @@ pub(crate) enum Request<'a> {
     /// To run this command over the database in the files with these names, the top file first.
     Run {
         command: mm_check::Command<'a>,
+        names: Vec<&'a str>,
+    },
+    /// To tell whether the text in the file `proof` is the same proof as that of the theorem with
+    /// this label, in the database in the files with these names.
+    Compare {
+        label: &'a str,
+        proof: &'a str,
         names: Vec<&'a str>,
     },
 }
@@ -65,6 +87,22 @@ fn label_argument<'a>(alloc: Global) -> Arg<'a>
     ensures local { result.global ≡ false }
 {
     Arg::new(alloc, LABEL).required(true).action(ArgAction::Set)
+}
+
+/// The flag that asks for the whole file, for `clap`.
+fn file_argument<'a>(alloc: Global) -> Arg<'a>
+    ensures rule { rule_of result ≡ file_rule }
+    ensures local { result.global ≡ false }
+{
+    Arg::new(alloc, FILE).long(FILE).action(ArgAction::SetTrue)
+}
+
+/// The name of the file with a proof's text, for `clap`.
+fn proof_argument<'a>(alloc: Global) -> Arg<'a>
+    ensures rule { rule_of result ≡ proof_rule }
+    ensures local { result.global ≡ false }
+{
+    Arg::new(alloc, PROOF).required(true).action(ArgAction::Set)
 }
 
 /// The code of a rule, for `clap`.
@@ -102,6 +140,19 @@ fn question_command<'a>(
         .arg(files_argument(alloc))
 }
 
+/// A command that asks for the proof of the theorem with a label in a form, or for its whole file
+/// with that proof, for `clap`.
+fn form_command<'a>(alloc: Global, name: &'a str, about: &'a str) -> Result<Command<'a>, AllocError>
+    ensures shape { IfOk result (λ command. app_of command ≡ form_line name.entry.now) }
+    ensures local { IfOk result (λ command. (out-Command command).has_globals ≡ false) }
+{
+    Command::new(alloc, name)
+        .about(about)
+        .arg(file_argument(alloc))?
+        .arg(label_argument(alloc))?
+        .arg(files_argument(alloc))
+}
+
 /// The command `axioms`, for `clap`.
 fn axioms_command<'a>(alloc: Global) -> Result<Command<'a>, AllocError>
     ensures shape { IfOk result (λ command. app_of command ≡ axioms_line) }
@@ -116,6 +167,34 @@ fn show_command<'a>(alloc: Global) -> Result<Command<'a>, AllocError>
     ensures local { IfOk result (λ command. (out-Command command).has_globals ≡ false) }
 {
     question_command(alloc, SHOW, "lists the steps of the proof of a theorem")
+}
+
+/// The command `normal`, for `clap`.
+fn normal_command<'a>(alloc: Global) -> Result<Command<'a>, AllocError>
+    ensures shape { IfOk result (λ command. app_of command ≡ normal_line) }
+    ensures local { IfOk result (λ command. (out-Command command).has_globals ≡ false) }
+{
+    form_command(alloc, NORMAL, "writes the normal proof of a theorem")
+}
+
+/// The command `packed`, for `clap`.
+fn packed_command<'a>(alloc: Global) -> Result<Command<'a>, AllocError>
+    ensures shape { IfOk result (λ command. app_of command ≡ packed_line) }
+    ensures local { IfOk result (λ command. (out-Command command).has_globals ≡ false) }
+{
+    form_command(alloc, PACKED, "writes the fully shared proof of a theorem")
+}
+
+/// The command `same`, for `clap`.
+fn same_command<'a>(alloc: Global) -> Result<Command<'a>, AllocError>
+    ensures shape { IfOk result (λ command. app_of command ≡ same_line) }
+    ensures local { IfOk result (λ command. (out-Command command).has_globals ≡ false) }
+{
+    Command::new(alloc, SAME)
+        .about("tells whether a proof's text is the same proof as that of a theorem")
+        .arg(label_argument(alloc))?
+        .arg(proof_argument(alloc))?
+        .arg(files_argument(alloc))
 }
 
 /// The command `explain`, for `clap`.
@@ -160,11 +239,22 @@ fn database_command<'a>(alloc: Global) -> Result<Command<'a>, AllocError>
         .subcommand(show_command(alloc)?)
 }
 
+/// That with the commands that ask for the forms of a proof, for `clap`.
+fn forms_command<'a>(alloc: Global) -> Result<Command<'a>, AllocError>
+    ensures shape { IfOk result (λ command. app_of command ≡ forms_line) }
+    ensures local { IfOk result (λ command. (out-Command command).has_globals ≡ false) }
+{
+    database_command(alloc)?
+        .subcommand(normal_command(alloc)?)?
+        .subcommand(packed_command(alloc)?)?
+        .subcommand(same_command(alloc)?)
+}
+
 /// The program's command line, for `clap`.
 fn whole_command<'a>(alloc: Global) -> Result<Command<'a>, AllocError>
     ensures { IfOk result (λ command. app_of command ≡ command_line) }
 {
-    database_command(alloc)?
+    forms_command(alloc)?
         .subcommand(explain_command(alloc)?)?
         .subcommand(help_command(alloc))
 }
@@ -198,15 +288,56 @@ fn values_of<'a>(
     }
 }
 
-/// The label that is asked for, in the matches of a command.
-fn asked_label<'a>(command: &ArgMatches<'a>) -> &'a str
-    ensures { result.now ≡ unwrap_or (first_of (codes "LABEL")
-        (rows_of (found_of command.now))) [] }
+/// The word that is given for an argument, in the matches of its command.
+fn asked_word<'a>(command: &ArgMatches<'a>, argument: &str) -> &'a str
+    ensures { result.now ≡ unwrap_or (first_of argument.now (rows_of (found_of command.now))) [] }
 {
-    match command.get_str(LABEL) {
-        Some(label) => label,
+    match command.get_str(argument) {
+        Some(word) => word,
         None => "",
     }
+}
+
+/// Whether a flag is given, in the matches of its command.
+fn is_given(command: &ArgMatches, flag: &str) -> bool
+    ensures { IsGiven flag.now (rows_of (found_of command.now)) result }
+{
+    asked_word(command, flag) == GIVEN
+}
+
+/// What these matches of the words ask for by the commands `normal`, `packed` and `same`; nothing
+/// where they name none of these.
+fn form_request<'a>(
+    alloc: Global,
+    matches: &ArgMatches<'a>,
+) -> Result<Option<Request<'a>>, AllocError>
+    ensures request { IfOk result (λ asked. IfSome asked (λ request. (words : List Text)
+        → AreMatchesOf words matches.now → Asks words request)) }
+    ensures none { IfOk result (λ asked. IfNone asked ((words : List Text)
+        → AreMatchesOf words matches.now → NamesNoForm words)) }
+{
+    if let Some(normal) = matches.subcommand_matches(NORMAL) {
+        let label = asked_word(normal, LABEL).as_bytes();
+        let whole = is_given(normal, FILE);
+        let names = values_of(alloc, normal, FILES)?;
+        let command = mm_check::Command::Normal { label, whole };
+        return Ok(Some(Request::Run { command, names }));
+    }
+    if let Some(packed) = matches.subcommand_matches(PACKED) {
+        let label = asked_word(packed, LABEL).as_bytes();
+        let whole = is_given(packed, FILE);
+        let names = values_of(alloc, packed, FILES)?;
+        let command = mm_check::Command::Packed { label, whole };
+        return Ok(Some(Request::Run { command, names }));
+    }
+    if let Some(same) = matches.subcommand_matches(SAME) {
+        return Ok(Some(Request::Compare {
+            label: asked_word(same, LABEL),
+            proof: asked_word(same, PROOF),
+            names: values_of(alloc, same, FILES)?,
+        }));
+    }
+    Ok(None)
 }
 
 /// What these matches of the words ask for. The text on the use is that of the command line.
@@ -229,7 +360,7 @@ fn request_of_matches<'a>(
     if let Some(axioms) = matches.subcommand_matches(AXIOMS) {
         return Ok(Request::Run {
             command: mm_check::Command::Axioms {
-                label: asked_label(axioms).as_bytes(),
+                label: asked_word(axioms, LABEL).as_bytes(),
             },
             names: values_of(alloc, axioms, FILES)?,
         });
@@ -237,10 +368,13 @@ fn request_of_matches<'a>(
     if let Some(show) = matches.subcommand_matches(SHOW) {
         return Ok(Request::Run {
             command: mm_check::Command::Show {
-                label: asked_label(show).as_bytes(),
+                label: asked_word(show, LABEL).as_bytes(),
             },
             names: values_of(alloc, show, FILES)?,
         });
+    }
+    if let Some(request) = form_request(alloc, matches)? {
+        return Ok(request);
     }
     if let Some(explain) = matches.subcommand_matches(EXPLAIN) {
         return Ok(Request::Explain(values_of(alloc, explain, CODE)?));

@@ -1,7 +1,6 @@
-use Rattle.std.proofs.Common.{◌≡◌, ◌+◌, ◌++◌, ◌∷◌, [], length, map, arith, sym, subst, ◌∙◌, ap}
+use Rattle.std.proofs.Common.{◌++◌, ◌∷◌, [], map, arith, sym, subst, ◌∙◌, ap}
 use Rattle.std.proofs.lemmas.List.{map-append}
 use Rattle.std.specs.List.{AllZip}
-use Rattle.mm_text.specs.Files.{total_bytes}
 use Rattle.mm_tool.specs.Folder.{IsHeld, plain_read}
 use Rattle.mm_tool.specs.ReadFiles.{IsReadAs}
 use Rattle.mm_tool.proofs.FilesRead.{comes_next, file_fault_at, error_keeps}

@@ -1,8 +1,8 @@
 -- The words are answered by the request that they make.
 use Rattle.std.proofs.Common.{ℕ, List, Bor, map, inl, inr, refl, rules, subst, sym}
 use Rattle.mm_tool.specs.Ending.{IsExplanation}
-use Rattle.mm_tool.specs.Words.{Asks, AsksExplain, AsksRun}
-use Rattle.mm_tool.proofs.Answering.{answers_command, stops_answer, stops_command}
+use Rattle.mm_tool.specs.Words.{Asks, AsksExplain, AsksRun, AsksSame}
+use Rattle.mm_tool.proofs.Answering.{answers_command, answers_same, stops_answer, stops_command, stops_same}
 use Rattle.mm_tool.proofs.serve.answer.Goals as goal
 
 pub returns-in-Help-clause-answers : goal.returns-in-Help-clause-answers
@@ -45,3 +45,19 @@ returns-in-Run-clause-stops g c =
     let asked : Named c.in-Run.names.items = subst (Asks words) c.in-Run.is c.in_ok-request_of.ensures.request in
     stops_command g.O.Write.contents (g.F.Folder.holds c.args.folder.now) (g.F.Folder.may_fail c.args.folder.now) c.args.texts.now _ words
     c.in-Run.command _ c.run_over.result _ _ (subst Named (sym c.deref-in-Run.ensures.value) asked) c.run_over.ensures.stops
+
+pub returns-in-Compare-clause-answers : goal.returns-in-Compare-clause-answers
+returns-in-Compare-clause-answers g c =
+    let words : List (List ℕ) = map (λ word. word.now) c.args.words.now in
+    let Named : List (Bor (List ℕ)) → Type 0 = λ names. AsksSame words c.in-Compare.label.now c.in-Compare.proof.now (map (λ name. name.now) names) in
+    let asked : Named c.in-Compare.names.items = subst (Asks words) c.in-Compare.is c.in_ok-request_of.ensures.request in
+    answers_same g.O.Write.contents (g.F.Folder.holds c.args.folder.now) c.args.texts.now _ words c.in-Compare.label.now c.in-Compare.proof.now _ c.compare_over.result _ _
+    (subst Named (sym c.deref-in-Compare.ensures.value) asked) c.compare_over.ensures.replies
+
+pub returns-in-Compare-clause-stops : goal.returns-in-Compare-clause-stops
+returns-in-Compare-clause-stops g c =
+    let words : List (List ℕ) = map (λ word. word.now) c.args.words.now in
+    let Named : List (Bor (List ℕ)) → Type 0 = λ names. AsksSame words c.in-Compare.label.now c.in-Compare.proof.now (map (λ name. name.now) names) in
+    let asked : Named c.in-Compare.names.items = subst (Asks words) c.in-Compare.is c.in_ok-request_of.ensures.request in
+    stops_same g.O.Write.contents (g.F.Folder.holds c.args.folder.now) (g.F.Folder.may_fail c.args.folder.now) c.args.texts.now _ words
+    c.in-Compare.label.now c.in-Compare.proof.now _ c.compare_over.result _ _ (subst Named (sym c.deref-in-Compare.ensures.value) asked) c.compare_over.ensures.stops

@@ -1,6 +1,8 @@
 -- The words ask for what their matches say.
-use Rattle.std.proofs.Common.{◌∙◌, Bor, IsSome, inr, refl, rules, sym}
-use Rattle.clap.specs.Words.{found_of, rows_of}
+use Rattle.std.proofs.Common.{◌∙◌, Bor, List, Option, IsSome, IfNone, inr, refl, rules, subst, sym}
+use Rattle.clap.specs.Words.{Text, found_of, rows_of}
+use Rattle.mm_tool.specs.Words.{AreMatchesOf, NamesNoForm}
+use Rattle.mm_tool.specs.declared.words.Request.{Request}
 use Rattle.clap.specs.declared.parser.matches.ArgMatches.{ArgMatches}
 use Rattle.mm_tool.proofs.Asked.{commands_met, none_there, not_commanded, rows_there}
 use Rattle.mm_tool.proofs.words.request_of_matches.Goals as goal
@@ -16,7 +18,7 @@ pub returns-in-Some-subcommand_matches-clause-request : goal.returns-in-Some-sub
 returns-in-Some-subcommand_matches-clause-request c = λ words met. (
   _,
   commands_met words c.args.matches.now _ _ met (c.in-Some-subcommand_matches.ensures.found.0 refl) c.in-Some-subcommand_matches.ensures.rows,
-  sym (c.as_bytes.ensures.value ∙ c.asked_label.ensures),
+  sym (c.as_bytes.ensures.value ∙ c.asked_word.ensures),
   sym c.in_ok-values_of-2.ensures,
 )
 
@@ -24,7 +26,7 @@ pub returns-in-Some-subcommand_matches-2-clause-request : goal.returns-in-Some-s
 returns-in-Some-subcommand_matches-2-clause-request c = λ words met. (
   _,
   commands_met words c.args.matches.now _ _ met (c.in-Some-subcommand_matches-2.ensures.found.0 refl) c.in-Some-subcommand_matches-2.ensures.rows,
-  sym (c.as_bytes-in-Some-subcommand_matches-2.ensures.value ∙ c.asked_label-in-Some-subcommand_matches-2.ensures),
+  sym (c.as_bytes-in-Some-subcommand_matches-2.ensures.value ∙ c.asked_word-in-Some-subcommand_matches-2.ensures),
   sym c.in_ok-values_of-3.ensures,
 )
 
@@ -49,8 +51,10 @@ returns-clause-fault c = λ words met.
     let none_4 : IsSome c.subcommand_matches-4.result → ⊥ = none_there c.subcommand_matches-4.result c.in_default-subcommand_matches-3.is in
     let none_5 : IsSome c.subcommand_matches-5.result → ⊥ = λ there. absurd (search rules) in
     let other = not_commanded words c.args.matches.now in
+    let None_asks : Option Request → Type 0 = λ o. IfNone o ((asked : List Text) → AreMatchesOf asked c.args.matches.now → NamesNoForm asked) in
     inr (
       met.0,
+      (subst None_asks c.in_default-2.is c.in_ok-request.ensures.none) words met,
       λ rows. (
         λ asked. other _ rows met (λ named. none (c.subcommand_matches.ensures.found.1 named)) asked,
         λ asked. other _ rows met (λ named. none_2 (c.subcommand_matches-2.ensures.found.1 named)) asked,

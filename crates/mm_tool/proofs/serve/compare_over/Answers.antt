@@ -1,0 +1,17 @@
+-- Once the proof is read, the comparison ends as the command over the files does.
+use Rattle.std.proofs.Common.{◌≤◌, Err, length, ap, arith, ◌∙◌}
+use Rattle.mm_check.specs.declared.command.Command.TheVariants.{Same}
+use Rattle.mm_tool.proofs.Answering.{same_stops, same_too_long}
+use Rattle.mm_tool.proofs.serve.compare_over.Goals as goal
+
+pub returns-in-Err-TooLong-clause-stops : goal.returns-in-Err-TooLong-clause-stops
+returns-in-Err-TooLong-clause-stops g c =
+    same_too_long g.O.Write.contents (g.F.Folder.holds c.args.folder.now) (g.F.Folder.may_fail c.args.folder.now) c.args.label.now c.args.proof.now _ c.args.max c.reply.result _ _
+    c.reply.ensures.stop c.reply.ensures.beginning (c.in-Err-TooLong.ensures.too_long (ap Err c.in-Err-TooLong.field-0-is))
+
+pub returns-clause-stops : goal.returns-clause-stops
+returns-clause-stops g c =
+    let (whole, named, held, count, reads) = c.in-Ok.ensures.read in
+    let within : length whole.bytes ≤ c.args.max = let few = c.in-Ok.ensures.within in omega (arith, count, few) in
+    same_stops g.O.Write.contents (g.F.Folder.holds c.args.folder.now) (g.F.Folder.may_fail c.args.folder.now) c.args.max c.args.label.now c.args.proof.now _ (Same c.as_bytes.result c.deref.result) whole c.run_over.result _ _
+    named held within (c.as_bytes.ensures.value, c.deref.ensures.value ∙ reads.1) c.run_over.ensures.stops
