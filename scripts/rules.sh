@@ -56,7 +56,7 @@ made() {
         return text
     }
     function place(code) {
-        if (code ~ /^[MPL]/) { return "Place: the statement'"'"'s first token.\n" }
+        if (code ~ /^[MP]/ || code == "L1") { return "Place: the statement'"'"'s first token.\n" }
         return ""
     }
     /^## Planned/ || /^## Until/ { finish(); exit }
@@ -84,7 +84,7 @@ made() {
     code == "" { next }
     # A question is no part of its file: the file alone breaks no rule of questions.
     /^```mm$/ {
-        body = body (code ~ /^A/ ? "\nA file:\n" : "\nThis file breaks it:\n")
+        body = body (code ~ /^A/ || code == "L2" ? "\nA file:\n" : "\nThis file breaks it:\n")
         fenced = 1
         next
     }

@@ -141,6 +141,7 @@ cp "$top/examples/first.mm" -- -first.mm
 printf '$c a $.\n$c a $.\n' >twice.mm
 printf '$c a $.\np $a a $.\nq $p a $= ? $.\nr $p a $= q $.\n' >open.mm
 : >empty.mm
+printf 'tze tze tpl' >proof.txt
 cp first.mm ./-
 
 ends 0 'yes 7 statements 1 proofs\n' '' check first.mm
@@ -155,6 +156,15 @@ ends 0 'yes 7 statements 1 proofs\n' '' check -
 ends 0 'tze\ntpl\n' '' axioms th first.mm
 ends 0 'tze\ntpl\nweq\nwim\na1\na2\nmp\n' '' axioms th1 demo0c.mm
 ends 0 '1 tze term 0\n2 tze term 0\n3 tpl term ( 0 + 0 )\n' '' show th first.mm
+ends 0 '      tze tze tpl\n' '' normal th first.mm
+ends 0 '      ( tze tpl )\n      AAB\n' '' packed th first.mm
+sed 's/[$]= .*/$=/' first.mm >saved.mm
+printf '      ( tze tpl )\n      AAB\n$.\n' >>saved.mm
+prints saved.mm packed --file th first.mm
+prints saved.mm packed th first.mm --file
+prints saved.mm packed --file th saved.mm
+ends 0 'same\n' '' same th proof.txt saved.mm
+ends 1 'ask A1 --file\n' '' packed -- --file first.mm
 ends 1 'ask A1 check\n' '' axioms -- check first.mm
 ends 1 'ask A1 --help\n' '' axioms -- --help first.mm
 ends 1 'ask A1 \n' '' axioms '' first.mm
@@ -194,6 +204,8 @@ misused show
 misused axioms th
 misused show th
 misused axioms -th first.mm
+misused show --file th first.mm
+misused packed --file --file th first.mm
 misused check --strict first.mm
 misused check -first.mm
 misused help nonsense

@@ -7,4 +7,5 @@ mod failing;
 mod frame;
 mod load;
 mod proof;
+mod save;
 mod text;

@@ -4,7 +4,7 @@
 use crate::Part::Text;
 use crate::Row;
 use crate::tests::{compare, compare_questions};
-use mm_check::Command::{self, Axioms, Show};
+use mm_check::Command::{self, Axioms, Normal, Show};
 use std::test::Fail;
 
 /// The examples of `docs/LANGUAGE.md`.
@@ -177,7 +177,7 @@ fn language(rt: HostRuntime) -> Result<(), Fail> {
 }
 
 /// The questions among the examples.
-const QUESTIONS: [(Command<'static>, Row); 3] = [
+const QUESTIONS: [(Command<'static>, Row); 4] = [
     (
         Axioms { label: b"b" },
         Row {
@@ -212,6 +212,27 @@ const QUESTIONS: [(Command<'static>, Row); 3] = [
             )],
             reply: b"ask A3 p\n",
             status: 3,
+        },
+    ),
+    (
+        Normal {
+            label: b"p",
+            whole: false,
+        },
+        Row {
+            name: "L2, in docs/RULES.md",
+            files: &[(
+                b"f.mm",
+                &[
+                    Text(b"$c e $. $v x y $. fx $f e x $. fy $f e y $. nil $a e $. cat "),
+                    Text(b"$a e x y $.\n"),
+                    Text(b"p $p e $= ( nil cat )\n"),
+                    Text(b"  AABZCBZDBZEBZFBZGBZHBZIBZJBZKBZLBZMB\n"),
+                    Text(b"  ZNBZOBZPBZQBZRBZSBZTBZUABZUBBZUCBZUDBZUEB $.\n"),
+                ],
+            )],
+            reply: b"ask L2 p\n",
+            status: 4,
         },
     ),
 ];

@@ -6,7 +6,7 @@ use crate::{
     scopes,
 };
 use mm_check::{Checked, Command, RunFault, check, run};
-use mm_text::{Counted, File, Statement, Statements};
+use mm_text::{Counted, File, Seed, Statement, Statements};
 use std::alloc::Global;
 use std::process::Abort;
 use std::str::from_utf8;
@@ -35,7 +35,7 @@ fn reply_to(
     files: &[File<'_>],
 ) -> Result<(Vec<u8>, u8), RunFault> {
     let mut out = Counted::new(Vec::new(alloc));
-    let status = run(alloc, command, files, &mut out)?;
+    let status = run(alloc, Seed::known(), command, files, &mut out)?;
     Ok((out.into_inner(), status.number()))
 }
 
@@ -230,7 +230,7 @@ fn counted_beside_incomplete(rt: HostRuntime) -> Result<(), Fail> {
         name: b"h.mm",
         bytes: bytes.as_slice(),
     }];
-    match check(rt.alloc(), &files) {
+    match check(rt.alloc(), Seed::known(), &files) {
         Ok(checked) => {
             let is_right = is_counted_beside(&checked);
             drop(checked);
@@ -441,7 +441,7 @@ fn span_of_the_demonstration(rt: HostRuntime) -> Result<(), Fail> {
         name: b"demo0.mm",
         bytes: DEMO,
     }];
-    let Ok(mut statements) = Statements::new(rt.alloc(), &files) else {
+    let Ok(mut statements) = Statements::new(rt.alloc(), Seed::known(), &files) else {
         return Err(Fail::from("refused"));
     };
     let mut statement = Statement::empty(rt.alloc());

@@ -4,7 +4,7 @@ use crate::calls::failing::failing_writer;
 use mm_check::{
     AskFault, CheckFault, Checked, Command, Report, Rule, RunFault, Status, check, run,
 };
-use mm_text::{Counted, File};
+use mm_text::{Counted, File, Seed};
 use std::alloc::Global;
 use std::test::Fail;
 
@@ -42,7 +42,7 @@ fn file(bytes: &[u8]) -> [File<'_>; 1] {
 
 /// What is kept of an accepted database.
 fn accepted<'a>(alloc: Global, files: &'a [File<'a>]) -> Result<Checked<'a>, Fail> {
-    match check(alloc, files) {
+    match check(alloc, Seed::known(), files) {
         Ok(checked) => Ok(checked),
         Err(_) => Err(Fail::from("refused")),
     }
@@ -50,7 +50,7 @@ fn accepted<'a>(alloc: Global, files: &'a [File<'a>]) -> Result<Checked<'a>, Fai
 
 /// Why the files are refused.
 fn fault_of<'a>(alloc: Global, files: &'a [File<'a>]) -> Result<CheckFault<'a>, Fail> {
-    Ok(check(alloc, files).err().ok_or("accepted")?)
+    Ok(check(alloc, Seed::known(), files).err().ok_or("accepted")?)
 }
 
 fn has_counts(checked: &Checked, statements: usize, proofs: usize) -> bool {
@@ -146,7 +146,7 @@ fn replies(
     (wanted, text): (Status, &[u8]),
 ) -> Result<bool, Fail> {
     let mut out = Counted::new(Vec::new(alloc));
-    let status = run(alloc, command, files, &mut out)?;
+    let status = run(alloc, Seed::known(), command, files, &mut out)?;
     Ok(status == wanted && out.into_inner().as_slice() == text)
 }
 
@@ -224,7 +224,14 @@ fn faults_have_messages(rt: HostRuntime) -> Result<(), Fail> {
 /// written what comes before it.
 fn stops_writing(alloc: Global, fails_at: usize, answers_zero: bool) -> bool {
     let mut out = failing_writer(alloc, fails_at, answers_zero);
-    let answer = run(alloc, &Command::Check, &file(FIRST), &mut out).err();
+    let answer = run(
+        alloc,
+        Seed::known(),
+        &Command::Check,
+        &file(FIRST),
+        &mut out,
+    )
+    .err();
     let faults = out.faults();
     let taken = out.into_inner().taken;
     answer == Some(RunFault::Device)

@@ -1,5 +1,7 @@
 //! Both stores, and the verdicts on proofs of small databases with either.
 
+mod forms;
+
 ghost use Rattle.std.specs.Prelude.{◌≡◌, ◌≤◌, ◌++◌, ◌∷◌, [], ℕ, map, length, IfOk, IfSome, OnOk};
 ghost use Rattle.std.specs.List.{AllByRecursion, sum_by};
 ghost use Rattle.mm_text.specs.Statement.{plain_statement, HasForm, bytes_in};
@@ -12,11 +14,11 @@ ghost use Rattle.mm_code.specs.Layout.{texts};
 
 use mm_frame::{Book, Found, LabelId, Piece, ShortPiece, Sym, Taken};
 use mm_proof::{
-    Flat, Line, Name, Parsed, ProofFault, ProofRule, Rows, Steps, Store, Used, by_spelling,
-    by_word, limits_aside, listing, mark_before_any_step, one_fit, one_tree, one_verdict, one_word,
-    some_verdict, tag_over_marks, verify,
+    Flat, Line, Name, Parsed, Profile, ProofFault, ProofRule, Rows, Steps, Store, Used,
+    by_spelling, by_word, limits_aside, listing, mark_before_any_step, one_fit, one_tree,
+    one_verdict, one_word, some_verdict, tag_over_marks, verify,
 };
-use mm_text::{File, Kind, Statement, Statements, Token};
+use mm_text::{File, Kind, Seed, Statement, Statements, Token};
 use std::alloc::{AllocError, Global};
 use std::process::Abort;
 use std::test::Fail;
@@ -209,7 +211,7 @@ fn tokens_of<'a>(alloc: Global, statement: &Statement<'a>) -> Result<Vec<&'a [u8
 
 /// A reader of a database.
 fn reader<'a>(alloc: Global, files: &'a [File<'a>]) -> Result<Statements<'a>, Fail> {
-    match Statements::new(alloc, files) {
+    match Statements::new(alloc, Seed::known(), files) {
         Ok(statements) => Ok(statements),
         Err(_) => Err(Fail::from("the files")),
     }
@@ -244,7 +246,7 @@ fn theorem_from<'a>(
     ensures filled { IfOk result (λ t. AllByRecursion (λ x. 1 ≤ length x) (texts t.tokens.items)) }
     ensures room { IfOk result (λ t. sum_by length (texts t.tokens.items) ≤ 1073741824) }
 {
-    let mut book = Book::new(alloc)?;
+    let mut book = Book::new(alloc, Seed::known())?;
     match take_proof(alloc, statements, &mut book, into) {
         Ok((id, tokens)) => Ok(Theorem { book, id, tokens }),
         Err(fail) => {
@@ -282,7 +284,13 @@ fn proved<S: Store + Drop>(
     requires stack { S.stack store ≡ [] }
     requires kept { S.kept store ≡ [] }
 {
-    match Steps::parse(alloc, &theorem.book, theorem.id, &theorem.tokens)? {
+    match Steps::parse(
+        alloc,
+        Profile::Lenient,
+        &theorem.book,
+        theorem.id,
+        &theorem.tokens,
+    )? {
         Parsed::Incomplete => Ok(None),
         Parsed::Steps(steps) => {
             let used = verify(alloc, store, &theorem.book, theorem.id, &steps)?;
@@ -417,7 +425,13 @@ fn listing_of(alloc: Global, theorem: &Theorem) -> Result<Vec<Line>, Fail>
     requires filled { AllByRecursion (λ x. 1 ≤ length x) (texts theorem.now.tokens.items) }
     requires room { sum_by length (texts theorem.now.tokens.items) ≤ 1073741824 }
 {
-    match Steps::parse(alloc, &theorem.book, theorem.id, &theorem.tokens)? {
+    match Steps::parse(
+        alloc,
+        Profile::Lenient,
+        &theorem.book,
+        theorem.id,
+        &theorem.tokens,
+    )? {
         Parsed::Incomplete => Err(Fail::from("incomplete")),
         Parsed::Steps(steps) => Ok(listing(alloc, &theorem.book, theorem.id, &steps)?),
     }
@@ -541,7 +555,7 @@ fn expect_two_lists<S: Store + Drop>(rt: &impl Abort, mut store: S) -> Result<()
     Ok(())
 }
 
-/// A conclusion of the last of two entries takes its place.
+/// A conclusion of the last of two entries takes its place, where it is within the limit.
 fn expect_conclusion<S: Store + Drop>(rt: &impl Abort, mut store: S) -> Result<(), Fail>
     requires stack { S.stack store ≡ [] }
     requires kept { S.kept store ≡ [] }
@@ -557,7 +571,9 @@ fn expect_conclusion<S: Store + Drop>(rt: &impl Abort, mut store: S) -> Result<(
     let Some(last) = ShortPiece::of(Piece::Symbol(Sym(6))) else {
         unreachable!()
     };
-    assert!(rt; store.conclude(1, &[first, value, last])?);
+    assert!(rt; !store.conclude(1, &[first, value, last], 3)?);
+    assert_eq!(rt; store.at(1), [Sym(2), Sym(3), Sym(4)].as_slice());
+    assert!(rt; store.conclude(1, &[first, value, last], 4)?);
     assert_eq!(rt; store.len(), 2);
     assert_eq!(rt; store.at(0), [Sym(1)].as_slice());
     assert_eq!(rt; store.at(1), [Sym(5), Sym(3), Sym(4), Sym(6)].as_slice());

@@ -1,7 +1,8 @@
 //! The reader over small files.
 
 use mm_text::{
-    File, Kind, LoadFault, LoadRule, Statement, Statements, TextFault, TextRule, Token, WriteFault,
+    File, Kind, LoadFault, LoadRule, Seed, Statement, Statements, TextFault, TextRule, Token,
+    WriteFault,
 };
 use std::alloc::Global;
 use std::test::Fail;
@@ -142,7 +143,7 @@ fn reads_a_database(rt: HostRuntime) -> Result<(), Fail> {
         name: b"first.mm",
         bytes: FIRST,
     }];
-    let mut statements = Statements::new(rt.alloc(), &files)?;
+    let mut statements = Statements::new(rt.alloc(), Seed::known(), &files)?;
     let mut statement = Statement::empty(rt.alloc());
     let answer = reads_first(&mut statements, &mut statement);
     drop(statement);
@@ -171,7 +172,7 @@ fn answers_the_end_for_good(rt: HostRuntime) -> Result<(), Fail> {
         name: b"first.mm",
         bytes: FIRST,
     }];
-    let mut statements = Statements::new(rt.alloc(), &files)?;
+    let mut statements = Statements::new(rt.alloc(), Seed::known(), &files)?;
     let mut statement = Statement::empty(rt.alloc());
     let answer = answers_the_end(&mut statements, &mut statement);
     drop(statement);
@@ -198,7 +199,7 @@ fn answers_for_good<'a>(
 fn is_faulty(alloc: Global, case: &Case) -> Result<bool, Fail> {
     let Case(bytes, fault) = case;
     let files = [File { name: b"a", bytes }];
-    let mut statements = Statements::new(alloc, &files)?;
+    let mut statements = Statements::new(alloc, Seed::known(), &files)?;
     let mut statement = Statement::empty(alloc);
     let answer = answers_for_good(&mut statements, &mut statement, fault);
     drop(statement);
@@ -305,7 +306,7 @@ fn reads_blocks_and_files(rt: HostRuntime) -> Result<(), Fail> {
             bytes: b"$c a $. $[ a $]",
         },
     ];
-    let mut statements = Statements::new(rt.alloc(), &files)?;
+    let mut statements = Statements::new(rt.alloc(), Seed::known(), &files)?;
     let mut statement = Statement::empty(rt.alloc());
     let fault = Fault(TextRule::S6, 41, 5, 0);
     let answer = reads_up_to(&mut statements, &mut statement, &TOP_FORMS, &fault);
@@ -332,7 +333,7 @@ fn names_the_innermost_open_block(rt: HostRuntime) -> Result<(), Fail> {
         name: b"a",
         bytes: b"$c a $. ${ ${ ${ $} $v x $.",
     }];
-    let mut statements = Statements::new(rt.alloc(), &files)?;
+    let mut statements = Statements::new(rt.alloc(), Seed::known(), &files)?;
     let mut statement = Statement::empty(rt.alloc());
     let fault = Fault(TextRule::S7, 11, 3, 0);
     let answer = skips_up_to(&mut statements, &mut statement, 6, &fault);
@@ -344,7 +345,7 @@ fn names_the_innermost_open_block(rt: HostRuntime) -> Result<(), Fail> {
 
 /// Whether the files break the rule as a whole.
 fn is_refused(alloc: Global, files: &[File], wanted: LoadRule) -> bool {
-    match Statements::new(alloc, files).err() {
+    match Statements::new(alloc, Seed::known(), files).err() {
         Some(TextFault::Load(rule)) => rule == wanted,
         _ => false,
     }

@@ -48,7 +48,7 @@ fn are_same(book: &Book, guesses: &mut Guesses, labels: &[&[u8]], there: bool) -
 #[test]
 fn guesses_change_no_answer(rt: HostRuntime) -> Result<(), Fail> {
     let book = book_of(rt.alloc(), &SAME_ENDS, 6)?;
-    let mut guesses = Guesses::new();
+    let mut guesses = Guesses::new(rt.alloc());
     let is_right = are_same(&book, &mut guesses, &ABSENT, false)
         && are_same(&book, &mut guesses, &THERE, true)
         && are_same(&book, &mut guesses, &ABSENT, false);

@@ -4,7 +4,7 @@ ghost use Rattle.std.specs.Prelude.{◌≡◌, ◌≤◌, IsTrue, length, sum_by
 ghost use Rattle.mm_text.specs.Statement.{plain_statement, HasForm, bytes_in};
 
 use mm_frame::{Book, Found, LabelId, RuleFault, Sym, Taken};
-use mm_text::{File, Kind, Statement, Statements, Token};
+use mm_text::{File, Kind, Seed, Statement, Statements, Token};
 use std::alloc::Global;
 use std::test::Fail;
 
@@ -59,12 +59,12 @@ pub(crate) fn read<'a>(
 
 /// A reader of a database.
 pub(crate) fn reader<'a>(alloc: Global, files: &'a [File<'a>]) -> Result<Statements<'a>, Fail> {
-    Ok(Statements::new(alloc, files)?)
+    Ok(Statements::new(alloc, Seed::known(), files)?)
 }
 
 /// A book of no statements.
 pub(crate) fn empty_book<'a>(alloc: Global) -> Result<Book<'a>, Fail> {
-    Ok(Book::new(alloc)?)
+    Ok(Book::new(alloc, Seed::known())?)
 }
 
 /// Takes as many of the next statements, each of which is read into the same.
