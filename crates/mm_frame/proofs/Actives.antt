@@ -6,7 +6,7 @@ use Rattle.std.proofs.lemmas.Bool.{cases_lt}
 use Rattle.std.proofs.lemmas.List.{take-take, take_all, length-take-le}
 use Rattle.mm_frame.specs.Sentence.{Sentence}
 use Rattle.mm_frame.specs.Active.{IsOpen, Holds, IsActive}
-use Rattle.mm_frame.specs.Scopes.{IsUnclosed, AreScopes}
+use Rattle.mm_frame.specs.Mirror.Scopes.{IsUnclosed, AreScopes}
 use Rattle.mm_frame.proofs.Pushed.{get_from_front, get_in_front}
 use Rattle.mm_frame.proofs.Counts.{unclosed_front, unclosed_outer}
 

@@ -8,10 +8,10 @@ use Rattle.mm_frame.specs.declared.tables.Tables.{Tables}
 use Rattle.mm_frame.specs.Sentence.{Sentence}
 use Rattle.mm_frame.specs.Rules.{IsMeant}
 use Rattle.mm_frame.specs.Form.{IsFormedSentence, IsSound}
-use Rattle.mm_frame.specs.ScopesOf.{HaveScopes}
+use Rattle.mm_frame.specs.Mirror.ScopesOf.{HaveScopes}
 use Rattle.mm_frame.specs.FramePlace.{HaveTypings}
-use Rattle.mm_frame.specs.Layout.{AreTables, AreInfos, AreLabelInfos, AreEntries, AreEssentials, AreFrames, AreStated, IsPartWithin, sentence_by, statements_of}
-use Rattle.mm_frame.specs.Grows.{Grows}
+use Rattle.mm_frame.specs.Mirror.Layout.{AreTables, AreInfos, AreLabelInfos, AreEntries, AreEssentials, AreFrames, AreStated, IsPartWithin, sentence_by, statements_of}
+use Rattle.mm_frame.specs.Mirror.Grows.{Grows}
 use Rattle.mm_frame.proofs.Meant.{allmeant_push, allformed_push}
 use Rattle.mm_frame.proofs.Entries.{sentences_push, entries_push}
 

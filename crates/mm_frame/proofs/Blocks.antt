@@ -11,11 +11,11 @@ use Rattle.mm_frame.specs.Active.{open_marks, close_marks}
 use Rattle.mm_frame.specs.Rules.{IsMeant}
 use Rattle.mm_frame.specs.Form.{IsFormedSentence}
 use Rattle.mm_frame.specs.Numbers.{symbols_of, declared_by}
-use Rattle.mm_frame.specs.ScopesOf.{HaveScopes}
-use Rattle.mm_frame.specs.Layout.{AreTables, AreInfos, AreLabelInfos, AreEssentials, AreFrames, AreStated, sentence_by, names_by, statements_of}
+use Rattle.mm_frame.specs.Mirror.ScopesOf.{HaveScopes}
+use Rattle.mm_frame.specs.Mirror.Layout.{AreTables, AreInfos, AreLabelInfos, AreEssentials, AreFrames, AreStated, sentence_by, names_by, statements_of}
 use Rattle.mm_frame.specs.FramePlace.{HaveTypings}
-use Rattle.mm_frame.specs.Forgotten.{AreForgotten}
-use Rattle.mm_frame.specs.Grows.{Grows, IsSame, SameLists, Entered, entry_of}
+use Rattle.mm_frame.specs.Mirror.Forgotten.{AreForgotten}
+use Rattle.mm_frame.specs.Mirror.Grows.{Grows, IsSame, SameLists, Entered, entry_of}
 use Rattle.std.proofs.lemmas.Option.{slice_get_within}
 use Rattle.mm_frame.specs.declared.scopes.TheConstants.{NEVER}
 use Rattle.mm_frame.proofs.Entries.{length-sentences}

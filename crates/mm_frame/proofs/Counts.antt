@@ -8,7 +8,7 @@ use Rattle.mm_frame.specs.Sentence.{Sentence}
 use Rattle.mm_frame.specs.Active.{open_marks, close_marks}
 use Rattle.mm_text.specs.Blocks.{is_closing}
 use Rattle.mm_text.specs.Blocks.{is_opening}
-use Rattle.mm_frame.specs.Scopes.{IsUnclosed}
+use Rattle.mm_frame.specs.Mirror.Scopes.{IsUnclosed}
 
 pub count_append : {X : Type 0} (p : X → Bool) (xs ys : List X) → count_by p (xs ++ ys) ≡ count_by p xs + count_by p ys
 count_append p xs ys = sum_by-append (λ x. cond (p x) 1 0) xs ys

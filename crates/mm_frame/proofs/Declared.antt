@@ -20,10 +20,10 @@ use Rattle.mm_frame.specs.Numbers.{symbols_of}
 use Rattle.mm_frame.specs.Database.{Database}
 use Rattle.mm_frame.specs.Rules.{IsMeant}
 use Rattle.mm_frame.specs.Form.{IsFormedSentence, HasItsLabel}
-use Rattle.mm_frame.specs.ScopesOf.{HaveScopes}
-use Rattle.mm_frame.specs.Layout.{AreTables, AreInfos, names_by, statements_of}
-use Rattle.mm_frame.specs.Declaring.{IsDeclaration, TakesSymbols}
-use Rattle.mm_frame.specs.Grows.{Grows, IsSame, SameLists, Entered, entry_of}
+use Rattle.mm_frame.specs.Mirror.ScopesOf.{HaveScopes}
+use Rattle.mm_frame.specs.Mirror.Layout.{AreTables, AreInfos, names_by, statements_of}
+use Rattle.mm_frame.specs.Mirror.Declaring.{IsDeclaration, TakesSymbols}
+use Rattle.mm_frame.specs.Mirror.Grows.{Grows, IsSame, SameLists, Entered, entry_of}
 use Rattle.mm_frame.proofs.SameTables.{same_tables}
 use Rattle.mm_frame.proofs.Written.{added_part, same_sentence}
 use Rattle.mm_frame.proofs.Typings.{typings_grow}

@@ -4,7 +4,7 @@ use Rattle.std.specs.List.{slice_get}
 use Rattle.std.proofs.lemmas.Option.{slice_get_within}
 use Rattle.mm_frame.specs.Sentence.{Sentence}
 use Rattle.mm_frame.specs.Active.{open_marks, close_marks, IsOpen, IsActive}
-use Rattle.mm_frame.specs.Scopes.{IsUnclosed, AreScopes}
+use Rattle.mm_frame.specs.Mirror.Scopes.{IsUnclosed, AreScopes}
 use Rattle.mm_frame.proofs.Pushed.{get_within}
 use Rattle.mm_frame.proofs.Counts.{unclosed_front}
 use Rattle.mm_frame.proofs.ScopeLaws.{start_within}

@@ -10,8 +10,8 @@ use Rattle.mm_frame.specs.Sentence.{Sentence}
 use Rattle.mm_frame.specs.Active.{IsActive}
 use Rattle.mm_frame.specs.Frame.{IsDistinct}
 use Rattle.mm_frame.specs.Numbers.{symbols_of}
-use Rattle.mm_frame.specs.Stated.{Stated}
-use Rattle.mm_frame.specs.Layout.{AreStated}
+use Rattle.mm_frame.specs.Mirror.Stated.{Stated}
+use Rattle.mm_frame.specs.Mirror.Layout.{AreStated}
 use Rattle.mm_frame.proofs.Pushed.{get_kept, get_pushed, pushed_cases, get_before, get_from_front, get_in_front}
 use Rattle.mm_frame.proofs.Entries.{append_cases}
 use Rattle.mm_frame.proofs.ScopeLaws.{all_taken}

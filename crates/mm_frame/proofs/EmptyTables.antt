@@ -1,9 +1,9 @@
 -- The lists of no statements.
 use Rattle.std.proofs.Common.{◌≡◌, ℕ, List, [], refl, arith}
 use Rattle.mm_frame.specs.declared.tables.Tables.{Tables}
-use Rattle.mm_frame.specs.ScopesOf.{HaveScopes}
+use Rattle.mm_frame.specs.Mirror.ScopesOf.{HaveScopes}
 use Rattle.mm_frame.specs.FramePlace.{HaveTypings}
-use Rattle.mm_frame.specs.Layout.{AreTables, AreInfos, AreLabelInfos, AreEntries, AreEssentials, AreStated, statements_of, database_of}
+use Rattle.mm_frame.specs.Mirror.Layout.{AreTables, AreInfos, AreLabelInfos, AreEntries, AreEssentials, AreStated, statements_of, database_of}
 use Rattle.mm_frame.proofs.Meant.{allmeant_none, allformed_none}
 use Rattle.mm_frame.proofs.Entries.{sentences_none}
 use Rattle.mm_frame.proofs.Infos.{infos_none}

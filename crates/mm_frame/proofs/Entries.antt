@@ -9,7 +9,7 @@ use Rattle.mm_frame.specs.declared.number.LabelId.{LabelId}
 use Rattle.mm_frame.specs.declared.number.Sym.{Sym}
 use Rattle.mm_frame.specs.declared.tables.Entry.{Entry}
 use Rattle.mm_frame.specs.Sentence.{Sentence}
-use Rattle.mm_frame.specs.Layout.{names_by, label_by, sentence_by, sentences_by, IsPartWithin, AreEntries}
+use Rattle.mm_frame.specs.Mirror.Layout.{names_by, label_by, sentence_by, sentences_by, IsPartWithin, AreEntries}
 use Rattle.mm_frame.proofs.Pushed.{pushed_cases, get_from_front, get_within}
 use Rattle.mm_frame.proofs.Numbered.{At}
 

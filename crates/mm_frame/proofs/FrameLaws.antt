@@ -7,7 +7,7 @@ use Rattle.mm_text.specs.declared.statement.Kind.TheVariants.{Distinct}
 use Rattle.mm_frame.specs.declared.distinct.DistinctPair.{DistinctPair}
 use Rattle.mm_frame.specs.declared.hypothesis.Hypothesis.{Hypothesis}
 use Rattle.mm_frame.specs.declared.piece.Piece.{Piece}
-use Rattle.mm_frame.specs.declared.tables.Part.{Part}
+use Rattle.mm_frame.specs.declared.part.Part.{Part}
 use Rattle.mm_frame.specs.declared.tables.LabelInfo.{LabelInfo}
 use Rattle.mm_frame.specs.Sentence.{Sentence, IsAssertion}
 use Rattle.mm_frame.specs.Active.{IsActive}
@@ -15,8 +15,8 @@ use Rattle.mm_frame.specs.Rules.{AllMeant}
 use Rattle.mm_frame.specs.Frame.{AreMandatory, IsMandatoryPair}
 use Rattle.mm_frame.specs.Numbers.{symbols_of}
 use Rattle.mm_frame.specs.FramePlace.{FramePlace, AreHypotheses, ArePairs, AreItsSymbols}
-use Rattle.mm_frame.specs.Layout.{IsPartWithin, IsFrameInfo, AreFrames, AreLabelInfos, AreStated}
-use Rattle.mm_frame.specs.Stated.{Stated}
+use Rattle.mm_frame.specs.Mirror.Layout.{IsPartWithin, IsFrameInfo, AreFrames, AreLabelInfos, AreStated}
+use Rattle.mm_frame.specs.Mirror.Stated.{Stated}
 use Rattle.mm_frame.specs.Pieces.{variables_of, AreItsPieces, HavePatterns, HavePlaces}
 use Rattle.mm_frame.proofs.Pushed.{get_kept, get_pushed, pushed_cases, get_before}
 use Rattle.mm_frame.proofs.Numbered.{symbols_grow, numbers_grow, symbols_unique, number_from_declared}

@@ -9,8 +9,8 @@ use Rattle.mm_frame.specs.Form.{AllFormed, HasItsLabel}
 use Rattle.mm_frame.specs.Frame.{IsMandatoryAt, AreMandatory}
 use Rattle.mm_frame.specs.Numbers.{labelled_sentences}
 use Rattle.mm_frame.specs.FramePlace.{AreHypotheses}
-use Rattle.mm_frame.specs.Layout.{AreEssentials}
-use Rattle.mm_frame.specs.Gathered.{IsGathered, AreGathered, ArePlaces}
+use Rattle.mm_frame.specs.Mirror.Layout.{AreEssentials}
+use Rattle.mm_frame.specs.Mirror.Gathered.{IsGathered, AreGathered, ArePlaces}
 use Rattle.mm_frame.proofs.Numbered.{at_from_contains, contains_from_at}
 use Rattle.mm_frame.proofs.Labelled.{numbered_get, numbered_at, labelled_grow}
 use Rattle.mm_frame.proofs.Those.{Rise, those_by_places}

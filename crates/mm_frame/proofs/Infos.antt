@@ -9,8 +9,8 @@ use Rattle.mm_frame.specs.declared.tables.SymbolInfo.{SymbolInfo}
 use Rattle.mm_frame.specs.Sentence.{Sentence, SomeSentence, Declares}
 use Rattle.mm_frame.specs.Rules.{AllMeant}
 use Rattle.mm_frame.specs.Numbers.{declared_by, declared_in, with_name, symbols_of}
-use Rattle.mm_frame.specs.Latest.{IsLatest}
-use Rattle.mm_frame.specs.Layout.{IsLatestIn, GivesType, IsInfo, AreInfos}
+use Rattle.mm_frame.specs.Mirror.Latest.{IsLatest}
+use Rattle.mm_frame.specs.Mirror.Layout.{IsLatestIn, GivesType, IsInfo, AreInfos}
 use Rattle.mm_frame.proofs.Pushed.{get_kept, get_pushed, pushed_cases, get_before, get_set_cases}
 use Rattle.mm_frame.proofs.ScopeLaws.{length_pushed}
 use Rattle.mm_frame.proofs.Meant.{meant_at}

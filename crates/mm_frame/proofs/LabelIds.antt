@@ -13,8 +13,8 @@ use Rattle.mm_frame.specs.Sentence.{Sentence, IsHypothesis}
 use Rattle.mm_frame.specs.Form.{AllFormed}
 use Rattle.mm_frame.specs.Numbers.{labelled_sentences}
 use Rattle.mm_frame.specs.FramePlace.{IsTypingOf}
-use Rattle.mm_frame.specs.Layout.{sentences_by, label_by, AreLabelInfos}
-use Rattle.mm_frame.specs.Gathered.{ArePlaces, AreThoseAt}
+use Rattle.mm_frame.specs.Mirror.Layout.{sentences_by, label_by, AreLabelInfos}
+use Rattle.mm_frame.specs.Mirror.Gathered.{ArePlaces, AreThoseAt}
 use Rattle.mm_frame.proofs.Pushed.{get_within}
 use Rattle.mm_frame.proofs.Entries.{entry_at}
 use Rattle.mm_frame.proofs.FrameOf.{place_named}

@@ -8,8 +8,8 @@ use Rattle.mm_frame.specs.Sentence.{Sentence, SomeSentence, Declares, Types, IsL
 use Rattle.mm_frame.specs.Active.{IsActive, SomeActive, IsConstant, IsVariable, IsActiveSymbol, IsTyped}
 use Rattle.mm_frame.specs.Rules.{AllMeant}
 use Rattle.mm_frame.specs.Numbers.{symbols_of, labelled_sentences}
-use Rattle.mm_frame.specs.Latest.{IsLatest}
-use Rattle.mm_frame.specs.Layout.{IsLatestIn, IsKnown, IsDeclared, GivesType, AreInfos}
+use Rattle.mm_frame.specs.Mirror.Latest.{IsLatest}
+use Rattle.mm_frame.specs.Mirror.Layout.{IsLatestIn, IsKnown, IsDeclared, GivesType, AreInfos}
 use Rattle.mm_frame.proofs.Meant.{latest_variable, latest_typed, constant_active, one_role, meant_at, one_code}
 use Rattle.mm_frame.proofs.Needed.{typed_variable, some_later}
 use Rattle.mm_frame.proofs.Numbered.{declared_from_number, number_from_declared, contains_from_at}

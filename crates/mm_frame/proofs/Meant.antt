@@ -14,7 +14,7 @@ use Rattle.mm_frame.specs.Sentence.{Sentence, SomeSentence, Declares, IsLabelled
 use Rattle.mm_frame.specs.Active.{IsActive, SomeActive, IsConstant, IsVariable, IsTyped}
 use Rattle.mm_frame.specs.Rules.{IsMeant, AllMeant}
 use Rattle.mm_frame.specs.Form.{IsFormedSentence, AllFormed, HasItsLabel}
-use Rattle.mm_frame.specs.Latest.{IsLatest}
+use Rattle.mm_frame.specs.Mirror.Latest.{IsLatest}
 use Rattle.mm_frame.proofs.Pushed.{pushed_cases, get_from_front, get_in_front}
 use Rattle.mm_frame.proofs.Actives.{unclosed_shorter}
 use Rattle.mm_frame.proofs.Stays.{active_falls}

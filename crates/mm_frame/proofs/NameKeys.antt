@@ -4,7 +4,7 @@ use Rattle.std.specs.Int.{Width, w16, w32, w64, from_le_bytes, to_le_bytes}
 use Rattle.std.proofs.lemmas.Bool.{cases_lt, lt-ltb, le-ltb}
 use Rattle.std.proofs.lemmas.List.{drop-drop, take-append-drop, get_or-take, get_or-drop, length-take, length-drop, length-take-le, take_all, get_or_past}
 use Rattle.std.proofs.lemmas.Nat.{le_bytes_2, le_bytes_4, le_bytes_8}
-use Rattle.mm_frame.specs.NameKey.{number_at, ends_by, ends_of}
+use Rattle.mm_frame.specs.Mirror.NameKey.{number_at, ends_by, ends_of}
 
 -- a list is told by a front and an end of it that leave nothing out
 told_by_parts : (n : ℕ) (a b : List ℕ) → length a ≡ length b → n ≤ length a → length a ≤ n + n

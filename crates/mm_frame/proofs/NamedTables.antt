@@ -13,7 +13,7 @@ use Rattle.mm_frame.specs.declared.number.Sym.{Sym}
 use Rattle.mm_frame.specs.declared.piece.Piece.{Piece}
 use Rattle.mm_frame.specs.declared.tables.Entry.{Entry}
 use Rattle.mm_frame.specs.declared.tables.LabelInfo.{LabelInfo}
-use Rattle.mm_frame.specs.declared.tables.Part.{Part}
+use Rattle.mm_frame.specs.declared.part.Part.{Part}
 use Rattle.mm_frame.specs.declared.tables.SymbolInfo.{SymbolInfo}
 use Rattle.mm_frame.specs.declared.tables.Tables.{Tables}
 use Rattle.mm_frame.specs.Sentence.{Sentence, IsAssertion}
@@ -21,16 +21,16 @@ use Rattle.mm_frame.specs.Rules.{IsMeant}
 use Rattle.mm_frame.specs.declared.rule.MeaningRule.TheVariants.{M5}
 use Rattle.mm_frame.specs.Form.{IsFormedSentence}
 use Rattle.mm_frame.specs.Numbers.{AreNumbers, symbols_of, with_name, declared_by, declared_in}
-use Rattle.mm_frame.specs.ScopesOf.{HaveScopes, HaveSameLists}
+use Rattle.mm_frame.specs.Mirror.ScopesOf.{HaveScopes, HaveSameLists}
 use Rattle.mm_frame.specs.Taken.{next_id, TakenAs}
 use Rattle.mm_frame.specs.declared.answer.Taken.TheVariants.{Assertion}
-use Rattle.mm_frame.specs.Layout.{AreTables, AreInfos, AreLabelInfos, AreEssentials, AreFrames, IsFrameInfo, names_by, statements_of}
-use Rattle.mm_frame.specs.Grows.{Grows, SameLists, entry_of}
-use Rattle.mm_frame.specs.Naming.{Named, FrameParts, label_info, part_after}
+use Rattle.mm_frame.specs.Mirror.Layout.{AreTables, AreInfos, AreLabelInfos, AreEssentials, AreFrames, IsFrameInfo, names_by, statements_of}
+use Rattle.mm_frame.specs.Mirror.Grows.{Grows, SameLists, entry_of}
+use Rattle.mm_frame.specs.Mirror.Naming.{Named, FrameParts, label_info, part_after}
 use Rattle.mm_frame.specs.FramePlace.{AreHypotheses, HaveTypings, ArePairs}
-use Rattle.mm_frame.specs.Gathered.{ArePlaces, AreThoseAt}
+use Rattle.mm_frame.specs.Mirror.Gathered.{ArePlaces, AreThoseAt}
 use Rattle.mm_frame.specs.Pieces.{variables_of, AreItsPieces, HavePatterns, HavePlaces}
-use Rattle.mm_frame.specs.Patterned.{ArePatterned}
+use Rattle.mm_frame.specs.Mirror.Patterned.{ArePatterned}
 use Rattle.mm_frame.proofs.FrameOf.{hypotheses_from_places}
 use Rattle.mm_frame.proofs.Pushed.{get_pushed, get_within}
 use Rattle.mm_frame.proofs.LookupLaws.{label_number}

@@ -9,7 +9,7 @@ use Rattle.mm_frame.specs.Sentence.{Sentence}
 use Rattle.mm_frame.specs.Active.{open_marks, close_marks, IsOpen, Holds, IsActive}
 use Rattle.mm_text.specs.Blocks.{is_closing}
 use Rattle.mm_text.specs.Blocks.{is_opening}
-use Rattle.mm_frame.specs.Scopes.{IsUnclosed}
+use Rattle.mm_frame.specs.Mirror.Scopes.{IsUnclosed}
 use Rattle.mm_frame.specs.Laws.{IsInnermostOpen, OpenBlocks, ActiveStatements}
 use Rattle.mm_frame.proofs.Pushed.{get_kept, get_pushed, get_in_front, pushed_cases}
 use Rattle.mm_frame.proofs.Counts.{openings-append, closings-append, unclosed_pushed, unclosed_all, unclosed_new, unclosed_front}

@@ -8,7 +8,7 @@ use Rattle.mm_frame.specs.declared.rule.MeaningRule.{MeaningRule}
 use Rattle.mm_frame.specs.declared.rule.MeaningRule.TheVariants.{M1, M2, M3, M4, M5, M6, M7, M8, M9, M10, M11, M12, M13, M14, M15}
 use Rattle.mm_frame.specs.Sentence.{Sentence, IsStated, IsUse}
 use Rattle.mm_frame.specs.Rules.{Breaks, IsMeant, FirstBroken, rank}
-use Rattle.mm_frame.specs.Asked.{rules_of}
+use Rattle.mm_frame.specs.Mirror.Asked.{rules_of}
 
 -- the ranks of the rules rise, from above this number
 abbrev AreRising : ℕ → List MeaningRule → Type 0

@@ -12,10 +12,10 @@ use Rattle.std.proofs.lemmas.Bool.{cases_order, lt-ltb, le-ltb}
 use Rattle.mm_frame.specs.declared.tables.Entry.{Entry}
 use Rattle.mm_frame.specs.Active.{IsActive}
 use Rattle.mm_frame.specs.Frame.{IsDistinct}
-use Rattle.mm_frame.specs.Stated.{Stated, IsLatestStated}
+use Rattle.mm_frame.specs.Mirror.Stated.{Stated, IsLatestStated}
 use Rattle.mm_frame.proofs.Those.{distinct_other}
 use Rattle.mm_frame.proofs.DistinctAt.{latest_distinct, unstated_distinct}
-use Rattle.mm_frame.specs.Layout.{sentences_by, sentence_by, AreStated}
+use Rattle.mm_frame.specs.Mirror.Layout.{sentences_by, sentence_by, AreStated}
 use Rattle.mm_frame.proofs.Entries.{sentence_at, entry_at}
 
 -- the second of two

@@ -11,16 +11,16 @@ use Rattle.mm_frame.specs.declared.number.LabelId.{LabelId}
 use Rattle.mm_frame.specs.declared.number.Sym.{Sym}
 use Rattle.mm_frame.specs.declared.piece.Piece.{Piece}
 use Rattle.mm_frame.specs.declared.tables.Entry.{Entry}
-use Rattle.mm_frame.specs.declared.tables.Part.{Part}
+use Rattle.mm_frame.specs.declared.part.Part.{Part}
 use Rattle.mm_frame.specs.declared.tables.Tables.{Tables}
 use Rattle.mm_frame.specs.Sentence.{Sentence}
 use Rattle.mm_frame.specs.Numbers.{labelled_sentences, AreNumbers}
 use Rattle.mm_frame.specs.FramePlace.{IsTypingOf, HasTyping, HaveTypings}
 use Rattle.mm_frame.specs.Pieces.{variables_of, IsPieceOf, ArePieces, HasPattern}
-use Rattle.mm_frame.specs.Gathered.{AreRisingPlaces}
-use Rattle.mm_frame.specs.Layout.{statements_of}
-use Rattle.mm_frame.specs.Naming.{part_after}
-use Rattle.mm_frame.specs.Patterned.{IsLonger, IsPatternAt, told, AreSameButPatterns, AreMandatoryOf, HaveFirstPatterns, ArePatterned}
+use Rattle.mm_frame.specs.Mirror.Gathered.{AreRisingPlaces}
+use Rattle.mm_frame.specs.Mirror.Layout.{statements_of}
+use Rattle.mm_frame.specs.Mirror.Naming.{part_after}
+use Rattle.mm_frame.specs.Mirror.Patterned.{IsLonger, IsPatternAt, told, AreSameButPatterns, AreMandatoryOf, HaveFirstPatterns, ArePatterned}
 use Rattle.mm_frame.proofs.Pushed.{get_within, get_set_cases}
 use Rattle.mm_frame.proofs.NameLists.{get_mapped, get_unmapped}
 use Rattle.mm_frame.proofs.Labelled.{numbered_at, numbered_get}

@@ -13,7 +13,7 @@ use Rattle.mm_frame.specs.Form.{HasItsLabel, AllFormed}
 use Rattle.mm_frame.specs.Numbers.{labelled_sentences, IsNumbered}
 use Rattle.mm_frame.specs.FramePlace.{AreHypotheses, HaveTypings, ArePairs}
 use Rattle.mm_frame.specs.Pieces.{variables_of, AreItsPieces, HavePatterns, HavePlaces, HaveMandatoryPlaces}
-use Rattle.mm_frame.specs.Layout.{sentences_by, sentence_by, statements_of, AreLabelInfos, AreFrames, AreTables}
+use Rattle.mm_frame.specs.Mirror.Layout.{sentences_by, sentence_by, statements_of, AreLabelInfos, AreFrames, AreTables}
 use Rattle.mm_frame.specs.declared.tables.Tables.{Tables}
 use Rattle.mm_frame.specs.Frame.{AreThose, IsMandatoryAt}
 use Rattle.std.proofs.lemmas.List.{length-map, length-take-le}

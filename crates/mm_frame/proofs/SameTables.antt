@@ -2,11 +2,11 @@
 use Rattle.std.proofs.Common.{◌≡◌, refl, Result, Ok, Err}
 use Rattle.std.specs.Result.{OnErr}
 use Rattle.mm_frame.specs.declared.tables.Tables.{Tables}
-use Rattle.mm_frame.specs.ScopesOf.{HaveScopes}
+use Rattle.mm_frame.specs.Mirror.ScopesOf.{HaveScopes}
 use Rattle.mm_frame.specs.Form.{IsSound}
 use Rattle.mm_frame.specs.FramePlace.{HaveTypings}
-use Rattle.mm_frame.specs.Layout.{AreTables, AreInfos, AreLabelInfos, AreEntries, AreEssentials, AreFrames, AreStated, statements_of}
-use Rattle.mm_frame.specs.Grows.{SameLists, IsSame}
+use Rattle.mm_frame.specs.Mirror.Layout.{AreTables, AreInfos, AreLabelInfos, AreEntries, AreEssentials, AreFrames, AreStated, statements_of}
+use Rattle.mm_frame.specs.Mirror.Grows.{SameLists, IsSame}
 
 pub same_tables : (t u : Tables) → AreTables t → SameLists t u → IsSame t u
 same_tables t u a s =

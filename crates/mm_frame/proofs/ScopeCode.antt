@@ -6,7 +6,7 @@ use Rattle.mm_text.specs.declared.statement.Kind.TheVariants.{Constants, Variabl
 use Rattle.mm_frame.specs.Sentence.{Sentence}
 use Rattle.mm_frame.specs.Active.{IsActive, open_marks, close_marks}
 use Rattle.mm_text.specs.Blocks.{is_opening}
-use Rattle.mm_frame.specs.Scopes.{AreScopes}
+use Rattle.mm_frame.specs.Mirror.Scopes.{AreScopes}
 use Rattle.mm_frame.proofs.Actives.{scope_active}
 use Rattle.mm_frame.proofs.Depth.{scope_depth, scope_block_within, scope_stack_within}
 use Rattle.mm_frame.proofs.Stays.{not_closing}

@@ -10,10 +10,10 @@ use Rattle.mm_frame.specs.Sentence.{Sentence}
 use Rattle.mm_frame.specs.Rules.{IsMeant}
 use Rattle.mm_frame.specs.Form.{IsFormedSentence}
 use Rattle.mm_frame.specs.Numbers.{AreNumbers, declared_by, declared_in}
-use Rattle.mm_frame.specs.ScopesOf.{HaveScopes}
-use Rattle.mm_frame.specs.Layout.{AreTables, AreInfos, AreLabelInfos, AreEssentials, AreFrames, AreStated, names_by, statements_of}
-use Rattle.mm_frame.specs.Grows.{Grows, entry_of}
-use Rattle.mm_frame.specs.Separated.{ArePaired, stated_at}
+use Rattle.mm_frame.specs.Mirror.ScopesOf.{HaveScopes}
+use Rattle.mm_frame.specs.Mirror.Layout.{AreTables, AreInfos, AreLabelInfos, AreEssentials, AreFrames, AreStated, names_by, statements_of}
+use Rattle.mm_frame.specs.Mirror.Grows.{Grows, entry_of}
+use Rattle.mm_frame.specs.Mirror.Separated.{ArePaired, stated_at}
 use Rattle.mm_frame.proofs.Labels.{labels_none, essentials_other}
 use Rattle.mm_frame.proofs.Infos.{infos_other}
 use Rattle.mm_frame.proofs.Entries.{length-sentences}

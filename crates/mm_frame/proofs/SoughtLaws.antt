@@ -15,8 +15,8 @@ use Rattle.mm_frame.specs.Sentence.{Sentence, Declares, IsUse}
 use Rattle.mm_frame.specs.Active.{SomeActive, IsConstant, IsVariable, IsActiveSymbol, IsTyped}
 use Rattle.mm_frame.specs.Rules.{AllMeant, IsMeant}
 use Rattle.mm_frame.specs.Numbers.{symbols_of, IsNumberOf, AreNumbers}
-use Rattle.mm_frame.specs.Layout.{AreInfos, IsKnown, IsDeclared, GivesType}
-use Rattle.mm_frame.specs.Sought.{IsOfNumber, IsSought, AreSought, HasNumbers}
+use Rattle.mm_frame.specs.Mirror.Layout.{AreInfos, IsKnown, IsDeclared, GivesType}
+use Rattle.mm_frame.specs.Mirror.Sought.{IsOfNumber, IsSought, AreSought, HasNumbers}
 use Rattle.mm_frame.proofs.LookupLaws.{known_number, unknown, untyped, some_of_active, active_symbol, both_ways}
 use Rattle.mm_frame.proofs.NameLists.{map_snoc}
 use Rattle.mm_frame.proofs.Needed.{used_declared}

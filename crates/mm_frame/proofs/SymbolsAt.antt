@@ -6,8 +6,8 @@ use Rattle.mm_frame.specs.declared.number.Sym.{Sym}
 use Rattle.mm_frame.specs.declared.tables.Entry.{Entry}
 use Rattle.mm_frame.specs.Sentence.{Sentence, SomeSentence, Types}
 use Rattle.mm_frame.specs.Numbers.{symbols_of, AreNumbers}
-use Rattle.mm_frame.specs.Layout.{names_by, sentences_by, sentence_by, AreEntries, GivesType}
-use Rattle.mm_frame.specs.Latest.{IsLatest}
+use Rattle.mm_frame.specs.Mirror.Layout.{names_by, sentences_by, sentence_by, AreEntries, GivesType}
+use Rattle.mm_frame.specs.Mirror.Latest.{IsLatest}
 use Rattle.mm_frame.proofs.Entries.{sentence_at, entry_at, get_sliced}
 use Rattle.mm_frame.proofs.Pushed.{get_within}
 

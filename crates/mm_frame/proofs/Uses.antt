@@ -19,9 +19,9 @@ use Rattle.mm_frame.specs.Sentence.{Sentence, sentence_of, sentence_in, IsUse}
 use Rattle.mm_frame.specs.Rules.{IsMeant}
 use Rattle.mm_frame.specs.Form.{HasItsLabel, IsFormedSentence}
 use Rattle.mm_frame.specs.Numbers.{symbols_of, AreNumbers}
-use Rattle.mm_frame.specs.Layout.{statements_of}
+use Rattle.mm_frame.specs.Mirror.Layout.{statements_of}
 use Rattle.mm_frame.specs.Taken.{TakenAs}
-use Rattle.mm_frame.specs.Grows.{Grows}
+use Rattle.mm_frame.specs.Mirror.Grows.{Grows}
 use Rattle.mm_frame.proofs.Declared.{bytes_enough}
 
 -- there are as many numbers as symbols

@@ -12,6 +12,16 @@ use Rattle.mm_frame.specs.Sentence.{Sentence}
 use Rattle.mm_frame.specs.Numbers.{labelled_sentences, AreNumbers}
 use Rattle.mm_frame.specs.FramePlace.{FramePlace, AreHypotheses, HaveTypings}
 
+-- the number of a piece: that of its symbol, or its place
+abbrev pub number_in : Piece → ℕ
+number_in (Symbol symbol) = symbol.0
+number_in (Value place) = place
+
+-- a value replaces the piece
+abbrev pub IsReplaced : Piece → Type 0
+IsReplaced (Symbol symbol) = ⊥
+IsReplaced (Value place) = Unit {0}
+
 -- for each hypothesis the number of its variable, if it is a `$f`; and none for a `$e`
 abbrev pub variables_of : List Hypothesis → List (Option ℕ)
 variables_of hypotheses = map (λ h. option_map (λ typing. typing.1.0) h.typing) hypotheses

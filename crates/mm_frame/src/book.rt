@@ -14,25 +14,23 @@ ghost use Rattle.mm_frame.specs.Form.{IsSound};
 ghost use Rattle.mm_frame.specs.Frame.{IsDistinct};
 ghost use Rattle.mm_frame.specs.Numbers.{symbols_of, labelled_sentences, IsNumberOf, AreNumbers};
 ghost use Rattle.mm_frame.specs.Numbers.{IsNumbered};
-ghost use Rattle.mm_frame.specs.Numbers.{IsAssertionNumber};
 ghost use Rattle.mm_frame.specs.Found.{Finds};
 ghost use Rattle.mm_frame.specs.Taken.{TakenAs, kind_behind};
 ghost use Rattle.mm_frame.specs.FramePlace.{AreHypotheses, HaveTypings, ArePairs};
 ghost use Rattle.mm_frame.specs.Pieces.{HaveMandatoryPatterns, HaveMandatoryPlaces};
-ghost use Rattle.mm_frame.specs.Patterned.{IsSchemeOf};
+ghost use Rattle.mm_frame.specs.Mirror.Patterned.{IsSchemeOf};
 
 use crate::answer::{Found, RuleFault, Taken};
+use crate::rules::first_broken;
 use crate::distinct::DistinctPair;
-use crate::frame::Frame;
 use crate::framing::FrameLists;
 use crate::guesses::Guesses;
 use crate::hypothesis::Hypothesis;
 use crate::number::{LabelId, LabelKind, Sym};
 use crate::reads::{
     find_label, find_label_guessed, is_label_active, label_hypotheses, label_kind, label_pairs,
-    label_place, label_scheme, label_symbols, label_text,
+    label_scheme, label_symbols, label_text,
 };
-use crate::rules::first_broken;
 use crate::scheme::Scheme;
 use crate::tables::Tables;
 use mm_text::{Seed, Statement, Token};
@@ -75,7 +73,7 @@ fn bytes_of(statement: &Statement) -> u64
 
 impl<'a> Model for Book<'a> {
     ghost use Rattle.mm_frame.specs.Database.{Database};
-    ghost use Rattle.mm_frame.specs.Layout.{AreTables, database_of};
+    ghost use Rattle.mm_frame.specs.Mirror.Layout.{AreTables, database_of};
 
     ghost Value = { Database };
 
@@ -221,21 +219,6 @@ impl<'a> Book<'a> {
             → s.kind ≡ kind_behind result }
     {
         label_kind(&self.tables, id)
-    }
-
-    /// The frame of an assertion (the Metamath book, section 4.2.7).
-    pub fn frame(&self, id: LabelId) -> Frame<'_, 'a>
-        requires { IsAssertionNumber self.now.statements id.0 }
-        ensures book { result.statements ≡ self.now.statements }
-        ensures place { (s : Sentence) × IsNumbered self.now.statements id.0 result.place s
-            × IsAssertion s.kind }
-        ensures sound { IsSound self.now.statements }
-    {
-        Frame {
-            book: self,
-            id,
-            place: label_place(&self.tables, id),
-        }
     }
 
     // Whether two symbols are a distinct pair after the statements before a place.

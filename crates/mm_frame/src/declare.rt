@@ -8,10 +8,10 @@ ghost use Rattle.mm_frame.specs.declared.tables.SymbolInfo.{SymbolInfo};
 ghost use Rattle.mm_frame.specs.declared.answer.Taken.TheVariants.{Declared};
 ghost use Rattle.mm_frame.specs.Sentence.{sentence_in};
 ghost use Rattle.mm_frame.specs.Rules.{IsMeant};
-ghost use Rattle.mm_frame.specs.Layout.{AreTables, statements_of};
-ghost use Rattle.mm_frame.specs.Grows.{Grows, IsSame, SameLists, HaveRoom};
-ghost use Rattle.mm_frame.specs.Declaring.{IsDeclaration, latest_by, HasSpace, TakesSymbol};
-ghost use Rattle.mm_frame.specs.Declaring.{TakesSymbols};
+ghost use Rattle.mm_frame.specs.Mirror.Layout.{AreTables, statements_of};
+ghost use Rattle.mm_frame.specs.Mirror.Grows.{Grows, IsSame, SameLists, HaveRoom};
+ghost use Rattle.mm_frame.specs.Mirror.Declaring.{IsDeclaration, latest_by, HasSpace, TakesSymbol};
+ghost use Rattle.mm_frame.specs.Mirror.Declaring.{TakesSymbols};
 
 use crate::answer::Taken;
 use crate::number::Sym;

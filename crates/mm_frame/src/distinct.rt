@@ -2,7 +2,7 @@
 
 ghost use Rattle.std.specs.Prelude.{◌≡◌, ◌<◌, OnOk, length, map};
 ghost use Rattle.mm_frame.specs.Pieces.{variables_of, IsNowhere, IsFirstAt, HavePlaces};
-ghost use Rattle.mm_frame.specs.Patterned.{AreAmong, AreNoted};
+ghost use Rattle.mm_frame.specs.Mirror.Patterned.{AreAmong, AreNoted};
 
 use crate::hypothesis::Hypothesis;
 use crate::noted::NotedPlaces;

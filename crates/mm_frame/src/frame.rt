@@ -1,10 +1,11 @@
 //! Frames of assertions.
 
 ghost use Rattle.std.specs.Prelude.{◌≡◌, ◌↔◌, ◌<◌, ℕ, List, Some, IsTrue, length, map, slice_get};
-ghost use Rattle.mm_frame.specs.Sentence.{Sentence};
+ghost use Rattle.mm_frame.specs.Sentence.{Sentence, IsAssertion};
 ghost use Rattle.mm_frame.specs.Active.{IsActive};
 ghost use Rattle.mm_frame.specs.Frame.{IsDistinct};
-ghost use Rattle.mm_frame.specs.Numbers.{IsNumbered, IsNumberOf};
+ghost use Rattle.mm_frame.specs.Form.{IsSound};
+ghost use Rattle.mm_frame.specs.Numbers.{IsNumbered, IsNumberOf, IsAssertionNumber};
 ghost use Rattle.mm_frame.specs.FramePlace.{AreHypotheses, HaveTypings, ArePairs};
 ghost use Rattle.mm_frame.specs.FramePlace.{AreItsSymbols, before_it};
 ghost use Rattle.mm_frame.specs.Pieces.{variables_of, AreItsPieces, HavePatterns};
@@ -14,6 +15,7 @@ use crate::book::Book;
 use crate::distinct::DistinctPair;
 use crate::hypothesis::Hypothesis;
 use crate::number::{LabelId, Sym};
+use crate::reads::label_place;
 use crate::scheme::Scheme;
 use std::marker::Model;
 
@@ -100,5 +102,22 @@ impl<'b, 'a> Frame<'b, 'a> {
             → (IsTrue result ↔ IsDistinct (before_it self.now) x y) }
     {
         self.book.is_distinct(a, b, self.place)
+    }
+}
+
+impl<'a> Book<'a> {
+    /// The frame of an assertion (the Metamath book, section 4.2.7).
+    pub fn frame(&self, id: LabelId) -> Frame<'_, 'a>
+        requires { IsAssertionNumber self.now.statements id.0 }
+        ensures book { result.statements ≡ self.now.statements }
+        ensures place { (s : Sentence) × IsNumbered self.now.statements id.0 result.place s
+            × IsAssertion s.kind }
+        ensures sound { IsSound self.now.statements }
+    {
+        Frame {
+            book: self,
+            id,
+            place: label_place(&self.tables, id),
+        }
     }
 }

@@ -8,16 +8,17 @@ ghost use Rattle.mm_frame.specs.Rules.{IsMeant};
 ghost use Rattle.mm_frame.specs.Numbers.{AreNumbers};
 ghost use Rattle.mm_frame.specs.FramePlace.{ArePairs};
 ghost use Rattle.mm_frame.specs.declared.number.Sym.{Sym};
-ghost use Rattle.mm_frame.specs.Layout.{AreTables, statements_of};
-ghost use Rattle.mm_frame.specs.Gathered.{floating_of, floatings, AreGathered, ArePlaces};
-ghost use Rattle.mm_frame.specs.Gathered.{AreVariables, AreFound, AreThoseAt};
+ghost use Rattle.mm_frame.specs.Mirror.Layout.{AreTables, statements_of};
+ghost use Rattle.mm_frame.specs.Mirror.Gathered.{floating_of, floatings, AreGathered, ArePlaces};
+ghost use Rattle.mm_frame.specs.Mirror.Gathered.{AreVariables, AreFound, AreThoseAt};
 
 use crate::distinct::DistinctPair;
 use crate::hypothesis::Hypothesis;
 use crate::lists::at;
 use crate::noted::NotedPlaces;
 use crate::number::{LabelId, Sym};
-use crate::tables::{NO_PART, Tables};
+use crate::part::NO_PART;
+use crate::tables::Tables;
 use std::alloc::{AllocError, Global};
 
 /// The lists of which the frame of an assertion is made. Their room is used again for each

@@ -4,7 +4,7 @@ ghost use Rattle.std.specs.Prelude.{◌≡◌, option_map};
 ghost use Rattle.mm_frame.specs.Pieces.{is_of};
 
 use crate::number::{LabelId, Sym};
-use crate::tables::Part;
+use crate::part::Part;
 
 /// A mandatory hypothesis of an assertion. What each step by the assertion asks of it stands with
 /// its label, so that nothing is looked up by the label.

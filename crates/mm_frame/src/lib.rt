@@ -19,6 +19,7 @@ mod naming;
 mod noted;
 mod number;
 mod pairs;
+mod part;
 mod pattern;
 mod piece;
 mod reads;
@@ -42,7 +43,7 @@ pub use laws::{
     active_statements, one_frame, one_label_number, one_number, open_blocks, open_count,
 };
 pub use number::{LabelId, LabelKind, Sym};
+pub use part::Part;
 pub use piece::{Piece, ShortPiece};
 pub use rule::MeaningRule;
 pub use scheme::{Scheme, place_of};
-pub use tables::Part;

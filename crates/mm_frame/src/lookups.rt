@@ -4,7 +4,7 @@ ghost use Rattle.std.specs.Prelude.{◌≢◌, ◌↔◌, ℕ, List, IsTrue, Mat
 ghost use Rattle.mm_text.specs.declared.statement.Kind.TheVariants.{Variables};
 ghost use Rattle.mm_frame.specs.Sentence.{SomeSentence, IsLabelled, Declares, Types};
 ghost use Rattle.mm_frame.specs.Active.{SomeActive, IsConstant, IsVariable, IsTyped};
-ghost use Rattle.mm_frame.specs.Layout.{AreTables, statements_of, IsDeclared, GivesType};
+ghost use Rattle.mm_frame.specs.Mirror.Layout.{AreTables, statements_of, IsDeclared, GivesType};
 
 use crate::lists::at;
 use crate::tables::Tables;

@@ -2,7 +2,7 @@
 
 ghost use Rattle.std.specs.Prelude.{◌≡◌, ℕ, ◌+◌, ◌<◌, ◌≤◌, length};
 ghost use Rattle.std.specs.Int.{w16, w32, w64};
-ghost use Rattle.mm_frame.specs.NameKey.{number_at, ends_of};
+ghost use Rattle.mm_frame.specs.Mirror.NameKey.{number_at, ends_of};
 
 use crate::guesses::GUESSES;
 use std::hash::{Hash, Hasher};
@@ -92,7 +92,7 @@ pub struct Name<'a> {
 
 impl<'a> Model for Name<'a> {
     ghost use Rattle.std.specs.Prelude.{ℕ, List};
-    ghost use Rattle.mm_frame.specs.NameKey.{IsKey};
+    ghost use Rattle.mm_frame.specs.Mirror.NameKey.{IsKey};
 
     ghost Value = { List ℕ };
 
@@ -161,7 +161,7 @@ impl Eq for Name<'_> {
 impl Hash for Name<'_> {
     ghost use Rattle.std.specs.Cmp.Rules.{hashing};
     ghost use Rattle.std.proofs.Common.{rules};
-    ghost use Rattle.mm_frame.specs.NameKey.{hashed};
+    ghost use Rattle.mm_frame.specs.Mirror.NameKey.{hashed};
 
     ghost hash_input = { hashed };
 

@@ -2,7 +2,7 @@
 
 ghost use Rattle.std.specs.Prelude.{◌≡◌, ℕ, ◌+◌, ◌<◌, ◌≤◌, List, [], length, slice_get, Some};
 ghost use Rattle.std.specs.Prelude.{option_map, MatchOption, Contains, OnOk};
-ghost use Rattle.mm_frame.specs.NameTable.{AreByByte, IsPair, IsPairTable};
+ghost use Rattle.mm_frame.specs.Mirror.NameTable.{AreByByte, IsPair, IsPairTable};
 ghost use Rattle.mm_frame.specs.Numbers.{with_name};
 
 use crate::guesses::Guesses;
@@ -27,7 +27,7 @@ pub struct Names<'a> {
 impl<'a> Model for Names<'a> {
     ghost use Rattle.std.specs.Prelude.{ℕ, ◌<◌, length};
     ghost use Rattle.indexmap.specs.IndexSet.{spare};
-    ghost use Rattle.mm_frame.specs.NameTable.{NameTable, AreByByte, IsPairTable};
+    ghost use Rattle.mm_frame.specs.Mirror.NameTable.{NameTable, AreByByte, IsPairTable};
 
     ghost Value = { NameTable };
 

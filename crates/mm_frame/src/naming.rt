@@ -9,17 +9,18 @@ ghost use Rattle.mm_frame.specs.Rules.{IsMeant};
 ghost use Rattle.mm_frame.specs.Form.{IsFormedSentence};
 ghost use Rattle.mm_frame.specs.Numbers.{AreNumbers};
 ghost use Rattle.mm_frame.specs.Taken.{TakenAs};
-ghost use Rattle.mm_frame.specs.Layout.{AreTables, statements_of};
-ghost use Rattle.mm_frame.specs.Grows.{Grows, IsSame};
-ghost use Rattle.mm_frame.specs.Naming.{Named, HaveNameRoom, part_after};
+ghost use Rattle.mm_frame.specs.Mirror.Layout.{AreTables, statements_of};
+ghost use Rattle.mm_frame.specs.Mirror.Grows.{Grows, IsSame};
+ghost use Rattle.mm_frame.specs.Mirror.Naming.{Named, HaveNameRoom, part_after};
 
 use crate::answer::Taken;
 use crate::distinct::find_places;
 use crate::framing::{FrameLists, find_hypotheses, find_mandatory, find_pairs};
 use crate::lists::{at, put, reserve_numbered};
 use crate::number::{LabelId, Sym};
+use crate::part::{NO_PART, Part};
 use crate::pattern::add_patterns;
-use crate::tables::{LabelInfo, NO_PART, Part, SymbolInfo, Tables};
+use crate::tables::{LabelInfo, SymbolInfo, Tables};
 use mm_text::Kind;
 use std::alloc::AllocError;
 

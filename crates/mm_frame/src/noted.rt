@@ -3,7 +3,7 @@
 ghost use Rattle.std.specs.Prelude.{◌≡◌, ◌<◌, ◌∷◌, [], ◌++◌, MatchOption, OnOk, Some, None, length};
 ghost use Rattle.std.specs.Prelude.{slice_index_or};
 ghost use Rattle.mm_frame.specs.Pieces.{variables_of, is_of, IsNowhere, IsFirstAt};
-ghost use Rattle.mm_frame.specs.Patterned.{IsLonger, AreNoted};
+ghost use Rattle.mm_frame.specs.Mirror.Patterned.{IsLonger, AreNoted};
 
 use crate::hypothesis::Hypothesis;
 use crate::lists::at;

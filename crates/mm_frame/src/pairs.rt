@@ -5,8 +5,8 @@ ghost use Rattle.std.specs.Prelude.{if◌then◌else◌, nat_lt, OnOk, Some};
 ghost use Rattle.std.specs.Option.{option_and_then};
 ghost use Rattle.std.specs.Map.{update};
 ghost use Rattle.indexmap.specs.IndexMap.{get, spare};
-ghost use Rattle.mm_frame.specs.Stated.{IsLatestStated, IsLastSpan, AreOlder, stated_by};
-ghost use Rattle.mm_frame.specs.Stated.{near_place, newest_of, is_same_key};
+ghost use Rattle.mm_frame.specs.Mirror.Stated.{IsLatestStated, IsLastSpan, AreOlder, stated_by};
+ghost use Rattle.mm_frame.specs.Mirror.Stated.{near_place, newest_of, is_same_key};
 
 use crate::lists::{at, reserve_numbered};
 use indexmap::IndexMap;
@@ -137,7 +137,7 @@ fn note_newest(
 impl Model for Pairs {
     ghost use Rattle.std.specs.Prelude.{◌-◌, map, min, vec_len, vec_capacity};
     ghost use Rattle.indexmap.specs.IndexMap.{spare};
-    ghost use Rattle.mm_frame.specs.Stated.{PairTable, stated_by, newest_of, AreLinked};
+    ghost use Rattle.mm_frame.specs.Mirror.Stated.{PairTable, stated_by, newest_of, AreLinked};
 
     ghost Value = { PairTable };
 

@@ -6,16 +6,17 @@ ghost use Rattle.std.specs.Option.{is_none};
 ghost use Rattle.mm_frame.specs.declared.hypothesis.Hypothesis.{Hypothesis};
 ghost use Rattle.mm_frame.specs.declared.tables.Tables.{Tables};
 ghost use Rattle.mm_frame.specs.Pieces.{variables_of, IsPieceOf};
-ghost use Rattle.mm_frame.specs.Layout.{statements_of};
-ghost use Rattle.mm_frame.specs.Patterned.{IsLonger, IsPatternAt, AreMandatoryOf};
-ghost use Rattle.mm_frame.specs.Patterned.{HaveFirstPatterns, ArePatterned, AreNoted};
+ghost use Rattle.mm_frame.specs.Mirror.Layout.{statements_of};
+ghost use Rattle.mm_frame.specs.Mirror.Patterned.{IsLonger, IsPatternAt, AreMandatoryOf};
+ghost use Rattle.mm_frame.specs.Mirror.Patterned.{HaveFirstPatterns, ArePatterned, AreNoted};
 
 use crate::hypothesis::Hypothesis;
 use crate::lists::{at, reserve_numbered};
 use crate::noted::NotedPlaces;
 use crate::number::Sym;
+use crate::part::{NO_PART, Part};
 use crate::piece::{Piece, ShortPiece};
-use crate::tables::{Entry, NO_PART, Part, symbols_in};
+use crate::tables::{Entry, symbols_in};
 use std::alloc::AllocError;
 
 // The piece that says a symbol, by the places that are noted of the hypotheses.

@@ -2,7 +2,7 @@
 
 ghost use Rattle.std.specs.Prelude.{◌≡◌, ◌≤◌, MatchOption};
 ghost use Rattle.mm_frame.specs.declared.piece.Piece.TheVariants.{Symbol, Value};
-ghost use Rattle.mm_frame.specs.ShortPieces.{number_in, IsReplaced};
+ghost use Rattle.mm_frame.specs.Pieces.{number_in, IsReplaced};
 
 use crate::number::Sym;
 use std::marker::Model;
@@ -28,7 +28,7 @@ pub struct ShortPiece(u32);
 impl Model for ShortPiece {
     ghost use Rattle.std.specs.Prelude.{◌≤◌};
     ghost use Rattle.mm_frame.specs.declared.piece.Piece.{Piece};
-    ghost use Rattle.mm_frame.specs.ShortPieces.{piece_by, stored, stored_by};
+    ghost use Rattle.mm_frame.specs.Mirror.ShortPieces.{piece_by, stored, stored_by};
 
     ghost Value = { Piece };
 

@@ -10,16 +10,17 @@ ghost use Rattle.mm_frame.specs.Found.{Finds};
 ghost use Rattle.mm_frame.specs.Taken.{kind_behind};
 ghost use Rattle.mm_frame.specs.FramePlace.{AreHypotheses, HaveTypings, ArePairs};
 ghost use Rattle.mm_frame.specs.Pieces.{variables_of, HavePatterns, HaveMandatoryPlaces};
-ghost use Rattle.mm_frame.specs.Layout.{AreTables, statements_of};
-ghost use Rattle.mm_frame.specs.Patterned.{IsSchemeOf};
+ghost use Rattle.mm_frame.specs.Mirror.Layout.{AreTables, statements_of};
+ghost use Rattle.mm_frame.specs.Mirror.Patterned.{IsSchemeOf};
 
 use crate::answer::Found;
 use crate::distinct::DistinctPair;
 use crate::guesses::Guesses;
 use crate::hypothesis::Hypothesis;
 use crate::number::{LabelId, LabelKind, Sym};
+use crate::part::part_of;
 use crate::scheme::Scheme;
-use crate::tables::{Tables, part_of};
+use crate::tables::Tables;
 use mm_text::Kind;
 
 // The place of a labelled statement.

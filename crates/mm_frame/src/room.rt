@@ -2,8 +2,8 @@
 //! while they grow.
 
 ghost use Rattle.std.specs.Prelude.{◌≡◌};
-ghost use Rattle.mm_frame.specs.Grows.{SameLists};
-ghost use Rattle.mm_frame.specs.ScopesOf.{HaveSameLists};
+ghost use Rattle.mm_frame.specs.Mirror.Grows.{SameLists};
+ghost use Rattle.mm_frame.specs.Mirror.ScopesOf.{HaveSameLists};
 
 use crate::book::Book;
 use crate::scopes::Scopes;

@@ -8,10 +8,10 @@ ghost use Rattle.mm_frame.specs.declared.rule.MeaningRule.TheVariants.{M14, M15}
 ghost use Rattle.mm_frame.specs.Sentence.{Sentence, sentence_in, StandsTwice};
 ghost use Rattle.mm_frame.specs.Active.{IsVariable};
 ghost use Rattle.mm_frame.specs.Rules.{Breaks, IsMeant, FirstBroken};
-ghost use Rattle.mm_frame.specs.Layout.{AreTables, statements_of};
-ghost use Rattle.mm_frame.specs.Told.{IsTold, StatesOnce};
-ghost use Rattle.mm_frame.specs.Sought.{AreSought, HasNumbers};
-ghost use Rattle.mm_frame.specs.Asked.{rules_of};
+ghost use Rattle.mm_frame.specs.Mirror.Layout.{AreTables, statements_of};
+ghost use Rattle.mm_frame.specs.Mirror.Told.{IsTold, StatesOnce};
+ghost use Rattle.mm_frame.specs.Mirror.Sought.{AreSought, HasNumbers};
+ghost use Rattle.mm_frame.specs.Mirror.Asked.{rules_of};
 
 use crate::lookups::{
     has_other_type, is_active_variable, is_constant, is_declared, is_label, is_typed, is_variable,

@@ -6,8 +6,8 @@ ghost use Rattle.mm_frame.specs.Pieces.{variables_of, IsNowhere, IsFirstAt};
 use crate::distinct::DistinctPair;
 use crate::hypothesis::Hypothesis;
 use crate::number::Sym;
+use crate::part::part_of;
 use crate::piece::ShortPiece;
-use crate::tables::part_of;
 
 /// What a step by an assertion asks of it: the assertion is a scheme, of which the step makes an
 /// instance (the Metamath book, section 4.1.4).

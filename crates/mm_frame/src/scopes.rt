@@ -5,7 +5,7 @@ ghost use Rattle.std.specs.Prelude.{take, slice_get, Some, IsTrue, IfOk, OnOk};
 ghost use Rattle.mm_text.specs.declared.statement.Kind.TheVariants.{Opening, Closing};
 ghost use Rattle.mm_frame.specs.Sentence.{Sentence};
 ghost use Rattle.mm_frame.specs.Active.{IsOpen, IsActive, open_marks, close_marks};
-ghost use Rattle.mm_frame.specs.ScopesOf.{HaveScopes, HasRoom, HaveSameLists};
+ghost use Rattle.mm_frame.specs.Mirror.ScopesOf.{HaveScopes, HasRoom, HaveSameLists};
 
 use crate::lists::{at as at_place, put, reserve_numbered, write};
 use mm_text::Kind;

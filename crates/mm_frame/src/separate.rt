@@ -6,9 +6,9 @@ ghost use Rattle.mm_frame.specs.Sentence.{Sentence};
 ghost use Rattle.mm_frame.specs.Rules.{IsMeant};
 ghost use Rattle.mm_frame.specs.Numbers.{AreNumbers};
 ghost use Rattle.mm_frame.specs.Form.{IsFormedSentence};
-ghost use Rattle.mm_frame.specs.Layout.{AreTables, statements_of};
-ghost use Rattle.mm_frame.specs.Grows.{Grows, IsSame};
-ghost use Rattle.mm_frame.specs.Separated.{ArePaired, stated_at};
+ghost use Rattle.mm_frame.specs.Mirror.Layout.{AreTables, statements_of};
+ghost use Rattle.mm_frame.specs.Mirror.Grows.{Grows, IsSame};
+ghost use Rattle.mm_frame.specs.Mirror.Separated.{ArePaired, stated_at};
 ghost use Rattle.mm_frame.specs.declared.answer.Taken.TheVariants.{Declared};
 
 use crate::answer::Taken;

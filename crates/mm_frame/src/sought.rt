@@ -3,8 +3,8 @@
 ghost use Rattle.std.specs.Prelude.{◌↔◌, IsTrue, OnOk, length, map};
 ghost use Rattle.mm_frame.specs.Sentence.{sentence_in};
 ghost use Rattle.mm_frame.specs.Active.{IsConstant, IsVariable, IsActiveSymbol, IsTyped};
-ghost use Rattle.mm_frame.specs.Layout.{AreTables, statements_of};
-ghost use Rattle.mm_frame.specs.Sought.{IsOfNumber, IsSought, AreSought, HasNumbers};
+ghost use Rattle.mm_frame.specs.Mirror.Layout.{AreTables, statements_of};
+ghost use Rattle.mm_frame.specs.Mirror.Sought.{IsOfNumber, IsSought, AreSought, HasNumbers};
 
 use crate::number::Sym;
 use crate::said::is_use;

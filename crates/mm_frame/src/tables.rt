@@ -1,10 +1,10 @@
 //! The lists in which a book keeps its statements by numbers.
 
-ghost use Rattle.std.specs.Prelude.{◌≡◌, ◌≤◌, [], ◌∷◌, Some, length, map, slice_get, slice_range};
+ghost use Rattle.std.specs.Prelude.{◌≡◌, [], ◌∷◌, Some, map, slice_get};
 ghost use Rattle.mm_frame.specs.declared.tables.Tables.{Tables};
 ghost use Rattle.mm_frame.specs.Sentence.{Sentence};
 ghost use Rattle.mm_frame.specs.Numbers.{AreNumbers};
-ghost use Rattle.mm_frame.specs.Layout.{AreTables, statements_of};
+ghost use Rattle.mm_frame.specs.Mirror.Layout.{AreTables, statements_of};
 
 use crate::distinct::DistinctPair;
 use crate::hypothesis::Hypothesis;
@@ -12,30 +12,11 @@ use crate::lists::at;
 use crate::names::Names;
 use crate::number::{LabelId, Sym};
 use crate::pairs::{Pairs, in_order};
+use crate::part::{Part, part_of};
 use crate::piece::ShortPiece;
 use crate::scopes::Scopes;
 use mm_text::{Kind, Seed};
 use std::alloc::{AllocError, Global};
-
-/// A part of a list: the places from `start` up to and without `end`.
-#[derive(Clone, Copy, PartialEq, Eq, Debug)]
-pub struct Part {
-    pub start: u32,
-    pub end: u32,
-}
-
-/// Nothing of a list.
-pub(crate) const NO_PART: Part = Part { start: 0, end: 0 };
-
-/// The elements of a part of a list.
-pub(crate) fn part_of<T>(list: &[T], part: Part) -> &[T]
-    ensures { part.start ≤ part.end → part.end ≤ length list.now
-        → result.now ≡ slice_range list.now part.start part.end }
-{
-    let start = part.start as usize;
-    let end = part.end as usize;
-    list.get(start..end).unwrap_or(&[])
-}
 
 /// A statement.
 #[derive(Clone, Copy)]
@@ -130,8 +111,8 @@ impl<'a> Tables<'a> {
     ghost use Rattle.mm_frame.specs.Numbers.{AreNumbers, IsNumberOf};
     ghost use Rattle.mm_frame.specs.Active.{IsActive};
     ghost use Rattle.mm_frame.specs.FramePlace.{IsTypingOf};
-    ghost use Rattle.mm_frame.specs.Layout.{AreTables, statements_of, database_of, IsDeclared};
-    ghost use Rattle.mm_frame.specs.Layout.{IsKnown};
+    ghost use Rattle.mm_frame.specs.Mirror.Layout.{AreTables, statements_of, database_of, IsDeclared};
+    ghost use Rattle.mm_frame.specs.Mirror.Layout.{IsKnown};
 
     /// No statements.
     pub(crate) fn new(alloc: Global, seed: Seed) -> Result<Tables<'a>, AllocError>

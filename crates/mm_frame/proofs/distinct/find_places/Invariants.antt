@@ -1,6 +1,6 @@
 use Rattle.std.proofs.Common.{◌≡◌, ◌<◌, length, map, take}
 use Rattle.mm_frame.specs.Pieces.{variables_of, HavePlaces}
-use Rattle.mm_frame.specs.Patterned.{AreAmong, AreNoted}
+use Rattle.mm_frame.specs.Mirror.Patterned.{AreAmong, AreNoted}
 use Rattle.mm_frame.proofs.distinct.find_places.Given as goal
 
 abbrev pub invariant-loop-pair : goal.invariant-loop-pair

@@ -1,5 +1,5 @@
 use Rattle.std.proofs.Common.{◌≡◌, ◌++◌, take}
-use Rattle.mm_frame.specs.Gathered.{floatings}
+use Rattle.mm_frame.specs.Mirror.Gathered.{floatings}
 use Rattle.mm_frame.proofs.framing.add_floating.Given as goal
 
 abbrev pub invariant-loop-symbol : goal.invariant-loop-symbol

@@ -1,6 +1,6 @@
 use Rattle.std.proofs.Common.{◌≡◌, ◌+◌, ℕ, length, sym, ◌∙◌, ap, subst, arith}
-use Rattle.mm_frame.specs.Layout.{statements_of}
-use Rattle.mm_frame.specs.Gathered.{AreFound}
+use Rattle.mm_frame.specs.Mirror.Layout.{statements_of}
+use Rattle.mm_frame.specs.Mirror.Gathered.{AreFound}
 use Rattle.mm_frame.proofs.Entries.{length-sentences}
 use Rattle.mm_frame.proofs.MandatoryPairs.{pairs_step, found_next}
 use Rattle.mm_frame.proofs.framing.add_pairs.Goals as goal

@@ -1,8 +1,8 @@
 use Rattle.std.proofs.Common.{◌≡◌, ℕ, List, Some, length, take}
 use Rattle.std.specs.List.{slice_get}
 use Rattle.mm_frame.specs.declared.number.Sym.{Sym}
-use Rattle.mm_frame.specs.Layout.{statements_of}
-use Rattle.mm_frame.specs.Gathered.{AreVariables, AreFound}
+use Rattle.mm_frame.specs.Mirror.Layout.{statements_of}
+use Rattle.mm_frame.specs.Mirror.Gathered.{AreVariables, AreFound}
 use Rattle.mm_frame.proofs.framing.add_pairs.Given as goal
 
 abbrev pub invariant-loop-other : goal.invariant-loop-other

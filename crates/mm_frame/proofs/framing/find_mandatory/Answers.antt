@@ -1,6 +1,6 @@
 use Rattle.std.proofs.Common.{eqb}
 use Rattle.std.proofs.lemmas.List.Filters.{dedup_is}
-use Rattle.mm_frame.specs.Layout.{statements_of}
+use Rattle.mm_frame.specs.Mirror.Layout.{statements_of}
 use Rattle.mm_frame.proofs.Gather.{gathered_sorted}
 use Rattle.mm_frame.proofs.FrameOf.{places_gathered}
 use Rattle.mm_frame.proofs.framing.find_mandatory.Goals as goal

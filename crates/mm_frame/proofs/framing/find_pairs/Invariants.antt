@@ -1,6 +1,6 @@
 use Rattle.std.proofs.Common.{ℕ, List}
-use Rattle.mm_frame.specs.Layout.{statements_of}
-use Rattle.mm_frame.specs.Gathered.{AreVariables, AreFound}
+use Rattle.mm_frame.specs.Mirror.Layout.{statements_of}
+use Rattle.mm_frame.specs.Mirror.Gathered.{AreVariables, AreFound}
 use Rattle.mm_frame.proofs.framing.find_pairs.Given as goal
 
 abbrev pub invariant-loop-i : goal.invariant-loop-i

@@ -1,6 +1,6 @@
 use Rattle.std.proofs.Common.{ap, sym, subst, ◌∙◌, ◌++◌, []}
-use Rattle.mm_frame.specs.Layout.{statements_of}
-use Rattle.mm_frame.specs.Gathered.{AreGathered, floatings}
+use Rattle.mm_frame.specs.Mirror.Layout.{statements_of}
+use Rattle.mm_frame.specs.Mirror.Gathered.{AreGathered, floatings}
 use Rattle.mm_frame.proofs.Gather.{gathered_first, gathered_step}
 use Rattle.mm_frame.proofs.framing.find_unsorted.Goals as goal
 

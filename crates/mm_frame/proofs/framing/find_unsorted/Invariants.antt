@@ -1,8 +1,8 @@
 use Rattle.std.proofs.Common.{map, take}
 use Rattle.mm_frame.specs.Sentence.{Sentence}
 use Rattle.mm_frame.specs.Numbers.{AreNumbers}
-use Rattle.mm_frame.specs.Layout.{statements_of}
-use Rattle.mm_frame.specs.Gathered.{AreGathered}
+use Rattle.mm_frame.specs.Mirror.Layout.{statements_of}
+use Rattle.mm_frame.specs.Mirror.Gathered.{AreGathered}
 use Rattle.mm_frame.proofs.framing.find_unsorted.Given as goal
 
 abbrev pub invariant-loop-place : goal.invariant-loop-place

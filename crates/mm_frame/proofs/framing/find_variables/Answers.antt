@@ -1,7 +1,7 @@
 use Rattle.std.proofs.Common.{◌+◌, ◌++◌, ◌∷◌, [], sym, ◌∙◌, ap, subst, take, MatchOption}
 use Rattle.std.proofs.lemmas.List.{take_all}
-use Rattle.mm_frame.specs.Layout.{statements_of}
-use Rattle.mm_frame.specs.Gathered.{AreVariables}
+use Rattle.mm_frame.specs.Mirror.Layout.{statements_of}
+use Rattle.mm_frame.specs.Mirror.Gathered.{AreVariables}
 use Rattle.mm_frame.proofs.MandatoryPairs.{variables_step}
 use Rattle.mm_frame.proofs.framing.find_variables.Goals as goal
 use Rattle.mm_frame.proofs.framing.find_variables.Goals.{in-Some+in_ok-push-in-Some, in-None}

@@ -1,7 +1,7 @@
 use Rattle.std.proofs.Common.{take}
 use Rattle.mm_frame.specs.Sentence.{Sentence}
-use Rattle.mm_frame.specs.Layout.{statements_of}
-use Rattle.mm_frame.specs.Gathered.{ArePlaces, AreVariables}
+use Rattle.mm_frame.specs.Mirror.Layout.{statements_of}
+use Rattle.mm_frame.specs.Mirror.Gathered.{ArePlaces, AreVariables}
 use Rattle.mm_frame.proofs.framing.find_variables.Given as goal
 
 abbrev pub invariant-loop-place : goal.invariant-loop-place

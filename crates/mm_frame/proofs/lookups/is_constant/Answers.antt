@@ -1,4 +1,4 @@
-use Rattle.mm_frame.specs.Layout.{statements_of}
+use Rattle.mm_frame.specs.Mirror.Layout.{statements_of}
 use Rattle.mm_frame.proofs.LookupLaws.{constant_says}
 use Rattle.mm_frame.proofs.lookups.is_constant.Goals as goal
 

@@ -1,6 +1,6 @@
 use Rattle.std.proofs.Common.{rules}
 use Rattle.mm_frame.specs.Sentence.{SomeSentence, Types}
-use Rattle.mm_frame.specs.Layout.{statements_of}
+use Rattle.mm_frame.specs.Mirror.Layout.{statements_of}
 use Rattle.mm_frame.proofs.SymbolsAt.{latest_code_says, no_first, code_match}
 use Rattle.mm_frame.proofs.LookupLaws.{untyped, known_latest}
 use Rattle.mm_frame.proofs.lookups.latest_code.Goals as goal

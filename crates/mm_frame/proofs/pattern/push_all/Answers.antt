@@ -1,6 +1,6 @@
 use Rattle.std.proofs.Common.{sym, subst}
 use Rattle.mm_frame.specs.Pieces.{variables_of}
-use Rattle.mm_frame.specs.Patterned.{AreNoted}
+use Rattle.mm_frame.specs.Mirror.Patterned.{AreNoted}
 use Rattle.mm_frame.proofs.Patterned.{all_step, variables_same}
 use Rattle.mm_frame.proofs.pattern.push_all.Goals as goal
 

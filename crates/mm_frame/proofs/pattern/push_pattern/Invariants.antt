@@ -1,7 +1,7 @@
 use Rattle.std.proofs.Common.{◌≡◌, ◌<◌, ◌++◌, List, length, map, take}
 use Rattle.mm_frame.specs.declared.piece.Piece.{Piece}
 use Rattle.mm_frame.specs.Pieces.{variables_of, ArePieces}
-use Rattle.mm_frame.specs.Patterned.{AreNoted}
+use Rattle.mm_frame.specs.Mirror.Patterned.{AreNoted}
 use Rattle.mm_frame.proofs.pattern.push_pattern.Given as goal
 
 abbrev pub invariant-loop-symbol : goal.invariant-loop-symbol

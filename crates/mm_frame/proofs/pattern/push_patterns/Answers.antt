@@ -1,10 +1,10 @@
 use Rattle.std.proofs.Common.{◌≡◌, ◌+◌, Vec, Global, Some, length, set, refl, sym, ap, ◌∙◌, subst, arith}
 use Rattle.std.specs.List.{slice_get}
 use Rattle.mm_frame.specs.declared.piece.Piece.{Piece}
-use Rattle.mm_frame.specs.declared.tables.Part.{Part}
-use Rattle.mm_frame.specs.Patterned.{IsLonger, HaveFirstPatterns, AreNoted}
+use Rattle.mm_frame.specs.declared.part.Part.{Part}
+use Rattle.mm_frame.specs.Mirror.Patterned.{IsLonger, HaveFirstPatterns, AreNoted}
 use Rattle.std.proofs.lemmas.Option.{slice_get-get_or}
-use Rattle.mm_frame.specs.Layout.{statements_of}
+use Rattle.mm_frame.specs.Mirror.Layout.{statements_of}
 use Rattle.mm_frame.proofs.Pushed.{get_within}
 use Rattle.mm_frame.proofs.Patterned.{longer_none, longer_more, first_none, counted, essential_step, typed_step, variables_same}
 use Rattle.mm_frame.proofs.pattern.push_patterns.Goals as goal

@@ -1,8 +1,8 @@
 use Rattle.std.proofs.Common.{◌≡◌, length}
 use Rattle.mm_frame.specs.declared.tables.Tables.{Tables}
-use Rattle.mm_frame.specs.Layout.{statements_of}
+use Rattle.mm_frame.specs.Mirror.Layout.{statements_of}
 use Rattle.mm_frame.specs.Pieces.{variables_of}
-use Rattle.mm_frame.specs.Patterned.{IsLonger, AreMandatoryOf, HaveFirstPatterns, AreNoted}
+use Rattle.mm_frame.specs.Mirror.Patterned.{IsLonger, AreMandatoryOf, HaveFirstPatterns, AreNoted}
 use Rattle.mm_frame.proofs.pattern.push_patterns.Given as goal
 
 abbrev pub invariant-loop-i : goal.invariant-loop-i

@@ -1,4 +1,4 @@
-use Rattle.mm_frame.specs.Layout.{statements_of}
+use Rattle.mm_frame.specs.Mirror.Layout.{statements_of}
 use Rattle.mm_frame.proofs.ReadLaws.{labelled_at}
 use Rattle.mm_frame.proofs.LookupLaws.{label_number}
 use Rattle.mm_frame.proofs.reads.find_label.Goals as goal

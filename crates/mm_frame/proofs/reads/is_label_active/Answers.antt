@@ -1,7 +1,7 @@
 use Rattle.std.proofs.Common.{◌≤◌, ◌↔◌, IsTrue, length, take, subst, arith}
 use Rattle.mm_frame.specs.declared.scopes.TheConstants.{NEVER}
 use Rattle.mm_frame.specs.Active.{IsActive}
-use Rattle.mm_frame.specs.Layout.{statements_of}
+use Rattle.mm_frame.specs.Mirror.Layout.{statements_of}
 use Rattle.mm_frame.proofs.Entries.{length-sentences}
 use Rattle.mm_frame.proofs.reads.is_label_active.Goals as goal
 

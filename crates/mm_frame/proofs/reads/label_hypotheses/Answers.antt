@@ -1,5 +1,5 @@
 use Rattle.std.proofs.Common.{slice_range, refl, sym}
-use Rattle.mm_frame.specs.Layout.{statements_of}
+use Rattle.mm_frame.specs.Mirror.Layout.{statements_of}
 use Rattle.mm_frame.proofs.ReadLaws.{frame_hypotheses, frame_typings, frame_patterns, few_hypotheses, no_info}
 use Rattle.mm_frame.proofs.reads.label_hypotheses.Goals as goal
 

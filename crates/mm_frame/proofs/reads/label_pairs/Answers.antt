@@ -1,5 +1,5 @@
 use Rattle.std.proofs.Common.{sym}
-use Rattle.mm_frame.specs.Layout.{statements_of}
+use Rattle.mm_frame.specs.Mirror.Layout.{statements_of}
 use Rattle.mm_frame.proofs.ReadLaws.{frame_pairs, mandatory_places, no_info}
 use Rattle.mm_frame.proofs.reads.label_pairs.Goals as goal
 

@@ -1,6 +1,6 @@
 use Rattle.std.proofs.Common.{sym, subst}
 use Rattle.mm_frame.specs.Pieces.{variables_of, HavePatterns}
-use Rattle.mm_frame.specs.Layout.{statements_of}
+use Rattle.mm_frame.specs.Mirror.Layout.{statements_of}
 use Rattle.mm_frame.proofs.ReadLaws.{frame_hypotheses, frame_typings, frame_pairs, frame_places, frame_patterns, no_info}
 use Rattle.mm_frame.proofs.reads.label_scheme.Goals as goal
 

@@ -1,6 +1,6 @@
 use Rattle.std.proofs.Common.{◌≡◌, ◌≤◌, length, slice_range, sym, subst}
-use Rattle.mm_frame.specs.declared.tables.Part.{Part}
-use Rattle.mm_frame.specs.Layout.{statements_of}
+use Rattle.mm_frame.specs.declared.part.Part.{Part}
+use Rattle.mm_frame.specs.Mirror.Layout.{statements_of}
 use Rattle.mm_frame.proofs.SymbolsAt.{numbers_at}
 use Rattle.mm_frame.proofs.ReadLaws.{info_entry, no_info}
 use Rattle.mm_frame.proofs.reads.label_symbols.Goals as goal

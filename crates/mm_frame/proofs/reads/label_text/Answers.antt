@@ -1,6 +1,6 @@
 use Rattle.std.proofs.Common.{◌≡◌, Some, None}
 use Rattle.std.specs.List.{slice_get}
-use Rattle.mm_frame.specs.Layout.{statements_of}
+use Rattle.mm_frame.specs.Mirror.Layout.{statements_of}
 use Rattle.mm_frame.proofs.ReadLaws.{label_at}
 use Rattle.mm_frame.proofs.reads.label_text.Goals as goal
 

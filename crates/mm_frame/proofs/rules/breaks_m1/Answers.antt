@@ -1,7 +1,7 @@
 use Rattle.std.proofs.Common.{rules, ◌≡◌}
 use borrow.Author.Tests.{tests}
 use Rattle.mm_text.specs.declared.statement.Kind.TheVariants.{Constants}
-use Rattle.mm_frame.specs.Layout.{statements_of}
+use Rattle.mm_frame.specs.Mirror.Layout.{statements_of}
 use Rattle.mm_frame.proofs.rules.breaks_m1.Goals as goal
 
 pub returns-then-eq : goal.returns-then-eq

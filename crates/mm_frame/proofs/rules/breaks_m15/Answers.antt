@@ -1,10 +1,10 @@
 use Rattle.std.proofs.Common.{rules, ℕ, List, inr}
 use Rattle.std.proofs.lemmas.Iterator.{YieldsList-from_slice}
 use borrow.Author.Tests.{tests}
-use Rattle.mm_frame.specs.Layout.{statements_of}
+use Rattle.mm_frame.specs.Mirror.Layout.{statements_of}
 use Rattle.mm_frame.specs.Sentence.{sentence_in}
 use Rattle.mm_frame.specs.Active.{IsVariable, IsTyped}
-use Rattle.mm_frame.specs.Sought.{IsOfNumber}
+use Rattle.mm_frame.specs.Mirror.Sought.{IsOfNumber}
 use Rattle.mm_frame.proofs.Symbols.{with_test}
 use Rattle.mm_frame.proofs.SoughtLaws.{number_says, variable_by_number, typed_by_number, neither, both}
 use Rattle.mm_frame.proofs.rules.breaks_m15.Goals as goal

@@ -1,7 +1,7 @@
 use Rattle.std.proofs.Common.{rules, ℕ, List, ◌⊎◌, inl}
 use Rattle.std.proofs.lemmas.Iterator.{YieldsList-from_slice}
 use borrow.Author.Tests.{tests}
-use Rattle.mm_frame.specs.Layout.{statements_of}
+use Rattle.mm_frame.specs.Mirror.Layout.{statements_of}
 use Rattle.mm_frame.specs.Sentence.{sentence_in, StandsTwice}
 use Rattle.mm_frame.specs.Active.{IsConstant, IsVariable}
 use Rattle.mm_frame.proofs.Symbols.{symbol_says, with_test, none_twice, not_so}

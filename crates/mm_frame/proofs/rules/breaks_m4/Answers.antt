@@ -1,7 +1,7 @@
 use Rattle.std.proofs.Common.{rules, ℕ, List}
 use Rattle.std.proofs.lemmas.Iterator.{YieldsList-from_slice}
 use borrow.Author.Tests.{tests}
-use Rattle.mm_frame.specs.Layout.{statements_of}
+use Rattle.mm_frame.specs.Mirror.Layout.{statements_of}
 use Rattle.mm_frame.specs.Sentence.{sentence_in, SomeSentence, IsLabelled}
 use Rattle.mm_frame.proofs.Symbols.{symbol_says, with_test}
 use Rattle.mm_frame.proofs.rules.breaks_m4.Goals as goal

@@ -2,10 +2,10 @@ use Rattle.std.proofs.Common.{rules, ◌≡◌, ℕ, List, inl}
 use Rattle.std.proofs.lemmas.Iterator.{YieldsList-from_slice}
 use borrow.Author.Tests.{tests}
 use Rattle.mm_text.specs.declared.statement.Kind.TheVariants.{Distinct}
-use Rattle.mm_frame.specs.Layout.{statements_of}
+use Rattle.mm_frame.specs.Mirror.Layout.{statements_of}
 use Rattle.mm_frame.specs.Sentence.{sentence_in}
 use Rattle.mm_frame.specs.Active.{IsConstant}
-use Rattle.mm_frame.specs.Sought.{IsOfNumber}
+use Rattle.mm_frame.specs.Mirror.Sought.{IsOfNumber}
 use Rattle.mm_frame.proofs.Symbols.{with_test}
 use Rattle.mm_frame.proofs.SoughtLaws.{number_says, constant_by_number}
 use Rattle.mm_frame.proofs.rules.breaks_m8.Goals as goal

@@ -1,6 +1,6 @@
 use Rattle.std.proofs.Common.{length, ap, get_or, arith}
 use Rattle.mm_frame.specs.declared.rule.MeaningRule.TheVariants.{M1}
-use Rattle.mm_frame.specs.Layout.{statements_of}
+use Rattle.mm_frame.specs.Mirror.Layout.{statements_of}
 use Rattle.mm_frame.specs.Sentence.{sentence_in}
 use Rattle.mm_frame.proofs.Order.{none_of_more, first_at, all_kept, none_at_first}
 use Rattle.mm_frame.proofs.rules.first_among.Goals as goal

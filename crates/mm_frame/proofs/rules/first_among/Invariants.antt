@@ -1,4 +1,4 @@
-use Rattle.mm_frame.specs.Layout.{statements_of}
+use Rattle.mm_frame.specs.Mirror.Layout.{statements_of}
 use Rattle.mm_frame.specs.Sentence.{sentence_in}
 use Rattle.mm_frame.proofs.Order.{NoneOfFirst}
 use Rattle.mm_frame.proofs.rules.first_among.Given as goal

@@ -1,5 +1,5 @@
 use Rattle.std.proofs.Common.{rules}
-use Rattle.mm_frame.specs.Layout.{statements_of}
+use Rattle.mm_frame.specs.Mirror.Layout.{statements_of}
 use Rattle.mm_frame.proofs.SoughtLaws.{first_says, no_first}
 use Rattle.mm_frame.proofs.rules.is_first_variable.Goals as goal
 

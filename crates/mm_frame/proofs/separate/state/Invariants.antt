@@ -1,5 +1,5 @@
 use Rattle.std.proofs.Common.{◌≡◌, ◌+◌, ◌≤◌, ◌++◌, length, map, take}
-use Rattle.mm_frame.specs.Separated.{stated_at}
+use Rattle.mm_frame.specs.Mirror.Separated.{stated_at}
 use Rattle.mm_frame.proofs.separate.state.Given as goal
 
 abbrev pub invariant-loop-pair : goal.invariant-loop-pair

@@ -1,6 +1,6 @@
 use Rattle.std.proofs.Common.{refl, inl}
 use Rattle.mm_frame.specs.Active.{IsActiveSymbol}
-use Rattle.mm_frame.specs.Layout.{statements_of}
+use Rattle.mm_frame.specs.Mirror.Layout.{statements_of}
 use Rattle.mm_frame.proofs.LookupLaws.{variable_says, has_constant, active_symbol}
 use Rattle.mm_frame.proofs.SoughtLaws.{of_number, no_number, number_info, active_variable}
 use Rattle.mm_frame.proofs.sought.is_active_number.Goals as goal

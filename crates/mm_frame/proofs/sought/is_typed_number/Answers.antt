@@ -1,6 +1,6 @@
 use Rattle.std.proofs.Common.{refl}
 use Rattle.mm_frame.specs.Active.{IsTyped}
-use Rattle.mm_frame.specs.Layout.{statements_of, GivesType}
+use Rattle.mm_frame.specs.Mirror.Layout.{statements_of, GivesType}
 use Rattle.mm_frame.proofs.LookupLaws.{typed_says, some_of_active}
 use Rattle.mm_frame.proofs.SoughtLaws.{of_number, no_number, number_info}
 use Rattle.mm_frame.proofs.sought.is_typed_number.Goals as goal

@@ -1,7 +1,7 @@
 use Rattle.std.proofs.Common.{sym, subst, map}
 use Rattle.std.proofs.lemmas.Result.{on_ok_weaker}
-use Rattle.mm_frame.specs.Layout.{statements_of}
-use Rattle.mm_frame.specs.Sought.{AreSought}
+use Rattle.mm_frame.specs.Mirror.Layout.{statements_of}
+use Rattle.mm_frame.specs.Mirror.Sought.{AreSought}
 use Rattle.mm_frame.proofs.Symbols.{texts}
 use Rattle.mm_frame.proofs.sought.look_up.Goals as goal
 

@@ -1,4 +1,4 @@
-use Rattle.mm_frame.specs.Layout.{statements_of}
+use Rattle.mm_frame.specs.Mirror.Layout.{statements_of}
 use Rattle.mm_frame.proofs.SoughtLaws.{sought_none_yet, sought_more}
 use Rattle.mm_frame.proofs.sought.look_up_each.Goals as goal
 

@@ -1,6 +1,6 @@
 use Rattle.std.proofs.Common.{map, take}
-use Rattle.mm_frame.specs.Layout.{statements_of}
-use Rattle.mm_frame.specs.Sought.{AreSought}
+use Rattle.mm_frame.specs.Mirror.Layout.{statements_of}
+use Rattle.mm_frame.specs.Mirror.Sought.{AreSought}
 use Rattle.mm_frame.proofs.sought.look_up_each.Given as goal
 
 abbrev pub invariant-loop-token : goal.invariant-loop-token

@@ -1,4 +1,4 @@
-use Rattle.mm_frame.specs.Layout.{statements_of}
+use Rattle.mm_frame.specs.Mirror.Layout.{statements_of}
 use Rattle.mm_frame.proofs.SoughtLaws.{sought_found, sought_missing}
 use Rattle.mm_frame.proofs.sought.number_of.Goals as goal
 

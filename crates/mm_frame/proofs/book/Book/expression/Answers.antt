@@ -1,4 +1,4 @@
-use Rattle.mm_frame.specs.Layout.{statements_of}
+use Rattle.mm_frame.specs.Mirror.Layout.{statements_of}
 use Rattle.mm_frame.proofs.Labelled.{numbered_from_get}
 use Rattle.mm_frame.proofs.book.Book.expression.Goals as goal
 

@@ -1,6 +1,6 @@
 use Rattle.std.proofs.Common.{◌≡◌, ◌<◌, ◌≤◌, length, refl, ap, arith}
 use Rattle.std.proofs.lemmas.Bool.{lt-ltb, le-ltb}
-use Rattle.mm_frame.specs.NameKey.{ends_of, hashed}
+use Rattle.mm_frame.specs.Mirror.NameKey.{ends_of, hashed}
 use Rattle.mm_frame.proofs.name.NameHash.hash.Goals as goal
 
 pub returns-then-self-gt-MOST_IN_ENDS : goal.returns-then-self-gt-MOST_IN_ENDS

@@ -1,6 +1,6 @@
 use Rattle.std.proofs.Common.{◌≡◌, ℕ, refl, sym, ◌∙◌}
 use Rattle.std.proofs.lemmas.Slice.Eq.{bytes_eq-Decides}
-use Rattle.mm_frame.specs.NameKey.{ends_of}
+use Rattle.mm_frame.specs.Mirror.NameKey.{ends_of}
 use Rattle.mm_frame.proofs.NameKeys.{told_by_key}
 use Rattle.mm_frame.proofs.name.NamePartialEq.eq.Goals as goal
 

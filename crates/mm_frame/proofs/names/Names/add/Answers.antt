@@ -1,5 +1,5 @@
 use Rattle.std.proofs.Common.{◌≡◌, ◌<◌, ◌≤◌, ◌+◌, List, [], ◌∷◌, ℕ, inl, inr, length, length-append, sym, ◌∙◌, subst, arith, ap}
-use Rattle.mm_frame.specs.NameTable.{AreByByte, IsPairTable}
+use Rattle.mm_frame.specs.Mirror.NameTable.{AreByByte, IsPairTable}
 use Rattle.mm_frame.specs.Numbers.{with_name}
 use Rattle.indexmap.specs.IndexSet.{spare}
 use Rattle.mm_frame.proofs.NameLists.{holds_if_ok}

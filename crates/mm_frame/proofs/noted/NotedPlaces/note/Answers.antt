@@ -2,7 +2,7 @@ use Rattle.std.proofs.Common.{◌+◌, take, sym, subst}
 use Rattle.std.proofs.lemmas.List.{take_all}
 use Rattle.mm_frame.specs.declared.noted.NotedPlaces.{NotedPlaces}
 use Rattle.mm_frame.specs.Pieces.{variables_of}
-use Rattle.mm_frame.specs.Patterned.{AreNoted}
+use Rattle.mm_frame.specs.Mirror.Patterned.{AreNoted}
 use Rattle.mm_frame.proofs.FirstPlaces.{noted_untyped, noted_more}
 use Rattle.mm_frame.proofs.noted.NotedPlaces.note.Goals as goal
 use Rattle.mm_frame.proofs.noted.NotedPlaces.note.Goals.{in-Some+in_ok-note_behind, in_default}

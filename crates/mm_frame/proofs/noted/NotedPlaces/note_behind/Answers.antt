@@ -1,6 +1,6 @@
 use Rattle.std.proofs.Common.{◌++◌, ◌∷◌, [], Some, not, set, ap, ◌∙◌, subst}
 use Rattle.mm_frame.specs.Pieces.{variables_of}
-use Rattle.mm_frame.specs.Patterned.{AreNoted}
+use Rattle.mm_frame.specs.Mirror.Patterned.{AreNoted}
 use Rattle.mm_frame.proofs.Patterns.{variables_counted}
 use Rattle.mm_frame.proofs.FirstPlaces.{noted_longer, noted_by_some, noted_by_none}
 use Rattle.mm_frame.proofs.noted.NotedPlaces.note_behind.Goals as goal

@@ -3,7 +3,7 @@ use Rattle.std.specs.Bool.{if◌then◌else◌}
 use Rattle.std.specs.Vec.{vec_len, vec_capacity}
 use Rattle.std.specs.Map.{update}
 use Rattle.mm_frame.specs.declared.pairs.Span.{Span}
-use Rattle.mm_frame.specs.Stated.{is_same_key, newest_of, AreLinked}
+use Rattle.mm_frame.specs.Mirror.Stated.{is_same_key, newest_of, AreLinked}
 use Rattle.mm_frame.proofs.Spans.{linked_push}
 use Rattle.mm_frame.proofs.pairs.Pairs.add.Goals as goal
 

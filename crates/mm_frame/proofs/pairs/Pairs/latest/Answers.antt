@@ -1,5 +1,5 @@
 use Rattle.std.proofs.Common.{◌≡◌, ap, sym, subst, ◌∙◌, map, length}
-use Rattle.mm_frame.specs.Stated.{stated_by, newest_of, IsLastSpan, IsLatestStated}
+use Rattle.mm_frame.specs.Mirror.Stated.{stated_by, newest_of, IsLastSpan, IsLatestStated}
 use Rattle.mm_frame.proofs.pairs.Pairs.latest.Goals as goal
 
 pub returns : goal.returns

@@ -2,13 +2,13 @@ use Rattle.std.proofs.Common.{◌≡◌, ◌<◌, refl, sym, ap, ◌∙◌, subs
 use Rattle.mm_frame.specs.declared.distinct.DistinctPair.{DistinctPair}
 use Rattle.mm_frame.specs.declared.number.Sym.{Sym}
 use Rattle.mm_frame.specs.Sentence.{IsStated, IsAssertion}
-use Rattle.mm_frame.specs.Layout.{IsFrameInfo, statements_of}
-use Rattle.mm_frame.specs.Gathered.{ArePlaces, AreThoseAt}
+use Rattle.mm_frame.specs.Mirror.Layout.{IsFrameInfo, statements_of}
+use Rattle.mm_frame.specs.Mirror.Gathered.{ArePlaces, AreThoseAt}
 use Rattle.mm_frame.specs.Pieces.{variables_of, HavePlaces}
 use Rattle.mm_frame.specs.FramePlace.{ArePairs}
-use Rattle.mm_frame.specs.Patterned.{AreMandatoryOf, ArePatterned, AreAmong, AreNoted}
-use Rattle.mm_frame.specs.Grows.{entry_of}
-use Rattle.mm_frame.specs.Naming.{label_info}
+use Rattle.mm_frame.specs.Mirror.Patterned.{AreMandatoryOf, ArePatterned, AreAmong, AreNoted}
+use Rattle.mm_frame.specs.Mirror.Grows.{entry_of}
+use Rattle.mm_frame.specs.Mirror.Naming.{label_info}
 use Rattle.mm_frame.proofs.SameTables.{on_err, same_tables}
 use Rattle.mm_frame.proofs.NamedTables.{few_labels, assertion_taken, before_same, asserted, framed}
 use Rattle.mm_frame.proofs.FrameLaws.{at_place}

@@ -2,7 +2,7 @@ use Rattle.std.proofs.Common.{rules, ◌≡◌, length, refl, sym, ap, ◌∙◌
 use Rattle.std.proofs.lemmas.List.{length-map}
 use Rattle.mm_text.specs.Token.{plain_token}
 use Rattle.mm_text.specs.Statement.{plain_statement}
-use Rattle.mm_frame.specs.Declaring.{TakesSymbols}
+use Rattle.mm_frame.specs.Mirror.Declaring.{TakesSymbols}
 use Rattle.mm_frame.proofs.SameTables.{on_err, same_tables}
 use Rattle.mm_frame.proofs.Symbols.{texts}
 use Rattle.mm_frame.proofs.RepeatsCode.{texts_of}

@@ -1,5 +1,5 @@
 use Rattle.std.proofs.Common.{rules, length, Some, ap, ◌∙◌, subst, arith}
-use Rattle.mm_frame.specs.Declaring.{HasSpace}
+use Rattle.mm_frame.specs.Mirror.Declaring.{HasSpace}
 use Rattle.mm_frame.proofs.RepeatsCode.{texts_of, text_at}
 use Rattle.mm_frame.proofs.DeclaredSymbols.{taken_none, taken_next, latest_variable, latest_none}
 use Rattle.mm_frame.proofs.tables.Tables.declare_each.Goals.{then-eq, else-eq}

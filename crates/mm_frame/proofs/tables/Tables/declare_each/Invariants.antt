@@ -1,5 +1,5 @@
 use Rattle.std.proofs.Common.{◌≡◌, ◌-◌, length, take, map}
-use Rattle.mm_frame.specs.Declaring.{latest_by, HasSpace, TakesSymbols}
+use Rattle.mm_frame.specs.Mirror.Declaring.{latest_by, HasSpace, TakesSymbols}
 use Rattle.mm_frame.proofs.tables.Tables.declare_each.Given as goal
 
 abbrev pub invariant-loop-token : goal.invariant-loop-token

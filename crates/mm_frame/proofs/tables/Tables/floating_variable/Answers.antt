@@ -5,7 +5,7 @@ use Rattle.mm_text.specs.contracts.statement.Kind.{the_type}
 use Rattle.mm_text.specs.declared.statement.Kind.TheVariants.{Floating}
 use Rattle.mm_frame.specs.Sentence.{Types}
 use Rattle.mm_frame.specs.Numbers.{IsNumberOf}
-use Rattle.mm_frame.specs.Layout.{statements_of}
+use Rattle.mm_frame.specs.Mirror.Layout.{statements_of}
 use Rattle.mm_frame.proofs.PairsOf.{variable_says, kind_at, some_entry}
 use Rattle.mm_frame.proofs.tables.Tables.floating_variable.Goals as goal
 

@@ -1,8 +1,8 @@
 use Rattle.std.proofs.Common.{◌≡◌, ◌+◌, ◌++◌, [], ◌∷◌, length, get_or, ap, sym, subst, ◌∙◌, arith}
 use Rattle.std.proofs.lemmas.Option.{slice_get-get_or}
 use Rattle.mm_frame.specs.declared.number.Sym.{Sym}
-use Rattle.mm_frame.specs.Layout.{statements_of}
-use Rattle.mm_frame.specs.Separated.{ArePaired}
+use Rattle.mm_frame.specs.Mirror.Layout.{statements_of}
+use Rattle.mm_frame.specs.Mirror.Separated.{ArePaired}
 use Rattle.mm_frame.proofs.Entries.{length-sentences}
 use Rattle.mm_frame.proofs.Separated.{is_old, is_fresh, paired_pass, paired_push, paired_row}
 use Rattle.mm_frame.proofs.tables.Tables.gather.Goals as goal

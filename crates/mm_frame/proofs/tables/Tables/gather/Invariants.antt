@@ -1,5 +1,5 @@
-use Rattle.mm_frame.specs.Layout.{statements_of}
-use Rattle.mm_frame.specs.Separated.{ArePaired}
+use Rattle.mm_frame.specs.Mirror.Layout.{statements_of}
+use Rattle.mm_frame.specs.Mirror.Separated.{ArePaired}
 use Rattle.mm_frame.proofs.tables.Tables.gather.Given as goal
 
 abbrev pub invariant-loop-j : goal.invariant-loop-j

@@ -1,5 +1,5 @@
 use Rattle.std.proofs.Common.{◌≡◌, ◌≤◌, length, arith}
-use Rattle.mm_frame.specs.Layout.{statements_of}
+use Rattle.mm_frame.specs.Mirror.Layout.{statements_of}
 use Rattle.mm_frame.specs.declared.scopes.TheConstants.{NEVER}
 use Rattle.mm_frame.proofs.Entries.{length-sentences}
 use Rattle.mm_frame.proofs.LookupLaws.{at_end}

@@ -1,7 +1,7 @@
 use Rattle.std.proofs.Common.{◌≤◌, length, None, Some, subst, arith}
 use Rattle.mm_frame.specs.declared.scopes.TheConstants.{NEVER}
-use Rattle.mm_frame.specs.Layout.{statements_of}
-use Rattle.mm_frame.specs.Stated.{IsLatestStated}
+use Rattle.mm_frame.specs.Mirror.Layout.{statements_of}
+use Rattle.mm_frame.specs.Mirror.Stated.{IsLatestStated}
 use Rattle.mm_frame.proofs.Entries.{length-sentences}
 use Rattle.mm_frame.proofs.PairsOf.{ordered, latest_tells, none_tells}
 use Rattle.mm_frame.proofs.tables.Tables.is_distinct.Goals as goal

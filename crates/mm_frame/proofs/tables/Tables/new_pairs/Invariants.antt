@@ -1,5 +1,5 @@
-use Rattle.mm_frame.specs.Layout.{statements_of}
-use Rattle.mm_frame.specs.Separated.{ArePaired}
+use Rattle.mm_frame.specs.Mirror.Layout.{statements_of}
+use Rattle.mm_frame.specs.Mirror.Separated.{ArePaired}
 use Rattle.mm_frame.proofs.tables.Tables.new_pairs.Given as goal
 
 abbrev pub invariant-loop-i : goal.invariant-loop-i

@@ -1,10 +1,10 @@
 use Rattle.std.proofs.Common.{◌≡◌, ◌+◌, ◌++◌, [], ◌∷◌, ℕ, length, map, None, refl, ap, sym, ◌∙◌}
 use Rattle.std.specs.Bool.{if◌then◌else◌}
 use Rattle.mm_text.specs.declared.statement.Kind.TheVariants.{Distinct, Closing}
-use Rattle.mm_frame.specs.ScopesOf.{HaveScopes}
-use Rattle.mm_frame.specs.Layout.{statements_of}
-use Rattle.mm_frame.specs.Grows.{entry_of}
-use Rattle.mm_frame.specs.Separated.{stated_at}
+use Rattle.mm_frame.specs.Mirror.ScopesOf.{HaveScopes}
+use Rattle.mm_frame.specs.Mirror.Layout.{statements_of}
+use Rattle.mm_frame.specs.Mirror.Grows.{entry_of}
+use Rattle.mm_frame.specs.Mirror.Separated.{stated_at}
 use Rattle.mm_frame.proofs.Entries.{length-sentences}
 use Rattle.mm_frame.proofs.SameTables.{on_err, same_tables}
 use Rattle.mm_frame.proofs.SeparatedTables.{separated}

@@ -1,4 +1,4 @@
-use Rattle.mm_frame.specs.Layout.{statements_of}
+use Rattle.mm_frame.specs.Mirror.Layout.{statements_of}
 use Rattle.mm_frame.proofs.LookupLaws.{known_match, unknown}
 use Rattle.mm_frame.proofs.tables.Tables.symbol_info.Goals as goal
 

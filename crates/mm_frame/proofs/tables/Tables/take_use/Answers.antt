@@ -1,4 +1,4 @@
-use Rattle.mm_frame.specs.Layout.{statements_of}
+use Rattle.mm_frame.specs.Mirror.Layout.{statements_of}
 use Rattle.mm_frame.specs.Sentence.{sentence_in}
 use Rattle.mm_frame.proofs.SoughtLaws.{numbers_used}
 use Rattle.mm_frame.proofs.Uses.{numbers_enough, labelled_use, unlabelled_uses}

@@ -4,7 +4,7 @@ use denote.Enum.Bare.{same_true, sameb}
 use Rattle.mm_text.specs.contracts.statement.Kind.{the_type}
 use Rattle.mm_text.specs.declared.statement.Kind.TheVariants.{Floating}
 use Rattle.mm_frame.specs.FramePlace.{IsTypingOf}
-use Rattle.mm_frame.specs.Layout.{statements_of}
+use Rattle.mm_frame.specs.Mirror.Layout.{statements_of}
 use Rattle.mm_frame.proofs.PairsOf.{kind_at, some_entry}
 use Rattle.mm_frame.proofs.Typings.{typing_says}
 use Rattle.mm_frame.proofs.tables.Tables.typing.Goals as goal

@@ -5,7 +5,7 @@ use Rattle.mm_frame.specs.declared.number.Sym.{Sym}
 use Rattle.mm_frame.specs.Sentence.{Sentence}
 use Rattle.mm_frame.specs.Frame.{IsDistinct}
 use Rattle.mm_frame.specs.Numbers.{IsNumberOf}
-use Rattle.mm_frame.specs.Stated.{Stated}
+use Rattle.mm_frame.specs.Mirror.Stated.{Stated}
 
 -- the pair of two numbers, the lesser one first
 abbrev pub ordered_pair : ℕ → ℕ → ℕ × ℕ

@@ -1,8 +1,8 @@
--- Symbols that were looked up. It is cited by private contracts alone.
+-- Symbols that were looked up. This file mirrors the code, and is cited by private contracts alone.
 use Rattle.std.specs.Prelude.{◌≡◌, ◌⊎◌, ℕ, List, length, slice_get, None, Some}
 use Rattle.mm_frame.specs.Sentence.{Sentence, IsUse}
 use Rattle.mm_frame.specs.Numbers.{symbols_of, IsNumberOf}
-use Rattle.mm_frame.specs.Layout.{IsDeclared}
+use Rattle.mm_frame.specs.Mirror.Layout.{IsDeclared}
 
 -- the symbol with the number is so
 abbrev pub IsOfNumber : List Sentence → ℕ → (List ℕ → Type 0) → Type 0

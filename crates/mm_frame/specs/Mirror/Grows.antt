@@ -3,13 +3,13 @@ use Rattle.std.specs.Prelude.{◌≡◌, ℕ, ◌+◌, ◌<◌, ◌≤◌, vec_l
 use Rattle.std.specs.Prelude.{[], ◌∷◌, ◌++◌}
 use Rattle.mm_frame.specs.declared.tables.Tables.{Tables}
 use Rattle.mm_frame.specs.Sentence.{Sentence}
-use Rattle.mm_frame.specs.ScopesOf.{HaveScopes, HasRoom, HaveSameLists}
+use Rattle.mm_frame.specs.Mirror.ScopesOf.{HaveScopes, HasRoom, HaveSameLists}
 use Rattle.mm_frame.specs.Active.{open_marks, close_marks}
 use Rattle.mm_text.specs.declared.statement.Kind.{Kind}
 use Rattle.mm_text.specs.declared.statement.Kind.TheVariants.{Closing}
 use Rattle.mm_frame.specs.declared.number.LabelId.{LabelId}
 use Rattle.mm_frame.specs.declared.tables.Entry.{Entry}
-use Rattle.mm_frame.specs.Layout.{AreTables, statements_of, database_of}
+use Rattle.mm_frame.specs.Mirror.Layout.{AreTables, statements_of, database_of}
 
 -- the new lists hold one statement more, whose tokens have so many bytes
 pub record Grows (old new : Tables) (s : Sentence) (bytes : ℕ) : Type 0 where

@@ -8,13 +8,13 @@ use Rattle.mm_frame.specs.declared.number.LabelId.{LabelId}
 use Rattle.mm_frame.specs.declared.number.Sym.{Sym}
 use Rattle.mm_frame.specs.declared.tables.Entry.{Entry}
 use Rattle.mm_frame.specs.declared.tables.LabelInfo.{LabelInfo}
-use Rattle.mm_frame.specs.declared.tables.Part.{Part}
+use Rattle.mm_frame.specs.declared.part.Part.{Part}
 use Rattle.mm_frame.specs.declared.tables.Tables.{Tables}
 use Rattle.mm_frame.specs.Sentence.{Sentence}
 use Rattle.mm_frame.specs.Active.{open_marks, close_marks}
 use Rattle.mm_frame.specs.Numbers.{with_name}
-use Rattle.mm_frame.specs.ScopesOf.{HaveScopes, HasRoom}
-use Rattle.mm_frame.specs.Grows.{entry_of}
+use Rattle.mm_frame.specs.Mirror.ScopesOf.{HaveScopes, HasRoom}
+use Rattle.mm_frame.specs.Mirror.Grows.{entry_of}
 
 -- where elements stand that are added to the end of a list
 abbrev pub part_after : {X : Type 0} → List X → List X → Part

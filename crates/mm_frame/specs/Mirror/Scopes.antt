@@ -1,5 +1,6 @@
 -- How blocks by numbers tell what is active at each place. The whole database counts as block 0,
--- which is never closed; each `${` begins the next number's block.
+-- which is never closed; each `${` begins the next number's block. This file mirrors the code, and is
+-- cited by private contracts alone.
 use Rattle.std.specs.Prelude.{◌≡◌, ℕ, suc, ◌+◌, ◌<◌, ◌≤◌, List, length, take, drop, slice_get, Some}
 use Rattle.std.specs.Prelude.{◌⊎◌}
 use Rattle.mm_text.specs.declared.statement.Kind.TheVariants.{Opening}

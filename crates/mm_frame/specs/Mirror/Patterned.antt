@@ -8,14 +8,14 @@ use Rattle.mm_frame.specs.declared.number.Sym.{Sym}
 use Rattle.mm_frame.specs.declared.piece.Piece.{Piece}
 use Rattle.mm_frame.specs.declared.scheme.Scheme.{Scheme}
 use Rattle.mm_frame.specs.declared.tables.Entry.{Entry}
-use Rattle.mm_frame.specs.declared.tables.Part.{Part}
+use Rattle.mm_frame.specs.declared.part.Part.{Part}
 use Rattle.mm_frame.specs.declared.tables.Tables.{Tables}
 use Rattle.mm_frame.specs.Sentence.{Sentence}
 use Rattle.mm_frame.specs.Pieces.{variables_of, ArePieces, AreItsPieces}
 use Rattle.mm_frame.specs.Pieces.{HasPattern, HavePatterns, HavePlaces, IsNowhere, IsFirstAt}
 use Rattle.mm_frame.specs.FramePlace.{FramePlace, AreHypotheses, HaveTypings, ArePairs}
-use Rattle.mm_frame.specs.Layout.{AreTables, statements_of}
-use Rattle.mm_frame.specs.Gathered.{ArePlaces, AreThoseAt}
+use Rattle.mm_frame.specs.Mirror.Layout.{AreTables, statements_of}
+use Rattle.mm_frame.specs.Mirror.Gathered.{ArePlaces, AreThoseAt}
 
 -- the new list begins with the old one
 abbrev pub IsLonger : {X : Type 0} → List X → List X → Type 0

@@ -11,8 +11,8 @@ use Rattle.mm_frame.specs.Sentence.{Sentence, Types}
 use Rattle.mm_frame.specs.Numbers.{IsNumberOf, labelled_sentences}
 use Rattle.mm_frame.specs.FramePlace.{HaveTypings}
 use Rattle.mm_frame.specs.Frame.{IsMandatoryAt, IsDistinct}
-use Rattle.mm_frame.specs.Latest.{IsLatest}
-use Rattle.mm_frame.specs.Layout.{GivesType}
+use Rattle.mm_frame.specs.Mirror.Latest.{IsLatest}
+use Rattle.mm_frame.specs.Mirror.Layout.{GivesType}
 
 -- the place of the latest `$f` of a symbol, if it has one
 abbrev pub floating_of : List SymbolInfo → Sym → Option ℕ

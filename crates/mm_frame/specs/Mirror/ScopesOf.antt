@@ -3,7 +3,7 @@ use Rattle.std.specs.Prelude.{◌≡◌, ◌<◌, List, length, vec_len, vec_cap
 use Rattle.mm_frame.specs.declared.scopes.Scopes.{Scopes}
 use Rattle.mm_frame.specs.declared.scopes.TheConstants.{NEVER}
 use Rattle.mm_frame.specs.Sentence.{Sentence}
-use Rattle.mm_frame.specs.Scopes.{AreScopes}
+use Rattle.mm_frame.specs.Mirror.Scopes.{AreScopes}
 
 -- the scopes are those of these statements
 abbrev pub HaveScopes : List Sentence → Scopes → Type 0

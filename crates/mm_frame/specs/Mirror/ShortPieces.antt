@@ -1,4 +1,4 @@
--- Pieces as they are stored. This file mirrors the code.
+-- Pieces as they are stored. This file mirrors the code, and is cited by no contract.
 use Rattle.std.specs.Prelude.{◌≡◌, ℕ, ◌-◌, ◌≤◌, Bool, if◌then◌else◌, nat_lt}
 use Rattle.std.proofs.Common.{inl, inr, ap, ◌∙◌, arith}
 use Rattle.std.proofs.Math.Dec.{ltb}
@@ -7,16 +7,6 @@ use Rattle.mm_frame.specs.declared.number.Sym.{Sym}
 use Rattle.mm_frame.specs.declared.piece.Piece.{Piece}
 use Rattle.mm_frame.specs.declared.piece.Piece.TheVariants.{Symbol, Value}
 use Rattle.mm_frame.specs.declared.piece.ShortPiece.TheInside.{Inside}
-
--- the number of a piece: that of its symbol, or its place
-abbrev pub number_in : Piece → ℕ
-number_in (Symbol symbol) = symbol.0
-number_in (Value place) = place
-
--- a value replaces the piece
-abbrev pub IsReplaced : Piece → Type 0
-IsReplaced (Symbol symbol) = ⊥
-IsReplaced (Value place) = Unit {0}
 
 -- the piece that is stored as a number
 abbrev pub piece_by : ℕ → Piece

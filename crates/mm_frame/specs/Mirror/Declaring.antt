@@ -7,7 +7,7 @@ use Rattle.mm_text.specs.declared.statement.Kind.TheVariants.{Constants, Variabl
 use Rattle.mm_frame.specs.declared.number.Sym.{Sym}
 use Rattle.mm_frame.specs.declared.tables.SymbolInfo.{SymbolInfo}
 use Rattle.mm_frame.specs.declared.tables.Tables.{Tables}
-use Rattle.mm_frame.specs.Layout.{AreInfos, names_by, statements_of}
+use Rattle.mm_frame.specs.Mirror.Layout.{AreInfos, names_by, statements_of}
 
 -- a kind of statement that declares its symbols
 abbrev pub IsDeclaration : Kind → Type 0

@@ -1,4 +1,4 @@
--- The latest statement that is so.
+-- The latest statement that is so. This file is cited by mirrors alone.
 use Rattle.std.specs.Prelude.{◌≡◌, ℕ, ◌<◌, List, slice_get, Some}
 use Rattle.mm_frame.specs.Sentence.{Sentence}
 

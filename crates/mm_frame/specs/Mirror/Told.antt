@@ -1,4 +1,5 @@
--- Whether a statement repeats a symbol. It is cited by private contracts alone.
+-- Whether a statement repeats a symbol. This file mirrors the code, and is cited by private
+-- contracts alone.
 use Rattle.std.specs.Prelude.{◌≡◌, ◌↔◌, Bool, IsTrue, ◌⊎◌}
 use Rattle.mm_text.specs.declared.statement.Kind.{Kind}
 use Rattle.mm_text.specs.declared.statement.Kind.TheVariants.{Constants, Variables, Distinct}

@@ -1,4 +1,5 @@
--- The rules that are asked of a statement. It is cited by private contracts alone.
+-- The rules that are asked of a statement. This file mirrors the code, and is cited by private
+-- contracts alone.
 use Rattle.std.specs.Prelude.{List, [], ◌∷◌}
 use Rattle.mm_text.specs.declared.statement.Kind.{Kind}
 use Rattle.mm_text.specs.declared.statement.Kind.TheVariants.{Constants, Variables, Distinct}
