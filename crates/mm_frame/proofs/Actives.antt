@@ -105,12 +105,3 @@ pub scope_active : (never : ℕ) (st : List Sentence) (blocks ends stack : List 
     → p < q → q ≤ length st → (q ≤ c) ↔ IsActive (take q st) p
 scope_active never st blocks ends stack a room p q b c holder ends_at lt le =
     ((λ until. active_while never st blocks ends stack a p q b c holder ends_at lt le until), (λ active. while_active never st blocks ends stack a room p q b c holder ends_at lt le active))
-
--- the same after all statements
-pub scope_active_now : (never : ℕ) (st : List Sentence) (blocks ends stack : List ℕ) → AreScopes never st blocks ends stack → length st ≤ never → (p b c : ℕ) → slice_get blocks p ≡ Some b → slice_get ends b ≡ Some c
-    → (length st ≤ c) ↔ IsActive st p
-scope_active_now never st blocks ends stack a room p b c holder ends_at =
-    let held = a.held in
-    let lt = slice_get_within blocks p b holder in
-    let P : List Sentence → Type 0 = λ ys. (length st ≤ c) ↔ IsActive ys p in
-    subst P (take_all (length st) st (omega arith)) (scope_active never st blocks ends stack a room p (length st) b c holder ends_at (omega arith) (omega arith))

@@ -8,7 +8,6 @@ use Rattle.mm_frame.specs.Mirror.Scopes.{IsUnclosed, AreScopes}
 use Rattle.mm_frame.proofs.Pushed.{get_within}
 use Rattle.mm_frame.proofs.Counts.{unclosed_front}
 use Rattle.mm_frame.proofs.ScopeLaws.{start_within}
-use Rattle.mm_frame.proofs.Actives.{scope_active_now}
 
 -- the open blocks are one more than the `${` that no `$}` has closed
 pub scope_sum : (never : ℕ) (st : List Sentence) (blocks ends stack : List ℕ) → AreScopes never st blocks ends stack → open_marks st + 1 ≡ close_marks st + length stack
@@ -53,33 +52,6 @@ scope_some_open never st blocks ends stack a =
         let begun = a.begun b x there in
         (begun.place, record { opening = begun.opening; there = begun.there; opened = begun.opened; unclosed = subst (λ y. IsUnclosed st y) begun.next still })
 
--- an open block's end is `never`
-pub scope_stack : (never : ℕ) (st : List Sentence) (blocks ends stack : List ℕ) → AreScopes never st blocks ends stack → (k b : ℕ) → slice_get stack k ≡ Some b → slice_get ends b ≡ Some never
-scope_stack never st blocks ends stack a k b on =
-    let h = a.on_stack k b on in
-    let lt = slice_get_within a.starts b h.start h.there in
-    let sized = a.sized in
-    let (c, there) = get_within ends b (omega arith) in
-    elim (a.ended b h.start c h.there there) [
-      | inl (is_never, j, at) ↦ there ∙ ap (λ m. Some m) is_never
-      | inr end ↦ absurd (end.after (unclosed_front st (suc c) h.start h.unclosed))
-    ]
-
--- a statement is active exactly if the end of the block that directly holds it is `never`
-pub scope_never : (never : ℕ) (st : List Sentence) (blocks ends stack : List ℕ) → AreScopes never st blocks ends stack → length st ≤ never → (p b c : ℕ) → slice_get blocks p ≡ Some b → slice_get ends b ≡ Some c
-    → (c ≡ never) ↔ IsActive st p
-scope_never never st blocks ends stack a room p b c holder ends_at =
-    let now = scope_active_now never st blocks ends stack a room p b c holder ends_at in
-    let h = a.holders p b holder in (
-      (λ is_never. now.0 (omega arith)),
-      (λ active.
-          let until = now.1 active in
-          elim (a.ended b h.start c h.there ends_at) [
-            | inl (is_never, k, on) ↦ is_never
-            | inr end ↦ absurd (let lt = end.within in omega arith)
-          ]),
-    )
-
 -- the numbers of the blocks lie below how many there are
 pub scope_block_within : (never : ℕ) (st : List Sentence) (blocks ends stack : List ℕ) → AreScopes never st blocks ends stack → (p b : ℕ) → slice_get blocks p ≡ Some b → b < length ends
 scope_block_within never st blocks ends stack a p b holder =
@@ -94,35 +66,3 @@ scope_stack_within never st blocks ends stack a k b on =
     let lt = slice_get_within a.starts b h.start h.there in
     let sized = a.sized in
     omega arith
-
--- the elements of a list that rises are no smaller than their places
-risen : (xs : List ℕ) → ((j k a b : ℕ) → slice_get xs j ≡ Some a → slice_get xs k ≡ Some b → j < k → a < b) → (k x : ℕ) → slice_get xs k ≡ Some x → k ≤ x
-risen xs rising zero x there = omega arith
-risen xs rising (suc k) x there =
-    let lt = slice_get_within xs (suc k) x there in
-    let (y, before) = get_within xs k (omega arith) in
-    let le = risen xs rising k y before in
-    let less = rising k (suc k) y x before there (omega arith) in
-    omega arith
-
--- there is at most one block more than statements, and at most as many are open
-pub scope_counts : (never : ℕ) (st : List Sentence) (blocks ends stack : List ℕ) → AreScopes never st blocks ends stack → (length ends ≤ suc (length st)) × (length stack ≤ length ends)
-scope_counts never st blocks ends stack a =
-    (few never st blocks ends stack a (length ends) refl, open_few never st blocks ends stack a (length stack) refl)
-  where
-    few : (never : ℕ) (st : List Sentence) (blocks ends stack : List ℕ) → AreScopes never st blocks ends stack → (n : ℕ) → length ends ≡ n → length ends ≤ suc (length st)
-    few never st blocks ends stack a zero size = omega arith
-    few never st blocks ends stack a (suc n) size =
-        let sized = a.sized in
-        let (x, there) = get_within a.starts n (omega arith) in
-        let within = start_within never st blocks ends stack a n x there in
-        let le = risen a.starts (λ j k y z at_j at_k lt. a.rising j k y z at_j at_k lt) n x there in
-        omega arith
-
-    open_few : (never : ℕ) (st : List Sentence) (blocks ends stack : List ℕ) → AreScopes never st blocks ends stack → (n : ℕ) → length stack ≡ n → length stack ≤ length ends
-    open_few never st blocks ends stack a zero size = omega arith
-    open_few never st blocks ends stack a (suc n) size =
-        let (b, on) = get_within stack n (omega arith) in
-        let within = scope_stack_within never st blocks ends stack a n b on in
-        let le = risen stack a.stacked n b on in
-        omega arith

@@ -71,9 +71,6 @@ get_set_other (y ∷ xs) zero (suc j) x apart = refl
 get_set_other (y ∷ xs) (suc i) zero x apart = refl
 get_set_other (y ∷ xs) (suc i) (suc j) x apart = get_set_other xs i j x (λ same. apart (ap suc same))
 
-pub noted_none : (places : List ℕ) → AreNoted places []
-noted_none places n place first = absurd (let lt = first.within in omega arith)
-
 pub noted_longer : (old new : List ℕ) (variables : List (Option ℕ)) → IsLonger old new → AreNoted old variables → AreNoted new variables
 noted_longer old new variables (more, is) noted n place first =
     subst (λ ps. slice_get ps n ≡ Some place) (sym is) (get_kept old more n place (noted n place first))

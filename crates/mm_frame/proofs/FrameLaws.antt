@@ -56,13 +56,6 @@ pairs_grow st more place pairs are =
       once = are.once;
     }
 
-pub its_symbols_grow : (st more : List Sentence) (place : ℕ) (numbers : List ℕ) → AreItsSymbols (at_place st place) numbers → AreItsSymbols (at_place (st ++ more) place) numbers
-its_symbols_grow st more place numbers are = record {
-  assertion = are.assertion;
-  there = get_kept st more place are.assertion are.there;
-  numbered = numbers_grow st more numbers are.assertion.symbols are.numbered;
-}
-
 part_grow : {X : Type 0} (xs ys : List X) (part : Part) → IsPartWithin part (length xs) → IsPartWithin part (length (xs ++ ys))
 part_grow xs ys part within = let inside = within.within in let more = longer xs ys in record { ordered = within.ordered; within = omega arith }
 
@@ -100,9 +93,6 @@ ArePlaced st named = (id : ℕ) (info : LabelInfo) → slice_get named id ≡ So
 pub placed : (st : List Sentence) (labels : List (List ℕ)) (named : List LabelInfo) (log : List _) → AreLabelInfos st labels named log → ArePlaced st named
 placed st labels named log are id info there = let (s, numbered) = are.each id info there in slice_get_within st info.place s numbered.there
 
-pub frames_none : AreFrames [] [] [] [] []
-frames_none id info s there at is = absurd (cc)
-
 -- a statement with no label
 pub frames_other : (st : List Sentence) (e : Sentence) (hs a : List Hypothesis) (pairs b : List DistinctPair) (pieces c : List Piece) (named : List LabelInfo) → ArePlaced st named → AreFrames st hs pairs pieces named
     → AreFrames (st ++ e ∷ []) (hs ++ a) (pairs ++ b) (pieces ++ c) named
@@ -129,13 +119,6 @@ frames_assertion st e hs a pairs b pieces c named new within are frame id info s
 ]
 
 -- ---- the pairs that `$d` state
-
-pub stated_none : (symbols : List (List ℕ)) → AreStated [] symbols []
-stated_none symbols = record {
-  only = λ i span there. absurd (cc);
-  each = λ place a b d x y there kind at_a at_b lt in_x in_y. absurd (cc);
-  apart = λ i j older newer lt at_i at_j same. absurd (cc);
-}
 
 -- the number of a symbol that a statement uses, among the symbols before or after
 old_number : (st : List Sentence) (e d : Sentence) (symbols more : List (List ℕ)) (place n : ℕ) (x : List ℕ) → AllMeant st → symbols ≡ symbols_of st → symbols ++ more ≡ symbols_of (st ++ e ∷ [])

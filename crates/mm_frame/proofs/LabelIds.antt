@@ -57,9 +57,6 @@ those_step symbols labels flat log named s places i new hs are formed are_places
       typed = typings_push st hs new so_far.typed (typing_at st s places i p new formed are_places there same says);
     }
 
-pub those_none : (st : List Sentence) → AreThoseAt st [] []
-those_none st = record { numbers = refl; typed = typings_none st }
-
 pub ids_never : (symbols labels : List (List ℕ)) (flat : List Sym) (log : List Entry) (named : List LabelInfo) (s : Sentence) (places : List ℕ) (i : ℕ)
     → AreLabelInfos (sentences_by symbols labels flat log) labels named log → AllFormed (sentences_by symbols labels flat log) → ArePlaces (sentences_by symbols labels flat log) s places → i < length places
     → option_and_then (λ e. e.label) (slice_get log (get_or places i 0)) ≡ None → ⊥

@@ -44,13 +44,6 @@ one_type st s places i j p q f g c d x meant are at_i at_j at_p at_q types_f typ
       | inr (inr gt) ↦ absurd (second.last p f gt at_p (c, types_f))
     ]
 
-pub variables_none : (st : List Sentence) → AreVariables st [] []
-variables_none st = record {
-  only = λ i n there. absurd (cc);
-  each = λ k p f code x there at types. absurd (cc);
-  once = λ i j n m at_i at_j same. absurd (cc);
-}
-
 typed_longer : (st : List Sentence) (places more : List ℕ) (n : Sym) → IsTypedBy st places n → IsTypedBy st (places ++ more) n
 typed_longer st places more n is = record {
   k = is.k;

@@ -185,18 +185,3 @@ same_label : (st : List Sentence) (i j : ℕ) (s t : Sentence) (l : List ℕ) �
 same_label st i j s t l same at_i at_j label =
     let e : s ≡ t = let at = subst (λ k. slice_get st k ≡ Some s) same at_i in cc in
     subst (IsLabelled l) e label
-
--- No label is a symbol (by M4 and M6).
-pub label_no_symbol : (st : List Sentence) (l : List ℕ) (i : ℕ) (s : Sentence) → AllMeant st → AllFormed st → slice_get st i ≡ Some s → IsLabelled l s → ¬ (IsConstant st l ⊎ IsVariable st l)
-label_no_symbol st l i s meant formed at_i label_s declared = elim declared [
-  | inl (j, t, at_j, (kind, in_it)) ↦ elim (cases_order i j) [
-    | inl same ↦ undeclared t l (formed j t at_j) (inl kind) (same_label st i j s t l same at_i at_j label_s)
-    | inr (inl lt) ↦ meant_at st j t meant at_j M4 (inl kind, (l, in_it, some_earlier st (IsLabelled l) i j s lt at_i label_s))
-    | inr (inr gt) ↦ meant_at st i s meant at_i M6 (l, label_s, inl (some_earlier st (Declares Constants l) j i t gt at_j (kind, in_it)))
-  ]
-  | inr (j, t, at_j, (kind, in_it)) ↦ elim (cases_order i j) [
-    | inl same ↦ undeclared t l (formed j t at_j) (inr kind) (same_label st i j s t l same at_i at_j label_s)
-    | inr (inl lt) ↦ meant_at st j t meant at_j M4 (inr kind, (l, in_it, some_earlier st (IsLabelled l) i j s lt at_i label_s))
-    | inr (inr gt) ↦ meant_at st i s meant at_i M6 (l, label_s, inr (some_earlier st (Declares Variables l) j i t gt at_j (kind, in_it)))
-  ]
-]

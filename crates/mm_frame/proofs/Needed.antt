@@ -43,13 +43,6 @@ typed_variable before f code x meant types =
       | inr variable ↦ variable
     ]
 
-pub code_constant : (before : List Sentence) (f : Sentence) (code x : List ℕ) → IsMeant before f → Types code x f → IsConstant before code
-code_constant before f code x meant types =
-    elim (used_declared before f code meant (inr (inl types.0)) (first_of_two f.symbols code x types.1)) [
-      | inl constant ↦ constant
-      | inr variable ↦ absurd (meant M10 (code, x, types, variable))
-    ]
-
 -- a symbol that some `$f` types is a variable
 pub latest_is_variable : (st : List Sentence) (x : List ℕ) (p : ℕ) → AllMeant st → IsLatest (λ f. (code : List ℕ) × Types code x f) st p → IsVariable st x
 latest_is_variable st x p meant latest =

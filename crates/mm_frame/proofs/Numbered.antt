@@ -210,12 +210,6 @@ declared_from_number st x i there = elim (from_fold [] (flat_map declared_by st)
   | inr (j, at) ↦ declared_from st x j at
 ]
 
-pub symbols_declared : (st : List Sentence) (x : List ℕ) → Contains (symbols_of st) x ↔ (IsConstant st x ⊎ IsVariable st x)
-symbols_declared st x = (
-  (λ in_it. let (i, there) = at_from_contains (symbols_of st) x in_it in declared_from_number st x i there),
-  (λ declared. contains_from_at (symbols_of st) x (number_from_declared st x declared)),
-)
-
 -- numbers of symbols stay theirs
 pub numbers_grow : (st more : List Sentence) (numbers : List ℕ) (symbols : List (List ℕ)) → AreNumbers st numbers symbols → AreNumbers (st ++ more) numbers symbols
 numbers_grow st more [] symbols are = are
@@ -235,21 +229,4 @@ same_somes (x ∷ xs) [] e = absurd (cc)
 same_somes (x ∷ xs) (y ∷ ys) e =
     let rest : map (λ x. Some x) xs ≡ map (λ x. Some x) ys = cc in
     let more = same_somes xs ys rest in
-    cc
-
-pub numbers_same : (st : List Sentence) (numbers : List ℕ) (xs ys : List (List ℕ)) → AreNumbers st numbers xs → AreNumbers st numbers ys → xs ≡ ys
-numbers_same st numbers xs ys one other = same_somes xs ys (sym one ∙ other)
-
-pub symbols_same : (st : List Sentence) (ms ns : List ℕ) (xs : List (List ℕ)) → AreNumbers st ms xs → AreNumbers st ns xs → ms ≡ ns
-symbols_same st [] [] xs one other = refl
-symbols_same st [] (n ∷ ns) xs one other = absurd (cc)
-symbols_same st (m ∷ ms) [] xs one other = absurd (cc)
-symbols_same st (m ∷ ms) (n ∷ ns) [] one other = absurd (cc)
-symbols_same st (m ∷ ms) (n ∷ ns) (x ∷ xs) one other =
-    let at_m : slice_get (symbols_of st) m ≡ Some x = cc in
-    let at_n : slice_get (symbols_of st) n ≡ Some x = cc in
-    let one' : AreNumbers st ms xs = cc in
-    let other' : AreNumbers st ns xs = cc in
-    let first = symbols_unique st m n x at_m at_n in
-    let rest = symbols_same st ms ns xs one' other' in
     cc

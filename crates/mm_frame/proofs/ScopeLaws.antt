@@ -157,29 +157,6 @@ held_grown xs e blocks b size = length_pushed blocks b ∙ ap suc size ∙ sym (
 apart_kinds : (b : Bool) → b ≡ false → b ≡ true → ⊥
 apart_kinds b is_not is = cc
 
--- one place in a list of one
-only_zero : {X : Type 0} (x y : X) (k : ℕ) → slice_get (x ∷ []) k ≡ Some y → (k ≡ 0) × (x ≡ y)
-only_zero x y zero there = (refl, cc)
-only_zero x y (suc k) there = absurd (cc)
-
-pub scopes_new : (never : ℕ) → AreScopes never [] [] (never ∷ []) (0 ∷ [])
-scopes_new never = record {
-  starts = 0 ∷ [];
-  held = refl;
-  sized = refl;
-  outermost = refl;
-  bottom = refl;
-  rising = λ a b x y at_a at_b lt. absurd (let e = (only_zero 0 x a at_a).0 in let f = (only_zero 0 y b at_b).0 in omega arith);
-  begun = λ b x there. absurd (cc);
-  stacked = λ j k a b at_j at_k lt. absurd (let e = (only_zero 0 a j at_j).0 in let f = (only_zero 0 b k at_k).0 in omega arith);
-  on_stack = λ k b there.
-      let (first, same) = only_zero 0 b k there in
-      record { start = 0; there = ap (slice_get (0 ∷ [])) (sym same); unclosed = unclosed_new [] 0 (omega arith); above = ap (λ n. 0 + suc n) first };
-  complete = λ place still. absurd (let there = still.there in cc);
-  ended = λ b x c begins ends. inl (sym (only_zero never c b ends).1, 0, ap (λ n. Some n) (sym (only_zero never c b ends).0));
-  holders = λ i b there. absurd (cc);
-}
-
 pub scopes_ordinary : (never : ℕ) (xs : List Sentence) (e : Sentence) (blocks ends stack : List ℕ) (k top : ℕ) → AreScopes never xs blocks ends stack
     → length stack ≡ suc k → slice_get stack k ≡ Some top → is_opening e.kind ≡ false → is_closing e.kind ≡ false
     → AreScopes never (xs ++ e ∷ []) (blocks ++ top ∷ []) ends stack

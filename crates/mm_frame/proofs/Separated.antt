@@ -66,14 +66,6 @@ passed_in_row i u v (lt, inl before) = elim (cases_lt v i) [
 ]
 passed_in_row i u v (lt, inr (is, less)) = absurd (omega arith)
 
--- No member was looked at.
-pub paired_none : (st : List Sentence) (members : List Sym) → ArePaired st members 0 0 []
-paired_none st members = record {
-  only = λ k pair there. absurd (cc);
-  once = λ stand k l pair there. absurd (cc);
-  each = λ u v a b passed. absurd (elim passed.1 [ inl lt ↦ omega arith | inr both ↦ let h = both.1 in omega arith ]);
-}
-
 -- All members before one were looked at with it.
 pub paired_row : (st : List Sentence) (members : List Sym) (i : ℕ) (pairs : List (ℕ × ℕ)) → ArePaired st members i i pairs → ArePaired st members (i + 1) 0 pairs
 paired_row st members i pairs are = record {

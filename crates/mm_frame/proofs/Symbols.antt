@@ -34,11 +34,6 @@ symbol_says {all = all} P u f r ran list calls =
     let Q : List (List ℕ) → Type 0 = λ xs. (x : List ℕ) × Contains xs x × P x in
     ((λ t. subst Q (sym (texts all)) (contains_from_at P _ (said.0 t))), (λ q. said.1 (at_from_contains P _ (subst Q (texts all) q))))
 
-pub same_symbol : (tokens : List Token) (symbol : List ℕ) (r : Bool) → (IsTrue r ↔ SomeToken tokens (λ y. y ≡ symbol)) → IsTrue r ↔ Contains (map (λ t. t.text) (map plain_token tokens)) symbol
-same_symbol tokens symbol r h =
-    let there = map (λ t. t.text) (map plain_token tokens) in
-    ((λ t. let (x, in_it, same) = h.0 t in subst (λ y. Contains there y) same in_it), (λ c. h.1 (symbol, c, refl)))
-
 -- a test that holds, and then another
 pub with_test : {K Q : Type 0} (r : Bool) → K → (IsTrue r ↔ Q) → IsTrue r ↔ (K × Q)
 with_test r k h = ((λ t. (k, h.0 t)), (λ q. h.1 q.1))

@@ -28,9 +28,6 @@ mandatory_unique before s hs gs one other = those_unique (IsMandatoryAt before s
 pub distinct_other : (before : List Sentence) (x y : List ℕ) → IsDistinct before x y → IsDistinct before y x
 distinct_other before x y (apart, (p, d, there, active, (kind, x_in, y_in))) = ((λ e. apart (sym e)), (p, d, there, active, (kind, y_in, x_in)))
 
-pub pair_other : (before : List Sentence) (s : Sentence) (x y : List ℕ) → IsMandatoryPair before s x y → IsMandatoryPair before s y x
-pair_other before s x y (distinct, x_needed, y_needed) = (distinct_other before x y distinct, y_needed, x_needed)
-
 -- the places rise
 abbrev pub Rise : List ℕ → Type 0
 Rise places = (i j p q : ℕ) → slice_get places i ≡ Some p → slice_get places j ≡ Some q → i < j → p < q

@@ -63,11 +63,3 @@ pub record StandsTwice (symbols : List (List ℕ)) (symbol : List ℕ) : Type 0 
   pub apart : i < j
   pub at_i : slice_get symbols i ≡ Some symbol
   pub at_j : slice_get symbols j ≡ Some symbol
-
--- the statement at the place has this label, and none before it has
-pub record IsFirstLabelled (statements : List Sentence) (label : List ℕ) (place : ℕ) : Type 0 where
-  pub statement : Sentence
-  pub there : slice_get statements place ≡ Some statement
-  pub named : IsLabelled label statement
-  pub first : (k : ℕ) (other : Sentence) → k < place → slice_get statements k ≡ Some other
-      → ¬ (IsLabelled label other)
