@@ -17,7 +17,6 @@ pub mod Symbols
 pub mod RepeatsCode
 pub mod Numbered
 pub mod ByByte
-pub mod ByPair
 pub mod Labelled
 pub mod Those
 pub mod Decided

@@ -2,7 +2,7 @@
 
 ghost use Rattle.std.specs.Prelude.{◌≡◌, ℕ, ◌+◌, ◌<◌, ◌≤◌, List, [], length, slice_get, Some};
 ghost use Rattle.std.specs.Prelude.{option_map, MatchOption, Contains, OnOk};
-ghost use Rattle.mm_frame.specs.Mirror.NameTable.{AreByByte, IsPair, IsPairTable};
+ghost use Rattle.mm_frame.specs.Mirror.NameTable.{AreByByte};
 ghost use Rattle.mm_frame.specs.Numbers.{with_name};
 
 use crate::guesses::Guesses;
@@ -19,23 +19,19 @@ pub struct Names<'a> {
     /// The number of the name that is this byte alone. Most symbols are one byte long, and are
     /// found sooner in this table than by a hash.
     by_byte: [Option<u32>; 256],
-    /// The number of the name that is these two bytes, at the place that they make. It is empty
-    /// before it is prepared.
-    by_pair: Vec<Option<u32>>,
 }
 
 impl<'a> Model for Names<'a> {
     ghost use Rattle.std.specs.Prelude.{ℕ, ◌<◌, length};
     ghost use Rattle.indexmap.specs.IndexSet.{spare};
-    ghost use Rattle.mm_frame.specs.Mirror.NameTable.{NameTable, AreByByte, IsPairTable};
+    ghost use Rattle.mm_frame.specs.Mirror.NameTable.{NameTable, AreByByte};
 
     ghost Value = { NameTable };
 
     ghost view = { λ n. record { names = n.table.keys; room = spare n.table } };
 
     ghost invariant = { λ n. (length n.table.keys < 4294967296)
-        × AreByByte n.table.keys n.by_byte
-        × IsPairTable n.table.keys n.by_pair.items };
+        × AreByByte n.table.keys n.by_byte };
 }
 
 // The table where no name is one byte long.
@@ -58,43 +54,6 @@ fn note_byte(by_byte: &mut [Option<u32>; 256], name: &[u8], number: u32)
     }
 }
 
-// The two bytes of a name of two are below this,
-const PAIR_ROW: usize = 128;
-
-// and so many names are made of two of them.
-const PAIRS: usize = 16_384;
-
-// The place of a name of two bytes among all that may be.
-#[inline(always)]
-fn pair_place(name: &[u8]) -> Option<usize>
-    ensures { MatchOption result ((place : ℕ) → ¬ (IsPair name.now place)) (IsPair name.now) }
-{
-    match name {
-        [first, second] => {
-            let row = *first as usize;
-            let column = *second as usize;
-            if row < PAIR_ROW && column < PAIR_ROW {
-                Some(row * PAIR_ROW + column)
-            } else {
-                None
-            }
-        }
-        _ => None,
-    }
-}
-
-// Notes the number that the name gets, where it is new and two bytes long.
-fn note_pair(by_pair: &mut Vec<Option<u32>>, name: &[u8], number: u32)
-    ensures { (names : List (List ℕ)) → IsPairTable names by_pair.old.items
-        → length names ≡ number → IsPairTable (with_name names name.now) by_pair.new.items }
-{
-    if let Some(place) = pair_place(name) {
-        if place < by_pair.len() && by_pair[place].is_none() {
-            by_pair[place] = Some(number);
-        }
-    }
-}
-
 impl<'a> Names<'a> {
     /// No names, whose hashes begin from the seed. It takes no memory.
     pub(crate) fn new(alloc: Global, seed: Seed) -> Names<'a>
@@ -103,7 +62,6 @@ impl<'a> Names<'a> {
         Names {
             table: IndexSet::with_hasher(alloc, seed),
             by_byte: no_numbers(),
-            by_pair: Vec::new(alloc),
         }
     }
 
@@ -130,7 +88,7 @@ impl<'a> Names<'a> {
     }
 
     // The number of a name, if it is one of them, by its hash. It is a call, as a name of one byte
-    // or two is told without it.
+    // is told without it.
     #[inline(never)]
     fn find_by_hash(&self, name: &[u8]) -> Option<u32>
         ensures { MatchOption
@@ -141,10 +99,25 @@ impl<'a> Names<'a> {
         self.find_key(&Name::new(name))
     }
 
-    // The number of a name, if it is one of them, by the guess at its place, or else by its hash.
-    // The guess is looked at first, and is replaced where it is that of another name.
+    /// The number of a name, if it is one of them.
+    #[inline(always)]
+    pub(crate) fn find(&self, name: &[u8]) -> Option<u32>
+        ensures { MatchOption
+            result
+            (¬ (Contains self.now.names name.now))
+            (λ number. slice_get self.now.names number ≡ Some name.now) }
+    {
+        if let [only] = name {
+            return self.by_byte[*only as usize];
+        }
+        self.find_by_hash(name)
+    }
+
+    /// The number of a name, if it is one of them, as `find` tells it, by the guess at its place, or
+    /// else by its hash. The guess is replaced where it is that of another name, so a name that was
+    /// looked up lately is found sooner.
     #[inline(never)]
-    fn find_by_guess(&self, guesses: &mut Guesses, name: &[u8]) -> Option<u32>
+    pub(crate) fn find_guessed(&self, guesses: &mut Guesses, name: &[u8]) -> Option<u32>
         ensures { MatchOption
             result
             (¬ (Contains self.now.names name.now))
@@ -165,42 +138,6 @@ impl<'a> Names<'a> {
         found
     }
 
-    /// The number of a name, if it is one of them.
-    #[inline(always)]
-    pub(crate) fn find(&self, name: &[u8]) -> Option<u32>
-        ensures { MatchOption
-            result
-            (¬ (Contains self.now.names name.now))
-            (λ number. slice_get self.now.names number ≡ Some name.now) }
-    {
-        if let [only] = name {
-            return self.by_byte[*only as usize];
-        }
-        if let Some(place) = pair_place(name) {
-            if place < self.by_pair.len() {
-                return self.by_pair[place];
-            }
-        }
-        self.find_by_hash(name)
-    }
-
-    /// The number of a name, if it is one of them, as `find` tells it. A name that was looked up
-    /// lately is found sooner, by its guess.
-    #[inline(always)]
-    pub(crate) fn find_guessed(&self, guesses: &mut Guesses, name: &[u8]) -> Option<u32>
-        ensures { MatchOption
-            result
-            (¬ (Contains self.now.names name.now))
-            (λ number. slice_get self.now.names number ≡ Some name.now) }
-    {
-        if let Some(place) = pair_place(name) {
-            if place < self.by_pair.len() {
-                return self.by_pair[place];
-            }
-        }
-        self.find_by_guess(guesses, name)
-    }
-
     /// The name with a number.
     pub(crate) fn name(&self, number: u32) -> Option<&'a [u8]>
         ensures { option_map (λ name. name.now) result ≡ slice_get self.now.names number }
@@ -219,16 +156,6 @@ impl<'a> Names<'a> {
         self.table.reserve(more)
     }
 
-    /// Makes the table of names of two bytes, where there is no name yet, and memory for it. Where
-    /// it isn't made they are found by their hash.
-    pub(crate) fn prepare_pairs(&mut self)
-        ensures { self.new ≡ self.old }
-    {
-        if self.table.len() == 0 && self.by_pair.len() == 0 {
-            let _ = self.by_pair.resize(PAIRS, None);
-        }
-    }
-
     /// Takes a name in, at the end where it is new.
     pub(crate) fn add(&mut self, name: &'a [u8])
         requires few { length self.old.names + 1 < 4294967296 }
@@ -238,7 +165,6 @@ impl<'a> Names<'a> {
     {
         let number = self.table.len() as u32;
         note_byte(&mut self.by_byte, name, number);
-        note_pair(&mut self.by_pair, name, number);
         let _ = self.table.insert(Name::new(name));
     }
 }

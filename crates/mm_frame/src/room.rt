@@ -29,8 +29,7 @@ const NAME_BYTES: usize = 384;
 
 const MOST_NAMES: usize = 65_536;
 
-// The tables of names of two bytes and of near pairs are written too, so that they are made where
-// there are so many bytes.
+// The table of near pairs is written too, so that it is made where there are so many bytes.
 const PAIRS_FROM: usize = 1_048_576;
 
 impl Scopes {
@@ -52,8 +51,6 @@ impl<'a> Tables<'a> {
         let _ = self.named.reserve(bytes / LABEL_BYTES);
         let _ = self.labels.reserve(MOST_NAMES.min(bytes / NAME_BYTES));
         if bytes >= PAIRS_FROM {
-            self.symbols.prepare_pairs();
-            self.labels.prepare_pairs();
             self.distinct.prepare();
         }
         let _ = self.hypotheses.reserve(bytes / HYPOTHESIS_BYTES);

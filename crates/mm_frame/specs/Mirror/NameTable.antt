@@ -16,23 +16,3 @@ pub record AreByByte (names : List (List ℕ)) (by_byte : List (Option ℕ)) : T
       → MatchOption number
       (¬ (Contains names (byte ∷ [])))
       (λ n. slice_get names n ≡ Some (byte ∷ []))
-
--- the name is two bytes below 128, and this is their place
-pub record IsPair (name : List ℕ) (place : ℕ) : Type 0 where
-  pub first : ℕ
-  pub second : ℕ
-  pub first_below : first < 128
-  pub second_below : second < 128
-  pub name_is : name ≡ first ∷ second ∷ []
-  pub place_is : place ≡ first * 128 + second
-
--- the table tells of each place the number of the name of two bytes that has it, if there is one
-pub record AreByPair (names : List (List ℕ)) (by_pair : List (Option ℕ)) : Type 0 where
-  pub count : length by_pair ≡ 16384
-  pub each : (name : List ℕ) (place : ℕ) (number : Option ℕ) → IsPair name place
-      → slice_get by_pair place ≡ Some number
-      → MatchOption number (¬ (Contains names name)) (λ n. slice_get names n ≡ Some name)
-
--- the table is that of these names, or isn't made
-abbrev pub IsPairTable : List (List ℕ) → List (Option ℕ) → Type 0
-IsPairTable names by_pair = (by_pair ≡ []) ⊎ AreByPair names by_pair

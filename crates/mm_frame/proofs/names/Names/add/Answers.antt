@@ -1,5 +1,5 @@
 use Rattle.std.proofs.Common.{◌≡◌, ◌<◌, ◌≤◌, ◌+◌, List, [], ◌∷◌, ℕ, inl, inr, length, length-append, sym, ◌∙◌, subst, arith, ap}
-use Rattle.mm_frame.specs.Mirror.NameTable.{AreByByte, IsPairTable}
+use Rattle.mm_frame.specs.Mirror.NameTable.{AreByByte}
 use Rattle.mm_frame.specs.Numbers.{with_name}
 use Rattle.indexmap.specs.IndexSet.{spare}
 use Rattle.mm_frame.proofs.NameLists.{holds_if_ok}
@@ -26,8 +26,7 @@ invariant_of-self c =
     let keys : c.insert.new.self.keys ≡ with_name c.self.inside.table.keys c.new.result = holds_if_ok c.insert.result _ (c.insert.ensures.succeeds (omega arith)) c.insert.ensures.keys in
     let all : c.insert.new.self.keys ≡ with_name c.self.inside.table.keys c.args.name.now = keys ∙ ap (with_name c.self.inside.table.keys) c.new.ensures in
     let told = c.note_byte.ensures _ c.self.invariant.1 (sym c.len-number.ensures.len) in
-    let paired = c.note_pair.ensures c.self.inside.table.keys c.self.invariant.2 (sym c.len-number.ensures.len) in
     let long = ap length all in
     let more = length_with_name c.self.inside.table.keys c.args.name.now in
     let few : length c.self.inside.table.keys + 1 < 4294967296 = rw names (c.requires.few) in
-    (omega arith, subst (λ (ns : List (List ℕ)). AreByByte ns c.note_byte.new.by_byte) (sym all) told, subst (λ (ns : List (List ℕ)). IsPairTable ns c.note_pair.new.by_pair.items) (sym all) paired)
+    (omega arith, subst (λ (ns : List (List ℕ)). AreByByte ns c.note_byte.new.by_byte) (sym all) told)
