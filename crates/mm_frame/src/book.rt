@@ -21,7 +21,7 @@ ghost use Rattle.mm_frame.specs.Pieces.{HaveMandatoryPatterns, HaveMandatoryPlac
 ghost use Rattle.mm_frame.specs.Mirror.Patterned.{IsSchemeOf};
 
 use crate::answer::{Found, RuleFault, Taken};
-use crate::rules::first_broken;
+use crate::broken::first_broken;
 use crate::distinct::DistinctPair;
 use crate::framing::FrameLists;
 use crate::guesses::Guesses;

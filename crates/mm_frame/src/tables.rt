@@ -9,7 +9,7 @@ ghost use Rattle.mm_frame.specs.Mirror.Layout.{AreTables, statements_of};
 use crate::distinct::DistinctPair;
 use crate::hypothesis::Hypothesis;
 use crate::lists::at;
-use crate::names::Names;
+use crate::name_table::Names;
 use crate::number::{LabelId, Sym};
 use crate::pairs::{Pairs, in_order};
 use crate::part::{Part, part_of};

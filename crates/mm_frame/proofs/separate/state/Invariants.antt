@@ -1,9 +1,0 @@
-use Rattle.std.proofs.Common.{◌≡◌, ◌+◌, ◌≤◌, ◌++◌, length, map, take}
-use Rattle.mm_frame.specs.Mirror.Separated.{stated_at}
-use Rattle.mm_frame.proofs.separate.state.Given as goal
-
-abbrev pub invariant-loop-pair : goal.invariant-loop-pair
-invariant-loop-pair l = record {
-  room : length l.pairs ≤ l.distinct.room + l.pair-index;
-  stated : l.distinct.stated ≡ l.fn.distinct.stated ++ map (stated_at l.place) (take l.pair-index l.pairs);
-}

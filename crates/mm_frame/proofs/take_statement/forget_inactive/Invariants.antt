@@ -1,0 +1,14 @@
+use Rattle.std.proofs.Common.{◌≡◌, ℕ, ◌+◌, ◌<◌, ◌≤◌, List, length, Some}
+use Rattle.std.specs.List.{slice_get}
+use Rattle.mm_frame.specs.Sentence.{Sentence}
+use Rattle.mm_frame.specs.Mirror.ScopesOf.{HaveScopes}
+use Rattle.mm_frame.specs.declared.scopes.TheConstants.{NEVER}
+use Rattle.mm_frame.proofs.Forgotten.{AreDropped}
+use Rattle.mm_frame.proofs.take_statement.forget_inactive.Given as goal
+
+abbrev pub invariant-loop : goal.invariant-loop
+invariant-loop l = record {
+  sized : length l.places.items + l.counter ≡ length l.initial.places.items;
+  dropped : (statements : List Sentence) → HaveScopes statements l.scopes → length statements ≤ NEVER → l.at ≡ length statements
+      → ((i p : ℕ) → slice_get l.initial.places.items i ≡ Some p → p < l.at) → AreDropped statements l.initial.places.items l.places.items;
+}
