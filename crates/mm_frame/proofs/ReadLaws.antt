@@ -1,5 +1,5 @@
 -- What is read under a label's number, in terms of the statements.
-use Rattle.std.proofs.Common.{◌≡◌, ℕ, ◌+◌, ◌<◌, ◌≤◌, inl, inr, length, take, List, [], ◌∷◌, map, Option, Some, None, slice_range, refl, sym, ap, ◌∙◌, subst, arith}
+use Rattle.std.proofs.Common.{◌≡◌, ◌↔◌, ℕ, ◌+◌, ◌<◌, ◌≤◌, inl, inr, length, take, List, [], ◌∷◌, map, Option, Some, None, slice_range, refl, sym, ap, ◌∙◌, subst, arith}
 use Rattle.std.specs.List.{slice_get}
 use Rattle.mm_text.specs.declared.statement.Kind.{Kind}
 use Rattle.mm_frame.specs.declared.distinct.DistinctPair.{DistinctPair}
@@ -10,7 +10,7 @@ use Rattle.mm_frame.specs.declared.tables.Entry.{Entry}
 use Rattle.mm_frame.specs.declared.tables.LabelInfo.{LabelInfo}
 use Rattle.mm_frame.specs.Sentence.{Sentence, IsLabelled, IsAssertion}
 use Rattle.mm_frame.specs.Form.{HasItsLabel, AllFormed}
-use Rattle.mm_frame.specs.Numbers.{labelled_sentences, IsNumbered}
+use Rattle.mm_frame.specs.Numbers.{labelled_sentences, IsNumbered, IsLabelNumber}
 use Rattle.mm_frame.specs.FramePlace.{AreHypotheses, HaveTypings, ArePairs}
 use Rattle.mm_frame.specs.Pieces.{variables_of, AreItsPieces, HavePatterns, HavePlaces, HaveMandatoryPlaces}
 use Rattle.mm_frame.specs.Mirror.Layout.{sentences_by, sentence_by, statements_of, AreLabelInfos, AreFrames, AreTables}
@@ -70,6 +70,20 @@ labelled_at st labels named log id l are at =
     let (s, there, same) = get_unmapped (λ (t : Sentence). t.label) (labelled_sentences st) id (Some l) other in
     let (p, numbered) = numbered_from_get st id s there in
     (p, s, numbered, same)
+
+-- something is known of exactly the labels' numbers
+pub label_known : (st : List Sentence) (labels : List (List ℕ)) (named : List LabelInfo) (log : List Entry) (id : ℕ) → AreLabelInfos st labels named log → (id < length named) ↔ IsLabelNumber st id
+label_known st labels named log id are = (
+  (λ within.
+      let (info, there) = get_within named id within in
+      let (s, numbered) = are.each id info there in
+      (info.place, s, numbered)),
+  (λ (place, s, numbered).
+      let below = numbered_within st id place s numbered in
+      let counted = labels_counted st labels named log are in
+      let informed = are.informed in
+      omega arith),
+)
 
 -- the kind of a statement's entry is its kind
 pub entry_kind : (symbols labels : List (List ℕ)) (flat : List Sym) (log : List Entry) (place : ℕ) (e : Entry) (s : Sentence) → slice_get log place ≡ Some e

@@ -45,6 +45,10 @@ pub record IsNumbered (statements : List Sentence) (id place : ℕ) (s : Sentenc
   pub named : is_some s.label ≡ true
   pub number : length (labelled_sentences (take place statements)) ≡ id
 
+-- the number is that of a labelled statement
+abbrev pub IsLabelNumber : List Sentence → ℕ → Type 0
+IsLabelNumber statements id = (place : ℕ) × (s : Sentence) × IsNumbered statements id place s
+
 -- the number is that of an assertion
 abbrev pub IsAssertionNumber : List Sentence → ℕ → Type 0
 IsAssertionNumber statements id =

@@ -13,7 +13,7 @@ ghost use Rattle.mm_frame.specs.Rules.{IsMeant, FirstBroken};
 ghost use Rattle.mm_frame.specs.Form.{IsSound};
 ghost use Rattle.mm_frame.specs.Frame.{IsDistinct};
 ghost use Rattle.mm_frame.specs.Numbers.{symbols_of, labelled_sentences, IsNumberOf, AreNumbers};
-ghost use Rattle.mm_frame.specs.Numbers.{IsNumbered};
+ghost use Rattle.mm_frame.specs.Numbers.{IsNumbered, IsAssertionNumber};
 ghost use Rattle.mm_frame.specs.Found.{Finds};
 ghost use Rattle.mm_frame.specs.Taken.{TakenAs, kind_behind};
 ghost use Rattle.mm_frame.specs.FramePlace.{AreHypotheses, HaveTypings, ArePairs};
@@ -28,8 +28,8 @@ use crate::guesses::Guesses;
 use crate::hypothesis::Hypothesis;
 use crate::number::{LabelId, LabelKind, Sym};
 use crate::reads::{
-    find_label, find_label_guessed, is_label_active, label_hypotheses, label_kind, label_pairs,
-    label_scheme, label_symbols, label_text,
+    find_label, find_label_guessed, is_label, is_label_active, label_hypotheses, label_kind,
+    label_pairs, label_scheme, label_symbols, label_text,
 };
 use crate::scheme::Scheme;
 use crate::tables::Tables;
@@ -197,12 +197,16 @@ impl<'a> Book<'a> {
         }
     }
 
-    /// A label.
+    /// A label. Of a number that no label has, nothing is told: so it is of the next two too.
     pub fn label(&self, id: LabelId) -> &'a [u8]
         ensures { (s : Sentence) → slice_get (labelled_sentences self.now.statements) id.0 ≡ Some s
             → IsLabelled result.now s }
     {
-        label_text(&self.tables, id)
+        if is_label(&self.tables, id) {
+            label_text(&self.tables, id)
+        } else {
+            &[]
+        }
     }
 
     /// The symbols of a labelled statement.
@@ -210,7 +214,11 @@ impl<'a> Book<'a> {
         ensures { (s : Sentence) → slice_get (labelled_sentences self.now.statements) id.0 ≡ Some s
             → AreNumbers self.now.statements (map (λ n. n.0) result.now) s.symbols }
     {
-        label_symbols(&self.tables, id)
+        if is_label(&self.tables, id) {
+            label_symbols(&self.tables, id)
+        } else {
+            &[]
+        }
     }
 
     /// The kind of a labelled statement.
@@ -218,7 +226,11 @@ impl<'a> Book<'a> {
         ensures { (s : Sentence) → slice_get (labelled_sentences self.now.statements) id.0 ≡ Some s
             → s.kind ≡ kind_behind result }
     {
-        label_kind(&self.tables, id)
+        if is_label(&self.tables, id) {
+            label_kind(&self.tables, id)
+        } else {
+            LabelKind::Proof
+        }
     }
 
     // Whether two symbols are a distinct pair after the statements before a place.
@@ -233,6 +245,7 @@ impl<'a> Book<'a> {
 
     // The mandatory hypotheses of an assertion.
     pub(crate) fn hypotheses(&self, id: LabelId) -> &[Hypothesis]
+        requires { IsAssertionNumber self.now.statements id.0 }
         ensures ids { (place : ℕ) (s : Sentence) → IsNumbered self.now.statements id.0 place s
             → IsAssertion s.kind → AreHypotheses
             (record { statements = self.now.statements; place = place })
@@ -253,6 +266,7 @@ impl<'a> Book<'a> {
 
     // The mandatory distinct pairs of an assertion.
     pub(crate) fn pairs(&self, id: LabelId) -> &[DistinctPair]
+        requires { IsAssertionNumber self.now.statements id.0 }
         ensures variables { (place : ℕ) (s : Sentence) → IsNumbered self.now.statements id.0 place s
             → IsAssertion s.kind → ArePairs
             (record { statements = self.now.statements; place = place })
@@ -267,6 +281,7 @@ impl<'a> Book<'a> {
 
     // What a step by an assertion asks of it.
     pub(crate) fn scheme(&self, id: LabelId) -> Scheme<'_>
+        requires { IsAssertionNumber self.now.statements id.0 }
         ensures { (place : ℕ) (s : Sentence) → IsNumbered self.now.statements id.0 place s
             → IsAssertion s.kind
             → IsSchemeOf (record { statements = self.now.statements; place = place }) result }

@@ -5,7 +5,7 @@ ghost use Rattle.mm_text.specs.declared.statement.Kind.{Kind};
 ghost use Rattle.mm_frame.specs.Sentence.{Sentence, IsLabelled, IsAssertion};
 ghost use Rattle.mm_frame.specs.Active.{IsActive};
 ghost use Rattle.mm_frame.specs.Form.{HasItsLabel};
-ghost use Rattle.mm_frame.specs.Numbers.{AreNumbers, IsNumbered};
+ghost use Rattle.mm_frame.specs.Numbers.{AreNumbers, IsNumbered, IsLabelNumber, IsAssertionNumber};
 ghost use Rattle.mm_frame.specs.Found.{Finds};
 ghost use Rattle.mm_frame.specs.Taken.{kind_behind};
 ghost use Rattle.mm_frame.specs.FramePlace.{AreHypotheses, HaveTypings, ArePairs};
@@ -23,63 +23,77 @@ use crate::scheme::Scheme;
 use crate::tables::Tables;
 use mm_text::Kind;
 
+// Whether some labelled statement has the number.
+pub(crate) fn is_label(tables: &Tables, id: LabelId) -> bool
+    requires { AreTables tables.now }
+    ensures { IsTrue result ↔ IsLabelNumber (statements_of tables.now) id.0 }
+{
+    (id.0 as usize) < tables.named.len()
+}
+
 // The place of a labelled statement.
 pub(crate) fn label_place(tables: &Tables, id: LabelId) -> usize
-    requires { AreTables tables.now }
+    requires tables { AreTables tables.now }
+    requires known { IsLabelNumber (statements_of tables.now) id.0 }
     ensures { (place : ℕ) (s : Sentence) → IsNumbered (statements_of tables.now) id.0 place s
         → result ≡ place }
 {
     match tables.label_info(id) {
         Some(info) => info.place as usize,
-        None => 0,
+        None => unreachable!(),
     }
 }
 
 // A label.
 pub(crate) fn label_text<'a>(tables: &Tables<'a>, id: LabelId) -> &'a [u8]
-    requires { AreTables tables.now }
+    requires tables { AreTables tables.now }
+    requires known { IsLabelNumber (statements_of tables.now) id.0 }
     ensures { (place : ℕ) (s : Sentence) → IsNumbered (statements_of tables.now) id.0 place s
         → IsLabelled result.now s }
 {
     match tables.labels.name(id.0) {
         Some(text) => text,
-        None => &[],
+        None => unreachable!(),
     }
 }
 
 // The symbols of a labelled statement.
 pub(crate) fn label_symbols<'b>(tables: &'b Tables, id: LabelId) -> &'b [Sym]
-    requires { AreTables tables.now }
+    requires tables { AreTables tables.now }
+    requires known { IsLabelNumber (statements_of tables.now) id.0 }
     ensures { (place : ℕ) (s : Sentence) → IsNumbered (statements_of tables.now) id.0 place s
         → AreNumbers (statements_of tables.now) (map (λ n. n.0) result.now) s.symbols }
 {
     match tables.label_info(id) {
         Some(info) => part_of(&tables.flat, info.symbols),
-        None => &[],
+        None => unreachable!(),
     }
 }
 
 // A kind of statements that have labels.
 fn kind_of(kind: Kind) -> LabelKind
-    ensures { (label : List ℕ) → HasItsLabel kind (Some label) → kind ≡ kind_behind result }
+    requires { (label : List ℕ) × HasItsLabel kind (Some label) }
+    ensures { kind ≡ kind_behind result }
 {
     match kind {
         Kind::Floating => LabelKind::Floating,
         Kind::Essential => LabelKind::Essential,
         Kind::Axiom => LabelKind::Axiom,
-        _ => LabelKind::Proof,
+        Kind::Provable => LabelKind::Proof,
+        _ => unreachable!(),
     }
 }
 
 // The kind of a labelled statement.
 pub(crate) fn label_kind(tables: &Tables, id: LabelId) -> LabelKind
-    requires { AreTables tables.now }
+    requires tables { AreTables tables.now }
+    requires known { IsLabelNumber (statements_of tables.now) id.0 }
     ensures { (place : ℕ) (s : Sentence) → IsNumbered (statements_of tables.now) id.0 place s
         → s.kind ≡ kind_behind result }
 {
     match tables.label_info(id) {
         Some(info) => kind_of(info.kind),
-        None => LabelKind::Proof,
+        None => unreachable!(),
     }
 }
 
@@ -90,13 +104,17 @@ pub(crate) fn is_label_active(tables: &Tables, id: LabelId, at: usize) -> bool
     ensures { (place : ℕ) (s : Sentence) → IsNumbered (statements_of tables.now) id.0 place s
         → (IsTrue result ↔ IsActive (take at (statements_of tables.now)) place) }
 {
+    if !is_label(tables, id) {
+        return false;
+    }
     let place = label_place(tables, id);
     place < at && tables.scopes.is_active(place, at)
 }
 
 // Whether a labelled statement is active now.
 fn is_label_active_now(tables: &Tables, id: LabelId) -> bool
-    requires { AreTables tables.now }
+    requires tables { AreTables tables.now }
+    requires known { IsLabelNumber (statements_of tables.now) id.0 }
     ensures { (place : ℕ) (s : Sentence) → IsNumbered (statements_of tables.now) id.0 place s
         → (IsTrue result ↔ IsActive (statements_of tables.now) place) }
 {
@@ -105,7 +123,8 @@ fn is_label_active_now(tables: &Tables, id: LabelId) -> bool
 
 // What stands under a label's number.
 fn find_number(tables: &Tables, id: LabelId) -> Found
-    requires { AreTables tables.now }
+    requires tables { AreTables tables.now }
+    requires known { IsLabelNumber (statements_of tables.now) id.0 }
     ensures { (label : List ℕ) (place : ℕ) (s : Sentence)
         → IsNumbered (statements_of tables.now) id.0 place s → IsLabelled label s
         → Finds (statements_of tables.now) label result }
@@ -143,7 +162,8 @@ pub(crate) fn find_label_guessed(tables: &Tables, guesses: &mut Guesses, label: 
 
 // The mandatory hypotheses of an assertion.
 pub(crate) fn label_hypotheses<'b>(tables: &'b Tables, id: LabelId) -> &'b [Hypothesis]
-    requires { AreTables tables.now }
+    requires tables { AreTables tables.now }
+    requires assertion { IsAssertionNumber (statements_of tables.now) id.0 }
     ensures ids { (place : ℕ) (s : Sentence)
         → IsNumbered (statements_of tables.now) id.0 place s → IsAssertion s.kind → AreHypotheses
         (record { statements = statements_of tables.now; place = place })
@@ -160,13 +180,14 @@ pub(crate) fn label_hypotheses<'b>(tables: &'b Tables, id: LabelId) -> &'b [Hypo
 {
     match tables.label_info(id) {
         Some(info) => part_of(&tables.hypotheses, info.hypotheses),
-        None => &[],
+        None => unreachable!(),
     }
 }
 
 // The mandatory distinct pairs of an assertion.
 pub(crate) fn label_pairs<'b>(tables: &'b Tables, id: LabelId) -> &'b [DistinctPair]
-    requires { AreTables tables.now }
+    requires tables { AreTables tables.now }
+    requires assertion { IsAssertionNumber (statements_of tables.now) id.0 }
     ensures variables { (place : ℕ) (s : Sentence)
         → IsNumbered (statements_of tables.now) id.0 place s → IsAssertion s.kind → ArePairs
         (record { statements = statements_of tables.now; place = place })
@@ -178,13 +199,14 @@ pub(crate) fn label_pairs<'b>(tables: &'b Tables, id: LabelId) -> &'b [DistinctP
 {
     match tables.label_info(id) {
         Some(info) => part_of(&tables.pairs, info.pairs),
-        None => &[],
+        None => unreachable!(),
     }
 }
 
 // What a step by an assertion asks of it, by one look at what is known of its label.
 pub(crate) fn label_scheme<'b>(tables: &'b Tables, id: LabelId) -> Scheme<'b>
-    requires { AreTables tables.now }
+    requires tables { AreTables tables.now }
+    requires assertion { IsAssertionNumber (statements_of tables.now) id.0 }
     ensures { (place : ℕ) (s : Sentence) → IsNumbered (statements_of tables.now) id.0 place s
         → IsAssertion s.kind
         → IsSchemeOf (record { statements = statements_of tables.now; place = place }) result }
@@ -196,11 +218,6 @@ pub(crate) fn label_scheme<'b>(tables: &'b Tables, id: LabelId) -> Scheme<'b>
             conclusion: part_of(&tables.pieces, info.conclusion),
             pieces: &tables.pieces,
         },
-        None => Scheme {
-            hypotheses: &[],
-            pairs: &[],
-            conclusion: &[],
-            pieces: &[],
-        },
+        None => unreachable!(),
     }
 }

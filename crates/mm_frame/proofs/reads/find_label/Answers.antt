@@ -14,3 +14,10 @@ pub returns-in-None : goal.returns-in-None
 returns-in-None c some =
     let t = c.args.tables.now in
     (rw c.in-None.is at c.find.ensures) ((label_number (statements_of t) t.labels.names c.args.label.now c.requires.labels.all).0 some)
+
+pub find_number-requires-clause-known : goal.find_number-requires-clause-known
+find_number-requires-clause-known c =
+    let t = c.args.tables.now in
+    let (place, s, numbered, named) = labelled_at (statements_of t) t.labels.names t.named.items t.log.items c.in-Some.number c.args.label.now c.requires.labels
+    (rw c.in-Some.is at c.find.ensures) in
+    (place, s, numbered)
