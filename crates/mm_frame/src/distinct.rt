@@ -21,18 +21,14 @@ pub struct DistinctPair {
 
 // The place of the `$f` of a variable among hypotheses of which one is its `$f`.
 fn place_among(hypotheses: &[Hypothesis], noted: &NotedPlaces, variable: Sym) -> u32
-    ensures { length hypotheses.now < 4294967296
-        → AreNoted noted.now.places.items (variables_of hypotheses.now)
-        → ¬ (IsNowhere variable.0 (variables_of hypotheses.now))
-        → IsFirstAt variable.0 (variables_of hypotheses.now) result }
+    requires few { length hypotheses.now < 4294967296 }
+    requires noted { AreNoted noted.now.places.items (variables_of hypotheses.now) }
+    requires there { ¬ (IsNowhere variable.0 (variables_of hypotheses.now)) }
+    ensures { IsFirstAt variable.0 (variables_of hypotheses.now) result }
 {
     match noted.place_of(hypotheses, variable) {
-        Some(place) => match u32::try_from(place) {
-            Ok(value) => value,
-            // A book has fewer statements than there are numbers.
-            Err(_) => 0,
-        },
-        None => 0,
+        Some(place) => place as u32,
+        None => unreachable!(),
     }
 }
 
@@ -44,11 +40,11 @@ pub(crate) fn find_places(
     pairs: &[(Sym, Sym)],
     placed: &mut Vec<DistinctPair>,
 ) -> Result<(), AllocError>
+    requires few { length hypotheses.now < 4294967296 }
+    requires noted { AreNoted noted.now.places.items (variables_of hypotheses.now) }
+    requires among { AreAmong (variables_of hypotheses.now) pairs.now }
     ensures variables { OnOk result (map (λ pair. pair.variables) placed.new.items ≡ pairs.now) }
-    ensures places { length hypotheses.now < 4294967296
-        → AreNoted noted.now.places.items (variables_of hypotheses.now)
-        → AreAmong (variables_of hypotheses.now) pairs.now
-        → OnOk result (HavePlaces (variables_of hypotheses.now) placed.new.items) }
+    ensures places { OnOk result (HavePlaces (variables_of hypotheses.now) placed.new.items) }
 {
     placed.clear();
     for pair in pairs {

@@ -11,7 +11,7 @@ ghost use Rattle.mm_frame.specs.Mirror.Patterned.{IsLonger, IsPatternAt, AreMand
 ghost use Rattle.mm_frame.specs.Mirror.Patterned.{HaveFirstPatterns, ArePatterned, AreNoted};
 
 use crate::hypothesis::Hypothesis;
-use crate::lists::{at, reserve_numbered};
+use crate::lists::reserve_numbered;
 use crate::noted::NotedPlaces;
 use crate::number::Sym;
 use crate::part::{NO_PART, Part};
@@ -21,16 +21,12 @@ use std::alloc::AllocError;
 
 // The piece that says a symbol, by the places that are noted of the hypotheses.
 fn piece_of(hypotheses: &[Hypothesis], noted: &NotedPlaces, symbol: Sym) -> Piece
-    ensures { length hypotheses.now < 4294967296
-        → AreNoted noted.now.places.items (variables_of hypotheses.now)
-        → IsPieceOf (variables_of hypotheses.now) symbol.0 result }
+    requires few { length hypotheses.now < 4294967296 }
+    requires noted { AreNoted noted.now.places.items (variables_of hypotheses.now) }
+    ensures { IsPieceOf (variables_of hypotheses.now) symbol.0 result }
 {
     match noted.place_of(hypotheses, symbol) {
-        Some(place) => match u32::try_from(place) {
-            Ok(value) => Piece::Value(value),
-            // A book has fewer statements than there are numbers.
-            Err(_) => Piece::Symbol(symbol),
-        },
+        Some(place) => Piece::Value(place as u32),
         None => Piece::Symbol(symbol),
     }
 }
@@ -59,9 +55,10 @@ fn push_pattern(
     noted: &NotedPlaces,
     symbols: &[Sym],
 ) -> Result<Part, AllocError>
+    requires few { length hypotheses.now < 4294967296 }
+    requires noted { AreNoted noted.now.places.items (variables_of hypotheses.now) }
     ensures longer { IsLonger pieces.old.items pieces.new.items }
-    ensures part { length hypotheses.now < 4294967296
-        → AreNoted noted.now.places.items (variables_of hypotheses.now) → IfOk result (IsPatternAt
+    ensures part { IfOk result (IsPatternAt
         (variables_of hypotheses.now) (map (λ n. n.0) symbols.now) pieces.new.items) }
 {
     let start = pieces.len();
@@ -77,25 +74,22 @@ fn push_pattern(
 
 // Whether the hypothesis at a place among others is a `$e`.
 fn is_essential(hypotheses: &[Hypothesis], place: usize) -> bool
+    requires { place < length hypotheses.now }
     ensures { (h : Hypothesis) → slice_get hypotheses.now place ≡ Some h
         → result ≡ is_none h.typing }
 {
-    match at(hypotheses, place) {
-        Some(hypothesis) => hypothesis.typing.is_none(),
-        None => false,
-    }
+    hypotheses[place].typing.is_none()
 }
 
 // Notes where the pattern of the hypothesis at a place among others stands.
 fn set_pattern(hypotheses: &mut Vec<Hypothesis>, place: usize, pattern: Part)
+    requires { place < length hypotheses.old.items }
     ensures count { length hypotheses.new.items ≡ length hypotheses.old.items }
     ensures noted { (h : Hypothesis) → slice_get hypotheses.old.items place ≡ Some h
         → hypotheses.new.items
         ≡ set hypotheses.old.items place (record h { pattern = pattern }) }
 {
-    if let Some(hypothesis) = hypotheses.get_mut(place) {
-        hypothesis.pattern = pattern;
-    }
+    hypotheses[place].pattern = pattern;
 }
 
 // Adds the patterns of the `$e` among the hypotheses that stand at some places, and notes where.
@@ -107,11 +101,13 @@ fn push_patterns(
     log: &[Entry],
     flat: &[Sym],
 ) -> Result<(), AllocError>
+    requires mandatory { (t : Tables)
+        × AreMandatoryOf t log.now flat.now places.now hypotheses.old.items }
+    requires noted { AreNoted noted.now.places.items (variables_of hypotheses.old.items) }
     ensures longer { IsLonger pieces.old.items pieces.new.items }
     ensures count { length hypotheses.new.items ≡ length hypotheses.old.items }
     ensures patterned { (t : Tables)
         → AreMandatoryOf t log.now flat.now places.now hypotheses.old.items
-        → AreNoted noted.now.places.items (variables_of hypotheses.old.items)
         → OnOk result (HaveFirstPatterns (statements_of t) hypotheses.old.items
         hypotheses.new.items pieces.new.items (length places.now)) }
 {
@@ -137,11 +133,13 @@ fn push_all(
     flat: &[Sym],
     numbers: &[Sym],
 ) -> Result<Part, AllocError>
+    requires mandatory { (t : Tables)
+        × AreMandatoryOf t log.now flat.now places.now hypotheses.old.items }
+    requires noted { AreNoted noted.now.places.items (variables_of hypotheses.old.items) }
     ensures longer { IsLonger pieces.old.items pieces.new.items }
     ensures count { length hypotheses.new.items ≡ length hypotheses.old.items }
     ensures patterned { (t : Tables)
         → AreMandatoryOf t log.now flat.now places.now hypotheses.old.items
-        → AreNoted noted.now.places.items (variables_of hypotheses.old.items)
         → IfOk result (ArePatterned (statements_of t) (map (λ n. n.0) numbers.now)
         hypotheses.old.items hypotheses.new.items pieces.new.items) }
 {
@@ -161,11 +159,13 @@ pub(crate) fn add_patterns(
     flat: &[Sym],
     numbers: &[Sym],
 ) -> Result<Part, AllocError>
+    requires mandatory { (t : Tables)
+        × AreMandatoryOf t log.now flat.now places.now hypotheses.old.items }
+    requires noted { AreNoted noted.now.places.items (variables_of hypotheses.old.items) }
     ensures longer { IsLonger pieces.old.items pieces.new.items }
     ensures count { length hypotheses.new.items ≡ length hypotheses.old.items }
     ensures patterned { (t : Tables)
         → AreMandatoryOf t log.now flat.now places.now hypotheses.old.items
-        → AreNoted noted.now.places.items (variables_of hypotheses.old.items)
         → IfOk result (ArePatterned (statements_of t) (map (λ n. n.0) numbers.now)
         hypotheses.old.items hypotheses.new.items pieces.new.items) }
     ensures err { OnErr result (pieces.new.items ≡ pieces.old.items) }

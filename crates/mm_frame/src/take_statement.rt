@@ -118,6 +118,9 @@ impl<'a> Tables<'a> {
     ) -> Result<Taken, AllocError>
         requires tables { AreTables self.old }
         requires kind { IsHypothesis kind ⊎ IsAssertion kind }
+        requires meant { (s : Sentence) × (s.kind ≡ kind)
+            × AreNumbers (statements_of self.old) (map (λ n. n.0) numbers.now) s.symbols
+            × IsMeant (statements_of self.old) s }
         requires room { self.old.bytes + bytes ≤ 1073741824 }
         requires enough { 1 + length numbers.now ≤ bytes }
         ensures ok { IfOk result (λ taken. TakenAs (statements_of self.old) kind taken

@@ -8,11 +8,17 @@ use Rattle.mm_frame.proofs.distinct.find_places.Goals as goal
 pub loop-pair-preserved : goal.loop-pair-preserved
 loop-pair-preserved c = record {
   variables = rw c.in_ok-push.ensures.items (variables_more c.args.pairs.now c.loop-pair.pair-index _ c.loop-pair.placed.items _ c.loop-pair-test.true c.loop-pair.invariant.variables refl);
-  places = λ few noted among.
-      let (first, second) = among c.loop-pair.pair-index _ (slice_get-get_or c.args.pairs.now c.loop-pair.pair-index _ c.loop-pair-test.true) in
-      rw c.in_ok-push.ensures.items
-      (places_more (variables_of c.args.hypotheses.now) c.loop-pair.placed.items _ (c.loop-pair.invariant.places few noted among) (c.place_among.ensures few noted first, c.place_among-in-loop-pair.ensures few noted second));
+  places = rw c.in_ok-push.ensures.items
+      (places_more (variables_of c.args.hypotheses.now) c.loop-pair.placed.items _ c.loop-pair.invariant.places (c.place_among.ensures, c.place_among-in-loop-pair.ensures));
 }
 
 pub returns-clause-variables : goal.returns-clause-variables
 returns-clause-variables c = c.loop-pair.invariant.variables ∙ take_all c.loop-pair.pair-index c.args.pairs.now c.loop-pair-test.false
+
+pub place_among-requires-clause-there : goal.place_among-requires-clause-there
+place_among-requires-clause-there c =
+    (c.requires.among c.loop-pair.pair-index _ (slice_get-get_or c.args.pairs.now c.loop-pair.pair-index _ c.loop-pair-test.true)).0
+
+pub place_among-requires-in-loop-pair-clause-there : goal.place_among-requires-in-loop-pair-clause-there
+place_among-requires-in-loop-pair-clause-there c =
+    (c.requires.among c.loop-pair.pair-index _ (slice_get-get_or c.args.pairs.now c.loop-pair.pair-index _ c.loop-pair-test.true)).1

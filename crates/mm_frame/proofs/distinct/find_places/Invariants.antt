@@ -1,10 +1,9 @@
-use Rattle.std.proofs.Common.{◌≡◌, ◌<◌, length, map, take}
+use Rattle.std.proofs.Common.{◌≡◌, map, take}
 use Rattle.mm_frame.specs.Pieces.{variables_of, HavePlaces}
-use Rattle.mm_frame.specs.Mirror.Patterned.{AreAmong, AreNoted}
 use Rattle.mm_frame.proofs.distinct.find_places.Given as goal
 
 abbrev pub invariant-loop-pair : goal.invariant-loop-pair
 invariant-loop-pair l = record {
   variables : map (λ pair. pair.variables) l.placed.items ≡ take l.pair-index l.pairs;
-  places : length l.hypotheses < 4294967296 → AreNoted l.noted.places.items (variables_of l.hypotheses) → AreAmong (variables_of l.hypotheses) l.pairs → HavePlaces (variables_of l.hypotheses) l.placed.items;
+  places : HavePlaces (variables_of l.hypotheses) l.placed.items;
 }

@@ -1,16 +1,24 @@
-use Rattle.std.proofs.Common.{sym, subst}
+use Rattle.std.proofs.Common.{◌<◌, length, sym, subst}
 use Rattle.mm_frame.specs.Pieces.{variables_of}
 use Rattle.mm_frame.specs.Mirror.Patterned.{AreNoted}
-use Rattle.mm_frame.proofs.Patterned.{all_step, variables_same}
+use Rattle.mm_frame.proofs.Patterned.{all_step, variables_same, same_counted, few_hypotheses}
 use Rattle.mm_frame.proofs.pattern.push_all.Goals as goal
 
+pub push_pattern-requires-clause-few : goal.push_pattern-requires-clause-few
+push_pattern-requires-clause-few c =
+    let (t, of) = c.requires.mandatory in
+    let few = few_hypotheses t _ _ _ c.args.hypotheses.now.items of in
+    rw c.deref.ensures.value (subst (λ n. n < 4294967296) (sym c.push_patterns.ensures.count) few)
+
+pub push_pattern-requires-clause-noted : goal.push_pattern-requires-clause-noted
+push_pattern-requires-clause-noted c =
+    let (t, of) = c.requires.mandatory in
+    let have = c.in_ok-push_patterns.ensures.patterned t of in
+    rw c.deref.ensures.value
+    (subst (AreNoted c.args.noted.now.places.items) (sym (variables_same c.args.hypotheses.now.items c.push_patterns.new.hypotheses.items have.same)) c.requires.noted)
+
 pub returns-clause-patterned : goal.returns-clause-patterned
-returns-clause-patterned c t of noted =
-    let have = c.in_ok-push_patterns.ensures.patterned t of noted in
-    let old = c.args.hypotheses.now.items in
-    let new = c.push_patterns.new.hypotheses.items in
-    let places = c.args.noted.now.places.items in
-    let kept : AreNoted places (variables_of new) = subst (AreNoted places) (sym (variables_same old new have.same)) noted in
-    let shown : AreNoted places (variables_of c.deref.result.now) = subst (λ hs. AreNoted places (variables_of hs)) (sym c.deref.ensures.value) kept in
+returns-clause-patterned c t of =
+    let have = c.in_ok-push_patterns.ensures.patterned t of in
     all_step t c.args.log.now c.args.flat.now c.args.places.now _ c.args.hypotheses.now.items c.push_patterns.new.hypotheses.items c.deref.result.now c.push_patterns.new.pieces.items c.push_pattern.new.pieces.items of
-    have c.deref.ensures.value c.push_pattern.ensures.longer c.push_pattern.result (λ few. c.push_pattern.ensures.part few shown)
+    have c.deref.ensures.value c.push_pattern.ensures.longer c.push_pattern.result (λ few. c.push_pattern.ensures.part)

@@ -1,11 +1,9 @@
-use Rattle.std.proofs.Common.{◌≡◌, ◌<◌, ◌++◌, List, length, map, take}
+use Rattle.std.proofs.Common.{◌≡◌, ◌++◌, List, map, take}
 use Rattle.mm_frame.specs.declared.piece.Piece.{Piece}
 use Rattle.mm_frame.specs.Pieces.{variables_of, ArePieces}
-use Rattle.mm_frame.specs.Mirror.Patterned.{AreNoted}
 use Rattle.mm_frame.proofs.pattern.push_pattern.Given as goal
 
 abbrev pub invariant-loop-symbol : goal.invariant-loop-symbol
 invariant-loop-symbol l =
     (more : List Piece) × (l.pieces.items ≡ l.fn.pieces.items ++ more)
-    × (length l.hypotheses < 4294967296 → AreNoted l.noted.places.items (variables_of l.hypotheses)
-    → ArePieces (variables_of l.hypotheses) (map (λ n. n.0) (take l.symbol-index l.symbols)) more)
+    × ArePieces (variables_of l.hypotheses) (map (λ n. n.0) (take l.symbol-index l.symbols)) more

@@ -6,12 +6,12 @@ use Rattle.mm_frame.specs.Mirror.Patterned.{IsLonger, HaveFirstPatterns, AreNote
 use Rattle.std.proofs.lemmas.Option.{slice_get-get_or}
 use Rattle.mm_frame.specs.Mirror.Layout.{statements_of}
 use Rattle.mm_frame.proofs.Pushed.{get_within}
-use Rattle.mm_frame.proofs.Patterned.{longer_none, longer_more, first_none, counted, essential_step, typed_step, variables_same}
+use Rattle.mm_frame.proofs.Patterned.{longer_none, longer_more, first_none, counted, essential_step, typed_step, variables_same, few_hypotheses}
 use Rattle.mm_frame.proofs.pattern.push_patterns.Goals as goal
 use Rattle.mm_frame.proofs.pattern.push_patterns.Goals.{then-is_essential+in_ok-pattern, else-is_essential}
 
 pub loop-i-init : goal.loop-i-init
-loop-i-init c = record { longer = longer_none c.args.pieces.now.items; count = refl; patterned = λ t of noted. first_none (statements_of t) c.args.hypotheses.now.items c.args.pieces.now.items }
+loop-i-init c = record { longer = longer_none c.args.pieces.now.items; count = refl; patterned = λ t of. first_none (statements_of t) c.args.hypotheses.now.items c.args.pieces.now.items }
 
 pub loop-i-preserved : goal.loop-i-preserved
 loop-i-preserved c =
@@ -23,22 +23,22 @@ loop-i-preserved c =
       | then-is_essential+in_ok-pattern w ↦ record {
         longer = subst (λ (v : Vec Piece Global). IsLonger c.args.pieces.now.items v.items) (sym w.pieces-is) (longer_more _ _ _ so_far w.push_pattern.ensures.longer);
         count = c.set_pattern.ensures.count ∙ c.loop-i.invariant.count;
-        patterned = λ t of noted.
-            let have = c.loop-i.invariant.patterned t of noted in
+        patterned = λ t of.
+            let have = c.loop-i.invariant.patterned t of in
             let there = slice_get-get_or c.args.places.now i 0 c.loop-i-test.true in
             let (h, at) = get_within hs i (counted t _ _ c.args.places.now old hs i of have.same c.loop-i-test.true) in
             let part = rw w.deref-then-is_essential.ensures.value at w.in_ok-pattern.ensures.part in
             let step = essential_step t c.args.log.now c.args.flat.now c.args.places.now _ old hs c.set_pattern.new.hypotheses.items c.loop-i.pieces.items w.push_pattern.new.pieces.items i _ h w.in_ok-pattern.pattern of have there at
             (λ e at_e. w.symbols_in.ensures t e of.tables of.log_is of.flat_is at_e)
-            (λ few. part few (subst (AreNoted c.args.noted.now.places.items) (sym (variables_same old hs have.same)) noted)) w.push_pattern.ensures.longer
+            (λ few. part) w.push_pattern.ensures.longer
             (c.set_pattern.ensures.noted h at ∙ ap (λ (part : Part). set hs i (record h { pattern = part })) w.pattern-is) in
             subst (λ (v : Vec Piece Global). HaveFirstPatterns (statements_of t) old c.set_pattern.new.hypotheses.items v.items (i + 1)) (sym w.pieces-is) step;
       }
       | else-is_essential w ↦ record {
         longer = subst (λ (v : Vec Piece Global). IsLonger c.args.pieces.now.items v.items) (sym w.pieces-is) so_far;
         count = c.set_pattern.ensures.count ∙ c.loop-i.invariant.count;
-        patterned = λ t of noted.
-            let have = c.loop-i.invariant.patterned t of noted in
+        patterned = λ t of.
+            let have = c.loop-i.invariant.patterned t of in
             let (h, at) = get_within hs i (counted t _ _ c.args.places.now old hs i of have.same c.loop-i-test.true) in
             let seen : slice_get c.deref.result.now i ≡ Some h = ap (λ ks. slice_get ks i) c.deref.ensures.value ∙ at in
             let step = typed_step (statements_of t) old hs c.set_pattern.new.hypotheses.items c.loop-i.pieces.items i h have at (sym (c.is_essential.ensures h seen) ∙ w.if-is_essential.false)
@@ -48,6 +48,31 @@ loop-i-preserved c =
     ]
 
 pub returns-clause-patterned : goal.returns-clause-patterned
-returns-clause-patterned c t of noted =
+returns-clause-patterned c t of =
     let all : c.loop-i.i ≡ length c.args.places.now = omega (arith, c.loop-i.auto.i-end, c.loop-i-test.false) in
-    subst (HaveFirstPatterns (statements_of t) c.args.hypotheses.now.items c.loop-i.hypotheses.items c.loop-i.pieces.items) all (c.loop-i.invariant.patterned t of noted)
+    subst (HaveFirstPatterns (statements_of t) c.args.hypotheses.now.items c.loop-i.hypotheses.items c.loop-i.pieces.items) all (c.loop-i.invariant.patterned t of)
+
+pub is_essential-requires : goal.is_essential-requires
+is_essential-requires c =
+    let (t, of) = c.requires.mandatory in
+    let have = c.loop-i.invariant.patterned t of in
+    let lt = counted t _ _ c.args.places.now c.args.hypotheses.now.items c.loop-i.hypotheses.items c.loop-i.i of have.same c.loop-i-test.true in
+    rw c.deref.ensures.value lt
+
+pub push_pattern-requires-clause-few : goal.push_pattern-requires-clause-few
+push_pattern-requires-clause-few c =
+    let (t, of) = c.requires.mandatory in
+    rw c.deref-then-is_essential.ensures.value (omega (arith, c.loop-i.invariant.count, few_hypotheses t _ _ _ c.args.hypotheses.now.items of))
+
+pub push_pattern-requires-clause-noted : goal.push_pattern-requires-clause-noted
+push_pattern-requires-clause-noted c =
+    let (t, of) = c.requires.mandatory in
+    let have = c.loop-i.invariant.patterned t of in
+    rw c.deref-then-is_essential.ensures.value
+    (subst (AreNoted c.args.noted.now.places.items) (sym (variables_same c.args.hypotheses.now.items c.loop-i.hypotheses.items have.same)) c.requires.noted)
+
+pub set_pattern-requires : goal.set_pattern-requires
+set_pattern-requires c =
+    let (t, of) = c.requires.mandatory in
+    let have = c.loop-i.invariant.patterned t of in
+    counted t _ _ c.args.places.now c.args.hypotheses.now.items c.loop-i.hypotheses.items c.loop-i.i of have.same c.loop-i-test.true

@@ -79,6 +79,77 @@ returns-in_err-conclusion-clause-err c =
 pub name-id-requires-clause-labels : goal.name-id-requires-clause-labels
 name-id-requires-clause-labels c = rw c.reserve.ensures.same.labels (few_labels c.args.self.now c.args.bytes c.requires.tables c.requires.room)
 
+pub find_places-requires-clause-few : goal.find_places-requires-clause-few
+find_places-requires-clause-few c =
+    let t = c.args.self.now in
+    let st = statements_of t in
+    let (s, kind, numbered, meant) = c.requires.meant in
+    let stated : IsStated s.kind = inr (subst IsAssertion (sym kind) c.requires.kind) in
+    let places = c.in_ok-find_mandatory.ensures s meant stated numbered in
+    let first : ArePlaces st s c.deref.result.now = rw c.deref.ensures.value places in
+    let at = c.find_mandatory.new.places.items in
+    let bare = c.find_hypotheses.new.hypotheses.items in
+    let those : AreThoseAt st at bare = subst (λ ps. AreThoseAt st ps bare) c.deref.ensures.value (c.in_ok-find_hypotheses.ensures s first) in
+    let of : AreMandatoryOf t t.log.items t.flat.items at bare = record {
+      tables = c.requires.tables;
+      log_is = refl;
+      flat_is = refl;
+      assertion = s;
+      are_places = places;
+      those = those;
+    } in
+    rw c.deref-4.ensures.value (few_hypotheses t _ _ _ bare of)
+
+pub find_places-requires-clause-noted : goal.find_places-requires-clause-noted
+find_places-requires-clause-noted c =
+    let bare = c.find_hypotheses.new.hypotheses.items in
+    let noted_bare : AreNoted c.note.new.self.places.items (variables_of bare) = subst (λ hs. AreNoted c.note.new.self.places.items (variables_of hs)) c.deref-2.ensures.value c.in_ok-note.ensures in
+    rw c.deref-4.ensures.value noted_bare
+
+pub find_places-requires-clause-among : goal.find_places-requires-clause-among
+find_places-requires-clause-among c =
+    let t = c.args.self.now in
+    let st = statements_of t in
+    let (s, kind, numbered, meant) = c.requires.meant in
+    let stated : IsStated s.kind = inr (subst IsAssertion (sym kind) c.requires.kind) in
+    let places = c.in_ok-find_mandatory.ensures s meant stated numbered in
+    let first : ArePlaces st s c.deref.result.now = rw c.deref.ensures.value places in
+    let at = c.find_mandatory.new.places.items in
+    let bare = c.find_hypotheses.new.hypotheses.items in
+    let those : AreThoseAt st at bare = subst (λ ps. AreThoseAt st ps bare) c.deref.ensures.value (c.in_ok-find_hypotheses.ensures s first) in
+    let second : ArePlaces st s c.deref-3.result.now = rw c.deref-3.ensures.value places in
+    let found = c.in_ok-find_pairs.ensures s [] meant stated second in
+    rw (c.deref-4.ensures.value, c.deref-5.ensures.value) (pairs_among st s at bare c.find_pairs.new.pairs.items c.requires.tables.sound meant stated places those found)
+
+pub add_patterns-requires-clause-mandatory : goal.add_patterns-requires-clause-mandatory
+add_patterns-requires-clause-mandatory c =
+    let t = c.args.self.now in
+    let st = statements_of t in
+    let (s, kind, numbered, meant) = c.requires.meant in
+    let stated : IsStated s.kind = inr (subst IsAssertion (sym kind) c.requires.kind) in
+    let places = c.in_ok-find_mandatory.ensures s meant stated numbered in
+    let first : ArePlaces st s c.deref.result.now = rw c.deref.ensures.value places in
+    let at = c.find_mandatory.new.places.items in
+    let bare = c.find_hypotheses.new.hypotheses.items in
+    let those : AreThoseAt st at bare = subst (λ ps. AreThoseAt st ps bare) c.deref.ensures.value (c.in_ok-find_hypotheses.ensures s first) in
+    let same = c.reserve.ensures.same in (
+      t,
+      record {
+        tables = c.requires.tables;
+        log_is = sym same.log ∙ sym c.deref-7.ensures.value;
+        flat_is = sym same.flat ∙ sym c.deref-8.ensures.value;
+        assertion = s;
+        are_places = rw c.deref-6.ensures.value places;
+        those = rw c.deref-6.ensures.value those;
+      },
+    )
+
+pub add_patterns-requires-clause-noted : goal.add_patterns-requires-clause-noted
+add_patterns-requires-clause-noted c =
+    let bare = c.find_hypotheses.new.hypotheses.items in
+    let noted_bare : AreNoted c.note.new.self.places.items (variables_of bare) = subst (λ hs. AreNoted c.note.new.self.places.items (variables_of hs)) c.deref-2.ensures.value c.in_ok-note.ensures in
+    noted_bare
+
 pub returns-clause-ok : goal.returns-clause-ok
 returns-clause-ok c =
     let t = c.args.self.now in
@@ -105,8 +176,6 @@ returns-clause-ok c =
           let third : ArePlaces st s c.deref-6.result.now = rw c.deref-6.ensures.value places in
           let at = c.find_mandatory.new.places.items in
           let those : AreThoseAt st at bare = subst (λ ps. AreThoseAt st ps bare) c.deref.ensures.value (c.in_ok-find_hypotheses.ensures s first) in
-          let noted_bare : AreNoted c.note.new.self.places.items (variables_of bare) = subst (λ hs. AreNoted c.note.new.self.places.items (variables_of hs)) c.deref-2.ensures.value c.in_ok-note.ensures in
-          let noted : AreNoted c.note.new.self.places.items (variables_of c.deref-4.result.now) = rw c.deref-4.ensures.value noted_bare in
           let of : AreMandatoryOf t c.deref-7.result.now c.deref-8.result.now c.deref-6.result.now bare = record {
             tables = c.requires.tables;
             log_is = sym same.log ∙ sym c.deref-7.ensures.value;
@@ -115,16 +184,13 @@ returns-clause-ok c =
             are_places = third;
             those = rw c.deref-6.ensures.value those;
           } in
-          let patterned = c.in_ok-conclusion.ensures.patterned t of noted_bare in
+          let patterned = c.in_ok-conclusion.ensures.patterned t of in
           let patterns : ArePatterned st numbers bare hs (t.pieces.items ++ more) conclusion = subst (λ ps. ArePatterned st numbers bare hs ps conclusion) new_pieces patterned in
           let found = c.in_ok-find_pairs.ensures s [] meant stated second in
           let variables : map (λ (pair : DistinctPair). pair.variables) pairs ≡ c.find_pairs.new.pairs.items = c.in_ok-find_places.ensures.variables ∙ c.deref-5.ensures.value in
           let are_pairs : ArePairs (at_place (st ++ s ∷ []) (length st)) (map (λ pair. (pair.variables.0.0, pair.variables.1.0)) pairs) =
           pairs_named (at_place (st ++ s ∷ []) (length st)) c.find_pairs.new.pairs.items pairs variables found in
-          let few : length c.deref-4.result.now < 4294967296 = rw c.deref-4.ensures.value (few_hypotheses t _ _ _ bare of) in
-          let among : AreAmong (variables_of c.deref-4.result.now) c.deref-5.result.now =
-          rw (c.deref-4.ensures.value, c.deref-5.ensures.value) (pairs_among st s at bare c.find_pairs.new.pairs.items c.requires.tables.sound meant stated places those found) in
-          let placed_first : HavePlaces (variables_of bare) pairs = subst (λ ks. HavePlaces (variables_of ks) pairs) c.deref-4.ensures.value (c.in_ok-find_places.ensures.places few noted among) in
+          let placed_first : HavePlaces (variables_of bare) pairs = subst (λ ks. HavePlaces (variables_of ks) pairs) c.deref-4.ensures.value c.in_ok-find_places.ensures.places in
           let placed : HavePlaces (variables_of hs) pairs = subst (λ vs. HavePlaces vs pairs) (sym (variables_same bare hs patterns.same)) placed_first in
           let new = entry_of c.args.kind (Some c.name-id.result) (length t.flat.items) (length (t.flat.items ++ c.args.numbers.now)) in
           let framed_at : IsFrameInfo (st ++ s ∷ []) (t.hypotheses.items ++ hs) (t.pairs.items ++ pairs) (t.pieces.items ++ more)

@@ -1,3 +1,4 @@
+use Rattle.std.proofs.Common.{refl}
 use Rattle.mm_frame.specs.Mirror.Layout.{statements_of}
 use Rattle.mm_frame.specs.Sentence.{sentence_in}
 use Rattle.mm_frame.proofs.SoughtLaws.{numbers_used}
@@ -33,3 +34,9 @@ returns-in-None-clause-ok c =
     let are = numbers_used st (sentence_in s) _ c.requires.numbers c.requires.meant c.requires.kind in
     unlabelled_uses c.separate_all.result c.args.self.now c.separate_all.new.self s c.args.numbers.now c.args.bytes c.in-None.is c.requires.kind are c.requires.meant c.requires.formed
     c.separate_all.ensures.ok
+
+pub take_labelled-requires-clause-meant : goal.take_labelled-requires-clause-meant
+take_labelled-requires-clause-meant c =
+    let st = statements_of c.args.self.now in
+    let s = sentence_in c.args.statement.now in
+    (s, refl, numbers_used st s _ c.requires.numbers c.requires.meant c.requires.kind, c.requires.meant)
