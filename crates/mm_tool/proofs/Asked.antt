@@ -60,7 +60,7 @@ request_asked app words e (Ok Help) is kinds h = inl (among_faults words e Displ
 request_asked app words e (Ok Version) is kinds h = among_faults words e DisplayVersion (kind_among app words e is kinds) h (λ same. absurd (cc))
 request_asked app words e (Ok (Explain asked)) is kinds h = absurd h
 request_asked app words e (Ok (Run command names)) is kinds h = absurd h
-request_asked app words e (Ok (Compare label proof names)) is kinds h = absurd h
+request_asked app words e (Ok (Compare asked)) is kinds h = absurd h
 request_asked app words e (Err fault) is kinds h = h
 
 -- Else the words are refused, or memory was wanting.

@@ -209,8 +209,8 @@ Asks words Help = AsksHelp words
 Asks words Version = AsksVersion words
 Asks words (Explain asked) = AsksExplain words (map (λ code. code.now) asked.items)
 Asks words (Run command names) = AsksRun words command (map (λ name. name.now) names.items)
-Asks words (Compare label proof names) =
-    AsksSame words label.now proof.now (map (λ name. name.now) names.items)
+Asks words (Compare asked) =
+    AsksSame words asked.label.now asked.proof.now (map (λ name. name.now) asked.names.items)
 
 -- The words are refused, by a fault that is no wish for help or for the version.
 abbrev pub IsFaulty : List Text → Type 0

@@ -19,7 +19,7 @@ use crate::files::{Comments, FileFault, ReadFile, read_file, read_files};
 use crate::folder::{Arguments, Folder};
 use crate::stop::Stop;
 use crate::texts::{RuleText, Texts};
-use crate::words::{Request, request_of};
+use crate::words::{Comparison, Request, request_of};
 use mm_check::{Command, Status, alike_files_have_one_reply, run};
 use mm_text::{BYTE_LIMIT, Counted, File, Seed};
 use std::alloc::{AllocError, Global};
@@ -117,9 +117,8 @@ pub(crate) fn run_over<'a, F: Folder, O: Write>(
     Ok(run(alloc, seed, command, &files, out)?)
 }
 
-/// Tells whether the text in the file `proof` is the same proof as that of the theorem with a label,
-/// in the database in the files with these names, and writes the reply. The file with the proof is
-/// read first; its bytes are counted apart.
+/// Answers the question whether two proofs are the same, and writes the reply. The file with the
+/// proof is read first; its bytes are counted apart.
 ///
 /// # Errors
 ///
@@ -128,31 +127,29 @@ fn compare_over<'a, F: Folder, O: Write>(
     alloc: Global,
     seed: Seed,
     folder: &F,
-    label: &'a str,
-    proof: &'a str,
-    names: &[&'a str],
+    asked: &Comparison<'a>,
     max: usize,
     out: &mut Counted<O>,
 ) -> Result<Status, Stop<'a>>
     requires { faults_of out.old < u64.MAX }
     ensures replies { IfOk result (λ status. (text : _) × IsSameReplyOver (F.holds folder.now)
-        label.entry.now proof.entry.now (map (λ name. name.now) names.now) max text
-        (number_of status) × TakesWhole O.contents text out.old out.new) }
+        asked.now.label.now asked.now.proof.now (map (λ name. name.now) asked.now.names.items) max
+        text (number_of status) × TakesWhole O.contents text out.old out.new) }
     ensures stops { IfErr result (λ stop. StopsSame O.contents (F.holds folder.now)
-        (F.may_fail folder.now) label.entry.now proof.entry.now
-        (map (λ name. name.now) names.now) max stop out.old out.new) }
+        (F.may_fail folder.now) asked.now.label.now asked.now.proof.now
+        (map (λ name. name.now) asked.now.names.items) max stop out.old out.new) }
 {
-    let file = match read_file(alloc, folder, proof, max, Comments::Kept) {
+    let file = match read_file(alloc, folder, asked.proof, max, Comments::Kept) {
         Ok(file) => file,
         Err(FileFault::CannotRead(name)) => return Err(Stop::CannotRead(name)),
         Err(FileFault::TooLong) => return reply(out, TOO_LONG_PROOF, Status::Stopped),
         Err(FileFault::Memory) => return Err(Stop::Memory),
     };
     let command = Command::Same {
-        label: label.as_bytes(),
+        label: asked.label.as_bytes(),
         text: &file.bytes,
     };
-    run_over(alloc, seed, folder, &command, names, max, out)
+    run_over(alloc, seed, folder, &command, &asked.names, max, out)
 }
 
 /// The rule with this code.
@@ -243,11 +240,7 @@ fn answer<'a, F: Folder, O: Write>(
         Request::Run { command, names } => {
             run_over(alloc, seed, folder, &command, &names, BYTE_LIMIT, out)
         }
-        Request::Compare {
-            label,
-            proof,
-            names,
-        } => compare_over(alloc, seed, folder, label, proof, &names, BYTE_LIMIT, out),
+        Request::Compare(asked) => compare_over(alloc, seed, folder, &asked, BYTE_LIMIT, out),
     }
 }
 

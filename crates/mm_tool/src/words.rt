@@ -47,6 +47,15 @@ const PROOF: &str = "PROOF";
 
 const CODE: &str = "CODE";
 
+/// The question whether the text in the file `proof` is the same proof as that of the theorem with
+/// a label, in the database in the files with these names.
+#[derive(Drop)]
+pub(crate) struct Comparison<'a> {
+    pub(crate) label: &'a str,
+    pub(crate) proof: &'a str,
+    pub(crate) names: Vec<&'a str>,
+}
+
 /// What the program is asked.
 #[derive(Drop)]
 pub(crate) enum Request<'a> {
@@ -61,13 +70,8 @@ pub(crate) enum Request<'a> {
         command: mm_check::Command<'a>,
         names: Vec<&'a str>,
     },
-    /// To tell whether the text in the file `proof` is the same proof as that of the theorem with
-    /// this label, in the database in the files with these names.
-    Compare {
-        label: &'a str,
-        proof: &'a str,
-        names: Vec<&'a str>,
-    },
+    /// To tell whether two proofs are the same.
+    Compare(Comparison<'a>),
 }
 
 /// The names of the files, for `clap`.
@@ -331,11 +335,11 @@ fn form_request<'a>(
         return Ok(Some(Request::Run { command, names }));
     }
     if let Some(same) = matches.subcommand_matches(SAME) {
-        return Ok(Some(Request::Compare {
+        return Ok(Some(Request::Compare(Comparison {
             label: asked_word(same, LABEL),
             proof: asked_word(same, PROOF),
             names: values_of(alloc, same, FILES)?,
-        }));
+        })));
     }
     Ok(None)
 }

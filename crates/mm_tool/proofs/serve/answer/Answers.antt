@@ -1,7 +1,8 @@
 -- The words are answered by the request that they make.
 use Rattle.std.proofs.Common.{ℕ, List, Bor, map, inl, inr, refl, rules, subst, sym}
 use Rattle.mm_tool.specs.Ending.{IsExplanation}
-use Rattle.mm_tool.specs.Words.{Asks, AsksExplain, AsksRun, AsksSame}
+use Rattle.mm_tool.specs.Words.{Asks, AsksExplain, AsksRun}
+use Rattle.mm_tool.specs.declared.words.Request.TheVariants.{Compare}
 use Rattle.mm_tool.proofs.Answering.{answers_command, answers_same, stops_answer, stops_command, stops_same}
 use Rattle.mm_tool.proofs.serve.answer.Goals as goal
 
@@ -49,15 +50,18 @@ returns-in-Run-clause-stops g c =
 pub returns-in-Compare-clause-answers : goal.returns-in-Compare-clause-answers
 returns-in-Compare-clause-answers g c =
     let words : List (List ℕ) = map (λ word. word.now) c.args.words.now in
-    let Named : List (Bor (List ℕ)) → Type 0 = λ names. AsksSame words c.in-Compare.label.now c.in-Compare.proof.now (map (λ name. name.now) names) in
-    let asked : Named c.in-Compare.names.items = subst (Asks words) c.in-Compare.is c.in_ok-request_of.ensures.request in
-    answers_same g.O.Write.contents (g.F.Folder.holds c.args.folder.now) c.args.texts.now _ words c.in-Compare.label.now c.in-Compare.proof.now _ c.compare_over.result _ _
-    (subst Named (sym c.deref-in-Compare.ensures.value) asked) c.compare_over.ensures.replies
+    let asked : Asks words (Compare c.in-Compare.asked) =
+    subst (Asks words) c.in-Compare.is c.in_ok-request_of.ensures.request in
+    answers_same g.O.Write.contents (g.F.Folder.holds c.args.folder.now) c.args.texts.now _ words
+    c.in-Compare.asked.label.now c.in-Compare.asked.proof.now _ c.compare_over.result _ _
+    asked c.compare_over.ensures.replies
 
 pub returns-in-Compare-clause-stops : goal.returns-in-Compare-clause-stops
 returns-in-Compare-clause-stops g c =
     let words : List (List ℕ) = map (λ word. word.now) c.args.words.now in
-    let Named : List (Bor (List ℕ)) → Type 0 = λ names. AsksSame words c.in-Compare.label.now c.in-Compare.proof.now (map (λ name. name.now) names) in
-    let asked : Named c.in-Compare.names.items = subst (Asks words) c.in-Compare.is c.in_ok-request_of.ensures.request in
-    stops_same g.O.Write.contents (g.F.Folder.holds c.args.folder.now) (g.F.Folder.may_fail c.args.folder.now) c.args.texts.now _ words
-    c.in-Compare.label.now c.in-Compare.proof.now _ c.compare_over.result _ _ (subst Named (sym c.deref-in-Compare.ensures.value) asked) c.compare_over.ensures.stops
+    let asked : Asks words (Compare c.in-Compare.asked) =
+    subst (Asks words) c.in-Compare.is c.in_ok-request_of.ensures.request in
+    stops_same g.O.Write.contents (g.F.Folder.holds c.args.folder.now)
+    (g.F.Folder.may_fail c.args.folder.now) c.args.texts.now _ words
+    c.in-Compare.asked.label.now c.in-Compare.asked.proof.now _ c.compare_over.result _ _
+    asked c.compare_over.ensures.stops
