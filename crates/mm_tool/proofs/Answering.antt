@@ -6,8 +6,8 @@ use Rattle.mm_check.specs.declared.command.Command.{Command}
 use Rattle.mm_check.specs.declared.status.Status.{Status}
 use Rattle.mm_text.specs.Files.{PlainFile}
 use Rattle.mm_tool.specs.Words.{AsksRun, AsksSame}
-use Rattle.mm_tool.specs.Folder.{IsHeld}
-use Rattle.mm_tool.specs.Ending.{IsSameReplyOver, IsSameCommand, StopsSame}
+use Rattle.mm_tool.specs.Folder.{KnownFile, MayHold}
+use Rattle.mm_tool.specs.Ending.{IsProofRead, IsSameReplyOver, IsSameCommand, StopsSame}
 use Rattle.mm_tool.specs.Ending.{BreaksOff, Ends, EndsUnread, AnswersWords, IsReplyOver, Stops, StopsRun, TakesWhole}
 use Rattle.mm_tool.specs.Ending.{TellsLine, error_line, stop_status, unread_stop}
 use Rattle.mm_tool.specs.declared.folder.ArgumentFault.{ArgumentFault}
@@ -17,7 +17,7 @@ use Rattle.mm_tool.specs.declared.stop.Stop.{Stop}
 use Rattle.mm_tool.specs.declared.stop.Stop.TheVariants.{Usage, NotText, CannotRead, CannotWrite, Memory}
 
 -- An answer broke off.
-pub stops_answer : {O T : Type 0} (contents : O → Option (List ℕ)) (holds : List ℕ → Option (List ℕ)) (may_fail : List ℕ → Type 0)
+pub stops_answer : {O T : Type 0} (contents : O → Option (List ℕ)) (holds : List ℕ → KnownFile) (may_fail : List ℕ → Type 0)
     (texts : Texts) (max : ℕ) (words : List (List ℕ)) (r : Result T Stop) (text : List ℕ) (status : ℕ) (old new : Counted O)
     → IfErr r (λ stop. stop ≡ CannotWrite) → OnErr r (BreaksOff contents text old new) → AnswersWords holds texts max words text status
     → IfErr r (λ stop. Stops contents holds may_fail texts max words stop old new)
@@ -27,7 +27,7 @@ stops_answer contents holds may_fail texts max words (Err s) text status old new
     subst Stopped (sym stop) (text, status, answers, broke)
 
 -- The command that the words ask for answers them.
-pub answers_command : {O E : Type 0} (contents : O → Option (List ℕ)) (holds : List ℕ → Option (List ℕ)) (texts : Texts) (max : ℕ)
+pub answers_command : {O E : Type 0} (contents : O → Option (List ℕ)) (holds : List ℕ → KnownFile) (texts : Texts) (max : ℕ)
     (words : List (List ℕ)) (command : Command) (names : List (List ℕ)) (r : Result Status E) (old new : Counted O) → AsksRun words command names
     → IfOk r (λ status. (text : List ℕ) × IsReplyOver holds command names max text (number_of status) × TakesWhole contents text old new)
     → IfOk r (λ status. (text : List ℕ) × AnswersWords holds texts max words text (number_of status) × TakesWhole contents text old new)
@@ -36,7 +36,7 @@ answers_command contents holds texts max words command names (Ok status) old new
 answers_command contents holds texts max words command names (Err e) old new asked h = tt
 
 -- Where that command ended without a reply, the words have no answer.
-pub stops_command : {O T : Type 0} (contents : O → Option (List ℕ)) (holds : List ℕ → Option (List ℕ)) (may_fail : List ℕ → Type 0)
+pub stops_command : {O T : Type 0} (contents : O → Option (List ℕ)) (holds : List ℕ → KnownFile) (may_fail : List ℕ → Type 0)
     (texts : Texts) (max : ℕ) (words : List (List ℕ)) (command : Command) (names : List (List ℕ)) (r : Result T Stop) (old new : Counted O) → AsksRun words command names
     → IfErr r (λ stop. StopsRun contents holds may_fail command names max stop old new)
     → IfErr r (λ stop. Stops contents holds may_fail texts max words stop old new)
@@ -49,7 +49,7 @@ stops_command contents holds may_fail texts max words command names (Err CannotW
 stops_command contents holds may_fail texts max words command names (Err Memory) old new asked h = h
 
 -- The comparison that the words ask for answers them.
-pub answers_same : {O E : Type 0} (contents : O → Option (List ℕ)) (holds : List ℕ → Option (List ℕ)) (texts : Texts) (max : ℕ)
+pub answers_same : {O E : Type 0} (contents : O → Option (List ℕ)) (holds : List ℕ → KnownFile) (texts : Texts) (max : ℕ)
     (words : List (List ℕ)) (label proof : List ℕ) (names : List (List ℕ)) (r : Result Status E) (old new : Counted O) → AsksSame words label proof names
     → IfOk r (λ status. (text : List ℕ) × IsSameReplyOver holds label proof names max text (number_of status) × TakesWhole contents text old new)
     → IfOk r (λ status. (text : List ℕ) × AnswersWords holds texts max words text (number_of status) × TakesWhole contents text old new)
@@ -58,7 +58,7 @@ answers_same contents holds texts max words label proof names (Ok status) old ne
 answers_same contents holds texts max words label proof names (Err e) old new asked h = tt
 
 -- Where it ended without a reply, the words have no answer.
-pub stops_same : {O T : Type 0} (contents : O → Option (List ℕ)) (holds : List ℕ → Option (List ℕ)) (may_fail : List ℕ → Type 0)
+pub stops_same : {O T : Type 0} (contents : O → Option (List ℕ)) (holds : List ℕ → KnownFile) (may_fail : List ℕ → Type 0)
     (texts : Texts) (max : ℕ) (words : List (List ℕ)) (label proof : List ℕ) (names : List (List ℕ)) (r : Result T Stop) (old new : Counted O) → AsksSame words label proof names
     → IfErr r (λ stop. StopsSame contents holds may_fail label proof names max stop old new)
     → IfErr r (λ stop. Stops contents holds may_fail texts max words stop old new)
@@ -71,31 +71,31 @@ stops_same contents holds may_fail texts max words label proof names (Err Cannot
 stops_same contents holds may_fail texts max words label proof names (Err Memory) old new asked h = h
 
 -- A comparison ends as the command over the files does, once the proof is read.
-pub same_replies : {O E : Type 0} (contents : O → Option (List ℕ)) (holds : List ℕ → Option (List ℕ)) (max : ℕ) (label proof : List ℕ) (names : List (List ℕ)) (command : Command)
-    (given : PlainFile) (r : Result Status E) (old new : Counted O) → given.name ≡ proof → IsHeld holds given → length given.bytes ≤ max → IsSameCommand label given.bytes command
+pub same_replies : {O E : Type 0} (contents : O → Option (List ℕ)) (holds : List ℕ → KnownFile) (max : ℕ) (label proof : List ℕ) (names : List (List ℕ)) (command : Command)
+    (given : PlainFile) (r : Result Status E) (old new : Counted O) → IsProofRead holds proof max given → IsSameCommand label given.bytes command
     → IfOk r (λ status. (text : List ℕ) × IsReplyOver holds command names max text (number_of status) × TakesWhole contents text old new)
     → IfOk r (λ status. (text : List ℕ) × IsSameReplyOver holds label proof names max text (number_of status) × TakesWhole contents text old new)
-same_replies contents holds max label proof names command given (Ok status) old new named held within asks (text, reply, taken) =
-    (text, inr (given, named, held, within, command, asks, reply), taken)
-same_replies contents holds max label proof names command given (Err e) old new named held within asks h = tt
+same_replies contents holds max label proof names command given (Ok status) old new read asks (text, reply, taken) =
+    (text, inr (given, read, command, asks, reply), taken)
+same_replies contents holds max label proof names command given (Err e) old new read asks h = tt
 
-pub same_stops : {O T : Type 0} (contents : O → Option (List ℕ)) (holds : List ℕ → Option (List ℕ)) (may_fail : List ℕ → Type 0) (max : ℕ) (label proof : List ℕ) (names : List (List ℕ))
-    (command : Command) (given : PlainFile) (r : Result T Stop) (old new : Counted O) → given.name ≡ proof → IsHeld holds given → length given.bytes ≤ max
+pub same_stops : {O T : Type 0} (contents : O → Option (List ℕ)) (holds : List ℕ → KnownFile) (may_fail : List ℕ → Type 0) (max : ℕ) (label proof : List ℕ) (names : List (List ℕ))
+    (command : Command) (given : PlainFile) (r : Result T Stop) (old new : Counted O) → IsProofRead holds proof max given
     → IsSameCommand label given.bytes command
     → IfErr r (λ stop. StopsRun contents holds may_fail command names max stop old new)
     → IfErr r (λ stop. StopsSame contents holds may_fail label proof names max stop old new)
-same_stops contents holds may_fail max label proof names command given (Ok v) old new named held within asks h = tt
-same_stops contents holds may_fail max label proof names command given (Err (Usage text)) old new named held within asks h = absurd h
-same_stops contents holds may_fail max label proof names command given (Err NotText) old new named held within asks h = absurd h
-same_stops contents holds may_fail max label proof names command given (Err (CannotRead name)) old new named held within asks h = (inr h.0, h.1)
-same_stops contents holds may_fail max label proof names command given (Err CannotWrite) old new named held within asks (text, status, reply, broke) =
-    (text, status, inr (given, named, held, within, command, asks, reply), broke)
-same_stops contents holds may_fail max label proof names command given (Err Memory) old new named held within asks h = h
+same_stops contents holds may_fail max label proof names command given (Ok v) old new read asks h = tt
+same_stops contents holds may_fail max label proof names command given (Err (Usage text)) old new read asks h = absurd h
+same_stops contents holds may_fail max label proof names command given (Err NotText) old new read asks h = absurd h
+same_stops contents holds may_fail max label proof names command given (Err (CannotRead name)) old new read asks h = (inr (given, read, h.0), h.1)
+same_stops contents holds may_fail max label proof names command given (Err CannotWrite) old new read asks (text, status, reply, broke) =
+    (text, status, inr (given, read, command, asks, reply), broke)
+same_stops contents holds may_fail max label proof names command given (Err Memory) old new read asks h = h
 
 -- The line that the proof holds too many bytes broke off.
-pub same_too_long : {O T : Type 0} (contents : O → Option (List ℕ)) (holds : List ℕ → Option (List ℕ)) (may_fail : List ℕ → Type 0)
+pub same_too_long : {O T : Type 0} (contents : O → Option (List ℕ)) (holds : List ℕ → KnownFile) (may_fail : List ℕ → Type 0)
     (label proof : List ℕ) (names : List (List ℕ)) (max : ℕ) (r : Result T Stop) (old new : Counted O)
-    → IfErr r (λ stop. stop ≡ CannotWrite) → OnErr r (BreaksOff contents (codes "text F3 0\n") old new) → IfSome (holds proof) (λ all. max < length all)
+    → IfErr r (λ stop. stop ≡ CannotWrite) → OnErr r (BreaksOff contents (codes "text F3 0\n") old new) → MayHold (holds proof) (λ all. max < length all)
     → IfErr r (λ stop. StopsSame contents holds may_fail label proof names max stop old new)
 same_too_long contents holds may_fail label proof names max (Ok v) old new stop broke long = tt
 same_too_long contents holds may_fail label proof names max (Err s) old new stop broke long =
@@ -103,7 +103,7 @@ same_too_long contents holds may_fail label proof names max (Err s) old new stop
     subst Stopped (sym stop) (codes "text F3 0\n", 4, inl (long, refl, refl), broke)
 
 -- The words were answered, and standard error left alone.
-pub ends_answered : {O E : Type 0} (contents : O → Option (List ℕ)) (said : E → Option (List ℕ)) (holds : List ℕ → Option (List ℕ))
+pub ends_answered : {O E : Type 0} (contents : O → Option (List ℕ)) (said : E → Option (List ℕ)) (holds : List ℕ → KnownFile)
     (may_fail : List ℕ → Type 0) (texts : Texts) (max : ℕ) (words : List (List ℕ)) (status number : ℕ) (old new : Counted O) (err : Counted E)
     → number ≡ status
     → ((text : List ℕ) × AnswersWords holds texts max words text status × TakesWhole contents text old new)

@@ -1,11 +1,12 @@
 -- From the reading of one file to that of all.
-use Rattle.std.proofs.Common.{◌≡◌, ℕ, suc, ◌+◌, ◌<◌, List, ◌∷◌, ◌++◌, length, map, take, drop, get_or, Option, Some, None, Result, Ok, Err, IfErr, IfSome, IsErrOf, IsErrAnd, refl, sym, ap, ◌∙◌, subst, arith, Bor}
+use Rattle.std.proofs.Common.{◌≡◌, ℕ, suc, ◌+◌, ◌<◌, List, ◌∷◌, ◌++◌, length, map, take, drop, get_or, Result, Ok, Err, IfErr, IsErrOf, IsErrAnd, refl, sym, ap, ◌∙◌, subst, arith, Bor}
 use Rattle.std.proofs.Math.Seq.{drop-cons}
 use Rattle.std.proofs.lemmas.List.{map-append}
 use Rattle.std.proofs.Common.{take-append-drop}
 use Rattle.std.specs.List.{AllByRecursion}
 use Rattle.mm_text.specs.Files.{PlainFile, total_bytes}
-use Rattle.mm_tool.specs.Folder.{ComesNext, IsFileFault, IsHeld}
+use Rattle.mm_tool.specs.Folder.{ComesNext, IsFileFault, IsHeld, KnownFile, MayHold}
+use Rattle.mm_tool.specs.Folder.{Unknown, Absent, Holds}
 use Rattle.mm_tool.specs.declared.files.FileFault.{FileFault}
 use Rattle.mm_tool.specs.declared.files.FileFault.TheVariants.{CannotRead, TooLong, Memory}
 use Rattle.mm_tool.specs.declared.files.ReadFile.{ReadFile}
@@ -25,7 +26,7 @@ texts_at names i d h =
     ap texts_in (sym (take-append-drop i names) ∙ ap (λ l. take i names ++ l) (drop-cons names i d h))
     ∙ map-append (λ (n : Bor (List ℕ)). n.now) (take i names) (get_or names i d ∷ drop (suc i) names)
 
-abbrev pub comes_next : (holds : List ℕ → Option (List ℕ)) (names : List (Bor (List ℕ))) (max i : ℕ) (d : Bor (List ℕ)) (before : List PlainFile) (left : ℕ)
+abbrev pub comes_next : (holds : List ℕ → KnownFile) (names : List (Bor (List ℕ))) (max i : ℕ) (d : Bor (List ℕ)) (before : List PlainFile) (left : ℕ)
     → i < length names → map (λ f. f.name) before ≡ texts_in (take i names) → AllByRecursion (IsHeld holds) before → total_bytes before + left ≡ max
     → ComesNext holds (texts_in names) max (get_or names i d).now
 comes_next holds names max i d before left h named held whole = record {
@@ -40,11 +41,11 @@ abbrev read_error : FileFault → Result ReadFile FileFault
 read_error f = Err f
 
 -- Where one file wasn't read, not all were.
-pub file_fault_at : (holds : List ℕ → Option (List ℕ)) (may_fail : List ℕ → Type 0) (names : List (Bor (List ℕ))) (max : ℕ) (name : Bor (List ℕ)) (left : ℕ)
+pub file_fault_at : (holds : List ℕ → KnownFile) (may_fail : List ℕ → Type 0) (names : List (Bor (List ℕ))) (max : ℕ) (name : Bor (List ℕ)) (left : ℕ)
     (next : ComesNext holds (texts_in names) max name.now) → total_bytes next.before + left ≡ max → (f : FileFault)
     → ((word : Bor (List ℕ)) → read_error f ≡ read_error (CannotRead word) → word ≡ name)
     → ((word : Bor (List ℕ)) → read_error f ≡ read_error (CannotRead word) → may_fail name.now)
-    → (IsErrOf (read_error f) TooLong → IfSome (holds name.now) (λ all. left < length all))
+    → (IsErrOf (read_error f) TooLong → MayHold (holds name.now) (λ all. left < length all))
     → IsFileFault holds may_fail (texts_in names) max f
 file_fault_at holds may_fail names max name left next whole (CannotRead word) named fails over =
     let Unreadable : Bor (List ℕ) → Type 0 = λ w. ComesNext holds (texts_in names) max w.now × may_fail w.now in
@@ -52,7 +53,9 @@ file_fault_at holds may_fail names max name left next whole (CannotRead word) na
 file_fault_at holds may_fail names max name left next whole TooLong named fails over =
     (name.now, next, more (holds name.now) (over refl))
   where
-    more : (o : Option (List ℕ)) → IfSome o (λ all. left < length all) → IfSome o (λ all. max < total_bytes next.before + length all)
-    more None h = tt
-    more (Some all) h = omega arith
+    more : (known : KnownFile) → MayHold known (λ all. left < length all)
+        → MayHold known (λ all. max < total_bytes next.before + length all)
+    more Unknown h = tt
+    more Absent h = absurd h
+    more (Holds all) h = omega arith
 file_fault_at holds may_fail names max name left next whole Memory named fails over = tt

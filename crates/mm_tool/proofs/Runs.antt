@@ -9,13 +9,13 @@ use Rattle.mm_check.specs.declared.command.RunFault.{RunFault}
 use Rattle.mm_check.specs.declared.command.RunFault.TheVariants as run
 use Rattle.mm_check.specs.declared.status.Status.{Status}
 use Rattle.mm_tool.proofs.FilesRead.{error_keeps}
-use Rattle.mm_tool.specs.Folder.{AreHeld, AreTooLong}
+use Rattle.mm_tool.specs.Folder.{AreHeld, AreTooLong, KnownFile}
 use Rattle.mm_tool.specs.Ending.{BreaksOff, StopsRun, stop_of}
 use Rattle.mm_tool.specs.declared.stop.Stop.{Stop}
 use Rattle.mm_tool.specs.declared.stop.Stop.TheVariants.{CannotWrite}
 
 -- The line that the files hold too many bytes broke off.
-pub stops_too_long : {O T : Type 0} (contents : O → Option (List ℕ)) (holds : List ℕ → Option (List ℕ)) (may_fail : List ℕ → Type 0)
+pub stops_too_long : {O T : Type 0} (contents : O → Option (List ℕ)) (holds : List ℕ → KnownFile) (may_fail : List ℕ → Type 0)
     (command : Command) (names : List (List ℕ)) (max : ℕ) (r : Result T Stop) (old new : Counted O)
     → IfErr r (λ stop. stop ≡ CannotWrite) → OnErr r (BreaksOff contents (codes "load F3\n") old new) → AreTooLong holds names max
     → IfErr r (λ stop. StopsRun contents holds may_fail command names max stop old new)
@@ -28,7 +28,7 @@ abbrev run_error : RunFault → Result Status RunFault
 run_error fault = Err fault
 
 -- The reply over the files that were read broke off, or memory for it was wanting.
-stops_run : {O : Type 0} (contents : O → Option (List ℕ)) (holds : List ℕ → Option (List ℕ)) (may_fail : List ℕ → Type 0)
+stops_run : {O : Type 0} (contents : O → Option (List ℕ)) (holds : List ℕ → KnownFile) (may_fail : List ℕ → Type 0)
     (command : Command) (names : List (List ℕ)) (max : ℕ) (fault : RunFault) (files : List PlainFile) (old new : Counted O)
     → AreHeld holds names files → total_bytes files ≤ max
     → (IsErrOf (run_error fault) run.Device → WritesBeginningOf files command (contents (inner_of old)) (contents (inner_of new)))
@@ -42,7 +42,7 @@ stops_run contents holds may_fail command names max run.Device files old new hel
 stops_run contents holds may_fail command names max run.Memory files old new held within device memory counted uncounted =
     (memory refl, uncounted (λ other. absurd (cc)))
 
-pub stops_at_run : {O T : Type 0} (contents : O → Option (List ℕ)) (holds : List ℕ → Option (List ℕ)) (may_fail : List ℕ → Type 0)
+pub stops_at_run : {O T : Type 0} (contents : O → Option (List ℕ)) (holds : List ℕ → KnownFile) (may_fail : List ℕ → Type 0)
     (command : Command) (names : List (List ℕ)) (max : ℕ) (r : Result T Stop) (fault : RunFault) (given files : List PlainFile) (old new : Counted O)
     → IsErrAnd r (λ stop. stop ≡ stop_of fault) → ((text : List ℕ) (status : ℕ) → IsReplyTo given command text status → IsReplyTo files command text status) → AreHeld holds names files → total_bytes files ≤ max
     → (IsErrOf (run_error fault) run.Device → WritesBeginningOf given command (contents (inner_of old)) (contents (inner_of new)))

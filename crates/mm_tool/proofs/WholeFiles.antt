@@ -1,5 +1,5 @@
 -- Files that were read, beside what they are read of.
-use Rattle.std.proofs.Common.{◌≡◌, ℕ, ◌+◌, ◌<◌, ◌≤◌, List, [], ◌∷◌, ◌++◌, length, map, take, get_or, refl, sym, ap, ap₂, ◌∙◌, subst, arith, Bor, Option, Some, None, IfSome}
+use Rattle.std.proofs.Common.{◌≡◌, ℕ, ◌+◌, ◌<◌, ◌≤◌, List, [], ◌∷◌, ◌++◌, length, map, take, get_or, refl, sym, ap, ap₂, ◌∙◌, subst, arith, Bor, Option, Some, IfSome}
 use Rattle.std.proofs.lemmas.List.{map-append, take_more}
 use Rattle.std.proofs.lemmas.List.Sums.{sum_by-append, sum_by_push}
 use Rattle.std.specs.List.{AllByRecursion, AllZip}
@@ -11,6 +11,7 @@ use Rattle.mm_check.specs.declared.command.Command.{Command}
 use Rattle.mm_check.specs.declared.command.Command.TheVariants.{Check}
 use Rattle.mm_tool.specs.declared.files.Comments.{Comments}
 use Rattle.mm_tool.specs.declared.files.Comments.TheVariants.{Kept, LeftOut}
+use Rattle.mm_tool.specs.Folder.{KnownFile, MayHold, Unknown, Absent, Holds}
 use Rattle.mm_tool.specs.ReadFiles.{IsReadAs}
 
 -- ## One file more
@@ -86,9 +87,11 @@ reply_over law LeftOut command max only wholes reads all within text status repl
 
 -- ## One file
 
--- what a source holds, where that is known, is what its file holds
-pub held_by : (known left : Option (List ℕ)) (all : List ℕ) → IfSome known (λ bytes. left ≡ Some bytes) → IfSome left (λ bytes. all ≡ bytes) → IfSome known (λ bytes. all ≡ bytes)
-held_by None left all one other = tt
-held_by (Some bytes) left all one other =
-    let Known : Option (List ℕ) → Type 0 = λ o. IfSome o (λ bytes. all ≡ bytes) in
+-- what is so of the bytes that a source holds is so of what its file holds
+pub held_by : (P : List ℕ → Type 0) (known : KnownFile) (left : Option (List ℕ))
+    → MayHold known (λ bytes. left ≡ Some bytes) → IfSome left P → MayHold known P
+held_by P Unknown left one other = tt
+held_by P Absent left one other = absurd one
+held_by P (Holds bytes) left one other =
+    let Known : Option (List ℕ) → Type 0 = λ o. IfSome o P in
     subst Known one other

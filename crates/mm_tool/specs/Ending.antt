@@ -16,7 +16,7 @@ use Rattle.mm_check.specs.declared.command.RunFault.TheVariants as run
 use Rattle.mm_check.specs.declared.status.Status.{Status}
 use Rattle.mm_check.specs.declared.status.Status.TheVariants as status
 use Rattle.clap.specs.Words.{Text}
-use Rattle.mm_tool.specs.Folder.{AreHeld, AreTooLong, IsHeld, IsUnreadable}
+use Rattle.mm_tool.specs.Folder.{AreHeld, AreTooLong, IsHeld, IsUnreadable, KnownFile, MayHold}
 use Rattle.mm_tool.specs.Words.{AsksHelp, AsksVersion, AsksExplain, AsksRun, AsksSame}
 use Rattle.mm_tool.specs.Words.{AreRefusedWords}
 use Rattle.mm_tool.specs.declared.folder.ArgumentFault.{ArgumentFault}
@@ -51,7 +51,7 @@ IsUntouched old new = (inner_of new ≡ inner_of old) × (faults_of new ≡ faul
 
 -- This is the reply to the command over the files with these names, or the one that says that they
 -- hold too many bytes.
-abbrev pub IsReplyOver : (List ℕ → Option (List ℕ)) → Command → List Text → ℕ → List ℕ → ℕ → Type 0
+abbrev pub IsReplyOver : (List ℕ → KnownFile) → Command → List Text → ℕ → List ℕ → ℕ → Type 0
 IsReplyOver holds command names max text status =
     ((files : List PlainFile) × AreHeld holds names files × (total_bytes files ≤ max)
     × IsReplyTo files command text status)
@@ -62,13 +62,18 @@ abbrev pub IsSameCommand : (label text : List ℕ) → Command → Type 0
 IsSameCommand label text (Same asked given) = (asked.now ≡ label) × (given.now ≡ text)
 IsSameCommand label text other = ⊥
 
+-- The file with the proof was read, and holds no more bytes than it may.
+abbrev pub IsProofRead : (List ℕ → KnownFile) → (proof : Text) → ℕ → PlainFile → Type 0
+IsProofRead holds proof max given =
+    (given.name ≡ proof) × IsHeld holds given × (length given.bytes ≤ max)
+
 -- This is the reply to the question whether the text in the file with this name is the same proof as
 -- that of the theorem with this label, or the one that says that it holds too many bytes.
-abbrev pub IsSameReplyOver : (List ℕ → Option (List ℕ)) → (label proof : Text) → List Text → ℕ
+abbrev pub IsSameReplyOver : (List ℕ → KnownFile) → (label proof : Text) → List Text → ℕ
     → List ℕ → ℕ → Type 0
 IsSameReplyOver holds label proof names max text status =
-    (IfSome (holds proof) (λ all. max < length all) × (text ≡ codes "text F3 0\n") × (status ≡ 4))
-    ⊎ ((given : PlainFile) × (given.name ≡ proof) × IsHeld holds given × (length given.bytes ≤ max)
+    (MayHold (holds proof) (λ all. max < length all) × (text ≡ codes "text F3 0\n") × (status ≡ 4))
+    ⊎ ((given : PlainFile) × IsProofRead holds proof max given
     × (command : Command) × IsSameCommand label given.bytes command
     × IsReplyOver holds command names max text status)
 
@@ -91,7 +96,7 @@ IsExplanationFault texts asked Memory = Unit {0}
 IsExplanationFault texts asked other = ⊥
 
 -- This text, with this status, answers the words.
-abbrev pub AnswersWords : (List ℕ → Option (List ℕ)) → Texts → ℕ → List Text → List ℕ → ℕ → Type 0
+abbrev pub AnswersWords : (List ℕ → KnownFile) → Texts → ℕ → List Text → List ℕ → ℕ → Type 0
 AnswersWords holds texts max words text status =
     (AsksHelp words × (text ≡ texts.help.now) × (status ≡ 0))
     ⊎ ((AsksVersion words × (text ≡ texts.version.now) × (status ≡ 0))
@@ -132,7 +137,7 @@ error_line Memory = codes "mm: out of memory\n"
 
 -- The command over the files with these names ended so, and that is what standard output shows of
 -- it.
-abbrev pub StopsRun : {O : Type 0} → (O → Option (List ℕ)) → (List ℕ → Option (List ℕ))
+abbrev pub StopsRun : {O : Type 0} → (O → Option (List ℕ)) → (List ℕ → KnownFile)
     → (List ℕ → Type 0) → Command → List Text → ℕ
     → Stop → Counted O → Counted O → Type 0
 StopsRun contents holds may_fail command names max (CannotRead name) old new =
@@ -143,14 +148,17 @@ StopsRun contents holds may_fail command names max CannotWrite old new =
 StopsRun contents holds may_fail command names max Memory old new = IsUntouched old new
 StopsRun contents holds may_fail command names max other old new = ⊥
 
--- The file with the proof, or one of the others, couldn't be opened, or a read of it failed.
-abbrev pub IsProofUnreadable : (List ℕ → Option (List ℕ)) → (List ℕ → Type 0) → (proof : Text)
+-- The file with the proof couldn't be opened, or a read of it failed; or it was read, and then one
+-- of the others couldn't be opened, or a read of that failed.
+abbrev pub IsProofUnreadable : (List ℕ → KnownFile) → (List ℕ → Type 0) → (proof : Text)
     → List Text → ℕ → List ℕ → Type 0
 IsProofUnreadable holds may_fail proof names max name =
-    ((name ≡ proof) × may_fail proof) ⊎ IsUnreadable holds may_fail names max name
+    ((name ≡ proof) × may_fail proof)
+    ⊎ ((given : PlainFile) × IsProofRead holds proof max given
+    × IsUnreadable holds may_fail names max name)
 
 -- The comparison with the proof in a file ended so, and that is what standard output shows of it.
-abbrev pub StopsSame : {O : Type 0} → (O → Option (List ℕ)) → (List ℕ → Option (List ℕ))
+abbrev pub StopsSame : {O : Type 0} → (O → Option (List ℕ)) → (List ℕ → KnownFile)
     → (List ℕ → Type 0) → (label proof : Text) → List Text → ℕ
     → Stop → Counted O → Counted O → Type 0
 StopsSame contents holds may_fail label proof names max (CannotRead name) old new =
@@ -162,7 +170,7 @@ StopsSame contents holds may_fail label proof names max Memory old new = IsUntou
 StopsSame contents holds may_fail label proof names max other old new = ⊥
 
 -- The words have no answer, and that is what standard output shows of it.
-abbrev pub Stops : {O : Type 0} → (O → Option (List ℕ)) → (List ℕ → Option (List ℕ))
+abbrev pub Stops : {O : Type 0} → (O → Option (List ℕ)) → (List ℕ → KnownFile)
     → (List ℕ → Type 0) → Texts → ℕ → List Text
     → Stop → Counted O → Counted O → Type 0
 Stops contents holds may_fail texts max words (Usage text) old new =
@@ -190,7 +198,7 @@ TellsLine contents line old new = TakesWhole contents line old new ⊎ BreaksOff
 
 -- The words were answered, with this status, and standard error is as it was.
 pub record EndsAnswered {O E : Type 0} (contents : O → Option (List ℕ))
-    (holds : List ℕ → Option (List ℕ)) (texts : Texts) (max : ℕ)
+    (holds : List ℕ → KnownFile) (texts : Texts) (max : ℕ)
     (words : List Text) (status : ℕ) (out out' : Counted O) (err err' : Counted E) : Type 0 where
   pub text : List ℕ
   pub answers : AnswersWords holds texts max words text status
@@ -199,7 +207,7 @@ pub record EndsAnswered {O E : Type 0} (contents : O → Option (List ℕ))
 
 -- They weren't, for this reason, and standard error was told.
 pub record EndsStopped {O E : Type 0} (contents : O → Option (List ℕ)) (said : E → Option (List ℕ))
-    (holds : List ℕ → Option (List ℕ))
+    (holds : List ℕ → KnownFile)
     (may_fail : List ℕ → Type 0) (texts : Texts) (max : ℕ) (words : List Text) (status : ℕ)
     (out out' : Counted O) (err err' : Counted E)
     : Type 0 where
@@ -210,7 +218,7 @@ pub record EndsStopped {O E : Type 0} (contents : O → Option (List ℕ)) (said
 
 -- How the program ends with these words.
 abbrev pub Ends : {O E : Type 0} → (O → Option (List ℕ)) → (E → Option (List ℕ))
-    → (List ℕ → Option (List ℕ)) → (List ℕ → Type 0) → Texts
+    → (List ℕ → KnownFile) → (List ℕ → Type 0) → Texts
     → ℕ → List Text → ℕ → Counted O → Counted O → Counted E → Counted E → Type 0
 Ends contents said holds may_fail texts max words status out out' err err' =
     EndsAnswered contents holds texts max words status out out' err err'

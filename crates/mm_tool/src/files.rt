@@ -5,7 +5,7 @@ ghost use Rattle.std.specs.Prelude.{IfOk, IfErr, IfSome, IsErrOf};
 ghost use Rattle.std.specs.List.{AllZip};
 ghost use Rattle.mm_text.specs.Device.{faults_of, inner_of};
 ghost use Rattle.mm_text.specs.Files.{PlainFile, total_bytes};
-ghost use Rattle.mm_tool.specs.Folder.{AreHeld, IsFileFault, IsHeld, plain_read};
+ghost use Rattle.mm_tool.specs.Folder.{AreHeld, IsFileFault, IsHeld, MayHold, plain_read};
 ghost use Rattle.mm_tool.specs.ReadFiles.{AreReadAs, IsReadAs};
 ghost use Rattle.mm_tool.specs.declared.files.FileFault.TheVariants.{Memory};
 
@@ -97,7 +97,7 @@ pub(crate) fn read_file<'a, F: Folder>(
     ensures unreadable { (word : _) → result ≡ Err (FileFault.CannotRead word)
         → F.may_fail folder.now name.entry.now }
     ensures too_long { IsErrOf result FileFault.TooLong
-        → IfSome (F.holds folder.now name.entry.now) (λ all. max < length all) }
+        → MayHold (F.holds folder.now name.entry.now) (λ all. max < length all) }
 {
     let Ok(file) = folder.open(name) else {
         return Err(FileFault::CannotRead(name));

@@ -1,8 +1,9 @@
 //! What the program needs of its host: files by their names, and the words that it was started
 //! with.
 
-ghost use Rattle.std.specs.Prelude.{◌≡◌, ℕ, ⊤, List, Option, None, map, IfOk, IfSome, OnErr};
+ghost use Rattle.std.specs.Prelude.{◌≡◌, ℕ, ⊤, List, Option, Some, None, map, IfOk, IfSome, OnErr};
 ghost use Rattle.std.specs.Prelude.{IsErrOf, string_bytes};
+ghost use Rattle.mm_tool.specs.Folder.{KnownFile, MayHold, Unknown};
 
 use mm_text::Source;
 use std::alloc::{AllocError, AllocGlobal, Global};
@@ -18,19 +19,20 @@ pub(crate) trait Folder {
     /// An open file.
     type File: Source + Drop;
 
-    /// What the file with a name holds, where that is known.
-    ghost holds: { Self → List ℕ → Option (List ℕ) };
+    /// What is known of the file with a name: nothing, that there is none, or its bytes.
+    ghost holds: { Self → List ℕ → KnownFile };
 
     /// The file with a name can't be opened, or a read of it may fail.
     ghost may_fail: { Self → List ℕ → Type 0 };
 
-    /// Opens the file with this name, to be read from its beginning.
+    /// Opens the file with this name, to be read from its beginning. A file that is absent isn't
+    /// opened.
     ///
     /// # Errors
     ///
     /// Only where the file may fail.
     fn open(&self, name: &str) -> io::Result<Self::File>
-        ensures bytes { IfOk result (λ file. IfSome (holds self.now name.now)
+        ensures bytes { IfOk result (λ file. MayHold (holds self.now name.now)
             (λ all. Self.File.left file ≡ Some all)) }
         ensures later { IfOk result (λ file. Self.File.may_fail file → may_fail self.now name.now) }
         ensures cause { OnErr result (may_fail self.now name.now) };
@@ -110,7 +112,7 @@ pub(crate) struct Host<'r, R>(pub(crate) &'r R);
 impl<R: Files> Folder for Host<'_, R> {
     type File = HostFile<R::File>;
 
-    ghost holds = { λ _ _. None };
+    ghost holds = { λ _ _. Unknown };
 
     ghost may_fail = { λ _ _. ⊤ };
 

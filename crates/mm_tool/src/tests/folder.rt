@@ -1,8 +1,8 @@
 //! A folder in memory.
 
-ghost use Rattle.std.specs.Prelude.{◌≡◌, ⊤, List, ℕ, Some, MatchOption, IfSome, find, option_map};
-ghost use Rattle.std.specs.Prelude.{true};
+ghost use Rattle.std.specs.Prelude.{◌≡◌, ⊤, List, ℕ, Some, MatchOption, find, true};
 ghost use Rattle.std.specs.Str.{bytes_eq};
+ghost use Rattle.mm_tool.specs.Folder.{Absent, Holds, MayHold};
 
 use crate::folder::Folder;
 use mm_text::Source;
@@ -18,7 +18,7 @@ pub(crate) struct Entry {
     pub(crate) breaks: bool,
 }
 
-/// Files that lie in memory.
+/// Files that lie in memory. A file that isn't among them is absent.
 #[derive(Clone, Copy)]
 pub(crate) struct Shelf<'a>(pub(crate) &'a [Entry]);
 
@@ -62,8 +62,9 @@ fn entry_with(entries: &[Entry], name: &str) -> Option<Entry>
 impl Folder for Shelf<'_> {
     type File = OpenEntry;
 
-    ghost holds = { λ shelf name. option_map (λ entry. entry.bytes.now)
-        (find (λ entry. bytes_eq entry.name.now name) shelf.0.now) };
+    ghost holds = { λ shelf name. MatchOption
+        (find (λ entry. bytes_eq entry.name.now name) shelf.0.now) Absent
+        (λ entry. Holds entry.bytes.now) };
 
     ghost may_fail = { λ shelf name. MatchOption
         (find (λ entry. bytes_eq entry.name.now name) shelf.0.now) ⊤

@@ -1,4 +1,4 @@
-use Rattle.std.proofs.Common.{refl}
+use Rattle.std.proofs.Common.{◌≡◌, ◌<◌, length, refl}
 use Rattle.mm_tool.proofs.WholeFiles.{held_by}
 use Rattle.mm_tool.proofs.files.read_file.Goals as goal
 
@@ -7,7 +7,8 @@ returns-in-Ok-read_bytes-clause-read g c =
     let (all, known, size, read) = c.in-Ok-read_bytes.ensures.read in (
       record { name = c.args.name.now; bytes = all },
       refl,
-      held_by (g.F.Folder.holds c.args.folder.now c.args.name.now) (g.F.File.Source.left c.in-Ok.file) all c.in-Ok.ensures.bytes (rw c.new.ensures.inner at known),
+      held_by (λ bytes. all ≡ bytes) (g.F.Folder.holds c.args.folder.now c.args.name.now)
+          (g.F.File.Source.left c.in-Ok.file) c.in-Ok.ensures.bytes (rw c.new.ensures.inner at known),
       size,
       (refl, read),
     )

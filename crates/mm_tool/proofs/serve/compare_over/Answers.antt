@@ -28,7 +28,7 @@ returns-clause-replies g c =
     same_replies g.O.Write.contents (g.F.Folder.holds c.args.folder.now) c.args.max
     c.args.asked.now.label.now c.args.asked.now.proof.now _
     (Same c.as_bytes.result c.deref.result) whole c.run_over.result _ _
-    named held within (c.as_bytes.ensures.value, c.deref.ensures.value ∙ reads.1)
+    (named, held, within) (c.as_bytes.ensures.value, c.deref.ensures.value ∙ reads.1)
     (subst Replied c.deref-2.ensures.value c.run_over.ensures.replies)
 
 pub returns-clause-stops : goal.returns-clause-stops
@@ -45,5 +45,5 @@ returns-clause-stops g c =
     (g.F.Folder.may_fail c.args.folder.now) c.args.max
     c.args.asked.now.label.now c.args.asked.now.proof.now _
     (Same c.as_bytes.result c.deref.result) whole c.run_over.result _ _
-    named held within (c.as_bytes.ensures.value, c.deref.ensures.value ∙ reads.1)
+    (named, held, within) (c.as_bytes.ensures.value, c.deref.ensures.value ∙ reads.1)
     (subst Stopped c.deref-2.ensures.value c.run_over.ensures.stops)
