@@ -1,9 +1,12 @@
 //! What the program needs of its host: files by their names, and the words that it was started
 //! with.
 
-ghost use Rattle.std.specs.Prelude.{◌≡◌, ℕ, ⊤, List, Option, Some, None, map, IfOk, IfSome, OnErr};
-ghost use Rattle.std.specs.Prelude.{IsErrOf, string_bytes};
+ghost use Rattle.std.specs.Prelude.{◌≡◌, ◌≢◌, ◌↔◌, ℕ, ⊤, List, Option, Some, None, map};
+ghost use Rattle.std.specs.Prelude.{IfOk, IfErr, IfSome, OnErr, IsErrAnd, IsErrOf, string_bytes};
+ghost use Rattle.std.specs.IoError.{error_kind};
+ghost use Rattle.std.specs.declared.io.ErrorKind.TheVariants.{OutOfMemory};
 ghost use Rattle.mm_tool.specs.Folder.{KnownFile, MayHold, Unknown};
+ghost use Rattle.mm_tool.specs.declared.folder.ArgumentFault.TheVariants.{Memory};
 
 use mm_text::Source;
 use std::alloc::{AllocError, AllocGlobal, Global};
@@ -50,12 +53,16 @@ pub(crate) enum ArgumentFault {
 }
 
 impl From<AllocError> for ArgumentFault {
+    ghost from_gives = { λ _ e. e ≡ Memory };
+
     fn from(_e: AllocError) -> ArgumentFault {
         ArgumentFault::Memory
     }
 }
 
 impl From<io::Error> for ArgumentFault {
+    ghost from_gives = { λ error e. (e ≡ Memory) ↔ (error_kind error ≡ OutOfMemory) };
+
     fn from(error: io::Error) -> ArgumentFault {
         match error.kind() {
             io::ErrorKind::OutOfMemory => ArgumentFault::Memory,
@@ -121,12 +128,25 @@ impl<R: Files> Folder for Host<'_, R> {
     }
 }
 
+/// The words that the host gave, or why there are none.
+///
+/// # Errors
+///
+/// `NotText` only where the host failed, and not for want of memory; `Memory` where a growth was
+/// refused.
+pub(crate) fn words_of(alloc: Global, given: io::Result<env::Args>) -> Result<Vec<String>, ArgumentFault>
+    ensures cause { IsErrOf result ArgumentFault.NotText
+        → IsErrAnd given (λ error. error_kind error ≢ OutOfMemory) }
+{
+    Ok(given?.collect(alloc)?)
+}
+
 impl<R: Env + AllocGlobal> Arguments for Host<'_, R> {
     ghost words = { λ _. None };
 
     ghost may_fail = { λ _. ⊤ };
 
     fn words(&self, alloc: Global) -> Result<Vec<String>, ArgumentFault> {
-        Ok(env::args(self.0)?.collect(alloc)?)
+        words_of(alloc, env::args(self.0))
     }
 }
