@@ -1,14 +1,18 @@
 //! The program over files in memory. What it prints, and how it ends on a real file system, is
 //! tested by `scripts/statuses.sh`.
 
+mod failing;
 mod folder;
 
-use crate::serve::{run_over, serve};
+use crate::serve::{run_over, serve, start};
 use crate::texts::Texts;
+use failing::{FailingFolder, Wordless, failing_writer};
 use folder::{Entry, Shelf};
 use mm_check::{Command, Status};
 use mm_text::{Counted, Seed};
 use std::alloc::Global;
+use std::cell::Cell;
+use std::io::ErrorKind;
 
 const FIRST: &[u8] = b"$c 0 + ( ) term $.
 $v t r $.
@@ -156,4 +160,143 @@ fn refuses_files_that_are_too_long(rt: HostRuntime) {
     );
     assert!(rt; answer.is_err());
     assert!(rt; out.into_inner().is_empty());
+}
+
+const STEPS: &[u8] = b"1 tze term 0\n2 tze term 0\n3 tpl term ( 0 + 0 )\n";
+
+/// Whether the program stops at the call of standard output that fails, and has written what comes
+/// before it.
+fn stops_writing(alloc: Global, words: &[&str], reply: &[u8], fails_at: usize) -> bool {
+    let entries = ENTRIES;
+    let mut out = failing_writer(alloc, fails_at);
+    let mut err = Counted::new(Vec::new(alloc));
+    let status = serve(
+        alloc,
+        Seed::known(),
+        &Shelf(&entries),
+        &TEXTS,
+        words,
+        &mut out,
+        &mut err,
+    );
+    let out = out.into_inner();
+    status == 4
+        && out.calls == fails_at
+        && reply.get(..fails_at.saturating_sub(1)) == Some(out.taken.as_slice())
+        && err.into_inner().as_slice() == b"mm: cannot write\n".as_slice()
+}
+
+// Standard output takes one byte a call.
+#[test]
+fn stops_at_a_failed_write(rt: HostRuntime) {
+    for (words, reply) in [
+        (["mm", "show", "th", "first.mm"].as_slice(), STEPS),
+        (["mm", "help"].as_slice(), b"help\n".as_slice()),
+    ] {
+        for fails_at in 1..=reply.len() {
+            assert!(rt; stops_writing(rt.alloc(), words, reply, fails_at), "at {fails_at}");
+        }
+    }
+}
+
+const UNREAD: &[u8] = b"mm: cannot read none.mm\n";
+
+/// Whether the program stops at the call of standard error that fails, and ends as it would else.
+fn stops_telling(alloc: Global, fails_at: usize) -> bool {
+    let entries = ENTRIES;
+    let mut out = Counted::new(Vec::new(alloc));
+    let mut err = failing_writer(alloc, fails_at);
+    let status = serve(
+        alloc,
+        Seed::known(),
+        &Shelf(&entries),
+        &TEXTS,
+        &["mm", "check", "none.mm"],
+        &mut out,
+        &mut err,
+    );
+    let err = err.into_inner();
+    status == 4
+        && err.calls == fails_at
+        && UNREAD.get(..fails_at.saturating_sub(1)) == Some(err.taken.as_slice())
+        && out.into_inner().is_empty()
+}
+
+// The line is written in three parts.
+#[test]
+fn stops_at_a_failed_line(rt: HostRuntime) {
+    for fails_at in 1..=UNREAD.len() {
+        assert!(rt; stops_telling(rt.alloc(), fails_at), "at {fails_at}");
+    }
+}
+
+/// Whether the program stops at the read that fails.
+fn stops_reading(alloc: Global, words: &[&str], fails_at: usize) -> bool {
+    let calls = Cell::new(0);
+    let folder = FailingFolder {
+        bytes: FIRST,
+        fails_at,
+        calls: &calls,
+    };
+    let mut out = Counted::new(Vec::new(alloc));
+    let mut err = Counted::new(Vec::new(alloc));
+    let status = serve(
+        alloc,
+        Seed::known(),
+        &folder,
+        &TEXTS,
+        words,
+        &mut out,
+        &mut err,
+    );
+    status == 4
+        && calls.get() == fails_at
+        && out.into_inner().is_empty()
+        && err.into_inner().as_slice() == b"mm: cannot read first.mm\n".as_slice()
+}
+
+// A file gives one byte a call, and the last call finds its end.
+#[test]
+fn stops_at_a_failed_read(rt: HostRuntime) {
+    for words in [
+        ["mm", "check", "first.mm"].as_slice(),
+        ["mm", "show", "th", "first.mm"].as_slice(),
+    ] {
+        for fails_at in 1..=FIRST.len() + 1 {
+            assert!(rt; stops_reading(rt.alloc(), words, fails_at), "at {fails_at}");
+        }
+    }
+}
+
+// Want of memory as the words are read isn't told as words that aren't understood.
+#[test]
+fn tells_why_words_are_unread(rt: HostRuntime) {
+    for (kind, wanted, line) in [
+        (
+            ErrorKind::OutOfMemory,
+            4,
+            b"mm: out of memory\n".as_slice(),
+        ),
+        (
+            ErrorKind::InvalidData,
+            2,
+            b"mm: a word is not UTF-8\n".as_slice(),
+        ),
+    ] {
+        let entries = ENTRIES;
+        let mut out = Counted::new(Vec::new(rt.alloc()));
+        let mut err = Counted::new(Vec::new(rt.alloc()));
+        let status = start(
+            rt.alloc(),
+            Seed::known(),
+            &Wordless(kind),
+            &Shelf(&entries),
+            &TEXTS,
+            &mut out,
+            &mut err,
+        );
+        assert_eq!(rt; status, wanted);
+        assert!(rt; out.into_inner().is_empty());
+        assert!(rt; err.into_inner().as_slice() == line);
+    }
 }
