@@ -220,8 +220,8 @@ fn faults_have_messages(rt: HostRuntime) -> Result<(), Fail> {
     Ok(())
 }
 
-/// Whether the program stops at the call of its writer that fails, which is counted alone, and has
-/// written what comes before it.
+/// Whether the program stops at the call of its writer that fails, which is the last one and is
+/// counted alone, and has written what comes before it.
 fn stops_writing(alloc: Global, fails_at: usize, answers_zero: bool) -> bool {
     let mut out = failing_writer(alloc, fails_at, answers_zero);
     let answer = run(
@@ -233,10 +233,11 @@ fn stops_writing(alloc: Global, fails_at: usize, answers_zero: bool) -> bool {
     )
     .err();
     let faults = out.faults();
-    let taken = out.into_inner().taken;
+    let out = out.into_inner();
     answer == Some(RunFault::Device)
         && faults == 1
-        && REPLY.get(..fails_at.saturating_sub(1)) == Some(taken.as_slice())
+        && out.calls == fails_at
+        && REPLY.get(..fails_at.saturating_sub(1)) == Some(out.taken.as_slice())
 }
 
 // The reply has 26 bytes, so a writer that takes one byte a call is called 26 times.

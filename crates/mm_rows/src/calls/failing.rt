@@ -1,4 +1,4 @@
-//! A writer that fails in the middle of a text.
+//! A writer that fails at one call alone, in the middle of a text.
 
 ghost use Rattle.std.specs.Prelude.{◌≡◌};
 ghost use Rattle.mm_text.specs.Device.{faults_of};
@@ -8,18 +8,22 @@ use std::alloc::Global;
 use std::io;
 use std::io::{ErrorKind, Write};
 
-/// Takes one byte a call, but fails at one of its calls, the first of which is number 1.
+/// Takes one byte a call, but fails at one of its calls alone, the first of which is number 1. It
+/// takes what is written after that, and so shows who tries again or goes on.
 #[derive(Drop)]
 pub(crate) struct FailingWriter {
     /// What was taken so far.
     pub(crate) taken: Vec<u8>,
+    /// How many calls came so far.
+    pub(crate) calls: usize,
     fails_at: usize,
     answers_zero: bool,
 }
 
 impl Write for FailingWriter {
     fn write(&mut self, buf: &[u8]) -> io::Result<usize> {
-        if self.taken.len().saturating_add(1) == self.fails_at {
+        self.calls = self.calls.saturating_add(1);
+        if self.calls == self.fails_at {
             return if self.answers_zero {
                 Ok(0)
             } else {
@@ -50,6 +54,7 @@ pub(crate) fn failing_writer(
 {
     Counted::new(FailingWriter {
         taken: Vec::new(alloc),
+        calls: 0,
         fails_at,
         answers_zero,
     })

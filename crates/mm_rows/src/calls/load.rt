@@ -87,16 +87,17 @@ fn reads_before_a_failed_call(rt: HostRuntime) -> Result<(), Fail> {
     Ok(())
 }
 
-/// Whether the writing stops at the call that fails, counts it alone, and has written what comes
-/// before it.
+/// Whether the writing stops at the call that fails, which is the last one, counts it alone, and has
+/// written what comes before it.
 fn stops_writing(alloc: Global, fails_at: usize, answers_zero: bool) -> bool {
     let mut writer = failing_writer(alloc, fails_at, answers_zero);
     let answer = writer.write_all(TEXT);
     let faults = writer.faults();
-    let taken = writer.into_inner().taken;
+    let writer = writer.into_inner();
     answer == Err(WriteFault)
         && faults == 1
-        && TEXT.get(..fails_at.saturating_sub(1)) == Some(taken.as_slice())
+        && writer.calls == fails_at
+        && TEXT.get(..fails_at.saturating_sub(1)) == Some(writer.taken.as_slice())
 }
 
 #[test]
@@ -127,12 +128,13 @@ fn counts_failed_reads(rt: HostRuntime) -> Result<(), Fail> {
         Err(fault) => assert!(rt; fault.kind() == ErrorKind::Interrupted),
     }
     assert!(rt; reader.faults() == 1);
+    assert!(rt; reader.into_inner().calls == 2);
     Ok(())
 }
 
 #[test]
 fn counts_failed_writes(rt: HostRuntime) -> Result<(), Fail> {
-    let mut writer = failing_writer(rt.alloc(), 2, false);
+    let mut writer = failing_writer(rt.alloc(), 3, false);
     assert!(rt; writer.write(b"")? == 0);
     assert!(rt; writer.write(TEXT)? == 1);
     assert!(rt; writer.faults() == 0);
@@ -141,6 +143,7 @@ fn counts_failed_writes(rt: HostRuntime) -> Result<(), Fail> {
         Err(fault) => assert!(rt; fault.kind() == ErrorKind::BrokenPipe),
     }
     assert!(rt; writer.faults() == 1);
+    assert!(rt; writer.into_inner().calls == 3);
     Ok(())
 }
 
@@ -151,6 +154,7 @@ fn counts_writes_of_nothing(rt: HostRuntime) -> Result<(), Fail> {
     assert!(rt; writer.faults() == 0);
     assert!(rt; writer.write(TEXT)? == 0);
     assert!(rt; writer.faults() == 1);
+    assert!(rt; writer.into_inner().calls == 2);
     Ok(())
 }
 
