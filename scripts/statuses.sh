@@ -233,6 +233,25 @@ ends 4 '' 'mm: cannot read none.mm\n' check none.mm first.mm
 ends 4 '' 'mm: cannot read -x.mm\n' check -- -x.mm
 ends 4 '' 'mm: cannot read \n' check '' first.mm
 
+# The file that is opened is the one that is named, beside another that could be taken for it: one of
+# the same last name in another folder, or one whose name lacks the blanks at both ends. And no word
+# of many is dropped.
+mkdir d
+cp empty.mm d/first.mm
+cp empty.mm ' first.mm '
+ends 0 'yes 0 statements 0 proofs\n' '' check d/first.mm
+ends 4 '' 'mm: cannot read d/twice.mm\n' check d/twice.mm
+ends 0 'yes 0 statements 0 proofs\n' '' check ' first.mm '
+ends 4 '' 'mm: cannot read  twice.mm \n' check ' twice.mm '
+parts=
+for part in 1 2 3 4 5 6 7 8 9 10 11; do
+    printf '$[ part%s.mm $]\n' "$part" >>parts.mm
+    printf '$c c%s $.\n' "$part" >"part$part.mm"
+    parts="$parts part$part.mm"
+done
+ends 0 'yes 11 statements 0 proofs\n' '' check parts.mm $parts
+ends 4 '' 'mm: cannot read part12.mm\n' check parts.mm $parts part12.mm
+
 # Zeros, one more than the files may hold, of which the file system need not keep any.
 truncate -s 1073741825 long.mm
 ends 4 'load F3\n' '' check long.mm none.mm
