@@ -4,6 +4,8 @@
 #![tactic(auto)]
 
 #[cfg(test)]
+mod answers;
+#[cfg(test)]
 mod calls;
 #[cfg(test)]
 mod compressed;
@@ -12,9 +14,13 @@ mod damaged;
 #[cfg(test)]
 mod databases;
 #[cfg(test)]
+mod doublings;
+#[cfg(test)]
 mod examples;
 #[cfg(test)]
 mod files;
+#[cfg(test)]
+mod forms;
 #[cfg(test)]
 mod incomplete;
 #[cfg(test)]
@@ -29,6 +35,10 @@ mod proofs;
 mod questions;
 #[cfg(test)]
 mod rules;
+#[cfg(test)]
+mod sameness;
+#[cfg(test)]
+mod saving;
 #[cfg(test)]
 mod scopes;
 #[cfg(test)]
@@ -48,5 +58,17 @@ pub(crate) struct Row {
     pub(crate) name: &'static str,
     pub(crate) files: &'static [(&'static [u8], &'static [Part])],
     pub(crate) reply: &'static [u8],
+    pub(crate) status: u8,
+}
+
+/// A case of a question about the proof of a theorem: the command; the files, each a name and the
+/// pieces of its content, of which the last one holds the theorem; the pieces of the reply; and its
+/// status.
+#[cfg(test)]
+pub(crate) struct Asked {
+    pub(crate) name: &'static str,
+    pub(crate) command: mm_check::Command<'static>,
+    pub(crate) files: &'static [(&'static [u8], &'static [Part])],
+    pub(crate) reply: &'static [Part],
     pub(crate) status: u8,
 }

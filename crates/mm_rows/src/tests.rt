@@ -13,7 +13,7 @@ use std::str::from_utf8;
 use std::test::Fail;
 
 /// The bytes of the pieces, one after the other.
-fn joined(alloc: Global, parts: &[Part]) -> Result<Vec<u8>, Fail> {
+pub(crate) fn joined(alloc: Global, parts: &[Part]) -> Result<Vec<u8>, Fail> {
     let mut bytes = Vec::new(alloc);
     for part in parts {
         match part {
@@ -40,7 +40,7 @@ fn reply_to(
 }
 
 /// What a command replies to the files is this text, with this status.
-fn expect_reply(
+pub(crate) fn expect_reply(
     rt: &impl Abort,
     alloc: Global,
     command: &Command,
@@ -56,29 +56,37 @@ fn expect_reply(
 }
 
 /// The bytes of each file of a case.
-fn contents_of(alloc: Global, row: &Row) -> Result<Vec<Vec<u8>>, Fail> {
+pub(crate) fn contents_of(
+    alloc: Global,
+    files: &[(&'static [u8], &'static [Part])],
+) -> Result<Vec<Vec<u8>>, Fail> {
     let mut contents = Vec::new(alloc);
-    for (_, parts) in row.files {
+    for (_, parts) in files {
         contents.push(joined(alloc, parts)?)?;
     }
     Ok(contents)
 }
 
-/// Compares the text and the status of the reply to the files of a case.
-fn compare_contents(
-    rt: &impl Abort,
+/// The files of a case, with these bytes.
+pub(crate) fn files_of<'a>(
     alloc: Global,
-    command: &Command,
-    row: &Row,
-    contents: &[Vec<u8>],
-) -> Result<(), Fail> {
+    names: &[(&'static [u8], &'static [Part])],
+    contents: &'a [Vec<u8>],
+) -> Result<Vec<File<'a>>, Fail> {
     let mut files = Vec::new(alloc);
-    for ((name, _), bytes) in row.files.iter().zip(contents.iter()) {
+    for ((name, _), bytes) in names.iter().zip(contents.iter()) {
         files.push(File {
             name,
             bytes: bytes.as_slice(),
         })?;
     }
+    Ok(files)
+}
+
+/// Runs a case, and compares the text and the status of the reply.
+fn compare_case(rt: &impl Abort, alloc: Global, command: &Command, row: &Row) -> Result<(), Fail> {
+    let contents = contents_of(alloc, row.files)?;
+    let files = files_of(alloc, row.files, &contents)?;
     expect_reply(
         rt,
         alloc,
@@ -87,12 +95,6 @@ fn compare_contents(
         (row.reply, row.status),
         row.name,
     )
-}
-
-/// Runs a case, and compares the text and the status of the reply.
-fn compare_case(rt: &impl Abort, alloc: Global, command: &Command, row: &Row) -> Result<(), Fail> {
-    let contents = contents_of(alloc, row)?;
-    compare_contents(rt, alloc, command, row, &contents)
 }
 
 /// Runs the cases of a table of `check`.

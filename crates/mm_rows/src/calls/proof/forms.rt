@@ -9,6 +9,7 @@ ghost use Rattle.mm_proof.specs.Verified.{OfMoves};
 ghost use Rattle.mm_code.specs.Layout.{texts};
 
 use crate::calls::proof::{HEAD, JOINED, SHARED, Theorem, first_theorem, joined};
+use crate::doublings::TWENTY_FOUR;
 use mm_code::Code;
 use mm_frame::{Book, LabelId};
 use mm_proof::{ExpandFault, Flat, Packed, Parsed, Profile, Steps, compress, expand, same, verify};
@@ -112,6 +113,8 @@ fn spellings(rt: HostRuntime) -> Result<(), Fail> {
     let labels: [&[u8]; 7] = [b"nil", b"nil", b"cat", b"nil", b"nil", b"cat", b"cat"];
     assert!(rt; spells(alloc, SHARED, 7, &labels)?);
     assert!(rt; spells_more(alloc, SHARED, 6)?);
+    let doubled = joined(alloc, &[STRINGS, b"th $p e $= ", TWENTY_FOUR, b" $."])?;
+    assert!(rt; spells_more(alloc, &doubled, MOST)?);
     assert!(rt; spells_more(alloc, JOINED, MOST)?);
     Ok(())
 }

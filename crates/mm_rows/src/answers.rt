@@ -1,0 +1,213 @@
+//! Questions about the proof of a theorem: the program's reply, and what the call answers that goes
+//! with the command.
+
+use crate::tests::{contents_of, expect_reply, files_of, joined};
+use crate::{Asked, forms, sameness, saving};
+use mm_check::{AskFault, Checked, Command, Form, SaveFault, check, saved};
+use mm_text::{File, Seed};
+use std::alloc::Global;
+use std::process::Abort;
+use std::str::from_utf8;
+use std::test::Fail;
+
+/// What a call answers; nothing where the files are refused.
+type Answer = Option<Answered>;
+
+/// What a call answers over accepted files.
+type Answered = Result<Vec<u8>, AskFault>;
+
+/// The reply that tells whether two proofs are the same.
+fn sameness_line(alloc: Global, same: bool) -> Result<Vec<u8>, Fail> {
+    let line: &[u8] = if same { b"same\n" } else { b"different\n" };
+    Ok(Vec::from_slice(alloc, line)?)
+}
+
+/// What the call of a question answers over accepted files.
+fn answer_of(alloc: Global, checked: &Checked, command: &Command) -> Result<Answered, Fail> {
+    match command {
+        Command::Normal { label, .. } => Ok(checked.normal(alloc, label)),
+        Command::Packed { label, .. } => Ok(checked.packed(alloc, label)),
+        Command::Same { label, text } => match checked.same_text(alloc, label, text) {
+            Ok(same) => Ok(Ok(sameness_line(alloc, same)?)),
+            Err(fault) => Ok(Err(fault)),
+        },
+        _ => Err(Fail::from("another command")),
+    }
+}
+
+/// What the call of a question answers over the files.
+fn asked_of(alloc: Global, command: &Command, files: &[File]) -> Result<Answer, Fail> {
+    match check(alloc, Seed::known(), files) {
+        Ok(checked) => {
+            let answer = answer_of(alloc, &checked, command);
+            drop(checked);
+            Ok(Some(answer?))
+        }
+        Err(_) => Ok(None),
+    }
+}
+
+/// The bytes of the last file with the proof of a theorem in a form.
+fn saved_of(alloc: Global, label: &[u8], form: Form, files: &[File]) -> Result<Answer, Fail> {
+    match saved(alloc, Seed::known(), files, label, form) {
+        Ok((number, bytes)) => {
+            if number != files.len() - 1 {
+                return Err(Fail::from("another file"));
+            }
+            Ok(Some(Ok(bytes)))
+        }
+        Err(SaveFault::Ask(fault)) => Ok(Some(Err(fault))),
+        Err(SaveFault::Check(_)) => Ok(None),
+    }
+}
+
+/// What the call that goes with a command answers over the files.
+fn called(alloc: Global, command: &Command, files: &[File]) -> Result<Answer, Fail> {
+    match command {
+        Command::Normal { label, whole: true } => saved_of(alloc, label, Form::Normal, files),
+        Command::Packed { label, whole: true } => saved_of(alloc, label, Form::Packed, files),
+        _ => asked_of(alloc, command, files),
+    }
+}
+
+/// The label that a command asks about.
+fn label_of<'a>(command: &Command<'a>) -> &'a [u8] {
+    match command {
+        Command::Check => b"",
+        Command::Axioms { label }
+        | Command::Show { label }
+        | Command::Normal { label, .. }
+        | Command::Packed { label, .. }
+        | Command::Same { label, .. } => label,
+    }
+}
+
+/// The line that says why a question about a label has no answer.
+fn fault_line(alloc: Global, label: &[u8], fault: AskFault) -> Result<Vec<u8>, Fail> {
+    let label = from_utf8(label)?;
+    let line = match fault {
+        AskFault::Text { rule, step } => format!(in alloc; "text {rule:?} {step}\n")?,
+        other => format!(in alloc; "ask {other:?} {label}\n")?,
+    };
+    Ok(line.into_bytes())
+}
+
+/// Compares what the call that goes with a command answers; files that are refused have no answer.
+fn compare_call(
+    rt: &impl Abort,
+    alloc: Global,
+    asked: &Asked,
+    files: &[File],
+    reply: &[u8],
+) -> Result<(), Fail> {
+    let name = asked.name;
+    let text = match called(alloc, &asked.command, files)? {
+        Some(Ok(text)) => text,
+        Some(Err(fault)) => fault_line(alloc, label_of(&asked.command), fault)?,
+        None => {
+            assert!(rt; asked.status != 0, "refused in the case {name}");
+            return Ok(());
+        }
+    };
+    assert!(rt; text.as_slice() == reply, "by its call, in the case {name}");
+    Ok(())
+}
+
+/// Runs a case: its command, and the call that goes with that.
+fn compare_case(rt: &impl Abort, alloc: Global, asked: &Asked) -> Result<(), Fail> {
+    let contents = contents_of(alloc, asked.files)?;
+    let reply = joined(alloc, asked.reply)?;
+    let files = files_of(alloc, asked.files, &contents)?;
+    expect_reply(
+        rt,
+        alloc,
+        &asked.command,
+        &files,
+        (&reply, asked.status),
+        asked.name,
+    )?;
+    compare_call(rt, alloc, asked, &files, &reply)
+}
+
+/// Runs the cases of a table.
+fn compare(rt: &impl Abort, alloc: Global, table: &[Asked]) -> Result<(), Fail> {
+    for asked in table {
+        compare_case(rt, alloc, asked)?;
+    }
+    Ok(())
+}
+
+#[test]
+fn packed_proofs(rt: HostRuntime) -> Result<(), Fail> {
+    compare(&rt, rt.alloc(), &forms::PACKED)
+}
+
+#[test]
+fn normal_proofs(rt: HostRuntime) -> Result<(), Fail> {
+    compare(&rt, rt.alloc(), &forms::NORMAL)
+}
+
+#[test]
+fn doublings(rt: HostRuntime) -> Result<(), Fail> {
+    compare(&rt, rt.alloc(), &forms::DOUBLINGS)
+}
+
+#[test]
+fn lines_of_labels(rt: HostRuntime) -> Result<(), Fail> {
+    compare(&rt, rt.alloc(), &forms::LINES_OF_LABELS)
+}
+
+#[test]
+fn lines_of_letters(rt: HostRuntime) -> Result<(), Fail> {
+    compare(&rt, rt.alloc(), &forms::LINES_OF_LETTERS)
+}
+
+#[test]
+fn unanswered_forms(rt: HostRuntime) -> Result<(), Fail> {
+    compare(&rt, rt.alloc(), &forms::UNANSWERED)
+}
+
+#[test]
+fn same_proofs(rt: HostRuntime) -> Result<(), Fail> {
+    compare(&rt, rt.alloc(), &sameness::SAME)
+}
+
+#[test]
+fn different_proofs(rt: HostRuntime) -> Result<(), Fail> {
+    compare(&rt, rt.alloc(), &sameness::DIFFERENT)
+}
+
+#[test]
+fn no_texts(rt: HostRuntime) -> Result<(), Fail> {
+    compare(&rt, rt.alloc(), &sameness::NO_TEXTS)
+}
+
+#[test]
+fn faults_of_texts(rt: HostRuntime) -> Result<(), Fail> {
+    compare(&rt, rt.alloc(), &sameness::FAULTS_OF_TEXTS)
+}
+
+#[test]
+fn faults_of_their_steps(rt: HostRuntime) -> Result<(), Fail> {
+    compare(&rt, rt.alloc(), &sameness::FAULTS_OF_STEPS)
+}
+
+#[test]
+fn before_the_text(rt: HostRuntime) -> Result<(), Fail> {
+    compare(&rt, rt.alloc(), &sameness::BEFORE_THE_TEXT)
+}
+
+#[test]
+fn saved_files(rt: HostRuntime) -> Result<(), Fail> {
+    compare(&rt, rt.alloc(), &saving::SAVED)
+}
+
+#[test]
+fn kept_bytes(rt: HostRuntime) -> Result<(), Fail> {
+    compare(&rt, rt.alloc(), &saving::KEPT)
+}
+
+#[test]
+fn not_saved(rt: HostRuntime) -> Result<(), Fail> {
+    compare(&rt, rt.alloc(), &saving::NOT_SAVED)
+}

@@ -1,0 +1,666 @@
+//! The acceptance cases of the normal and the packed proof of a theorem.
+
+use crate::Asked;
+use crate::Part::{Text, Times};
+use crate::databases::{CAT, DEMO, DEMO_COMPRESSED, FIRST, HEAD};
+use crate::doublings::{
+    HUNDRED, HUNDRED_LINES, HUNDRED_TURNED, SIX_HUNDRED_AND_TWENTY_LINES, TWENTY_FOUR,
+    TWENTY_FOUR_LINES,
+};
+use mm_check::Command::{Normal, Packed};
+
+/// Packed proofs.
+pub(crate) const PACKED: [Asked; 9] = [
+    Asked {
+        name: "the packed form of the demonstration theorem",
+        command: Packed {
+            label: b"th1",
+            whole: false,
+        },
+        files: &[(b"demo0.mm", &[Text(DEMO)])],
+        reply: &[
+            Text(b"      ( tze tpl weq a2 wim a1 mp )\n"),
+            Text(b"      ABCZADZAADZAEZJJKFLIAAGHH\n"),
+        ],
+        status: 0,
+    },
+    Asked {
+        name: "the packed form of the compressed demonstration theorem",
+        command: Packed {
+            label: b"th1",
+            whole: false,
+        },
+        files: &[(b"demo0c.mm", &[Text(DEMO_COMPRESSED)])],
+        reply: &[
+            Text(b"      ( tze tpl weq a2 wim a1 mp )\n"),
+            Text(b"      ABCZADZAADZAEZJJKFLIAAGHH\n"),
+        ],
+        status: 0,
+    },
+    Asked {
+        name: "the packed form of a proof with tags that are not needed",
+        command: Packed {
+            label: b"th2",
+            whole: false,
+        },
+        files: &[(
+            b"h.mm",
+            &[
+                Text(HEAD),
+                Text(b"th2 $p term ( t + t ) $= ( tpl ) AZZCB $.\n"),
+            ],
+        )],
+        reply: &[Text(b"      ( tpl )\n"), Text(b"      AAB\n")],
+        status: 0,
+    },
+    Asked {
+        name: "the packed form of a proof with a label twice in its list",
+        command: Packed {
+            label: b"th2",
+            whole: false,
+        },
+        files: &[(
+            b"h.mm",
+            &[
+                Text(HEAD),
+                Text(b"th2 $p term ( t + t ) $= ( tpl tpl tt ) ADC $.\n"),
+            ],
+        )],
+        reply: &[Text(b"      ( tpl )\n"), Text(b"      AAB\n")],
+        status: 0,
+    },
+    Asked {
+        name: "the packed form of a proof with an unused label in its list",
+        command: Packed {
+            label: b"th1",
+            whole: false,
+        },
+        files: &[(
+            b"h.mm",
+            &[
+                Text(HEAD),
+                Text(b"a3 $a |- t = t $. th1 $p |- t = t $= ( tze tpl weq a2 wim a1 mp "),
+                Text(b"a3 ) ABCZADZAADZAEZKKLFMJAAGHH $.\n"),
+            ],
+        )],
+        reply: &[
+            Text(b"      ( tze tpl weq a2 wim a1 mp )\n"),
+            Text(b"      ABCZADZAADZAEZJJKFLIAAGHH\n"),
+        ],
+        status: 0,
+    },
+    Asked {
+        name: "the packed form of a hypothesis",
+        command: Packed {
+            label: b"h1",
+            whole: false,
+        },
+        files: &[(b"h.mm", &[Text(HEAD), Text(b"h1 $p term t $= tt $.\n")])],
+        reply: &[Text(b"      ( )\n"), Text(b"      A\n")],
+        status: 0,
+    },
+    Asked {
+        name: "the packed form of a small theorem",
+        command: Packed {
+            label: b"th",
+            whole: false,
+        },
+        files: &[(b"first.mm", &[Text(FIRST)])],
+        reply: &[Text(b"      ( tze tpl )\n"), Text(b"      AAB\n")],
+        status: 0,
+    },
+    Asked {
+        name: "the packed form shares what the proof repeats",
+        command: Packed {
+            label: b"th",
+            whole: false,
+        },
+        files: &[(
+            b"cat.mm",
+            &[
+                Text(CAT),
+                Text(b"th $p e $= nil nil cat nil nil cat cat $.\n"),
+            ],
+        )],
+        reply: &[Text(b"      ( nil cat )\n"), Text(b"      AABZCB\n")],
+        status: 0,
+    },
+    Asked {
+        name: "the packed form of a theorem that rests on an incomplete one",
+        command: Packed {
+            label: b"u2",
+            whole: false,
+        },
+        files: &[(
+            b"h.mm",
+            &[
+                Text(HEAD),
+                Text(b"u1 $p |- t = t $= ? $. u2 $p |- t = t $= tt u1 $.\n"),
+            ],
+        )],
+        reply: &[Text(b"      ( u1 )\n"), Text(b"      AB\n")],
+        status: 0,
+    },
+];
+
+/// Normal proofs.
+pub(crate) const NORMAL: [Asked; 5] = [
+    Asked {
+        name: "the normal form of the compressed demonstration theorem",
+        command: Normal {
+            label: b"th1",
+            whole: false,
+        },
+        files: &[(b"demo0c.mm", &[Text(DEMO_COMPRESSED)])],
+        reply: &[
+            Text(b"      tt tze tpl tt weq tt tt weq tt a2 tt tze tpl tt weq tt tze "),
+            Text(b"tpl tt weq tt\n"),
+            Text(b"      tt weq wim tt a2 tt tze tpl tt tt a1 mp mp\n"),
+        ],
+        status: 0,
+    },
+    Asked {
+        name: "the normal form of the demonstration theorem",
+        command: Normal {
+            label: b"th1",
+            whole: false,
+        },
+        files: &[(b"demo0.mm", &[Text(DEMO)])],
+        reply: &[
+            Text(b"      tt tze tpl tt weq tt tt weq tt a2 tt tze tpl tt weq tt tze "),
+            Text(b"tpl tt weq tt\n"),
+            Text(b"      tt weq wim tt a2 tt tze tpl tt tt a1 mp mp\n"),
+        ],
+        status: 0,
+    },
+    Asked {
+        name: "the normal form of a hypothesis",
+        command: Normal {
+            label: b"h1",
+            whole: false,
+        },
+        files: &[(b"h.mm", &[Text(HEAD), Text(b"h1 $p term t $= tt $.\n")])],
+        reply: &[Text(b"      tt\n")],
+        status: 0,
+    },
+    Asked {
+        name: "the normal form of a small theorem",
+        command: Normal {
+            label: b"th",
+            whole: false,
+        },
+        files: &[(b"first.mm", &[Text(FIRST)])],
+        reply: &[Text(b"      tze tze tpl\n")],
+        status: 0,
+    },
+    Asked {
+        name: "the normal form of a short shared proof",
+        command: Normal {
+            label: b"th",
+            whole: false,
+        },
+        files: &[(
+            b"cat.mm",
+            &[Text(CAT), Text(b"th $p e $= ( nil cat ) AABZCB $.\n")],
+        )],
+        reply: &[Text(b"      nil nil cat nil nil cat cat\n")],
+        status: 0,
+    },
+];
+
+/// Proofs that make a string twice as long at each step.
+pub(crate) const DOUBLINGS: [Asked; 6] = [
+    Asked {
+        name: "the normal form of a proof whose expansion has millions of labels",
+        command: Normal {
+            label: b"th",
+            whole: false,
+        },
+        files: &[(
+            b"cat.mm",
+            &[
+                Text(CAT),
+                Text(b"th $p e $= "),
+                Text(TWENTY_FOUR),
+                Text(b" $.\n"),
+            ],
+        )],
+        reply: &[Text(b"ask L2 th\n")],
+        status: 4,
+    },
+    Asked {
+        name: "the packed form of a proof whose expansion has millions of labels",
+        command: Packed {
+            label: b"th",
+            whole: false,
+        },
+        files: &[(
+            b"cat.mm",
+            &[
+                Text(CAT),
+                Text(b"th $p e $= "),
+                Text(TWENTY_FOUR),
+                Text(b" $.\n"),
+            ],
+        )],
+        reply: &[Text(TWENTY_FOUR_LINES)],
+        status: 0,
+    },
+    Asked {
+        name: "the normal form of one hundred doublings",
+        command: Normal {
+            label: b"th",
+            whole: false,
+        },
+        files: &[(
+            b"cat.mm",
+            &[
+                Text(CAT),
+                Text(b"th $p e $= "),
+                Text(HUNDRED),
+                Text(b" $.\n"),
+            ],
+        )],
+        reply: &[Text(b"ask L2 th\n")],
+        status: 4,
+    },
+    Asked {
+        name: "the packed form of one hundred doublings",
+        command: Packed {
+            label: b"th",
+            whole: false,
+        },
+        files: &[(
+            b"cat.mm",
+            &[
+                Text(CAT),
+                Text(b"th $p e $= "),
+                Text(HUNDRED),
+                Text(b" $.\n"),
+            ],
+        )],
+        reply: &[Text(HUNDRED_LINES)],
+        status: 0,
+    },
+    Asked {
+        name: "the packed form of six hundred and twenty doublings",
+        command: Packed {
+            label: b"th",
+            whole: false,
+        },
+        files: &[(
+            b"cat.mm",
+            &[
+                Text(CAT),
+                Text(b"th $p e $=\n"),
+                Text(SIX_HUNDRED_AND_TWENTY_LINES),
+                Text(b"$.\n"),
+            ],
+        )],
+        reply: &[Text(SIX_HUNDRED_AND_TWENTY_LINES)],
+        status: 0,
+    },
+    Asked {
+        name: "the packed form of one hundred doublings that were listed the other way round",
+        command: Packed {
+            label: b"th",
+            whole: false,
+        },
+        files: &[(
+            b"cat.mm",
+            &[
+                Text(CAT),
+                Text(b"th $p e $= "),
+                Text(HUNDRED_TURNED),
+                Text(b" $.\n"),
+            ],
+        )],
+        reply: &[Text(HUNDRED_LINES)],
+        status: 0,
+    },
+];
+
+/// The lines of normal proofs.
+pub(crate) const LINES_OF_LABELS: [Asked; 5] = [
+    Asked {
+        name: "twenty-four labels on one line",
+        command: Normal {
+            label: b"th",
+            whole: false,
+        },
+        files: &[(
+            b"l.mm",
+            &[
+                Text(b"$c term $. $v t $. tt $f term t $. aa $a term t $.\n"),
+                Text(b"th $p term t $= tt "),
+                Times(b"aa ", 23),
+                Text(b"$.\n"),
+            ],
+        )],
+        reply: &[Text(b"      tt "), Times(b"aa ", 22), Text(b"aa\n")],
+        status: 0,
+    },
+    Asked {
+        name: "a twenty-fifth label on a line of its own",
+        command: Normal {
+            label: b"th",
+            whole: false,
+        },
+        files: &[(
+            b"l.mm",
+            &[
+                Text(b"$c term $. $v t $. tt $f term t $. aa $a term t $.\n"),
+                Text(b"th $p term t $= tt "),
+                Times(b"aa ", 24),
+                Text(b"$.\n"),
+            ],
+        )],
+        reply: &[
+            Text(b"      tt "),
+            Times(b"aa ", 22),
+            Text(b"aa\n"),
+            Text(b"      aa\n"),
+        ],
+        status: 0,
+    },
+    Asked {
+        name: "a line of exactly seventy-nine bytes",
+        command: Normal {
+            label: b"th",
+            whole: false,
+        },
+        files: &[(
+            b"l.mm",
+            &[
+                Text(b"$c term $. $v t $. tt $f term t $. "),
+                Times(b"a", 70),
+                Text(b" $a term t $.\n"),
+                Text(b"th $p term t $= tt "),
+                Times(b"a", 70),
+                Text(b" $.\n"),
+            ],
+        )],
+        reply: &[Text(b"      tt "), Times(b"a", 70), Text(b"\n")],
+        status: 0,
+    },
+    Asked {
+        name: "a label that would make a line of eighty bytes",
+        command: Normal {
+            label: b"th",
+            whole: false,
+        },
+        files: &[(
+            b"l.mm",
+            &[
+                Text(b"$c term $. $v t $. tt $f term t $. "),
+                Times(b"a", 71),
+                Text(b" $a term t $.\n"),
+                Text(b"th $p term t $= tt "),
+                Times(b"a", 71),
+                Text(b" $.\n"),
+            ],
+        )],
+        reply: &[
+            Text(b"      tt\n"),
+            Text(b"      "),
+            Times(b"a", 71),
+            Text(b"\n"),
+        ],
+        status: 0,
+    },
+    Asked {
+        name: "labels longer than a line",
+        command: Normal {
+            label: b"th",
+            whole: false,
+        },
+        files: &[(
+            b"l.mm",
+            &[
+                Text(b"$c term $. $v t $. tt $f term t $. "),
+                Times(b"a", 90),
+                Text(b" $a term t $.\n"),
+                Text(b"th $p term t $= tt "),
+                Times(b"a", 90),
+                Text(b" "),
+                Times(b"a", 90),
+                Text(b" $.\n"),
+            ],
+        )],
+        reply: &[
+            Text(b"      tt\n"),
+            Text(b"      "),
+            Times(b"a", 90),
+            Text(b"\n"),
+            Text(b"      "),
+            Times(b"a", 90),
+            Text(b"\n"),
+        ],
+        status: 0,
+    },
+];
+
+/// The lines of packed proofs.
+pub(crate) const LINES_OF_LETTERS: [Asked; 5] = [
+    Asked {
+        name: "the packed form with a label longer than a line",
+        command: Packed {
+            label: b"th",
+            whole: false,
+        },
+        files: &[(
+            b"l.mm",
+            &[
+                Text(b"$c term $. $v t $. tt $f term t $. "),
+                Times(b"a", 90),
+                Text(b" $a term t $.\n"),
+                Text(b"th $p term t $= tt "),
+                Times(b"a", 90),
+                Text(b" $.\n"),
+            ],
+        )],
+        reply: &[
+            Text(b"      (\n"),
+            Text(b"      "),
+            Times(b"a", 90),
+            Text(b"\n"),
+            Text(b"      )\n"),
+            Text(b"      AB\n"),
+        ],
+        status: 0,
+    },
+    Asked {
+        name: "the packed form with a list of exactly seventy-nine bytes",
+        command: Packed {
+            label: b"th",
+            whole: false,
+        },
+        files: &[(
+            b"l.mm",
+            &[
+                Text(b"$c term $. $v t $. tt $f term t $. "),
+                Times(b"a", 69),
+                Text(b" $a term t $.\n"),
+                Text(b"th $p term t $= tt "),
+                Times(b"a", 69),
+                Text(b" $.\n"),
+            ],
+        )],
+        reply: &[
+            Text(b"      ( "),
+            Times(b"a", 69),
+            Text(b" )\n"),
+            Text(b"      AB\n"),
+        ],
+        status: 0,
+    },
+    Asked {
+        name: "the packed form with a list that is cut before its bracket",
+        command: Packed {
+            label: b"th",
+            whole: false,
+        },
+        files: &[(
+            b"l.mm",
+            &[
+                Text(b"$c term $. $v t $. tt $f term t $. "),
+                Times(b"a", 70),
+                Text(b" $a term t $.\n"),
+                Text(b"th $p term t $= tt "),
+                Times(b"a", 70),
+                Text(b" $.\n"),
+            ],
+        )],
+        reply: &[
+            Text(b"      ( "),
+            Times(b"a", 70),
+            Text(b"\n"),
+            Text(b"      )\n"),
+            Text(b"      AB\n"),
+        ],
+        status: 0,
+    },
+    Asked {
+        name: "seventy-three letters on one line",
+        command: Packed {
+            label: b"th",
+            whole: false,
+        },
+        files: &[(
+            b"l.mm",
+            &[
+                Text(b"$c term $. $v t $. tt $f term t $. aa $a term t $.\n"),
+                Text(b"th $p term t $= tt "),
+                Times(b"aa ", 72),
+                Text(b"$.\n"),
+            ],
+        )],
+        reply: &[
+            Text(b"      ( aa )\n"),
+            Text(b"      A"),
+            Times(b"B", 72),
+            Text(b"\n"),
+        ],
+        status: 0,
+    },
+    Asked {
+        name: "a seventy-fourth letter on a line of its own",
+        command: Packed {
+            label: b"th",
+            whole: false,
+        },
+        files: &[(
+            b"l.mm",
+            &[
+                Text(b"$c term $. $v t $. tt $f term t $. aa $a term t $.\n"),
+                Text(b"th $p term t $= tt "),
+                Times(b"aa ", 73),
+                Text(b"$.\n"),
+            ],
+        )],
+        reply: &[
+            Text(b"      ( aa )\n"),
+            Text(b"      A"),
+            Times(b"B", 72),
+            Text(b"\n"),
+            Text(b"      B\n"),
+        ],
+        status: 0,
+    },
+];
+
+/// Theorems whose proofs can not be told.
+pub(crate) const UNANSWERED: [Asked; 8] = [
+    Asked {
+        name: "the normal form of a label that is not there",
+        command: Normal {
+            label: b"none",
+            whole: false,
+        },
+        files: &[(b"demo0.mm", &[Text(DEMO)])],
+        reply: &[Text(b"ask A1 none\n")],
+        status: 1,
+    },
+    Asked {
+        name: "the normal form of an axiom",
+        command: Normal {
+            label: b"a1",
+            whole: false,
+        },
+        files: &[(b"demo0.mm", &[Text(DEMO)])],
+        reply: &[Text(b"ask A2 a1\n")],
+        status: 1,
+    },
+    Asked {
+        name: "the normal form of an incomplete proof",
+        command: Normal {
+            label: b"u1",
+            whole: false,
+        },
+        files: &[(
+            b"h.mm",
+            &[
+                Text(HEAD),
+                Text(b"u1 $p |- t = t $= ? $. u2 $p |- t = t $= tt u1 $.\n"),
+            ],
+        )],
+        reply: &[Text(b"ask A3 u1\n")],
+        status: 3,
+    },
+    Asked {
+        name: "the normal form in a refused database",
+        command: Normal {
+            label: b"th2",
+            whole: false,
+        },
+        files: &[(b"h.mm", &[Text(HEAD), Text(b"th2 $p term t $= tt tt $.\n")])],
+        reply: &[Text(b"no h.mm 20 th2 P13 3\n")],
+        status: 1,
+    },
+    Asked {
+        name: "the packed form of a label that is not there",
+        command: Packed {
+            label: b"none",
+            whole: false,
+        },
+        files: &[(b"demo0.mm", &[Text(DEMO)])],
+        reply: &[Text(b"ask A1 none\n")],
+        status: 1,
+    },
+    Asked {
+        name: "the packed form of an axiom",
+        command: Packed {
+            label: b"a1",
+            whole: false,
+        },
+        files: &[(b"demo0.mm", &[Text(DEMO)])],
+        reply: &[Text(b"ask A2 a1\n")],
+        status: 1,
+    },
+    Asked {
+        name: "the packed form of an incomplete proof",
+        command: Packed {
+            label: b"u1",
+            whole: false,
+        },
+        files: &[(
+            b"h.mm",
+            &[
+                Text(HEAD),
+                Text(b"u1 $p |- t = t $= ? $. u2 $p |- t = t $= tt u1 $.\n"),
+            ],
+        )],
+        reply: &[Text(b"ask A3 u1\n")],
+        status: 3,
+    },
+    Asked {
+        name: "the packed form in a refused database",
+        command: Packed {
+            label: b"th2",
+            whole: false,
+        },
+        files: &[(b"h.mm", &[Text(HEAD), Text(b"th2 $p term t $= tt tt $.\n")])],
+        reply: &[Text(b"no h.mm 20 th2 P13 3\n")],
+        status: 1,
+    },
+];
