@@ -4,7 +4,7 @@
 use crate::Part::Text;
 use crate::Row;
 use crate::tests::{compare, compare_questions};
-use mm_check::Command::{self, Axioms, Normal, Show};
+use mm_check::Command::{self, Axioms, Normal, Packed, Show};
 use std::test::Fail;
 
 /// The examples of `docs/LANGUAGE.md`.
@@ -177,7 +177,27 @@ fn language(rt: HostRuntime) -> Result<(), Fail> {
 }
 
 /// The questions among the examples.
-const QUESTIONS: [(Command<'static>, Row); 4] = [
+const QUESTIONS: [(Command<'static>, Row); 5] = [
+    (
+        Packed {
+            label: b"th",
+            whole: false,
+        },
+        Row {
+            name: "One proof, two forms (own), in docs/LANGUAGE.md",
+            files: &[(
+                b"f.mm",
+                &[
+                    Text(b"$c e $. $v x y $. fx $f e x $. fy $f e y $. nil $a e $. cat "),
+                    Text(b"$a e x y $.\n"),
+                    Text(b"th $p e $= nil nil cat nil nil cat cat $.\n"),
+                    Text(b"th2 $p e $= ( nil cat ) AABZCB $.\n"),
+                ],
+            )],
+            reply: b"      ( nil cat )\n      AABZCB\n",
+            status: 0,
+        },
+    ),
     (
         Axioms { label: b"b" },
         Row {
