@@ -164,6 +164,7 @@ prints saved.mm packed --file th first.mm
 prints saved.mm packed th first.mm --file
 prints saved.mm packed --file th saved.mm
 ends 0 'same\n' '' same th proof.txt saved.mm
+ends 1 'text X9 0\n' '' same th first.mm first.mm
 ends 1 'ask A1 --file\n' '' packed -- --file first.mm
 ends 1 'ask A1 check\n' '' axioms -- check first.mm
 ends 1 'ask A1 --help\n' '' axioms -- --help first.mm
@@ -227,6 +228,7 @@ ends 4 'load F2\n' '' axioms th first.mm first.mm
 ends 4 '' 'mm: cannot read none.mm\n' check none.mm
 ends 4 '' 'mm: cannot read none.mm\n' axioms th none.mm
 ends 4 '' 'mm: cannot read none.mm\n' show th none.mm
+ends 4 '' 'mm: cannot read none.txt\n' same th none.txt none.mm
 ends 4 '' 'mm: cannot read .\n' check .
 ends 4 '' 'mm: cannot read none.mm\n' check first.mm none.mm other.mm
 ends 4 '' 'mm: cannot read none.mm\n' check none.mm first.mm
