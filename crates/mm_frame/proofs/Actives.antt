@@ -1,9 +1,8 @@
 -- What is active at each place, by the blocks' numbers; and what stays active as statements are added.
 use Rattle.std.proofs.Common.{◌≡◌, ◌↔◌, ℕ, zero, suc, ◌<◌, ◌≤◌, inl, inr, length, take, List, Some, sym, subst, arith}
 use Rattle.std.specs.List.{slice_get}
-use Rattle.std.proofs.lemmas.Option.{slice_get_within}
 use Rattle.std.proofs.lemmas.Bool.{cases_lt}
-use Rattle.std.proofs.lemmas.List.{take-take, take_all, length-take-le}
+use Rattle.std.proofs.lemmas.List.{take-take, length-take-le}
 use Rattle.mm_frame.specs.Sentence.{Sentence}
 use Rattle.mm_frame.specs.Active.{IsOpen, Holds, IsActive}
 use Rattle.mm_frame.specs.Mirror.Scopes.{IsUnclosed, AreScopes}

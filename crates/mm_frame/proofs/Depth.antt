@@ -1,13 +1,11 @@
 -- What the stack of open blocks tells: the depth, whether a block is open, and how many blocks there can be.
-use Rattle.std.proofs.Common.{◌≡◌, ◌↔◌, ℕ, zero, suc, ◌+◌, ◌-◌, ◌<◌, ◌≤◌, inl, inr, length, drop, List, Some, refl, ap, ◌∙◌, subst, arith}
+use Rattle.std.proofs.Common.{◌≡◌, ◌↔◌, ℕ, zero, suc, ◌+◌, ◌-◌, ◌<◌, ◌≤◌, length, drop, List, Some, subst, arith}
 use Rattle.std.specs.List.{slice_get}
 use Rattle.std.proofs.lemmas.Option.{slice_get_within}
 use Rattle.mm_frame.specs.Sentence.{Sentence}
-use Rattle.mm_frame.specs.Active.{open_marks, close_marks, IsOpen, IsActive}
+use Rattle.mm_frame.specs.Active.{open_marks, close_marks, IsOpen}
 use Rattle.mm_frame.specs.Mirror.Scopes.{IsUnclosed, AreScopes}
 use Rattle.mm_frame.proofs.Pushed.{get_within}
-use Rattle.mm_frame.proofs.Counts.{unclosed_front}
-use Rattle.mm_frame.proofs.ScopeLaws.{start_within}
 
 -- the open blocks are one more than the `${` that no `$}` has closed
 pub scope_sum : (never : ℕ) (st : List Sentence) (blocks ends stack : List ℕ) → AreScopes never st blocks ends stack → open_marks st + 1 ≡ close_marks st + length stack

@@ -18,7 +18,7 @@ use Rattle.mm_frame.specs.Mirror.Gathered.{ArePlaces, AreThoseAt}
 use Rattle.mm_frame.proofs.Pushed.{get_within}
 use Rattle.mm_frame.proofs.Entries.{entry_at}
 use Rattle.mm_frame.proofs.FrameOf.{place_named}
-use Rattle.mm_frame.proofs.Typings.{typings_none, typings_push, typing_at}
+use Rattle.mm_frame.proofs.Typings.{typings_push, typing_at}
 
 -- an entry that says a labelled statement has a label
 entry_labelled : (labels : List (List ℕ)) (label : Option LabelId) → is_some (label_by labels label) ≡ true → (id : LabelId) × (label ≡ Some id)

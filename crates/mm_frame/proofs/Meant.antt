@@ -9,7 +9,7 @@ use Rattle.std.proofs.lemmas.Slice.Eq.{bytes_eq-Decides}
 use Rattle.std.proofs.lemmas.List.{take-append-drop, take-append-le, length-take-le}
 use Rattle.std.proofs.Math.Seq.{take-append_seam}
 use Rattle.mm_text.specs.declared.statement.Kind.TheVariants.{Constants, Variables}
-use Rattle.mm_frame.specs.declared.rule.MeaningRule.TheVariants.{M1, M2, M3, M4, M5, M6, M12, M13}
+use Rattle.mm_frame.specs.declared.rule.MeaningRule.TheVariants.{M1, M2, M3, M5, M12, M13}
 use Rattle.mm_frame.specs.Sentence.{Sentence, SomeSentence, Declares, IsLabelled, Types}
 use Rattle.mm_frame.specs.Active.{IsActive, SomeActive, IsConstant, IsVariable, IsTyped}
 use Rattle.mm_frame.specs.Rules.{IsMeant, AllMeant}

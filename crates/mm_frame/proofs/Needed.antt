@@ -6,7 +6,7 @@ use Rattle.std.proofs.lemmas.Option.{slice_get_within}
 use Rattle.std.proofs.lemmas.List.{length-take-le}
 use Rattle.std.proofs.Math.Seq.{take-length}
 use Rattle.mm_text.specs.declared.statement.Kind.TheVariants.{Constants, Variables, Essential, Closing}
-use Rattle.mm_frame.specs.declared.rule.MeaningRule.TheVariants.{M7, M10, M11, M12, M15}
+use Rattle.mm_frame.specs.declared.rule.MeaningRule.TheVariants.{M7, M11, M12, M15}
 use Rattle.mm_frame.specs.Sentence.{Sentence, SomeSentence, IsStated, IsUse, Declares, Types}
 use Rattle.mm_frame.specs.Active.{IsActive, IsConstant, IsVariable, IsActiveSymbol, IsTyped}
 use Rattle.mm_frame.specs.Rules.{IsMeant, AllMeant}

@@ -3,7 +3,7 @@ use Rattle.std.proofs.Common.{◌≡◌, ◌↔◌, ℕ, zero, suc, ◌+◌, ◌
 use Rattle.std.specs.List.{slice_get}
 use Rattle.std.proofs.lemmas.Bool.{cases_eq}
 use Rattle.mm_frame.specs.Sentence.{Sentence}
-use Rattle.mm_frame.specs.Frame.{AreThose, AreMandatory, IsMandatoryAt, IsDistinct, IsMandatoryPair}
+use Rattle.mm_frame.specs.Frame.{AreThose, AreMandatory, IsMandatoryAt, IsDistinct}
 use Rattle.mm_frame.proofs.Numbered.{At, at_from_contains, contains_from_at}
 
 -- there is one list of those only

@@ -1,6 +1,6 @@
 -- What is seen of a table of names. This file mirrors the code, and is cited by private contracts
 -- alone.
-use Rattle.std.specs.Prelude.{◌≡◌, ℕ, ◌+◌, ◌*◌, ◌<◌, ◌⊎◌}
+use Rattle.std.specs.Prelude.{◌≡◌, ℕ}
 use Rattle.std.specs.Prelude.{List, [], ◌∷◌, length, slice_get, Contains, Option}
 use Rattle.std.specs.Prelude.{Some, MatchOption}
 

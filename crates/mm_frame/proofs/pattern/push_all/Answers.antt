@@ -1,7 +1,6 @@
-use Rattle.std.proofs.Common.{◌<◌, length, sym, subst}
-use Rattle.mm_frame.specs.Pieces.{variables_of}
+use Rattle.std.proofs.Common.{◌<◌, sym, subst}
 use Rattle.mm_frame.specs.Mirror.Patterned.{AreNoted}
-use Rattle.mm_frame.proofs.Patterned.{all_step, variables_same, same_counted, few_hypotheses}
+use Rattle.mm_frame.proofs.Patterned.{all_step, variables_same, few_hypotheses}
 use Rattle.mm_frame.proofs.pattern.push_all.Goals as goal
 
 pub push_pattern-requires-clause-few : goal.push_pattern-requires-clause-few

@@ -1,4 +1,4 @@
-use Rattle.std.proofs.Common.{◌≡◌, ◌<◌, refl, sym, ap, ◌∙◌, subst, inr, Some, length, map, [], ◌∷◌, ◌++◌}
+use Rattle.std.proofs.Common.{◌≡◌, refl, sym, ap, ◌∙◌, subst, inr, Some, length, map, [], ◌∷◌, ◌++◌}
 use Rattle.mm_frame.specs.declared.distinct.DistinctPair.{DistinctPair}
 use Rattle.mm_frame.specs.declared.number.Sym.{Sym}
 use Rattle.mm_frame.specs.Sentence.{IsStated, IsAssertion}
@@ -6,7 +6,7 @@ use Rattle.mm_frame.specs.Mirror.Layout.{IsFrameInfo, statements_of}
 use Rattle.mm_frame.specs.Mirror.Gathered.{ArePlaces, AreThoseAt}
 use Rattle.mm_frame.specs.Pieces.{variables_of, HavePlaces}
 use Rattle.mm_frame.specs.FramePlace.{ArePairs}
-use Rattle.mm_frame.specs.Mirror.Patterned.{AreMandatoryOf, ArePatterned, AreAmong, AreNoted}
+use Rattle.mm_frame.specs.Mirror.Patterned.{AreMandatoryOf, ArePatterned, AreNoted}
 use Rattle.mm_frame.specs.Mirror.Grows.{entry_of}
 use Rattle.mm_frame.specs.Mirror.Naming.{label_info}
 use Rattle.mm_frame.proofs.SameTables.{on_err, same_tables}
