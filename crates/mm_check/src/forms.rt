@@ -79,10 +79,7 @@ pub(crate) fn normal_text(
 {
     let labels = labels_of(alloc, book, theorem)?;
     let names = names_of(alloc, book, &labels)?;
-    let Ok(text) = lay_out_normal(alloc, &names) else {
-        return Err(AskFault::Memory);
-    };
-    Ok(text)
+    Ok(lay_out_normal(alloc, &names)?)
 }
 
 /// The text of the packed proof of a theorem.
@@ -101,13 +98,8 @@ pub(crate) fn packed_text(
 {
     let packed = compress(alloc, book, theorem.id, &theorem.steps)?;
     let names = names_of(alloc, book, &packed.labels)?;
-    let Ok(letters) = write_codes(alloc, &packed.codes) else {
-        return Err(AskFault::Memory);
-    };
-    let Ok(text) = lay_out_compressed(alloc, &names, &letters) else {
-        return Err(AskFault::Memory);
-    };
-    Ok(text)
+    let letters = write_codes(alloc, &packed.codes)?;
+    Ok(lay_out_compressed(alloc, &names, &letters)?)
 }
 
 /// The text of the proof of a theorem in a form.

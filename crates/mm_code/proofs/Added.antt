@@ -4,7 +4,6 @@ use Rattle.std.specs.Prelude.{IfOk, OnOk}
 use Rattle.std.specs.List.{join_with_byte}
 use Rattle.std.proofs.lemmas.Bool.{lt-ltb, le-ltb, cases_lt}
 use Rattle.std.proofs.lemmas.List.{length-append, append-nil}
-use Rattle.mm_code.specs.declared.code.CodeFault.{CodeFault}
 use Rattle.mm_code.specs.Layout.{indent, token_line, width, IsLine, IsFull, LaidOut}
 use Rattle.mm_code.specs.Lines.{rest_of, room_after}
 
@@ -34,7 +33,7 @@ breaking_added old between new token room was is le more =
     ap (λ (t : List ℕ). t ++ rest) (is ∙ ap (λ (t : List ℕ). t ++ (indent ++ token)) was ∙ append_assoc old (10 ∷ []) (indent ++ token)) ∙ append_assoc old ((10 ∷ indent) ++ token) rest
     ∙ ap (λ (t : List ℕ). old ++ t) (sym (rest_breaks room token more le))
 
-pub begun_adds : (result : Result ℕ CodeFault) (old between new token : List ℕ) (room : ℕ) → between ≡ old ++ 10 ∷ [] → OnOk result (new ≡ between ++ (indent ++ token))
+pub begun_adds : {E : Type 0} (result : Result ℕ E) (old between new token : List ℕ) (room : ℕ) → between ≡ old ++ 10 ∷ [] → OnOk result (new ≡ between ++ (indent ++ token))
     → IfOk result (λ left. left ≡ room_after (length token)) → room ≤ length token → IfOk result (λ left. (more : List (List ℕ)) → new ++ rest_of left more ≡ old ++ rest_of room (token ∷ more))
 begun_adds (Ok left) old between new token room was is after le = λ more.
     ap (λ (r : ℕ). new ++ rest_of r more) after ∙ breaking_added old between new token room was is le more

@@ -3,7 +3,7 @@
 ghost use Rattle.std.specs.Prelude.{◌≡◌};
 ghost use Rattle.mm_code.specs.declared.code.CodeFault.TheVariants.{Memory};
 
-use std::alloc::{AllocError, AllocFailed};
+use std::alloc::AllocError;
 use thiserror::Error;
 
 /// What one piece of the letters says (the Metamath book, appendix B).
@@ -40,14 +40,6 @@ impl From<AllocError> for CodeFault {
     ghost from_gives = { λ _ e. e ≡ Memory };
 
     fn from(_e: AllocError) -> CodeFault {
-        CodeFault::Memory
-    }
-}
-
-impl<T: Drop> From<AllocFailed<T>> for CodeFault {
-    ghost from_gives = { λ _ e. e ≡ Memory };
-
-    fn from(_e: AllocFailed<T>) -> CodeFault {
         CodeFault::Memory
     }
 }

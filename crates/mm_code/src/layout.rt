@@ -1,14 +1,13 @@
 //! The lines in which proofs are printed and saved.
 
 ghost use Rattle.std.specs.Prelude.{◌≡◌, ℕ, List, [], ◌∷◌, ◌++◌, ◌+◌, ◌-◌, min, vec_capacity};
-ghost use Rattle.std.specs.Prelude.{length, IfOk, OnOk, IsOkUnless};
+ghost use Rattle.std.specs.Prelude.{length, IfOk, OnOk};
 ghost use Rattle.mm_code.specs.Layout.{indent, line_feed, LaidOut, LettersLaidOut};
 ghost use Rattle.mm_code.specs.Layout.{CompressedLaidOut, texts, size_of, lines_bound};
 ghost use Rattle.mm_code.specs.Layout.{letters_bound};
 ghost use Rattle.mm_code.specs.Lines.{rest_of, room_after, AppendsLetters};
 
-use crate::code::CodeFault;
-use std::alloc::Global;
+use std::alloc::{AllocError, Global};
 
 /// What each line begins with.
 const INDENT: &[u8] = b"      ";
@@ -21,10 +20,9 @@ const LINE_LETTERS: usize = 73;
 
 /// Begins a line with its first token, whatever its length, and answers the room that is left on
 /// it.
-fn begin_line(text: &mut Vec<u8>, token: &[u8]) -> Result<usize, CodeFault>
+fn begin_line(text: &mut Vec<u8>, token: &[u8]) -> Result<usize, AllocError>
     ensures text { OnOk result (text.new.items ≡ text.old.items ++ (indent ++ token.now)) }
     ensures room { IfOk result (λ room. room ≡ room_after (length token.now)) }
-    ensures memory { IsOkUnless result CodeFault.Memory }
 {
     text.extend_from_slice(INDENT)?;
     text.extend_from_slice(token)?;
@@ -33,10 +31,9 @@ fn begin_line(text: &mut Vec<u8>, token: &[u8]) -> Result<usize, CodeFault>
 
 /// Adds a token where a line has this room, a space and the token: on that line if it fits, or else
 /// on the next. Answers the room that is then left.
-fn add_token(text: &mut Vec<u8>, room: usize, token: &[u8]) -> Result<usize, CodeFault>
-    ensures added { IfOk result (λ left. (more : List (List ℕ)) →
+fn add_token(text: &mut Vec<u8>, room: usize, token: &[u8]) -> Result<usize, AllocError>
+    ensures { IfOk result (λ left. (more : List (List ℕ)) →
         text.new.items ++ rest_of left more ≡ text.old.items ++ rest_of room (token.now ∷ more)) }
-    ensures memory { IsOkUnless result CodeFault.Memory }
 {
     if token.len() < room {
         text.push(b' ')?;
@@ -48,11 +45,10 @@ fn add_token(text: &mut Vec<u8>, room: usize, token: &[u8]) -> Result<usize, Cod
 }
 
 /// Adds tokens, one after the other.
-fn add_tokens(text: &mut Vec<u8>, room: usize, tokens: &[&[u8]]) -> Result<usize, CodeFault>
-    ensures added { IfOk result (λ left. (more : List (List ℕ)) →
+fn add_tokens(text: &mut Vec<u8>, room: usize, tokens: &[&[u8]]) -> Result<usize, AllocError>
+    ensures { IfOk result (λ left. (more : List (List ℕ)) →
         text.new.items ++ rest_of left more
         ≡ text.old.items ++ rest_of room (texts tokens.now ++ more)) }
-    ensures memory { IsOkUnless result CodeFault.Memory }
 {
     let mut left = room;
     for token in tokens {
@@ -90,10 +86,9 @@ fn size_of_letters(letters: &[u8]) -> usize
 }
 
 /// Adds one line of letters.
-fn add_letter_line(text: &mut Vec<u8>, line: &[u8]) -> Result<(), CodeFault>
-    ensures added { OnOk result
+fn add_letter_line(text: &mut Vec<u8>, line: &[u8]) -> Result<(), AllocError>
+    ensures { OnOk result
         (text.new.items ≡ text.old.items ++ ((indent ++ line.now) ++ line_feed ∷ [])) }
-    ensures memory { IsOkUnless result CodeFault.Memory }
 {
     text.extend_from_slice(INDENT)?;
     text.extend_from_slice(line)?;
@@ -102,9 +97,8 @@ fn add_letter_line(text: &mut Vec<u8>, line: &[u8]) -> Result<(), CodeFault>
 }
 
 /// Adds the lines of letters: 73 on each, and 1 to 73 on the last. No letters are no line.
-fn add_letters(text: &mut Vec<u8>, letters: &[u8]) -> Result<(), CodeFault>
-    ensures added { OnOk result (AppendsLetters text.old.items text.new.items letters.now) }
-    ensures memory { IsOkUnless result CodeFault.Memory }
+fn add_letters(text: &mut Vec<u8>, letters: &[u8]) -> Result<(), AllocError>
+    ensures { OnOk result (AppendsLetters text.old.items text.new.items letters.now) }
 {
     let mut rest = letters;
     while !rest.is_empty() {
@@ -116,13 +110,12 @@ fn add_letters(text: &mut Vec<u8>, letters: &[u8]) -> Result<(), CodeFault>
 }
 
 /// Empty, with room reserved for the lines of tokens: the most that they can need.
-fn room_for_lines(alloc: Global, tokens: &[&[u8]]) -> Result<Vec<u8>, CodeFault>
+fn room_for_lines(alloc: Global, tokens: &[&[u8]]) -> Result<Vec<u8>, AllocError>
     ensures empty { IfOk result (λ text. text.items ≡ []) }
     ensures exact { IfOk result (λ text.
         vec_capacity text ≡ min (lines_bound (size_of (texts tokens.now))) usize.MAX) }
-    ensures memory { IsOkUnless result CodeFault.Memory }
 {
-    Ok(Vec::with_capacity(alloc, size_of_lines(size_of_tokens(tokens)))?)
+    Vec::with_capacity(alloc, size_of_lines(size_of_tokens(tokens)))
 }
 
 /// Empty, with room reserved for the lines of a compressed proof: the most that they can need.
@@ -130,14 +123,13 @@ fn room_for_compressed(
     alloc: Global,
     labels: &[&[u8]],
     letters: &[u8],
-) -> Result<Vec<u8>, CodeFault>
+) -> Result<Vec<u8>, AllocError>
     ensures empty { IfOk result (λ text. text.items ≡ []) }
     ensures exact { IfOk result (λ text. vec_capacity text ≡ min usize.MAX
         (lines_bound (size_of (texts labels.now) + 4) + letters_bound (length letters.now))) }
-    ensures memory { IsOkUnless result CodeFault.Memory }
 {
     let list = size_of_lines(size_of_tokens(labels).saturating_add(4));
-    Ok(Vec::with_capacity(alloc, list.saturating_add(size_of_letters(letters)))?)
+    Vec::with_capacity(alloc, list.saturating_add(size_of_letters(letters)))
 }
 
 /// The lines of a normal proof: its labels in their order, greedily. A line begins with six spaces
@@ -145,10 +137,9 @@ fn room_for_compressed(
 ///
 /// # Errors
 ///
-/// `Memory` where the one growth was refused.
-pub fn lay_out_normal(alloc: Global, labels: &[&[u8]]) -> Result<Vec<u8>, CodeFault>
-    ensures laid_out { IfOk result (λ text. LaidOut (texts labels.now) text.items) }
-    ensures memory { IsOkUnless result CodeFault.Memory }
+/// Where the one growth was refused.
+pub fn lay_out_normal(alloc: Global, labels: &[&[u8]]) -> Result<Vec<u8>, AllocError>
+    ensures { IfOk result (λ text. LaidOut (texts labels.now) text.items) }
 {
     let Some((first, others)) = labels.split_first() else {
         return Ok(Vec::new(alloc));
@@ -166,15 +157,14 @@ pub fn lay_out_normal(alloc: Global, labels: &[&[u8]]) -> Result<Vec<u8>, CodeFa
 ///
 /// # Errors
 ///
-/// `Memory` where the one growth was refused.
+/// Where the one growth was refused.
 pub fn lay_out_compressed(
     alloc: Global,
     labels: &[&[u8]],
     letters: &[u8],
-) -> Result<Vec<u8>, CodeFault>
-    ensures laid_out { IfOk result (λ text.
+) -> Result<Vec<u8>, AllocError>
+    ensures { IfOk result (λ text.
         CompressedLaidOut (texts labels.now) letters.now text.items) }
-    ensures memory { IsOkUnless result CodeFault.Memory }
 {
     let mut text = room_for_compressed(alloc, labels, letters)?;
     let opened = begin_line(&mut text, b"(")?;

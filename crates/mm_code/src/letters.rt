@@ -3,7 +3,6 @@
 ghost use Rattle.std.specs.Prelude.{◌≡◌, ℕ, List, [], Result};
 ghost use Rattle.std.specs.Prelude.{◌+◌, ◌*◌, min, ◌∷◌, ◌++◌, ◌≤◌, ◌<◌, All, IfOk, OnOk, IsErrOf};
 ghost use Rattle.std.specs.Prelude.{length, take};
-ghost use Rattle.std.specs.Prelude.{IsOkUnless};
 ghost use Rattle.std.specs.List.{flat_map, list_all};
 ghost use Rattle.std.specs.Char.{is_ascii_uppercase};
 ghost use Rattle.mm_code.specs.Letters.{largest, SpellsCodes, Letters, code_for, HasSpelling};
@@ -12,7 +11,7 @@ ghost use Rattle.mm_code.specs.Writing.{AppendsLeading, AppendsCode};
 ghost use Rattle.mm_code.specs.Reading.{with_front, reading, rule_behind, FaultOf, ReadsOn, PutsOn};
 
 use crate::code::{Code, CodeFault, CodeRule};
-use std::alloc::Global;
+use std::alloc::{AllocError, Global};
 
 /// The leading value with one more leading digit, up to the largest `u32`: once a value is above
 /// it, it stays so.
@@ -375,9 +374,8 @@ pub fn read_codes(alloc: Global, tokens: &[&[u8]]) -> Result<Vec<Code>, CodeFaul
 }
 
 /// Writes the leading digits that are worth this value: none for 0.
-fn push_leading(text: &mut Vec<u8>, value: u32) -> Result<(), CodeFault>
-    ensures appends { OnOk result (AppendsLeading text.old.items text.new.items value) }
-    ensures memory { IsOkUnless result CodeFault.Memory }
+fn push_leading(text: &mut Vec<u8>, value: u32) -> Result<(), AllocError>
+    ensures { OnOk result (AppendsLeading text.old.items text.new.items value) }
 {
     if value > 0 {
         push_leading(text, (value - 1) / 5)?;
@@ -387,10 +385,9 @@ fn push_leading(text: &mut Vec<u8>, value: u32) -> Result<(), CodeFault>
 }
 
 /// Writes the spelling of a number.
-fn push_number(text: &mut Vec<u8>, number: u32) -> Result<(), CodeFault>
+fn push_number(text: &mut Vec<u8>, number: u32) -> Result<(), AllocError>
     requires { 1 ≤ number }
-    ensures appends { OnOk result (AppendsCode text.old.items text.new.items (Code.Number number)) }
-    ensures memory { IsOkUnless result CodeFault.Memory }
+    ensures { OnOk result (AppendsCode text.old.items text.new.items (Code.Number number)) }
 {
     push_leading(text, (number - 1) / 20)?;
     text.push(b'A' + ((number - 1) % 20) as u8)?;
@@ -398,11 +395,10 @@ fn push_number(text: &mut Vec<u8>, number: u32) -> Result<(), CodeFault>
 }
 
 /// Writes what says one code.
-fn push_code(text: &mut Vec<u8>, code: Code) -> Result<(), CodeFault>
+fn push_code(text: &mut Vec<u8>, code: Code) -> Result<(), AllocError>
     requires { HasSpelling code }
     ensures appends { OnOk result (AppendsCode text.old.items text.new.items code) }
     ensures same { code_for code ≡ code }
-    ensures memory { IsOkUnless result CodeFault.Memory }
 {
     match code {
         Code::Number(number) => push_number(text, number),
@@ -421,8 +417,8 @@ fn push_code(text: &mut Vec<u8>, code: Code) -> Result<(), CodeFault>
 ///
 /// # Errors
 ///
-/// `Memory` where a growth was refused.
-pub fn write_codes(alloc: Global, codes: &[Code]) -> Result<Vec<u8>, CodeFault>
+/// Where a growth was refused.
+pub fn write_codes(alloc: Global, codes: &[Code]) -> Result<Vec<u8>, AllocError>
     requires { All HasSpelling codes.now }
 
     // The text is the spellings, and so reading it gives the codes.
@@ -431,7 +427,6 @@ pub fn write_codes(alloc: Global, codes: &[Code]) -> Result<Vec<u8>, CodeFault>
     // No other text has these codes, where no number may stand for a larger one.
     ensures only { IfOk result (λ text.
         All IsExact codes.now → (other : List ℕ) → Letters other codes.now → other ≡ text.items) }
-    ensures memory { IsOkUnless result CodeFault.Memory }
 {
     let mut text = Vec::new(alloc);
     for code in codes {

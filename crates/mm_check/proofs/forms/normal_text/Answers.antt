@@ -13,5 +13,5 @@ returns-clause-text c = λ place s moves number numbered label below made.
     let names : texts c.in_ok-names.names.items ≡ spelled =
     c.in_ok-names.ensures spelled (subst (λ (ids : List LabelId). AreLabelsOf c.args.book.now.statements ids spelled) (sym c.deref.ensures.value) told.0) in (
       told.1,
-      subst (λ (ls : List (List ℕ)). LaidOut ls c.in-Ok.text.items) (ap texts c.deref-2.ensures.value ∙ names) c.in-Ok.ensures.laid_out,
+      subst (λ (ls : List (List ℕ)). LaidOut ls c.in_ok-lay_out_normal.field-0.items) (ap texts c.deref-2.ensures.value ∙ names) c.in_ok-lay_out_normal.ensures,
     )

@@ -20,11 +20,11 @@ returns-clause-text c = λ place s moves number numbered label below made.
     record {
       listed = listed;
       codes = c.in_ok-packed.packed.codes.items;
-      letters = c.in-Ok.letters.items;
+      letters = c.in_ok-letters.letters.items;
       packed = told.2;
-      spelled = subst (λ (codes : List Code). SpellsCodes c.in-Ok.letters.items codes) c.deref-2.ensures.value c.in-Ok.ensures.spelled;
-      coded = subst (λ (codes : List Code). Letters c.in-Ok.letters.items codes) c.deref-2.ensures.value c.in-Ok.ensures.letters;
-      laid = subst (λ (letters : List ℕ). CompressedLaidOut listed letters c.in-Ok-lay_out_compressed.text.items) c.deref-4.ensures.value
-          (subst (λ (ls : List (List ℕ)). CompressedLaidOut ls c.deref-4.result.now c.in-Ok-lay_out_compressed.text.items) (ap texts c.deref-3.ensures.value ∙ names)
-          c.in-Ok-lay_out_compressed.ensures.laid_out);
+      spelled = subst (λ (codes : List Code). SpellsCodes c.in_ok-letters.letters.items codes) c.deref-2.ensures.value c.in_ok-letters.ensures.spelled;
+      coded = subst (λ (codes : List Code). Letters c.in_ok-letters.letters.items codes) c.deref-2.ensures.value c.in_ok-letters.ensures.letters;
+      laid = subst (λ (letters : List ℕ). CompressedLaidOut listed letters c.in_ok-lay_out_compressed.field-0.items) c.deref-4.ensures.value
+          (subst (λ (ls : List (List ℕ)). CompressedLaidOut ls c.deref-4.result.now c.in_ok-lay_out_compressed.field-0.items) (ap texts c.deref-3.ensures.value ∙ names)
+          c.in_ok-lay_out_compressed.ensures);
     }

@@ -2,6 +2,6 @@ use Rattle.std.proofs.Common.{arith}
 use Rattle.mm_code.proofs.Written.{number-written}
 use Rattle.mm_code.proofs.letters.push_number.Goals as goal
 
-pub returns-clause-appends : goal.returns-clause-appends
-returns-clause-appends c =
-    number-written c.args.text.now.items c.push_leading.new.text.items c.push.new.self.items c.args.number _ _ c.in_ok-push_leading.ensures.appends c.in_ok-push.ensures.items (omega arith) (omega arith) (omega arith)
+pub returns : goal.returns
+returns c =
+    number-written c.args.text.now.items c.push_leading.new.text.items c.push.new.self.items c.args.number _ _ c.in_ok-push_leading.ensures c.in_ok-push.ensures.items (omega arith) (omega arith) (omega arith)
