@@ -6,7 +6,7 @@ use Rattle.std.proofs.lemmas.Bool.{cases_lt}
 use Rattle.std.proofs.lemmas.List.{length-append, append-nil, length-take, length-drop, take-append-drop, nil_from_length}
 use Rattle.mm_code.specs.Layout.{indent, LaidOut, AreLetterLines, LettersLaidOut, in_parentheses, CompressedLaidOut, texts}
 use Rattle.mm_code.specs.Lines.{rest_of, room_after, AppendsLetters}
-use Rattle.mm_code.proofs.Added.{rest_ends, laid-nil, laid_out_begun}
+use Rattle.mm_code.proofs.Added.{rest_ends, laid_out_begun}
 
 pub letters_laid-nil : LettersLaidOut [] []
 letters_laid-nil = record { lines = []; in_order = refl; each = tt; printed = refl }
@@ -55,10 +55,6 @@ line_taken first now next rest line after letters n some is front back text so_f
     let same : now ++ (((indent ++ line) ++ 10 ∷ []) ++ block) ≡ next ++ block = sym (append_assoc now ((indent ++ line) ++ 10 ∷ []) block) ∙ ap (λ (t : List ℕ). t ++ block) (sym text) in
     subst Q same (so_far (((indent ++ line) ++ 10 ∷ []) ++ block) (subst P parts taken))
 
--- before any line
-pub letters_begun : (first letters block : List ℕ) → LettersLaidOut letters block → AppendsLetters first (first ++ block) letters
-letters_begun first letters block laid = record { block = block; laid_out = laid; text = refl }
-
 -- no letters are left
 pub letters_done : (first now rest letters : List ℕ) → length rest ≡ 0 → ((block : List ℕ) → LettersLaidOut rest block → AppendsLetters first (now ++ block) letters) → AppendsLetters first now letters
 letters_done first now rest letters none so_far =
@@ -83,12 +79,6 @@ pub labels_laid_out : (labels others : List (Bor (List ℕ))) (first : Bor (List
 labels_laid_out labels others first text is laid =
     let P : List (Bor (List ℕ)) → Type 0 = λ ls. LaidOut (texts ls) text in
     subst P (sym is) laid
-
-pub no_labels_laid_out : (labels : List (Bor (List ℕ))) (text : List ℕ) → labels ≡ [] → text ≡ [] → LaidOut (texts labels) text
-no_labels_laid_out labels text none empty =
-    let P : List (Bor (List ℕ)) → Type 0 = λ ls. LaidOut (texts ls) text in
-    let Q : List ℕ → Type 0 = λ t. LaidOut [] t in
-    subst P (sym none) (subst Q (sym empty) laid-nil)
 
 -- labels, and one more token behind them
 pub list_closed : (begun added text token : List ℕ) (room left last : ℕ) (labels : List (List ℕ)) → ((more : List (List ℕ)) → added ++ rest_of left more ≡ begun ++ rest_of room (labels ++ more))

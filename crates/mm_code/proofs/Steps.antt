@@ -1,7 +1,7 @@
 -- One step of `reading`, for each kind of byte.
 use Rattle.std.proofs.Common.{◌≡◌, ℕ, ◌+◌, ◌-◌, ◌<◌, ◌≤◌, Bool, true, false, cond, ◌&&◌, List, [], ◌∷◌, ◌++◌, length, get_or, set, take, drop, subst, Bor, Result, Ok, Err, refl, sym, ap, ◌∙◌, append_assoc, arith}
 use Rattle.std.proofs.lemmas.Bool.{lt-ltb, le-ltb, eq-eqb, ne_eqb}
-use Rattle.std.proofs.lemmas.List.{take-append-drop, drop-drop, take_more_set, take-set, take_rest, drop_more, at_drop_more, at_drop_all, append-nil}
+use Rattle.std.proofs.lemmas.List.{take-append-drop, drop-drop, take_more_set, take-set, take_rest, at_drop_more, at_drop_all, append-nil}
 use Rattle.std.proofs.lemmas.List.Folds.{list_all-append}
 use Rattle.std.specs.List.{list_all, flat_map, slice_range}
 use Rattle.std.specs.Char.{is_ascii_uppercase}
@@ -17,10 +17,6 @@ use Rattle.mm_code.specs.Reading.{with_front, reading, rule_behind, leading_afte
 pub with_front-with_front : (a b : List Code) (read : Result (List Code) CodeRule) → with_front a (with_front b read) ≡ with_front (a ++ b) read
 with_front-with_front a b (Ok codes) = ap Ok (sym (append_assoc a b codes))
 with_front-with_front a b (Err rule) = refl
-
-pub with_front-nil : (read : Result (List Code) CodeRule) → with_front [] read ≡ read
-with_front-nil (Ok codes) = refl
-with_front-nil (Err rule) = refl
 
 pub read_below : (value byte : ℕ) (bytes : List ℕ) → byte < 65 → reading value (byte ∷ bytes) ≡ Err P4
 unfolding reading
@@ -126,11 +122,6 @@ cut_goes_on bytes rest rule read is h =
     subst P (sym is) (cut_cases (list_all is_ascii_uppercase bytes) rest read known)
 
 -- ---- a list from a place on
-
-pub reading_at : (codes : List Code) (value : ℕ) (bytes : List ℕ) (i byte : ℕ) (rest : List ℕ) → i < length bytes → byte ≡ get_or bytes i byte
-    → with_front codes (reading value (drop i bytes ++ rest)) ≡ with_front codes (reading value (byte ∷ (drop (i + 1) bytes ++ rest)))
-reading_at codes value bytes i byte rest lt is =
-    ap (λ (b : List ℕ). with_front codes (reading value (b ++ rest))) (drop_more bytes i byte lt ∙ ap (λ (x : ℕ). x ∷ drop (i + 1) bytes) (sym is))
 
 block_and_rest : (bytes : List ℕ) (i n : ℕ) → slice_range bytes i (i + n) ++ drop (i + n) bytes ≡ drop i bytes
 block_and_rest bytes i n =
