@@ -8,7 +8,7 @@ use Rattle.mm_text.specs.Token.{PlainToken, IsLabel, is_label_byte, HoldsNoDolla
 use Rattle.mm_text.specs.Statement.{IsHead, IsBareHead, IsLabelledHead, AreSymbols, label_in}
 use Rattle.mm_text.specs.Reading.{IsBeginning, IsNothing, IsLone, IsBody, IsInProof}
 use Rattle.mm_text.specs.Alike.{token_on}
-use Rattle.mm_text.proofs.AlikeLists.{cons_split, nil_split, append_split, same_length, each_alike}
+use Rattle.mm_text.proofs.Lists.{append_split, cons_split, each_alike, nil_split, same_length}
 
 module _ (h k : ℕ → ℕ → ℕ) where
   -- tokens that show the same have one text

@@ -12,8 +12,8 @@ use Rattle.mm_text.specs.Statement.{PlainStatement, IsKeyword, FitsCount, label_
 use Rattle.mm_text.specs.Blocks.{is_opening, is_closing, openings, closings, AreBalanced, AreClosed, IsInnermost}
 use Rattle.mm_text.specs.Reading.{PlainFault, Meets, MeetsX6, EndsInX8, EndsInS7, EndsAt, fault_at}
 use Rattle.mm_text.specs.Alike.{token_on, faulty_on, item_on, statement_on, fault_on}
-use Rattle.mm_text.proofs.AlikeLists.{cons_split, nil_split, append_split, same_length}
 use Rattle.mm_text.proofs.AlikeBeginnings.{text_alike, label_alike, nothing_alike, lone_alike, body_alike, proof_alike}
+use Rattle.mm_text.proofs.Lists.{append_split, cons_split, nil_split, same_length}
 
 -- ---- blocks
 

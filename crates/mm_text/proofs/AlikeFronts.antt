@@ -1,91 +1,16 @@
 -- Viable fronts of items that show the same.
-use Rattle.std.proofs.Common.{◌≡◌, ℕ, ◌+◌, map, take, List, [], ◌∷◌, ◌++◌, Bool, true, false, cond, refl, sym, ap, subst, ◌∙◌, Some, None, arith}
+use Rattle.std.proofs.Common.{◌≡◌, ℕ, ◌+◌, map, List, [], ◌∷◌, ◌++◌, refl, sym, ap, subst, ◌∙◌}
 use Rattle.std.specs.Prelude.{option_map}
-use Rattle.std.specs.List.{list_all}
-use Rattle.std.proofs.lemmas.List.{take-map}
-use Rattle.std.proofs.lemmas.List.Sums.{sum_by-cons}
 use Rattle.mm_text.specs.declared.statement.Kind.{Kind}
 use Rattle.mm_text.specs.declared.statement.Kind.TheVariants.{Constants, Variables, Distinct, Floating, Essential, Axiom, Provable, Opening, Closing}
-use Rattle.mm_text.specs.Token.{PlainToken, IsLabel, is_label_byte, HoldsNoDollar}
-use Rattle.mm_text.specs.Statement.{PlainStatement, IsBareHead, IsLabelledHead, IsHead, AreSymbols, FitsCount, label_in, EndsAtOnce, EndsInProof, IsTail, Spells, SpellsAll}
+use Rattle.mm_text.specs.Token.{PlainToken}
+use Rattle.mm_text.specs.Statement.{PlainStatement, AreSymbols, FitsCount, label_in, EndsAtOnce, EndsInProof, IsTail, Spells, SpellsAll}
 use Rattle.mm_text.specs.Items.{Item, Plain, Wrong, Inclusion, End, plain_tokens, HoldNoFault}
-use Rattle.mm_text.specs.Blocks.{is_opening, is_closing, openings, closings, AreBalanced, AreClosed}
-use Rattle.mm_text.specs.Reading.{IsBeginning, AreOutside, Viable}
+use Rattle.mm_text.specs.Reading.{AreOutside, Viable}
 use Rattle.mm_text.specs.Alike.{token_on, item_on, statement_on}
-use Rattle.mm_text.proofs.AlikeLists.{cons_split, nil_split, append_split, same_length, each_alike}
-
--- ---- lists
-
--- what corresponds to one element
-one_split : {A B C : Type 0} (f : A → C) (g : B → C) (a : A) (ys : List B) → map f (a ∷ []) ≡ map g ys → (b : B) × (ys ≡ b ∷ []) × (f a ≡ g b)
-one_split f g a ys e =
-    let (b, bs, whole, same, rest) = cons_split f g a [] ys e in
-    (b, whole ∙ ap (λ l. b ∷ l) (nil_split f g bs rest), same)
-
--- a list in two parts, the first of them in two
-three_parts : {A : Type 0} (all front a b tail : List A) → all ≡ front ++ tail → front ≡ a ++ b → all ≡ a ++ b ++ tail
-three_parts all front a b tail e split = e ∙ ap (λ l. l ++ tail) split
-
--- a list from its first element, and from parts of the rest, of which the last is one element
-ended_parts : {A : Type 0} (all : List A) (x : A) (rest a end : List A) (y : A) → all ≡ x ∷ rest → rest ≡ a ++ end → end ≡ y ∷ [] → all ≡ x ∷ a ++ y ∷ []
-ended_parts all x rest a end y e split last = e ∙ ap (λ l. x ∷ l) (split ∙ ap (λ l. a ++ l) last)
-
--- a list from two parts, the second of them from its first element
-cut_parts : {A : Type 0} (all a rest : List A) (x y : A) (b : List A) → all ≡ a ++ rest → rest ≡ x ∷ b → x ≡ y → all ≡ a ++ y ∷ b
-cut_parts all a rest x y b e split is = e ∙ ap (λ l. a ++ l) (split ∙ ap (λ z. z ∷ b) is)
-
--- ---- tokens
-
--- tokens that differ in places alone have one text
-pub same_text_on : (h k : ℕ → ℕ → ℕ) (t u : PlainToken) → token_on h t ≡ token_on k u → t.text ≡ u.text
-same_text_on h k t u e = ap (λ (x : PlainToken). x.text) e
-
--- the one are symbols as the others are
-pub symbols_alike : (h k : ℕ → ℕ → ℕ) (tokens others : List PlainToken) → map (token_on h) tokens ≡ map (token_on k) others → AreSymbols tokens → AreSymbols others
-symbols_alike h k tokens others e all =
-    each_alike (token_on h) (token_on k) (λ t. HoldsNoDollar t.text) (λ t. HoldsNoDollar t.text) (λ t u same p. subst HoldsNoDollar (same_text_on h k t u same) p) tokens others e all
-
-bare_alike : (h k : ℕ → ℕ → ℕ) (kind : Kind) (tokens others : List PlainToken) → map (token_on h) tokens ≡ map (token_on k) others → IsBareHead kind tokens → IsBareHead kind others
-bare_alike h k kind tokens others e b =
-    let (u, whole, same) = one_split (token_on h) (token_on k) b.keyword others (ap (map (token_on h)) (sym b.tokens) ∙ e) in
-    record { keyword = u; tokens = whole; sign = sym (same_text_on h k b.keyword u same) ∙ b.sign }
-
-labelled_alike : (h k : ℕ → ℕ → ℕ) (kind : Kind) (tokens others : List PlainToken) → map (token_on h) tokens ≡ map (token_on k) others → IsLabelledHead kind tokens → IsLabelledHead kind others
-labelled_alike h k kind tokens others e b =
-    let (l, ls, whole, named, more) = cons_split (token_on h) (token_on k) b.label (b.keyword ∷ []) others (ap (map (token_on h)) (sym b.tokens) ∙ e) in
-    let (u, all, same) = one_split (token_on h) (token_on k) b.keyword ls more in
-    record {
-      label = l;
-      keyword = u;
-      tokens = ended_parts others l ls [] ls u whole refl all;
-      named = subst IsLabel (same_text_on h k b.label l named) b.named;
-      sign = sym (same_text_on h k b.keyword u same) ∙ b.sign;
-    }
-
--- the one are a head as the others are
-pub head_alike : (h k : ℕ → ℕ → ℕ) (kind : Kind) (tokens others : List PlainToken) → map (token_on h) tokens ≡ map (token_on k) others → IsHead kind tokens → IsHead kind others
-head_alike h k Constants tokens others e b = bare_alike h k Constants tokens others e b
-head_alike h k Variables tokens others e b = bare_alike h k Variables tokens others e b
-head_alike h k Distinct tokens others e b = bare_alike h k Distinct tokens others e b
-head_alike h k Floating tokens others e b = labelled_alike h k Floating tokens others e b
-head_alike h k Essential tokens others e b = labelled_alike h k Essential tokens others e b
-head_alike h k Axiom tokens others e b = labelled_alike h k Axiom tokens others e b
-head_alike h k Provable tokens others e b = labelled_alike h k Provable tokens others e b
-head_alike h k Opening tokens others e b = bare_alike h k Opening tokens others e b
-head_alike h k Closing tokens others e b = bare_alike h k Closing tokens others e b
-
-label_if : (h k : ℕ → ℕ → ℕ) (t u : PlainToken) (b : Bool) → token_on h t ≡ token_on k u → option_map (token_on h) (cond b (Some t) None) ≡ option_map (token_on k) (cond b (Some u) None)
-label_if h k t u true e = ap (λ (x : PlainToken). Some x) e
-label_if h k t u false e = refl
-
--- the label in the one differs from that in the others in places alone
-pub label_alike : (h k : ℕ → ℕ → ℕ) (tokens others : List PlainToken) → map (token_on h) tokens ≡ map (token_on k) others → option_map (token_on h) (label_in tokens) ≡ option_map (token_on k) (label_in others)
-label_alike h k [] others e = ap (λ (x : List PlainToken). option_map (token_on k) (label_in x)) (sym (nil_split (token_on h) (token_on k) others e))
-label_alike h k (t ∷ tokens) others e =
-    let (u, us, whole, same, rest) = cons_split (token_on h) (token_on k) t tokens others e in
-    label_if h k t u (list_all is_label_byte t.text) same
-    ∙ ap (λ (x : List ℕ). option_map (token_on k) (cond (list_all is_label_byte x) (Some u) None)) (same_text_on h k t u same)
-    ∙ ap (λ (x : List PlainToken). option_map (token_on k) (label_in x)) (sym whole)
+use Rattle.mm_text.proofs.AlikeBeginnings.{text_alike, label_alike, symbols_alike, head_alike, beginning_alike}
+use Rattle.mm_text.proofs.AlikeEndings.{closed_alike, balanced_alike}
+use Rattle.mm_text.proofs.Lists.{append_split, cons_split, cut_parts, ended_parts, nil_split, one_split, same_length, three_parts}
 
 -- ---- the tail of a statement
 
@@ -109,7 +34,7 @@ once_alike h k s tail others e b =
       ends = λ o p q. record {
         stop = u;
         tokens = whole;
-        end = sym (same_text_on h k b.stop u same) ∙ b.end;
+        end = sym (text_alike h k b.stop u same) ∙ b.end;
         proof = p;
         span = q;
       };
@@ -128,8 +53,8 @@ proof_alike h k s tail others e b =
         equals = q;
         stop = u;
         tokens = subst (λ (x : List PlainToken). others ≡ q ∷ x ++ u ∷ []) (sym p) (ended_parts others q qs steps end u whole split all);
-        sign = sym (same_text_on h k b.equals q sign) ∙ b.sign;
-        end = sym (same_text_on h k b.stop u same) ∙ b.end;
+        sign = sym (text_alike h k b.equals q sign) ∙ b.sign;
+        end = sym (text_alike h k b.stop u same) ∙ b.end;
         proof = subst AreSymbols (sym p) (symbols_alike h k s.proof steps proofs b.proof);
         span = r;
       };
@@ -182,32 +107,6 @@ statements_alike h k tokens others (s ∷ statements) e b =
     let (o, spelled, same) = statement_alike h k b.0 front s fronts b.3 in
     let (more, all, sames) = statements_alike h k b.1 rest statements rests b.4 in
     (o ∷ more, (front, rest, whole, spelled, all), λ i. same i ∷ sames i)
-
--- ---- blocks
-
-openings_on : (h : ℕ → ℕ → ℕ) (statements : List PlainStatement) → openings (map (statement_on h) statements) ≡ openings statements
-openings_on h [] = refl
-openings_on h (s ∷ statements) = sum_by-cons _ (statement_on h s) (map (statement_on h) statements) ∙ ap (λ (n : ℕ). cond (is_opening s.kind) 1 0 + n) (openings_on h statements) ∙ sym (sum_by-cons _ s statements)
-
-closings_on : (h : ℕ → ℕ → ℕ) (statements : List PlainStatement) → closings (map (statement_on h) statements) ≡ closings statements
-closings_on h [] = refl
-closings_on h (s ∷ statements) = sum_by-cons _ (statement_on h s) (map (statement_on h) statements) ∙ ap (λ (n : ℕ). cond (is_closing s.kind) 1 0 + n) (closings_on h statements) ∙ sym (sum_by-cons _ s statements)
-
-openings_alike : (h k : ℕ → ℕ → ℕ) (statements same : List PlainStatement) → map (statement_on h) statements ≡ map (statement_on k) same → openings statements ≡ openings same
-openings_alike h k statements same e = sym (openings_on h statements) ∙ ap openings e ∙ openings_on k same
-
-closings_alike : (h k : ℕ → ℕ → ℕ) (statements same : List PlainStatement) → map (statement_on h) statements ≡ map (statement_on k) same → closings statements ≡ closings same
-closings_alike h k statements same e = sym (closings_on h statements) ∙ ap closings e ∙ closings_on k same
-
--- the one close all blocks as the others do
-pub closed_alike : (h k : ℕ → ℕ → ℕ) (statements same : List PlainStatement) → map (statement_on h) statements ≡ map (statement_on k) same → AreClosed statements → AreClosed same
-closed_alike h k statements same e c = sym (openings_alike h k statements same e) ∙ c ∙ closings_alike h k statements same e
-
--- no `$}` of the one lacks its `${`, as in the others
-pub balanced_alike : (h k : ℕ → ℕ → ℕ) (statements same : List PlainStatement) → map (statement_on h) statements ≡ map (statement_on k) same → AreBalanced statements → AreBalanced same
-balanced_alike h k statements same e b n =
-    let cut : map (statement_on h) (take n statements) ≡ map (statement_on k) (take n same) = sym (take-map (statement_on h) n statements) ∙ ap (take n) e ∙ take-map (statement_on k) n same in
-    omega (arith, b n, openings_alike h k (take n statements) (take n same) cut, closings_alike h k (take n statements) (take n same) cut)
 
 -- ---- items
 
@@ -281,10 +180,9 @@ cut_end h k front other before after file e cut =
     (earlier, later, whole ∙ ap (λ (x : List Item). earlier ++ x) (split ∙ ap (λ (x : Item). x ∷ later) is), sym befores)
 
 -- what is alike to a front that reads as statements reads as statements that differ in places alone
-pub viable_alike : ((h k : ℕ → ℕ → ℕ) (tokens others : List PlainToken) → map (token_on h) tokens ≡ map (token_on k) others → IsBeginning tokens → IsBeginning others)
-    → (h k : ℕ → ℕ → ℕ) (front other : List Item) (statements : List PlainStatement) (unfinished : List PlainToken) → map (item_on h) front ≡ map (item_on k) other → Viable front statements unfinished
+pub viable_alike : (h k : ℕ → ℕ → ℕ) (front other : List Item) (statements : List PlainStatement) (unfinished : List PlainToken) → map (item_on h) front ≡ map (item_on k) other → Viable front statements unfinished
     → (same : List PlainStatement) × (begun : List PlainToken) × Viable other same begun × (map (statement_on h) statements ≡ map (statement_on k) same) × (map (token_on h) unfinished ≡ map (token_on k) begun)
-viable_alike beginning_alike h k front other statements unfinished e v =
+viable_alike h k front other statements unfinished e v =
     let tokens : map (token_on h) (v.finished ++ unfinished) ≡ map (token_on k) (plain_tokens other) = ap (map (token_on h)) (sym v.whole) ∙ plain_tokens_alike h k front other e in
     let (finished, begun, whole, finisheds, beguns) = append_split (token_on h) (token_on k) v.finished unfinished (plain_tokens other) tokens in
     let (same, spelled, sames) = statements_alike h k v.finished finished statements finisheds v.spelled in (

@@ -3,6 +3,7 @@ use Rattle.std.proofs.Common.{◌≡◌, ℕ, zero, suc, ◌+◌, List, [], ◌�
 use Rattle.std.specs.Prelude.{nat_lt, slice_get, slice_index_or, slice_set, unwrap_or, option_map}
 use Rattle.std.specs.List.{AllZip, AllByRecursion, list_all, prefix_len}
 use Rattle.std.proofs.lemmas.Bool.{cond_both}
+use Rattle.std.proofs.lemmas.Slice.Zip.{AllZip-long}
 use Rattle.mm_text.specs.declared.fault.TextRule.{TextRule}
 use Rattle.mm_text.specs.declared.fault.TextRule.TheVariants.{X5, X7}
 use Rattle.mm_text.specs.Token.{PlainToken, is_printable, tokens_from}
@@ -10,46 +11,9 @@ use Rattle.mm_text.specs.Files.{PlainFile}
 use Rattle.mm_text.specs.Items.{Item, Plain, Wrong, Inclusion, End, Shown, Clear, Broken, without_comments, spells, holds_dollar, holds_mark, Spot, Outside, Naming, Closing, Piece, Met, Named, broken_outside, pieces, pieces_of, file_number, with_inclusions, put_before, put_in, items}
 use Rattle.mm_text.specs.Alike.{feeds_before, feeds_in, token_on, faulty_on, shown_on, item_on, shows, AreAlike}
 use Rattle.mm_text.proofs.PlaceLaws.{StandsIn, tokens_in_place}
+use Rattle.mm_text.proofs.Lists.{mapped_zip, zip_append, zip_mapped}
 
--- ---- two lists, place by place
-
--- the first of a list, or another where it has none
-abbrev first_or : {A : Type 0} → A → List A → A
-first_or a [] = a
-first_or a (x ∷ xs) = x
-
--- the rest of a list
-abbrev all_but_first : {A : Type 0} → List A → List A
-all_but_first [] = []
-all_but_first (x ∷ xs) = xs
-
--- lists whose elements correspond map to one
-pub zip_mapped : {A B C : Type 0} (f : A → C) (g : B → C) (xs : List A) (ys : List B) → AllZip (λ x y. f x ≡ g y) xs ys → map f xs ≡ map g ys
-zip_mapped f g [] [] h = refl
-zip_mapped f g [] (y ∷ ys) h = absurd h
-zip_mapped f g (x ∷ xs) [] h = absurd h
-zip_mapped f g (x ∷ xs) (y ∷ ys) h = λ i. h.0 i ∷ zip_mapped f g xs ys h.1 i
-
--- and the other way round
-pub mapped_zip : {A B C : Type 0} (f : A → C) (g : B → C) (R : A → B → Type 0) → ((x : A) (y : B) → f x ≡ g y → R x y) → (xs : List A) (ys : List B) → map f xs ≡ map g ys → AllZip R xs ys
-mapped_zip f g R step [] [] is = tt
-mapped_zip f g R step [] (y ∷ ys) is = absurd cc
-mapped_zip f g R step (x ∷ xs) [] is = absurd cc
-mapped_zip f g R step (x ∷ xs) (y ∷ ys) is = (step x y (ap (first_or (f x)) is), mapped_zip f g R step xs ys (ap all_but_first is))
-
--- lists that correspond, after lists that do
-pub zip_append : {A B : Type 0} (R : A → B → Type 0) (xs : List A) (ys : List B) (us : List A) (vs : List B) → AllZip R xs ys → AllZip R us vs → AllZip R (xs ++ us) (ys ++ vs)
-zip_append R [] [] us vs h k = k
-zip_append R [] (y ∷ ys) us vs h k = absurd h
-zip_append R (x ∷ xs) [] us vs h k = absurd h
-zip_append R (x ∷ xs) (y ∷ ys) us vs h k = (h.0, zip_append R xs ys us vs h.1 k)
-
--- lists that correspond are as long
-zip_length : {A B : Type 0} (R : A → B → Type 0) (xs : List A) (ys : List B) → AllZip R xs ys → length xs ≡ length ys
-zip_length R [] [] h = refl
-zip_length R [] (y ∷ ys) h = absurd h
-zip_length R (x ∷ xs) [] h = absurd h
-zip_length R (x ∷ xs) (y ∷ ys) h = ap suc (zip_length R xs ys h.1)
+-- ---- choices
 
 -- two choices by one test
 both_choices : {A B : Type 0} (R : A → B → Type 0) (b c : Bool) (x y : A) (u v : B) → b ≡ c → R x u → R y v → R (cond b x y) (cond c u v)
@@ -336,7 +300,7 @@ first_place text (f ∷ files) (g ∷ others) z = λ i. cond (not (spells text (
 file_number_same : (files others : List PlainFile) → AllZip AreAlike files others → (text : List ℕ) → file_number files text ≡ file_number others text
 file_number_same files others z text =
     let place = first_place text files others z in
-    let long = zip_length AreAlike files others z in
+    let long = sym (AllZip-long AreAlike files others z) in
     λ i. cond (nat_lt (place i) (long i)) (Some (place i)) None
 
 -- the pieces of files with one number correspond
@@ -374,4 +338,4 @@ alike_items (f ∷ files) (g ∷ others) z =
     zip_mapped (item_on h) (item_on k) (items (f ∷ files)) (put_in (g ∷ others) (length files) named (pieces_of 0 g))
     (put_in_same h k (f ∷ files) (g ∷ others) (file_number_same (f ∷ files) (g ∷ others) z) (put_before_same (f ∷ files) (g ∷ others) z) (length files) named (pieces_of 0 f) (pieces_of 0 g)
     (file_pieces_same (f ∷ files) (g ∷ others) 0 f g refl refl z.0))
-    ∙ ap (λ (n : ℕ). map (item_on k) (put_in (g ∷ others) n (true ∷ replicate n false) (pieces_of 0 g))) (zip_length AreAlike files others z.1)
+    ∙ ap (λ (n : ℕ). map (item_on k) (put_in (g ∷ others) n (true ∷ replicate n false) (pieces_of 0 g))) (sym (AllZip-long AreAlike files others z.1))

@@ -2,15 +2,14 @@
 use Rattle.std.proofs.Common.{[], ◌∷◌, ◌++◌, map, refl, ap, sym, ◌∙◌, Some, None}
 use Rattle.mm_text.specs.Items.{items}
 use Rattle.mm_text.specs.Alike.{AlikeFilesAreReadAlike, feeds_in, token_on, item_on}
-use Rattle.mm_text.proofs.AlikeLists.{nil_split, cons_split, append_split}
 use Rattle.mm_text.proofs.AlikeItems.{alike_items}
-use Rattle.mm_text.proofs.AlikeBeginnings.{beginning_alike}
 use Rattle.mm_text.proofs.AlikeFronts.{viable_alike}
 use Rattle.mm_text.proofs.AlikeEndings.{ends_alike}
+use Rattle.mm_text.proofs.Lists.{append_split, cons_split, nil_split}
 
 pub alike_files_are_read_alike : AlikeFilesAreReadAlike
 alike_files_are_read_alike files others alike statements None reads =
-    let (same, begun, viable, spelled, unfinished) = viable_alike beginning_alike (feeds_in files) (feeds_in others) (items files) (items others) statements [] (alike_items files others alike) reads in
+    let (same, begun, viable, spelled, unfinished) = viable_alike (feeds_in files) (feeds_in others) (items files) (items others) statements [] (alike_items files others alike) reads in
     let nothing = nil_split (token_on (feeds_in files)) (token_on (feeds_in others)) begun unfinished in record {
       same = same;
       end = None;
@@ -22,7 +21,7 @@ alike_files_are_read_alike files others alike statements (Some fault) (front, it
     let h = feeds_in files in let k = feeds_in others in
     let (first, back, whole, before, behind) = append_split (item_on h) (item_on k) front (item ∷ rest) (items others) (ap (map (item_on h)) (sym split) ∙ alike_items files others alike) in
     let (other, after, next, one, later) = cons_split (item_on h) (item_on k) item rest back behind in
-    let (same, begun, also, spelled, begins) = viable_alike beginning_alike h k front first statements unfinished before viable in
+    let (same, begun, also, spelled, begins) = viable_alike h k front first statements unfinished before viable in
     let (end, ended, told) = ends_alike h k statements same unfinished begun item other fault spelled begins one ends in record {
       same = same;
       end = Some end;

@@ -7,9 +7,9 @@ use Rattle.mm_text.specs.Token.{PlainToken}
 use Rattle.mm_text.specs.Statement.{PlainStatement, IsHead, HasBody, IsBareHead, IsLabelledHead, AreSymbols, FitsCount, label_in, Spells, IsTail, EndsAtOnce}
 use Rattle.mm_text.specs.Reading.{IsBeginning, IsBody, IsInProof, IsLone}
 use Rattle.mm_text.specs.Laws.{BeginsStatement, BeginningsBeginStatements}
-use Rattle.mm_text.proofs.Fronts.{cons_parts}
 use Rattle.mm_text.proofs.PartFacts.{symbols-append, started}
 use Rattle.mm_text.proofs.StatementRuns.{tail_cases, kind_cases, room_of, IsBlockSign, opening_sign, closing_sign_of}
+use Rattle.mm_text.proofs.Lists.{cons_parts}
 
 -- ---- a beginning is finished by more tokens
 

@@ -10,7 +10,7 @@ use Rattle.mm_text.specs.declared.statement.Kind.TheVariants.{Constants, Variabl
 use Rattle.mm_text.specs.Statement.{PlainStatement, HasBody}
 use Rattle.mm_text.specs.Blocks.{is_opening, is_closing, openings, closings, AreBalanced, AreClosed, IsInnermost}
 use Rattle.mm_text.specs.Mirror.Reader.{PlainScope, outermost, scope_after_statement, scope_after_opening, scope_after_closing, has_none}
-use Rattle.mm_text.proofs.Fronts.{two_cuts}
+use Rattle.mm_text.proofs.Lists.{two_cuts}
 
 -- ---- counts
 

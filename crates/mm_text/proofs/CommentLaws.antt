@@ -40,7 +40,8 @@ IsQuiet t = (list_all is_printable t.text ≡ true) × (list_any (λ b. b == 36)
 abbrev AreQuiet : List ℕ → Type 0
 AreQuiet bytes = AllByRecursion (λ b. is_quiet b ≡ true) bytes
 
-quiet_ink : (printable space dollar : Bool) → ((printable || space) && not dollar) ≡ true → space ≡ false → (printable ≡ true) × (dollar ≡ false)
+-- a byte of a token that isn't a `$`
+pub quiet_ink : (printable space dollar : Bool) → ((printable || space) && not dollar) ≡ true → space ≡ false → (printable ≡ true) × (dollar ≡ false)
 quiet_ink true false false q s = (refl, refl)
 quiet_ink true false true q s = (refl, absurd cc)
 quiet_ink false false dollar q s = absurd cc
@@ -204,13 +205,7 @@ legal_further bytes legal at stop n front from within each inside most = record 
   front = λ k high. ⊎_elim (λ (less : k < legal). front.front k less) (λ (more : legal ≤ k). each k (omega arith) (let last = most (omega arith) in omega arith)) (order k legal);
 }
 
--- behind bytes at which a comment neither ends nor is wrong
-pub legal_behind_quiet : (bytes : List ℕ) (legal at stop n : ℕ) → IsLegalFront bytes legal → at ≤ legal → stop ≤ length bytes
-    → ((k : ℕ) → at ≤ k → k < stop → is_quiet (get_or bytes k 0) ≡ true) → n ≤ length bytes → (legal < n → n ≤ stop) → IsLegalFront bytes n
-legal_behind_quiet bytes legal at stop n front from within quiet =
-    legal_further bytes legal at stop n front from within (λ k low high. quiet_legal _ (get_or bytes k 0 == 36) (quiet k low high))
-
--- and behind a mark
+-- behind a mark
 pub legal_behind_mark : (bytes : List ℕ) (second at place legal n : ℕ) → is_legal second ≡ true → IsMarkAt bytes second place → IsLegalFront bytes legal → at ≤ legal
     → ((k : ℕ) → at ≤ k → k < place → is_legal (get_or bytes k 0) ≡ true) → n ≤ length bytes → (legal < n → n ≤ place + 2) → IsLegalFront bytes n
 legal_behind_mark bytes second at place legal n right mark front from each =

@@ -16,10 +16,6 @@ pub record ShownAt (begin : Option PlainToken) (tokens : List PlainToken) (passe
   pub later : rest ≡ without_comments None after
   pub others : (more : List PlainToken) → without_comments begin (before ++ t ∷ more) ≡ passed ++ Clear t ∷ without_comments None more
 
-abbrev token_of : Shown → PlainToken
-token_of (Clear t) = t
-token_of (Broken rule t) = t
-
 not_broken : (rule : TextRule) (t u : PlainToken) (more rest : List Shown) → Broken rule t ∷ more ≡ Clear u ∷ rest → ⊥
 not_broken rule t u more rest e = cc
 

@@ -1,5 +1,5 @@
 -- A byte of what a comment says may be left out: the file shows the same.
-use Rattle.std.proofs.Common.{◌≡◌, ℕ, suc, ◌+◌, ◌≤◌, ◌==◌, ◌&&◌, ◌||◌, ◌≢◌, List, [], ◌∷◌, ◌++◌, length, map, take, Bool, true, false, not, cond, refl, sym, ap, ◌∙◌, subst, arith, codes, Option, Some, None, count_by, append_assoc, add-zero, eq-eqb}
+use Rattle.std.proofs.Common.{◌≡◌, ℕ, suc, ◌+◌, ◌≤◌, ◌==◌, ◌&&◌, ◌||◌, ◌≢◌, List, [], ◌∷◌, ◌++◌, length, map, take, Bool, true, false, not, cond, refl, sym, ap, ◌∙◌, subst, arith, codes, Option, Some, None, count_by, append_assoc, add-zero}
 use Rattle.std.specs.Prelude.{option_map}
 use Rattle.std.specs.List.{list_all}
 use Rattle.std.proofs.lemmas.Bool.{ne_eqb, both_ways, and_parts}
@@ -9,8 +9,8 @@ use Rattle.mm_text.specs.Items.{Shown, Clear, without_comments, spells, holds_ma
 use Rattle.mm_text.specs.Alike.{feeds_before, token_on, shown_on, shows}
 use Rattle.mm_text.specs.Mirror.Place.{is_quiet}
 use Rattle.mm_text.specs.Mirror.Hollow.{ShowSame, IsBoundary, IsOpen, ink, feeds}
-use Rattle.mm_text.proofs.TokenLaws.{BeginFrom, with_byte_apart}
-use Rattle.mm_text.proofs.CommentLaws.{outside-begin, in_comment-mark, in_comment-more}
+use Rattle.mm_text.proofs.TokenLaws.{BeginFrom, begin_earlier, with_byte_apart, with_byte_joined}
+use Rattle.mm_text.proofs.CommentLaws.{quiet_ink, outside-begin, in_comment-mark, in_comment-more}
 
 -- ---- tokens told from their begin on
 
@@ -36,11 +36,6 @@ by_place n b = n + 1
 abbrev by_line : ℕ → ℕ → ℕ
 by_line n b = n + cond (b == 10) 1 0
 
--- what begins after a place begins at or after it
-begin_earlier : (at : ℕ) (tokens : List PlainToken) → BeginFrom (at + 1) tokens → BeginFrom at tokens
-begin_earlier at [] h = tt
-begin_earlier at (t ∷ tokens) h = omega arith
-
 -- what is told from a place on begins there or later
 ahead_begins : (file : ℕ) (inside : Bool) (at : ℕ) (bytes : List ℕ) → BeginFrom at (ahead file by_place inside at bytes)
 ahead_begins file inside at [] = tt
@@ -55,12 +50,6 @@ ahead_begins file inside at (b ∷ bytes) =
       ]
     ]
 
--- a byte onto the front of the token after it
-byte_joined : (file at b : ℕ) (text : List ℕ) (tokens : List PlainToken) → with_byte file at b (record { text = text; file = file; at = at + 1 } ∷ tokens) ≡ record { text = b ∷ text; file = file; at = at } ∷ tokens
-byte_joined file at b text tokens =
-    let same : (at + 1 == at + 1) ≡ true = eq-eqb _ _ refl in
-    simp same
-
 -- a byte before the rest of what is told
 extended : (file at b : ℕ) (bytes : List ℕ) → with_byte file at b (ahead file by_place false (at + 1) bytes) ≡ record { text = b ∷ run bytes; file = file; at = at } ∷ ahead file by_place true (at + 1) bytes
 extended file at b [] = refl
@@ -70,7 +59,7 @@ extended file at b (c ∷ bytes) =
     let far : BeginFrom (at + 2) later = subst (λ n. BeginFrom n later) (omega arith) (ahead_begins file false (at + 1 + 1) bytes) in
     elim (is_space c) as (λ s. with_byte file at b (cond s later (record { text = c ∷ run bytes; file = file; at = at + 1 } ∷ more)) ≡ record { text = b ∷ cond s [] (c ∷ run bytes); file = file; at = at } ∷ cond s later more) [
       | true ↦ with_byte_apart file at b later far
-      | false ↦ byte_joined file at b (c ∷ run bytes) more
+      | false ↦ with_byte_joined file at b (c ∷ run bytes) more
     ]
 
 -- the tokens of a file are told so
@@ -267,13 +256,6 @@ like_seen begin file n text other tokens like =
     choices_mapped strip strip (not (list_all is_printable text)) (not (list_all is_printable other)) _ _ _ _ (ap not like.printable) refl
     (choices_mapped strip strip (spells text (codes "$)")) (spells other (codes "$)")) _ _ _ _ like.closes refl
     (choices_mapped strip strip (holds_mark text) (holds_mark other) _ _ _ _ like.mark refl refl))
-
--- a byte of a token that isn't a `$`
-quiet_ink : (printable space dollar : Bool) → ((printable || space) && not dollar) ≡ true → space ≡ false → (printable ≡ true) × (dollar ≡ false)
-quiet_ink true false false q s = (refl, refl)
-quiet_ink true false true q s = (refl, absurd cc)
-quiet_ink false false dollar q s = absurd cc
-quiet_ink printable true dollar q s = absurd cc
 
 -- a comment's text is no `$)` where its first byte isn't a `$`
 spells_closing : (b : ℕ) (text : List ℕ) → (b == 36) ≡ false → spells (b ∷ text) (codes "$)") ≡ false

@@ -13,7 +13,8 @@ use Rattle.mm_text.specs.Items.{items}
 use Rattle.mm_text.specs.Reading.{PlainFault, Reads, IsSliceOf, IsInPlace}
 use Rattle.mm_text.specs.Laws.{ReadingsAreFormedInPlace, ReadingsAreBalanced, ReadingsFit}
 use Rattle.mm_text.proofs.StatementTokens.{all_of_statement, reading_front, each_read, text_bytes, bytes-append, statements_bytes}
-use Rattle.mm_text.proofs.ItemTokens.{items_in_place, items_some, items_fit}
+use Rattle.mm_text.proofs.ItemTokens.{items_in_place, items_some}
+use Rattle.mm_text.proofs.TokenWeights.{tokens_fit}
 
 bare_label : (kind : Kind) (head : List PlainToken) (label : Option PlainToken) → list_all is_label_byte (keyword_of kind) ≡ false → IsBareHead kind head → label ≡ label_in head → label ≡ None
 bare_label kind head label none h e = e ∙ ap label_in h.tokens ∙ cond-false (list_all is_label_byte h.keyword.text) _ _ (ap (list_all is_label_byte) h.sign ∙ none)
@@ -62,7 +63,7 @@ pub readings_fit : ReadingsFit
 readings_fit files statements ending r =
     let front = reading_front (items files) statements ending r in
     let spelled = statements_bytes front.finished statements front.spelled in
-    omega (arith, spelled, ap text_bytes front.whole, bytes-append front.finished front.rest, items_fit files)
+    omega (arith, spelled, ap text_bytes front.whole, bytes-append front.finished front.rest, tokens_fit files)
 
 -- each statement holds a byte, so they are no more than the bytes of the files
 formed_few : (statements : List PlainStatement) → AllByRecursion HasForm statements → length statements ≤ sum_by bytes_in statements

@@ -4,7 +4,7 @@ use Rattle.std.specs.List.{list_all}
 use Rattle.std.proofs.lemmas.List.{take_more, get_or-drop, length-drop, drop-drop}
 use Rattle.std.proofs.lemmas.Bool.{and_parts, cases_eq, cases_Bool, ne_eqb, leb-true}
 use Rattle.mm_text.proofs.LegalLaws.{shown_legal}
-use Rattle.mm_text.specs.declared.hollow.State.TheVariants.{Outside, Inside, Marked}
+use Rattle.mm_text.specs.declared.hollow.State.TheVariants.{Inside, Marked}
 use Rattle.mm_text.specs.declared.hollow.State.{State}
 use Rattle.mm_text.specs.Token.{is_space}
 use Rattle.mm_text.specs.Alike.{shows}
@@ -20,14 +20,6 @@ kept_as_it_is bytes others more same file rest =
 -- what shows the same as what shows the same
 pub same_again : (bytes others more : List ℕ) → ShowSame bytes others → ShowSame others more → ShowSame bytes more
 same_again bytes others more one other file rest = one file rest ∙ other file rest
-
--- all is kept that was held back, and one byte more
-pub all_kept : (bytes kept : List ℕ) (state : State) (more : List ℕ) → IsHollow bytes kept state → IsHollow (bytes ++ more) (kept ++ held state ++ more) Outside
-all_kept bytes kept state more hollow = record {
-  same = subst (λ l. ShowSame (bytes ++ more) l) (sym (append-nil (kept ++ held state ++ more))) (kept_as_it_is bytes (kept ++ held state) more hollow.same);
-  at = tt;
-  short = omega (arith, hollow.short, length-append bytes more, length-append (kept ++ held state) more, ap length (append-nil (kept ++ held state ++ more)));
-}
 
 -- what is true of each of two parts
 all_both : (p : ℕ → Bool) (one other : List ℕ) → list_all p one ≡ true → list_all p other ≡ true → list_all p (one ++ other) ≡ true

@@ -1,17 +1,12 @@
 -- So many files as there are can be put in: that more could be changes nothing.
-use Rattle.std.proofs.Common.{◌≡◌, ℕ, zero, suc, ◌+◌, ◌<◌, ◌≤◌, List, [], ◌∷◌, length, Bool, true, false, cond, not, refl, ap, Some, None, Option, replicate, count_by, arith}
+use Rattle.std.proofs.Common.{◌≡◌, ℕ, zero, suc, ◌+◌, ◌≤◌, List, [], ◌∷◌, length, Bool, true, false, cond, not, refl, ap, Some, None, Option, replicate, count_by, arith}
 use Rattle.std.specs.Prelude.{slice_index_or, slice_set}
 use Rattle.mm_text.specs.declared.fault.TextRule.TheVariants.{X7}
 use Rattle.mm_text.specs.Token.{PlainToken}
 use Rattle.mm_text.specs.Files.{PlainFile}
 use Rattle.mm_text.specs.Items.{Item, Plain, Wrong, Inclusion, End, Piece, Met, Named, file_number, pieces_of, with_inclusions, put_before, put_in}
 use Rattle.mm_text.specs.ItemLaws.{InclusionsEnd}
-use Rattle.mm_text.proofs.NestLaws.{count_named, count_top}
-
-pub in_range : (named : List Bool) (n : ℕ) → slice_index_or named n true ≡ false → n < length named
-in_range [] n e = absurd cc
-in_range (b ∷ named) zero e = omega arith
-in_range (b ∷ named) (suc n) e = omega (arith, in_range named n e)
+use Rattle.mm_text.proofs.NestLaws.{in_range, count_named, count_top}
 
 -- what a name gives
 abbrev at_name : List Bool → PlainToken → List Piece → (ℕ → List Piece → List Item) → List Item → Option ℕ → List Item

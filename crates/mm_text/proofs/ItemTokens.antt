@@ -1,24 +1,20 @@
 -- What holds of all tokens among the items of files.
 use Rattle.std.proofs.Common.{◌≡◌, ℕ, zero, suc, ◌+◌, ◌-◌, ◌==◌, ◌&&◌, ◌≤◌, length, take, drop, List, [], ◌∷◌, ◌++◌, replicate, Bool, true, false, cond, not, refl, ap, ◌∙◌, codes, Option, Some, None, ◌⊎◌, inl, inr, arith}
-use Rattle.std.specs.Prelude.{sum_by, slice_get, slice_index_or, slice_set}
+use Rattle.std.specs.Prelude.{slice_get, slice_index_or, slice_set}
 use Rattle.std.specs.List.{AllByRecursion, list_any, list_all}
 use Rattle.std.proofs.lemmas.Bool.{cond_both}
 use Rattle.mm_text.specs.declared.fault.TextRule.{TextRule}
 use Rattle.mm_text.specs.declared.fault.TextRule.TheVariants.{X4, X7, X9}
 use Rattle.mm_text.specs.Token.{PlainToken, HoldsNoDollar, is_printable, is_space, with_byte, tokens_from}
 use Rattle.mm_text.specs.Statement.{IsKeyword, keywords}
-use Rattle.mm_text.specs.Files.{PlainFile, total_bytes}
+use Rattle.mm_text.specs.Files.{PlainFile}
 use Rattle.mm_text.specs.Items.{Item, Plain, Wrong, Inclusion, End, Shown, Clear, Broken, without_comments, spells, holds_dollar, holds_mark, Spot, Outside, Naming, Closing, Piece, Met, Named, broken_outside, pieces, pieces_of, file_number, with_inclusions, put_before, put_in, plain_tokens, items}
 use Rattle.mm_text.specs.Reading.{IsSliceOf}
 use Rattle.mm_text.proofs.TextFacts.{IsSigned, is_keyword-true}
 use Rattle.mm_text.proofs.PlaceLaws.{StandsIn, tokens_in_place}
-use Rattle.mm_text.proofs.TokenWeights.{tokens_fit}
+use Rattle.mm_text.proofs.Lists.{all_weaker}
 
 -- ---- tokens of one file
-
-all_weaker : (P Q : PlainToken → Type 0) → ((t : PlainToken) → P t → Q t) → (tokens : List PlainToken) → AllByRecursion P tokens → AllByRecursion Q tokens
-all_weaker P Q f [] h = tt
-all_weaker P Q f (t ∷ tokens) h = (f t h.0, all_weaker P Q f tokens h.1)
 
 -- each token holds a byte
 abbrev HoldsByte : PlainToken → Type 0
@@ -175,7 +171,3 @@ items_some files = all_weaker (λ t. HoldsByte t × IsSigned t) HoldsByte (λ t 
 -- each token is a keyword or holds no `$`
 pub items_signed : (files : List PlainFile) → AllByRecursion IsSigned (plain_tokens (items files))
 items_signed files = all_weaker (λ t. HoldsByte t × IsSigned t) IsSigned (λ t h. h.1) (plain_tokens (items files)) (all_items HoldsByte files (λ n f there. tokens_some n 0 f.bytes))
-
--- the tokens have no more bytes than the files
-pub items_fit : (files : List PlainFile) → sum_by (λ t. length t.text) (plain_tokens (items files)) ≤ total_bytes files
-items_fit files = tokens_fit files

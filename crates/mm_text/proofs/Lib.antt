@@ -1,10 +1,10 @@
 mod Pieces
+pub mod Lists
 pub mod TokenLaws
 pub mod CutTokens
 pub mod Lanes
 pub mod LegalLaws
 pub mod LowBytes
-pub mod OddBytes
 pub mod CommentLaws
 pub mod DollarLaws
 pub mod NameLaws

@@ -5,6 +5,7 @@ use Rattle.std.proofs.lemmas.Bool.{cond_both, eqb-true, eqb-false, both_ways, ca
 use Rattle.mm_text.specs.Token.{PlainToken, is_space, with_byte, tokens_from, IsToken}
 use Rattle.mm_text.specs.Laws.{IsRunOf, TokensAreLongestRuns}
 use Rattle.mm_text.proofs.PlaceLaws.{StandsIn, tokens_in_place}
+use Rattle.mm_text.proofs.Lists.{all_weaker}
 
 -- ---- one more byte in front
 
@@ -122,10 +123,6 @@ record AreRuns (at : ℕ) (bytes : List ℕ) (tokens : List PlainToken) : Type 0
   every : (start stop : ℕ) → IsToken bytes start stop → Held (Covers at start stop) tokens
   rising : Rising tokens
 
-all_so : (P Q : PlainToken → Type 0) → ((t : PlainToken) → P t → Q t) → (tokens : List PlainToken) → AllByRecursion P tokens → AllByRecursion Q tokens
-all_so P Q f [] h = tt
-all_so P Q f (t ∷ tokens) h = (f t h.0, all_so P Q f tokens h.1)
-
 all_both : (P Q R : PlainToken → Type 0) → ((t : PlainToken) → P t → Q t → R t) → (tokens : List PlainToken) → AllByRecursion P tokens → AllByRecursion Q tokens → AllByRecursion R tokens
 all_both P Q R f [] h g = tt
 all_both P Q R f (t ∷ tokens) h g = (f t h.0 g.0, all_both P Q R f tokens h.1 g.1)
@@ -153,7 +150,7 @@ covers_behind at start stop t h = let place = h.0 in let end = h.1 in (omega ari
 -- white space
 runs_behind_space : (at b : ℕ) (bytes : List ℕ) (tokens : List PlainToken) → is_space b ≡ true → AreRuns (at + 1) bytes tokens → AreRuns at (b ∷ bytes) tokens
 runs_behind_space at b bytes tokens light h = record {
-  each = all_so (HasRun (at + 1) bytes) (HasRun at (b ∷ bytes)) (λ t. run_behind at b bytes t (λ _. light)) tokens h.each;
+  each = all_weaker (HasRun (at + 1) bytes) (HasRun at (b ∷ bytes)) (λ t. run_behind at b bytes t (λ _. light)) tokens h.each;
   every = every;
   rising = h.rising;
 }
@@ -172,7 +169,7 @@ runs_taken_in file at b bytes t tokens dark next h = record {
     all_both (HasRun (at + 1) bytes) (λ u. t.at < u.at) (HasRun at (b ∷ bytes)) (λ u r lt. run_behind at b bytes u (λ e. absurd (omega arith)) r) tokens h.each.1 h.rising.0,
   );
   every = every;
-  rising = (all_so (λ u. t.at < u.at) (λ u. at < u.at) (λ u lt. omega arith) tokens h.rising.0, h.rising.1);
+  rising = (all_weaker (λ u. t.at < u.at) (λ u. at < u.at) (λ u lt. omega arith) tokens h.rising.0, h.rising.1);
 }
   where
     first : HasRun (at + 1) bytes t
@@ -209,7 +206,7 @@ runs_apart file at b bytes tokens dark far h = record {
     all_both (HasRun (at + 1) bytes) (λ u. at + 1 < u.at) (HasRun at (b ∷ bytes)) (λ u r lt. run_behind at b bytes u (λ e. absurd (omega arith)) r) tokens h.each far,
   );
   every = every;
-  rising = (all_so (λ u. at + 1 < u.at) (λ u. at < u.at) (λ u lt. omega arith) tokens far, h.rising);
+  rising = (all_weaker (λ u. at + 1 < u.at) (λ u. at < u.at) (λ u lt. omega arith) tokens far, h.rising);
 }
   where
     none : (stop : ℕ) → IsToken bytes 0 stop → ⊥
@@ -236,7 +233,7 @@ runs_with_byte file at b bytes (t ∷ tokens) dark h =
     cond_both (t.at == at + 1) _ _ (AreRuns at (b ∷ bytes))
     (λ e. runs_taken_in file at b bytes t tokens dark (eqb-true t.at (at + 1) e) h)
     (λ ne. let off = eqb-false t.at (at + 1) ne in let far : at + 1 < t.at = omega (arith, h.each.0.place) in
-    runs_apart file at b bytes (t ∷ tokens) dark (far, all_so (λ u. t.at < u.at) (λ u. at + 1 < u.at) (λ u lt. omega arith) tokens h.rising.0) h)
+    runs_apart file at b bytes (t ∷ tokens) dark (far, all_weaker (λ u. t.at < u.at) (λ u. at + 1 < u.at) (λ u lt. omega arith) tokens h.rising.0) h)
 
 none_of_nothing : (start stop : ℕ) → IsToken [] start stop → ⊥
 none_of_nothing start stop r = omega (arith, r.some, r.within)

@@ -7,19 +7,16 @@ use Rattle.std.proofs.lemmas.Bool.{false≢true, both_ways}
 use Rattle.std.proofs.lemmas.List.{get_or-take, length-take-le, length-map, map-append}
 use Rattle.std.proofs.Math.Seq.{take-suc}
 use Rattle.std.proofs.str.Laws.{order}
+use Rattle.std.proofs.lemmas.Option.{slice_get_within}
 use Rattle.std.proofs.lemmas.List.Folds.{list_any_at, Any-from_list_any}
 use Rattle.mm_text.specs.declared.file.File.{File}
 use Rattle.mm_text.specs.Files.{PlainFile, plain_file, HasTwins}
 use Rattle.mm_text.specs.Items.{spells}
+use Rattle.mm_text.proofs.Lists.{some_at}
 
 -- the names before a place are different
 abbrev pub AreApart : List (List ℕ) → ℕ → Type 0
 AreApart names n = (i j : ℕ) → i < j → j < n → get_or names i [] ≢ get_or names j []
-
-some_at : {A : Type 0} (xs : List A) (i : ℕ) → i < length xs → (x : A) × (slice_get xs i ≡ Some x)
-some_at [] i lt = absurd (omega arith)
-some_at (x ∷ xs) zero lt = (x, refl)
-some_at (x ∷ xs) (suc i) lt = some_at xs i (omega arith)
 
 name_at : (files : List File) (i : ℕ) (file : PlainFile) → slice_get (map plain_file files) i ≡ Some file → get_or (map (λ f. f.name.now) files) i [] ≡ file.name
 name_at [] i file e = absurd cc
@@ -34,15 +31,10 @@ twins_from_names files i j apart within same =
     let other = some_at (map plain_file files) j (omega (arith, length-map files plain_file)) in
     record { i = i; j = j; one = one.0; other = other.0; apart = apart; at_i = one.1; at_j = other.1; same = sym (name_at files i one.0 one.1) ∙ same ∙ name_at files j other.0 other.1 }
 
-some_place : {A : Type 0} (xs : List A) (i : ℕ) (x : A) → slice_get xs i ≡ Some x → i < length xs
-some_place [] i x e = absurd cc
-some_place (y ∷ xs) zero x e = omega arith
-some_place (y ∷ xs) (suc i) x e = omega (arith, some_place xs i x e)
-
 -- where all names are different no two files have one
 pub no_twins : (files : List File) (n : ℕ) → length files ≤ n → AreApart (map (λ f. f.name.now) files) n → ¬ (HasTwins (map plain_file files))
 no_twins files n all apart twins =
-    let within : twins.j < n = omega (arith, some_place (map plain_file files) twins.j twins.other twins.at_j, length-map files plain_file) in
+    let within : twins.j < n = omega (arith, slice_get_within (map plain_file files) twins.j twins.other twins.at_j, length-map files plain_file) in
     apart twins.i twins.j twins.apart within (name_at files twins.i twins.one twins.at_i ∙ twins.same ∙ sym (name_at files twins.j twins.other twins.at_j))
 
 -- the name at a place is among those before it, or isn't

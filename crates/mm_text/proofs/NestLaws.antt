@@ -148,6 +148,12 @@ file_there [] n d lt = absurd (omega arith)
 file_there (f ∷ files) zero d lt = refl
 file_there (f ∷ files) (suc n) d lt = file_there files n d (omega arith)
 
+-- what isn't named already has its place
+pub in_range : (named : List Bool) (n : ℕ) → slice_index_or named n true ≡ false → n < length named
+in_range [] n e = absurd cc
+in_range (b ∷ named) zero e = omega arith
+in_range (b ∷ named) (suc n) e = omega (arith, in_range named n e)
+
 -- one file fewer wasn't named
 pub count_named : (named : List Bool) (n : ℕ) → n < length named → slice_index_or named n true ≡ false → count_by not named ≡ suc (count_by not (slice_set named n true))
 count_named named n lt e =

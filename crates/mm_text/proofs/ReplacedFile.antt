@@ -9,11 +9,12 @@ use Rattle.mm_text.specs.Items.{Plain, Shown, Clear, without_comments, spells, O
 use Rattle.mm_text.specs.Alike.{token_on, shown_on}
 use Rattle.mm_text.proofs.CommentLaws.{outside-clear, no_dollar-spells}
 use Rattle.mm_text.proofs.InclusionLaws.{pieces-plain}
-use Rattle.mm_text.proofs.AlikeItems.{SamePiece, SameShown, mapped_zip, shown_same, pieces_same}
+use Rattle.mm_text.proofs.AlikeItems.{SamePiece, SameShown, shown_same, pieces_same}
 use Rattle.mm_text.proofs.Dropped.{seen, lines_seen}
 use Rattle.mm_text.proofs.CutTokens.{IsSpaced, Moves, replaced_between}
 use Rattle.mm_text.proofs.FollowedRuns.{IsPlainIn, AllPlainIn, StandsInFile}
 use Rattle.mm_text.proofs.CutShown.{clear_shown}
+use Rattle.mm_text.proofs.Lists.{mapped_zip}
 
 -- no place matters
 abbrev pub nowhere : ℕ → ℕ → ℕ
@@ -33,10 +34,6 @@ abbrev pub with_span : List ℕ → ℕ → ℕ → List ℕ → List ℕ
 with_span bytes start stop text = take start bytes ++ (text ++ drop stop bytes)
 
 -- ---- tokens of a proof
-
-shown_clear : (t : PlainToken) (more : List PlainToken) → list_all is_printable t.text ≡ true → spells t.text (codes "$(") ≡ false → spells t.text (codes "$)") ≡ false
-    → without_comments None (t ∷ more) ≡ Clear t ∷ without_comments None more
-shown_clear t more p o c = outside-clear t more p o c
 
 all_clear : (tokens more : List PlainToken) → AllByRecursion IsProofToken tokens → without_comments None (tokens ++ more) ≡ map Clear tokens ++ without_comments None more
 all_clear [] more h = refl

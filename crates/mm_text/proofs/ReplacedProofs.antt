@@ -9,7 +9,7 @@ use Rattle.mm_text.specs.Statement.{PlainStatement, AreSymbols}
 use Rattle.mm_text.specs.Items.{Item, Plain, Clear, Shown, Piece, Met, plain_tokens, without_comments, pieces_of, items}
 use Rattle.mm_text.specs.Reading.{Reads}
 use Rattle.mm_text.specs.Alike.{statement_on}
-use Rattle.mm_text.proofs.Fronts.{cons_parts, two_cuts, plain_tokens-append}
+use Rattle.mm_text.proofs.Fronts.{plain_tokens-append}
 use Rattle.mm_text.proofs.Weights.{weigh_pieces, weigh_pieces-append}
 use Rattle.mm_text.proofs.TokenWeights.{weight_of, file_weight}
 use Rattle.mm_text.proofs.OnceLaws.{token_weight, one_token, tokens_rise, files_are_put_in_once}
@@ -20,6 +20,7 @@ use Rattle.mm_text.proofs.ReplacedFile.{nowhere, met, IsProofText, IsProofToken,
 use Rattle.mm_text.proofs.AlteredItems.{SameItem, Alter, SameOrAlter}
 use Rattle.mm_text.proofs.ReplacedItems.{with_file, replaced_items, set_there, some_same}
 use Rattle.mm_text.proofs.ReplacedReading.{ProofAt, read_so}
+use Rattle.mm_text.proofs.Lists.{cons_parts, two_cuts}
 
 -- ---- the file of a token
 

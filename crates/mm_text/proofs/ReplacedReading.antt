@@ -11,20 +11,19 @@ use Rattle.mm_text.specs.Items.{Item, Plain, Wrong, Inclusion, End, plain_tokens
 use Rattle.mm_text.specs.Reading.{PlainFault, Viable, Reads}
 use Rattle.mm_text.specs.Alike.{statement_on, token_on, item_on}
 use Rattle.mm_text.specs.Mirror.Reader.{Between, InProof, PlainScope, outermost, PlainReading, with_statement, scope_after_statement, reading_of}
-use Rattle.mm_text.proofs.Fronts.{cons_parts, nil_append, plain_tokens-append, clean_behind}
+use Rattle.mm_text.proofs.Fronts.{plain_tokens-append, clean_behind}
 use Rattle.mm_text.proofs.PartFacts.{IsPartProof}
 use Rattle.mm_text.proofs.StepLaws.{read_more, read_whole}
 use Rattle.mm_text.proofs.Runs.{runs_parts}
-use Rattle.mm_text.proofs.StatementRuns.{spelled_run, whole_run, proof_step, proof_stop}
+use Rattle.mm_text.proofs.StatementRuns.{spelled_run, whole_run, proof_stop}
+use Rattle.mm_text.proofs.StepLaws.{step_proof_token}
 use Rattle.mm_text.proofs.BlockFacts.{scope_of, balanced_front}
 use Rattle.mm_text.proofs.OneReading.{with_statements, front_reading, reads_reading}
 use Rattle.mm_text.proofs.ReaderLaws.{files_reading, reading_reads}
-use Rattle.mm_text.proofs.AlikeLists.{nil_split}
-use Rattle.mm_text.proofs.AlikeItems.{zip_mapped}
-use Rattle.mm_text.proofs.AlikeBeginnings.{beginning_alike}
 use Rattle.mm_text.proofs.AlikeFronts.{viable_alike}
 use Rattle.mm_text.proofs.ReplacedFile.{nowhere}
 use Rattle.mm_text.proofs.AlteredItems.{SameItem}
+use Rattle.mm_text.proofs.Lists.{cons_parts, nil_append, nil_split, zip_mapped}
 
 -- ---- the parts of tokens and items
 
@@ -196,7 +195,7 @@ proof_reading scope y [] stop rest h sign =
     ∙ ap (λ (l : List PlainToken). with_statement (record y { proof = l; span = (y.span.0, stop.at) }) (reading_of (scope_after_statement scope) Between rest)) (sym (append-nil y.proof))
 proof_reading scope y (t ∷ proof) stop rest h sign =
     let more : PlainStatement = record y { proof = y.proof ++ t ∷ [] } in
-    read_more scope (InProof y) t (map Plain (proof ++ stop ∷ []) ++ rest) (InProof more) (proof_step y t h.0)
+    read_more scope (InProof y) t (map Plain (proof ++ stop ∷ []) ++ rest) (InProof more) (step_proof_token y t h.0)
     ∙ proof_reading scope more proof stop rest h.1 sign
     ∙ ap (λ (l : List PlainToken). with_statement (record y { proof = l; span = (y.span.0, stop.at) }) (reading_of (scope_after_statement scope) Between rest)) (append_assoc y.proof (t ∷ []) proof)
 
@@ -280,7 +279,7 @@ module _ (its : List Item) (before : List PlainStatement) (s : PlainStatement) (
       ∙ map-append (item_on nowhere) a.front (own ++ a.back)
       ∙ ap (λ (l : List Item). map (item_on nowhere) a.front ++ l) (map-append (item_on nowhere) own a.back ∙ ap (λ (l : List Item). map (item_on nowhere) own ++ l) same_rest ∙ sym (map-append (item_on nowhere) own rest))
       ∙ sym (map-append (item_on nowhere) a.front (own ++ rest)) in
-      let (same, nothing, viable, spelled, unfinished) = viable_alike beginning_alike nowhere nowhere its mixed (before ++ s ∷ after) [] same_items v in
+      let (same, nothing, viable, spelled, unfinished) = viable_alike nowhere nowhere its mixed (before ++ s ∷ after) [] same_items v in
       let none : nothing ≡ [] = nil_split (token_on nowhere) (token_on nowhere) nothing unfinished in
       let read : reading_of outermost Between mixed ≡ record { statements = same; ending = None } = reads_reading mixed same None (subst (Viable mixed same) none viable) in
       let r : PlainReading = reading_of (scope_after_statement (scope_of before)) Between rest in

@@ -1,5 +1,5 @@
 -- After each token among the items of files a fault or the end of a file comes.
-use Rattle.std.proofs.Common.{◌≡◌, ℕ, zero, suc, ◌≤◌, ◌<◌, length, List, [], ◌∷◌, ◌++◌, Bool, true, false, cond, not, Option, Some, None, replicate, count_by, codes, arith}
+use Rattle.std.proofs.Common.{◌≡◌, ℕ, zero, suc, ◌≤◌, length, List, [], ◌∷◌, ◌++◌, Bool, true, false, cond, not, Option, Some, None, replicate, count_by, codes, arith}
 use Rattle.std.specs.Prelude.{slice_get, slice_index_or, slice_set}
 use Rattle.std.proofs.lemmas.Bool.{cond_both}
 use Rattle.mm_text.specs.declared.fault.TextRule.{TextRule}
@@ -7,7 +7,7 @@ use Rattle.mm_text.specs.declared.fault.TextRule.TheVariants.{X7}
 use Rattle.mm_text.specs.Token.{tokens_from}
 use Rattle.mm_text.specs.Files.{PlainFile}
 use Rattle.mm_text.specs.Items.{Item, Plain, Wrong, Inclusion, End, Shown, Clear, Broken, without_comments, spells, holds_dollar, Spot, Outside, Naming, Closing, Piece, Met, Named, broken_outside, pieces, pieces_of, file_number, with_inclusions, put_before, put_in, items}
-use Rattle.mm_text.proofs.NestLaws.{count_named, count_top}
+use Rattle.mm_text.proofs.NestLaws.{in_range, count_named, count_top}
 use Rattle.mm_text.proofs.ReadingLaws.{ComesToStop, AreSettled}
 
 -- ---- pieces
@@ -118,11 +118,6 @@ spliced_settles files named next goes settles (Named name ∷ rest) h = go (file
         → AreSettled (elim o [ None ↦ Wrong X7 name ∷ [] | Some n ↦ cond (slice_index_or named n true) (with_inclusions files named next rest) (next n rest) ])
     go None inner = tt
     go (Some n) inner = cond_both (slice_index_or named n true) _ _ AreSettled (λ _. inner) (λ first. settles n rest first h)
-
-in_range : (named : List Bool) (n : ℕ) → slice_index_or named n true ≡ false → n < length named
-in_range [] n e = absurd cc
-in_range (b ∷ named) zero e = omega arith
-in_range (b ∷ named) (suc n) e = omega (arith, in_range named n e)
 
 -- a file that wasn't named is one of those that are left
 one_fewer : (named : List Bool) (n : ℕ) → slice_index_or named n true ≡ false → count_by not named ≡ suc (count_by not (slice_set named n true))

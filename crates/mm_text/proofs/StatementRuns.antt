@@ -6,16 +6,17 @@ use Rattle.std.proofs.lemmas.Bool.{cond-true, cond-false, ne_eqb, false_from_ne_
 use Rattle.mm_text.specs.declared.fault.TextRule.TheVariants.{S5}
 use Rattle.mm_text.specs.declared.statement.Kind.{Kind}
 use Rattle.mm_text.specs.declared.statement.Kind.TheVariants.{Constants, Variables, Distinct, Floating, Essential, Axiom, Provable, Opening, Closing}
-use Rattle.mm_text.specs.Token.{PlainToken, IsLabel, is_label_byte, HoldsNoDollar}
+use Rattle.mm_text.specs.Token.{PlainToken, IsLabel, is_label_byte}
 use Rattle.mm_text.specs.Statement.{PlainStatement, IsHead, HasBody, IsBareHead, IsLabelledHead, AreSymbols, FitsCount, label_in, keyword_of, Spells, SpellsAll, IsTail, EndsAtOnce, EndsInProof}
 use Rattle.mm_text.specs.Reading.{closes_symbols}
-use Rattle.mm_text.specs.Mirror.Reader.{Part, Between, Labelled, InBody, InProof, More, Whole, Opened, Closed, Faulty, step, same_text, is_keyword, bare_statement, has_count, is_full}
+use Rattle.mm_text.specs.Mirror.Reader.{Part, Between, Labelled, InBody, InProof, More, Whole, Faulty, step, same_text, is_keyword, bare_statement, has_count, is_full}
 use Rattle.mm_text.specs.Statement.{is_provable}
-use Rattle.mm_text.proofs.TextFacts.{same_text_from, symbol-is_keyword, label-is_keyword, label_ne}
-use Rattle.mm_text.proofs.Fronts.{cons_parts}
+use Rattle.mm_text.proofs.TextFacts.{same_text_from, label-is_keyword, label_ne}
 use Rattle.mm_text.proofs.PartFacts.{IsPartBody, IsPartProof, Describes}
 use Rattle.mm_text.proofs.StepFacts.{has_count_from, has_count-true, closing_sign}
 use Rattle.mm_text.proofs.Runs.{Runs, with_first, with_all, with_all-runs, run, run-nil, run-more, run-whole, run-opened, run-closed}
+use Rattle.mm_text.proofs.Lists.{cons_parts}
+use Rattle.mm_text.proofs.StepLaws.{step_opens, step_closes, step_symbol, step_proof_token}
 
 -- ---- single steps
 
@@ -30,14 +31,6 @@ start_variables t e = rw e refl
 start_distinct : (t : PlainToken) → t.text ≡ codes "$d" → step Between t ≡ More (InBody (bare_statement Distinct t None))
 unfolding step
 start_distinct t e = rw e refl
-
-pub start_opening : (t : PlainToken) → t.text ≡ codes "${" → step Between t ≡ Opened
-unfolding step
-start_opening t e = rw e refl
-
-pub start_closing : (t : PlainToken) → t.text ≡ codes "$}" → step Between t ≡ Closed
-unfolding step
-start_closing t e = rw e refl
 
 start_label : (t : PlainToken) → IsLabel t.text → step Between t ≡ More (Labelled t)
 unfolding step
@@ -66,10 +59,6 @@ label_provable : (label t : PlainToken) → t.text ≡ codes "$p" → step (Labe
 unfolding step
 label_provable label t e = rw e refl
 
-symbol_step : (s : PlainStatement) (t : PlainToken) → HoldsNoDollar t.text → is_full s.kind (length s.symbols) ≡ false → step (InBody s) t ≡ More (InBody (record s { symbols = s.symbols ++ t ∷ [] }))
-unfolding step
-symbol_step s t h f = cond-false (is_keyword t.text) _ _ (symbol-is_keyword t.text h) ∙ cond-false (is_full s.kind (length s.symbols)) _ _ f
-
 closing_is_keyword : (kind : Kind) → is_keyword (cond (is_provable kind) (codes "$=") (codes "$.")) ≡ true
 closing_is_keyword Provable = refl
 closing_is_keyword _ = refl
@@ -90,10 +79,6 @@ closing_counted s t sign c = closing_step s t sign ∙ cond-true (has_count s.ki
 pub closing_short : (s : PlainStatement) (t : PlainToken) → t.text ≡ closes_symbols s.kind → ¬ (FitsCount s.kind (length s.symbols)) → step (InBody s) t ≡ Faulty S5
 closing_short s t sign c = closing_step s t sign ∙ cond-false (has_count s.kind (length s.symbols)) _ _ (false_from_ne_true _ (λ e. c (has_count-true s.kind (length s.symbols) e)))
 
-pub proof_step : (s : PlainStatement) (t : PlainToken) → HoldsNoDollar t.text → step (InProof s) t ≡ More (InProof (record s { proof = s.proof ++ t ∷ [] }))
-unfolding step
-proof_step s t h = cond-false (is_keyword t.text) _ _ (symbol-is_keyword t.text h)
-
 pub proof_stop : (s : PlainStatement) (t : PlainToken) → t.text ≡ codes "$." → step (InProof s) t ≡ Whole (record s { span = (s.span.0, t.at) })
 unfolding step
 proof_stop s t e = rw e refl
@@ -109,7 +94,7 @@ symbols_run : (s : PlainStatement) (symbols : List PlainToken) (rest : List Plai
 symbols_run s [] rest h room = ap (λ (x : List PlainToken). run (InBody (record s { symbols = x })) rest) (sym (append-nil s.symbols))
 symbols_run s (t ∷ symbols) rest h room =
     let more : PlainStatement = record s { symbols = s.symbols ++ t ∷ [] } in
-    run-more (InBody s) (InBody more) t (symbols ++ rest) (symbol_step s t h.0 (not_full s.kind (length s.symbols) (λ k. let le = room k in omega arith)))
+    run-more (InBody s) (InBody more) t (symbols ++ rest) (step_symbol s t h.0 (not_full s.kind (length s.symbols) (λ k. let le = room k in omega arith)))
     ∙ symbols_run more symbols rest h.1 (λ k. let le = room k in omega (arith, length-append s.symbols (t ∷ [])))
     ∙ ap (λ (x : List PlainToken). run (InBody (record s { symbols = x })) rest) (append_assoc s.symbols (t ∷ []) symbols)
 
@@ -118,7 +103,7 @@ proof_run : (s : PlainStatement) (proof : List PlainToken) (rest : List PlainTok
 proof_run s [] rest h = ap (λ (x : List PlainToken). run (InProof (record s { proof = x })) rest) (sym (append-nil s.proof))
 proof_run s (t ∷ proof) rest h =
     let more : PlainStatement = record s { proof = s.proof ++ t ∷ [] } in
-    run-more (InProof s) (InProof more) t (proof ++ rest) (proof_step s t h.0)
+    run-more (InProof s) (InProof more) t (proof ++ rest) (step_proof_token s t h.0)
     ∙ proof_run more proof rest h.1
     ∙ ap (λ (x : List PlainToken). run (InProof (record s { proof = x })) rest) (append_assoc s.proof (t ∷ []) proof)
 
@@ -310,10 +295,10 @@ statement_run tokens s rest h =
       ]
       | inr (inl k) ↦
           let b = opening_sign tokens s h k in
-          ap (λ (x : List PlainToken). run Between (x ++ rest)) b.alone ∙ run-opened Between b.sign rest (start_opening b.sign b.text) ∙ ap (λ (x : PlainStatement). with_first x (run Between rest)) (sym b.same)
+          ap (λ (x : List PlainToken). run Between (x ++ rest)) b.alone ∙ run-opened Between b.sign rest (step_opens b.sign b.text) ∙ ap (λ (x : PlainStatement). with_first x (run Between rest)) (sym b.same)
       | inr (inr k) ↦
           let b = closing_sign_of tokens s h k in
-          ap (λ (x : List PlainToken). run Between (x ++ rest)) b.alone ∙ run-closed Between b.sign rest (start_closing b.sign b.text) ∙ ap (λ (x : PlainStatement). with_first x (run Between rest)) (sym b.same)
+          ap (λ (x : List PlainToken). run Between (x ++ rest)) b.alone ∙ run-closed Between b.sign rest (step_closes b.sign b.text) ∙ ap (λ (x : PlainStatement). with_first x (run Between rest)) (sym b.same)
     ]
 
 pub statements_run : (tokens : List PlainToken) (statements : List PlainStatement) (rest : List PlainToken) → SpellsAll tokens statements → run Between (tokens ++ rest) ≡ with_all statements (run Between rest)

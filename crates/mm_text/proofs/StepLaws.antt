@@ -16,6 +16,7 @@ use Rattle.mm_text.specs.Mirror.Class.{keyword_bytes}
 use Rattle.mm_text.specs.Mirror.Reader.{same_text, is_keyword, bare_statement, Part, Between, Labelled, InBody, InProof, Step, More, Whole, Opened, Closed, Faulty, has_count, is_full, step, PlainScope, scope_after_statement, scope_after_opening, scope_after_closing, has_none, fault_in, unfinished_fault, end_fault, inclusion_fault, unless, PlainReading, only_ending, with_statement, reading_of}
 use Rattle.mm_text.specs.Statement.{is_provable}
 use Rattle.mm_text.specs.Mirror.Steps.{is_block_sign, bare_kind, labelled_kind, ends_symbols}
+use Rattle.mm_text.proofs.TextFacts.{symbol-is_keyword}
 
 -- ---- the reading of items, by the first
 
@@ -83,26 +84,6 @@ other_text text sign word dollar =
       | false ↦ λ e. refl
     ] refl
 
--- a text with no `$` is no keyword
-pub word_is_no_keyword : (text : List ℕ) → HoldsNoDollar text → is_keyword text ≡ false
-word_is_no_keyword text word = simp (
-  other_text text (codes "$c") word refl,
-  other_text text (codes "$v") word refl,
-  other_text text (codes "$f") word refl,
-  other_text text (codes "$e") word refl,
-  other_text text (codes "$d") word refl,
-  other_text text (codes "$a") word refl,
-  other_text text (codes "$p") word refl,
-  other_text text (codes "$.") word refl,
-  other_text text (codes "$=") word refl,
-  other_text text (codes "$(") word refl,
-  other_text text (codes "$)") word refl,
-  other_text text (codes "$[") word refl,
-  other_text text (codes "$]") word refl,
-  other_text text (codes "${") word refl,
-  other_text text (codes "$}") word refl,
-)
-
 pub keyword_is_one : (k : Keyword) → is_keyword (keyword_bytes k) ≡ true
 keyword_is_one keyword.Constants = refl
 keyword_is_one keyword.Variables = refl
@@ -160,7 +141,7 @@ start_word t word =
     let distinct = other_text t.text (codes "$d") word refl in
     let opening = other_text t.text (codes "${") word refl in
     let closing = other_text t.text (codes "$}") word refl in
-    let none = word_is_no_keyword t.text word in
+    let none = symbol-is_keyword t.text word in
     rw none (simp (constants, variables, distinct, opening, closing))
 
 pub step_label : (t : PlainToken) → HoldsNoDollar t.text → list_all is_label_byte t.text ≡ true → step Between t ≡ More (Labelled t)
@@ -231,11 +212,11 @@ step_to_proof s t k e ends count proved = body_keyword s t k e ∙ rw ends (simp
 
 pub step_symbol : (s : PlainStatement) (t : PlainToken) → HoldsNoDollar t.text → is_full s.kind (length s.symbols) ≡ false → step (InBody s) t ≡ More (InBody (record s { symbols = s.symbols ++ t ∷ [] }))
 unfolding step
-step_symbol s t word room = let none = word_is_no_keyword t.text word in simp (none, room)
+step_symbol s t word room = let none = symbol-is_keyword t.text word in simp (none, room)
 
 pub step_too_many : (s : PlainStatement) (t : PlainToken) → HoldsNoDollar t.text → is_full s.kind (length s.symbols) ≡ true → step (InBody s) t ≡ Faulty S5
 unfolding step
-step_too_many s t word full = let none = word_is_no_keyword t.text word in simp (none, full)
+step_too_many s t word full = let none = symbol-is_keyword t.text word in simp (none, full)
 
 -- ---- the token after steps of a proof
 
@@ -252,4 +233,4 @@ step_in_proof s t k e stop = proof_keyword s t k e ∙ simp stop
 
 pub step_proof_token : (s : PlainStatement) (t : PlainToken) → HoldsNoDollar t.text → step (InProof s) t ≡ More (InProof (record s { proof = s.proof ++ t ∷ [] }))
 unfolding step
-step_proof_token s t word = let none = word_is_no_keyword t.text word in simp none
+step_proof_token s t word = let none = symbol-is_keyword t.text word in simp none

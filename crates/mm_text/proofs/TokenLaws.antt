@@ -25,7 +25,8 @@ abbrev pub BeginFrom : ℕ → List PlainToken → Type 0
 BeginFrom at [] = Unit {0}
 BeginFrom at (t ∷ tokens) = at ≤ t.at
 
-begin_earlier : (at : ℕ) (tokens : List PlainToken) → BeginFrom (at + 1) tokens → BeginFrom at tokens
+-- what begins after a place begins at or after it
+pub begin_earlier : (at : ℕ) (tokens : List PlainToken) → BeginFrom (at + 1) tokens → BeginFrom at tokens
 begin_earlier at [] h = tt
 begin_earlier at (t ∷ tokens) h = omega arith
 
@@ -71,7 +72,7 @@ last_byte file at b (s ∷ rest) h =
     (with_byte_apart file at b _ (subst (λ n. BeginFrom n (tokens_from file (at + 1 + 1) rest)) (omega arith) (tokens_from_begin file (at + 1 + 1) rest)))
 
 -- a byte onto the front of the token after it
-with_byte_joined : (file at b : ℕ) (text : List ℕ) (tokens : List PlainToken) → with_byte file at b (record { text = text; file = file; at = at + 1 } ∷ tokens) ≡ record { text = b ∷ text; file = file; at = at } ∷ tokens
+pub with_byte_joined : (file at b : ℕ) (text : List ℕ) (tokens : List PlainToken) → with_byte file at b (record { text = text; file = file; at = at + 1 } ∷ tokens) ≡ record { text = b ∷ text; file = file; at = at } ∷ tokens
 with_byte_joined file at b text tokens =
     let same : (at + 1 == at + 1) ≡ true = eq-eqb _ _ refl in
     simp same
