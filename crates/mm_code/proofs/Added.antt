@@ -5,7 +5,7 @@ use Rattle.std.specs.List.{join_with_byte}
 use Rattle.std.proofs.lemmas.Bool.{lt-ltb, le-ltb, cases_lt}
 use Rattle.std.proofs.lemmas.List.{length-append, append-nil}
 use Rattle.mm_code.specs.Layout.{indent, token_line, width, IsLine, IsFull, LaidOut}
-use Rattle.mm_code.specs.Lines.{rest_of, room_after}
+use Rattle.mm_code.specs.Mirror.Lines.{rest_of, room_after}
 
 pub rest_fits : (room : ℕ) (token : List ℕ) (tokens : List (List ℕ)) → length token < room → rest_of room (token ∷ tokens) ≡ (32 ∷ token) ++ rest_of (room - length token - 1) tokens
 unfolding rest_of

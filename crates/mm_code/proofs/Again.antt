@@ -4,7 +4,7 @@ use Rattle.std.specs.List.{fold, flat_map, AllByRecursion, AllZip}
 use Rattle.mm_code.specs.declared.code.Code.{Code}
 use Rattle.mm_code.specs.declared.code.Code.TheVariants.{Number, Tag}
 use Rattle.mm_code.specs.Letters.{last_letter, leading_letter, IsLeadingDigit, IsLastDigit, SaysCode, Letters, code_for, largest}
-use Rattle.mm_code.specs.Reading.{with_front, reading, leading_after, number_after}
+use Rattle.mm_code.specs.Mirror.Reading.{with_front, reading, leading_after, number_after}
 use Rattle.mm_code.proofs.Steps.{read_last, read_leading, read_tag, read_end}
 
 -- a number's letters are read behind leading digits of any value

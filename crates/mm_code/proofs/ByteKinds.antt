@@ -3,7 +3,7 @@ use Rattle.std.proofs.Common.{◌≡◌, ℕ, ◌<◌, ◌≤◌, inl, inr, List
 use Rattle.std.proofs.lemmas.Bool.{cases_lt}
 use Rattle.mm_code.specs.declared.code.Code.{Code}
 use Rattle.mm_code.specs.declared.code.CodeRule.{CodeRule}
-use Rattle.mm_code.specs.Reading.{with_front}
+use Rattle.mm_code.specs.Mirror.Reading.{with_front}
 
 pub data Kind (byte : ℕ) : Type 0 where
   below : byte < 65 → Kind byte

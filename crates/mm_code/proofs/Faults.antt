@@ -9,7 +9,7 @@ use Rattle.mm_code.specs.declared.code.Code.TheVariants.{Number, Tag}
 use Rattle.mm_code.specs.declared.code.CodeRule.{CodeRule}
 use Rattle.mm_code.specs.declared.code.CodeRule.TheVariants.{P4, P5}
 use Rattle.mm_code.specs.Letters.{IsLetter, IsLeadingLetter, IsEndOrTag, IsCut, LettersBreak}
-use Rattle.mm_code.specs.Reading.{with_front, reading, rule_behind, leading_after, number_after}
+use Rattle.mm_code.specs.Mirror.Reading.{with_front, reading, rule_behind, leading_after, number_after}
 use Rattle.mm_code.proofs.Steps.{read_below, read_above, read_last, read_leading, read_tag, read_cut_by_tag, read_end, read_cut_by_end}
 use Rattle.mm_code.proofs.ByteKinds.{below, last, leading, tag, above, kind, with_front-err}
 

@@ -7,7 +7,7 @@ use Rattle.std.proofs.lemmas.Bool.{cases_eq}
 use Rattle.mm_code.specs.declared.code.Code.{Code}
 use Rattle.mm_code.specs.declared.code.Code.TheVariants.{Number, Tag}
 use Rattle.mm_code.specs.Letters.{last_letter, leading_letter, tag_letter, IsLeadingDigit, leading_value, IsSpelling, SaysCode, Letters, code_for, largest}
-use Rattle.mm_code.specs.Reading.{reading, leading_after, number_after}
+use Rattle.mm_code.specs.Mirror.Reading.{reading, leading_after, number_after}
 use Rattle.mm_code.proofs.Steps.{read_below, read_above, read_last, read_leading, read_tag, read_cut_by_tag, read_end, read_cut_by_end}
 use Rattle.mm_code.proofs.ByteKinds.{below, last, leading, tag, above, kind, with_front-ok}
 

@@ -5,7 +5,7 @@ use Rattle.std.specs.List.{flat_map}
 use Rattle.std.proofs.lemmas.Bool.{cases_lt}
 use Rattle.std.proofs.lemmas.List.{length-append, append-nil, length-take, length-drop, take-append-drop, nil_from_length}
 use Rattle.mm_code.specs.Layout.{indent, LaidOut, AreLetterLines, LettersLaidOut, in_parentheses, CompressedLaidOut, texts}
-use Rattle.mm_code.specs.Lines.{rest_of, room_after, AppendsLetters}
+use Rattle.mm_code.specs.Mirror.Lines.{rest_of, room_after, AppendsLetters}
 use Rattle.mm_code.proofs.Added.{rest_ends, laid_out_begun}
 
 pub letters_laid-nil : LettersLaidOut [] []

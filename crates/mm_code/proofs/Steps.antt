@@ -12,7 +12,7 @@ use Rattle.mm_code.specs.declared.code.CodeRule.TheVariants.{P4, P5}
 use Rattle.mm_code.specs.declared.code.CodeFault.{CodeFault}
 use Rattle.mm_code.specs.declared.code.CodeFault.TheVariants.{Rule, Memory}
 use Rattle.mm_code.specs.Letters.{Answers}
-use Rattle.mm_code.specs.Reading.{with_front, reading, rule_behind, leading_after, number_after, FaultOf}
+use Rattle.mm_code.specs.Mirror.Reading.{with_front, reading, rule_behind, leading_after, number_after, FaultOf}
 
 pub with_front-with_front : (a b : List Code) (read : Result (List Code) CodeRule) → with_front a (with_front b read) ≡ with_front (a ++ b) read
 with_front-with_front a b (Ok codes) = ap Ok (sym (append_assoc a b codes))

@@ -6,7 +6,7 @@ use Rattle.std.proofs.lemmas.List.Concat.{flat_map-append}
 use Rattle.mm_code.specs.declared.code.Code.{Code}
 use Rattle.mm_code.specs.declared.code.Code.TheVariants.{Number}
 use Rattle.mm_code.specs.Letters.{last_letter, leading_letter, SaysCode, SpellsCodes, Letters, code_for, IsExact}
-use Rattle.mm_code.specs.Writing.{AppendsLeading, AppendsCode}
+use Rattle.mm_code.specs.Mirror.Writing.{AppendsLeading, AppendsCode}
 use Rattle.mm_code.proofs.Unique.{HasLeading, grown-leading, grown-value, spelling-of, exact_spelled, one_text_only}
 
 -- one more leading digit's letter

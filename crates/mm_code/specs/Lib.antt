@@ -1,6 +1,4 @@
 pub mod Letters
-pub mod Reading
-pub mod Writing
 pub mod Layout
-pub mod Lines
+pub mod Mirror
 pub mod Words

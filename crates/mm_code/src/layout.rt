@@ -5,7 +5,7 @@ ghost use Rattle.std.specs.Prelude.{length, IfOk, OnOk};
 ghost use Rattle.mm_code.specs.Layout.{indent, line_feed, LaidOut, LettersLaidOut};
 ghost use Rattle.mm_code.specs.Layout.{CompressedLaidOut, texts, size_of, lines_bound};
 ghost use Rattle.mm_code.specs.Layout.{letters_bound};
-ghost use Rattle.mm_code.specs.Lines.{rest_of, room_after, AppendsLetters};
+ghost use Rattle.mm_code.specs.Mirror.Lines.{rest_of, room_after, AppendsLetters};
 
 use std::alloc::{AllocError, Global};
 

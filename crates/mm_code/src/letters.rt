@@ -7,8 +7,9 @@ ghost use Rattle.std.specs.List.{flat_map, list_all};
 ghost use Rattle.std.specs.Char.{is_ascii_uppercase};
 ghost use Rattle.mm_code.specs.Letters.{largest, SpellsCodes, Letters, code_for, HasSpelling};
 ghost use Rattle.mm_code.specs.Letters.{IsExact, Answers, Fills, LettersBreak, joined_tokens};
-ghost use Rattle.mm_code.specs.Writing.{AppendsLeading, AppendsCode};
-ghost use Rattle.mm_code.specs.Reading.{with_front, reading, rule_behind, FaultOf, ReadsOn, PutsOn};
+ghost use Rattle.mm_code.specs.Mirror.Writing.{AppendsLeading, AppendsCode};
+ghost use Rattle.mm_code.specs.Mirror.Reading.{with_front, reading, rule_behind, FaultOf};
+ghost use Rattle.mm_code.specs.Mirror.Reading.{ReadsOn, PutsOn};
 
 use crate::code::{Code, CodeFault, CodeRule};
 use std::alloc::{AllocError, Global};
@@ -128,7 +129,7 @@ fn are_letters(bytes: &[u8]) -> bool
 
 /// The rule that is broken by a number that is cut before these bytes: a byte that is no letter
 /// comes first.
-#[tactic(auto, unfolding(crate::specs::Reading::rule_behind))]
+#[tactic(auto, unfolding(crate::specs::Mirror::Reading::rule_behind))]
 fn rule_behind_cut(bytes: &[u8]) -> CodeRule
     ensures { result ≡ rule_behind bytes.now }
 {

@@ -1,6 +1,6 @@
 use Rattle.std.proofs.Common.{ℕ, List, ◌++◌, length}
 use Rattle.mm_code.specs.Layout.{LettersLaidOut}
-use Rattle.mm_code.specs.Lines.{AppendsLetters}
+use Rattle.mm_code.specs.Mirror.Lines.{AppendsLetters}
 use Rattle.mm_code.proofs.layout.add_letters.Given as goal
 
 -- whatever lays out the letters that are left completes the lines

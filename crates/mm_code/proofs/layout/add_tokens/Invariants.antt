@@ -1,6 +1,6 @@
 use Rattle.std.proofs.Common.{◌≡◌, ℕ, List, ◌++◌, drop}
 use Rattle.mm_code.specs.Layout.{texts}
-use Rattle.mm_code.specs.Lines.{rest_of}
+use Rattle.mm_code.specs.Mirror.Lines.{rest_of}
 use Rattle.mm_code.proofs.layout.add_tokens.Given as goal
 
 -- the tokens that are left follow the text so far

@@ -1,5 +1,5 @@
 use Rattle.std.proofs.Common.{◌≡◌, ℕ, ◌+◌, ◌≤◌, List, ◌++◌, length, take, drop}
-use Rattle.mm_code.specs.Reading.{with_front, reading}
+use Rattle.mm_code.specs.Mirror.Reading.{with_front, reading}
 use Rattle.mm_code.proofs.letters.put_rest.Given as goal
 
 -- There are slots for what is left of the token. And it, and whatever follows it, is read behind what is read so far.

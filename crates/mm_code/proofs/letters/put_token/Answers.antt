@@ -1,6 +1,6 @@
 use Rattle.std.proofs.Common.{rules, ◌+◌, ◌++◌, take, drop, subst, sym, ◌∙◌}
 use Rattle.std.proofs.lemmas.List.{take_rest}
-use Rattle.mm_code.specs.Reading.{with_front, reading, FaultOf}
+use Rattle.mm_code.specs.Mirror.Reading.{with_front, reading, FaultOf}
 use Rattle.mm_code.proofs.Steps.{reading_block}
 use Rattle.mm_code.proofs.letters.put_token.Goals as goal
 

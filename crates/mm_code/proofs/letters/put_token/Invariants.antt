@@ -1,5 +1,5 @@
 use Rattle.std.proofs.Common.{◌≡◌, ℕ, ◌+◌, ◌-◌, ◌≤◌, List, ◌++◌, length, take, drop}
-use Rattle.mm_code.specs.Reading.{with_front, reading}
+use Rattle.mm_code.specs.Mirror.Reading.{with_front, reading}
 use Rattle.mm_code.proofs.letters.put_token.Given as goal
 
 abbrev pub decreases-loop-at : goal.decreases-loop-at

@@ -1,6 +1,6 @@
 use Rattle.std.proofs.Common.{◌≡◌, drop}
 use Rattle.std.specs.List.{flat_map}
-use Rattle.mm_code.specs.Reading.{with_front, reading}
+use Rattle.mm_code.specs.Mirror.Reading.{with_front, reading}
 use Rattle.mm_code.proofs.letters.read_tokens.Given as goal
 
 -- the tokens that are left are read behind what is read so far

@@ -1,5 +1,5 @@
--- What the private writers of letters add to a text. Their contracts cite it; the public one speaks
--- of `SpellsCodes`.
+-- A mirror of the code that writes letters: what each writer adds to a text. Private contracts cite
+-- it; the public one speaks of `SpellsCodes`.
 use Rattle.std.specs.Prelude.{◌≡◌, ℕ, List, ◌++◌, map}
 use Rattle.std.specs.List.{AllByRecursion}
 use Rattle.mm_code.specs.declared.code.Code.{Code}

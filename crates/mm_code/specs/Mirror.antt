@@ -1,0 +1,6 @@
+-- Mirrors of the code: what its parts put and answer, in the words of the code. Private clauses
+-- alone speak of them, and lemmas join them to the definitions, which are the other files of
+-- specs/.
+pub mod Reading
+pub mod Writing
+pub mod Lines
