@@ -1,9 +1,10 @@
--- General lemmas on lists, and on pairs of lists: none of them names anything of this crate, and the
--- crates above use them too.
-use Rattle.std.proofs.Common.{◌≡◌, ℕ, zero, suc, ◌<◌, List, [], ◌∷◌, ◌++◌, map, length, refl, ap, sym, ◌∙◌, ◌⊎◌, inl, inr, Some, arith}
-use Rattle.std.specs.Prelude.{slice_get}
-use Rattle.std.specs.List.{AllByRecursion, AllZip}
+-- General lemmas on lists, and on pairs of lists. None of them names anything of this crate, and
+-- those that the crates above need too stand here.
+use Rattle.std.proofs.Common.{◌≡◌, ℕ, zero, suc, ◌+◌, ◌<◌, List, [], ◌∷◌, ◌++◌, map, length, take}
+use Rattle.std.proofs.Common.{drop, set, refl, ap, sym, subst, ◌∙◌, ◌⊎◌, inl, inr, Some, arith}
+use Rattle.std.specs.List.{AllByRecursion, AllZip, slice_get}
 use Rattle.std.proofs.lemmas.List.{length-map}
+use Rattle.std.proofs.lemmas.Option.{same_Some, none-some}
 
 -- ---- lists from their parts
 
@@ -16,11 +17,14 @@ nil_append [] x rest e = absurd cc
 nil_append (y ∷ front) x rest e = absurd cc
 
 -- where an element stands in a list with one more at its end
-pub last_cut : {A : Type 0} (pre : List A) (x : A) (before : List A) (y : A) (after : List A) → pre ++ x ∷ [] ≡ before ++ y ∷ after
+pub last_cut : {A : Type 0} (pre : List A) (x : A) (before : List A) (y : A) (after : List A)
+    → pre ++ x ∷ [] ≡ before ++ y ∷ after
     → ((mid : List A) × (pre ≡ before ++ y ∷ mid)) ⊎ ((before ≡ pre) × (x ≡ y))
 last_cut [] x [] y after e = inr (refl, (cons_parts x y [] after e).0)
-last_cut [] x (b ∷ before) y after e = absurd (nil_append before y after (cons_parts x b [] (before ++ y ∷ after) e).1)
-last_cut (p ∷ pre) x [] y after e = inl (pre, ap (λ z. z ∷ pre) (cons_parts p y (pre ++ x ∷ []) after e).0)
+last_cut [] x (b ∷ before) y after e =
+    absurd (nil_append before y after (cons_parts x b [] (before ++ y ∷ after) e).1)
+last_cut (p ∷ pre) x [] y after e =
+    inl (pre, ap (λ z. z ∷ pre) (cons_parts p y (pre ++ x ∷ []) after e).0)
 last_cut (p ∷ pre) x (b ∷ before) y after e =
     let parts = cons_parts p b (pre ++ x ∷ []) (before ++ y ∷ after) e in
     elim (last_cut pre x before y after parts.1) [
@@ -29,11 +33,17 @@ last_cut (p ∷ pre) x (b ∷ before) y after e =
     ]
 
 -- how two cuts of a list stand to each other
-pub two_cuts : {A : Type 0} (a : List A) (x : A) (b c : List A) (y : A) (d : List A) → a ++ x ∷ b ≡ c ++ y ∷ d
-    → ((a ≡ c) × (x ≡ y) × (b ≡ d)) ⊎ ((mid : List A) × (c ≡ a ++ x ∷ mid) × (b ≡ mid ++ y ∷ d)) ⊎ ((mid : List A) × (a ≡ c ++ y ∷ mid) × (d ≡ mid ++ x ∷ b))
+pub two_cuts : {A : Type 0} (a : List A) (x : A) (b c : List A) (y : A) (d : List A)
+    → a ++ x ∷ b ≡ c ++ y ∷ d
+    → ((a ≡ c) × (x ≡ y) × (b ≡ d)) ⊎ ((mid : List A) × (c ≡ a ++ x ∷ mid) × (b ≡ mid ++ y ∷ d))
+    ⊎ ((mid : List A) × (a ≡ c ++ y ∷ mid) × (d ≡ mid ++ x ∷ b))
 two_cuts [] x b [] y d e = let parts = cons_parts x y b d e in inl (refl, parts.0, parts.1)
-two_cuts [] x b (z ∷ c) y d e = let parts = cons_parts x z b (c ++ y ∷ d) e in inr (inl (c, (λ i. sym parts.0 i ∷ c), parts.1))
-two_cuts (z ∷ a) x b [] y d e = let parts = cons_parts z y (a ++ x ∷ b) d e in inr (inr (a, (λ i. parts.0 i ∷ a), sym parts.1))
+two_cuts [] x b (z ∷ c) y d e =
+    let parts = cons_parts x z b (c ++ y ∷ d) e in
+    inr (inl (c, (λ i. sym parts.0 i ∷ c), parts.1))
+two_cuts (z ∷ a) x b [] y d e =
+    let parts = cons_parts z y (a ++ x ∷ b) d e in
+    inr (inr (a, (λ i. parts.0 i ∷ a), sym parts.1))
 two_cuts (z ∷ a) x b (w ∷ c) y d e =
     let parts = cons_parts z w (a ++ x ∷ b) (c ++ y ∷ d) e in
     elim (two_cuts a x b c y d parts.1) [
@@ -43,57 +53,206 @@ two_cuts (z ∷ a) x b (w ∷ c) y d e =
     ]
 
 -- a list in two parts, the first of them in two
-pub three_parts : {A : Type 0} (all front a b tail : List A) → all ≡ front ++ tail → front ≡ a ++ b → all ≡ a ++ b ++ tail
+pub three_parts : {A : Type 0} (all front a b tail : List A) → all ≡ front ++ tail → front ≡ a ++ b
+    → all ≡ a ++ b ++ tail
 three_parts all front a b tail e split = e ∙ ap (λ l. l ++ tail) split
 
 -- a list from its first element, and from parts of the rest, of which the last is one element
-pub ended_parts : {A : Type 0} (all : List A) (x : A) (rest a end : List A) (y : A) → all ≡ x ∷ rest → rest ≡ a ++ end → end ≡ y ∷ [] → all ≡ x ∷ a ++ y ∷ []
+pub ended_parts : {A : Type 0} (all : List A) (x : A) (rest a end : List A) (y : A) → all ≡ x ∷ rest
+    → rest ≡ a ++ end → end ≡ y ∷ [] → all ≡ x ∷ a ++ y ∷ []
 ended_parts all x rest a end y e split last = e ∙ ap (λ l. x ∷ l) (split ∙ ap (λ l. a ++ l) last)
 
 -- a list from two parts, the second of them from its first element
-pub cut_parts : {A : Type 0} (all a rest : List A) (x y : A) (b : List A) → all ≡ a ++ rest → rest ≡ x ∷ b → x ≡ y → all ≡ a ++ y ∷ b
+pub cut_parts : {A : Type 0} (all a rest : List A) (x y : A) (b : List A) → all ≡ a ++ rest
+    → rest ≡ x ∷ b → x ≡ y → all ≡ a ++ y ∷ b
 cut_parts all a rest x y b e split is = e ∙ ap (λ l. a ++ l) (split ∙ ap (λ z. z ∷ b) is)
 
 -- ---- elements
 
--- the element at a place
-pub some_at : {A : Type 0} (xs : List A) (i : ℕ) → i < length xs → (x : A) × (slice_get xs i ≡ Some x)
-some_at [] i lt = absurd (omega arith)
-some_at (x ∷ xs) zero lt = (x, refl)
-some_at (x ∷ xs) (suc i) lt = some_at xs i (omega arith)
+-- there is an element at each place within
+pub get_within : {A : Type 0} (xs : List A) (i : ℕ) → i < length xs → (x : A)
+    × (slice_get xs i ≡ Some x)
+get_within [] i lt = absurd (omega arith)
+get_within (z ∷ xs) zero lt = (z, refl)
+get_within (z ∷ xs) (suc i) lt = get_within xs i (omega arith)
+
+-- an element stays at its place when more is appended
+pub get_kept : {A : Type 0} (xs ys : List A) (i : ℕ) (x : A) → slice_get xs i ≡ Some x
+    → slice_get (xs ++ ys) i ≡ Some x
+get_kept [] ys i x there = absurd (cc)
+get_kept (z ∷ xs) ys zero x there = there
+get_kept (z ∷ xs) ys (suc i) x there = get_kept xs ys i x there
+
+-- an element before the end stays what it was
+pub get_before : {A : Type 0} (xs ys : List A) (i : ℕ) (x : A) → i < length xs
+    → slice_get (xs ++ ys) i ≡ Some x → slice_get xs i ≡ Some x
+get_before [] ys i x lt there = absurd (omega arith)
+get_before (z ∷ xs) ys zero x lt there = there
+get_before (z ∷ xs) ys (suc i) x lt there = get_before xs ys i x (omega arith) there
+
+-- the one element more
+pub get_pushed : {A : Type 0} (xs : List A) (y : A) → slice_get (xs ++ y ∷ []) (length xs) ≡ Some y
+get_pushed [] y = refl
+get_pushed (z ∷ xs) y = get_pushed xs y
+
+-- an element of a list and one more is of the list, or is the one more
+pub pushed_cases : {A : Type 0} (xs : List A) (y : A) (i : ℕ) (x : A)
+    → slice_get (xs ++ y ∷ []) i ≡ Some x → (slice_get xs i ≡ Some x) ⊎ ((i ≡ length xs) × (y ≡ x))
+pushed_cases [] y zero x there = inr (refl, cc)
+pushed_cases [] y (suc i) x there = absurd (cc)
+pushed_cases (z ∷ xs) y zero x there = inl there
+pushed_cases (z ∷ xs) y (suc i) x there =
+    elim (pushed_cases xs y i x there) [
+      | inl before ↦ inl before
+      | inr (last, same) ↦ inr (ap suc last, same)
+    ]
+
+-- an element of a front is one of the list
+pub get_from_front : {A : Type 0} (xs : List A) (n i : ℕ) (x : A) → slice_get (take n xs) i ≡ Some x
+    → slice_get xs i ≡ Some x
+get_from_front xs zero i x there = absurd (cc)
+get_from_front [] (suc n) i x there = there
+get_from_front (z ∷ xs) (suc n) zero x there = there
+get_from_front (z ∷ xs) (suc n) (suc i) x there = get_from_front xs n i x there
+
+-- and an element of the list within the front is one of it
+pub get_in_front : {A : Type 0} (xs : List A) (n i : ℕ) (x : A) → i < n → slice_get xs i ≡ Some x
+    → slice_get (take n xs) i ≡ Some x
+get_in_front xs zero i x lt there = absurd (omega arith)
+get_in_front [] (suc n) i x lt there = there
+get_in_front (z ∷ xs) (suc n) zero x lt there = there
+get_in_front (z ∷ xs) (suc n) (suc i) x lt there = get_in_front xs n i x (omega arith) there
+
+-- an element after one was written
+pub get_set_same : {A : Type 0} (xs : List A) (i : ℕ) (y : A) → i < length xs
+    → slice_get (set xs i y) i ≡ Some y
+get_set_same [] i y lt = absurd (omega arith)
+get_set_same (z ∷ xs) zero y lt = refl
+get_set_same (z ∷ xs) (suc i) y lt = get_set_same xs i y (omega arith)
+
+-- and any element then
+pub get_set_cases : {A : Type 0} (xs : List A) (i j : ℕ) (y x : A)
+    → slice_get (set xs i y) j ≡ Some x → ((j ≡ i) × (y ≡ x))
+    ⊎ (¬ (j ≡ i) × (slice_get xs j ≡ Some x))
+get_set_cases [] i j y x there = absurd (cc)
+get_set_cases (z ∷ xs) zero zero y x there = inl (refl, cc)
+get_set_cases (z ∷ xs) zero (suc j) y x there = inr ((λ e. omega arith), there)
+get_set_cases (z ∷ xs) (suc i) zero y x there = inr ((λ e. omega arith), there)
+get_set_cases (z ∷ xs) (suc i) (suc j) y x there =
+    elim (get_set_cases xs i j y x there) [
+      | inl (same, value) ↦ inl (ap suc same, value)
+      | inr (apart, old) ↦ inr ((λ e. apart (omega arith)), old)
+    ]
+
+-- the front before the element at a place, and the element
+pub take_next : {A : Type 0} (xs : List A) (i : ℕ) (x : A) → slice_get xs i ≡ Some x
+    → take (suc i) xs ≡ take i xs ++ x ∷ []
+take_next [] i x there = absurd (cc)
+take_next (z ∷ xs) zero x there = let e : z ≡ x = cc in ap (λ y. y ∷ []) e
+take_next (z ∷ xs) (suc i) x there = ap (λ ys. z ∷ ys) (take_next xs i x there)
+
+-- the element at a place, with what stands before it and after it
+pub split_at : {A : Type 0} (xs : List A) (i : ℕ) (x : A) → slice_get xs i ≡ Some x
+    → xs ≡ take i xs ++ x ∷ drop (suc i) xs
+split_at [] i x e = absurd (none-some x e)
+split_at (y ∷ xs) zero x e = ap (λ z. z ∷ xs) (same_Some y x e)
+split_at (y ∷ xs) (suc i) x e = ap (λ l. y ∷ l) (split_at xs i x e)
+
+-- an element of what lies past a place, in the whole list
+pub get_dropped : {A : Type 0} (n : ℕ) (xs : List A) (k : ℕ) (x : A)
+    → slice_get (drop n xs) k ≡ Some x → slice_get xs (n + k) ≡ Some x
+get_dropped zero xs k x there =
+    let e : k ≡ 0 + k = omega arith in
+    subst (λ j. slice_get xs j ≡ Some x) e there
+get_dropped (suc n) [] k x there = absurd (cc)
+get_dropped (suc n) (y ∷ xs) k x there =
+    let e : suc (n + k) ≡ suc n + k = omega arith in
+    subst (λ j. slice_get (y ∷ xs) j ≡ Some x) e (get_dropped n xs k x there)
+
+-- an element of what is appended
+pub get_after : {A : Type 0} (xs ys : List A) (i : ℕ) (x : A) → slice_get ys i ≡ Some x
+    → slice_get (xs ++ ys) (length xs + i) ≡ Some x
+get_after [] ys i x there =
+    let e : i ≡ 0 + i = omega arith in
+    subst (λ n. slice_get ys n ≡ Some x) e there
+get_after (z ∷ xs) ys i x there =
+    let e : suc (length xs + i) ≡ length (z ∷ xs) + i = omega arith in
+    subst (λ n. slice_get (z ∷ xs ++ ys) n ≡ Some x) e (get_after xs ys i x there)
+
+-- an element of a list and what is appended is of the one or of the other
+pub append_cases : {A : Type 0} (xs ys : List A) (i : ℕ) (x : A) → slice_get (xs ++ ys) i ≡ Some x
+    → (slice_get xs i ≡ Some x) ⊎ ((j : ℕ) × (i ≡ length xs + j) × (slice_get ys j ≡ Some x))
+append_cases [] ys i x there = inr (i, omega arith, there)
+append_cases (z ∷ xs) ys zero x there = inl there
+append_cases (z ∷ xs) ys (suc i) x there = elim (append_cases xs ys i x there) [
+  | inl before ↦ inl before
+  | inr (j, is, at) ↦ inr (j, omega arith, at)
+]
+
+-- ---- lists of which all are so
 
 -- what is said of each is said of each where it says less
-pub all_weaker : {A : Type 0} (P Q : A → Type 0) → ((x : A) → P x → Q x) → (xs : List A) → AllByRecursion P xs → AllByRecursion Q xs
+pub all_weaker : {A : Type 0} (P Q : A → Type 0) → ((x : A) → P x → Q x) → (xs : List A)
+    → AllByRecursion P xs → AllByRecursion Q xs
 all_weaker P Q f [] h = tt
 all_weaker P Q f (x ∷ xs) h = (f x h.0, all_weaker P Q f xs h.1)
+
+-- of both parts, and so of the whole
+pub all_append : {A : Type 0} (P : A → Type 0) (a b : List A) → AllByRecursion P a
+    → AllByRecursion P b → AllByRecursion P (a ++ b)
+all_append P [] b first second = second
+all_append P (x ∷ a) b first second = (first.0, all_append P a b first.1 second)
+
+-- of one more
+pub all_push : {A : Type 0} (P : A → Type 0) (xs : List A) (x : A) → AllByRecursion P xs → P x
+    → AllByRecursion P (xs ++ x ∷ [])
+all_push P [] x a p = (p, tt)
+all_push P (y ∷ xs) x a p = (a.0, all_push P xs x a.1 p)
+
+-- of the element at a place
+pub all_at : {A : Type 0} (P : A → Type 0) (xs : List A) (i : ℕ) (x : A) → AllByRecursion P xs
+    → slice_get xs i ≡ Some x → P x
+all_at P [] i x a e = absurd (none-some x e)
+all_at P (y ∷ xs) zero x a e = subst P (same_Some y x e) a.0
+all_at P (y ∷ xs) (suc i) x a e = all_at P xs i x a.1 e
 
 -- ---- two lists of which a function of the one is a function of the other
 
 -- what corresponds to a first element and others
-pub cons_split : {A B C : Type 0} (f : A → C) (g : B → C) (a : A) (others : List A) (ys : List B) → map f (a ∷ others) ≡ map g ys → (b : B) × (bs : List B) × (ys ≡ b ∷ bs) × (f a ≡ g b) × (map f others ≡ map g bs)
+pub cons_split : {A B C : Type 0} (f : A → C) (g : B → C) (a : A) (others : List A) (ys : List B)
+    → map f (a ∷ others) ≡ map g ys → (b : B) × (bs : List B) × (ys ≡ b ∷ bs) × (f a ≡ g b)
+    × (map f others ≡ map g bs)
 cons_split f g a others [] is = absurd cc
 cons_split f g a others (b ∷ bs) is =
-    let parts = cons_parts (f a) (g b) (map f others) (map g bs) is in (b, bs, refl, parts.0, parts.1)
+    let parts = cons_parts (f a) (g b) (map f others) (map g bs) is in
+    (b, bs, refl, parts.0, parts.1)
 
 -- what corresponds to nothing
-pub nil_split : {A B C : Type 0} (f : A → C) (g : B → C) (ys : List B) → map f [] ≡ map g ys → ys ≡ []
+pub nil_split : {A B C : Type 0} (f : A → C) (g : B → C) (ys : List B) → map f [] ≡ map g ys
+    → ys ≡ []
 nil_split f g [] is = refl
 nil_split f g (b ∷ bs) is = absurd cc
 
 -- what corresponds to two parts
-pub append_split : {A B C : Type 0} (f : A → C) (g : B → C) (others bs : List A) (ys : List B) → map f (others ++ bs) ≡ map g ys → (cs : List B) × (ds : List B) × (ys ≡ cs ++ ds) × (map f others ≡ map g cs) × (map f bs ≡ map g ds)
+pub append_split : {A B C : Type 0} (f : A → C) (g : B → C) (others bs : List A) (ys : List B)
+    → map f (others ++ bs) ≡ map g ys → (cs : List B) × (ds : List B) × (ys ≡ cs ++ ds)
+    × (map f others ≡ map g cs) × (map f bs ≡ map g ds)
 append_split f g [] bs ys is = ([], ys, refl, refl, is)
 append_split f g (a ∷ others) bs ys is =
     let (b, rest, whole, first, more) = cons_split f g a (others ++ bs) ys is in
     let (cs, ds, split, front, back) = append_split f g others bs rest more in
-    (b ∷ cs, ds, whole ∙ ap (λ l. b ∷ l) split, ap (λ x. x ∷ map f others) first ∙ ap (λ l. g b ∷ l) front, back)
+    let fronts = ap (λ x. x ∷ map f others) first ∙ ap (λ l. g b ∷ l) front in
+    (b ∷ cs, ds, whole ∙ ap (λ l. b ∷ l) split, fronts, back)
 
 -- both are as long as each other
-pub same_length : {A B C : Type 0} (f : A → C) (g : B → C) (xs : List A) (ys : List B) → map f xs ≡ map g ys → length xs ≡ length ys
+pub same_length : {A B C : Type 0} (f : A → C) (g : B → C) (xs : List A) (ys : List B)
+    → map f xs ≡ map g ys → length xs ≡ length ys
 same_length f g xs ys is = sym (length-map xs f) ∙ ap length is ∙ length-map ys g
 
 -- what is said of each of the one is said of each of the other
-pub each_alike : {A B C : Type 0} (f : A → C) (g : B → C) (P : A → Type 0) (Q : B → Type 0) → ((a : A) (b : B) → f a ≡ g b → P a → Q b) → (xs : List A) (ys : List B) → map f xs ≡ map g ys → AllByRecursion P xs → AllByRecursion Q ys
+pub each_alike : {A B C : Type 0} (f : A → C) (g : B → C) (P : A → Type 0) (Q : B → Type 0)
+    → ((a : A) (b : B) → f a ≡ g b → P a → Q b) → (xs : List A) (ys : List B) → map f xs ≡ map g ys
+    → AllByRecursion P xs → AllByRecursion Q ys
 each_alike f g P Q step [] [] is all = tt
 each_alike f g P Q step [] (y ∷ ys) is all = absurd cc
 each_alike f g P Q step (x ∷ xs) [] is all = absurd cc
@@ -102,7 +261,8 @@ each_alike f g P Q step (x ∷ xs) (y ∷ ys) is all =
     (step x y parts.0 all.0, each_alike f g P Q step xs ys parts.1 all.1)
 
 -- what corresponds to one element
-pub one_split : {A B C : Type 0} (f : A → C) (g : B → C) (a : A) (ys : List B) → map f (a ∷ []) ≡ map g ys → (b : B) × (ys ≡ b ∷ []) × (f a ≡ g b)
+pub one_split : {A B C : Type 0} (f : A → C) (g : B → C) (a : A) (ys : List B)
+    → map f (a ∷ []) ≡ map g ys → (b : B) × (ys ≡ b ∷ []) × (f a ≡ g b)
 one_split f g a ys e =
     let (b, bs, whole, same, rest) = cons_split f g a [] ys e in
     (b, whole ∙ ap (λ l. b ∷ l) (nil_split f g bs rest), same)
@@ -120,22 +280,87 @@ all_but_first [] = []
 all_but_first (x ∷ xs) = xs
 
 -- lists whose elements correspond map to one
-pub zip_mapped : {A B C : Type 0} (f : A → C) (g : B → C) (xs : List A) (ys : List B) → AllZip (λ x y. f x ≡ g y) xs ys → map f xs ≡ map g ys
+pub zip_mapped : {A B C : Type 0} (f : A → C) (g : B → C) (xs : List A) (ys : List B)
+    → AllZip (λ x y. f x ≡ g y) xs ys → map f xs ≡ map g ys
 zip_mapped f g [] [] h = refl
 zip_mapped f g [] (y ∷ ys) h = absurd h
 zip_mapped f g (x ∷ xs) [] h = absurd h
 zip_mapped f g (x ∷ xs) (y ∷ ys) h = λ i. h.0 i ∷ zip_mapped f g xs ys h.1 i
 
 -- and the other way round
-pub mapped_zip : {A B C : Type 0} (f : A → C) (g : B → C) (R : A → B → Type 0) → ((x : A) (y : B) → f x ≡ g y → R x y) → (xs : List A) (ys : List B) → map f xs ≡ map g ys → AllZip R xs ys
+pub mapped_zip : {A B C : Type 0} (f : A → C) (g : B → C) (R : A → B → Type 0)
+    → ((x : A) (y : B) → f x ≡ g y → R x y) → (xs : List A) (ys : List B) → map f xs ≡ map g ys
+    → AllZip R xs ys
 mapped_zip f g R step [] [] is = tt
 mapped_zip f g R step [] (y ∷ ys) is = absurd cc
 mapped_zip f g R step (x ∷ xs) [] is = absurd cc
-mapped_zip f g R step (x ∷ xs) (y ∷ ys) is = (step x y (ap (first_or (f x)) is), mapped_zip f g R step xs ys (ap all_but_first is))
+mapped_zip f g R step (x ∷ xs) (y ∷ ys) is =
+    (step x y (ap (first_or (f x)) is), mapped_zip f g R step xs ys (ap all_but_first is))
 
 -- lists that correspond, after lists that do
-pub zip_append : {A B : Type 0} (R : A → B → Type 0) (xs : List A) (ys : List B) (us : List A) (vs : List B) → AllZip R xs ys → AllZip R us vs → AllZip R (xs ++ us) (ys ++ vs)
+pub zip_append : {A B : Type 0} (R : A → B → Type 0) (xs : List A) (ys : List B)
+    (us : List A) (vs : List B)
+    → AllZip R xs ys → AllZip R us vs → AllZip R (xs ++ us) (ys ++ vs)
 zip_append R [] [] us vs h k = k
 zip_append R [] (y ∷ ys) us vs h k = absurd h
 zip_append R (x ∷ xs) [] us vs h k = absurd h
 zip_append R (x ∷ xs) (y ∷ ys) us vs h k = (h.0, zip_append R xs ys us vs h.1 k)
+
+-- lists that correspond, and one more of each
+pub zip_push : {A B : Type 0} (R : A → B → Type 0) (xs : List A) (ys : List B) (x : A) (y : B)
+    → AllZip R xs ys → R x y → AllZip R (xs ++ x ∷ []) (ys ++ y ∷ [])
+zip_push R [] [] x y r h = (h, tt)
+zip_push R [] (b ∷ ys) x y r h = absurd r
+zip_push R (a ∷ xs) [] x y r h = absurd r
+zip_push R (a ∷ xs) (b ∷ ys) x y r h = (r.0, zip_push R xs ys x y r.1 h)
+
+-- what stands in the second list at a place has one beside it in the first
+pub zip_right : {A B : Type 0} (R : A → B → Type 0) (xs : List A) (ys : List B) (i : ℕ) (y : B)
+    → AllZip R xs ys → slice_get ys i ≡ Some y
+    → (x : A) × (slice_get xs i ≡ Some x) × R x y
+zip_right R [] [] i y r e = absurd (none-some y e)
+zip_right R [] (b ∷ ys) i y r e = absurd r
+zip_right R (a ∷ xs) [] i y r e = absurd r
+zip_right R (a ∷ xs) (b ∷ ys) zero y r e = (a, refl, subst (R a) (same_Some b y e) r.0)
+zip_right R (a ∷ xs) (b ∷ ys) (suc i) y r e = zip_right R xs ys i y r.1 e
+
+-- and the other way round
+pub zip_left : {A B : Type 0} (R : A → B → Type 0) (xs : List A) (ys : List B) (i : ℕ) (x : A)
+    → AllZip R xs ys → slice_get xs i ≡ Some x
+    → (y : B) × (slice_get ys i ≡ Some y) × R x y
+zip_left R [] [] i x r e = absurd (none-some x e)
+zip_left R [] (b ∷ ys) i x r e = absurd r
+zip_left R (a ∷ xs) [] i x r e = absurd r
+zip_left R (a ∷ xs) (b ∷ ys) zero x r e = (b, refl, subst (λ z. R z b) (same_Some a x e) r.0)
+zip_left R (a ∷ xs) (b ∷ ys) (suc i) x r e = zip_left R xs ys i x r.1 e
+
+-- a front of the first list has one of the second beside it
+pub zip_front : {A B : Type 0} (R : A → B → Type 0) (xs : List A) (x : A) (ys : List B)
+    → AllZip R (xs ++ x ∷ []) ys
+    → (front : List B) × (y : B) × (ys ≡ front ++ y ∷ []) × AllZip R xs front × R x y
+zip_front R [] x [] r = absurd r
+zip_front R [] x (b ∷ []) r = ([], b, refl, tt, r.0)
+zip_front R [] x (b ∷ c ∷ ys) r = absurd r.1
+zip_front R (a ∷ xs) x [] r = absurd r
+zip_front R (a ∷ xs) x (b ∷ ys) r =
+    let h = zip_front R xs x ys r.1 in
+    (b ∷ h.0, h.1, ap (λ l. b ∷ l) h.2, (r.0, h.3), h.4)
+
+-- fronts of lists that correspond do so too
+pub zip_take : {A B : Type 0} (R : A → B → Type 0) (xs : List A) (ys : List B) (i : ℕ)
+    → AllZip R xs ys → AllZip R (take i xs) (take i ys)
+zip_take R [] [] zero z = tt
+zip_take R [] [] (suc i) z = tt
+zip_take R [] (y ∷ ys) i z = absurd z
+zip_take R (x ∷ xs) [] i z = absurd z
+zip_take R (x ∷ xs) (y ∷ ys) zero z = tt
+zip_take R (x ∷ xs) (y ∷ ys) (suc i) z = (z.0, zip_take R xs ys i z.1)
+
+-- and so do what is left of them
+pub zip_drop : {A B : Type 0} (R : A → B → Type 0) (xs : List A) (ys : List B) (n : ℕ)
+    → AllZip R xs ys → AllZip R (drop n xs) (drop n ys)
+zip_drop R xs ys zero z = z
+zip_drop R [] [] (suc n) z = tt
+zip_drop R [] (y ∷ ys) (suc n) z = absurd z
+zip_drop R (x ∷ xs) [] (suc n) z = absurd z
+zip_drop R (x ∷ xs) (y ∷ ys) (suc n) z = zip_drop R xs ys n z.1

@@ -12,7 +12,7 @@ use Rattle.std.proofs.lemmas.List.Folds.{list_any_at, Any-from_list_any}
 use Rattle.mm_text.specs.declared.file.File.{File}
 use Rattle.mm_text.specs.Files.{PlainFile, plain_file, HasTwins}
 use Rattle.mm_text.specs.Items.{spells}
-use Rattle.mm_text.proofs.Lists.{some_at}
+use Rattle.mm_text.proofs.Lists.{get_within}
 
 -- the names before a place are different
 abbrev pub AreApart : List (List ℕ) → ℕ → Type 0
@@ -27,8 +27,8 @@ name_at (f ∷ files) (suc i) file e = name_at files i file e
 pub twins_from_names : (files : List File) (i j : ℕ) → i < j → j < length files
     → get_or (map (λ f. f.name.now) files) i [] ≡ get_or (map (λ f. f.name.now) files) j [] → HasTwins (map plain_file files)
 twins_from_names files i j apart within same =
-    let one = some_at (map plain_file files) i (omega (arith, length-map files plain_file)) in
-    let other = some_at (map plain_file files) j (omega (arith, length-map files plain_file)) in
+    let one = get_within (map plain_file files) i (omega (arith, length-map files plain_file)) in
+    let other = get_within (map plain_file files) j (omega (arith, length-map files plain_file)) in
     record { i = i; j = j; one = one.0; other = other.0; apart = apart; at_i = one.1; at_j = other.1; same = sym (name_at files i one.0 one.1) ∙ same ∙ name_at files j other.0 other.1 }
 
 -- where all names are different no two files have one
