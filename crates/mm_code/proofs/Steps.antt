@@ -1,9 +1,9 @@
 -- One step of `reading`, for each kind of byte.
 use Rattle.std.proofs.Common.{◌≡◌, ℕ, ◌+◌, ◌-◌, ◌<◌, ◌≤◌, Bool, true, false, cond, ◌&&◌, List, [], ◌∷◌, ◌++◌, length, get_or, set, take, drop, subst, Bor, Result, Ok, Err, refl, sym, ap, ◌∙◌, append_assoc, arith}
 use Rattle.std.proofs.lemmas.Bool.{lt-ltb, le-ltb, eq-eqb, ne_eqb}
-use Rattle.std.proofs.lemmas.List.{take-append-drop, drop-drop, take_more_set, take-set, take_rest, at_drop_more, at_drop_all, append-nil}
+use Rattle.std.proofs.lemmas.List.{take_more_set, take-set, take_rest, at_drop_more, at_drop_all, append-nil}
 use Rattle.std.proofs.lemmas.List.Folds.{list_all-append}
-use Rattle.std.specs.List.{list_all, flat_map, slice_range}
+use Rattle.std.specs.List.{list_all, flat_map}
 use Rattle.std.specs.Char.{is_ascii_uppercase}
 use Rattle.mm_code.specs.declared.code.Code.{Code}
 use Rattle.mm_code.specs.declared.code.Code.TheVariants.{Number, Tag}
@@ -120,31 +120,6 @@ cut_goes_on bytes rest rule read is h =
     let known : read ≡ Err (cond (list_all is_ascii_uppercase bytes) (rule_behind rest) P4) = h ∙ ap Err (rule_behind-append bytes rest) in
     let P : CodeRule → Type 0 = λ r. FaultOf (Rule r) rest read in
     subst P (sym is) (cut_cases (list_all is_ascii_uppercase bytes) rest read known)
-
--- ---- a list from a place on
-
-block_and_rest : (bytes : List ℕ) (i n : ℕ) → slice_range bytes i (i + n) ++ drop (i + n) bytes ≡ drop i bytes
-block_and_rest bytes i n =
-    let few : i + n - i ≡ n = omega arith in
-    let behind : drop (i + n) bytes ≡ drop n (drop i bytes) = ap (λ k. drop k bytes) (omega arith) ∙ sym (drop-drop n i bytes) in
-    ap (λ k. take k (drop i bytes) ++ drop (i + n) bytes) few ∙ ap (λ l. take n (drop i bytes) ++ l) behind ∙ take-append-drop n (drop i bytes)
-
--- a block of so many, and what stands behind it
-pub reading_block : (codes : List Code) (value : ℕ) (bytes : List ℕ) (i n : ℕ) (rest : List ℕ)
-    → with_front codes (reading value (slice_range bytes i (i + n) ++ (drop (i + n) bytes ++ rest))) ≡ with_front codes (reading value (drop i bytes ++ rest))
-reading_block codes value bytes i n rest =
-    ap (λ b. with_front codes (reading value b))
-    (sym (append_assoc (slice_range bytes i (i + n)) (drop (i + n) bytes) rest) ∙ ap (λ l. l ++ rest) (block_and_rest bytes i n))
-
--- a fault in the first bytes, once the others are looked at
-pub fault_of_front : (fault : CodeFault) (codes : List Code) (value : ℕ) (bytes : List ℕ) (n : ℕ) (rest : List ℕ)
-    → FaultOf fault (drop n bytes ++ rest) (with_front codes (reading value (take n bytes ++ (drop n bytes ++ rest))))
-    → FaultOf fault (take (length bytes - n) (drop n bytes) ++ rest) (with_front codes (reading value (bytes ++ rest)))
-fault_of_front fault codes value bytes n rest h =
-    let parts = sym (append_assoc (take n bytes) (drop n bytes) rest) ∙ ap (λ l. l ++ rest) (take-append-drop n bytes) in
-    let whole = with_front codes (reading value (bytes ++ rest)) in
-    subst (λ l. FaultOf fault (l ++ rest) whole) (sym (take_rest bytes n))
-    (subst (FaultOf fault (drop n bytes ++ rest)) (ap (λ l. with_front codes (reading value l)) parts) h)
 
 -- ---- the end of the letters
 

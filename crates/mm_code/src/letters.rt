@@ -32,10 +32,6 @@ fn number_after(value: u32, digit: u8) -> u32
 /// The largest leading value behind which no letter reaches the largest `u32`, or less.
 const CALM: u32 = 0x0800_0000;
 
-/// The largest leading value behind which eight letters can be put, each of them behind a leading
-/// value of at most `CALM`: a letter brings a value to five times as much and five, at most.
-const SMALL: u32 = 1716;
-
 /// Takes any letter behind leading digits of this value (0 for none): puts the code that it ends
 /// in the slot at the place, and answers the place and the leading digits' value behind it.
 #[tactic(auto, using(crate::proofs::Steps::reading_steps))]
@@ -48,7 +44,6 @@ fn put_any(
     requires { place < length slots.old }
     ensures size { length slots.new ≡ length slots.old }
     ensures next { IfOk result (λ next. next.0 ≤ place + 1) }
-    ensures value { IfOk result (λ next. next.1 ≤ 5 * value + 5) }
     ensures reads { (rest : List ℕ) → PutsOn slots.new result rest
         (with_front (take place slots.old) (reading value (byte ∷ rest))) }
 {
@@ -82,7 +77,6 @@ fn put_calm(
     requires calm { value ≤ 134217728 }
     ensures size { length slots.new ≡ length slots.old }
     ensures next { IfOk result (λ next. next.0 ≤ place + 1) }
-    ensures value { IfOk result (λ next. next.1 ≤ 5 * value + 5) }
     ensures reads { (rest : List ℕ) → PutsOn slots.new result rest
         (with_front (take place slots.old) (reading value (byte ∷ rest))) }
 {
@@ -153,106 +147,8 @@ fn fault_with(fault: CodeFault, bytes: &[u8]) -> CodeFault
     }
 }
 
-/// Puts the codes of two letters of a token behind leading digits of a small value.
-#[inline(always)]
-fn put_two(
-    slots: &mut [Code],
-    from: usize,
-    leading: u32,
-    letters: &[u8],
-) -> Result<(usize, u32), CodeFault>
-    requires count { length letters.now ≡ 2 }
-    requires slots { from + 2 ≤ length slots.old }
-    requires small { leading ≤ 26843544 }
-    ensures size { length slots.new ≡ length slots.old }
-    ensures next { IfOk result (λ next. next.0 ≤ from + 2) }
-    ensures value { IfOk result (λ next. next.1 ≤ 25 * leading + 30) }
-    ensures reads { (rest : List ℕ) → PutsOn slots.new result rest
-        (with_front (take from slots.old) (reading leading (letters.now ++ rest))) }
-{
-    match put_calm(slots, from, leading, letters[0]) {
-        Ok((place, value)) => put_calm(slots, place, value, letters[1]),
-        Err(fault) => Err(fault_with(fault, &letters[1..])),
-    }
-}
-
-/// Puts the codes of four letters of a token behind leading digits of a small value.
-#[inline(always)]
-fn put_four(
-    slots: &mut [Code],
-    from: usize,
-    leading: u32,
-    letters: &[u8],
-) -> Result<(usize, u32), CodeFault>
-    requires count { length letters.now ≡ 4 }
-    requires slots { from + 4 ≤ length slots.old }
-    requires small { leading ≤ 1073740 }
-    ensures size { length slots.new ≡ length slots.old }
-    ensures next { IfOk result (λ next. next.0 ≤ from + 4) }
-    ensures value { IfOk result (λ next. next.1 ≤ 625 * leading + 780) }
-    ensures reads { (rest : List ℕ) → PutsOn slots.new result rest
-        (with_front (take from slots.old) (reading leading (letters.now ++ rest))) }
-{
-    match put_two(slots, from, leading, &letters[..2]) {
-        Ok((place, value)) => put_two(slots, place, value, &letters[2..]),
-        Err(fault) => Err(fault_with(fault, &letters[2..])),
-    }
-}
-
-/// Puts the codes of eight letters of a token behind leading digits of a small value: none of the
-/// eight is met behind a value that has to be looked at. Written out, they need no count.
-#[inline(always)]
-fn put_eight(
-    slots: &mut [Code],
-    from: usize,
-    leading: u32,
-    letters: &[u8],
-) -> Result<(usize, u32), CodeFault>
-    requires count { length letters.now ≡ 8 }
-    requires slots { from + 8 ≤ length slots.old }
-    requires small { leading ≤ 1716 }
-    ensures size { length slots.new ≡ length slots.old }
-    ensures next { IfOk result (λ next. next.0 ≤ from + 8) }
-    ensures value { IfOk result (λ next. next.1 ≤ 390625 * leading + 488280) }
-    ensures reads { (rest : List ℕ) → PutsOn slots.new result rest
-        (with_front (take from slots.old) (reading leading (letters.now ++ rest))) }
-{
-    match put_four(slots, from, leading, &letters[..4]) {
-        Ok((place, value)) => put_four(slots, place, value, &letters[4..]),
-        Err(fault) => Err(fault_with(fault, &letters[4..])),
-    }
-}
-
-/// Puts the codes of letters behind leading digits of this value, one after the other.
-fn put_rest(
-    slots: &mut [Code],
-    from: usize,
-    leading: u32,
-    token: &[u8],
-) -> Result<(usize, u32), CodeFault>
-    requires { from + length token.now ≤ length slots.old }
-    ensures size { length slots.new ≡ length slots.old }
-    ensures next { IfOk result (λ next. next.0 ≤ from + length token.now) }
-    ensures reads { (rest : List ℕ) → PutsOn slots.new result rest
-        (with_front (take from slots.old) (reading leading (token.now ++ rest))) }
-{
-    let mut place = from;
-    let mut value = leading;
-    // By place, since a letter at fault is told with those behind it.
-    for at in 0..token.len() {
-        match put_letter(slots, place, value, token[at]) {
-            Ok(next) => (place, value) = next,
-            Err(fault) => return Err(fault_with(fault, &token[at + 1..])),
-        }
-    }
-    Ok((place, value))
-}
-
 /// Puts the codes of a token's letters behind leading digits of this value in the slots from the
 /// place on, and answers the place and the leading digits' value behind the token.
-///
-/// Letters are put by eights, nearly all of them behind a small value, so that the end of the token
-/// and the size of the value are asked once for eight.
 fn put_token(
     slots: &mut [Code],
     from: usize,
@@ -266,15 +162,14 @@ fn put_token(
 {
     let mut place = from;
     let mut value = leading;
-    let mut at = 0;
-    while token.len() - at >= 8 && value <= SMALL {
-        match put_eight(slots, place, value, &token[at..at + 8]) {
+    // By place, since a letter at fault is told with those behind it.
+    for at in 0..token.len() {
+        match put_letter(slots, place, value, token[at]) {
             Ok(next) => (place, value) = next,
-            Err(fault) => return Err(fault_with(fault, &token[at + 8..])),
+            Err(fault) => return Err(fault_with(fault, &token[at + 1..])),
         }
-        at += 8;
     }
-    put_rest(slots, place, value, &token[at..])
+    Ok((place, value))
 }
 
 /// Takes a token's letters behind leading digits of this value, and answers their value behind the
