@@ -7,18 +7,19 @@ use Rattle.mm_code.specs.Words.{is_white_space, tokens_in, LacksWhiteSpace, IsOn
 use Rattle.mm_code.proofs.Added.{line_length}
 use Rattle.mm_code.proofs.LetterLines.{some_letters, other_letters}
 
-tokens_in-space : (byte : ℕ) (bytes : List ℕ) → is_white_space byte ≡ true → tokens_in (byte ∷ bytes) ≡ tokens_in bytes
+-- white space before a word
+pub tokens_in-space : (byte : ℕ) (bytes : List ℕ) → is_white_space byte ≡ true → tokens_in (byte ∷ bytes) ≡ tokens_in bytes
 unfolding tokens_in
 tokens_in-space byte [] white = rw white refl
 tokens_in-space byte (next ∷ bytes) white = rw white refl
 
 -- a word's last byte, before white space
-tokens_in-end : (byte space : ℕ) (bytes : List ℕ) → is_white_space byte ≡ false → is_white_space space ≡ true → tokens_in (byte ∷ space ∷ bytes) ≡ (byte ∷ []) ∷ tokens_in (space ∷ bytes)
+pub tokens_in-end : (byte space : ℕ) (bytes : List ℕ) → is_white_space byte ≡ false → is_white_space space ≡ true → tokens_in (byte ∷ space ∷ bytes) ≡ (byte ∷ []) ∷ tokens_in (space ∷ bytes)
 unfolding tokens_in
 tokens_in-end byte space bytes dark white = rw (dark, white) refl
 
 -- another byte of it
-tokens_in-on : (byte next : ℕ) (bytes : List ℕ) → is_white_space byte ≡ false → is_white_space next ≡ false → tokens_in (byte ∷ next ∷ bytes) ≡ onto_first byte (tokens_in (next ∷ bytes))
+pub tokens_in-on : (byte next : ℕ) (bytes : List ℕ) → is_white_space byte ≡ false → is_white_space next ≡ false → tokens_in (byte ∷ next ∷ bytes) ≡ onto_first byte (tokens_in (next ∷ bytes))
 unfolding tokens_in
 tokens_in-on byte next bytes dark dark_next = rw (dark, dark_next) refl
 
@@ -78,7 +79,7 @@ tokens_in-laid_out tokens text bytes are laid =
     let P : List (List ℕ) → Type 0 = AllByRecursion IsOneToken in
     ap (λ (t : List ℕ). tokens_in (t ++ bytes)) laid.printed ∙ tokens_in-lines laid.lines bytes laid.each (subst P (sym laid.in_order) are) ∙ ap (λ (ts : List (List ℕ)). ts ++ tokens_in bytes) laid.in_order
 
-tokens_in-nil : tokens_in [] ≡ []
+pub tokens_in-nil : tokens_in [] ≡ []
 unfolding tokens_in
 tokens_in-nil = refl
 
