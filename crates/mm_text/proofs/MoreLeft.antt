@@ -1,13 +1,14 @@
 -- While a statement is unfinished, something is left to tell.
 use Rattle.std.proofs.Common.{◌≢◌, List, [], ◌∷◌, length, if◌then◌else◌, Option, Some, None, codes, inl, inr}
 use Rattle.std.proofs.lemmas.Bool.{cond_both}
+use Rattle.mm_text.specs.Items.{spells}
 use Rattle.mm_text.specs.declared.statement.Kind.TheVariants.{Opening, Closing}
 use Rattle.mm_text.specs.declared.fault.TextRule.TheVariants.{S6}
 use Rattle.mm_text.specs.Token.{PlainToken}
 use Rattle.mm_text.specs.Statement.{PlainStatement}
 use Rattle.mm_text.specs.Items.{Item, Plain, Wrong, Inclusion, End}
 use Rattle.mm_text.specs.Reading.{PlainFault, TellsMore}
-use Rattle.mm_text.specs.Mirror.Reader.{Part, Between, Labelled, InBody, InProof, Step, More, Whole, Opened, Closed, Faulty, step, same_text, is_keyword, has_count, is_full, bare_statement, PlainScope, scope_after_statement, scope_after_opening, scope_after_closing, has_none, fault_in, unfinished_fault, end_fault, inclusion_fault, unless, PlainReading, only_ending, with_statement, reading_of}
+use Rattle.mm_text.specs.Mirror.Reader.{Part, Between, Labelled, InBody, InProof, Step, More, Whole, Opened, Closed, Faulty, step, is_keyword, has_count, is_full, bare_statement, PlainScope, scope_after_statement, scope_after_opening, scope_after_closing, has_none, fault_in, unfinished_fault, end_fault, inclusion_fault, unless, PlainReading, only_ending, with_statement, reading_of}
 use Rattle.mm_text.specs.Statement.{is_provable}
 
 abbrev pub HasMore : PlainReading → Type 0
@@ -49,13 +50,13 @@ stays_or_ends : (part : Part) (t : PlainToken) → IsUnfinished part → StaysOr
 unfolding step
 stays_or_ends Between t h = absurd h
 stays_or_ends (Labelled label) t h =
-    cond_both (same_text t.text (codes "$f")) _ _ StaysOrEnds (λ _. tt)
-    (λ _. cond_both (same_text t.text (codes "$e")) _ _ StaysOrEnds (λ _. tt)
-    (λ _. cond_both (same_text t.text (codes "$a")) _ _ StaysOrEnds (λ _. tt)
-    (λ _. cond_both (same_text t.text (codes "$p")) _ _ StaysOrEnds (λ _. tt) (λ _. tt))))
+    cond_both (spells t.text (codes "$f")) _ _ StaysOrEnds (λ _. tt)
+    (λ _. cond_both (spells t.text (codes "$e")) _ _ StaysOrEnds (λ _. tt)
+    (λ _. cond_both (spells t.text (codes "$a")) _ _ StaysOrEnds (λ _. tt)
+    (λ _. cond_both (spells t.text (codes "$p")) _ _ StaysOrEnds (λ _. tt) (λ _. tt))))
 stays_or_ends (InBody s) t h =
     cond_both (is_keyword t.text) _ _ StaysOrEnds
-    (λ _. cond_both (same_text t.text (if is_provable s.kind then codes "$=" else codes "$.")) _ _ StaysOrEnds
+    (λ _. cond_both (spells t.text (if is_provable s.kind then codes "$=" else codes "$.")) _ _ StaysOrEnds
     (λ _. cond_both (has_count s.kind (length s.symbols)) _ _ StaysOrEnds
     (λ _. cond_both (is_provable s.kind) _ _ StaysOrEnds (λ _. tt) (λ _. tt))
     (λ _. tt))
@@ -63,7 +64,7 @@ stays_or_ends (InBody s) t h =
     (λ _. cond_both (is_full s.kind (length s.symbols)) _ _ StaysOrEnds (λ _. tt) (λ _. tt))
 stays_or_ends (InProof s) t h =
     cond_both (is_keyword t.text) _ _ StaysOrEnds
-    (λ _. cond_both (same_text t.text (codes "$.")) _ _ StaysOrEnds (λ _. tt) (λ _. tt))
+    (λ _. cond_both (spells t.text (codes "$.")) _ _ StaysOrEnds (λ _. tt) (λ _. tt))
     (λ _. tt)
 
 nothing_more : (scope : PlainScope) (part : Part) → IsUnfinished part → HasMore (only_ending (unfinished_fault scope part))

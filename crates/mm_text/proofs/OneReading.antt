@@ -3,6 +3,7 @@ use Rattle.std.proofs.Common.{◌≡◌, ◌≢◌, ℕ, ◌==◌, length, List,
 use Rattle.std.specs.List.{list_all}
 use Rattle.std.proofs.lemmas.List.{append-nil}
 use Rattle.std.proofs.lemmas.Bool.{cond-true, cond-false, cond_both, false_from_ne_true, false≢true, eq-eqb, eqb-true}
+use Rattle.mm_text.specs.Items.{spells}
 use Rattle.mm_text.specs.declared.scope.OpenBlock.{OpenBlock}
 use Rattle.mm_text.specs.declared.fault.TextRule.{TextRule}
 use Rattle.mm_text.specs.declared.fault.TextRule.TheVariants.{X6, X8, S1, S2, S3, S4, S5, S6, S7}
@@ -13,7 +14,7 @@ use Rattle.mm_text.specs.Statement.{PlainStatement, HasBody, SpellsAll, IsKeywor
 use Rattle.mm_text.specs.Items.{Item, Plain, Wrong, Inclusion, End, plain_tokens, HoldNoFault}
 use Rattle.mm_text.specs.Blocks.{AreBalanced, AreClosed, IsInnermost}
 use Rattle.mm_text.specs.Reading.{PlainFault, closes_symbols, IsBody, IsInProof, IsBeginning, AreOutside, Viable, Meets, MeetsS1, MeetsS2, MeetsS3, MeetsS6, fault_at, EndsInX8, EndsInS7, EndsAt, ReadsAs}
-use Rattle.mm_text.specs.Mirror.Reader.{Part, Between, Labelled, InBody, InProof, Step, More, Whole, Opened, Closed, Faulty, step, at_start, after_label, in_body, in_proof, bare_statement, same_text, is_keyword, has_count, is_full, PlainScope, outermost, scope_after_statement, scope_after_opening, scope_after_closing, has_none, fault_in, block_fault, end_fault, inclusion_fault, unless, PlainReading, only_ending, with_statement, reading_of}
+use Rattle.mm_text.specs.Mirror.Reader.{Part, Between, Labelled, InBody, InProof, Step, More, Whole, Opened, Closed, Faulty, step, at_start, after_label, in_body, in_proof, bare_statement, is_keyword, has_count, is_full, PlainScope, outermost, scope_after_statement, scope_after_opening, scope_after_closing, has_none, fault_in, block_fault, end_fault, inclusion_fault, unless, PlainReading, only_ending, with_statement, reading_of}
 use Rattle.mm_text.specs.Statement.{is_provable}
 use Rattle.mm_text.proofs.TextFacts.{same_text-ne, is_keyword-ne, is_keyword_from, symbol-is_keyword}
 use Rattle.mm_text.proofs.Fronts.{plain_tokens-append, clean_behind}
@@ -40,15 +41,15 @@ unfolding step
 breaks_S1 tokens t m = record {
   part = Between;
   described = m.0;
-  faulty = cond-false (same_text t.text (codes "$c")) _ _ (same_text-ne t.text (codes "$c") m.2)
-      ∙ cond-false (same_text t.text (codes "$v")) _ _ (same_text-ne t.text (codes "$v") m.3)
-      ∙ cond-false (same_text t.text (codes "$d")) _ _ (same_text-ne t.text (codes "$d") m.4)
-      ∙ cond-false (same_text t.text (codes "${")) _ _ (same_text-ne t.text (codes "${") m.5)
-      ∙ cond-false (same_text t.text (codes "$}")) _ _ (same_text-ne t.text (codes "$}") m.6)
+  faulty = cond-false (spells t.text (codes "$c")) _ _ (same_text-ne t.text (codes "$c") m.2)
+      ∙ cond-false (spells t.text (codes "$v")) _ _ (same_text-ne t.text (codes "$v") m.3)
+      ∙ cond-false (spells t.text (codes "$d")) _ _ (same_text-ne t.text (codes "$d") m.4)
+      ∙ cond-false (spells t.text (codes "${")) _ _ (same_text-ne t.text (codes "${") m.5)
+      ∙ cond-false (spells t.text (codes "$}")) _ _ (same_text-ne t.text (codes "$}") m.6)
       ∙ cond-true (is_keyword t.text) _ _ (is_keyword_from t.text m.1);
 }
 
-other_than : (text key : List ℕ) → ¬ (IsKeyword text) → IsKeyword key → same_text text key ≡ false
+other_than : (text key : List ℕ) → ¬ (IsKeyword text) → IsKeyword key → spells text key ≡ false
 other_than text key none k = same_text-ne text key (λ e. none (subst IsKeyword (sym e) k))
 
 breaks_S2 : (tokens : List PlainToken) (t : PlainToken) → MeetsS2 tokens t → Breaks tokens t S2
@@ -56,11 +57,11 @@ unfolding step
 breaks_S2 tokens t m = record {
   part = Between;
   described = m.0;
-  faulty = cond-false (same_text t.text (codes "$c")) _ _ (other_than t.text (codes "$c") m.1 (0, lit< tt, refl))
-      ∙ cond-false (same_text t.text (codes "$v")) _ _ (other_than t.text (codes "$v") m.1 (1, lit< tt, refl))
-      ∙ cond-false (same_text t.text (codes "$d")) _ _ (other_than t.text (codes "$d") m.1 (4, lit< tt, refl))
-      ∙ cond-false (same_text t.text (codes "${")) _ _ (other_than t.text (codes "${") m.1 (13, lit< tt, refl))
-      ∙ cond-false (same_text t.text (codes "$}")) _ _ (other_than t.text (codes "$}") m.1 (14, lit< tt, refl))
+  faulty = cond-false (spells t.text (codes "$c")) _ _ (other_than t.text (codes "$c") m.1 (0, lit< tt, refl))
+      ∙ cond-false (spells t.text (codes "$v")) _ _ (other_than t.text (codes "$v") m.1 (1, lit< tt, refl))
+      ∙ cond-false (spells t.text (codes "$d")) _ _ (other_than t.text (codes "$d") m.1 (4, lit< tt, refl))
+      ∙ cond-false (spells t.text (codes "${")) _ _ (other_than t.text (codes "${") m.1 (13, lit< tt, refl))
+      ∙ cond-false (spells t.text (codes "$}")) _ _ (other_than t.text (codes "$}") m.1 (14, lit< tt, refl))
       ∙ cond-false (is_keyword t.text) _ _ (is_keyword-ne t.text m.1)
       ∙ cond-false (list_all is_label_byte t.text) _ _ (false_from_ne_true _ m.2);
 }
@@ -70,21 +71,21 @@ unfolding step
 breaks_S3 tokens t m = record {
   part = Labelled m.0.label;
   described = (m.0.whole, m.0.named);
-  faulty = cond-false (same_text t.text (codes "$f")) _ _ (same_text-ne t.text (codes "$f") m.1)
-      ∙ cond-false (same_text t.text (codes "$e")) _ _ (same_text-ne t.text (codes "$e") m.2)
-      ∙ cond-false (same_text t.text (codes "$a")) _ _ (same_text-ne t.text (codes "$a") m.3)
-      ∙ cond-false (same_text t.text (codes "$p")) _ _ (same_text-ne t.text (codes "$p") m.4);
+  faulty = cond-false (spells t.text (codes "$f")) _ _ (same_text-ne t.text (codes "$f") m.1)
+      ∙ cond-false (spells t.text (codes "$e")) _ _ (same_text-ne t.text (codes "$e") m.2)
+      ∙ cond-false (spells t.text (codes "$a")) _ _ (same_text-ne t.text (codes "$a") m.3)
+      ∙ cond-false (spells t.text (codes "$p")) _ _ (same_text-ne t.text (codes "$p") m.4);
 }
 
 body_other : (s : PlainStatement) (t : PlainToken) → IsKeyword t.text → t.text ≢ closes_symbols s.kind → step (InBody s) t ≡ Faulty S4
 unfolding step
 body_other s t k ne =
     cond-true (is_keyword t.text) _ _ (is_keyword_from t.text k)
-    ∙ cond-false (same_text t.text (cond (is_provable s.kind) (codes "$=") (codes "$."))) _ _ (same_text-ne t.text (cond (is_provable s.kind) (codes "$=") (codes "$.")) (λ e. ne (e ∙ closing_sign s.kind)))
+    ∙ cond-false (spells t.text (cond (is_provable s.kind) (codes "$=") (codes "$."))) _ _ (same_text-ne t.text (cond (is_provable s.kind) (codes "$=") (codes "$.")) (λ e. ne (e ∙ closing_sign s.kind)))
 
 proof_other : (s : PlainStatement) (t : PlainToken) → IsKeyword t.text → t.text ≢ codes "$." → step (InProof s) t ≡ Faulty S4
 unfolding step
-proof_other s t k ne = cond-true (is_keyword t.text) _ _ (is_keyword_from t.text k) ∙ cond-false (same_text t.text (codes "$.")) _ _ (same_text-ne t.text (codes "$.") ne)
+proof_other s t k ne = cond-true (is_keyword t.text) _ _ (is_keyword_from t.text k) ∙ cond-false (spells t.text (codes "$.")) _ _ (same_text-ne t.text (codes "$.") ne)
 
 breaks_S4 : (tokens : List PlainToken) (t : PlainToken) → IsKeyword t.text
     → ((kind : Kind) × (symbols : List PlainToken) × IsBody tokens kind symbols × (t.text ≢ closes_symbols kind)) ⊎ (IsInProof tokens × (t.text ≢ codes "$.")) → Breaks tokens t S4
@@ -245,25 +246,25 @@ IsLongStep (Faulty rule) = Unit {0}
 
 start_long : (t : PlainToken) → IsLongStep (at_start t)
 start_long t =
-    cond_both (same_text t.text (codes "$c")) _ _ IsLongStep (λ _. tt)
-    (λ _. cond_both (same_text t.text (codes "$v")) _ _ IsLongStep (λ _. tt)
-    (λ _. cond_both (same_text t.text (codes "$d")) _ _ IsLongStep (λ _. tt)
-    (λ _. cond_both (same_text t.text (codes "${")) _ _ IsLongStep (λ _. tt)
-    (λ _. cond_both (same_text t.text (codes "$}")) _ _ IsLongStep (λ _. tt)
+    cond_both (spells t.text (codes "$c")) _ _ IsLongStep (λ _. tt)
+    (λ _. cond_both (spells t.text (codes "$v")) _ _ IsLongStep (λ _. tt)
+    (λ _. cond_both (spells t.text (codes "$d")) _ _ IsLongStep (λ _. tt)
+    (λ _. cond_both (spells t.text (codes "${")) _ _ IsLongStep (λ _. tt)
+    (λ _. cond_both (spells t.text (codes "$}")) _ _ IsLongStep (λ _. tt)
     (λ _. cond_both (is_keyword t.text) _ _ IsLongStep (λ _. tt)
     (λ _. cond_both (list_all is_label_byte t.text) _ _ IsLongStep (λ _. tt) (λ _. tt)))))))
 
 label_long : (label t : PlainToken) → IsLongStep (after_label label t)
 label_long label t =
-    cond_both (same_text t.text (codes "$f")) _ _ IsLongStep (λ _. tt)
-    (λ _. cond_both (same_text t.text (codes "$e")) _ _ IsLongStep (λ _. tt)
-    (λ _. cond_both (same_text t.text (codes "$a")) _ _ IsLongStep (λ _. tt)
-    (λ _. cond_both (same_text t.text (codes "$p")) _ _ IsLongStep (λ _. tt) (λ _. tt))))
+    cond_both (spells t.text (codes "$f")) _ _ IsLongStep (λ _. tt)
+    (λ _. cond_both (spells t.text (codes "$e")) _ _ IsLongStep (λ _. tt)
+    (λ _. cond_both (spells t.text (codes "$a")) _ _ IsLongStep (λ _. tt)
+    (λ _. cond_both (spells t.text (codes "$p")) _ _ IsLongStep (λ _. tt) (λ _. tt))))
 
 body_long : (s : PlainStatement) (t : PlainToken) → HasBody s.kind → IsLongStep (in_body s t)
 body_long s t h =
     cond_both (is_keyword t.text) _ _ IsLongStep
-    (λ _. cond_both (same_text t.text (cond (is_provable s.kind) (codes "$=") (codes "$."))) _ _ IsLongStep
+    (λ _. cond_both (spells t.text (cond (is_provable s.kind) (codes "$=") (codes "$."))) _ _ IsLongStep
     (λ _. cond_both (has_count s.kind (length s.symbols)) _ _ IsLongStep
     (λ _. cond_both (is_provable s.kind) _ _ IsLongStep (λ _. h) (λ _. h)) (λ _. tt)) (λ _. tt))
     (λ _. cond_both (is_full s.kind (length s.symbols)) _ _ IsLongStep (λ _. tt) (λ _. h))
@@ -271,7 +272,7 @@ body_long s t h =
 proof_long : (s : PlainStatement) (t : PlainToken) → HasBody s.kind → IsLongStep (in_proof s t)
 proof_long s t h =
     cond_both (is_keyword t.text) _ _ IsLongStep
-    (λ _. cond_both (same_text t.text (codes "$.")) _ _ IsLongStep (λ _. h) (λ _. tt))
+    (λ _. cond_both (spells t.text (codes "$.")) _ _ IsLongStep (λ _. h) (λ _. tt))
     (λ _. h)
 
 step_long : (part : Part) (t : PlainToken) → IsLongPart part → IsLongStep (step part t)

@@ -3,13 +3,14 @@ use Rattle.std.proofs.Common.{◌≡◌, ℕ, ◌+◌, ◌<◌, ◌≤◌, lengt
 use Rattle.std.specs.List.{list_all}
 use Rattle.std.proofs.lemmas.List.{append-nil, length-append}
 use Rattle.std.proofs.lemmas.Bool.{cond-true, cond-false, ne_eqb, false_from_ne_true}
+use Rattle.mm_text.specs.Items.{spells}
 use Rattle.mm_text.specs.declared.fault.TextRule.TheVariants.{S5}
 use Rattle.mm_text.specs.declared.statement.Kind.{Kind}
 use Rattle.mm_text.specs.declared.statement.Kind.TheVariants.{Constants, Variables, Distinct, Floating, Essential, Axiom, Provable, Opening, Closing}
 use Rattle.mm_text.specs.Token.{PlainToken, IsLabel, is_label_byte}
 use Rattle.mm_text.specs.Statement.{PlainStatement, IsHead, HasBody, IsBareHead, IsLabelledHead, AreSymbols, FitsCount, label_in, keyword_of, Spells, SpellsAll, IsTail, EndsAtOnce, EndsInProof}
 use Rattle.mm_text.specs.Reading.{closes_symbols}
-use Rattle.mm_text.specs.Mirror.Reader.{Part, Between, Labelled, InBody, InProof, More, Whole, Faulty, step, same_text, is_keyword, bare_statement, has_count, is_full}
+use Rattle.mm_text.specs.Mirror.Reader.{Part, Between, Labelled, InBody, InProof, More, Whole, Faulty, step, is_keyword, bare_statement, has_count, is_full}
 use Rattle.mm_text.specs.Statement.{is_provable}
 use Rattle.mm_text.proofs.TextFacts.{same_text_from, label-is_keyword, label_ne}
 use Rattle.mm_text.proofs.PartFacts.{IsPartBody, IsPartProof, Describes}
@@ -35,11 +36,11 @@ start_distinct t e = rw e refl
 start_label : (t : PlainToken) → IsLabel t.text → step Between t ≡ More (Labelled t)
 unfolding step
 start_label t h =
-    cond-false (same_text t.text (codes "$c")) _ _ (label_ne t.text (codes "$c") h refl)
-    ∙ cond-false (same_text t.text (codes "$v")) _ _ (label_ne t.text (codes "$v") h refl)
-    ∙ cond-false (same_text t.text (codes "$d")) _ _ (label_ne t.text (codes "$d") h refl)
-    ∙ cond-false (same_text t.text (codes "${")) _ _ (label_ne t.text (codes "${") h refl)
-    ∙ cond-false (same_text t.text (codes "$}")) _ _ (label_ne t.text (codes "$}") h refl)
+    cond-false (spells t.text (codes "$c")) _ _ (label_ne t.text (codes "$c") h refl)
+    ∙ cond-false (spells t.text (codes "$v")) _ _ (label_ne t.text (codes "$v") h refl)
+    ∙ cond-false (spells t.text (codes "$d")) _ _ (label_ne t.text (codes "$d") h refl)
+    ∙ cond-false (spells t.text (codes "${")) _ _ (label_ne t.text (codes "${") h refl)
+    ∙ cond-false (spells t.text (codes "$}")) _ _ (label_ne t.text (codes "$}") h refl)
     ∙ cond-false (is_keyword t.text) _ _ (label-is_keyword t.text h)
     ∙ cond-true (list_all is_label_byte t.text) _ _ h
 
@@ -70,7 +71,7 @@ unfolding step
 closing_step s t sign =
     let e : t.text ≡ cond (is_provable s.kind) (codes "$=") (codes "$.") = sign ∙ sym (closing_sign s.kind) in
     cond-true (is_keyword t.text) _ _ (ap is_keyword e ∙ closing_is_keyword s.kind)
-    ∙ cond-true (same_text t.text (cond (is_provable s.kind) (codes "$=") (codes "$."))) _ _ (same_text_from t.text (cond (is_provable s.kind) (codes "$=") (codes "$.")) e)
+    ∙ cond-true (spells t.text (cond (is_provable s.kind) (codes "$=") (codes "$."))) _ _ (same_text_from t.text (cond (is_provable s.kind) (codes "$=") (codes "$.")) e)
 
 pub closing_counted : (s : PlainStatement) (t : PlainToken) → t.text ≡ closes_symbols s.kind → FitsCount s.kind (length s.symbols)
     → step (InBody s) t ≡ cond (is_provable s.kind) (More (InProof (record s { span = (t.at + 2, 0) }))) (Whole s)

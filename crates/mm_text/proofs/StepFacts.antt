@@ -3,12 +3,13 @@ use Rattle.std.proofs.Common.{◌≡◌, ◌≢◌, ℕ, ◌+◌, length, List, 
 use Rattle.std.specs.List.{list_all}
 use Rattle.std.proofs.lemmas.List.{length-append}
 use Rattle.std.proofs.lemmas.Bool.{both_ways, cond_both, eqb-true, eqb-false, leb-true, le-leb, eq-eqb}
+use Rattle.mm_text.specs.Items.{spells}
 use Rattle.mm_text.specs.declared.statement.Kind.{Kind}
 use Rattle.mm_text.specs.declared.statement.Kind.TheVariants.{Constants, Variables, Distinct, Floating, Essential, Axiom, Provable, Opening, Closing}
 use Rattle.mm_text.specs.Token.{PlainToken, IsLabel, is_label_byte, HoldsNoDollar}
 use Rattle.mm_text.specs.Statement.{PlainStatement, IsHead, HasBody, AreSymbols, FitsCount, keyword_of, Spells, IsTail, EndsAtOnce}
 use Rattle.mm_text.specs.Reading.{closes_symbols, Meets}
-use Rattle.mm_text.specs.Mirror.Reader.{Part, Between, Labelled, InBody, InProof, Step, More, Whole, Opened, Closed, Faulty, step, at_start, after_label, in_body, in_proof, same_text, is_keyword, bare_statement, has_count, is_full}
+use Rattle.mm_text.specs.Mirror.Reader.{Part, Between, Labelled, InBody, InProof, Step, More, Whole, Opened, Closed, Faulty, step, at_start, after_label, in_body, in_proof, is_keyword, bare_statement, has_count, is_full}
 use Rattle.mm_text.specs.Statement.{is_provable}
 use Rattle.mm_text.proofs.TextFacts.{same_text-true, same_text-false, is_keyword-true, is_keyword-false, IsSigned, signed_word}
 use Rattle.mm_text.proofs.PartFacts.{IsPartBody, IsPartProof, Describes, symbols-append, body_of_part, proof_of_part}
@@ -113,15 +114,15 @@ bare_right kind tokens t d e long h none = begun_bare kind tokens t d h long (ap
 
 at_start_right : (tokens : List PlainToken) (t : PlainToken) → tokens ≡ [] → StepsTo tokens t (at_start t)
 at_start_right tokens t d =
-    cond_both (same_text t.text (codes "$c")) _ _ (StepsTo tokens t)
+    cond_both (spells t.text (codes "$c")) _ _ (StepsTo tokens t)
     (λ c. let e = same_text-true t.text (codes "$c") c in bare_right Constants tokens t d e tt (record { keyword = t; tokens = refl; sign = e }) refl)
-    (λ nc. cond_both (same_text t.text (codes "$v")) _ _ (StepsTo tokens t)
+    (λ nc. cond_both (spells t.text (codes "$v")) _ _ (StepsTo tokens t)
     (λ v. let e = same_text-true t.text (codes "$v") v in bare_right Variables tokens t d e tt (record { keyword = t; tokens = refl; sign = e }) refl)
-    (λ nv. cond_both (same_text t.text (codes "$d")) _ _ (StepsTo tokens t)
+    (λ nv. cond_both (spells t.text (codes "$d")) _ _ (StepsTo tokens t)
     (λ x. let e = same_text-true t.text (codes "$d") x in bare_right Distinct tokens t d e tt (record { keyword = t; tokens = refl; sign = e }) refl)
-    (λ nd. cond_both (same_text t.text (codes "${")) _ _ (StepsTo tokens t)
+    (λ nd. cond_both (spells t.text (codes "${")) _ _ (StepsTo tokens t)
     (λ o. (d, same_text-true t.text (codes "${") o))
-    (λ no. cond_both (same_text t.text (codes "$}")) _ _ (StepsTo tokens t)
+    (λ no. cond_both (spells t.text (codes "$}")) _ _ (StepsTo tokens t)
     (λ l. (d, same_text-true t.text (codes "$}") l))
     (λ nl. cond_both (is_keyword t.text) _ _ (StepsTo tokens t)
     (λ k statements. (d, is_keyword-true t.text k, same_text-false t.text (codes "$c") nc, same_text-false t.text (codes "$v") nv, same_text-false t.text (codes "$d") nd, same_text-false t.text (codes "${") no, same_text-false t.text (codes "$}") nl))
@@ -134,13 +135,13 @@ labelled_right kind label tokens t d l long h = begun_labelled kind label tokens
 
 after_label_right : (label : PlainToken) (tokens : List PlainToken) (t : PlainToken) → tokens ≡ label ∷ [] → IsLabel label.text → StepsTo tokens t (after_label label t)
 after_label_right label tokens t d l =
-    cond_both (same_text t.text (codes "$f")) _ _ (StepsTo tokens t)
+    cond_both (spells t.text (codes "$f")) _ _ (StepsTo tokens t)
     (λ f. labelled_right Floating label tokens t d l tt (record { label = label; keyword = t; tokens = refl; named = l; sign = same_text-true t.text (codes "$f") f }))
-    (λ nf. cond_both (same_text t.text (codes "$e")) _ _ (StepsTo tokens t)
+    (λ nf. cond_both (spells t.text (codes "$e")) _ _ (StepsTo tokens t)
     (λ e. labelled_right Essential label tokens t d l tt (record { label = label; keyword = t; tokens = refl; named = l; sign = same_text-true t.text (codes "$e") e }))
-    (λ ne. cond_both (same_text t.text (codes "$a")) _ _ (StepsTo tokens t)
+    (λ ne. cond_both (spells t.text (codes "$a")) _ _ (StepsTo tokens t)
     (λ a. labelled_right Axiom label tokens t d l tt (record { label = label; keyword = t; tokens = refl; named = l; sign = same_text-true t.text (codes "$a") a }))
-    (λ na. cond_both (same_text t.text (codes "$p")) _ _ (StepsTo tokens t)
+    (λ na. cond_both (spells t.text (codes "$p")) _ _ (StepsTo tokens t)
     (λ p. labelled_right Provable label tokens t d l tt (record { label = label; keyword = t; tokens = refl; named = l; sign = same_text-true t.text (codes "$p") p }))
     (λ np statements. (record { label = label; whole = d; named = l }, same_text-false t.text (codes "$f") nf, same_text-false t.text (codes "$e") ne, same_text-false t.text (codes "$a") na, same_text-false t.text (codes "$p") np)))))
 
@@ -200,7 +201,7 @@ body_symbol s tokens t d h f = record {
 in_body_right : (s : PlainStatement) (tokens : List PlainToken) (t : PlainToken) → IsSigned t → IsPartBody s tokens → StepsTo tokens t (in_body s t)
 in_body_right s tokens t ok d =
     cond_both (is_keyword t.text) _ _ (StepsTo tokens t)
-    (λ k. cond_both (same_text t.text (cond (is_provable s.kind) (codes "$=") (codes "$."))) _ _ (StepsTo tokens t)
+    (λ k. cond_both (spells t.text (cond (is_provable s.kind) (codes "$=") (codes "$."))) _ _ (StepsTo tokens t)
     (λ same. let sign = same_text-true t.text (cond (is_provable s.kind) (codes "$=") (codes "$.")) same in
     cond_both (has_count s.kind (length s.symbols)) _ _ (StepsTo tokens t)
     (λ c. let count = has_count-true s.kind (length s.symbols) c in
@@ -249,7 +250,7 @@ proof_token s tokens t d h = record {
 in_proof_right : (s : PlainStatement) (tokens : List PlainToken) (t : PlainToken) → IsSigned t → IsPartProof s tokens → StepsTo tokens t (in_proof s t)
 in_proof_right s tokens t ok d =
     cond_both (is_keyword t.text) _ _ (StepsTo tokens t)
-    (λ k. cond_both (same_text t.text (codes "$.")) _ _ (StepsTo tokens t)
+    (λ k. cond_both (spells t.text (codes "$.")) _ _ (StepsTo tokens t)
     (λ same. (proof_ends s tokens t d (same_text-true t.text (codes "$.") same), subst HasBody (sym d.kind) tt))
     (λ other statements. (is_keyword-true t.text k, inr (proof_of_part s tokens d, same_text-false t.text (codes "$.") other))))
     (λ nk. proof_token s tokens t d (signed_word t ok nk))

@@ -3,6 +3,7 @@ use Rattle.std.proofs.Common.{◌≡◌, ℕ, ◌+◌, ◌==◌, List, [], ◌�
 use Rattle.std.specs.List.{list_any, list_all}
 use Rattle.std.specs.Cmp.Lexicographic.{bytes_decides}
 use Rattle.std.proofs.lemmas.Bool.{false≢true}
+use Rattle.mm_text.specs.Items.{spells}
 use Rattle.mm_text.specs.declared.fault.TextRule.{TextRule}
 use Rattle.mm_text.specs.declared.fault.TextRule.TheVariants.{S1, S2, S3, S4, S5, S6}
 use Rattle.mm_text.specs.declared.statement.Kind.{Kind}
@@ -13,7 +14,7 @@ use Rattle.mm_text.specs.Token.{PlainToken, HoldsNoDollar, is_label_byte}
 use Rattle.mm_text.specs.Statement.{PlainStatement}
 use Rattle.mm_text.specs.Items.{Item, Plain, Wrong, Inclusion, End}
 use Rattle.mm_text.specs.Mirror.Class.{keyword_bytes}
-use Rattle.mm_text.specs.Mirror.Reader.{same_text, is_keyword, bare_statement, Part, Between, Labelled, InBody, InProof, Step, More, Whole, Opened, Closed, Faulty, has_count, is_full, step, PlainScope, scope_after_statement, scope_after_opening, scope_after_closing, has_none, fault_in, unfinished_fault, end_fault, inclusion_fault, unless, PlainReading, only_ending, with_statement, reading_of}
+use Rattle.mm_text.specs.Mirror.Reader.{is_keyword, bare_statement, Part, Between, Labelled, InBody, InProof, Step, More, Whole, Opened, Closed, Faulty, has_count, is_full, step, PlainScope, scope_after_statement, scope_after_opening, scope_after_closing, has_none, fault_in, unfinished_fault, end_fault, inclusion_fault, unless, PlainReading, only_ending, with_statement, reading_of}
 use Rattle.mm_text.specs.Statement.{is_provable}
 use Rattle.mm_text.specs.Mirror.Steps.{is_block_sign, bare_kind, labelled_kind, ends_symbols}
 use Rattle.mm_text.proofs.TextFacts.{symbol-is_keyword}
@@ -77,9 +78,9 @@ read_faulty scope part t items rule e = read_plain scope part t items ∙ ap (re
 -- ---- words and keywords
 
 -- a text with no `$` is no text that holds one
-other_text : (text sign : List ℕ) → HoldsNoDollar text → list_any (λ b. b == 36) sign ≡ true → same_text text sign ≡ false
+other_text : (text sign : List ℕ) → HoldsNoDollar text → list_any (λ b. b == 36) sign ≡ true → spells text sign ≡ false
 other_text text sign word dollar =
-    elim (same_text text sign) as (λ same. same_text text sign ≡ same → same ≡ false) [
+    elim (spells text sign) as (λ same. spells text sign ≡ same → same ≡ false) [
       | true ↦ λ e. absurd (false≢true (sym word ∙ ap (list_any (λ b. b == 36)) ((bytes_decides text sign).0 e) ∙ dollar))
       | false ↦ λ e. refl
     ] refl
@@ -221,14 +222,14 @@ step_too_many s t word full = let none = symbol-is_keyword t.text word in simp (
 -- ---- the token after steps of a proof
 
 proof_keyword : (s : PlainStatement) (t : PlainToken) (k : Keyword) → t.text ≡ keyword_bytes k → step (InProof s) t ≡
-    (if same_text (keyword_bytes k) (codes "$.") then Whole (record s { span = (s.span.0, t.at) }) else Faulty S4)
+    (if spells (keyword_bytes k) (codes "$.") then Whole (record s { span = (s.span.0, t.at) }) else Faulty S4)
 unfolding step
 proof_keyword s t k e = let one = keyword_is_one k in simp (e, one)
 
-pub step_ends_proof : (s : PlainStatement) (t : PlainToken) (k : Keyword) → t.text ≡ keyword_bytes k → same_text (keyword_bytes k) (codes "$.") ≡ true → step (InProof s) t ≡ Whole (record s { span = (s.span.0, t.at) })
+pub step_ends_proof : (s : PlainStatement) (t : PlainToken) (k : Keyword) → t.text ≡ keyword_bytes k → spells (keyword_bytes k) (codes "$.") ≡ true → step (InProof s) t ≡ Whole (record s { span = (s.span.0, t.at) })
 step_ends_proof s t k e stop = proof_keyword s t k e ∙ simp stop
 
-pub step_in_proof : (s : PlainStatement) (t : PlainToken) (k : Keyword) → t.text ≡ keyword_bytes k → same_text (keyword_bytes k) (codes "$.") ≡ false → step (InProof s) t ≡ Faulty S4
+pub step_in_proof : (s : PlainStatement) (t : PlainToken) (k : Keyword) → t.text ≡ keyword_bytes k → spells (keyword_bytes k) (codes "$.") ≡ false → step (InProof s) t ≡ Faulty S4
 step_in_proof s t k e stop = proof_keyword s t k e ∙ simp stop
 
 pub step_proof_token : (s : PlainStatement) (t : PlainToken) → HoldsNoDollar t.text → step (InProof s) t ≡ More (InProof (record s { proof = s.proof ++ t ∷ [] }))

@@ -3,36 +3,37 @@ use Rattle.std.proofs.Common.{◌≡◌, ◌≢◌, ℕ, zero, suc, ◌<◌, ◌
 use Rattle.std.specs.List.{list_any, list_all}
 use Rattle.std.specs.Cmp.Lexicographic.{bytes_decides}
 use Rattle.std.proofs.lemmas.Bool.{or_parts, or_cases, or_left, or_right, and_parts, false≢true, both_ways, false_from_ne_true, eqb-true}
+use Rattle.mm_text.specs.Items.{spells}
 use Rattle.mm_text.specs.Token.{PlainToken, IsLabel, is_label_byte, HoldsNoDollar}
 use Rattle.mm_text.specs.Statement.{keywords, IsKeyword}
-use Rattle.mm_text.specs.Mirror.Reader.{same_text, is_keyword}
+use Rattle.mm_text.specs.Mirror.Reader.{is_keyword}
 
-pub same_text-true : (a b : List ℕ) → same_text a b ≡ true → a ≡ b
+pub same_text-true : (a b : List ℕ) → spells a b ≡ true → a ≡ b
 same_text-true a b e = (bytes_decides a b).0 e
 
-pub same_text_from : (a b : List ℕ) → a ≡ b → same_text a b ≡ true
+pub same_text_from : (a b : List ℕ) → a ≡ b → spells a b ≡ true
 same_text_from a b e = (bytes_decides a b).1 e
 
-pub same_text-ne : (a b : List ℕ) → a ≢ b → same_text a b ≡ false
+pub same_text-ne : (a b : List ℕ) → a ≢ b → spells a b ≡ false
 same_text-ne a b ne = false_from_ne_true _ (λ e. ne (same_text-true a b e))
 
-pub same_text-false : (a b : List ℕ) → same_text a b ≡ false → a ≢ b
+pub same_text-false : (a b : List ℕ) → spells a b ≡ false → a ≢ b
 same_text-false a b e same = both_ways _ e (same_text_from a b same)
 
 -- ---- lists of texts
 
-any-Contains : (text : List ℕ) (xs : List (List ℕ)) → list_any (same_text text) xs ≡ true → Contains xs text
+any-Contains : (text : List ℕ) (xs : List (List ℕ)) → list_any (spells text) xs ≡ true → Contains xs text
 any-Contains text [] e = absurd (false≢true e)
 any-Contains text (x ∷ xs) e =
-    elim (or_cases (same_text text x) (list_any (same_text text) xs) e) [
+    elim (or_cases (spells text x) (list_any (spells text) xs) e) [
       | inl here ↦ (zero, omega arith, sym (same_text-true text x here))
       | inr there ↦ let c = any-Contains text xs there in (suc c.0, omega (arith, c.1), c.2)
     ]
 
-Contains-any : (text : List ℕ) (xs : List (List ℕ)) (k : ℕ) → k < length xs → get_or xs k text ≡ text → list_any (same_text text) xs ≡ true
+Contains-any : (text : List ℕ) (xs : List (List ℕ)) (k : ℕ) → k < length xs → get_or xs k text ≡ text → list_any (spells text) xs ≡ true
 Contains-any text [] k lt e = absurd (omega arith)
 Contains-any text (x ∷ xs) zero lt e = or_left _ _ (same_text_from text x (sym e))
-Contains-any text (x ∷ xs) (suc k) lt e = or_right (same_text text x) (list_any (same_text text) xs) (Contains-any text xs k (omega arith) e)
+Contains-any text (x ∷ xs) (suc k) lt e = or_right (spells text x) (list_any (spells text) xs) (Contains-any text xs k (omega arith) e)
 
 pub is_keyword-true : (text : List ℕ) → is_keyword text ≡ true → IsKeyword text
 is_keyword-true text e = any-Contains text keywords e
@@ -52,11 +53,11 @@ abbrev begins_dollar : List ℕ → Bool
 begins_dollar [] = false
 begins_dollar (b ∷ bytes) = b == 36
 
-any_of_dollars : (text : List ℕ) (xs : List (List ℕ)) → list_all begins_dollar xs ≡ true → begins_dollar text ≡ false → list_any (same_text text) xs ≡ false
+any_of_dollars : (text : List ℕ) (xs : List (List ℕ)) → list_all begins_dollar xs ≡ true → begins_dollar text ≡ false → list_any (spells text) xs ≡ false
 any_of_dollars text [] all none = refl
 any_of_dollars text (x ∷ xs) all none =
     let parts = and_parts (begins_dollar x) (list_all begins_dollar xs) all in
-    let here : same_text text x ≡ false = same_text-ne text x (λ e. both_ways _ none (ap begins_dollar e ∙ parts.0)) in
+    let here : spells text x ≡ false = same_text-ne text x (λ e. both_ways _ none (ap begins_dollar e ∙ parts.0)) in
     rw here (any_of_dollars text xs parts.1 none)
 
 no_keyword : (text : List ℕ) → begins_dollar text ≡ false → is_keyword text ≡ false
@@ -81,7 +82,7 @@ pub label-is_keyword : (text : List ℕ) → IsLabel text → is_keyword text �
 label-is_keyword text h = no_keyword text (label-begins text h)
 
 -- nor is it one by itself
-pub label_ne : (text key : List ℕ) → IsLabel text → is_keyword key ≡ true → same_text text key ≡ false
+pub label_ne : (text key : List ℕ) → IsLabel text → is_keyword key ≡ true → spells text key ≡ false
 label_ne text key h k = same_text-ne text key (λ e. both_ways _ (label-is_keyword text h) (ap is_keyword e ∙ k))
 
 -- a token is a keyword or holds no `$`

@@ -2,6 +2,7 @@
 
 ghost use Rattle.std.specs.Prelude.{◌≡◌, ◌≤◌, ◌<◌, ◌∷◌, true, false, Some, None, option_map};
 ghost use Rattle.std.specs.Prelude.{length, codes};
+ghost use Rattle.mm_text.specs.Items.{spells};
 ghost use Rattle.mm_text.specs.Token.{plain_token, HoldsNoDollar};
 ghost use Rattle.mm_text.specs.Mirror.Class.{keyword_bytes};
 ghost use Rattle.mm_text.specs.Statement.{plain_statement};
@@ -10,7 +11,6 @@ ghost use Rattle.mm_text.specs.Mirror.Next.{items_with, IsOfClass};
 ghost use Rattle.mm_text.specs.Mirror.Reader.{Between, Labelled, InBody, InProof, reading_of};
 ghost use Rattle.mm_text.specs.Mirror.Reader.{has_count, is_full, bare_statement};
 ghost use Rattle.mm_text.specs.Statement.{is_provable};
-ghost use Rattle.mm_text.specs.Mirror.Reader.{same_text};
 ghost use Rattle.mm_text.specs.Mirror.Steps.{plain_scope, TakesWithin, TakesFirst, GivesPart};
 ghost use Rattle.mm_text.specs.Mirror.Steps.{GivesFirst, GivesStatement, StepsTo, is_block_sign};
 ghost use Rattle.mm_text.specs.Mirror.Steps.{ReadsOn};
@@ -51,7 +51,7 @@ fn labelled_kind(keyword: Keyword) -> Option<Kind>
 
 /// Whether a keyword is `$.`.
 fn is_stop(keyword: Keyword) -> bool
-    ensures { result ≡ same_text (keyword_bytes keyword) (codes "$.") }
+    ensures { result ≡ spells (keyword_bytes keyword) (codes "$.") }
 {
     matches!(keyword, Keyword::Stop)
 }

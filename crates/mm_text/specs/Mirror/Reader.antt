@@ -1,12 +1,12 @@
 -- The plain reader that the code computes: one token after the other, with what is unfinished. That
 -- it gives the reading of the files is proved apart from the code; public clauses speak of the
 -- reading.
-use Rattle.std.specs.Prelude.{ℕ, ◌+◌, ◌==◌, nat_eq, nat_le, List, [], ◌∷◌, ◌++◌, length, Bool, true}
+use Rattle.std.specs.Prelude.{ℕ, ◌+◌, ◌==◌, nat_le, List, [], ◌∷◌, ◌++◌, length, Bool, true}
 use Rattle.std.specs.Prelude.{false, if◌then◌else◌, codes, drop, ◌&&◌, Option, Some, None}
 use Rattle.std.specs.Prelude.{option_map}
 use Rattle.std.specs.Option.{is_none}
 use Rattle.std.specs.List.{list_any, list_all}
-use Rattle.std.specs.Cmp.Lexicographic.{pointwise}
+use Rattle.mm_text.specs.Items.{spells}
 use Rattle.mm_text.specs.declared.fault.TextRule.{TextRule}
 use Rattle.mm_text.specs.declared.fault.TextRule.TheVariants.{X6, X8, S1, S2, S3, S4, S5, S6, S7}
 use Rattle.mm_text.specs.declared.scope.OpenBlock.{OpenBlock}
@@ -35,11 +35,8 @@ pub data Step : Type 0 where
   Closed : Step
   Faulty : (rule : TextRule) → Step
 
-abbrev pub same_text : List ℕ → List ℕ → Bool
-same_text a b = pointwise nat_eq a b
-
 abbrev pub is_keyword : List ℕ → Bool
-is_keyword text = list_any (same_text text) keywords
+is_keyword text = list_any (spells text) keywords
 
 -- a statement with no symbols yet
 abbrev pub bare_statement : Kind → PlainToken → Option PlainToken → PlainStatement
@@ -49,23 +46,23 @@ bare_statement kind first label =
 -- the token that begins a statement
 abbrev pub at_start : PlainToken → Step
 at_start t =
-    if same_text t.text (codes "$c") then More (InBody (bare_statement Constants t None))
-    else (if same_text t.text (codes "$v") then More (InBody (bare_statement Variables t None))
-    else (if same_text t.text (codes "$d") then More (InBody (bare_statement Distinct t None))
-    else (if same_text t.text (codes "${") then Opened
-    else (if same_text t.text (codes "$}") then Closed
+    if spells t.text (codes "$c") then More (InBody (bare_statement Constants t None))
+    else (if spells t.text (codes "$v") then More (InBody (bare_statement Variables t None))
+    else (if spells t.text (codes "$d") then More (InBody (bare_statement Distinct t None))
+    else (if spells t.text (codes "${") then Opened
+    else (if spells t.text (codes "$}") then Closed
     else (if is_keyword t.text then Faulty S1
     else (if list_all is_label_byte t.text then More (Labelled t) else Faulty S2))))))
 
 -- the token after a label
 abbrev pub after_label : PlainToken → PlainToken → Step
 after_label label t =
-    if same_text t.text (codes "$f") then More (InBody (bare_statement Floating label (Some label)))
-    else (if same_text t.text (codes "$e") then More
+    if spells t.text (codes "$f") then More (InBody (bare_statement Floating label (Some label)))
+    else (if spells t.text (codes "$e") then More
     (InBody (bare_statement Essential label (Some label)))
-    else (if same_text t.text (codes "$a") then More
+    else (if spells t.text (codes "$a") then More
     (InBody (bare_statement Axiom label (Some label)))
-    else (if same_text t.text (codes "$p") then More
+    else (if spells t.text (codes "$p") then More
     (InBody (bare_statement Provable label (Some label)))
     else Faulty S3)))
 
@@ -90,7 +87,7 @@ is_full kind n = false
 abbrev pub in_body : PlainStatement → PlainToken → Step
 in_body s t =
     if is_keyword t.text
-    then (if same_text t.text (if is_provable s.kind then codes "$=" else codes "$.")
+    then (if spells t.text (if is_provable s.kind then codes "$=" else codes "$.")
     then (if has_count s.kind (length s.symbols)
     then (if is_provable s.kind then More (InProof (record s { span = (t.at + 2, 0) }))
     else Whole s)
@@ -103,7 +100,7 @@ in_body s t =
 abbrev pub in_proof : PlainStatement → PlainToken → Step
 in_proof s t =
     if is_keyword t.text
-    then (if same_text t.text (codes "$.") then Whole (record s { span = (s.span.0, t.at) })
+    then (if spells t.text (codes "$.") then Whole (record s { span = (s.span.0, t.at) })
     else Faulty S4)
     else More (InProof (record s { proof = s.proof ++ t ∷ [] }))
 

@@ -2,6 +2,7 @@
 -- speak of this.
 use Rattle.std.specs.Prelude.{◌≡◌, ℕ, ◌+◌, ◌<◌, List, ◌∷◌, Bool, true, false, Option, Some, None}
 use Rattle.std.specs.Prelude.{Result, Ok, Err, option_map, codes, reverse, if◌then◌else◌}
+use Rattle.mm_text.specs.Items.{spells}
 use Rattle.mm_text.specs.declared.token.Token.{Token}
 use Rattle.mm_text.specs.declared.scope.Scope.{Scope}
 use Rattle.mm_text.specs.declared.class.Keyword.{Keyword}
@@ -21,7 +22,7 @@ use Rattle.mm_text.specs.Reading.{PlainFault, TellsMore}
 use Rattle.mm_text.specs.Mirror.Reader.{PlainReading, PlainScope, Part, Between, step, More, Faulty}
 use Rattle.mm_text.specs.Mirror.Reader.{part_first, part_label, fault_in, has_none}
 use Rattle.mm_text.specs.Mirror.Reader.{scope_after_statement, scope_after_opening}
-use Rattle.mm_text.specs.Mirror.Reader.{scope_after_closing, same_text, reading_of}
+use Rattle.mm_text.specs.Mirror.Reader.{scope_after_closing, reading_of}
 use Rattle.mm_text.specs.Statement.{is_provable}
 use Rattle.mm_text.specs.Mirror.Reader.{only_ending, with_statement}
 
@@ -169,4 +170,4 @@ labelled_kind other = None
 -- whether a keyword ends the symbols of a kind of statement
 abbrev pub ends_symbols : Kind → Keyword → Bool
 ends_symbols kind keyword =
-    same_text (keyword_bytes keyword) (if is_provable kind then codes "$=" else codes "$.")
+    spells (keyword_bytes keyword) (if is_provable kind then codes "$=" else codes "$.")
