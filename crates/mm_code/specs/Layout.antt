@@ -1,5 +1,5 @@
--- The lines in which proofs are printed and saved. A text is a list of bytes, a token a list of
--- bytes in it.
+-- The lines in which proofs are printed and saved, which are this project's own. A text is a list of
+-- bytes, a token a list of bytes in it.
 use Rattle.std.specs.Prelude.{◌≡◌, ℕ, ◌+◌, ◌*◌, ◌/◌, ◌%◌, min, ◌<◌, ◌≤◌, ◌⊎◌, List, [], ◌∷◌, ◌++◌}
 use Rattle.std.specs.Prelude.{length, map}
 use denote.Ref.{Bor}

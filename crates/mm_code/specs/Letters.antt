@@ -1,4 +1,5 @@
--- The letter code of compressed proofs: what its letters say (the Metamath book, appendix B).
+-- The letter code of compressed proofs: what its letters say (the Metamath book, section 4.4.3 and
+-- appendix B).
 use Rattle.std.specs.Prelude.{◌≡◌, ℕ, ◌+◌, ◌*◌, ◌<◌, ◌≤◌, min, List, [], ◌∷◌, ◌++◌, map, fold, All}
 use Rattle.std.specs.Prelude.{Any, Result, Ok, Err}
 use Rattle.std.specs.Global.{Vec}

@@ -1,5 +1,5 @@
 -- The items of the handed files: what is met as they are read, token by token, with comments left
--- out and the files put in that are named (the Metamath book, section 4.1.2).
+-- out and the files put in that are named (the Metamath book, sections 4.1.2, 4.4.1 and 4.4.2).
 use Rattle.std.specs.Prelude.{ℕ, zero, suc, ◌==◌, ◌&&◌, ◌||◌, nat_eq, List, [], ◌∷◌, ◌++◌, length}
 use Rattle.std.specs.Prelude.{replicate, Bool, true, false, not, if◌then◌else◌, codes, Option, Some}
 use Rattle.std.specs.Prelude.{None, slice_get, slice_set, slice_index_or, position}
