@@ -7,7 +7,7 @@ use Rattle.mm_text.specs.Token.{tokens_from}
 use Rattle.mm_text.specs.Statement.{PlainStatement, is_provable}
 use Rattle.mm_text.specs.Files.{PlainFile, total_bytes, BreaksLoad}
 use Rattle.mm_text.specs.Replaced.{placeless, with_bytes}
-use Rattle.mm_text.proofs.AlikeLists.{same_length}
+use Rattle.mm_text.proofs.Lists.{same_length}
 use Rattle.mm_frame.specs.Sentence.{Sentence, sentence_of}
 use Rattle.mm_frame.specs.Rules.{AllMeant}
 use Rattle.mm_frame.proofs.Counts.{count_append}

@@ -37,7 +37,6 @@ pub mod ItemTokens
 pub mod ReaderLaws
 pub mod PlaceLaws
 pub mod SettledLaws
-pub mod AlikeLists
 pub mod AlikeItems
 pub mod FollowedRuns
 pub mod CutShown
