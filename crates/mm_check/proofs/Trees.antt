@@ -6,7 +6,7 @@ use Rattle.std.proofs.Math.Seq.{take-append_seam}
 use Rattle.mm_text.specs.Statement.{PlainStatement}
 use Rattle.mm_frame.specs.Sentence.{Sentence, sentence_of}
 use Rattle.mm_frame.specs.Numbers.{labelled_sentences, IsNumbered}
-use Rattle.mm_frame.proofs.Pushed.{get_kept, get_pushed, pushed_cases}
+use Rattle.mm_text.proofs.Lists.{get_kept, get_pushed, pushed_cases}
 use Rattle.mm_frame.proofs.Labelled.{numbered_grow, numbered_fall, numbered_last, numbered_within}
 use Rattle.mm_proof.specs.Tree.{Trees, none, tree}
 use Rattle.mm_proof.specs.Proof.{IsWithin, IsProved, IsProvedWithin}

@@ -6,7 +6,7 @@ use Rattle.std.proofs.lemmas.List.{take-take, length-take-le}
 use Rattle.mm_frame.specs.Sentence.{Sentence}
 use Rattle.mm_frame.specs.Active.{IsOpen, Holds, IsActive}
 use Rattle.mm_frame.specs.Mirror.Scopes.{IsUnclosed, AreScopes}
-use Rattle.mm_frame.proofs.Pushed.{get_from_front, get_in_front}
+use Rattle.mm_text.proofs.Lists.{get_from_front, get_in_front}
 use Rattle.mm_frame.proofs.Counts.{unclosed_front, unclosed_outer}
 
 -- a front's front

@@ -29,7 +29,7 @@ use Rattle.mm_frame.proofs.Written.{added_part, same_sentence}
 use Rattle.mm_frame.proofs.Typings.{typings_grow}
 use Rattle.mm_frame.proofs.Assembled.{AreGrown, AreAppended, assembled}
 use Rattle.mm_frame.proofs.Entries.{length-sentences, entry_at, get_sliced}
-use Rattle.mm_frame.proofs.Pushed.{get_within}
+use Rattle.mm_text.proofs.Lists.{get_within}
 use Rattle.mm_frame.proofs.NameLists.{get_unmapped}
 use Rattle.mm_frame.proofs.Numbered.{at_from_contains, declared_from_number, symbols_unique}
 use Rattle.mm_frame.proofs.Labels.{labels_none, essentials_other}

@@ -13,7 +13,7 @@ use Rattle.mm_frame.specs.Sentence.{Sentence}
 use Rattle.mm_frame.specs.Rules.{AllMeant}
 use Rattle.mm_frame.specs.Mirror.Layout.{AreTables, AreInfos, names_by, statements_of}
 use Rattle.mm_frame.specs.Mirror.Declaring.{IsDeclaration, latest_by, AreNoted, IsNoted, IsAdded, ChangesSymbols, TakesSymbol, TakesSymbols}
-use Rattle.mm_frame.proofs.Pushed.{get_pushed, get_within, pushed_cases, take_next}
+use Rattle.mm_text.proofs.Lists.{get_pushed, get_within, pushed_cases, take_next}
 use Rattle.mm_frame.proofs.NameLists.{map_snoc}
 use Rattle.mm_frame.proofs.ScopeLaws.{length_pushed}
 use Rattle.mm_frame.proofs.Entries.{length-sentences, names_same}

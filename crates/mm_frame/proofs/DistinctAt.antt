@@ -12,7 +12,7 @@ use Rattle.mm_frame.specs.Frame.{IsDistinct}
 use Rattle.mm_frame.specs.Numbers.{symbols_of}
 use Rattle.mm_frame.specs.Mirror.Stated.{Stated}
 use Rattle.mm_frame.specs.Mirror.Layout.{AreStated}
-use Rattle.mm_frame.proofs.Pushed.{get_kept, get_pushed, pushed_cases, get_before, get_from_front, get_in_front}
+use Rattle.mm_text.proofs.Lists.{get_kept, get_pushed, pushed_cases, get_before, get_from_front, get_in_front}
 use Rattle.mm_frame.proofs.Entries.{append_cases}
 use Rattle.mm_frame.proofs.ScopeLaws.{all_taken}
 use Rattle.mm_frame.proofs.Actives.{fronts}

@@ -10,7 +10,7 @@ use Rattle.mm_frame.specs.declared.number.Sym.{Sym}
 use Rattle.mm_frame.specs.declared.tables.Entry.{Entry}
 use Rattle.mm_frame.specs.Sentence.{Sentence}
 use Rattle.mm_frame.specs.Mirror.Layout.{names_by, label_by, sentence_by, sentences_by, IsPartWithin, AreEntries}
-use Rattle.mm_frame.proofs.Pushed.{pushed_cases, get_from_front, get_within}
+use Rattle.mm_text.proofs.Lists.{pushed_cases, get_from_front, get_within}
 use Rattle.mm_frame.proofs.Numbered.{At}
 
 -- what is read before the end stays

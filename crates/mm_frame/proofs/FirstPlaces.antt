@@ -10,7 +10,7 @@ use Rattle.mm_frame.specs.declared.number.Sym.{Sym}
 use Rattle.mm_frame.specs.declared.hypothesis.Hypothesis.{Hypothesis}
 use Rattle.mm_frame.specs.Pieces.{variables_of, is_of, IsNowhere, IsFirstAt}
 use Rattle.mm_frame.specs.Mirror.Patterned.{IsLonger, AreNoted}
-use Rattle.mm_frame.proofs.Pushed.{get_kept, get_set_same}
+use Rattle.mm_text.proofs.Lists.{get_kept, get_set_same}
 
 -- ---- the first place
 

@@ -5,7 +5,7 @@ use Rattle.std.specs.Option.{option_to_list}
 use Rattle.mm_frame.specs.Sentence.{Sentence}
 use Rattle.mm_frame.specs.Active.{IsActive}
 use Rattle.mm_frame.specs.Mirror.Forgotten.{AreForgotten}
-use Rattle.mm_frame.proofs.Pushed.{get_pushed, get_kept}
+use Rattle.mm_text.proofs.Lists.{get_pushed, get_kept}
 use Rattle.mm_frame.proofs.ScopeLaws.{length_pushed}
 
 -- places that aren't active were dropped from the end

@@ -19,7 +19,7 @@ use Rattle.mm_frame.specs.Numbers.{symbols_of, AreNumbers}
 use Rattle.mm_frame.specs.Mirror.Latest.{IsLatest}
 use Rattle.mm_frame.specs.Mirror.Layout.{AreInfos, AreEssentials, GivesType, IsLatestIn}
 use Rattle.mm_frame.specs.Mirror.Gathered.{floating_of, floatings, IsIn, StandsIn, AreGathered, AreRisingPlaces}
-use Rattle.mm_frame.proofs.Pushed.{get_kept, get_pushed, pushed_cases, get_within}
+use Rattle.mm_text.proofs.Lists.{get_kept, get_pushed, pushed_cases, get_within}
 use Rattle.mm_frame.proofs.Numbered.{at_from_contains, contains_from_at}
 use Rattle.mm_frame.proofs.Entries.{append_cases}
 

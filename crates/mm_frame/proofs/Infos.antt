@@ -11,7 +11,7 @@ use Rattle.mm_frame.specs.Rules.{AllMeant}
 use Rattle.mm_frame.specs.Numbers.{declared_by, declared_in, with_name, symbols_of}
 use Rattle.mm_frame.specs.Mirror.Latest.{IsLatest}
 use Rattle.mm_frame.specs.Mirror.Layout.{IsLatestIn, GivesType, IsInfo, AreInfos}
-use Rattle.mm_frame.proofs.Pushed.{get_kept, get_pushed, pushed_cases, get_before, get_set_cases}
+use Rattle.mm_text.proofs.Lists.{get_kept, get_pushed, pushed_cases, get_before, get_set_cases}
 use Rattle.mm_frame.proofs.ScopeLaws.{length_pushed}
 use Rattle.mm_frame.proofs.Meant.{meant_at}
 use Rattle.mm_frame.proofs.Needed.{typed_variable, some_later}

@@ -15,7 +15,7 @@ use Rattle.mm_frame.specs.Numbers.{labelled_sentences}
 use Rattle.mm_frame.specs.FramePlace.{IsTypingOf}
 use Rattle.mm_frame.specs.Mirror.Layout.{sentences_by, label_by, AreLabelInfos}
 use Rattle.mm_frame.specs.Mirror.Gathered.{ArePlaces, AreThoseAt}
-use Rattle.mm_frame.proofs.Pushed.{get_within}
+use Rattle.mm_text.proofs.Lists.{get_within}
 use Rattle.mm_frame.proofs.Entries.{entry_at}
 use Rattle.mm_frame.proofs.FrameOf.{place_named}
 use Rattle.mm_frame.proofs.Typings.{typings_push, typing_at}

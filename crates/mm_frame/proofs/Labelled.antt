@@ -8,7 +8,7 @@ use Rattle.std.proofs.lemmas.List.{take-append-le}
 use Rattle.std.proofs.Math.Seq.{take-append_seam}
 use Rattle.mm_frame.specs.Sentence.{Sentence}
 use Rattle.mm_frame.specs.Numbers.{labelled_sentences, IsNumbered}
-use Rattle.mm_frame.proofs.Pushed.{get_kept, get_pushed, get_before, get_in_front}
+use Rattle.mm_text.proofs.Lists.{get_kept, get_pushed, get_before, get_in_front}
 use Rattle.mm_frame.proofs.Actives.{fronts}
 use Rattle.mm_frame.proofs.Meant.{parts_at, get_parted}
 

@@ -13,7 +13,7 @@ use Rattle.mm_frame.specs.Sentence.{Sentence}
 use Rattle.mm_frame.specs.Active.{IsActive}
 use Rattle.mm_frame.specs.Numbers.{labelled_sentences, IsNumbered}
 use Rattle.mm_frame.specs.Mirror.Layout.{AreLabelInfos, IsEntered, AreEssentials}
-use Rattle.mm_frame.proofs.Pushed.{get_kept, get_pushed, pushed_cases, get_before, get_within}
+use Rattle.mm_text.proofs.Lists.{get_kept, get_pushed, pushed_cases, get_before, get_within}
 use Rattle.mm_frame.proofs.Entries.{append_cases}
 use Rattle.mm_frame.proofs.ScopeLaws.{length_pushed}
 use Rattle.mm_frame.proofs.Stays.{active_last, active_stays, active_falls, active_nest}

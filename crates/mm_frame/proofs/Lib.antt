@@ -1,4 +1,3 @@
-pub mod Pushed
 pub mod Counts
 pub mod ScopeLaws
 pub mod Actives

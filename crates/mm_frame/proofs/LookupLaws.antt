@@ -16,7 +16,7 @@ use Rattle.mm_frame.proofs.Numbered.{declared_from_number, number_from_declared,
 use Rattle.mm_frame.proofs.Labelled.{numbered_from_get, numbered_get, numbered_at}
 use Rattle.mm_frame.proofs.Numbered.{at_from_contains}
 use Rattle.std.proofs.Math.Seq.{take-length}
-use Rattle.mm_frame.proofs.Pushed.{get_within}
+use Rattle.mm_text.proofs.Lists.{get_within}
 use Rattle.std.proofs.lemmas.Option.{slice_get_within}
 use Rattle.mm_frame.proofs.NameLists.{get_mapped, get_unmapped}
 

@@ -15,7 +15,7 @@ use Rattle.mm_frame.specs.Active.{IsActive, SomeActive, IsConstant, IsVariable, 
 use Rattle.mm_frame.specs.Rules.{IsMeant, AllMeant}
 use Rattle.mm_frame.specs.Form.{IsFormedSentence, AllFormed, HasItsLabel}
 use Rattle.mm_frame.specs.Mirror.Latest.{IsLatest}
-use Rattle.mm_frame.proofs.Pushed.{pushed_cases, get_from_front, get_in_front}
+use Rattle.mm_text.proofs.Lists.{pushed_cases, get_from_front, get_in_front}
 use Rattle.mm_frame.proofs.Actives.{unclosed_shorter}
 use Rattle.mm_frame.proofs.Stays.{active_falls}
 

@@ -12,7 +12,7 @@ use Rattle.mm_frame.specs.Active.{IsActive, IsConstant, IsVariable, IsActiveSymb
 use Rattle.mm_frame.specs.Rules.{IsMeant, AllMeant}
 use Rattle.mm_frame.specs.Frame.{IsMandatory, IsMandatoryAt}
 use Rattle.mm_frame.specs.Mirror.Latest.{IsLatest}
-use Rattle.mm_frame.proofs.Pushed.{get_from_front, get_in_front, take_next}
+use Rattle.mm_text.proofs.Lists.{get_from_front, get_in_front, take_next}
 use Rattle.mm_frame.proofs.Meant.{meant_at, active_in_front, latest_typed, one_role}
 use Rattle.mm_frame.proofs.Stays.{active_nest, active_stays}
 use Rattle.mm_frame.proofs.Decided.{dec_or, variable_dec, constant_dec, typed_dec, unless_not}

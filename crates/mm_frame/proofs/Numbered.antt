@@ -14,7 +14,7 @@ use Rattle.mm_text.specs.declared.statement.Kind.TheVariants.{Constants, Variabl
 use Rattle.mm_frame.specs.Sentence.{Sentence, SomeSentence, Declares}
 use Rattle.mm_frame.specs.Active.{IsConstant, IsVariable}
 use Rattle.mm_frame.specs.Numbers.{declared_in, declared_by, with_name, symbols_of, AreNumbers}
-use Rattle.mm_frame.proofs.Pushed.{get_kept, get_pushed, pushed_cases}
+use Rattle.mm_text.proofs.Lists.{get_kept, get_pushed, pushed_cases}
 
 -- an element stands at some place
 abbrev pub At : {X : Type 0} → List X → X → Type 0

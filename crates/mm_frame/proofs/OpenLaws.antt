@@ -11,7 +11,7 @@ use Rattle.mm_text.specs.Blocks.{is_closing}
 use Rattle.mm_text.specs.Blocks.{is_opening}
 use Rattle.mm_frame.specs.Mirror.Scopes.{IsUnclosed}
 use Rattle.mm_frame.specs.Laws.{IsInnermostOpen, OpenBlocks, ActiveStatements}
-use Rattle.mm_frame.proofs.Pushed.{get_kept, get_pushed, get_in_front, pushed_cases}
+use Rattle.mm_text.proofs.Lists.{get_kept, get_pushed, get_in_front, pushed_cases}
 use Rattle.mm_frame.proofs.Counts.{openings-append, closings-append, unclosed_pushed, unclosed_all, unclosed_new, unclosed_front}
 use Rattle.mm_frame.proofs.ScopeLaws.{openings_one, closings_one, length_pushed, open_before}
 use Rattle.mm_frame.proofs.Stays.{open_stays, active_last, active_stays, active_falls}

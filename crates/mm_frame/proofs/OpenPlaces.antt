@@ -9,7 +9,7 @@ use Rattle.mm_text.specs.declared.statement.Kind.TheVariants.{Opening, Closing}
 use Rattle.mm_frame.specs.Sentence.{Sentence}
 use Rattle.mm_frame.specs.Active.{open_marks, close_marks}
 use Rattle.mm_frame.specs.Laws.{IsInnermostOpen, AreOpen, OpenCount}
-use Rattle.mm_frame.proofs.Pushed.{get_kept, get_pushed, get_within, get_from_front, get_in_front, pushed_cases, take_next}
+use Rattle.mm_text.proofs.Lists.{get_kept, get_pushed, get_within, get_from_front, get_in_front, pushed_cases, take_next}
 use Rattle.mm_frame.proofs.Counts.{openings-append, closings-append}
 use Rattle.mm_frame.proofs.ScopeLaws.{openings_one, closings_one, length_pushed}
 use Rattle.mm_frame.proofs.Numbered.{at_from_contains, contains_from_at}

@@ -21,7 +21,7 @@ use Rattle.mm_frame.specs.Mirror.Gathered.{AreRisingPlaces}
 use Rattle.mm_frame.specs.Mirror.Layout.{statements_of}
 use Rattle.mm_frame.specs.Mirror.Naming.{part_after}
 use Rattle.mm_frame.specs.Mirror.Patterned.{IsLonger, IsPatternAt, told, AreSameButPatterns, AreMandatoryOf, HaveFirstPatterns, ArePatterned}
-use Rattle.mm_frame.proofs.Pushed.{get_within, get_set_cases}
+use Rattle.mm_text.proofs.Lists.{get_within, get_set_cases}
 use Rattle.mm_frame.proofs.NameLists.{get_mapped, get_unmapped}
 use Rattle.mm_frame.proofs.Labelled.{numbered_at, numbered_get}
 use Rattle.mm_frame.proofs.Entries.{length-sentences, longer}

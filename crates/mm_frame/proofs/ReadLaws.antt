@@ -18,7 +18,7 @@ use Rattle.mm_frame.specs.declared.tables.Tables.{Tables}
 use Rattle.mm_frame.specs.Frame.{AreThose, IsMandatoryAt}
 use Rattle.std.proofs.lemmas.List.{length-map, length-take-le}
 use Rattle.std.proofs.lemmas.Option.{slice_get_within}
-use Rattle.mm_frame.proofs.Pushed.{get_within}
+use Rattle.mm_text.proofs.Lists.{get_within}
 use Rattle.mm_frame.proofs.NameLists.{get_mapped, get_unmapped}
 use Rattle.mm_frame.proofs.Labelled.{numbered_get, numbered_within, numbered_unique, numbered_from_get}
 use Rattle.mm_frame.proofs.Labels.{labels_counted}

@@ -10,7 +10,7 @@ use Rattle.mm_frame.specs.Mirror.Scopes.{AreScopes}
 use Rattle.mm_frame.proofs.Actives.{scope_active}
 use Rattle.mm_frame.proofs.Depth.{scope_depth, scope_block_within, scope_stack_within}
 use Rattle.mm_frame.proofs.Stays.{not_closing}
-use Rattle.mm_frame.proofs.Pushed.{get_within, get_pushed}
+use Rattle.mm_text.proofs.Lists.{get_within, get_pushed}
 use Rattle.std.specs.Option.{option_to_list}
 use Rattle.mm_frame.proofs.ScopeLaws.{length_pushed, scopes_ordinary, scopes_opening, scopes_closing}
 

@@ -11,7 +11,7 @@ use Rattle.mm_frame.specs.Active.{open_marks, close_marks, IsOpen}
 use Rattle.mm_text.specs.Blocks.{is_closing}
 use Rattle.mm_text.specs.Blocks.{is_opening}
 use Rattle.mm_frame.specs.Mirror.Scopes.{IsUnclosed, IsBegun, IsEnd, IsOnStack, DirectlyHolds, AreScopes}
-use Rattle.mm_frame.proofs.Pushed.{get_kept, get_pushed, pushed_cases, get_before, get_set_cases}
+use Rattle.mm_text.proofs.Lists.{get_kept, get_pushed, pushed_cases, get_before, get_set_cases}
 use Rattle.mm_frame.proofs.Counts.{openings-append, closings-append, unclosed_pushed, unclosed_before, unclosed_all, unclosed_new}
 
 -- what one statement opens and closes

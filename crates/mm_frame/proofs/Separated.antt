@@ -14,7 +14,7 @@ use Rattle.mm_frame.specs.Rules.{IsMeant}
 use Rattle.mm_frame.specs.declared.rule.MeaningRule.TheVariants.{M9}
 use Rattle.mm_frame.specs.Mirror.Stated.{Stated}
 use Rattle.mm_frame.specs.Mirror.Separated.{ordered_pair, stated_at, IsOld, IsFresh, IsPassed, ArePaired}
-use Rattle.mm_frame.proofs.Pushed.{get_kept, get_pushed, pushed_cases}
+use Rattle.mm_text.proofs.Lists.{get_kept, get_pushed, pushed_cases}
 use Rattle.mm_frame.proofs.NameLists.{get_mapped, get_unmapped}
 use Rattle.mm_frame.proofs.Numbered.{At, StandOnce, once_pushed, at_from_contains, contains_from_at, symbols_unique}
 use Rattle.mm_frame.proofs.Repeats.{twice_some}

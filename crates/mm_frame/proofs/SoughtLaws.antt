@@ -22,7 +22,7 @@ use Rattle.mm_frame.proofs.NameLists.{map_snoc}
 use Rattle.mm_frame.proofs.Needed.{used_declared}
 use Rattle.mm_frame.proofs.Numbered.{at_from_contains, contains_from_at}
 use Rattle.mm_frame.proofs.Places.{SomeAt, some_says}
-use Rattle.mm_frame.proofs.Pushed.{get_within, pushed_cases, take_next}
+use Rattle.mm_text.proofs.Lists.{get_within, pushed_cases, take_next}
 use Rattle.mm_frame.proofs.RepeatsCode.{texts_of, text_at}
 
 -- one symbol with a number is all symbols with it

@@ -7,7 +7,7 @@ use Rattle.std.proofs.lemmas.Bool.{cases_lt, cases_order, cases_Bool, and_parts,
 use Rattle.std.specs.Map.{update}
 use Rattle.mm_frame.specs.declared.pairs.Span.{Span}
 use Rattle.mm_frame.specs.Mirror.Stated.{Stated, stated_by, IsLastSpan, IsLatestStated, AreOlder, AreLinked, is_same_key}
-use Rattle.mm_frame.proofs.Pushed.{get_kept, get_pushed, pushed_cases, get_before}
+use Rattle.mm_text.proofs.Lists.{get_kept, get_pushed, pushed_cases, get_before}
 
 -- after so many steps from the newest span of a pair, the next one is the last of the first spans of the pair, and those after
 -- them stand at the place or later

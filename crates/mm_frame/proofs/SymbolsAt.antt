@@ -9,7 +9,7 @@ use Rattle.mm_frame.specs.Numbers.{symbols_of, AreNumbers}
 use Rattle.mm_frame.specs.Mirror.Layout.{names_by, sentences_by, sentence_by, AreEntries, GivesType}
 use Rattle.mm_frame.specs.Mirror.Latest.{IsLatest}
 use Rattle.mm_frame.proofs.Entries.{sentence_at, entry_at, get_sliced}
-use Rattle.mm_frame.proofs.Pushed.{get_within}
+use Rattle.mm_text.proofs.Lists.{get_within}
 
 -- numbers within are those of their names
 numbers_of_names : (names : List (List ℕ)) (numbers : List Sym) → ((i : ℕ) (n : Sym) → slice_get numbers i ≡ Some n → n.0 < length names)

@@ -10,7 +10,7 @@ use Rattle.mm_frame.specs.Form.{AllFormed}
 use Rattle.mm_frame.specs.Numbers.{labelled_sentences, AreNumbers, IsNumberOf}
 use Rattle.mm_frame.specs.FramePlace.{IsTypingOf, HasTyping, HaveTypings}
 use Rattle.mm_frame.specs.Mirror.Gathered.{ArePlaces}
-use Rattle.mm_frame.proofs.Pushed.{pushed_cases, get_within}
+use Rattle.mm_text.proofs.Lists.{pushed_cases, get_within}
 use Rattle.mm_frame.proofs.Entries.{append_cases, get_sliced}
 use Rattle.mm_frame.proofs.Numbered.{symbols_grow, contains_from_at}
 use Rattle.mm_frame.proofs.Labelled.{labelled_grow, numbered_at, numbered_get}

@@ -5,7 +5,7 @@ use Rattle.mm_frame.specs.declared.part.Part.{Part}
 use Rattle.mm_frame.specs.Mirror.Patterned.{IsLonger, HaveFirstPatterns, AreNoted}
 use Rattle.std.proofs.lemmas.Option.{slice_get-get_or}
 use Rattle.mm_frame.specs.Mirror.Layout.{statements_of}
-use Rattle.mm_frame.proofs.Pushed.{get_within}
+use Rattle.mm_text.proofs.Lists.{get_within}
 use Rattle.mm_frame.proofs.Patterned.{longer_none, longer_more, first_none, counted, essential_step, typed_step, variables_same, few_hypotheses}
 use Rattle.mm_frame.proofs.pattern.push_patterns.Goals as goal
 use Rattle.mm_frame.proofs.pattern.push_patterns.Goals.{then-is_essential+in_ok-pattern, else-is_essential}
