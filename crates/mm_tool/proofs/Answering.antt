@@ -1,5 +1,5 @@
 -- How the words are answered, from how the parts of the program answer.
-use Rattle.std.proofs.Common.{◌≡◌, ℕ, ◌<◌, ◌≤◌, List, length, codes, Option, Result, Ok, Err, IfOk, IfErr, IfSome, OnErr, inl, inr, refl, sym, subst, ap, ◌∙◌}
+use Rattle.std.proofs.Common.{◌≡◌, ℕ, ◌<◌, List, length, codes, Option, Result, Ok, Err, IfOk, IfErr, OnErr, inl, inr, refl, sym, subst, ap, ◌∙◌}
 use Rattle.mm_text.specs.declared.counted.Counted.{Counted}
 use Rattle.mm_check.specs.Status.{number_of}
 use Rattle.mm_check.specs.declared.command.Command.{Command}

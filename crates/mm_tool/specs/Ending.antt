@@ -1,6 +1,6 @@
 -- How the program ends: with an answer on standard output and its status, or with a line on
 -- standard error.
-use Rattle.std.specs.Prelude.{◌≡◌, ◌≢◌, ℕ, ◌+◌, ◌<◌, ◌≤◌, length, IfSome, List, [], ◌∷◌, ◌++◌, Option, Contains, codes}
+use Rattle.std.specs.Prelude.{◌≡◌, ◌≢◌, ℕ, ◌+◌, ◌<◌, ◌≤◌, length, List, [], ◌∷◌, ◌++◌, Option, Contains, codes}
 use Rattle.std.specs.Prelude.{string_bytes, ◌⊎◌}
 use Rattle.std.specs.List.{AllByRecursion}
 use Rattle.std.specs.Io.KnownBytes.{Appends}

@@ -134,7 +134,10 @@ impl<R: Files> Folder for Host<'_, R> {
 ///
 /// `NotText` only where the host failed, and not for want of memory; `Memory` where a growth was
 /// refused.
-pub(crate) fn words_of(alloc: Global, given: io::Result<env::Args>) -> Result<Vec<String>, ArgumentFault>
+pub(crate) fn words_of(
+    alloc: Global,
+    given: io::Result<env::Args>,
+) -> Result<Vec<String>, ArgumentFault>
     ensures cause { IsErrOf result ArgumentFault.NotText
         → IsErrAnd given (λ error. error_kind error ≢ OutOfMemory) }
 {

@@ -194,7 +194,10 @@ fn stops_at_a_failed_write(rt: HostRuntime) {
         (["mm", "help"].as_slice(), b"help\n".as_slice()),
     ] {
         for fails_at in 1..=reply.len() {
-            assert!(rt; stops_writing(rt.alloc(), words, reply, fails_at), "at {fails_at}");
+            assert!(rt;
+                stops_writing(rt.alloc(), words, reply, fails_at),
+                "at {fails_at}"
+            );
         }
     }
 }
@@ -272,11 +275,7 @@ fn stops_at_a_failed_read(rt: HostRuntime) {
 #[test]
 fn tells_why_words_are_unread(rt: HostRuntime) {
     for (kind, wanted, line) in [
-        (
-            ErrorKind::OutOfMemory,
-            4,
-            b"mm: out of memory\n".as_slice(),
-        ),
+        (ErrorKind::OutOfMemory, 4, b"mm: out of memory\n".as_slice()),
         (
             ErrorKind::InvalidData,
             2,

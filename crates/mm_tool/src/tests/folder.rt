@@ -1,6 +1,7 @@
 //! A folder in memory.
 
-ghost use Rattle.std.specs.Prelude.{◌≡◌, ⊤, List, ℕ, Some, MatchOption, find, true};
+ghost use Rattle.std.specs.Prelude.{◌≡◌, ⊤, List, ℕ, Some, MatchOption, find, option_map};
+ghost use Rattle.std.specs.Prelude.{true, unwrap_or};
 ghost use Rattle.std.specs.Str.{bytes_eq};
 ghost use Rattle.mm_tool.specs.Folder.{Absent, Holds, MayHold};
 
@@ -62,9 +63,8 @@ fn entry_with(entries: &[Entry], name: &str) -> Option<Entry>
 impl Folder for Shelf<'_> {
     type File = OpenEntry;
 
-    ghost holds = { λ shelf name. MatchOption
-        (find (λ entry. bytes_eq entry.name.now name) shelf.0.now) Absent
-        (λ entry. Holds entry.bytes.now) };
+    ghost holds = { λ shelf name. unwrap_or (option_map (λ entry. Holds entry.bytes.now)
+        (find (λ entry. bytes_eq entry.name.now name) shelf.0.now)) Absent };
 
     ghost may_fail = { λ shelf name. MatchOption
         (find (λ entry. bytes_eq entry.name.now name) shelf.0.now) ⊤

@@ -1,4 +1,4 @@
-use Rattle.std.proofs.Common.{◌≡◌, ◌<◌, length, refl}
+use Rattle.std.proofs.Common.{◌≡◌, refl}
 use Rattle.mm_tool.proofs.WholeFiles.{held_by}
 use Rattle.mm_tool.proofs.files.read_file.Goals as goal
 

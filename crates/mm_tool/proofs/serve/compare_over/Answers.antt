@@ -1,5 +1,5 @@
 -- Once the proof is read, the comparison ends as the command over the files does.
-use Rattle.std.proofs.Common.{◌≡◌, ◌≤◌, ℕ, List, Bor, Err, IfOk, IfErr, length, map, ap, arith}
+use Rattle.std.proofs.Common.{◌≤◌, ℕ, List, Bor, Err, IfOk, IfErr, length, map, ap, arith}
 use Rattle.std.proofs.Common.{subst, ◌∙◌}
 use Rattle.mm_check.specs.Status.{number_of}
 use Rattle.mm_check.specs.declared.command.Command.TheVariants.{Same}
