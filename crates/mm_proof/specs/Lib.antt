@@ -11,6 +11,7 @@ pub mod Proof
 pub mod Steps
 pub mod Profiles
 pub mod ReadSteps
+pub mod Sites
 pub mod Parsed
 pub mod Used
 pub mod Listing

@@ -9,8 +9,9 @@ ghost use Rattle.mm_proof.specs.CodeApply.{IsCallOf};
 
 use crate::apply::apply;
 use crate::fault::{ProofFault, ProofRule};
+use crate::site::Site;
 use crate::store::Store;
-use mm_frame::{Book, Frame, LabelId, LabelKind, Scheme, Sym};
+use mm_frame::{Book, LabelId, LabelKind, Scheme, Sym};
 
 /// What a label of a proof stands for.
 #[derive(Clone, Copy)]
@@ -38,33 +39,29 @@ pub(crate) fn call_of<'b>(book: &'b Book<'_>, id: LabelId) -> Call<'b>
 #[inline(always)]
 pub(crate) fn step_by<S: Store>(
     store: &mut S,
-    book: &Book,
-    own: &Frame,
+    site: &Site,
     call: &Call,
-    limit: usize,
     number: usize,
 ) -> Result<(), ProofFault>
-    requires own { own.now.statements ≡ book.now.statements }
-    requires sound { IsSound book.now.statements }
-    requires call { (id : ℕ) × IsCallOf book.now.statements own.now.place id call.now }
-    requires entries { AreStackEntries book.now.statements (take own.now.place book.now.statements)
+    requires call { (id : ℕ) × IsCallOf site.now.statements site.now.place id call.now }
+    requires entries { AreStackEntries site.now.statements (take site.now.place site.now.statements)
         (S.stack store.old) }
     ensures carried { OnOk result
-        ((id : ℕ) → IsCallOf book.now.statements own.now.place id call.now
-        → CarriesOn limit book.now.statements own.now.place id (S.stack store.old)
+        ((id : ℕ) → IsCallOf site.now.statements site.now.place id call.now
+        → CarriesOn site.now.limit site.now.statements site.now.place id (S.stack store.old)
         (S.stack store.new)) }
     ensures entries { OnOk result
-        (AreStackEntries book.now.statements (take own.now.place book.now.statements)
+        (AreStackEntries site.now.statements (take site.now.place site.now.statements)
         (S.stack store.new)) }
     ensures kept { S.kept store.new ≡ S.kept store.old }
     ensures fault { (rule : ProofRule) → (at : ℕ) → result ≡ Err (ProofFault.Rule rule at)
         → (at ≡ number)
-        × ((id : ℕ) → IsCallOf book.now.statements own.now.place id call.now
-        → StopsAt limit book.now.statements own.now.place id (S.stack store.old) rule) }
+        × ((id : ℕ) → IsCallOf site.now.statements site.now.place id call.now
+        → StopsAt site.now.limit site.now.statements site.now.place id (S.stack store.old) rule) }
 {
     match call {
         Call::Hypothesis(expression) => {
-            if expression.len() > limit {
+            if expression.len() > site.limit {
                 return Err(ProofFault::Rule {
                     rule: ProofRule::L1,
                     step: number,
@@ -73,6 +70,8 @@ pub(crate) fn step_by<S: Store>(
             store.push(expression)?;
             Ok(())
         }
-        Call::Assertion(scheme) => apply(store, book, own, scheme, limit, number),
+        Call::Assertion(scheme) => {
+            apply(store, site.book, &site.own, scheme, site.limit, number)
+        }
     }
 }

@@ -24,9 +24,10 @@ use crate::fault::ProofFault;
 use crate::flat::Flat;
 use crate::moves::{NumberedMove, Steps};
 use crate::profile::Profile;
+use crate::site::Site;
 use crate::store::Store;
 use crate::verdict::{ending, mark, step, step_again};
-use mm_frame::{Book, Frame, LabelId, Sym, one_number};
+use mm_frame::{Book, LabelId, Sym, one_number};
 use std::alloc::{AllocError, Global};
 
 /// What a line calls its step.
@@ -65,26 +66,22 @@ fn last_line<S: Store>(alloc: Global, store: &S, name: Name) -> Result<Line, All
 fn lines_of<S: Store>(
     alloc: Global,
     store: &mut S,
-    book: &Book,
-    own: &Frame,
+    site: &Site,
     moves: &[NumberedMove],
-    limit: usize,
 ) -> Result<Vec<Line>, ProofFault>
-    requires own { own.now.statements ≡ book.now.statements }
-    requires sound { IsSound book.now.statements }
-    requires usable { AllByRecursion (MayBeMade book.now.statements own.now.place)
+    requires usable { AllByRecursion (MayBeMade site.now.statements site.now.place)
         (moves_in moves.now) }
     requires names { (names : List (Move (List ℕ)))
-        × AreNumberedMoves book.now.statements (moves_in moves.now) names }
+        × AreNumberedMoves site.now.statements (moves_in moves.now) names }
     requires room { length moves.now < 2 ^ 32 }
     requires stack { S.stack store.old ≡ [] }
     requires kept { S.kept store.old ≡ [] }
-    ensures run { IfOk result (λ lines. HasRun limit book.now.statements own.now.place
+    ensures run { IfOk result (λ lines. HasRun site.now.limit site.now.statements site.now.place
         (moves_in moves.now) (S.stack store.new) (S.kept store.new) (length lines.items)) }
-    ensures lines { IfOk result (λ lines. AreLinesAt book.now.statements own.now.place
+    ensures lines { IfOk result (λ lines. AreLinesAt site.now.statements site.now.place
         (moves_in moves.now) lines.items) }
     ensures fault { (rule : ProofRule) → (at : ℕ) → result ≡ Err (ProofFault.Rule rule at)
-        → BreaksAt limit book.now.statements own.now.place (moves_in moves.now) rule at }
+        → BreaksAt site.now.limit site.now.statements site.now.place (moves_in moves.now) rule at }
 {
     let mut lines = Vec::new(alloc);
     // For each mark, the number of the step before it.
@@ -93,7 +90,7 @@ fn lines_of<S: Store>(
         let number = lines.len() + 1;
         match one {
             NumberedMove::Name(id) => {
-                step(store, book, own, *id, limit, number)?;
+                step(store, site, *id, number)?;
                 lines.push(last_line(alloc, store, Name::Label(*id))?)?;
             }
             NumberedMove::Again(tag) => {
@@ -110,30 +107,26 @@ fn lines_of<S: Store>(
     Ok(lines)
 }
 
-// The lines of the moves, or their first fault, where the frame is that of the `$p`.
+// The lines of the moves, or their first fault.
 fn lines_in_frame<S: Store>(
     alloc: Global,
     store: &mut S,
-    book: &Book,
-    own: &Frame,
-    id: LabelId,
+    site: &Site,
     moves: &[NumberedMove],
-    limit: usize,
 ) -> Result<Vec<Line>, ProofFault>
-    requires own { own.now.statements ≡ book.now.statements }
-    requires number { (s : Sentence) × IsNumbered book.now.statements id.0 own.now.place s }
-    requires sound { IsSound book.now.statements }
     requires room { length moves.now < 2 ^ 32 }
     requires stack { S.stack store.old ≡ [] }
     requires kept { S.kept store.old ≡ [] }
-    requires steps { AreSteps book.now.statements id.0 (moves_in moves.now) }
-    ensures listed { IfOk result (λ lines. ListsProof limit book.now.statements id.0
-        (moves_in moves.now) lines.items) }
-    ensures fault { IfErr result (FaultsProof limit book.now.statements id.0 (moves_in moves.now)) }
+    requires steps { AreSteps site.now.statements site.now.number (moves_in moves.now) }
+    ensures listed { IfOk result (λ lines. ListsProof site.now.limit site.now.statements
+        site.now.number (moves_in moves.now) lines.items) }
+    ensures fault { IfErr result (FaultsProof site.now.limit site.now.statements site.now.number
+        (moves_in moves.now)) }
 {
     one_number();
-    let lines = lines_of(alloc, store, book, own, moves, limit)?;
-    ending(store, own.expression(), lines.len() + 1)?;
+    let expression = site.expression();
+    let lines = lines_of(alloc, store, site, moves)?;
+    ending(store, expression, lines.len() + 1)?;
     Ok(lines)
 }
 
@@ -153,10 +146,9 @@ fn lines_of_proof(
         (moves_in moves.now)) }
     ensures sound { IsSound book.now.statements }
 {
-    let own = book.frame(id);
+    let site = Site::new(book, id, profile);
     let mut store = Flat::new(alloc);
-    let limit = profile.limit();
-    lines_in_frame(alloc, &mut store, book, &own, id, moves, limit)
+    lines_in_frame(alloc, &mut store, &site, moves)
 }
 
 /// The steps of the `$p` with this number, which these moves prove, in order: what each is called,

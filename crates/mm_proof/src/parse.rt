@@ -21,14 +21,16 @@ ghost use Rattle.mm_proof.specs.CodeSteps.{IsReading, NumberSays, MayAllBeUsed, 
 ghost use Rattle.mm_proof.specs.CodeSteps.{ids_in, label_ids, move_in, moves_in, token_texts};
 ghost use Rattle.mm_code.specs.Layout.{texts};
 ghost use Rattle.mm_proof.specs.CodeRun.{ArePicked, AreMarked};
+ghost use Rattle.mm_proof.specs.Sites.{IsSite};
 
 use crate::fault::{ProofFault, ProofRule};
 use crate::labels::fill_numbers;
 use crate::moves::{NumberedMove, Parsed, Steps};
 use crate::picked::{Picked, fill_marked, fill_picked, unmark};
 use crate::profile::Profile;
+use crate::site::Site;
 use mm_code::{Code, CodeFault, CodeRule, fill_codes};
-use mm_frame::{Book, Frame, Guesses, Hypothesis, LabelId};
+use mm_frame::{Book, Guesses, Hypothesis, LabelId};
 use mm_text::Token;
 use std::alloc::{AllocError, Global};
 
@@ -109,25 +111,23 @@ fn fill_names(moves: &mut Vec<NumberedMove>, ids: &[LabelId]) -> Result<(), Proo
 }
 
 // Fills the list with the moves of a normal proof, a step for each label.
-fn fill_normal(
-    lists: &mut ParseLists,
-    book: &Book,
-    own: &Frame,
-    id: LabelId,
-    tokens: &[Token],
-) -> Result<(), ProofFault>
-    requires book { own.now.statements ≡ book.now.statements }
-    requires own { (s : Sentence) × IsNumbered book.now.statements id.0 own.now.place s }
-    requires sound { IsSound book.now.statements }
+fn fill_normal(lists: &mut ParseLists, site: &Site, tokens: &[Token]) -> Result<(), ProofFault>
     requires normal { IsNormal (token_texts tokens.now) }
-    ensures ok { OnOk result (IsReading book.now.statements own.now.place
+    ensures ok { OnOk result (IsReading site.now.statements site.now.place
         (token_texts tokens.now) (moves_in lists.new.moves.items)) }
     ensures picked { OnOk result
         (ArePicked (moves_in lists.new.moves.items) (ids_in lists.new.picked.ids.items)) }
     ensures fault { IfErr result (λ e. OnRule e (λ rule step. (step ≡ 0)
-        × IsWholeFault (take own.now.place book.now.statements) (token_texts tokens.now) rule)) }
+        × IsWholeFault (take site.now.place site.now.statements) (token_texts tokens.now) rule)) }
 {
-    fill_numbers(&mut lists.ids, book, &mut lists.guesses, own, id, tokens)?;
+    fill_numbers(
+        &mut lists.ids,
+        site.book,
+        &mut lists.guesses,
+        &site.own,
+        site.id,
+        tokens,
+    )?;
     fill_names(&mut lists.moves, &lists.ids)?;
     fill_picked(&mut lists.picked.ids, &lists.moves)?;
     Ok(())
@@ -287,25 +287,20 @@ fn fill_entries(
 /// with the labels that its first numbers stand for.
 pub(crate) fn read_compressed<'a>(
     lists: &mut ParseLists<'a>,
-    book: &Book,
-    own: &Frame,
-    id: LabelId,
+    site: &Site,
     rest: &[Token<'a>],
 ) -> Result<(), ProofFault>
-    requires book { own.now.statements ≡ book.now.statements }
-    requires own { (s : Sentence) × IsNumbered book.now.statements id.0 own.now.place s }
-    requires sound { IsSound book.now.statements }
     // The moves that the codes say are what the tokens say.
     ensures reads { let tokens = opening_token ∷ token_texts rest.now in
         OnOk result ((steps : List (Move ℕ))
         → AllZip (NumberSays (ids_in lists.new.entries.items)) lists.new.codes.items steps
-        → IsReading book.now.statements own.now.place tokens steps) }
+        → IsReading site.now.statements site.now.place tokens steps) }
     ensures spelled { OnOk result (All HasSpelling lists.new.codes.items) }
     ensures usable { OnOk result
-        (MayAllBeUsed book.now.statements own.now.place (ids_in lists.new.entries.items)) }
+        (MayAllBeUsed site.now.statements site.now.place (ids_in lists.new.entries.items)) }
     ensures fault { let tokens = opening_token ∷ token_texts rest.now in
         IfErr result (λ e. OnRule e (λ rule step. (step ≡ 0)
-        × IsWholeFault (take own.now.place book.now.statements) tokens rule)) }
+        × IsWholeFault (take site.now.place site.now.statements) tokens rule)) }
 {
     let Some((listed, letters)) = parts(rest) else {
         return Err(ProofFault::Rule {
@@ -313,36 +308,38 @@ pub(crate) fn read_compressed<'a>(
             step: 0,
         });
     };
-    fill_numbers(&mut lists.ids, book, &mut lists.guesses, own, id, listed)?;
+    fill_numbers(
+        &mut lists.ids,
+        site.book,
+        &mut lists.guesses,
+        &site.own,
+        site.id,
+        listed,
+    )?;
     match read_letters(&mut lists.letters, &mut lists.codes, letters) {
         Ok(()) => {}
         Err(fault) => return Err(letter_fault(fault)),
     }
-    fill_entries(&mut lists.entries, own.hypotheses(), &lists.ids)?;
+    fill_entries(&mut lists.entries, site.own.hypotheses(), &lists.ids)?;
     Ok(())
 }
 
 // Fills the list with the moves of a compressed proof, whose tokens after the `(` are these.
 fn fill_compressed<'a>(
     lists: &mut ParseLists<'a>,
-    book: &Book,
-    own: &Frame,
-    id: LabelId,
+    site: &Site,
     rest: &[Token<'a>],
 ) -> Result<(), ProofFault>
-    requires book { own.now.statements ≡ book.now.statements }
-    requires own { (s : Sentence) × IsNumbered book.now.statements id.0 own.now.place s }
-    requires sound { IsSound book.now.statements }
     ensures ok { let tokens = opening_token ∷ token_texts rest.now in
-        OnOk result (IsReading book.now.statements own.now.place tokens
+        OnOk result (IsReading site.now.statements site.now.place tokens
         (moves_in lists.new.moves.items)) }
     ensures picked { OnOk result
         (ArePicked (moves_in lists.new.moves.items) (ids_in lists.new.picked.ids.items)) }
     ensures fault { let tokens = opening_token ∷ token_texts rest.now in
         IfErr result (λ e. OnRule e (λ rule step. (step ≡ 0)
-        × IsWholeFault (take own.now.place book.now.statements) tokens rule)) }
+        × IsWholeFault (take site.now.place site.now.statements) tokens rule)) }
 {
-    read_compressed(lists, book, own, id, rest)?;
+    read_compressed(lists, site, rest)?;
     fill_moves(
         &mut lists.moves,
         &mut lists.picked,
@@ -351,51 +348,39 @@ fn fill_compressed<'a>(
     )
 }
 
-// Fills the list with the moves that the tokens say as a proof of the `$p` of the frame.
+// Fills the list with the moves that the tokens say as a proof of the `$p`.
 fn fill_whole<'a>(
     lists: &mut ParseLists<'a>,
-    book: &Book,
-    own: &Frame,
-    id: LabelId,
+    site: &Site,
     tokens: &[Token<'a>],
 ) -> Result<(), ProofFault>
-    requires book { own.now.statements ≡ book.now.statements }
-    requires own { (s : Sentence) × IsNumbered book.now.statements id.0 own.now.place s }
-    requires sound { IsSound book.now.statements }
-    ensures ok { OnOk result (IsReading book.now.statements own.now.place
+    ensures ok { OnOk result (IsReading site.now.statements site.now.place
         (token_texts tokens.now) (moves_in lists.new.moves.items)) }
     ensures picked { OnOk result
         (ArePicked (moves_in lists.new.moves.items) (ids_in lists.new.picked.ids.items)) }
     ensures fault { IfErr result (λ e. OnRule e (λ rule step. (step ≡ 0)
-        × IsWholeFault (take own.now.place book.now.statements) (token_texts tokens.now) rule)) }
+        × IsWholeFault (take site.now.place site.now.statements) (token_texts tokens.now) rule)) }
 {
     match tokens {
-        [first, rest @ ..] if is_byte(first.text, b'(') => {
-            fill_compressed(lists, book, own, id, rest)
-        }
-        _ => fill_normal(lists, book, own, id, tokens),
+        [first, rest @ ..] if is_byte(first.text, b'(') => { fill_compressed(lists, site, rest) }
+        _ => fill_normal(lists, site, tokens),
     }
 }
 
-/// Fills the list with the moves that the tokens say as a proof of the `$p` of the frame, or tells
+/// Fills the list with the moves that the tokens say as a proof of the `$p`, or tells
 /// the first of P1 to P5 that they break: with a `?` among them, one of P1 to P4.
 pub(crate) fn fill_steps<'a>(
     lists: &mut ParseLists<'a>,
-    book: &Book,
-    own: &Frame,
-    id: LabelId,
+    site: &Site,
     tokens: &[Token<'a>],
 ) -> Result<(), ProofFault>
-    requires book { own.now.statements ≡ book.now.statements }
-    requires own { (s : Sentence) × IsNumbered book.now.statements id.0 own.now.place s }
-    requires sound { IsSound book.now.statements }
-    requires proof { (place : ℕ) × (s : Sentence) × IsProofNumber book.now.statements id.0 place s }
+    requires { IsSite site.now }
     // The moves are what the tokens say, and each may be made.
-    ensures steps { OnOk result (OfProof book.now.statements id.0
-        (λ place s. SaySteps book.now.statements place s
+    ensures steps { OnOk result (OfProof site.now.statements site.now.number
+        (λ place s. SaySteps site.now.statements place s
         (token_texts tokens.now) (moves_in lists.new.moves.items))) }
     ensures usable { OnOk result
-        (AreSteps book.now.statements id.0 (moves_in lists.new.moves.items)) }
+        (AreSteps site.now.statements site.now.number (moves_in lists.new.moves.items)) }
 
     // The labels are those that the moves name.
     ensures picked { OnOk result
@@ -403,24 +388,21 @@ pub(crate) fn fill_steps<'a>(
 
     // The rule is the first that is broken over the whole proof.
     ensures fault { IfErr result (λ e. OnRule e (λ rule step.
-        OfProof book.now.statements id.0 (λ place s. (step ≡ 0)
-        × IsWholeFault (take place book.now.statements) (token_texts tokens.now) rule))) }
+        OfProof site.now.statements site.now.number (λ place s. (step ≡ 0)
+        × IsWholeFault (take place site.now.statements) (token_texts tokens.now) rule))) }
 {
-    fill_whole(lists, book, own, id, tokens)
+    fill_whole(lists, site, tokens)
 }
 
-// The moves that the tokens, none of which holds a `?`, say as a proof of the `$p` of the frame.
+// The moves that the tokens, none of which holds a `?`, say as a proof of the `$p` with this
+// number.
 fn steps_of(
     alloc: Global,
     profile: Profile,
     book: &Book,
-    own: &Frame,
     id: LabelId,
     tokens: &[Token],
 ) -> Result<Steps, ProofFault>
-    requires book { own.now.statements ≡ book.now.statements }
-    requires own { (s : Sentence) × IsNumbered book.now.statements id.0 own.now.place s }
-    requires sound { IsSound book.now.statements }
     requires proof { (place : ℕ) × (s : Sentence) × IsProofNumber book.now.statements id.0 place s }
     requires filled { AllByRecursion (λ t. 1 ≤ length t) (token_texts tokens.now) }
     requires room { sum_by length (token_texts tokens.now) ≤ 1073741824 }
@@ -432,8 +414,9 @@ fn steps_of(
         OfProof book.now.statements id.0 (λ place s. (step ≡ 0)
         × IsWholeFault (take place book.now.statements) (token_texts tokens.now) rule))) }
 {
+    let site = Site::new(book, id, profile);
     let mut lists = ParseLists::new(alloc);
-    fill_steps(&mut lists, book, own, id, tokens)?;
+    fill_steps(&mut lists, &site, tokens)?;
     Ok(Steps {
         profile,
         moves: lists.moves,
@@ -493,7 +476,7 @@ impl Steps {
             return Ok(Parsed::Incomplete);
         }
         let tokens = tokens_with(alloc, tokens)?;
-        match steps_of(alloc, profile, book, &book.frame(id), id, &tokens) {
+        match steps_of(alloc, profile, book, id, &tokens) {
             Ok(steps) => Ok(Parsed::Steps(steps)),
             Err(fault) => Err(fault),
         }

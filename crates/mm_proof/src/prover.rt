@@ -9,13 +9,13 @@ ghost use Rattle.mm_frame.specs.declared.answer.RuleFault.TheVariants.{Rule, Mem
 ghost use Rattle.mm_frame.specs.Sentence.{Sentence, sentence_in};
 ghost use Rattle.mm_frame.specs.Active.{open_marks, close_marks};
 ghost use Rattle.mm_frame.specs.Form.{IsSound};
-ghost use Rattle.mm_frame.specs.Numbers.{IsNumbered};
 ghost use Rattle.mm_frame.specs.Rules.{IsMeant, FirstBroken};
 ghost use Rattle.mm_frame.specs.Taken.{TakenAs};
 ghost use Rattle.mm_proof.specs.Answer.{OnRule, IsUnlessMemory};
 ghost use Rattle.mm_proof.specs.Tokens.{IsIncomplete, opening_token};
 ghost use Rattle.mm_proof.specs.Proof.{IsProvedWithin, IsWithin};
 ghost use Rattle.mm_proof.specs.Profiles.{limit_of};
+ghost use Rattle.mm_proof.specs.Sites.{IsSite};
 ghost use Rattle.mm_proof.specs.Steps.{IsProofNumber};
 ghost use Rattle.mm_proof.specs.Parsed.{OfProof};
 ghost use Rattle.mm_proof.specs.Verified.{TokensProve, TokensFail};
@@ -26,9 +26,10 @@ use crate::flat::Flat;
 use crate::parse::{ParseLists, fill_steps, is_byte, is_incomplete, read_compressed};
 use crate::profile::Profile;
 use crate::run::judgement_of_codes;
+use crate::site::Site;
 use crate::used::Named;
 use crate::verdict::judgement_in_frame;
-use mm_frame::{Book, Frame, LabelId, RuleFault, Taken};
+use mm_frame::{Book, LabelId, RuleFault, Taken};
 use mm_text::{Seed, Statement, Token};
 use std::alloc::Global;
 use std::marker::Model;
@@ -45,16 +46,22 @@ pub enum Proved {
     Complete,
 }
 
+// What the proving of each proof fills anew.
+#[derive(Drop)]
+struct Scratch<'a> {
+    alloc: Global,
+    lists: ParseLists<'a>,
+    store: Flat,
+    named: Named,
+}
+
 /// A book, and what proves the proofs of its statements, one after the other in the same memory.
 ///
 /// Nothing that it answers depends on the proofs before.
 #[derive(Drop)]
 pub struct Prover<'a> {
-    alloc: Global,
     book: Book<'a>,
-    lists: ParseLists<'a>,
-    store: Flat,
-    named: Named,
+    scratch: Scratch<'a>,
 }
 
 // What else it holds between two proofs is nothing that a caller can tell.
@@ -65,7 +72,7 @@ impl<'a> Model for Prover<'a> {
 
     ghost use Rattle.mm_proof.specs.CodeSteps.{ids_in};
 
-    ghost view = { λ p. record { book = p.book; used = ids_in p.named.ids.items } };
+    ghost view = { λ p. record { book = p.book; used = ids_in p.scratch.named.ids.items } };
 }
 
 impl<'a> Prover<'a> {
@@ -76,11 +83,13 @@ impl<'a> Prover<'a> {
     {
         match Book::new(alloc, seed) {
             Ok(book) => Ok(Prover {
-                alloc,
                 book,
-                lists: ParseLists::new(alloc),
-                store: Flat::new(alloc),
-                named: Named::new(alloc),
+                scratch: Scratch {
+                    alloc,
+                    lists: ParseLists::new(alloc),
+                    store: Flat::new(alloc),
+                    named: Named::new(alloc),
+                },
             }),
             Err(fault) => Err(fault),
         }
@@ -92,7 +101,7 @@ impl<'a> Prover<'a> {
         ensures { self.new ≡ self.old }
     {
         self.book.prepare(bytes);
-        self.store.prepare(bytes / STACK_SYMBOL_BYTES);
+        self.scratch.store.prepare(bytes / STACK_SYMBOL_BYTES);
     }
 
     /// The book.
@@ -178,16 +187,7 @@ impl<'a> Prover<'a> {
         // No proof changes the book.
         ensures book { self.new.book ≡ self.old.book }
     {
-        match prove_tokens(
-            self.alloc,
-            &mut self.store,
-            &mut self.named,
-            &mut self.lists,
-            &self.book,
-            id,
-            tokens,
-            profile,
-        ) {
+        match prove_tokens(&mut self.scratch, &self.book, id, tokens, profile) {
             Ok(()) => Ok(Proved::Complete),
             // No label and no letter holds a `?`, so a proof with one always comes here.
             Err(fault) => {
@@ -205,118 +205,100 @@ impl<'a> Prover<'a> {
     pub fn used(&self) -> &[LabelId]
         ensures { map (λ id. id.0) result.now ≡ self.now.used }
     {
-        &self.named.ids
+        &self.scratch.named.ids
     }
 }
 
-// Whether the tokens prove the `$p` of the frame, by a list of their moves: fills the list with the
-// assertions of its tree, or tells their first fault.
+// Whether the tokens prove the `$p`, by a list of their moves: fills the list with the assertions
+// of its tree, or tells their first fault.
 fn prove_by_moves<'a>(
-    store: &mut Flat,
-    named: &mut Named,
-    lists: &mut ParseLists<'a>,
-    book: &Book,
-    own: &Frame,
-    id: LabelId,
+    scratch: &mut Scratch<'a>,
+    site: &Site,
     tokens: &[Token<'a>],
-    limit: usize,
 ) -> Result<(), ProofFault>
-    requires own { own.now.statements ≡ book.now.statements }
-    requires number { (s : Sentence) × IsNumbered book.now.statements id.0 own.now.place s }
-    requires sound { IsSound book.now.statements }
-    requires proof { (place : ℕ) × (s : Sentence) × IsProofNumber book.now.statements id.0 place s }
-    ensures proved { OnOk result (OfProof book.now.statements id.0 (λ place s.
-        TokensProve limit (take place book.now.statements) s (token_texts tokens.now)
-        (ids_in named.new.ids.items))) }
+    requires { IsSite site.now }
+    ensures proved { OnOk result (OfProof site.now.statements site.now.number (λ place s.
+        TokensProve site.now.limit (take place site.now.statements) s (token_texts tokens.now)
+        (ids_in scratch.new.named.ids.items))) }
     ensures fault { IfErr result (λ e. OnRule e (λ rule step.
-        OfProof book.now.statements id.0 (λ place s.
-        TokensFail limit (take place book.now.statements) s (token_texts tokens.now) rule step))) }
+        OfProof site.now.statements site.now.number (λ place s.
+        TokensFail site.now.limit (take place site.now.statements) s (token_texts tokens.now)
+        rule step))) }
 {
-    fill_steps(lists, book, own, id, tokens)?;
-    store.clear();
-    let picked = &lists.picked.ids;
-    judgement_in_frame(store, named, book, own, id, &lists.moves, picked, limit)
-}
-
-// Whether the tokens, of which these come after the `(`, prove the `$p` of the frame, by the codes
-// of their letters: fills the list with the assertions of its tree, or tells their first fault.
-fn prove_by_codes<'a>(
-    alloc: Global,
-    store: &mut Flat,
-    named: &mut Named,
-    lists: &mut ParseLists<'a>,
-    book: &Book,
-    own: &Frame,
-    id: LabelId,
-    rest: &[Token<'a>],
-    limit: usize,
-) -> Result<(), ProofFault>
-    requires own { own.now.statements ≡ book.now.statements }
-    requires number { (s : Sentence) × IsNumbered book.now.statements id.0 own.now.place s }
-    requires sound { IsSound book.now.statements }
-    requires proof { (place : ℕ) × (s : Sentence) × IsProofNumber book.now.statements id.0 place s }
-    ensures proved { let tokens = opening_token ∷ token_texts rest.now in
-        OnOk result (OfProof book.now.statements id.0 (λ place s.
-        TokensProve limit (take place book.now.statements) s tokens (ids_in named.new.ids.items))) }
-    ensures fault { let tokens = opening_token ∷ token_texts rest.now in
-        IfErr result (λ e. OnRule e (λ rule step. OfProof book.now.statements id.0 (λ place s.
-        TokensFail limit (take place book.now.statements) s tokens rule step))) }
-{
-    read_compressed(lists, book, own, id, rest)?;
-    store.clear();
-    judgement_of_codes(
-        alloc,
+    let Scratch {
+        lists,
         store,
         named,
-        &mut lists.picked.marks,
-        book,
-        own,
-        id,
+        ..
+    } = scratch;
+    fill_steps(lists, site, tokens)?;
+    store.clear();
+    judgement_in_frame(store, named, site, &lists.moves, &lists.picked.ids)
+}
+
+// Whether the tokens, of which these come after the `(`, prove the `$p`, by the codes of their
+// letters: fills the list with the assertions of its tree, or tells their first fault.
+fn prove_by_codes<'a>(
+    scratch: &mut Scratch<'a>,
+    site: Site,
+    rest: &[Token<'a>],
+) -> Result<(), ProofFault>
+    requires { IsSite site }
+    ensures proved { let tokens = opening_token ∷ token_texts rest.now in
+        OnOk result (OfProof site.entry.statements site.entry.number (λ place s.
+        TokensProve site.entry.limit (take place site.entry.statements) s tokens
+        (ids_in scratch.new.named.ids.items))) }
+    ensures fault { let tokens = opening_token ∷ token_texts rest.now in
+        IfErr result (λ e. OnRule e (λ rule step.
+        OfProof site.entry.statements site.entry.number (λ place s.
+        TokensFail site.entry.limit (take place site.entry.statements) s tokens rule step))) }
+{
+    let Scratch {
+        alloc,
+        lists,
+        store,
+        named,
+    } = scratch;
+    read_compressed(lists, &site, rest)?;
+    store.clear();
+    let marks = &mut lists.picked.marks;
+    judgement_of_codes(
+        *alloc,
+        store,
+        named,
+        marks,
+        site,
         &lists.entries,
         &lists.codes,
-        limit,
     )
 }
 
-// Whether the tokens prove the `$p` of the frame: fills the list with the assertions of its tree,
-// or tells their first fault.
+// Whether the tokens prove the `$p`: fills the list with the assertions of its tree, or tells their
+// first fault.
 fn prove_in_frame<'a>(
-    alloc: Global,
-    store: &mut Flat,
-    named: &mut Named,
-    lists: &mut ParseLists<'a>,
-    book: &Book,
-    own: &Frame,
-    id: LabelId,
+    scratch: &mut Scratch<'a>,
+    site: Site,
     tokens: &[Token<'a>],
-    limit: usize,
 ) -> Result<(), ProofFault>
-    requires own { own.now.statements ≡ book.now.statements }
-    requires number { (s : Sentence) × IsNumbered book.now.statements id.0 own.now.place s }
-    requires sound { IsSound book.now.statements }
-    requires proof { (place : ℕ) × (s : Sentence) × IsProofNumber book.now.statements id.0 place s }
-    ensures proved { OnOk result (OfProof book.now.statements id.0 (λ place s.
-        TokensProve limit (take place book.now.statements) s (token_texts tokens.now)
-        (ids_in named.new.ids.items))) }
+    requires { IsSite site }
+    ensures proved { OnOk result (OfProof site.entry.statements site.entry.number (λ place s.
+        TokensProve site.entry.limit (take place site.entry.statements) s (token_texts tokens.now)
+        (ids_in scratch.new.named.ids.items))) }
     ensures fault { IfErr result (λ e. OnRule e (λ rule step.
-        OfProof book.now.statements id.0 (λ place s.
-        TokensFail limit (take place book.now.statements) s (token_texts tokens.now) rule step))) }
+        OfProof site.entry.statements site.entry.number (λ place s.
+        TokensFail site.entry.limit (take place site.entry.statements) s (token_texts tokens.now)
+        rule step))) }
 {
     match tokens {
-        [first, rest @ ..] if is_byte(first.text, b'(') => {
-            prove_by_codes(alloc, store, named, lists, book, own, id, rest, limit)
-        }
-        _ => prove_by_moves(store, named, lists, book, own, id, tokens, limit),
+        [first, rest @ ..] if is_byte(first.text, b'(') => prove_by_codes(scratch, site, rest),
+        _ => prove_by_moves(scratch, &site, tokens),
     }
 }
 
 // Whether the tokens prove the `$p` with the number: fills the list with the assertions of its
 // tree, or tells their first fault.
 fn prove_tokens<'a>(
-    alloc: Global,
-    store: &mut Flat,
-    named: &mut Named,
-    lists: &mut ParseLists<'a>,
+    scratch: &mut Scratch<'a>,
     book: &Book,
     id: LabelId,
     tokens: &[Token<'a>],
@@ -325,14 +307,12 @@ fn prove_tokens<'a>(
     requires { (place : ℕ) × (s : Sentence) × IsProofNumber book.now.statements id.0 place s }
     ensures proved { OnOk result (OfProof book.now.statements id.0 (λ place s.
         TokensProve (limit_of profile) (take place book.now.statements) s (token_texts tokens.now)
-        (ids_in named.new.ids.items))) }
+        (ids_in scratch.new.named.ids.items))) }
     ensures fault { IfErr result (λ e. OnRule e (λ rule step.
         OfProof book.now.statements id.0 (λ place s.
         TokensFail (limit_of profile) (take place book.now.statements) s (token_texts tokens.now)
         rule step))) }
     ensures sound { IsSound book.now.statements }
 {
-    let own = book.frame(id);
-    let limit = profile.limit();
-    prove_in_frame(alloc, store, named, lists, book, &own, id, tokens, limit)
+    prove_in_frame(scratch, Site::new(book, id, profile), tokens)
 }

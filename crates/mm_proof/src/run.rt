@@ -4,9 +4,6 @@ ghost use Rattle.std.specs.Prelude.{◌≡◌, ℕ, ◌+◌, ◌≤◌, List, []
 ghost use Rattle.std.specs.Prelude.{IfOk, IfErr, OnOk};
 ghost use Rattle.std.specs.List.{AllZip};
 ghost use Rattle.mm_code.specs.Letters.{HasSpelling};
-ghost use Rattle.mm_frame.specs.Sentence.{Sentence};
-ghost use Rattle.mm_frame.specs.Form.{IsSound};
-ghost use Rattle.mm_frame.specs.Numbers.{IsNumbered};
 ghost use Rattle.mm_proof.specs.Answer.{OnRule};
 ghost use Rattle.mm_proof.specs.Moves.{Move};
 ghost use Rattle.mm_proof.specs.Proof.{IsWithin, Prove, FirstAtMove, IsMoveFault};
@@ -18,13 +15,15 @@ ghost use Rattle.mm_proof.specs.CodeApply.{IsCallOf};
 ghost use Rattle.mm_proof.specs.Verified.{OfMoves, ProvesUsingNumbers, FailsWith};
 
 use crate::call::{Call, call_of, step_by};
+use crate::call_table::CallTable;
 use crate::fault::{ProofFault, ProofRule};
 use crate::picked::unmark;
+use crate::site::Site;
 use crate::store::Store;
 use crate::used::{Named, fill_called};
 use crate::verdict::{ending, mark, step_again};
 use mm_code::Code;
-use mm_frame::{Book, Frame, LabelId, one_number};
+use mm_frame::{Book, LabelId, one_number};
 use std::alloc::{AllocError, Global};
 
 /// What each of the entries, labels that numbers stand for, stands for itself.
@@ -50,47 +49,42 @@ pub(crate) fn calls_of<'b>(
 fn step_at<S: Store>(
     store: &mut S,
     marks: &mut Vec<bool>,
-    book: &Book,
-    own: &Frame,
-    entries: &[LabelId],
-    calls: &[Call],
+    table: &CallTable,
     place: usize,
     kept: usize,
-    limit: usize,
     number: usize,
 ) -> Result<(), ProofFault>
-    requires own { own.now.statements ≡ book.now.statements }
-    requires sound { IsSound book.now.statements }
-    requires calls { AllZip (IsCallOf book.now.statements own.now.place) (ids_in entries.now)
-        calls.now }
-    requires long { length marks.old.items ≡ length entries.now }
+    requires long { length marks.old.items ≡ length table.now.ids }
     requires kept { kept ≡ length (S.kept store.old) }
-    requires entries { AreStackEntries book.now.statements (take own.now.place book.now.statements)
-        (S.stack store.old) }
-    ensures ran { OnOk result ((front : List (Move ℕ)) (steps : ℕ)
-        → HasRun limit book.now.statements own.now.place front (S.stack store.old)
+    requires entries { let site = table.now.site in
+        AreStackEntries site.statements (take site.place site.statements) (S.stack store.old) }
+    ensures ran { let site = table.now.site in
+        OnOk result ((front : List (Move ℕ)) (steps : ℕ)
+        → HasRun site.limit site.statements site.place front (S.stack store.old)
         (S.kept store.old) steps
-        → HasRun limit book.now.statements own.now.place
-        (front ++ entry_move (ids_in entries.now) place ∷ []) (S.stack store.new) (S.kept store.new) (steps + 1)) }
-    ensures long { OnOk result (length marks.new.items ≡ length entries.now) }
+        → HasRun site.limit site.statements site.place
+        (front ++ entry_move table.now.ids place ∷ []) (S.stack store.new) (S.kept store.new)
+        (steps + 1)) }
+    ensures long { OnOk result (length marks.new.items ≡ length table.now.ids) }
     ensures marked { OnOk result ((front : List (Move ℕ))
-        → AreMarked (ids_in entries.now) front marks.old.items
-        → AreMarked (ids_in entries.now) (front ++ entry_move (ids_in entries.now) place ∷ [])
+        → AreMarked table.now.ids front marks.old.items
+        → AreMarked table.now.ids (front ++ entry_move table.now.ids place ∷ [])
         marks.new.items) }
     ensures kept { S.kept store.new ≡ S.kept store.old }
-    ensures fault { (rule : ProofRule) → (at : ℕ) → result ≡ Err (ProofFault.Rule rule at)
+    ensures fault { let site = table.now.site in
+        (rule : ProofRule) → (at : ℕ) → result ≡ Err (ProofFault.Rule rule at)
         → (at ≡ number) × ((move : Move (List ℕ))
-        → IsNumberedMove book.now.statements (entry_move (ids_in entries.now) place) move
-        → FirstAtMove (IsWithin limit) rule (take own.now.place book.now.statements)
-        (all_names_at book.now.statements (S.stack store.old))
-        (all_names_at book.now.statements (S.kept store.old)) move) }
+        → IsNumberedMove site.statements (entry_move table.now.ids place) move
+        → FirstAtMove (IsWithin site.limit) rule (take site.place site.statements)
+        (all_names_at site.statements (S.stack store.old))
+        (all_names_at site.statements (S.kept store.old)) move) }
 {
-    match calls.get(place) {
+    match table.calls.get(place) {
         Some(call) => {
             marks[place] = true;
-            step_by(store, book, own, call, limit, number)
+            step_by(store, &table.site, call, number)
         }
-        None => step_again(store, place - calls.len(), kept, number),
+        None => step_again(store, place - table.calls.len(), kept, number),
     }
 }
 
@@ -98,34 +92,26 @@ fn step_at<S: Store>(
 pub(crate) fn run_codes<S: Store>(
     store: &mut S,
     marks: &mut Vec<bool>,
-    book: &Book,
-    own: &Frame,
-    entries: &[LabelId],
-    calls: &[Call],
+    table: &CallTable,
     codes: &[Code],
-    limit: usize,
 ) -> Result<usize, ProofFault>
-    requires own { own.now.statements ≡ book.now.statements }
-    requires sound { IsSound book.now.statements }
     requires spelled { All HasSpelling codes.now }
-    requires calls { AllZip (IsCallOf book.now.statements own.now.place) (ids_in entries.now)
-        calls.now }
-    requires long { length marks.old.items ≡ length entries.now }
-    requires unmarked { AreMarked (ids_in entries.now) [] marks.old.items }
+    requires long { length marks.old.items ≡ length table.now.ids }
+    requires unmarked { AreMarked table.now.ids [] marks.old.items }
     requires stack { S.stack store.old ≡ [] }
     requires kept { S.kept store.old ≡ [] }
-    ensures ok { IfOk result (λ count.
-        HasRun limit book.now.statements own.now.place (code_moves (ids_in entries.now) codes.now)
-        (S.stack store.new) (S.kept store.new) count) }
+    ensures ok { let site = table.now.site in
+        IfOk result (λ count. HasRun site.limit site.statements site.place
+        (code_moves table.now.ids codes.now) (S.stack store.new) (S.kept store.new) count) }
     ensures count { IfOk result (λ count. count ≤ length codes.now) }
-    ensures long { OnOk result (length marks.new.items ≡ length entries.now) }
-    ensures marked { OnOk result (AreMarked (ids_in entries.now)
-        (code_moves (ids_in entries.now) codes.now) marks.new.items) }
-    ensures fault { (rule : ProofRule) → (at : ℕ) → result ≡ Err (ProofFault.Rule rule at)
+    ensures long { OnOk result (length marks.new.items ≡ length table.now.ids) }
+    ensures marked { OnOk result
+        (AreMarked table.now.ids (code_moves table.now.ids codes.now) marks.new.items) }
+    ensures fault { let site = table.now.site in
+        (rule : ProofRule) → (at : ℕ) → result ≡ Err (ProofFault.Rule rule at)
         → (names : List (Move (List ℕ)))
-        → AreNumberedMoves book.now.statements (code_moves (ids_in entries.now) codes.now) names
-        → IsMoveFault (IsWithin limit)
-        (take own.now.place book.now.statements) names rule at }
+        → AreNumberedMoves site.statements (code_moves table.now.ids codes.now) names
+        → IsMoveFault (IsWithin site.limit) (take site.place site.statements) names rule at }
 {
     let mut steps = 0;
     let mut kept = 0;
@@ -133,18 +119,7 @@ pub(crate) fn run_codes<S: Store>(
         match code {
             Code::Number(number) => {
                 let place = *number as usize - 1;
-                step_at(
-                    store,
-                    marks,
-                    book,
-                    own,
-                    entries,
-                    calls,
-                    place,
-                    kept,
-                    limit,
-                    steps + 1,
-                )?;
+                step_at(store, marks, table, place, kept, steps + 1)?;
                 steps += 1;
             }
             Code::Tag => {
@@ -156,79 +131,71 @@ pub(crate) fn run_codes<S: Store>(
     Ok(steps)
 }
 
-// Whether the codes derive the expression of the `$p`, whose frame is handed in, or their first
-// fault. The entries that they name are marked.
+// Whether the codes derive the expression of the `$p`, or their first fault. The entries that they
+// name are marked.
 fn derive_codes<S: Store>(
     store: &mut S,
     marks: &mut Vec<bool>,
-    book: &Book,
-    own: &Frame,
-    id: LabelId,
-    entries: &[LabelId],
-    calls: &[Call],
+    table: &CallTable,
     codes: &[Code],
-    limit: usize,
 ) -> Result<(), ProofFault>
-    requires own { own.now.statements ≡ book.now.statements }
-    requires number { (s : Sentence) × IsNumbered book.now.statements id.0 own.now.place s }
-    requires sound { IsSound book.now.statements }
     requires spelled { All HasSpelling codes.now }
-    requires calls { AllZip (IsCallOf book.now.statements own.now.place) (ids_in entries.now)
-        calls.now }
-    requires long { length marks.old.items ≡ length entries.now }
-    requires unmarked { AreMarked (ids_in entries.now) [] marks.old.items }
+    requires long { length marks.old.items ≡ length table.now.ids }
+    requires unmarked { AreMarked table.now.ids [] marks.old.items }
     requires stack { S.stack store.old ≡ [] }
     requires kept { S.kept store.old ≡ [] }
-    ensures proved { OnOk result (OfMoves book.now.statements id.0
-        (code_moves (ids_in entries.now) codes.now) (λ place s names.
-        Prove (IsWithin limit) (take place book.now.statements) s names)) }
-    ensures long { OnOk result (length marks.new.items ≡ length entries.now) }
-    ensures marked { OnOk result (AreMarked (ids_in entries.now)
-        (code_moves (ids_in entries.now) codes.now) marks.new.items) }
-    ensures fault { IfErr result (λ e. OnRule e (λ rule step. OfMoves book.now.statements id.0
-        (code_moves (ids_in entries.now) codes.now)
-        (λ place s names. FailsWith limit book.now.statements place s names rule step))) }
+    ensures proved { let site = table.now.site in
+        OnOk result (OfMoves site.statements site.number (code_moves table.now.ids codes.now)
+        (λ place s names. Prove (IsWithin site.limit) (take place site.statements) s names)) }
+    ensures long { OnOk result (length marks.new.items ≡ length table.now.ids) }
+    ensures marked { OnOk result
+        (AreMarked table.now.ids (code_moves table.now.ids codes.now) marks.new.items) }
+    ensures fault { let site = table.now.site in
+        IfErr result (λ e. OnRule e (λ rule step.
+        OfMoves site.statements site.number (code_moves table.now.ids codes.now)
+        (λ place s names. FailsWith site.limit site.statements place s names rule step))) }
 {
     one_number();
-    let count = run_codes(store, marks, book, own, entries, calls, codes, limit)?;
-    ending(store, own.expression(), count + 1)?;
+    let expression = table.site.expression();
+    let count = run_codes(store, marks, table, codes)?;
+    ending(store, expression, count + 1)?;
     Ok(())
 }
 
 /// Fills the list with the assertions of the tree that the codes make, in the order of the entries,
-/// or tells their first fault, where the frame is that of the `$p`, and numbers stand for the
-/// entries and then for tags.
+/// or tells their first fault, where numbers stand for the entries and then for tags.
 pub(crate) fn judgement_of_codes<S: Store>(
     alloc: Global,
     store: &mut S,
     named: &mut Named,
     marks: &mut Vec<bool>,
-    book: &Book,
-    own: &Frame,
-    id: LabelId,
+    site: Site,
     entries: &[LabelId],
     codes: &[Code],
-    limit: usize,
 ) -> Result<(), ProofFault>
-    requires own { own.now.statements ≡ book.now.statements }
-    requires number { (s : Sentence) × IsNumbered book.now.statements id.0 own.now.place s }
-    requires sound { IsSound book.now.statements }
     requires stack { S.stack store.old ≡ [] }
     requires kept { S.kept store.old ≡ [] }
-    requires usable { MayAllBeUsed book.now.statements own.now.place (ids_in entries.now) }
+    requires usable { MayAllBeUsed site.statements site.place (ids_in entries.now) }
     requires spelled { All HasSpelling codes.now }
-    requires steps { AreSteps book.now.statements id.0
+    requires steps { AreSteps site.statements site.number
         (code_moves (ids_in entries.now) codes.now) }
-    ensures proved { OnOk result (OfMoves book.now.statements id.0
+    ensures proved { OnOk result (OfMoves site.entry.statements site.entry.number
         (code_moves (ids_in entries.now) codes.now) (λ place s names.
-        ProvesUsingNumbers limit book.now.statements place s names (ids_in named.new.ids.items))) }
-    ensures fault { IfErr result (λ e. OnRule e (λ rule step. OfMoves book.now.statements id.0
-        (code_moves (ids_in entries.now) codes.now)
-        (λ place s names. FailsWith limit book.now.statements place s names rule step))) }
+        ProvesUsingNumbers site.entry.limit site.entry.statements place s names
+        (ids_in named.new.ids.items))) }
+    ensures fault { IfErr result (λ e. OnRule e (λ rule step.
+        OfMoves site.entry.statements site.entry.number
+        (code_moves (ids_in entries.now) codes.now) (λ place s names.
+        FailsWith site.entry.limit site.entry.statements place s names rule step))) }
 {
-    let calls = calls_of(alloc, book, entries)?;
+    let calls = calls_of(alloc, site.book, entries)?;
+    let table = CallTable {
+        site,
+        entries,
+        calls: &calls,
+    };
     unmark(marks, entries.len())?;
-    derive_codes(store, marks, book, own, id, entries, &calls, codes, limit)?;
-    fill_called(named, entries, &calls, marks)?;
+    derive_codes(store, marks, &table, codes)?;
+    fill_called(named, entries, table.calls, marks)?;
     Ok(())
 }

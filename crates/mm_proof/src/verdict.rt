@@ -23,10 +23,11 @@ use crate::fault::{ProofFault, ProofRule};
 use crate::moves::{NumberedMove, Steps};
 use crate::picked::fill_picked;
 use crate::profile::Profile;
+use crate::site::Site;
 use crate::store::Store;
 use crate::substitution::is_same;
 use crate::used::{Named, Used, fill_used};
-use mm_frame::{Book, Frame, LabelId, Sym, one_number};
+use mm_frame::{Book, LabelId, Sym, one_number};
 use std::alloc::Global;
 
 // The proof breaks a rule at a step.
@@ -40,29 +41,25 @@ fn fault_at_step(rule: ProofRule, step: usize) -> Result<(), ProofFault>
 #[inline(always)]
 pub(crate) fn step<S: Store>(
     store: &mut S,
-    book: &Book,
-    own: &Frame,
+    site: &Site,
     id: LabelId,
-    limit: usize,
     number: usize,
 ) -> Result<(), ProofFault>
-    requires own { own.now.statements ≡ book.now.statements }
-    requires sound { IsSound book.now.statements }
-    requires usable { (label : List ℕ) × MayBeUsed book.now.statements own.now.place label id.0 }
-    requires entries { AreStackEntries book.now.statements (take own.now.place book.now.statements)
+    requires usable { (label : List ℕ) × MayBeUsed site.now.statements site.now.place label id.0 }
+    requires entries { AreStackEntries site.now.statements (take site.now.place site.now.statements)
         (S.stack store.old) }
     ensures carried { OnOk result
-        (CarriesOn limit book.now.statements own.now.place id.0 (S.stack store.old)
+        (CarriesOn site.now.limit site.now.statements site.now.place id.0 (S.stack store.old)
         (S.stack store.new)) }
     ensures entries { OnOk result
-        (AreStackEntries book.now.statements (take own.now.place book.now.statements)
+        (AreStackEntries site.now.statements (take site.now.place site.now.statements)
         (S.stack store.new)) }
     ensures kept { S.kept store.new ≡ S.kept store.old }
     ensures fault { (rule : ProofRule) → (at : ℕ) → result ≡ Err (ProofFault.Rule rule at)
         → (at ≡ number)
-        × StopsAt limit book.now.statements own.now.place id.0 (S.stack store.old) rule }
+        × StopsAt site.now.limit site.now.statements site.now.place id.0 (S.stack store.old) rule }
 {
-    step_by(store, book, own, &call_of(book, id), limit, number)
+    step_by(store, site, &call_of(site.book, id), number)
 }
 
 // The step by a tag.
@@ -104,35 +101,27 @@ pub(crate) fn mark<S: Store>(store: &mut S, number: usize) -> Result<(), ProofFa
 }
 
 // All moves, one after the other: how many are steps.
-fn run<S: Store>(
-    store: &mut S,
-    book: &Book,
-    own: &Frame,
-    moves: &[NumberedMove],
-    limit: usize,
-) -> Result<usize, ProofFault>
-    requires own { own.now.statements ≡ book.now.statements }
-    requires sound { IsSound book.now.statements }
-    requires usable { AllByRecursion (MayBeMade book.now.statements own.now.place)
+fn run<S: Store>(store: &mut S, site: &Site, moves: &[NumberedMove]) -> Result<usize, ProofFault>
+    requires usable { AllByRecursion (MayBeMade site.now.statements site.now.place)
         (moves_in moves.now) }
     requires stack { S.stack store.old ≡ [] }
     requires kept { S.kept store.old ≡ [] }
     ensures ok { IfOk result (λ count.
-        HasRun limit book.now.statements own.now.place (moves_in moves.now) (S.stack store.new)
-        (S.kept store.new) count) }
+        HasRun site.now.limit site.now.statements site.now.place (moves_in moves.now)
+        (S.stack store.new) (S.kept store.new) count) }
     ensures count { IfOk result (λ count. count ≤ length moves.now) }
     ensures fault { (rule : ProofRule) → (at : ℕ) → result ≡ Err (ProofFault.Rule rule at)
         → (names : List (Move (List ℕ)))
-        → AreNumberedMoves book.now.statements (moves_in moves.now) names
-        → IsMoveFault (IsWithin limit)
-        (take own.now.place book.now.statements) names rule at }
+        → AreNumberedMoves site.now.statements (moves_in moves.now) names
+        → IsMoveFault (IsWithin site.now.limit)
+        (take site.now.place site.now.statements) names rule at }
 {
     let mut steps = 0;
     let mut kept = 0;
     for one in moves {
         match one {
             NumberedMove::Name(id) => {
-                step(store, book, own, *id, limit, steps + 1)?;
+                step(store, site, *id, steps + 1)?;
                 steps += 1;
             }
             NumberedMove::Again(tag) => {
@@ -167,63 +156,48 @@ pub(crate) fn ending<S: Store>(
     Ok(())
 }
 
-// Whether the moves derive the expression of the `$p`, whose frame is handed in, or their first
-// fault.
-fn derive<S: Store>(
-    store: &mut S,
-    book: &Book,
-    own: &Frame,
-    id: LabelId,
-    moves: &[NumberedMove],
-    limit: usize,
-) -> Result<(), ProofFault>
-    requires own { own.now.statements ≡ book.now.statements }
-    requires number { (s : Sentence) × IsNumbered book.now.statements id.0 own.now.place s }
-    requires sound { IsSound book.now.statements }
+// Whether the moves derive the expression of the `$p`, or their first fault.
+fn derive<S: Store>(store: &mut S, site: &Site, moves: &[NumberedMove]) -> Result<(), ProofFault>
     requires stack { S.stack store.old ≡ [] }
     requires kept { S.kept store.old ≡ [] }
-    requires steps { AreSteps book.now.statements id.0 (moves_in moves.now) }
-    ensures proved { OnOk result (OfMoves book.now.statements id.0 (moves_in moves.now)
+    requires steps { AreSteps site.now.statements site.now.number (moves_in moves.now) }
+    ensures proved { OnOk result (OfMoves site.now.statements site.now.number (moves_in moves.now)
         (λ place s names.
-        Prove (IsWithin limit) (take place book.now.statements) s names)) }
+        Prove (IsWithin site.now.limit) (take place site.now.statements) s names)) }
     ensures fault { IfErr result (λ e.
-        OnRule e (λ rule step. OfMoves book.now.statements id.0 (moves_in moves.now)
-        (λ place s names. FailsWith limit book.now.statements place s names rule step))) }
+        OnRule e (λ rule step. OfMoves site.now.statements site.now.number (moves_in moves.now)
+        (λ place s names. FailsWith site.now.limit site.now.statements place s names rule step))) }
 {
     one_number();
-    let count = run(store, book, own, moves, limit)?;
-    ending(store, own.expression(), count + 1)?;
+    let expression = site.expression();
+    let count = run(store, site, moves)?;
+    ending(store, expression, count + 1)?;
     Ok(())
 }
 
 // Fills the list with the assertions of the tree that the moves make, or tells their first fault,
-// where the frame is that of the `$p`, and the labels are those that the moves name.
+// where the labels are those that the moves name.
 pub(crate) fn judgement_in_frame<S: Store>(
     store: &mut S,
     named: &mut Named,
-    book: &Book,
-    own: &Frame,
-    id: LabelId,
+    site: &Site,
     moves: &[NumberedMove],
     picked: &[LabelId],
-    limit: usize,
 ) -> Result<(), ProofFault>
-    requires own { own.now.statements ≡ book.now.statements }
-    requires number { (s : Sentence) × IsNumbered book.now.statements id.0 own.now.place s }
-    requires sound { IsSound book.now.statements }
     requires stack { S.stack store.old ≡ [] }
     requires kept { S.kept store.old ≡ [] }
-    requires steps { AreSteps book.now.statements id.0 (moves_in moves.now) }
+    requires steps { AreSteps site.now.statements site.now.number (moves_in moves.now) }
     requires picked { ArePicked (moves_in moves.now) (ids_in picked.now) }
-    ensures proved { OnOk result (OfMoves book.now.statements id.0 (moves_in moves.now)
+    ensures proved { OnOk result (OfMoves site.now.statements site.now.number (moves_in moves.now)
         (λ place s names.
-        ProvesUsing limit book.now.statements place s names (ids_in named.new.ids.items))) }
+        ProvesUsing site.now.limit site.now.statements place s names
+        (ids_in named.new.ids.items))) }
     ensures fault { IfErr result (λ e.
-        OnRule e (λ rule step. OfMoves book.now.statements id.0 (moves_in moves.now)
-        (λ place s names. FailsWith limit book.now.statements place s names rule step))) }
+        OnRule e (λ rule step. OfMoves site.now.statements site.now.number (moves_in moves.now)
+        (λ place s names. FailsWith site.now.limit site.now.statements place s names rule step))) }
 {
-    derive(store, book, own, id, moves, limit)?;
-    fill_used(named, book, picked)?;
+    derive(store, site, moves)?;
+    fill_used(named, site.book, picked)?;
     Ok(())
 }
 
@@ -250,11 +224,10 @@ fn judgement<S: Store>(
         FailsWith (limit_of profile) book.now.statements place s names rule step))) }
     ensures sound { IsSound book.now.statements }
 {
-    let own = book.frame(id);
+    let site = Site::new(book, id, profile);
     let mut picked = Vec::new(alloc);
     fill_picked(&mut picked, moves)?;
-    let limit = profile.limit();
-    judgement_in_frame(store, named, book, &own, id, moves, &picked, limit)
+    judgement_in_frame(store, named, &site, moves, &picked)
 }
 
 // The answer on the moves of a proof. The store is handed in empty.

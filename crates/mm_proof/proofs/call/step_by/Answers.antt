@@ -1,43 +1,106 @@
-use Rattle.std.proofs.Common.{◌≡◌, ◌<◌, ◌≤◌, ℕ, List, length, take, sym, subst, arith}
+use Rattle.std.proofs.Common.{◌≡◌, ◌<◌, ◌≤◌, ℕ, List, length, take, sym, ap, subst, arith}
+use Rattle.std.specs.Prelude.{OnOk}
 use Rattle.std.proofs.lemmas.List.{length-map}
+use Rattle.std.proofs.lemmas.Result.{on_ok_weaker}
 use Rattle.mm_proof.specs.declared.fault.ProofRule.{ProofRule}
 use Rattle.mm_proof.specs.declared.fault.ProofRule.TheVariants.{L1}
 use Rattle.mm_proof.specs.Stores.{numbers_in}
 use Rattle.mm_proof.specs.CodeRun.{CarriesOn, StopsAt}
 use Rattle.mm_proof.specs.CodeVerify.{AreStackEntries}
-use Rattle.mm_proof.specs.CodeApply.{IsCallOf}
+use Rattle.mm_proof.specs.CodeApply.{IsCallOf, IsEarlierScheme}
+use Rattle.mm_proof.specs.Sites.{ProofSite, IsSite}
 use Rattle.mm_proof.proofs.Applying.{stops_long, pushes, pushed_entries}
 use Rattle.mm_proof.proofs.call.step_by.Goals as goal
 
-pub returns-then-expression-limit-clause-fault : goal.returns-then-expression-limit-clause-fault
-returns-then-expression-limit-clause-fault g c rule at is =
+pub returns-then-expression-site-clause-fault : goal.returns-then-expression-site-clause-fault
+returns-then-expression-site-clause-fault g c rule at is =
     let same : L1 ≡ rule = cc in
     let number : at ≡ c.args.number = cc in
-    let over : c.args.limit < length (numbers_in c.in-Hypothesis.expression.now) = omega (arith, c.if-expression-limit.true, length-map c.in-Hypothesis.expression.now (λ s. s.0)) in (
+    let over : c.args.site.now.limit < length (numbers_in c.in-Hypothesis.expression.now) = omega (
+      arith,
+      c.if-expression-site.true,
+      ap (λ (v : ProofSite). v.limit) c.site.view_is,
+      length-map c.in-Hypothesis.expression.now (λ s. s.0),
+    ) in (
       number,
       λ id of.
-          let st = c.args.book.now.statements in
-          let u = subst (IsCallOf st c.args.own.now.place id) c.in-Hypothesis.is of in
-          subst (λ (r : ProofRule). StopsAt c.args.limit st c.args.own.now.place id (g.S.Store.stack c.args.store.now) r) same
-          (stops_long c.args.limit st c.args.own.now.place id u.0 (g.S.Store.stack c.args.store.now) (numbers_in c.in-Hypothesis.expression.now) c.requires.sound.0 u.1 u.2 u.3 over),
+          let st = c.args.site.now.statements in
+          let u = subst (IsCallOf st c.args.site.now.place id) c.in-Hypothesis.is of in
+          subst (λ (r : ProofRule). StopsAt c.args.site.now.limit st c.args.site.now.place id
+          (g.S.Store.stack c.args.store.now) r) same
+          (stops_long c.args.site.now.limit st c.args.site.now.place id u.0
+          (g.S.Store.stack c.args.store.now) (numbers_in c.in-Hypothesis.expression.now)
+          (subst IsSite c.site.view_is c.site.invariant.1).sound.0 u.1 u.2 u.3 over),
     )
 
-pub returns-in_ok-push-in-Hypothesis-clause-carried : goal.returns-in_ok-push-in-Hypothesis-clause-carried
+pub returns-in_ok-push-in-Hypothesis-clause-carried :
+    goal.returns-in_ok-push-in-Hypothesis-clause-carried
 returns-in_ok-push-in-Hypothesis-clause-carried g c id of =
-    let st = c.args.book.now.statements in
-    let u = subst (IsCallOf st c.args.own.now.place id) c.in-Hypothesis.is of in
-    let within : length (numbers_in c.in-Hypothesis.expression.now) ≤ c.args.limit = omega (arith, c.if-expression-limit.false, length-map c.in-Hypothesis.expression.now (λ s. s.0)) in
-    subst (λ (l : List (List ℕ)). CarriesOn c.args.limit st c.args.own.now.place id (g.S.Store.stack c.args.store.now) l) (sym c.in_ok-push-in-Hypothesis.ensures.pushed)
-    (pushes c.args.limit st c.args.own.now.place id u.0 (g.S.Store.stack c.args.store.now) (numbers_in c.in-Hypothesis.expression.now) c.requires.sound.0 u.1 u.2 u.3 within)
+    let st = c.args.site.now.statements in
+    let u = subst (IsCallOf st c.args.site.now.place id) c.in-Hypothesis.is of in
+    let within : length (numbers_in c.in-Hypothesis.expression.now) ≤ c.args.site.now.limit = omega (
+      arith,
+      c.if-expression-site.false,
+      ap (λ (v : ProofSite). v.limit) c.site.view_is,
+      length-map c.in-Hypothesis.expression.now (λ s. s.0),
+    ) in
+    subst (λ (l : List (List ℕ)). CarriesOn c.args.site.now.limit st c.args.site.now.place id
+    (g.S.Store.stack c.args.store.now) l) (sym c.in_ok-push-in-Hypothesis.ensures.pushed)
+    (pushes c.args.site.now.limit st c.args.site.now.place id u.0
+    (g.S.Store.stack c.args.store.now) (numbers_in c.in-Hypothesis.expression.now)
+    (subst IsSite c.site.view_is c.site.invariant.1).sound.0 u.1 u.2 u.3 within)
 
-pub returns-in_ok-push-in-Hypothesis-clause-entries : goal.returns-in_ok-push-in-Hypothesis-clause-entries
+pub returns-in_ok-push-in-Hypothesis-clause-entries :
+    goal.returns-in_ok-push-in-Hypothesis-clause-entries
 returns-in_ok-push-in-Hypothesis-clause-entries g c =
-    let st = c.args.book.now.statements in
-    let u = subst (IsCallOf st c.args.own.now.place c.requires.call.0) c.in-Hypothesis.is c.requires.call.1 in
-    subst (λ (l : List (List ℕ)). AreStackEntries st (take c.args.own.now.place st) l) (sym c.in_ok-push-in-Hypothesis.ensures.pushed)
-    (pushed_entries st c.args.own.now.place c.requires.call.0 u.0 (g.S.Store.stack c.args.store.now) (numbers_in c.in-Hypothesis.expression.now) c.requires.sound.0 u.1 u.2 u.3 c.requires.entries)
+    let st = c.args.site.now.statements in
+    let u = subst (IsCallOf st c.args.site.now.place c.requires.call.0) c.in-Hypothesis.is
+    c.requires.call.1 in
+    subst (λ (l : List (List ℕ)). AreStackEntries st (take c.args.site.now.place st) l)
+    (sym c.in_ok-push-in-Hypothesis.ensures.pushed)
+    (pushed_entries st c.args.site.now.place c.requires.call.0 u.0
+    (g.S.Store.stack c.args.store.now) (numbers_in c.in-Hypothesis.expression.now)
+    (subst IsSite c.site.view_is c.site.invariant.1).sound.0 u.1 u.2 u.3 c.requires.entries)
+
+pub apply-requires-clause-scheme : goal.apply-requires-clause-scheme
+apply-requires-clause-scheme g c =
+    let id = c.requires.call.0 in
+    let of = subst (IsCallOf c.args.site.now.statements c.args.site.now.place id) c.in-Assertion.is
+    c.requires.call.1 in (
+      id,
+      subst (λ (v : ProofSite). IsEarlierScheme v.statements v.place id c.in-Assertion.scheme)
+          (sym c.site.view_is) of,
+    )
+
+pub apply-requires-clause-entries : goal.apply-requires-clause-entries
+apply-requires-clause-entries g c =
+    subst (λ (v : ProofSite). AreStackEntries v.statements (take v.place v.statements)
+    (g.S.Store.stack c.args.store.now)) (sym c.site.view_is) c.requires.entries
+
+pub returns-in-Assertion-clause-carried : goal.returns-in-Assertion-clause-carried
+returns-in-Assertion-clause-carried g c =
+    let carried = subst (λ (v : ProofSite). OnOk c.apply.result ((id : ℕ)
+    → IsEarlierScheme v.statements v.place id c.in-Assertion.scheme
+    → CarriesOn v.limit v.statements v.place id (g.S.Store.stack c.args.store.now)
+    (g.S.Store.stack c.apply.new.store))) c.site.view_is c.apply.ensures.carried in
+    on_ok_weaker c.apply.result (λ does. λ id of. does id (subst
+    (IsCallOf c.args.site.now.statements c.args.site.now.place id) c.in-Assertion.is of))
+    carried
+
+pub returns-in-Assertion-clause-entries : goal.returns-in-Assertion-clause-entries
+returns-in-Assertion-clause-entries g c =
+    subst (λ (v : ProofSite). OnOk c.apply.result (AreStackEntries v.statements
+    (take v.place v.statements) (g.S.Store.stack c.apply.new.store))) c.site.view_is
+    c.apply.ensures.entries
 
 pub returns-in-Assertion-clause-fault : goal.returns-in-Assertion-clause-fault
 returns-in-Assertion-clause-fault g c rule at is =
     let told = c.apply.ensures.fault rule at is in
-    (told.0, λ id of. told.1 id (subst (IsCallOf c.args.book.now.statements c.args.own.now.place id) c.in-Assertion.is of))
+    let stops = subst (λ (v : ProofSite). (id : ℕ) → IsEarlierScheme v.statements v.place id
+    c.in-Assertion.scheme
+    → StopsAt v.limit v.statements v.place id (g.S.Store.stack c.args.store.now) rule)
+    c.site.view_is told.1 in (
+      told.0,
+      λ id of. stops id (subst (IsCallOf c.args.site.now.statements c.args.site.now.place
+          id) c.in-Assertion.is of),
+    )

@@ -3,4 +3,4 @@ use Rattle.mm_proof.proofs.lines.lines_of.Given as goal
 
 abbrev pub invariant-loop-one : goal.invariant-loop-one
 invariant-loop-one g l =
-    Listing l.limit l.fn.book.statements l.fn.own.place l.moves l.one-index (g.S.Store.stack l.store) (g.S.Store.kept l.store) l.lines.items l.tags.items
+    Listing l.fn.site.limit l.fn.site.statements l.fn.site.place l.moves l.one-index (g.S.Store.stack l.store) (g.S.Store.kept l.store) l.lines.items l.tags.items

@@ -11,10 +11,11 @@ use Rattle.mm_proof.proofs.parse.fill_normal.Goals as goal
 
 pub returns-clause-ok : goal.returns-clause-ok
 returns-clause-ok c =
-    let own = c.requires.own in
-    let reading = reading_normal _ _ own.0 _ _ c.requires.sound.0 own.1.there c.requires.normal c.in_ok-fill_numbers.ensures.ok in
-    subst (λ (ms : List (Move ℕ)). IsReading c.args.book.now.statements c.args.own.now.place (token_texts c.args.tokens.now) ms)
-    (sym (c.in_ok-fill_names.ensures.ok ∙ ap (λ l. map name (ids_in l)) c.deref.ensures.value)) reading
+    let own = c.site.invariant.1 in
+    let reading = reading_normal _ _ own.s _ _ c.site.invariant.1.sound.0 own.proof.numbered.there c.requires.normal c.in_ok-fill_numbers.ensures.ok in
+    rw (← c.site.view_is) (
+    subst (λ (ms : List (Move ℕ)). IsReading c.site.inside.book.now.statements c.site.inside.own.place (token_texts c.args.tokens.now) ms)
+    (sym (c.in_ok-fill_names.ensures.ok ∙ ap (λ l. map name (ids_in l)) c.deref.ensures.value)) reading)
 
 pub returns-clause-picked : goal.returns-clause-picked
 returns-clause-picked c =
@@ -28,4 +29,4 @@ returns-in_err-fill_names-clause-fault c =
 pub returns-in_err-fill_numbers-clause-fault : goal.returns-in_err-fill_numbers-clause-fault
 returns-in_err-fill_numbers-clause-fault c =
     let p = err_from_is_err_and c.from_residual.result c.from_residual.ensures.1 in
-    rw (p.1, p.2) (on_rule_map c.in_err-fill_numbers.field-0.0 _ _ (λ rule step h. (h.0, labels_fault _ _ _ _ rule (normal_labels _ c.requires.normal) h.1)) c.in_err-fill_numbers.ensures.fault)
+    rw (p.1, p.2, ← c.site.view_is) (on_rule_map c.in_err-fill_numbers.field-0.0 _ _ (λ rule step h. (h.0, labels_fault _ _ _ _ rule (normal_labels _ c.requires.normal) h.1)) c.in_err-fill_numbers.ensures.fault)

@@ -16,26 +16,28 @@ returns-clause-spelled c = letters_spelled _ _ c.in-Ok.ensures.read
 pub returns-in_err-fill_numbers-clause-fault : goal.returns-in_err-fill_numbers-clause-fault
 returns-in_err-fill_numbers-clause-fault c =
     let p = err_from_is_err_and c.from_residual.result c.from_residual.ensures.1 in
-    rw (p.1, p.2) (on_rule_map c.in_err-fill_numbers.field-0.0 _ _ (λ rule step h. (h.0, labels_fault _ _ _ _ rule (compressed_labels _ _ _ c.in-Some.ensures) h.1)) c.in_err-fill_numbers.ensures.fault)
+    rw (p.1, p.2, ← c.site.view_is) (on_rule_map c.in_err-fill_numbers.field-0.0 _ _ (λ rule step h. (h.0, labels_fault _ _ _ _ rule (compressed_labels _ _ _ c.in-Some.ensures) h.1)) c.in_err-fill_numbers.ensures.fault)
 
 pub returns-in-Err-clause-fault : goal.returns-in-Err-clause-fault
 returns-in-Err-clause-fault c =
-    rw c.letter_fault.ensures (letter_broken c.args.book.now.statements c.args.own.now.place _ _ _ _ c.in-Err.fault c.requires.sound.0 c.in-Some.ensures c.in_ok-fill_numbers.ensures.ok
+    rw (c.letter_fault.ensures, ← c.site.view_is) (letter_broken c.site.inside.book.now.statements c.site.inside.own.place _ _ _ _ c.in-Err.fault c.site.invariant.1.sound.0 c.in-Some.ensures c.in_ok-fill_numbers.ensures.ok
     (λ rule is. c.in-Err.ensures.rule rule (ap Err is)))
 
 pub returns-clause-reads : goal.returns-clause-reads
 returns-clause-reads c steps says =
     let entries = c.in_ok-fill_entries.ensures ∙ ap (λ l. label_ids c.hypotheses.result.now ++ ids_in l) c.deref.ensures.value in
     let by_ids = subst (λ (ids : List ℕ). AllZip (NumberSays ids) c.read_letters.new.codes.items steps) entries says in
-    reading_compressed c.args.book.now.statements c.args.own.now.place c.requires.own.0 _ _ _ _ _ _ _ c.requires.sound.0 c.requires.sound.1 c.requires.own.1.there
+    rw (← c.site.view_is) (
+    reading_compressed c.site.inside.book.now.statements c.site.inside.own.place c.site.invariant.1.s _ _ _ _ _ _ _ c.site.invariant.1.sound.0 c.site.invariant.1.sound.1 c.site.invariant.1.proof.numbered.there
     c.in-Some.ensures c.in_ok-fill_numbers.ensures.ok
-    (subst (λ (st : List Sentence). AreHypotheses (record { statements = st; place = c.args.own.now.place }) (label_ids c.hypotheses.result.now)) c.requires.book c.hypotheses.ensures.ids)
+    (subst (λ (st : List Sentence). AreHypotheses (record { statements = st; place = c.site.inside.own.place }) (label_ids c.hypotheses.result.now)) c.site.invariant.0 c.hypotheses.ensures.ids)
     c.in-Ok.ensures.read (c.in-Ok.ensures.unbroken code.P4) (c.in-Ok.ensures.unbroken code.P5)
-    by_ids
+    by_ids)
 
 pub returns-clause-usable : goal.returns-clause-usable
 returns-clause-usable c =
     let entries = c.in_ok-fill_entries.ensures ∙ ap (λ l. label_ids c.hypotheses.result.now ++ ids_in l) c.deref.ensures.value in
-    subst (λ (ids : List ℕ). MayAllBeUsed c.args.book.now.statements c.args.own.now.place ids) (sym entries)
-    (entries_usable c.args.book.now.statements c.args.own.now.place _ _ _ c.requires.sound.0 c.requires.sound.1 c.in_ok-fill_numbers.ensures.ok
-    (subst (λ (st : List Sentence). AreHypotheses (record { statements = st; place = c.args.own.now.place }) (label_ids c.hypotheses.result.now)) c.requires.book c.hypotheses.ensures.ids))
+    rw (← c.site.view_is) (
+    subst (λ (ids : List ℕ). MayAllBeUsed c.site.inside.book.now.statements c.site.inside.own.place ids) (sym entries)
+    (entries_usable c.site.inside.book.now.statements c.site.inside.own.place _ _ _ c.site.invariant.1.sound.0 c.site.invariant.1.sound.1 c.in_ok-fill_numbers.ensures.ok
+    (subst (λ (st : List Sentence). AreHypotheses (record { statements = st; place = c.site.inside.own.place }) (label_ids c.hypotheses.result.now)) c.site.invariant.0 c.hypotheses.ensures.ids)))

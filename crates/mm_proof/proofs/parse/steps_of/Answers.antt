@@ -1,4 +1,5 @@
 use Rattle.std.proofs.Common.{take, arith}
+use Rattle.std.proofs.lemmas.Result.{err_from_is_err_and}
 use Rattle.mm_proof.specs.CodeSteps.{token_texts}
 use Rattle.mm_proof.proofs.FewMoves.{moves_bytes}
 use Rattle.mm_proof.proofs.parse.steps_of.Goals as goal
@@ -6,7 +7,20 @@ use Rattle.mm_proof.proofs.parse.steps_of.Goals as goal
 pub invariant_of-result : goal.invariant_of-result
 invariant_of-result c =
     let proof = c.requires.proof in
-    let says = c.in_ok-fill_steps.ensures.steps proof.0 proof.1 proof.2 in
     let st = c.args.book.now.statements in
-    let few = moves_bytes st (take proof.0 st) proof.1 (token_texts c.args.tokens.now) _ says.1 c.requires.filled says.2 says.3 in
+    let said = rw (c.new-site.ensures.statements, c.new-site.ensures.number) at
+    c.in_ok-fill_steps.ensures.steps in
+    let says = said proof.0 proof.1 proof.2 in
+    let few = moves_bytes st (take proof.0 st) proof.1 (token_texts c.args.tokens.now) _ says.1
+    c.requires.filled says.2 says.3 in
     (omega (arith, few, c.requires.room), tt)
+
+pub returns-clause-steps : goal.returns-clause-steps
+returns-clause-steps c = rw (c.new-site.ensures.statements, c.new-site.ensures.number) at
+    c.in_ok-fill_steps.ensures.steps
+
+pub returns-in_err-fill_steps-clause-fault : goal.returns-in_err-fill_steps-clause-fault
+returns-in_err-fill_steps-clause-fault c =
+    let p = err_from_is_err_and c.from_residual.result c.from_residual.ensures.1 in
+    rw (p.1, p.2) (rw (c.new-site.ensures.statements, c.new-site.ensures.number) at
+    c.in_err-fill_steps.ensures.fault)

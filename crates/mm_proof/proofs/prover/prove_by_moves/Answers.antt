@@ -12,7 +12,7 @@ use Rattle.mm_proof.proofs.prover.prove_by_moves.Goals as goal
 
 pub judgement_in_frame-requires-clause-steps : goal.judgement_in_frame-requires-clause-steps
 judgement_in_frame-requires-clause-steps c =
-    subst (λ (ms : List NumberedMove). AreSteps c.args.book.now.statements c.args.id.0 (moves_in ms)) (sym c.deref.ensures.value) c.in_ok-fill_steps.ensures.usable
+    subst (λ (ms : List NumberedMove). AreSteps c.args.site.now.statements c.args.site.now.number (moves_in ms)) (sym c.deref.ensures.value) c.in_ok-fill_steps.ensures.usable
 
 pub judgement_in_frame-requires-clause-picked : goal.judgement_in_frame-requires-clause-picked
 judgement_in_frame-requires-clause-picked c =
@@ -21,21 +21,21 @@ judgement_in_frame-requires-clause-picked c =
 
 pub returns-clause-proved : goal.returns-clause-proved
 returns-clause-proved c =
-    let st = c.args.book.now.statements in
+    let st = c.args.site.now.statements in
     let texts = token_texts c.args.tokens.now in
-    let says = subst (λ (ms : List NumberedMove). OfProof st c.args.id.0 (λ place s. SaySteps st place s texts (moves_in ms))) (sym c.deref.ensures.value) c.in_ok-fill_steps.ensures.steps in
+    let says = subst (λ (ms : List NumberedMove). OfProof st c.args.site.now.number (λ place s. SaySteps st place s texts (moves_in ms))) (sym c.deref.ensures.value) c.in_ok-fill_steps.ensures.steps in
     on_ok_weaker c.judgement_in_frame.result (λ p. λ place s proof.
     let moves = moves_in c.deref.result.now in
     let used = ids_in c.judgement_in_frame.new.named.ids.items in
-    tokens_prove c.args.limit st c.args.id.0 texts moves used says (in_any_order c.args.limit st c.args.id.0 moves used p) place s proof) c.judgement_in_frame.ensures.proved
+    tokens_prove c.args.site.now.limit st c.args.site.now.number texts moves used says (in_any_order c.args.site.now.limit st c.args.site.now.number moves used p) place s proof) c.judgement_in_frame.ensures.proved
 
 pub returns-clause-fault : goal.returns-clause-fault
 returns-clause-fault c =
-    let st = c.args.book.now.statements in
+    let st = c.args.site.now.statements in
     let texts = token_texts c.args.tokens.now in
-    let says = subst (λ (ms : List NumberedMove). OfProof st c.args.id.0 (λ place s. SaySteps st place s texts (moves_in ms))) (sym c.deref.ensures.value) c.in_ok-fill_steps.ensures.steps in
+    let says = subst (λ (ms : List NumberedMove). OfProof st c.args.site.now.number (λ place s. SaySteps st place s texts (moves_in ms))) (sym c.deref.ensures.value) c.in_ok-fill_steps.ensures.steps in
     rules_map c.judgement_in_frame.result _ _ (λ rule step f. λ place s proof.
-    tokens_fail c.args.limit st c.args.id.0 texts (moves_in c.deref.result.now) rule step says f place s proof) c.judgement_in_frame.ensures.fault
+    tokens_fail c.args.site.now.limit st c.args.site.now.number texts (moves_in c.deref.result.now) rule step says f place s proof) c.judgement_in_frame.ensures.fault
 
 pub returns-in_err-fill_steps-clause-fault : goal.returns-in_err-fill_steps-clause-fault
 returns-in_err-fill_steps-clause-fault c =

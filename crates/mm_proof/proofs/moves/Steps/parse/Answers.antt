@@ -1,4 +1,4 @@
-use Rattle.std.proofs.Common.{◌≡◌, ℕ, List, take, inr, ap, subst, ◌∙◌}
+use Rattle.std.proofs.Common.{◌≡◌, ℕ, List, take, ap, subst, ◌∙◌}
 use Rattle.mm_proof.specs.declared.fault.ProofRule.{ProofRule}
 use Rattle.mm_proof.specs.declared.fault.ProofFault.{ProofFault}
 use Rattle.mm_proof.specs.declared.fault.ProofFault.TheVariants.{Rule}
@@ -8,9 +8,6 @@ use Rattle.mm_proof.specs.Parsed.{OfProof}
 use Rattle.mm_proof.specs.CodeSteps.{token_texts}
 use Rattle.mm_code.specs.Layout.{texts}
 use Rattle.mm_proof.proofs.moves.Steps.parse.Goals as goal
-
-pub frame-requires : goal.frame-requires
-frame-requires c = let p = c.requires.proof in (p.0, p.1, p.2.numbered, inr p.2.provable)
 
 pub returns-clause-fault : goal.returns-clause-fault
 returns-clause-fault c rule step is =

@@ -36,7 +36,7 @@ Refuses limit st id texts result =
 pub returns-clause-complete : goal.returns-clause-complete
 returns-clause-complete c unknown =
     let texts = token_texts c.args.tokens.now in
-    let used = ids_in c.prove_tokens.new.named.ids.items in
+    let used = ids_in c.prove_tokens.new.scratch.named.ids.items in
     let number = subst (λ (v : Proving). (place : ℕ) × (s : Sentence) × IsProofNumber v.book.statements c.args.id.0 place s) (sym c.self.view_is) c.requires in
     elim c.match-prove_tokens.branch [
       | in-Ok w ↦ absurd (proved_known (limit_of c.args.profile) c.self.inside.book.statements c.args.id.0 texts used c.prove_tokens.ensures.sound.1 number w.in-Ok.ensures.proved unknown)
@@ -47,7 +47,7 @@ returns-clause-complete c unknown =
 pub returns-clause-proved : goal.returns-clause-proved
 returns-clause-proved c is =
     let texts = token_texts c.args.tokens.now in
-    let used = ids_in c.prove_tokens.new.named.ids.items in
+    let used = ids_in c.prove_tokens.new.scratch.named.ids.items in
     elim c.match-prove_tokens.branch [
       | in-Ok w ↦
           subst (λ (v : Proving). OfProof v.book.statements c.args.id.0 (λ place s. TokensProve (limit_of c.args.profile) (take place v.book.statements) s texts used)) c.self.view_is w.in-Ok.ensures.proved

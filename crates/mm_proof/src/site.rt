@@ -1,0 +1,77 @@
+//! Where a proof is judged.
+
+ghost use Rattle.std.specs.Prelude.{◌≡◌, ℕ};
+ghost use Rattle.mm_frame.specs.Sentence.{Sentence};
+ghost use Rattle.mm_frame.specs.Form.{IsSound};
+ghost use Rattle.mm_frame.specs.FramePlace.{AreItsSymbols};
+ghost use Rattle.mm_proof.specs.Profiles.{limit_of};
+ghost use Rattle.mm_proof.specs.Steps.{IsProofNumber};
+ghost use Rattle.mm_proof.specs.Stores.{numbers_in};
+
+use crate::profile::Profile;
+use mm_frame::{Book, Frame, LabelId, Sym};
+use std::marker::Model;
+
+/// Where a proof is judged: the book, the number of its `$p` and the frame of that, and the most
+/// symbols that an expression may have.
+#[derive(Drop)]
+pub(crate) struct Site<'b, 'a> {
+    pub(crate) book: &'b Book<'a>,
+    pub(crate) own: Frame<'b, 'a>,
+    pub(crate) id: LabelId,
+    pub(crate) limit: usize,
+}
+
+impl<'b, 'a> Model for Site<'b, 'a> {
+    ghost use Rattle.std.specs.Prelude.{◌≡◌};
+    ghost use Rattle.mm_proof.specs.Sites.{ProofSite, IsSite};
+
+    ghost Value = { ProofSite };
+
+    ghost view = { λ a. record {
+      statements = a.book.now.statements;
+      place = a.own.place;
+      number = a.id.0;
+      limit = a.limit;
+    } };
+
+    // The frame is of this book, which is sound, and its assertion has the number.
+    ghost invariant = { λ a. (a.own.statements ≡ a.book.now.statements)
+        × IsSite (record {
+          statements = a.book.now.statements;
+          place = a.own.place;
+          number = a.id.0;
+          limit = a.limit;
+        }) };
+}
+
+impl<'b, 'a> Site<'b, 'a> {
+    ghost use Rattle.mm_proof.specs.Sites.{IsSite};
+
+    /// Where the proof of the `$p` with the number is judged, under the profile.
+    pub(crate) fn new(book: &'b Book<'a>, id: LabelId, profile: Profile) -> Site<'b, 'a>
+        requires { (place : ℕ) × (s : Sentence) × IsProofNumber book.now.statements id.0 place s }
+        ensures site { IsSite result }
+        ensures statements { result.statements ≡ book.now.statements }
+        ensures number { result.number ≡ id.0 }
+        ensures limit { result.limit ≡ limit_of profile }
+        ensures sound { IsSound book.now.statements }
+    {
+        Site {
+            book,
+            own: book.frame(id),
+            id,
+            limit: profile.limit(),
+        }
+    }
+
+    /// The symbols that the `$p` says to be provable.
+    pub(crate) fn expression(&self) -> &'b [Sym]
+        ensures symbols { AreItsSymbols
+            (record { statements = self.now.statements; place = self.now.place })
+            (numbers_in result.now) }
+        ensures site { IsSite self.now }
+    {
+        self.own.expression()
+    }
+}
