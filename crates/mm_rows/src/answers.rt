@@ -51,7 +51,7 @@ fn asked_of(alloc: Global, command: &Command, files: &[File]) -> Result<Answer, 
 fn saved_of(alloc: Global, label: &[u8], form: Form, files: &[File]) -> Result<Answer, Fail> {
     match saved(alloc, Seed::known(), files, label, form) {
         Ok((number, bytes)) => {
-            if number != files.len() - 1 {
+            if number.saturating_add(1) != files.len() {
                 return Err(Fail::from("another file"));
             }
             Ok(Some(Ok(bytes)))
