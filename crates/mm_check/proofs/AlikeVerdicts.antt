@@ -13,7 +13,7 @@ use Rattle.mm_frame.specs.Sentence.{Sentence, sentence_of}
 use Rattle.mm_frame.specs.Rules.{FirstBroken, IsMeant}
 use Rattle.mm_proof.specs.declared.fault.ProofRule.{ProofRule}
 use Rattle.mm_proof.specs.Proof.{IsProvedWithin, IsWithin, IsFault}
-use Rattle.mm_proof.specs.declared.profile.Profile.TheVariants.{Lenient}
+use Rattle.mm_proof.specs.declared.profile.Profile.{Profile}
 use Rattle.mm_proof.specs.Profiles.{limit_of}
 use Rattle.mm_check.specs.declared.rule.Rule.{Rule}
 use Rattle.mm_check.specs.Verdict.{Verdict, Load, Refused, Incomplete, Yes, PlainRefusal, HasVerdict, Obeys, AllObey, HasFault, RefusesStatement, RefusesText, AreAccepted, CanBeRead, sentences, proof_of, is_proof, is_incomplete, is_unproved, label_of, unproved_of, proofs_of, refusal_of, text_refusal, text_rule, meaning_rule, proof_rule}
@@ -107,36 +107,36 @@ moved {X} {Y} {Z} P x x' y y' z z' e f g h =
     subst (λ (w : Z). P x' y' w) g (subst (λ (w : Y). P x' w z) f (subst (λ (w : X). P w y z) e h))
 
 -- what a statement obeys, by what it says and its proof
-abbrev ObeysAs : List Sentence → Sentence → List (List ℕ) → Type 0
-ObeysAs before x p =
+abbrev ObeysAs : Profile → List Sentence → Sentence → List (List ℕ) → Type 0
+ObeysAs profile before x p =
     IsMeant before x
-    × (is_provable x.kind && not (is_incomplete p) ≡ true → IsProvedWithin (IsWithin (limit_of Lenient)) before x p)
+    × (is_provable x.kind && not (is_incomplete p) ≡ true → IsProvedWithin (IsWithin (limit_of profile)) before x p)
 
-pub obeys_alike : (before others : List Sentence) (s t : PlainStatement) → before ≡ others → sentence_of s ≡ sentence_of t → proof_of s ≡ proof_of t
-    → Obeys before s → Obeys others t
-obeys_alike before others s t e f g obeyed =
-    let moved_to : ObeysAs others (sentence_of t) (proof_of t) =
-    moved ObeysAs before others (sentence_of s) (sentence_of t) (proof_of s) (proof_of t) e f g (obeyed.meant, obeyed.proved) in
+pub obeys_alike : (profile : Profile) (before others : List Sentence) (s t : PlainStatement) → before ≡ others → sentence_of s ≡ sentence_of t → proof_of s ≡ proof_of t
+    → Obeys profile before s → Obeys profile others t
+obeys_alike profile before others s t e f g obeyed =
+    let moved_to : ObeysAs profile others (sentence_of t) (proof_of t) =
+    moved (ObeysAs profile) before others (sentence_of s) (sentence_of t) (proof_of s) (proof_of t) e f g (obeyed.meant, obeyed.proved) in
     record { meant = moved_to.0; proved = moved_to.1 }
 
 -- its fault, by the same
-abbrev HasFaultAs : Rule → ℕ → List Sentence → Sentence → List (List ℕ) → Type 0
-HasFaultAs rule step before x p =
+abbrev HasFaultAs : Profile → Rule → ℕ → List Sentence → Sentence → List (List ℕ) → Type 0
+HasFaultAs profile rule step before x p =
     ((broken : MeaningRule) × FirstBroken broken before x × (rule ≡ meaning_rule broken) × (step ≡ 0))
     ⊎ (IsMeant before x × (is_provable x.kind && not (is_incomplete p) ≡ true)
-    × (broken : ProofRule) × IsFault (IsWithin (limit_of Lenient)) before x p broken step × (rule ≡ proof_rule broken))
+    × (broken : ProofRule) × IsFault (IsWithin (limit_of profile)) before x p broken step × (rule ≡ proof_rule broken))
 
-fault_alike : (before others : List Sentence) (s t : PlainStatement) (rule : Rule) (step : ℕ) → before ≡ others → sentence_of s ≡ sentence_of t → proof_of s ≡ proof_of t
-    → HasFault before s rule step → HasFault others t rule step
-fault_alike before others s t rule step e f g fault =
-    moved (HasFaultAs rule step) before others (sentence_of s) (sentence_of t) (proof_of s) (proof_of t) e f g fault
+fault_alike : (profile : Profile) (before others : List Sentence) (s t : PlainStatement) (rule : Rule) (step : ℕ) → before ≡ others → sentence_of s ≡ sentence_of t → proof_of s ≡ proof_of t
+    → HasFault profile before s rule step → HasFault profile others t rule step
+fault_alike profile before others s t rule step e f g fault =
+    moved (HasFaultAs profile rule step) before others (sentence_of s) (sentence_of t) (proof_of s) (proof_of t) e f g fault
 
 -- all obey the rules if all of the others do
-all_obey_alike : (h k : ℕ → ℕ → ℕ) (ss us : List PlainStatement) → map (statement_on h) ss ≡ map (statement_on k) us → AllObey ss → AllObey us
-all_obey_alike h k ss us is obeyed before after s split =
+all_obey_alike : (profile : Profile) (h k : ℕ → ℕ → ℕ) (ss us : List PlainStatement) → map (statement_on h) ss ≡ map (statement_on k) us → AllObey profile ss → AllObey profile us
+all_obey_alike profile h k ss us is obeyed before after s split =
     let (earlier, rest, whole, front, back) = append_split (statement_on k) (statement_on h) before (s ∷ after) ss (sym (is ∙ ap (map (statement_on k)) split)) in
     let (t, later, cut, same, tail) = cons_split (statement_on k) (statement_on h) s after rest back in
-    obeys_alike (sentences earlier) (sentences before) t s (sym (same_sentences k h before earlier front)) (sym (same_sentence k h s t same)) (sym (same_proof k h s t same))
+    obeys_alike profile (sentences earlier) (sentences before) t s (sym (same_sentences k h before earlier front)) (sym (same_sentence k h s t same)) (sym (same_proof k h s t same))
     (obeyed earlier later t (whole ∙ ap (λ (l : List PlainStatement). earlier ++ l) cut))
 
 -- ## Refusals
@@ -184,10 +184,10 @@ text_refusal_on files fault =
 same_text_refusal : (files others : List PlainFile) (f g : PlainFault) → fault_on (feeds_in files) f ≡ fault_on (feeds_in others) g → text_refusal files f ≡ text_refusal others g
 same_text_refusal files others f g is = text_refusal_on files f ∙ ap text_refusal_at is ∙ sym (text_refusal_on others g)
 
-refuses_statement_alike : (files others : List PlainFile) (ss us : List PlainStatement) (refusal : PlainRefusal)
+refuses_statement_alike : (profile : Profile) (files others : List PlainFile) (ss us : List PlainStatement) (refusal : PlainRefusal)
     → map (statement_on (feeds_in files)) ss ≡ map (statement_on (feeds_in others)) us
-    → RefusesStatement files ss refusal → RefusesStatement others us refusal
-refuses_statement_alike files others ss us refusal is r =
+    → RefusesStatement profile files ss refusal → RefusesStatement profile others us refusal
+refuses_statement_alike profile files others ss us refusal is r =
     let h : ℕ → ℕ → ℕ = feeds_in files in
     let k : ℕ → ℕ → ℕ = feeds_in others in
     let (before, rest, whole, front, back) = append_split (statement_on h) (statement_on k) r.before (r.s ∷ r.after) us (sym (ap (map (statement_on h)) r.split) ∙ is) in
@@ -197,10 +197,10 @@ refuses_statement_alike files others ss us refusal is r =
       s = t;
       after = after;
       split = whole ∙ ap (λ (l : List PlainStatement). before ++ l) cut;
-      obeyed = all_obey_alike h k r.before before front r.obeyed;
+      obeyed = all_obey_alike profile h k r.before before front r.obeyed;
       rule = r.rule;
       step = r.step;
-      fault = fault_alike (sentences r.before) (sentences before) r.s t r.rule r.step (same_sentences h k r.before before front) (same_sentence h k r.s t same) (same_proof h k r.s t same) r.fault;
+      fault = fault_alike profile (sentences r.before) (sentences before) r.s t r.rule r.step (same_sentences h k r.before before front) (same_sentence h k r.s t same) (same_proof h k r.s t same) r.fault;
       refused = r.refused ∙ same_refusal files others (length r.before) (length before) r.s t r.rule r.step (same_length (statement_on h) (statement_on k) r.before before front) same;
     }
 
@@ -214,16 +214,16 @@ some_fault : (h k : ℕ → ℕ → ℕ) (f : PlainFault) (o : Option PlainFault
 some_fault h k f None is = cc is
 some_fault h k f (Some g) is = (g, refl, cc is)
 
-refuses_text_alike : (files others : List PlainFile) (ss us : List PlainStatement) (ending end : Option PlainFault) (refusal : PlainRefusal)
+refuses_text_alike : (profile : Profile) (files others : List PlainFile) (ss us : List PlainStatement) (ending end : Option PlainFault) (refusal : PlainRefusal)
     → map (statement_on (feeds_in files)) ss ≡ map (statement_on (feeds_in others)) us
     → option_map (fault_on (feeds_in files)) ending ≡ option_map (fault_on (feeds_in others)) end
-    → RefusesText files ss ending refusal → RefusesText others us end refusal
-refuses_text_alike files others ss us ending end refusal is ended r =
+    → RefusesText profile files ss ending refusal → RefusesText profile others us end refusal
+refuses_text_alike profile files others ss us ending end refusal is ended r =
     let h : ℕ → ℕ → ℕ = feeds_in files in
     let k : ℕ → ℕ → ℕ = feeds_in others in
     let (g, there, same) = some_fault h k r.fault end (sym (ap (option_map (fault_on h)) r.ended) ∙ ended) in
     record {
-      obeyed = all_obey_alike h k ss us is r.obeyed;
+      obeyed = all_obey_alike profile h k ss us is r.obeyed;
       fault = g;
       ended = there;
       refused = r.refused ∙ same_text_refusal files others r.fault g same;
@@ -293,38 +293,38 @@ readable_alike files others alike small readable rule broken =
 -- ## The verdict
 
 -- files that show the same are accepted alike
-accepted_alike : AlikeFilesAreReadAlike → (files others : List PlainFile) → AllZip AreAlike files others → total_bytes others ≤ 1073741824
-    → (statements : List PlainStatement) → AreAccepted files statements
-    → (same : List PlainStatement) × AreAccepted others same × (map (statement_on (feeds_in files)) statements ≡ map (statement_on (feeds_in others)) same)
-accepted_alike law files others alike small statements accepted =
+accepted_alike : (profile : Profile) → AlikeFilesAreReadAlike → (files others : List PlainFile) → AllZip AreAlike files others → total_bytes others ≤ 1073741824
+    → (statements : List PlainStatement) → AreAccepted profile files statements
+    → (same : List PlainStatement) × AreAccepted profile others same × (map (statement_on (feeds_in files)) statements ≡ map (statement_on (feeds_in others)) same)
+accepted_alike profile law files others alike small statements accepted =
     let read : AreReadAlike files others statements None = law files others alike statements None accepted.reads in
     let none : read.end ≡ None = no_fault (feeds_in others) read.end read.ended in (
       read.same,
       record {
         readable = readable_alike files others alike small accepted.readable;
         reads = subst (λ (e : Option PlainFault). Reads others read.same e) none read.reads;
-        obeyed = all_obey_alike (feeds_in files) (feeds_in others) statements read.same read.spelled accepted.obeyed;
+        obeyed = all_obey_alike profile (feeds_in files) (feeds_in others) statements read.same read.spelled accepted.obeyed;
       },
       read.spelled,
     )
 
-pub verdict_alike : AlikeFilesAreReadAlike → (files others : List PlainFile) → AllZip AreAlike files others
+pub verdict_alike : (profile : Profile) → AlikeFilesAreReadAlike → (files others : List PlainFile) → AllZip AreAlike files others
     → total_bytes files ≤ 1073741824 → total_bytes others ≤ 1073741824
-    → (verdict : Verdict) → HasVerdict files verdict → HasVerdict others verdict
-verdict_alike law files others alike small short (Load rule) holds =
+    → (verdict : Verdict) → HasVerdict profile files verdict → HasVerdict profile others verdict
+verdict_alike profile law files others alike small short (Load rule) holds =
     (holds.0, breaks_alike files others alike small holds.0 holds.1, holds.2)
-verdict_alike law files others alike small short (Refused refusal) holds =
+verdict_alike profile law files others alike small short (Refused refusal) holds =
     let read : AreReadAlike files others holds.1 holds.2 = law files others alike holds.1 holds.2 holds.3 in
-    let refuses : RefusesStatement others read.same refusal ⊎ RefusesText others read.same read.end refusal = elim (holds.4) [
-      | inl r ↦ inl (refuses_statement_alike files others holds.1 read.same refusal read.spelled r)
-      | inr r ↦ inr (refuses_text_alike files others holds.1 read.same holds.2 read.end refusal read.spelled read.ended r)
+    let refuses : RefusesStatement profile others read.same refusal ⊎ RefusesText profile others read.same read.end refusal = elim (holds.4) [
+      | inl r ↦ inl (refuses_statement_alike profile files others holds.1 read.same refusal read.spelled r)
+      | inr r ↦ inr (refuses_text_alike profile files others holds.1 read.same holds.2 read.end refusal read.spelled read.ended r)
     ] in
     (readable_alike files others alike short holds.0, read.same, read.end, read.reads, refuses)
-verdict_alike law files others alike small short (Incomplete labels) holds =
-    let (same, accepted, is) = accepted_alike law files others alike short holds.0 holds.1 in
+verdict_alike profile law files others alike small short (Incomplete labels) holds =
+    let (same, accepted, is) = accepted_alike profile law files others alike short holds.0 holds.1 in
     (same, accepted, holds.2 ∙ same_unproved (feeds_in files) (feeds_in others) holds.0 same is, holds.3)
-verdict_alike law files others alike small short (Yes count proofs) holds =
-    let (same, accepted, is) = accepted_alike law files others alike short holds.0 holds.1 in (
+verdict_alike profile law files others alike small short (Yes count proofs) holds =
+    let (same, accepted, is) = accepted_alike profile law files others alike short holds.0 holds.1 in (
       same,
       accepted,
       sym (same_unproved (feeds_in files) (feeds_in others) holds.0 same is) ∙ holds.2,
@@ -344,9 +344,9 @@ text_alike files others alike (Incomplete labels) = refl
 text_alike files others alike (Yes statements proofs) = refl
 
 pub alike_files_have_one_reply : AlikeFilesAreReadAlike → AlikeFilesHaveOneReply
-alike_files_have_one_reply law files others alike small short text status reply = record {
+alike_files_have_one_reply law profile files others alike small short text status reply = record {
   verdict = reply.verdict;
-  holds = verdict_alike law files others alike small short reply.verdict reply.holds;
+  holds = verdict_alike profile law files others alike small short reply.verdict reply.holds;
   said = reply.said ∙ text_alike files others alike reply.verdict;
   ends = reply.ends;
 }

@@ -7,6 +7,7 @@ use Rattle.mm_text.specs.Reading.{PlainFault, Reads}
 use Rattle.mm_text.specs.Remaining.{Remaining, IsUnread}
 use Rattle.mm_text.proofs.ReaderLaws.{each_has_one_reading}
 use Rattle.mm_frame.specs.Sentence.{Sentence}
+use Rattle.mm_proof.specs.declared.profile.Profile.{Profile}
 use Rattle.mm_check.specs.declared.fault.CheckFault.{CheckFault}
 use Rattle.mm_check.specs.declared.progress.Progress.{Progress}
 use Rattle.mm_check.specs.Conclusion.{Conclusion, ProofUses, labels_in}
@@ -22,37 +23,37 @@ use Rattle.mm_check.proofs.Numbers.{names_at, numbers_within}
 
 -- ## What holds on the way
 
-no_statement : AllObey []
-no_statement [] after s e = cc
-no_statement (b ∷ before) after s e = cc
+no_statement : (profile : Profile) → AllObey profile []
+no_statement profile [] after s e = cc
+no_statement profile (b ∷ before) after s e = cc
 
-pub starts : (files : List PlainFile) (p : Progress) (left : Remaining) → IsUnread files left → CanBeRead files → Knows [] p → IsUnderWay files p left
-starts files p left unread readable known =
-    record { earlier = []; readable = readable; reads = unread.reads; obeyed = no_statement; known = known }
+pub starts : (profile : Profile) (files : List PlainFile) (p : Progress) (left : Remaining) → IsUnread files left → CanBeRead files → Knows [] p → IsUnderWay profile files p left
+starts profile files p left unread readable known =
+    record { earlier = []; readable = readable; reads = unread.reads; obeyed = no_statement profile; known = known }
 
 -- the statement taken goes over from those that are left to those so far
-pub goes_on : (files : List PlainFile) (s : PlainStatement) (p q : Progress) (old new : Remaining) → IsUnderWay files p old
-    → TakesNext old true s new → HasForm s → Takes p s q → IsUnderWay files q new
-goes_on files s p q old new way taken formed takes =
+pub goes_on : (profile : Profile) (files : List PlainFile) (s : PlainStatement) (p q : Progress) (old new : Remaining) → IsUnderWay profile files p old
+    → TakesNext old true s new → HasForm s → Takes profile p s q → IsUnderWay profile files q new
+goes_on profile files s p q old new way taken formed takes =
     let plain : List PlainStatement = way.earlier in
     let moved : plain ++ old.statements ≡ (plain ++ s ∷ []) ++ new.statements =
     ap (λ (ss : List PlainStatement). plain ++ ss) taken.0 ∙ sym (append_assoc plain (s ∷ []) new.statements) in
     let ending : old.ending ≡ new.ending = sym (ap (λ (r : Remaining). r.ending) taken.1) in
     let Readable : List PlainStatement → Option PlainFault → Type 0 = λ ss e. Reads files ss e in
-    let obeys : Obeys (sentences plain) s = subst (λ (b : List Sentence). Obeys b s) way.known.book takes.obeys in
+    let obeys : Obeys profile (sentences plain) s = subst (λ (b : List Sentence). Obeys profile b s) way.known.book takes.obeys in
     record {
       earlier = plain ++ s ∷ [];
       readable = way.readable;
       reads = subst (λ (e : Option PlainFault). Readable ((plain ++ s ∷ []) ++ new.statements) e) ending
           (subst (λ (ss : List PlainStatement). Readable ss old.ending) moved way.reads);
-      obeyed = one_more plain s way.obeyed obeys;
-      known = knows_more plain s p q formed way.known takes;
+      obeyed = one_more profile plain s way.obeyed obeys;
+      known = knows_more profile plain s p q formed way.known takes;
     }
 
 -- the reading where no statement is left
-none_left : (files : List PlainFile) (p : Progress) (left : Remaining) (way : IsUnderWay files p left) → left.statements ≡ []
+none_left : (profile : Profile) (files : List PlainFile) (p : Progress) (left : Remaining) (way : IsUnderWay profile files p left) → left.statements ≡ []
     → Reads files way.earlier left.ending
-none_left files p left way none =
+none_left profile files p left way none =
     subst (λ (ss : List PlainStatement). Reads files ss left.ending)
     (ap (λ (ss : List PlainStatement). way.earlier ++ ss) none ∙ append-nil way.earlier) way.reads
 
@@ -66,42 +67,42 @@ untold : (fault : CheckFault) (v : Verdict) → verdict_of_fault fault ≡ None 
 untold fault v e f = cc
 
 -- a fault that is passed on tells the verdict that it told
-pub passed_on : (files : List PlainFile) (answer : Result Conclusion CheckFault) (fault : CheckFault) → IsErrAnd answer (λ e. e ≡ fault)
-    → ((v : Verdict) → verdict_of_fault fault ≡ Some v → HasVerdict files v) → IsVerdict files answer
-passed_on files (Ok c) fault same holds v e = absurd same
-passed_on files (Err other) fault same holds v e = holds v (ap verdict_of_fault (sym same) ∙ e)
+pub passed_on : (profile : Profile) (files : List PlainFile) (answer : Result Conclusion CheckFault) (fault : CheckFault) → IsErrAnd answer (λ e. e ≡ fault)
+    → ((v : Verdict) → verdict_of_fault fault ≡ Some v → HasVerdict profile files v) → IsVerdict profile files answer
+passed_on profile files (Ok c) fault same holds v e = absurd same
+passed_on profile files (Err other) fault same holds v e = holds v (ap verdict_of_fault (sym same) ∙ e)
 
 -- want of memory tells none
-pub no_memory : (files : List PlainFile) (fault : CheckFault) → verdict_of_fault fault ≡ None
-    → (v : Verdict) → verdict_of_fault fault ≡ Some v → HasVerdict files v
-no_memory files fault none v e = absurd (untold fault v none e)
+pub no_memory : (profile : Profile) (files : List PlainFile) (fault : CheckFault) → verdict_of_fault fault ≡ None
+    → (v : Verdict) → verdict_of_fault fault ≡ Some v → HasVerdict profile files v
+no_memory profile files fault none v e = absurd (untold fault v none e)
 
-pub load_verdict : (files : List PlainFile) (fault : CheckFault) → RefusesLoad files fault
-    → (v : Verdict) → verdict_of_fault fault ≡ Some v → HasVerdict files v
-load_verdict files fault (inl none) v e = absurd (untold fault v none e)
-load_verdict files fault (inr broken) v e =
-    subst (λ (w : Verdict). HasVerdict files w) (told fault _ v broken.2 e) (broken.0, broken.1, refl)
+pub load_verdict : (profile : Profile) (files : List PlainFile) (fault : CheckFault) → RefusesLoad files fault
+    → (v : Verdict) → verdict_of_fault fault ≡ Some v → HasVerdict profile files v
+load_verdict profile files fault (inl none) v e = absurd (untold fault v none e)
+load_verdict profile files fault (inr broken) v e =
+    subst (λ (w : Verdict). HasVerdict profile files w) (told fault _ v broken.2 e) (broken.0, broken.1, refl)
 
-pub end_verdict : (files : List PlainFile) (p : Progress) (left : Remaining) (fault : CheckFault) → IsUnderWay files p left
-    → RefusesEnd files left fault → (v : Verdict) → verdict_of_fault fault ≡ Some v → HasVerdict files v
-end_verdict files p left fault way (inl none) v e = absurd (untold fault v none e)
-end_verdict files p left fault way (inr end) v e =
-    subst (λ (w : Verdict). HasVerdict files w) (told fault _ v end.3 e) (
+pub end_verdict : (profile : Profile) (files : List PlainFile) (p : Progress) (left : Remaining) (fault : CheckFault) → IsUnderWay profile files p left
+    → RefusesEnd files left fault → (v : Verdict) → verdict_of_fault fault ≡ Some v → HasVerdict profile files v
+end_verdict profile files p left fault way (inl none) v e = absurd (untold fault v none e)
+end_verdict profile files p left fault way (inr end) v e =
+    subst (λ (w : Verdict). HasVerdict profile files w) (told fault _ v end.3 e) (
       way.readable,
       way.earlier,
       left.ending,
-      none_left files p left way end.0,
+      none_left profile files p left way end.0,
       inr (record { obeyed = way.obeyed; fault = end.1; ended = end.2; refused = refl }),
     )
 
-pub statement_verdict : (files : List PlainFile) (p : Progress) (s : PlainStatement) (old new : Remaining) (fault : CheckFault)
-    → IsUnderWay files p old → TakesNext old true s new
-    → RefusesAfter files p.prover.book.statements p.count s fault
-    → (v : Verdict) → verdict_of_fault fault ≡ Some v → HasVerdict files v
-statement_verdict files p s old new fault way taken (inl none) v e = absurd (untold fault v none e)
-statement_verdict files p s old new fault way taken (inr at) v e =
+pub statement_verdict : (profile : Profile) (files : List PlainFile) (p : Progress) (s : PlainStatement) (old new : Remaining) (fault : CheckFault)
+    → IsUnderWay profile files p old → TakesNext old true s new
+    → RefusesAfter profile files p.prover.book.statements p.count s fault
+    → (v : Verdict) → verdict_of_fault fault ≡ Some v → HasVerdict profile files v
+statement_verdict profile files p s old new fault way taken (inl none) v e = absurd (untold fault v none e)
+statement_verdict profile files p s old new fault way taken (inr at) v e =
     let plain : List PlainStatement = way.earlier in
-    subst (λ (w : Verdict). HasVerdict files w) (told fault _ v at.3 e) (
+    subst (λ (w : Verdict). HasVerdict profile files w) (told fault _ v at.3 e) (
       way.readable,
       plain ++ old.statements,
       old.ending,
@@ -114,7 +115,7 @@ statement_verdict files p s old new fault way taken (inr at) v e =
         obeyed = way.obeyed;
         rule = at.0;
         step = at.1;
-        fault = subst (λ (ss : List Sentence). HasFault ss s at.0 at.1) way.known.book at.2;
+        fault = subst (λ (ss : List Sentence). HasFault profile ss s at.0 at.1) way.known.book at.2;
         refused = ap (λ (n : ℕ). refusal_of files n s at.0 at.1) way.known.count;
       }),
     )
@@ -129,53 +130,53 @@ pub record Concludes (p : Progress) (c : Conclusion) : Type 0 where
   pub uses : c.uses ≡ p.kept
 
 -- numbers that name these proofs tell yes where there are none, else these proofs
-concluded_as : (files : List PlainFile) (c : Conclusion) (statements : List PlainStatement) (numbers : List ℕ) (unproved : List (List ℕ))
-    → AreAccepted files statements → unproved ≡ unproved_of statements → map (slice_get c.labels) numbers ≡ map Some unproved
+concluded_as : (profile : Profile) (files : List PlainFile) (c : Conclusion) (statements : List PlainStatement) (numbers : List ℕ) (unproved : List (List ℕ))
+    → AreAccepted profile files statements → unproved ≡ unproved_of statements → map (slice_get c.labels) numbers ≡ map Some unproved
     → c.statements ≡ length statements → c.proofs ≡ proofs_of statements
-    → HasVerdict files (verdict_where_incomplete c numbers)
-concluded_as files c statements [] [] accepted same named count proofs = (statements, accepted, sym same, count, proofs)
-concluded_as files c statements [] (u ∷ unproved) accepted same named count proofs = absurd cc
-concluded_as files c statements (n ∷ numbers) [] accepted same named count proofs = absurd cc
-concluded_as files c statements (n ∷ numbers) (u ∷ unproved) accepted same named count proofs =
+    → HasVerdict profile files (verdict_where_incomplete c numbers)
+concluded_as profile files c statements [] [] accepted same named count proofs = (statements, accepted, sym same, count, proofs)
+concluded_as profile files c statements [] (u ∷ unproved) accepted same named count proofs = absurd cc
+concluded_as profile files c statements (n ∷ numbers) [] accepted same named count proofs = absurd cc
+concluded_as profile files c statements (n ∷ numbers) (u ∷ unproved) accepted same named count proofs =
     let told : labels_at c.labels (n ∷ numbers) ≡ u ∷ unproved = names_at c.labels (n ∷ numbers) (u ∷ unproved) named in
     (statements, accepted, told ∙ same, λ e. cc (told, e))
 
 -- what is kept of a database that is read to its end tells its verdict
-pub end_concludes : (files : List PlainFile) (p : Progress) (left : Remaining) (c : Conclusion) → IsUnderWay files p left
-    → left.statements ≡ [] → left.ending ≡ None → Concludes p c → HasVerdict files (verdict_of_conclusion c)
-end_concludes files p left c way none ending kept =
+pub end_concludes : (profile : Profile) (files : List PlainFile) (p : Progress) (left : Remaining) (c : Conclusion) → IsUnderWay profile files p left
+    → left.statements ≡ [] → left.ending ≡ None → Concludes p c → HasVerdict profile files (verdict_of_conclusion c)
+end_concludes profile files p left c way none ending kept =
     let plain : List PlainStatement = way.earlier in
     let reads : Reads files plain None =
-    subst (λ (e : Option PlainFault). Reads files plain e) ending (none_left files p left way none) in
+    subst (λ (e : Option PlainFault). Reads files plain e) ending (none_left profile files p left way none) in
     let labels : c.labels ≡ labels_of plain = kept.labels ∙ ap labels_in way.known.book ∙ labels_said plain in
     let named : map (slice_get c.labels) c.incomplete ≡ map Some (unproved_of plain) =
     ap (λ (ns : List ℕ). map (slice_get c.labels) ns) kept.incomplete
     ∙ ap (λ (ls : List (List ℕ)). map (slice_get ls) (ids p.incomplete.items)) labels
     ∙ sym (names_of_ids (labels_of plain) p.incomplete.items) ∙ way.known.incomplete in
-    concluded_as files c plain c.incomplete (unproved_of plain) (record { readable = way.readable; reads = reads; obeyed = way.obeyed })
+    concluded_as profile files c plain c.incomplete (unproved_of plain) (record { readable = way.readable; reads = reads; obeyed = way.obeyed })
     refl named (kept.statements ∙ way.known.count) (kept.proofs ∙ way.known.proofs)
 
-pub labels_kept : (files : List PlainFile) (p : Progress) (left : Remaining) (c : Conclusion) → IsUnderWay files p left
+pub labels_kept : (profile : Profile) (files : List PlainFile) (p : Progress) (left : Remaining) (c : Conclusion) → IsUnderWay profile files p left
     → left.statements ≡ [] → Concludes p c → KeepsLabels files c
-labels_kept files p left c way none kept statements ending reads =
+labels_kept profile files p left c way none kept statements ending reads =
     let one = each_has_one_reading files in
     kept.labels ∙ ap labels_in way.known.book ∙ labels_said way.earlier
-    ∙ ap labels_of ((one.only way.earlier left.ending (none_left files p left way none)).0 ∙ sym (one.only statements ending reads).0)
+    ∙ ap labels_of ((one.only way.earlier left.ending (none_left profile files p left way none)).0 ∙ sym (one.only statements ending reads).0)
 
-pub counts_kept : (files : List PlainFile) (p : Progress) (left : Remaining) (c : Conclusion) → IsUnderWay files p left
+pub counts_kept : (profile : Profile) (files : List PlainFile) (p : Progress) (left : Remaining) (c : Conclusion) → IsUnderWay profile files p left
     → left.statements ≡ [] → Concludes p c → KeepsCounts files c
-counts_kept files p left c way none kept statements ending reads =
+counts_kept profile files p left c way none kept statements ending reads =
     let one = each_has_one_reading files in
     let same : way.earlier ≡ statements =
-    (one.only way.earlier left.ending (none_left files p left way none)).0 ∙ sym (one.only statements ending reads).0 in
+    (one.only way.earlier left.ending (none_left profile files p left way none)).0 ∙ sym (one.only statements ending reads).0 in
     (kept.statements ∙ way.known.count ∙ ap length same, kept.proofs ∙ way.known.proofs ∙ ap proofs_of same)
 
-pub uses_kept : (files : List PlainFile) (p : Progress) (left : Remaining) (c : Conclusion) → IsUnderWay files p left
+pub uses_kept : (profile : Profile) (files : List PlainFile) (p : Progress) (left : Remaining) (c : Conclusion) → IsUnderWay profile files p left
     → left.statements ≡ [] → Concludes p c → KeepsUses files c
-uses_kept files p left c way none kept statements ending reads =
+uses_kept profile files p left c way none kept statements ending reads =
     let one = each_has_one_reading files in
     let same : way.earlier ≡ statements =
-    (one.only way.earlier left.ending (none_left files p left way none)).0 ∙ sym (one.only statements ending reads).0 in
+    (one.only way.earlier left.ending (none_left profile files p left way none)).0 ∙ sym (one.only statements ending reads).0 in
     let here : IsKeptOf way.earlier c = record {
       sentences = kept.sentences ∙ way.known.book;
       incomplete = subst (λ (ns : List ℕ). AreInOrder (IsNumberWhere way.earlier (λ s. is_unproved s ≡ true)) ns) (sym kept.incomplete) way.known.noted;
@@ -184,9 +185,9 @@ uses_kept files p left c way none kept statements ending reads =
     subst (λ (ss : List PlainStatement). IsKeptOf ss c) same here
 
 -- the numbers of the incomplete proofs are those of labels
-incomplete_within : (files : List PlainFile) (p : Progress) (left : Remaining) → IsUnderWay files p left
+incomplete_within : (profile : Profile) (files : List PlainFile) (p : Progress) (left : Remaining) → IsUnderWay profile files p left
     → AllByRecursion (λ n. n < length (labels_in p.prover.book.statements)) (ids p.incomplete.items)
-incomplete_within files p left way =
+incomplete_within profile files p left way =
     let labels : labels_in p.prover.book.statements ≡ labels_of way.earlier = ap labels_in way.known.book ∙ labels_said way.earlier in
     let named : map (slice_get (labels_of way.earlier)) (ids p.incomplete.items) ≡ map Some (unproved_of way.earlier) =
     sym (names_of_ids (labels_of way.earlier) p.incomplete.items) ∙ way.known.incomplete in
@@ -194,17 +195,17 @@ incomplete_within files p left way =
     (numbers_within (labels_of way.earlier) (ids p.incomplete.items) (unproved_of way.earlier) named)
 
 -- what is kept at the end
-pub kept_well : (files : List PlainFile) (p : Progress) (left : Remaining) → IsUnderWay files p left → left.statements ≡ [] → left.ending ≡ None
-    → IsKeptWell files p.prover.book.statements (ids p.incomplete.items) p.kept
-kept_well files p left way none ending = record {
-  in_range = incomplete_within files p left way;
+pub kept_well : (profile : Profile) (files : List PlainFile) (p : Progress) (left : Remaining) → IsUnderWay profile files p left → left.statements ≡ [] → left.ending ≡ None
+    → IsKeptWell profile files p.prover.book.statements (ids p.incomplete.items) p.kept
+kept_well profile files p left way none ending = record {
+  in_range = incomplete_within profile files p left way;
   rising = way.known.noted.rising;
   backward = backward way.earlier p.kept way.known.kept;
   origin = record {
     statements = way.earlier;
     accepted = record {
       readable = way.readable;
-      reads = subst (λ (e : Option PlainFault). Reads files way.earlier e) ending (none_left files p left way none);
+      reads = subst (λ (e : Option PlainFault). Reads files way.earlier e) ending (none_left profile files p left way none);
       obeyed = way.obeyed;
     };
     sentences = way.known.book;
@@ -214,10 +215,10 @@ kept_well files p left way none ending = record {
 }
 
 -- where nothing is left, the progress is at its end
-pub at_end : (files : List PlainFile) (p : Progress) (old new : Remaining) (s : PlainStatement) → IsUnderWay files p old → TakesNext old false s new
-    → IsAtEnd files p new
-at_end files p old new s way taken =
-    subst (λ (left : Remaining). IsAtEnd files p left) (sym taken.2) (record {
+pub at_end : (profile : Profile) (files : List PlainFile) (p : Progress) (old new : Remaining) (s : PlainStatement) → IsUnderWay profile files p old → TakesNext old false s new
+    → IsAtEnd profile files p new
+at_end profile files p old new s way taken =
+    subst (λ (left : Remaining). IsAtEnd profile files p left) (sym taken.2) (record {
       way = record { earlier = way.earlier; readable = way.readable; reads = way.reads; obeyed = way.obeyed; known = way.known };
       none = taken.0;
       ending = taken.1;

@@ -15,7 +15,7 @@ use Rattle.mm_text.proofs.FormedLaws.{readings_are_formed_in_place}
 use Rattle.mm_frame.specs.Sentence.{sentence_of}
 use Rattle.mm_frame.specs.Rules.{IsMeant}
 use Rattle.mm_frame.specs.Form.{HasItsLabel, IsFormedSentence, AllFormed}
-use Rattle.mm_proof.specs.declared.profile.Profile.TheVariants.{Lenient}
+use Rattle.mm_proof.specs.declared.profile.Profile.{Profile}
 use Rattle.mm_proof.specs.Profiles.{limit_of}
 use Rattle.mm_proof.proofs.Decisions.{dec_both, dec_as, dec_some, dec_le, symbol_dec}
 use Rattle.mm_proof.proofs.Judged.{some_verdict_holds}
@@ -83,19 +83,19 @@ formed_sentences (t ∷ statements) all zero s e = let same : sentence_of t ≡ 
 formed_sentences (t ∷ statements) all (suc place) s e = formed_sentences statements all.1 place s e
 
 -- a statement obeys the rules, or has a fault
-obeys_or_fails : (before : List PlainStatement) (s : PlainStatement) → AllObey before → AllFormed (sentences before) → (b : Bool) → is_proof s ≡ b
-    → IsMeant (sentences before) (sentence_of s) → Obeys (sentences before) s ⊎ ((rule : Rule) × (step : ℕ) × HasFault (sentences before) s rule step)
-obeys_or_fails before s obeyed formed false e meant = inl (record { meant = meant; proved = λ f. absurd cc })
-obeys_or_fails before s obeyed formed true e meant =
-    elim (some_verdict_holds (limit_of Lenient) (sentences before) (sentence_of s) (proof_of s) (all_meant before obeyed) formed) [
+obeys_or_fails : (profile : Profile) (before : List PlainStatement) (s : PlainStatement) → AllObey profile before → AllFormed (sentences before) → (b : Bool) → is_proof s ≡ b
+    → IsMeant (sentences before) (sentence_of s) → Obeys profile (sentences before) s ⊎ ((rule : Rule) × (step : ℕ) × HasFault profile (sentences before) s rule step)
+obeys_or_fails profile before s obeyed formed false e meant = inl (record { meant = meant; proved = λ f. absurd cc })
+obeys_or_fails profile before s obeyed formed true e meant =
+    elim (some_verdict_holds (limit_of profile) (sentences before) (sentence_of s) (proof_of s) (all_meant profile before obeyed) formed) [
       | inl proved ↦ inl (record { meant = meant; proved = λ f. proved })
       | inr fault ↦ inr (proof_rule fault.0, fault.1, inr (meant, e, fault.0, fault.2, refl))
     ]
 
-judged_statement : (before : List PlainStatement) (s : PlainStatement) → AllObey before → AllFormed (sentences before)
-    → Obeys (sentences before) s ⊎ ((rule : Rule) × (step : ℕ) × HasFault (sentences before) s rule step)
-judged_statement before s obeyed formed = elim (some_meaning (sentences before) (sentence_of s)) [
-  | inl meant ↦ obeys_or_fails before s obeyed formed (is_proof s) refl meant
+judged_statement : (profile : Profile) (before : List PlainStatement) (s : PlainStatement) → AllObey profile before → AllFormed (sentences before)
+    → Obeys profile (sentences before) s ⊎ ((rule : Rule) × (step : ℕ) × HasFault profile (sentences before) s rule step)
+judged_statement profile before s obeyed formed = elim (some_meaning (sentences before) (sentence_of s)) [
+  | inl meant ↦ obeys_or_fails profile before s obeyed formed (is_proof s) refl meant
   | inr broken ↦ inr (meaning_rule broken.0, 0, inl (broken.0, broken.1, refl, refl))
 ]
 
@@ -104,15 +104,15 @@ formed_front [] rest all = tt
 formed_front (s ∷ front) rest all = (all.0, formed_front front rest all.1)
 
 -- the first statement at fault, or that there is none
-judged_statements : (files : List PlainFile) (before later : List PlainStatement) → AllObey before → AllByRecursion HasForm (before ++ later)
-    → ((refusal : PlainRefusal) × RefusesStatement files (before ++ later) refusal) ⊎ AllObey (before ++ later)
-judged_statements files before [] obeyed formed = inr (subst AllObey (sym (append-nil before)) obeyed)
-judged_statements files before (s ∷ later) obeyed formed =
-    elim (judged_statement before s obeyed (formed_sentences before (formed_front before (s ∷ later) formed))) [
+judged_statements : (profile : Profile) (files : List PlainFile) (before later : List PlainStatement) → AllObey profile before → AllByRecursion HasForm (before ++ later)
+    → ((refusal : PlainRefusal) × RefusesStatement profile files (before ++ later) refusal) ⊎ AllObey profile (before ++ later)
+judged_statements profile files before [] obeyed formed = inr (subst (AllObey profile) (sym (append-nil before)) obeyed)
+judged_statements profile files before (s ∷ later) obeyed formed =
+    elim (judged_statement profile before s obeyed (formed_sentences before (formed_front before (s ∷ later) formed))) [
       | inl obeys ↦
           let same : (before ++ s ∷ []) ++ later ≡ before ++ s ∷ later = append_assoc before (s ∷ []) later in
-          subst (λ (ss : List PlainStatement). ((refusal : PlainRefusal) × RefusesStatement files ss refusal) ⊎ AllObey ss) same
-          (judged_statements files (before ++ s ∷ []) later (one_more before s obeyed obeys)
+          subst (λ (ss : List PlainStatement). ((refusal : PlainRefusal) × RefusesStatement profile files ss refusal) ⊎ AllObey profile ss) same
+          (judged_statements profile files (before ++ s ∷ []) later (one_more profile before s obeyed obeys)
           (subst (λ (ss : List PlainStatement). AllByRecursion HasForm ss) (sym same) formed))
       | inr fault ↦ inl (
         refusal_of files (length before) s fault.0 fault.1,
@@ -122,34 +122,34 @@ judged_statements files before (s ∷ later) obeyed formed =
 
 -- ## The verdict
 
-concluded_verdict : (files : List PlainFile) (statements : List PlainStatement) → AreAccepted files statements
-    → (unproved : List (List ℕ)) → unproved ≡ unproved_of statements → (verdict : Verdict) × HasVerdict files verdict
-concluded_verdict files statements accepted [] e = (Yes (length statements) (proofs_of statements), (statements, accepted, sym e, refl, refl))
-concluded_verdict files statements accepted (l ∷ ls) e = (Incomplete (l ∷ ls), (statements, accepted, e, λ f. absurd cc))
+concluded_verdict : (profile : Profile) (files : List PlainFile) (statements : List PlainStatement) → AreAccepted profile files statements
+    → (unproved : List (List ℕ)) → unproved ≡ unproved_of statements → (verdict : Verdict) × HasVerdict profile files verdict
+concluded_verdict profile files statements accepted [] e = (Yes (length statements) (proofs_of statements), (statements, accepted, sym e, refl, refl))
+concluded_verdict profile files statements accepted (l ∷ ls) e = (Incomplete (l ∷ ls), (statements, accepted, e, λ f. absurd cc))
 
-ended_verdict : (files : List PlainFile) (statements : List PlainStatement) (ending : Option PlainFault) → CanBeRead files
-    → Reads files statements ending → AllObey statements → (verdict : Verdict) × HasVerdict files verdict
-ended_verdict files statements None readable reads obeyed =
-    concluded_verdict files statements (record { readable = readable; reads = reads; obeyed = obeyed }) (unproved_of statements) refl
-ended_verdict files statements (Some fault) readable reads obeyed = (
+ended_verdict : (profile : Profile) (files : List PlainFile) (statements : List PlainStatement) (ending : Option PlainFault) → CanBeRead files
+    → Reads files statements ending → AllObey profile statements → (verdict : Verdict) × HasVerdict profile files verdict
+ended_verdict profile files statements None readable reads obeyed =
+    concluded_verdict profile files statements (record { readable = readable; reads = reads; obeyed = obeyed }) (unproved_of statements) refl
+ended_verdict profile files statements (Some fault) readable reads obeyed = (
   Refused (text_refusal files fault),
   (readable, statements, Some fault, reads, inr (record { obeyed = obeyed; fault = fault; ended = refl; refused = refl })),
 )
 
-no_statement : AllObey []
-no_statement [] after s e = absurd cc
-no_statement (b ∷ before) after s e = absurd cc
+no_statement : (profile : Profile) → AllObey profile []
+no_statement profile [] after s e = absurd cc
+no_statement profile (b ∷ before) after s e = absurd cc
 
-read_verdict : (files : List PlainFile) → CanBeRead files → (verdict : Verdict) × HasVerdict files verdict
-read_verdict files readable =
+read_verdict : (profile : Profile) (files : List PlainFile) → CanBeRead files → (verdict : Verdict) × HasVerdict profile files verdict
+read_verdict profile files readable =
     let one = each_has_one_reading files in
-    elim (judged_statements files [] one.statements no_statement (readings_are_formed_in_place files one.statements one.ending one.reads).formed) [
+    elim (judged_statements profile files [] one.statements (no_statement profile) (readings_are_formed_in_place files one.statements one.ending one.reads).formed) [
       | inl refused ↦ (Refused refused.0, (readable, one.statements, one.ending, one.reads, inl refused.1))
-      | inr obeyed ↦ ended_verdict files one.statements one.ending readable one.reads obeyed
+      | inr obeyed ↦ ended_verdict profile files one.statements one.ending readable one.reads obeyed
     ]
 
-pub some_verdict : (files : List PlainFile) → (verdict : Verdict) × HasVerdict files verdict
-some_verdict files = elim (judged_load files) [
+pub some_verdict : (profile : Profile) (files : List PlainFile) → (verdict : Verdict) × HasVerdict profile files verdict
+some_verdict profile files = elim (judged_load files) [
   | inl broken ↦ (Load (load_rule broken.0), (broken.0, broken.1, refl))
-  | inr readable ↦ read_verdict files readable
+  | inr readable ↦ read_verdict profile files readable
 ]

@@ -13,6 +13,7 @@ use Rattle.mm_text.specs.Items.{Item, Plain, Wrong, Inclusion, End, Shown, Clear
 use Rattle.mm_text.specs.Reading.{PlainFault, Reads, EndsAt, IsSliceOf, IsInPlace}
 use Rattle.mm_text.proofs.PlaceLaws.{StandsIn, tokens_in_place}
 use Rattle.mm_text.proofs.FormedLaws.{readings_are_formed_in_place}
+use Rattle.mm_proof.specs.declared.profile.Profile.{Profile}
 use Rattle.mm_check.specs.declared.fault.CheckFault.{CheckFault}
 use Rattle.mm_check.specs.Conclusion.{Conclusion}
 use Rattle.mm_check.specs.Verdict.{PlainRefusal, Refused, HasVerdict}
@@ -209,13 +210,13 @@ fault_home files statements fault reads =
         named e.3.first (first_home files statements (Some fault) e.2 e.3 e.4.within reads e.4.whole) (ap (λ (f : PlainFault). f.file) e.5)
 
 -- a refusal's file is one of the files
-pub refused_home : (files : List PlainFile) (refusal : PlainRefusal) → HasVerdict files (Refused refusal) → refusal.file < length files
-refused_home files refusal h = elim (h.4) [
+pub refused_home : (profile : Profile) (files : List PlainFile) (refusal : PlainRefusal) → HasVerdict profile files (Refused refusal) → refusal.file < length files
+refused_home profile files refusal h = elim (h.4) [
   | inl r ↦ subst (λ (k : ℕ). k < length files) (sym (ap (λ (q : PlainRefusal). q.file) r.refused))
       (first_home files h.1 h.2 r.before r.s r.after h.3 r.split)
   | inr r ↦ subst (λ (k : ℕ). k < length files) (sym (ap (λ (q : PlainRefusal). q.file) r.refused))
       (fault_home files h.1 r.fault (subst (λ (e : Option PlainFault). Reads files h.1 e) r.ended h.3))
 ]
 
-pub names_file : (files : List PlainFile) (answer : Result Conclusion CheckFault) → IsVerdict files answer → NamesFile files answer
-names_file files answer holds refusal told = refused_home files refusal (holds (Refused refusal) told)
+pub names_file : (profile : Profile) (files : List PlainFile) (answer : Result Conclusion CheckFault) → IsVerdict profile files answer → NamesFile files answer
+names_file profile files answer holds refusal told = refused_home profile files refusal (holds (Refused refusal) told)

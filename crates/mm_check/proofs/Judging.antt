@@ -18,7 +18,7 @@ use Rattle.mm_proof.specs.Tokens.{IsIncomplete}
 use Rattle.mm_proof.specs.Steps.{IsProofNumber}
 use Rattle.mm_proof.specs.Parsed.{OfProof}
 use Rattle.mm_proof.specs.Verified.{TokensProve, TokensFail}
-use Rattle.mm_proof.specs.declared.profile.Profile.TheVariants.{Lenient}
+use Rattle.mm_proof.specs.declared.profile.Profile.{Profile}
 use Rattle.mm_proof.specs.Profiles.{limit_of}
 use Rattle.mm_proof.proofs.Places.{one_split}
 use Rattle.mm_text.specs.Files.{PlainFile}
@@ -121,35 +121,35 @@ is_complete : (tokens : List (List ℕ)) (s : PlainStatement) → tokens ≡ pro
 is_complete tokens s same none = subst (λ (ts : List (List ℕ)). is_incomplete ts ≡ false) same (complete_is tokens none)
 
 -- what the prover says of the tokens of the statement with the number, wherever it stands, is said of the last one
-pub judged : (statements : List Sentence) (id : ℕ) (s : PlainStatement) (tokens : List (List ℕ)) (result : Result Proved ProofFault) (used : List ℕ) → HasForm s → IsLastProof statements id s
+pub judged : (profile : Profile) (statements : List Sentence) (id : ℕ) (s : PlainStatement) (tokens : List (List ℕ)) (result : Result Proved ProofFault) (used : List ℕ) → HasForm s → IsLastProof statements id s
     → tokens ≡ proof_of s
     → (result ≡ Ok proved.Incomplete → IsIncomplete tokens) → (IsIncomplete tokens → result ≡ Ok proved.Incomplete)
-    → (result ≡ Ok proved.Complete → OfProof statements id (λ place t. TokensProve (limit_of Lenient) (take place statements) t tokens used))
-    → ((rule : ProofRule) (step : ℕ) → result ≡ Err (faults.Rule rule step) → OfProof statements id (λ place t. TokensFail (limit_of Lenient) (take place statements) t tokens rule step))
+    → (result ≡ Ok proved.Complete → OfProof statements id (λ place t. TokensProve (limit_of profile) (take place statements) t tokens used))
+    → ((rule : ProofRule) (step : ℕ) → result ≡ Err (faults.Rule rule step) → OfProof statements id (λ place t. TokensFail (limit_of profile) (take place statements) t tokens rule step))
     → (before : List Sentence) → statements ≡ before ++ sentence_of s ∷ []
-    → MatchResult result (IsJudged before s used) (Fails before s)
-judged statements id s tokens (Ok proved.Incomplete) used formed last same incomplete complete proves fails before e =
+    → MatchResult result (IsJudged profile before s used) (Fails profile before s)
+judged profile statements id s tokens (Ok proved.Incomplete) used formed last same incomplete complete proves fails before e =
     subst (λ (ts : List (List ℕ)). is_incomplete ts ≡ true) same (incomplete_is tokens (incomplete refl))
-judged statements id s tokens (Ok proved.Complete) used formed last same incomplete complete proves fails before e =
-    let Given : List Sentence → List (List ℕ) → Type 0 = λ ss ts. TokensProve (limit_of Lenient) ss (sentence_of s) ts used in
+judged profile statements id s tokens (Ok proved.Complete) used formed last same incomplete complete proves fails before e =
+    let Given : List Sentence → List (List ℕ) → Type 0 = λ ss ts. TokensProve (limit_of profile) ss (sentence_of s) ts used in
     let there = proves refl (length before) (sentence_of s) (last_number statements id s formed last before e) in
-    let here : TokensProve (limit_of Lenient) before (sentence_of s) (proof_of s) used =
+    let here : TokensProve (limit_of profile) before (sentence_of s) (proof_of s) used =
     subst (λ (ts : List (List ℕ)). Given before ts) same (subst (λ (ss : List Sentence). Given ss tokens) (front_of statements before (sentence_of s) e) there) in
     (is_complete tokens s same (λ h. let c = complete h in absurd cc), record { proof = here.proof; all = here.all })
-judged statements id s tokens (Err faults.Memory) used formed last same incomplete complete proves fails before e = tt
-judged statements id s tokens (Err (faults.Rule rule step)) used formed last same incomplete complete proves fails before e =
-    let Given : List Sentence → List (List ℕ) → Type 0 = λ ss ts. TokensFail (limit_of Lenient) ss (sentence_of s) ts rule step in
+judged profile statements id s tokens (Err faults.Memory) used formed last same incomplete complete proves fails before e = tt
+judged profile statements id s tokens (Err (faults.Rule rule step)) used formed last same incomplete complete proves fails before e =
+    let Given : List Sentence → List (List ℕ) → Type 0 = λ ss ts. TokensFail (limit_of profile) ss (sentence_of s) ts rule step in
     let there = fails rule step refl (length before) (sentence_of s) (last_number statements id s formed last before e) in
-    let here : TokensFail (limit_of Lenient) before (sentence_of s) (proof_of s) rule step =
+    let here : TokensFail (limit_of profile) before (sentence_of s) (proof_of s) rule step =
     subst (λ (ts : List (List ℕ)). Given before ts) same (subst (λ (ss : List Sentence). Given ss tokens) (front_of statements before (sentence_of s) e) there) in
     (is_complete tokens s same (λ h. let c = complete h in absurd cc), here)
 
 -- a refusal for the proof of the last statement is one of the statement
-pub refuses_after : (files : List PlainFile) (p q : Progress) (s : PlainStatement) (fault : CheckFault) → IsMeant p.prover.book.statements (sentence_of s) → s.kind ≡ Provable
-    → q.prover.book.statements ≡ p.prover.book.statements ++ sentence_of s ∷ [] → q.count ≡ p.count → RefusesProof files q s fault
-    → RefusesAfter files p.prover.book.statements p.count s fault
-refuses_after files p q s fault meant provable book count (inl none) = inl none
-refuses_after files p q s fault meant provable book count (inr at) = inr (
+pub refuses_after : (profile : Profile) (files : List PlainFile) (p q : Progress) (s : PlainStatement) (fault : CheckFault) → IsMeant p.prover.book.statements (sentence_of s) → s.kind ≡ Provable
+    → q.prover.book.statements ≡ p.prover.book.statements ++ sentence_of s ∷ [] → q.count ≡ p.count → RefusesProof profile files q s fault
+    → RefusesAfter profile files p.prover.book.statements p.count s fault
+refuses_after profile files p q s fault meant provable book count (inl none) = inl none
+refuses_after profile files p q s fault meant provable book count (inr at) = inr (
   proof_rule at.0,
   at.1,
   inr (meant, proof_there s provable at.2, at.0, at.3 p.prover.book.statements book, refl),

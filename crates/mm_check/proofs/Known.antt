@@ -13,6 +13,7 @@ use Rattle.mm_text.specs.Statement.{PlainStatement, HasForm, HasLabel, bytes_in}
 use Rattle.mm_frame.specs.Sentence.{Sentence, sentence_of}
 use Rattle.mm_frame.specs.Numbers.{labelled_sentences}
 use Rattle.mm_frame.specs.declared.number.LabelId.{LabelId}
+use Rattle.mm_proof.specs.declared.profile.Profile.{Profile}
 use Rattle.mm_check.specs.declared.progress.Progress.{Progress}
 use Rattle.mm_check.specs.Conclusion.{labels_in}
 use Rattle.mm_check.specs.Verdict.{sentences, labels_of, label_of, unproved_of, is_proof, is_unproved, proof_of, is_incomplete}
@@ -89,9 +90,9 @@ more_unproved names numbers unproved s count formed counted named true e =
     ∙ sym (map-append Some unproved (text ∷ []))
     ∙ ap (λ (ls : List (List ℕ)). map Some (unproved ++ ls)) (sym (append-nil (label_of s) ∙ label))
 
-incomplete_more : (statements : List PlainStatement) (s : PlainStatement) (p q : Progress) → HasForm s → Knows statements p → Takes p s q
+incomplete_more : (profile : Profile) (statements : List PlainStatement) (s : PlainStatement) (p q : Progress) → HasForm s → Knows statements p → Takes profile p s q
     → map (λ (id : LabelId). slice_get (labels_of (statements ++ s ∷ [])) id.0) q.incomplete.items ≡ map Some (unproved_of (statements ++ s ∷ []))
-incomplete_more statements s p q formed known takes =
+incomplete_more profile statements s p q formed known takes =
     let names : List (List ℕ) = labels_of statements in
     let numbers : List ℕ = ids p.incomplete.items in
     let count : ℕ = length (labelled_sentences p.prover.book.statements) in
@@ -108,24 +109,24 @@ incomplete_more statements s p q formed known takes =
     ∙ more_unproved names numbers (unproved_of statements) s count formed counted named (is_unproved s) refl
     ∙ sym (ap (λ (ls : List (List ℕ)). map Some ls) (unproved_of-append statements (s ∷ [])))
 
-noted_more : (statements : List PlainStatement) (s : PlainStatement) (p q : Progress) → HasForm s → Knows statements p → Takes p s q
+noted_more : (profile : Profile) (statements : List PlainStatement) (s : PlainStatement) (p q : Progress) → HasForm s → Knows statements p → Takes profile p s q
     → AreInOrder (IsNumberWhere (statements ++ s ∷ []) (λ t. is_unproved t ≡ true)) (ids q.incomplete.items)
-noted_more statements s p q formed known takes =
+noted_more profile statements s p q formed known takes =
     let same : ids p.incomplete.items ++ cond (is_unproved s) (length (labelled_sentences (sentences statements)) ∷ []) [] ≡ ids q.incomplete.items =
     sym (takes.incomplete ∙ ap (λ (ss : List Sentence). ids p.incomplete.items ++ cond (is_unproved s) (length (labelled_sentences ss) ∷ []) []) known.book) in
     subst (λ (ns : List ℕ). AreInOrder (IsNumberWhere (statements ++ s ∷ []) (λ t. is_unproved t ≡ true)) ns) same
     (one_more_number is_unproved statements s (ids p.incomplete.items) (labelled_provable s (is_incomplete (proof_of s)) formed) known.noted (is_unproved s) refl)
 
-pub knows_more : (statements : List PlainStatement) (s : PlainStatement) (p q : Progress) → HasForm s → Knows statements p → Takes p s q
+pub knows_more : (profile : Profile) (statements : List PlainStatement) (s : PlainStatement) (p q : Progress) → HasForm s → Knows statements p → Takes profile p s q
     → Knows (statements ++ s ∷ []) q
-knows_more statements s p q formed known takes = record {
+knows_more profile statements s p q formed known takes = record {
   book = takes.statements ∙ ap (λ (ss : List Sentence). ss ++ sentence_of s ∷ []) known.book ∙ sym (map-append sentence_of statements (s ∷ []));
   bytes = omega (arith, takes.bytes, known.bytes, sum_by-append bytes_in statements (s ∷ []));
   count = omega (arith, takes.count, known.count, length-append statements (s ∷ []));
   proofs = takes.proofs ∙ ap (λ (n : ℕ). n + cond (is_proof s) 1 0) known.proofs
       ∙ sym (count_by-append is_proof statements (s ∷ []) ∙ ap (λ (n : ℕ). count_by is_proof statements + n) (count_by-one is_proof s));
-  incomplete = incomplete_more statements s p q formed known takes;
-  noted = noted_more statements s p q formed known takes;
-  kept = uses_more statements s p.kept q.kept (labelled_provable s (not (is_incomplete (proof_of s))) formed) known.kept (is_proof s) refl
-      (subst (λ (ss : List Sentence). KeepsProof ss s (length (labelled_sentences ss)) (is_proof s) p.kept q.kept) known.book takes.kept);
+  incomplete = incomplete_more profile statements s p q formed known takes;
+  noted = noted_more profile statements s p q formed known takes;
+  kept = uses_more profile statements s p.kept q.kept (labelled_provable s (not (is_incomplete (proof_of s))) formed) known.kept (is_proof s) refl
+      (subst (λ (ss : List Sentence). KeepsProof profile ss s (length (labelled_sentences ss)) (is_proof s) p.kept q.kept) known.book takes.kept);
 }

@@ -12,6 +12,7 @@ use Rattle.mm_text.specs.Remaining.{Remaining}
 use Rattle.mm_text.proofs.FormedLaws.{readings_are_balanced, readings_fit, readings_few}
 use Rattle.mm_frame.specs.Sentence.{Sentence, sentence_of}
 use Rattle.mm_frame.specs.Active as frame
+use Rattle.mm_proof.specs.declared.profile.Profile.{Profile}
 use Rattle.mm_check.specs.declared.progress.Progress.{Progress}
 use Rattle.mm_check.specs.Verdict.{CanBeRead, sentences, is_proof}
 use Rattle.mm_check.specs.Judged.{IsUnderWay, TakesNext}
@@ -45,9 +46,9 @@ take_next [] x ys = refl
 take_next {X} (z ∷ xs) x ys = ap (λ (zs : List X). z ∷ zs) (take_next xs x ys)
 
 -- a `$}` that is next has a block to close
-pub closes : (files : List PlainFile) (p : Progress) (old new : Remaining) (s : PlainStatement) → IsUnderWay files p old → TakesNext old true s new
+pub closes : (profile : Profile) (files : List PlainFile) (p : Progress) (old new : Remaining) (s : PlainStatement) → IsUnderWay profile files p old → TakesNext old true s new
     → s.kind ≡ Closing → frame.close_marks p.prover.book.statements < frame.open_marks p.prover.book.statements
-closes files p old new s way taken closing =
+closes profile files p old new s way taken closing =
     let earlier : List PlainStatement = way.earlier in
     let whole : earlier ++ old.statements ≡ earlier ++ s ∷ new.statements = ap (λ (ss : List PlainStatement). earlier ++ ss) taken.0 in
     let balanced : text.AreBalanced (earlier ++ s ∷ new.statements) =
@@ -71,9 +72,9 @@ closes files p old new s way taken closing =
 -- ## Room
 
 -- the next statement's bytes have room
-pub has_room : (files : List PlainFile) (p : Progress) (old new : Remaining) (s : PlainStatement) → IsUnderWay files p old → TakesNext old true s new
+pub has_room : (profile : Profile) (files : List PlainFile) (p : Progress) (old new : Remaining) (s : PlainStatement) → IsUnderWay profile files p old → TakesNext old true s new
     → p.prover.book.bytes + bytes_in s ≤ 1073741824
-has_room files p old new s way taken =
+has_room profile files p old new s way taken =
     let earlier : List PlainStatement = way.earlier in
     let whole : earlier ++ old.statements ≡ earlier ++ s ∷ new.statements = ap (λ (ss : List PlainStatement). earlier ++ ss) taken.0 in
     let fits : sum_by bytes_in (earlier ++ s ∷ new.statements) ≤ total_bytes files =
@@ -81,13 +82,13 @@ has_room files p old new s way taken =
     omega (arith, fits, way.known.bytes, within_limit files way.readable, sum_by-append bytes_in earlier (s ∷ new.statements), sum_by-cons bytes_in s new.statements)
 
 -- the statements so far are few
-few : (files : List PlainFile) (p : Progress) (left : Remaining) (way : IsUnderWay files p left) → length way.earlier ≤ 1073741824
-few files p left way =
+few : (profile : Profile) (files : List PlainFile) (p : Progress) (left : Remaining) (way : IsUnderWay profile files p left) → length way.earlier ≤ 1073741824
+few profile files p left way =
     omega (arith, readings_few files (way.earlier ++ left.statements) left.ending way.reads, length-append way.earlier left.statements, within_limit files way.readable)
 
-pub count_small : (files : List PlainFile) (p : Progress) (left : Remaining) → IsUnderWay files p left → p.count ≤ 1073741824
-count_small files p left way = omega (arith, few files p left way, way.known.count)
+pub count_small : (profile : Profile) (files : List PlainFile) (p : Progress) (left : Remaining) → IsUnderWay profile files p left → p.count ≤ 1073741824
+count_small profile files p left way = omega (arith, few profile files p left way, way.known.count)
 
-pub proofs_small : (files : List PlainFile) (p : Progress) (left : Remaining) → IsUnderWay files p left → p.proofs ≤ 1073741824
-proofs_small files p left way =
-    omega (arith, few files p left way, way.known.proofs, count_by-le-length is_proof way.earlier)
+pub proofs_small : (profile : Profile) (files : List PlainFile) (p : Progress) (left : Remaining) → IsUnderWay profile files p left → p.proofs ≤ 1073741824
+proofs_small profile files p left way =
+    omega (arith, few profile files p left way, way.known.proofs, count_by-le-length is_proof way.earlier)

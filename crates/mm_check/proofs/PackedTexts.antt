@@ -204,11 +204,11 @@ all_front P (suc n) [] all = tt
 all_front P (suc n) (x ∷ xs) all = (all.0, all_front P n xs all.1)
 
 pub packed_texts : PackedTextsTell
-packed_texts files statements place s moves others l m a b text other accepted made made' p q =
+packed_texts profile files statements place s moves others l m a b text other accepted made made' p q =
     let before : List Sentence = sentences (take place statements) in
     let front : before ≡ take place (sentences statements) = map-take place statements in
     let formed : AllFormed (sentences statements) = formed_sentences statements (readings_are_formed_in_place files statements None accepted.reads).formed in
-    let meant : AllMeant (sentences statements) = all_meant statements accepted.obeyed in
+    let meant : AllMeant (sentences statements) = all_meant profile statements accepted.obeyed in
     told_by_texts before s moves others l m a b text other (subst AllMeant (sym front) (allmeant_front (sentences statements) place meant))
     (subst AllFormed (sym front) (allformed_front (sentences statements) place formed))
     (labels_have_bytes (take place statements) (all_front (λ u. IfSome u.label HasBytes) place statements (labels_read files statements accepted.reads))) made made' p q

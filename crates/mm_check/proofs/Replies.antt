@@ -3,6 +3,8 @@ use Rattle.std.proofs.Common.{◌≡◌, ℕ, List, [], ◌∷◌, Option, Some,
 use Rattle.mm_text.specs.Statement.{PlainStatement}
 use Rattle.mm_text.specs.Files.{PlainFile}
 use Rattle.mm_text.specs.Reading.{Reads}
+use Rattle.mm_proof.specs.declared.profile.Profile.{Profile}
+use Rattle.mm_proof.specs.declared.profile.Profile.TheVariants.{Lenient}
 use Rattle.mm_check.specs.declared.fault.CheckFault.{CheckFault}
 use Rattle.mm_check.specs.Conclusion.{Conclusion}
 use Rattle.mm_check.specs.declared.fault.CheckFault.TheVariants as fault
@@ -10,49 +12,49 @@ use Rattle.mm_check.specs.Verdict.{Verdict, Load, Refused, HasVerdict, AreAccept
 use Rattle.mm_check.specs.Answer.{verdict_of_answer, verdict_of_conclusion, verdict_where_incomplete, plain_refusal, verdict_of_fault, IsVerdict, KeepsLabels, KeepsUses, KeepsFiles, IsKeptOf}
 use Rattle.mm_check.specs.Reply.{IsReply, IsRefused, IsQuestionReply, Tells, text_of, status_of}
 
-reply_at : (files : List PlainFile) (told : Option Verdict) (text : List ℕ) (status : ℕ)
-    → ((verdict : Verdict) → told ≡ Some verdict → HasVerdict files verdict)
+reply_at : (profile : Profile) (files : List PlainFile) (told : Option Verdict) (text : List ℕ) (status : ℕ)
+    → ((verdict : Verdict) → told ≡ Some verdict → HasVerdict profile files verdict)
     → MatchOption told ⊥ (λ verdict. text ≡ text_of files verdict) → IfSome told (λ verdict. status ≡ status_of verdict)
-    → IsReply files text status
-reply_at files None text status holds said ends = absurd said
-reply_at files (Some verdict) text status holds said ends =
+    → IsReply profile files text status
+reply_at profile files None text status holds said ends = absurd said
+reply_at profile files (Some verdict) text status holds said ends =
     record { verdict = verdict; holds = holds verdict refl; said = said; ends = ends }
 
-pub reply_of : (files : List PlainFile) (answer : Result Conclusion CheckFault) (text : List ℕ) (status : ℕ)
-    → IsVerdict files answer → Tells files answer text → IfSome (verdict_of_answer answer) (λ verdict. status ≡ status_of verdict)
-    → IsReply files text status
-reply_of files answer text status holds said ends = reply_at files (verdict_of_answer answer) text status holds said ends
+pub reply_of : (profile : Profile) (files : List PlainFile) (answer : Result Conclusion CheckFault) (text : List ℕ) (status : ℕ)
+    → IsVerdict profile files answer → Tells files answer text → IfSome (verdict_of_answer answer) (λ verdict. status ≡ status_of verdict)
+    → IsReply profile files text status
+reply_of profile files answer text status holds said ends = reply_at profile files (verdict_of_answer answer) text status holds said ends
 
 -- ---- questions
 
 -- nothing is at fault in what is kept
-pub accepted_with : (files : List PlainFile) (c : Conclusion) (numbers : List ℕ) → HasVerdict files (verdict_where_incomplete c numbers) → (statements : List PlainStatement) × AreAccepted files statements
-accepted_with files c [] h = (h.0, h.1)
-accepted_with files c (n ∷ numbers) h = (h.0, h.1)
+pub accepted_with : (profile : Profile) (files : List PlainFile) (c : Conclusion) (numbers : List ℕ) → HasVerdict profile files (verdict_where_incomplete c numbers) → (statements : List PlainStatement) × AreAccepted profile files statements
+accepted_with profile files c [] h = (h.0, h.1)
+accepted_with profile files c (n ∷ numbers) h = (h.0, h.1)
 
 -- the answer over the statements of the files
 pub question_answered : (files : List PlainFile) (answer : Result Conclusion CheckFault) (c : Conclusion) (Answers : List PlainStatement → List ℕ → ℕ → Type 0) (text : List ℕ) (status : ℕ)
-    → answer ≡ Ok c → IsVerdict files answer → KeepsUses files c → KeepsLabels files c
+    → answer ≡ Ok c → IsVerdict Lenient files answer → KeepsUses files c → KeepsLabels files c
     → ((statements : List PlainStatement) → IsKeptOf statements c → c.labels ≡ labels_of statements → Answers statements text status)
     → IsQuestionReply files Answers text status
 question_answered files answer c Answers text status is holds uses labels answers =
     let told : verdict_of_answer answer ≡ Some (verdict_of_conclusion c) = ap verdict_of_answer is in
-    let found = accepted_with files c c.incomplete (holds (verdict_of_conclusion c) told) in
+    let found = accepted_with Lenient files c c.incomplete (holds (verdict_of_conclusion c) told) in
     inr (found.0, found.1, answers found.0 (uses found.0 None found.1.reads) (labels found.0 None found.1.reads))
 
 -- the answer over the statements of the files that are kept
 pub question_read : (files : List PlainFile) (answer : Result Conclusion CheckFault) (c : Conclusion) (Answers : List PlainStatement → List ℕ → ℕ → Type 0) (text : List ℕ) (status : ℕ)
-    → answer ≡ Ok c → IsVerdict files answer → KeepsFiles files c
+    → answer ≡ Ok c → IsVerdict Lenient files answer → KeepsFiles files c
     → ((statements : List PlainStatement) → Reads c.files statements None → Answers statements text status)
     → IsQuestionReply files Answers text status
 question_read files answer c Answers text status is holds same answers =
     let told : verdict_of_answer answer ≡ Some (verdict_of_conclusion c) = ap verdict_of_answer is in
-    let found = accepted_with files c c.incomplete (holds (verdict_of_conclusion c) told) in
+    let found = accepted_with Lenient files c c.incomplete (holds (verdict_of_conclusion c) told) in
     inr (found.0, found.1, answers found.0 (subst (λ (fs : List PlainFile). Reads fs found.0 None) (sym same) found.1.reads))
 
 -- the refusal of the files
 refused_at : (files : List PlainFile) (fault : CheckFault) (text : List ℕ) (status : ℕ)
-    → ((verdict : Verdict) → verdict_of_fault fault ≡ Some verdict → HasVerdict files verdict)
+    → ((verdict : Verdict) → verdict_of_fault fault ≡ Some verdict → HasVerdict Lenient files verdict)
     → MatchOption (verdict_of_fault fault) ⊥ (λ verdict. text ≡ text_of files verdict) → IfSome (verdict_of_fault fault) (λ verdict. status ≡ status_of verdict)
     → IsRefused files text status
 refused_at files (fault.Load rule) text status holds said ends =
@@ -62,10 +64,10 @@ refused_at files (fault.Refused r) text status holds said ends =
 refused_at files fault.Memory text status holds said ends = absurd said
 
 pub question_refused : (files : List PlainFile) (answer : Result Conclusion CheckFault) (fault : CheckFault) (Answers : List PlainStatement → List ℕ → ℕ → Type 0) (text : List ℕ) (status : ℕ)
-    → answer ≡ Err fault → IsVerdict files answer → Tells files answer text → IfSome (verdict_of_answer answer) (λ verdict. status ≡ status_of verdict)
+    → answer ≡ Err fault → IsVerdict Lenient files answer → Tells files answer text → IfSome (verdict_of_answer answer) (λ verdict. status ≡ status_of verdict)
     → IsQuestionReply files Answers text status
 question_refused files answer fault Answers text status is holds said ends =
-    let Holds : Result Conclusion CheckFault → Type 0 = λ a. IsVerdict files a in
+    let Holds : Result Conclusion CheckFault → Type 0 = λ a. IsVerdict Lenient files a in
     let Said : Result Conclusion CheckFault → Type 0 = λ a. Tells files a text in
     let Ends : Result Conclusion CheckFault → Type 0 = λ a. IfSome (verdict_of_answer a) (λ verdict. status ≡ status_of verdict) in
     inl (refused_at files fault text status (subst Holds is holds) (subst Said is said) (subst Ends is ends))

@@ -74,8 +74,8 @@ named_once statements label a b all (p, s, at, both) (q, t, other, two) =
     sym at.numbered.number ∙ ap (λ (n : ℕ). length (labelled_sentences (take n (sentences statements)))) same ∙ other.numbered.number
 
 pub one_report : OneReport
-one_report statements label axioms unproved others rest obeyed one other =
-    let id : one.id ≡ other.id = named_once statements label one.id other.id (all_meant statements obeyed) one.theorem other.theorem in (
+one_report profile statements label axioms unproved others rest obeyed one other =
+    let id : one.id ≡ other.id = named_once statements label one.id other.id (all_meant profile statements obeyed) one.theorem other.theorem in (
       in_order_once _ axioms others
           (subst (λ (n : ℕ). AreInOrder (λ m. IsNumberWhere statements (λ s. s.kind ≡ Axiom) m × RestsOn (Uses statements) n m) axioms) id one.are_axioms)
           other.are_axioms,

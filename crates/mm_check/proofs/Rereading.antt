@@ -14,7 +14,7 @@ use Rattle.mm_frame.specs.Sentence.{Sentence, sentence_of, IsLabelled}
 use Rattle.mm_frame.specs.Rules.{AllMeant}
 use Rattle.mm_frame.proofs.Meant.{parts_at, one_label}
 use Rattle.mm_proof.specs.Proof.{IsProvedWithin, IsWithin}
-use Rattle.mm_proof.specs.declared.profile.Profile.TheVariants.{Lenient}
+use Rattle.mm_proof.specs.declared.profile.Profile.{Profile}
 use Rattle.mm_proof.specs.Profiles.{limit_of}
 use Rattle.mm_check.specs.Conclusion.{Conclusion}
 use Rattle.mm_check.specs.Verdict.{AllObey, AreAccepted, CanBeRead, sentences, proof_of, is_proof, is_incomplete}
@@ -83,14 +83,14 @@ same_reading files a b c d one other =
 
 -- the statements of the files, of which this is kept
 pub record AreOf (c : Conclusion) (statements : List PlainStatement) : Type 0 where
-  pub accepted : AreAccepted c.files statements
+  pub accepted : AreAccepted c.profile c.files statements
   pub kept : IsKeptOf statements c
 
-pub own_statements : (c : Conclusion) (o : IsKeptFrom c.files c.sentences c.incomplete c.uses) → AreOf c o.statements
+pub own_statements : (c : Conclusion) (o : IsKeptFrom c.profile c.files c.sentences c.incomplete c.uses) → AreOf c o.statements
 own_statements c o =
     record { accepted = o.accepted; kept = record { sentences = o.sentences; incomplete = o.incomplete; uses = o.uses } }
 
-pub read_statements : (c : Conclusion) (statements : List PlainStatement) → IsKeptFrom c.files c.sentences c.incomplete c.uses → Reads c.files statements None → AreOf c statements
+pub read_statements : (c : Conclusion) (statements : List PlainStatement) → IsKeptFrom c.profile c.files c.sentences c.incomplete c.uses → Reads c.files statements None → AreOf c statements
 read_statements c statements o reads =
     subst (λ (ss : List PlainStatement). AreOf c ss) (same_reading c.files o.statements statements None None o.accepted.reads reads).0 (own_statements c o)
 
@@ -117,18 +117,18 @@ complete_test true b e f = cc
 complete_test false b e f = cc
 
 -- the proof of a theorem that obeys the rules
-pub proof_stands : (statements : List PlainStatement) (id place : ℕ) (s : PlainStatement) → AllObey statements → IsAt statements id place s → is_proof s ≡ true
-    → IsProofOf (sentences statements) id (proof_of s)
-proof_stands statements id place s obeyed at complete =
+pub proof_stands : (profile : Profile) (statements : List PlainStatement) (id place : ℕ) (s : PlainStatement) → AllObey profile statements → IsAt statements id place s → is_proof s ≡ true
+    → IsProofOf profile (sentences statements) id (proof_of s)
+proof_stands profile statements id place s obeyed at complete =
     let parted : statements ≡ take place statements ++ s ∷ drop (suc place) statements = parts_at statements place s at.there in
-    let proved : IsProvedWithin (IsWithin (limit_of Lenient)) (sentences (take place statements)) (sentence_of s) (proof_of s) =
+    let proved : IsProvedWithin (IsWithin (limit_of profile)) (sentences (take place statements)) (sentence_of s) (proof_of s) =
     (obeyed (take place statements) (drop (suc place) statements) s parted).proved complete in
     record {
       place = place;
       s = sentence_of s;
       number = record { numbered = at.numbered; provable = provable_kind s.kind (not (is_incomplete (proof_of s))) complete };
       complete = λ h. complete_test (is_provable s.kind) (is_incomplete (proof_of s)) complete (incomplete_is (proof_of s) h);
-      proved = subst (λ (ss : List Sentence). IsProvedWithin (IsWithin (limit_of Lenient)) ss (sentence_of s) (proof_of s)) (map-take place statements) proved;
+      proved = subst (λ (ss : List Sentence). IsProvedWithin (IsWithin (limit_of profile)) ss (sentence_of s) (proof_of s)) (map-take place statements) proved;
     }
 
 -- ---- room for its tokens
@@ -160,14 +160,14 @@ found_again statements label id t all (place, s, at, both) stands = one_stands s
 
 -- its tokens are its proof
 pub shown_proof : (c : Conclusion) (statements : List PlainStatement) (label : List ℕ) (id : ℕ) (t : PlainStatement) → AreOf c statements → AllMeant c.sentences
-    → IsNamed statements label (λ s. is_proof s ≡ true) id → Stands statements label t → IsProofOf c.sentences id (proof_of t)
+    → IsNamed statements label (λ s. is_proof s ≡ true) id → Stands statements label t → IsProofOf c.profile c.sentences id (proof_of t)
 shown_proof c statements label id t of all named stands =
     let meant : AllMeant (sentences statements) = subst AllMeant of.kept.sentences all in
     let same : t ≡ named.1 = found_again statements label id t meant named stands in
-    let proof : IsProofOf (sentences statements) id (proof_of named.1) =
-    proof_stands statements id named.0 named.1 of.accepted.obeyed named.2 named.3.1 in
-    subst (λ (ss : List Sentence). IsProofOf ss id (proof_of t)) (sym of.kept.sentences)
-    (subst (λ (s : PlainStatement). IsProofOf (sentences statements) id (proof_of s)) (sym same) proof)
+    let proof : IsProofOf c.profile (sentences statements) id (proof_of named.1) =
+    proof_stands c.profile statements id named.0 named.1 of.accepted.obeyed named.2 named.3.1 in
+    subst (λ (ss : List Sentence). IsProofOf c.profile ss id (proof_of t)) (sym of.kept.sentences)
+    (subst (λ (s : PlainStatement). IsProofOf c.profile (sentences statements) id (proof_of s)) (sym same) proof)
 
 -- and there is room for them
 pub shown_room : (c : Conclusion) (statements : List PlainStatement) (label : List ℕ) (t : PlainStatement) → AreOf c statements → Stands statements label t

@@ -17,7 +17,7 @@ use Rattle.mm_proof.specs.Moves.{Move}
 use Rattle.mm_proof.specs.Tokens.{SayMoves}
 use Rattle.mm_proof.specs.OneTree.{MakeTree}
 use Rattle.mm_proof.specs.Proof.{IsProvedWithin, IsProved, IsWithin}
-use Rattle.mm_proof.specs.declared.profile.Profile.TheVariants.{Lenient}
+use Rattle.mm_proof.specs.declared.profile.Profile.{Profile}
 use Rattle.mm_proof.specs.Profiles.{limit_of}
 use Rattle.mm_proof.proofs.SpelledProofs.{IsProofBy}
 use Rattle.mm_check.specs.Verdict.{Verdict, Load, Refused, Incomplete, Yes, HasVerdict, AreAccepted, AllObey, Obeys, CanBeRead, sentences, proof_of, is_proof, is_unproved, is_incomplete, label_of, unproved_of, proofs_of}
@@ -44,9 +44,9 @@ abbrev pub put_anew : PlainStatement → List ℕ → PlainStatement
 put_anew s text = record s { proof = tokens_from s.first.file s.span.0 text; span = (s.span.0, s.span.0 + length text) }
 
 -- what is told of its proof
-pub record IsProvedAnew (front : List Sentence) (t : PlainStatement) (root : List ℕ) (below : Trees) : Type 0 where
+pub record IsProvedAnew (profile : Profile) (front : List Sentence) (t : PlainStatement) (root : List ℕ) (below : Trees) : Type 0 where
   pub complete : is_proof t ≡ true
-  pub within : IsProvedWithin (IsWithin (limit_of Lenient)) front (sentence_of t) (proof_of t)
+  pub within : IsProvedWithin (IsWithin (limit_of profile)) front (sentence_of t) (proof_of t)
   pub proof : IsProved front (sentence_of t) (proof_of t)
   pub spelled : tree_of proof ≡ tree root below none
 
@@ -59,16 +59,16 @@ complete_again s tokens complete known =
     let kind : is_provable s.kind ≡ true = provable_part (is_provable s.kind) (not (is_incomplete (proof_of s))) complete in
     λ i. kind i && not (known i)
 
-pub proved_anew : (front : List Sentence) (s : PlainStatement) (root : List ℕ) (below : Trees) (moves : List (Move (List ℕ))) (text : List ℕ) → AllMeant front → is_proof s ≡ true
-    → IsProvedWithin (IsWithin (limit_of Lenient)) front (sentence_of s) (proof_of s) → SayMoves front (sentence_of s) (proof_of s) moves → MakeTree front moves root below
-    → ReadsAsProof front (sentence_of s) root below text → IsProvedAnew front (put_anew s (10 ∷ text)) root below
-proved_anew front s root below moves text meant complete old told made ra =
+pub proved_anew : (profile : Profile) (front : List Sentence) (s : PlainStatement) (root : List ℕ) (below : Trees) (moves : List (Move (List ℕ))) (text : List ℕ) → AllMeant front → is_proof s ≡ true
+    → IsProvedWithin (IsWithin (limit_of profile)) front (sentence_of s) (proof_of s) → SayMoves front (sentence_of s) (proof_of s) moves → MakeTree front moves root below
+    → ReadsAsProof front (sentence_of s) root below text → IsProvedAnew profile front (put_anew s (10 ∷ text)) root below
+proved_anew profile front s root below moves text meant complete old told made ra =
     let t : PlainStatement = put_anew s (10 ∷ text) in
-    let Fits : List (List ℕ) → Type 0 = IsWithin (limit_of Lenient) in
+    let Fits : List (List ℕ) → Type 0 = IsWithin (limit_of profile) in
     let tokens : proof_of t ≡ ra.tokens = texts_in s.first.file s.span.0 (10 ∷ text) ∙ words_after_feed text ∙ ra.read in
     let within : IsProofBy Fits front (sentence_of s) ra.tokens root below = ra.proves Fits (tree_derives Fits front (sentence_of s) (proof_of s) moves root below meant old told made) in
     let any : IsProofBy AnyExpression front (sentence_of s) ra.tokens root below =
-    ra.proves AnyExpression (tree_derives AnyExpression front (sentence_of s) (proof_of s) moves root below meant (any_proof front (sentence_of s) (proof_of s) old) told made) in
+    ra.proves AnyExpression (tree_derives AnyExpression front (sentence_of s) (proof_of s) moves root below meant (any_proof profile front (sentence_of s) (proof_of s) old) told made) in
     let here : IsProofBy AnyExpression front (sentence_of s) (proof_of t) root below = subst (λ (ts : List (List ℕ)). IsProofBy AnyExpression front (sentence_of s) ts root below) (sym tokens) any in
     record {
       complete = complete_again s (proof_of t) complete (ap is_incomplete tokens ∙ fine_complete ra.tokens ra.fine);
@@ -86,19 +86,19 @@ pub proof_not_unproved : (s : PlainStatement) → is_proof s ≡ true → is_unp
 proof_not_unproved s h = not_unproved (is_provable s.kind) (is_incomplete (proof_of s)) h
 
 -- it is alike, one way and the other
-pub anew_alike : (front : List Sentence) (s : PlainStatement) (root : List ℕ) (below : Trees) (moves : List (Move (List ℕ))) (text : List ℕ) → AllMeant front → is_proof s ≡ true
-    → SayMoves front (sentence_of s) (proof_of s) moves → MakeTree front moves root below → IsProvedAnew front (put_anew s text) root below → AreAlikeAt front s (put_anew s text)
-anew_alike front s root below moves text meant complete told made new = record {
+pub anew_alike : (profile : Profile) (front : List Sentence) (s : PlainStatement) (root : List ℕ) (below : Trees) (moves : List (Move (List ℕ))) (text : List ℕ) → AllMeant front → is_proof s ≡ true
+    → SayMoves front (sentence_of s) (proof_of s) moves → MakeTree front moves root below → IsProvedAnew profile front (put_anew s text) root below → AreAlikeAt front s (put_anew s text)
+anew_alike profile front s root below moves text meant complete told made new = record {
   said = refl;
   proofs = complete ∙ sym new.complete;
   unproved = proof_not_unproved s complete ∙ sym (proof_not_unproved (put_anew s text) new.complete);
   tree = λ c p. (new.proof, tree_is AnyExpression front (sentence_of s) (proof_of s) moves root below meant p told made ∙ sym new.spelled);
 }
 
-pub alike_anew : (front : List Sentence) (s : PlainStatement) (root : List ℕ) (below : Trees) (moves : List (Move (List ℕ))) (text : List ℕ) → AllMeant front → is_proof s ≡ true
-    → IsProved front (sentence_of s) (proof_of s) → SayMoves front (sentence_of s) (proof_of s) moves → MakeTree front moves root below → IsProvedAnew front (put_anew s text) root below
+pub alike_anew : (profile : Profile) (front : List Sentence) (s : PlainStatement) (root : List ℕ) (below : Trees) (moves : List (Move (List ℕ))) (text : List ℕ) → AllMeant front → is_proof s ≡ true
+    → IsProved front (sentence_of s) (proof_of s) → SayMoves front (sentence_of s) (proof_of s) moves → MakeTree front moves root below → IsProvedAnew profile front (put_anew s text) root below
     → AreAlikeAt front (put_anew s text) s
-alike_anew front s root below moves text meant complete old told made new = record {
+alike_anew profile front s root below moves text meant complete old told made new = record {
   said = refl;
   proofs = new.complete ∙ sym complete;
   unproved = proof_not_unproved (put_anew s text) new.complete ∙ sym (proof_not_unproved s complete);
@@ -167,27 +167,27 @@ seam_at : (before : List PlainStatement) (s : PlainStatement) (after : List Plai
 seam_at [] s after = refl
 seam_at (b ∷ before) s after = seam_at before s after
 
-obeys_at : (before : List PlainStatement) (s t : PlainStatement) (after later : List PlainStatement) → sentence_of s ≡ sentence_of t → map placeless after ≡ map placeless later → AllObey (before ++ s ∷ after)
-    → Obeys (sentences before) t → (place : ℕ) (y : PlainStatement) → slice_get (before ++ t ∷ later) place ≡ Some y → Obeys (sentences (take place (before ++ t ∷ later))) y
-obeys_at before s t after later own same obeyed new place y there =
+obeys_at : (profile : Profile) (before : List PlainStatement) (s t : PlainStatement) (after later : List PlainStatement) → sentence_of s ≡ sentence_of t → map placeless after ≡ map placeless later → AllObey profile (before ++ s ∷ after)
+    → Obeys profile (sentences before) t → (place : ℕ) (y : PlainStatement) → slice_get (before ++ t ∷ later) place ≡ Some y → Obeys profile (sentences (take place (before ++ t ∷ later))) y
+obeys_at profile before s t after later own same obeyed new place y there =
     let st : List PlainStatement = before ++ s ∷ after in
     let su : List PlainStatement = before ++ t ∷ later in
     let (x, at, near) = near_at before t s later after (sym same) place y there in
     let front : sentences (take place st) ≡ sentences (take place su) = front_told st su place (said_alike before s t after later own same) in
     elim near [
-      | inl both ↦ obeys_alike (sentences (take place st)) (sentences (take place su)) x y front (sym both.0) (sym both.1) (obeyed (take place st) (drop (suc place) st) x (parts_at st place x at))
+      | inl both ↦ obeys_alike profile (sentences (take place st)) (sentences (take place su)) x y front (sym both.0) (sym both.1) (obeyed (take place st) (drop (suc place) st) x (parts_at st place x at))
       | inr (is, both) ↦
           let here : sentences before ≡ sentences (take place su) = ap sentences (sym (ap (λ (n : ℕ). take n su) is ∙ take-append_seam before (t ∷ later))) in
-          subst (λ (u : PlainStatement). Obeys (sentences (take place su)) u) (sym both.0) (subst (λ (ss : List Sentence). Obeys ss t) here new)
+          subst (λ (u : PlainStatement). Obeys profile (sentences (take place su)) u) (sym both.0) (subst (λ (ss : List Sentence). Obeys profile ss t) here new)
     ]
 
-pub all_obey_anew : (before : List PlainStatement) (s t : PlainStatement) (after later : List PlainStatement) → sentence_of s ≡ sentence_of t → map placeless after ≡ map placeless later → AllObey (before ++ s ∷ after)
-    → Obeys (sentences before) t → AllObey (before ++ t ∷ later)
-all_obey_anew before s t after later own same obeyed new earlier rest y split =
+pub all_obey_anew : (profile : Profile) (before : List PlainStatement) (s t : PlainStatement) (after later : List PlainStatement) → sentence_of s ≡ sentence_of t → map placeless after ≡ map placeless later → AllObey profile (before ++ s ∷ after)
+    → Obeys profile (sentences before) t → AllObey profile (before ++ t ∷ later)
+all_obey_anew profile before s t after later own same obeyed new earlier rest y split =
     let su : List PlainStatement = before ++ t ∷ later in
     let there : slice_get su (length earlier) ≡ Some y = ap (λ (ss : List PlainStatement). slice_get ss (length earlier)) split ∙ seam_at earlier y rest in
     let front : take (length earlier) su ≡ earlier = ap (take (length earlier)) split ∙ take-append_seam earlier (y ∷ rest) in
-    subst (λ (ss : List PlainStatement). Obeys (sentences ss) y) front (obeys_at before s t after later own same obeyed new (length earlier) y there)
+    subst (λ (ss : List PlainStatement). Obeys profile (sentences ss) y) front (obeys_at profile before s t after later own same obeyed new (length earlier) y there)
 
 -- ---- the files as a whole
 
@@ -230,14 +230,14 @@ readable_anew files k f bytes there fits readable rule broken = by_rule rule (su
 
 -- ---- the verdict
 
-pub verdict_carried : (files others : List PlainFile) (st su : List PlainStatement) → AreAccepted files st → AreAccepted others su → unproved_of st ≡ unproved_of su → length st ≡ length su → proofs_of st ≡ proofs_of su
-    → (v : Verdict) → HasVerdict files v → HasVerdict others v
-verdict_carried files others st su one other unproved long proofs (Load rule) (broken, breaks, is) = absurd (one.readable broken breaks)
-verdict_carried files others st su one other unproved long proofs (Refused refusal) holds = absurd (accepted_or_refused files st holds.1 holds.2 refusal one holds.3 holds.4)
-verdict_carried files others st su one other unproved long proofs (Incomplete labels) (ss, accepted, is, some) =
+pub verdict_carried : (profile : Profile) (files others : List PlainFile) (st su : List PlainStatement) → AreAccepted profile files st → AreAccepted profile others su → unproved_of st ≡ unproved_of su → length st ≡ length su → proofs_of st ≡ proofs_of su
+    → (v : Verdict) → HasVerdict profile files v → HasVerdict profile others v
+verdict_carried profile files others st su one other unproved long proofs (Load rule) (broken, breaks, is) = absurd (one.readable broken breaks)
+verdict_carried profile files others st su one other unproved long proofs (Refused refusal) holds = absurd (accepted_or_refused profile files st holds.1 holds.2 refusal one holds.3 holds.4)
+verdict_carried profile files others st su one other unproved long proofs (Incomplete labels) (ss, accepted, is, some) =
     let same : ss ≡ st = (same_reading files ss st None None accepted.reads one.reads).0 in
     (su, other, is ∙ ap unproved_of same ∙ unproved, some)
-verdict_carried files others st su one other unproved long proofs (Yes count done) (ss, accepted, none_left, counted, proved) =
+verdict_carried profile files others st su one other unproved long proofs (Yes count done) (ss, accepted, none_left, counted, proved) =
     let same : ss ≡ st = (same_reading files ss st None None accepted.reads one.reads).0 in
     (su, other, sym unproved ∙ sym (ap unproved_of same) ∙ none_left, counted ∙ ap (λ (l : List PlainStatement). length l) same ∙ long, proved ∙ ap proofs_of same ∙ proofs)
 

@@ -22,7 +22,7 @@ use Rattle.mm_proof.specs.Moves.{Move, Makes}
 use Rattle.mm_proof.specs.Tokens.{SayMoves}
 use Rattle.mm_proof.specs.OneTree.{MakeTree}
 use Rattle.mm_proof.specs.Proof.{IsProvedWithin, IsWithin}
-use Rattle.mm_proof.specs.declared.profile.Profile.TheVariants.{Lenient}
+use Rattle.mm_proof.specs.declared.profile.Profile.{Profile}
 use Rattle.mm_proof.specs.Profiles.{limit_of}
 use Rattle.mm_proof.proofs.Making.{makes_once, derive_fits}
 use Rattle.mm_proof.proofs.PairOnce.{one_packed_holds}
@@ -45,14 +45,14 @@ use Rattle.mm_check.proofs.SavedProofs.{have_labels, ReadsAsProof, text_reads, t
 use Rattle.mm_check.proofs.SavedStatements.{Carries, tree_carried, report_carried}
 use Rattle.mm_check.proofs.SavedFiles.{put_anew, IsProvedAnew, proved_anew, proof_not_unproved, anew_alike, alike_anew, carries_of, all_obey_anew, readable_anew, verdict_carried, same_left, same_count, same_many}
 
-pub front_meant : (statements : List PlainStatement) (n : ℕ) → AllObey statements → AllMeant (sentences (take n statements))
-front_meant statements n obeyed = subst AllMeant (sym (map-take n statements)) (allmeant_front (sentences statements) n (all_meant statements obeyed))
+pub front_meant : (profile : Profile) (statements : List PlainStatement) (n : ℕ) → AllObey profile statements → AllMeant (sentences (take n statements))
+front_meant profile statements n obeyed = subst AllMeant (sym (map-take n statements)) (allmeant_front (sentences statements) n (all_meant profile statements obeyed))
 
 -- ---- the files with the text put in
 
 -- what is known of a theorem whose proof is to be written anew
-pub record IsToPut (f : Form) (files : List PlainFile) (before : List PlainStatement) (s : PlainStatement) (after : List PlainStatement) (file : PlainFile) (text : List ℕ) : Type 0 where
-  pub accepted : AreAccepted files (before ++ s ∷ after)
+pub record IsToPut (profile : Profile) (f : Form) (files : List PlainFile) (before : List PlainStatement) (s : PlainStatement) (after : List PlainStatement) (file : PlainFile) (text : List ℕ) : Type 0 where
+  pub accepted : AreAccepted profile files (before ++ s ∷ after)
   pub complete : is_proof s ≡ true
   pub root : List ℕ
   pub below : Trees
@@ -66,83 +66,83 @@ pub record IsToPut (f : Form) (files : List PlainFile) (before : List PlainState
 abbrev files_anew : List PlainFile → PlainStatement → PlainFile → List ℕ → List PlainFile
 files_anew files s file text = with_bytes files s.first.file (with_span file.bytes s.span (10 ∷ text))
 
-meant_before : (before : List PlainStatement) (s : PlainStatement) (after : List PlainStatement) → AllObey (before ++ s ∷ after) → AllMeant (sentences before)
-meant_before before s after obeyed =
-    subst (λ (ss : List PlainStatement). AllMeant (sentences ss)) (take-append_seam before (s ∷ after)) (front_meant (before ++ s ∷ after) (length before) obeyed)
+meant_before : (profile : Profile) (before : List PlainStatement) (s : PlainStatement) (after : List PlainStatement) → AllObey profile (before ++ s ∷ after) → AllMeant (sentences before)
+meant_before profile before s after obeyed =
+    subst (λ (ss : List PlainStatement). AllMeant (sentences ss)) (take-append_seam before (s ∷ after)) (front_meant profile (before ++ s ∷ after) (length before) obeyed)
 
 -- the theorem's new proof
-pub anew_of : (f : Form) (files : List PlainFile) (before : List PlainStatement) (s : PlainStatement) (after : List PlainStatement) (file : PlainFile) (text : List ℕ)
-    → (p : IsToPut f files before s after file text) → ReadsAsProof (sentences before) (sentence_of s) p.root p.below text × IsProvedAnew (sentences before) (put_anew s (10 ∷ text)) p.root p.below
-anew_of f files before s after file text p =
+pub anew_of : (profile : Profile) (f : Form) (files : List PlainFile) (before : List PlainStatement) (s : PlainStatement) (after : List PlainStatement) (file : PlainFile) (text : List ℕ)
+    → (p : IsToPut profile f files before s after file text) → ReadsAsProof (sentences before) (sentence_of s) p.root p.below text × IsProvedAnew profile (sentences before) (put_anew s (10 ∷ text)) p.root p.below
+anew_of profile f files before s after file text p =
     let front : List Sentence = sentences before in
-    let Fits : List (List ℕ) → Type 0 = IsWithin (limit_of Lenient) in
-    let meant : AllMeant front = meant_before before s after p.accepted.obeyed in
+    let Fits : List (List ℕ) → Type 0 = IsWithin (limit_of profile) in
+    let meant : AllMeant front = meant_before profile before s after p.accepted.obeyed in
     let old : IsProvedWithin Fits front (sentence_of s) (proof_of s) = (p.accepted.obeyed before after s refl).proved p.complete in
     let fit : Fit front (tree p.root p.below none) =
     derive_fits Fits front (tree p.root p.below none) ((sentence_of s).symbols ∷ []) (tree_derives Fits front (sentence_of s) (proof_of s) p.moves p.root p.below meant old p.told p.made) in
     let labels = subst (λ (ss : List PlainStatement). (label : List ℕ) → SomeSentence (sentences ss) (IsLabelled label) → IsLabel label × (1 ≤ length label)) (take-append_seam before (s ∷ after))
     (have_labels files (before ++ s ∷ after) (length before) p.accepted.reads) in
     let ra = text_reads f front (sentence_of s) p.root p.below text meant labels fit p.laid in
-    (ra, proved_anew front s p.root p.below p.moves text meant p.complete old p.told p.made ra)
+    (ra, proved_anew profile front s p.root p.below p.moves text meant p.complete old p.told p.made ra)
 
-pub record ArePutAnew (files : List PlainFile) (before : List PlainStatement) (s : PlainStatement) (after : List PlainStatement) (file : PlainFile) (text : List ℕ) : Type 0 where
+pub record ArePutAnew (profile : Profile) (files : List PlainFile) (before : List PlainStatement) (s : PlainStatement) (after : List PlainStatement) (file : PlainFile) (text : List ℕ) : Type 0 where
   pub later : List PlainStatement
-  pub accepted : AreAccepted (files_anew files s file text) (before ++ put_anew s (10 ∷ text) ∷ later)
+  pub accepted : AreAccepted profile (files_anew files s file text) (before ++ put_anew s (10 ∷ text) ∷ later)
   pub same : map placeless after ≡ map placeless later
 
 -- the files with the text put in are accepted
-pub are_put_anew : (f : Form) (files : List PlainFile) (before : List PlainStatement) (s : PlainStatement) (after : List PlainStatement) (file : PlainFile) (text : List ℕ) → IsToPut f files before s after file text
-    → ArePutAnew files before s after file text
-are_put_anew f files before s after file text p =
-    let both = anew_of f files before s after file text p in
+pub are_put_anew : (profile : Profile) (f : Form) (files : List PlainFile) (before : List PlainStatement) (s : PlainStatement) (after : List PlainStatement) (file : PlainFile) (text : List ℕ) → IsToPut profile f files before s after file text
+    → ArePutAnew profile files before s after file text
+are_put_anew profile f files before s after file text p =
+    let both = anew_of profile f files before s after file text p in
     let ra = both.0 in
     let new = both.1 in
     let read : AreReadBut (files_anew files s file text) before s after (10 ∷ text) =
     replaced_proofs_are_read_holds files before s after file (10 ∷ text) p.accepted.reads (provable_proof s p.complete) p.handed (is_proof_text text ra.tokens ra.read ra.fine ra.ends) in
-    let obeys : Obeys (sentences before) (put_anew s (10 ∷ text)) = record { meant = (p.accepted.obeyed before after s refl).meant; proved = λ complete. new.within } in
+    let obeys : Obeys profile (sentences before) (put_anew s (10 ∷ text)) = record { meant = (p.accepted.obeyed before after s refl).meant; proved = λ complete. new.within } in
     record {
       later = read.later;
       accepted = record {
         readable = readable_anew files s.first.file file (with_span file.bytes s.span (10 ∷ text)) p.handed p.fits p.accepted.readable;
         reads = read.reads;
-        obeyed = all_obey_anew before s (put_anew s (10 ∷ text)) after read.later refl read.same p.accepted.obeyed obeys;
+        obeyed = all_obey_anew profile before s (put_anew s (10 ∷ text)) after read.later refl read.same p.accepted.obeyed obeys;
       };
       same = read.same;
     }
 
-pub same_said : (f : Form) (files : List PlainFile) (before : List PlainStatement) (s : PlainStatement) (after : List PlainStatement) (file : PlainFile) (text : List ℕ) (p : IsToPut f files before s after file text)
-    → (put : ArePutAnew files before s after file text) → SayTheSame files (files_anew files s file text) (before ++ s ∷ after) (before ++ put_anew s (10 ∷ text) ∷ put.later)
-same_said f files before s after file text p put =
+pub same_said : (profile : Profile) (f : Form) (files : List PlainFile) (before : List PlainStatement) (s : PlainStatement) (after : List PlainStatement) (file : PlainFile) (text : List ℕ) (p : IsToPut profile f files before s after file text)
+    → (put : ArePutAnew profile files before s after file text) → SayTheSame profile files (files_anew files s file text) (before ++ s ∷ after) (before ++ put_anew s (10 ∷ text) ∷ put.later)
+same_said profile f files before s after file text p put =
     let front : List Sentence = sentences before in
     let t : PlainStatement = put_anew s (10 ∷ text) in
     let st : List PlainStatement = before ++ s ∷ after in
     let su : List PlainStatement = before ++ t ∷ put.later in
     let others : List PlainFile = files_anew files s file text in
-    let meant : AllMeant front = meant_before before s after p.accepted.obeyed in
-    let old = any_proof front (sentence_of s) (proof_of s) ((p.accepted.obeyed before after s refl).proved p.complete) in
-    let both = anew_of f files before s after file text p in
-    let new : IsProvedAnew front t p.root p.below = both.1 in
-    let to : Carries st su = carries_of before s t after put.later put.same (anew_alike front s p.root p.below p.moves (10 ∷ text) meant p.complete p.told p.made new) in
-    let from : Carries su st = carries_of before t s put.later after (sym put.same) (alike_anew front s p.root p.below p.moves (10 ∷ text) meant p.complete old p.told p.made new) in
+    let meant : AllMeant front = meant_before profile before s after p.accepted.obeyed in
+    let old = any_proof profile front (sentence_of s) (proof_of s) ((p.accepted.obeyed before after s refl).proved p.complete) in
+    let both = anew_of profile f files before s after file text p in
+    let new : IsProvedAnew profile front t p.root p.below = both.1 in
+    let to : Carries st su = carries_of before s t after put.later put.same (anew_alike profile front s p.root p.below p.moves (10 ∷ text) meant p.complete p.told p.made new) in
+    let from : Carries su st = carries_of before t s put.later after (sym put.same) (alike_anew profile front s p.root p.below p.moves (10 ∷ text) meant p.complete old p.told p.made new) in
     let left = same_left before s t after put.later (proof_not_unproved s p.complete) (proof_not_unproved t new.complete) put.same in
     let many = same_many before s t after put.later put.same in
     let count = same_count before s t after put.later (p.complete ∙ sym new.complete) put.same in
     record {
       accepted = put.accepted;
       told = to.told;
-      verdict = λ v. (verdict_carried files others st su p.accepted put.accepted left many count v, verdict_carried others files su st put.accepted p.accepted (sym left) (sym many) (sym count) v);
+      verdict = λ v. (verdict_carried profile files others st su p.accepted put.accepted left many count v, verdict_carried profile others files su st put.accepted p.accepted (sym left) (sym many) (sym count) v);
       trees = λ id place u. (tree_carried st su id place u to, tree_carried su st id place u from);
       rests = λ label axioms unproved. (report_carried st su label axioms unproved to from, report_carried su st label axioms unproved from to);
     }
 
 -- ---- what is saved is put in
 
-pub to_put : (f : Form) (files : List PlainFile) (statements : List PlainStatement) (label : List ℕ) (number : ℕ) (bytes : List ℕ) → AreAccepted files statements → (sv : IsSaved f files statements label number bytes)
-    → FitsSaved files number bytes → IsToPut f files (take sv.place statements) sv.s (drop (suc sv.place) statements) sv.file sv.text
-to_put f files statements label number bytes accepted sv fits =
+pub to_put : (profile : Profile) (f : Form) (files : List PlainFile) (statements : List PlainStatement) (label : List ℕ) (number : ℕ) (bytes : List ℕ) → AreAccepted profile files statements → (sv : IsSaved f files statements label number bytes)
+    → FitsSaved files number bytes → IsToPut profile f files (take sv.place statements) sv.s (drop (suc sv.place) statements) sv.file sv.text
+to_put profile f files statements label number bytes accepted sv fits =
     let parted : statements ≡ take sv.place statements ++ sv.s ∷ drop (suc sv.place) statements = parts_at statements sv.place sv.s sv.proof.there in
     record {
-      accepted = subst (λ (ss : List PlainStatement). AreAccepted files ss) parted accepted;
+      accepted = subst (λ (ss : List PlainStatement). AreAccepted profile files ss) parted accepted;
       complete = sv.proof.complete;
       root = sv.root;
       below = sv.below;
@@ -155,17 +155,17 @@ to_put f files statements label number bytes accepted sv fits =
     }
 
 pub saving_changes_no_answer : SavingChangesNoAnswer
-saving_changes_no_answer f files statements label number bytes accepted sv fits =
+saving_changes_no_answer profile f files statements label number bytes accepted sv fits =
     let before : List PlainStatement = take sv.place statements in
     let after : List PlainStatement = drop (suc sv.place) statements in
     let parted : statements ≡ before ++ sv.s ∷ after = parts_at statements sv.place sv.s sv.proof.there in
-    let p = to_put f files statements label number bytes accepted sv fits in
-    let put = are_put_anew f files before sv.s after sv.file sv.text p in
+    let p = to_put profile f files statements label number bytes accepted sv fits in
+    let put = are_put_anew profile f files before sv.s after sv.file sv.text p in
     let su : List PlainStatement = before ++ put_anew sv.s (10 ∷ sv.text) ∷ put.later in
     let others : files_anew files sv.s sv.file sv.text ≡ with_bytes files number bytes = λ i. with_bytes files (sym sv.home i) (sym sv.whole i) in (
       su,
-      subst (λ (ss : List PlainStatement). SayTheSame files (with_bytes files number bytes) ss su) (sym parted)
-          (subst (λ (fs : List PlainFile). SayTheSame files fs (before ++ sv.s ∷ after) su) others (same_said f files before sv.s after sv.file sv.text p put)),
+      subst (λ (ss : List PlainStatement). SayTheSame profile files (with_bytes files number bytes) ss su) (sym parted)
+          (subst (λ (fs : List PlainFile). SayTheSame profile files fs (before ++ sv.s ∷ after) su) others (same_said profile f files before sv.s after sv.file sv.text p put)),
     )
 
 -- ---- what is saved is one
@@ -187,27 +187,27 @@ one_tree_made front s tokens a b root other below under meant told said made don
     (subst (λ (ms : List (Move (List ℕ))). Makes front ms none [] (tree root below none) made.kept) same made.made) done.made).0
 
 -- a theorem has one place, and its proof one tree
-pub one_proof_tree : (statements : List PlainStatement) (label : List ℕ) (place other : ℕ) (s t : PlainStatement) (root under : List ℕ) (below beneath : Trees) → AllObey statements
+pub one_proof_tree : (profile : Profile) (statements : List PlainStatement) (label : List ℕ) (place other : ℕ) (s t : PlainStatement) (root under : List ℕ) (below beneath : Trees) → AllObey profile statements
     → HasProofTree statements label place s root below → HasProofTree statements label other t under beneath → (other ≡ place) × ((t ≡ s) × (tree under beneath none ≡ tree root below none))
-one_proof_tree statements label place other s t root under below beneath obeyed h k =
-    let meant : AllMeant (sentences statements) = all_meant statements obeyed in
+one_proof_tree profile statements label place other s t root under below beneath obeyed h k =
+    let meant : AllMeant (sentences statements) = all_meant profile statements obeyed in
     let here : other ≡ place =
     one_label (sentences statements) label other place (sentence_of t) (sentence_of s) meant (said_there statements other t k.there) (said_there statements place s h.there) k.named h.named in
     let one : Some t ≡ Some s = sym k.there ∙ ap (slice_get statements) here ∙ h.there in
     let same : t ≡ s = cc in
     let moved : HasProofTree statements label place s under beneath =
     subst (λ (u : PlainStatement). HasProofTree statements label place u under beneath) same (subst (λ (n : ℕ). HasProofTree statements label n t under beneath) here k) in
-    (here, (same, one_tree_made (sentences (take place statements)) (sentence_of s) (proof_of s) moved.moves h.moves under root beneath below (front_meant statements place obeyed) moved.told h.told moved.made h.made))
+    (here, (same, one_tree_made (sentences (take place statements)) (sentence_of s) (proof_of s) moved.moves h.moves under root beneath below (front_meant profile statements place obeyed) moved.told h.told moved.made h.made))
 
 pub one_saved : OneSaved
-one_saved f files statements label number other bytes others accepted sv sw =
-    let (here, (same, trees)) = one_proof_tree statements label sv.place sw.place sv.s sw.s sv.root sw.root sv.below sw.below accepted.obeyed sv.proof sw.proof in
+one_saved profile f files statements label number other bytes others accepted sv sw =
+    let (here, (same, trees)) = one_proof_tree profile statements label sv.place sw.place sv.s sw.s sv.root sw.root sv.below sw.below accepted.obeyed sv.proof sw.proof in
     let front : List Sentence = sentences (take sv.place statements) in
     let laid : IsTextIn f front (sentence_of sv.s) (tree sv.root sv.below none) sw.text =
     subst (λ (t : Trees). IsTextIn f front (sentence_of sv.s) t sw.text) trees
     (subst (λ (s : PlainStatement). IsTextIn f front (sentence_of s) (tree sw.root sw.below none) sw.text) same
     (subst (λ (n : ℕ). IsTextIn f (sentences (take n statements)) (sentence_of sw.s) (tree sw.root sw.below none) sw.text) here sw.laid)) in
-    let text : sv.text ≡ sw.text = texts_once f front (sentence_of sv.s) sv.root sv.below sv.text sw.text (front_meant statements sv.place accepted.obeyed) sv.laid laid in
+    let text : sv.text ≡ sw.text = texts_once f front (sentence_of sv.s) sv.root sv.below sv.text sw.text (front_meant profile statements sv.place accepted.obeyed) sv.laid laid in
     let home : number ≡ other = sv.home ∙ ap (λ (s : PlainStatement). s.first.file) (sym same) ∙ sym sw.home in
     let file : sv.file ≡ sw.file = some_same sv.file sw.file (sym sv.handed ∙ ap (slice_get files) home ∙ sw.handed) in
     (home, sv.whole ∙ (λ i. with_span (file i).bytes (sym same i).span (10 ∷ text i)) ∙ sym sw.whole)
@@ -228,40 +228,40 @@ not_over : (n : ℕ) → n ≤ most_labels → most_labels < n → ⊥
 not_over n h k = omega (arith, h, k)
 
 pub one_save_answer : OneSaveAnswer
-one_save_answer f files statements label number bytes ask.A1 accepted sv why = absurd (no_a1 f why)
+one_save_answer profile f files statements label number bytes ask.A1 accepted sv why = absurd (no_a1 f why)
   where
     no_a1 : (g : Form) → IsFormFault g statements label ask.A1 → ⊥
     no_a1 form.Normal h = let n = numbered_so statements sv.place sv.s label sv.proof.there sv.proof.named in h n.0 n.1
     no_a1 form.Packed h = let n = numbered_so statements sv.place sv.s label sv.proof.there sv.proof.named in h n.0 n.1
-one_save_answer f files statements label number bytes ask.A2 accepted sv why = absurd (no_a2 f why)
+one_save_answer profile f files statements label number bytes ask.A2 accepted sv why = absurd (no_a2 f why)
   where
     other : IsAskFault statements label ask.A2 → ⊥
     other (id, (place, t, at, (named, kind))) =
-        let same : t ≡ sv.s = one_stands statements label sv.place sv.s t (all_meant statements accepted.obeyed) sv.proof.there sv.proof.named (place, at.there, named) in
+        let same : t ≡ sv.s = one_stands statements label sv.place sv.s t (all_meant profile statements accepted.obeyed) sv.proof.there sv.proof.named (place, at.there, named) in
         kind (ap (λ (u : PlainStatement). u.kind) same ∙ provable_proof sv.s sv.proof.complete)
 
     no_a2 : (g : Form) → IsFormFault g statements label ask.A2 → ⊥
     no_a2 form.Normal h = other h
     no_a2 form.Packed h = other h
-one_save_answer f files statements label number bytes ask.A3 accepted sv why = absurd (no_a3 f why)
+one_save_answer profile f files statements label number bytes ask.A3 accepted sv why = absurd (no_a3 f why)
   where
     other : IsAskFault statements label ask.A3 → ⊥
     other (id, (place, t, at, (named, unproved))) =
-        unproved_not sv.s t (one_stands statements label sv.place sv.s t (all_meant statements accepted.obeyed) sv.proof.there sv.proof.named (place, at.there, named)) sv.proof.complete unproved
+        unproved_not sv.s t (one_stands statements label sv.place sv.s t (all_meant profile statements accepted.obeyed) sv.proof.there sv.proof.named (place, at.there, named)) sv.proof.complete unproved
 
     no_a3 : (g : Form) → IsFormFault g statements label ask.A3 → ⊥
     no_a3 form.Normal h = other h
     no_a3 form.Packed h = other h
-one_save_answer form.Normal files statements label number bytes ask.L2 accepted sv (place, t, root, below, has, over) =
-    let (here, (same, trees)) = one_proof_tree statements label sv.place place sv.s t sv.root root sv.below below accepted.obeyed sv.proof has in
+one_save_answer profile form.Normal files statements label number bytes ask.L2 accepted sv (place, t, root, below, has, over) =
+    let (here, (same, trees)) = one_proof_tree profile statements label sv.place place sv.s t sv.root root sv.below below accepted.obeyed sv.proof has in
     absurd (not_over (length (spelling (tree sv.root sv.below none))) sv.laid.0 (subst (λ (u : Trees). most_labels < length (spelling u)) trees over))
-one_save_answer form.Packed files statements label number bytes ask.L2 accepted sv why = absurd why
-one_save_answer f files statements label number bytes ask.F3 accepted sv (other, others, sw, over) =
-    let once = one_saved f files statements label number other bytes others accepted sv sw in
+one_save_answer profile form.Packed files statements label number bytes ask.L2 accepted sv why = absurd why
+one_save_answer profile f files statements label number bytes ask.F3 accepted sv (other, others, sw, over) =
+    let once = one_saved profile f files statements label number other bytes others accepted sv sw in
     inr (refl, subst (λ (n : ℕ). 1073741824 < n) (λ i. total_with files (sym once.0 i) (sym once.1 i)) over)
-one_save_answer form.Normal files statements label number bytes (ask.Text rule step) accepted sv why = absurd why
-one_save_answer form.Packed files statements label number bytes (ask.Text rule step) accepted sv why = absurd why
-one_save_answer f files statements label number bytes ask.Memory accepted sv why = inl refl
+one_save_answer profile form.Normal files statements label number bytes (ask.Text rule step) accepted sv why = absurd why
+one_save_answer profile form.Packed files statements label number bytes (ask.Text rule step) accepted sv why = absurd why
+one_save_answer profile f files statements label number bytes ask.Memory accepted sv why = inl refl
 
 -- ---- saving again
 
@@ -278,15 +278,15 @@ put_again s bytes text p =
     λ i. front i ++ (text ++ back i)
 
 -- the files with the text put in are saved as they are
-again_saved : (f : Form) (files : List PlainFile) (label : List ℕ) (before : List PlainStatement) (s : PlainStatement) (after : List PlainStatement) (file : PlainFile) (text : List ℕ) → IsLabelled label (sentence_of s)
-    → (p : IsToPut f files before s after file text) → (put : ArePutAnew files before s after file text)
+again_saved : (profile : Profile) (f : Form) (files : List PlainFile) (label : List ℕ) (before : List PlainStatement) (s : PlainStatement) (after : List PlainStatement) (file : PlainFile) (text : List ℕ) → IsLabelled label (sentence_of s)
+    → (p : IsToPut profile f files before s after file text) → (put : ArePutAnew profile files before s after file text)
     → IsSaved f (files_anew files s file text) (before ++ put_anew s (10 ∷ text) ∷ put.later) label s.first.file (with_span file.bytes s.span (10 ∷ text))
-again_saved f files label before s after file text named p put =
+again_saved profile f files label before s after file text named p put =
     let t : PlainStatement = put_anew s (10 ∷ text) in
     let su : List PlainStatement = before ++ t ∷ put.later in
     let bytes : List ℕ = with_span file.bytes s.span (10 ∷ text) in
-    let both = anew_of f files before s after file text p in
-    let new : IsProvedAnew (sentences before) t p.root p.below = both.1 in
+    let both = anew_of profile f files before s after file text p in
+    let new : IsProvedAnew profile (sentences before) t p.root p.below = both.1 in
     let q = new.proof.proves in
     let made : MakeTree (sentences before) new.proof.moves p.root p.below =
     record { kept = q.kept; made = subst (λ (u : Trees). Makes (sentences before) new.proof.moves none [] u q.kept) new.spelled q.made } in
@@ -317,20 +317,20 @@ again_saved f files label before s after file text named p put =
     seam (b ∷ ss) x more = seam ss x more
 
 pub saving_again : SavingAgainChangesNothing
-saving_again f files statements same label number again bytes others accepted sv fits reads sw =
+saving_again profile f files statements same label number again bytes others accepted sv fits reads sw =
     let before : List PlainStatement = take sv.place statements in
     let after : List PlainStatement = drop (suc sv.place) statements in
-    let p = to_put f files statements label number bytes accepted sv fits in
-    let put = are_put_anew f files before sv.s after sv.file sv.text p in
+    let p = to_put profile f files statements label number bytes accepted sv fits in
+    let put = are_put_anew profile f files before sv.s after sv.file sv.text p in
     let su : List PlainStatement = before ++ put_anew sv.s (10 ∷ sv.text) ∷ put.later in
     let changed : files_anew files sv.s sv.file sv.text ≡ with_bytes files number bytes = λ i. with_bytes files (sym sv.home i) (sym sv.whole i) in
-    let ok : AreAccepted (with_bytes files number bytes) su = subst (λ (fs : List PlainFile). AreAccepted fs su) changed put.accepted in
+    let ok : AreAccepted profile (with_bytes files number bytes) su = subst (λ (fs : List PlainFile). AreAccepted profile fs su) changed put.accepted in
     let own : IsSaved f (with_bytes files number bytes) su label number bytes =
     subst (λ (b : List ℕ). IsSaved f (with_bytes files number bytes) su label number b) (sym sv.whole)
     (subst (λ (n : ℕ). IsSaved f (with_bytes files number bytes) su label n (with_span sv.file.bytes sv.s.span (10 ∷ sv.text))) (sym sv.home)
     (subst (λ (fs : List PlainFile). IsSaved f fs su label sv.s.first.file (with_span sv.file.bytes sv.s.span (10 ∷ sv.text))) changed
-    (again_saved f files label before sv.s after sv.file sv.text sv.proof.named p put))) in
+    (again_saved profile f files label before sv.s after sv.file sv.text sv.proof.named p put))) in
     let read : same ≡ su = (same_reading (with_bytes files number bytes) same su None None reads ok.reads).0 in
-    let once = one_saved f (with_bytes files number bytes) su label number again bytes others ok own
+    let once = one_saved profile f (with_bytes files number bytes) su label number again bytes others ok own
     (subst (λ (ss : List PlainStatement). IsSaved f (with_bytes files number bytes) ss label again others) read sw) in
     (sym once.0, sym once.1)

@@ -15,6 +15,7 @@ use Rattle.mm_frame.specs.Rules.{AllMeant}
 use Rattle.mm_frame.proofs.Meant.{parts_at}
 use Rattle.mm_proof.specs.ReadSteps.{ReadSteps}
 use Rattle.mm_proof.specs.Packing.{OfTree}
+use Rattle.mm_proof.specs.declared.profile.Profile.{Profile}
 use Rattle.mm_check.specs.declared.form.Form.{Form}
 use Rattle.mm_check.specs.declared.form.Form.TheVariants as form
 use Rattle.mm_check.specs.declared.ask.AskFault.{AskFault}
@@ -188,7 +189,7 @@ put_save_fault form ss files statements label id steps number span text fault sa
 
 -- ---- files that are accepted
 
-pub accepted_of : (files : List PlainFile) (answer : Result Conclusion CheckFault) (c : Conclusion) → answer ≡ Ok c → IsVerdict files answer → (statements : List PlainStatement) × AreAccepted files statements
-accepted_of files answer c is holds =
+pub accepted_of : (profile : Profile) (files : List PlainFile) (answer : Result Conclusion CheckFault) (c : Conclusion) → answer ≡ Ok c → IsVerdict profile files answer → (statements : List PlainStatement) × AreAccepted profile files statements
+accepted_of profile files answer c is holds =
     let told : verdict_of_answer answer ≡ Some (verdict_of_conclusion c) = ap verdict_of_answer is in
-    accepted_with files c c.incomplete (holds (verdict_of_conclusion c) told)
+    accepted_with profile files c c.incomplete (holds (verdict_of_conclusion c) told)

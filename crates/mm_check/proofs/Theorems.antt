@@ -7,7 +7,6 @@ use Rattle.mm_frame.specs.declared.number.LabelId.{LabelId}
 use Rattle.mm_frame.specs.Sentence.{Sentence, sentence_of, IsLabelled}
 use Rattle.mm_frame.specs.Numbers.{labelled_sentences}
 use Rattle.mm_proof.specs.declared.profile.Profile.{Profile}
-use Rattle.mm_proof.specs.declared.profile.Profile.TheVariants.{Lenient}
 use Rattle.mm_proof.specs.declared.fault.ExpandFault.{ExpandFault}
 use Rattle.mm_proof.specs.declared.fault.ExpandFault.TheVariants as expand
 use Rattle.mm_proof.specs.Profiles.{limit_of}
@@ -43,10 +42,11 @@ one_move st (name id) y z a b =
 one_move st (again tag) y z a b = a ∙ sym b
 one_move st mark y z a b = a ∙ sym b
 
-pub steps_prove : (st : List Sentence) (id : ℕ) (tokens : List (List ℕ)) (steps : ReadSteps) → IsProofOf st id tokens → steps.profile ≡ Lenient → SayStepsOf st id tokens steps.moves
-    → AreProvedSteps st id steps
-steps_prove st id tokens steps proof lenient said place s moves number numbered =
-    let Fits : List (List ℕ) → Type 0 = IsWithin (limit_of Lenient) in
+pub steps_prove : (profile : Profile) (st : List Sentence) (id : ℕ) (tokens : List (List ℕ))
+    (steps : ReadSteps) → IsProofOf profile st id tokens → steps.profile ≡ profile
+    → SayStepsOf st id tokens steps.moves → AreProvedSteps st id steps
+steps_prove profile st id tokens steps proof under said place s moves number numbered =
+    let Fits : List (List ℕ) → Type 0 = IsWithin (limit_of profile) in
     let told = said place s number in
     let here : proof.place ≡ place = one_place st id proof.place place proof.s s proof.number.numbered number.numbered in
     let same : proof.s ≡ s = same_Some proof.s s (sym proof.number.numbered.there ∙ ap (slice_get st) here ∙ number.numbered.there) in
@@ -55,7 +55,7 @@ steps_prove st id tokens steps proof lenient said place s moves number numbered 
     (subst (λ (p : ℕ). IsProvedWithin Fits (take p st) proof.s tokens) here proof.proved) in
     let proves : Prove Fits (take place st) s told.0 = moves_prove Fits (take place st) s tokens told.0 proved told.1 in
     let those : told.0 ≡ moves = zip_once (IsNumberedMove st) (IsNumberedMove st) steps.moves told.0 moves (one_move st) told.2 numbered in
-    subst (λ (p : Profile). Prove (IsWithin (limit_of p)) (take place st) s moves) (sym lenient)
+    subst (λ (p : Profile). Prove (IsWithin (limit_of p)) (take place st) s moves) (sym under)
     (subst (λ (ms : List (Move (List ℕ))). Prove Fits (take place st) s ms) those proves)
 
 -- so they make one tree

@@ -10,7 +10,7 @@ use Rattle.mm_text.proofs.Lists.{get_kept, get_pushed, pushed_cases}
 use Rattle.mm_frame.proofs.Labelled.{numbered_grow, numbered_fall, numbered_last, numbered_within}
 use Rattle.mm_proof.specs.Tree.{Trees, none, tree}
 use Rattle.mm_proof.specs.Proof.{IsWithin, IsProved, IsProvedWithin}
-use Rattle.mm_proof.specs.declared.profile.Profile.TheVariants.{Lenient}
+use Rattle.mm_proof.specs.declared.profile.Profile.{Profile}
 use Rattle.mm_proof.specs.Profiles.{limit_of}
 use Rattle.mm_proof.specs.Used.{AreUsed}
 use Rattle.mm_proof.proofs.Limits.{derive_any}
@@ -102,8 +102,8 @@ front_kept : (statements more : List PlainStatement) (place : ℕ) → place ≤
 front_kept statements more place within = take-append-le place statements more within
 
 -- a proof within the limit is a proof, of the same tree
-pub any_proof : (before : List Sentence) (s : Sentence) (tokens : List (List ℕ)) → IsProvedWithin (IsWithin (limit_of Lenient)) before s tokens → IsProved before s tokens
-any_proof before s tokens p = record {
+pub any_proof : (profile : Profile) (before : List Sentence) (s : Sentence) (tokens : List (List ℕ)) → IsProvedWithin (IsWithin (limit_of profile)) before s tokens → IsProved before s tokens
+any_proof profile before s tokens p = record {
   whole = p.whole;
   moves = p.moves;
   said = p.said;
@@ -112,7 +112,7 @@ any_proof before s tokens p = record {
     below = p.proves.below;
     kept = p.proves.kept;
     made = p.proves.made;
-    derived = derive_any (IsWithin (limit_of Lenient)) before (tree p.proves.label p.proves.below none) (s.symbols ∷ []) p.proves.derived;
+    derived = derive_any (IsWithin (limit_of profile)) before (tree p.proves.label p.proves.below none) (s.symbols ∷ []) p.proves.derived;
   };
 }
 
@@ -141,14 +141,14 @@ uses_grow statements more u (place, t, has, used) =
       subst (λ (front : List PlainStatement). AreUsed (sentences front) t u.used) (sym (front_kept statements more place (omega arith))) used,
     )
 
-uses_last : (statements : List PlainStatement) (s : PlainStatement) (used : List ℕ) → is_some (sentence_of s).label ≡ true → is_proof s ≡ true
-    → IsProvedUsing (sentences statements) s used
+uses_last : (profile : Profile) (statements : List PlainStatement) (s : PlainStatement) (used : List ℕ) → is_some (sentence_of s).label ≡ true → is_proof s ≡ true
+    → IsProvedUsing profile (sentences statements) s used
     → AreUsesOf (statements ++ s ∷ []) (record { number = length (labelled_sentences (sentences statements)); used = ordered used })
 unfolding any_proof
-uses_last statements s used named complete proved =
+uses_last profile statements s used named complete proved =
     let front : statements ≡ take (length statements) (statements ++ s ∷ []) = sym (take-append_seam statements (s ∷ [])) in
     let proof : Spells s (tree_of proved.proof) (take (length statements) (statements ++ s ∷ [])) =
-    subst (Spells s (tree_of proved.proof)) front (any_proof (sentences statements) (sentence_of s) (proof_of s) proved.proof, refl) in (
+    subst (Spells s (tree_of proved.proof)) front (any_proof profile (sentences statements) (sentence_of s) (proof_of s) proved.proof, refl) in (
       length statements,
       tree_of proved.proof,
       record { s = s; at = at_last statements s named; complete = complete; proof = proof.0; spelled = proof.1 },
@@ -157,11 +157,11 @@ uses_last statements s used named complete proved =
     )
 
 -- what is kept of one statement more
-pub uses_more : (statements : List PlainStatement) (s : PlainStatement) (old new : List ProofUses) → (is_proof s ≡ true → is_some (sentence_of s).label ≡ true)
+pub uses_more : (profile : Profile) (statements : List PlainStatement) (s : PlainStatement) (old new : List ProofUses) → (is_proof s ≡ true → is_some (sentence_of s).label ≡ true)
     → AreUses statements old → (b : Bool) → is_proof s ≡ b
-    → KeepsProof (sentences statements) s (length (labelled_sentences (sentences statements))) b old new
+    → KeepsProof profile (sentences statements) s (length (labelled_sentences (sentences statements))) b old new
     → AreUses (statements ++ s ∷ []) new
-uses_more statements s old new named uses true e keeps =
+uses_more profile statements s old new named uses true e keeps =
     let one = keeps.some refl in
     let u : ProofUses = record { number = length (labelled_sentences (sentences statements)); used = ordered one.0 } in
     let numbers : numbers_of old ++ u.number ∷ [] ≡ numbers_of (old ++ u ∷ []) = sym (map-append (λ (v : ProofUses). v.number) old (u ∷ [])) in
@@ -170,11 +170,11 @@ uses_more statements s old new named uses true e keeps =
           (one_more_number is_proof statements s (numbers_of old) named uses.proofs true e);
       each = λ v h. elim (holds_cases old u v h) [
         | inl before ↦ uses_grow statements (s ∷ []) v (uses.each v before)
-        | inr last ↦ subst (λ (w : ProofUses). AreUsesOf (statements ++ s ∷ []) w) (sym last) (uses_last statements s one.0 (named e) e one.1)
+        | inr last ↦ subst (λ (w : ProofUses). AreUsesOf (statements ++ s ∷ []) w) (sym last) (uses_last profile statements s one.0 (named e) e one.1)
       ];
     } in
     subst (λ (us : List ProofUses). AreUses (statements ++ s ∷ []) us) (sym one.2) whole
-uses_more statements s old new named uses false e keeps =
+uses_more profile statements s old new named uses false e keeps =
     let whole : AreUses (statements ++ s ∷ []) old = record {
       proofs = subst (λ (ns : List ℕ). AreInOrder (IsNumberWhere (statements ++ s ∷ []) (λ t. is_proof t ≡ true)) ns) (append-nil (numbers_of old))
           (one_more_number is_proof statements s (numbers_of old) named uses.proofs false e);

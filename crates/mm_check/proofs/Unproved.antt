@@ -8,6 +8,7 @@ use Rattle.mm_text.specs.Token.{PlainToken}
 use Rattle.mm_text.specs.Statement.{PlainStatement, HasForm}
 use Rattle.mm_frame.specs.Sentence.{Sentence, sentence_of}
 use Rattle.mm_frame.specs.Rules.{AllMeant, IsMeant}
+use Rattle.mm_proof.specs.declared.profile.Profile.{Profile}
 use Rattle.mm_check.specs.Verdict.{AllObey, Obeys, sentences, proof_of, label_of, unproved_of, is_incomplete, is_proof, is_unproved}
 use Rattle.mm_text.specs.Statement.{is_provable}
 use Rattle.mm_check.proofs.Known.{provable_label, unproved_of-append}
@@ -38,8 +39,8 @@ map_split {X} f (x ∷ xs) (z ∷ b) y a e =
     }
 
 -- what obeys the rules breaks no rule of meaning
-pub all_meant : (statements : List PlainStatement) → AllObey statements → AllMeant (sentences statements)
-all_meant statements obeyed before after s e =
+pub all_meant : (profile : Profile) (statements : List PlainStatement) → AllObey profile statements → AllMeant (sentences statements)
+all_meant profile statements obeyed before after s e =
     let split = map_split sentence_of statements before s after e in
     subst (λ (t : Sentence). IsMeant before t) split.image
     (subst (λ (b : List Sentence). IsMeant b (sentence_of split.x)) split.front (obeyed split.before split.after split.x split.whole).meant)
@@ -89,10 +90,10 @@ end_split (z ∷ xs) x (w ∷ b) y after e =
     ]
 
 -- one more statement that obeys the rules
-pub one_more : (statements : List PlainStatement) (x : PlainStatement) → AllObey statements → Obeys (sentences statements) x → AllObey (statements ++ x ∷ [])
-one_more statements x obeyed new before after s split = elim (end_split statements x before s after split) [
+pub one_more : (profile : Profile) (statements : List PlainStatement) (x : PlainStatement) → AllObey profile statements → Obeys profile (sentences statements) x → AllObey profile (statements ++ x ∷ [])
+one_more profile statements x obeyed new before after s split = elim (end_split statements x before s after split) [
   | within others e ↦ obeyed before others s e
-  | last e f ↦ subst (λ (b : List PlainStatement). Obeys (sentences b) s) e (subst (λ (t : PlainStatement). Obeys (sentences statements) t) f new)
+  | last e f ↦ subst (λ (b : List PlainStatement). Obeys profile (sentences b) s) e (subst (λ (t : PlainStatement). Obeys profile (sentences statements) t) f new)
 ]
 
 -- ## No proof is incomplete

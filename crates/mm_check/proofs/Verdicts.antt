@@ -11,7 +11,7 @@ use Rattle.mm_text.proofs.FormedLaws.{readings_are_formed_in_place}
 use Rattle.mm_frame.specs.declared.rule.MeaningRule.{MeaningRule}
 use Rattle.mm_frame.specs.Sentence.{Sentence, sentence_of}
 use Rattle.mm_frame.specs.Rules.{FirstBroken, AllMeant, rank}
-use Rattle.mm_proof.specs.declared.profile.Profile.TheVariants.{Lenient}
+use Rattle.mm_proof.specs.declared.profile.Profile.{Profile}
 use Rattle.mm_proof.specs.Profiles.{limit_of}
 use Rattle.mm_proof.specs.declared.fault.ProofRule.TheVariants as proof
 use Rattle.mm_proof.proofs.Verdicts.{one_verdict_holds}
@@ -51,21 +51,21 @@ one_first before s a b f g = elim (compared (rank a) (rank b)) [
 ]
 
 -- what obeys the rules has no fault
-obeying_faultless : (before : List Sentence) (s : PlainStatement) (rule : Rule) (step : ℕ) → AllMeant before → Obeys before s
-    → HasFault before s rule step → ⊥
-obeying_faultless before s rule step meant obeyed (inl f) = obeyed.meant f.0 f.1.broken
-obeying_faultless before s rule step meant obeyed (inr f) =
-    (one_verdict_holds (limit_of Lenient) before (sentence_of s) (proof_of s) meant).0 (obeyed.proved f.1) f.2 step f.3
+obeying_faultless : (profile : Profile) (before : List Sentence) (s : PlainStatement) (rule : Rule) (step : ℕ) → AllMeant before → Obeys profile before s
+    → HasFault profile before s rule step → ⊥
+obeying_faultless profile before s rule step meant obeyed (inl f) = obeyed.meant f.0 f.1.broken
+obeying_faultless profile before s rule step meant obeyed (inr f) =
+    (one_verdict_holds (limit_of profile) before (sentence_of s) (proof_of s) meant).0 (obeyed.proved f.1) f.2 step f.3
 
 -- the fault of a statement is one
-one_statement_fault : (before : List Sentence) (s : PlainStatement) (rule rule' : Rule) (step step' : ℕ) → AllMeant before
-    → HasFault before s rule step → HasFault before s rule' step' → (rule ≡ rule') × (step ≡ step')
-one_statement_fault before s rule rule' step step' meant (inl f) (inl g) =
+one_statement_fault : (profile : Profile) (before : List Sentence) (s : PlainStatement) (rule rule' : Rule) (step step' : ℕ) → AllMeant before
+    → HasFault profile before s rule step → HasFault profile before s rule' step' → (rule ≡ rule') × (step ≡ step')
+one_statement_fault profile before s rule rule' step step' meant (inl f) (inl g) =
     (f.2 ∙ ap meaning_rule (one_first before (sentence_of s) f.0 g.0 f.1 g.1) ∙ sym g.2, f.3 ∙ sym g.3)
-one_statement_fault before s rule rule' step step' meant (inl f) (inr g) = absurd (g.0 f.0 f.1.broken)
-one_statement_fault before s rule rule' step step' meant (inr f) (inl g) = absurd (f.0 g.0 g.1.broken)
-one_statement_fault before s rule rule' step step' meant (inr f) (inr g) =
-    let same = (one_verdict_holds (limit_of Lenient) before (sentence_of s) (proof_of s) meant).1 f.2 g.2 step step' f.3 g.3 in
+one_statement_fault profile before s rule rule' step step' meant (inl f) (inr g) = absurd (g.0 f.0 f.1.broken)
+one_statement_fault profile before s rule rule' step step' meant (inr f) (inl g) = absurd (f.0 g.0 g.1.broken)
+one_statement_fault profile before s rule rule' step step' meant (inr f) (inr g) =
+    let same = (one_verdict_holds (limit_of profile) before (sentence_of s) (proof_of s) meant).1 f.2 g.2 step step' f.3 g.3 in
     (f.4 ∙ ap proof_rule same.0 ∙ sym g.4, same.1)
 
 -- ## The first statement at fault
@@ -90,19 +90,19 @@ placed (w ∷ a) x c (z ∷ b) y d e =
     ]
 
 -- the statements before the first one at fault are determined, and so is its fault
-one_refused_statement : (files : List PlainFile) (statements : List PlainStatement) (a b : PlainRefusal)
-    → RefusesStatement files statements a → RefusesStatement files statements b → a ≡ b
-one_refused_statement files statements a b r q =
+one_refused_statement : (profile : Profile) (files : List PlainFile) (statements : List PlainStatement) (a b : PlainRefusal)
+    → RefusesStatement profile files statements a → RefusesStatement profile files statements b → a ≡ b
+one_refused_statement profile files statements a b r q =
     elim (placed r.before r.s r.after q.before q.s q.after (sym r.split ∙ q.split)) [
-      | earlier between e ↦ absurd (obeying_faultless (sentences r.before) r.s r.rule r.step (all_meant _ r.obeyed)
+      | earlier between e ↦ absurd (obeying_faultless profile (sentences r.before) r.s r.rule r.step (all_meant profile _ r.obeyed)
           (q.obeyed r.before between r.s e) r.fault)
-      | later between e ↦ absurd (obeying_faultless (sentences q.before) q.s q.rule q.step (all_meant _ q.obeyed)
+      | later between e ↦ absurd (obeying_faultless profile (sentences q.before) q.s q.rule q.step (all_meant profile _ q.obeyed)
           (r.obeyed q.before between q.s e) q.fault)
       | same e f ↦
-          let Faulty : List PlainStatement → PlainStatement → Type 0 = λ before s. HasFault (sentences before) s q.rule q.step in
-          let fault : HasFault (sentences r.before) r.s q.rule q.step =
+          let Faulty : List PlainStatement → PlainStatement → Type 0 = λ before s. HasFault profile (sentences before) s q.rule q.step in
+          let fault : HasFault profile (sentences r.before) r.s q.rule q.step =
           subst (λ (before : List PlainStatement). Faulty before r.s) (sym e) (subst (λ (s : PlainStatement). Faulty q.before s) (sym f) q.fault) in
-          let one = one_statement_fault (sentences r.before) r.s r.rule q.rule r.step q.step (all_meant _ r.obeyed) r.fault fault in
+          let one = one_statement_fault profile (sentences r.before) r.s r.rule q.rule r.step q.step (all_meant profile _ r.obeyed) r.fault fault in
           r.refused ∙ ap (λ (before : List PlainStatement). refusal_of files (length before) r.s r.rule r.step) e
           ∙ ap (λ (s : PlainStatement). refusal_of files (length q.before) s r.rule r.step) f
           ∙ ap (λ (rule : Rule). refusal_of files (length q.before) q.s rule r.step) one.0
@@ -111,25 +111,25 @@ one_refused_statement files statements a b r q =
     ]
 
 -- where each statement obeys the rules, none is refused
-none_refused : (files : List PlainFile) (statements : List PlainStatement) (a : PlainRefusal) → AllObey statements
-    → RefusesStatement files statements a → ⊥
-none_refused files statements a obeyed r =
-    obeying_faultless (sentences r.before) r.s r.rule r.step (all_meant _ r.obeyed) (obeyed r.before r.after r.s r.split) r.fault
+none_refused : (profile : Profile) (files : List PlainFile) (statements : List PlainStatement) (a : PlainRefusal) → AllObey profile statements
+    → RefusesStatement profile files statements a → ⊥
+none_refused profile files statements a obeyed r =
+    obeying_faultless profile (sentences r.before) r.s r.rule r.step (all_meant profile _ r.obeyed) (obeyed r.before r.after r.s r.split) r.fault
 
 -- the fault of the text is one
-one_refused_text : (files : List PlainFile) (statements : List PlainStatement) (ending : Option PlainFault) (a b : PlainRefusal)
-    → RefusesText files statements ending a → RefusesText files statements ending b → a ≡ b
-one_refused_text files statements ending a b r q =
+one_refused_text : (profile : Profile) (files : List PlainFile) (statements : List PlainStatement) (ending : Option PlainFault) (a b : PlainRefusal)
+    → RefusesText profile files statements ending a → RefusesText profile files statements ending b → a ≡ b
+one_refused_text profile files statements ending a b r q =
     let same_fault : r.fault ≡ q.fault = cc (r.ended, q.ended) in
     r.refused ∙ ap (text_refusal files) same_fault ∙ sym q.refused
 
-one_refused : (files : List PlainFile) (statements : List PlainStatement) (ending : Option PlainFault) (a b : PlainRefusal)
-    → RefusesStatement files statements a ⊎ RefusesText files statements ending a
-    → RefusesStatement files statements b ⊎ RefusesText files statements ending b → a ≡ b
-one_refused files statements ending a b (inl r) (inl q) = one_refused_statement files statements a b r q
-one_refused files statements ending a b (inl r) (inr q) = absurd (none_refused files statements a q.obeyed r)
-one_refused files statements ending a b (inr r) (inl q) = absurd (none_refused files statements b r.obeyed q)
-one_refused files statements ending a b (inr r) (inr q) = one_refused_text files statements ending a b r q
+one_refused : (profile : Profile) (files : List PlainFile) (statements : List PlainStatement) (ending : Option PlainFault) (a b : PlainRefusal)
+    → RefusesStatement profile files statements a ⊎ RefusesText profile files statements ending a
+    → RefusesStatement profile files statements b ⊎ RefusesText profile files statements ending b → a ≡ b
+one_refused profile files statements ending a b (inl r) (inl q) = one_refused_statement profile files statements a b r q
+one_refused profile files statements ending a b (inl r) (inr q) = absurd (none_refused profile files statements a q.obeyed r)
+one_refused profile files statements ending a b (inr r) (inl q) = absurd (none_refused profile files statements b r.obeyed q)
+one_refused profile files statements ending a b (inr r) (inr q) = one_refused_text profile files statements ending a b r q
 
 -- ## The verdict
 
@@ -143,53 +143,53 @@ same_ending files a b d e r q =
     let one = each_has_one_reading files in (one.only a d r).1 ∙ sym (one.only b e q).1
 
 -- files that are read to the end, each statement obeying the rules, aren't refused
-pub accepted_or_refused : (files : List PlainFile) (a b : List PlainStatement) (ending : Option PlainFault) (refusal : PlainRefusal)
-    → AreAccepted files a → Reads files b ending
-    → RefusesStatement files b refusal ⊎ RefusesText files b ending refusal → ⊥
-accepted_or_refused files a b ending refusal accepted reads (inl r) =
+pub accepted_or_refused : (profile : Profile) (files : List PlainFile) (a b : List PlainStatement) (ending : Option PlainFault) (refusal : PlainRefusal)
+    → AreAccepted profile files a → Reads files b ending
+    → RefusesStatement profile files b refusal ⊎ RefusesText profile files b ending refusal → ⊥
+accepted_or_refused profile files a b ending refusal accepted reads (inl r) =
     let same = same_statements files a b None ending accepted.reads reads in
-    none_refused files b refusal (subst AllObey same accepted.obeyed) r
-accepted_or_refused files a b ending refusal accepted reads (inr r) =
+    none_refused profile files b refusal (subst (AllObey profile) same accepted.obeyed) r
+accepted_or_refused profile files a b ending refusal accepted reads (inr r) =
     let same = same_ending files a b None ending accepted.reads reads in cc (same, r.ended)
 
-same_accepted : (files : List PlainFile) (a b : List PlainStatement) → AreAccepted files a → AreAccepted files b → a ≡ b
-same_accepted files a b one other = same_statements files a b None None one.reads other.reads
+same_accepted : (profile : Profile) (files : List PlainFile) (a b : List PlainStatement) → AreAccepted profile files a → AreAccepted profile files b → a ≡ b
+same_accepted profile files a b one other = same_statements files a b None None one.reads other.reads
 
-pub one_verdict : (files : List PlainFile) (v w : Verdict) → HasVerdict files v → HasVerdict files w → v ≡ w
-one_verdict files (Load a) (Load b) h k = ap Load (h.2 ∙ ap load_rule (one_load files h.0 k.0 h.1 k.1) ∙ sym k.2)
-one_verdict files (Load a) (Refused b) h k = absurd (k.0 h.0 h.1)
-one_verdict files (Load a) (Incomplete ls) h k = absurd (k.1.readable h.0 h.1)
-one_verdict files (Load a) (Yes n p) h k = absurd (k.1.readable h.0 h.1)
-one_verdict files (Refused a) (Load b) h k = absurd (h.0 k.0 k.1)
-one_verdict files (Refused a) (Refused b) h k =
+pub one_verdict : (profile : Profile) (files : List PlainFile) (v w : Verdict) → HasVerdict profile files v → HasVerdict profile files w → v ≡ w
+one_verdict profile files (Load a) (Load b) h k = ap Load (h.2 ∙ ap load_rule (one_load files h.0 k.0 h.1 k.1) ∙ sym k.2)
+one_verdict profile files (Load a) (Refused b) h k = absurd (k.0 h.0 h.1)
+one_verdict profile files (Load a) (Incomplete ls) h k = absurd (k.1.readable h.0 h.1)
+one_verdict profile files (Load a) (Yes n p) h k = absurd (k.1.readable h.0 h.1)
+one_verdict profile files (Refused a) (Load b) h k = absurd (h.0 k.0 k.1)
+one_verdict profile files (Refused a) (Refused b) h k =
     let statements = same_statements files h.1 k.1 h.2 k.2 h.3 k.3 in
     let ending = same_ending files h.1 k.1 h.2 k.2 h.3 k.3 in
-    let Refuses : List PlainStatement → Option PlainFault → Type 0 = λ ss e. RefusesStatement files ss a ⊎ RefusesText files ss e a in
-    let moved : RefusesStatement files k.1 a ⊎ RefusesText files k.1 k.2 a =
+    let Refuses : List PlainStatement → Option PlainFault → Type 0 = λ ss e. RefusesStatement profile files ss a ⊎ RefusesText profile files ss e a in
+    let moved : RefusesStatement profile files k.1 a ⊎ RefusesText profile files k.1 k.2 a =
     subst (λ (e : Option PlainFault). Refuses k.1 e) ending (subst (λ (ss : List PlainStatement). Refuses ss h.2) statements h.4) in
-    ap Refused (one_refused files k.1 k.2 a b moved k.4)
-one_verdict files (Refused a) (Incomplete ls) h k = absurd (accepted_or_refused files k.0 h.1 h.2 a k.1 h.3 h.4)
-one_verdict files (Refused a) (Yes n p) h k = absurd (accepted_or_refused files k.0 h.1 h.2 a k.1 h.3 h.4)
-one_verdict files (Incomplete ls) (Load b) h k = absurd (h.1.readable k.0 k.1)
-one_verdict files (Incomplete ls) (Refused b) h k = absurd (accepted_or_refused files h.0 k.1 k.2 b h.1 k.3 k.4)
-one_verdict files (Incomplete ls) (Incomplete ms) h k =
-    ap Incomplete (h.2 ∙ ap unproved_of (same_accepted files h.0 k.0 h.1 k.1) ∙ sym k.2)
-one_verdict files (Incomplete ls) (Yes n p) h k =
-    absurd (h.3 (h.2 ∙ ap unproved_of (same_accepted files h.0 k.0 h.1 k.1) ∙ k.2))
-one_verdict files (Yes n p) (Load b) h k = absurd (h.1.readable k.0 k.1)
-one_verdict files (Yes n p) (Refused b) h k = absurd (accepted_or_refused files h.0 k.1 k.2 b h.1 k.3 k.4)
-one_verdict files (Yes n p) (Incomplete ls) h k =
-    absurd (k.3 (k.2 ∙ ap unproved_of (same_accepted files k.0 h.0 k.1 h.1) ∙ h.2))
-one_verdict files (Yes n p) (Yes m q) h k =
-    let statements = same_accepted files h.0 k.0 h.1 k.1 in
+    ap Refused (one_refused profile files k.1 k.2 a b moved k.4)
+one_verdict profile files (Refused a) (Incomplete ls) h k = absurd (accepted_or_refused profile files k.0 h.1 h.2 a k.1 h.3 h.4)
+one_verdict profile files (Refused a) (Yes n p) h k = absurd (accepted_or_refused profile files k.0 h.1 h.2 a k.1 h.3 h.4)
+one_verdict profile files (Incomplete ls) (Load b) h k = absurd (h.1.readable k.0 k.1)
+one_verdict profile files (Incomplete ls) (Refused b) h k = absurd (accepted_or_refused profile files h.0 k.1 k.2 b h.1 k.3 k.4)
+one_verdict profile files (Incomplete ls) (Incomplete ms) h k =
+    ap Incomplete (h.2 ∙ ap unproved_of (same_accepted profile files h.0 k.0 h.1 k.1) ∙ sym k.2)
+one_verdict profile files (Incomplete ls) (Yes n p) h k =
+    absurd (h.3 (h.2 ∙ ap unproved_of (same_accepted profile files h.0 k.0 h.1 k.1) ∙ k.2))
+one_verdict profile files (Yes n p) (Load b) h k = absurd (h.1.readable k.0 k.1)
+one_verdict profile files (Yes n p) (Refused b) h k = absurd (accepted_or_refused profile files h.0 k.1 k.2 b h.1 k.3 k.4)
+one_verdict profile files (Yes n p) (Incomplete ls) h k =
+    absurd (k.3 (k.2 ∙ ap unproved_of (same_accepted profile files k.0 h.0 k.1 h.1) ∙ h.2))
+one_verdict profile files (Yes n p) (Yes m q) h k =
+    let statements = same_accepted profile files h.0 k.0 h.1 k.1 in
     let counts : n ≡ m = h.3 ∙ ap length statements ∙ sym k.3 in
     let proofs : p ≡ q = h.4 ∙ ap proofs_of statements ∙ sym k.4 in
     cc (counts, proofs)
 
 -- ## Yes, and the profile
 
-pub yes_obeys : (files : List PlainFile) (n p : ℕ) → HasVerdict files (Yes n p) → ObeyTheProfile files
-yes_obeys files n p h = record {
+pub yes_obeys : (profile : Profile) (files : List PlainFile) (n p : ℕ) → HasVerdict profile files (Yes n p) → ObeyTheProfile profile files
+yes_obeys profile files n p h = record {
   handed = h.1.readable;
   statements = h.0;
   reading = h.1.reads;
@@ -199,62 +199,62 @@ yes_obeys files n p h = record {
       complete_where_none before after s (subst (λ (ss : List PlainStatement). AllByRecursion HasForm ss) split (readings_are_formed_in_place files h.0 None h.1.reads).formed)
       (sym (ap unproved_of split) ∙ h.2) provable in (
         complete,
-        (limits_aside_holds (limit_of Lenient) (sentences before) (sentence_of s) (proof_of s)
-            (all_meant before (λ earlier later t e. h.1.obeyed earlier (later ++ s ∷ after) t
+        (limits_aside_holds (limit_of profile) (sentences before) (sentence_of s) (proof_of s)
+            (all_meant profile before (λ earlier later t e. h.1.obeyed earlier (later ++ s ∷ after) t
             (split ∙ ap (λ (xs : List PlainStatement). xs ++ s ∷ after) e ∙ append_assoc earlier (t ∷ later) (s ∷ after))))).0
             ((h.1.obeyed before after s split).proved (proof_there s provable complete)),
       );
 }
 
 -- where the profile is obeyed, what is refused passes the limit
-over_the_limit : (files : List PlainFile) (profile : ObeyTheProfile files) (refusal : PlainRefusal) → RefusesStatement files profile.statements refusal
+over_the_limit : (profile : Profile) (files : List PlainFile) (obey : ObeyTheProfile profile files) (refusal : PlainRefusal) → RefusesStatement profile files obey.statements refusal
     → refusal.rule ≡ L1
-over_the_limit files profile refusal r = elim (r.fault) [
-  | inl f ↦ absurd (profile.meant r.before r.after r.s r.split f.0 f.1.broken)
+over_the_limit profile files obey refusal r = elim (r.fault) [
+  | inl f ↦ absurd (obey.meant r.before r.after r.s r.split f.0 f.1.broken)
   | inr f ↦
-      let law = limits_aside_holds (limit_of Lenient) (sentences r.before) (sentence_of r.s) (proof_of r.s) (all_meant _ r.obeyed) in
-      let proved = profile.proved r.before r.after r.s r.split (provable_proof r.s.kind (is_incomplete (proof_of r.s)) f.1) in
+      let law = limits_aside_holds (limit_of profile) (sentences r.before) (sentence_of r.s) (proof_of r.s) (all_meant profile _ r.obeyed) in
+      let proved = obey.proved r.before r.after r.s r.split (provable_proof r.s.kind (is_incomplete (proof_of r.s)) f.1) in
       let over : f.2 ≡ proof.L1 = law.2 proved.1 f.2 r.step f.3 in
       ap (λ (q : PlainRefusal). q.rule) r.refused ∙ f.4 ∙ ap proof_rule over
 ]
 
-pub profile_verdict : (files : List PlainFile) → ObeyTheProfile files → (v : Verdict) → HasVerdict files v
+pub profile_verdict : (profile : Profile) (files : List PlainFile) → ObeyTheProfile profile files → (v : Verdict) → HasVerdict profile files v
     → ((n : ℕ) × (p : ℕ) × (v ≡ Yes n p)) ⊎ ((refusal : PlainRefusal) × (v ≡ Refused refusal) × (refusal.rule ≡ L1))
-profile_verdict files profile (Load rule) h = absurd (profile.handed h.0 h.1)
-profile_verdict files profile (Incomplete ls) h =
-    let same = same_statements files h.0 profile.statements None None h.1.reads profile.reading in
-    absurd (h.3 (h.2 ∙ ap unproved_of same ∙ none_unproved profile.statements (λ before after s split provable. (profile.proved before after s split provable).0)))
-profile_verdict files profile (Yes n p) h = inl (n, p, refl)
-profile_verdict files profile (Refused refusal) h = elim (h.4) [
+profile_verdict profile files obey (Load rule) h = absurd (obey.handed h.0 h.1)
+profile_verdict profile files obey (Incomplete ls) h =
+    let same = same_statements files h.0 obey.statements None None h.1.reads obey.reading in
+    absurd (h.3 (h.2 ∙ ap unproved_of same ∙ none_unproved obey.statements (λ before after s split provable. (obey.proved before after s split provable).0)))
+profile_verdict profile files obey (Yes n p) h = inl (n, p, refl)
+profile_verdict profile files obey (Refused refusal) h = elim (h.4) [
   | inl r ↦
-      let same = same_statements files h.1 profile.statements h.2 None h.3 profile.reading in
-      inr (refusal, refl, over_the_limit files profile refusal (subst (λ (ss : List PlainStatement). RefusesStatement files ss refusal) same r))
+      let same = same_statements files h.1 obey.statements h.2 None h.3 obey.reading in
+      inr (refusal, refl, over_the_limit profile files obey refusal (subst (λ (ss : List PlainStatement). RefusesStatement profile files ss refusal) same r))
   | inr r ↦
-      let same = same_ending files h.1 profile.statements h.2 None h.3 profile.reading in
+      let same = same_ending files h.1 obey.statements h.2 None h.3 obey.reading in
       cc (same, r.ended)
 ]
 
 -- ## What an answer tells
 
-only_told : (files : List PlainFile) (o : Option Verdict) → ((v : Verdict) → o ≡ Some v → HasVerdict files v)
-    → (w : Verdict) → HasVerdict files w → (o ≡ None) ⊎ (o ≡ Some w)
-only_told files None holds w h = inl refl
-only_told files (Some v) holds w h = inr (ap Some (one_verdict files v w (holds v refl) h))
+only_told : (profile : Profile) (files : List PlainFile) (o : Option Verdict) → ((v : Verdict) → o ≡ Some v → HasVerdict profile files v)
+    → (w : Verdict) → HasVerdict profile files w → (o ≡ None) ⊎ (o ≡ Some w)
+only_told profile files None holds w h = inl refl
+only_told profile files (Some v) holds w h = inr (ap Some (one_verdict profile files v w (holds v refl) h))
 
-pub only_answer : (files : List PlainFile) (answer : Result Conclusion CheckFault) → IsVerdict files answer → IsOnlyVerdict files answer
-only_answer files answer holds w h = only_told files (verdict_of_answer answer) holds w h
+pub only_answer : (profile : Profile) (files : List PlainFile) (answer : Result Conclusion CheckFault) → IsVerdict profile files answer → IsOnlyVerdict profile files answer
+only_answer profile files answer holds w h = only_told profile files (verdict_of_answer answer) holds w h
 
-pub yes_answer : (files : List PlainFile) (answer : Result Conclusion CheckFault) → IsVerdict files answer → IsYes answer → ObeyTheProfile files
-yes_answer files answer holds told = yes_obeys files told.0 told.1 (holds (Yes told.0 told.1) told.2)
+pub yes_answer : (profile : Profile) (files : List PlainFile) (answer : Result Conclusion CheckFault) → IsVerdict profile files answer → IsYes answer → ObeyTheProfile profile files
+yes_answer profile files answer holds told = yes_obeys profile files told.0 told.1 (holds (Yes told.0 told.1) told.2)
 
-accepted_told : (files : List PlainFile) (o : Option Verdict) → ((v : Verdict) → o ≡ Some v → HasVerdict files v) → ObeyTheProfile files
+accepted_told : (profile : Profile) (files : List PlainFile) (o : Option Verdict) → ((v : Verdict) → o ≡ Some v → HasVerdict profile files v) → ObeyTheProfile profile files
     → ((n : ℕ) × (p : ℕ) × (o ≡ Some (Yes n p))) ⊎ ((refusal : PlainRefusal) × (o ≡ Some (Refused refusal)) × (refusal.rule ≡ L1)) ⊎ (o ≡ None)
-accepted_told files None holds profile = inr (inr refl)
-accepted_told files (Some v) holds profile = elim (profile_verdict files profile v (holds v refl)) [
+accepted_told profile files None holds obey = inr (inr refl)
+accepted_told profile files (Some v) holds obey = elim (profile_verdict profile files obey v (holds v refl)) [
   | inl found ↦ inl (found.0, found.1, ap Some found.2)
   | inr over ↦ inr (inl (over.0, ap Some over.1, over.2))
 ]
 
-pub accepted_answer : (files : List PlainFile) (answer : Result Conclusion CheckFault) → IsVerdict files answer → ObeyTheProfile files
+pub accepted_answer : (profile : Profile) (files : List PlainFile) (answer : Result Conclusion CheckFault) → IsVerdict profile files answer → ObeyTheProfile profile files
     → IsYes answer ⊎ IsOverLimit answer ⊎ IsWantOfMemory answer
-accepted_answer files answer holds profile = accepted_told files (verdict_of_answer answer) holds profile
+accepted_answer profile files answer holds obey = accepted_told profile files (verdict_of_answer answer) holds obey

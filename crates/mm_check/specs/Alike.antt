@@ -3,12 +3,14 @@ use Rattle.std.specs.Prelude.{◌≤◌, ℕ, List}
 use Rattle.std.specs.List.{AllZip}
 use Rattle.mm_text.specs.Files.{PlainFile, total_bytes}
 use Rattle.mm_text.specs.Alike.{AreAlike}
+use Rattle.mm_proof.specs.declared.profile.Profile.{Profile}
 use Rattle.mm_check.specs.Reply.{IsReply}
 
--- files with the same names that show the same have the same reply to `check`, as long as neither
--- are more bytes than can be taken
+-- files with the same names that show the same have the same reply to `check`, in each profile, as
+-- long as neither are more bytes than can be taken
 abbrev pub AlikeFilesHaveOneReply : Type 0
 AlikeFilesHaveOneReply =
-    (files others : List PlainFile) → AllZip AreAlike files others
+    (profile : Profile) (files others : List PlainFile) → AllZip AreAlike files others
     → total_bytes files ≤ 1073741824 → total_bytes others ≤ 1073741824
-    → (text : List ℕ) (status : ℕ) → IsReply files text status → IsReply others text status
+    → (text : List ℕ) (status : ℕ)
+    → IsReply profile files text status → IsReply profile others text status

@@ -10,6 +10,7 @@ use Rattle.mm_check.specs.Conclusion.{Conclusion}
 use Rattle.mm_text.specs.Statement.{PlainStatement}
 use Rattle.mm_text.specs.Files.{PlainFile}
 use Rattle.mm_text.specs.Reading.{PlainFault, Reads}
+use Rattle.mm_proof.specs.declared.profile.Profile.{Profile}
 use Rattle.mm_check.specs.declared.rule.Rule.TheVariants.{L1}
 use Rattle.mm_check.specs.Verdict.{PlainRefusal, Verdict, Load, Refused, Incomplete, Yes}
 use Rattle.mm_check.specs.Verdict.{HasVerdict, labels_of, proofs_of, is_unproved, sentences}
@@ -65,14 +66,14 @@ abbrev pub IsWantOfMemory : Result Conclusion CheckFault → Type 0
 IsWantOfMemory answer = verdict_of_answer answer ≡ None
 
 -- The answer is the verdict over the files, unless memory was wanting.
-abbrev pub IsVerdict : List PlainFile → Result Conclusion CheckFault → Type 0
-IsVerdict files answer =
-    (verdict : Verdict) → verdict_of_answer answer ≡ Some verdict → HasVerdict files verdict
+abbrev pub IsVerdict : Profile → List PlainFile → Result Conclusion CheckFault → Type 0
+IsVerdict profile files answer =
+    (verdict : Verdict) → verdict_of_answer answer ≡ Some verdict → HasVerdict profile files verdict
 
 -- A verdict that holds of the files is the one answered, unless memory was wanting.
-abbrev pub IsOnlyVerdict : List PlainFile → Result Conclusion CheckFault → Type 0
-IsOnlyVerdict files answer =
-    (verdict : Verdict) → HasVerdict files verdict
+abbrev pub IsOnlyVerdict : Profile → List PlainFile → Result Conclusion CheckFault → Type 0
+IsOnlyVerdict profile files answer =
+    (verdict : Verdict) → HasVerdict profile files verdict
     → IsWantOfMemory answer ⊎ (verdict_of_answer answer ≡ Some verdict)
 
 -- the labels kept are those of the statements that the files hold

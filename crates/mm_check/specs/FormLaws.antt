@@ -6,6 +6,7 @@ use Rattle.mm_frame.specs.Sentence.{Sentence}
 use Rattle.mm_proof.specs.Tree.{Trees, none, tree}
 use Rattle.mm_proof.specs.Moves.{Move}
 use Rattle.mm_proof.specs.OneTree.{MakeTree, MakeSameTree}
+use Rattle.mm_proof.specs.declared.profile.Profile.{Profile}
 use Rattle.mm_check.specs.Verdict.{AreAccepted, sentences}
 use Rattle.mm_check.specs.Forms.{IsPackedText}
 
@@ -14,9 +15,10 @@ use Rattle.mm_check.specs.Forms.{IsPackedText}
 -- trees are equal.
 abbrev pub PackedTextsTell : Type 0
 PackedTextsTell =
-    (files : List PlainFile) (statements : List PlainStatement) (place : ℕ) (s : Sentence)
+    (profile : Profile) (files : List PlainFile) (statements : List PlainStatement) (place : ℕ)
+    (s : Sentence)
     (moves others : List (Move (List ℕ))) (l m : List ℕ) (a b : Trees) (text other : List ℕ)
-    → AreAccepted files statements
+    → AreAccepted profile files statements
     → MakeTree (sentences (take place statements)) moves l a
     → MakeTree (sentences (take place statements)) others m b
     → IsPackedText (sentences (take place statements)) s (tree l a none) text

@@ -17,7 +17,7 @@ use Rattle.mm_proof.specs.declared.prover.Proved.TheVariants as proved
 use Rattle.mm_proof.specs.Answer.{OnRule}
 use Rattle.mm_proof.specs.Used.{AreUsedNumbers}
 use Rattle.mm_proof.specs.Proof.{IsProvedWithin, IsWithin, IsFault}
-use Rattle.mm_proof.specs.declared.profile.Profile.TheVariants.{Lenient}
+use Rattle.mm_proof.specs.declared.profile.Profile.{Profile}
 use Rattle.mm_proof.specs.Profiles.{limit_of}
 use Rattle.mm_check.specs.declared.rule.Rule.{Rule}
 use Rattle.mm_check.specs.declared.fault.CheckFault.{CheckFault}
@@ -32,10 +32,11 @@ use Rattle.mm_check.specs.Ordered.{ordered}
 use Rattle.mm_check.specs.Rests.{tree_of, IsNumberWhere, AreInOrder, AreUses}
 
 -- Memory was wanting, or the statement, which comes after so many others, is refused for its fault.
-abbrev pub RefusesAfter : List PlainFile → List Sentence → ℕ → PlainStatement → CheckFault → Type 0
-RefusesAfter files before count s fault =
+abbrev pub RefusesAfter : Profile → List PlainFile → List Sentence → ℕ → PlainStatement → CheckFault
+    → Type 0
+RefusesAfter profile files before count s fault =
     (verdict_of_fault fault ≡ None)
-    ⊎ ((rule : Rule) × (step : ℕ) × HasFault before s rule step
+    ⊎ ((rule : Rule) × (step : ℕ) × HasFault profile before s rule step
     × (verdict_of_fault fault ≡ Some (Refused (refusal_of files count s rule step))))
 
 -- Memory was wanting, or no statement is left and the text's fault is answered.
@@ -68,45 +69,46 @@ pub record IsLastProof (statements : List Sentence) (id : ℕ) (s : PlainStateme
 
 -- the proof of a `$p` after the statements before is proved, and these are the numbers of the
 -- assertions in its tree, in any order, each once or more
-pub record IsProvedUsing (before : List Sentence) (s : PlainStatement)
+pub record IsProvedUsing (profile : Profile) (before : List Sentence) (s : PlainStatement)
     (used : List ℕ) : Type 0 where
-  pub proof : IsProvedWithin (IsWithin (limit_of Lenient)) before (sentence_of s) (proof_of s)
+  pub proof : IsProvedWithin (IsWithin (limit_of profile)) before (sentence_of s) (proof_of s)
   pub all : AreUsedNumbers before (tree_of proof) used
 
 -- the proof is incomplete; or it is complete, and proved by a tree whose assertions have exactly
 -- these numbers, in any order, each once or more
-abbrev pub IsJudged : List Sentence → PlainStatement → List ℕ → Proved → Type 0
-IsJudged before s used proved.Incomplete = is_incomplete (proof_of s) ≡ true
-IsJudged before s used proved.Complete =
-    (is_incomplete (proof_of s) ≡ false) × IsProvedUsing before s used
+abbrev pub IsJudged : Profile → List Sentence → PlainStatement → List ℕ → Proved → Type 0
+IsJudged profile before s used proved.Incomplete = is_incomplete (proof_of s) ≡ true
+IsJudged profile before s used proved.Complete =
+    (is_incomplete (proof_of s) ≡ false) × IsProvedUsing profile before s used
 
 -- its proof is complete, and this is its fault; or memory was wanting
-abbrev pub Fails : List Sentence → PlainStatement → ProofFault → Type 0
-Fails before s fault = OnRule fault (λ rule step.
+abbrev pub Fails : Profile → List Sentence → PlainStatement → ProofFault → Type 0
+Fails profile before s fault = OnRule fault (λ rule step.
     (is_incomplete (proof_of s) ≡ false)
-    × IsFault (IsWithin (limit_of Lenient)) before (sentence_of s) (proof_of s) rule step)
+    × IsFault (IsWithin (limit_of profile)) before (sentence_of s) (proof_of s) rule step)
 
 -- the verdict on the proof of the last statement, which uses these assertions if it is complete
-abbrev pub JudgesProof : List Sentence → PlainStatement → Result Proved ProofFault → List ℕ → Type 0
-JudgesProof statements s result used =
+abbrev pub JudgesProof : Profile → List Sentence → PlainStatement → Result Proved ProofFault
+    → List ℕ → Type 0
+JudgesProof profile statements s result used =
     (before : List Sentence) → statements ≡ before ++ sentence_of s ∷ []
-    → MatchResult result (IsJudged before s used) (Fails before s)
+    → MatchResult result (IsJudged profile before s used) (Fails profile before s)
 
 -- if the proof of the statement, which has this number, is complete, it is kept with the numbers of
 -- the assertions that it uses, each once, in database order; else nothing is added
-pub record KeepsProof (before : List Sentence) (s : PlainStatement) (id : ℕ) (complete : Bool)
-    (old new : List ProofUses) : Type 0 where
+pub record KeepsProof (profile : Profile) (before : List Sentence) (s : PlainStatement) (id : ℕ)
+    (complete : Bool) (old new : List ProofUses) : Type 0 where
   pub some : complete ≡ true
-      → (used : List ℕ) × IsProvedUsing before s used
+      → (used : List ℕ) × IsProvedUsing profile before s used
       × (new ≡ old ++ record { number = id; used = ordered used } ∷ [])
   pub none : complete ≡ false → new ≡ old
 
 -- the proof of the last statement was counted, and what it uses kept, or it was noted as incomplete
-pub record CountsProof (old : Progress) (id : ℕ) (s : PlainStatement)
+pub record CountsProof (profile : Profile) (old : Progress) (id : ℕ) (s : PlainStatement)
     (new : Progress) : Type 0 where
   pub proved : (before : List Sentence) → old.prover.book.statements ≡ before ++ sentence_of s ∷ []
       → is_incomplete (proof_of s) ≡ false
-      → IsProvedWithin (IsWithin (limit_of Lenient)) before (sentence_of s) (proof_of s)
+      → IsProvedWithin (IsWithin (limit_of profile)) before (sentence_of s) (proof_of s)
   pub book : new.prover.book ≡ old.prover.book
   pub count : new.count ≡ old.count
   pub proofs : new.proofs ≡ old.proofs + (if is_incomplete (proof_of s) then 0 else 1)
@@ -114,21 +116,22 @@ pub record CountsProof (old : Progress) (id : ℕ) (s : PlainStatement)
       ≡ map (λ id. id.0) old.incomplete.items
       ++ (if is_incomplete (proof_of s) then id ∷ [] else [])
   pub kept : (before : List Sentence) → old.prover.book.statements ≡ before ++ sentence_of s ∷ []
-      → KeepsProof before s id (not (is_incomplete (proof_of s))) old.kept new.kept
+      → KeepsProof profile before s id (not (is_incomplete (proof_of s))) old.kept new.kept
 
 -- Memory was wanting, or the last statement is refused for the fault of its proof.
-abbrev pub RefusesProof : List PlainFile → Progress → PlainStatement → CheckFault → Type 0
-RefusesProof files old s fault =
+abbrev pub RefusesProof : Profile → List PlainFile → Progress → PlainStatement → CheckFault → Type 0
+RefusesProof profile files old s fault =
     (verdict_of_fault fault ≡ None)
     ⊎ ((rule : ProofRule) × (step : ℕ) × (is_incomplete (proof_of s) ≡ false)
     × ((before : List Sentence) → old.prover.book.statements ≡ before ++ sentence_of s ∷ []
-    → IsFault (IsWithin (limit_of Lenient)) before (sentence_of s) (proof_of s) rule step)
+    → IsFault (IsWithin (limit_of profile)) before (sentence_of s) (proof_of s) rule step)
     × (verdict_of_fault fault
     ≡ Some (Refused (refusal_of files old.count s (proof_rule rule) step))))
 
 -- The statement obeys the rules, and is taken into the progress.
-pub record Takes (old : Progress) (s : PlainStatement) (new : Progress) : Type 0 where
-  pub obeys : Obeys old.prover.book.statements s
+pub record Takes (profile : Profile) (old : Progress) (s : PlainStatement)
+    (new : Progress) : Type 0 where
+  pub obeys : Obeys profile old.prover.book.statements s
   pub statements : new.prover.book.statements ≡ old.prover.book.statements ++ sentence_of s ∷ []
   pub bytes : new.prover.book.bytes ≡ old.prover.book.bytes + bytes_in s
   pub count : new.count ≡ old.count + 1
@@ -136,7 +139,7 @@ pub record Takes (old : Progress) (s : PlainStatement) (new : Progress) : Type 0
   pub incomplete : map (λ id. id.0) new.incomplete.items
       ≡ map (λ id. id.0) old.incomplete.items
       ++ (if is_unproved s then length (labelled_sentences old.prover.book.statements) ∷ [] else [])
-  pub kept : KeepsProof old.prover.book.statements s
+  pub kept : KeepsProof profile old.prover.book.statements s
       (length (labelled_sentences old.prover.book.statements)) (is_proof s) old.kept new.kept
 
 -- what the progress knows of the statements so far
@@ -153,20 +156,22 @@ pub record Knows (statements : List PlainStatement) (p : Progress) : Type 0 wher
 
 -- The statements so far and those that are left are the reading of the files, and those so far obey
 -- the rules.
-pub record IsUnderWay (files : List PlainFile) (p : Progress) (left : Remaining) : Type 0 where
+pub record IsUnderWay (profile : Profile) (files : List PlainFile) (p : Progress)
+    (left : Remaining) : Type 0 where
   pub earlier : List PlainStatement
   pub readable : CanBeRead files
   pub reads : Reads files (earlier ++ left.statements) left.ending
-  pub obeyed : AllObey earlier
+  pub obeyed : AllObey profile earlier
   pub known : Knows earlier p
 
 -- No statement is left, and the text has no fault.
-pub record IsAtEnd (files : List PlainFile) (p : Progress) (left : Remaining) : Type 0 where
-  pub way : IsUnderWay files p left
+pub record IsAtEnd (profile : Profile) (files : List PlainFile) (p : Progress)
+    (left : Remaining) : Type 0 where
+  pub way : IsUnderWay profile files p left
   pub none : left.statements ≡ []
   pub ending : left.ending ≡ None
 
 -- The verdict that the fault tells holds of the files; want of memory tells none.
-abbrev pub TellsVerdict : List PlainFile → CheckFault → Type 0
-TellsVerdict files fault =
-    (verdict : Verdict) → verdict_of_fault fault ≡ Some verdict → HasVerdict files verdict
+abbrev pub TellsVerdict : Profile → List PlainFile → CheckFault → Type 0
+TellsVerdict profile files fault =
+    (verdict : Verdict) → verdict_of_fault fault ≡ Some verdict → HasVerdict profile files verdict

@@ -8,6 +8,7 @@ use Rattle.mm_text.specs.Statement.{PlainStatement}
 use Rattle.mm_text.specs.Files.{PlainFile}
 use Rattle.mm_frame.specs.Sentence.{Sentence}
 use Rattle.mm_frame.specs.Numbers.{IsNumbered}
+use Rattle.mm_proof.specs.declared.profile.Profile.{Profile}
 use Rattle.mm_check.specs.Conclusion.{ProofUses, numbers_of, labels_in}
 use Rattle.mm_check.specs.Verdict.{AreAccepted, sentences, is_unproved}
 use Rattle.mm_check.specs.Rests.{IsNumberWhere, AreInOrder, AreRising, AreUses}
@@ -27,21 +28,21 @@ pub record AreBackward (uses : List ProofUses) : Type 0 where
 
 -- accepted statements of the files, of which this is kept: what they say, the numbers of the
 -- incomplete proofs, and what the complete ones use
-pub record IsKeptFrom (files : List PlainFile) (told : List Sentence) (noted : List ℕ)
-    (kept : List ProofUses) : Type 0 where
+pub record IsKeptFrom (profile : Profile) (files : List PlainFile) (told : List Sentence)
+    (noted : List ℕ) (kept : List ProofUses) : Type 0 where
   pub statements : List PlainStatement
-  pub accepted : AreAccepted files statements
+  pub accepted : AreAccepted profile files statements
   pub sentences : told ≡ sentences statements
   pub incomplete : AreInOrder (IsNumberWhere statements (λ s. is_unproved s ≡ true)) noted
   pub uses : AreUses statements kept
 
 -- what is kept of the statements of the files
-pub record IsKeptWell (files : List PlainFile) (told : List Sentence) (incomplete : List ℕ)
-    (uses : List ProofUses) : Type 0 where
+pub record IsKeptWell (profile : Profile) (files : List PlainFile) (told : List Sentence)
+    (incomplete : List ℕ) (uses : List ProofUses) : Type 0 where
   pub in_range : AllByRecursion (λ n. n < length (labels_in told)) incomplete
   pub rising : AreRising incomplete
   pub backward : AreBackward uses
-  pub origin : IsKeptFrom files told incomplete uses
+  pub origin : IsKeptFrom profile files told incomplete uses
 
 -- the number is that of a `$a`
 abbrev pub IsAxiomNumber : List Sentence → ℕ → Type 0

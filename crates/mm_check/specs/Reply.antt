@@ -7,6 +7,8 @@ use Rattle.std.specs.Io.KnownBytes.{Appends}
 use Rattle.mm_text.specs.Statement.{PlainStatement}
 use Rattle.mm_text.specs.Files.{PlainFile}
 use Rattle.mm_text.specs.Device.{AppendsBeginning}
+use Rattle.mm_proof.specs.declared.profile.Profile.{Profile}
+use Rattle.mm_proof.specs.declared.profile.Profile.TheVariants.{Lenient}
 use Rattle.mm_check.specs.declared.rule.Rule.{Rule}
 use Rattle.mm_check.specs.declared.rule.Rule.TheVariants.{F1, F2, F3, X1, X2, X3, X4, X5, X6, X7}
 use Rattle.mm_check.specs.declared.rule.Rule.TheVariants.{X8, X9, S1, S2, S3, S4, S5, S6, S7, M1}
@@ -136,10 +138,11 @@ abbrev pub Tells : List PlainFile → Result Conclusion CheckFault → List ℕ 
 Tells files answer text =
     MatchOption (verdict_of_answer answer) ⊥ (λ verdict. text ≡ text_of files verdict)
 
--- This is the text and the status of the reply to `check`.
-pub record IsReply (files : List PlainFile) (text : List ℕ) (status : ℕ) : Type 0 where
+-- This is the text and the status of the reply to `check` in the profile.
+pub record IsReply (profile : Profile) (files : List PlainFile) (text : List ℕ)
+    (status : ℕ) : Type 0 where
   pub verdict : Verdict
-  pub holds : HasVerdict files verdict
+  pub holds : HasVerdict profile files verdict
   pub said : text ≡ text_of files verdict
   pub ends : status ≡ status_of verdict
 
@@ -155,7 +158,7 @@ IsRefusal (Yes statements proofs) = ⊥
 -- The files are refused, and this is the text and the status of the refusal.
 pub record IsRefused (files : List PlainFile) (text : List ℕ) (status : ℕ) : Type 0 where
   pub verdict : Verdict
-  pub holds : HasVerdict files verdict
+  pub holds : HasVerdict Lenient files verdict
   pub refuses : IsRefusal verdict
   pub said : text ≡ text_of files verdict
   pub ends : status ≡ status_of verdict
@@ -255,14 +258,14 @@ abbrev pub IsQuestionReply : List PlainFile → (List PlainStatement → List �
     → ℕ → Type 0
 IsQuestionReply files Answers text status =
     IsRefused files text status
-    ⊎ ((statements : List PlainStatement) × AreAccepted files statements
+    ⊎ ((statements : List PlainStatement) × AreAccepted Lenient files statements
     × Answers statements text status)
 
 -- ---- commands
 
 -- This is the text and the status of the reply to a command.
 abbrev pub IsReplyTo : List PlainFile → Command → List ℕ → ℕ → Type 0
-IsReplyTo files Check text status = IsReply files text status
+IsReplyTo files Check text status = IsReply Lenient files text status
 IsReplyTo files (Axioms label) text status =
     IsQuestionReply files (IsAxiomsReply label.now) text status
 IsReplyTo files (Show label) text status = IsQuestionReply files (IsShowReply label.now) text status

@@ -6,6 +6,7 @@ use Rattle.mm_text.specs.Statement.{PlainStatement}
 use Rattle.mm_text.specs.Files.{PlainFile, total_bytes}
 use Rattle.mm_text.specs.Replaced.{with_span, with_bytes}
 use Rattle.mm_frame.specs.Sentence.{Sentence, sentence_of}
+use Rattle.mm_proof.specs.declared.profile.Profile.TheVariants.{Lenient}
 use Rattle.mm_proof.specs.Tree.{Trees, none, tree}
 use Rattle.mm_check.specs.declared.form.Form.{Form}
 use Rattle.mm_check.specs.declared.form.Form.TheVariants.{Normal, Packed}
@@ -66,7 +67,7 @@ IsSaveFault form files statements label fault = IsFormFault form statements labe
 -- no file is written anew.
 abbrev pub IsSavingFault : Form → List PlainFile → (label : List ℕ) → SaveFault → Type 0
 IsSavingFault form files label (Check fault) =
-    (verdict : Verdict) → verdict_of_fault fault ≡ Some verdict → HasVerdict files verdict
+    (verdict : Verdict) → verdict_of_fault fault ≡ Some verdict → HasVerdict Lenient files verdict
 IsSavingFault form files label (Ask fault) =
-    (statements : List PlainStatement) × AreAccepted files statements
+    (statements : List PlainStatement) × AreAccepted Lenient files statements
     × IsSaveFault form files statements label fault

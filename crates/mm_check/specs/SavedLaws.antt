@@ -4,6 +4,7 @@ use Rattle.mm_text.specs.Statement.{PlainStatement}
 use Rattle.mm_text.specs.Files.{PlainFile}
 use Rattle.mm_text.specs.Replaced.{with_bytes}
 use Rattle.mm_text.specs.Reading.{Reads}
+use Rattle.mm_proof.specs.declared.profile.Profile.{Profile}
 use Rattle.mm_proof.specs.Tree.{Trees}
 use Rattle.mm_check.specs.declared.form.Form.{Form}
 use Rattle.mm_check.specs.declared.ask.AskFault.{AskFault}
@@ -14,11 +15,11 @@ use Rattle.mm_check.specs.Saved.{IsSaved, FitsSaved, IsSaveFault, total_with}
 
 -- The others say the same: their statements say what those of the files say; they have the verdicts
 -- of the files; each complete proof has the same tree; and each theorem rests on the same.
-pub record SayTheSame (files others : List PlainFile) (statements same : List PlainStatement)
-    : Type 0 where
-  pub accepted : AreAccepted others same
+pub record SayTheSame (profile : Profile) (files others : List PlainFile)
+    (statements same : List PlainStatement) : Type 0 where
+  pub accepted : AreAccepted profile others same
   pub told : sentences statements ≡ sentences same
-  pub verdict : (v : Verdict) → HasVerdict files v ↔ HasVerdict others v
+  pub verdict : (v : Verdict) → HasVerdict profile files v ↔ HasVerdict profile others v
   pub trees : (id place : ℕ) (t : Trees) → HasTree statements id place t ↔ HasTree same id place t
   pub rests : (label : List ℕ) (axioms unproved : List ℕ)
       → IsReport statements label axioms unproved ↔ IsReport same label axioms unproved
@@ -26,17 +27,18 @@ pub record SayTheSame (files others : List PlainFile) (statements same : List Pl
 -- With the new bytes in place of the old, nothing that is answered changes.
 abbrev pub SavingChangesNoAnswer : Type 0
 SavingChangesNoAnswer =
-    (form : Form) (files : List PlainFile) (statements : List PlainStatement) (label : List ℕ)
-    (number : ℕ) (bytes : List ℕ) → AreAccepted files statements
+    (profile : Profile) (form : Form) (files : List PlainFile) (statements : List PlainStatement)
+    (label : List ℕ) (number : ℕ) (bytes : List ℕ) → AreAccepted profile files statements
     → IsSaved form files statements label number bytes → FitsSaved files number bytes
     → (same : List PlainStatement)
-    × SayTheSame files (with_bytes files number bytes) statements same
+    × SayTheSame profile files (with_bytes files number bytes) statements same
 
 -- what is saved is one
 abbrev pub OneSaved : Type 0
 OneSaved =
-    (form : Form) (files : List PlainFile) (statements : List PlainStatement) (label : List ℕ)
-    (number other : ℕ) (bytes others : List ℕ) → AreAccepted files statements
+    (profile : Profile) (form : Form) (files : List PlainFile) (statements : List PlainStatement)
+    (label : List ℕ) (number other : ℕ) (bytes others : List ℕ)
+    → AreAccepted profile files statements
     → IsSaved form files statements label number bytes
     → IsSaved form files statements label other others
     → (number ≡ other) × (bytes ≡ others)
@@ -45,8 +47,9 @@ OneSaved =
 -- have too many bytes; and this is one exactly if they would.
 abbrev pub OneSaveAnswer : Type 0
 OneSaveAnswer =
-    (form : Form) (files : List PlainFile) (statements : List PlainStatement) (label : List ℕ)
-    (number : ℕ) (bytes : List ℕ) (fault : AskFault) → AreAccepted files statements
+    (profile : Profile) (form : Form) (files : List PlainFile) (statements : List PlainStatement)
+    (label : List ℕ) (number : ℕ) (bytes : List ℕ) (fault : AskFault)
+    → AreAccepted profile files statements
     → IsSaved form files statements label number bytes
     → IsSaveFault form files statements label fault
     → (fault ≡ Memory) ⊎ ((fault ≡ F3) × (1073741824 < total_with files number bytes))
@@ -54,8 +57,9 @@ OneSaveAnswer =
 -- Saving again gives equal bytes.
 abbrev pub SavingAgainChangesNothing : Type 0
 SavingAgainChangesNothing =
-    (form : Form) (files : List PlainFile) (statements same : List PlainStatement)
-    (label : List ℕ) (number again : ℕ) (bytes others : List ℕ) → AreAccepted files statements
+    (profile : Profile) (form : Form) (files : List PlainFile)
+    (statements same : List PlainStatement) (label : List ℕ) (number again : ℕ)
+    (bytes others : List ℕ) → AreAccepted profile files statements
     → IsSaved form files statements label number bytes → FitsSaved files number bytes
     → Reads (with_bytes files number bytes) same None
     → IsSaved form (with_bytes files number bytes) same label again others

@@ -20,7 +20,7 @@ use Rattle.mm_frame.specs.Rules.{FirstBroken, IsMeant}
 use Rattle.mm_proof.specs.declared.fault.ProofRule.{ProofRule}
 use Rattle.mm_proof.specs.declared.fault.ProofRule.TheVariants as proof
 use Rattle.mm_proof.specs.Proof.{IsProvedWithin, IsProved, IsWithin, IsFault}
-use Rattle.mm_proof.specs.declared.profile.Profile.TheVariants.{Lenient}
+use Rattle.mm_proof.specs.declared.profile.Profile.{Profile}
 use Rattle.mm_proof.specs.Profiles.{limit_of}
 use Rattle.mm_check.specs.declared.rule.Rule.{Rule}
 use Rattle.mm_check.specs.declared.rule.Rule.TheVariants.{F1, F2, F3, X1, X2, X3, X4, X5, X6, X7}
@@ -152,47 +152,47 @@ is_proof s = is_provable s.kind && not (is_incomplete (proof_of s))
 abbrev pub sentences : List PlainStatement → List Sentence
 sentences statements = map sentence_of statements
 
--- The statement obeys the rules after those before it: it breaks no rule of meaning, and as a `$p`
--- with a complete proof it is proved, each step within the limit.
-pub record Obeys (before : List Sentence) (s : PlainStatement) : Type 0 where
+-- The statement obeys the rules of the profile after those before it: it breaks no rule of meaning,
+-- and as a `$p` with a complete proof it is proved, each step within the limit.
+pub record Obeys (profile : Profile) (before : List Sentence) (s : PlainStatement) : Type 0 where
   pub meant : IsMeant before (sentence_of s)
   pub proved : is_proof s ≡ true
-      → IsProvedWithin (IsWithin (limit_of Lenient)) before (sentence_of s) (proof_of s)
+      → IsProvedWithin (IsWithin (limit_of profile)) before (sentence_of s) (proof_of s)
 
 -- each of the statements does
-abbrev pub AllObey : List PlainStatement → Type 0
-AllObey statements =
+abbrev pub AllObey : Profile → List PlainStatement → Type 0
+AllObey profile statements =
     (before after : List PlainStatement) (s : PlainStatement) → statements ≡ before ++ s ∷ after
-    → Obeys (sentences before) s
+    → Obeys profile (sentences before) s
 
 -- The fault of a statement: the first rule of meaning that it breaks, else the first fault of its
 -- proof, if that is complete.
-abbrev pub HasFault : List Sentence → PlainStatement → Rule → ℕ → Type 0
-HasFault before s rule step =
+abbrev pub HasFault : Profile → List Sentence → PlainStatement → Rule → ℕ → Type 0
+HasFault profile before s rule step =
     ((broken : MeaningRule) × FirstBroken broken before (sentence_of s)
     × (rule ≡ meaning_rule broken) × (step ≡ 0))
     ⊎ (IsMeant before (sentence_of s) × (is_proof s ≡ true)
     × (broken : ProofRule)
-    × IsFault (IsWithin (limit_of Lenient)) before (sentence_of s) (proof_of s) broken step
+    × IsFault (IsWithin (limit_of profile)) before (sentence_of s) (proof_of s) broken step
     × (rule ≡ proof_rule broken))
 
 -- The first statement at fault, after statements that obey the rules.
-pub record RefusesStatement (files : List PlainFile) (statements : List PlainStatement)
-    (refusal : PlainRefusal) : Type 0 where
+pub record RefusesStatement (profile : Profile) (files : List PlainFile)
+    (statements : List PlainStatement) (refusal : PlainRefusal) : Type 0 where
   pub before : List PlainStatement
   pub s : PlainStatement
   pub after : List PlainStatement
   pub split : statements ≡ before ++ s ∷ after
-  pub obeyed : AllObey before
+  pub obeyed : AllObey profile before
   pub rule : Rule
   pub step : ℕ
-  pub fault : HasFault (sentences before) s rule step
+  pub fault : HasFault profile (sentences before) s rule step
   pub refused : refusal ≡ refusal_of files (length before) s rule step
 
 -- The fault of the text, after statements that obey the rules.
-pub record RefusesText (files : List PlainFile) (statements : List PlainStatement)
-    (ending : Option PlainFault) (refusal : PlainRefusal) : Type 0 where
-  pub obeyed : AllObey statements
+pub record RefusesText (profile : Profile) (files : List PlainFile)
+    (statements : List PlainStatement) (ending : Option PlainFault) (refusal : PlainRefusal) : Type 0 where
+  pub obeyed : AllObey profile statements
   pub fault : PlainFault
   pub ended : ending ≡ Some fault
   pub refused : refusal ≡ text_refusal files fault
@@ -218,31 +218,33 @@ abbrev pub proofs_of : List PlainStatement → ℕ
 proofs_of statements = count_by is_proof statements
 
 -- Each statement of the files obeys the rules, and the text has no fault.
-pub record AreAccepted (files : List PlainFile) (statements : List PlainStatement) : Type 0 where
+pub record AreAccepted (profile : Profile) (files : List PlainFile)
+    (statements : List PlainStatement) : Type 0 where
   pub readable : CanBeRead files
   pub reads : Reads files statements None
-  pub obeyed : AllObey statements
+  pub obeyed : AllObey profile statements
 
--- The verdict over the files.
-abbrev pub HasVerdict : List PlainFile → Verdict → Type 0
-HasVerdict files (Load rule) =
+-- The verdict over the files in the profile.
+abbrev pub HasVerdict : Profile → List PlainFile → Verdict → Type 0
+HasVerdict profile files (Load rule) =
     (broken : LoadRule) × BreaksLoad files broken × (rule ≡ load_rule broken)
-HasVerdict files (Refused refusal) =
+HasVerdict profile files (Refused refusal) =
     CanBeRead files
     × (statements : List PlainStatement) × (ending : Option PlainFault)
     × Reads files statements ending
-    × (RefusesStatement files statements refusal ⊎ RefusesText files statements ending refusal)
-HasVerdict files (Incomplete labels) =
-    (statements : List PlainStatement) × AreAccepted files statements
+    × (RefusesStatement profile files statements refusal
+    ⊎ RefusesText profile files statements ending refusal)
+HasVerdict profile files (Incomplete labels) =
+    (statements : List PlainStatement) × AreAccepted profile files statements
     × (labels ≡ unproved_of statements) × (labels ≢ [])
-HasVerdict files (Yes count proofs) =
-    (statements : List PlainStatement) × AreAccepted files statements
+HasVerdict profile files (Yes count proofs) =
+    (statements : List PlainStatement) × AreAccepted profile files statements
     × (unproved_of statements ≡ [])
     × (count ≡ length statements) × (proofs ≡ proofs_of statements)
 
 -- The files obey every rule of the profile, and each proof spells a derivation tree of its
 -- assertion from active hypotheses and earlier assertions, respecting all distinct variables.
-pub record ObeyTheProfile (files : List PlainFile) : Type 0 where
+pub record ObeyTheProfile (profile : Profile) (files : List PlainFile) : Type 0 where
   pub handed : CanBeRead files
   pub statements : List PlainStatement
   pub reading : Reads files statements None

@@ -16,14 +16,16 @@ use crate::save::put_in;
 use crate::shown::listing_text;
 use crate::theorem::{Theorem, theorem_of};
 use mm_frame::{Book, Found, LabelId, LabelKind};
+use mm_proof::Profile;
 use mm_text::File;
 use std::alloc::Global;
 use std::marker::Model;
 
-/// A database in which nothing is at fault: each statement obeys the rules, and each proof that
-/// isn't incomplete is accepted.
+/// A database in which nothing is at fault: each statement obeys the rules of a profile, and each
+/// proof that isn't incomplete is accepted.
 #[derive(Drop)]
 pub struct Checked<'a> {
+    profile: Profile,
     files: &'a [File<'a>],
     book: Book<'a>,
     statements: usize,
@@ -41,6 +43,7 @@ impl<'a> Model for Checked<'a> {
     ghost Value = { Conclusion };
 
     ghost view = { λ c. record {
+      profile = c.profile;
       files = map plain_file c.files.now;
       statements = c.statements;
       proofs = c.proofs;
@@ -52,8 +55,8 @@ impl<'a> Model for Checked<'a> {
 
     // The statements of the files are accepted, and this is kept of them. Each number is that of a
     // label; what comes later in the database has a greater one.
-    ghost invariant = { λ c. IsKeptWell (map plain_file c.files.now) c.book.statements
-        (map (λ id. id.0) c.incomplete.items) c.kept };
+    ghost invariant = { λ c. IsKeptWell c.profile (map plain_file c.files.now)
+        c.book.statements (map (λ id. id.0) c.incomplete.items) c.kept };
 }
 
 /// Whether a number is one of these.
@@ -82,10 +85,15 @@ impl<'a> Checked<'a> {
     ghost use Rattle.mm_check.specs.Saved.{IsSaved, FitsSaved, IsSaveFault};
     ghost use Rattle.mm_check.specs.CodeSaved.{IsHomeOf};
 
-    /// What the progress over the files has come to, once nothing is left.
-    pub(crate) fn new(files: &'a [File<'a>], progress: Progress<'a>) -> Checked<'a>
-        requires { IsKeptWell (map plain_file files.now) progress.prover.book.statements
-            (map (λ id. id.0) progress.incomplete.items) progress.kept }
+    /// What the progress over the files has come to in the profile, once nothing is left.
+    pub(crate) fn new(
+        profile: Profile,
+        files: &'a [File<'a>],
+        progress: Progress<'a>,
+    ) -> Checked<'a>
+        requires { IsKeptWell profile (map plain_file files.now)
+            progress.prover.book.statements (map (λ id. id.0) progress.incomplete.items) progress.kept }
+        ensures profile { result.profile ≡ profile }
         ensures files { result.files ≡ map plain_file files.now }
         ensures statements { result.statements ≡ progress.entry.count }
         ensures proofs { result.proofs ≡ progress.entry.proofs }
@@ -95,6 +103,7 @@ impl<'a> Checked<'a> {
         ensures uses { result.uses ≡ progress.entry.kept }
     {
         Checked {
+            profile,
             files,
             book: progress.prover.into_book(),
             statements: progress.count,
@@ -213,7 +222,7 @@ impl<'a> Checked<'a> {
         let id = self.theorem(label)?;
         let statement = reread(alloc, self.book.seed(), files, label)?;
         let tokens = proof_of(alloc, &statement)?;
-        theorem_of(alloc, &self.book, id, &statement, &tokens)
+        theorem_of(alloc, self.profile, &self.book, id, &statement, &tokens)
     }
 
     /// The listing of the proof of the `$p` with this label, a line for each step in order: its

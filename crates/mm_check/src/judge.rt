@@ -59,21 +59,23 @@ fn refusal<'a>(
 /// is, the prover has the assertions that it uses.
 fn judge_proof<'a>(
     prover: &mut Prover<'a>,
+    profile: Profile,
     id: LabelId,
     statement: &Statement<'a>,
 ) -> Result<Proved, ProofFault>
     requires formed { HasForm (plain_statement statement.now) }
     requires last { IsLastProof prover.old.book.statements id.0 (plain_statement statement.now) }
-    ensures judged { JudgesProof prover.old.book.statements (plain_statement statement.now)
+    ensures judged { JudgesProof profile prover.old.book.statements (plain_statement statement.now)
         result prover.new.used }
     ensures book { prover.new.book ≡ prover.old.book }
 {
-    prover.prove(Profile::Lenient, id, &statement.proof)
+    prover.prove(profile, id, &statement.proof)
 }
 
 /// Judges the proof of a `$p`, which the book took last, counts it and keeps what it uses, or notes
 /// that it is incomplete.
 fn prove<'a>(
+    profile: Profile,
     files: &[File<'a>],
     progress: &mut Progress<'a>,
     id: LabelId,
@@ -84,12 +86,12 @@ fn prove<'a>(
         (plain_statement statement.now) }
     requires count { progress.old.count < 2 ^ 63 }
     requires proofs { progress.old.proofs < 2 ^ 63 }
-    ensures ok { OnOk result (CountsProof progress.old id.0
+    ensures ok { OnOk result (CountsProof profile progress.old id.0
         (plain_statement statement.now) progress.new) }
-    ensures refused { IfErr result (RefusesProof (map plain_file files.now) progress.old
-        (plain_statement statement.now)) }
+    ensures refused { IfErr result (RefusesProof profile (map plain_file files.now)
+        progress.old (plain_statement statement.now)) }
 {
-    match judge_proof(&mut progress.prover, id, statement) {
+    match judge_proof(&mut progress.prover, profile, id, statement) {
         Ok(Proved::Complete) => {
             progress.kept.push(id, progress.prover.used())?;
             progress.proofs += 1;
@@ -107,6 +109,7 @@ fn prove<'a>(
 /// Judges a statement after those that the progress has, which obey the rules: its meaning, and
 /// then its proof. Takes it into the progress where it obeys the rules too.
 pub(crate) fn judge<'a>(
+    profile: Profile,
     files: &[File<'a>],
     progress: &mut Progress<'a>,
     statement: &Statement<'a>,
@@ -119,14 +122,15 @@ pub(crate) fn judge<'a>(
         + bytes_in (plain_statement statement.now) ≤ 1073741824 }
     requires count { progress.old.count < 2 ^ 62 }
     requires proofs { progress.old.proofs < 2 ^ 62 }
-    ensures ok { OnOk result (Takes progress.old (plain_statement statement.now) progress.new) }
-    ensures refused { IfErr result (RefusesAfter
+    ensures ok { OnOk result (Takes profile progress.old
+        (plain_statement statement.now) progress.new) }
+    ensures refused { IfErr result (RefusesAfter profile
         (map plain_file files.now) progress.old.prover.book.statements
         progress.old.count (plain_statement statement.now)) }
 {
     match progress.prover.take(statement) {
         Ok(Taken::Assertion(id)) if statement.kind == Kind::Provable => {
-            prove(files, progress, id, statement)?
+            prove(profile, files, progress, id, statement)?
         }
         Ok(_) => {}
         Err(RuleFault::Rule(rule)) => {

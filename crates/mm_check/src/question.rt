@@ -6,6 +6,7 @@ ghost use Rattle.std.specs.List.{AllByRecursion};
 ghost use Rattle.mm_text.specs.Statement.{PlainStatement};
 ghost use Rattle.mm_text.specs.Files.{plain_file};
 ghost use Rattle.mm_text.specs.Reading.{Reads};
+ghost use Rattle.mm_proof.specs.declared.profile.Profile.TheVariants.{Lenient};
 ghost use Rattle.mm_check.specs.Answer.{verdict_of_answer, labels_at, IsKeptOf, IsVerdict};
 ghost use Rattle.mm_check.specs.Answer.{KeepsLabels, KeepsUses, KeepsFiles};
 ghost use Rattle.mm_check.specs.Verdict.{labels_of};
@@ -334,7 +335,7 @@ fn verdict_reply(
 /// The reply to `check`.
 pub(crate) fn check_reply(alloc: Global, seed: Seed, files: &[File]) -> Result<Reply, AllocError>
     ensures { IfOk result (λ reply.
-        IsReply (map plain_file files.now) reply.text.items (number_of reply.status)) }
+        IsReply Lenient (map plain_file files.now) reply.text.items (number_of reply.status)) }
 {
     let answer = check(alloc, seed, files);
     let reply = verdict_reply(alloc, files, &answer);
@@ -350,7 +351,7 @@ fn axioms_or_verdict(
     answer: &Result<Checked, CheckFault>,
     label: &[u8],
 ) -> Result<Reply, AllocError>
-    requires verdict { IsVerdict (map plain_file files.now) answer.now }
+    requires verdict { IsVerdict Lenient (map plain_file files.now) answer.now }
     requires labels { IfOk answer.now (KeepsLabels (map plain_file files.now)) }
     requires uses { IfOk answer.now (KeepsUses (map plain_file files.now)) }
     ensures { IfOk result (λ reply. IsQuestionReply (map plain_file files.now)
@@ -387,7 +388,7 @@ fn answer_or_verdict(
     question: &Question,
     label: &[u8],
 ) -> Result<Reply, AllocError>
-    requires verdict { IsVerdict (map plain_file files.now) answer.now }
+    requires verdict { IsVerdict Lenient (map plain_file files.now) answer.now }
     requires files { IfOk answer.now (KeepsFiles (map plain_file files.now)) }
     ensures { IfOk result (λ reply. IsQuestionReply (map plain_file files.now)
         (Answers (map plain_file files.now) question.now label.now) reply.text.items

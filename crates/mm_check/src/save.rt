@@ -5,6 +5,7 @@ ghost use Rattle.std.specs.Prelude.{IsTrue};
 ghost use Rattle.mm_text.specs.Statement.{PlainStatement};
 ghost use Rattle.mm_text.specs.Files.{plain_file, total_bytes};
 ghost use Rattle.mm_text.specs.Replaced.{with_span};
+ghost use Rattle.mm_proof.specs.declared.profile.Profile.TheVariants.{Lenient};
 ghost use Rattle.mm_check.specs.Verdict.{AreAccepted};
 ghost use Rattle.mm_check.specs.Saved.{IsSaved, FitsSaved, IsSavingFault, total_with};
 ghost use Rattle.mm_check.specs.CodeSaved.{HoldsSpan, IsPutIn, IsPutFault};
@@ -99,7 +100,7 @@ pub fn saved<'a>(
     form: Form,
 ) -> Result<(usize, Vec<u8>), SaveFault<'a>>
     ensures saved { IfOk result (λ new. (statements : List PlainStatement)
-        × AreAccepted (map plain_file files.now) statements
+        × AreAccepted Lenient (map plain_file files.now) statements
         × IsSaved form (map plain_file files.now) statements label.now new.0 new.1.items
         × FitsSaved (map plain_file files.now) new.0 new.1.items) }
     ensures fault { IfErr result (IsSavingFault form (map plain_file files.now) label.now) }

@@ -3,7 +3,6 @@
 ghost use Rattle.std.specs.Prelude.{◌≡◌, ◌≤◌, map, length, sum_by, IfOk, IfErr};
 ghost use Rattle.std.specs.List.{AllByRecursion};
 ghost use Rattle.mm_text.specs.Statement.{plain_statement};
-ghost use Rattle.mm_proof.specs.declared.profile.Profile.TheVariants.{Lenient};
 ghost use Rattle.mm_proof.specs.Parsed.{OfProof, SaySteps};
 ghost use Rattle.mm_proof.specs.Steps.{AreSteps};
 ghost use Rattle.mm_check.specs.declared.ask.AskFault.TheVariants.{Memory};
@@ -25,18 +24,24 @@ pub(crate) struct Theorem {
     pub(crate) span: (u32, u32),
 }
 
-/// The steps of a `$p`, whose complete proof has no fault.
-fn steps_of(alloc: Global, book: &Book, id: LabelId, tokens: &[&[u8]]) -> Result<Steps, AskFault>
-    requires proof { IsProofOf book.now.statements id.0 (map (λ t. t.now) tokens.now) }
+/// The steps of a `$p`, whose complete proof has no fault in the profile.
+fn steps_of(
+    alloc: Global,
+    profile: Profile,
+    book: &Book,
+    id: LabelId,
+    tokens: &[&[u8]],
+) -> Result<Steps, AskFault>
+    requires proof { IsProofOf profile book.now.statements id.0 (map (λ t. t.now) tokens.now) }
     requires filled { AllByRecursion (λ t. 1 ≤ length t) (map (λ t. t.now) tokens.now) }
     requires room { sum_by length (map (λ t. t.now) tokens.now) ≤ 1073741824 }
     ensures said { IfOk result (λ steps. OfProof book.now.statements id.0 (λ place s.
         SaySteps book.now.statements place s (map (λ t. t.now) tokens.now) steps.moves)) }
     ensures usable { IfOk result (λ steps. AreSteps book.now.statements id.0 steps.moves) }
-    ensures profile { IfOk result (λ steps. steps.profile ≡ Lenient) }
+    ensures profile { IfOk result (λ steps. steps.profile ≡ profile) }
     ensures memory { IfErr result (λ fault. fault ≡ Memory) }
 {
-    match Steps::parse(alloc, Profile::Lenient, book, id, tokens) {
+    match Steps::parse(alloc, profile, book, id, tokens) {
         Ok(Parsed::Steps(steps)) => Ok(steps),
         Err(ProofFault::Memory) => Err(AskFault::Memory),
         Ok(Parsed::Incomplete) => unreachable!(),
@@ -44,15 +49,16 @@ fn steps_of(alloc: Global, book: &Book, id: LabelId, tokens: &[&[u8]]) -> Result
     }
 }
 
-/// A `$p` with the steps of its complete proof, which has no fault.
+/// A `$p` with the steps of its complete proof, which has no fault in the profile.
 pub(crate) fn theorem_of(
     alloc: Global,
+    profile: Profile,
     book: &Book,
     id: LabelId,
     statement: &Statement,
     tokens: &[&[u8]],
 ) -> Result<Theorem, AskFault>
-    requires proof { IsProofOf book.now.statements id.0 (map (λ t. t.now) tokens.now) }
+    requires proof { IsProofOf profile book.now.statements id.0 (map (λ t. t.now) tokens.now) }
     requires filled { AllByRecursion (λ t. 1 ≤ length t) (map (λ t. t.now) tokens.now) }
     requires room { sum_by length (map (λ t. t.now) tokens.now) ≤ 1073741824 }
     ensures id { IfOk result (λ theorem. theorem.id.0 ≡ id.0) }
@@ -67,7 +73,7 @@ pub(crate) fn theorem_of(
         AreProvedSteps book.now.statements theorem.id.0 theorem.steps) }
     ensures memory { IfErr result (λ fault. fault ≡ Memory) }
 {
-    let steps = steps_of(alloc, book, id, tokens)?;
+    let steps = steps_of(alloc, profile, book, id, tokens)?;
     Ok(Theorem {
         id,
         steps,

@@ -6,6 +6,7 @@ ghost use Rattle.mm_text.specs.Token.{plain_token};
 ghost use Rattle.mm_text.specs.Statement.{plain_statement, HasForm};
 ghost use Rattle.mm_text.specs.Files.{plain_file, total_bytes};
 ghost use Rattle.mm_text.specs.Remaining.{IsUnread};
+ghost use Rattle.mm_proof.specs.declared.profile.Profile.TheVariants.{Lenient};
 ghost use Rattle.mm_check.specs.Verdict.{ObeyTheProfile, CanBeRead};
 ghost use Rattle.mm_check.specs.Verdict.{text_refusal as text_refusal_at};
 ghost use Rattle.mm_check.specs.Answer.{IsYes, IsOverLimit, IsWantOfMemory, IsVerdict};
@@ -22,7 +23,7 @@ use crate::place::line_of;
 use crate::progress::Progress;
 use crate::rule::Rule;
 use mm_frame::RuleFault;
-use mm_proof::Prover;
+use mm_proof::{Profile, Prover};
 use mm_text::{File, Seed, Statement, Statements, TextFault, TextRule, Token};
 use std::alloc::Global;
 
@@ -147,18 +148,20 @@ fn make_room<'a>(files: &[File<'a>], progress: &mut Progress<'a>)
 /// Reads the statements that are left, one after the other, and judges each, up to the first fault.
 fn judge_rest<'a>(
     alloc: Global,
+    profile: Profile,
     files: &[File<'a>],
     statements: &mut Statements<'a>,
     progress: &mut Progress<'a>,
 ) -> Result<(), CheckFault<'a>>
-    requires { IsUnderWay (map plain_file files.now) progress.old statements.old }
-    ensures done { OnOk result (IsAtEnd (map plain_file files.now) progress.new statements.new) }
-    ensures refused { IfErr result (TellsVerdict (map plain_file files.now)) }
+    requires { IsUnderWay profile (map plain_file files.now) progress.old statements.old }
+    ensures done { OnOk result (IsAtEnd profile (map plain_file files.now) progress.new
+        statements.new) }
+    ensures refused { IfErr result (TellsVerdict profile (map plain_file files.now)) }
 {
     let mut statement = Statement::empty(alloc);
     while next(files, statements, &mut statement)? {
         make_room(files, progress);
-        judge(files, progress, &statement)?;
+        judge(profile, files, progress, &statement)?;
     }
     Ok(())
 }
@@ -167,17 +170,18 @@ fn judge_rest<'a>(
 fn last_progress<'a>(
     alloc: Global,
     seed: Seed,
+    profile: Profile,
     files: &[File<'a>],
     statements: &mut Statements<'a>,
 ) -> Result<Progress<'a>, CheckFault<'a>>
     requires unread { IsUnread (map plain_file files.now) statements.old }
     requires readable { CanBeRead (map plain_file files.now) }
     ensures done { IfOk result (λ progress.
-        IsAtEnd (map plain_file files.now) progress statements.new) }
-    ensures refused { IfErr result (TellsVerdict (map plain_file files.now)) }
+        IsAtEnd profile (map plain_file files.now) progress statements.new) }
+    ensures refused { IfErr result (TellsVerdict profile (map plain_file files.now)) }
 {
     let mut progress = beginning(alloc, seed)?;
-    match judge_rest(alloc, files, statements, &mut progress) {
+    match judge_rest(alloc, profile, files, statements, &mut progress) {
         Ok(()) => Ok(progress),
         Err(fault) => {
             drop(progress);
@@ -186,23 +190,24 @@ fn last_progress<'a>(
     }
 }
 
-/// Judges all statements of the files.
+/// Judges all statements of the files in a profile.
 fn judge_all<'a>(
     alloc: Global,
     seed: Seed,
+    profile: Profile,
     files: &'a [File<'a>],
 ) -> Result<Checked<'a>, CheckFault<'a>>
-    ensures verdict { IsVerdict (map plain_file files.now) result }
+    ensures verdict { IsVerdict profile (map plain_file files.now) result }
     ensures labels { IfOk result (KeepsLabels (map plain_file files.now)) }
     ensures counts { IfOk result (KeepsCounts (map plain_file files.now)) }
     ensures uses { IfOk result (KeepsUses (map plain_file files.now)) }
     ensures files { IfOk result (KeepsFiles (map plain_file files.now)) }
 {
     let mut statements = load(alloc, seed, files)?;
-    let outcome = last_progress(alloc, seed, files, &mut statements);
+    let outcome = last_progress(alloc, seed, profile, files, &mut statements);
     drop(statements);
     let progress = outcome?;
-    Ok(Checked::new(files, progress))
+    Ok(Checked::new(profile, files, progress))
 }
 
 /// Checks the database that the files hold; the first one is the top file.
@@ -222,14 +227,14 @@ pub fn check<'a>(
     files: &'a [File<'a>],
 ) -> Result<Checked<'a>, CheckFault<'a>>
     // What is answered is the verdict over the files, and there is no other.
-    ensures verdict { IsVerdict (map plain_file files.now) result }
-    ensures only { IsOnlyVerdict (map plain_file files.now) result }
+    ensures verdict { IsVerdict Lenient (map plain_file files.now) result }
+    ensures only { IsOnlyVerdict Lenient (map plain_file files.now) result }
 
     // Yes says that the profile is obeyed and each proof spells a derivation tree.
-    ensures yes { IsYes result → ObeyTheProfile (map plain_file files.now) }
+    ensures yes { IsYes result → ObeyTheProfile Lenient (map plain_file files.now) }
 
     // Such files get yes, the limit on expressions and memory aside.
-    ensures accepted { ObeyTheProfile (map plain_file files.now)
+    ensures accepted { ObeyTheProfile Lenient (map plain_file files.now)
         → IsYes result ⊎ IsOverLimit result ⊎ IsWantOfMemory result }
 
     // The labels are those of the database, and so are the counts of statements and of accepted
@@ -246,5 +251,5 @@ pub fn check<'a>(
     // A refusal's file is one of those that were handed in.
     ensures file { NamesFile (map plain_file files.now) result }
 {
-    judge_all(alloc, seed, files)
+    judge_all(alloc, seed, Profile::Lenient, files)
 }

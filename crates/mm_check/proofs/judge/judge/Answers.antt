@@ -16,8 +16,8 @@ returns-in_err-prove-in-Ok-Assertion-clause-refused c =
     let files = map plain_file c.args.files.now in
     let provable : c.args.statement.now.kind ≡ Provable = search rules in
     let fault : CheckFault = c.in_err-prove-in-Ok-Assertion.field-0.0 in
-    passed_fault c.from_residual.result fault (RefusesAfter files c.args.progress.now.prover.book.statements c.args.progress.now.count s) c.from_residual.ensures.1
-    (refuses_after files c.args.progress.now (record c.args.progress.now { prover = c.take.new.self }) s fault c.in-Ok-Assertion.ensures.ok.0 provable (ap (λ (d : Database). d.statements) c.in-Ok-Assertion.ensures.ok.1) refl
+    passed_fault c.from_residual.result fault (RefusesAfter c.args.profile files c.args.progress.now.prover.book.statements c.args.progress.now.count s) c.from_residual.ensures.1
+    (refuses_after c.args.profile files c.args.progress.now (record c.args.progress.now { prover = c.take.new.self }) s fault c.in-Ok-Assertion.ensures.ok.0 provable (ap (λ (d : Database). d.statements) c.in-Ok-Assertion.ensures.ok.1) refl
     c.in_err-prove-in-Ok-Assertion.ensures.refused)
 
 pub returns-in-Err-Rule-clause-refused : goal.returns-in-Err-Rule-clause-refused

@@ -12,8 +12,8 @@ use Rattle.mm_check.proofs.judge.prove.Goals as goal
 pub returns-in-Err-Rule-clause-refused : goal.returns-in-Err-Rule-clause-refused
 returns-in-Err-Rule-clause-refused c =
     let s : PlainStatement = plain_statement c.args.statement.now in
-    let fails : (before : List Sentence) → c.args.progress.now.prover.book.statements ≡ before ++ sentence_of s ∷ [] → Fails before s (Rule c.in-Err-Rule.rule c.in-Err-Rule.step) =
-    λ before e. subst (Fails before s) c.in-Err-Rule.field-0-is (c.in-Err-Rule.ensures.judged before e) in
+    let fails : (before : List Sentence) → c.args.progress.now.prover.book.statements ≡ before ++ sentence_of s ∷ [] → Fails c.args.profile before s (Rule c.in-Err-Rule.rule c.in-Err-Rule.step) =
+    λ before e. subst (Fails c.args.profile before s) c.in-Err-Rule.field-0-is (c.in-Err-Rule.ensures.judged before e) in
     let rule : c.from.result ≡ proof_rule c.in-Err-Rule.rule = c.from.ensures ∙ ap proof_rule c.in-Err-Rule.rule-is in
     let first = fails c.requires.last.before c.requires.last.whole in
     inr (

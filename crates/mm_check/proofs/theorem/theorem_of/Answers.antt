@@ -11,4 +11,4 @@ pub returns-clause-proved : goal.returns-clause-proved
 returns-clause-proved c =
     let said : SayStepsOf c.args.book.now.statements c.args.id.0 (map (λ t. t.now) c.args.tokens.now) c.in_ok-steps.steps.moves =
     λ place s number. let told = c.in_ok-steps.ensures.said place s number in (told.1, told.2, told.3) in
-    steps_prove c.args.book.now.statements c.args.id.0 (map (λ t. t.now) c.args.tokens.now) c.in_ok-steps.steps c.requires.proof c.in_ok-steps.ensures.profile said
+    steps_prove c.args.profile c.args.book.now.statements c.args.id.0 (map (λ t. t.now) c.args.tokens.now) c.in_ok-steps.steps c.requires.proof c.in_ok-steps.ensures.profile said

@@ -1,16 +1,17 @@
 -- What the verdict says, by the laws of verdicts.
+use Rattle.mm_proof.specs.declared.profile.Profile.TheVariants.{Lenient}
 use Rattle.mm_check.proofs.Verdicts.{only_answer, yes_answer, accepted_answer}
 use Rattle.mm_check.proofs.Handed.{names_file}
 use Rattle.mm_check.proofs.verdict.check.Goals as goal
 
 pub returns-clause-only : goal.returns-clause-only
-returns-clause-only c = only_answer _ c.judge_all.result c.judge_all.ensures.verdict
+returns-clause-only c = only_answer Lenient _ c.judge_all.result c.judge_all.ensures.verdict
 
 pub returns-clause-yes : goal.returns-clause-yes
-returns-clause-yes c = yes_answer _ c.judge_all.result c.judge_all.ensures.verdict
+returns-clause-yes c = yes_answer Lenient _ c.judge_all.result c.judge_all.ensures.verdict
 
 pub returns-clause-accepted : goal.returns-clause-accepted
-returns-clause-accepted c = accepted_answer _ c.judge_all.result c.judge_all.ensures.verdict
+returns-clause-accepted c = accepted_answer Lenient _ c.judge_all.result c.judge_all.ensures.verdict
 
 pub returns-clause-file : goal.returns-clause-file
-returns-clause-file c = names_file _ c.judge_all.result c.judge_all.ensures.verdict
+returns-clause-file c = names_file Lenient _ c.judge_all.result c.judge_all.ensures.verdict

@@ -10,12 +10,12 @@ use Rattle.mm_check.proofs.verdict.judge_all.Goals as goal
 
 pub new-requires : goal.new-requires
 new-requires c =
-    let end : IsAtEnd (map plain_file c.args.files.now) c.in_ok-progress.progress c.last_progress-outcome.new.statements = c.in_ok-progress.ensures.done in
-    kept_well (map plain_file c.args.files.now) c.in_ok-progress.progress c.last_progress-outcome.new.statements end.way end.none end.ending
+    let end : IsAtEnd c.args.profile (map plain_file c.args.files.now) c.in_ok-progress.progress c.last_progress-outcome.new.statements = c.in_ok-progress.ensures.done in
+    kept_well c.args.profile (map plain_file c.args.files.now) c.in_ok-progress.progress c.last_progress-outcome.new.statements end.way end.none end.ending
 
 pub returns-in_err-progress-clause-verdict : goal.returns-in_err-progress-clause-verdict
 returns-in_err-progress-clause-verdict c =
-    passed_on (map plain_file c.args.files.now) c.from_residual-in_err-progress.result c.in_err-progress.field-0.0
+    passed_on c.args.profile (map plain_file c.args.files.now) c.from_residual-in_err-progress.result c.in_err-progress.field-0.0
     c.from_residual-in_err-progress.ensures.1 c.in_err-progress.ensures.refused
 
 pub returns-clause-verdict : goal.returns-clause-verdict
@@ -23,27 +23,27 @@ returns-clause-verdict c =
     let files : List PlainFile = map plain_file c.args.files.now in
     let kept : Concludes c.in_ok-progress.progress c.new.result =
     record { statements = c.new.ensures.statements; proofs = c.new.ensures.proofs; incomplete = c.new.ensures.incomplete; labels = c.new.ensures.labels; sentences = c.new.ensures.sentences; uses = c.new.ensures.uses } in
-    let end : IsAtEnd files c.in_ok-progress.progress c.last_progress-outcome.new.statements = c.in_ok-progress.ensures.done in
-    λ verdict e. subst (HasVerdict files) (same_Some (verdict_of_conclusion c.new.result) verdict e)
-    (end_concludes files c.in_ok-progress.progress c.last_progress-outcome.new.statements c.new.result end.way end.none end.ending kept)
+    let end : IsAtEnd c.args.profile files c.in_ok-progress.progress c.last_progress-outcome.new.statements = c.in_ok-progress.ensures.done in
+    λ verdict e. subst (HasVerdict c.args.profile files) (same_Some (verdict_of_conclusion c.new.result) verdict e)
+    (end_concludes c.args.profile files c.in_ok-progress.progress c.last_progress-outcome.new.statements c.new.result end.way end.none end.ending kept)
 
 pub returns-clause-labels : goal.returns-clause-labels
 returns-clause-labels c =
     let kept : Concludes c.in_ok-progress.progress c.new.result =
     record { statements = c.new.ensures.statements; proofs = c.new.ensures.proofs; incomplete = c.new.ensures.incomplete; labels = c.new.ensures.labels; sentences = c.new.ensures.sentences; uses = c.new.ensures.uses } in
-    let end : IsAtEnd (map plain_file c.args.files.now) c.in_ok-progress.progress c.last_progress-outcome.new.statements = c.in_ok-progress.ensures.done in
-    labels_kept (map plain_file c.args.files.now) c.in_ok-progress.progress c.last_progress-outcome.new.statements c.new.result end.way end.none kept
+    let end : IsAtEnd c.args.profile (map plain_file c.args.files.now) c.in_ok-progress.progress c.last_progress-outcome.new.statements = c.in_ok-progress.ensures.done in
+    labels_kept c.args.profile (map plain_file c.args.files.now) c.in_ok-progress.progress c.last_progress-outcome.new.statements c.new.result end.way end.none kept
 
 pub returns-clause-counts : goal.returns-clause-counts
 returns-clause-counts c =
     let kept : Concludes c.in_ok-progress.progress c.new.result =
     record { statements = c.new.ensures.statements; proofs = c.new.ensures.proofs; incomplete = c.new.ensures.incomplete; labels = c.new.ensures.labels; sentences = c.new.ensures.sentences; uses = c.new.ensures.uses } in
-    let end : IsAtEnd (map plain_file c.args.files.now) c.in_ok-progress.progress c.last_progress-outcome.new.statements = c.in_ok-progress.ensures.done in
-    counts_kept (map plain_file c.args.files.now) c.in_ok-progress.progress c.last_progress-outcome.new.statements c.new.result end.way end.none kept
+    let end : IsAtEnd c.args.profile (map plain_file c.args.files.now) c.in_ok-progress.progress c.last_progress-outcome.new.statements = c.in_ok-progress.ensures.done in
+    counts_kept c.args.profile (map plain_file c.args.files.now) c.in_ok-progress.progress c.last_progress-outcome.new.statements c.new.result end.way end.none kept
 
 pub returns-clause-uses : goal.returns-clause-uses
 returns-clause-uses c =
     let kept : Concludes c.in_ok-progress.progress c.new.result =
     record { statements = c.new.ensures.statements; proofs = c.new.ensures.proofs; incomplete = c.new.ensures.incomplete; labels = c.new.ensures.labels; sentences = c.new.ensures.sentences; uses = c.new.ensures.uses } in
-    let end : IsAtEnd (map plain_file c.args.files.now) c.in_ok-progress.progress c.last_progress-outcome.new.statements = c.in_ok-progress.ensures.done in
-    uses_kept (map plain_file c.args.files.now) c.in_ok-progress.progress c.last_progress-outcome.new.statements c.new.result end.way end.none kept
+    let end : IsAtEnd c.args.profile (map plain_file c.args.files.now) c.in_ok-progress.progress c.last_progress-outcome.new.statements = c.in_ok-progress.ensures.done in
+    uses_kept c.args.profile (map plain_file c.args.files.now) c.in_ok-progress.progress c.last_progress-outcome.new.statements c.new.result end.way end.none kept

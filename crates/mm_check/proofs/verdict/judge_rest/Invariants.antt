@@ -5,7 +5,7 @@ use Rattle.mm_check.specs.Judged.{IsUnderWay}
 use Rattle.mm_check.proofs.verdict.judge_rest.Given as goal
 
 abbrev pub invariant-loop-statement : goal.invariant-loop-statement
-invariant-loop-statement l = IsUnderWay (map plain_file l.fn.files) l.progress l.statements
+invariant-loop-statement l = IsUnderWay l.fn.profile (map plain_file l.fn.files) l.progress l.statements
 
 abbrev pub decreases-loop-statement : goal.decreases-loop-statement
 decreases-loop-statement l = length l.statements.statements

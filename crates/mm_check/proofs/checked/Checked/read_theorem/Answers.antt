@@ -9,6 +9,7 @@ use Rattle.mm_frame.specs.Sentence.{Sentence}
 use Rattle.mm_check.specs.declared.ask.AskFault.{AskFault}
 use Rattle.mm_check.specs.Conclusion.{Conclusion}
 use Rattle.mm_check.specs.declared.theorem.Theorem.{Theorem}
+use Rattle.mm_proof.specs.declared.profile.Profile.{Profile}
 use Rattle.mm_proof.specs.Steps.{AreSteps}
 use Rattle.mm_check.specs.Verdict.{CanBeRead, proof_of, is_proof, sentences}
 use Rattle.mm_check.specs.Marks.{IsKeptWell}
@@ -26,8 +27,8 @@ use Rattle.mm_check.proofs.checked.Checked.read_theorem.Goals as goal
 pub returns-in_err-id-clause-fault : goal.returns-in_err-id-clause-fault
 returns-in_err-id-clause-fault c =
     let now : Conclusion = c.args.self.now in
-    let well : IsKeptWell now.files now.sentences now.incomplete now.uses =
-    subst (λ (v : Conclusion). IsKeptWell v.files v.sentences v.incomplete v.uses) c.self.view_is c.self.invariant in
+    let well : IsKeptWell now.profile now.files now.sentences now.incomplete now.uses =
+    subst (λ (v : Conclusion). IsKeptWell v.profile v.files v.sentences v.incomplete v.uses) c.self.view_is c.self.invariant in
     passed_on c.from_residual.result c.in_err-id.field-0.0
     (λ (fault : AskFault). (statements : List PlainStatement) → Reads now.files statements None → IsAskFault statements c.args.label.now fault)
     c.from_residual.ensures.1
@@ -36,16 +37,16 @@ returns-in_err-id-clause-fault c =
 pub reread-requires-clause-readable : goal.reread-requires-clause-readable
 reread-requires-clause-readable c =
     let now : Conclusion = c.args.self.now in
-    let well : IsKeptWell now.files now.sentences now.incomplete now.uses =
-    subst (λ (v : Conclusion). IsKeptWell v.files v.sentences v.incomplete v.uses) c.self.view_is c.self.invariant in
+    let well : IsKeptWell now.profile now.files now.sentences now.incomplete now.uses =
+    subst (λ (v : Conclusion). IsKeptWell v.profile v.files v.sentences v.incomplete v.uses) c.self.view_is c.self.invariant in
     let files : map plain_file c.self.inside.files.now ≡ now.files = ap (λ (v : Conclusion). v.files) c.self.view_is in
     subst CanBeRead (sym files) well.origin.accepted.readable
 
 pub reread-requires-clause-stands : goal.reread-requires-clause-stands
 reread-requires-clause-stands c =
     let now : Conclusion = c.args.self.now in
-    let well : IsKeptWell now.files now.sentences now.incomplete now.uses =
-    subst (λ (v : Conclusion). IsKeptWell v.files v.sentences v.incomplete v.uses) c.self.view_is c.self.invariant in
+    let well : IsKeptWell now.profile now.files now.sentences now.incomplete now.uses =
+    subst (λ (v : Conclusion). IsKeptWell v.profile v.files v.sentences v.incomplete v.uses) c.self.view_is c.self.invariant in
     let files : map plain_file c.self.inside.files.now ≡ now.files = ap (λ (v : Conclusion). v.files) c.self.view_is in
     let own : AreOf now well.origin.statements = own_statements now well.origin in
     let named = c.in_ok-id.ensures.found well.origin.statements own.kept in
@@ -55,8 +56,8 @@ reread-requires-clause-stands c =
 pub theorem_of-requires-clause-proof : goal.theorem_of-requires-clause-proof
 theorem_of-requires-clause-proof c =
     let now : Conclusion = c.args.self.now in
-    let well : IsKeptWell now.files now.sentences now.incomplete now.uses =
-    subst (λ (v : Conclusion). IsKeptWell v.files v.sentences v.incomplete v.uses) c.self.view_is c.self.invariant in
+    let well : IsKeptWell now.profile now.files now.sentences now.incomplete now.uses =
+    subst (λ (v : Conclusion). IsKeptWell v.profile v.files v.sentences v.incomplete v.uses) c.self.view_is c.self.invariant in
     let files : map plain_file c.self.inside.files.now ≡ now.files = ap (λ (v : Conclusion). v.files) c.self.view_is in
     let own : AreOf now well.origin.statements = own_statements now well.origin in
     let named = c.in_ok-id.ensures.found well.origin.statements own.kept in
@@ -67,9 +68,11 @@ theorem_of-requires-clause-proof c =
     ap (λ (ts : List (Bor (List ℕ))). map (λ (b : Bor (List ℕ)). b.now) ts) c.deref.ensures.value ∙ c.in_ok-tokens.ensures in
     let sentences : c.self.inside.book.statements ≡ now.sentences = ap (λ (v : Conclusion). v.sentences) c.self.view_is in
     let id : ℕ = c.in_ok-id.id.0 in
-    subst (λ (ss : List Sentence). IsProofOf ss id (map (λ (b : Bor (List ℕ)). b.now) c.deref.result.now)) (sym sentences)
-    (subst (λ (ts : List (List ℕ)). IsProofOf now.sentences id ts) (sym texts)
-    (shown_proof now well.origin.statements c.args.label.now id t own c.theorem.ensures.sound.0 named stands))
+    let under : c.self.inside.profile ≡ now.profile = ap (λ (v : Conclusion). v.profile) c.self.view_is in
+    subst (λ (p : Profile). IsProofOf p c.self.inside.book.statements id (map (λ (b : Bor (List ℕ)). b.now) c.deref.result.now)) (sym under)
+    (subst (λ (ss : List Sentence). IsProofOf now.profile ss id (map (λ (b : Bor (List ℕ)). b.now) c.deref.result.now)) (sym sentences)
+    (subst (λ (ts : List (List ℕ)). IsProofOf now.profile now.sentences id ts) (sym texts)
+    (shown_proof now well.origin.statements c.args.label.now id t own c.theorem.ensures.sound.0 named stands)))
 
 pub theorem_of-requires-clause-filled : goal.theorem_of-requires-clause-filled
 theorem_of-requires-clause-filled c =
@@ -81,8 +84,8 @@ theorem_of-requires-clause-filled c =
 pub theorem_of-requires-clause-room : goal.theorem_of-requires-clause-room
 theorem_of-requires-clause-room c =
     let now : Conclusion = c.args.self.now in
-    let well : IsKeptWell now.files now.sentences now.incomplete now.uses =
-    subst (λ (v : Conclusion). IsKeptWell v.files v.sentences v.incomplete v.uses) c.self.view_is c.self.invariant in
+    let well : IsKeptWell now.profile now.files now.sentences now.incomplete now.uses =
+    subst (λ (v : Conclusion). IsKeptWell v.profile v.files v.sentences v.incomplete v.uses) c.self.view_is c.self.invariant in
     let files : map plain_file c.self.inside.files.now ≡ now.files = ap (λ (v : Conclusion). v.files) c.self.view_is in
     let own : AreOf now well.origin.statements = own_statements now well.origin in
     let t : PlainStatement = plain_statement c.in_ok-statement.statement in
@@ -95,8 +98,8 @@ theorem_of-requires-clause-room c =
 pub returns-clause-read : goal.returns-clause-read
 returns-clause-read c =
     let now : Conclusion = c.args.self.now in
-    let well : IsKeptWell now.files now.sentences now.incomplete now.uses =
-    subst (λ (v : Conclusion). IsKeptWell v.files v.sentences v.incomplete v.uses) c.self.view_is c.self.invariant in
+    let well : IsKeptWell now.profile now.files now.sentences now.incomplete now.uses =
+    subst (λ (v : Conclusion). IsKeptWell v.profile v.files v.sentences v.incomplete v.uses) c.self.view_is c.self.invariant in
     let files : map plain_file c.self.inside.files.now ≡ now.files = ap (λ (v : Conclusion). v.files) c.self.view_is in
     let texts : map (λ (b : Bor (List ℕ)). b.now) c.deref.result.now ≡ proof_of (plain_statement c.in_ok-statement.statement) =
     ap (λ (ts : List (Bor (List ℕ))). map (λ (b : Bor (List ℕ)). b.now) ts) c.deref.ensures.value ∙ c.in_ok-tokens.ensures in
@@ -134,8 +137,8 @@ returns-clause-usable c =
 pub returns-clause-home : goal.returns-clause-home
 returns-clause-home c =
     let now : Conclusion = c.args.self.now in
-    let well : IsKeptWell now.files now.sentences now.incomplete now.uses =
-    subst (λ (v : Conclusion). IsKeptWell v.files v.sentences v.incomplete v.uses) c.self.view_is c.self.invariant in
+    let well : IsKeptWell now.profile now.files now.sentences now.incomplete now.uses =
+    subst (λ (v : Conclusion). IsKeptWell v.profile v.files v.sentences v.incomplete v.uses) c.self.view_is c.self.invariant in
     let files : map plain_file c.self.inside.files.now ≡ now.files = ap (λ (v : Conclusion). v.files) c.self.view_is in
     let t : PlainStatement = plain_statement c.in_ok-statement.statement in
     made c.theorem_of.result

@@ -42,8 +42,8 @@ returns-in_err-text-clause-fault c =
 pub put_in-requires-clause-there : goal.put_in-requires-clause-there
 put_in-requires-clause-there c =
     let now : Conclusion = c.args.self.now in
-    let well : IsKeptWell now.files now.sentences now.incomplete now.uses =
-    subst (λ (v : Conclusion). IsKeptWell v.files v.sentences v.incomplete v.uses) c.self.view_is c.self.invariant in
+    let well : IsKeptWell now.profile now.files now.sentences now.incomplete now.uses =
+    subst (λ (v : Conclusion). IsKeptWell v.profile v.files v.sentences v.incomplete v.uses) c.self.view_is c.self.invariant in
     let files : map plain_file c.self.inside.files.now ≡ now.files = ap (λ (v : Conclusion). v.files) c.self.view_is in
     let statements : List PlainStatement = well.origin.statements in
     let reads : Reads now.files statements None = well.origin.accepted.reads in
@@ -55,8 +55,8 @@ put_in-requires-clause-there c =
 pub put_in-requires-clause-within : goal.put_in-requires-clause-within
 put_in-requires-clause-within c =
     let now : Conclusion = c.args.self.now in
-    let well : IsKeptWell now.files now.sentences now.incomplete now.uses =
-    subst (λ (v : Conclusion). IsKeptWell v.files v.sentences v.incomplete v.uses) c.self.view_is c.self.invariant in
+    let well : IsKeptWell now.profile now.files now.sentences now.incomplete now.uses =
+    subst (λ (v : Conclusion). IsKeptWell v.profile v.files v.sentences v.incomplete v.uses) c.self.view_is c.self.invariant in
     let files : map plain_file c.self.inside.files.now ≡ now.files = ap (λ (v : Conclusion). v.files) c.self.view_is in
     subst (λ (fs : List PlainFile). total_bytes fs ≤ 1073741824) (sym files) (within_limit now.files well.origin.accepted.readable)
 
