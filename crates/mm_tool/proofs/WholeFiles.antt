@@ -82,7 +82,7 @@ reply_over law LeftOut command max only wholes reads all within text status repl
     let (is, few) = only refl in
     let fewer = fewer_bytes wholes reads all in
     subst (λ k. IsReplyTo wholes k text status) (sym is)
-    (law reads wholes (alike_files wholes reads all) (omega (arith, fewer, within, few)) (omega (arith, within, few)) text status
+    (law _ reads wholes (alike_files wholes reads all) (omega (arith, fewer, within, few)) (omega (arith, within, few)) text status
     (subst (λ k. IsReplyTo reads k text status) is reply))
 
 -- ## One file
