@@ -40,8 +40,9 @@ fn load<'a>(
     match Statements::new(alloc, seed, files) {
         Ok(statements) => Ok(statements),
         Err(TextFault::Load(rule)) => Err(CheckFault::Load(Rule::from(rule))),
+        Err(TextFault::Memory) => Err(CheckFault::Memory),
         // No fault of the text comes before a token is read.
-        Err(TextFault::Memory | TextFault::Fault { .. }) => Err(CheckFault::Memory),
+        Err(TextFault::Fault { .. }) => unreachable!(),
     }
 }
 
@@ -98,8 +99,9 @@ fn next<'a>(
             let refusal = text_refusal(files, rule, file, at, statement, label);
             Err(CheckFault::Refused(refusal))
         }
+        Err(TextFault::Memory) => Err(CheckFault::Memory),
         // A rule of the files as a whole is told by `load`.
-        Err(TextFault::Memory | TextFault::Load(_)) => Err(CheckFault::Memory),
+        Err(TextFault::Load(_)) => unreachable!(),
     }
 }
 
@@ -116,8 +118,9 @@ fn beginning<'a>(alloc: Global, seed: Seed) -> Result<Progress<'a>, CheckFault<'
             incomplete: Vec::new(alloc),
             kept: Kept::new(alloc),
         }),
+        Err(RuleFault::Memory) => Err(CheckFault::Memory),
         // No statement was taken, so that no rule is broken.
-        Err(RuleFault::Memory | RuleFault::Rule(_)) => Err(CheckFault::Memory),
+        Err(RuleFault::Rule(_)) => unreachable!(),
     }
 }
 
