@@ -12,7 +12,7 @@ use crate::kept::Kept;
 use crate::progress::Progress;
 use crate::report::{Report, axioms_among, marked_among, reach};
 use crate::reread::{proof_of, reread};
-use crate::save::put_in;
+use crate::rewrite::put_in;
 use crate::shown::listing_text;
 use crate::theorem::{Theorem, theorem_of};
 use mm_frame::{Book, Found, LabelId, LabelKind};

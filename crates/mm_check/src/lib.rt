@@ -17,13 +17,16 @@ mod question;
 mod reply;
 mod report;
 mod reread;
+mod rewrite;
 mod rule;
 mod save;
 mod shown;
+mod size;
 mod status;
 mod text;
 mod theorem;
 mod verdict;
+mod words;
 
 pub use ask::AskFault;
 pub use checked::Checked;

@@ -16,26 +16,10 @@ use crate::checked::Checked;
 use crate::fault::{CheckFault, Refusal};
 use crate::rule::Rule;
 use crate::status::Status;
-use itoa::Buffer;
+use crate::words::{push_number, push_word};
 use mm_frame::LabelId;
 use mm_text::File;
 use std::alloc::{AllocError, Global};
-
-/// Puts a space and a word at the end.
-pub(crate) fn push_word(out: &mut Vec<u8>, word: &[u8]) -> Result<(), AllocError>
-    ensures { OnOk result (out.new.items ≡ out.old.items ++ codes " " ++ word.now) }
-{
-    out.push(b' ')?;
-    out.extend_from_slice(word)
-}
-
-/// Puts a space and a number, in decimal, at the end.
-pub(crate) fn push_number(out: &mut Vec<u8>, number: usize) -> Result<(), AllocError>
-    ensures { OnOk result (out.new.items ≡ out.old.items ++ codes " " ++ decimal number) }
-{
-    let mut digits = Buffer::new();
-    push_word(out, digits.format(number).as_bytes())
-}
 
 /// The name of a file; nothing where there is none.
 fn name_of<'a>(files: &[File<'a>], file: usize) -> &'a [u8]

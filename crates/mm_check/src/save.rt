@@ -1,21 +1,18 @@
 //! A file with the proof of one theorem written anew.
 
-ghost use Rattle.std.specs.Prelude.{◌≡◌, ◌<◌, ◌≤◌, ◌↔◌, ◌∷◌, List, ℕ, map, length, IfOk, IfErr};
-ghost use Rattle.std.specs.Prelude.{IsTrue};
+ghost use Rattle.std.specs.Prelude.{List, map, IfOk, IfErr};
 ghost use Rattle.mm_text.specs.Statement.{PlainStatement};
-ghost use Rattle.mm_text.specs.Files.{plain_file, total_bytes};
-ghost use Rattle.mm_text.specs.Replaced.{with_span};
+ghost use Rattle.mm_text.specs.Files.{plain_file};
 ghost use Rattle.mm_proof.specs.declared.profile.Profile.TheVariants.{Lenient};
 ghost use Rattle.mm_check.specs.Verdict.{AreAccepted};
-ghost use Rattle.mm_check.specs.Saved.{IsSaved, FitsSaved, IsSavingFault, total_with};
-ghost use Rattle.mm_check.specs.CodeSaved.{HoldsSpan, IsPutIn, IsPutFault};
+ghost use Rattle.mm_check.specs.Saved.{IsSaved, FitsSaved, IsSavingFault};
 
 use crate::ask::AskFault;
 use crate::fault::CheckFault;
 use crate::form::Form;
-use crate::verdict::{check, size_of};
-use mm_text::{BYTE_LIMIT, File, Seed};
-use std::alloc::{AllocError, Global};
+use crate::verdict::check;
+use mm_text::{File, Seed};
+use std::alloc::Global;
 use thiserror::Error;
 
 /// Why a file isn't written anew.
@@ -27,60 +24,6 @@ pub enum SaveFault<'a> {
     /// The question about the theorem has no answer.
     #[error("{0}")]
     Ask(AskFault),
-}
-
-/// The bytes with a line feed and a text in place of those of a span.
-fn with_text(
-    alloc: Global,
-    bytes: &[u8],
-    span: (u32, u32),
-    text: &[u8],
-) -> Result<Vec<u8>, AllocError>
-    requires start { span.0 ≤ length bytes.now }
-    requires stop { span.1 ≤ length bytes.now }
-    ensures { IfOk result (λ new. new.items ≡ with_span bytes.now span (10 ∷ text.now)) }
-{
-    let room = bytes.len().saturating_add(text.len()).saturating_add(1);
-    let mut new = Vec::with_capacity(alloc, room)?;
-    new.extend_from_slice(&bytes[..span.0 as usize])?;
-    new.push(b'\n')?;
-    new.extend_from_slice(text)?;
-    new.extend_from_slice(&bytes[span.1 as usize..])?;
-    Ok(new)
-}
-
-/// Whether the files have more bytes than they may, with so many in the file with a number.
-fn is_over(files: &[File], number: usize, count: usize) -> bool
-    requires there { number < length files.now }
-    requires within { total_bytes (map plain_file files.now) ≤ 1073741824 }
-    ensures { (bytes : List ℕ) → length bytes ≡ count → IsTrue result
-        ↔ (1073741824 < total_with (map plain_file files.now) number bytes) }
-{
-    let others = size_of(files) - files[number].bytes.len();
-    count > BYTE_LIMIT - others
-}
-
-/// The bytes of the file with a number, with a line feed and a text in place of those of a span.
-pub(crate) fn put_in(
-    alloc: Global,
-    files: &[File],
-    number: usize,
-    span: (u32, u32),
-    text: &[u8],
-) -> Result<Vec<u8>, AskFault>
-    requires there { HoldsSpan (map plain_file files.now) number span }
-    requires within { total_bytes (map plain_file files.now) ≤ 1073741824 }
-    ensures put { IfOk result (λ new.
-        IsPutIn (map plain_file files.now) number span text.now new.items) }
-    ensures fits { IfOk result (λ new.
-        FitsSaved (map plain_file files.now) number new.items) }
-    ensures fault { IfErr result (IsPutFault (map plain_file files.now) number span text.now) }
-{
-    let new = with_text(alloc, files[number].bytes, span, text)?;
-    if is_over(files, number, new.len()) {
-        return Err(AskFault::F3);
-    }
-    Ok(new)
 }
 
 /// The number of the file in which the `$p` with a label stands, and the bytes of that file with the

@@ -1,7 +1,7 @@
 //! The listing of a proof, as text.
 
 ghost use Rattle.std.specs.Prelude.{◌≡◌, ◌<◌, ◌++◌, List, take, length, OnOk, IfOk};
-ghost use Rattle.std.specs.Prelude.{IfErr, decimal};
+ghost use Rattle.std.specs.Prelude.{IfErr};
 ghost use Rattle.std.specs.List.{AllZip, AllByRecursion};
 ghost use Rattle.mm_frame.specs.Numbers.{symbols_of};
 ghost use Rattle.mm_proof.specs.Stores.{numbers_in};
@@ -15,20 +15,11 @@ ghost use Rattle.mm_check.specs.Shown.{listing_text as text_of_listing};
 ghost use Rattle.mm_check.specs.CodeShown.{AreProvedSteps, IsListingOf};
 
 use crate::ask::AskFault;
-use crate::reply::push_word;
 use crate::theorem::Theorem;
-use itoa::Buffer;
+use crate::words::{push_decimal, push_word};
 use mm_frame::{Book, Sym};
 use mm_proof::{Line, Name, ProofFault, listing};
 use std::alloc::{AllocError, Global};
-
-/// Puts a number, in decimal, at the end.
-fn push_decimal(out: &mut Vec<u8>, number: usize) -> Result<(), AllocError>
-    ensures { OnOk result (out.new.items ≡ out.old.items ++ decimal number) }
-{
-    let mut digits = Buffer::new();
-    out.extend_from_slice(digits.format(number).as_bytes())
-}
 
 /// Puts what a step is called at the end.
 fn push_name(out: &mut Vec<u8>, book: &Book, name: Name) -> Result<(), AllocError>

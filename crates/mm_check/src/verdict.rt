@@ -1,10 +1,10 @@
 //! The verdict over a database.
 
-ghost use Rattle.std.specs.Prelude.{◌≡◌, ◌≤◌, ◌⊎◌, true, map, option_map, [], IfOk, IfErr, OnOk, Ok};
+ghost use Rattle.std.specs.Prelude.{◌≡◌, ◌⊎◌, true, map, option_map, [], IfOk, IfErr, OnOk, Ok};
 ghost use Rattle.std.specs.Prelude.{IsOkUnless};
 ghost use Rattle.mm_text.specs.Token.{plain_token};
 ghost use Rattle.mm_text.specs.Statement.{plain_statement, HasForm};
-ghost use Rattle.mm_text.specs.Files.{plain_file, total_bytes};
+ghost use Rattle.mm_text.specs.Files.{plain_file};
 ghost use Rattle.mm_text.specs.Remaining.{IsUnread};
 ghost use Rattle.mm_proof.specs.declared.profile.Profile.TheVariants.{Lenient};
 ghost use Rattle.mm_check.specs.Verdict.{ObeyTheProfile, CanBeRead};
@@ -22,6 +22,7 @@ use crate::kept::Kept;
 use crate::place::line_of;
 use crate::progress::Progress;
 use crate::rule::Rule;
+use crate::size::size_of;
 use mm_frame::RuleFault;
 use mm_proof::{Profile, Prover};
 use mm_text::{File, Seed, Statement, Statements, TextFault, TextRule, Token};
@@ -122,18 +123,6 @@ fn beginning<'a>(alloc: Global, seed: Seed) -> Result<Progress<'a>, CheckFault<'
         // No statement was taken, so that no rule is broken.
         Err(RuleFault::Rule(_)) => unreachable!(),
     }
-}
-
-/// How many bytes the files hold in all; where they hold more than they may, some number.
-pub(crate) fn size_of(files: &[File]) -> usize
-    ensures { total_bytes (map plain_file files.now) ≤ 1073741824
-        → result ≡ total_bytes (map plain_file files.now) }
-{
-    let mut size: usize = 0;
-    for file in files {
-        size = size.saturating_add(file.bytes.len());
-    }
-    size
 }
 
 /// Before the first statement, makes room for what all of them have, so that lists need not be

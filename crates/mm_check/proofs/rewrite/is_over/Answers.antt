@@ -1,6 +1,6 @@
 -- The bytes of all files, those of one taken away, leave room for so many.
 use Rattle.mm_check.proofs.Saving.{own_within, file_over}
-use Rattle.mm_check.proofs.save.is_over.Goals as goal
+use Rattle.mm_check.proofs.rewrite.is_over.Goals as goal
 
 pub overflow_sub-others : goal.overflow_sub-others
 overflow_sub-others c = own_within c.args.files.now c.args.number _ c.size_of.result c.requires.there (c.size_of.ensures c.requires.within)

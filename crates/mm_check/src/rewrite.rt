@@ -1,0 +1,67 @@
+//! A file with a text in place of a span of its bytes.
+
+ghost use Rattle.std.specs.Prelude.{◌≡◌, ◌<◌, ◌≤◌, ◌↔◌, ◌∷◌, List, ℕ, map, length, IfOk, IfErr};
+ghost use Rattle.std.specs.Prelude.{IsTrue};
+ghost use Rattle.mm_text.specs.Files.{plain_file, total_bytes};
+ghost use Rattle.mm_text.specs.Replaced.{with_span};
+ghost use Rattle.mm_check.specs.Saved.{FitsSaved, total_with};
+ghost use Rattle.mm_check.specs.CodeSaved.{HoldsSpan, IsPutIn, IsPutFault};
+
+use crate::ask::AskFault;
+use crate::size::size_of;
+use mm_text::{BYTE_LIMIT, File};
+use std::alloc::{AllocError, Global};
+
+/// The bytes with a line feed and a text in place of those of a span.
+fn with_text(
+    alloc: Global,
+    bytes: &[u8],
+    span: (u32, u32),
+    text: &[u8],
+) -> Result<Vec<u8>, AllocError>
+    requires start { span.0 ≤ length bytes.now }
+    requires stop { span.1 ≤ length bytes.now }
+    ensures { IfOk result (λ new. new.items ≡ with_span bytes.now span (10 ∷ text.now)) }
+{
+    let room = bytes.len().saturating_add(text.len()).saturating_add(1);
+    let mut new = Vec::with_capacity(alloc, room)?;
+    new.extend_from_slice(&bytes[..span.0 as usize])?;
+    new.push(b'\n')?;
+    new.extend_from_slice(text)?;
+    new.extend_from_slice(&bytes[span.1 as usize..])?;
+    Ok(new)
+}
+
+/// Whether the files have more bytes than they may, with so many in the file with a number.
+fn is_over(files: &[File], number: usize, count: usize) -> bool
+    requires there { number < length files.now }
+    requires within { total_bytes (map plain_file files.now) ≤ 1073741824 }
+    ensures { (bytes : List ℕ) → length bytes ≡ count → IsTrue result
+        ↔ (1073741824 < total_with (map plain_file files.now) number bytes) }
+{
+    let others = size_of(files) - files[number].bytes.len();
+    count > BYTE_LIMIT - others
+}
+
+/// The bytes of the file with a number, with a line feed and a text in place of those of a span.
+pub(crate) fn put_in(
+    alloc: Global,
+    files: &[File],
+    number: usize,
+    span: (u32, u32),
+    text: &[u8],
+) -> Result<Vec<u8>, AskFault>
+    requires there { HoldsSpan (map plain_file files.now) number span }
+    requires within { total_bytes (map plain_file files.now) ≤ 1073741824 }
+    ensures put { IfOk result (λ new.
+        IsPutIn (map plain_file files.now) number span text.now new.items) }
+    ensures fits { IfOk result (λ new.
+        FitsSaved (map plain_file files.now) number new.items) }
+    ensures fault { IfErr result (IsPutFault (map plain_file files.now) number span text.now) }
+{
+    let new = with_text(alloc, files[number].bytes, span, text)?;
+    if is_over(files, number, new.len()) {
+        return Err(AskFault::F3);
+    }
+    Ok(new)
+}
