@@ -8,8 +8,8 @@ use Rattle.mm_proof.specs.declared.profile.Profile.TheVariants.{Lenient}
 use Rattle.mm_check.specs.declared.fault.CheckFault.{CheckFault}
 use Rattle.mm_check.specs.Conclusion.{Conclusion}
 use Rattle.mm_check.specs.declared.fault.CheckFault.TheVariants as fault
-use Rattle.mm_check.specs.Verdict.{Verdict, Load, Refused, HasVerdict, AreAccepted, labels_of}
-use Rattle.mm_check.specs.Answer.{verdict_of_answer, verdict_of_conclusion, verdict_where_incomplete, plain_refusal, verdict_of_fault, IsVerdict, KeepsLabels, KeepsUses, KeepsFiles, IsKeptOf}
+use Rattle.mm_check.specs.Verdict.{Verdict, Load, Refused, HasVerdict, AreAccepted}
+use Rattle.mm_check.specs.Answer.{verdict_of_answer, verdict_of_conclusion, verdict_where_incomplete, plain_refusal, verdict_of_fault, IsVerdict, KeepsFiles}
 use Rattle.mm_check.specs.Reply.{IsReply, IsRefused, IsQuestionReply, Tells, text_of, status_of}
 
 reply_at : (profile : Profile) (files : List PlainFile) (told : Option Verdict) (text : List ℕ) (status : ℕ)
@@ -31,16 +31,6 @@ reply_of profile files answer text status holds said ends = reply_at profile fil
 pub accepted_with : (profile : Profile) (files : List PlainFile) (c : Conclusion) (numbers : List ℕ) → HasVerdict profile files (verdict_where_incomplete c numbers) → (statements : List PlainStatement) × AreAccepted profile files statements
 accepted_with profile files c [] h = (h.0, h.1)
 accepted_with profile files c (n ∷ numbers) h = (h.0, h.1)
-
--- the answer over the statements of the files
-pub question_answered : (files : List PlainFile) (answer : Result Conclusion CheckFault) (c : Conclusion) (Answers : List PlainStatement → List ℕ → ℕ → Type 0) (text : List ℕ) (status : ℕ)
-    → answer ≡ Ok c → IsVerdict Lenient files answer → KeepsUses files c → KeepsLabels files c
-    → ((statements : List PlainStatement) → IsKeptOf statements c → c.labels ≡ labels_of statements → Answers statements text status)
-    → IsQuestionReply files Answers text status
-question_answered files answer c Answers text status is holds uses labels answers =
-    let told : verdict_of_answer answer ≡ Some (verdict_of_conclusion c) = ap verdict_of_answer is in
-    let found = accepted_with Lenient files c c.incomplete (holds (verdict_of_conclusion c) told) in
-    inr (found.0, found.1, answers found.0 (uses found.0 None found.1.reads) (labels found.0 None found.1.reads))
 
 -- the answer over the statements of the files that are kept
 pub question_read : (files : List PlainFile) (answer : Result Conclusion CheckFault) (c : Conclusion) (Answers : List PlainStatement → List ℕ → ℕ → Type 0) (text : List ℕ) (status : ℕ)

@@ -181,21 +181,22 @@ impl<'a> Checked<'a> {
     /// `A1` where no statement has the label, `A2` where it isn't that of a `$p`, `A3` where the
     /// proof is incomplete; `Memory` where a growth was refused.
     pub fn axioms(&self, alloc: Global, label: &[u8]) -> Result<Report, AskFault>
-        // The lists are those of the statements of which this was kept: the `$a`, and the
-        // incomplete `$p`, among what the theorem rests on.
+        // The lists are those of the statements of the files: the `$a`, and the incomplete `$p`,
+        // among what the theorem rests on.
         ensures report { IfOk result (λ report. (statements : List PlainStatement)
-            → IsKeptOf statements self.now → IsReport statements label.now
+            → Reads self.now.files statements None → IsReport statements label.now
             (map (λ id. id.0) report.axioms.items) (map (λ id. id.0) report.unproved.items)) }
         ensures fault { IfErr result (λ fault. (statements : List PlainStatement)
-            → IsKeptOf statements self.now → IsAskFault statements label.now fault) }
+            → Reads self.now.files statements None → IsAskFault statements label.now fault) }
         // Each number is that of a label.
         ensures in_range { IfOk result (λ report.
             AllByRecursion (λ n. n < length self.now.labels) (map (λ id. id.0) report.axioms.items)
             × AllByRecursion (λ n. n < length self.now.labels)
             (map (λ id. id.0) report.unproved.items)) }
     {
+        let kept = &self.kept;
         let theorem = self.theorem(label)?;
-        let marks = reach(alloc, &self.kept, theorem)?;
+        let marks = reach(alloc, kept, theorem)?;
         let axioms = axioms_among(alloc, &self.book, &marks, theorem)?;
         let unproved = marked_among(alloc, &self.incomplete, &marks)?;
         Ok(Report { axioms, unproved })

@@ -7,8 +7,8 @@ ghost use Rattle.mm_text.specs.Statement.{PlainStatement};
 ghost use Rattle.mm_text.specs.Files.{plain_file};
 ghost use Rattle.mm_text.specs.Reading.{Reads};
 ghost use Rattle.mm_proof.specs.declared.profile.Profile.TheVariants.{Lenient};
-ghost use Rattle.mm_check.specs.Answer.{verdict_of_answer, labels_at, IsKeptOf, IsVerdict};
-ghost use Rattle.mm_check.specs.Answer.{KeepsLabels, KeepsUses, KeepsFiles};
+ghost use Rattle.mm_check.specs.Answer.{verdict_of_answer, labels_at, IsVerdict};
+ghost use Rattle.mm_check.specs.Answer.{KeepsLabels, KeepsFiles};
 ghost use Rattle.mm_check.specs.Verdict.{labels_of};
 ghost use Rattle.mm_check.specs.Status.{number_of};
 ghost use Rattle.mm_check.specs.Reply.{code_of, line_with, lines_of, status_of as status_at, Tells};
@@ -175,7 +175,7 @@ fn ask_reply(alloc: Global, label: &[u8], fault: AskFault) -> Result<Reply, Allo
 /// The reply of a database in which nothing is at fault to the question what a theorem rests on.
 fn axioms_answer(alloc: Global, checked: &Checked, label: &[u8]) -> Result<Reply, AllocError>
     ensures { IfOk result (λ reply. (statements : List PlainStatement)
-        → IsKeptOf statements checked.now → checked.now.labels ≡ labels_of statements
+        → Reads checked.now.files statements None → checked.now.labels ≡ labels_of statements
         → IsAxiomsReply label.now statements reply.text.items (number_of reply.status)) }
 {
     match checked.axioms(alloc, label) {
@@ -354,7 +354,7 @@ fn axioms_or_verdict(
 ) -> Result<Reply, AllocError>
     requires verdict { IsVerdict Lenient (map plain_file files.now) answer.now }
     requires labels { IfOk answer.now (KeepsLabels (map plain_file files.now)) }
-    requires uses { IfOk answer.now (KeepsUses (map plain_file files.now)) }
+    requires files { IfOk answer.now (KeepsFiles (map plain_file files.now)) }
     ensures { IfOk result (λ reply. IsQuestionReply (map plain_file files.now)
         (IsAxiomsReply label.now) reply.text.items (number_of reply.status)) }
 {

@@ -1,16 +1,38 @@
 -- The marks are those of what the theorem rests on.
-use Rattle.std.proofs.Common.{◌≡◌, ◌↔◌, ℕ, ◌<◌, List, length, Contains, Bool, ap, subst, ◌∙◌}
+use Rattle.std.proofs.Common.{◌≡◌, ◌↔◌, ℕ, ◌<◌, List, length, Contains, Bool, None, ap, subst, ◌∙◌}
+use Rattle.mm_text.specs.Statement.{PlainStatement}
+use Rattle.mm_text.specs.Reading.{Reads}
 use Rattle.mm_frame.specs.Sentence.{Sentence}
 use Rattle.mm_check.specs.Conclusion.{Conclusion, ProofUses, labels_in}
-use Rattle.mm_check.specs.Rests.{AreInOrder, RestsOn}
+use Rattle.mm_check.specs.declared.ask.AskFault.{AskFault}
+use Rattle.mm_check.specs.Answer.{IsKeptOf}
+use Rattle.mm_check.specs.Rests.{AreInOrder, RestsOn, IsAskFault}
 use Rattle.mm_proof.specs.CodeSteps.{ids_in}
-use Rattle.mm_check.specs.Marks.{IsMarked, UsedIn, IsAxiomNumber}
+use Rattle.mm_check.specs.Marks.{IsKeptWell, IsMarked, UsedIn, IsAxiomNumber}
+use Rattle.mm_check.proofs.Rereading.{read_statements, passed_on}
 use Rattle.mm_check.proofs.Asked.{report_of, all_within, all_among, axiom_within}
 use Rattle.mm_check.proofs.checked.Checked.axioms.Goals as goal
 
-pub returns-clause-report : goal.returns-clause-report
-returns-clause-report c = λ statements kept.
+pub returns-in_err-theorem-clause-fault : goal.returns-in_err-theorem-clause-fault
+returns-in_err-theorem-clause-fault c =
     let now : Conclusion = c.args.self.now in
+    let well : IsKeptWell now.profile now.files now.sentences now.incomplete now.uses =
+    subst (λ (v : Conclusion). IsKeptWell v.profile v.files v.sentences v.incomplete v.uses)
+    c.self.view_is c.self.invariant in
+    passed_on c.from_residual.result c.in_err-theorem.field-0.0
+    (λ (fault : AskFault). (statements : List PlainStatement) → Reads now.files statements None
+    → IsAskFault statements c.args.label.now fault)
+    c.from_residual.ensures.1
+    (λ statements reads. c.in_err-theorem.ensures.fault statements
+    (read_statements now statements well.origin reads).kept)
+
+pub returns-clause-report : goal.returns-clause-report
+returns-clause-report c = λ statements reads.
+    let now : Conclusion = c.args.self.now in
+    let well : IsKeptWell now.profile now.files now.sentences now.incomplete now.uses =
+    subst (λ (v : Conclusion). IsKeptWell v.profile v.files v.sentences v.incomplete v.uses)
+    c.self.view_is c.self.invariant in
+    let kept : IsKeptOf statements now = (read_statements now statements well.origin reads).kept in
     let sentences : c.self.inside.book.statements ≡ now.sentences = ap (λ (v : Conclusion). v.sentences) c.self.view_is in
     let uses : c.self.inside.kept ≡ now.uses = ap (λ (v : Conclusion). v.uses) c.self.view_is in
     let incomplete : ids_in c.self.inside.incomplete.items ≡ now.incomplete = ap (λ (v : Conclusion). v.incomplete) c.self.view_is in
