@@ -1,5 +1,6 @@
 """Installs, runs and measures programs. The scripts of this folder share it."""
 import argparse
+import concurrent.futures
 import contextlib
 import os
 import pathlib
@@ -61,6 +62,15 @@ def run(words):
     process.returncode = os.waitstatus_to_exitcode(status)
     status = -signal.SIGKILL if late.is_set() else process.returncode
     return Run(output, status, usage.ru_utime + usage.ru_stime, usage.ru_maxrss * 1024)
+
+
+def at_once(jobs, work, items):
+    """What the work tells of each item, in their order; of so many items at a time."""
+    pool = concurrent.futures.ThreadPoolExecutor(jobs)
+    try:
+        return list(pool.map(work, items))
+    finally:
+        pool.shutdown(cancel_futures=True)
 
 
 def peak(words):

@@ -1,6 +1,6 @@
 // What the sources use of the kit's library, by Rust's own. Its maps and their hash are made here
 // as the kit's are, since much of the time is spent where they are in memory.
-pub use std::hash::{Hash, Hasher};
+pub use std::hash::{BuildHasher, Hash, Hasher};
 use std::ops::{Deref, DerefMut};
 
 #[derive(Clone, Copy, Debug, PartialEq, Eq)]
@@ -40,6 +40,12 @@ impl<T> Vec<T> {
         T: Copy,
     {
         Ok(self.0.extend_from_slice(slice))
+    }
+    pub fn extend_from_within(&mut self, range: std::ops::Range<usize>) -> Result<(), AllocError>
+    where
+        T: Copy,
+    {
+        Ok(self.0.extend_from_within(range))
     }
     pub fn resize(&mut self, count: usize, element: T) -> Result<(), AllocError>
     where
@@ -110,7 +116,13 @@ const MULTIPLIER: u64 = 0x9e37_79b9_7f4a_7c15;
 
 /// The hash of the kit, which its maps take.
 #[derive(Clone, Copy)]
-pub struct Fold(u64);
+pub struct FoldHasher(u64);
+
+impl Default for FoldHasher {
+    fn default() -> Self {
+        FoldHasher(0x243f_6a88_85a3_08d3)
+    }
+}
 
 fn folded(a: u64, b: u64) -> u64 {
     let product = a as u128 * b as u128;
@@ -135,7 +147,7 @@ fn short(bytes: &[u8]) -> u64 {
     }
 }
 
-impl Hasher for Fold {
+impl Hasher for FoldHasher {
     fn finish(&self) -> u64 {
         self.0
     }
@@ -180,7 +192,8 @@ impl Group {
 
 /// A map in the order of insertion, made as the kit's is: keys and values in lists of their own,
 /// and a table of groups.
-pub struct IndexMap<K, V> {
+pub struct IndexMap<K, V, S> {
+    hasher: S,
     groups: std::vec::Vec<Group>,
     hashes: std::vec::Vec<u32>,
     keys: std::vec::Vec<K>,
@@ -191,16 +204,10 @@ fn tag_of(hash: u32) -> u8 {
     ((hash >> 24) as u8).max(1)
 }
 
-fn hash_of<K: Hash>(key: &K) -> u32 {
-    let mut state = Fold(0x243f_6a88_85a3_08d3);
-    key.hash(&mut state);
-    let hash = state.finish();
-    (hash ^ (hash >> 32)) as u32
-}
-
-impl<K: Hash + Eq, V> IndexMap<K, V> {
-    pub fn new(_: Global) -> Self {
+impl<K: Hash + Eq, V, S: BuildHasher> IndexMap<K, V, S> {
+    pub fn with_hasher(_: Global, hasher: S) -> Self {
         IndexMap {
+            hasher,
             groups: std::vec::Vec::new(),
             hashes: std::vec::Vec::new(),
             keys: std::vec::Vec::new(),
@@ -210,9 +217,15 @@ impl<K: Hash + Eq, V> IndexMap<K, V> {
     pub fn len(&self) -> usize {
         self.keys.len()
     }
+    fn hash_of(&self, key: &K) -> u32 {
+        let mut state = self.hasher.build_hasher();
+        key.hash(&mut state);
+        let hash = state.finish();
+        (hash ^ (hash >> 32)) as u32
+    }
     fn number_of(&self, key: &K) -> Option<usize> {
         let last = self.groups.len().checked_sub(1)?;
-        let hash = hash_of(key);
+        let hash = self.hash_of(key);
         let tag = tag_of(hash);
         let mut at = hash as usize & last;
         loop {
@@ -273,7 +286,7 @@ impl<K: Hash + Eq, V> IndexMap<K, V> {
             return Ok(Some(std::mem::replace(&mut self.values[number], value)));
         }
         self.reserve(1)?;
-        let hash = hash_of(&key);
+        let hash = self.hash_of(&key);
         self.place(hash, self.keys.len());
         self.hashes.push(hash);
         self.keys.push(key);
@@ -282,11 +295,14 @@ impl<K: Hash + Eq, V> IndexMap<K, V> {
     }
 }
 
-pub struct IndexSet<K>(IndexMap<K, ()>);
+pub struct IndexSet<K, S>(IndexMap<K, (), S>);
 
-impl<K: Hash + Eq> IndexSet<K> {
-    pub fn new(alloc: Global) -> Self {
-        IndexSet(IndexMap::new(alloc))
+impl<K: Hash + Eq, S: BuildHasher> IndexSet<K, S> {
+    pub fn with_hasher(alloc: Global, hasher: S) -> Self {
+        IndexSet(IndexMap::with_hasher(alloc, hasher))
+    }
+    pub fn contains(&self, key: &K) -> bool {
+        self.0.number_of(key).is_some()
     }
     pub fn len(&self) -> usize {
         self.0.len()

@@ -31,7 +31,7 @@ fn main() {
         name: b"file",
         bytes: &read.bytes,
     }];
-    match mm_check::check(library::Global, &files) {
+    match mm_check::check(library::Global, mm_text::Seed::known(), &files) {
         Ok(done) if done.incomplete > 0 => println!("incomplete {}", done.incomplete),
         Ok(done) => println!("yes {} statements {} proofs", done.statements, done.proofs),
         Err(_) => println!("no, load, limit or memory"),
