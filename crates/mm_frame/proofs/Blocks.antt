@@ -50,7 +50,7 @@ same_on_err (Ok x) t u tables same = tt
 same_on_err (Err y) t u tables same = same_tables t u tables same
 
 -- the scopes of the same lists
-same_scopes : (t u : Tables) (st : List Sentence) → SameLists t u → HaveScopes st t.scopes → HaveScopes st u.scopes
+pub same_scopes : (t u : Tables) (st : List Sentence) → SameLists t u → HaveScopes st t.scopes → HaveScopes st u.scopes
 same_scopes t u st same have = rw (same.scopes.blocks, same.scopes.ends, same.scopes.open_blocks) have
 
 pub adds_block : (t u w : Tables) (kind : Kind) (start bytes : ℕ) → SameLists t u → Entered u w kind None start bytes → start ≡ length u.flat.items → AddsBlock t w kind bytes

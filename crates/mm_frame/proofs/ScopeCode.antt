@@ -23,14 +23,6 @@ last_place (x ∷ stack) some = (length stack, refl)
 pub stack_some : (never : ℕ) (st : List Sentence) (blocks ends stack : List ℕ) → AreScopes never st blocks ends stack → (k : ℕ) × (length stack ≡ suc k)
 stack_some never st blocks ends stack a = last_place stack (let d = scope_depth never st blocks ends stack a in omega (arith, d.0))
 
--- each statement has a block, and each block an end
-pub block_there : (never : ℕ) (st : List Sentence) (blocks ends stack : List ℕ) → AreScopes never st blocks ends stack → (p : ℕ) → p < length st
-    → (b : ℕ) × (c : ℕ) × (slice_get blocks p ≡ Some b) × (slice_get ends b ≡ Some c)
-block_there never st blocks ends stack a p lt =
-    let (b, there) = get_within blocks p (let e = a.held in omega (arith, e)) in
-    let (c, end) = get_within ends b (scope_block_within never st blocks ends stack a p b there) in
-    (b, c, there, end)
-
 leb_says : (m n : ℕ) (P : Type 0) → (m ≤ n) ↔ P → IsTrue (leb m n) ↔ P
 leb_says m n P h = ((λ t. h.0 (search (rules))), (λ p. let le : m ≤ n = h.1 p in search (rules)))
 
@@ -39,13 +31,20 @@ pub active_by_end : (never : ℕ) (st : List Sentence) (blocks ends stack : List
     → AreScopes never st blocks ends stack → length st ≤ never → p < q → q ≤ length st → IsTrue (leb q c) ↔ IsActive (take q st) p
 active_by_end never st blocks ends stack p q b c there end a small lt le = leb_says q c _ (scope_active never st blocks ends stack a small p q b c there end lt le)
 
-pub no_end : (never : ℕ) (st : List Sentence) (blocks ends stack : List ℕ) (p q b : ℕ) → slice_get blocks p ≡ Some b → slice_get ends b ≡ None
-    → AreScopes never st blocks ends stack → p < q → q ≤ length st → ⊥
-no_end never st blocks ends stack p q b there end a lt le = let (b', c, there', end') = block_there never st blocks ends stack a p (omega arith) in cc
+-- each block that holds a statement has an end
+pub no_end : (never : ℕ) (st : List Sentence) (blocks ends stack : List ℕ) (p b : ℕ)
+    → slice_get blocks p ≡ Some b → slice_get ends b ≡ None
+    → AreScopes never st blocks ends stack → ⊥
+no_end never st blocks ends stack p b there none a =
+    let within = scope_block_within never st blocks ends stack a p b there in
+    let (c, end) = get_within ends b within in cc
 
-pub no_block : (never : ℕ) (st : List Sentence) (blocks ends stack : List ℕ) (p q : ℕ) → slice_get blocks p ≡ None
+-- each statement has a block
+pub no_block : (never : ℕ) (st : List Sentence) (blocks ends stack : List ℕ) (p q : ℕ)
+    → slice_get blocks p ≡ None
     → AreScopes never st blocks ends stack → p < q → q ≤ length st → ⊥
-no_block never st blocks ends stack p q there a lt le = let (b', c, there', end') = block_there never st blocks ends stack a p (omega arith) in cc
+no_block never st blocks ends stack p q none a lt le =
+    let (b, there) = get_within blocks p (let e = a.held in omega (arith, e)) in cc
 
 not_opening : (kind : Kind) → ¬ (kind ≡ Opening) → is_opening kind ≡ false
 not_opening Opening apart = absurd (apart refl)
@@ -77,6 +76,14 @@ pub split_last : (stack below : List ℕ) (popped : Option ℕ) → IsSome poppe
     → (top : ℕ) × (stack ≡ below ++ top ∷ []) × (slice_get stack (length below) ≡ Some top) × (length below + 1 ≡ length stack)
 split_last stack below None some e = absurd (cc some)
 split_last stack below (Some top) some e = (top, e, rw e (get_pushed below top), omega (arith, ap length e, length_pushed below top))
+
+-- below the innermost of two open blocks stands another
+pub some_under : (stack below : List ℕ) (popped : Option ℕ) → 2 ≤ length stack
+    → stack ≡ below ++ option_to_list popped → (1 ≤ length stack → IsSome popped)
+    → 1 ≤ length below
+some_under stack below popped two split some =
+    let (top, whole, at_end, shorter) = split_last stack below popped (some (omega arith)) split in
+    omega arith
 
 -- after a `$}`
 pub closed : (never : ℕ) (st : List Sentence) (e : Sentence) (blocks ends stack below : List ℕ) (popped : Option ℕ) (top under : ℕ)

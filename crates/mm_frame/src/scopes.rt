@@ -5,7 +5,7 @@ ghost use Rattle.std.specs.Prelude.{take, slice_get, Some, IsTrue, IfOk, OnOk};
 ghost use Rattle.mm_text.specs.declared.statement.Kind.TheVariants.{Opening, Closing};
 ghost use Rattle.mm_frame.specs.Sentence.{Sentence};
 ghost use Rattle.mm_frame.specs.Active.{IsOpen, IsActive, open_marks, close_marks};
-ghost use Rattle.mm_frame.specs.Mirror.ScopesOf.{HaveScopes, HasRoom, HaveSameLists};
+ghost use Rattle.mm_frame.specs.Mirror.ScopesOf.{HaveScopes, CanTake, HasRoom, HaveSameLists};
 
 use crate::lists::{at as at_place, put, reserve_numbered, write};
 use mm_text::Kind;
@@ -44,6 +44,7 @@ impl Scopes {
 
     /// Whether the statement at a place is active after the statements before another.
     pub(crate) fn is_active(&self, place: usize, at: usize) -> bool
+        requires { (statements : List Sentence) × HaveScopes statements self.now }
         ensures { (statements : List Sentence) → HaveScopes statements self.now
             → length statements ≤ NEVER → place < at → at ≤ length statements
             → (IsTrue result ↔ IsActive (take at statements) place) }
@@ -51,7 +52,7 @@ impl Scopes {
         match at_place(&self.blocks, place) {
             Some(block) => match at_place(&self.ends, block as usize) {
                 Some(end) => at <= end as usize,
-                None => false,
+                None => unreachable!(),
             },
             None => false,
         }
@@ -85,18 +86,20 @@ impl Scopes {
 
     // The innermost open block.
     fn innermost(&self) -> u32
+        requires { 1 ≤ length self.now.open.items }
         ensures { (k : ℕ) → length self.now.open.items ≡ suc k
             → slice_get self.now.open.items k ≡ Some result }
     {
         match self.open.last() {
             Some(block) => *block,
-            None => 0,
+            None => unreachable!(),
         }
     }
 
     // Takes a `$}` in.
     fn close(&mut self)
-        requires { HasRoom self.old }
+        requires room { HasRoom self.old }
+        requires scopes { CanTake Closing self.old }
         ensures { (statements : List Sentence) (e : Sentence) → HaveScopes statements self.old
             → e.kind ≡ Closing → close_marks statements < open_marks statements
             → HaveScopes (statements ++ e ∷ []) self.new }
@@ -111,7 +114,8 @@ impl Scopes {
 
     // Takes a `${` in.
     fn begin(&mut self)
-        requires { HasRoom self.old }
+        requires room { HasRoom self.old }
+        requires scopes { (statements : List Sentence) × HaveScopes statements self.old }
         ensures { (statements : List Sentence) (e : Sentence) → HaveScopes statements self.old
             → e.kind ≡ Opening → HaveScopes (statements ++ e ∷ []) self.new }
     {
@@ -123,7 +127,8 @@ impl Scopes {
 
     // Takes another statement in.
     fn stay(&mut self)
-        requires { HasRoom self.old }
+        requires room { HasRoom self.old }
+        requires scopes { (statements : List Sentence) × HaveScopes statements self.old }
         ensures { (statements : List Sentence) (e : Sentence) → HaveScopes statements self.old
             → ¬ (e.kind ≡ Opening) → ¬ (e.kind ≡ Closing)
             → HaveScopes (statements ++ e ∷ []) self.new }
@@ -134,7 +139,8 @@ impl Scopes {
 
     /// Takes a statement in.
     pub(crate) fn push(&mut self, kind: Kind)
-        requires { HasRoom self.old }
+        requires room { HasRoom self.old }
+        requires scopes { CanTake kind self.old }
         ensures { (statements : List Sentence) (e : Sentence) → HaveScopes statements self.old
             → e.kind ≡ kind → (kind ≡ Closing → close_marks statements < open_marks statements)
             → HaveScopes (statements ++ e ∷ []) self.new }

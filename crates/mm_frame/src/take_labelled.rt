@@ -11,6 +11,7 @@ ghost use Rattle.mm_frame.specs.Numbers.{AreNumbers};
 ghost use Rattle.mm_frame.specs.Taken.{TakenAs};
 ghost use Rattle.mm_frame.specs.Mirror.Layout.{AreTables, statements_of};
 ghost use Rattle.mm_frame.specs.Mirror.Grows.{Grows, IsSame};
+ghost use Rattle.mm_frame.specs.Mirror.ScopesOf.{CanTake};
 ghost use Rattle.mm_frame.specs.Mirror.Naming.{Named, HaveNameRoom, part_after};
 
 use crate::answer::Taken;
@@ -63,6 +64,7 @@ impl<'a> Tables<'a> {
         bytes: u64,
     ) -> LabelId
         requires room { HaveNameRoom self.old (length numbers.now) }
+        requires scopes { CanTake kind self.old.scopes }
         requires labels { length self.old.labels.names + 1 < 4294967296 }
         requires few { self.old.bytes + bytes ≤ 1073741824 }
         ensures id { result.0 ≡ length self.old.labels.names }

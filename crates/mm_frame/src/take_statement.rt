@@ -14,7 +14,7 @@ ghost use Rattle.mm_frame.specs.Taken.{TakenAs};
 ghost use Rattle.mm_frame.specs.Mirror.Layout.{AreTables, statements_of};
 ghost use Rattle.mm_frame.specs.Mirror.Sought.{HasNumbers};
 ghost use Rattle.mm_frame.specs.Mirror.Grows.{Grows, IsSame, SameLists, HaveRoom, Entered};
-ghost use Rattle.mm_frame.specs.Mirror.ScopesOf.{HaveScopes, HasRoom};
+ghost use Rattle.mm_frame.specs.Mirror.ScopesOf.{HaveScopes, CanTake, HasRoom};
 ghost use Rattle.mm_frame.specs.Mirror.Forgotten.{AreForgotten};
 ghost use Rattle.mm_frame.specs.declared.scopes.TheConstants.{NEVER};
 ghost use Rattle.mm_frame.specs.Form.{IsFormedSentence};
@@ -48,7 +48,8 @@ impl<'a> Tables<'a> {
 
     // Writes the entry of a statement whose symbols stand at the end of the list of symbols.
     pub(crate) fn enter(&mut self, kind: Kind, label: Option<LabelId>, start: u32, bytes: u64)
-        requires scopes { HasRoom self.old.scopes }
+        requires room { HasRoom self.old.scopes }
+        requires scopes { CanTake kind self.old.scopes }
         requires symbols { length self.old.flat.items < 4294967296 }
         requires log { vec_len self.old.log < vec_capacity self.old.log }
         requires few { self.old.bytes + bytes ≤ 1073741824 }
@@ -196,6 +197,7 @@ impl<'a> Tables<'a> {
 
 // Whether the last of some places is active, if there is one.
 fn is_last_active(places: &[usize], scopes: &Scopes, at: usize) -> bool
+    requires { (statements : List Sentence) × HaveScopes statements scopes.now }
     ensures { (statements : List Sentence) (k p : ℕ) → HaveScopes statements scopes.now
         → length statements ≤ NEVER → at ≡ length statements → length places.now ≡ suc k
         → slice_get places.now k ≡ Some p → p < at → (IsTrue result ↔ IsActive statements p) }
@@ -208,6 +210,7 @@ fn is_last_active(places: &[usize], scopes: &Scopes, at: usize) -> bool
 
 // Drops the places at the end of their list that aren't active.
 fn forget_inactive(places: &mut Vec<usize>, scopes: &Scopes, at: usize)
+    requires { (statements : List Sentence) × HaveScopes statements scopes.now }
     ensures { (statements : List Sentence) → HaveScopes statements scopes.now
         → length statements ≤ NEVER → at ≡ length statements
         → ((i p : ℕ) → slice_get places.old.items i ≡ Some p → p < at)

@@ -7,9 +7,10 @@ pub returns-in-Some-at_place : goal.returns-in-Some-at_place
 returns-in-Some-at_place c st a small lt le =
     active_by_end NEVER st _ _ _ c.args.place c.args.at c.in-Some.block c.in-Some-at_place.end (search rules) (search rules) a small lt le
 
-pub returns-in-None-at_place : goal.returns-in-None-at_place
-returns-in-None-at_place c st a small lt le =
-    absurd (no_end NEVER st _ _ _ c.args.place c.args.at c.in-Some.block (search rules) (search rules) a lt le)
+pub unreachable-requires : goal.unreachable-requires
+unreachable-requires c =
+    let (st, a) = c.requires in
+    no_end NEVER st _ _ _ c.args.place c.in-Some.block (search rules) (search rules) a
 
 pub returns-in-None : goal.returns-in-None
 returns-in-None c st a small lt le =

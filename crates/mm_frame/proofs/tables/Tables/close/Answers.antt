@@ -1,10 +1,20 @@
-use Rattle.std.proofs.Common.{refl, ◌∙◌, arith}
+use Rattle.std.proofs.Common.{refl, ◌∙◌, [], ◌∷◌, ◌++◌, None, arith}
 use Rattle.mm_text.specs.declared.statement.Kind.TheVariants.{Closing}
-use Rattle.mm_frame.proofs.Blocks.{adds_block, close_grows, closing_left, same_on_err}
+use Rattle.mm_frame.specs.Sentence.{Sentence}
+use Rattle.mm_frame.specs.Mirror.Layout.{statements_of}
+use Rattle.mm_frame.proofs.Blocks.{adds_block, close_grows, closing_left, same_on_err, same_scopes}
 use Rattle.mm_frame.proofs.tables.Tables.close.Goals as goal
 
 pub returns-in_err-reserve-clause-err : goal.returns-in_err-reserve-clause-err
 returns-in_err-reserve-clause-err c = same_on_err _ c.args.self.now c.reserve.new.self c.requires.tables c.reserve.ensures.same
+
+pub forget_inactive-requires : goal.forget_inactive-requires
+forget_inactive-requires c =
+    let t = c.args.self.now in
+    let st = statements_of t in
+    let s : Sentence = record { kind = Closing; label = None; symbols = [] } in
+    let held = same_scopes t c.reserve.new.self st c.reserve.ensures.same c.requires.tables.scopes in
+    (st ++ s ∷ [], c.enter.ensures.scopes st s held refl (λ is. c.requires.closes))
 
 pub returns-clause-ok : goal.returns-clause-ok
 returns-clause-ok c = (
