@@ -1,14 +1,16 @@
 -- The symbols of a statement by their numbers.
-use Rattle.std.proofs.Common.{◌≡◌, ℕ, suc, ◌<◌, ◌≤◌, length, List, [], ◌∷◌, map, Option, Some, None, unwrap_or, slice_range, refl, sym, ap, ◌∙◌, subst}
+use Rattle.std.proofs.Common.{◌≡◌, ℕ, suc, ◌<◌, ◌≤◌, length, List, [], ◌∷◌, map, Option, Some, None, unwrap_or, slice_range, refl, sym, ap, ◌∙◌, subst, arith}
 use Rattle.std.specs.List.{slice_get}
+use Rattle.std.proofs.lemmas.Option.{slice_get_within}
 use Rattle.std.specs.Option.{MatchOption, option_map}
 use Rattle.mm_frame.specs.declared.number.Sym.{Sym}
 use Rattle.mm_frame.specs.declared.tables.Entry.{Entry}
+use Rattle.mm_frame.specs.declared.tables.Tables.{Tables}
 use Rattle.mm_frame.specs.Sentence.{Sentence, SomeSentence, Types}
 use Rattle.mm_frame.specs.Numbers.{symbols_of, AreNumbers}
-use Rattle.mm_frame.specs.Mirror.Layout.{names_by, sentences_by, sentence_by, AreEntries, GivesType}
+use Rattle.mm_frame.specs.Mirror.Layout.{names_by, sentences_by, sentence_by, statements_of, AreEntries, GivesType}
 use Rattle.mm_frame.specs.Mirror.Latest.{IsLatest}
-use Rattle.mm_frame.proofs.Entries.{sentence_at, entry_at, get_sliced}
+use Rattle.mm_frame.proofs.Entries.{sentence_at, get_sliced, length-sentences}
 use Rattle.mm_text.proofs.Lists.{get_within}
 
 -- numbers within are those of their names
@@ -73,12 +75,12 @@ no_first st numbers x p latest numbered first =
     absurd (cc)
 
 -- there is an entry for each statement
-pub no_entry : (symbols labels : List (List ℕ)) (flat : List Sym) (log : List Entry) (place : ℕ) (s : Sentence)
-    → slice_get log place ≡ None → slice_get (sentences_by symbols labels flat log) place ≡ Some s → ⊥
-no_entry symbols labels flat log place s none said =
-    let (e, there, is) = entry_at symbols labels flat log place s said in
-    let bad : None ≡ Some e = sym none ∙ there in
-    absurd (cc)
+pub entry_within : (t : Tables) (place : ℕ) (s : Sentence)
+    → slice_get (statements_of t) place ≡ Some s → place < length t.log.items
+entry_within t place s said =
+    let lt = slice_get_within (statements_of t) place s said in
+    let all = length-sentences t.symbols.names t.labels.names t.flat.items t.log.items in
+    omega arith
 
 -- what a text's look-up is, by its bytes
 pub code_match : {T : Type 0} (f : T → List ℕ) (N : Type 0) (P : List ℕ → Type 0) (o : Option T) → (code : List ℕ) × (option_map f o ≡ Some code) × P code → MatchOption o N (λ t. P (f t))

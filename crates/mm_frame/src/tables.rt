@@ -1,6 +1,6 @@
 //! The lists in which a book keeps its statements by numbers.
 
-ghost use Rattle.std.specs.Prelude.{◌≡◌, [], ◌∷◌, Some, map, slice_get};
+ghost use Rattle.std.specs.Prelude.{◌≡◌, ◌<◌, [], ◌∷◌, Some, map, slice_get, length};
 ghost use Rattle.mm_frame.specs.declared.tables.Tables.{Tables};
 ghost use Rattle.mm_frame.specs.Sentence.{Sentence};
 ghost use Rattle.mm_frame.specs.Numbers.{AreNumbers};
@@ -54,13 +54,14 @@ pub(crate) struct LabelInfo {
 
 /// The symbols of the statement at a place, by the statements and the symbols of a book.
 pub(crate) fn symbols_in<'b>(log: &[Entry], flat: &'b [Sym], place: usize) -> &'b [Sym]
+    requires { place < length log.now }
     ensures { (t : Tables) (s : Sentence) → AreTables t → t.log.items ≡ log.now
         → t.flat.items ≡ flat.now → slice_get (statements_of t) place ≡ Some s
         → AreNumbers (statements_of t) (map (λ n. n.0) result.now) s.symbols }
 {
     match at(log, place) {
         Some(entry) => part_of(flat, entry.symbols),
-        None => &[],
+        None => unreachable!(),
     }
 }
 
@@ -169,7 +170,8 @@ impl<'a> Tables<'a> {
 
     /// The symbols of the statement at a place.
     pub(crate) fn symbols_at(&self, place: usize) -> &[Sym]
-        requires { AreTables self.now }
+        requires tables { AreTables self.now }
+        requires within { place < length self.now.log.items }
         ensures { (s : Sentence) → slice_get (statements_of self.now) place ≡ Some s
             → AreNumbers (statements_of self.now) (map (λ n. n.0) result.now) s.symbols }
     {

@@ -1,9 +1,16 @@
 use Rattle.std.proofs.Common.{rules}
 use Rattle.mm_frame.specs.Sentence.{SomeSentence, Types}
 use Rattle.mm_frame.specs.Mirror.Layout.{statements_of}
-use Rattle.mm_frame.proofs.SymbolsAt.{latest_code_says, no_first, code_match}
+use Rattle.mm_frame.proofs.SymbolsAt.{entry_within, latest_code_says, no_first, code_match}
 use Rattle.mm_frame.proofs.LookupLaws.{untyped, known_latest}
 use Rattle.mm_frame.proofs.lookups.latest_code.Goals as goal
+
+pub symbols_at-requires-clause-within : goal.symbols_at-requires-clause-within
+symbols_at-requires-clause-within c =
+    let t = c.args.tables.now in
+    let latest = known_latest (statements_of t) c.args.variable.now c.in-Some.info
+    c.in-Some-floating.place (rw c.in-Some.is at c.symbol_info.ensures) c.in-Some-floating.is in
+    entry_within t c.in-Some-floating.place latest.statement latest.there
 
 pub returns-in-Some-at : goal.returns-in-Some-at
 returns-in-Some-at c =

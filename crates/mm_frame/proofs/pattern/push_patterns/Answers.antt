@@ -5,6 +5,7 @@ use Rattle.mm_frame.specs.declared.part.Part.{Part}
 use Rattle.mm_frame.specs.Mirror.Patterned.{IsLonger, HaveFirstPatterns, AreNoted}
 use Rattle.std.proofs.lemmas.Option.{slice_get-get_or}
 use Rattle.mm_frame.specs.Mirror.Layout.{statements_of}
+use Rattle.mm_frame.proofs.Entries.{length-sentences}
 use Rattle.mm_text.proofs.Lists.{get_within}
 use Rattle.mm_frame.proofs.Patterned.{longer_none, longer_more, first_none, counted, essential_step, typed_step, variables_same, few_hypotheses}
 use Rattle.mm_frame.proofs.pattern.push_patterns.Goals as goal
@@ -58,6 +59,14 @@ is_essential-requires c =
     let have = c.loop-i.invariant.patterned t of in
     let lt = counted t _ _ c.args.places.now c.args.hypotheses.now.items c.loop-i.hypotheses.items c.loop-i.i of have.same c.loop-i-test.true in
     rw c.deref.ensures.value lt
+
+pub symbols_in-requires : goal.symbols_in-requires
+symbols_in-requires c =
+    let (t, of) = c.requires.mandatory in
+    let there = slice_get-get_or c.args.places.now c.loop-i.i 0 c.loop-i-test.true in
+    let within = of.are_places.within c.loop-i.i _ there in
+    let all = length-sentences t.symbols.names t.labels.names t.flat.items t.log.items in
+    omega (arith, ap length of.log_is)
 
 pub push_pattern-requires-clause-few : goal.push_pattern-requires-clause-few
 push_pattern-requires-clause-few c =
