@@ -6,10 +6,10 @@ use Rattle.mm_proof.specs.Tree.{Trees, none, tree, AnyExpression}
 use Rattle.mm_proof.specs.Moves.{Move, name, Makes}
 use Rattle.mm_proof.specs.Tokens.{IsNormal, SayMoves}
 use Rattle.mm_proof.specs.Proof.{IsWithin, IsWhole, Prove, IsProvedWithin}
-use Rattle.mm_proof.specs.Laws.{OneWord, ProveByWord, ByWord, IsSpelledWithin, BySpelling}
-use Rattle.mm_proof.proofs.Making.{derive_fits, fit_makes}
+use Rattle.mm_proof.specs.Laws.{OneWord, MadeByWord, ProveByWord, ByWord, IsSpelledWithin, BySpelling}
+use Rattle.mm_proof.proofs.Making.{makes_once, derive_fits, fit_makes}
 use Rattle.mm_proof.proofs.SaidMoves.{normal_or_compressed}
-use Rattle.mm_proof.proofs.Expanded.{names_spell, made_word, made_of_word, one_word}
+use Rattle.mm_proof.proofs.Expanded.{names_spell, made_words, made_word, made_of_word, one_word}
 
 pub by_word_for : (Fits : List (List ℕ) → Type 0) (before : List Sentence) (s : Sentence) (moves : List (Move (List ℕ))) → AllMeant before → Prove Fits before s moves ↔ ProveByWord Fits before s moves
 by_word_for Fits before s moves all = (
@@ -20,6 +20,14 @@ by_word_for Fits before s moves all = (
 
 pub one_word_holds : OneWord
 one_word_holds before moves v w all p q = one_word before moves v w all p q
+
+pub made_by_word_holds : MadeByWord
+made_by_word_holds before moves trees = (
+  λ kept m. let w = made_words before moves none trees [] kept tt tt m in (w.fit, w.expands),
+  λ all fit word.
+      let m = made_of_word before moves trees all fit word in
+      (m.0, m.1, λ others more other. makes_once before moves none others trees [] more m.0 all other m.1),
+)
 
 pub by_word_holds : ByWord
 by_word_holds = (by_word_for AnyExpression, λ limit. by_word_for (IsWithin limit))

@@ -48,7 +48,7 @@ pub record HasWords (before : List Sentence) (moves : List (Move (List ℕ))) (a
   pub expands : Expands before moves (spelling a) (map spelling k) (spelling b) (map spelling l)
   pub fit : Fit before b
 
-made_words : (before : List Sentence) (moves : List (Move (List ℕ))) (a b : Trees) (k l : List Trees) → Fit before a → AllByRecursion (IsFitTree before) k → Makes before moves a k b l
+pub made_words : (before : List Sentence) (moves : List (Move (List ℕ))) (a b : Trees) (k l : List Trees) → Fit before a → AllByRecursion (IsFitTree before) k → Makes before moves a k b l
     → HasWords before moves a b k l
 made_words before [] a b k l f g m =
     record { expands = (ap spelling m.0, ap (λ (x : List Trees). map spelling x) m.1); fit = subst (Fit before) (sym m.0) f }

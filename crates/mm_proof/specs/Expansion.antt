@@ -1,6 +1,6 @@
 -- The word of a proof's moves: its labels, with the word of a kept tree in place of each tag (the
--- Metamath book, sections 4.1.4 and 4.3, appendix B). Nothing of the definitions of what is proved
--- rests on it: a law says how they are tied to it.
+-- Metamath book, sections 4.1.4, 4.3 and 4.4.3, appendix B). Nothing of the definitions of what is
+-- proved rests on it: laws say how they are tied to it.
 use Rattle.std.specs.Prelude.{◌≡◌, ℕ, List, [], ◌∷◌, ◌++◌, slice_get, Some}
 use Rattle.mm_frame.specs.Sentence.{Sentence}
 use Rattle.mm_proof.specs.Tree.{Trees, none, tree, spelling, Fit}

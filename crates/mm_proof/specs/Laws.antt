@@ -1,14 +1,17 @@
--- Laws of verdicts on proofs, after statements that break no rule of meaning.
-use Rattle.std.specs.Prelude.{◌≡◌, ℕ, ◌+◌, ◌≤◌, List, [], ◌∷◌, ◌++◌, count_by, not, ◌⊎◌, ◌↔◌}
+-- Laws of verdicts on proofs, after statements that break no rule of meaning. The proofs are those
+-- of the Metamath book, sections 4.1.4, 4.3 and 4.4.3 and appendix B; the names of rules, the limit
+-- and the laws are this project's own.
+use Rattle.std.specs.Prelude.{◌≡◌, ℕ, ◌+◌, ◌≤◌, List, [], ◌∷◌, ◌++◌, map, count_by, not}
+use Rattle.std.specs.Prelude.{◌⊎◌, ◌↔◌}
 use Rattle.mm_frame.specs.Sentence.{Sentence}
 use Rattle.mm_frame.specs.Rules.{AllMeant}
 use Rattle.mm_frame.specs.Form.{AllFormed}
 use Rattle.mm_proof.specs.declared.fault.ProofRule.{ProofRule}
 use Rattle.mm_proof.specs.declared.fault.ProofRule.TheVariants.{P6, P7, L1}
 use Rattle.mm_proof.specs.Tree.{Trees, none, tree, spelling, Fit, DeriveAll, AnyExpression}
-use Rattle.mm_proof.specs.Moves.{Move, again, mark, is_step, steps_in}
+use Rattle.mm_proof.specs.Moves.{Move, again, mark, is_step, steps_in, Makes}
 use Rattle.mm_proof.specs.Tokens.{IsNormal}
-use Rattle.mm_proof.specs.Expansion.{IsWord}
+use Rattle.mm_proof.specs.Expansion.{Expands, IsWord}
 use Rattle.mm_proof.specs.Proof.{IsWithin, IsWhole, Prove, IsProvedWithin, IsProved, IsFault}
 use Rattle.mm_proof.specs.Proof.{Passed, IsMovesFault}
 
@@ -58,6 +61,19 @@ abbrev pub OneWord : Type 0
 OneWord =
     (before : List Sentence) (moves : List (Move (List ℕ))) (v w : List (List ℕ)) → AllMeant before
     → IsWord before moves v → IsWord before moves w → v ≡ w
+
+-- Moves that make trees have a word, the spelling of these trees, which fit; and the words that they
+-- keep are the spellings of the kept trees. Trees that fit and that the word of the moves spells are
+-- the trees that the moves make, and they make no others.
+abbrev pub MadeByWord : Type 0
+MadeByWord =
+    (before : List Sentence) (moves : List (Move (List ℕ))) (trees : Trees)
+    → ((kept : List Trees) → Makes before moves none [] trees kept
+    → Fit before trees × Expands before moves [] [] (spelling trees) (map spelling kept))
+    × (AllMeant before → Fit before trees → IsWord before moves (spelling trees)
+    → (kept : List Trees) × Makes before moves none [] trees kept
+    × ((others : Trees) (more : List Trees) → Makes before moves none [] others more
+    → (others ≡ trees) × (more ≡ kept)))
 
 -- the moves have a word, which spells one tree; and this tree derives the statement's expression
 pub record ProveByWord (Fits : List (List ℕ) → Type 0) (before : List Sentence) (s : Sentence)

@@ -1,5 +1,5 @@
 -- The listing of a proof: what each step is called, and what it puts on the stack (the Metamath
--- book, sections 4.1.4 and 4.3, appendix B).
+-- book, sections 4.1.4, 4.3 and 4.4.3, appendix B).
 use Rattle.std.specs.Prelude.{◌≡◌, ℕ, ◌+◌, List, [], ◌∷◌, ◌++◌, length, take, slice_get, Some, true}
 use Rattle.std.specs.List.{AllZip}
 use Rattle.mm_frame.specs.Sentence.{Sentence, IsLabelled}

@@ -1,5 +1,5 @@
--- The moves of a proof, and the trees that they make (the Metamath book, sections 4.1.4 and 4.3,
--- appendix B).
+-- The moves of a proof, and the trees that they make (the Metamath book, sections 4.1.4, 4.3 and
+-- 4.4.3, appendix B).
 use Rattle.std.specs.Prelude.{◌≡◌, ℕ, List, [], ◌∷◌, ◌++◌, slice_get, count_by, Bool, true, false}
 use Rattle.std.specs.Prelude.{Some}
 use Rattle.mm_frame.specs.Sentence.{Sentence}

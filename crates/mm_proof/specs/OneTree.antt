@@ -1,4 +1,5 @@
--- That moves make one tree, and that two lists of moves make the same.
+-- That moves make one tree, and that two lists of moves make the same. Moves are those of proofs
+-- (the Metamath book, sections 4.3 and 4.4.3, appendix B); what is the same is this project's own.
 use Rattle.std.specs.Prelude.{ℕ, List, []}
 use Rattle.mm_frame.specs.Sentence.{Sentence}
 use Rattle.mm_proof.specs.Tree.{Trees, none, tree}

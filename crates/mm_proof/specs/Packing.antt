@@ -1,4 +1,5 @@
--- The fully shared proof of the tree that moves make, by the numbers of its labels.
+-- The fully shared proof of the tree that moves make, by the numbers of its labels: this project's
+-- own, of compressed proofs (the Metamath book, section 4.4.3 and appendix B).
 use Rattle.std.specs.Prelude.{ℕ, List, take}
 use Rattle.mm_code.specs.declared.code.Code.{Code}
 use Rattle.mm_frame.specs.declared.number.LabelId.{LabelId}

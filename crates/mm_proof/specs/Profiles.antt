@@ -1,4 +1,4 @@
--- What a profile allows.
+-- What a profile allows: this project's own.
 use Rattle.std.specs.Prelude.{ℕ}
 use Rattle.mm_proof.specs.declared.profile.Profile.{Profile}
 use Rattle.mm_proof.specs.declared.profile.Profile.TheVariants.{Strict, Lenient}

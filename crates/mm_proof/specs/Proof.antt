@@ -1,5 +1,5 @@
--- When a `$p` is proved, and the first fault of a proof (the Metamath book, sections 4.1.4 and 4.3,
--- appendix B).
+-- When a `$p` is proved, and the first fault of a proof (the Metamath book, sections 4.1.4, 4.3 and
+-- 4.4.3, appendix B).
 use Rattle.std.specs.Prelude.{◌≡◌, ◌≢◌, ℕ, ◌+◌, ◌<◌, ◌≤◌, List, [], ◌∷◌, ◌++◌, take, drop, length}
 use Rattle.std.specs.Prelude.{slice_get, Contains, Option, Some, ◌⊎◌}
 use Rattle.std.specs.List.{AllZip}

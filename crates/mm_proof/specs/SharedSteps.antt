@@ -25,7 +25,7 @@ Careful made (makes t ∷ v) = ¬ (IsBig t × In made t) × Careful (t ∷ made)
 Careful made (repeats t ∷ v) = (IsBig t × In made t) × Careful made v
 Careful made (keeps t ∷ v) = Careful made v
 
--- what was made after the steps
+-- what is made before the steps or by them
 abbrev pub after : List Trees → List Visit → List Trees
 after made [] = made
 after made (makes t ∷ v) = after (t ∷ made) v

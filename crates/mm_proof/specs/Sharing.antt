@@ -1,4 +1,6 @@
 -- Fully shared proofs: compressed proofs that make each subtree of two or more nodes once.
+-- Compressed proofs are those of the Metamath book, section 4.4.3 and appendix B; which of them are
+-- fully shared is this project's own.
 use Rattle.std.specs.Prelude.{◌≡◌, ℕ, ◌+◌, ◌<◌, List, [], ◌∷◌, ◌++◌, length, map, slice_get}
 use Rattle.std.specs.Prelude.{count_by, Contains, Bool, true, false, Some, ◌⊎◌}
 use Rattle.std.specs.List.{AllZip}
@@ -39,7 +41,7 @@ pub record PairMakes (before : List Sentence) (s : Sentence) (trees : Trees)
   pub kept : List Trees
   pub made : Makes before moves none [] trees kept
 
--- no two steps by labels make one tree of two or more nodes
+-- no two steps by labels make the same tree of two or more nodes
 abbrev pub MakeOnce : List Visit → Type 0
 MakeOnce list =
     (i j : ℕ) (t : Trees) → IsBig t → slice_get list i ≡ Some (makes t)

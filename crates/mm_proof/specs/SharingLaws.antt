@@ -1,4 +1,4 @@
--- Laws of fully shared proofs, after statements that break no rule of meaning.
+-- Laws of fully shared proofs, after statements that break no rule of meaning: this project's own.
 use Rattle.std.specs.Prelude.{◌≡◌, ℕ, ◌+◌, ◌≤◌, List, [], sum_by, Contains, ◌↔◌}
 use Rattle.mm_code.specs.declared.code.Code.{Code}
 use Rattle.mm_frame.specs.Sentence.{Sentence}

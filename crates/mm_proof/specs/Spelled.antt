@@ -1,4 +1,5 @@
--- The labels that the moves of a proof spell, by their numbers.
+-- The labels that the moves of a proof spell, by their numbers. The labels are those of a normal
+-- proof (the Metamath book, section 4.3); the numbers are this project's own.
 use Rattle.std.specs.Prelude.{◌≡◌, ℕ, List, slice_get, Some}
 use Rattle.std.specs.List.{AllZip}
 use Rattle.mm_frame.specs.declared.number.LabelId.{LabelId}

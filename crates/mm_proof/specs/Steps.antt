@@ -1,4 +1,5 @@
--- The moves of a proof with numbers for its labels.
+-- The moves of a proof with numbers for its labels. The moves are those of the Metamath book,
+-- sections 4.3 and 4.4.3 and appendix B; the numbers are this project's own.
 use Rattle.std.specs.Prelude.{◌≡◌, ℕ, List, take, slice_get, Some, ◌⊎◌}
 use Rattle.std.specs.List.{AllZip, AllByRecursion}
 use Rattle.mm_text.specs.declared.statement.Kind.TheVariants.{Provable}

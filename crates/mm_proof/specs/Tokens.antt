@@ -1,4 +1,5 @@
--- The moves that the tokens of a proof say (the Metamath book, sections 4.1.4 and 4.3, appendix B).
+-- The moves that the tokens of a proof say (the Metamath book, sections 4.1.4, 4.3, 4.4.3 and
+-- 4.4.4, appendix B).
 use Rattle.std.specs.Prelude.{◌≡◌, ◌≢◌, ℕ, ◌+◌, List, [], ◌∷◌, ◌++◌, length, map, slice_get}
 use Rattle.std.specs.Prelude.{Contains, Some, ◌⊎◌}
 use Rattle.std.specs.List.{flat_map, AllZip}

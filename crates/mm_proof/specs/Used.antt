@@ -1,4 +1,5 @@
--- The assertions that a tree uses.
+-- The assertions that a tree uses. Trees are those of proofs (the Metamath book, sections 4.1.4 and
+-- 4.3); the list is this project's own.
 use Rattle.std.specs.Prelude.{◌≡◌, ℕ, ◌<◌, List, slice_get, Contains, Some, ◌↔◌}
 use Rattle.mm_frame.specs.Sentence.{Sentence, IsAssertion, IsLabelled}
 use Rattle.mm_frame.specs.Numbers.{IsNumbered}

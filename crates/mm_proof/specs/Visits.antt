@@ -1,4 +1,5 @@
--- What each move of a proof does.
+-- What each move of a proof does with a tree (the Metamath book, sections 4.3 and 4.4.3,
+-- appendix B).
 use Rattle.std.specs.Prelude.{ℕ, List, [], ◌∷◌}
 use Rattle.mm_frame.specs.Sentence.{Sentence}
 use Rattle.mm_proof.specs.Tree.{Trees, none, tree}

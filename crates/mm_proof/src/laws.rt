@@ -1,6 +1,6 @@
 //! Laws of verdicts on proofs. The functions do nothing: their contracts are the laws.
 
-ghost use Rattle.mm_proof.specs.Laws.{OneFit, OneTree, OneWord, ByWord, BySpelling};
+ghost use Rattle.mm_proof.specs.Laws.{OneFit, OneTree, OneWord, MadeByWord, ByWord, BySpelling};
 ghost use Rattle.mm_proof.specs.Laws.{SomeProofVerdict, OneProofVerdict, LimitsAside};
 ghost use Rattle.mm_proof.specs.Laws.{MarkBeforeAnyStep, TagOverMarks};
 ghost use Rattle.mm_proof.specs.SharingLaws.{OnePacked, SomePacked};
@@ -31,6 +31,17 @@ pub fn one_tree()
 /// that fits.
 pub fn one_word()
     ensures { OneWord }
+{}
+
+/// What moves make is told by their word.
+///
+/// The moves of a proof that make trees have a word, the labels that these trees spell, and each
+/// kept tree spells the word that stands in place of its tag. After statements that break no rule
+/// of meaning, trees that fit and that the word spells are those that the moves make, and they make
+/// no others. So the tree of a compressed proof is that of its labels with each tag written out
+/// (the Metamath book, section 4.4.3 and appendix B).
+pub fn made_by_word()
+    ensures { MadeByWord }
 {}
 
 /// What is proved is told by a word.

@@ -39,8 +39,8 @@ pub use expansion::expand;
 pub use fault::{ExpandFault, ProofFault, ProofRule};
 pub use flat::Flat;
 pub use laws::{
-    by_spelling, by_word, fewest_steps, limits_aside, mark_before_any_step, one_fit, one_packed,
-    one_tree, one_verdict, one_word, some_packed, some_verdict, steps_make_children,
+    by_spelling, by_word, fewest_steps, limits_aside, made_by_word, mark_before_any_step, one_fit,
+    one_packed, one_tree, one_verdict, one_word, some_packed, some_verdict, steps_make_children,
     tag_over_marks, told_by_packed,
 };
 pub use lines::{Line, Name, listing};
