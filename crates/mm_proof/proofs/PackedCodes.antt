@@ -17,10 +17,10 @@ use Rattle.mm_proof.specs.Tokens.{Says}
 use Rattle.mm_proof.specs.Visits.{Visit, makes, repeats, keeps, visit, visits}
 use Rattle.mm_proof.specs.Spelled.{IsLabelNumber}
 use Rattle.mm_proof.specs.Subtrees.{AreOnce, IsTreeOf, IsSubtreeOf}
-use Rattle.mm_proof.specs.CodeSharing.{Adds, IsStepOf, labels_made, IsEncoded, AreEncoded}
+use Rattle.mm_proof.specs.CodeSharing.{Adds, IsStepOf, IsEncoded, AreEncoded}
 use Rattle.mm_proof.proofs.Places.{get_append}
 use Rattle.mm_proof.proofs.Derived.{zip_left, zip_right, zip_push}
-use Rattle.mm_proof.proofs.Members.{In, Once, once_places, get_in, in_contains}
+use Rattle.mm_proof.proofs.Members.{In, Once, once_places}
 use Rattle.mm_proof.proofs.Tidy.{Marked}
 use Rattle.mm_proof.proofs.SharedOnce.{kept_stays}
 use Rattle.mm_proof.proofs.LedMoves.{Led}
@@ -193,7 +193,7 @@ made_tagged st before rows labels tagged next kept last end rest w t label below
 -- a step that repeats a tree
 repeated_one : (st before : List Sentence) (rows : List Row) (many : ℕ) (labels : List (List ℕ)) (tagged next : List Subtree) (kept : List Trees) (last : Trees) (end : List Trees) (rest w : List Visit)
     (t : Subtree) (label : List ℕ) (below : Trees) (place : ℕ) (here others codes : List Code) (moves : List (Move (List ℕ))) (row : Trees) → AllMeant st → AreOnce rows → many ≡ length labels → IsTreeOf st rows t label below → Once end
-    → w ≡ repeats (tree label below none) ∷ rest → (Contains tagged t → slice_get tagged place ≡ Some t) → here ≡ Number (many + place + 1) ∷ [] → codes ≡ here ++ others → next ≡ tagged
+    → w ≡ repeats (tree label below none) ∷ rest → slice_get tagged place ≡ Some t → here ≡ Number (many + place + 1) ∷ [] → codes ≡ here ++ others → next ≡ tagged
     → Led before moves row kept last end w → AreTagged st rows tagged kept → SaidLater st before rows labels next kept last end rest others → AllZip (Says labels) codes moves
 repeated_one st before rows many labels tagged next kept last end rest w t label below place here others codes moves row all rows_once long of once is there one parts same l tags later =
     let tr : Trees = tree label below none in
@@ -201,9 +201,7 @@ repeated_one st before rows many labels tagged next kept last end rest w t label
     let f = led_repeats before moves row kept last end tr rest led in
     let tag : ℕ = f.0 in
     let beside = zip_right (IsSubtreeOf st rows) tagged kept tag tr tags f.1 in
-    let number : beside.0 ≡ t = number_of_tree st rows t beside.0 label below all rows_once of beside.2 in
-    let among : slice_get tagged tag ≡ Some t = beside.1 ∙ ap Some number in
-    let found = zip_left (IsSubtreeOf st rows) tagged kept place t tags (there (in_contains tagged t (get_in tagged tag t among))) in
+    let found = zip_left (IsSubtreeOf st rows) tagged kept place t tags there in
     let again_there : slice_get kept place ≡ Some tr = found.1 ∙ ap Some (tree_of_number st rows t label below found.0 of found.2) in
     let stays : (i : ℕ) (u : Trees) → slice_get kept i ≡ Some u → slice_get end i ≡ Some u = λ i u h. kept_stays before moves row kept last end led.0 i u h in
     let at : place ≡ tag = once_places end place tag tr once (stays place tr again_there) (stays tag tr f.1) in
@@ -216,21 +214,21 @@ pub codes_said : (st before : List Sentence) (rows : List Row) (numbers : List �
     → Whole st rows numbers labels repeated whole end
     → (steps : List SharedStep) (v w : List Visit) (tagged : List Subtree) (kept : List Trees) (codes : List Code) (tagged' : List Subtree) (moves : List (Move (List ℕ))) (row : Trees)
     → AllZip (IsStepOf st rows) steps v → Marked whole v w → Led before moves row kept last end w → AreTagged st rows tagged kept
-    → AreEncoded numbers repeated tagged steps codes tagged' → ((n : ℕ) → In (labels_made steps) n → Contains numbers n) → AllZip (Says labels) codes moves
-codes_said st before rows numbers labels repeated whole last end a [] [] w tagged kept codes tagged' moves row z m l tags e known =
+    → AreEncoded numbers repeated tagged steps codes tagged' → AllZip (Says labels) codes moves
+codes_said st before rows numbers labels repeated whole last end a [] [] w tagged kept codes tagged' moves row z m l tags e =
     let none_left : moves ≡ [] = led_none before moves row kept last end (subst (λ x. Led before moves row kept last end x) m l) in
     subst (λ x. AllZip (Says labels) x moves) (sym e.0) (subst (λ x. AllZip (Says labels) [] x) (sym none_left) tt)
-codes_said st before rows numbers labels repeated whole last end a [] (x ∷ v) w tagged kept codes tagged' moves row z m l tags e known = absurd z
-codes_said st before rows numbers labels repeated whole last end a (s ∷ steps) [] w tagged kept codes tagged' moves row z m l tags e known = absurd z
-codes_said st before rows numbers labels repeated whole last end a (Make t ∷ steps) (x ∷ v) w tagged kept codes tagged' moves row z m l tags e known =
+codes_said st before rows numbers labels repeated whole last end a [] (x ∷ v) w tagged kept codes tagged' moves row z m l tags e = absurd z
+codes_said st before rows numbers labels repeated whole last end a (s ∷ steps) [] w tagged kept codes tagged' moves row z m l tags e = absurd z
+codes_said st before rows numbers labels repeated whole last end a (Make t ∷ steps) (x ∷ v) w tagged kept codes tagged' moves row z m l tags e =
     let o : (label : List ℕ) × (below : Trees) × IsTreeOf st rows t label below × (x ≡ makes (tree label below none)) = z.0 in
     let tr : Trees = tree o.0 o.1 none in
     let here : Marked whole (makes tr ∷ v) w = subst (λ y. Marked whole (y ∷ v) w) o.3 m in
     let i : IsEncoded numbers repeated tagged (Make t) e.0 e.1 = e.4 in
-    let said : Says labels (Number (i.0 + 1)) (name o.0) = label_said st numbers labels t.label i.0 o.0 a.labelled o.2.named (i.1 (known t.label (inl refl))) in
+    let said : Says labels (Number (i.0 + 1)) (name o.0) = label_said st numbers labels t.label i.0 o.0 a.labelled o.2.named i.1 in
     let among = a.repeats_are t o.0 o.1 o.2 in
     let later : (kept' : List Trees) → SaidLater st before rows labels e.1 kept' last end here.0 e.2 = λ kept' moves' row' l' tags'.
-    codes_said st before rows numbers labels repeated whole last end a steps v here.0 e.1 kept' e.2 tagged' moves' row' z.1 here.1 l' tags' e.5 (λ n h. known n (inr h)) in
+    codes_said st before rows numbers labels repeated whole last end a steps v here.0 e.1 kept' e.2 tagged' moves' row' z.1 here.1 l' tags' e.5 in
     ⊎_elim
     (λ p. ⊎_elim
     (λ q. made_tagged st before rows labels tagged e.1 kept last end here.0 w t o.0 o.1 e.0 e.2 codes (Number (i.0 + 1)) moves row said o.2 a.end_once q.1 p.1 e.3 p.2 l tags (later (kept ++ tr ∷ [])))
@@ -239,12 +237,12 @@ codes_said st before rows numbers labels repeated whole last end a (Make t ∷ s
     (λ q. absurd (p.0 (among.1 q.0)))
     (λ q. made_bare st before rows labels tagged e.1 kept last end here.0 w o.0 o.1 e.0 e.2 codes (Number (i.0 + 1)) moves row said q.1 p.1 e.3 p.2 l tags (later kept)) here.2)
     i.2
-codes_said st before rows numbers labels repeated whole last end a (Repeat t ∷ steps) (x ∷ v) w tagged kept codes tagged' moves row z m l tags e known =
+codes_said st before rows numbers labels repeated whole last end a (Repeat t ∷ steps) (x ∷ v) w tagged kept codes tagged' moves row z m l tags e =
     let o : (label : List ℕ) × (below : Trees) × IsTreeOf st rows t label below × (x ≡ repeats (tree label below none)) = z.0 in
     let tr : Trees = tree o.0 o.1 none in
     let here : Marked whole (repeats tr ∷ v) w = subst (λ y. Marked whole (y ∷ v) w) o.3 m in
     let i : IsEncoded numbers repeated tagged (Repeat t) e.0 e.1 = e.4 in
     let later : SaidLater st before rows labels e.1 kept last end here.0 e.2 = λ moves' row' l' tags'.
-    codes_said st before rows numbers labels repeated whole last end a steps v here.0 e.1 kept e.2 tagged' moves' row' z.1 here.1 l' tags' e.5 known in
+    codes_said st before rows numbers labels repeated whole last end a steps v here.0 e.1 kept e.2 tagged' moves' row' z.1 here.1 l' tags' e.5 in
     repeated_one st before rows (length numbers) labels tagged e.1 kept last end here.0 w t o.0 o.1 i.0 e.0 e.2 codes moves row a.meant a.rows_once (sym (AllZip-long (IsLabelNumber st) numbers labels a.labelled)) o.2 a.end_once
     here.2 i.1 i.2 e.3 i.3 l tags later

@@ -1,5 +1,5 @@
 -- The listed labels and the codes of the steps of a tree are its fully shared proof.
-use Rattle.std.proofs.Common.{◌≡◌, ℕ, List, [], ◌∷◌, ◌++◌, map, take, slice_get, Contains, Some, ◌⊎◌, ◌↔◌, inl, inr, ⊎_elim, refl, sym, ap, subst, ◌∙◌}
+use Rattle.std.proofs.Common.{◌≡◌, ℕ, List, [], ◌∷◌, ◌++◌, map, take, slice_get, Contains, Some, ◌↔◌, inl, inr, ⊎_elim, refl, sym, ap, subst, ◌∙◌}
 use Rattle.std.specs.List.{AllZip}
 use Rattle.std.proofs.lemmas.Option.{same_Some}
 use Rattle.mm_code.specs.declared.code.Code.{Code}
@@ -29,7 +29,7 @@ use Rattle.mm_proof.proofs.Derived.{zip_left, zip_right}
 use Rattle.mm_proof.proofs.Expanded.{made_word}
 use Rattle.mm_proof.proofs.Ending.{one_place}
 use Rattle.mm_proof.proofs.Meaning.{meant_front}
-use Rattle.mm_proof.proofs.Members.{In, in_get, get_in, contains_in, in_contains, in_left, in_right, Once, once_places, places_once}
+use Rattle.mm_proof.proofs.Members.{In, in_get, get_in, contains_in, in_contains, Once, once_places, places_once}
 use Rattle.mm_proof.proofs.SaidMoves.{labels_of, mandatory_active}
 use Rattle.mm_proof.proofs.PairOnce.{mandatory_once}
 use Rattle.mm_proof.proofs.SubtreeNumbers.{one_label_of, one_number_of, tree_once, subtree_once}
@@ -110,19 +110,6 @@ named_uses st seen (n ∷ numbers) listed names (l ∷ word) all z y (inr u) =
       first = inr (λ has. u.0 (seen_label st seen names n l all z y.0 has), r.labels, refl, r.first);
     }
 
--- each number was seen or is listed
-number_known : (seen numbers listed : List ℕ) (n : ℕ) → AreFirstNumbers seen numbers listed → In numbers n → In seen n ⊎ In listed n
-number_known seen [] listed n u h = absurd h
-number_known seen (m ∷ numbers) listed n (inl u) (inl e) = inl (subst (In seen) e (contains_in seen m u.0))
-number_known seen (m ∷ numbers) listed n (inl u) (inr h) = number_known seen numbers listed n u.1 h
-number_known seen (m ∷ numbers) listed n (inr u) (inl e) = inr (subst (λ l. In l n) (sym u.2) (inl e))
-number_known seen (m ∷ numbers) listed n (inr u) (inr h) = moved (number_known (m ∷ seen) numbers u.1 n u.3 h)
-  where
-    moved : In (m ∷ seen) n ⊎ In u.1 n → In seen n ⊎ In listed n
-    moved (inl (inl e)) = inr (subst (λ l. In l n) (sym u.2) (inl e))
-    moved (inl (inr old)) = inl old
-    moved (inr k) = inr (subst (λ l. In l n) (sym u.2) (inr k))
-
 -- the labels by which steps make trees
 step_labels : (st : List Sentence) (rows : List Row) (steps : List SharedStep) (v : List Visit) → AllZip (IsStepOf st rows) steps v → AllZip (IsLabelNumber st) (labels_made steps) (labels_in v)
 step_labels st rows [] [] z = tt
@@ -191,10 +178,7 @@ packed_steps st place s rows label below steps hypotheses ids codes all formed o
       labelled = zip_join (IsLabelNumber st) hypotheses (ids_in ids) named.0 uses.labels numbers uses.are;
       repeats_are = repeats_of st rows steps shared.visits packed.repeated all once shared.said packed.each;
       end_once = moves.once;
-    } in
-    let known : (n : ℕ) → In (labels_made steps) n → Contains (hypotheses ++ ids_in ids) n = λ n h.
-    in_contains (hypotheses ++ ids_in ids) n
-    (⊎_elim (λ a. in_left hypotheses (ids_in ids) n a) (λ b. in_right hypotheses (ids_in ids) n b) (number_known hypotheses (labels_made steps) (ids_in ids) n others h)) in (
+    } in (
       uses.labels,
       labels_of_ids st ids uses.labels uses.are,
       record {
@@ -207,7 +191,7 @@ packed_steps st place s rows label below steps hypotheses ids codes all formed o
           each =
               codes_said st before rows (hypotheses ++ ids_in ids) (named.0 ++ uses.labels) packed.repeated shared.visits trees moves.kept whole
               steps shared.visits moves.v [] [] codes packed.kept moves.moves none shared.said moves.marked moves.led tt
-              (subst (λ g. AreEncoded (g ++ ids_in ids) packed.repeated [] steps codes packed.kept) given packed.said) known;
+              (subst (λ g. AreEncoded (g ++ ids_in ids) packed.repeated [] steps codes packed.kept) given packed.said);
         };
         shared = moves.shared;
         uses = spelled_uses trees [] shared.visits named.0 uses.labels (λ t h. absurd h) shared.covers shared.careful uses.first;

@@ -10,15 +10,18 @@ use Rattle.mm_proof.specs.declared.subtrees.Subtree.{Subtree}
 use Rattle.mm_proof.specs.declared.sharing.SharedStep.{SharedStep}
 use Rattle.mm_proof.specs.declared.sharing.SharedStep.TheVariants.{Make, Repeat}
 use Rattle.mm_proof.specs.CodeSteps.{ids_in, label_ids}
-use Rattle.mm_proof.specs.CodeSharing.{Adds, AddsNew, labels_made, AreFirstNumbers, IsEncoded, AreEncoded}
+use Rattle.mm_proof.specs.CodeSharing.{Adds, AddsNew, labels_made, AreFirstNumbers, IsEncoded, AreEncoded, AreMadeBefore}
 use Rattle.mm_proof.proofs.Places.{take_get}
-use Rattle.mm_proof.proofs.Members.{In, contains_in, in_contains, in_left, in_right, in_apart}
+use Rattle.mm_proof.proofs.Members.{In, contains_in, in_contains, get_in, in_left, in_right, in_apart}
 
 -- ---- a front with one more
 
 pub one_more : {X : Type 0} (xs : List X) (i : ℕ) (d x : X) → i < length xs → get_or xs i d ≡ x → take (i + 1) xs ≡ take i xs ++ x ∷ []
 one_more xs i d x less is =
     ap (λ (k : ℕ). take k xs) (let e : i + 1 ≡ suc i = omega arith in e) ∙ take_get xs i x (slice_get-get_or xs i d less ∙ ap Some is)
+
+pub one_there : {X : Type 0} (xs : List X) (i : ℕ) (d x : X) → i < length xs → get_or xs i d ≡ x → Contains xs x
+one_there xs i d x less is = in_contains xs x (get_in xs i x (slice_get-get_or xs i d less ∙ ap Some is))
 
 -- ---- what is added to a list
 
@@ -158,6 +161,37 @@ ids_more ids id = map-append (λ (i : LabelId). i.0) ids (id ∷ [])
 pub label_ids-more : (hypotheses : List Hypothesis) (h : Hypothesis) → label_ids (hypotheses ++ h ∷ []) ≡ label_ids hypotheses ++ h.id.0 ∷ []
 label_ids-more hypotheses h = map-append (λ (i : Hypothesis). i.id.0) hypotheses (h ∷ [])
 
+-- each number was seen or is listed
+pub number_known : (seen numbers listed : List ℕ) (n : ℕ) → AreFirstNumbers seen numbers listed → In numbers n → In seen n ⊎ In listed n
+number_known seen [] listed n u h = absurd h
+number_known seen (m ∷ numbers) listed n (inl u) (inl e) = inl (subst (In seen) e (contains_in seen m u.0))
+number_known seen (m ∷ numbers) listed n (inl u) (inr h) = number_known seen numbers listed n u.1 h
+number_known seen (m ∷ numbers) listed n (inr u) (inl e) = inr (subst (λ l. In l n) (sym u.2) (inl e))
+number_known seen (m ∷ numbers) listed n (inr u) (inr h) = moved (number_known (m ∷ seen) numbers u.1 n u.3 h)
+  where
+    moved : In (m ∷ seen) n ⊎ In u.1 n → In seen n ⊎ In listed n
+    moved (inl (inl e)) = inr (subst (λ l. In l n) (sym u.2) (inl e))
+    moved (inl (inr old)) = inl old
+    moved (inr k) = inr (subst (λ l. In l n) (sym u.2) (inr k))
+
+-- the label of a tree that is made is among those
+made_label : (t u : Subtree) → Make t ≡ Make u → t.label ≡ u.label
+made_label t u e = cc
+
+made_labelled : (steps : List SharedStep) (t : Subtree) → In steps (Make t) → In (labels_made steps) t.label
+made_labelled [] t h = absurd h
+made_labelled (Make u ∷ steps) t (inl e) = inl (made_label u t e)
+made_labelled (Make u ∷ steps) t (inr h) = inr (made_labelled steps t h)
+made_labelled (Repeat u ∷ steps) t (inl e) = absurd (made_or_repeated t u (sym e))
+made_labelled (Repeat u ∷ steps) t (inr h) = made_labelled steps t h
+
+-- so it was known or is listed
+pub label_known : (known listed labels : List ℕ) (steps : List SharedStep) (t : Subtree) → labels ≡ known ++ listed → AreFirstNumbers known (labels_made steps) listed → Contains steps (Make t) → Contains labels t.label
+label_known known listed labels steps t whole first has =
+    let among = number_known known (labels_made steps) listed t.label first (made_labelled steps t (contains_in steps (Make t) has)) in
+    subst (λ l. Contains l t.label) (sym whole)
+    (in_contains (known ++ listed) t.label (⊎_elim (λ a. in_left known listed t.label a) (λ b. in_right known listed t.label b) among))
+
 -- ---- codes
 
 -- one step more
@@ -186,3 +220,45 @@ encoded_next labels repeated steps i d codes codes' kept kept' less few are is =
       (subst (λ c. AreEncoded labels repeated [] (take i steps ++ get_or steps i d ∷ []) c kept') (sym is.1)
       (encoded_more labels repeated [] (take i steps) codes kept (get_or steps i d) is.0 kept' are is.2)),
 )
+
+-- ---- trees that are tagged
+
+-- each tree that was made and is repeated is tagged
+abbrev pub AreTaggedSo : (repeated kept : List Subtree) → List SharedStep → Type 0
+AreTaggedSo repeated kept steps = (t : Subtree) → Contains steps (Make t) → Contains repeated t → Contains kept t
+
+pub tagged_none : (repeated : List Subtree) → AreTaggedSo repeated [] []
+tagged_none repeated t h among = absurd (let less : h.0 < 0 = h.1 in omega arith)
+
+same_made : (t u : Subtree) → Make t ≡ Make u → t ≡ u
+same_made t u e = cc
+
+-- one step more
+tagged_one : (labels : List ℕ) (repeated kept : List Subtree) (steps : List SharedStep) (one : SharedStep) (codes : List Code) (kept' : List Subtree)
+    → AreTaggedSo repeated kept steps → IsEncoded labels repeated kept one codes kept' → AreTaggedSo repeated kept' (steps ++ one ∷ [])
+tagged_one labels repeated kept steps (Repeat u) codes kept' are is t h among =
+    subst (λ k. Contains k t) (sym is.3)
+    (⊎_elim (λ old. are t old among) (λ e. absurd (made_or_repeated t u (sym e))) (Contains-push_cases steps (Repeat u) (Make t) h))
+tagged_one labels repeated kept steps (Make u) codes kept' are is t h among = ⊎_elim
+    (λ p. ⊎_elim
+    (λ old. adds_old kept kept' u t p.2 (are t old among))
+    (λ e. subst (λ x. Contains kept' x) (same_made u t e) (adds_new kept kept' u p.2))
+    (Contains-push_cases steps (Make u) (Make t) h))
+    (λ p. ⊎_elim
+    (λ old. subst (λ k. Contains k t) (sym p.2) (are t old among))
+    (λ e. absurd (p.0 (subst (λ x. Contains repeated x) (sym (same_made u t e)) among)))
+    (Contains-push_cases steps (Make u) (Make t) h))
+    is.2
+
+pub tagged_next : (labels : List ℕ) (repeated : List Subtree) (steps : List SharedStep) (i : ℕ) (d : SharedStep) (codes : List Code) (kept kept' : List Subtree) → i < length steps → AreTaggedSo repeated kept (take i steps)
+    → IsEncoded labels repeated kept (get_or steps i d) codes kept' → AreTaggedSo repeated kept' (take (i + 1) steps)
+tagged_next labels repeated steps i d codes kept kept' less are is =
+    subst (λ s. AreTaggedSo repeated kept' s) (sym (one_more steps i d (get_or steps i d) less refl))
+    (tagged_one labels repeated kept (take i steps) (get_or steps i d) codes kept' are is)
+
+-- a tree that is repeated at a place was tagged before
+pub repeated_tagged : (repeated kept : List Subtree) (steps : List SharedStep) (i : ℕ) (d : SharedStep) (t : Subtree) → i < length steps → AreMadeBefore steps → ((u : Subtree) → Contains steps (Repeat u) → Contains repeated u)
+    → AreTaggedSo repeated kept (take i steps) → get_or steps i d ≡ Repeat t → Contains kept t
+repeated_tagged repeated kept steps i d t less made each are is =
+    let there = slice_get-get_or steps i d less ∙ ap Some is in
+    are t (made i t there) (each t (in_contains steps (Repeat t) (get_in steps i (Repeat t) there)))

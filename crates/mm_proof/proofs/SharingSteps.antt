@@ -1,6 +1,8 @@
 -- The steps so far of a fully shared proof, by the numbers of its subtrees.
-use Rattle.std.proofs.Common.{◌≡◌, ◌≢◌, ℕ, ◌+◌, ◌-◌, ◌≤◌, List, [], ◌∷◌, ◌++◌, length, take, Contains, ◌⊎◌, inl, inr, ⊎_elim, refl, sym, ap, subst, ◌∙◌, arith}
+use Rattle.std.proofs.Common.{◌≡◌, ◌≢◌, ℕ, zero, suc, Some, slice_get, ◌+◌, ◌-◌, ◌≤◌, List, [], ◌∷◌, ◌++◌, length, take, Contains, ◌⊎◌, inl, inr, ⊎_elim, refl, sym, ap, subst, ◌∙◌, arith}
 use Rattle.std.specs.List.{AllZip}
+use Rattle.std.proofs.lemmas.Option.{same_Some, none-some}
+use Rattle.mm_proof.specs.SharedSteps.{Careful}
 use Rattle.std.proofs.lemmas.List.{length-append, take_at, length-take}
 use Rattle.std.proofs.lemmas.List.Elements.{Contains-push, Contains-push_cases, Contains-append_left}
 use Rattle.std.proofs.lemmas.Slice.Zip.{AllZip-long}
@@ -15,10 +17,10 @@ use Rattle.mm_proof.specs.Tree.{Trees, none, tree, beside, roots}
 use Rattle.mm_proof.specs.BigSubtrees.{IsBig}
 use Rattle.mm_proof.specs.Visits.{Visit, makes, repeats}
 use Rattle.mm_proof.specs.Subtrees.{AreOnce, KeepNumbers, IsTreeOf, StandsFor}
-use Rattle.mm_proof.specs.CodeSharing.{IsStepOf, AreSharedSteps, IsRepeat, Shares, Sharing, SharingSteps, ShareSteps}
-use Rattle.mm_proof.proofs.Derived.{zip_push}
+use Rattle.mm_proof.specs.CodeSharing.{IsStepOf, AreSharedSteps, IsRepeat, Shares, Sharing, SharingSteps, ShareSteps, AreMadeBefore}
+use Rattle.mm_proof.proofs.Derived.{zip_left, zip_push}
 use Rattle.mm_proof.proofs.Running.{zip_take}
-use Rattle.mm_proof.proofs.Members.{In}
+use Rattle.mm_proof.proofs.Members.{In, in_contains}
 use Rattle.mm_proof.proofs.Covers.{after, after-append}
 use Rattle.mm_proof.proofs.SubtreeNumbers.{tree_later, tree_once, subtree_once}
 use Rattle.mm_proof.proofs.SubtreeSteps.{subtrees_keep}
@@ -187,6 +189,63 @@ shared_keep first now st stack shelf item rest kept steps label below h = record
 
 pub steps_end : (st : List Sentence) (rows : List Row) (steps : List SharedStep) (keys : List Subtree) (row : Trees) (kept : List Trees) → SharingSteps st rows steps keys row kept → AreSharedSteps st rows row steps
 steps_end st rows steps keys row kept h = record { visits = h.v; said = h.are; covers = h.sharing.covers; careful = h.sharing.careful }
+
+-- ---- what is repeated was made before
+
+same_repeat : (t u : Subtree) → step.Repeat u ≡ step.Repeat t → u ≡ t
+same_repeat t u e = cc
+
+made_or_repeat : (t u : Subtree) → step.Make u ≡ step.Repeat t → ⊥
+made_or_repeat t u e = cc
+
+-- it is one of those that were made, or a step before makes it
+made_before : (st : List Sentence) (rows : List Row) (made : List Trees) (steps : List SharedStep) (v : List Visit) (i : ℕ) (t : Subtree) (label : List ℕ) (below : Trees)
+    → AllMeant st → AreOnce rows → AllZip (IsStepOf st rows) steps v → Careful made v → slice_get steps i ≡ Some (step.Repeat t) → IsTreeOf st rows t label below
+    → In made (tree label below none) ⊎ In (take i steps) (step.Make t)
+made_before st rows made [] v i t label below all once z careful there is = absurd (none-some (step.Repeat t) there)
+made_before st rows made (x ∷ steps) [] i t label below all once z careful there is = absurd z
+made_before st rows made (step.Make u ∷ steps) (w ∷ v) zero t label below all once z careful there is =
+    absurd (made_or_repeat t u (same_Some (step.Make u) (step.Repeat t) there))
+made_before st rows made (step.Make u ∷ steps) (w ∷ v) (suc i) t label below all once z careful there is =
+    let o : (l : List ℕ) × (b : Trees) × IsTreeOf st rows u l b × (w ≡ makes (tree l b none)) = z.0 in
+    let later = subst (λ x. Careful made (x ∷ v)) o.3 careful in
+    moved o.0 o.1 o.2 (made_before st rows (tree o.0 o.1 none ∷ made) steps v i t label below all once z.1 later.1 there is)
+  where
+    same_tree : (l m : List ℕ) (b c : Trees) → tree l b none ≡ tree m c none → (l ≡ m) × (b ≡ c)
+    same_tree l m b c e = (cc, cc)
+
+    moved : (l : List ℕ) (b : Trees) → IsTreeOf st rows u l b → In (tree l b none ∷ made) (tree label below none) ⊎ In (take i steps) (step.Make t)
+        → In made (tree label below none) ⊎ In (step.Make u ∷ take i steps) (step.Make t)
+    moved l b its (inl (inl e)) =
+        let same = same_tree l label b below e in
+        let there = subst (λ x. IsTreeOf st rows u label x) same.1 (subst (λ x. IsTreeOf st rows u x b) same.0 its) in
+        inr (inl (ap step.Make (subtree_once st rows u t label below all once there is)))
+    moved l b its (inl (inr h)) = inl h
+    moved l b its (inr h) = inr (inr h)
+made_before st rows made (step.Repeat u ∷ steps) (w ∷ v) zero t label below all once z careful there is =
+    let o : (l : List ℕ) × (b : Trees) × IsTreeOf st rows u l b × (w ≡ repeats (tree l b none)) = z.0 in
+    let now = subst (λ x. Careful made (x ∷ v)) o.3 careful in
+    let its = subst (λ x. IsTreeOf st rows x o.0 o.1) (same_repeat t u (same_Some (step.Repeat u) (step.Repeat t) there)) o.2 in
+    let same = tree_once st rows t o.0 label o.1 below its is in
+    inl (subst (λ x. In made (tree label x none)) same.1 (subst (λ x. In made (tree x o.1 none)) same.0 now.0.1))
+made_before st rows made (step.Repeat u ∷ steps) (w ∷ v) (suc i) t label below all once z careful there is =
+    let o : (l : List ℕ) × (b : Trees) × IsTreeOf st rows u l b × (w ≡ repeats (tree l b none)) = z.0 in
+    let later = subst (λ x. Careful made (x ∷ v)) o.3 careful in
+    ⊎_elim (λ h. inl h) (λ h. inr (inr h)) (made_before st rows made steps v i t label below all once z.1 later.1 there is)
+
+-- a step that repeats does so of a tree
+repeated_tree : (st : List Sentence) (rows : List Row) (steps : List SharedStep) (v : List Visit) (i : ℕ) (t : Subtree) → AllZip (IsStepOf st rows) steps v → slice_get steps i ≡ Some (step.Repeat t)
+    → (label : List ℕ) × (below : Trees) × IsTreeOf st rows t label below
+repeated_tree st rows steps v i t z there =
+    let w = zip_left (IsStepOf st rows) steps v i (step.Repeat t) z there in
+    (w.2.0, w.2.1, w.2.2)
+
+pub steps_made_before : (st : List Sentence) (rows : List Row) (steps : List SharedStep) (keys : List Subtree) (row : Trees) (kept : List Trees) → AllMeant st → AreOnce rows
+    → SharingSteps st rows steps keys row kept → AreMadeBefore steps
+steps_made_before st rows steps keys row kept all once h i t there =
+    let one = repeated_tree st rows steps h.v i t h.are there in
+    in_contains (take i steps) (step.Make t)
+    (⊎_elim (λ k. absurd k) (λ k. k) (made_before st rows [] steps h.v i t one.0 one.1 all once h.are h.sharing.careful there one.2))
 
 -- ---- how many they are
 

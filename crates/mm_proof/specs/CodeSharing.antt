@@ -91,6 +91,12 @@ pub record ShareSteps (first now : SharedSteps) (statements : List Sentence)
   pub few : length now.steps.items ≤ steps
   pub shared : AllMeant statements → SharingSteps statements now.table now.steps.items now.made row kept
 
+-- each tree that a step repeats was made by a step before
+abbrev pub AreMadeBefore : List SharedStep → Type 0
+AreMadeBefore steps =
+    (i : ℕ) (t : Subtree) → slice_get steps i ≡ Some (step.Repeat t)
+    → Contains (take i steps) (step.Make t)
+
 -- the numbers of the labels by which the steps make trees, in order
 abbrev pub labels_made : List SharedStep → List ℕ
 labels_made [] = []
@@ -111,11 +117,11 @@ AreFirstNumbers seen (n ∷ numbers) listed =
 abbrev pub IsEncoded : (labels : List ℕ) → (repeated kept : List Subtree) → SharedStep
     → (codes : List Code) → (kept' : List Subtree) → Type 0
 IsEncoded labels repeated kept (step.Make t) codes kept' =
-    (place : ℕ) × (Contains labels t.label → slice_get labels place ≡ Some t.label)
+    (place : ℕ) × (slice_get labels place ≡ Some t.label)
     × ((Contains repeated t × (codes ≡ Number (place + 1) ∷ Tag ∷ []) × Adds kept t kept')
     ⊎ (¬ (Contains repeated t) × (codes ≡ Number (place + 1) ∷ []) × (kept' ≡ kept)))
 IsEncoded labels repeated kept (step.Repeat t) codes kept' =
-    (tag : ℕ) × (Contains kept t → slice_get kept tag ≡ Some t)
+    (tag : ℕ) × (slice_get kept tag ≡ Some t)
     × (codes ≡ Number (length labels + tag + 1) ∷ []) × (kept' ≡ kept)
 
 -- how the steps are, one after the other

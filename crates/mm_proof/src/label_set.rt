@@ -42,12 +42,13 @@ impl LabelSet {
 
     /// The place of a label that is among them.
     pub(crate) fn place(&self, id: LabelId) -> usize
-        ensures there { Contains self.now id.0 → slice_get self.now result ≡ Some id.0 }
+        requires { Contains self.now id.0 }
+        ensures there { slice_get self.now result ≡ Some id.0 }
         ensures within { result ≤ length self.now }
     {
         match self.set.get_index_of(&id.0) {
             Some(place) => place,
-            None => 0,
+            None => unreachable!(),
         }
     }
 

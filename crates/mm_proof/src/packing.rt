@@ -6,14 +6,14 @@ ghost use Rattle.std.specs.Prelude.{All, IfOk, OnOk};
 ghost use Rattle.mm_code.specs.declared.code.Code.{Code};
 ghost use Rattle.mm_code.specs.Letters.{HasSpelling, IsExact};
 ghost use Rattle.mm_proof.specs.declared.subtrees.Subtree.{Subtree};
-ghost use Rattle.mm_proof.specs.declared.sharing.SharedStep.TheVariants.{Repeat};
+ghost use Rattle.mm_proof.specs.declared.sharing.SharedStep.TheVariants.{Make, Repeat};
 ghost use Rattle.mm_proof.specs.OneTree.{MakeOneTree};
 ghost use Rattle.mm_proof.specs.Packing.{OfTree, ArePacked};
 ghost use Rattle.mm_proof.specs.Steps.{AreSteps};
 ghost use Rattle.mm_proof.specs.Verified.{OfMoves};
 ghost use Rattle.mm_proof.specs.CodeSteps.{ids_in, label_ids};
 ghost use Rattle.mm_proof.specs.CodeSharing.{AreFirstNumbers, labels_made, IsEncoded, AreEncoded};
-ghost use Rattle.mm_proof.specs.CodeSharing.{AreStepsPacked};
+ghost use Rattle.mm_proof.specs.CodeSharing.{AreStepsPacked, AreMadeBefore};
 
 use crate::builder::build;
 use crate::label_set::LabelSet;
@@ -99,6 +99,8 @@ fn encode(
 ) -> Result<(), AllocError>
     requires labels { length labels.now ≤ 2147483648 }
     requires kept { length kept.old ≤ 1073741824 }
+    requires known { (t : Subtree) → one ≡ Make t → Contains labels.now t.label }
+    requires made { (t : Subtree) → one ≡ Repeat t → Contains kept.old t }
     ensures said { OnOk result ((here : List Code) × (codes.new.items ≡ codes.old.items ++ here)
         × IsEncoded labels.now repeated.now kept.old one here kept.new) }
     ensures spelled { OnOk result (All HasSpelling codes.old.items
@@ -134,6 +136,9 @@ fn codes_of(
 ) -> Result<Vec<Code>, AllocError>
     requires labels { length labels.now ≤ 2147483648 }
     requires few { length steps.now ≤ 1073741824 }
+    requires known { (t : Subtree) → Contains steps.now (Make t) → Contains labels.now t.label }
+    requires each { (t : Subtree) → Contains steps.now (Repeat t) → Contains repeated.now t }
+    requires made { AreMadeBefore steps.now }
     ensures said { IfOk result (λ codes. (kept : List Subtree)
         × AreEncoded labels.now repeated.now [] steps.now codes.items kept) }
     ensures spelled { IfOk result (λ codes. All HasSpelling codes.items) }
@@ -156,6 +161,7 @@ fn pack(
 ) -> Result<Packed, AllocError>
     requires hypotheses { length hypotheses.now < 1073741824 }
     requires steps { length steps.now ≤ 1073741824 }
+    requires made { AreMadeBefore steps.now }
     ensures packed { IfOk result (λ packed. AreStepsPacked (label_ids hypotheses.now) steps.now
         (ids_in packed.labels.items) packed.codes.items) }
     ensures spelled { IfOk result (λ packed. All HasSpelling packed.codes.items) }

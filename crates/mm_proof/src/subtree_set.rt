@@ -51,12 +51,13 @@ impl SubtreeSet {
 
     /// The place of a subtree that is among them.
     pub(crate) fn place(&self, tree: Subtree) -> usize
-        ensures there { Contains self.now tree → slice_get self.now result ≡ Some tree }
+        requires { Contains self.now tree }
+        ensures there { slice_get self.now result ≡ Some tree }
         ensures within { result ≤ length self.now }
     {
         match self.set.get_index_of(&tree) {
             Some(place) => place,
-            None => 0,
+            None => unreachable!(),
         }
     }
 

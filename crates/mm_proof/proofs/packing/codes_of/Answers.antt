@@ -1,8 +1,16 @@
 use Rattle.std.proofs.Common.{[], subst}
 use Rattle.std.proofs.lemmas.List.{take_all}
 use Rattle.mm_proof.specs.CodeSharing.{AreEncoded}
-use Rattle.mm_proof.proofs.PackingLists.{encoded_next}
+use Rattle.mm_proof.proofs.PackingLists.{one_there, encoded_next, repeated_tagged, tagged_next}
 use Rattle.mm_proof.proofs.packing.codes_of.Goals as goal
+
+pub encode-requires-clause-known : goal.encode-requires-clause-known
+encode-requires-clause-known c t is =
+    c.requires.known t (one_there c.args.steps.now c.loop-one.one-index _ _ c.loop-one-test.true is)
+
+pub encode-requires-clause-made : goal.encode-requires-clause-made
+encode-requires-clause-made c t is =
+    repeated_tagged c.args.repeated.now c.loop-one.kept c.args.steps.now c.loop-one.one-index _ t c.loop-one-test.true c.requires.made c.requires.each c.loop-one.invariant.tagged is
 
 pub loop-one-preserved : goal.loop-one-preserved
 loop-one-preserved c =
@@ -11,6 +19,8 @@ loop-one-preserved c =
     record {
       few = next.0;
       said = next.1;
+      tagged = tagged_next c.args.labels.now c.args.repeated.now c.args.steps.now c.loop-one.one-index _ c.in_ok-encode.ensures.said.0 c.loop-one.kept c.encode.new.kept
+          c.loop-one-test.true c.loop-one.invariant.tagged c.in_ok-encode.ensures.said.2;
       spelled = c.in_ok-encode.ensures.spelled c.loop-one.invariant.spelled;
       exact = c.in_ok-encode.ensures.exact c.loop-one.invariant.exact;
     }

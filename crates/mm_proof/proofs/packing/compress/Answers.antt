@@ -1,10 +1,10 @@
-use Rattle.std.proofs.Common.{subst, length, ap, arith}
+use Rattle.std.proofs.Common.{subst, length, sym, ap, arith}
 use Rattle.std.proofs.lemmas.Result.{IfOk-weaker}
 use Rattle.std.proofs.lemmas.Slice.Zip.{AllZip-long}
 use Rattle.mm_proof.specs.Steps.{IsNumberedMove}
 use Rattle.mm_proof.specs.CodeSteps.{ids_in, label_ids}
-use Rattle.mm_proof.specs.CodeSharing.{AreStepsPacked}
-use Rattle.mm_proof.proofs.SharingSteps.{shared_keep, steps_end}
+use Rattle.mm_proof.specs.CodeSharing.{AreStepsPacked, AreMadeBefore}
+use Rattle.mm_proof.proofs.SharingSteps.{shared_keep, steps_end, steps_made_before}
 use Rattle.mm_proof.proofs.PackedTrees.{packed_made}
 use Rattle.mm_proof.proofs.packing.compress.Goals as goal
 
@@ -17,6 +17,15 @@ pack-requires-clause-steps c =
     let t = c.requires.makes a.place a.s a.moves a.proof a.numbered in
     let built = c.in_ok-build.ensures.built a.place a.s a.moves a.proof a.numbered t.0 t.1 t.2 in
     omega (arith, ap length c.deref.ensures.value, built.holds.few, built.few, AllZip-long (IsNumberedMove c.args.book.now.statements) c.args.steps.now.moves a.moves a.numbered, c.build.ensures.few)
+
+pub pack-requires-clause-made : goal.pack-requires-clause-made
+pack-requires-clause-made c =
+    let a = c.requires.steps in
+    let st = c.args.book.now.statements in
+    let t = c.requires.makes a.place a.s a.moves a.proof a.numbered in
+    let all = (c.in_ok-build.ensures.built a.place a.s a.moves a.proof a.numbered t.0 t.1 t.2).holds in
+    let meant = c.frame-own.ensures.sound.0 in
+    subst AreMadeBefore (sym c.deref.ensures.value) (steps_made_before st _ _ _ _ _ meant all.subtrees.once (all.shared meant))
 
 pub returns-clause-packed : goal.returns-clause-packed
 returns-clause-packed c = IfOk-weaker c.pack.result _ _ (λ packed h place s moves proof numbered label below makes.

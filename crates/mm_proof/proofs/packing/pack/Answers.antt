@@ -2,7 +2,7 @@ use Rattle.std.proofs.Common.{[], length, ap, ◌∙◌, arith}
 use Rattle.std.proofs.lemmas.List.{length-append, length-map}
 use Rattle.mm_proof.specs.CodeSteps.{ids_in, label_ids}
 use Rattle.mm_proof.specs.CodeSharing.{labels_made}
-use Rattle.mm_proof.proofs.PackingLists.{first_few, labels_made-few}
+use Rattle.mm_proof.proofs.PackingLists.{first_few, labels_made-few, label_known}
 use Rattle.mm_proof.proofs.packing.pack.Goals as goal
 
 pub codes_of-requires-clause-labels : goal.codes_of-requires-clause-labels
@@ -16,3 +16,11 @@ codes_of-requires-clause-labels c =
     let most = c.requires.hypotheses in
     let steps = c.requires.steps in
     omega (arith, own, many, others, few, whole, most, steps)
+
+pub codes_of-requires-clause-known : goal.codes_of-requires-clause-known
+codes_of-requires-clause-known c t has =
+    let listed = c.in_ok-labels.ensures in
+    label_known c.in_ok-known.known (ids_in c.in_ok-labels.labels.items) _ c.args.steps.now t listed.0 listed.1 has
+
+pub codes_of-requires-clause-each : goal.codes_of-requires-clause-each
+codes_of-requires-clause-each c t has = (c.in_ok-repeated.ensures t).1 has

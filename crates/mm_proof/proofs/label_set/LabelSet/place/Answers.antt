@@ -4,12 +4,12 @@ use Rattle.std.proofs.lemmas.Bool.{false≢true}
 use Rattle.mm_proof.proofs.SubtreeLists.{any_contains, place_there, numbers_told}
 use Rattle.mm_proof.proofs.label_set.LabelSet.place.Goals as goal
 
-pub returns-in-Some-clause-there : goal.returns-in-Some-clause-there
-returns-in-Some-clause-there c m =
+pub returns-clause-there : goal.returns-clause-there
+returns-clause-there c =
     subst (λ keys. slice_get keys c.in-Some.place ≡ Some c.args.id.0) c.self.view_is
     (place_there _ numbers_told c.self.inside.set.keys c.args.id.0 c.in-Some.place (sym c.get_index_of.ensures.index ∙ c.in-Some.is))
 
-pub returns-in-None-clause-there : goal.returns-in-None-clause-there
-returns-in-None-clause-there c m =
+pub unreachable-requires : goal.unreachable-requires
+unreachable-requires c =
     let h = any_contains _ numbers_told c.self.inside.set.keys c.args.id.0 in
-    absurd (false≢true (sym (ap is_some c.in-None.is) ∙ c.get_index_of.ensures.found ∙ h.1 (subst (λ keys. Contains keys c.args.id.0) (sym c.self.view_is) m)))
+    absurd (false≢true (sym (ap is_some c.in-None.is) ∙ c.get_index_of.ensures.found ∙ h.1 (subst (λ keys. Contains keys c.args.id.0) (sym c.self.view_is) c.requires)))
