@@ -15,8 +15,9 @@ ghost use Rattle.mm_code.specs.Layout.{texts};
 use mm_frame::{Book, Found, LabelId, Piece, ShortPiece, Sym, Taken};
 use mm_proof::{
     Flat, Line, Name, Parsed, Profile, ProofFault, ProofRule, Rows, Steps, Store, Used,
-    by_spelling, by_word, limits_aside, listing, mark_before_any_step, one_fit, one_tree,
-    one_verdict, one_word, some_verdict, tag_over_marks, verify,
+    by_spelling, by_word, fewest_steps, limits_aside, listing, made_by_word, mark_before_any_step,
+    one_fit, one_packed, one_tree, one_verdict, one_word, some_packed, some_verdict,
+    steps_make_children, tag_over_marks, told_by_packed, verify,
 };
 use mm_text::{File, Kind, Seed, Statement, Statements, Token};
 use std::alloc::{AllocError, Global};
@@ -601,4 +602,14 @@ fn laws_are_called() {
     limits_aside();
     mark_before_any_step();
     tag_over_marks();
+    made_by_word();
+}
+
+#[test]
+fn laws_of_fully_shared_proofs_are_called() {
+    one_packed();
+    some_packed();
+    steps_make_children();
+    fewest_steps();
+    told_by_packed();
 }

@@ -1,8 +1,8 @@
 //! Saving: the file with the proof of one theorem written anew, and all else kept.
 
 use mm_check::{
-    Command, Form, Status, one_save_answer, one_saved, run, saved, saving_again_changes_nothing,
-    saving_changes_no_answer,
+    Command, Form, Status, one_save_answer, one_saved, packed_texts_tell, run, saved,
+    saving_again_changes_nothing, saving_changes_no_answer,
 };
 use mm_text::{Counted, File, Seed};
 use std::alloc::Global;
@@ -112,7 +112,8 @@ fn unknown_labels_are_refused(rt: HostRuntime) -> Result<(), Fail> {
 }
 
 #[test]
-fn laws_of_saving_are_called() {
+fn laws_of_saving_and_forms_are_called() {
+    packed_texts_tell();
     saving_changes_no_answer();
     one_saved();
     one_save_answer();

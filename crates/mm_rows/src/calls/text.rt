@@ -2,7 +2,8 @@
 
 use mm_text::{
     File, Kind, LoadFault, LoadRule, Seed, Statement, Statements, TextFault, TextRule, Token,
-    WriteFault,
+    WriteFault, alike_files_are_read_alike, one_reading, proofs_stand_in_spans,
+    replaced_proofs_are_read, tokens_are_longest_runs,
 };
 use std::alloc::Global;
 use std::test::Fail;
@@ -407,4 +408,13 @@ fn faults_of_files_and_devices_have_messages(rt: HostRuntime) -> Result<(), Fail
     let text = format!(in rt.alloc(); "{}; {}", LoadFault::Device, WriteFault)?;
     assert!(rt; text.as_str() == "a read failed; a write failed");
     Ok(())
+}
+
+#[test]
+fn laws_are_called() {
+    tokens_are_longest_runs();
+    one_reading();
+    alike_files_are_read_alike();
+    proofs_stand_in_spans();
+    replaced_proofs_are_read();
 }
