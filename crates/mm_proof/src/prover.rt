@@ -1,6 +1,6 @@
 //! What takes statements in, and proves one proof after the other.
 
-ghost use Rattle.std.specs.Prelude.{◌≡◌, ℕ, ◌+◌, ◌<◌, ◌≤◌, [], ◌∷◌, ◌++◌, map, take, Ok, Err};
+ghost use Rattle.std.specs.Prelude.{◌≡◌, ◌≢◌, ℕ, ◌+◌, ◌<◌, ◌≤◌, [], ◌∷◌, ◌++◌, map, take, Ok, Err};
 ghost use Rattle.std.specs.Prelude.{IfOk, IfErr, OnOk, OnErr, IsOkUnless};
 ghost use Rattle.mm_text.specs.declared.statement.Kind.TheVariants.{Closing};
 ghost use Rattle.mm_text.specs.Statement.{plain_statement, HasForm, bytes_in};
@@ -79,6 +79,7 @@ impl<'a> Prover<'a> {
     /// A prover with a book of no statements. The hashes of what is looked up begin from the seed.
     pub fn new(alloc: Global, seed: Seed) -> Result<Prover<'a>, RuleFault>
         ensures ok { IfOk result (λ prover. prover.book ≡ record { statements = []; bytes = 0 }) }
+        ensures used { IfOk result (λ prover. prover.used ≡ []) }
         ensures memory { IfErr result (λ fault. fault ≡ Memory) }
     {
         match Book::new(alloc, seed) {
@@ -136,13 +137,15 @@ impl<'a> Prover<'a> {
         ensures rule { (broken : MeaningRule) → result ≡ Err (Rule broken)
             → FirstBroken broken self.old.book.statements (sentence_in statement.now) }
         ensures unchanged { OnErr result (self.new.book ≡ self.old.book) }
+        ensures used { self.new.used ≡ self.old.used }
     {
         self.book.take(statement)
     }
 
     /// Whether the tokens are, under the profile, a proof of the `$p` with this number, unless one
-    /// of them holds a `?`; `used` then gives the assertions of its tree. Or the first of P1 to P14
-    /// and L1 that they break, with the number of the step, 0 for P1 to P5.
+    /// of them holds a `?`; `used` then gives the assertions of its tree, and none where they are
+    /// not answered to be complete. Or the first of P1 to P14 and L1 that they break, with the
+    /// number of the step, 0 for P1 to P5.
     ///
     /// It answers what `Steps::parse` and then `verify` do, in memory that all proofs use.
     pub fn prove(
@@ -184,6 +187,9 @@ impl<'a> Prover<'a> {
             → TokensFail (limit_of profile) (take place self.old.book.statements) s
             (token_texts tokens.now) rule step → IsUnlessMemory result (Err (ProofFault.Rule rule step))) }
 
+        // What is not answered to be complete uses nothing.
+        ensures unproved { result ≢ Ok Proved.Complete → self.new.used ≡ [] }
+
         // No proof changes the book.
         ensures book { self.new.book ≡ self.old.book }
     {
@@ -200,8 +206,8 @@ impl<'a> Prover<'a> {
         }
     }
 
-    /// The assertions that the proof uses which was answered to be complete last, in any order,
-    /// each once or more.
+    /// The assertions that the proof uses which was tried last, in any order, each once or more,
+    /// where it was answered to be complete; else none.
     pub fn used(&self) -> &[LabelId]
         ensures { map (λ id. id.0) result.now ≡ self.now.used }
     {
@@ -295,8 +301,33 @@ fn prove_in_frame<'a>(
     }
 }
 
+// Does as `prove_in_frame`, and leaves the list empty where they don't prove it.
+fn prove_anew<'a>(
+    scratch: &mut Scratch<'a>,
+    site: Site,
+    tokens: &[Token<'a>],
+) -> Result<(), ProofFault>
+    requires { IsSite site }
+    ensures proved { OnOk result (OfProof site.entry.statements site.entry.number (λ place s.
+        TokensProve site.entry.limit (take place site.entry.statements) s (token_texts tokens.now)
+        (ids_in scratch.new.named.ids.items))) }
+    ensures fault { IfErr result (λ e. OnRule e (λ rule step.
+        OfProof site.entry.statements site.entry.number (λ place s.
+        TokensFail site.entry.limit (take place site.entry.statements) s (token_texts tokens.now)
+        rule step))) }
+    ensures unproved { OnErr result (scratch.new.named.ids.items ≡ []) }
+{
+    match prove_in_frame(scratch, site, tokens) {
+        Ok(()) => Ok(()),
+        Err(fault) => {
+            scratch.named.ids.clear();
+            Err(fault)
+        }
+    }
+}
+
 // Whether the tokens prove the `$p` with the number: fills the list with the assertions of its
-// tree, or tells their first fault.
+// tree, or tells their first fault, and then leaves it empty.
 fn prove_tokens<'a>(
     scratch: &mut Scratch<'a>,
     book: &Book,
@@ -312,7 +343,8 @@ fn prove_tokens<'a>(
         OfProof book.now.statements id.0 (λ place s.
         TokensFail (limit_of profile) (take place book.now.statements) s (token_texts tokens.now)
         rule step))) }
+    ensures unproved { OnErr result (scratch.new.named.ids.items ≡ []) }
     ensures sound { IsSound book.now.statements }
 {
-    prove_in_frame(scratch, Site::new(book, id, profile), tokens)
+    prove_anew(scratch, Site::new(book, id, profile), tokens)
 }

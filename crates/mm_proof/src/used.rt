@@ -1,6 +1,6 @@
 //! The assertions that a proof uses.
 
-ghost use Rattle.std.specs.Prelude.{◌≡◌, ◌↔◌, ℕ, List, Contains, IsTrue, length, OnOk};
+ghost use Rattle.std.specs.Prelude.{◌≡◌, ◌↔◌, ℕ, List, [], Contains, IsTrue, length, OnOk};
 ghost use Rattle.std.specs.List.{AllZip};
 ghost use Rattle.mm_frame.specs.Sentence.{Sentence};
 ghost use Rattle.mm_frame.specs.Numbers.{IsAssertionNumber};
@@ -48,7 +48,9 @@ pub(crate) struct Named {
 }
 
 impl Named {
-    pub(crate) fn new(alloc: Global) -> Named {
+    pub(crate) fn new(alloc: Global) -> Named
+        ensures { result.ids.items ≡ [] }
+    {
         Named {
             ids: Vec::new(alloc),
         }

@@ -1,6 +1,6 @@
 -- What is answered of the tokens is exact, and said of the prover's book; and with an unknown step there is no other answer
 -- than that.
-use Rattle.std.proofs.Common.{◌≡◌, ℕ, List, take, Result, Ok, Err, sym, subst, ◌∙◌}
+use Rattle.std.proofs.Common.{◌≡◌, ℕ, List, take, Result, Ok, Err, sym, ap, subst, ◌∙◌}
 use Rattle.std.specs.Result.{IsOkUnless}
 use Rattle.mm_frame.specs.Sentence.{Sentence}
 use Rattle.mm_proof.specs.declared.fault.ProofRule.{ProofRule}
@@ -94,3 +94,10 @@ returns-clause-refuses c none =
           rw w.result-is (subst (λ (v : Proving). Refuses (limit_of c.args.profile) v.book.statements c.args.id.0 texts (Err w.in-Err.fault)) c.self.view_is
           (tokens_refused (limit_of c.args.profile) r c.self.inside.book.statements c.args.id.0 texts c.prove_tokens.ensures.sound.0 (λ x is. absurd cc) w.in-Err.ensures.fault))
     ]
+
+pub returns-clause-unproved : goal.returns-clause-unproved
+returns-clause-unproved c other = elim c.match-prove_tokens.branch [
+  | in-Ok w ↦ absurd (other w.result-is)
+  | in-Err+then-is_incomplete w ↦ ap ids_in w.in-Err.ensures.unproved
+  | in-Err+else-is_incomplete w ↦ ap ids_in w.in-Err.ensures.unproved
+]
