@@ -63,6 +63,10 @@ pub trait Store {
 
     /// What the pieces say of the entries from the base on takes their place, where it is within
     /// the limit, so many symbols; else false is answered, and nothing is changed.
+    ///
+    /// Where a growth is refused nothing is changed either: all that the pieces say, and the room
+    /// for one more entry, must be there before an entry goes. `Flat` writes it behind the end of
+    /// its buffer, where no entry's range lies, and changes the ranges only when all is written.
     fn conclude(
         &mut self,
         base: usize,
