@@ -1,7 +1,7 @@
 -- From what is kept, by number, to the statements of which it is kept.
 use Rattle.std.proofs.Common.{◌≡◌, ◌≢◌, ◌↔◌, ℕ, zero, suc, ◌<◌, List, [], ◌∷◌, take, length, slice_get, Contains, Bool, true, false, IsTrue, nat_eq, eq-eqb, not, ◌&&◌, ◌||◌, Some, inl, inr, refl, sym, ap, subst, ◌∙◌}
 use Rattle.std.specs.List.{AllByRecursion, list_any}
-use Rattle.std.proofs.lemmas.Bool.{or_cases, eqb-true}
+use Rattle.std.proofs.lemmas.Bool.{or_cases, eqb-true, or_right}
 use Rattle.mm_text.specs.declared.statement.Kind.{Kind}
 use Rattle.mm_text.specs.declared.statement.Kind.TheVariants.{Axiom, Provable}
 use Rattle.mm_text.specs.Statement.{PlainStatement}
@@ -72,9 +72,6 @@ named_as statements label P id place t numbered labelled_sentences holds =
       (subst (λ (u : Sentence). IsLabelled label u) (sym found.2) labelled_sentences, holds found.0 found.1 (ap (λ (u : Sentence). u.kind) found.2)),
     )
 
-provable_is : (kind : Kind) → kind ≡ Provable → is_provable kind ≡ true
-provable_is kind e = ap is_provable e
-
 -- one statement has the number
 same_proof : (statements : List PlainStatement) (test : PlainStatement → Bool) (id place : ℕ) (s : PlainStatement) → IsAt statements id place s
     → IsNumberWhere statements (λ t. test t ≡ true) id → test s ≡ true
@@ -124,10 +121,6 @@ other_kind label_kinds.Essential kind e other f = cc
 other_kind label_kinds.Axiom kind e other f = cc
 other_kind label_kinds.Proof kind e other f = other refl
 
-or_true : (a c : Bool) → c ≡ true → (a || c) ≡ true
-or_true true c k = refl
-or_true false c k = k
-
 -- a number among labels, as a test finds it
 pub any_among : (xs : List LabelId) (x : LabelId) (b : Bool) → b ≡ list_any (λ y. nat_eq y.0 x.0) xs → IsTrue b ↔ Contains (ids_in xs) x.0
 any_among xs x b e = (
@@ -145,7 +138,7 @@ any_among xs x b e = (
     found : (ls : List LabelId) (i : ℕ) → slice_get (ids_in ls) i ≡ Some x.0 → list_any (λ y. nat_eq y.0 x.0) ls ≡ true
     found [] i f = absurd cc
     found (l ∷ ls) zero f = let same : l.0 ≡ x.0 = cc in ap (λ (c : Bool). c || list_any (λ y. nat_eq y.0 x.0) ls) (eq-eqb l.0 x.0 same)
-    found (l ∷ ls) (suc i) f = or_true (nat_eq l.0 x.0) (list_any (λ y. nat_eq y.0 x.0) ls) (found ls i f)
+    found (l ∷ ls) (suc i) f = or_right (nat_eq l.0 x.0) (list_any (λ y. nat_eq y.0 x.0) ls) (found ls i f)
 
 -- whether the statement with a number is a `$a`
 pub axiom_kind : (statements : List Sentence) (id : ℕ) (k : LabelKind) → id < length (labelled_sentences statements)

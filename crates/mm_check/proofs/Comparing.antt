@@ -23,7 +23,7 @@ use Rattle.mm_check.specs.Verdict.{sentences, proof_rule}
 use Rattle.mm_check.specs.Rests.{IsAskFault}
 use Rattle.mm_check.specs.Compared.{IsProofText, IsTextFault, text_fault, IsCompared, IsSameFault}
 use Rattle.mm_check.specs.CodeShown.{SayWholeSteps, AreProvedSteps, AreStepsOf}
-use Rattle.mm_check.specs.CodeCompared.{IsLegalText, IsIllegal, FailsAs, IsUnproved, AreRefused, IsTextRefused, IsComparedWith}
+use Rattle.mm_check.specs.CodeCompared.{IsLegalText, FailsAs, IsUnproved, AreRefused, IsTextRefused, IsComparedWith}
 use Rattle.mm_check.proofs.Asked.{map-take}
 use Rattle.mm_check.proofs.Theorems.{of_theorem}
 
@@ -59,10 +59,6 @@ text_refused st id text fault legal (inr (complete, inl memory)) = inl memory
 text_refused st id text fault legal (inr (complete, inr (rule, step, is, fails))) =
     let whole : IsProofText text = record { taken = legal.taken; printable = legal.printable; plain = legal.plain; complete = complete } in
     inr (proof_rule rule, step, is, λ place s number. inr (whole, rule, refl, fails place s number))
-
-pub illegal_refused : (st : List Sentence) (id : ℕ) (text : List ℕ) (fault : AskFault) → IsIllegal text fault → IsTextRefused st id text fault
-illegal_refused st id text fault (inl memory) = inl memory
-illegal_refused st id text fault (inr (rule, breaks, is)) = inr (rule, 0, is, λ place s number. inl (refl, breaks))
 
 -- ---- the comparison
 

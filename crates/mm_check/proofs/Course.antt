@@ -11,21 +11,17 @@ use Rattle.mm_proof.specs.declared.profile.Profile.{Profile}
 use Rattle.mm_check.specs.declared.fault.CheckFault.{CheckFault}
 use Rattle.mm_check.specs.declared.progress.Progress.{Progress}
 use Rattle.mm_check.specs.Conclusion.{Conclusion, ProofUses, labels_in}
-use Rattle.mm_check.specs.Verdict.{Verdict, HasFault, Obeys, AllObey, HasVerdict, AreAccepted, CanBeRead, sentences, labels_of, unproved_of, is_unproved, proofs_of, refusal_of}
+use Rattle.mm_check.specs.Verdict.{Verdict, HasFault, Obeys, HasVerdict, AreAccepted, CanBeRead, sentences, labels_of, unproved_of, is_unproved, proofs_of, refusal_of}
 use Rattle.mm_check.specs.Answer.{verdict_of_fault, verdict_of_conclusion, verdict_where_incomplete, labels_at, IsVerdict, KeepsLabels, KeepsCounts, KeepsUses, IsKeptOf}
 use Rattle.mm_check.specs.Rests.{IsNumberWhere, AreInOrder, AreUses}
-use Rattle.mm_check.specs.Judged.{IsUnderWay, IsAtEnd, Knows, Takes, RefusesAfter, RefusesEnd, RefusesLoad, TakesNext}
+use Rattle.mm_check.specs.Judged.{IsUnderWay, IsAtEnd, Knows, Takes, RefusesAfter, RefusesEnd, TakesNext}
 use Rattle.mm_check.specs.Marks.{IsKeptWell}
-use Rattle.mm_check.proofs.Unproved.{one_more}
+use Rattle.mm_check.proofs.Unproved.{one_more, no_statement}
 use Rattle.mm_check.proofs.Asked.{backward}
 use Rattle.mm_check.proofs.Known.{ids, knows_more, labels_said, names_of_ids}
 use Rattle.mm_check.proofs.Numbers.{names_at, numbers_within}
 
 -- ## What holds on the way
-
-no_statement : (profile : Profile) → AllObey profile []
-no_statement profile [] after s e = cc
-no_statement profile (b ∷ before) after s e = cc
 
 pub starts : (profile : Profile) (files : List PlainFile) (p : Progress) (left : Remaining) → IsUnread files left → CanBeRead files → Knows [] p → IsUnderWay profile files p left
 starts profile files p left unread readable known =
@@ -71,17 +67,6 @@ pub passed_on : (profile : Profile) (files : List PlainFile) (answer : Result Co
     → ((v : Verdict) → verdict_of_fault fault ≡ Some v → HasVerdict profile files v) → IsVerdict profile files answer
 passed_on profile files (Ok c) fault same holds v e = absurd same
 passed_on profile files (Err other) fault same holds v e = holds v (ap verdict_of_fault (sym same) ∙ e)
-
--- want of memory tells none
-pub no_memory : (profile : Profile) (files : List PlainFile) (fault : CheckFault) → verdict_of_fault fault ≡ None
-    → (v : Verdict) → verdict_of_fault fault ≡ Some v → HasVerdict profile files v
-no_memory profile files fault none v e = absurd (untold fault v none e)
-
-pub load_verdict : (profile : Profile) (files : List PlainFile) (fault : CheckFault) → RefusesLoad files fault
-    → (v : Verdict) → verdict_of_fault fault ≡ Some v → HasVerdict profile files v
-load_verdict profile files fault (inl none) v e = absurd (untold fault v none e)
-load_verdict profile files fault (inr broken) v e =
-    subst (λ (w : Verdict). HasVerdict profile files w) (told fault _ v broken.2 e) (broken.0, broken.1, refl)
 
 pub end_verdict : (profile : Profile) (files : List PlainFile) (p : Progress) (left : Remaining) (fault : CheckFault) → IsUnderWay profile files p left
     → RefusesEnd files left fault → (v : Verdict) → verdict_of_fault fault ≡ Some v → HasVerdict profile files v

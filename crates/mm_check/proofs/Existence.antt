@@ -1,20 +1,17 @@
 -- Files of every kind have a verdict.
-use Rattle.std.proofs.Common.{◌≡◌, ◌≢◌, ℕ, zero, suc, ◌<◌, ◌≤◌, List, [], ◌∷◌, ◌++◌, length, slice_get, Bool, true, false, Option, Some, None, option_map, ◌⊎◌, inl, inr, refl, sym, ap, subst, arith, append_assoc, append-nil}
-use Rattle.std.proofs.lemmas.List.{length-map}
+use Rattle.std.proofs.Common.{◌≡◌, ◌≢◌, ℕ, zero, suc, ◌<◌, ◌≤◌, List, [], ◌∷◌, ◌++◌, length, slice_get, Bool, true, false, Option, Some, None, ◌⊎◌, inl, inr, refl, sym, subst, arith, append_assoc, append-nil}
 use Rattle.std.specs.List.{AllByRecursion}
 use Rattle.mm_text.specs.declared.fault.LoadRule.{LoadRule}
 use Rattle.mm_text.specs.declared.fault.LoadRule.TheVariants as load
-use Rattle.mm_text.specs.declared.statement.Kind.{Kind}
-use Rattle.mm_text.specs.declared.statement.Kind.TheVariants.{Constants, Variables, Distinct, Floating, Essential, Axiom, Provable, Opening, Closing}
-use Rattle.mm_text.specs.Token.{PlainToken}
-use Rattle.mm_text.specs.Statement.{PlainStatement, HasForm, HasLabel, FitsCount}
+use Rattle.mm_text.specs.Statement.{PlainStatement, HasForm}
 use Rattle.mm_text.specs.Files.{PlainFile, BreaksLoad, HasTwins, total_bytes}
 use Rattle.mm_text.specs.Reading.{PlainFault, Reads}
 use Rattle.mm_text.proofs.ReaderLaws.{each_has_one_reading}
 use Rattle.mm_text.proofs.FormedLaws.{readings_are_formed_in_place}
 use Rattle.mm_frame.specs.Sentence.{sentence_of}
 use Rattle.mm_frame.specs.Rules.{IsMeant}
-use Rattle.mm_frame.specs.Form.{HasItsLabel, IsFormedSentence, AllFormed}
+use Rattle.mm_frame.specs.Form.{IsFormedSentence, AllFormed}
+use Rattle.mm_frame.proofs.Uses.{formed_said}
 use Rattle.mm_proof.specs.declared.profile.Profile.{Profile}
 use Rattle.mm_proof.specs.Profiles.{limit_of}
 use Rattle.mm_proof.proofs.Decisions.{dec_both, dec_as, dec_some, dec_le, symbol_dec}
@@ -22,7 +19,7 @@ use Rattle.mm_proof.proofs.Judged.{some_verdict_holds}
 use Rattle.mm_check.specs.declared.rule.Rule.{Rule}
 use Rattle.mm_check.specs.Verdict.{PlainRefusal, Verdict, Load, Refused, Incomplete, Yes, Obeys, AllObey, AreAccepted, CanBeRead, HasFault, HasVerdict, RefusesStatement, sentences, load_rule, meaning_rule, proof_rule, refusal_of, text_refusal, proof_of, proofs_of, unproved_of, is_proof}
 use Rattle.mm_check.proofs.Meanings.{some_meaning}
-use Rattle.mm_check.proofs.Unproved.{all_meant, one_more}
+use Rattle.mm_check.proofs.Unproved.{all_meant, one_more, no_statement}
 
 -- ## The files as a whole
 
@@ -59,23 +56,6 @@ judged_load [] = inl (load.F1, refl)
 judged_load (f ∷ files) = some_load (f ∷ files) (λ e. absurd cc) (twins_dec (f ∷ files)) (dec_le 1073741825 (total_bytes (f ∷ files)))
 
 -- ## The statements, one after the other
-
-named_of : (kind : Kind) (label : Option PlainToken) → HasLabel kind label → HasItsLabel kind (option_map (λ t. t.text) label)
-named_of Floating label has = (has.0.text, ap (option_map (λ t. t.text)) has.1, has.2)
-named_of Essential label has = (has.0.text, ap (option_map (λ t. t.text)) has.1, has.2)
-named_of Axiom label has = (has.0.text, ap (option_map (λ t. t.text)) has.1, has.2)
-named_of Provable label has = (has.0.text, ap (option_map (λ t. t.text)) has.1, has.2)
-named_of Constants label has = ap (option_map (λ t. t.text)) has
-named_of Variables label has = ap (option_map (λ t. t.text)) has
-named_of Distinct label has = ap (option_map (λ t. t.text)) has
-named_of Opening label has = ap (option_map (λ t. t.text)) has
-named_of Closing label has = ap (option_map (λ t. t.text)) has
-
-formed_said : (s : PlainStatement) → HasForm s → IsFormedSentence (sentence_of s)
-formed_said s formed = record {
-  count = subst (λ (n : ℕ). FitsCount s.kind n) (sym (length-map s.symbols (λ (t : PlainToken). t.text))) formed.count;
-  label = named_of s.kind s.label formed.label;
-}
 
 pub formed_sentences : (statements : List PlainStatement) → AllByRecursion HasForm statements → AllFormed (sentences statements)
 formed_sentences [] all place s e = absurd cc
@@ -135,10 +115,6 @@ ended_verdict profile files statements (Some fault) readable reads obeyed = (
   Refused (text_refusal files fault),
   (readable, statements, Some fault, reads, inr (record { obeyed = obeyed; fault = fault; ended = refl; refused = refl })),
 )
-
-no_statement : (profile : Profile) → AllObey profile []
-no_statement profile [] after s e = absurd cc
-no_statement profile (b ∷ before) after s e = absurd cc
 
 read_verdict : (profile : Profile) (files : List PlainFile) → CanBeRead files → (verdict : Verdict) × HasVerdict profile files verdict
 read_verdict profile files readable =

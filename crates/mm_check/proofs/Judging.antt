@@ -1,7 +1,8 @@
 -- What is said of the last statement's proof, from what the parser and the verifier say.
-use Rattle.std.proofs.Common.{◌≡◌, ℕ, zero, suc, ◌<◌, ◌≤◌, ◌==◌, List, [], ◌∷◌, ◌++◌, map, take, length, get_or, slice_get, is_some, Contains, Bool, true, false, ◌||◌, Option, Some, option_map, Result, Ok, Err, MatchResult, IsErrAnd, IfErr, inl, inr, refl, sym, ap, subst, ◌∙◌, arith}
+use Rattle.std.proofs.Common.{◌≡◌, ℕ, zero, suc, ◌<◌, ◌≤◌, ◌==◌, List, [], ◌∷◌, ◌++◌, map, take, length, get_or, slice_get, is_some, Contains, Bool, true, false, ◌||◌, Option, Some, option_map, Result, Ok, Err, MatchResult, inl, inr, refl, sym, ap, subst, ◌∙◌, arith}
 use Rattle.std.specs.List.{AllByRecursion, list_any}
 use Rattle.std.proofs.lemmas.Bool.{eqb-true}
+use Rattle.std.proofs.Math.Seq.{take-append_seam}
 use Rattle.mm_text.specs.declared.token.Token.{Token}
 use Rattle.mm_text.specs.declared.statement.Kind.{Kind}
 use Rattle.mm_text.specs.declared.statement.Kind.TheVariants.{Provable}
@@ -23,6 +24,7 @@ use Rattle.mm_proof.specs.Profiles.{limit_of}
 use Rattle.mm_proof.proofs.Places.{one_split}
 use Rattle.mm_text.specs.Files.{PlainFile}
 use Rattle.mm_frame.specs.Rules.{IsMeant}
+use Rattle.mm_frame.proofs.Pushed.{get_pushed}
 use Rattle.mm_check.specs.declared.rule.Rule.{Rule}
 use Rattle.mm_check.specs.declared.fault.CheckFault.{CheckFault}
 use Rattle.mm_check.specs.declared.progress.Progress.{Progress}
@@ -84,17 +86,9 @@ complete_is tokens h = by_test (is_incomplete tokens) refl
 
 -- ## The number of the last statement
 
-get_last : {X : Type 0} (xs : List X) (x : X) → slice_get (xs ++ x ∷ []) (length xs) ≡ Some x
-get_last [] x = refl
-get_last (y ∷ xs) x = get_last xs x
-
-take_front : {X : Type 0} (xs ys : List X) → take (length xs) (xs ++ ys) ≡ xs
-take_front [] ys = refl
-take_front {X} (x ∷ xs) ys = ap (λ (zs : List X). x ∷ zs) (take_front xs ys)
-
 -- the statements before the last one are these
 pub front_of : (statements before : List Sentence) (s : Sentence) → statements ≡ before ++ s ∷ [] → take (length before) statements ≡ before
-front_of statements before s e = ap (λ (ss : List Sentence). take (length before) ss) e ∙ take_front before (s ∷ [])
+front_of statements before s e = ap (λ (ss : List Sentence). take (length before) ss) e ∙ take-append_seam before (s ∷ [])
 
 labelled_said : (kind : Kind) (label : Option PlainToken) → HasLabel kind label → kind ≡ Provable → is_some (option_map (λ (t : PlainToken). t.text) label) ≡ true
 labelled_said Provable label has e = ap (λ (o : Option PlainToken). is_some (option_map (λ (t : PlainToken). t.text) o)) has.1
@@ -107,7 +101,7 @@ last_number statements id s formed last before e =
     let same : before ≡ last.before = (one_split before (sentence_of s ∷ []) last.before (sentence_of s ∷ []) (sym e ∙ last.whole) refl).0 in
     record {
       numbered = record {
-        there = ap (λ (ss : List Sentence). slice_get ss (length before)) e ∙ get_last before (sentence_of s);
+        there = ap (λ (ss : List Sentence). slice_get ss (length before)) e ∙ get_pushed before (sentence_of s);
         named = labelled_said s.kind s.label formed.label last.provable;
         number = ap (λ (ss : List Sentence). length (labelled_sentences ss)) (front_of statements before (sentence_of s) e ∙ same) ∙ sym last.number;
       };
@@ -155,11 +149,6 @@ refuses_after profile files p q s fault meant provable book count (inr at) = inr
   inr (meant, proof_there s provable at.2, at.0, at.3 p.prover.book.statements book, refl),
   at.4 ∙ ap (λ (n : ℕ). Some (Refused (refusal_of files n s (proof_rule at.0) at.1))) count,
 )
-
--- what holds of a fault that is passed on
-pub passed_fault : {X : Type 0} (result : Result X CheckFault) (fault : CheckFault) (Q : CheckFault → Type 0) → IsErrAnd result (λ e. e ≡ fault) → Q fault → IfErr result Q
-passed_fault (Ok x) fault Q same q = absurd same
-passed_fault (Err e) fault Q same q = subst Q (sym same) q
 
 -- refusals of one statement for one rule at one step
 pub same_refusal : (files : List PlainFile) (count : ℕ) (s : PlainStatement) {r t : Rule} {m n : ℕ} → r ≡ t → m ≡ n

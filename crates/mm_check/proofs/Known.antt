@@ -6,6 +6,7 @@ use Rattle.std.proofs.lemmas.List.Elements.{filter-append}
 use Rattle.std.proofs.lemmas.Grind.{flat_map-append}
 use Rattle.std.specs.List.{flat_map}
 use Rattle.std.specs.Option.{option_to_list, option_map}
+use Rattle.std.proofs.lemmas.Bool.{and_parts}
 use Rattle.mm_text.specs.declared.statement.Kind.{Kind}
 use Rattle.mm_text.specs.declared.statement.Kind.TheVariants.{Constants, Variables, Distinct, Floating, Essential, Axiom, Provable, Opening, Closing}
 use Rattle.mm_text.specs.Token.{PlainToken}
@@ -13,6 +14,8 @@ use Rattle.mm_text.specs.Statement.{PlainStatement, HasForm, HasLabel, bytes_in}
 use Rattle.mm_frame.specs.Sentence.{Sentence, sentence_of}
 use Rattle.mm_frame.specs.Numbers.{labelled_sentences}
 use Rattle.mm_frame.specs.declared.number.LabelId.{LabelId}
+use Rattle.mm_frame.proofs.Pushed.{get_pushed}
+use Rattle.mm_frame.proofs.Counts.{count_append}
 use Rattle.mm_proof.specs.declared.profile.Profile.{Profile}
 use Rattle.mm_check.specs.declared.progress.Progress.{Progress}
 use Rattle.mm_check.specs.Conclusion.{labels_in}
@@ -21,7 +24,7 @@ use Rattle.mm_text.specs.Statement.{is_provable}
 use Rattle.mm_check.specs.Judged.{Knows, Takes, KeepsProof}
 use Rattle.mm_check.specs.Rests.{IsNumberWhere, AreInOrder}
 use Rattle.mm_check.proofs.Trees.{one_more_number, uses_more}
-use Rattle.mm_check.proofs.Numbers.{named_more, last_name, count_by-append, count_by-one, count_labelled}
+use Rattle.mm_check.proofs.Numbers.{named_more, count_by-one, count_labelled}
 
 -- the labels of what statements say are theirs
 pub labels_said : (statements : List PlainStatement) → labels_in (sentences statements) ≡ labels_of statements
@@ -58,14 +61,10 @@ provable_label Axiom label has e = absurd cc
 provable_label Opening label has e = absurd cc
 provable_label Closing label has e = absurd cc
 
-both_true : (a b : Bool) → (a && b) ≡ true → a ≡ true
-both_true true b e = refl
-both_true false b e = e
-
 -- a `$p` has a label
 labelled_provable : (s : PlainStatement) (rest : Bool) → HasForm s → (is_provable s.kind && rest) ≡ true → is_some (sentence_of s).label ≡ true
 labelled_provable s rest formed e =
-    let found = provable_label s.kind s.label formed.label (both_true (is_provable s.kind) rest e) in
+    let found = provable_label s.kind s.label formed.label (and_parts (is_provable s.kind) rest e).0 in
     ap (λ (o : Option PlainToken). is_some (option_map (λ (t : PlainToken). t.text) o)) found.1
 
 -- the numbers of the incomplete proofs, and that of one more where it is incomplete
@@ -78,11 +77,11 @@ more_unproved names numbers unproved s count formed counted named false e =
     ∙ named_more names (label_of s) numbers unproved named
     ∙ sym (ap (λ (ls : List (List ℕ)). map Some ls) (append-nil unproved))
 more_unproved names numbers unproved s count formed counted named true e =
-    let found = provable_label s.kind s.label formed.label (both_true (is_provable s.kind) (is_incomplete (proof_of s)) e) in
+    let found = provable_label s.kind s.label formed.label (and_parts (is_provable s.kind) (is_incomplete (proof_of s)) e).0 in
     let text : List ℕ = found.0.text in
     let label : label_of s ≡ text ∷ [] = ap (λ (o : Option PlainToken). option_to_list (option_map (λ t. t.text) o)) found.1 in
     let front : map (slice_get (names ++ label_of s)) numbers ≡ map Some unproved = named_more names (label_of s) numbers unproved named in
-    let last : slice_get (names ++ text ∷ []) (length names) ≡ Some text = last_name names text in
+    let last : slice_get (names ++ text ∷ []) (length names) ≡ Some text = get_pushed names text in
     let here : slice_get (names ++ label_of s) count ≡ Some text = rw (label, counted) last in
     map-append (slice_get (names ++ label_of s)) numbers (count ∷ [])
     ∙ ap (λ (os : List (Option (List ℕ))). os ++ slice_get (names ++ label_of s) count ∷ []) front
@@ -124,7 +123,7 @@ knows_more profile statements s p q formed known takes = record {
   bytes = omega (arith, takes.bytes, known.bytes, sum_by-append bytes_in statements (s ∷ []));
   count = omega (arith, takes.count, known.count, length-append statements (s ∷ []));
   proofs = takes.proofs ∙ ap (λ (n : ℕ). n + cond (is_proof s) 1 0) known.proofs
-      ∙ sym (count_by-append is_proof statements (s ∷ []) ∙ ap (λ (n : ℕ). count_by is_proof statements + n) (count_by-one is_proof s));
+      ∙ sym (count_append is_proof statements (s ∷ []) ∙ ap (λ (n : ℕ). count_by is_proof statements + n) (count_by-one is_proof s));
   incomplete = incomplete_more profile statements s p q formed known takes;
   noted = noted_more profile statements s p q formed known takes;
   kept = uses_more profile statements s p.kept q.kept (labelled_provable s (not (is_incomplete (proof_of s))) formed) known.kept (is_proof s) refl

@@ -6,10 +6,9 @@ use Rattle.std.proofs.lemmas.Grind.{flat_map-append}
 use Rattle.mm_frame.specs.declared.number.LabelId.{LabelId}
 use Rattle.mm_check.specs.Answer.{labels_at, verdict_of_conclusion}
 use Rattle.mm_check.specs.Conclusion.{Conclusion}
-use Rattle.mm_check.specs.Verdict.{Yes}
 use Rattle.std.specs.List.{AllByRecursion}
 use Rattle.mm_check.specs.Reply.{line_with, lines_of, text_of}
-use Rattle.mm_check.proofs.Numbers.{get_there}
+use Rattle.mm_frame.proofs.Pushed.{get_within}
 
 -- a word and five others
 pub six_words : (out w a b c d e o₁ o₂ o₃ o₄ o₅ o₆ o₇ : List ℕ)
@@ -69,13 +68,6 @@ text_of_incomplete c n numbers e all =
     subst Text (sym e)
     (ap (λ (k : ℕ). line_with (codes "incomplete") (decimal k ∷ []) ++ lines_of (labels_at c.labels (n ∷ numbers))) count)
 
--- the text of a database with none
-pub text_of_complete : (c : Conclusion) → c.incomplete ≡ []
-    → text_of [] (verdict_of_conclusion c) ≡ text_of [] (Yes c.statements c.proofs)
-text_of_complete c e =
-    let Text : List ℕ → Type 0 = λ ns. text_of [] (verdict_of_conclusion (record c { incomplete = ns })) ≡ text_of [] (Yes c.statements c.proofs) in
-    subst Text (sym e) refl
-
 -- its line, word by word, and the lines of the labels
 pub incomplete_lines : (out count lines o₁ o₂ o₃ o₄ : List ℕ) → o₁ ≡ out ++ codes "incomplete" → o₂ ≡ o₁ ++ codes " " ++ count
     → o₃ ≡ o₂ ++ 10 ∷ [] → o₄ ≡ o₃ ++ lines → o₄ ≡ out ++ (line_with (codes "incomplete") (count ∷ []) ++ lines)
@@ -121,7 +113,7 @@ one_more_question labels ids k d h within =
     let laid : lines_of (map question (labels_at labels front) ++ map question (labels_at labels last))
     ≡ lines_of (map question (labels_at labels front)) ++ lines_of (map question (labels_at labels last)) =
     flat_map-append (λ (l : List ℕ). l ++ codes "\n") (map question (labels_at labels front)) (map question (labels_at labels last)) in
-    let there = get_there labels n within in
+    let there = get_within labels n within in
     let One : Option (List ℕ) → Type 0 = λ o. lines_of (map question (option_to_list o ++ [])) ≡ codes "? " ++ lines_of (option_to_list o ++ []) in
     let one : lines_of (map question (labels_at labels last)) ≡ codes "? " ++ lines_of (labels_at labels last) =
     subst One (sym there.1) refl in

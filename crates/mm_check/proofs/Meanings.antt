@@ -7,6 +7,7 @@ use Rattle.mm_frame.specs.declared.rule.MeaningRule.TheVariants.{M1, M2, M3, M4,
 use Rattle.mm_frame.specs.Sentence.{Sentence, SomeSentence, IsStated, IsUse, Declares, IsLabelled, Types, StandsTwice}
 use Rattle.mm_frame.specs.Active.{IsOpen, SomeActive, IsConstant, IsVariable, IsActiveSymbol, IsTyped}
 use Rattle.mm_frame.specs.Rules.{Breaks, FirstBroken, IsMeant, ItsLabel, ItsFirst, ItsTyping, rank}
+use Rattle.mm_frame.proofs.Decided.{constant_dec, typed_dec}
 use Rattle.mm_proof.proofs.Decisions.{dec_both, dec_as, dec_some, dec_le, kind_dec, symbol_dec, contains_dec, open_dec}
 use Rattle.mm_proof.proofs.Searches.{dec_or, dec_not, dec_member, label_dec, sentence_dec, some_active_dec, variable_dec}
 use Rattle.mm_check.proofs.Ranks.{ranked, ranked-rank, rank-ranked, compared}
@@ -19,9 +20,6 @@ some_open_dec before = dec_as (λ h. (h.0, h.3)) (λ h. (h.0, h.1.opening, h.1.t
 
 declares_dec : (kind : Kind) (x : List ℕ) (s : Sentence) → Dec (Declares kind x s)
 declares_dec kind x s = dec_both (kind_dec s.kind kind) (contains_dec s.symbols x)
-
-constant_dec : (before : List Sentence) (x : List ℕ) → Dec (IsConstant before x)
-constant_dec before x = sentence_dec before (Declares Constants x) (declares_dec Constants x)
 
 twice_dec : (symbols : List (List ℕ)) (x : List ℕ) → Dec (StandsTwice symbols x)
 twice_dec symbols x = dec_as
@@ -76,12 +74,6 @@ gives_dec x Q each f = dec_as
     (λ h. (h.0, subst (λ (y : List ℕ). Types h.0 y f) h.3.0 h.2, h.3.1))
     (λ h. (h.0, x, h.1, (refl, h.2)))
     (its_typing_dec f (λ code y. (y ≡ x) × Q code) (λ code y. dec_both (symbol_dec y x) (each code)))
-
-gives_some_dec : (x : List ℕ) (f : Sentence) → Dec ((code : List ℕ) × Types code x f)
-gives_some_dec x f = dec_as (λ h. (h.0, h.1)) (λ h. (h.0, h.1, refl)) (gives_dec x (λ code. code ≡ code) (λ code. yes refl) f)
-
-typed_dec : (before : List Sentence) (x : List ℕ) → Dec (IsTyped before x)
-typed_dec before x = some_active_dec before (λ f. (code : List ℕ) × Types code x f) (gives_some_dec x)
 
 active_symbol_dec : (before : List Sentence) (x : List ℕ) → Dec (IsActiveSymbol before x)
 active_symbol_dec before x =

@@ -1,13 +1,9 @@
 -- Labels by numbers.
-use Rattle.std.proofs.Common.{◌≡◌, ℕ, zero, suc, ◌+◌, ◌<◌, List, [], ◌∷◌, ◌++◌, map, filter, length, count_by, get_or, slice_get, is_some, Bool, cond, Option, Some, None, refl, ap, ◌∙◌, arith}
+use Rattle.std.proofs.Common.{◌≡◌, ℕ, zero, suc, ◌<◌, List, [], ◌∷◌, ◌++◌, map, filter, length, count_by, get_or, slice_get, is_some, Bool, cond, Option, Some, None, refl, ap, ◌∙◌, arith}
 use Rattle.std.specs.List.{flat_map, AllByRecursion}
 use Rattle.std.specs.Option.{option_to_list}
-use Rattle.std.proofs.lemmas.List.Sums.{sum_by-append}
-
-get_more : {X : Type 0} (xs more : List X) (i : ℕ) (x : X) → slice_get xs i ≡ Some x → slice_get (xs ++ more) i ≡ Some x
-get_more [] more i x e = absurd cc
-get_more (y ∷ xs) more zero x e = e
-get_more (y ∷ xs) more (suc i) x e = get_more xs more i x e
+use Rattle.std.proofs.lemmas.Option.{slice_get_within}
+use Rattle.mm_frame.proofs.Pushed.{get_kept, get_within}
 
 -- names with these numbers have them among more names too
 pub named_more : (names more : List (List ℕ)) (ns : List ℕ) (xs : List (List ℕ)) → map (slice_get names) ns ≡ map Some xs
@@ -18,12 +14,7 @@ named_more names more (n ∷ ns) [] e = absurd cc
 named_more names more (n ∷ ns) (x ∷ xs) e =
     let first : slice_get names n ≡ Some x = cc in
     let rest : map (slice_get names) ns ≡ map Some xs = cc in
-    cc (get_more names more n x first, named_more names more ns xs rest)
-
--- the name after others has their count as its number
-pub last_name : (names : List (List ℕ)) (x : List ℕ) → slice_get (names ++ x ∷ []) (length names) ≡ Some x
-last_name [] x = refl
-last_name (y ∷ names) x = last_name names x
+    cc (get_kept names more n x first, named_more names more ns xs rest)
 
 -- the names at numbers that have names
 pub names_at : (names : List (List ℕ)) (ns : List ℕ) (xs : List (List ℕ)) → map (slice_get names) ns ≡ map Some xs
@@ -37,11 +28,6 @@ names_at names (n ∷ ns) (x ∷ xs) e =
     ap (λ (o : Option (List ℕ)). option_to_list o ++ flat_map (λ (m : ℕ). option_to_list (slice_get names m)) ns) first
     ∙ ap (λ (ys : List (List ℕ)). x ∷ ys) (names_at names ns xs rest)
 
-get_within : {X : Type 0} (xs : List X) (i : ℕ) (x : X) → slice_get xs i ≡ Some x → i < length xs
-get_within [] i x e = absurd cc
-get_within (y ∷ xs) zero x e = omega arith
-get_within (y ∷ xs) (suc i) x e = let h : i < length xs = get_within xs i x e in omega arith
-
 -- numbers that have names are below the names' count
 pub numbers_within : (names : List (List ℕ)) (ns : List ℕ) (xs : List (List ℕ)) → map (slice_get names) ns ≡ map Some xs
     → AllByRecursion (λ n. n < length names) ns
@@ -51,11 +37,7 @@ numbers_within names (n ∷ ns) [] e = absurd cc
 numbers_within names (n ∷ ns) (x ∷ xs) e =
     let first : slice_get names n ≡ Some x = cc in
     let rest : map (slice_get names) ns ≡ map Some xs = cc in
-    (get_within names n x first, numbers_within names ns xs rest)
-
--- the elements of two lists for which a test holds
-pub count_by-append : {X : Type 0} (p : X → Bool) (xs ys : List X) → count_by p (xs ++ ys) ≡ count_by p xs + count_by p ys
-count_by-append p xs ys = sum_by-append (λ x. cond (p x) 1 0) xs ys
+    (slice_get_within names n x first, numbers_within names ns xs rest)
 
 -- one element counts where the test holds
 pub count_by-one : {X : Type 0} (p : X → Bool) (x : X) → count_by p (x ∷ []) ≡ cond (p x) 1 0
@@ -91,18 +73,13 @@ label_at label (t ∷ ss) n s l e h =
     label_first label t s l (filter (λ s. is_some (label s)) ss) (flat_map (λ s. option_to_list (label s)) ss)
     (λ k f. label_at label ss k s l f h) h (label t) refl n e
 
-pub get_there : {X : Type 0} (xs : List X) (n : ℕ) → n < length xs → (x : X) × (slice_get xs n ≡ Some x)
-get_there [] n less = absurd (omega arith)
-get_there (x ∷ xs) zero less = (x, refl)
-get_there (x ∷ xs) (suc n) less = get_there xs n (omega arith)
-
 -- the label of the labelled statement at a number, as one that looks it up tells it
 pub label_named : {S : Type 0} (label : S → Option (List ℕ)) (ss : List S) (n : ℕ) (l : List ℕ)
     → n < length (filter (λ s. is_some (label s)) ss)
     → ((s : S) → slice_get (filter (λ s. is_some (label s)) ss) n ≡ Some s → label s ≡ Some l)
     → slice_get (flat_map (λ s. option_to_list (label s)) ss) n ≡ Some l
 label_named label ss n l less told =
-    let there = get_there (filter (λ s. is_some (label s)) ss) n less in
+    let there = get_within (filter (λ s. is_some (label s)) ss) n less in
     label_at label ss n there.0 l there.1 (told there.0 there.1)
 
 -- what holds of each of some numbers holds of the one at a place

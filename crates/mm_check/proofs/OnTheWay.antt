@@ -12,11 +12,12 @@ use Rattle.mm_text.specs.Remaining.{Remaining}
 use Rattle.mm_text.proofs.FormedLaws.{readings_are_balanced, readings_fit, readings_few}
 use Rattle.mm_frame.specs.Sentence.{Sentence, sentence_of}
 use Rattle.mm_frame.specs.Active as frame
+use Rattle.mm_frame.proofs.Counts.{count_append}
 use Rattle.mm_proof.specs.declared.profile.Profile.{Profile}
 use Rattle.mm_check.specs.declared.progress.Progress.{Progress}
 use Rattle.mm_check.specs.Verdict.{CanBeRead, sentences, is_proof}
 use Rattle.mm_check.specs.Judged.{IsUnderWay, TakesNext}
-use Rattle.mm_check.proofs.Numbers.{count_by-append, count_by-one}
+use Rattle.mm_check.proofs.Numbers.{count_by-one}
 
 -- ## The limit
 
@@ -60,9 +61,9 @@ closes profile files p old new s way taken closing =
     let none : text.openings (s ∷ []) ≡ 0 =
     count_by-one (λ (t : PlainStatement). text.is_opening t.kind) s ∙ ap (λ (k : Kind). cond (text.is_opening k) 1 0) closing in
     let more : text.closings (earlier ++ s ∷ []) ≡ text.closings earlier + text.closings (s ∷ []) =
-    count_by-append (λ (t : PlainStatement). text.is_closing t.kind) earlier (s ∷ []) in
+    count_append (λ (t : PlainStatement). text.is_closing t.kind) earlier (s ∷ []) in
     let same : text.openings (earlier ++ s ∷ []) ≡ text.openings earlier + text.openings (s ∷ []) =
-    count_by-append (λ (t : PlainStatement). text.is_opening t.kind) earlier (s ∷ []) in
+    count_append (λ (t : PlainStatement). text.is_opening t.kind) earlier (s ∷ []) in
     let less : text.closings earlier < text.openings earlier = omega (arith, here, one, none, more, same) in
     let closed : frame.close_marks (sentences earlier) ≡ text.closings earlier = counted_alike text.is_closing earlier in
     let opened : frame.open_marks (sentences earlier) ≡ text.openings earlier = counted_alike text.is_opening earlier in

@@ -31,12 +31,6 @@ rising_push ids x rising less i j a b lt at_i at_j = elim (pushed_cases ids x i 
   ]
 ]
 
-pub in_order_none : (P : ℕ → Type 0) → ((n : ℕ) → ¬ (P n)) → AreInOrder P []
-in_order_none P none = record {
-  rising = λ i j a b lt at_i at_j. absurd cc;
-  each = λ n. ((λ h. absurd (let at = at_from_contains [] n h in let there = at.1 in cc)), λ p. absurd (none n p));
-}
-
 pub in_order_push : (P Q : ℕ → Type 0) (ids : List ℕ) (x : ℕ) → AreInOrder P ids → ((n : ℕ) → P n → n < x)
     → ((n : ℕ) → Q n ↔ (P n ⊎ (n ≡ x))) → AreInOrder Q (ids ++ x ∷ [])
 in_order_push P Q ids x order less same = record {

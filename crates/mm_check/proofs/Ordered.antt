@@ -19,10 +19,10 @@ holds_cons m rest n h = let at = at_from_contains (m ∷ rest) n h in go at.0 at
     go zero e = inl (same_Some m n e)
     go (suc i) e = inr (contains_from_at rest n (i, e))
 
-holds_first : (m : ℕ) (rest : List ℕ) → Contains (m ∷ rest) m
+pub holds_first : (m : ℕ) (rest : List ℕ) → Contains (m ∷ rest) m
 holds_first m rest = contains_from_at (m ∷ rest) m (0, refl)
 
-holds_later : (m : ℕ) (rest : List ℕ) (n : ℕ) → Contains rest n → Contains (m ∷ rest) n
+pub holds_later : (m : ℕ) (rest : List ℕ) (n : ℕ) → Contains rest n → Contains (m ∷ rest) n
 holds_later m rest n h = let at = at_from_contains rest n h in contains_from_at (m ∷ rest) n (suc at.0, at.1)
 
 -- ---- the same numbers
@@ -63,7 +63,7 @@ rising_cons x ms above rising i zero a b less p q = absurd (omega arith)
 rising_cons x ms above rising zero (suc j) a b less p q = subst (λ k. k < b) (same_Some x a p) (above b (contains_from_at ms b (j, q)))
 rising_cons x ms above rising (suc i) (suc j) a b less p q = rising i j a b (omega arith) p q
 
-rising_tail : (x : ℕ) (ms : List ℕ) → AreRising (x ∷ ms) → AreRising ms
+pub rising_tail : (x : ℕ) (ms : List ℕ) → AreRising (x ∷ ms) → AreRising ms
 rising_tail x ms rising i j a b less p q = rising (suc i) (suc j) a b (omega arith) p q
 
 rising_above : (x : ℕ) (ms : List ℕ) → AreRising (x ∷ ms) → Above x ms

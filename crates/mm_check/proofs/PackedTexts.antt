@@ -1,5 +1,5 @@
 -- The text of a packed proof tells its labels and its codes.
-use Rattle.std.proofs.Common.{◌≡◌, ◌↔◌, ℕ, zero, suc, ◌<◌, ◌≤◌, ◌+◌, Bool, true, false, ◌&&◌, List, [], ◌∷◌, ◌++◌, map, take, length, slice_get, Contains, Option, Some, None, option_map, IfSome, inl, inr, refl, sym, ap, subst, ◌∙◌, arith, append_assoc}
+use Rattle.std.proofs.Common.{◌≡◌, ◌↔◌, ℕ, zero, suc, ◌<◌, ◌≤◌, ◌+◌, Bool, true, false, ◌&&◌, List, [], ◌∷◌, map, take, length, slice_get, Contains, Option, Some, None, option_map, IfSome, inl, inr, refl, sym, ap, subst, ◌∙◌, arith, append_assoc}
 use Rattle.std.specs.List.{AllByRecursion, AllZip, flat_map, list_all}
 use Rattle.std.proofs.lemmas.Option.{same_Some}
 use Rattle.std.proofs.lemmas.Bool.Decides.{nat_tests}
@@ -18,7 +18,7 @@ use Rattle.mm_frame.specs.Sentence.{Sentence, SomeSentence, IsLabelled}
 use Rattle.mm_frame.specs.Form.{AllFormed, HasItsLabel}
 use Rattle.mm_frame.specs.Rules.{AllMeant}
 use Rattle.mm_frame.proofs.ReadLaws.{named_kind}
-use Rattle.mm_proof.specs.Tree.{Trees, none, tree, spelling, MayStandOver, Fit}
+use Rattle.mm_proof.specs.Tree.{Trees, none, tree, spelling, Fit}
 use Rattle.mm_proof.specs.Moves.{Move, Makes}
 use Rattle.mm_proof.specs.OneTree.{MakeTree, MakeSameTree}
 use Rattle.mm_proof.specs.Tokens.{closing_token, IsCompressed}
@@ -27,6 +27,8 @@ use Rattle.mm_proof.proofs.Expanded.{made_word}
 use Rattle.mm_proof.proofs.Making.{makes_once}
 use Rattle.mm_proof.proofs.PairOnce.{told_by_packed_holds}
 use Rattle.mm_proof.proofs.SaidMoves.{compressed_once}
+use Rattle.mm_proof.proofs.Derived.{all_mapped}
+use Rattle.mm_proof.proofs.SpelledProofs.{stands_known}
 use Rattle.mm_check.specs.Forms.{IsPackedText}
 use Rattle.mm_text.specs.Token.{PlainToken}
 use Rattle.mm_text.specs.Statement.{PlainStatement}
@@ -43,14 +45,7 @@ use Rattle.mm_check.specs.FormLaws.{PackedTextsTell}
 use Rattle.mm_check.proofs.Asked.{map-take}
 use Rattle.mm_check.proofs.Existence.{formed_sentences}
 use Rattle.mm_check.proofs.Unproved.{all_meant}
-
-all_append : {X : Type 0} (P : X → Type 0) (a b : List X) → AllByRecursion P a → AllByRecursion P b → AllByRecursion P (a ++ b)
-all_append P [] b first second = second
-all_append P (x ∷ a) b first second = (first.0, all_append P a b first.1 second)
-
-all_weaker : {X : Type 0} (P Q : X → Type 0) (xs : List X) → ((x : X) → P x → Q x) → AllByRecursion P xs → AllByRecursion Q xs
-all_weaker P Q [] f all = tt
-all_weaker P Q (x ∷ xs) f all = (f x all.0, all_weaker P Q xs f all.1)
+use Rattle.mm_check.proofs.Texts.{all_append}
 
 -- no label is empty
 abbrev LabelsHaveBytes : List Sentence → Type 0
@@ -93,19 +88,15 @@ pieces_dark (piece ∷ pieces) (code ∷ codes) each =
 letters_dark : (letters : List ℕ) (codes : List Code) → SpellsCodes letters codes → LacksWhiteSpace letters
 letters_dark letters codes spelled =
     subst LacksWhiteSpace (sym spelled.joined)
-    (all_weaker (λ b. 33 ≤ b) (λ b. is_white_space b ≡ false) (flat_map (λ piece. piece) spelled.pieces) dark_byte (pieces_dark spelled.pieces codes spelled.each))
+    (all_mapped (λ b. 33 ≤ b) (λ b. is_white_space b ≡ false) (flat_map (λ piece. piece) spelled.pieces) dark_byte (pieces_dark spelled.pieces codes spelled.each))
 
 -- ---- labels
-
-stands_labelled : (before : List Sentence) (label : List ℕ) (below : Trees) → MayStandOver before label below → SomeSentence before (IsLabelled label)
-stands_labelled before label below (inl h) = (h.1.0, h.1.1, h.1.2, h.1.4.0)
-stands_labelled before label below (inr (place, assertion, hypotheses, names, many)) = (place, assertion, names.there, names.named)
 
 fit_labelled : (before : List Sentence) (trees : Trees) → Fit before trees → AllByRecursion (λ label. SomeSentence before (IsLabelled label)) (spelling trees)
 fit_labelled before none fit = tt
 fit_labelled before (tree label below right) fit =
     all_append (λ x. SomeSentence before (IsLabelled x)) (spelling below) (label ∷ spelling right) (fit_labelled before below fit.1)
-    (stands_labelled before label below fit.0, fit_labelled before right fit.2)
+    (stands_known before label below fit.0, fit_labelled before right fit.2)
 
 uses_among : (P : List ℕ → Type 0) (word seen listed : List (List ℕ)) → AreFirstUses seen word listed → AllByRecursion P word → AllByRecursion P listed
 uses_among P [] seen listed uses all = subst (AllByRecursion P) (sym uses) tt
@@ -144,15 +135,15 @@ listed_proper : (before : List Sentence) (s : Sentence) (trees : Trees) (text : 
 listed_proper before s trees text formed some p =
     let fit : Fit before trees = (made_word before p.packed.moves trees p.packed.shared.kept p.packed.shared.made).1 in
     uses_among IsProper (spelling trees) p.packed.says.labels p.listed p.packed.uses
-    (all_weaker (λ label. SomeSentence before (IsLabelled label)) IsProper (spelling trees) (λ label h. proper_label before label formed some h) (fit_labelled before trees fit))
+    (all_mapped (λ label. SomeSentence before (IsLabelled label)) IsProper (spelling trees) (λ label h. proper_label before label formed some h) (fit_labelled before trees fit))
 
 same_parts : (before : List Sentence) (s : Sentence) (t u : Trees) (text other : List ℕ) → AllFormed before → LabelsHaveBytes before → (p : IsPackedText before s t text) → (q : IsPackedText before s u other)
     → text ≡ other → (p.listed ≡ q.listed) × (p.codes ≡ q.codes)
 same_parts before s t u text other formed some p q same =
     let first = listed_proper before s t text formed some p in
     let second = listed_proper before s u other formed some q in
-    let one = compressed_read_back p.listed p.letters text (all_weaker IsProper IsOneToken p.listed (λ label h. h.0) first) (letters_dark p.letters p.codes p.spelled) p.laid in
-    let two = compressed_read_back q.listed q.letters other (all_weaker IsProper IsOneToken q.listed (λ label h. h.0) second) (letters_dark q.letters q.codes q.spelled) q.laid in
+    let one = compressed_read_back p.listed p.letters text (all_mapped IsProper IsOneToken p.listed (λ label h. h.0) first) (letters_dark p.letters p.codes p.spelled) p.laid in
+    let two = compressed_read_back q.listed q.letters other (all_mapped IsProper IsOneToken q.listed (λ label h. h.0) second) (letters_dark q.letters q.codes q.spelled) q.laid in
     let tokens : List (List ℕ) = tokens_in text in
     let mine : IsCompressed tokens p.listed one.0 = record { whole = one.1 ∙ ap (λ (ws : List (List ℕ)). (40 ∷ []) ∷ ws) (append_assoc p.listed ((41 ∷ []) ∷ []) one.0); first = none_closing p.listed first } in
     let yours : IsCompressed tokens q.listed two.0 = record { whole = ap tokens_in same ∙ two.1 ∙ ap (λ (ws : List (List ℕ)). (40 ∷ []) ∷ ws) (append_assoc q.listed ((41 ∷ []) ∷ []) two.0); first = none_closing q.listed second } in

@@ -11,17 +11,9 @@ use Rattle.mm_check.specs.Verdict.{sentences, is_proof, is_unproved}
 use Rattle.mm_check.specs.Rests.{AreRising, AreInOrder, IsNumberWhere, IsNamed, RestsOn, Uses}
 use Rattle.mm_check.specs.Laws.{OneReport}
 use Rattle.mm_check.proofs.Unproved.{all_meant}
+use Rattle.mm_check.proofs.Ordered.{holds_first, holds_later, rising_tail}
 
 -- ---- numbers in order are one list
-
-holds_first : (x : ℕ) (xs : List ℕ) → Contains (x ∷ xs) x
-holds_first x xs = contains_from_at (x ∷ xs) x (0, refl)
-
-holds_after : (x : ℕ) (xs : List ℕ) (n : ℕ) → Contains xs n → Contains (x ∷ xs) n
-holds_after x xs n h = let at = at_from_contains xs n h in contains_from_at (x ∷ xs) n (suc at.0, at.1)
-
-rising_tail : (x : ℕ) (xs : List ℕ) → AreRising (x ∷ xs) → AreRising xs
-rising_tail x xs rising i j a b less at_i at_j = rising (suc i) (suc j) a b (omega arith) at_i at_j
 
 -- the first is less than the others
 first_less : (x : ℕ) (xs : List ℕ) (n : ℕ) → AreRising (x ∷ xs) → Contains xs n → x < n
@@ -56,8 +48,8 @@ rising_once (x ∷ xs) [] rising other to from = let at = at_from_contains [] x 
 rising_once (x ∷ xs) (y ∷ ys) rising other to from =
     let e : x ≡ y = same_first x y xs ys rising other (to x (holds_first x xs)) (from y (holds_first y ys)) in
     let rest : xs ≡ ys = rising_once xs ys (rising_tail x xs rising) (rising_tail y ys other)
-    (λ n h. later_within x y xs ys n e rising (to n (holds_after x xs n h)) h)
-    (λ n h. later_within y x ys xs n (sym e) other (from n (holds_after y ys n h)) h) in
+    (λ n h. later_within x y xs ys n e rising (to n (holds_later x xs n h)) h)
+    (λ n h. later_within y x ys xs n (sym e) other (from n (holds_later y ys n h)) h) in
     cc
 
 in_order_once : (P : ℕ → Type 0) (xs ys : List ℕ) → AreInOrder P xs → AreInOrder P ys → xs ≡ ys

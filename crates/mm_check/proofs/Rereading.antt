@@ -1,8 +1,6 @@
 -- Statements of the files, read again, are those that were judged.
 use Rattle.std.proofs.Common.{◌≡◌, ℕ, zero, suc, ◌≤◌, List, [], ◌∷◌, ◌++◌, map, take, drop, length, sum_by, slice_get, Bool, true, false, not, ◌&&◌, Option, Some, None, Result, Ok, Err, IsErrAnd, IfErr, refl, sym, ap, subst, ◌∙◌, arith}
 use Rattle.std.proofs.lemmas.List.Sums.{sum_by-cons}
-use Rattle.mm_text.specs.declared.statement.Kind.{Kind}
-use Rattle.mm_text.specs.declared.statement.Kind.TheVariants.{Provable}
 use Rattle.mm_text.specs.Token.{PlainToken}
 use Rattle.mm_text.specs.Statement.{PlainStatement, bytes_in}
 use Rattle.mm_text.specs.Files.{PlainFile}
@@ -31,6 +29,7 @@ use Rattle.mm_check.specs.CodeShown.{IsStillLeft, IsProofOf, SayStepsOf, AreStep
 use Rattle.mm_check.proofs.Judging.{incomplete_is}
 use Rattle.mm_check.proofs.OnTheWay.{within_limit}
 use Rattle.mm_check.proofs.Asked.{map-take}
+use Rattle.mm_check.proofs.Unproved.{provable_kind}
 
 -- ---- up to a statement with a label
 
@@ -46,12 +45,6 @@ stands_later s statements label t other (zero, there, named) =
     let same : s ≡ t = cc in absurd (other (subst (λ (u : PlainStatement). IsLabelled label (sentence_of u)) (sym same) named))
 stands_later s statements label t other (suc place, there, named) = (place, there, named)
 
-no_stand : (label : List ℕ) (t : PlainStatement) → ¬ (Stands [] label t)
-no_stand label t (place, there, named) = cc
-
-pub sought_start : (label : List ℕ) (first : Remaining) → first.ending ≡ None → (s : PlainStatement) × Stands first.statements label s → IsStillLeft label first first
-sought_start label first faultless some = record { faultless = faultless; some = some; within = λ s h. h }
-
 pub sought_on : (label : List ℕ) (first old new : Remaining) (s : PlainStatement) → IsStillLeft label first old → TakesNext old true s new → ¬ (IsLabelled label (sentence_of s)) → IsStillLeft label first new
 sought_on label first old new s sought taken other =
     let here : Stands (s ∷ new.statements) label sought.some.0 =
@@ -65,10 +58,6 @@ sought_on label first old new s sought taken other =
 pub sought_found : (label : List ℕ) (first old new : Remaining) (s : PlainStatement) → IsStillLeft label first old → TakesNext old true s new → IsLabelled label (sentence_of s) → Stands first.statements label s
 sought_found label first old new s sought taken named =
     sought.within s (subst (λ (ss : List PlainStatement). Stands ss label s) (sym taken.0) (stands_first s new.statements label named))
-
-pub sought_end : (label : List ℕ) (first old new : Remaining) (s : PlainStatement) → IsStillLeft label first old → TakesNext old false s new → ⊥
-sought_end label first old new s sought taken =
-    no_stand label sought.some.0 (subst (λ (ss : List PlainStatement). Stands ss label sought.some.0) taken.0 sought.some.1)
 
 -- ---- the reading is one
 
@@ -107,10 +96,6 @@ one_stands statements label place s t all there named (other, at, labelled) =
     one_label (sentences statements) label other place (sentence_of t) (sentence_of s) all (said_there statements other t at) (said_there statements place s there) labelled named in
     let here : slice_get statements place ≡ Some t = subst (λ (n : ℕ). slice_get statements n ≡ Some t) same at in
     cc
-
-pub provable_kind : (kind : Kind) (rest : Bool) → (is_provable kind && rest) ≡ true → kind ≡ Provable
-provable_kind Provable rest e = refl
-provable_kind kind rest e = absurd cc
 
 complete_test : (a b : Bool) → (a && not b) ≡ true → b ≡ true → ⊥
 complete_test true b e f = cc

@@ -1,6 +1,7 @@
 -- Files in which one proof is put in for another are accepted alike.
 use Rattle.std.proofs.Common.{◌≡◌, ◌≢◌, ℕ, zero, suc, ◌+◌, ◌≤◌, ◌<◌, List, [], ◌∷◌, ◌++◌, map, take, drop, length, filter, flat_map, count_by, cond, slice_get, slice_set, Bool, true, false, not, ◌&&◌, Some, None, ◌⊎◌, inl, inr, refl, sym, ap, subst, ◌∙◌, arith, length-append}
 use Rattle.std.proofs.Math.Seq.{take-append_seam}
+use Rattle.std.proofs.lemmas.Bool.{and_parts}
 use Rattle.mm_text.specs.declared.fault.LoadRule.{LoadRule}
 use Rattle.mm_text.specs.declared.fault.LoadRule.TheVariants as load
 use Rattle.mm_text.specs.Token.{tokens_from}
@@ -50,13 +51,9 @@ pub record IsProvedAnew (profile : Profile) (front : List Sentence) (t : PlainSt
   pub proof : IsProved front (sentence_of t) (proof_of t)
   pub spelled : tree_of proof ≡ tree root below none
 
-provable_part : (a b : Bool) → (a && b) ≡ true → a ≡ true
-provable_part true b h = refl
-provable_part false b h = absurd cc
-
 complete_again : (s : PlainStatement) (tokens : List (List ℕ)) → is_proof s ≡ true → is_incomplete tokens ≡ false → (is_provable s.kind && not (is_incomplete tokens)) ≡ true
 complete_again s tokens complete known =
-    let kind : is_provable s.kind ≡ true = provable_part (is_provable s.kind) (not (is_incomplete (proof_of s))) complete in
+    let kind : is_provable s.kind ≡ true = (and_parts (is_provable s.kind) (not (is_incomplete (proof_of s))) complete).0 in
     λ i. kind i && not (known i)
 
 pub proved_anew : (profile : Profile) (front : List Sentence) (s : PlainStatement) (root : List ℕ) (below : Trees) (moves : List (Move (List ℕ))) (text : List ℕ) → AllMeant front → is_proof s ≡ true

@@ -22,6 +22,7 @@ use Rattle.mm_proof.specs.Proof.{IsProvedWithin}
 use Rattle.mm_proof.proofs.Making.{makes_once}
 use Rattle.mm_proof.proofs.SaidMoves.{moves_once}
 use Rattle.mm_proof.proofs.SpelledProofs.{label_fits, stands_known, IsProofBy, spelled_proves, packed_listed, packed_proves}
+use Rattle.mm_proof.proofs.Derived.{all_at, all_mapped}
 use Rattle.mm_check.specs.declared.form.Form.{Form}
 use Rattle.mm_check.specs.declared.form.Form.TheVariants as form
 use Rattle.mm_check.specs.Verdict.{sentences}
@@ -49,18 +50,13 @@ label_spelled own s label h named = go (list_all is_label_byte s.first.text) ref
     go false e =
         let none : None ≡ Some label = sym (ap (option_map (λ (t : PlainToken). t.text)) (told false e)) ∙ named in absurd cc
 
-formed_at : {X : Type 0} (P : X → Type 0) (xs : List X) (k : ℕ) (x : X) → AllByRecursion P xs → slice_get xs k ≡ Some x → P x
-formed_at P [] k x all is = absurd cc
-formed_at P (y ∷ xs) zero x all is = let same : y ≡ x = cc in subst P same all.0
-formed_at P (y ∷ xs) (suc k) x all is = formed_at P xs k x all.1 is
-
 own_label : (files : List PlainFile) (statements : List PlainStatement) (place : ℕ) (s : PlainStatement) (label : List ℕ) → Reads files statements None → slice_get statements place ≡ Some s → IsLabelled label (sentence_of s)
     → IsLabel label × (1 ≤ length label)
 own_label files statements place s label reads there named =
     let parted : statements ≡ take place statements ++ s ∷ drop (suc place) statements = parts_at statements place s there in
     let parts = parts_of reads.finished (take place statements) s (drop (suc place) statements) (subst (λ (ss : List PlainStatement). SpellsAll reads.finished ss) parted reads.spelled) in
     let (is, text) = label_spelled parts.own s label parts.here named in
-    let formed : HasForm s = formed_at HasForm statements place s (readings_are_formed_in_place files statements None reads).formed there in
+    let formed : HasForm s = all_at HasForm statements place s (readings_are_formed_in_place files statements None reads).formed there in
     (is, subst (λ (l : List ℕ). 1 ≤ length l) text formed.first)
 
 -- the statement that says what is said at a place
@@ -81,10 +77,6 @@ all_contained : {X : Type 0} (P : X → Type 0) (xs : List X) → ((x : X) → C
 all_contained P [] f = tt
 all_contained P (x ∷ xs) f =
     (f x (contains_from_at (x ∷ xs) x (0, refl)), all_contained P xs (λ y h. let at = at_from_contains xs y h in f y (contains_from_at (x ∷ xs) y (suc at.0, at.1))))
-
-all_so : {X : Type 0} (P Q : X → Type 0) (xs : List X) → ((x : X) → P x → Q x) → AllByRecursion P xs → AllByRecursion Q xs
-all_so P Q [] f h = tt
-all_so P Q (x ∷ xs) f h = (f x h.0, all_so P Q xs f h.1)
 
 tokens_joined : (a b : List (List ℕ)) → AllByRecursion AreFine a → AllByRecursion AreFine b → AllByRecursion AreFine (a ++ b)
 tokens_joined [] b h k = k
@@ -114,8 +106,8 @@ normal_reads before s root below text meant labels fit laid =
     let words : AllByRecursion IsWord tokens = all_contained IsWord tokens (spelled_words before (tree root below none) labels fit) in
     record {
       tokens = tokens;
-      read = normal_read_back tokens text (all_so IsWord IsOneToken tokens one_token words) laid;
-      fine = all_so IsWord AreFine tokens (λ label is. label_all_fine label is.0) words;
+      read = normal_read_back tokens text (all_mapped IsWord IsOneToken tokens one_token words) laid;
+      fine = all_mapped IsWord AreFine tokens (λ label is. label_all_fine label is.0) words;
       ends = normal_ends tokens text laid;
       proves = λ Fits derived. spelled_proves Fits before s root below meant (λ c. no_parenthesis 40 (omega arith) (spelled_words before (tree root below none) labels fit opening_token c).0) derived;
     }
@@ -126,8 +118,8 @@ packed_reads before s root below text meant labels fit p =
     let trees : Trees = tree root below none in
     let words : AllByRecursion IsWord p.listed = all_contained IsWord p.listed (λ label c. spelled_words before trees labels fit label (packed_listed before s trees p.listed p.codes label p.packed c)) in
     let letters : AreFine p.letters = letters_fine p.letters p.codes p.spelled in
-    let (pieces, read, joined) = compressed_read_back p.listed p.letters text (all_so IsWord IsOneToken p.listed one_token words) (fine_lacks p.letters letters) p.laid in
-    let listed : AllByRecursion AreFine p.listed = all_so IsWord AreFine p.listed (λ label is. label_all_fine label is.0) words in
+    let (pieces, read, joined) = compressed_read_back p.listed p.letters text (all_mapped IsWord IsOneToken p.listed one_token words) (fine_lacks p.letters letters) p.laid in
+    let listed : AllByRecursion AreFine p.listed = all_mapped IsWord AreFine p.listed (λ label is. label_all_fine label is.0) words in
     let left : AreFine (40 ∷ []) = ((omega arith, (omega arith, ((λ e. omega (arith, e)), (λ e. omega (arith, e))))), tt) in
     let right : AreFine (41 ∷ []) = ((omega arith, (omega arith, ((λ e. omega (arith, e)), (λ e. omega (arith, e))))), tt) in
     record {

@@ -2,7 +2,7 @@
 use Rattle.std.proofs.Common.{◌≡◌, ◌≢◌, ℕ, ◌+◌, ◌≤◌, ◌==◌, ◌||◌, ◌&&◌, List, [], ◌∷◌, ◌++◌, map, cond, Bool, true, false, refl, sym, ap, subst, ◌∙◌, arith, append_assoc, append-nil, eq-eqb}
 use Rattle.std.specs.Prelude.{nat_le}
 use Rattle.std.specs.List.{AllByRecursion, AllZip, flat_map, list_all, list_any, onto_first}
-use Rattle.std.proofs.lemmas.Bool.{leb-true, eqb-true, le-leb, ne_eqb}
+use Rattle.std.proofs.lemmas.Bool.{leb-true, eqb-true, le-leb, ne_eqb, and_parts}
 use Rattle.mm_text.specs.Token.{PlainToken, is_space, is_printable, is_label_byte, IsLabel, HoldsNoDollar, with_byte, tokens_from}
 use Rattle.mm_text.specs.Replaced.{IsProofToken, IsProofText}
 use Rattle.mm_text.proofs.TokenLaws.{BeginFrom, tokens_from-nil, tokens_from-space, tokens_from-byte, tokens_from_begin, with_byte_apart}
@@ -12,6 +12,7 @@ use Rattle.mm_code.specs.Letters.{IsLeadingDigit, leading_letter, last_letter, S
 use Rattle.mm_code.specs.Layout.{indent, token_line, LaidOut, CompressedLaidOut, in_parentheses}
 use Rattle.mm_code.specs.Words.{is_white_space, tokens_in, LacksWhiteSpace}
 use Rattle.mm_check.specs.Verdict.{is_incomplete}
+use Rattle.mm_check.proofs.Texts.{tokens_in-nil, tokens_in-space, tokens_in-last, tokens_in-end, tokens_in-on}
 
 -- ---- the words of a text are the texts of its tokens
 
@@ -24,27 +25,6 @@ same_of_five false false false d e = refl
 
 white_is : (b : ℕ) → is_space b ≡ is_white_space b
 white_is b = same_of_five (b == 32) (b == 9) (b == 10) (b == 12) (b == 13)
-
-words-nil : tokens_in [] ≡ []
-unfolding tokens_in
-words-nil = refl
-
-words-last : (byte : ℕ) → is_white_space byte ≡ false → tokens_in (byte ∷ []) ≡ (byte ∷ []) ∷ []
-unfolding tokens_in
-words-last byte dark = rw dark refl
-
-words-space : (byte : ℕ) (bytes : List ℕ) → is_white_space byte ≡ true → tokens_in (byte ∷ bytes) ≡ tokens_in bytes
-unfolding tokens_in
-words-space byte [] white = rw white refl
-words-space byte (next ∷ bytes) white = rw white refl
-
-words-end : (byte next : ℕ) (bytes : List ℕ) → is_white_space byte ≡ false → is_white_space next ≡ true → tokens_in (byte ∷ next ∷ bytes) ≡ (byte ∷ []) ∷ tokens_in (next ∷ bytes)
-unfolding tokens_in
-words-end byte next bytes dark white = rw (dark, white) refl
-
-words-on : (byte next : ℕ) (bytes : List ℕ) → is_white_space byte ≡ false → is_white_space next ≡ false → tokens_in (byte ∷ next ∷ bytes) ≡ onto_first byte (tokens_in (next ∷ bytes))
-unfolding tokens_in
-words-on byte next bytes dark dark_next = rw (dark, dark_next) refl
 
 abbrev pub texts_of : List PlainToken → List (List ℕ)
 texts_of tokens = map (λ t. t.text) tokens
@@ -73,7 +53,7 @@ byte_on file at b next bytes dark dark_next rest =
     let read : text ∷ texts_of others ≡ tokens_in (next ∷ bytes) = sym (ap texts_of first) ∙ rest in
     ap texts_of (tokens_from-byte file at b (next ∷ bytes) dark ∙ ap (with_byte file at b) first ∙ joined_first file at b text others)
     ∙ ap (onto_first b) read
-    ∙ sym (words-on b next bytes (sym (white_is b) ∙ dark) (sym (white_is next) ∙ dark_next))
+    ∙ sym (tokens_in-on b next bytes (sym (white_is b) ∙ dark) (sym (white_is next) ∙ dark_next))
 
 -- a byte before white space
 byte_alone : (file at b next : ℕ) (bytes : List ℕ) → is_space b ≡ false → is_space next ≡ true → texts_of (tokens_from file (at + 1) (next ∷ bytes)) ≡ tokens_in (next ∷ bytes)
@@ -85,19 +65,19 @@ byte_alone file at b next bytes dark white rest =
     (subst (λ (n : ℕ). BeginFrom n (tokens_from file (at + 1 + 1) bytes)) further (tokens_from_begin file (at + 1 + 1) bytes)) in
     ap texts_of (tokens_from-byte file at b (next ∷ bytes) dark ∙ with_byte_apart file at b (tokens_from file (at + 1) (next ∷ bytes)) later)
     ∙ ap (λ (ws : List (List ℕ)). (b ∷ []) ∷ ws) rest
-    ∙ sym (words-end b next bytes (sym (white_is b) ∙ dark) (sym (white_is next) ∙ white))
+    ∙ sym (tokens_in-end b next bytes (sym (white_is b) ∙ dark) (sym (white_is next) ∙ white))
 
 pub texts_in : (file at : ℕ) (bytes : List ℕ) → texts_of (tokens_from file at bytes) ≡ tokens_in bytes
-texts_in file at [] = ap texts_of (tokens_from-nil file at) ∙ sym words-nil
+texts_in file at [] = ap texts_of (tokens_from-nil file at) ∙ sym tokens_in-nil
 texts_in file at (b ∷ []) = go (is_space b) refl
   where
     go : (s : Bool) → is_space b ≡ s → texts_of (tokens_from file at (b ∷ [])) ≡ tokens_in (b ∷ [])
-    go true white = ap texts_of (tokens_from-space file at b [] white ∙ tokens_from-nil file (at + 1)) ∙ sym (words-space b [] (sym (white_is b) ∙ white) ∙ words-nil)
-    go false dark = ap texts_of (tokens_from-byte file at b [] dark ∙ ap (with_byte file at b) (tokens_from-nil file (at + 1))) ∙ sym (words-last b (sym (white_is b) ∙ dark))
+    go true white = ap texts_of (tokens_from-space file at b [] white ∙ tokens_from-nil file (at + 1)) ∙ sym (tokens_in-space b [] (sym (white_is b) ∙ white) ∙ tokens_in-nil)
+    go false dark = ap texts_of (tokens_from-byte file at b [] dark ∙ ap (with_byte file at b) (tokens_from-nil file (at + 1))) ∙ sym (tokens_in-last b (sym (white_is b) ∙ dark))
 texts_in file at (b ∷ next ∷ bytes) = go (texts_in file (at + 1) (next ∷ bytes)) (is_space b) refl (is_space next) refl
   where
     go : texts_of (tokens_from file (at + 1) (next ∷ bytes)) ≡ tokens_in (next ∷ bytes) → (s : Bool) → is_space b ≡ s → (n : Bool) → is_space next ≡ n → texts_of (tokens_from file at (b ∷ next ∷ bytes)) ≡ tokens_in (b ∷ next ∷ bytes)
-    go rest true white n e = ap texts_of (tokens_from-space file at b (next ∷ bytes) white) ∙ rest ∙ sym (words-space b (next ∷ bytes) (sym (white_is b) ∙ white))
+    go rest true white n e = ap texts_of (tokens_from-space file at b (next ∷ bytes) white) ∙ rest ∙ sym (tokens_in-space b (next ∷ bytes) (sym (white_is b) ∙ white))
     go rest false dark true white = byte_alone file at b next bytes dark white rest
     go rest false dark false dark_next = byte_on file at b next bytes dark dark_next rest
 
@@ -119,12 +99,8 @@ one_of_six false false false false true f P h pa pb pc pd pe pf = pe refl
 one_of_six false false false false false true P h pa pb pc pd pe pf = pf refl
 one_of_six false false false false false false P h pa pb pc pd pe pf = absurd cc
 
-both_true : (a b : Bool) → (a && b) ≡ true → (a ≡ true) × (b ≡ true)
-both_true true b h = (refl, h)
-both_true false b h = absurd cc
-
 label_range : (b low high : ℕ) → (nat_le low b && nat_le b high) ≡ true → (low ≤ b) × (b ≤ high)
-label_range b low high h = let both = both_true (nat_le low b) (nat_le b high) h in (leb-true low b both.0, leb-true b high both.1)
+label_range b low high h = let both = and_parts (nat_le low b) (nat_le b high) h in (leb-true low b both.0, leb-true b high both.1)
 
 label_is : (b n : ℕ) → (b == n) ≡ true → b ≡ n
 label_is b n h = eqb-true b n h
@@ -146,12 +122,12 @@ label_fine b h =
 pub label_all_fine : (text : List ℕ) → IsLabel text → AreFine text
 label_all_fine [] h = tt
 label_all_fine (b ∷ text) h =
-    let both = both_true (is_label_byte b) (list_all is_label_byte text) h in ((label_fine b both.0).0, label_all_fine text both.1)
+    let both = and_parts (is_label_byte b) (list_all is_label_byte text) h in ((label_fine b both.0).0, label_all_fine text both.1)
 
 -- a parenthesis is no label
 pub no_parenthesis : (b : ℕ) → b ≤ 41 → ¬ (IsLabel (b ∷ []))
 no_parenthesis b small h =
-    let both = both_true (is_label_byte b) true h in
+    let both = and_parts (is_label_byte b) true h in
     let more = (label_fine b both.0).1 in absurd (omega (arith, more, small))
 
 -- ---- letters
@@ -279,7 +255,7 @@ compressed_ends labels letters text laid =
 -- ---- a text that may stand between a `$=` and a `$.`
 
 pub words_after_feed : (text : List ℕ) → tokens_in (10 ∷ text) ≡ tokens_in text
-words_after_feed text = words-space 10 text refl
+words_after_feed text = tokens_in-space 10 text refl
 
 pub is_proof_text : (text : List ℕ) (tokens : List (List ℕ)) → tokens_in text ≡ tokens → AllByRecursion AreFine tokens → EndsLine text → IsProofText (10 ∷ text)
 is_proof_text text tokens read fine (inner, ends) = record {

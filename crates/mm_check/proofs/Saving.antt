@@ -1,6 +1,5 @@
 -- What is put into a file, and why nothing is.
 use Rattle.std.proofs.Common.{◌≡◌, ℕ, zero, suc, ◌+◌, ◌-◌, ◌<◌, ◌≤◌, ◌↔◌, List, [], ◌∷◌, ◌++◌, map, take, drop, length, slice_get, slice_set, slice_index_or, nat_lt, true, not, IsTrue, Option, Some, None, Result, Ok, inl, inr, refl, sym, ap, subst, ◌∙◌, arith, rules, length-append}
-use Rattle.std.specs.List.{AllByRecursion}
 use Rattle.std.proofs.lemmas.List.Sums.{sum_by-cons}
 use Rattle.mm_text.specs.declared.file.File.{File}
 use Rattle.mm_text.specs.declared.statement.Kind.TheVariants.{Provable}
@@ -16,6 +15,7 @@ use Rattle.mm_frame.proofs.Meant.{parts_at}
 use Rattle.mm_proof.specs.ReadSteps.{ReadSteps}
 use Rattle.mm_proof.specs.Packing.{OfTree}
 use Rattle.mm_proof.specs.declared.profile.Profile.{Profile}
+use Rattle.mm_proof.proofs.Derived.{all_at}
 use Rattle.mm_check.specs.declared.form.Form.{Form}
 use Rattle.mm_check.specs.declared.form.Form.TheVariants as form
 use Rattle.mm_check.specs.declared.ask.AskFault.{AskFault}
@@ -30,8 +30,9 @@ use Rattle.mm_check.specs.Saved.{IsTextIn, IsSaved, total_with, IsFormFault, IsS
 use Rattle.mm_check.specs.CodeShown.{AreProvedSteps, AreStepsOf}
 use Rattle.mm_check.specs.CodeSaved.{IsHomeOf, IsTextOf, IsTextFault, HoldsSpan, IsPutIn, IsPutFault}
 use Rattle.mm_check.proofs.Replies.{accepted_with}
-use Rattle.mm_check.proofs.Rereading.{one_stands, provable_kind}
+use Rattle.mm_check.proofs.Rereading.{one_stands}
 use Rattle.mm_check.proofs.Theorems.{of_theorem, tree_made, has_tree, normal_fault, ask_fault}
+use Rattle.mm_check.proofs.Unproved.{provable_kind}
 
 -- ---- files
 
@@ -89,15 +90,10 @@ file_over files k d bytes count total less within same long =
 
 -- ---- where a theorem stands
 
-member_at : {X : Type 0} (P : X → Type 0) (xs : List X) (k : ℕ) (x : X) → AllByRecursion P xs → slice_get xs k ≡ Some x → P x
-member_at P [] k x all is = absurd cc
-member_at P (y ∷ xs) zero x all is = let same : y ≡ x = cc is in subst P same all.0
-member_at P (y ∷ xs) (suc k) x all is = member_at P xs k x all.1 is
-
 pub home_file : (files : List PlainFile) (statements : List PlainStatement) (place : ℕ) (s : PlainStatement) → Reads files statements None → slice_get statements place ≡ Some s
     → (file : PlainFile) × (slice_get files s.first.file ≡ Some file)
 home_file files statements place s reads there =
-    let placed : IsInPlace files s = member_at (IsInPlace files) statements place s (readings_are_formed_in_place files statements None reads).in_place there in
+    let placed : IsInPlace files s = all_at (IsInPlace files) statements place s (readings_are_formed_in_place files statements None reads).in_place there in
     (placed.first.0, placed.first.1)
 
 pub provable_proof : (s : PlainStatement) → is_proof s ≡ true → s.kind ≡ Provable

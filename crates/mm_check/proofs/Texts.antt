@@ -27,24 +27,24 @@ some_meets f p (t ∷ ts) (suc i) d less one = go (some_meets f p ts i d (omega 
 
 -- ---- tokens
 
-tokens_in-nil : tokens_in [] ≡ []
+pub tokens_in-nil : tokens_in [] ≡ []
 unfolding tokens_in
 tokens_in-nil = refl
 
-tokens_in-space : (byte : ℕ) (bytes : List ℕ) → is_white_space byte ≡ true → tokens_in (byte ∷ bytes) ≡ tokens_in bytes
+pub tokens_in-space : (byte : ℕ) (bytes : List ℕ) → is_white_space byte ≡ true → tokens_in (byte ∷ bytes) ≡ tokens_in bytes
 unfolding tokens_in
 tokens_in-space byte [] white = rw white refl
 tokens_in-space byte (next ∷ bytes) white = rw white refl
 
-tokens_in-last : (byte : ℕ) → is_white_space byte ≡ false → tokens_in (byte ∷ []) ≡ (byte ∷ []) ∷ []
+pub tokens_in-last : (byte : ℕ) → is_white_space byte ≡ false → tokens_in (byte ∷ []) ≡ (byte ∷ []) ∷ []
 unfolding tokens_in
 tokens_in-last byte dark = rw dark refl
 
-tokens_in-end : (byte space : ℕ) (bytes : List ℕ) → is_white_space byte ≡ false → is_white_space space ≡ true → tokens_in (byte ∷ space ∷ bytes) ≡ (byte ∷ []) ∷ tokens_in (space ∷ bytes)
+pub tokens_in-end : (byte space : ℕ) (bytes : List ℕ) → is_white_space byte ≡ false → is_white_space space ≡ true → tokens_in (byte ∷ space ∷ bytes) ≡ (byte ∷ []) ∷ tokens_in (space ∷ bytes)
 unfolding tokens_in
 tokens_in-end byte space bytes dark white = rw (dark, white) refl
 
-tokens_in-on : (byte next : ℕ) (bytes : List ℕ) → is_white_space byte ≡ false → is_white_space next ≡ false → tokens_in (byte ∷ next ∷ bytes) ≡ onto_first byte (tokens_in (next ∷ bytes))
+pub tokens_in-on : (byte next : ℕ) (bytes : List ℕ) → is_white_space byte ≡ false → is_white_space next ≡ false → tokens_in (byte ∷ next ∷ bytes) ≡ onto_first byte (tokens_in (next ∷ bytes))
 unfolding tokens_in
 tokens_in-on byte next bytes dark dark_next = rw (dark, dark_next) refl
 
@@ -59,12 +59,10 @@ tokens_in-word byte [] (space ∷ bytes) dark stop = tokens_in-end byte space by
 tokens_in-word byte (next ∷ word) after dark stop =
     tokens_in-on byte next (word ++ after) dark.0 dark.1.0 ∙ ap (onto_first byte) (tokens_in-word next word after dark.1 stop)
 
-all-append : {X : Type 0} (P : X → Type 0) (a b : List X) → AllByRecursion P a → AllByRecursion P b → AllByRecursion P (a ++ b)
-all-append P [] b first second = second
-all-append P (x ∷ a) b first second = (first.0, all-append P a b first.1 second)
-
-pub front_none : (text : List ℕ) → AreFrontTokens text [] text
-front_none text = record { whole = refl; filled = tt; room = omega arith }
+-- what holds of all of two lists
+pub all_append : {X : Type 0} (P : X → Type 0) (a b : List X) → AllByRecursion P a → AllByRecursion P b → AllByRecursion P (a ++ b)
+all_append P [] b first second = second
+all_append P (x ∷ a) b first second = (first.0, all_append P a b first.1 second)
 
 -- a byte of white space is passed over
 pub front_space : (text : List ℕ) (tokens : List (List ℕ)) (byte : ℕ) (bytes : List ℕ) → AreFrontTokens text tokens (byte ∷ bytes) → is_white_space byte ≡ true → AreFrontTokens text tokens bytes
@@ -81,7 +79,7 @@ pub front_word : (text : List ℕ) (tokens : List (List ℕ)) (byte : ℕ) (word
 front_word text tokens byte word after front dark stop =
     record {
       whole = append_assoc tokens ((byte ∷ word) ∷ []) (tokens_in after) ∙ ap (λ (ws : List (List ℕ)). tokens ++ ws) (sym (tokens_in-word byte word after dark stop)) ∙ front.whole;
-      filled = all-append (λ (t : List ℕ). 1 ≤ length t) tokens ((byte ∷ word) ∷ []) front.filled (omega arith, tt);
+      filled = all_append (λ (t : List ℕ). 1 ≤ length t) tokens ((byte ∷ word) ∷ []) front.filled (omega arith, tt);
       room = omega (arith, front.room, sum_by-append (length {A = ℕ}) tokens ((byte ∷ word) ∷ []), length-append (byte ∷ word) after);
     }
 

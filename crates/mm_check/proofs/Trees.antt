@@ -20,8 +20,7 @@ use Rattle.mm_check.proofs.Ordered.{ordered_used}
 use Rattle.mm_check.specs.Verdict.{sentences, proof_of, is_proof}
 use Rattle.mm_check.specs.Rests.{IsAt, IsNumberWhere, AreInOrder, tree_of, HasTree, AreUses}
 use Rattle.mm_check.specs.Judged.{IsProvedUsing, KeepsProof}
-use Rattle.mm_frame.proofs.Numbered.{at_from_contains}
-use Rattle.mm_check.proofs.Order.{holds_cases, in_order_none, in_order_push, in_order_same}
+use Rattle.mm_check.proofs.Order.{holds_cases, in_order_push, in_order_same}
 
 -- ---- numbers
 
@@ -181,13 +180,3 @@ uses_more profile statements s old new named uses false e keeps =
       each = λ v h. uses_grow statements (s ∷ []) v (uses.each v h);
     } in
     subst (λ (us : List ProofUses). AreUses (statements ++ s ∷ []) us) (sym (keeps.none refl)) whole
-
--- before any statement nothing is kept
-none_numbered : (P : PlainStatement → Type 0) (n : ℕ) → ¬ (IsNumberWhere [] P n)
-none_numbered P n p = let there = p.2.there in cc
-
-pub none_noted : (P : PlainStatement → Type 0) → AreInOrder (IsNumberWhere [] P) []
-none_noted P = in_order_none (IsNumberWhere [] P) (none_numbered P)
-
-pub no_uses : AreUses [] []
-no_uses = record { proofs = none_noted (λ s. is_proof s ≡ true); each = λ u h. absurd (let at = at_from_contains [] u h in let there = at.1 in cc) }

@@ -1,7 +1,8 @@
 -- Statements one by one: those that are meant, and the `$p` whose proofs are incomplete.
-use Rattle.std.proofs.Common.{◌≡◌, List, [], ◌∷◌, ◌++◌, map, filter, Bool, true, false, not, ◌&&◌, cond, Option, refl, sym, ap, subst, ◌∙◌}
+use Rattle.std.proofs.Common.{◌≡◌, List, [], ◌∷◌, ◌++◌, map, filter, Bool, true, false, ◌&&◌, cond, Option, refl, sym, ap, subst, ◌∙◌}
 use Rattle.std.specs.List.{flat_map, AllByRecursion}
 use Rattle.std.specs.Option.{option_to_list, option_map}
+use Rattle.std.proofs.lemmas.Bool.{and_parts}
 use Rattle.mm_text.specs.declared.statement.Kind.{Kind}
 use Rattle.mm_text.specs.declared.statement.Kind.TheVariants.{Constants, Variables, Distinct, Floating, Essential, Axiom, Provable, Opening, Closing}
 use Rattle.mm_text.specs.Token.{PlainToken}
@@ -11,6 +12,7 @@ use Rattle.mm_frame.specs.Rules.{AllMeant, IsMeant}
 use Rattle.mm_proof.specs.declared.profile.Profile.{Profile}
 use Rattle.mm_check.specs.Verdict.{AllObey, Obeys, sentences, proof_of, label_of, unproved_of, is_incomplete, is_proof, is_unproved}
 use Rattle.mm_text.specs.Statement.{is_provable}
+use Rattle.mm_text.proofs.StepFacts.{is_provable-true}
 use Rattle.mm_check.proofs.Known.{provable_label, unproved_of-append}
 
 -- a split of a list's images is that of a split of the list
@@ -45,25 +47,10 @@ all_meant profile statements obeyed before after s e =
     subst (λ (t : Sentence). IsMeant before t) split.image
     (subst (λ (b : List Sentence). IsMeant b (sentence_of split.x)) split.front (obeyed split.before split.after split.x split.whole).meant)
 
--- a kind that is that of a `$p`
-pub provable_kind : (kind : Kind) → is_provable kind ≡ true → kind ≡ Provable
-provable_kind Provable e = refl
-provable_kind Constants e = absurd cc
-provable_kind Variables e = absurd cc
-provable_kind Distinct e = absurd cc
-provable_kind Floating e = absurd cc
-provable_kind Essential e = absurd cc
-provable_kind Axiom e = absurd cc
-provable_kind Opening e = absurd cc
-provable_kind Closing e = absurd cc
-
-first_true : (a b : Bool) → (a && b) ≡ true → a ≡ true
-first_true true b e = refl
-first_true false b e = e
-
--- a complete proof is that of a `$p`
-pub provable_proof : (kind : Kind) (incomplete : Bool) → (is_provable kind && not incomplete) ≡ true → kind ≡ Provable
-provable_proof kind incomplete e = provable_kind kind (first_true (is_provable kind) (not incomplete) e)
+-- a kind that is that of a `$p`, and more
+pub provable_kind : (kind : Kind) (rest : Bool) → (is_provable kind && rest) ≡ true
+    → kind ≡ Provable
+provable_kind kind rest e = is_provable-true kind (and_parts (is_provable kind) rest e).0
 
 -- a `$p` whose proof isn't incomplete has a complete one
 pub proof_there : (s : PlainStatement) → s.kind ≡ Provable → is_incomplete (proof_of s) ≡ false → is_proof s ≡ true
@@ -88,6 +75,11 @@ end_split (z ∷ xs) x (w ∷ b) y after e =
       | within others h ↦ within others (cc (h, first))
       | last h k ↦ last (cc (h, first)) k
     ]
+
+-- before any statement
+pub no_statement : (profile : Profile) → AllObey profile []
+no_statement profile [] after s e = absurd cc
+no_statement profile (b ∷ before) after s e = absurd cc
 
 -- one more statement that obeys the rules
 pub one_more : (profile : Profile) (statements : List PlainStatement) (x : PlainStatement) → AllObey profile statements → Obeys profile (sentences statements) x → AllObey profile (statements ++ x ∷ [])

@@ -1,5 +1,5 @@
 -- There is one verdict over files; yes says that the profile is obeyed, and such files get yes, the limit aside.
-use Rattle.std.proofs.Common.{◌≡◌, ℕ, List, [], ◌∷◌, ◌++◌, length, false, Option, Some, None, Result, ◌⊎◌, inl, inr, refl, sym, ap, subst, ◌∙◌, append_assoc}
+use Rattle.std.proofs.Common.{◌≡◌, ℕ, List, [], ◌∷◌, ◌++◌, length, not, false, Option, Some, None, Result, ◌⊎◌, inl, inr, refl, sym, ap, subst, ◌∙◌, append_assoc}
 use Rattle.std.specs.List.{AllByRecursion}
 use Rattle.mm_text.specs.declared.fault.LoadRule.{LoadRule}
 use Rattle.mm_text.specs.declared.fault.LoadRule.TheVariants as load
@@ -23,7 +23,7 @@ use Rattle.mm_check.specs.declared.rule.Rule.{Rule}
 use Rattle.mm_check.specs.declared.rule.Rule.TheVariants.{L1}
 use Rattle.mm_check.specs.Verdict.{Verdict, Load, Refused, Incomplete, Yes, PlainRefusal, Obeys, AllObey, AreAccepted, HasFault, HasVerdict, RefusesStatement, RefusesText, ObeyTheProfile, sentences, load_rule, meaning_rule, proof_rule, refusal_of, text_refusal, proof_of, proofs_of, unproved_of, is_incomplete}
 use Rattle.mm_check.proofs.Ranks.{ranked, ranked-rank, compared}
-use Rattle.mm_check.proofs.Unproved.{all_meant, none_unproved, complete_where_none, proof_there, provable_proof}
+use Rattle.mm_check.proofs.Unproved.{all_meant, none_unproved, complete_where_none, proof_there, provable_kind}
 
 -- ## The rules of the files as a whole
 
@@ -213,7 +213,7 @@ over_the_limit profile files obey refusal r = elim (r.fault) [
   | inl f ↦ absurd (obey.meant r.before r.after r.s r.split f.0 f.1.broken)
   | inr f ↦
       let law = limits_aside_holds (limit_of profile) (sentences r.before) (sentence_of r.s) (proof_of r.s) (all_meant profile _ r.obeyed) in
-      let proved = obey.proved r.before r.after r.s r.split (provable_proof r.s.kind (is_incomplete (proof_of r.s)) f.1) in
+      let proved = obey.proved r.before r.after r.s r.split (provable_kind r.s.kind (not (is_incomplete (proof_of r.s))) f.1) in
       let over : f.2 ≡ proof.L1 = law.2 proved.1 f.2 r.step f.3 in
       ap (λ (q : PlainRefusal). q.rule) r.refused ∙ f.4 ∙ ap proof_rule over
 ]

@@ -73,9 +73,9 @@ impl<'a> Checked<'a> {
     ghost use Rattle.mm_frame.specs.Numbers.{labelled_sentences};
     ghost use Rattle.mm_frame.specs.Form.{IsSound};
     ghost use Rattle.mm_check.specs.Conclusion.{labels_in};
-    ghost use Rattle.mm_check.specs.Marks.{IsKeptWell, UsedIn};
+    ghost use Rattle.mm_check.specs.Marks.{IsKeptWell};
     ghost use Rattle.mm_check.specs.Verdict.{is_proof, sentences};
-    ghost use Rattle.mm_check.specs.Rests.{IsNamed, IsAskFault, IsReport, RestsOn};
+    ghost use Rattle.mm_check.specs.Rests.{IsNamed, IsAskFault, IsReport};
     ghost use Rattle.mm_proof.specs.Steps.{AreSteps};
     ghost use Rattle.mm_check.specs.Shown.{IsShown};
     ghost use Rattle.mm_check.specs.Compared.{IsCompared, IsSameFault};

@@ -1,6 +1,6 @@
 //! The commands, and their replies to a writer.
 
-ghost use Rattle.std.specs.Prelude.{◌≡◌, ◌+◌, ◌<◌, ◌↔◌, map, IfOk, OnErr, IsErrOf};
+ghost use Rattle.std.specs.Prelude.{◌≡◌, ◌+◌, ◌<◌, ◌↔◌, map, IfOk, IsErrOf};
 ghost use Rattle.mm_text.specs.Files.{plain_file};
 ghost use Rattle.mm_text.specs.Device.{faults_of, inner_of};
 ghost use Rattle.mm_check.specs.Status.{number_of};
@@ -8,7 +8,6 @@ ghost use Rattle.mm_check.specs.CodeReply.{question_in};
 ghost use Rattle.mm_check.specs.Reply.{IsReplyTo, Writes, WritesBeginningOf};
 ghost use Rattle.mm_check.specs.declared.command.RunFault.TheVariants.{Memory};
 
-use crate::fault::CheckFault;
 use crate::form::Form;
 use crate::question::{Question, Reply, axioms_reply, check_reply, question_reply};
 use crate::status::Status;

@@ -1,7 +1,7 @@
 //! The normal and the packed proof of a theorem, as texts.
 
 ghost use Rattle.std.specs.Prelude.{◌≡◌, ◌⊎◌, ◌<◌, ◌≤◌, List, ℕ, length, take, IfOk, IfErr};
-ghost use Rattle.mm_code.specs.Layout.{texts, LaidOut};
+ghost use Rattle.mm_code.specs.Layout.{texts};
 ghost use Rattle.mm_proof.specs.Tree.{spelling};
 ghost use Rattle.mm_proof.specs.Spelled.{AreLabelsOf, OfSpelling};
 ghost use Rattle.mm_proof.specs.Packing.{OfTree};

@@ -1,15 +1,11 @@
 //! The verdict over one statement.
 
-ghost use Rattle.std.specs.Prelude.{◌≡◌, ◌+◌, ◌<◌, ◌≤◌, ◌^◌, ℕ, true, false, map, length, take};
-ghost use Rattle.std.specs.Prelude.{OnOk, IfOk, IfErr, Some, option_map};
+ghost use Rattle.std.specs.Prelude.{◌≡◌, ◌+◌, ◌<◌, ◌≤◌, ◌^◌, map, OnOk, IfErr, option_map};
 ghost use Rattle.mm_text.specs.declared.statement.Kind.TheVariants.{Closing};
 ghost use Rattle.mm_text.specs.Statement.{plain_statement, HasForm, bytes_in};
 ghost use Rattle.mm_text.specs.Files.{plain_file};
-ghost use Rattle.mm_frame.specs.Sentence.{Sentence, sentence_of, sentence_in};
 ghost use Rattle.mm_frame.specs.Active.{open_marks, close_marks};
-ghost use Rattle.mm_frame.specs.Rules.{IsMeant};
-ghost use Rattle.mm_proof.specs.Steps.{IsProofNumber};
-ghost use Rattle.mm_check.specs.Verdict.{refusal_of, proof_of, is_incomplete};
+ghost use Rattle.mm_check.specs.Verdict.{refusal_of};
 ghost use Rattle.mm_check.specs.Judged.{Takes, RefusesAfter, IsLastProof, JudgesProof, CountsProof};
 ghost use Rattle.mm_check.specs.Judged.{RefusesProof};
 ghost use Rattle.mm_check.specs.Answer.{plain_refusal};

@@ -1,6 +1,6 @@
 //! Whole replies: to `check`, and to questions about a theorem.
 
-ghost use Rattle.std.specs.Prelude.{◌≡◌, ◌<◌, ◌++◌, [], ◌∷◌, List, ℕ, map, length, OnOk, IfOk};
+ghost use Rattle.std.specs.Prelude.{◌≡◌, ◌<◌, ◌++◌, [], ◌∷◌, List, map, length, OnOk, IfOk};
 ghost use Rattle.std.specs.Prelude.{IfSome, None, codes, decimal};
 ghost use Rattle.std.specs.List.{AllByRecursion};
 ghost use Rattle.mm_text.specs.Statement.{PlainStatement};

@@ -1,10 +1,8 @@
 //! What a theorem rests on.
 
 ghost use Rattle.std.specs.Prelude.{◌≡◌, ◌↔◌, ◌⊎◌, ◌<◌, ◌≤◌, ℕ, map, length, slice_index_or};
-ghost use Rattle.std.specs.Prelude.{slice_get, Contains, true, false, IfOk, IsTrue, Some};
-ghost use Rattle.std.specs.List.{AllByRecursion};
+ghost use Rattle.std.specs.Prelude.{Contains, true, false, IfOk, IsTrue, Some};
 ghost use Rattle.mm_frame.specs.Numbers.{labelled_sentences};
-ghost use Rattle.mm_check.specs.Conclusion.{ProofUses};
 ghost use Rattle.mm_check.specs.Rests.{AreRising, AreInOrder, RestsOn};
 ghost use Rattle.mm_check.specs.Marks.{IsMarked, UsedIn, AreBackward, IsAxiomNumber};
 

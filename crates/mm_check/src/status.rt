@@ -15,7 +15,7 @@ pub enum Status {
     Stopped,
 }
 
-ghost use Rattle.std.specs.Prelude.{◌≡◌, ◌<◌};
+ghost use Rattle.std.specs.Prelude.{◌≡◌};
 ghost use Rattle.mm_check.specs.Status.{number_of};
 
 impl Status {
