@@ -23,8 +23,8 @@ use Rattle.mm_proof.specs.declared.profile.Profile.{Profile}
 use Rattle.mm_proof.specs.Profiles.{limit_of}
 use Rattle.mm_proof.proofs.Places.{one_split}
 use Rattle.mm_text.specs.Files.{PlainFile}
+use Rattle.mm_text.proofs.Lists.{get_pushed}
 use Rattle.mm_frame.specs.Rules.{IsMeant}
-use Rattle.mm_frame.proofs.Pushed.{get_pushed}
 use Rattle.mm_check.specs.declared.rule.Rule.{Rule}
 use Rattle.mm_check.specs.declared.fault.CheckFault.{CheckFault}
 use Rattle.mm_check.specs.declared.progress.Progress.{Progress}

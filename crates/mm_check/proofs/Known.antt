@@ -14,13 +14,13 @@ use Rattle.mm_text.specs.Statement.{PlainStatement, HasForm, HasLabel, bytes_in}
 use Rattle.mm_frame.specs.Sentence.{Sentence, sentence_of}
 use Rattle.mm_frame.specs.Numbers.{labelled_sentences}
 use Rattle.mm_frame.specs.declared.number.LabelId.{LabelId}
-use Rattle.mm_frame.proofs.Pushed.{get_pushed}
 use Rattle.mm_frame.proofs.Counts.{count_append}
 use Rattle.mm_proof.specs.declared.profile.Profile.{Profile}
 use Rattle.mm_check.specs.declared.progress.Progress.{Progress}
 use Rattle.mm_check.specs.Conclusion.{labels_in}
 use Rattle.mm_check.specs.Verdict.{sentences, labels_of, label_of, unproved_of, is_proof, is_unproved, proof_of, is_incomplete}
 use Rattle.mm_text.specs.Statement.{is_provable}
+use Rattle.mm_text.proofs.Lists.{get_pushed}
 use Rattle.mm_check.specs.Judged.{Knows, Takes, KeepsProof}
 use Rattle.mm_check.specs.Rests.{IsNumberWhere, AreInOrder}
 use Rattle.mm_check.proofs.Trees.{one_more_number, uses_more}

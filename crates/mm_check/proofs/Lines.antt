@@ -7,8 +7,8 @@ use Rattle.mm_frame.specs.declared.number.LabelId.{LabelId}
 use Rattle.mm_check.specs.Answer.{labels_at, verdict_of_conclusion}
 use Rattle.mm_check.specs.Conclusion.{Conclusion}
 use Rattle.std.specs.List.{AllByRecursion}
+use Rattle.mm_text.proofs.Lists.{get_within}
 use Rattle.mm_check.specs.Reply.{line_with, lines_of, text_of}
-use Rattle.mm_frame.proofs.Pushed.{get_within}
 
 -- a word and five others
 pub six_words : (out w a b c d e o₁ o₂ o₃ o₄ o₅ o₆ o₇ : List ℕ)

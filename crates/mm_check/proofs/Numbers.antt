@@ -3,7 +3,7 @@ use Rattle.std.proofs.Common.{◌≡◌, ℕ, zero, suc, ◌<◌, List, [], ◌�
 use Rattle.std.specs.List.{flat_map, AllByRecursion}
 use Rattle.std.specs.Option.{option_to_list}
 use Rattle.std.proofs.lemmas.Option.{slice_get_within}
-use Rattle.mm_frame.proofs.Pushed.{get_kept, get_within}
+use Rattle.mm_text.proofs.Lists.{get_kept, get_within}
 
 -- names with these numbers have them among more names too
 pub named_more : (names more : List (List ℕ)) (ns : List ℕ) (xs : List (List ℕ)) → map (slice_get names) ns ≡ map Some xs

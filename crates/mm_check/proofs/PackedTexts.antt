@@ -27,7 +27,6 @@ use Rattle.mm_proof.proofs.Expanded.{made_word}
 use Rattle.mm_proof.proofs.Making.{makes_once}
 use Rattle.mm_proof.proofs.PairOnce.{told_by_packed_holds}
 use Rattle.mm_proof.proofs.SaidMoves.{compressed_once}
-use Rattle.mm_proof.proofs.Derived.{all_mapped}
 use Rattle.mm_proof.proofs.SpelledProofs.{stands_known}
 use Rattle.mm_check.specs.Forms.{IsPackedText}
 use Rattle.mm_text.specs.Token.{PlainToken}
@@ -38,6 +37,7 @@ use Rattle.mm_text.specs.Reading.{Reads}
 use Rattle.mm_text.proofs.FormedLaws.{readings_are_formed_in_place}
 use Rattle.mm_text.proofs.ItemTokens.{items_some}
 use Rattle.mm_text.proofs.StatementTokens.{all_of_statement, each_read, reading_front}
+use Rattle.mm_text.proofs.Lists.{all_append, all_weaker}
 use Rattle.mm_frame.specs.Sentence.{sentence_of}
 use Rattle.mm_frame.proofs.Meant.{allformed_front, allmeant_front}
 use Rattle.mm_check.specs.Verdict.{sentences}
@@ -45,7 +45,6 @@ use Rattle.mm_check.specs.FormLaws.{PackedTextsTell}
 use Rattle.mm_check.proofs.Asked.{map-take}
 use Rattle.mm_check.proofs.Existence.{formed_sentences}
 use Rattle.mm_check.proofs.Unproved.{all_meant}
-use Rattle.mm_check.proofs.Texts.{all_append}
 
 -- no label is empty
 abbrev LabelsHaveBytes : List Sentence → Type 0
@@ -88,7 +87,7 @@ pieces_dark (piece ∷ pieces) (code ∷ codes) each =
 letters_dark : (letters : List ℕ) (codes : List Code) → SpellsCodes letters codes → LacksWhiteSpace letters
 letters_dark letters codes spelled =
     subst LacksWhiteSpace (sym spelled.joined)
-    (all_mapped (λ b. 33 ≤ b) (λ b. is_white_space b ≡ false) (flat_map (λ piece. piece) spelled.pieces) dark_byte (pieces_dark spelled.pieces codes spelled.each))
+    (all_weaker (λ b. 33 ≤ b) (λ b. is_white_space b ≡ false) dark_byte (flat_map (λ piece. piece) spelled.pieces) (pieces_dark spelled.pieces codes spelled.each))
 
 -- ---- labels
 
@@ -135,15 +134,15 @@ listed_proper : (before : List Sentence) (s : Sentence) (trees : Trees) (text : 
 listed_proper before s trees text formed some p =
     let fit : Fit before trees = (made_word before p.packed.moves trees p.packed.shared.kept p.packed.shared.made).1 in
     uses_among IsProper (spelling trees) p.packed.says.labels p.listed p.packed.uses
-    (all_mapped (λ label. SomeSentence before (IsLabelled label)) IsProper (spelling trees) (λ label h. proper_label before label formed some h) (fit_labelled before trees fit))
+    (all_weaker (λ label. SomeSentence before (IsLabelled label)) IsProper (λ label h. proper_label before label formed some h) (spelling trees) (fit_labelled before trees fit))
 
 same_parts : (before : List Sentence) (s : Sentence) (t u : Trees) (text other : List ℕ) → AllFormed before → LabelsHaveBytes before → (p : IsPackedText before s t text) → (q : IsPackedText before s u other)
     → text ≡ other → (p.listed ≡ q.listed) × (p.codes ≡ q.codes)
 same_parts before s t u text other formed some p q same =
     let first = listed_proper before s t text formed some p in
     let second = listed_proper before s u other formed some q in
-    let one = compressed_read_back p.listed p.letters text (all_mapped IsProper IsOneToken p.listed (λ label h. h.0) first) (letters_dark p.letters p.codes p.spelled) p.laid in
-    let two = compressed_read_back q.listed q.letters other (all_mapped IsProper IsOneToken q.listed (λ label h. h.0) second) (letters_dark q.letters q.codes q.spelled) q.laid in
+    let one = compressed_read_back p.listed p.letters text (all_weaker IsProper IsOneToken (λ label h. h.0) p.listed first) (letters_dark p.letters p.codes p.spelled) p.laid in
+    let two = compressed_read_back q.listed q.letters other (all_weaker IsProper IsOneToken (λ label h. h.0) q.listed second) (letters_dark q.letters q.codes q.spelled) q.laid in
     let tokens : List (List ℕ) = tokens_in text in
     let mine : IsCompressed tokens p.listed one.0 = record { whole = one.1 ∙ ap (λ (ws : List (List ℕ)). (40 ∷ []) ∷ ws) (append_assoc p.listed ((41 ∷ []) ∷ []) one.0); first = none_closing p.listed first } in
     let yours : IsCompressed tokens q.listed two.0 = record { whole = ap tokens_in same ∙ two.1 ∙ ap (λ (ws : List (List ℕ)). (40 ∷ []) ∷ ws) (append_assoc q.listed ((41 ∷ []) ∷ []) two.0); first = none_closing q.listed second } in

@@ -7,6 +7,7 @@ use Rattle.mm_text.specs.Files.{PlainFile}
 use Rattle.mm_text.specs.Reading.{Reads}
 use Rattle.mm_text.proofs.FormedLaws.{readings_are_formed_in_place}
 use Rattle.mm_text.proofs.ReplacedReading.{parts_of}
+use Rattle.mm_text.proofs.Lists.{all_at, all_weaker}
 use Rattle.mm_code.specs.Layout.{LaidOut, in_parentheses}
 use Rattle.mm_code.specs.Words.{tokens_in, IsOneToken}
 use Rattle.mm_code.proofs.ReadBack.{normal_read_back, compressed_read_back}
@@ -22,7 +23,6 @@ use Rattle.mm_proof.specs.Proof.{IsProvedWithin}
 use Rattle.mm_proof.proofs.Making.{makes_once}
 use Rattle.mm_proof.proofs.SaidMoves.{moves_once}
 use Rattle.mm_proof.proofs.SpelledProofs.{label_fits, stands_known, IsProofBy, spelled_proves, packed_listed, packed_proves}
-use Rattle.mm_proof.proofs.Derived.{all_at, all_mapped}
 use Rattle.mm_check.specs.declared.form.Form.{Form}
 use Rattle.mm_check.specs.declared.form.Form.TheVariants as form
 use Rattle.mm_check.specs.Verdict.{sentences}
@@ -106,8 +106,8 @@ normal_reads before s root below text meant labels fit laid =
     let words : AllByRecursion IsWord tokens = all_contained IsWord tokens (spelled_words before (tree root below none) labels fit) in
     record {
       tokens = tokens;
-      read = normal_read_back tokens text (all_mapped IsWord IsOneToken tokens one_token words) laid;
-      fine = all_mapped IsWord AreFine tokens (λ label is. label_all_fine label is.0) words;
+      read = normal_read_back tokens text (all_weaker IsWord IsOneToken one_token tokens words) laid;
+      fine = all_weaker IsWord AreFine (λ label is. label_all_fine label is.0) tokens words;
       ends = normal_ends tokens text laid;
       proves = λ Fits derived. spelled_proves Fits before s root below meant (λ c. no_parenthesis 40 (omega arith) (spelled_words before (tree root below none) labels fit opening_token c).0) derived;
     }
@@ -118,8 +118,8 @@ packed_reads before s root below text meant labels fit p =
     let trees : Trees = tree root below none in
     let words : AllByRecursion IsWord p.listed = all_contained IsWord p.listed (λ label c. spelled_words before trees labels fit label (packed_listed before s trees p.listed p.codes label p.packed c)) in
     let letters : AreFine p.letters = letters_fine p.letters p.codes p.spelled in
-    let (pieces, read, joined) = compressed_read_back p.listed p.letters text (all_mapped IsWord IsOneToken p.listed one_token words) (fine_lacks p.letters letters) p.laid in
-    let listed : AllByRecursion AreFine p.listed = all_mapped IsWord AreFine p.listed (λ label is. label_all_fine label is.0) words in
+    let (pieces, read, joined) = compressed_read_back p.listed p.letters text (all_weaker IsWord IsOneToken one_token p.listed words) (fine_lacks p.letters letters) p.laid in
+    let listed : AllByRecursion AreFine p.listed = all_weaker IsWord AreFine (λ label is. label_all_fine label is.0) p.listed words in
     let left : AreFine (40 ∷ []) = ((omega arith, (omega arith, ((λ e. omega (arith, e)), (λ e. omega (arith, e))))), tt) in
     let right : AreFine (41 ∷ []) = ((omega arith, (omega arith, ((λ e. omega (arith, e)), (λ e. omega (arith, e))))), tt) in
     record {

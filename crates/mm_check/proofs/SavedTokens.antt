@@ -11,8 +11,9 @@ use Rattle.mm_code.specs.declared.code.Code.TheVariants.{Number, Tag}
 use Rattle.mm_code.specs.Letters.{IsLeadingDigit, leading_letter, last_letter, SaysCode, SpellsCodes}
 use Rattle.mm_code.specs.Layout.{indent, token_line, LaidOut, CompressedLaidOut, in_parentheses}
 use Rattle.mm_code.specs.Words.{is_white_space, tokens_in, LacksWhiteSpace}
+use Rattle.mm_code.proofs.ReadBack.{tokens_in-nil, tokens_in-space, tokens_in-end, tokens_in-on}
 use Rattle.mm_check.specs.Verdict.{is_incomplete}
-use Rattle.mm_check.proofs.Texts.{tokens_in-nil, tokens_in-space, tokens_in-last, tokens_in-end, tokens_in-on}
+use Rattle.mm_check.proofs.Texts.{tokens_in-last}
 
 -- ---- the words of a text are the texts of its tokens
 

@@ -9,13 +9,13 @@ use Rattle.mm_text.specs.Reading.{Reads, IsInPlace}
 use Rattle.mm_text.specs.Replaced.{with_span, with_bytes, IsProofSpan}
 use Rattle.mm_text.proofs.FormedLaws.{readings_are_formed_in_place}
 use Rattle.mm_text.proofs.ProofSpans.{proofs_stand_in_spans_holds}
+use Rattle.mm_text.proofs.Lists.{all_at}
 use Rattle.mm_frame.specs.Sentence.{Sentence}
 use Rattle.mm_frame.specs.Rules.{AllMeant}
 use Rattle.mm_frame.proofs.Meant.{parts_at}
 use Rattle.mm_proof.specs.ReadSteps.{ReadSteps}
 use Rattle.mm_proof.specs.Packing.{OfTree}
 use Rattle.mm_proof.specs.declared.profile.Profile.{Profile}
-use Rattle.mm_proof.proofs.Derived.{all_at}
 use Rattle.mm_check.specs.declared.form.Form.{Form}
 use Rattle.mm_check.specs.declared.form.Form.TheVariants as form
 use Rattle.mm_check.specs.declared.ask.AskFault.{AskFault}

@@ -2,7 +2,9 @@
 use Rattle.std.proofs.Common.{◌≡◌, ℕ, zero, suc, ◌<◌, ◌≤◌, Bool, true, false, ◌&&◌, ◌||◌, List, [], ◌∷◌, ◌++◌, map, take, drop, length, get_or, slice_index, refl, sym, ap, subst, ◌∙◌, arith, append_assoc, append-nil, length-append}
 use Rattle.std.specs.List.{list_any, list_all, AllByRecursion, onto_first}
 use Rattle.std.proofs.lemmas.List.Sums.{sum_by-append}
+use Rattle.mm_text.proofs.Lists.{all_append}
 use Rattle.mm_code.specs.Words.{is_white_space, tokens_in, LacksWhiteSpace}
+use Rattle.mm_code.proofs.ReadBack.{tokens_in-nil, tokens_in-space, tokens_in-end, tokens_in-on}
 use Rattle.mm_check.specs.CodeCompared.{AreFrontTokens}
 
 -- ---- tests of each token
@@ -27,26 +29,9 @@ some_meets f p (t ∷ ts) (suc i) d less one = go (some_meets f p ts i d (omega 
 
 -- ---- tokens
 
-pub tokens_in-nil : tokens_in [] ≡ []
-unfolding tokens_in
-tokens_in-nil = refl
-
-pub tokens_in-space : (byte : ℕ) (bytes : List ℕ) → is_white_space byte ≡ true → tokens_in (byte ∷ bytes) ≡ tokens_in bytes
-unfolding tokens_in
-tokens_in-space byte [] white = rw white refl
-tokens_in-space byte (next ∷ bytes) white = rw white refl
-
 pub tokens_in-last : (byte : ℕ) → is_white_space byte ≡ false → tokens_in (byte ∷ []) ≡ (byte ∷ []) ∷ []
 unfolding tokens_in
 tokens_in-last byte dark = rw dark refl
-
-pub tokens_in-end : (byte space : ℕ) (bytes : List ℕ) → is_white_space byte ≡ false → is_white_space space ≡ true → tokens_in (byte ∷ space ∷ bytes) ≡ (byte ∷ []) ∷ tokens_in (space ∷ bytes)
-unfolding tokens_in
-tokens_in-end byte space bytes dark white = rw (dark, white) refl
-
-pub tokens_in-on : (byte next : ℕ) (bytes : List ℕ) → is_white_space byte ≡ false → is_white_space next ≡ false → tokens_in (byte ∷ next ∷ bytes) ≡ onto_first byte (tokens_in (next ∷ bytes))
-unfolding tokens_in
-tokens_in-on byte next bytes dark dark_next = rw (dark, dark_next) refl
 
 -- what follows a word begins with white space, if it begins with anything
 abbrev pub IsStop : List ℕ → Type 0
@@ -58,11 +43,6 @@ tokens_in-word byte [] [] dark stop = tokens_in-last byte dark.0 ∙ ap (λ (ws 
 tokens_in-word byte [] (space ∷ bytes) dark stop = tokens_in-end byte space bytes dark.0 stop
 tokens_in-word byte (next ∷ word) after dark stop =
     tokens_in-on byte next (word ++ after) dark.0 dark.1.0 ∙ ap (onto_first byte) (tokens_in-word next word after dark.1 stop)
-
--- what holds of all of two lists
-pub all_append : {X : Type 0} (P : X → Type 0) (a b : List X) → AllByRecursion P a → AllByRecursion P b → AllByRecursion P (a ++ b)
-all_append P [] b first second = second
-all_append P (x ∷ a) b first second = (first.0, all_append P a b first.1 second)
 
 -- a byte of white space is passed over
 pub front_space : (text : List ℕ) (tokens : List (List ℕ)) (byte : ℕ) (bytes : List ℕ) → AreFrontTokens text tokens (byte ∷ bytes) → is_white_space byte ≡ true → AreFrontTokens text tokens bytes
