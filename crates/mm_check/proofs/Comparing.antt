@@ -22,8 +22,8 @@ use Rattle.mm_check.specs.declared.ask.AskFault.TheVariants as ask
 use Rattle.mm_check.specs.Verdict.{sentences, proof_rule}
 use Rattle.mm_check.specs.Rests.{IsAskFault}
 use Rattle.mm_check.specs.Compared.{IsProofText, IsTextFault, text_fault, IsCompared, IsSameFault}
-use Rattle.mm_check.specs.CodeShown.{SayWholeSteps, AreProvedSteps, AreStepsOf}
-use Rattle.mm_check.specs.CodeCompared.{IsLegalText, FailsAs, IsUnproved, AreRefused, IsTextRefused, IsComparedWith}
+use Rattle.mm_check.specs.Mirror.Theorems.{SayWholeSteps, AreProvedSteps, AreStepsOf}
+use Rattle.mm_check.specs.Mirror.Comparisons.{IsLegalText, FailsAs, IsUnproved, AreRefused, IsTextRefused, IsComparedWith}
 use Rattle.mm_check.proofs.Asked.{map-take}
 use Rattle.mm_check.proofs.Theorems.{of_theorem}
 

@@ -14,8 +14,8 @@ use Rattle.mm_check.specs.Conclusion.{Conclusion, ProofUses, labels_in}
 use Rattle.mm_check.specs.Verdict.{Verdict, HasFault, Obeys, HasVerdict, AreAccepted, CanBeRead, sentences, labels_of, unproved_of, is_unproved, proofs_of, refusal_of}
 use Rattle.mm_check.specs.Answer.{verdict_of_fault, verdict_of_conclusion, verdict_where_incomplete, labels_at, IsVerdict, KeepsLabels, KeepsCounts, KeepsUses, IsKeptOf}
 use Rattle.mm_check.specs.Rests.{IsNumberWhere, AreInOrder, AreUses}
-use Rattle.mm_check.specs.Judged.{IsUnderWay, IsAtEnd, Knows, Takes, RefusesAfter, RefusesEnd, TakesNext}
-use Rattle.mm_check.specs.Marks.{IsKeptWell}
+use Rattle.mm_check.specs.Mirror.Judged.{IsUnderWay, IsAtEnd, Knows, Takes, RefusesAfter, RefusesEnd, TakesNext}
+use Rattle.mm_check.specs.Mirror.Marks.{IsKeptWell}
 use Rattle.mm_check.proofs.Unproved.{one_more, no_statement}
 use Rattle.mm_check.proofs.Asked.{backward}
 use Rattle.mm_check.proofs.Known.{ids, knows_more, labels_said, names_of_ids}

@@ -29,7 +29,7 @@ use Rattle.mm_check.specs.declared.rule.Rule.{Rule}
 use Rattle.mm_check.specs.declared.fault.CheckFault.{CheckFault}
 use Rattle.mm_check.specs.declared.progress.Progress.{Progress}
 use Rattle.mm_check.specs.Verdict.{Refused, proof_of, is_incomplete, proof_rule, refusal_of}
-use Rattle.mm_check.specs.Judged.{IsLastProof, IsJudged, Fails, RefusesProof, RefusesAfter}
+use Rattle.mm_check.specs.Mirror.Judged.{IsLastProof, IsJudged, Fails, RefusesProof, RefusesAfter}
 use Rattle.mm_check.proofs.Unproved.{proof_there}
 
 -- ## The tokens of the proof

@@ -21,7 +21,7 @@ use Rattle.mm_check.specs.Conclusion.{labels_in}
 use Rattle.mm_check.specs.Verdict.{sentences, labels_of, label_of, unproved_of, is_proof, is_unproved, proof_of, is_incomplete}
 use Rattle.mm_text.specs.Statement.{is_provable}
 use Rattle.mm_text.proofs.Lists.{get_pushed}
-use Rattle.mm_check.specs.Judged.{Knows, Takes, KeepsProof}
+use Rattle.mm_check.specs.Mirror.Judged.{Knows, Takes, KeepsProof}
 use Rattle.mm_check.specs.Rests.{IsNumberWhere, AreInOrder}
 use Rattle.mm_check.proofs.Trees.{one_more_number, uses_more}
 use Rattle.mm_check.proofs.Numbers.{named_more, count_by-one, count_labelled}

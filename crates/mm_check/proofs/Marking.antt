@@ -12,7 +12,7 @@ use Rattle.mm_text.proofs.Lists.{take_next, get_from_front}
 use Rattle.mm_proof.specs.CodeSteps.{ids_in}
 use Rattle.mm_check.specs.Conclusion.{ProofUses}
 use Rattle.mm_check.specs.Rests.{AreRising, AreInOrder, RestsOn}
-use Rattle.mm_check.specs.Marks.{IsMarked, UsedIn, AreBackward}
+use Rattle.mm_check.specs.Mirror.Marks.{IsMarked, UsedIn, AreBackward}
 use Rattle.mm_check.proofs.Order.{holds_last, holds_cases, in_order_push, in_order_same}
 
 -- ---- marks of some numbers

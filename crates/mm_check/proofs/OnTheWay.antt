@@ -16,7 +16,7 @@ use Rattle.mm_frame.proofs.Counts.{count_append}
 use Rattle.mm_proof.specs.declared.profile.Profile.{Profile}
 use Rattle.mm_check.specs.declared.progress.Progress.{Progress}
 use Rattle.mm_check.specs.Verdict.{CanBeRead, sentences, is_proof}
-use Rattle.mm_check.specs.Judged.{IsUnderWay, TakesNext}
+use Rattle.mm_check.specs.Mirror.Judged.{IsUnderWay, TakesNext}
 use Rattle.mm_check.proofs.Numbers.{count_by-one}
 
 -- ## The limit

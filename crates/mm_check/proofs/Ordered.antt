@@ -7,7 +7,7 @@ use Rattle.mm_frame.specs.Sentence.{Sentence}
 use Rattle.mm_frame.proofs.Numbered.{at_from_contains, contains_from_at}
 use Rattle.mm_proof.specs.Tree.{Trees}
 use Rattle.mm_proof.specs.Used.{AreUsedNumbers, AreUsed}
-use Rattle.mm_check.specs.Ordered.{put, ordered}
+use Rattle.mm_check.specs.Mirror.Ordered.{put, ordered}
 use Rattle.mm_check.specs.Rests.{AreRising}
 
 -- ---- what is in a list

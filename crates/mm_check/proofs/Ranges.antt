@@ -7,8 +7,8 @@ use Rattle.mm_frame.specs.declared.number.LabelId.{LabelId}
 use Rattle.mm_proof.proofs.Parts.{part-append, part-new}
 use Rattle.mm_check.specs.declared.kept.KeptProof.{KeptProof}
 use Rattle.mm_check.specs.Conclusion.{ProofUses}
-use Rattle.mm_check.specs.Ordered.{ordered}
-use Rattle.mm_check.specs.Ranges.{uses_at, uses_in, AreRangesWithin}
+use Rattle.mm_check.specs.Mirror.Ordered.{ordered}
+use Rattle.mm_check.specs.Mirror.Ranges.{uses_at, uses_in, AreRangesWithin}
 use Rattle.mm_proof.specs.CodeSteps.{ids_in}
 use Rattle.mm_check.proofs.Ordered.{ordered_holds}
 

@@ -18,14 +18,14 @@ use Rattle.mm_check.specs.Conclusion.{Conclusion}
 use Rattle.mm_check.specs.Verdict.{AllObey, AreAccepted, CanBeRead, sentences, proof_of, is_proof, is_incomplete}
 use Rattle.mm_text.specs.Statement.{is_provable}
 use Rattle.mm_check.specs.Answer.{IsKeptOf}
-use Rattle.mm_check.specs.Judged.{TakesNext}
-use Rattle.mm_check.specs.Marks.{IsKeptFrom}
+use Rattle.mm_check.specs.Mirror.Judged.{TakesNext}
+use Rattle.mm_check.specs.Mirror.Marks.{IsKeptFrom}
 use Rattle.mm_check.specs.Rests.{IsAt, IsNamed}
 use Rattle.mm_proof.specs.Moves.{Move}
 use Rattle.mm_proof.specs.Tokens.{SayMoves}
 use Rattle.mm_proof.specs.Steps.{IsProofNumber}
 use Rattle.mm_check.specs.Shown.{Stands}
-use Rattle.mm_check.specs.CodeShown.{IsStillLeft, IsProofOf, SayStepsOf, AreStepsOf}
+use Rattle.mm_check.specs.Mirror.Theorems.{IsStillLeft, IsProofOf, SayStepsOf, AreStepsOf}
 use Rattle.mm_check.proofs.Judging.{incomplete_is}
 use Rattle.mm_check.proofs.OnTheWay.{within_limit}
 use Rattle.mm_check.proofs.Asked.{map-take}

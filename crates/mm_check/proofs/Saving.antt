@@ -27,8 +27,8 @@ use Rattle.mm_check.specs.Answer.{verdict_of_answer, verdict_of_conclusion, IsVe
 use Rattle.mm_check.specs.Rests.{IsAskFault}
 use Rattle.mm_check.specs.Shown.{Stands}
 use Rattle.mm_check.specs.Saved.{IsTextIn, IsSaved, total_with, IsFormFault, IsSaveFault}
-use Rattle.mm_check.specs.CodeShown.{AreProvedSteps, AreStepsOf}
-use Rattle.mm_check.specs.CodeSaved.{IsHomeOf, IsTextOf, IsTextFault, HoldsSpan, IsPutIn, IsPutFault}
+use Rattle.mm_check.specs.Mirror.Theorems.{AreProvedSteps, AreStepsOf}
+use Rattle.mm_check.specs.Mirror.Rewriting.{IsHomeOf, IsTextOf, IsTextFault, HoldsSpan, IsPutIn, IsPutFault}
 use Rattle.mm_check.proofs.Replies.{accepted_with}
 use Rattle.mm_check.proofs.Rereading.{one_stands}
 use Rattle.mm_check.proofs.Theorems.{of_theorem, tree_made, has_tree, normal_fault, ask_fault}

@@ -5,7 +5,7 @@ use Rattle.std.proofs.lemmas.List.Sums.{sum_by-append}
 use Rattle.mm_text.proofs.Lists.{all_append}
 use Rattle.mm_code.specs.Words.{is_white_space, tokens_in, LacksWhiteSpace}
 use Rattle.mm_code.proofs.ReadBack.{tokens_in-nil, tokens_in-space, tokens_in-end, tokens_in-on}
-use Rattle.mm_check.specs.CodeCompared.{AreFrontTokens}
+use Rattle.mm_check.specs.Mirror.Comparisons.{AreFrontTokens}
 
 -- ---- tests of each token
 

@@ -27,7 +27,7 @@ use Rattle.mm_check.specs.Verdict.{sentences}
 use Rattle.mm_check.specs.Rests.{IsAskFault}
 use Rattle.mm_check.specs.Shown.{IsShown}
 use Rattle.mm_check.specs.Forms.{most_labels, HasProofTree, IsNormalText, IsPackedText, IsNormalOf, IsPackedOf, IsNormalFault}
-use Rattle.mm_check.specs.CodeShown.{IsProofOf, SayStepsOf, AreProvedSteps, AreStepsOf, IsListingOf}
+use Rattle.mm_check.specs.Mirror.Theorems.{IsProofOf, SayStepsOf, AreProvedSteps, AreStepsOf, IsListingOf}
 use Rattle.mm_check.proofs.Asked.{map-take}
 use Rattle.mm_check.proofs.Listings.{moves_prove}
 

@@ -15,11 +15,11 @@ use Rattle.mm_proof.specs.Profiles.{limit_of}
 use Rattle.mm_proof.specs.Used.{AreUsed}
 use Rattle.mm_proof.proofs.Limits.{derive_any}
 use Rattle.mm_check.specs.Conclusion.{ProofUses, numbers_of}
-use Rattle.mm_check.specs.Ordered.{ordered}
+use Rattle.mm_check.specs.Mirror.Ordered.{ordered}
 use Rattle.mm_check.proofs.Ordered.{ordered_used}
 use Rattle.mm_check.specs.Verdict.{sentences, proof_of, is_proof}
 use Rattle.mm_check.specs.Rests.{IsAt, IsNumberWhere, AreInOrder, tree_of, HasTree, AreUses}
-use Rattle.mm_check.specs.Judged.{IsProvedUsing, KeepsProof}
+use Rattle.mm_check.specs.Mirror.Judged.{IsProvedUsing, KeepsProof}
 use Rattle.mm_check.proofs.Order.{holds_cases, in_order_push, in_order_same}
 
 -- ---- numbers

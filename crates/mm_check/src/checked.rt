@@ -38,7 +38,7 @@ impl<'a> Model for Checked<'a> {
     ghost use Rattle.std.specs.Prelude.{map};
     ghost use Rattle.mm_text.specs.Files.{plain_file};
     ghost use Rattle.mm_check.specs.Conclusion.{Conclusion, labels_in};
-    ghost use Rattle.mm_check.specs.Marks.{IsKeptWell};
+    ghost use Rattle.mm_check.specs.Mirror.Marks.{IsKeptWell};
 
     ghost Value = { Conclusion };
 
@@ -73,17 +73,17 @@ impl<'a> Checked<'a> {
     ghost use Rattle.mm_frame.specs.Numbers.{labelled_sentences};
     ghost use Rattle.mm_frame.specs.Form.{IsSound};
     ghost use Rattle.mm_check.specs.Conclusion.{labels_in};
-    ghost use Rattle.mm_check.specs.Marks.{IsKeptWell};
+    ghost use Rattle.mm_check.specs.Mirror.Marks.{IsKeptWell};
     ghost use Rattle.mm_check.specs.Verdict.{is_proof, sentences};
     ghost use Rattle.mm_check.specs.Rests.{IsNamed, IsAskFault, IsReport};
     ghost use Rattle.mm_proof.specs.Steps.{AreSteps};
     ghost use Rattle.mm_check.specs.Shown.{IsShown};
     ghost use Rattle.mm_check.specs.Compared.{IsCompared, IsSameFault};
     ghost use Rattle.mm_check.specs.Forms.{IsNormalOf, IsNormalFault, IsPackedOf};
-    ghost use Rattle.mm_check.specs.CodeShown.{AreProvedSteps, AreStepsOf};
+    ghost use Rattle.mm_check.specs.Mirror.Theorems.{AreProvedSteps, AreStepsOf};
     ghost use Rattle.mm_check.specs.Answer.{IsKeptOf};
     ghost use Rattle.mm_check.specs.Saved.{IsSaved, FitsSaved, IsSaveFault};
-    ghost use Rattle.mm_check.specs.CodeSaved.{IsHomeOf};
+    ghost use Rattle.mm_check.specs.Mirror.Rewriting.{IsHomeOf};
 
     /// What the progress over the files has come to in the profile, once nothing is left.
     pub(crate) fn new(

@@ -4,7 +4,7 @@ ghost use Rattle.std.specs.Prelude.{◌≡◌, ◌+◌, ◌<◌, ◌↔◌, map,
 ghost use Rattle.mm_text.specs.Files.{plain_file};
 ghost use Rattle.mm_text.specs.Device.{faults_of, inner_of};
 ghost use Rattle.mm_check.specs.Status.{number_of};
-ghost use Rattle.mm_check.specs.CodeReply.{question_in};
+ghost use Rattle.mm_check.specs.Mirror.Questions.{question_in};
 ghost use Rattle.mm_check.specs.Reply.{IsReplyTo, Writes, WritesBeginningOf};
 ghost use Rattle.mm_check.specs.declared.command.RunFault.TheVariants.{Memory};
 

@@ -9,8 +9,9 @@ ghost use Rattle.mm_proof.specs.declared.profile.Profile.TheVariants.{Lenient};
 ghost use Rattle.mm_proof.specs.Steps.{AreSteps, IsProofNumber};
 ghost use Rattle.mm_check.specs.Verdict.{is_incomplete};
 ghost use Rattle.mm_check.specs.Compared.{IsProofText};
-ghost use Rattle.mm_check.specs.CodeShown.{SayWholeSteps, AreProvedSteps};
-ghost use Rattle.mm_check.specs.CodeCompared.{FailsAs, AreRefused, IsTextRefused, IsComparedWith};
+ghost use Rattle.mm_check.specs.Mirror.Theorems.{SayWholeSteps, AreProvedSteps};
+ghost use Rattle.mm_check.specs.Mirror.Comparisons.{FailsAs, AreRefused, IsTextRefused};
+ghost use Rattle.mm_check.specs.Mirror.Comparisons.{IsComparedWith};
 
 use crate::ask::AskFault;
 use crate::rule::Rule;

@@ -9,8 +9,8 @@ ghost use Rattle.mm_proof.specs.Steps.{AreSteps};
 ghost use Rattle.mm_proof.specs.Verified.{OfMoves};
 ghost use Rattle.mm_check.specs.declared.ask.AskFault.TheVariants.{L2, Memory};
 ghost use Rattle.mm_check.specs.Forms.{most_labels, IsNormalText, IsPackedText};
-ghost use Rattle.mm_check.specs.CodeShown.{AreProvedSteps};
-ghost use Rattle.mm_check.specs.CodeSaved.{IsTextOf, IsTextFault};
+ghost use Rattle.mm_check.specs.Mirror.Theorems.{AreProvedSteps};
+ghost use Rattle.mm_check.specs.Mirror.Rewriting.{IsTextOf, IsTextFault};
 
 use crate::ask::AskFault;
 use crate::form::Form;

@@ -6,8 +6,8 @@ ghost use Rattle.mm_text.specs.Statement.{plain_statement, HasForm, bytes_in};
 ghost use Rattle.mm_text.specs.Files.{plain_file};
 ghost use Rattle.mm_frame.specs.Active.{open_marks, close_marks};
 ghost use Rattle.mm_check.specs.Verdict.{refusal_of};
-ghost use Rattle.mm_check.specs.Judged.{Takes, RefusesAfter, IsLastProof, JudgesProof, CountsProof};
-ghost use Rattle.mm_check.specs.Judged.{RefusesProof};
+ghost use Rattle.mm_check.specs.Mirror.Judged.{Takes, RefusesAfter, IsLastProof, JudgesProof};
+ghost use Rattle.mm_check.specs.Mirror.Judged.{CountsProof, RefusesProof};
 ghost use Rattle.mm_check.specs.Answer.{plain_refusal};
 
 use crate::fault::{CheckFault, Refusal};

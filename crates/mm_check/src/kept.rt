@@ -3,7 +3,7 @@
 ghost use Rattle.std.specs.Prelude.{◌≡◌, ◌<◌, ◌++◌, ◌↔◌, ℕ, [], ◌∷◌, map, length, slice_get};
 ghost use Rattle.std.specs.Prelude.{Contains, OnOk, Some};
 ghost use Rattle.mm_check.specs.Conclusion.{ProofUses};
-ghost use Rattle.mm_check.specs.Ordered.{ordered};
+ghost use Rattle.mm_check.specs.Mirror.Ordered.{ordered};
 
 use mm_frame::LabelId;
 use std::alloc::{AllocError, Global};
@@ -37,7 +37,7 @@ impl Model for Kept {
 
     ghost Value = { List ProofUses };
 
-    ghost use Rattle.mm_check.specs.Ranges.{uses_in, AreRangesWithin};
+    ghost use Rattle.mm_check.specs.Mirror.Ranges.{uses_in, AreRangesWithin};
 
     ghost view = { λ k. uses_in k.used.items k.proofs.items };
 

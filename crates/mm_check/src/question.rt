@@ -15,7 +15,7 @@ ghost use Rattle.mm_check.specs.Reply.{code_of, line_with, lines_of, status_of a
 ghost use Rattle.mm_check.specs.Reply.{IsReply, IsAskReply, IsAxiomsReply, IsShowReply};
 ghost use Rattle.mm_check.specs.Reply.{IsNormalReply, IsPackedReply, IsSavedReply, IsSameReply};
 ghost use Rattle.mm_check.specs.Reply.{same_text, same_status, text_status as text_status_at};
-ghost use Rattle.mm_check.specs.CodeReply.{Answers};
+ghost use Rattle.mm_check.specs.Mirror.Questions.{Answers};
 ghost use Rattle.mm_check.specs.Reply.{IsQuestionReply, report_text as report_text_at};
 ghost use Rattle.mm_check.specs.Reply.{report_status as report_status_at};
 

@@ -4,7 +4,7 @@ ghost use Rattle.std.specs.Prelude.{◌≡◌, ◌↔◌, ◌⊎◌, ◌<◌, �
 ghost use Rattle.std.specs.Prelude.{Contains, true, false, IfOk, IsTrue, Some};
 ghost use Rattle.mm_frame.specs.Numbers.{labelled_sentences};
 ghost use Rattle.mm_check.specs.Rests.{AreRising, AreInOrder, RestsOn};
-ghost use Rattle.mm_check.specs.Marks.{IsMarked, UsedIn, AreBackward, IsAxiomNumber};
+ghost use Rattle.mm_check.specs.Mirror.Marks.{IsMarked, UsedIn, AreBackward, IsAxiomNumber};
 
 use crate::kept::Kept;
 use mm_frame::{Book, LabelId, LabelKind};

@@ -8,7 +8,7 @@ ghost use Rattle.mm_text.specs.Remaining.{IsUnread};
 ghost use Rattle.mm_frame.specs.Sentence.{sentence_in, IsLabelled};
 ghost use Rattle.mm_check.specs.declared.ask.AskFault.TheVariants.{Memory};
 ghost use Rattle.mm_check.specs.Verdict.{CanBeRead, proof_of};
-ghost use Rattle.mm_check.specs.Judged.{TakesNext};
+ghost use Rattle.mm_check.specs.Mirror.Judged.{TakesNext};
 ghost use Rattle.mm_check.specs.Shown.{Stands};
 
 use crate::ask::AskFault;

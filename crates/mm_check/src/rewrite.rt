@@ -5,7 +5,7 @@ ghost use Rattle.std.specs.Prelude.{IsTrue};
 ghost use Rattle.mm_text.specs.Files.{plain_file, total_bytes};
 ghost use Rattle.mm_text.specs.Replaced.{with_span};
 ghost use Rattle.mm_check.specs.Saved.{FitsSaved, total_with};
-ghost use Rattle.mm_check.specs.CodeSaved.{HoldsSpan, IsPutIn, IsPutFault};
+ghost use Rattle.mm_check.specs.Mirror.Rewriting.{HoldsSpan, IsPutIn, IsPutFault};
 
 use crate::ask::AskFault;
 use crate::size::size_of;

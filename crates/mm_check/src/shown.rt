@@ -12,7 +12,7 @@ ghost use Rattle.mm_check.specs.declared.ask.AskFault.TheVariants.{Memory};
 ghost use Rattle.mm_check.specs.Answer.{labels_at};
 ghost use Rattle.mm_check.specs.Shown.{name_text, symbols_text, step_text};
 ghost use Rattle.mm_check.specs.Shown.{listing_text as text_of_listing};
-ghost use Rattle.mm_check.specs.CodeShown.{AreProvedSteps, IsListingOf};
+ghost use Rattle.mm_check.specs.Mirror.Theorems.{AreProvedSteps, IsListingOf};
 
 use crate::ask::AskFault;
 use crate::theorem::Theorem;

@@ -7,7 +7,7 @@ ghost use Rattle.mm_text.specs.Token.{is_printable};
 ghost use Rattle.mm_code.specs.Layout.{texts};
 ghost use Rattle.mm_code.specs.Words.{is_white_space, tokens_in, LacksWhiteSpace};
 ghost use Rattle.mm_check.specs.Compared.{are_printable, hold_dollar};
-ghost use Rattle.mm_check.specs.CodeCompared.{IsLegalText, IsIllegal};
+ghost use Rattle.mm_check.specs.Mirror.Comparisons.{IsLegalText, IsIllegal};
 
 use crate::ask::AskFault;
 use crate::rule::Rule;

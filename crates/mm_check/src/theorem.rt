@@ -6,7 +6,7 @@ ghost use Rattle.mm_text.specs.Statement.{plain_statement};
 ghost use Rattle.mm_proof.specs.Parsed.{OfProof, SaySteps};
 ghost use Rattle.mm_proof.specs.Steps.{AreSteps};
 ghost use Rattle.mm_check.specs.declared.ask.AskFault.TheVariants.{Memory};
-ghost use Rattle.mm_check.specs.CodeShown.{IsProofOf, AreProvedSteps, SayStepsOf};
+ghost use Rattle.mm_check.specs.Mirror.Theorems.{IsProofOf, AreProvedSteps, SayStepsOf};
 
 use crate::ask::AskFault;
 use mm_frame::{Book, LabelId};

@@ -12,8 +12,8 @@ ghost use Rattle.mm_check.specs.Verdict.{text_refusal as text_refusal_at};
 ghost use Rattle.mm_check.specs.Answer.{IsYes, IsOverLimit, IsWantOfMemory, IsVerdict};
 ghost use Rattle.mm_check.specs.Answer.{IsOnlyVerdict, KeepsLabels, KeepsCounts, KeepsUses};
 ghost use Rattle.mm_check.specs.Answer.{KeepsFiles, NamesFile, plain_refusal};
-ghost use Rattle.mm_check.specs.Judged.{TakesNext, RefusesEnd, RefusesLoad, Knows, IsUnderWay};
-ghost use Rattle.mm_check.specs.Judged.{IsAtEnd, TellsVerdict};
+ghost use Rattle.mm_check.specs.Mirror.Judged.{TakesNext, RefusesEnd, RefusesLoad, Knows};
+ghost use Rattle.mm_check.specs.Mirror.Judged.{IsUnderWay, IsAtEnd, TellsVerdict};
 
 use crate::checked::Checked;
 use crate::fault::{CheckFault, Refusal};

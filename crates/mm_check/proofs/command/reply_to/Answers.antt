@@ -3,7 +3,7 @@ use Rattle.std.proofs.Common.{◌≡◌, ℕ, List, Bool, true, false, map, IfOk
 use Rattle.mm_text.specs.Files.{PlainFile, plain_file}
 use Rattle.mm_check.specs.Status.{number_of}
 use Rattle.mm_check.specs.Reply.{IsReplyTo, IsQuestionReply}
-use Rattle.mm_check.specs.CodeReply.{Answers, question_in}
+use Rattle.mm_check.specs.Mirror.Questions.{Answers, question_in}
 use Rattle.mm_check.specs.declared.form.Form.TheVariants as form
 use Rattle.mm_check.specs.declared.question.Question.{Question}
 use Rattle.mm_check.specs.declared.question.Reply.{Reply}

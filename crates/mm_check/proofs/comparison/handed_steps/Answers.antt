@@ -3,8 +3,8 @@ use Rattle.std.proofs.Common.{◌≡◌, ℕ, List, IfOk, ap, subst, ◌∙◌}
 use Rattle.mm_code.specs.Layout.{texts}
 use Rattle.mm_code.specs.Words.{tokens_in}
 use Rattle.mm_proof.specs.ReadSteps.{ReadSteps}
-use Rattle.mm_check.specs.CodeShown.{SayWholeSteps}
-use Rattle.mm_check.specs.CodeCompared.{AreRefused}
+use Rattle.mm_check.specs.Mirror.Theorems.{SayWholeSteps}
+use Rattle.mm_check.specs.Mirror.Comparisons.{AreRefused}
 use Rattle.mm_check.proofs.Comparing.{text_refused}
 use Rattle.mm_check.proofs.Theorems.{why}
 use Rattle.mm_check.proofs.comparison.handed_steps.Goals as goal

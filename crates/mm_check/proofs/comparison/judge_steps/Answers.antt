@@ -4,7 +4,7 @@ use Rattle.mm_proof.specs.declared.fault.ProofRule.{ProofRule}
 use Rattle.mm_proof.specs.Profiles.{limit_of}
 use Rattle.mm_proof.specs.Verified.{OfMoves, FailsWith}
 use Rattle.mm_check.specs.Compared.{text_fault}
-use Rattle.mm_check.specs.CodeCompared.{FailsAs}
+use Rattle.mm_check.specs.Mirror.Comparisons.{FailsAs}
 use Rattle.mm_check.proofs.Comparing.{fails_as}
 use Rattle.mm_check.proofs.Rereading.{passed_on}
 use Rattle.mm_check.proofs.comparison.judge_steps.Goals as goal

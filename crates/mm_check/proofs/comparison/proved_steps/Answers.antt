@@ -8,7 +8,7 @@ use Rattle.mm_proof.specs.Proof.{IsWithin, IsFault}
 use Rattle.mm_proof.specs.Parsed.{OfProof}
 use Rattle.mm_check.specs.Compared.{text_fault}
 use Rattle.mm_check.specs.Verdict.{is_incomplete}
-use Rattle.mm_check.specs.CodeCompared.{AreRefused}
+use Rattle.mm_check.specs.Mirror.Comparisons.{AreRefused}
 use Rattle.mm_check.proofs.Comparing.{fails_as, unproved_of}
 use Rattle.mm_check.proofs.Judging.{complete_is}
 use Rattle.mm_check.proofs.Rereading.{passed_on}

@@ -1,7 +1,7 @@
 -- The text is that of the form.
 use Rattle.std.proofs.Common.{IfOk, sym, subst}
 use Rattle.mm_check.specs.declared.form.Form.{Form}
-use Rattle.mm_check.specs.CodeSaved.{IsTextOf}
+use Rattle.mm_check.specs.Mirror.Rewriting.{IsTextOf}
 use Rattle.mm_check.proofs.forms.proof_text.Goals as goal
 
 pub returns-in-Normal-clause-text : goal.returns-in-Normal-clause-text

@@ -6,7 +6,7 @@ use Rattle.mm_text.specs.Files.{plain_file}
 use Rattle.mm_frame.specs.Database.{Database}
 use Rattle.mm_check.specs.declared.fault.CheckFault.{CheckFault}
 use Rattle.mm_check.specs.Verdict.{Refused, meaning_rule}
-use Rattle.mm_check.specs.Judged.{RefusesAfter}
+use Rattle.mm_check.specs.Mirror.Judged.{RefusesAfter}
 use Rattle.mm_check.proofs.Judging.{refuses_after}
 use Rattle.mm_check.proofs.judge.judge.Goals as goal
 use Rattle.mm_check.proofs.Rereading.{passed_on}

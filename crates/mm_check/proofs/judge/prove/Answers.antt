@@ -6,7 +6,7 @@ use Rattle.mm_proof.specs.declared.fault.ProofFault.TheVariants.{Rule}
 use Rattle.mm_text.specs.Files.{plain_file}
 use Rattle.mm_check.specs.Verdict.{Refused, proof_rule}
 use Rattle.mm_check.proofs.Judging.{same_refusal}
-use Rattle.mm_check.specs.Judged.{Fails}
+use Rattle.mm_check.specs.Mirror.Judged.{Fails}
 use Rattle.mm_check.proofs.judge.prove.Goals as goal
 
 pub returns-in-Err-Rule-clause-refused : goal.returns-in-Err-Rule-clause-refused

@@ -7,7 +7,7 @@ use Rattle.mm_check.specs.declared.question.Reply.{Reply}
 use Rattle.mm_check.specs.Conclusion.{Conclusion}
 use Rattle.mm_check.specs.Status.{number_of}
 use Rattle.mm_check.specs.Answer.{verdict_of_answer, KeepsFiles}
-use Rattle.mm_check.specs.CodeReply.{Answers}
+use Rattle.mm_check.specs.Mirror.Questions.{Answers}
 use Rattle.mm_check.specs.Reply.{IsQuestionReply, Tells, status_of}
 use Rattle.mm_check.proofs.Replies.{made, made_both, at_ok, question_read, question_refused}
 use Rattle.mm_check.proofs.question.answer_or_verdict.Goals as goal

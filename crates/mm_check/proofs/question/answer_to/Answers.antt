@@ -5,7 +5,7 @@ use Rattle.mm_text.specs.Reading.{Reads}
 use Rattle.mm_check.specs.declared.question.Question.{Question}
 use Rattle.mm_check.specs.declared.question.Reply.{Reply}
 use Rattle.mm_check.specs.Status.{number_of}
-use Rattle.mm_check.specs.CodeReply.{Answers}
+use Rattle.mm_check.specs.Mirror.Questions.{Answers}
 use Rattle.mm_check.proofs.question.answer_to.Goals as goal
 
 pub returns-in-Show : goal.returns-in-Show

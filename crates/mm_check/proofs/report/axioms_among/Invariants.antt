@@ -1,7 +1,7 @@
 -- The `$a` among the numbers so far.
 use Rattle.std.proofs.Common.{◌<◌, map}
 use Rattle.mm_check.specs.Rests.{AreInOrder}
-use Rattle.mm_check.specs.Marks.{IsMarked, IsAxiomNumber}
+use Rattle.mm_check.specs.Mirror.Marks.{IsMarked, IsAxiomNumber}
 use Rattle.mm_check.proofs.report.axioms_among.Given as goal
 
 abbrev pub invariant-loop-number : goal.invariant-loop-number

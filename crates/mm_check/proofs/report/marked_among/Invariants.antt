@@ -1,7 +1,7 @@
 -- The marked ones among the numbers so far.
 use Rattle.std.proofs.Common.{map, take, Contains}
 use Rattle.mm_check.specs.Rests.{AreInOrder}
-use Rattle.mm_check.specs.Marks.{IsMarked}
+use Rattle.mm_check.specs.Mirror.Marks.{IsMarked}
 use Rattle.mm_check.proofs.report.marked_among.Given as goal
 
 abbrev pub invariant-loop-number : goal.invariant-loop-number

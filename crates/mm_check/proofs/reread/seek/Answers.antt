@@ -1,7 +1,7 @@
 -- The statement that is sought is met before the end.
 use Rattle.std.proofs.Common.{Bool, true, subst}
 use Rattle.mm_text.specs.Statement.{PlainStatement, plain_statement}
-use Rattle.mm_check.specs.Judged.{TakesNext}
+use Rattle.mm_check.specs.Mirror.Judged.{TakesNext}
 use Rattle.mm_check.proofs.Rereading.{sought_on, sought_found}
 use Rattle.mm_check.proofs.reread.seek.Goals as goal
 

@@ -1,6 +1,6 @@
 -- The statement that is sought is left, and what is left was left at first.
 use Rattle.std.proofs.Common.{length}
-use Rattle.mm_check.specs.CodeShown.{IsStillLeft}
+use Rattle.mm_check.specs.Mirror.Theorems.{IsStillLeft}
 use Rattle.mm_check.proofs.reread.seek.Given as goal
 
 abbrev pub invariant-loop-into : goal.invariant-loop-into

@@ -2,7 +2,7 @@
 use Rattle.std.proofs.Common.{◌≡◌, ℕ, List, [], ◌∷◌, ◌++◌, Bor, sym, ap, subst, ◌∙◌}
 use Rattle.std.proofs.lemmas.List.{map-append}
 use Rattle.mm_code.specs.Layout.{texts}
-use Rattle.mm_check.specs.CodeCompared.{AreFrontTokens}
+use Rattle.mm_check.specs.Mirror.Comparisons.{AreFrontTokens}
 use Rattle.mm_check.proofs.Texts.{front_passed, front_taken, front_all}
 use Rattle.mm_check.proofs.text.tokens_of.Goals as goal
 

@@ -1,7 +1,7 @@
 -- The tokens so far are those of the front of the text.
 use Rattle.std.proofs.Common.{length}
 use Rattle.mm_code.specs.Layout.{texts}
-use Rattle.mm_check.specs.CodeCompared.{AreFrontTokens}
+use Rattle.mm_check.specs.Mirror.Comparisons.{AreFrontTokens}
 use Rattle.mm_check.proofs.text.tokens_of.Given as goal
 
 abbrev pub invariant-loop-first : goal.invariant-loop-first

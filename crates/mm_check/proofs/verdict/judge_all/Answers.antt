@@ -4,7 +4,7 @@ use Rattle.std.proofs.lemmas.Option.{same_Some}
 use Rattle.mm_text.specs.Files.{PlainFile, plain_file}
 use Rattle.mm_check.specs.Verdict.{HasVerdict}
 use Rattle.mm_check.specs.Answer.{verdict_of_conclusion}
-use Rattle.mm_check.specs.Judged.{IsAtEnd}
+use Rattle.mm_check.specs.Mirror.Judged.{IsAtEnd}
 use Rattle.mm_check.proofs.Course.{Concludes, passed_on, end_concludes, labels_kept, counts_kept, uses_kept, kept_well}
 use Rattle.mm_check.proofs.verdict.judge_all.Goals as goal
 

@@ -3,7 +3,7 @@ use Rattle.std.proofs.Common.{◌≤◌, Bool, true, false, List, map, Ok, sym, 
 use Rattle.mm_text.specs.Statement.{PlainStatement, plain_statement, HasForm}
 use Rattle.mm_text.specs.Files.{PlainFile, plain_file}
 use Rattle.mm_check.specs.declared.progress.Progress.{Progress}
-use Rattle.mm_check.specs.Judged.{TakesNext, TellsVerdict, IsUnderWay}
+use Rattle.mm_check.specs.Mirror.Judged.{TakesNext, TellsVerdict, IsUnderWay}
 use Rattle.mm_check.proofs.OnTheWay.{closes, has_room, count_small, proofs_small}
 use Rattle.mm_check.proofs.Course.{goes_on, at_end, end_verdict, statement_verdict}
 use Rattle.mm_check.proofs.verdict.judge_rest.Goals as goal

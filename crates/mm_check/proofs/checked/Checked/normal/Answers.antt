@@ -3,7 +3,7 @@ use Rattle.std.proofs.Common.{◌≡◌, List, None, sym, ap, subst, ◌∙◌}
 use Rattle.std.proofs.lemmas.Result.{IfOk-weaker}
 use Rattle.mm_frame.specs.Sentence.{Sentence}
 use Rattle.mm_check.specs.Conclusion.{Conclusion}
-use Rattle.mm_check.specs.CodeShown.{AreProvedSteps}
+use Rattle.mm_check.specs.Mirror.Theorems.{AreProvedSteps}
 use Rattle.mm_text.specs.Statement.{PlainStatement}
 use Rattle.mm_text.specs.Reading.{Reads}
 use Rattle.mm_check.specs.declared.ask.AskFault.{AskFault}

@@ -12,13 +12,13 @@ use Rattle.mm_check.specs.declared.theorem.Theorem.{Theorem}
 use Rattle.mm_proof.specs.declared.profile.Profile.{Profile}
 use Rattle.mm_proof.specs.Steps.{AreSteps}
 use Rattle.mm_check.specs.Verdict.{CanBeRead, proof_of, is_proof, sentences}
-use Rattle.mm_check.specs.Marks.{IsKeptWell}
+use Rattle.mm_check.specs.Mirror.Marks.{IsKeptWell}
 use Rattle.mm_check.specs.Rests.{IsNamed, IsAskFault}
 use Rattle.mm_check.specs.Shown.{Stands}
-use Rattle.mm_check.specs.CodeShown.{IsProofOf, SayStepsOf, AreProvedSteps, AreStepsOf}
+use Rattle.mm_check.specs.Mirror.Theorems.{IsProofOf, SayStepsOf, AreProvedSteps, AreStepsOf}
 use Rattle.mm_check.proofs.Judging.{filled_texts}
 use Rattle.mm_check.proofs.Rereading.{AreOf, own_statements, read_statements, named_stands, passed_on, shown_proof, shown_room, theorem_steps}
-use Rattle.mm_check.specs.CodeSaved.{IsHomeOf}
+use Rattle.mm_check.specs.Mirror.Rewriting.{IsHomeOf}
 use Rattle.mm_frame.specs.Rules.{AllMeant}
 use Rattle.mm_check.proofs.Replies.{made, made_both}
 use Rattle.mm_check.proofs.Saving.{home_of}

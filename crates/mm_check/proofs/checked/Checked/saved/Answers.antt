@@ -6,10 +6,10 @@ use Rattle.mm_text.specs.Reading.{Reads}
 use Rattle.mm_frame.specs.Sentence.{Sentence}
 use Rattle.mm_check.specs.declared.ask.AskFault.{AskFault}
 use Rattle.mm_check.specs.Conclusion.{Conclusion}
-use Rattle.mm_check.specs.Marks.{IsKeptWell}
-use Rattle.mm_check.specs.CodeShown.{AreProvedSteps}
+use Rattle.mm_check.specs.Mirror.Marks.{IsKeptWell}
+use Rattle.mm_check.specs.Mirror.Theorems.{AreProvedSteps}
 use Rattle.mm_check.specs.Saved.{IsSaveFault}
-use Rattle.mm_check.specs.CodeSaved.{HoldsSpan, IsPutIn, IsPutFault}
+use Rattle.mm_check.specs.Mirror.Rewriting.{HoldsSpan, IsPutIn, IsPutFault}
 use Rattle.mm_check.proofs.OnTheWay.{within_limit}
 use Rattle.mm_check.proofs.Rereading.{passed_on}
 use Rattle.mm_check.proofs.Saving.{holds_span, saved_of, ask_save_fault, text_save_fault, put_save_fault}

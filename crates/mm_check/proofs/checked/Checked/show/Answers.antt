@@ -3,7 +3,7 @@ use Rattle.std.proofs.Common.{◌≡◌, List, sym, ap, subst, ◌∙◌}
 use Rattle.std.proofs.lemmas.Result.{IfOk-weaker}
 use Rattle.mm_frame.specs.Sentence.{Sentence}
 use Rattle.mm_check.specs.Conclusion.{Conclusion}
-use Rattle.mm_check.specs.CodeShown.{AreProvedSteps}
+use Rattle.mm_check.specs.Mirror.Theorems.{AreProvedSteps}
 use Rattle.mm_check.proofs.Theorems.{shown_of}
 use Rattle.mm_check.proofs.checked.Checked.show.Goals as goal
 

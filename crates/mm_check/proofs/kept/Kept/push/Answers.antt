@@ -1,7 +1,7 @@
 -- What was kept stays, and what is put at the end is the last.
 use Rattle.std.proofs.Common.{◌++◌, [], ◌∷◌, List, map, length, ap, ◌∙◌, arith}
 use Rattle.mm_check.specs.Conclusion.{ProofUses}
-use Rattle.mm_check.specs.Ordered.{ordered}
+use Rattle.mm_check.specs.Mirror.Ordered.{ordered}
 use Rattle.mm_check.proofs.Ranges.{uses_push}
 use Rattle.mm_check.proofs.kept.Kept.push.Goals as goal
 

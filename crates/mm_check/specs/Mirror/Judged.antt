@@ -1,4 +1,5 @@
--- What checking has come to, and what is answered of one statement and of the text's end.
+-- What checking has come to, and what is answered of one statement and of the text's end. This file
+-- mirrors the code, and is cited by private contracts alone.
 use Rattle.std.specs.Prelude.{◌≡◌, ℕ, ◌+◌, List, [], ◌∷◌, ◌++◌, map, length, sum_by, slice_get, not}
 use Rattle.std.specs.Prelude.{Bool, true, false, if◌then◌else◌, Some, None, Result}
 use Rattle.std.specs.Prelude.{MatchResult, ◌⊎◌}
@@ -28,7 +29,7 @@ use Rattle.mm_check.specs.Verdict.{sentences, proof_of, proofs_of, labels_of, un
 use Rattle.mm_check.specs.Verdict.{is_incomplete, is_proof, is_unproved}
 use Rattle.mm_check.specs.Answer.{verdict_of_fault}
 use Rattle.mm_check.specs.Conclusion.{ProofUses}
-use Rattle.mm_check.specs.Ordered.{ordered}
+use Rattle.mm_check.specs.Mirror.Ordered.{ordered}
 use Rattle.mm_check.specs.Rests.{tree_of, IsNumberWhere, AreInOrder, AreUses}
 
 -- Memory was wanting, or the statement, which comes after so many others, is refused for its fault.

@@ -1,4 +1,5 @@
--- What the code that compares a text with a proof knows on its way: it mirrors the code.
+-- What the code of `same` knows on its way. This file mirrors the code, and is cited by private
+-- contracts alone.
 use Rattle.std.specs.Prelude.{◌≡◌, ◌↔◌, ◌⊎◌, ℕ, ◌+◌, ◌≤◌, Bool, true, false, IsTrue, List, ◌++◌, take, length}
 use Rattle.std.specs.List.{AllByRecursion, sum_by}
 use Rattle.mm_code.specs.Words.{tokens_in}

@@ -1,11 +1,12 @@
 -- Lists of numbers as ranges of one list, which holds them in any order, each once or more; said of
--- each list: its numbers, each once, in rising order. This file mirrors the code.
+-- each list: its numbers, each once, in rising order. This file mirrors the code, and is cited by
+-- private contracts alone.
 use Rattle.std.specs.Prelude.{◌≡◌, ℕ, ◌≤◌, List, map, slice_get, slice_range, Some}
 use Rattle.mm_frame.specs.declared.number.LabelId.{LabelId}
 use Rattle.mm_proof.specs.CodeSteps.{ids_in}
 use Rattle.mm_check.specs.declared.kept.KeptProof.{KeptProof}
 use Rattle.mm_check.specs.Conclusion.{ProofUses}
-use Rattle.mm_check.specs.Ordered.{ordered}
+use Rattle.mm_check.specs.Mirror.Ordered.{ordered}
 
 -- the number of one proof, and those of the assertions that it uses, each once, in order
 abbrev pub uses_at : List LabelId → KeptProof → ProofUses

@@ -1,4 +1,5 @@
--- Which reply a question of the code asks for: it mirrors the code.
+-- Which reply a question of the code asks for. This file mirrors the code, and is cited by private
+-- contracts alone.
 use Rattle.std.specs.Prelude.{ℕ, List, Bool, true, false}
 use Rattle.mm_text.specs.Statement.{PlainStatement}
 use Rattle.mm_check.specs.declared.question.Question.{Question}

@@ -1,4 +1,5 @@
--- What the code of `show` knows on its way: it mirrors the code.
+-- What the code knows of a theorem that it reads again. This file mirrors the code, and is cited by
+-- private contracts alone.
 use Rattle.std.specs.Prelude.{◌≡◌, ℕ, List, take, slice_get, true, Some, None}
 use Rattle.mm_text.specs.Statement.{PlainStatement}
 use Rattle.mm_text.specs.Remaining.{Remaining}

@@ -1,4 +1,5 @@
--- What the code of `saved` knows on its way: it mirrors the code.
+-- What the code knows on its way to a file with a proof written anew. This file mirrors the code,
+-- and is cited by private contracts alone.
 use Rattle.std.specs.Prelude.{◌≡◌, ℕ, ◌<◌, ◌≤◌, List, ◌∷◌, take, length, slice_get, Some, ◌⊎◌}
 use Rattle.mm_text.specs.Statement.{PlainStatement}
 use Rattle.mm_text.specs.Files.{PlainFile}

@@ -1,4 +1,5 @@
--- Numbers, each once, in rising order.
+-- Numbers, each once, in rising order. This file mirrors the code, and is cited by private contracts
+-- alone.
 use Rattle.std.specs.Prelude.{ℕ, List, [], ◌∷◌, if◌then◌else◌, nat_lt}
 
 -- rising numbers, with one more in its place where it isn't among them
