@@ -1,4 +1,4 @@
--- The law of files that show the same: what comments say changes no reply.
+-- The law of files that show the same: what comments say changes no reply to `check`.
 use Rattle.std.specs.Prelude.{◌≤◌, ℕ, List}
 use Rattle.std.specs.List.{AllZip}
 use Rattle.mm_text.specs.Files.{PlainFile, total_bytes}

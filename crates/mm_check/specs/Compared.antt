@@ -1,5 +1,5 @@
 -- Whether a text is a proof of a theorem that spells the same tree as its own: what is wrong with
--- the text, and the answer (the Metamath book, sections 4.1.1, 4.3 and 4.4.4, appendix B).
+-- the text, and the answer (the Metamath book, sections 4.1.1, 4.3, 4.4.3 and 4.4.4, appendix B).
 use Rattle.std.specs.Prelude.{◌≡◌, ◌↔◌, ◌⊎◌, ℕ, ◌<◌, ◌≤◌, ◌==◌, Bool, true, false, IsTrue, List, take}
 use Rattle.std.specs.Prelude.{length, slice_get, Some}
 use Rattle.std.specs.List.{list_any, list_all}

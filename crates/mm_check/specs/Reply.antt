@@ -1,4 +1,4 @@
--- The reply to a command: its text and its status.
+-- The reply to a command: its text and its status, which are this project's own.
 use Rattle.std.specs.Prelude.{◌≡◌, ℕ, List, [], ◌∷◌, ◌++◌, map, length, slice_get, Option}
 use Rattle.std.specs.Prelude.{Bool, true, false}
 use Rattle.std.specs.Prelude.{option_map, unwrap_or, Result, MatchOption, ◌⊎◌, codes, decimal}

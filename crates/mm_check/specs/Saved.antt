@@ -64,7 +64,7 @@ IsSaveFault form files statements label F3 =
 IsSaveFault form files statements label fault = IsFormFault form statements label fault
 
 -- Why saving gives nothing: the verdict over the files isn't that they are accepted, or they are, and
--- no file is written anew.
+-- no file is written anew; or, in either part, memory was wanting.
 abbrev pub IsSavingFault : Form → List PlainFile → (label : List ℕ) → SaveFault → Type 0
 IsSavingFault form files label (Check fault) =
     (verdict : Verdict) → verdict_of_fault fault ≡ Some verdict → HasVerdict Lenient files verdict

@@ -24,7 +24,7 @@ pub record SayTheSame (profile : Profile) (files others : List PlainFile)
   pub rests : (label : List ℕ) (axioms unproved : List ℕ)
       → IsReport statements label axioms unproved ↔ IsReport same label axioms unproved
 
--- With the new bytes in place of the old, nothing that is answered changes.
+-- With the new bytes in place of the old, the verdict, each tree and each report are as they were.
 abbrev pub SavingChangesNoAnswer : Type 0
 SavingChangesNoAnswer =
     (profile : Profile) (form : Form) (files : List PlainFile) (statements : List PlainStatement)
@@ -44,7 +44,7 @@ OneSaved =
     → (number ≡ other) × (bytes ≡ others)
 
 -- Where a theorem can be saved, there is no other fault than want of memory, or that the files would
--- have too many bytes; and this is one exactly if they would.
+-- have too many bytes, and that only if they would.
 abbrev pub OneSaveAnswer : Type 0
 OneSaveAnswer =
     (profile : Profile) (form : Form) (files : List PlainFile) (statements : List PlainStatement)

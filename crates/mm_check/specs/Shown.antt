@@ -1,4 +1,4 @@
--- The text of the listing of a theorem's proof.
+-- The text of the listing of a theorem's proof, which is this project's own.
 use Rattle.std.specs.Prelude.{◌≡◌, ℕ, ◌+◌, List, [], ◌∷◌, ◌++◌, take, slice_get, true, Some, codes}
 use Rattle.std.specs.Prelude.{decimal}
 use Rattle.std.specs.List.{flat_map}

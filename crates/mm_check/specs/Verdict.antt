@@ -138,7 +138,7 @@ text_refusal files fault = record {
 abbrev pub proof_of : PlainStatement → List (List ℕ)
 proof_of s = map (λ t. t.text) s.proof
 
--- some token of the proof holds a `?`
+-- some token of the proof holds a `?` (the Metamath book, section 4.4.4)
 abbrev pub is_incomplete : List (List ℕ) → Bool
 is_incomplete tokens = list_any (list_any (λ b. b == 63)) tokens
 

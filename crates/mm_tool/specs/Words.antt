@@ -113,7 +113,7 @@ database_line =
     with_subcommand
     (with_subcommand (with_subcommand bare_line check_line.top) axioms_line.top) show_line.top
 
--- and those that ask for the forms of a proof
+-- and those that ask for a proof in another form, or compare one
 abbrev pub forms_line : App
 forms_line =
     with_subcommand
@@ -218,7 +218,7 @@ IsFaulty words =
     (kind : ErrorKind) × IsAmong kind (fault_of command_line words) × (kind ≢ DisplayHelp)
     × (kind ≢ DisplayVersion)
 
--- They name no command that asks for a form of a proof.
+-- They name no command that asks for a proof in another form, or compares one.
 abbrev pub NamesNoForm : List Text → Type 0
 NamesNoForm words =
     (rows : List Row)
