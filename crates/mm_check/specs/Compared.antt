@@ -4,6 +4,7 @@ use Rattle.std.specs.Prelude.{◌≡◌, ◌↔◌, ◌⊎◌, ℕ, ◌<◌, ◌
 use Rattle.std.specs.Prelude.{length, slice_get, Some}
 use Rattle.std.specs.List.{list_any, list_all}
 use Rattle.mm_text.specs.Token.{is_printable}
+use Rattle.mm_text.specs.Files.{most_bytes}
 use Rattle.mm_text.specs.Statement.{PlainStatement}
 use Rattle.mm_code.specs.Words.{tokens_in}
 use Rattle.mm_frame.specs.Sentence.{Sentence, sentence_of, IsLabelled}
@@ -22,10 +23,6 @@ use Rattle.mm_check.specs.declared.ask.AskFault.{AskFault}
 use Rattle.mm_check.specs.declared.ask.AskFault.TheVariants.{Text, Memory}
 use Rattle.mm_check.specs.Verdict.{proof_of, is_proof, is_incomplete, proof_rule, sentences}
 use Rattle.mm_check.specs.Rests.{IsAskFault}
-
--- the most bytes of a text that is taken
-abbrev pub most_bytes : ℕ
-most_bytes = 1073741824
 
 -- each token holds only bytes that a token may hold
 abbrev pub are_printable : List (List ℕ) → Bool

@@ -12,6 +12,10 @@ pub record PlainFile : Type 0 where
 abbrev pub plain_file : File → PlainFile
 plain_file f = record { name = f.name.now; bytes = f.bytes.now }
 
+-- The most bytes that the handed files may hold in all, and a text that is handed in by itself: 2^30.
+abbrev pub most_bytes : ℕ
+most_bytes = 1073741824
+
 -- how many bytes the files hold in all
 abbrev pub total_bytes : List PlainFile → ℕ
 total_bytes files = sum_by (λ f. length f.bytes) files
@@ -31,4 +35,4 @@ pub record HasTwins (files : List PlainFile) : Type 0 where
 abbrev pub BreaksLoad : List PlainFile → LoadRule → Type 0
 BreaksLoad files F1 = files ≡ []
 BreaksLoad files F2 = (files ≢ []) × HasTwins files
-BreaksLoad files F3 = (files ≢ []) × ¬ (HasTwins files) × (1073741824 < total_bytes files)
+BreaksLoad files F3 = (files ≢ []) × ¬ (HasTwins files) × (most_bytes < total_bytes files)

@@ -2,6 +2,7 @@
 -- contracts alone.
 use Rattle.std.specs.Prelude.{◌≡◌, ◌↔◌, ◌⊎◌, ℕ, ◌+◌, ◌≤◌, Bool, true, false, IsTrue, List, ◌++◌, take, length}
 use Rattle.std.specs.List.{AllByRecursion, sum_by}
+use Rattle.mm_text.specs.Files.{most_bytes}
 use Rattle.mm_code.specs.Words.{tokens_in}
 use Rattle.mm_frame.specs.Sentence.{Sentence}
 use Rattle.mm_proof.specs.declared.fault.ProofRule.{ProofRule}
@@ -18,7 +19,7 @@ use Rattle.mm_check.specs.declared.rule.Rule.TheVariants.{A3}
 use Rattle.mm_check.specs.declared.ask.AskFault.{AskFault}
 use Rattle.mm_check.specs.declared.ask.AskFault.TheVariants as ask
 use Rattle.mm_check.specs.Verdict.{is_incomplete, proof_rule}
-use Rattle.mm_check.specs.Compared.{most_bytes, are_printable, hold_dollar, IsProofText, BreaksText}
+use Rattle.mm_check.specs.Compared.{are_printable, hold_dollar, IsProofText, BreaksText}
 use Rattle.mm_check.specs.Compared.{IsTextFault}
 
 -- the tokens of the front of a text, where those of the rest complete them
