@@ -14,6 +14,7 @@ use Rattle.std.specs.Cmp.Lexicographic.{bytes_decides}
 use Rattle.mm_text.proofs.LegalLaws.{all_from_places}
 use Rattle.mm_text.specs.declared.comments.Place.{Place}
 use Rattle.mm_text.proofs.TokenLaws.{tokens_from-space, tokens_from-byte, tokens_from-nil, tokens_from-step, tokens_from-run, BeginFrom, tokens_from_begin, with_byte_apart, BeginsWithSpace, space_from_place}
+use Rattle.mm_text.specs.Files.{most_bytes}
 
 -- ---- marks
 
@@ -298,7 +299,8 @@ outside_token p start end t skipped token same =
     ap (without_comments None) (skipped p.file ∙ token p.file ∙ ap (λ (u : PlainToken). u ∷ tokens_from p.file end (drop end p.bytes.now)) (sym same))
 
 -- a later place of a file, up to which it was judged
-pub later_place : (p : Place) (at legal : ℕ) → IsLegalFront p.bytes.now legal → at ≤ legal → p.at < at → length p.bytes.now ≤ 1073741824 → IsLater p (record p { at = at; legal = legal })
+pub later_place : (p : Place) (at legal : ℕ) → IsLegalFront p.bytes.now legal → at ≤ legal
+    → p.at < at → length p.bytes.now ≤ most_bytes → IsLater p (record p { at = at; legal = legal })
 later_place p at legal front within after small = record {
   place = record { within = within; front = front; small = small };
   same = refl;

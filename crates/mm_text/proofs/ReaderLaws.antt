@@ -7,7 +7,7 @@ use Rattle.mm_text.specs.declared.fault.TextFault.{TextFault}
 use Rattle.mm_text.specs.declared.fault.TextFault.TheVariants.{Load, Fault, Memory}
 use Rattle.mm_text.specs.declared.statements.State.{State}
 use Rattle.mm_text.specs.declared.statements.State.TheVariants.{Reading, Ended, Failed}
-use Rattle.mm_text.specs.Files.{PlainFile, total_bytes, HasTwins, BreaksLoad}
+use Rattle.mm_text.specs.Files.{most_bytes, PlainFile, total_bytes, HasTwins, BreaksLoad}
 use Rattle.mm_text.specs.Items.{Item, items}
 use Rattle.mm_text.specs.Statement.{PlainStatement}
 use Rattle.mm_text.specs.Reading.{Reads}
@@ -102,7 +102,9 @@ fault_answerable Ended scope later old new r into fault h e i = absurd (ok_err f
 fault_answerable (Failed other) scope later old new r into fault h e i = subst (λ (x : TextFault). IsAnswerable (Failed x)) (err_parts other fault (sym h ∙ e)) i
 
 -- a reader of files from the start
-pub kept_from_start : (files : List PlainFile) (scope : PlainScope) (its : List Item) → its ≡ items files → scope ≡ outermost → total_bytes files ≤ 1073741824 → IsKept files Reading scope its
+pub kept_from_start : (files : List PlainFile) (scope : PlainScope) (its : List Item)
+    → its ≡ items files → scope ≡ outermost → total_bytes files ≤ most_bytes
+    → IsKept files Reading scope its
 kept_from_start files scope its is first le =
     let statements : (reading_of scope Between its).statements ≡ (files_reading files).statements = λ i. (reading_of (first i) Between (is i)).statements in
     let few = readings_few files _ _ (reading_reads files) in
@@ -126,9 +128,10 @@ unread_from_start files scope its is first =
     })
 
 -- files that break no rule as a whole hold no more bytes than they may
-pub bytes_kept : (files : List PlainFile) → ((rule : LoadRule) → ¬ (BreaksLoad files rule)) → total_bytes files ≤ 1073741824
+pub bytes_kept : (files : List PlainFile) → ((rule : LoadRule) → ¬ (BreaksLoad files rule))
+    → total_bytes files ≤ most_bytes
 bytes_kept files none =
     let some : files ≢ [] = none F1 in
     let apart : ¬ (HasTwins files) = λ twins. none F2 (some, twins) in
-    let few : ¬ (1073741824 < total_bytes files) = λ many. none F3 (some, apart, many) in
+    let few : ¬ (most_bytes < total_bytes files) = λ many. none F3 (some, apart, many) in
     omega (arith, few)

@@ -9,6 +9,7 @@ ghost use Rattle.mm_text.specs.Mirror.Place.{is_quiet, IsLegalFront, IsLegalUpTo
 ghost use Rattle.mm_text.specs.Mirror.Place.{IsMarkAt, IsClosedAt, BeginsNext};
 ghost use Rattle.mm_text.specs.Mirror.Place.{IsSameFile, GoesOn, EndsComment, TakesOne};
 ghost use Rattle.mm_text.specs.Mirror.Place.{TakesWordAt, TakesShown, shown_at};
+ghost use Rattle.mm_text.specs.Files.{most_bytes};
 
 use crate::fault::TextRule;
 use crate::scan::{is_space, legal_end, skip_space, token_end, token_start};
@@ -57,7 +58,7 @@ pub struct Wrong<'a> {
 impl<'a> Place<'a> {
     /// The begin of a file.
     pub fn begin(bytes: &'a [u8], file: usize) -> Place<'a>
-        requires { length bytes.now ≤ 1073741824 }
+        requires { length bytes.now ≤ most_bytes }
         ensures place { IsPlace result }
         ensures bytes { result.bytes.now ≡ bytes.now }
         ensures file { result.file ≡ file }
@@ -124,10 +125,10 @@ fn holds_mark(text: &[u8]) -> bool
 fn make_token<'a>(bytes: &'a [u8], file: usize, start: usize, end: usize) -> Token<'a>
     requires order { start < end }
     requires within { end ≤ length bytes.now }
-    requires small { length bytes.now ≤ 1073741824 }
+    requires small { length bytes.now ≤ most_bytes }
     ensures token { plain_token result
         ≡ record { text = slice_range bytes.now start end; file = file; at = start } }
-    ensures at { result.at < 1073741824 }
+    ensures at { result.at < most_bytes }
 {
     Token {
         text: &bytes[start..end],
@@ -184,7 +185,7 @@ fn is_closed_at(bytes: &[u8], low: usize, at: usize) -> bool
 /// What a comment comes to at its next token that holds a `$` or a byte that no token may hold.
 fn comment_step<'a>(mut place: Place<'a>, begin: Token<'a>) -> Result<Comment<'a>, Wrong<'a>>
     requires place { IsPlace place }
-    requires begin { begin.at < 1073741824 }
+    requires begin { begin.at < most_bytes }
     ensures { GoesOn place.entry (plain_token begin.entry) result }
 {
     let stop = comment_stop(place.bytes, place.at);
@@ -249,7 +250,7 @@ fn next_begin<'a>(place: Place<'a>) -> Option<(Place<'a>, Token<'a>)>
 #[inline(never)]
 fn comment_end<'a>(mut place: Place<'a>, mut begin: Token<'a>) -> Result<Place<'a>, Wrong<'a>>
     requires place { IsPlace place }
-    requires begin { begin.at < 1073741824 }
+    requires begin { begin.at < most_bytes }
     ensures { EndsComment place.entry (plain_token begin.entry) result }
 {
     'parts: loop {

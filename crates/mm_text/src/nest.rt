@@ -3,7 +3,7 @@
 ghost use Rattle.std.specs.Prelude.{◌≡◌, ◌<◌, ◌≤◌, length, map, codes, slice_index_or, None, Some};
 ghost use Rattle.std.specs.Prelude.{IfOk, true, false};
 ghost use Rattle.mm_text.specs.Token.{plain_token};
-ghost use Rattle.mm_text.specs.Files.{plain_file, total_bytes};
+ghost use Rattle.mm_text.specs.Files.{most_bytes, plain_file, total_bytes};
 ghost use Rattle.mm_text.specs.Items.{spells, items};
 ghost use Rattle.mm_text.specs.Mirror.Place.{IsPlace, IsSameFile};
 ghost use Rattle.mm_text.specs.Mirror.Next.{TakesItem, TakesWord};
@@ -60,7 +60,7 @@ fn take_piece<'a>(place: &mut Place<'a>) -> Next<'a>
 /// holds a `$`.
 fn take_inner<'a>(place: &mut Place<'a>, begin: Token<'a>) -> Result<(Token<'a>, bool), Wrong<'a>>
     requires place { IsPlace place.old }
-    requires begin { begin.at < 1073741824 }
+    requires begin { begin.at < most_bytes }
     ensures place { IsPlace place.new }
     ensures same { IsSameFile place.old place.new }
     ensures takes { TakesInner (plain_token begin.entry) place.old result place.new }
@@ -77,7 +77,7 @@ fn take_inner<'a>(place: &mut Place<'a>, begin: Token<'a>) -> Result<(Token<'a>,
 /// Takes the name and the `$]` after a `$[`.
 fn take_name<'a>(place: &mut Place<'a>, begin: Token<'a>) -> Result<Token<'a>, Wrong<'a>>
     requires place { IsPlace place.old }
-    requires begin { begin.at < 1073741824 }
+    requires begin { begin.at < most_bytes }
     ensures place { IsPlace place.new }
     ensures same { IsSameFile place.old place.new }
     ensures takes { TakesName (plain_token begin.entry) place.old result place.new }
@@ -125,7 +125,7 @@ impl<'a> Nest<'a> {
     ) -> Result<Nest<'a>, AllocError>
         requires some { 0 < length files.now }
         requires names { names ≡ map (λ f. f.name) (map plain_file files.now) }
-        requires small { total_bytes (map plain_file files.now) ≤ 1073741824 }
+        requires small { total_bytes (map plain_file files.now) ≤ most_bytes }
         ensures { IfOk result (λ n. IsNest n × (items_left n ≡ items (map plain_file files.now))) }
     {
         let mut named = vec![in alloc; false; files.len()]?;

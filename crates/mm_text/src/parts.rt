@@ -15,6 +15,7 @@ ghost use Rattle.mm_text.specs.Mirror.Steps.{plain_scope, TakesWithin, TakesFirs
 ghost use Rattle.mm_text.specs.Mirror.Steps.{GivesFirst, GivesStatement, StepsTo, is_block_sign};
 ghost use Rattle.mm_text.specs.Mirror.Steps.{ReadsOn};
 ghost use Rattle.mm_text.specs.Mirror.Steps.{bare_kind, labelled_kind, ends_symbols};
+ghost use Rattle.mm_text.specs.Files.{most_bytes};
 
 use crate::class::{Class, Keyword, is_label};
 use crate::cursor::Cursor;
@@ -102,7 +103,7 @@ fn token_within<'a>(
     first: Token<'a>,
     label: Option<Token<'a>>,
 ) -> Result<(Token<'a>, Option<Keyword>), TextFault<'a>>
-    requires { scope.now.count ≤ 1073741824 }
+    requires { scope.now.count ≤ most_bytes }
     ensures { TakesWithin (plain_scope scope.now) (plain_token first.entry)
         (option_map plain_token label.entry) cursor.old result cursor.new }
 {
@@ -124,7 +125,7 @@ fn add_symbol<'a>(
     token: Token<'a>,
 ) -> Result<(), TextFault<'a>>
     requires word { HoldsNoDollar token.text.now }
-    requires room { scope.now.count ≤ 1073741824 }
+    requires room { scope.now.count ≤ most_bytes }
     ensures { StepsTo (plain_scope scope.now) (InBody (plain_statement into.old))
         (plain_token token.entry) result (InBody (plain_statement into.new)) }
 {
@@ -173,7 +174,7 @@ fn proof<'a>(
     into: &mut Statement<'a>,
     scope: &Scope,
 ) -> Result<(), TextFault<'a>>
-    requires { scope.now.count ≤ 1073741824 }
+    requires { scope.now.count ≤ most_bytes }
     ensures { GivesPart (plain_scope scope.now)
         (reading_of (plain_scope scope.now) (InProof (plain_statement into.old)) cursor.old)
         result (plain_statement into.new) cursor.new }
@@ -203,8 +204,8 @@ fn after_symbols<'a>(
     keyword: Keyword,
 ) -> Result<(), TextFault<'a>>
     requires sign { token.text.now ≡ keyword_bytes keyword }
-    requires at { token.at < 1073741824 }
-    requires room { scope.now.count ≤ 1073741824 }
+    requires at { token.at < most_bytes }
+    requires room { scope.now.count ≤ most_bytes }
     ensures { GivesPart (plain_scope scope.now)
         (reading_of (plain_scope scope.now) (InBody (plain_statement into.old))
         (Plain (plain_token token.entry) ∷ cursor.old))
@@ -229,7 +230,7 @@ fn words_of_body<'a>(
     into: &mut Statement<'a>,
     scope: &Scope,
 ) -> Result<(), TextFault<'a>>
-    requires { scope.now.count ≤ 1073741824 }
+    requires { scope.now.count ≤ most_bytes }
     ensures reads { ReadsOn
         (reading_of (plain_scope scope.now) (InBody (plain_statement into.old)) cursor.old)
         result
@@ -249,7 +250,7 @@ fn body<'a>(
     into: &mut Statement<'a>,
     scope: &Scope,
 ) -> Result<(), TextFault<'a>>
-    requires { scope.now.count ≤ 1073741824 }
+    requires { scope.now.count ≤ most_bytes }
     ensures { GivesPart (plain_scope scope.now)
         (reading_of (plain_scope scope.now) (InBody (plain_statement into.old)) cursor.old)
         result (plain_statement into.new) cursor.new }
@@ -271,7 +272,7 @@ fn after_label<'a>(
     scope: &Scope,
     label: Token<'a>,
 ) -> Result<(), TextFault<'a>>
-    requires { scope.now.count ≤ 1073741824 }
+    requires { scope.now.count ≤ most_bytes }
     ensures { GivesPart (plain_scope scope.now)
         (reading_of (plain_scope scope.now) (Labelled (plain_token label.entry)) cursor.old)
         result (plain_statement into.new) cursor.new }
@@ -299,7 +300,7 @@ fn from_keyword<'a>(
 ) -> Result<(), TextFault<'a>>
     requires sign { first.text.now ≡ keyword_bytes keyword }
     requires symbols { is_block_sign keyword ≡ false }
-    requires room { scope.now.count ≤ 1073741824 }
+    requires room { scope.now.count ≤ most_bytes }
     ensures { GivesPart (plain_scope scope.now)
         (reading_of (plain_scope scope.now) Between (Plain (plain_token first.entry) ∷ cursor.old))
         result (plain_statement into.new) cursor.new }
@@ -321,7 +322,7 @@ fn from_word<'a>(
     first: Token<'a>,
 ) -> Result<(), TextFault<'a>>
     requires word { HoldsNoDollar first.text.now }
-    requires room { scope.now.count ≤ 1073741824 }
+    requires room { scope.now.count ≤ most_bytes }
     ensures { GivesPart (plain_scope scope.now)
         (reading_of (plain_scope scope.now) Between (Plain (plain_token first.entry) ∷ cursor.old))
         result (plain_statement into.new) cursor.new }
@@ -342,7 +343,7 @@ fn from_first<'a>(
     class: Class,
 ) -> Result<(), TextFault<'a>>
     requires class { IsOfClass (plain_token first) class }
-    requires room { scope.now.count ≤ 1073741824 }
+    requires room { scope.now.count ≤ most_bytes }
     ensures { GivesFirst (plain_scope scope.old)
         (items_with (plain_token first.entry) class cursor.old)
         result (plain_statement into.new) (plain_scope scope.new) cursor.new }
@@ -381,7 +382,7 @@ fn first_token<'a>(
     cursor: &mut Cursor<'a>,
     scope: &Scope,
 ) -> Result<Option<(Token<'a>, Class)>, TextFault<'a>>
-    requires { scope.now.count ≤ 1073741824 }
+    requires { scope.now.count ≤ most_bytes }
     ensures { TakesFirst (plain_scope scope.now) cursor.old result cursor.new }
 {
     loop {
@@ -408,7 +409,7 @@ pub fn statement<'a>(
     into: &mut Statement<'a>,
     scope: &mut Scope,
 ) -> Result<bool, TextFault<'a>>
-    requires { scope.now.count ≤ 1073741824 }
+    requires { scope.now.count ≤ most_bytes }
     ensures { GivesStatement (plain_scope scope.old) cursor.old
         result (plain_statement into.new) (plain_scope scope.new) cursor.new }
 {

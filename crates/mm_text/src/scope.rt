@@ -5,6 +5,7 @@ ghost use Rattle.mm_text.specs.Token.{plain_token};
 ghost use Rattle.mm_text.specs.Mirror.Reader.{Between, scope_after_statement, has_none, end_fault};
 ghost use Rattle.mm_text.specs.Mirror.Reader.{outermost};
 ghost use Rattle.mm_text.specs.Mirror.Steps.{plain_scope, Opens, Closes, TellsFault};
+ghost use Rattle.mm_text.specs.Files.{most_bytes};
 
 use crate::fault::{TextFault, TextRule};
 use crate::token::Token;
@@ -43,7 +44,7 @@ impl Scope {
         token: Token<'a>,
         label: Option<Token<'a>>,
     ) -> TextFault<'a>
-        requires { self.now.count ≤ 1073741824 }
+        requires { self.now.count ≤ most_bytes }
         ensures { result ≡ TextFault.Fault rule token.entry.file token.entry.at
             (self.now.count + 1) label.entry }
     {
@@ -83,7 +84,7 @@ impl Scope {
 
     /// Takes in a statement with symbols.
     pub fn pass(&mut self)
-        requires { self.now.count ≤ 1073741824 }
+        requires { self.now.count ≤ most_bytes }
         ensures { plain_scope self.new ≡ scope_after_statement (plain_scope self.old) }
     {
         self.count += 1;
@@ -91,7 +92,7 @@ impl Scope {
 
     /// Takes in a `${`.
     pub fn enter<'a>(&mut self, token: Token<'a>) -> Result<(), TextFault<'a>>
-        requires { self.now.count ≤ 1073741824 }
+        requires { self.now.count ≤ most_bytes }
         ensures { Opens (plain_scope self.old) (plain_token token.entry)
             result (plain_scope self.new) }
     {
@@ -106,7 +107,7 @@ impl Scope {
 
     /// Takes in a `$}`; `false` where no block is open.
     pub fn leave(&mut self) -> bool
-        requires { self.now.count ≤ 1073741824 }
+        requires { self.now.count ≤ most_bytes }
         ensures { Closes (plain_scope self.old) result (plain_scope self.new) }
     {
         if self.blocks.pop().is_none() {

@@ -13,7 +13,7 @@ use Rattle.mm_text.specs.declared.token.Token.{Token}
 use Rattle.mm_text.specs.declared.class.Class.{Class}
 use Rattle.mm_text.specs.declared.class.Class.TheVariants as class
 use Rattle.mm_text.specs.Token.{PlainToken, plain_token}
-use Rattle.mm_text.specs.Files.{plain_file, total_bytes}
+use Rattle.mm_text.specs.Files.{most_bytes, plain_file, total_bytes}
 use Rattle.mm_text.specs.Items as items
 use Rattle.mm_text.specs.Items.{Item, Plain, Inclusion, End, Piece, Met, Named, Spot, Outside}
 use Rattle.mm_text.specs.Items.{Naming, Closing, Clear, pieces, put_in, file_number}
@@ -37,11 +37,11 @@ abbrev pub TakesPiece : Place → Next → Place → Type 0
 TakesPiece old (next.Token t kind) new =
     (pieces old.file Outside (shown_at old)
     ≡ pieces_with (plain_token t) kind (pieces old.file Outside (shown_at new)))
-    × IsOfClass (plain_token t) kind × (t.at < 1073741824)
+    × IsOfClass (plain_token t) kind × (t.at < most_bytes)
 TakesPiece old (next.Inclusion t) new =
     (pieces old.file Outside (shown_at old)
     ≡ Met (Inclusion (plain_token t)) ∷ pieces old.file (Naming (plain_token t)) (shown_at new))
-    × (t.at < 1073741824)
+    × (t.at < most_bytes)
 TakesPiece old (next.End file) new = pieces old.file Outside (shown_at old) ≡ Met (End file) ∷ []
 TakesPiece old next.Nothing new = ⊥
 
@@ -54,16 +54,16 @@ TakesInner begin old (Err w) new =
     (pieces old.file (Naming begin) (shown_at old) ≡ Met (wrong_item w) ∷ [])
     × ((name : PlainToken)
     → pieces old.file (Closing begin name) (shown_at old) ≡ Met (wrong_item w) ∷ [])
-    × (w.token.at < 1073741824)
+    × (w.token.at < most_bytes)
 
 -- the rest of an inclusion is taken, up to its `$]`
 abbrev pub TakesName : PlainToken → Place → Result Token Wrong → Place → Type 0
 TakesName begin old (Ok name) new =
     (pieces old.file (Naming begin) (shown_at old)
-    ≡ Named (plain_token name) ∷ pieces old.file Outside (shown_at new)) × (name.at < 1073741824)
+    ≡ Named (plain_token name) ∷ pieces old.file Outside (shown_at new)) × (name.at < most_bytes)
 TakesName begin old (Err w) new =
     (pieces old.file (Naming begin) (shown_at old) ≡ Met (wrong_item w) ∷ [])
-    × (w.token.at < 1073741824)
+    × (w.token.at < most_bytes)
 
 -- ---- all files
 
@@ -103,8 +103,8 @@ pub record IsNest (n : Nest) : Type 0 where
   pub room : vec_len n.«open» + count_by not n.named.items ≤ vec_capacity n.«open»
   pub names : n.names ≡ map (λ f. f.name) (map plain_file n.files.now)
   pub named : length n.named.items ≡ length n.files.now
-  pub small : total_bytes (map plain_file n.files.now) ≤ 1073741824
-  pub naming : IfSome n.naming (λ begin. begin.at < 1073741824)
+  pub small : total_bytes (map plain_file n.files.now) ≤ most_bytes
+  pub naming : IfSome n.naming (λ begin. begin.at < most_bytes)
 
 -- the file with a number is gone into, where it is named before the rest of a file
 pub record Enters (old : Nest) (place : Place) (number : ℕ) (new : Nest) : Type 0 where
@@ -120,4 +120,4 @@ pub record Enters (old : Nest) (place : Place) (number : ℕ) (new : Nest) : Typ
 abbrev pub Includes : Nest → Option Wrong → Nest → Type 0
 Includes old None new =
     (items_left new ≡ items_left old) × (new.naming ≡ None) × (new.is_over ≡ false)
-Includes old (Some w) new = (items_left old ≡ wrong_item w ∷ []) × (w.token.at < 1073741824)
+Includes old (Some w) new = (items_left old ≡ wrong_item w ∷ []) × (w.token.at < most_bytes)

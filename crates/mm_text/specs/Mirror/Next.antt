@@ -9,7 +9,7 @@ use Rattle.mm_text.specs.declared.fault.TextFault.{TextFault}
 use Rattle.mm_text.specs.declared.fault.TextFault.TheVariants.{Load, Fault, Memory}
 use Rattle.mm_text.specs.Mirror.Class.{keyword_bytes}
 use Rattle.mm_text.specs.Token.{PlainToken, plain_token, HoldsNoDollar}
-use Rattle.mm_text.specs.Files.{PlainFile, BreaksLoad}
+use Rattle.mm_text.specs.Files.{most_bytes, PlainFile, BreaksLoad}
 use Rattle.mm_text.specs.declared.fault.LoadRule.{LoadRule}
 use Rattle.mm_text.specs.Items.{Item, Plain, Wrong, Inclusion, End, items}
 
@@ -30,7 +30,7 @@ pub record TakesToken (old : List Item) (t : PlainToken) (kind : Class)
     (new : List Item) : Type 0 where
   pub first : old ≡ items_with t kind new
   pub text : IsOfClass t kind
-  pub at : t.at < 1073741824
+  pub at : t.at < most_bytes
 
 -- the first of the items is taken, and those after it are left
 abbrev pub TakesItem : List Item → Next → List Item → Type 0

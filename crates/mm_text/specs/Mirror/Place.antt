@@ -13,6 +13,7 @@ use Rattle.mm_text.specs.declared.comments.Wrong.{Wrong}
 use Rattle.mm_text.specs.declared.token.Token.{Token}
 use Rattle.mm_text.specs.Token.{PlainToken, plain_token, tokens_from, is_space, is_printable}
 use Rattle.mm_text.specs.Items.{Shown, Clear, Broken, without_comments, spells, holds_dollar}
+use Rattle.mm_text.specs.Files.{most_bytes}
 
 -- a byte may stand in a file
 abbrev pub is_legal : ℕ → Bool
@@ -53,7 +54,7 @@ pub record IsClosedAt (bytes : List ℕ) (at : ℕ) : Type 0 where
 pub record IsPlace (p : Place) : Type 0 where
   pub within : p.at ≤ p.legal
   pub front : IsLegalFront p.bytes.now p.legal
-  pub small : length p.bytes.now ≤ 1073741824
+  pub small : length p.bytes.now ≤ most_bytes
 
 -- what is left of a file outside comments, from outside one on
 abbrev pub shown_at : Place → List Shown
@@ -75,11 +76,11 @@ pub record IsLater (old new : Place) : Type 0 where
 
 -- nothing is left but a fault
 abbrev pub IsBroken : List Shown → Wrong → Type 0
-IsBroken shown w = (shown ≡ Broken w.rule (plain_token w.token) ∷ []) × (w.token.at < 1073741824)
+IsBroken shown w = (shown ≡ Broken w.rule (plain_token w.token) ∷ []) × (w.token.at < most_bytes)
 
 -- a token outside comments, and whether it holds a `$`
 pub record IsClear (t : Token) (has_dollar : Bool) : Type 0 where
-  pub at : t.at < 1073741824
+  pub at : t.at < most_bytes
   pub begins : spells t.text.now (codes "$(") ≡ false
   pub closes : spells t.text.now (codes "$)") ≡ false
   pub dollar : has_dollar ≡ holds_dollar t.text.now
@@ -99,7 +100,7 @@ EndsComment p begin (Err w) = IsBroken (comment_at begin p) w
 abbrev pub BeginsNext : Place → Option (Place × Token) → Type 0
 BeginsNext p (Some found) =
     IsLater p found.0 × (shown_at p ≡ comment_at (plain_token found.1) found.0)
-    × (found.1.at < 1073741824)
+    × (found.1.at < most_bytes)
 BeginsNext p None = Unit {0}
 
 -- one token or comment is taken

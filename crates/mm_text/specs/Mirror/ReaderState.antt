@@ -8,7 +8,7 @@ use Rattle.mm_text.specs.declared.statements.State.{State}
 use Rattle.mm_text.specs.declared.statements.State.TheVariants.{Reading, Ended, Failed}
 use Rattle.mm_text.specs.declared.statements.Statements.TheInside.{Inside}
 use Rattle.mm_text.specs.Statement.{PlainStatement}
-use Rattle.mm_text.specs.Files.{PlainFile, plain_file}
+use Rattle.mm_text.specs.Files.{most_bytes, PlainFile, plain_file}
 use Rattle.mm_text.specs.Items.{Item}
 use Rattle.mm_text.specs.Mirror.Reader.{PlainReading, PlainScope, Between, reading_of}
 use Rattle.mm_text.specs.Remaining.{Remaining}
@@ -58,7 +58,7 @@ IsAnswerable (Failed (Load rule)) = ⊥
 
 -- while statements are read, those that were read and those that are left are few
 abbrev pub AreFew : State → ℕ → ℕ → Type 0
-AreFew Reading count left = count + left ≤ 1073741824
+AreFew Reading count left = count + left ≤ most_bytes
 AreFew Ended count left = Unit {0}
 AreFew (Failed fault) count left = Unit {0}
 

@@ -25,6 +25,7 @@ use Rattle.mm_text.specs.Mirror.Reader.{scope_after_statement, scope_after_openi
 use Rattle.mm_text.specs.Mirror.Reader.{scope_after_closing, reading_of}
 use Rattle.mm_text.specs.Statement.{is_provable}
 use Rattle.mm_text.specs.Mirror.Reader.{only_ending, with_statement}
+use Rattle.mm_text.specs.Files.{most_bytes}
 
 -- what its keyword, or that it is none, tells of a token
 abbrev pub IsSign : PlainToken → Option Keyword → Type 0
@@ -37,7 +38,7 @@ pub record TakesPlain (old : List Item) (t : PlainToken) (sign : Option Keyword)
     (new : List Item) : Type 0 where
   pub first : old ≡ Plain t ∷ new
   pub text : IsSign t sign
-  pub at : t.at < 1073741824
+  pub at : t.at < most_bytes
 
 -- the fault in a text, without where its label lies in memory
 abbrev pub fault_of : TextRule → ℕ → ℕ → ℕ → Option Token → PlainFault
