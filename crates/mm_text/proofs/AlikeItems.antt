@@ -9,7 +9,8 @@ use Rattle.mm_text.specs.declared.fault.TextRule.TheVariants.{X5, X7}
 use Rattle.mm_text.specs.Token.{PlainToken, is_printable, tokens_from}
 use Rattle.mm_text.specs.Files.{PlainFile}
 use Rattle.mm_text.specs.Items.{Item, Plain, Wrong, Inclusion, End, Shown, Clear, Broken, without_comments, spells, holds_dollar, holds_mark, Spot, Outside, Naming, Closing, Piece, Met, Named, broken_outside, pieces, pieces_of, file_number, with_inclusions, put_before, put_in, items}
-use Rattle.mm_text.specs.Alike.{feeds_before, feeds_in, token_on, faulty_on, shown_on, item_on, shows, AreAlike}
+use Rattle.mm_text.specs.LineNumbers.{feeds_before, feeds_in}
+use Rattle.mm_text.specs.Alike.{token_on, faulty_on, shown_on, item_on, shows, AreAlike}
 use Rattle.mm_text.proofs.PlaceLaws.{StandsIn, tokens_in_place}
 use Rattle.mm_text.proofs.Lists.{mapped_zip, zip_append, zip_mapped}
 

@@ -1,7 +1,8 @@
 -- Files that show the same are read alike.
 use Rattle.std.proofs.Common.{[], ◌∷◌, ◌++◌, map, refl, ap, sym, ◌∙◌, Some, None}
 use Rattle.mm_text.specs.Items.{items}
-use Rattle.mm_text.specs.Alike.{AlikeFilesAreReadAlike, feeds_in, token_on, item_on}
+use Rattle.mm_text.specs.LineNumbers.{feeds_in}
+use Rattle.mm_text.specs.Alike.{AlikeFilesAreReadAlike, token_on, item_on}
 use Rattle.mm_text.proofs.AlikeItems.{alike_items}
 use Rattle.mm_text.proofs.AlikeFronts.{viable_alike}
 use Rattle.mm_text.proofs.AlikeEndings.{ends_alike}

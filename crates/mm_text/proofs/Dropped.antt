@@ -6,7 +6,8 @@ use Rattle.std.proofs.lemmas.Bool.{ne_eqb, both_ways, and_parts}
 use Rattle.std.proofs.lemmas.List.Sums.{sum_by-cons}
 use Rattle.mm_text.specs.Token.{PlainToken, is_space, is_printable, with_byte, tokens_from}
 use Rattle.mm_text.specs.Items.{Shown, Clear, without_comments, spells, holds_mark}
-use Rattle.mm_text.specs.Alike.{feeds_before, token_on, shown_on, shows}
+use Rattle.mm_text.specs.LineNumbers.{feeds_before}
+use Rattle.mm_text.specs.Alike.{token_on, shown_on, shows}
 use Rattle.mm_text.specs.Mirror.Place.{is_quiet}
 use Rattle.mm_text.specs.Mirror.Hollow.{ShowSame, IsBoundary, IsOpen, ink, feeds}
 use Rattle.mm_text.proofs.TokenLaws.{BeginFrom, begin_earlier, with_byte_apart, with_byte_joined}

@@ -1,24 +1,15 @@
 -- Files that show the same: the same tokens outside comments, up to the first fault of comments,
 -- and that fault, on the same lines. A comment without a fault shows nothing (the Metamath book,
 -- sections 4.1.2 and 4.4.1).
-use Rattle.std.specs.Prelude.{◌≡◌, ℕ, ◌==◌, List, [], map, take, count_by, slice_get}
-use Rattle.std.specs.Prelude.{Option, None, option_map, unwrap_or}
+use Rattle.std.specs.Prelude.{◌≡◌, ℕ, List, [], map, Option, None, option_map}
 use Rattle.std.specs.List.{AllZip}
 use Rattle.mm_text.specs.Token.{PlainToken, tokens_from}
 use Rattle.mm_text.specs.Statement.{PlainStatement}
 use Rattle.mm_text.specs.Files.{PlainFile}
+use Rattle.mm_text.specs.LineNumbers.{feeds_before, feeds_in}
 use Rattle.mm_text.specs.Items.{Item, Plain, Wrong, Inclusion, End, Shown, Clear, Broken}
 use Rattle.mm_text.specs.Items.{without_comments}
 use Rattle.mm_text.specs.Reading.{PlainFault, Reads}
-
--- how many line feeds stand before a place
-abbrev pub feeds_before : List ℕ → ℕ → ℕ
-feeds_before bytes at = count_by (λ b. b == 10) (take at bytes)
-
--- the same in one of the files; where there is no such file, the text is empty
-abbrev pub feeds_in : List PlainFile → ℕ → ℕ → ℕ
-feeds_in files file at =
-    feeds_before (unwrap_or (option_map (λ f. f.bytes) (slice_get files file)) []) at
 
 -- A token with another number in place of its place: one that its file and its place give, such as
 -- how many line feeds stand before it.

@@ -1,10 +1,10 @@
 -- The items of the handed files: what is met as they are read, token by token, with comments left
 -- out and the files put in that are named (the Metamath book, sections 4.1.2, 4.4.1 and 4.4.2).
-use Rattle.std.specs.Prelude.{ℕ, zero, suc, ◌==◌, ◌&&◌, ◌||◌, nat_eq, List, [], ◌∷◌, ◌++◌, length}
+use Rattle.std.specs.Prelude.{ℕ, zero, suc, ◌==◌, ◌&&◌, ◌||◌, List, [], ◌∷◌, ◌++◌, length}
 use Rattle.std.specs.Prelude.{replicate, Bool, true, false, not, if◌then◌else◌, codes, Option, Some}
 use Rattle.std.specs.Prelude.{None, slice_get, slice_set, slice_index_or, position}
 use Rattle.std.specs.List.{list_any, list_all}
-use Rattle.std.specs.Cmp.Lexicographic.{pointwise}
+use Rattle.std.specs.Str.{bytes_eq}
 use Rattle.mm_text.specs.declared.fault.TextRule.{TextRule}
 use Rattle.mm_text.specs.declared.fault.TextRule.TheVariants.{X1, X2, X3, X4, X5, X7, X9}
 use Rattle.mm_text.specs.Token.{PlainToken, tokens_from, is_printable}
@@ -19,8 +19,9 @@ pub data Item : Type 0 where
   Inclusion : (token : PlainToken) → Item
   End : (file : ℕ) → Item
 
+-- a text is this word, byte by byte
 abbrev pub spells : List ℕ → List ℕ → Bool
-spells text word = pointwise nat_eq text word
+spells text word = bytes_eq text word
 
 -- a text holds a `$`
 abbrev pub holds_dollar : List ℕ → Bool

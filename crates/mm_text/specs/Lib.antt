@@ -9,6 +9,7 @@ pub mod Blocks
 pub mod Token
 pub mod Empty
 pub mod Laws
+pub mod LineNumbers
 pub mod Alike
 pub mod Mirror
 pub mod Replaced

@@ -1,7 +1,7 @@
 //! The names of the handed files, and the numbers that they stand for.
 
-ghost use Rattle.std.specs.Prelude.{◌≡◌, nat_eq, map, ◌∷◌, []};
-ghost use Rattle.std.specs.Cmp.Lexicographic.{pointwise};
+ghost use Rattle.std.specs.Prelude.{◌≡◌, map, ◌∷◌, []};
+ghost use Rattle.std.specs.Str.{bytes_eq};
 ghost use Rattle.std.specs.Cmp.Rules.{comparing, hashing};
 ghost use Rattle.std.proofs.Common.{rules};
 ghost use Rattle.mm_text.specs.Files.{plain_file};
@@ -20,7 +20,7 @@ use std::marker::Model;
 struct Name<'a>(&'a [u8]);
 
 impl<'a> PartialEq for Name<'a> {
-    ghost eq = { λ a b. pointwise nat_eq a.0.now b.0.now };
+    ghost eq = { λ a b. bytes_eq a.0.now b.0.now };
 
     ghost laws = { Prim.search (comparing, rules) };
 
