@@ -3,9 +3,9 @@
 ghost use Rattle.std.specs.Prelude.{◌≡◌, ◌<◌, ◌≤◌, ◌==◌, take, length, slice_index, true};
 ghost use Rattle.std.specs.Prelude.{IfOk, IfErr};
 ghost use Rattle.std.specs.List.{AllByRecursion, list_any, list_all, sum_by};
-ghost use Rattle.mm_text.specs.Token.{is_printable};
+ghost use Rattle.mm_text.specs.Token.{is_printable, is_space as is_white_space};
 ghost use Rattle.mm_code.specs.Layout.{texts};
-ghost use Rattle.mm_code.specs.Words.{is_white_space, tokens_in, LacksWhiteSpace};
+ghost use Rattle.mm_code.specs.Words.{tokens_in, LacksWhiteSpace};
 ghost use Rattle.mm_check.specs.Compared.{are_printable, hold_dollar};
 ghost use Rattle.mm_check.specs.Mirror.Comparisons.{IsLegalText, IsIllegal};
 

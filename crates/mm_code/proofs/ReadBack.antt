@@ -2,35 +2,22 @@
 use Rattle.std.proofs.Common.{◌≡◌, ℕ, ◌<◌, true, false, List, [], ◌∷◌, ◌++◌, length, refl, sym, ap, subst, ◌∙◌, append_assoc, arith}
 use Rattle.std.specs.List.{flat_map, join_with_byte, AllByRecursion, onto_first}
 use Rattle.std.proofs.lemmas.List.{append-nil}
+use Rattle.mm_text.specs.Token.{is_space}
+use Rattle.mm_text.proofs.Lists.{all_append}
 use Rattle.mm_code.specs.Layout.{indent, token_line, IsLine, LaidOut, AreLetterLines, in_parentheses, CompressedLaidOut}
-use Rattle.mm_code.specs.Words.{is_white_space, tokens_in, LacksWhiteSpace, IsOneToken}
+use Rattle.mm_code.specs.Words.{tokens_in, LacksWhiteSpace, IsOneToken}
+use Rattle.mm_code.proofs.TextTokens.{tokens_in-nil, tokens_in-space, tokens_in-end, tokens_in-on}
 use Rattle.mm_code.proofs.Added.{line_length}
 use Rattle.mm_code.proofs.LetterLines.{some_letters, other_letters}
 
--- white space before a word
-pub tokens_in-space : (byte : ℕ) (bytes : List ℕ) → is_white_space byte ≡ true → tokens_in (byte ∷ bytes) ≡ tokens_in bytes
-unfolding tokens_in
-tokens_in-space byte [] white = rw white refl
-tokens_in-space byte (next ∷ bytes) white = rw white refl
-
--- a word's last byte, before white space
-pub tokens_in-end : (byte space : ℕ) (bytes : List ℕ) → is_white_space byte ≡ false → is_white_space space ≡ true → tokens_in (byte ∷ space ∷ bytes) ≡ (byte ∷ []) ∷ tokens_in (space ∷ bytes)
-unfolding tokens_in
-tokens_in-end byte space bytes dark white = rw (dark, white) refl
-
--- another byte of it
-pub tokens_in-on : (byte next : ℕ) (bytes : List ℕ) → is_white_space byte ≡ false → is_white_space next ≡ false → tokens_in (byte ∷ next ∷ bytes) ≡ onto_first byte (tokens_in (next ∷ bytes))
-unfolding tokens_in
-tokens_in-on byte next bytes dark dark_next = rw (dark, dark_next) refl
-
 -- a word before white space is found
-tokens_in-word : (byte : ℕ) (word : List ℕ) (space : ℕ) (bytes : List ℕ) → LacksWhiteSpace (byte ∷ word) → is_white_space space ≡ true → tokens_in ((byte ∷ word) ++ space ∷ bytes) ≡ (byte ∷ word) ∷ tokens_in bytes
+tokens_in-word : (byte : ℕ) (word : List ℕ) (space : ℕ) (bytes : List ℕ) → LacksWhiteSpace (byte ∷ word) → is_space space ≡ true → tokens_in ((byte ∷ word) ++ space ∷ bytes) ≡ (byte ∷ word) ∷ tokens_in bytes
 tokens_in-word byte [] space bytes dark white =
     tokens_in-end byte space bytes dark.0 white ∙ ap (λ (ws : List (List ℕ)). (byte ∷ []) ∷ ws) (tokens_in-space space bytes white)
 tokens_in-word byte (next ∷ word) space bytes dark white =
     tokens_in-on byte next (word ++ space ∷ bytes) dark.0 dark.1.0 ∙ ap (onto_first byte) (tokens_in-word next word space bytes dark.1 white)
 
-tokens_in-token : (token : List ℕ) (space : ℕ) (bytes : List ℕ) → IsOneToken token → is_white_space space ≡ true → tokens_in (token ++ space ∷ bytes) ≡ token ∷ tokens_in bytes
+tokens_in-token : (token : List ℕ) (space : ℕ) (bytes : List ℕ) → IsOneToken token → is_space space ≡ true → tokens_in (token ++ space ∷ bytes) ≡ token ∷ tokens_in bytes
 tokens_in-token [] space bytes is white = absurd (omega (arith, is.0))
 tokens_in-token (byte ∷ token) space bytes is white = tokens_in-word byte token space bytes is.1 white
 
@@ -60,10 +47,6 @@ all-back : {X : Type 0} (P : X → Type 0) (a b : List X) → AllByRecursion P (
 all-back P [] b all = all
 all-back P (x ∷ a) b all = all-back P a b all.1
 
-all-append : {X : Type 0} (P : X → Type 0) (a b : List X) → AllByRecursion P a → AllByRecursion P b → AllByRecursion P (a ++ b)
-all-append P [] b first second = second
-all-append P (x ∷ a) b first second = (first.0, all-append P a b first.1 second)
-
 tokens_in-lines : (lines : List (List (List ℕ))) (bytes : List ℕ) → AllByRecursion IsLine lines → AllByRecursion IsOneToken (flat_map (λ l. l) lines)
     → tokens_in (flat_map (λ line. token_line line ++ 10 ∷ []) lines ++ bytes) ≡ flat_map (λ l. l) lines ++ tokens_in bytes
 tokens_in-lines [] bytes each are = refl
@@ -79,10 +62,6 @@ tokens_in-laid_out tokens text bytes are laid =
     let P : List (List ℕ) → Type 0 = AllByRecursion IsOneToken in
     ap (λ (t : List ℕ). tokens_in (t ++ bytes)) laid.printed ∙ tokens_in-lines laid.lines bytes laid.each (subst P (sym laid.in_order) are) ∙ ap (λ (ts : List (List ℕ)). ts ++ tokens_in bytes) laid.in_order
 
-pub tokens_in-nil : tokens_in [] ≡ []
-unfolding tokens_in
-tokens_in-nil = refl
-
 pub normal_read_back : (labels : List (List ℕ)) (text : List ℕ) → AllByRecursion IsOneToken labels → LaidOut labels text → tokens_in text ≡ labels
 normal_read_back labels text are laid =
     ap tokens_in (sym (append-nil text)) ∙ tokens_in-laid_out labels text [] are laid ∙ ap (λ (ws : List (List ℕ)). labels ++ ws) tokens_in-nil ∙ append-nil labels
@@ -93,13 +72,13 @@ tokens_in-letters : (lines : List (List ℕ)) → AreLetterLines lines → Lacks
 tokens_in-letters [] each dark = tokens_in-nil
 tokens_in-letters (line ∷ lines) each dark =
     let others = flat_map (λ l. (indent ++ l) ++ 10 ∷ []) lines in
-    let is_dark = λ (byte : ℕ). is_white_space byte ≡ false in
+    let is_dark = λ (byte : ℕ). is_space byte ≡ false in
     let is : IsOneToken line = (omega (arith, (some_letters line lines each).0), all-front is_dark line (flat_map (λ l. l) lines) dark) in
     ap tokens_in (append_assoc (indent ++ line) (10 ∷ []) others) ∙ tokens_in-indent (line ++ 10 ∷ others) ∙ tokens_in-token line 10 others is refl
     ∙ ap (λ (ws : List (List ℕ)). line ∷ ws) (tokens_in-letters lines (other_letters line lines each) (all-back is_dark line (flat_map (λ l. l) lines) dark))
 
 tokens_in-parentheses : (labels : List (List ℕ)) → AllByRecursion IsOneToken labels → AllByRecursion IsOneToken (in_parentheses labels)
-tokens_in-parentheses labels are = ((omega arith, (refl, tt)), all-append IsOneToken labels ((41 ∷ []) ∷ []) are ((omega arith, (refl, tt)), tt))
+tokens_in-parentheses labels are = ((omega arith, (refl, tt)), all_append IsOneToken labels ((41 ∷ []) ∷ []) are ((omega arith, (refl, tt)), tt))
 
 pub compressed_read_back : (labels : List (List ℕ)) (letters text : List ℕ) → AllByRecursion IsOneToken labels → LacksWhiteSpace letters → CompressedLaidOut labels letters text
     → (pieces : List (List ℕ)) × (tokens_in text ≡ in_parentheses labels ++ pieces) × (flat_map (λ piece. piece) pieces ≡ letters)

@@ -1,24 +1,19 @@
 -- What a reader of a text finds in it: its tokens (the Metamath book, section 4.1.1).
-use Rattle.std.specs.Prelude.{◌≡◌, ℕ, ◌<◌, Bool, false, ◌||◌, List, [], ◌∷◌, length, if◌then◌else◌}
-use Rattle.std.specs.Prelude.{◌==◌}
-use Rattle.std.specs.List.{AllByRecursion, onto_first}
+use Rattle.std.specs.Prelude.{◌≡◌, ℕ, ◌<◌, false, List, length, map}
+use Rattle.std.specs.List.{AllByRecursion}
+use Rattle.mm_text.specs.Token.{PlainToken, is_space, tokens_from}
 
--- Metamath's white space: a space, and the characters 9, 10, 12 and 13
-abbrev pub is_white_space : ℕ → Bool
-is_white_space byte = byte == 32 || byte == 10 || byte == 9 || byte == 12 || byte == 13
+-- the bytes of tokens, without where they stand
+abbrev pub texts_of : List PlainToken → List (List ℕ)
+texts_of tokens = map (λ t. t.text) tokens
 
--- the tokens of a text: the maximal runs of non-white-space bytes in it
+-- the tokens of a text: those of a file of these bytes
 unfoldable pub tokens_in : List ℕ → List (List ℕ)
-tokens_in [] = []
-tokens_in (byte ∷ []) = if is_white_space byte then [] else (byte ∷ []) ∷ []
-tokens_in (byte ∷ next ∷ bytes) =
-    if is_white_space byte then tokens_in (next ∷ bytes)
-    else (if is_white_space next then (byte ∷ []) ∷ tokens_in (next ∷ bytes)
-    else onto_first byte (tokens_in (next ∷ bytes)))
+tokens_in text = texts_of (tokens_from 0 0 text)
 
 -- none of these bytes is white space
 abbrev pub LacksWhiteSpace : List ℕ → Type 0
-LacksWhiteSpace bytes = AllByRecursion (λ byte. is_white_space byte ≡ false) bytes
+LacksWhiteSpace bytes = AllByRecursion (λ byte. is_space byte ≡ false) bytes
 
 -- one token: some bytes, and no white space among them
 abbrev pub IsOneToken : List ℕ → Type 0
