@@ -1,11 +1,12 @@
 -- Saving changes nothing that is answered, and saving again changes nothing.
 use Rattle.std.proofs.Common.{◌≡◌, ℕ, suc, ◌+◌, ◌≤◌, ◌<◌, List, [], ◌∷◌, ◌++◌, map, take, drop, length, slice_get, true, Some, None, inl, inr, refl, sym, ap, subst, ◌∙◌, arith, append_assoc, length-append, is_some}
 use Rattle.std.proofs.Math.Seq.{take-append_seam, drop-append_seam}
+use Rattle.std.proofs.lemmas.Option.{same_Some}
 use Rattle.mm_text.specs.Statement.{PlainStatement}
 use Rattle.mm_text.specs.Files.{PlainFile}
 use Rattle.mm_text.specs.Replaced.{placeless, with_span, with_bytes, IsProofSpan, AreReadBut}
 use Rattle.mm_text.proofs.ReplacedFiles.{replaced_proofs_are_read_holds}
-use Rattle.mm_text.proofs.ReplacedItems.{some_same, set_there}
+use Rattle.mm_text.proofs.ReplacedItems.{set_there}
 use Rattle.mm_text.proofs.ProofSpans.{proofs_stand_in_spans_holds}
 use Rattle.mm_code.specs.declared.code.Code.{Code}
 use Rattle.mm_code.specs.Letters.{SpellsCodes}
@@ -209,7 +210,7 @@ one_saved profile f files statements label number other bytes others accepted sv
     (subst (λ (n : ℕ). IsTextIn f (sentences (take n statements)) (sentence_of sw.s) (tree sw.root sw.below none) sw.text) here sw.laid)) in
     let text : sv.text ≡ sw.text = texts_once f front (sentence_of sv.s) sv.root sv.below sv.text sw.text (front_meant profile statements sv.place accepted.obeyed) sv.laid laid in
     let home : number ≡ other = sv.home ∙ ap (λ (s : PlainStatement). s.first.file) (sym same) ∙ sym sw.home in
-    let file : sv.file ≡ sw.file = some_same sv.file sw.file (sym sv.handed ∙ ap (slice_get files) home ∙ sw.handed) in
+    let file : sv.file ≡ sw.file = same_Some sv.file sw.file (sym sv.handed ∙ ap (slice_get files) home ∙ sw.handed) in
     (home, sv.whole ∙ (λ i. with_span (file i).bytes (sym same i).span (10 ∷ text i)) ∙ sym sw.whole)
 
 -- ---- no other fault where something is saved

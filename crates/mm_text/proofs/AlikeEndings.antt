@@ -77,7 +77,7 @@ module _ (h k : ℕ → ℕ → ℕ) where
       (λ i. record { rule = r i; file = (e i).file; at = (e i).at; statement = long i + 1; label = label i })
 
   -- tokens that show the same are the same where they are faulty
-  faulty_alike : (t u : PlainToken) → token_on h t ≡ token_on k u → faulty_on h t ≡ faulty_on k u
+  pub faulty_alike : (t u : PlainToken) → token_on h t ≡ token_on k u → faulty_on h t ≡ faulty_on k u
   faulty_alike t u e = ap (λ (x : PlainToken). record { text = []; file = x.file; at = x.at }) e
 
 -- a text that differs from a word still does

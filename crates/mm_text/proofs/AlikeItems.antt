@@ -12,7 +12,9 @@ use Rattle.mm_text.specs.Items.{Item, Plain, Wrong, Inclusion, End, Shown, Clear
 use Rattle.mm_text.specs.LineNumbers.{feeds_before, feeds_in}
 use Rattle.mm_text.specs.Alike.{token_on, faulty_on, shown_on, item_on, shows, AreAlike}
 use Rattle.mm_text.proofs.PlaceLaws.{StandsIn, tokens_in_place}
-use Rattle.mm_text.proofs.Lists.{mapped_zip, zip_append, zip_mapped}
+use Rattle.mm_text.proofs.Lists.{mapped_zip, zip_append, zip_mapped, zip_weaker}
+use Rattle.mm_text.proofs.AlikeBeginnings.{text_alike}
+use Rattle.mm_text.proofs.AlikeEndings.{faulty_alike}
 
 -- ---- choices
 
@@ -164,23 +166,15 @@ module _ (files : List PlainFile) (named : List Bool) (next : ℕ → List Piece
   spliced_name name rest = refl
 
 module _ (h k : ℕ → ℕ → ℕ) where
-  -- tokens that correspond do so as faults
-  faulty : (t u : PlainToken) → token_on h t ≡ token_on k u → faulty_on h t ≡ faulty_on k u
-  faulty t u e = ap (λ (x : PlainToken). record { text = []; file = x.file; at = x.at }) e
-
-  -- tokens that correspond have one text
-  text_same : (t u : PlainToken) → token_on h t ≡ token_on k u → t.text ≡ u.text
-  text_same t u e = ap (λ (x : PlainToken). x.text) e
-
   -- a fault at one corresponds to a fault at the other
   wrong_piece : (rule : TextRule) (t u : PlainToken) → token_on h t ≡ token_on k u → AllZip (SamePiece h k) (Met (Wrong rule t) ∷ []) (Met (Wrong rule u) ∷ [])
-  wrong_piece rule t u e = (ap (λ (x : PlainToken). Wrong rule x) (faulty t u e), tt)
+  wrong_piece rule t u e = (ap (λ (x : PlainToken). Wrong rule x) (faulty_alike h k t u e), tt)
 
   -- a token outside inclusions that isn't a `$[`
   outside_same : (t u : PlainToken) → token_on h t ≡ token_on k u → (ps qs : List Piece) → AllZip (SamePiece h k) ps qs → (o p : Option TextRule) → o ≡ p
       → AllZip (SamePiece h k) (elim o [ Some rule ↦ Met (Wrong rule t) ∷ [] | None ↦ Met (Plain t) ∷ ps ]) (elim p [ Some rule ↦ Met (Wrong rule u) ∷ [] | None ↦ Met (Plain u) ∷ qs ])
   outside_same t u e ps qs s None None i = (ap (λ (x : PlainToken). Plain x) e, s)
-  outside_same t u e ps qs s (Some rule) (Some law) i = (λ j. Wrong (some_rule (i j)) (faulty t u e j), tt)
+  outside_same t u e ps qs s (Some rule) (Some law) i = (λ j. Wrong (some_rule (i j)) (faulty_alike h k t u e j), tt)
   outside_same t u e ps qs s None (Some law) i = absurd cc
   outside_same t u e ps qs s (Some rule) None i = absurd cc
 
@@ -194,18 +188,18 @@ module _ (h k : ℕ → ℕ → ℕ) where
   pieces_same file (Naming x) (Naming y) (Broken rule t ∷ a) (Broken law u ∷ b) w z = (λ i. Wrong (z.0.0 i) (z.0.1 i), tt)
   pieces_same file (Closing x name) (Closing y other) (Broken rule t ∷ a) (Broken law u ∷ b) w z = (λ i. Wrong (z.0.0 i) (z.0.1 i), tt)
   pieces_same file Outside Outside (Clear t ∷ a) (Clear u ∷ b) w z =
-      let text = text_same t u z.0 in
+      let text = text_alike h k t u z.0 in
       let naming = pieces_same file (Naming t) (Naming u) a b z.0 z.1 in
       let outside = pieces_same file Outside Outside a b tt z.1 in
       both_choices (AllZip (SamePiece h k)) (spells t.text (codes "$[")) (spells u.text (codes "$[")) _ _ _ _ (ap (λ l. spells l (codes "$[")) text)
       (ap (λ (x : PlainToken). Inclusion x) z.0, naming)
       (outside_same t u z.0 (pieces file Outside a) (pieces file Outside b) outside (broken_outside t.text) (broken_outside u.text) (ap broken_outside text))
   pieces_same file (Naming x) (Naming y) (Clear t ∷ a) (Clear u ∷ b) w z =
-      let text = text_same t u z.0 in
+      let text = text_alike h k t u z.0 in
       let closing = pieces_same file (Closing x t) (Closing y u) a b (w, z.0) z.1 in
       both_choices (AllZip (SamePiece h k)) (holds_dollar t.text) (holds_dollar u.text) _ _ _ _ (ap holds_dollar text) (wrong_piece X5 t u z.0) closing
   pieces_same file (Closing x name) (Closing y other) (Clear t ∷ a) (Clear u ∷ b) w z =
-      let text = text_same t u z.0 in
+      let text = text_alike h k t u z.0 in
       let outside = pieces_same file Outside Outside a b tt z.1 in
       both_choices (AllZip (SamePiece h k)) (spells t.text (codes "$]")) (spells u.text (codes "$]")) _ _ _ _ (ap (λ l. spells l (codes "$]")) text)
       (w.1, outside) (wrong_piece X5 t u z.0)
@@ -236,7 +230,7 @@ module _ (h k : ℕ → ℕ → ℕ) where
       → (o p : Option ℕ) → o ≡ p
       → AllZip SameItem (elim o [ None ↦ Wrong X7 t ∷ [] | Some n ↦ cond (slice_index_or named n true) its (next n ps) ])
       (elim p [ None ↦ Wrong X7 u ∷ [] | Some n ↦ cond (slice_index_or named n true) others (on n qs) ])
-  found_same named next on t u e ps qs its others inner goes None None i = (ap (λ (x : PlainToken). Wrong X7 x) (faulty t u e), tt)
+  found_same named next on t u e ps qs its others inner goes None None i = (ap (λ (x : PlainToken). Wrong X7 x) (faulty_alike h k t u e), tt)
   found_same named next on t u e ps qs its others inner goes (Some n) (Some m) i =
       let same : n ≡ m = cc in
       both_choices (AllZip SameItem) (slice_index_or named n true) (slice_index_or named m true) its (next n ps) others (on m qs)
@@ -260,7 +254,7 @@ module _ (h k : ℕ → ℕ → ℕ) where
         let inner = spliced_same named next on goes ps qs z.1 in
         rw (spliced_name files named next t ps) (rw (spliced_name others named on u qs)
         (found_same named next on t u z.0 ps qs _ _ inner (λ n. goes n ps qs z.1) (file_number files t.text) (file_number others u.text)
-        (numbers t.text ∙ ap (file_number others) (text_same t u z.0))))
+        (numbers t.text ∙ ap (file_number others) (text_alike h k t u z.0))))
     spliced_same named next on goes (Met a ∷ ps) (Named u ∷ qs) z = absurd z.0
     spliced_same named next on goes (Named t ∷ ps) (Met b ∷ qs) z = absurd z.0
 
@@ -290,19 +284,38 @@ slices_alike (f ∷ files) [] z n = absurd z
 slices_alike (f ∷ files) (g ∷ others) z zero = z.0
 slices_alike (f ∷ files) (g ∷ others) z (suc n) = slices_alike files others z.1 n
 
+-- files with the same names, place by place
+abbrev pub SameNames : List PlainFile → List PlainFile → Type 0
+SameNames files others = AllZip (λ f g. f.name ≡ g.name) files others
+
 -- a name stands at one place in both lists
-first_place : (text : List ℕ) (files others : List PlainFile) → AllZip AreAlike files others → prefix_len (λ (f : PlainFile). not (spells text f.name)) files ≡ prefix_len (λ (f : PlainFile). not (spells text f.name)) others
+first_place : (text : List ℕ) (files others : List PlainFile) → SameNames files others
+    → prefix_len (λ f. not (spells text f.name)) files
+    ≡ prefix_len (λ f. not (spells text f.name)) others
 first_place text [] [] z = refl
 first_place text [] (g ∷ others) z = absurd z
 first_place text (f ∷ files) [] z = absurd z
-first_place text (f ∷ files) (g ∷ others) z = λ i. cond (not (spells text (z.0.0 i))) (1 + first_place text files others z.1 i) 0
+first_place text (f ∷ files) (g ∷ others) z =
+    λ i. cond (not (spells text (z.0 i))) (1 + first_place text files others z.1 i) 0
+
+-- as many files
+pub as_long : (files others : List PlainFile) → SameNames files others
+    → length files ≡ length others
+as_long files others z = sym (AllZip-long (λ f g. f.name ≡ g.name) files others z)
 
 -- a name is that of the file with the same number
-file_number_same : (files others : List PlainFile) → AllZip AreAlike files others → (text : List ℕ) → file_number files text ≡ file_number others text
-file_number_same files others z text =
+pub same_number : (files others : List PlainFile) → SameNames files others → (text : List ℕ)
+    → file_number files text ≡ file_number others text
+same_number files others z text =
     let place = first_place text files others z in
-    let long = sym (AllZip-long AreAlike files others z) in
+    let long = as_long files others z in
     λ i. cond (nat_lt (place i) (long i)) (Some (place i)) None
+
+-- files that show the same have the same names
+names_alike : (files others : List PlainFile) → AllZip AreAlike files others
+    → SameNames files others
+names_alike files others z =
+    zip_weaker AreAlike (λ f g. f.name ≡ g.name) (λ f g alike. alike.0) files others z
 
 -- the pieces of files with one number correspond
 file_pieces_same : (files others : List PlainFile) (n : ℕ) (f g : PlainFile) → slice_get files n ≡ Some f → slice_get others n ≡ Some g → AreAlike f g
@@ -337,6 +350,6 @@ alike_items (f ∷ files) (g ∷ others) z =
     let k = feeds_in (g ∷ others) in
     let named = true ∷ replicate (length files) false in
     zip_mapped (item_on h) (item_on k) (items (f ∷ files)) (put_in (g ∷ others) (length files) named (pieces_of 0 g))
-    (put_in_same h k (f ∷ files) (g ∷ others) (file_number_same (f ∷ files) (g ∷ others) z) (put_before_same (f ∷ files) (g ∷ others) z) (length files) named (pieces_of 0 f) (pieces_of 0 g)
+    (put_in_same h k (f ∷ files) (g ∷ others) (same_number (f ∷ files) (g ∷ others) (names_alike (f ∷ files) (g ∷ others) z)) (put_before_same (f ∷ files) (g ∷ others) z) (length files) named (pieces_of 0 f) (pieces_of 0 g)
     (file_pieces_same (f ∷ files) (g ∷ others) 0 f g refl refl z.0))
     ∙ ap (λ (n : ℕ). map (item_on k) (put_in (g ∷ others) n (true ∷ replicate n false) (pieces_of 0 g))) (sym (AllZip-long AreAlike files others z.1))

@@ -48,7 +48,7 @@ same_pieces [] = tt
 same_pieces (p ∷ ps) = (same_piece p, same_pieces ps)
 
 -- a file that is named stays so
-still_named : (named : List Bool) (n k : ℕ) → slice_index_or named k true ≡ true → slice_index_or (slice_set named n true) k true ≡ true
+pub still_named : (named : List Bool) (n k : ℕ) → slice_index_or named k true ≡ true → slice_index_or (slice_set named n true) k true ≡ true
 still_named [] n k h = h
 still_named (b ∷ named) zero zero h = refl
 still_named (b ∷ named) zero (suc k) h = h

@@ -3,13 +3,13 @@ use Rattle.std.proofs.Common.{◌≡◌, ◌≢◌, ℕ, ◌+◌, ◌≤◌, len
 use Rattle.std.proofs.lemmas.List.{append-nil, length-append}
 use Rattle.mm_text.specs.declared.statement.Kind.{Kind}
 use Rattle.mm_text.specs.declared.statement.Kind.TheVariants.{Constants, Variables, Distinct, Floating, Essential, Axiom, Provable, Opening, Closing}
-use Rattle.mm_text.specs.Token.{PlainToken}
+use Rattle.mm_text.specs.Token.{PlainToken, HoldsNoDollar}
 use Rattle.mm_text.specs.Statement.{PlainStatement, IsHead, HasBody, IsBareHead, IsLabelledHead, AreSymbols, FitsCount, label_in, Spells, IsTail, EndsAtOnce}
 use Rattle.mm_text.specs.Reading.{IsBeginning, IsBody, IsInProof, IsLone}
 use Rattle.mm_text.specs.Laws.{BeginsStatement, BeginningsBeginStatements}
-use Rattle.mm_text.proofs.PartFacts.{symbols-append, started}
+use Rattle.mm_text.proofs.PartFacts.{started}
 use Rattle.mm_text.proofs.StatementRuns.{tail_cases, kind_cases, room_of, IsBlockSign, opening_sign, closing_sign_of}
-use Rattle.mm_text.proofs.Lists.{cons_parts}
+use Rattle.mm_text.proofs.Lists.{all_append, all_front, cons_parts}
 
 -- ---- a beginning is finished by more tokens
 
@@ -43,7 +43,7 @@ finished_with tokens kind symbols b extra last tail span h count ends =
         begins = b.begins;
         first = (st.others, st.is);
         label = refl;
-        symbols = symbols-append symbols extra b.spelled h;
+        symbols = all_append (λ t. HoldsNoDollar t.text) symbols extra b.spelled h;
         count = count;
         ends = ends st.first;
       };
@@ -176,10 +176,6 @@ nil_parts : (a b : List PlainToken) → a ++ b ≡ [] → (a ≡ []) × (b ≡ [
 nil_parts [] b e = (refl, e)
 nil_parts (t ∷ a) b e = absurd cc
 
-symbols_left : (a b : List PlainToken) → AreSymbols (a ++ b) → AreSymbols a
-symbols_left [] b h = tt
-symbols_left (t ∷ a) b h = (h.0, symbols_left a b h.1)
-
 -- a whole head of a statement with symbols
 head_begins : (kind : Kind) (head tokens : List PlainToken) → HasBody kind → IsHead kind head → tokens ≡ head → IsBeginning tokens
 head_begins kind head tokens long h e = inr (inr (inl (kind, [], record { head = head; whole = e ∙ sym (append-nil head); begins = h; long = long; spelled = tt; room = λ _. omega arith })))
@@ -225,7 +221,7 @@ symbols_front tokens more s h long c =
           whole = d.longer;
           begins = h.begins;
           long = long;
-          spelled = symbols_left (d.next ∷ d.mid) c.mid (subst AreSymbols d.rest h.symbols);
+          spelled = all_front (λ t. HoldsNoDollar t.text) (d.next ∷ d.mid) c.mid (subst AreSymbols d.rest h.symbols);
           room = λ k. let le = room_of s.kind (length s.symbols) h.count k in omega (arith, ap (length {A = PlainToken}) d.rest, length-append (d.next ∷ d.mid) c.mid);
         },
       )))
@@ -248,7 +244,7 @@ tail_front tokens more s h long some c =
               stated = record { head = h.head; whole = refl; begins = subst (λ (x : Kind). IsHead x h.head) k.0 h.begins; long = tt; spelled = h.symbols; room = λ e. absurd cc };
               some = subst (λ (x : Kind). FitsCount x (length s.symbols)) k.0 h.count;
               sign = ap (λ (t : PlainToken). t.text) parts.0 ∙ k.1.sign;
-              steps = symbols_left c.mid d.mid (subst AreSymbols d.longer k.1.proof);
+              steps = all_front (λ t. HoldsNoDollar t.text) c.mid d.mid (subst AreSymbols d.longer k.1.proof);
             })))
             | inr d ↦ absurd (some (nil_parts d.mid more (cons_parts d.next k.1.stop (d.mid ++ more) [] (sym d.rest)).1).1)
           ]

@@ -1,7 +1,7 @@
 -- Blocks: what a reader keeps of them, against the statements that were read.
 use Rattle.std.proofs.Common.{◌≡◌, ℕ, zero, suc, ◌+◌, ◌-◌, ◌<◌, ◌≤◌, length, take, drop, List, [], ◌∷◌, ◌++◌, true, false, refl, sym, ap, subst, ◌∙◌, arith, append_assoc, ◌⊎◌, inl, inr}
 use Rattle.std.proofs.lemmas.List.{append-nil, length-append, take-append-le}
-use Rattle.std.proofs.Math.Seq.{take-append-add, take-length}
+use Rattle.std.proofs.Math.Seq.{take-append-add, take-length, take-nil}
 use Rattle.std.proofs.lemmas.List.Sums.{sum_by-append}
 use Rattle.std.proofs.lemmas.Bool.{false≢true, false_from_ne_true, true_from_ne_false}
 use Rattle.mm_text.specs.declared.scope.OpenBlock.{OpenBlock}
@@ -51,10 +51,6 @@ keeps_append d e a b h k same n =
           let cut : take n (a ++ b) ≡ a ++ take past.0 b = ap (λ (x : ℕ). take x (a ++ b)) past.1 ∙ take-append-add a b past.0 in
           subst (λ (x : List PlainStatement). closings x ≤ d + openings x) (sym cut) (omega (arith, closings-append a (take past.0 b), openings-append a (take past.0 b), k past.0, same))
     ]
-
-take-nil : (n : ℕ) → take {A = PlainStatement} n [] ≡ []
-take-nil zero = refl
-take-nil (suc n) = refl
 
 -- a front of statements that keep the blocks does
 pub keeps_front : (d : ℕ) (a b : List PlainStatement) → KeepsBlocks d (a ++ b) → KeepsBlocks d a

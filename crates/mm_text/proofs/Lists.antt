@@ -203,6 +203,17 @@ pub all_append : {A : Type 0} (P : A → Type 0) (a b : List A) → AllByRecursi
 all_append P [] b first second = second
 all_append P (x ∷ a) b first second = (first.0, all_append P a b first.1 second)
 
+-- of the whole, and so of both parts
+pub all_front : {A : Type 0} (P : A → Type 0) (a b : List A) → AllByRecursion P (a ++ b)
+    → AllByRecursion P a
+all_front P [] b all = tt
+all_front P (x ∷ a) b all = (all.0, all_front P a b all.1)
+
+pub all_back : {A : Type 0} (P : A → Type 0) (a b : List A) → AllByRecursion P (a ++ b)
+    → AllByRecursion P b
+all_back P [] b all = all
+all_back P (x ∷ a) b all = all_back P a b all.1
+
 -- of one more
 pub all_push : {A : Type 0} (P : A → Type 0) (xs : List A) (x : A) → AllByRecursion P xs → P x
     → AllByRecursion P (xs ++ x ∷ [])
@@ -296,6 +307,14 @@ mapped_zip f g R step [] (y ∷ ys) is = absurd cc
 mapped_zip f g R step (x ∷ xs) [] is = absurd cc
 mapped_zip f g R step (x ∷ xs) (y ∷ ys) is =
     (step x y (ap (first_or (f x)) is), mapped_zip f g R step xs ys (ap all_but_first is))
+
+-- lists that correspond do so where less is said
+pub zip_weaker : {A B : Type 0} (R S : A → B → Type 0) → ((x : A) (y : B) → R x y → S x y)
+    → (xs : List A) (ys : List B) → AllZip R xs ys → AllZip S xs ys
+zip_weaker R S f [] [] z = tt
+zip_weaker R S f [] (y ∷ ys) z = absurd z
+zip_weaker R S f (x ∷ xs) [] z = absurd z
+zip_weaker R S f (x ∷ xs) (y ∷ ys) z = (f x y z.0, zip_weaker R S f xs ys z.1)
 
 -- lists that correspond, after lists that do
 pub zip_append : {A B : Type 0} (R : A → B → Type 0) (xs : List A) (ys : List B)

@@ -1,5 +1,6 @@
 -- The front of the items after which a fault comes is the longest viable one.
 use Rattle.std.proofs.Common.{◌≡◌, ◌+◌, ◌≤◌, length, List, [], ◌∷◌, ◌++◌, refl, sym, ap, ◌∙◌, Some, append_assoc, ◌⊎◌, inl, inr, arith}
+use Rattle.std.proofs.lemmas.Option.{same_Some}
 use Rattle.mm_text.specs.declared.fault.TextRule.TheVariants.{X1}
 use Rattle.mm_text.specs.Token.{PlainToken}
 use Rattle.mm_text.specs.Statement.{PlainStatement}
@@ -29,9 +30,6 @@ ending_of : (statements : List PlainStatement) (reading : PlainReading) → (wit
 ending_of [] reading = refl
 ending_of (s ∷ statements) reading = ending_of statements reading
 
-some_parts : (a b : PlainFault) → Some a ≡ Some b → a ≡ b
-some_parts a b e = cc
-
 -- What goes on after a fault isn't viable: a token that is wrong, right after it, would be the fault that ends the reading.
 not_viable : (front : List Item) (item : Item) (mid : List Item) (statements more : List PlainStatement) (unfinished left : List PlainToken) (fault : PlainFault) → Viable front statements unfinished
     → EndsAt statements unfinished item fault → Viable (front ++ item ∷ mid) more left → ⊥
@@ -46,7 +44,7 @@ not_viable front item mid statements more unfinished left fault v e l =
     let two : (reading_of outermost Between ((front ++ item ∷ mid) ++ last)).ending ≡ Some (fault_in (scope_of more) found.0 X1 other) =
     ap (λ (r : PlainReading). r.ending) (front_reading (front ++ item ∷ mid) last more left found.0 l found.1)
     ∙ ending_of more (reading_of (scope_of more) found.0 last) ∙ ap (λ (r : PlainReading). r.ending) (read_wrong (scope_of more) found.0 X1 other []) in
-    let same = some_parts fault (fault_in (scope_of more) found.0 X1 other) (sym one ∙ ap (λ (x : List Item). (reading_of outermost Between x).ending) (sym (append_assoc front (item ∷ mid) last)) ∙ two) in
+    let same = same_Some fault (fault_in (scope_of more) found.0 X1 other) (sym one ∙ ap (λ (x : List Item). (reading_of outermost Between x).ending) (sym (append_assoc front (item ∷ mid) last)) ∙ two) in
     let place : fault.at ≡ fault.at + 1 = ap (λ (f : PlainFault). f.at) same in
     omega arith
 

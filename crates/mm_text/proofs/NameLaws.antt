@@ -4,7 +4,7 @@ use Rattle.std.specs.Prelude.{slice_get, position}
 use Rattle.std.specs.List.{list_any, position_or_len}
 use Rattle.std.specs.Cmp.Lexicographic.{bytes_decides}
 use Rattle.std.proofs.lemmas.Bool.{false≢true, both_ways}
-use Rattle.std.proofs.lemmas.List.{get_or-take, length-take-le, length-map, map-append}
+use Rattle.std.proofs.lemmas.List.{get_or_default, get_or-take, length-take-le, length-map, map-append}
 use Rattle.std.proofs.Math.Seq.{take-suc}
 use Rattle.std.proofs.str.Laws.{order}
 use Rattle.std.proofs.lemmas.Option.{slice_get_within}
@@ -49,16 +49,11 @@ apart_more names n within apart none i j less more same =
     both_ways _ none (list_any_at (spells (get_or names n [])) (take n names) i [] (omega arith) spelled))
     (order j n)
 
-pub other_default : {A : Type 0} (xs : List A) (i : ℕ) (d e : A) → i < length xs → get_or xs i d ≡ get_or xs i e
-other_default [] i d e lt = absurd (omega arith)
-other_default (x ∷ xs) zero d e lt = refl
-other_default (x ∷ xs) (suc i) d e lt = other_default xs i d e (omega arith)
-
 pub equal_before : (names : List (List ℕ)) (n : ℕ) → n < length names → list_any (spells (get_or names n [])) (take n names) ≡ true → (i : ℕ) × (i < n) × (get_or names i [] ≡ get_or names n [])
 equal_before names n within some =
     let found = Any-from_list_any (spells (get_or names n [])) (take n names) some in
     let low : found.0 < n = omega (arith, found.2, length-take-le n names (omega arith)) in
-    (found.0, low, other_default names found.0 [] found.1 (omega arith) ∙ sym (get_or-take n names found.0 found.1 low) ∙ found.3 ∙ sym ((bytes_decides _ _).0 found.4))
+    (found.0, low, get_or_default names found.0 [] found.1 (omega arith) ∙ sym (get_or-take n names found.0 found.1 low) ∙ found.3 ∙ sym ((bytes_decides _ _).0 found.4))
 
 list_any-map : {K : Type 0} (g : K → List ℕ) (p : List ℕ → Bool) (ks : List K) → list_any (λ k. p (g k)) ks ≡ list_any p (map g ks)
 list_any-map g p [] = refl

@@ -207,10 +207,6 @@ leaves_to n m q over naming e same =
 abbrev pub no_file : File
 no_file = record { name = record { ref_ptr = (0, 0); now = [] }; bytes = record { ref_ptr = (0, 0); now = [] } }
 
-pub nil_of_length : {A : Type 0} (xs : List A) → length xs ≡ 0 → xs ≡ []
-nil_of_length [] e = refl
-nil_of_length (x ∷ xs) e = absurd (omega arith)
-
 count_replicate : (n : ℕ) → sum_by (λ b. cond (not b) 1 0) (replicate n false) ≡ n
 count_replicate zero = refl
 count_replicate (suc n) = omega (arith, count_replicate n, sum_by_from (λ b. cond (not b) 1 0) (0 + 1) (replicate n false))

@@ -44,10 +44,6 @@ Describes (Labelled label) tokens = (tokens ≡ label ∷ []) × IsLabel label.t
 Describes (InBody s) tokens = IsPartBody s tokens
 Describes (InProof s) tokens = IsPartProof s tokens
 
-pub symbols-append : (a b : List PlainToken) → AreSymbols a → AreSymbols b → AreSymbols (a ++ b)
-symbols-append [] b h k = k
-symbols-append (t ∷ a) b h k = (h.0, symbols-append a b h.1 k)
-
 -- the label of the head is the label of all tokens
 pub label_in-front : (head : List PlainToken) (first : PlainToken) (others more : List PlainToken) → head ≡ first ∷ others → label_in (head ++ more) ≡ label_in head
 label_in-front head first others more e = subst (λ (h : List PlainToken). label_in (h ++ more) ≡ label_in h) (sym e) refl

@@ -2,6 +2,7 @@
 use Rattle.std.proofs.Common.{◌≡◌, ℕ, ◌+◌, List, [], ◌∷◌, ◌++◌, map, length, refl, sym, ap, ◌∙◌, None, append_assoc}
 use Rattle.std.specs.Prelude.{slice_get}
 use Rattle.std.proofs.lemmas.List.{map-append}
+use Rattle.std.proofs.lemmas.Option.{same_Some}
 use Rattle.mm_text.specs.Token.{PlainToken, tokens_from}
 use Rattle.mm_text.specs.Files.{PlainFile}
 use Rattle.mm_text.specs.Items.{Shown, Clear, without_comments, items}
@@ -9,7 +10,6 @@ use Rattle.mm_text.specs.Replaced.{ProofsStandInSpans}
 use Rattle.mm_text.proofs.CutTokens.{IsSpaced, ReplacedBetween, replaced_between}
 use Rattle.mm_text.proofs.CutShown.{clear_shown}
 use Rattle.mm_text.proofs.FollowedRuns.{run_stands}
-use Rattle.mm_text.proofs.ReplacedItems.{some_same}
 use Rattle.mm_text.proofs.ReplacedReading.{proof_at}
 use Rattle.mm_text.proofs.ReplacedProofs.{home}
 use Rattle.mm_text.proofs.ReplacedFiles.{equals_home}
@@ -37,7 +37,7 @@ proofs_stand_in_spans_holds files before s after file reads p there =
     let a = proof_at (items files) before s after reads p in
     let st = run_stands files a.front a.back a.ends.equals (s.proof ++ a.ends.stop ∷ []) a.whole in
     let number : st.number ≡ s.first.file = sym (home files a.ends.equals (s.proof ++ a.ends.stop ∷ []) st) ∙ equals_home files before s after reads p in
-    let same_file : st.place.file ≡ file = some_same st.place.file file (sym st.place.there ∙ ap (slice_get files) number ∙ there) in
+    let same_file : st.place.file ≡ file = same_Some st.place.file file (sym st.place.there ∙ ap (slice_get files) number ∙ there) in
     let r = st.place.reached in
     let (earlier, later, b) = apart st.number st.place.file.bytes st.passed r.tokens a.ends.equals s.proof a.ends.stop st.rest r.clear st.place.whole in
     let two : a.ends.equals.at + length a.ends.equals.text ≡ a.ends.equals.at + 2 = ap (λ (l : List ℕ). a.ends.equals.at + length l) a.ends.sign in

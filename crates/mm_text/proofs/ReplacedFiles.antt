@@ -1,6 +1,7 @@
 -- The law of replaced proofs, by the file in which the statement stands.
 use Rattle.std.proofs.Common.{◌≡◌, ℕ, ◌+◌, List, [], ◌∷◌, ◌++◌, length, take, drop, refl, sym, ap, ◌∙◌, subst, Option, Some, None}
 use Rattle.std.specs.Prelude.{slice_get, slice_set}
+use Rattle.std.proofs.lemmas.Option.{same_Some}
 use Rattle.mm_text.specs.declared.statement.Kind.TheVariants.{Provable}
 use Rattle.mm_text.specs.Token.{PlainToken, tokens_from}
 use Rattle.mm_text.specs.Files.{PlainFile}
@@ -10,7 +11,6 @@ use Rattle.mm_text.specs.Reading.{Reads}
 use Rattle.mm_text.specs.Replaced.{IsProofText, with_span, with_bytes, ReplacedProofsAreRead}
 use Rattle.mm_text.proofs.TokenLaws.{BeginsWithSpace}
 use Rattle.mm_text.proofs.ReplacedFile.{IsProofText as Spaced}
-use Rattle.mm_text.proofs.ReplacedItems.{some_same}
 use Rattle.mm_text.proofs.ReplacedReading.{proof_at}
 use Rattle.mm_text.proofs.ReplacedProofs.{replaced_proofs_are_read}
 use Rattle.mm_text.proofs.StatementHomes.{one_home}
@@ -36,7 +36,7 @@ replaced_proofs_are_read_holds files before s after file text reads p there is_t
     let a = proof_at (items files) before s after reads p in
     let r = replaced_proofs_are_read files before s after text reads a (spaced text is_text) in
     let number : r.number ≡ s.first.file = sym r.own_home ∙ equals_home files before s after reads p in
-    let same_file : r.file ≡ file = some_same r.file file (sym r.there ∙ ap (slice_get files) number ∙ there) in
+    let same_file : r.file ≡ file = same_Some r.file file (sym r.there ∙ ap (slice_get files) number ∙ there) in
     let changed : slice_set files r.number (record r.file { bytes = take s.span.0 r.file.bytes ++ (text ++ drop s.span.1 r.file.bytes) }) ≡ with_bytes files s.first.file (with_span file.bytes s.span text) =
     (λ i. slice_set files (number i) (record (same_file i) { bytes = take s.span.0 (same_file i).bytes ++ (text ++ drop s.span.1 (same_file i).bytes) }))
     ∙ sym (ap (λ (o : Option PlainFile). elim o [ None ↦ files | Some f ↦ slice_set files s.first.file (record f { bytes = with_span file.bytes s.span text }) ]) there) in

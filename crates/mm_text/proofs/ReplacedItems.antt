@@ -2,10 +2,11 @@
 use Rattle.std.proofs.Common.{◌≡◌, ◌≢◌, ℕ, zero, suc, ◌+◌, List, [], ◌∷◌, ◌++◌, length, replicate, Bool, true, false, cond, not, refl, sym, ap, ◌∙◌, subst, codes, Some, None}
 use Rattle.std.specs.Prelude.{slice_get, slice_index_or, slice_set, nat_lt}
 use Rattle.std.specs.List.{AllZip, prefix_len}
+use Rattle.std.proofs.lemmas.Option.{same_Some}
 use Rattle.mm_text.specs.Token.{PlainToken, tokens_from}
 use Rattle.mm_text.specs.Files.{PlainFile}
 use Rattle.mm_text.specs.Items.{Piece, spells, pieces_of, file_number, put_in, items}
-use Rattle.mm_text.proofs.AlikeItems.{SamePiece}
+use Rattle.mm_text.proofs.AlikeItems.{SamePiece, SameNames, as_long, same_number}
 use Rattle.mm_text.proofs.FollowedRuns.{StandsInFile}
 use Rattle.mm_text.proofs.ReplacedFile.{nowhere, met, IsProofText, with_span, replaced_pieces}
 use Rattle.mm_text.proofs.AlteredItems.{SameOrAlter, put_in_within, put_in_before}
@@ -16,38 +17,14 @@ use Rattle.mm_text.proofs.AlteredItems.{SameOrAlter, put_in_within, put_in_befor
 abbrev pub with_file : List PlainFile → ℕ → PlainFile → List PlainFile
 with_file files number file = slice_set files number file
 
-abbrev SameNames : List PlainFile → List PlainFile → Type 0
-SameNames files others = AllZip (λ (f : PlainFile) (g : PlainFile). f.name ≡ g.name) files others
-
 same_names_all : (files : List PlainFile) → SameNames files files
 same_names_all [] = tt
 same_names_all (f ∷ files) = (refl, same_names_all files)
 
-pub some_same : (f g : PlainFile) → Some f ≡ Some g → f ≡ g
-some_same f g e = cc
-
 same_names : (files : List PlainFile) (k : ℕ) (f g : PlainFile) → slice_get files k ≡ Some f → f.name ≡ g.name → SameNames files (with_file files k g)
 same_names [] k f g there e = tt
-same_names (h ∷ files) zero f g there e = (ap (λ (x : PlainFile). x.name) (some_same h f there) ∙ e, same_names_all files)
+same_names (h ∷ files) zero f g there e = (ap (λ (x : PlainFile). x.name) (same_Some h f there) ∙ e, same_names_all files)
 same_names (h ∷ files) (suc k) f g there e = (refl, same_names files k f g there e)
-
-first_place : (text : List ℕ) (files others : List PlainFile) → SameNames files others → prefix_len (λ (f : PlainFile). not (spells text f.name)) files ≡ prefix_len (λ (f : PlainFile). not (spells text f.name)) others
-first_place text [] [] z = refl
-first_place text [] (g ∷ others) z = absurd z
-first_place text (f ∷ files) [] z = absurd z
-first_place text (f ∷ files) (g ∷ others) z = λ i. cond (not (spells text (z.0 i))) (1 + first_place text files others z.1 i) 0
-
-as_long : (files others : List PlainFile) → SameNames files others → length files ≡ length others
-as_long [] [] z = refl
-as_long [] (g ∷ others) z = absurd z
-as_long (f ∷ files) [] z = absurd z
-as_long (f ∷ files) (g ∷ others) z = ap suc (as_long files others z.1)
-
-pub same_number : (files others : List PlainFile) → SameNames files others → (text : List ℕ) → file_number files text ≡ file_number others text
-same_number files others z text =
-    let place = first_place text files others z in
-    let long = as_long files others z in
-    λ i. cond (nat_lt (place i) (long i)) (Some (place i)) None
 
 pub set_there : (files : List PlainFile) (k : ℕ) (f g : PlainFile) → slice_get files k ≡ Some f → slice_get (with_file files k g) k ≡ Some g
 set_there [] k f g there = absurd cc
@@ -83,7 +60,7 @@ module _ (text : List ℕ) (equals : PlainToken) (proof : List PlainToken) (stop
   top_replaced top others f g before after behind there name old new same =
       let files : List PlainFile = top ∷ others in
       let named : List Bool = true ∷ replicate (length others) false in
-      let first : pieces_of 0 top ≡ before ++ (met (equals ∷ (proof ++ stop ∷ [])) ++ after) = ap (pieces_of 0) (some_same top f there) ∙ old in
+      let first : pieces_of 0 top ≡ before ++ (met (equals ∷ (proof ++ stop ∷ [])) ++ after) = ap (pieces_of 0) (same_Some top f there) ∙ old in
       subst (λ (l : List Piece). SameOrAlter (equals ∷ (proof ++ stop ∷ [])) (replacing 0 text equals stop) (put_in files (length others) named l) (put_in (g ∷ others) (length others) named (pieces_of 0 g))) (sym first)
       (subst (λ (l : List Piece). SameOrAlter (equals ∷ (proof ++ stop ∷ [])) (replacing 0 text equals stop) (put_in files (length others) named (before ++ (met (equals ∷ (proof ++ stop ∷ [])) ++ after))) (put_in (g ∷ others) (length others) named l)) (sym new)
       (put_in_within files (g ∷ others) 0 f g (equals ∷ (proof ++ stop ∷ [])) (replacing 0 text equals stop) before after behind (same_number files (g ∷ others) (same_names files 0 f g there name))

@@ -3,6 +3,7 @@ use Rattle.std.proofs.Common.{◌≡◌, ℕ, ◌+◌, ◌≤◌, ◌==◌, ◌&
 use Rattle.std.specs.Prelude.{slice_get, count_by}
 use Rattle.std.specs.List.{AllZip, AllByRecursion, list_any}
 use Rattle.std.proofs.lemmas.List.Sums.{sum_by-append, sum_by-cons}
+use Rattle.std.proofs.lemmas.Option.{same_Some}
 use Rattle.mm_text.specs.Token.{PlainToken, tokens_from, HoldsNoDollar}
 use Rattle.mm_text.specs.Files.{PlainFile}
 use Rattle.mm_text.specs.Statement.{PlainStatement, AreSymbols}
@@ -18,7 +19,7 @@ use Rattle.mm_text.proofs.CutShown.{clear_shown}
 use Rattle.mm_text.proofs.FollowedRuns.{StandsInFile, run_stands}
 use Rattle.mm_text.proofs.ReplacedFile.{nowhere, met, IsProofText, IsProofToken, with_span, replaced_pieces}
 use Rattle.mm_text.proofs.AlteredItems.{SameItem, Alter, SameOrAlter}
-use Rattle.mm_text.proofs.ReplacedItems.{with_file, replaced_items, set_there, some_same}
+use Rattle.mm_text.proofs.ReplacedItems.{with_file, replaced_items, set_there}
 use Rattle.mm_text.proofs.ReplacedReading.{ProofAt, read_so}
 use Rattle.mm_text.proofs.Lists.{cons_parts, two_cuts}
 
@@ -182,7 +183,7 @@ module _ (files : List PlainFile) (before : List PlainStatement) (s : PlainState
       let old = replaced_pieces others text a.ends.equals s.proof a.ends.stop is_text a.ends.end there in
       let number : there.number ≡ stands.number = sym (home others a.ends.equals (s.proof ++ a.ends.stop ∷ []) there) ∙ home files a.ends.equals (s.proof ++ a.ends.stop ∷ []) stands in
       let file : there.place.file ≡ changed =
-      some_same there.place.file changed (sym there.place.there ∙ ap (slice_get others) number ∙ set_there files stands.number stands.place.file changed stands.place.there) in
+      same_Some there.place.file changed (sym there.place.there ∙ ap (slice_get others) number ∙ set_there files stands.number stands.place.file changed stands.place.there) in
       let known : pieces_of stands.number changed ≡ old.before ++ (met (a.ends.equals ∷ (s.proof ++ a.ends.stop ∷ [])) ++ old.after) =
       (λ i. pieces_of (sym number i) (sym file i)) ∙ old.old in
       let tail = one_cut stands.number changed a.ends.equals new.before (met (put ++ last ∷ []) ++ new.others) old.before (met (s.proof ++ a.ends.stop ∷ []) ++ old.after) new.new known in

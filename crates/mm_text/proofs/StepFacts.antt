@@ -12,7 +12,8 @@ use Rattle.mm_text.specs.Reading.{closes_symbols, Meets}
 use Rattle.mm_text.specs.Mirror.Reader.{Part, Between, Labelled, InBody, InProof, Step, More, Whole, Opened, Closed, Faulty, step, at_start, after_label, in_body, in_proof, is_keyword, bare_statement, has_count, is_full}
 use Rattle.mm_text.specs.Statement.{is_provable}
 use Rattle.mm_text.proofs.TextFacts.{same_text-true, same_text-false, is_keyword-true, is_keyword-false, IsSigned, signed_word}
-use Rattle.mm_text.proofs.PartFacts.{IsPartBody, IsPartProof, Describes, symbols-append, body_of_part, proof_of_part}
+use Rattle.mm_text.proofs.Lists.{all_append}
+use Rattle.mm_text.proofs.PartFacts.{IsPartBody, IsPartProof, Describes, body_of_part, proof_of_part}
 
 -- ---- kinds
 
@@ -192,7 +193,7 @@ body_symbol s tokens t d h f = record {
   long = d.long;
   first = d.first;
   label = d.label;
-  spelled = symbols-append s.symbols (t ∷ []) d.spelled (h, tt);
+  spelled = all_append (λ t. HoldsNoDollar t.text) s.symbols (t ∷ []) d.spelled (h, tt);
   room = λ k. let ne = is_full-false s.kind (length s.symbols) f k in let le = d.room k in omega (arith, length-append s.symbols (t ∷ []));
   proof = d.proof;
   span = d.span;
@@ -243,7 +244,7 @@ proof_token s tokens t d h = record {
   spelled = d.spelled;
   some = d.some;
   sign = d.sign;
-  steps = symbols-append s.proof (t ∷ []) d.steps (h, tt);
+  steps = all_append (λ t. HoldsNoDollar t.text) s.proof (t ∷ []) d.steps (h, tt);
   span = d.span;
 }
 

@@ -8,6 +8,7 @@ use Rattle.mm_text.specs.Token.{tokens_from}
 use Rattle.mm_text.specs.Files.{PlainFile}
 use Rattle.mm_text.specs.Items.{Item, Plain, Wrong, Inclusion, End, Shown, Clear, Broken, without_comments, spells, holds_dollar, Spot, Outside, Naming, Closing, Piece, Met, Named, broken_outside, pieces, pieces_of, file_number, with_inclusions, put_before, put_in, items}
 use Rattle.mm_text.specs.ItemLaws.{TopFileEndsLast}
+use Rattle.mm_text.proofs.AlteredItems.{still_named}
 
 abbrev LastEnd : List Item → Type 0
 LastEnd [] = Unit {0}
@@ -76,17 +77,12 @@ module _ (files : List PlainFile) (named : List Bool) (next : ℕ → List Piece
       go inner None = tt
       go inner (Some n) = known inner n (slice_index_or named n true) refl
 
-top_stays : (named : List Bool) (n : ℕ) → slice_index_or named 0 true ≡ true → slice_index_or (slice_set named n true) 0 true ≡ true
-top_stays [] n h = refl
-top_stays (b ∷ named) zero h = refl
-top_stays (b ∷ named) (suc n) h = h
-
 put_in_last : (files : List PlainFile) (left : ℕ) (named : List Bool) (ps : List Piece) → slice_index_or named 0 true ≡ true → LastPiece ps → LastEnd (put_in files left named ps)
 unfolding put_in
 put_in_last files zero named ps top h = spliced_last files named _ (λ n rest e g. tt) ps h
 put_in_last files (suc left) named ps top h =
     spliced_last files named _
-    (λ n rest e g. put_in_last files left (slice_set named n true) (put_before files n rest) (top_stays named n top)
+    (λ n rest e g. put_in_last files left (slice_set named n true) (put_before files n rest) (still_named named n 0 top)
     (before_last files n rest (λ zeroth. both_ways _ e (ap (λ m. slice_index_or named m true) zeroth ∙ top)) g))
     ps h
 

@@ -2,8 +2,8 @@ use Rattle.std.proofs.Common.{◌≡◌, sym, ◌∙◌, Some, map, true, refl, 
 use Rattle.mm_text.specs.Token.{plain_token}
 use Rattle.mm_text.specs.Files.{plain_file}
 use Rattle.mm_text.specs.Items.{file_number}
+use Rattle.std.proofs.lemmas.List.{get_or_default}
 use Rattle.mm_text.proofs.NestLaws.{includes_wrong, includes_name, includes_unknown, includes_again, number_told, number_within}
-use Rattle.mm_text.proofs.NameLaws.{other_default}
 use Rattle.mm_text.proofs.nest.Nest.include.Goals as goal
 
 pub returns-in-Err-clause-includes : goal.returns-in-Err-clause-includes
@@ -26,7 +26,7 @@ returns-then-index-clause-includes c =
     let name = plain_token c.in-Ok.name in
     let known : file_number (map plain_file n.files.now) name.text ≡ Some c.in-Some.number = sym (number_told n name.text c.requires.nest) ∙ sym c.number.ensures ∙ c.in-Some.is in
     let within = number_within n.files.now name.text c.in-Some.number known in
-    let again = other_default n.named.items c.in-Some.number true c.index.result.now (omega (arith, within, c.requires.nest.named)) ∙ sym c.index.ensures ∙ c.if-index.true in (
+    let again = get_or_default n.named.items c.in-Some.number true c.index.result.now (omega (arith, within, c.requires.nest.named)) ∙ sym c.index.ensures ∙ c.if-index.true in (
       includes_again n q name c.in-Some.number c.requires.over known again
           ∙ sym (includes_name n q c.args.begin name c.requires.over c.requires.naming c.in-Ok.ensures.same c.in-Ok.ensures.takes.0),
       refl,

@@ -1,5 +1,6 @@
 use Rattle.std.proofs.Common.{refl, sym, arith}
-use Rattle.mm_text.proofs.NestLaws.{leaves_to, leaves_last, nil_of_length}
+use Rattle.std.proofs.lemmas.List.{nil_from_length}
+use Rattle.mm_text.proofs.NestLaws.{leaves_to, leaves_last}
 use Rattle.mm_text.proofs.nest.Nest.leave.Goals as goal
 
 pub returns-in-Some-clause-leaves : goal.returns-in-Some-clause-leaves
@@ -9,4 +10,4 @@ returns-in-Some-clause-leaves c =
 
 pub returns-in-None-clause-leaves : goal.returns-in-None-clause-leaves
 returns-in-None-clause-leaves c =
-    sym (leaves_last c.args.self.now (nil_of_length c.args.self.now.«open».items (omega (arith, c.in-None.ensures.cases.0, c.args.self.now.«open».ok.0))))
+    sym (leaves_last c.args.self.now (nil_from_length c.args.self.now.«open».items (omega (arith, c.in-None.ensures.cases.0, c.args.self.now.«open».ok.0))))
