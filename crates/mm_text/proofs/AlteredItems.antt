@@ -9,7 +9,7 @@ use Rattle.mm_text.specs.Files.{PlainFile}
 use Rattle.mm_text.specs.Items.{Item, Plain, Wrong, Inclusion, End, Piece, Met, Named, pieces_of, file_number, with_inclusions, put_before, put_in}
 use Rattle.mm_text.specs.Alike.{item_on}
 use Rattle.mm_text.proofs.AlikeItems.{is_wrong, spliced_nil, spliced_met, spliced_name, SamePiece}
-use Rattle.mm_text.proofs.ReplacedFile.{nowhere, met}
+use Rattle.mm_text.proofs.ReplacedPieces.{nowhere, met}
 use Rattle.mm_text.proofs.Lists.{zip_append}
 
 abbrev pub SameItem : Item → Item → Type 0

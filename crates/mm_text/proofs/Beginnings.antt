@@ -7,7 +7,7 @@ use Rattle.mm_text.specs.Token.{PlainToken, HoldsNoDollar}
 use Rattle.mm_text.specs.Statement.{PlainStatement, IsHead, HasBody, IsBareHead, IsLabelledHead, AreSymbols, FitsCount, label_in, Spells, IsTail, EndsAtOnce}
 use Rattle.mm_text.specs.Reading.{IsBeginning, IsBody, IsInProof, IsLone}
 use Rattle.mm_text.specs.Laws.{BeginsStatement, BeginningsBeginStatements}
-use Rattle.mm_text.proofs.PartFacts.{started}
+use Rattle.mm_text.proofs.PartTokens.{started}
 use Rattle.mm_text.proofs.StatementRuns.{tail_cases, kind_cases, room_of, IsBlockSign, opening_sign, closing_sign_of}
 use Rattle.mm_text.proofs.Lists.{all_append, all_front, cons_parts}
 

@@ -11,6 +11,7 @@ use Rattle.mm_text.specs.Token.{PlainToken, is_space, is_printable, with_byte, t
 use Rattle.mm_text.specs.Items.{Clear, Broken, without_comments, spells, holds_mark}
 use Rattle.mm_text.specs.Mirror.Place.{is_legal, is_quiet, IsLegalFront, IsLegalUpTo, IsMarkAt, IsClosedAt, IsSameFile, IsLater, comment_at, shown_at}
 use Rattle.std.specs.Cmp.Lexicographic.{bytes_decides}
+use Rattle.mm_text.proofs.Lists.{all_places}
 use Rattle.mm_text.proofs.LegalLaws.{all_from_places}
 use Rattle.mm_text.specs.declared.comments.Place.{Place}
 use Rattle.mm_text.proofs.TokenLaws.{tokens_from-space, tokens_from-byte, tokens_from-nil, tokens_from-step, tokens_from-run, BeginFrom, tokens_from_begin, with_byte_apart, BeginsWithSpace, space_from_place}
@@ -144,10 +145,6 @@ front_passed begin file at front rest q after =
 
 -- ---- the same, of the bytes of a file by their places
 
-quiet_from_places : (bytes : List ℕ) → ((k : ℕ) → k < length bytes → is_quiet (get_or bytes k 0) ≡ true) → AreQuiet bytes
-quiet_from_places [] h = tt
-quiet_from_places (b ∷ bytes) h = (h 0 (omega arith), quiet_from_places bytes (λ k within. h (suc k) (omega arith)))
-
 -- before the place after white space
 passed_space : (begin : PlainToken) (bytes : List ℕ) (file at n : ℕ) → at + n + 1 ≤ length bytes → ((k : ℕ) → at ≤ k → k < at + n → is_quiet (get_or bytes k 0) ≡ true) → is_space (get_or bytes (at + n) 0) ≡ true
     → without_comments (Some begin) (tokens_from file at (drop at bytes)) ≡ without_comments (Some begin) (tokens_from file (at + n + 1) (drop (at + n + 1) bytes))
@@ -156,7 +153,7 @@ passed_space begin bytes file at n within quiet space =
     let long : length front ≡ n = length-take-le n (drop at bytes) (omega (arith, length-drop at bytes)) in
     let split : front ++ drop (at + n) bytes ≡ drop at bytes =
     ap (λ m. front ++ drop m bytes) (omega arith) ∙ ap (λ l. front ++ l) (sym (drop-drop n at bytes)) ∙ take-append-drop n (drop at bytes) in
-    let each : AreQuiet front = quiet_from_places front (λ k lt. ap is_quiet (get_or-take n (drop at bytes) k 0 (omega arith) ∙ get_or-drop at bytes k 0) ∙ quiet (at + k) (omega arith) (omega arith)) in
+    let each : AreQuiet front = all_places (λ b. is_quiet b ≡ true) front 0 (λ k lt. ap is_quiet (get_or-take n (drop at bytes) k 0 (omega arith) ∙ get_or-drop at bytes k 0) ∙ quiet (at + k) (omega arith) (omega arith)) in
     let after : BeginsWithSpace (drop (at + n) bytes) = space_from_place (drop (at + n) bytes) (λ lt. ap is_space (get_or-drop (at + n) bytes 0 0 ∙ ap (λ m. get_or bytes m 0) (omega arith)) ∙ space) in
     ap (λ l. without_comments (Some begin) (tokens_from file at l)) (sym split)
     ∙ front_passed begin file at front (drop (at + n) bytes) each after
@@ -182,7 +179,7 @@ pub passed_all : (begin : PlainToken) (bytes : List ℕ) (file at : ℕ) → at 
     → without_comments (Some begin) (tokens_from file at (drop at bytes)) ≡ Broken X2 begin ∷ []
 passed_all begin bytes file at within quiet =
     let front = drop at bytes in
-    let each : AreQuiet front = quiet_from_places front (λ k lt. ap is_quiet (get_or-drop at bytes k 0) ∙ quiet (at + k) (omega arith) (omega (arith, length-drop at bytes))) in
+    let each : AreQuiet front = all_places (λ b. is_quiet b ≡ true) front 0 (λ k lt. ap is_quiet (get_or-drop at bytes k 0) ∙ quiet (at + k) (omega arith) (omega (arith, length-drop at bytes))) in
     ap (λ l. without_comments (Some begin) (tokens_from file at l)) (sym (append-nil front))
     ∙ front_passed begin file at front [] each tt
     ∙ ap (without_comments (Some begin)) (tokens_from-nil file (at + length front))

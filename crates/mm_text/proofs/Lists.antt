@@ -1,7 +1,7 @@
 -- General lemmas on lists, and on pairs of lists. None of them names anything of this crate, and
 -- those that the crates above need too stand here.
 use Rattle.std.proofs.Common.{◌≡◌, ℕ, zero, suc, ◌+◌, ◌<◌, List, [], ◌∷◌, ◌++◌, map, length, take}
-use Rattle.std.proofs.Common.{drop, set, refl, ap, sym, subst, ◌∙◌, ◌⊎◌, inl, inr, Some, arith}
+use Rattle.std.proofs.Common.{drop, set, get_or, refl, ap, sym, subst, ◌∙◌, ◌⊎◌, inl, inr, Some, arith}
 use Rattle.std.specs.List.{AllByRecursion, AllZip, slice_get}
 use Rattle.std.proofs.lemmas.List.{length-map}
 use Rattle.std.proofs.lemmas.Option.{same_Some, none-some}
@@ -219,6 +219,13 @@ pub all_push : {A : Type 0} (P : A → Type 0) (xs : List A) (x : A) → AllByRe
     → AllByRecursion P (xs ++ x ∷ [])
 all_push P [] x a p = (p, tt)
 all_push P (y ∷ xs) x a p = (a.0, all_push P xs x a.1 p)
+
+-- of each where it is said of the element at each place
+pub all_places : {A : Type 0} (P : A → Type 0) (xs : List A) (d : A)
+    → ((k : ℕ) → k < length xs → P (get_or xs k d)) → AllByRecursion P xs
+all_places P [] d h = tt
+all_places P (x ∷ xs) d h =
+    (h 0 (omega arith), all_places P xs d (λ k within. h (suc k) (omega arith)))
 
 -- of the element at a place
 pub all_at : {A : Type 0} (P : A → Type 0) (xs : List A) (i : ℕ) (x : A) → AllByRecursion P xs

@@ -8,7 +8,7 @@ use Rattle.mm_text.specs.Items.{Item, Wrong}
 use Rattle.mm_text.specs.Reading.{PlainFault, Viable, EndsAt}
 use Rattle.mm_text.specs.Mirror.Reader.{PlainReading, Between, outermost, fault_in, reading_of}
 use Rattle.mm_text.specs.Laws.{FaultsEndLongestFronts}
-use Rattle.mm_text.proofs.PartFacts.{part_of_beginning}
+use Rattle.mm_text.proofs.PartTokens.{part_of_beginning}
 use Rattle.mm_text.proofs.StepLaws.{read_wrong}
 use Rattle.mm_text.proofs.BlockFacts.{scope_of}
 use Rattle.mm_text.proofs.OneReading.{front_reading, ends_there, with_statements}

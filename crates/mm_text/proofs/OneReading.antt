@@ -17,15 +17,15 @@ use Rattle.mm_text.specs.Reading.{PlainFault, closes_symbols, IsBody, IsInProof,
 use Rattle.mm_text.specs.Mirror.Reader.{Part, Between, Labelled, InBody, InProof, Step, More, Whole, Opened, Closed, Faulty, step, at_start, after_label, in_body, in_proof, bare_statement, is_keyword, has_count, is_full, PlainScope, outermost, scope_after_statement, scope_after_opening, scope_after_closing, has_none, fault_in, block_fault, end_fault, inclusion_fault, unless, PlainReading, only_ending, with_statement, reading_of}
 use Rattle.mm_text.specs.Statement.{is_provable}
 use Rattle.mm_text.proofs.TextFacts.{same_text-ne, is_keyword-ne, is_keyword_from, symbol-is_keyword}
-use Rattle.mm_text.proofs.Fronts.{plain_tokens-append, clean_behind}
-use Rattle.mm_text.proofs.PartFacts.{Describes, part_of_body, part_of_proof, part_of_beginning, first_of_part}
-use Rattle.mm_text.proofs.StepFacts.{closing_sign}
+use Rattle.mm_text.proofs.ItemFronts.{plain_tokens-append, clean_behind}
+use Rattle.mm_text.proofs.PartTokens.{Describes, part_of_body, part_of_proof, part_of_beginning, first_of_part}
+use Rattle.mm_text.proofs.GrammarSteps.{closing_sign}
 use Rattle.mm_text.proofs.StepLaws.{read_nothing, read_end, read_inclusion, read_wrong, read_more, read_whole, read_opened, read_closing, read_faulty}
-use Rattle.mm_text.proofs.Runs.{Runs, run, run-nil, run-more, run-whole, run-opened, run-closed, run-faulty, with_first, with_all, with_all-runs, run_on, runs_parts, fails_not, front_of_run}
+use Rattle.mm_text.proofs.ReaderRuns.{Runs, run, run-nil, run-more, run-whole, run-opened, run-closed, run-faulty, with_first, with_all, with_all-runs, run_on, runs_parts, fails_not, front_of_run}
 use Rattle.mm_text.proofs.StatementRuns.{closing_short, spelled_run, whole_run}
 use Rattle.mm_text.proofs.StepLaws.{step_closes}
 use Rattle.mm_text.proofs.BlockFacts.{AreOpen, scope_after, scope_of, scope_body, scope_more, scope_open, closed_scope, unclosed_scope, one_innermost, innermost_unclosed, balanced_front, closing_unbalanced}
-use Rattle.mm_text.proofs.ReadingLaws.{fault_is}
+use Rattle.mm_text.proofs.ComputedReadings.{fault_is}
 use Rattle.mm_text.proofs.Lists.{cons_parts}
 
 -- ---- faulty tokens

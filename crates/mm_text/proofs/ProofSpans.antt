@@ -9,7 +9,7 @@ use Rattle.mm_text.specs.Items.{Shown, Clear, without_comments, items}
 use Rattle.mm_text.specs.Replaced.{ProofsStandInSpans}
 use Rattle.mm_text.proofs.CutTokens.{IsSpaced, ReplacedBetween, replaced_between}
 use Rattle.mm_text.proofs.CutShown.{clear_shown}
-use Rattle.mm_text.proofs.FollowedRuns.{run_stands}
+use Rattle.mm_text.proofs.FollowedItems.{run_stands}
 use Rattle.mm_text.proofs.ReplacedReading.{proof_at}
 use Rattle.mm_text.proofs.ReplacedProofs.{home}
 use Rattle.mm_text.proofs.ReplacedFiles.{equals_home}

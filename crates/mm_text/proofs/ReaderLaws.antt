@@ -18,7 +18,7 @@ use Rattle.mm_text.specs.Mirror.ReaderState.{remaining_in, IsAnswerable, AreFew,
 use Rattle.mm_text.specs.Laws.{AreFormedInPlace, EachHasOneReading}
 use Rattle.mm_text.proofs.ItemTokens.{items_signed}
 use Rattle.mm_text.proofs.SettledLaws.{items_settled}
-use Rattle.mm_text.proofs.ReadingLaws.{items_read}
+use Rattle.mm_text.proofs.ComputedReadings.{items_read}
 use Rattle.mm_text.proofs.OneReading.{reads_reading}
 use Rattle.mm_text.proofs.FormedLaws.{readings_are_formed_in_place, readings_are_balanced, readings_fit, readings_few}
 

@@ -10,7 +10,7 @@ use Rattle.mm_text.specs.Items.{items}
 use Rattle.mm_text.specs.Reading.{Reads}
 use Rattle.mm_text.specs.Replaced.{IsProofText, with_span, with_bytes, ReplacedProofsAreRead}
 use Rattle.mm_text.proofs.TokenLaws.{BeginsWithSpace}
-use Rattle.mm_text.proofs.ReplacedFile.{IsProofText as Spaced}
+use Rattle.mm_text.proofs.ReplacedPieces.{IsProofText as Spaced}
 use Rattle.mm_text.proofs.ReplacedReading.{proof_at}
 use Rattle.mm_text.proofs.ReplacedProofs.{replaced_proofs_are_read}
 use Rattle.mm_text.proofs.StatementHomes.{one_home}

@@ -7,8 +7,8 @@ use Rattle.mm_text.specs.Token.{PlainToken, tokens_from}
 use Rattle.mm_text.specs.Files.{PlainFile}
 use Rattle.mm_text.specs.Items.{Piece, spells, pieces_of, file_number, put_in, items}
 use Rattle.mm_text.proofs.AlikeItems.{SamePiece, SameNames, as_long, same_number}
-use Rattle.mm_text.proofs.FollowedRuns.{StandsInFile}
-use Rattle.mm_text.proofs.ReplacedFile.{nowhere, met, IsProofText, with_span, replaced_pieces}
+use Rattle.mm_text.proofs.FollowedItems.{StandsInFile}
+use Rattle.mm_text.proofs.ReplacedPieces.{nowhere, met, IsProofText, with_span, replaced_pieces}
 use Rattle.mm_text.proofs.AlteredItems.{SameOrAlter, put_in_within, put_in_before}
 
 -- ---- files of which one is another

@@ -10,14 +10,14 @@ use Rattle.mm_text.specs.Statement.{PlainStatement, AreSymbols}
 use Rattle.mm_text.specs.Items.{Item, Plain, Clear, Shown, Piece, Met, plain_tokens, without_comments, pieces_of, items}
 use Rattle.mm_text.specs.Reading.{Reads}
 use Rattle.mm_text.specs.Alike.{statement_on}
-use Rattle.mm_text.proofs.Fronts.{plain_tokens-append}
+use Rattle.mm_text.proofs.ItemFronts.{plain_tokens-append}
 use Rattle.mm_text.proofs.Weights.{weigh_pieces, weigh_pieces-append}
 use Rattle.mm_text.proofs.TokenWeights.{weight_of, file_weight}
 use Rattle.mm_text.proofs.OnceLaws.{token_weight, one_token, tokens_rise, files_are_put_in_once}
 use Rattle.mm_text.proofs.CutTokens.{AllFrom, all_from}
 use Rattle.mm_text.proofs.CutShown.{clear_shown}
-use Rattle.mm_text.proofs.FollowedRuns.{StandsInFile, run_stands}
-use Rattle.mm_text.proofs.ReplacedFile.{nowhere, met, IsProofText, IsProofToken, with_span, replaced_pieces}
+use Rattle.mm_text.proofs.FollowedItems.{StandsInFile, run_stands}
+use Rattle.mm_text.proofs.ReplacedPieces.{nowhere, met, IsProofText, IsProofToken, with_span, replaced_pieces}
 use Rattle.mm_text.proofs.AlteredItems.{SameItem, Alter, SameOrAlter}
 use Rattle.mm_text.proofs.ReplacedItems.{with_file, replaced_items, set_there}
 use Rattle.mm_text.proofs.ReplacedReading.{ProofAt, read_so}

@@ -11,17 +11,17 @@ use Rattle.mm_text.specs.Items.{Item, Plain, Wrong, Inclusion, End, plain_tokens
 use Rattle.mm_text.specs.Reading.{PlainFault, Viable, Reads}
 use Rattle.mm_text.specs.Alike.{statement_on, token_on, item_on}
 use Rattle.mm_text.specs.Mirror.Reader.{Between, InProof, PlainScope, outermost, PlainReading, with_statement, scope_after_statement, reading_of}
-use Rattle.mm_text.proofs.Fronts.{plain_tokens-append, clean_behind}
-use Rattle.mm_text.proofs.PartFacts.{IsPartProof}
+use Rattle.mm_text.proofs.ItemFronts.{plain_tokens-append, clean_behind}
+use Rattle.mm_text.proofs.PartTokens.{IsPartProof}
 use Rattle.mm_text.proofs.StepLaws.{read_more, read_whole}
-use Rattle.mm_text.proofs.Runs.{runs_parts}
+use Rattle.mm_text.proofs.ReaderRuns.{runs_parts}
 use Rattle.mm_text.proofs.StatementRuns.{spelled_run, whole_run, proof_stop}
 use Rattle.mm_text.proofs.StepLaws.{step_proof_token}
 use Rattle.mm_text.proofs.BlockFacts.{scope_of, balanced_front}
 use Rattle.mm_text.proofs.OneReading.{with_statements, front_reading, reads_reading}
 use Rattle.mm_text.proofs.ReaderLaws.{files_reading, reading_reads}
 use Rattle.mm_text.proofs.AlikeFronts.{viable_alike}
-use Rattle.mm_text.proofs.ReplacedFile.{nowhere}
+use Rattle.mm_text.proofs.ReplacedPieces.{nowhere}
 use Rattle.mm_text.proofs.AlteredItems.{SameItem}
 use Rattle.mm_text.proofs.Lists.{cons_parts, nil_append, nil_split, zip_mapped}
 

@@ -8,7 +8,7 @@ use Rattle.mm_text.specs.Token.{tokens_from}
 use Rattle.mm_text.specs.Files.{PlainFile}
 use Rattle.mm_text.specs.Items.{Item, Plain, Wrong, Inclusion, End, Shown, Clear, Broken, without_comments, spells, holds_dollar, Spot, Outside, Naming, Closing, Piece, Met, Named, broken_outside, pieces, pieces_of, file_number, with_inclusions, put_before, put_in, items}
 use Rattle.mm_text.proofs.NestLaws.{in_range, count_named, count_top}
-use Rattle.mm_text.proofs.ReadingLaws.{ComesToStop, AreSettled}
+use Rattle.mm_text.proofs.ComputedReadings.{ComesToStop, AreSettled}
 
 -- ---- pieces
 

@@ -7,14 +7,14 @@ use Rattle.mm_text.specs.Statement.{PlainStatement, Spells, SpellsAll}
 use Rattle.mm_text.specs.Items.{Item, Plain, Clear, Shown, plain_tokens, without_comments, items}
 use Rattle.mm_text.specs.Reading.{Viable, IsBeginning}
 use Rattle.mm_text.specs.Mirror.Reader.{Part, Between}
-use Rattle.mm_text.proofs.Fronts.{plain_tokens-append}
-use Rattle.mm_text.proofs.PartFacts.{Describes, part_of_beginning}
-use Rattle.mm_text.proofs.Runs.{runs_parts}
+use Rattle.mm_text.proofs.ItemFronts.{plain_tokens-append}
+use Rattle.mm_text.proofs.PartTokens.{Describes, part_of_beginning}
+use Rattle.mm_text.proofs.ReaderRuns.{runs_parts}
 use Rattle.mm_text.proofs.StatementRuns.{spelled_run, whole_run}
 use Rattle.mm_text.proofs.Beginnings.{beginnings_begin_statements}
 use Rattle.mm_text.proofs.CutTokens.{AllFrom, all_from}
 use Rattle.mm_text.proofs.CutShown.{clear_shown}
-use Rattle.mm_text.proofs.FollowedRuns.{StandsInFile, run_stands}
+use Rattle.mm_text.proofs.FollowedItems.{StandsInFile, run_stands}
 use Rattle.mm_text.proofs.ReplacedReading.{Parts, token_at, next_token}
 use Rattle.mm_text.proofs.ReplacedProofs.{home, home_in}
 

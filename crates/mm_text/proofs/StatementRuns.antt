@@ -13,9 +13,9 @@ use Rattle.mm_text.specs.Reading.{closes_symbols}
 use Rattle.mm_text.specs.Mirror.Reader.{Part, Between, Labelled, InBody, InProof, More, Whole, Faulty, step, is_keyword, bare_statement, has_count, is_full}
 use Rattle.mm_text.specs.Statement.{is_provable}
 use Rattle.mm_text.proofs.TextFacts.{same_text_from, label-is_keyword, label_ne}
-use Rattle.mm_text.proofs.PartFacts.{IsPartBody, IsPartProof, Describes}
-use Rattle.mm_text.proofs.StepFacts.{has_count_from, has_count-true, closing_sign}
-use Rattle.mm_text.proofs.Runs.{Runs, with_first, with_all, with_all-runs, run, run-nil, run-more, run-whole, run-opened, run-closed}
+use Rattle.mm_text.proofs.PartTokens.{IsPartBody, IsPartProof, Describes}
+use Rattle.mm_text.proofs.GrammarSteps.{has_count_from, has_count-true, closing_sign}
+use Rattle.mm_text.proofs.ReaderRuns.{Runs, with_first, with_all, with_all-runs, run, run-nil, run-more, run-whole, run-opened, run-closed}
 use Rattle.mm_text.proofs.Lists.{cons_parts}
 use Rattle.mm_text.proofs.StepLaws.{step_opens, step_closes, step_symbol, step_proof_token}
 

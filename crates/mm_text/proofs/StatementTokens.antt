@@ -10,7 +10,7 @@ use Rattle.mm_text.specs.Token.{PlainToken, is_label_byte}
 use Rattle.mm_text.specs.Statement.{PlainStatement, label_in, Spells, SpellsAll, IsTail, bytes_in}
 use Rattle.mm_text.specs.Items.{Item, plain_tokens}
 use Rattle.mm_text.specs.Reading.{PlainFault, ReadsAs}
-use Rattle.mm_text.proofs.Fronts.{plain_tokens-append}
+use Rattle.mm_text.proofs.ItemFronts.{plain_tokens-append}
 
 all_left : (P : PlainToken → Type 0) (a b : List PlainToken) → AllByRecursion P (a ++ b) → AllByRecursion P a
 all_left P [] b h = tt

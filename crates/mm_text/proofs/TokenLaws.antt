@@ -1,10 +1,12 @@
 -- How the tokens of a file come from its bytes: white space is skipped, and a run of other bytes is one token.
 use Rattle.std.proofs.Common.{◌≡◌, ℕ, ◌+◌, ◌-◌, ◌<◌, ◌≤◌, ◌==◌, ⊎_elim, List, [], ◌∷◌, ◌++◌, length, get_or, drop, cond, true, false, refl, sym, ap, ◌∙◌, subst, suc, arith, eq-eqb, add-zero}
 use Rattle.std.specs.Prelude.{slice_range}
+use Rattle.std.specs.List.{AllByRecursion}
 use Rattle.std.proofs.lemmas.List.{drop_more, drop_all, drop-drop, take-append-drop, get_or-drop, get_or-take, length-drop, length-take-le}
 use Rattle.std.proofs.lemmas.Bool.{ne_eqb, both_ways}
 use Rattle.std.proofs.str.Laws.{order}
 use Rattle.mm_text.specs.Token.{PlainToken, is_space, with_byte, tokens_from}
+use Rattle.mm_text.proofs.Lists.{all_places}
 
 -- a space in front is skipped
 pub tokens_from-space : (file at b : ℕ) (bytes : List ℕ) → is_space b ≡ true → tokens_from file at (b ∷ bytes) ≡ tokens_from file (at + 1) bytes
@@ -49,8 +51,7 @@ tokens_from_begin file at (b ∷ bytes) =
 
 -- bytes none of which is white space
 abbrev pub AreInk : List ℕ → Type 0
-AreInk [] = Unit {0}
-AreInk (b ∷ bytes) = (is_space b ≡ false) × AreInk bytes
+AreInk bytes = AllByRecursion (λ b. is_space b ≡ false) bytes
 
 -- what comes after a token: white space, or nothing
 abbrev pub BeginsWithSpace : List ℕ → Type 0
@@ -99,10 +100,6 @@ tokens_from-step bytes file at within space =
 pub tokens_from-end : (bytes : List ℕ) (file at : ℕ) → length bytes ≤ at → tokens_from file at (drop at bytes) ≡ []
 tokens_from-end bytes file at past = ap (tokens_from file at) (drop_all at bytes past) ∙ tokens_from-nil file at
 
-ink_from_places : (bytes : List ℕ) → ((k : ℕ) → k < length bytes → is_space (get_or bytes k 0) ≡ false) → AreInk bytes
-ink_from_places [] h = tt
-ink_from_places (b ∷ bytes) h = (h 0 (omega arith), ink_from_places bytes (λ k within. h (suc k) (omega arith)))
-
 pub space_from_place : (bytes : List ℕ) → (0 < length bytes → is_space (get_or bytes 0 0) ≡ true) → BeginsWithSpace bytes
 space_from_place [] h = tt
 space_from_place (b ∷ bytes) h = h (omega arith)
@@ -124,7 +121,7 @@ tokens_from-token bytes file start stop some within run after =
     ap is_space (get_or-drop stop bytes 0 0 ∙ ap (λ n. get_or bytes n 0) (add-zero stop)) ∙ after (omega (arith, length-drop stop bytes))) in
     let ends : start + length text ≡ stop = omega arith in
     ap (tokens_from file start) (sym split)
-    ∙ run_of file start text (drop stop bytes) (omega arith) (ink_from_places text place) space
+    ∙ run_of file start text (drop stop bytes) (omega arith) (all_places (λ b. is_space b ≡ false) text 0 place) space
     ∙ ap (λ n. record { text = text; file = file; at = start } ∷ tokens_from file n (drop stop bytes)) ends
 
 -- white space from the first byte of a token on comes after it

@@ -15,9 +15,9 @@ use Rattle.mm_text.specs.Blocks.{AreBalanced, AreClosed}
 use Rattle.mm_text.specs.Reading.{PlainFault, IsBeginning, AreOutside, Viable, fault_at, EndsAt, ReadsAs}
 use Rattle.mm_text.specs.Mirror.Reader.{Part, Between, Step, More, Whole, Opened, Closed, Faulty, step, bare_statement, part_first, PlainScope, outermost, scope_after_statement, scope_after_opening, scope_after_closing, has_none, fault_in, block_fault, unfinished_fault, end_fault, inclusion_fault, unless, PlainReading, only_ending, with_statement, reading_of}
 use Rattle.mm_text.proofs.TextFacts.{IsSigned}
-use Rattle.mm_text.proofs.Fronts.{plain_tokens-append, clean_append}
-use Rattle.mm_text.proofs.PartFacts.{Describes, Describes-label, beginning_of_part, first_of_part}
-use Rattle.mm_text.proofs.StepFacts.{StepsTo, step_right}
+use Rattle.mm_text.proofs.ItemFronts.{plain_tokens-append, clean_append}
+use Rattle.mm_text.proofs.PartTokens.{Describes, Describes-label, beginning_of_part, first_of_part}
+use Rattle.mm_text.proofs.GrammarSteps.{StepsTo, step_right}
 use Rattle.mm_text.proofs.StepLaws.{read_nothing, read_end, read_inclusion, read_wrong, read_more, read_whole, read_opened, read_closing, read_faulty}
 use Rattle.mm_text.proofs.StatementRuns.{spells_sign}
 use Rattle.mm_text.proofs.BlockFacts.{AreOpen, scope_after, scope_of, balanced_nothing, scope_body, scope_more, scope_count, scope_open, scope_closed, scope_unclosed, balanced_body, balanced_opening, balanced_closing}

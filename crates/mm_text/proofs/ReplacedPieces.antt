@@ -12,7 +12,7 @@ use Rattle.mm_text.proofs.InclusionLaws.{pieces-plain}
 use Rattle.mm_text.proofs.AlikeItems.{SamePiece, SameShown, shown_same, pieces_same}
 use Rattle.mm_text.proofs.Dropped.{seen, lines_seen}
 use Rattle.mm_text.proofs.CutTokens.{IsSpaced, Moves, replaced_between}
-use Rattle.mm_text.proofs.FollowedRuns.{IsPlainIn, AllPlainIn, StandsInFile}
+use Rattle.mm_text.proofs.FollowedItems.{IsPlainIn, AllPlainIn, StandsInFile}
 use Rattle.mm_text.proofs.CutShown.{clear_shown}
 use Rattle.mm_text.proofs.Lists.{mapped_zip}
 

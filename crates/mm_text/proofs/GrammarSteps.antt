@@ -13,7 +13,7 @@ use Rattle.mm_text.specs.Mirror.Reader.{Part, Between, Labelled, InBody, InProof
 use Rattle.mm_text.specs.Statement.{is_provable}
 use Rattle.mm_text.proofs.TextFacts.{same_text-true, same_text-false, is_keyword-true, is_keyword-false, IsSigned, signed_word}
 use Rattle.mm_text.proofs.Lists.{all_append}
-use Rattle.mm_text.proofs.PartFacts.{IsPartBody, IsPartProof, Describes, body_of_part, proof_of_part}
+use Rattle.mm_text.proofs.PartTokens.{IsPartBody, IsPartProof, Describes, body_of_part, proof_of_part}
 
 -- ---- kinds
 
