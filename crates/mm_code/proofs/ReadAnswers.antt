@@ -7,8 +7,8 @@ use Rattle.mm_code.specs.declared.code.CodeFault.{CodeFault}
 use Rattle.mm_code.specs.declared.code.CodeFault.TheVariants.{Rule, Memory}
 use Rattle.mm_code.specs.Letters.{Letters, Fills, LettersBreak}
 use Rattle.mm_code.specs.Mirror.Reading.{reading}
-use Rattle.mm_code.proofs.Found.{is_read}
-use Rattle.mm_code.proofs.Again.{is_read_again}
+use Rattle.mm_code.proofs.LettersFound.{is_read}
+use Rattle.mm_code.proofs.LettersAgain.{is_read_again}
 use Rattle.mm_code.proofs.Faults.{breaks_read, read_breaks}
 
 pub ok_found : {X : Type 0} (text : List ℕ) (result : Result X CodeFault) (codes : List Code) → Fills result codes (reading 0 text) → OnOk result (Letters text codes)

@@ -3,7 +3,7 @@ use Rattle.std.proofs.Common.{◌≡◌, ℕ, ◌<◌, true, false, List, [], �
 use Rattle.std.specs.List.{flat_map, join_with_byte, AllByRecursion, onto_first}
 use Rattle.std.proofs.lemmas.List.{append-nil}
 use Rattle.mm_text.specs.Token.{is_space}
-use Rattle.mm_text.proofs.Lists.{all_append}
+use Rattle.mm_text.proofs.Lists.{all_append, all_back, all_front}
 use Rattle.mm_code.specs.Layout.{indent, token_line, IsLine, LaidOut, AreLetterLines, in_parentheses, CompressedLaidOut}
 use Rattle.mm_code.specs.Words.{tokens_in, LacksWhiteSpace, IsOneToken}
 use Rattle.mm_code.proofs.TextTokens.{tokens_in-nil, tokens_in-space, tokens_in-end, tokens_in-on}
@@ -39,22 +39,14 @@ tokens_in-line [] bytes some are = absurd (omega arith)
 tokens_in-line (first ∷ line) bytes some are =
     ap tokens_in (append_assoc (token_line (first ∷ line)) (10 ∷ []) bytes) ∙ tokens_in-indent (join_with_byte 32 (first ∷ line) ++ 10 ∷ bytes) ∙ tokens_in-join first line bytes are
 
-all-front : {X : Type 0} (P : X → Type 0) (a b : List X) → AllByRecursion P (a ++ b) → AllByRecursion P a
-all-front P [] b all = tt
-all-front P (x ∷ a) b all = (all.0, all-front P a b all.1)
-
-all-back : {X : Type 0} (P : X → Type 0) (a b : List X) → AllByRecursion P (a ++ b) → AllByRecursion P b
-all-back P [] b all = all
-all-back P (x ∷ a) b all = all-back P a b all.1
-
 tokens_in-lines : (lines : List (List (List ℕ))) (bytes : List ℕ) → AllByRecursion IsLine lines → AllByRecursion IsOneToken (flat_map (λ l. l) lines)
     → tokens_in (flat_map (λ line. token_line line ++ 10 ∷ []) lines ++ bytes) ≡ flat_map (λ l. l) lines ++ tokens_in bytes
 tokens_in-lines [] bytes each are = refl
 tokens_in-lines (line ∷ lines) bytes each are =
     let others = flat_map (λ l. token_line l ++ 10 ∷ []) lines in
     ap tokens_in (append_assoc (token_line line ++ 10 ∷ []) others bytes)
-    ∙ tokens_in-line line (others ++ bytes) (line_length line each.0) (all-front IsOneToken line (flat_map (λ l. l) lines) are)
-    ∙ ap (λ (ws : List (List ℕ)). line ++ ws) (tokens_in-lines lines bytes each.1 (all-back IsOneToken line (flat_map (λ l. l) lines) are))
+    ∙ tokens_in-line line (others ++ bytes) (line_length line each.0) (all_front IsOneToken line (flat_map (λ l. l) lines) are)
+    ∙ ap (λ (ws : List (List ℕ)). line ++ ws) (tokens_in-lines lines bytes each.1 (all_back IsOneToken line (flat_map (λ l. l) lines) are))
     ∙ sym (append_assoc line (flat_map (λ l. l) lines) (tokens_in bytes))
 
 tokens_in-laid_out : (tokens : List (List ℕ)) (text bytes : List ℕ) → AllByRecursion IsOneToken tokens → LaidOut tokens text → tokens_in (text ++ bytes) ≡ tokens ++ tokens_in bytes
@@ -73,9 +65,9 @@ tokens_in-letters [] each dark = tokens_in-nil
 tokens_in-letters (line ∷ lines) each dark =
     let others = flat_map (λ l. (indent ++ l) ++ 10 ∷ []) lines in
     let is_dark = λ (byte : ℕ). is_space byte ≡ false in
-    let is : IsOneToken line = (omega (arith, (some_letters line lines each).0), all-front is_dark line (flat_map (λ l. l) lines) dark) in
+    let is : IsOneToken line = (omega (arith, (some_letters line lines each).0), all_front is_dark line (flat_map (λ l. l) lines) dark) in
     ap tokens_in (append_assoc (indent ++ line) (10 ∷ []) others) ∙ tokens_in-indent (line ++ 10 ∷ others) ∙ tokens_in-token line 10 others is refl
-    ∙ ap (λ (ws : List (List ℕ)). line ∷ ws) (tokens_in-letters lines (other_letters line lines each) (all-back is_dark line (flat_map (λ l. l) lines) dark))
+    ∙ ap (λ (ws : List (List ℕ)). line ∷ ws) (tokens_in-letters lines (other_letters line lines each) (all_back is_dark line (flat_map (λ l. l) lines) dark))
 
 tokens_in-parentheses : (labels : List (List ℕ)) → AllByRecursion IsOneToken labels → AllByRecursion IsOneToken (in_parentheses labels)
 tokens_in-parentheses labels are = ((omega arith, (refl, tt)), all_append IsOneToken labels ((41 ∷ []) ∷ []) are ((omega arith, (refl, tt)), tt))

@@ -5,11 +5,12 @@ use Rattle.std.proofs.lemmas.List.{reverse-reverse, same_from_push}
 use Rattle.std.proofs.lemmas.List.Elements.{All-head, All-tail}
 use Rattle.std.proofs.lemmas.Grind.{reverse_onto}
 use Rattle.std.proofs.lemmas.Bool.{cases_eq}
+use Rattle.mm_text.proofs.Lists.{all_push}
 use Rattle.mm_code.specs.declared.code.Code.{Code}
 use Rattle.mm_code.specs.declared.code.Code.TheVariants.{Number, Tag}
 use Rattle.mm_code.specs.Letters.{last_letter, leading_letter, tag_letter, IsLeadingDigit, leading_value, IsSpelling, SaysCode, SpellsCodes, Letters, code_for, largest, HasSpelling, IsExact}
-use Rattle.mm_code.proofs.Found.{leading_value-push, leading-push}
-use Rattle.mm_code.proofs.Again.{is_read_again}
+use Rattle.mm_code.proofs.LettersFound.{leading_value-push}
+use Rattle.mm_code.proofs.LettersAgain.{is_read_again}
 
 -- ---- leading digits, from the last one on
 
@@ -27,7 +28,7 @@ leading-reverse : (digits : List ℕ) → AllByRecursion IsLeadingDigit digits �
 leading-reverse [] ok = tt
 leading-reverse (d ∷ digits) ok =
     let P : List ℕ → Type 0 = AllByRecursion IsLeadingDigit in
-    subst P (sym (reverse_onto digits d [])) (leading-push (reverse digits) d (leading-reverse digits ok.1) ok.0)
+    subst P (sym (reverse_onto digits d [])) (all_push IsLeadingDigit (reverse digits) d (leading-reverse digits ok.1) ok.0)
 
 one_worth : (a b : List ℕ) → AllByRecursion IsLeadingDigit a → AllByRecursion IsLeadingDigit b → worth a ≡ worth b → a ≡ b
 unfolding worth
@@ -62,7 +63,7 @@ pub record HasLeading (value : ℕ) : Type 0 where
   pub is : leading_value digits ≡ value
 
 pub grown-leading : (value : ℕ) (digits : List ℕ) → AllByRecursion IsLeadingDigit digits → AllByRecursion IsLeadingDigit (digits ++ ((value - 1) % 5 + 1) ∷ [])
-grown-leading value digits ok = leading-push digits ((value - 1) % 5 + 1) ok (omega arith, omega arith)
+grown-leading value digits ok = all_push IsLeadingDigit digits ((value - 1) % 5 + 1) ok (omega arith, omega arith)
 
 pub grown-value : (value : ℕ) (digits : List ℕ) → leading_value digits ≡ (value - 1) / 5 → 0 < value → leading_value (digits ++ ((value - 1) % 5 + 1) ∷ []) ≡ value
 grown-value value digits is positive = omega (arith, leading_value-push digits ((value - 1) % 5 + 1), is)

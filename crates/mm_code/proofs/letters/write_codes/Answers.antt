@@ -1,5 +1,5 @@
 use Rattle.std.proofs.Common.{arith}
-use Rattle.mm_code.proofs.Written.{code-written, code_for-more, all_spelled, all_letters, only_text}
+use Rattle.mm_code.proofs.LettersWritten.{code-written, code_for-more, all_spelled, all_letters, only_text}
 use Rattle.mm_code.proofs.letters.write_codes.Goals as goal
 
 pub loop-code-preserved : goal.loop-code-preserved

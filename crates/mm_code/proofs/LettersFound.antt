@@ -4,6 +4,7 @@ use Rattle.std.specs.List.{fold, AllByRecursion}
 use Rattle.std.proofs.lemmas.List.{map-append}
 use Rattle.std.proofs.lemmas.List.Sums.{fold-append}
 use Rattle.std.proofs.lemmas.Bool.{cases_eq}
+use Rattle.mm_text.proofs.Lists.{all_push}
 use Rattle.mm_code.specs.declared.code.Code.{Code}
 use Rattle.mm_code.specs.declared.code.Code.TheVariants.{Number, Tag}
 use Rattle.mm_code.specs.Letters.{last_letter, leading_letter, tag_letter, IsLeadingDigit, leading_value, IsSpelling, SaysCode, Letters, code_for, largest}
@@ -45,10 +46,6 @@ letters-number digits byte text codes ok low high letters =
 pub leading_value-push : (digits : List ℕ) (digit : ℕ) → leading_value (digits ++ digit ∷ []) ≡ 5 * leading_value digits + digit
 leading_value-push digits digit = fold-append (λ value d. 5 * value + d) 0 digits (digit ∷ [])
 
-pub leading-push : (digits : List ℕ) (digit : ℕ) → AllByRecursion IsLeadingDigit digits → IsLeadingDigit digit → AllByRecursion IsLeadingDigit (digits ++ digit ∷ [])
-leading-push [] digit ok is = (is, tt)
-leading-push (d ∷ digits) digit ok is = (ok.0, leading-push digits digit ok.1 is)
-
 grows : (value : ℕ) (digits : List ℕ) → value ≤ fold (λ v d. 5 * v + d) value digits
 grows value [] = omega arith
 grows value (d ∷ digits) = omega (arith, grows (5 * value + d) digits)
@@ -87,7 +84,7 @@ is_read (byte ∷ text) digits codes ok e =
           let worth : leading_value (digits ++ digit ∷ []) ≡ 5 * leading_value digits + digit = leading_value-push digits digit in
           let next : leading_after value byte ≡ min (leading_value (digits ++ digit ∷ [])) largest = omega arith in
           let read : reading (min (leading_value (digits ++ digit ∷ [])) largest) text ≡ Ok codes = ap (λ (v : ℕ). reading v text) (sym next) ∙ sym (read_leading value byte text low high) ∙ e in
-          let letters = is_read text (digits ++ digit ∷ []) codes (leading-push digits digit ok (omega arith, omega arith)) read in
+          let letters = is_read text (digits ++ digit ∷ []) codes (all_push IsLeadingDigit digits digit ok (omega arith, omega arith)) read in
           let same : map leading_letter (digits ++ digit ∷ []) ++ text ≡ map leading_letter digits ++ byte ∷ text =
           ap (λ (t : List ℕ). t ++ text) (map-append leading_letter digits (digit ∷ [])) ∙ append_assoc (map leading_letter digits) (leading_letter digit ∷ []) text ∙ ap (λ (b : ℕ). map leading_letter digits ++ b ∷ text) is_byte in
           subst (λ (t : List ℕ). Letters t codes) same letters

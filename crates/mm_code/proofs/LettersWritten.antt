@@ -1,8 +1,9 @@
 -- The steps of writing, on lists.
 use Rattle.std.proofs.Common.{◌≡◌, ℕ, ◌+◌, ◌-◌, ◌/◌, ◌%◌, ◌<◌, ◌≤◌, List, [], ◌∷◌, ◌++◌, map, length, get_or, take, All, sym, ap, subst, ◌∙◌, append_assoc, arith}
-use Rattle.std.specs.List.{flat_map, AllZip}
+use Rattle.std.specs.List.{flat_map}
 use Rattle.std.proofs.lemmas.List.{map-append, append-nil, take_more, take_all, map_push}
 use Rattle.std.proofs.lemmas.List.Concat.{flat_map-append}
+use Rattle.mm_text.proofs.Lists.{zip_push}
 use Rattle.mm_code.specs.declared.code.Code.{Code}
 use Rattle.mm_code.specs.declared.code.Code.TheVariants.{Number}
 use Rattle.mm_code.specs.Letters.{last_letter, leading_letter, SaysCode, SpellsCodes, Letters, code_for, IsExact}
@@ -36,19 +37,13 @@ number-written old between new number rest byte had is quotient letter positive 
           ∙ ap (λ (b : ℕ). old ++ (map leading_letter had.digits ++ b ∷ [])) same;
     }
 
-each-push : (pieces : List (List ℕ)) (codes : List Code) (piece : List ℕ) (code : Code) → AllZip SaysCode pieces codes → SaysCode piece code → AllZip SaysCode (pieces ++ piece ∷ []) (codes ++ code ∷ [])
-each-push [] [] piece code each says = (says, tt)
-each-push [] (c ∷ codes) piece code each says = absurd each
-each-push (p ∷ pieces) [] piece code each says = absurd each
-each-push (p ∷ pieces) (c ∷ codes) piece code each says = (each.0, each-push pieces codes piece code each.1 says)
-
 -- one more code's letters
 pub code-written : (old new : List ℕ) (codes : List Code) (i : ℕ) (d : Code) → i < length codes → SpellsCodes old (take i codes) → AppendsCode old new (get_or codes i d) → SpellsCodes new (take (i + 1) codes)
 code-written old new codes i d lt spells more =
     let P : List Code → Type 0 = SpellsCodes new in
     subst P (sym (take_more codes i d lt)) (record {
       pieces = spells.pieces ++ more.piece ∷ [];
-      each = each-push spells.pieces (take i codes) more.piece (get_or codes i d) spells.each more.says;
+      each = zip_push SaysCode spells.pieces (take i codes) more.piece (get_or codes i d) spells.each more.says;
       joined = more.text ∙ ap (λ (t : List ℕ). t ++ more.piece) spells.joined ∙ ap (λ (t : List ℕ). flat_map (λ piece. piece) spells.pieces ++ t) (sym (append-nil more.piece))
           ∙ sym (flat_map-append (λ (piece : List ℕ). piece) spells.pieces (more.piece ∷ []));
     })
