@@ -9,7 +9,7 @@ ghost use Rattle.mm_code.specs.Letters.{largest, SpellsCodes, Letters, code_for,
 ghost use Rattle.mm_code.specs.Letters.{IsExact, Answers, Fills, LettersBreak, joined_tokens};
 ghost use Rattle.mm_code.specs.Mirror.Writing.{AppendsLeading, AppendsCode};
 ghost use Rattle.mm_code.specs.Mirror.Reading.{with_front, reading, rule_behind, FaultOf};
-ghost use Rattle.mm_code.specs.Mirror.Reading.{ReadsOn, PutsOn};
+ghost use Rattle.mm_code.specs.Mirror.Reading.{ReadsOn, PutsOn, calm_value};
 
 use crate::code::{Code, CodeFault, CodeRule};
 use std::alloc::{AllocError, Global};
@@ -74,7 +74,7 @@ fn put_calm(
     byte: u8,
 ) -> Result<(usize, u32), CodeFault>
     requires slot { place < length slots.old }
-    requires calm { value ≤ 134217728 }
+    requires calm { value ≤ calm_value }
     ensures size { length slots.new ≡ length slots.old }
     ensures next { IfOk result (λ next. next.0 ≤ place + 1) }
     ensures reads { (rest : List ℕ) → PutsOn slots.new result rest

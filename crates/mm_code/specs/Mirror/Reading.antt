@@ -30,6 +30,10 @@ leading_after value byte = min (5 * value + (byte - 84)) largest
 abbrev pub number_after : ℕ → ℕ → ℕ
 number_after value byte = min (20 * value + (byte - 64)) largest
 
+-- the largest leading value behind which no letter reaches the largest number, or less
+abbrev pub calm_value : ℕ
+calm_value = 134217728
+
 -- the codes of these bytes behind leading digits of this value, where 0 says that there are none
 unfoldable pub reading : ℕ → List ℕ → Result (List Code) CodeRule
 reading value [] = if value == 0 then Ok [] else Err P5
