@@ -225,24 +225,35 @@ module _ (h k : ℕ → ℕ → ℕ) where
   SameItem a b = item_on h a ≡ item_on k b
 
   -- after the name of a file
-  found_same : (named : List Bool) (next on : ℕ → List Piece → List Item) (t u : PlainToken) → token_on h t ≡ token_on k u
-      → (ps qs : List Piece) (its others : List Item) → AllZip SameItem its others → ((n : ℕ) → AllZip SameItem (next n ps) (on n qs))
+  found_same : (named : List Bool) (next on : ℕ → List Piece → List Item) (t u : PlainToken)
+      → token_on h t ≡ token_on k u → (ps qs : List Piece) (its others : List Item)
+      → AllZip SameItem its others
+      → ((n : ℕ) → slice_index_or named n true ≡ false → AllZip SameItem (next n ps) (on n qs))
       → (o p : Option ℕ) → o ≡ p
       → AllZip SameItem (elim o [ None ↦ Wrong X7 t ∷ [] | Some n ↦ cond (slice_index_or named n true) its (next n ps) ])
       (elim p [ None ↦ Wrong X7 u ∷ [] | Some n ↦ cond (slice_index_or named n true) others (on n qs) ])
-  found_same named next on t u e ps qs its others inner goes None None i = (ap (λ (x : PlainToken). Wrong X7 x) (faulty_alike h k t u e), tt)
+  found_same named next on t u e ps qs its others inner goes None None i =
+      (ap (λ (x : PlainToken). Wrong X7 x) (faulty_alike h k t u e), tt)
   found_same named next on t u e ps qs its others inner goes (Some n) (Some m) i =
       let same : n ≡ m = cc in
-      both_choices (AllZip SameItem) (slice_index_or named n true) (slice_index_or named m true) its (next n ps) others (on m qs)
-      (ap (λ x. slice_index_or named x true) same) inner (subst (λ x. AllZip SameItem (next n ps) (on x qs)) same (goes n))
+      subst (λ x. AllZip SameItem (cond (slice_index_or named n true) its (next n ps))
+      (cond (slice_index_or named x true) others (on x qs))) same
+      (tested (slice_index_or named n true) refl)
+    where
+      tested : (b : Bool) → slice_index_or named n true ≡ b
+          → AllZip SameItem (cond b its (next n ps)) (cond b others (on n qs))
+      tested true known = inner
+      tested false unknown = goes n unknown
   found_same named next on t u e ps qs its others inner goes None (Some m) i = absurd cc
   found_same named next on t u e ps qs its others inner goes (Some n) None i = absurd cc
 
   module _ (files others : List PlainFile) (numbers : (text : List ℕ) → file_number files text ≡ file_number others text) where
-    -- pieces that correspond have items that do, if what goes on at a file does
-    spliced_same : (named : List Bool) (next on : ℕ → List Piece → List Item)
-        → ((n : ℕ) (ps qs : List Piece) → AllZip (SamePiece h k) ps qs → AllZip SameItem (next n ps) (on n qs))
-        → (ps qs : List Piece) → AllZip (SamePiece h k) ps qs → AllZip SameItem (with_inclusions files named next ps) (with_inclusions others named on qs)
+    -- pieces that correspond have items that do, if what goes on at a file that isn't named yet does
+    pub spliced_same : (named : List Bool) (next on : ℕ → List Piece → List Item)
+        → ((n : ℕ) (ps qs : List Piece) → slice_index_or named n true ≡ false
+        → AllZip (SamePiece h k) ps qs → AllZip SameItem (next n ps) (on n qs))
+        → (ps qs : List Piece) → AllZip (SamePiece h k) ps qs
+        → AllZip SameItem (with_inclusions files named next ps) (with_inclusions others named on qs)
     spliced_same named next on goes [] [] z = rw (spliced_nil files named next) (rw (spliced_nil others named on) tt)
     spliced_same named next on goes [] (q ∷ qs) z = absurd z
     spliced_same named next on goes (p ∷ ps) [] z = absurd z
@@ -253,7 +264,8 @@ module _ (h k : ℕ → ℕ → ℕ) where
     spliced_same named next on goes (Named t ∷ ps) (Named u ∷ qs) z =
         let inner = spliced_same named next on goes ps qs z.1 in
         rw (spliced_name files named next t ps) (rw (spliced_name others named on u qs)
-        (found_same named next on t u z.0 ps qs _ _ inner (λ n. goes n ps qs z.1) (file_number files t.text) (file_number others u.text)
+        (found_same named next on t u z.0 ps qs _ _ inner (λ n e. goes n ps qs e z.1)
+        (file_number files t.text) (file_number others u.text)
         (numbers t.text ∙ ap (file_number others) (text_alike h k t u z.0))))
     spliced_same named next on goes (Met a ∷ ps) (Named u ∷ qs) z = absurd z.0
     spliced_same named next on goes (Named t ∷ ps) (Met b ∷ qs) z = absurd z.0
@@ -262,10 +274,10 @@ module _ (h k : ℕ → ℕ → ℕ) where
     put_in_same : ((n : ℕ) (ps qs : List Piece) → AllZip (SamePiece h k) ps qs → AllZip (SamePiece h k) (put_before files n ps) (put_before others n qs))
         → (left : ℕ) (named : List Bool) (ps qs : List Piece) → AllZip (SamePiece h k) ps qs → AllZip SameItem (put_in files left named ps) (put_in others left named qs)
     unfolding put_in
-    put_in_same before zero named ps qs z = spliced_same named (λ n after. []) (λ n after. []) (λ n x y w. tt) ps qs z
+    put_in_same before zero named ps qs z = spliced_same named (λ n after. []) (λ n after. []) (λ n x y e w. tt) ps qs z
     put_in_same before (suc left) named ps qs z =
         spliced_same named (λ n after. put_in files left (slice_set named n true) (put_before files n after)) (λ n after. put_in others left (slice_set named n true) (put_before others n after))
-        (λ n x y w. put_in_same before left (slice_set named n true) (put_before files n x) (put_before others n y) (before n x y w)) ps qs z
+        (λ n x y e w. put_in_same before left (slice_set named n true) (put_before files n x) (put_before others n y) (before n x y w)) ps qs z
 
 -- ---- files that show the same
 

@@ -8,7 +8,7 @@ use Rattle.mm_text.specs.Token.{PlainToken}
 use Rattle.mm_text.specs.Files.{PlainFile}
 use Rattle.mm_text.specs.Items.{Item, Plain, Wrong, Inclusion, End, Piece, Met, Named, pieces_of, file_number, with_inclusions, put_before, put_in}
 use Rattle.mm_text.specs.Alike.{item_on}
-use Rattle.mm_text.proofs.AlikeItems.{is_wrong, spliced_nil, spliced_met, spliced_name, SamePiece}
+use Rattle.mm_text.proofs.AlikeItems.{is_wrong, spliced_nil, spliced_met, spliced_name, SamePiece, spliced_same}
 use Rattle.mm_text.proofs.ReplacedPieces.{nowhere, met}
 use Rattle.mm_text.proofs.Lists.{zip_append}
 
@@ -97,65 +97,11 @@ module _ (files others : List PlainFile) (k : ℕ) (f g : PlainFile) (p q : List
 
   -- ---- after the tokens
 
-  wrong_same : (a b : Item) → SameItem a b → is_wrong a ≡ is_wrong b
-  wrong_same (Plain t) (Plain u) e = refl
-  wrong_same (Wrong rule t) (Wrong law u) e = refl
-  wrong_same (Inclusion t) (Inclusion u) e = refl
-  wrong_same (End m) (End n) e = refl
-  wrong_same (Plain t) (Wrong law u) e = absurd cc
-  wrong_same (Plain t) (Inclusion u) e = refl
-  wrong_same (Plain t) (End n) e = refl
-  wrong_same (Wrong rule t) (Plain u) e = absurd cc
-  wrong_same (Wrong rule t) (Inclusion u) e = absurd cc
-  wrong_same (Wrong rule t) (End n) e = absurd cc
-  wrong_same (Inclusion t) (Plain u) e = refl
-  wrong_same (Inclusion t) (Wrong law u) e = absurd cc
-  wrong_same (Inclusion t) (End n) e = refl
-  wrong_same (End m) (Plain u) e = refl
-  wrong_same (End m) (Wrong law u) e = absurd cc
-  wrong_same (End m) (Inclusion u) e = refl
-
-  one_more : (a b : Item) (its other : List Item) → SameItem a b → AllZip SameItem its other → (x y : Bool) → x ≡ y → AllZip SameItem (cond x (a ∷ []) (a ∷ its)) (cond y (b ∷ []) (b ∷ other))
-  one_more a b its other e z true true i = (e, tt)
-  one_more a b its other e z false false i = (e, z)
-  one_more a b its other e z true false i = absurd cc
-  one_more a b its other e z false true i = absurd cc
-
-  module _ (named : List Bool) (next on : ℕ → List Piece → List Item) (goes : (n : ℕ) (ps qs : List Piece) → slice_index_or named n true ≡ false → R ps qs → AllZip SameItem (next n ps) (on n qs)) where
-    spliced_after : (ps qs : List Piece) → R ps qs → AllZip SameItem (with_inclusions files named next ps) (with_inclusions others named on qs)
-    spliced_after [] [] z = rw (spliced_nil files named next) (rw (spliced_nil others named on) tt)
-    spliced_after [] (y ∷ qs) z = absurd z
-    spliced_after (x ∷ ps) [] z = absurd z
-    spliced_after (Met a ∷ ps) (Named u ∷ qs) z = absurd z.0
-    spliced_after (Named t ∷ ps) (Met b ∷ qs) z = absurd z.0
-    spliced_after (Met a ∷ ps) (Met b ∷ qs) z =
-        rw (spliced_met files named next a ps) (rw (spliced_met others named on b qs)
-        (one_more a b _ _ z.0 (spliced_after ps qs z.1) (is_wrong a) (is_wrong b) (wrong_same a b z.0)))
-    spliced_after (Named t ∷ ps) (Named u ∷ qs) z =
-        rw (spliced_name files named next t ps) (rw (spliced_name others named on u qs)
-        (go (spliced_after ps qs z.1) (file_number files t.text) (file_number others u.text) (numbers t.text ∙ ap (λ (x : PlainToken). file_number others x.text) z.0)))
-      where
-        tested : (n : ℕ) → AllZip SameItem (with_inclusions files named next ps) (with_inclusions others named on qs) → (b : Bool) → slice_index_or named n true ≡ b
-            → AllZip SameItem (cond b (with_inclusions files named next ps) (next n ps)) (cond b (with_inclusions others named on qs) (on n qs))
-        tested n inner true e = inner
-        tested n inner false e = goes n ps qs e z.1
-
-        go : AllZip SameItem (with_inclusions files named next ps) (with_inclusions others named on qs) → (o r : Option ℕ) → o ≡ r
-            → AllZip SameItem (elim o [ None ↦ Wrong X7 t ∷ [] | Some n ↦ cond (slice_index_or named n true) (with_inclusions files named next ps) (next n ps) ])
-            (elim r [ None ↦ Wrong X7 u ∷ [] | Some n ↦ cond (slice_index_or named n true) (with_inclusions others named on qs) (on n qs) ])
-        go inner None None i = (ap (λ (x : PlainToken). Wrong X7 (record { text = []; file = x.file; at = x.at })) z.0, tt)
-        go inner (Some n) (Some m) i =
-            let both : n ≡ m = cc in
-            subst (λ x. AllZip SameItem (cond (slice_index_or named n true) (with_inclusions files named next ps) (next n ps)) (cond (slice_index_or named x true) (with_inclusions others named on qs) (on x qs))) both
-            (tested n inner (slice_index_or named n true) refl)
-        go inner None (Some m) i = absurd cc
-        go inner (Some n) None i = absurd cc
-
   put_in_after : (left : ℕ) (named : List Bool) → slice_index_or named k true ≡ true → (ps qs : List Piece) → R ps qs → AllZip SameItem (put_in files left named ps) (put_in others left named qs)
   unfolding put_in
-  put_in_after zero named known ps qs z = spliced_after named (λ n rest. []) (λ n rest. []) (λ n x y e w. tt) ps qs z
+  put_in_after zero named known ps qs z = spliced_same nowhere nowhere files others numbers named (λ n rest. []) (λ n rest. []) (λ n x y e w. tt) ps qs z
   put_in_after (suc left) named known ps qs z =
-      spliced_after named (λ n rest. put_in files left (slice_set named n true) (put_before files n rest)) (λ n rest. put_in others left (slice_set named n true) (put_before others n rest))
+      spliced_same nowhere nowhere files others numbers named (λ n rest. put_in files left (slice_set named n true) (put_before files n rest)) (λ n rest. put_in others left (slice_set named n true) (put_before others n rest))
       (λ n x y e w. put_in_after left (slice_set named n true) (still_named named n k known) (put_before files n x) (put_before others n y)
       (subst (R (put_before files n x)) (sym (put_same n y (named_apart named n k e known))) (put_zip n x y w))) ps qs z
 
@@ -211,7 +157,7 @@ module _ (files others : List PlainFile) (k : ℕ) (f g : PlainFile) (p q : List
       → SameOrAlter p q (put_in files left named (a ++ (met p ++ b))) (put_in others left named (a ++ (met q ++ c)))
   unfolding put_in
   put_in_within zero named known a b c z =
-      spliced_within named (λ n rest. []) (λ n rest. []) (λ ps qs w. spliced_after named (λ n rest. []) (λ n rest. []) (λ n x y e v. tt) ps qs w) (λ n x y w e v. inl refl) a b c z
+      spliced_within named (λ n rest. []) (λ n rest. []) (λ ps qs w. spliced_same nowhere nowhere files others numbers named (λ n rest. []) (λ n rest. []) (λ n x y e v. tt) ps qs w) (λ n x y w e v. inl refl) a b c z
   put_in_within (suc left) named known a b c z =
       spliced_within named (λ n rest. put_in files left (slice_set named n true) (put_before files n rest)) (λ n rest. put_in others left (slice_set named n true) (put_before others n rest))
       (λ ps qs w. put_in_after (suc left) named known ps qs w)
