@@ -6,7 +6,7 @@ use Rattle.std.proofs.Math.Decide.{ℕ_discrete}
 use Rattle.mm_text.specs.declared.fault.TextRule.TheVariants.{X7}
 use Rattle.mm_text.specs.Token.{PlainToken}
 use Rattle.mm_text.specs.Files.{PlainFile}
-use Rattle.mm_text.specs.Items.{Item, Plain, Wrong, Inclusion, End, Piece, Met, Named, pieces_of, file_number, with_inclusions, put_before, put_in}
+use Rattle.mm_text.specs.Items.{Item, Plain, Wrong, Piece, Met, Named, pieces_of, file_number, with_inclusions, put_before, put_in}
 use Rattle.mm_text.specs.Alike.{item_on}
 use Rattle.mm_text.proofs.AlikeItems.{is_wrong, spliced_nil, spliced_met, spliced_name, SamePiece, spliced_same}
 use Rattle.mm_text.proofs.ReplacedPieces.{nowhere, met}

@@ -16,7 +16,7 @@ use Rattle.mm_text.specs.declared.token.Token.{Token}
 use Rattle.mm_text.specs.Token.{PlainToken, plain_token, tokens_from}
 use Rattle.mm_text.specs.Files.{PlainFile, plain_file, total_bytes}
 use Rattle.mm_text.specs.Items as items
-use Rattle.mm_text.specs.Items.{Item, Plain, Inclusion, End, Piece, Met, Named, Outside, Naming, pieces, pieces_of, without_comments, spells, holds_dollar, file_number, put_before, put_in}
+use Rattle.mm_text.specs.Items.{Inclusion, End, Piece, Met, Named, Outside, Naming, pieces, pieces_of, without_comments, spells, holds_dollar, file_number, put_before, put_in}
 use Rattle.mm_text.specs.Mirror.Names.{number_among}
 use Rattle.mm_text.specs.Mirror.Place.{IsSameFile, TakesWordAt, shown_at}
 use Rattle.mm_text.specs.Mirror.Next.{items_with, TakesWord}

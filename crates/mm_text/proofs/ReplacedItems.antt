@@ -1,11 +1,11 @@
 -- The items of files of which one has other bytes between the `$=` and the `$.` of a statement.
-use Rattle.std.proofs.Common.{◌≡◌, ◌≢◌, ℕ, zero, suc, ◌+◌, List, [], ◌∷◌, ◌++◌, length, replicate, Bool, true, false, cond, not, refl, sym, ap, ◌∙◌, subst, codes, Some, None}
-use Rattle.std.specs.Prelude.{slice_get, slice_index_or, slice_set, nat_lt}
-use Rattle.std.specs.List.{AllZip, prefix_len}
+use Rattle.std.proofs.Common.{◌≡◌, ◌≢◌, ℕ, zero, suc, ◌+◌, List, [], ◌∷◌, ◌++◌, length, replicate, Bool, true, false, refl, sym, ap, ◌∙◌, subst, codes, Some}
+use Rattle.std.specs.Prelude.{slice_get, slice_index_or, slice_set}
+use Rattle.std.specs.List.{AllZip}
 use Rattle.std.proofs.lemmas.Option.{same_Some}
 use Rattle.mm_text.specs.Token.{PlainToken, tokens_from}
 use Rattle.mm_text.specs.Files.{PlainFile}
-use Rattle.mm_text.specs.Items.{Piece, spells, pieces_of, file_number, put_in, items}
+use Rattle.mm_text.specs.Items.{Piece, pieces_of, put_in, items}
 use Rattle.mm_text.proofs.AlikeItems.{SamePiece, SameNames, as_long, same_number}
 use Rattle.mm_text.proofs.FollowedItems.{StandsInFile}
 use Rattle.mm_text.proofs.ReplacedPieces.{nowhere, met, IsProofText, with_span, replaced_pieces}

@@ -8,6 +8,7 @@ use Rattle.mm_text.specs.Token.{tokens_from}
 use Rattle.mm_text.specs.Files.{PlainFile}
 use Rattle.mm_text.specs.Items.{Item, Plain, Wrong, Inclusion, End, Shown, Clear, Broken, without_comments, spells, holds_dollar, Spot, Outside, Naming, Closing, Piece, Met, Named, broken_outside, pieces, pieces_of, file_number, with_inclusions, put_before, put_in, items}
 use Rattle.mm_text.specs.ItemLaws.{TopFileEndsLast}
+use Rattle.mm_text.proofs.AlikeItems.{spliced_nil}
 use Rattle.mm_text.proofs.AlteredItems.{still_named}
 
 abbrev LastEnd : List Item → Type 0
@@ -55,17 +56,13 @@ before_last files n rest other h = go (slice_get files n)
 
 module _ (files : List PlainFile) (named : List Bool) (next : ℕ → List Piece → List Item)
     (on : (n : ℕ) (rest : List Piece) → slice_index_or named n true ≡ false → LastPiece rest → LastEnd (next n rest)) where
-  spliced_nil : with_inclusions files named next [] ≡ []
-  unfolding with_inclusions
-  spliced_nil = refl
-
   spliced_last : (ps : List Piece) → LastPiece ps → LastEnd (with_inclusions files named next ps)
   unfolding with_inclusions
   spliced_last [] h = tt
   spliced_last (Met (Plain t) ∷ rest) h = spliced_last rest h
   spliced_last (Met (Inclusion t) ∷ rest) h = spliced_last rest h
   spliced_last (Met (Wrong rule t) ∷ rest) h = tt
-  spliced_last (Met (End n) ∷ rest) h = (λ e. ap (with_inclusions files named next) (h.0 e) ∙ spliced_nil, spliced_last rest h.1)
+  spliced_last (Met (End n) ∷ rest) h = (λ e. ap (with_inclusions files named next) (h.0 e) ∙ spliced_nil files named next, spliced_last rest h.1)
   spliced_last (Named name ∷ rest) h = go (spliced_last rest h) (file_number files name.text)
     where
       known : LastEnd (with_inclusions files named next rest) → (n : ℕ) (b : Bool) → slice_index_or named n true ≡ b → LastEnd (cond b (with_inclusions files named next rest) (next n rest))
