@@ -1,6 +1,7 @@
 -- A book's lists after one statement more, from what holds of each of them.
 use Rattle.std.proofs.Common.{◌≡◌, ℕ, ◌+◌, ◌<◌, ◌≤◌, length, List, [], ◌∷◌, ◌++◌, Some, ap, ◌∙◌, length-append, arith}
 use Rattle.std.specs.List.{slice_get}
+use Rattle.mm_text.specs.Files.{most_bytes}
 use Rattle.mm_frame.specs.declared.number.Sym.{Sym}
 use Rattle.mm_frame.specs.declared.number.LabelId.{LabelId}
 use Rattle.mm_frame.specs.declared.tables.Entry.{Entry}
@@ -37,7 +38,7 @@ pub record AreAppended (t v : Tables) (a b : List (List ℕ)) (c : List Sym) (ne
   pub label : (id : LabelId) → new.label ≡ Some id → id.0 < length (t.labels.names ++ b)
 
 pub assembled : (t v : Tables) (s : Sentence) (new : Entry) (a b : List (List ℕ)) (c : List Sym) (bytes : ℕ) → AreTables t → IsMeant (statements_of t) s → IsFormedSentence s
-    → AreAppended t v a b c new s → AreGrown t v s → v.bytes ≡ t.bytes + bytes → 1 + length c ≤ bytes → t.bytes + bytes ≤ 1073741824 → Grows t v s bytes
+    → AreAppended t v a b c new s → AreGrown t v s → v.bytes ≡ t.bytes + bytes → 1 + length c ≤ bytes → t.bytes + bytes ≤ most_bytes → Grows t v s bytes
 assembled t v s new a b c bytes tables meant formed app grown counted enough room =
     let pushed = sentences_push t.symbols.names t.labels.names t.flat.items t.log.items a b c new tables.entries in
     let st : statements_of v ≡ statements_of t ++ s ∷ [] =

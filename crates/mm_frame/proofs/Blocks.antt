@@ -4,6 +4,7 @@ use Rattle.std.specs.List.{slice_get, slice_range}
 use Rattle.std.specs.Result.{OnErr}
 use Rattle.mm_text.specs.declared.statement.Kind.{Kind}
 use Rattle.mm_text.specs.declared.statement.Kind.TheVariants.{Opening, Closing, Floating, Distinct}
+use Rattle.mm_text.specs.Files.{most_bytes}
 use Rattle.mm_frame.specs.declared.number.Sym.{Sym}
 use Rattle.mm_frame.specs.declared.tables.Tables.{Tables}
 use Rattle.mm_frame.specs.Sentence.{Sentence}
@@ -88,7 +89,7 @@ block_said symbols labels flat kind n s is unlabelled bare =
 
 pub block_grows : (t v : Tables) (s : Sentence) (kind : Kind) (bytes : ℕ) → AreTables t → AddsBlock t v kind bytes → s.kind ≡ kind → s.label ≡ None → s.symbols ≡ []
     → declared_by s ≡ [] → ¬ (s.kind ≡ Floating) → ¬ (s.kind ≡ Distinct) → (kind ≡ Closing → close_marks (statements_of t) < open_marks (statements_of t))
-    → AreEssentials (statements_of t ++ s ∷ []) v.essentials.items → 1 ≤ bytes → t.bytes + bytes ≤ 1073741824
+    → AreEssentials (statements_of t ++ s ∷ []) v.essentials.items → 1 ≤ bytes → t.bytes + bytes ≤ most_bytes
     → IsMeant (statements_of t) s → IsFormedSentence s → Grows t v s bytes
 block_grows t v s kind bytes tables adds is unlabelled bare none no_float no_distinct more essentials some room meant formed =
     let st = statements_of t in
@@ -126,7 +127,7 @@ block_grows t v s kind bytes tables adds is unlabelled bare none no_float no_dis
     adds.counted (omega arith) room
 
 pub open_grows : (t v : Tables) (s : Sentence) (bytes : ℕ) → AreTables t → AddsBlock t v Opening bytes → v.essentials.items ≡ t.essentials.items → s.kind ≡ Opening → s.label ≡ None → s.symbols ≡ []
-    → 1 ≤ bytes → t.bytes + bytes ≤ 1073741824 → IsMeant (statements_of t) s → IsFormedSentence s → Grows t v s bytes
+    → 1 ≤ bytes → t.bytes + bytes ≤ most_bytes → IsMeant (statements_of t) s → IsFormedSentence s → Grows t v s bytes
 open_grows t v s bytes tables adds same is unlabelled bare some room meant formed =
     let e : AreEssentials (statements_of t ++ s ∷ []) v.essentials.items = rw same
     (essentials_other (statements_of t) t.essentials.items s tables.essentials (λ k. absurd (cc)) (λ k. absurd (cc))) in
@@ -134,7 +135,7 @@ open_grows t v s bytes tables adds same is unlabelled bare some room meant forme
 
 pub close_grows : (t v : Tables) (s : Sentence) (bytes : ℕ) → AreTables t → AddsBlock t v Closing bytes → AreForgotten (statements_of t ++ s ∷ []) t.essentials.items v.essentials.items
     → s.kind ≡ Closing → s.label ≡ None → s.symbols ≡ [] → close_marks (statements_of t) < open_marks (statements_of t)
-    → 1 ≤ bytes → t.bytes + bytes ≤ 1073741824 → IsMeant (statements_of t) s → IsFormedSentence s → Grows t v s bytes
+    → 1 ≤ bytes → t.bytes + bytes ≤ most_bytes → IsMeant (statements_of t) s → IsFormedSentence s → Grows t v s bytes
 close_grows t v s bytes tables adds left is unlabelled bare more some room meant formed =
     let before : AreEssentials (statements_of t) (v.essentials.items ++ left.gone) = subst (λ ps. AreEssentials (statements_of t) ps) left.parted tables.essentials in
     let e = essentials_closing (statements_of t) v.essentials.items left.gone s before is left.inactive left.last_active in

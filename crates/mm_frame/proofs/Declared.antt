@@ -9,6 +9,7 @@ use Rattle.std.proofs.lemmas.Option.{slice_get_within}
 use Rattle.indexmap.proofs.IndexTableLemmas.Probe.{pigeonhole}
 use Rattle.mm_text.specs.declared.statement.Kind.{Kind}
 use Rattle.mm_text.specs.declared.statement.Kind.TheVariants.{Constants, Variables, Distinct, Essential, Closing}
+use Rattle.mm_text.specs.Files.{most_bytes}
 use Rattle.mm_frame.specs.declared.number.Sym.{Sym}
 use Rattle.mm_frame.specs.declared.tables.Entry.{Entry}
 use Rattle.mm_frame.specs.declared.tables.Tables.{Tables}
@@ -98,7 +99,7 @@ grown t d v s bytes tables which none taken entered =
 
 -- the lists hold one statement more
 declared : (t d v : Tables) (s : Sentence) (bytes : ℕ) → AreTables t → IsMeant (statements_of t) s → IsFormedSentence s → IsDeclaration s.kind → s.label ≡ None
-    → TakesSymbols t d s.kind s.symbols → Entered d v s.kind None (length t.flat.items) bytes → 1 + length s.symbols ≤ bytes → t.bytes + bytes ≤ 1073741824 → Grows t v s bytes
+    → TakesSymbols t d s.kind s.symbols → Entered d v s.kind None (length t.flat.items) bytes → 1 + length s.symbols ≤ bytes → t.bytes + bytes ≤ most_bytes → Grows t v s bytes
 declared t d v s bytes tables meant formed which none taken entered enough room =
     let size : length taken.numbers ≡ length s.symbols = sym (length-map taken.numbers _) ∙ ap length taken.named in
     let counted : v.bytes ≡ t.bytes + bytes = entered.counted ∙ ap (λ (u : Tables). u.bytes + bytes) taken.others in
@@ -187,7 +188,7 @@ declares_formed p form which = record {
     none = declares_unlabelled p form which
 
 -- all symbols of the statement will have numbers
-pub names_fit : (t : Tables) (p : PlainStatement) (bytes : ℕ) → AreTables t → HasForm p → bytes ≡ bytes_in p → t.bytes + bytes ≤ 1073741824 → length t.symbols.names + length p.symbols < 4294967296
+pub names_fit : (t : Tables) (p : PlainStatement) (bytes : ℕ) → AreTables t → HasForm p → bytes ≡ bytes_in p → t.bytes + bytes ≤ most_bytes → length t.symbols.names + length p.symbols < 4294967296
 names_fit t p bytes tables form is room =
     let few = names_few t tables in
     let counted = tables.counted in
@@ -195,7 +196,7 @@ names_fit t p bytes tables form is room =
     omega arith
 
 -- there are fewer symbols than numbers for their places
-pub symbols_fit : (t : Tables) (p : PlainStatement) (bytes : ℕ) → AreTables t → HasForm p → bytes ≡ bytes_in p → t.bytes + bytes ≤ 1073741824 → length t.log.items + length t.flat.items + length p.symbols < 4294967296
+pub symbols_fit : (t : Tables) (p : PlainStatement) (bytes : ℕ) → AreTables t → HasForm p → bytes ≡ bytes_in p → t.bytes + bytes ≤ most_bytes → length t.log.items + length t.flat.items + length p.symbols < 4294967296
 symbols_fit t p bytes tables form is room =
     let counted = tables.counted in
     let enough = bytes_enough p form in
@@ -203,7 +204,7 @@ symbols_fit t p bytes tables form is room =
 
 -- room is made, the symbols are taken in, and the entry is written
 pub declares : (t m d v : Tables) (p : PlainStatement) (start bytes : ℕ) → AreTables t → SameLists t m → IsMeant (statements_of t) (sentence_of p) → HasForm p → IsDeclaration p.kind
-    → bytes ≡ bytes_in p → t.bytes + bytes ≤ 1073741824 → TakesSymbols m d p.kind (sentence_of p).symbols → start ≡ length m.flat.items → Entered d v p.kind None start bytes → Grows t v (sentence_of p) bytes
+    → bytes ≡ bytes_in p → t.bytes + bytes ≤ most_bytes → TakesSymbols m d p.kind (sentence_of p).symbols → start ≡ length m.flat.items → Entered d v p.kind None start bytes → Grows t v (sentence_of p) bytes
 declares t m d v p start bytes tables lists meant form which is room taken begins entered =
     let same = same_tables t m tables lists in
     let st : statements_of t ≡ statements_of m = sym (ap (λ (d : Database). d.statements) same.same) in

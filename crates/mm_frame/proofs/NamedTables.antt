@@ -6,6 +6,7 @@ use Rattle.std.proofs.lemmas.List.{append-nil}
 use Rattle.mm_text.specs.Statement.{FitsCount}
 use Rattle.mm_text.specs.declared.statement.Kind.{Kind}
 use Rattle.mm_text.specs.declared.statement.Kind.TheVariants.{Floating, Essential, Distinct, Closing}
+use Rattle.mm_text.specs.Files.{most_bytes}
 use Rattle.mm_frame.specs.declared.distinct.DistinctPair.{DistinctPair}
 use Rattle.mm_frame.specs.declared.hypothesis.Hypothesis.{Hypothesis}
 use Rattle.mm_frame.specs.declared.number.LabelId.{LabelId}
@@ -47,7 +48,7 @@ use Rattle.mm_frame.proofs.Written.{added_part, names_numbered, same_sentence}
 use Rattle.mm_frame.proofs.Assembled.{AreAppended, AreGrown, assembled}
 
 -- there are fewer labels than numbers for them
-pub few_labels : (t : Tables) (bytes : ℕ) → AreTables t → t.bytes + bytes ≤ 1073741824 → length t.labels.names + 1 < 4294967296
+pub few_labels : (t : Tables) (bytes : ℕ) → AreTables t → t.bytes + bytes ≤ most_bytes → length t.labels.names + 1 < 4294967296
 few_labels t bytes are room =
     let counted = labels_counted (statements_of t) t.labels.names t.named.items t.log.items are.labels in
     let few = labelled_few (statements_of t) in
@@ -187,7 +188,7 @@ pub named_grows : (t u v : Tables) (s : Sentence) (kind : Kind) (l : List ℕ) (
     → declared_by s ≡ [] → ¬ (kind ≡ Closing) → ¬ (kind ≡ Distinct)
     → AreInfos (statements_of t ++ s ∷ []) t.symbols.names u.infos.items → AreEssentials (statements_of t ++ s ∷ []) u.essentials.items
     → AreFrames (statements_of t ++ s ∷ []) (t.hypotheses.items ++ a) (t.pairs.items ++ b) (t.pieces.items ++ c) (t.named.items ++ label_info (length t.log.items) (entry_of kind (Some id) (length t.flat.items) (length (t.flat.items ++ numbers))) frame ∷ [])
-    → HaveTypings (statements_of t) a → 1 + length numbers ≤ bytes → t.bytes + bytes ≤ 1073741824 → Grows t v s bytes
+    → HaveTypings (statements_of t) a → 1 + length numbers ≤ bytes → t.bytes + bytes ≤ most_bytes → Grows t v s bytes
 named_grows t u v s kind l numbers frame id a b c bytes are before named number is none unclosed together infos essentials frames typings enough room =
     let new = entry_of kind (Some id) (length t.flat.items) (length (t.flat.items ++ numbers)) in
     assembled t v s new [] (l ∷ []) numbers bytes are is.meant is.formed
@@ -219,7 +220,7 @@ hypothesis_frames t s e frame are other =
 pub supposed : (t u v : Tables) (s : Sentence) (l : List ℕ) (numbers : List Sym) (frame : FrameParts) (id : LabelId) (bytes : ℕ)
     → AreTables t → Before t u [] [] [] → u.infos.items ≡ t.infos.items → u.essentials.items ≡ t.essentials.items ++ length t.log.items ∷ []
     → Named u v Essential l numbers frame id bytes → id.0 ≡ length u.labels.names → IsWritten t s Essential l numbers
-    → 1 + length numbers ≤ bytes → t.bytes + bytes ≤ 1073741824 → Grows t v s bytes
+    → 1 + length numbers ≤ bytes → t.bytes + bytes ≤ most_bytes → Grows t v s bytes
 supposed t u v s l numbers frame id bytes are before infos essentials named number is enough room =
     let st = statements_of t in
     let none = declares_none s Essential is.kinds refl in
@@ -235,7 +236,7 @@ pub typed : (t u v : Tables) (s : Sentence) (code x : List ℕ) (n : Sym) (info 
     → AreTables t → Before t u [] [] [] → s.symbols ≡ code ∷ x ∷ [] → slice_get t.symbols.names n.0 ≡ Some x → slice_get t.infos.items n.0 ≡ Some info
     → u.infos.items ≡ set t.infos.items n.0 (record info { floating = Some (length t.log.items) }) → u.essentials.items ≡ t.essentials.items
     → Named u v Floating l numbers frame id bytes → id.0 ≡ length u.labels.names → IsWritten t s Floating l numbers
-    → 1 + length numbers ≤ bytes → t.bytes + bytes ≤ 1073741824 → Grows t v s bytes
+    → 1 + length numbers ≤ bytes → t.bytes + bytes ≤ most_bytes → Grows t v s bytes
 typed t u v s code x n info l numbers frame id bytes are before says at there infos essentials named number is enough room =
     let st = statements_of t in
     let none = declares_none s Floating is.kinds refl in
@@ -252,7 +253,7 @@ pub asserted : (t u v : Tables) (s : Sentence) (kind : Kind) (l : List ℕ) (num
     → AreTables t → IsAssertion kind → Before t u a b c → u.infos.items ≡ t.infos.items → u.essentials.items ≡ t.essentials.items
     → Named u v kind l numbers frame id bytes → id.0 ≡ length u.labels.names → IsWritten t s kind l numbers
     → IsFrameInfo (statements_of t ++ s ∷ []) (t.hypotheses.items ++ a) (t.pairs.items ++ b) (t.pieces.items ++ c) (label_info (length t.log.items) (entry_of kind (Some id) (length t.flat.items) (length (t.flat.items ++ numbers))) frame)
-    → HaveTypings (statements_of t) a → 1 + length numbers ≤ bytes → t.bytes + bytes ≤ 1073741824 → Grows t v s bytes
+    → HaveTypings (statements_of t) a → 1 + length numbers ≤ bytes → t.bytes + bytes ≤ most_bytes → Grows t v s bytes
 asserted t u v s kind l numbers frame id a b c bytes are which before infos essentials named number is framed typings enough room =
     let st = statements_of t in
     let none = declares_none s kind is.kinds (elim which [ inl e ↦ ap (λ k. declared_in k s.symbols) e | inr e ↦ ap (λ k. declared_in k s.symbols) e ]) in

@@ -2,6 +2,7 @@
 use Rattle.std.proofs.Common.{◌≡◌, ◌↔◌, ℕ, ◌+◌, ◌<◌, ◌≤◌, inl, inr, length, take, List, [], ◌∷◌, map, Option, Some, None, slice_range, refl, sym, ap, ◌∙◌, subst, arith}
 use Rattle.std.specs.List.{slice_get}
 use Rattle.mm_text.specs.declared.statement.Kind.{Kind}
+use Rattle.mm_text.specs.Files.{most_bytes}
 use Rattle.mm_frame.specs.declared.distinct.DistinctPair.{DistinctPair}
 use Rattle.mm_frame.specs.declared.hypothesis.Hypothesis.{Hypothesis}
 use Rattle.mm_frame.specs.declared.number.Sym.{Sym}
@@ -136,7 +137,7 @@ few_mandatory st place numbers are =
     omega arith
 
 -- and so fewer than there can be bytes
-pub few_hypotheses : (t : Tables) (place : ℕ) (hs : List Hypothesis) → AreTables t → AreHypotheses (at_place (statements_of t) place) (map (λ h. h.id.0) hs) → length hs < 1073741824
+pub few_hypotheses : (t : Tables) (place : ℕ) (hs : List Hypothesis) → AreTables t → AreHypotheses (at_place (statements_of t) place) (map (λ h. h.id.0) hs) → length hs < most_bytes
 few_hypotheses t place hs tables are =
     let few = few_mandatory (statements_of t) place (map (λ h. h.id.0) hs) are in
     let same = length-map hs (λ h. h.id.0) in

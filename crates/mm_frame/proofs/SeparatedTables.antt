@@ -4,6 +4,7 @@ use Rattle.std.specs.List.{slice_get, slice_range}
 use Rattle.std.proofs.lemmas.Option.{slice_get_within}
 use Rattle.std.proofs.lemmas.List.{append-nil}
 use Rattle.mm_text.specs.declared.statement.Kind.TheVariants.{Floating, Essential, Distinct, Closing}
+use Rattle.mm_text.specs.Files.{most_bytes}
 use Rattle.mm_frame.specs.declared.number.Sym.{Sym}
 use Rattle.mm_frame.specs.declared.tables.Tables.{Tables}
 use Rattle.mm_frame.specs.Sentence.{Sentence}
@@ -97,7 +98,7 @@ grown t v s members pairs bytes tables are new paired =
     record { infos = infos; labels = labels; scopes = are.scopes s new.kind; essentials = essentials; frames = frames; typed = rw are.hypotheses (typings_grow st (s ∷ []) t.hypotheses.items tables.typed); stated = stated }
 
 -- The lists hold the `$d`.
-pub separated : (t v : Tables) (s : Sentence) (members : List Sym) (pairs : List (ℕ × ℕ)) (bytes : ℕ) → AreTables t → t.bytes + bytes ≤ 1073741824 → 1 + length members ≤ bytes → AreSeparated t v members pairs bytes
+pub separated : (t v : Tables) (s : Sentence) (members : List Sym) (pairs : List (ℕ × ℕ)) (bytes : ℕ) → AreTables t → t.bytes + bytes ≤ most_bytes → 1 + length members ≤ bytes → AreSeparated t v members pairs bytes
     → ArePaired (statements_of t) members (length members) 0 pairs → IsNewDistinct t s members → Grows t v s bytes
 separated t v s members pairs bytes tables room enough are paired new =
     assembled t v s _ [] [] members bytes tables new.meant new.formed (appended t v s members pairs bytes tables are new) (grown t v s members pairs bytes tables are new paired) are.bytes (omega arith) room

@@ -5,6 +5,7 @@ ghost use Rattle.std.specs.Prelude.{IfOk, IfErr, OnErr, Err, Some, length, map, 
 ghost use Rattle.std.specs.Prelude.{sum_by};
 ghost use Rattle.mm_text.specs.declared.statement.Kind.TheVariants.{Closing};
 ghost use Rattle.mm_text.specs.Statement.{plain_statement, HasForm, bytes_in};
+ghost use Rattle.mm_text.specs.Files.{most_bytes};
 ghost use Rattle.mm_frame.specs.declared.rule.MeaningRule.{MeaningRule};
 ghost use Rattle.mm_frame.specs.declared.answer.RuleFault.TheVariants.{Rule, Memory};
 ghost use Rattle.mm_frame.specs.Sentence.{Sentence, sentence_in, IsLabelled, IsAssertion};
@@ -51,7 +52,7 @@ pub struct Book<'a> {
 
 // How many bytes some tokens have.
 fn bytes_of_all(tokens: &[Token]) -> u64
-    requires { sum_by (λ t. length t.text.now) tokens.now ≤ 1073741824 }
+    requires { sum_by (λ t. length t.text.now) tokens.now ≤ most_bytes }
     ensures { result ≡ sum_by (λ t. length t.text.now) tokens.now }
 {
     let mut bytes = 0;
@@ -63,7 +64,7 @@ fn bytes_of_all(tokens: &[Token]) -> u64
 
 // How many bytes the tokens of a statement have.
 fn bytes_of(statement: &Statement) -> u64
-    requires { bytes_in (plain_statement statement.now) ≤ 1073741824 }
+    requires { bytes_in (plain_statement statement.now) ≤ most_bytes }
     ensures { result ≡ bytes_in (plain_statement statement.now) }
 {
     statement.first.text.len() as u64
@@ -104,7 +105,7 @@ impl<'a> Book<'a> {
         requires formed { HasForm (plain_statement statement.now) }
         requires closes { statement.now.kind ≡ Closing
             → close_marks self.old.statements < open_marks self.old.statements }
-        requires room { self.old.bytes + bytes_in (plain_statement statement.now) ≤ 1073741824 }
+        requires room { self.old.bytes + bytes_in (plain_statement statement.now) ≤ most_bytes }
         ensures ok { IfOk result (λ taken. IsMeant self.old.statements (sentence_in statement.now)
             × (self.new ≡ record {
               statements = self.old.statements ++ sentence_in statement.now ∷ [];
@@ -255,7 +256,7 @@ impl<'a> Book<'a> {
             → HaveTypings self.now.statements result.now }
         ensures few { (place : ℕ) (s : Sentence)
             → IsNumbered self.now.statements id.0 place s → IsAssertion s.kind
-            → length result.now < 1073741824 }
+            → length result.now < most_bytes }
         ensures patterns { (place : ℕ) (s : Sentence)
             → IsNumbered self.now.statements id.0 place s → IsAssertion s.kind
             → HaveMandatoryPatterns

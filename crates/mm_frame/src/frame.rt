@@ -1,6 +1,7 @@
 //! Frames of assertions.
 
 ghost use Rattle.std.specs.Prelude.{◌≡◌, ◌↔◌, ◌<◌, ℕ, List, Some, IsTrue, length, map, slice_get};
+ghost use Rattle.mm_text.specs.Files.{most_bytes};
 ghost use Rattle.mm_frame.specs.Sentence.{Sentence, IsAssertion};
 ghost use Rattle.mm_frame.specs.Active.{IsActive};
 ghost use Rattle.mm_frame.specs.Frame.{IsDistinct};
@@ -64,7 +65,7 @@ impl<'b, 'a> Frame<'b, 'a> {
     pub fn hypotheses(&self) -> &'b [Hypothesis]
         ensures ids { AreHypotheses self.now (map (λ h. h.id.0) result.now) }
         ensures typed { HaveTypings self.now.statements result.now }
-        ensures few { length result.now < 1073741824 }
+        ensures few { length result.now < most_bytes }
         ensures patterns { HaveMandatoryPatterns self.now result.now }
     {
         self.book.hypotheses(self.id)

@@ -2,6 +2,7 @@
 
 ghost use Rattle.std.specs.Prelude.{◌≡◌, ◌↔◌, ℕ, ◌<◌, ◌≤◌, List, IsTrue, Some, length, map, take};
 ghost use Rattle.mm_text.specs.declared.statement.Kind.{Kind};
+ghost use Rattle.mm_text.specs.Files.{most_bytes};
 ghost use Rattle.mm_frame.specs.Sentence.{Sentence, IsLabelled, IsAssertion};
 ghost use Rattle.mm_frame.specs.Active.{IsActive};
 ghost use Rattle.mm_frame.specs.Form.{HasItsLabel};
@@ -173,7 +174,7 @@ pub(crate) fn label_hypotheses<'b>(tables: &'b Tables, id: LabelId) -> &'b [Hypo
         → HaveTypings (statements_of tables.now) result.now }
     ensures few { (place : ℕ) (s : Sentence)
         → IsNumbered (statements_of tables.now) id.0 place s → IsAssertion s.kind
-        → length result.now < 1073741824 }
+        → length result.now < most_bytes }
     ensures patterns { (place : ℕ) (s : Sentence)
         → IsNumbered (statements_of tables.now) id.0 place s → IsAssertion s.kind → HavePatterns
         (statements_of tables.now) (variables_of result.now) tables.now.pieces.items result.now }

@@ -4,6 +4,7 @@ ghost use Rattle.std.specs.Prelude.{◌≡◌, ◌+◌, ◌<◌, ◌≤◌, ◌�
 ghost use Rattle.std.specs.Prelude.{vec_len, vec_capacity, Contains, Some, None, [], ◌∷◌, ◌++◌};
 ghost use Rattle.std.specs.Prelude.{IfOk, OnErr, OnOk, ℕ, suc};
 ghost use Rattle.mm_text.specs.Statement.{plain_statement, HasForm, bytes_in};
+ghost use Rattle.mm_text.specs.Files.{most_bytes};
 ghost use Rattle.mm_frame.specs.declared.tables.SymbolInfo.{SymbolInfo};
 ghost use Rattle.mm_frame.specs.declared.answer.Taken.TheVariants.{Declared};
 ghost use Rattle.mm_frame.specs.Sentence.{sentence_in};
@@ -122,7 +123,7 @@ impl<'a> Tables<'a> {
         requires formed { HasForm (plain_statement statement.now) }
         requires kind { IsDeclaration statement.now.kind }
         requires counted { bytes ≡ bytes_in (plain_statement statement.now) }
-        requires room { self.old.bytes + bytes ≤ 1073741824 }
+        requires room { self.old.bytes + bytes ≤ most_bytes }
         ensures ok { IfOk result (λ taken.
             (taken ≡ Declared) × Grows self.old self.new (sentence_in statement.now) bytes) }
         ensures err { OnErr result (IsSame self.old self.new) }

@@ -2,6 +2,7 @@
 
 ghost use Rattle.std.specs.Prelude.{◌≡◌, ◌+◌, ◌<◌, ◌≤◌, ◌++◌, None, IfOk, OnErr, OnOk, length, map};
 ghost use Rattle.mm_text.specs.declared.statement.Kind.TheVariants.{Distinct};
+ghost use Rattle.mm_text.specs.Files.{most_bytes};
 ghost use Rattle.mm_frame.specs.Sentence.{Sentence};
 ghost use Rattle.mm_frame.specs.Rules.{IsMeant};
 ghost use Rattle.mm_frame.specs.Numbers.{AreNumbers};
@@ -67,7 +68,7 @@ impl<'a> Tables<'a> {
     // Takes a `$d` in, by the numbers of its members.
     pub(crate) fn separate_all(&mut self, numbers: &[Sym], bytes: u64) -> Result<Taken, AllocError>
         requires tables { AreTables self.old }
-        requires room { self.old.bytes + bytes ≤ 1073741824 }
+        requires room { self.old.bytes + bytes ≤ most_bytes }
         requires enough { 1 + length numbers.now ≤ bytes }
         ensures ok { IfOk result (λ taken. (taken ≡ Declared) × ((s : Sentence)
             → s.kind ≡ Distinct → s.label ≡ None

@@ -3,6 +3,7 @@
 ghost use Rattle.std.specs.Prelude.{◌≡◌, ◌+◌, ◌<◌, ◌≤◌, [], ◌∷◌, ◌++◌, Some, IfOk, OnErr};
 ghost use Rattle.std.specs.Prelude.{length, map, set, slice_get, vec_len, vec_capacity};
 ghost use Rattle.mm_text.specs.declared.statement.Kind.TheVariants.{Floating, Essential};
+ghost use Rattle.mm_text.specs.Files.{most_bytes};
 ghost use Rattle.mm_frame.specs.declared.tables.SymbolInfo.{SymbolInfo};
 ghost use Rattle.mm_frame.specs.Sentence.{Sentence, IsAssertion};
 ghost use Rattle.mm_frame.specs.Rules.{IsMeant};
@@ -66,7 +67,7 @@ impl<'a> Tables<'a> {
         requires room { HaveNameRoom self.old (length numbers.now) }
         requires scopes { CanTake kind self.old.scopes }
         requires labels { length self.old.labels.names + 1 < 4294967296 }
-        requires few { self.old.bytes + bytes ≤ 1073741824 }
+        requires few { self.old.bytes + bytes ≤ most_bytes }
         ensures id { result.0 ≡ length self.old.labels.names }
         ensures named { Named self.old self.new kind label.now numbers.now frame result bytes }
     {
@@ -102,7 +103,7 @@ impl<'a> Tables<'a> {
         bytes: u64,
     ) -> Result<Taken, AllocError>
         requires tables { AreTables self.old }
-        requires room { self.old.bytes + bytes ≤ 1073741824 }
+        requires room { self.old.bytes + bytes ≤ most_bytes }
         requires enough { 1 + length numbers.now ≤ bytes }
         ensures ok { IfOk result (λ taken. TakenAs (statements_of self.old) Floating taken
             × ((s : Sentence) → s.kind ≡ Floating → s.label ≡ Some label.now
@@ -128,7 +129,7 @@ impl<'a> Tables<'a> {
         bytes: u64,
     ) -> Result<Taken, AllocError>
         requires tables { AreTables self.old }
-        requires room { self.old.bytes + bytes ≤ 1073741824 }
+        requires room { self.old.bytes + bytes ≤ most_bytes }
         requires enough { 1 + length numbers.now ≤ bytes }
         ensures ok { IfOk result (λ taken. TakenAs (statements_of self.old) Essential taken
             × ((s : Sentence) → s.kind ≡ Essential → s.label ≡ Some label.now
@@ -157,7 +158,7 @@ impl<'a> Tables<'a> {
         requires meant { (s : Sentence) × (s.kind ≡ kind)
             × AreNumbers (statements_of self.old) (map (λ n. n.0) numbers.now) s.symbols
             × IsMeant (statements_of self.old) s }
-        requires room { self.old.bytes + bytes ≤ 1073741824 }
+        requires room { self.old.bytes + bytes ≤ most_bytes }
         requires enough { 1 + length numbers.now ≤ bytes }
         ensures ok { IfOk result (λ taken. TakenAs (statements_of self.old) kind taken
             × ((s : Sentence) → s.kind ≡ kind → s.label ≡ Some label.now

@@ -6,6 +6,7 @@ ghost use Rattle.std.specs.Prelude.{slice_get, None, Some, IsTrue, IfOk, OnErr, 
 ghost use Rattle.std.specs.Prelude.{vec_len, vec_capacity};
 ghost use Rattle.mm_text.specs.declared.statement.Kind.TheVariants.{Opening, Closing};
 ghost use Rattle.mm_text.specs.Statement.{plain_statement, HasForm, bytes_in};
+ghost use Rattle.mm_text.specs.Files.{most_bytes};
 ghost use Rattle.mm_frame.specs.Sentence.{Sentence, sentence_in, IsHypothesis, IsAssertion, IsUse};
 ghost use Rattle.mm_frame.specs.Numbers.{AreNumbers};
 ghost use Rattle.mm_frame.specs.Active.{IsActive, open_marks, close_marks};
@@ -52,7 +53,7 @@ impl<'a> Tables<'a> {
         requires scopes { CanTake kind self.old.scopes }
         requires symbols { length self.old.flat.items < 4294967296 }
         requires log { vec_len self.old.log < vec_capacity self.old.log }
-        requires few { self.old.bytes + bytes ≤ 1073741824 }
+        requires few { self.old.bytes + bytes ≤ most_bytes }
         ensures { Entered self.old self.new kind label start bytes }
     {
         let symbols = Part {
@@ -74,7 +75,7 @@ impl<'a> Tables<'a> {
     // Takes a `${` in.
     fn open(&mut self, bytes: u64) -> Result<Taken, AllocError>
         requires tables { AreTables self.old }
-        requires room { self.old.bytes + bytes ≤ 1073741824 }
+        requires room { self.old.bytes + bytes ≤ most_bytes }
         requires some { 1 ≤ bytes }
         ensures ok { IfOk result (λ taken. (taken ≡ Opened) × ((s : Sentence)
             → s.kind ≡ Opening → s.label ≡ None → s.symbols ≡ []
@@ -93,7 +94,7 @@ impl<'a> Tables<'a> {
         requires tables { AreTables self.old }
         requires closes { close_marks (statements_of self.old)
             < open_marks (statements_of self.old) }
-        requires room { self.old.bytes + bytes ≤ 1073741824 }
+        requires room { self.old.bytes + bytes ≤ most_bytes }
         requires some { 1 ≤ bytes }
         ensures ok { IfOk result (λ taken. (taken ≡ Closed) × ((s : Sentence)
             → s.kind ≡ Closing → s.label ≡ None → s.symbols ≡ []
@@ -122,7 +123,7 @@ impl<'a> Tables<'a> {
         requires meant { (s : Sentence) × (s.kind ≡ kind)
             × AreNumbers (statements_of self.old) (map (λ n. n.0) numbers.now) s.symbols
             × IsMeant (statements_of self.old) s }
-        requires room { self.old.bytes + bytes ≤ 1073741824 }
+        requires room { self.old.bytes + bytes ≤ most_bytes }
         requires enough { 1 + length numbers.now ≤ bytes }
         ensures ok { IfOk result (λ taken. TakenAs (statements_of self.old) kind taken
             × ((s : Sentence) → s.kind ≡ kind → s.label ≡ Some label.now
@@ -153,7 +154,7 @@ impl<'a> Tables<'a> {
         requires meant { IsMeant (statements_of self.old) (sentence_in statement.now) }
         requires formed { HasForm (plain_statement statement.now) }
         requires counted { bytes ≡ bytes_in (plain_statement statement.now) }
-        requires room { self.old.bytes + bytes ≤ 1073741824 }
+        requires room { self.old.bytes + bytes ≤ most_bytes }
         ensures ok { IfOk result (λ taken. Grows self.old self.new (sentence_in statement.now) bytes
             × TakenAs (statements_of self.old) statement.now.kind taken) }
         ensures err { OnErr result (IsSame self.old self.new) }
@@ -181,7 +182,7 @@ impl<'a> Tables<'a> {
         requires closes { statement.now.kind ≡ Closing
             → close_marks (statements_of self.old) < open_marks (statements_of self.old) }
         requires counted { bytes ≡ bytes_in (plain_statement statement.now) }
-        requires room { self.old.bytes + bytes ≤ 1073741824 }
+        requires room { self.old.bytes + bytes ≤ most_bytes }
         ensures ok { IfOk result (λ taken. Grows self.old self.new (sentence_in statement.now) bytes
             × TakenAs (statements_of self.old) statement.now.kind taken) }
         ensures err { OnErr result (IsSame self.old self.new) }

@@ -3,6 +3,7 @@
 use Rattle.std.specs.Prelude.{◌≡◌, ℕ, ◌+◌, ◌<◌, ◌≤◌, List, [], length, map, take, slice_get}
 use Rattle.std.specs.Prelude.{slice_range, Option, Some, None, Contains, unwrap_or, ◌⊎◌}
 use Rattle.mm_text.specs.declared.statement.Kind.TheVariants.{Variables, Essential, Distinct}
+use Rattle.mm_text.specs.Files.{most_bytes}
 use Rattle.mm_frame.specs.declared.distinct.DistinctPair.{DistinctPair}
 use Rattle.mm_frame.specs.declared.hypothesis.Hypothesis.{Hypothesis}
 use Rattle.mm_frame.specs.declared.number.LabelId.{LabelId}
@@ -183,7 +184,7 @@ pub record AreStated (statements : List Sentence) (symbols : List (List ℕ))
 pub record AreTables (t : Tables) : Type 0 where
   pub sound : IsSound (statements_of t)
   pub counted : length t.log.items + length t.flat.items ≤ t.bytes
-  pub small : t.bytes ≤ 1073741824
+  pub small : t.bytes ≤ most_bytes
   pub infos : AreInfos (statements_of t) t.symbols.names t.infos.items
   pub labels : AreLabelInfos (statements_of t) t.labels.names t.named.items t.log.items
   pub entries : AreEntries t.symbols.names t.labels.names t.flat.items t.log.items
