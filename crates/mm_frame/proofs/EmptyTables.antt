@@ -16,12 +16,23 @@ labels_empty = record { all = refl; informed = refl; each = λ id info there. ab
 entries_empty : AreEntries [] [] [] []
 entries_empty = record { within = λ p e there. absurd (cc); numbered = λ n s there. absurd (cc); named = λ p e id there is. absurd (cc) }
 
-stated_empty : (symbols : List (List ℕ)) → AreStated [] symbols []
-stated_empty symbols = record { only = λ i s there. absurd (cc); each = λ p a b d x y there k. absurd (cc); apart = λ i j o n lt there at e. absurd (cc) }
+stated_empty : (symbols : List (List ℕ)) → AreStated [] symbols (record { pairs = []; wide = [] })
+stated_empty symbols = record {
+  only = λ i s there. absurd (cc);
+  each = λ p a b d x y there k. absurd (cc);
+  apart = λ i j o n lt there at e. absurd (cc);
+  wide = record {
+    each = λ i w there. absurd (cc);
+    older = λ i w there. absurd (cc);
+    passed = λ i k w v there at. absurd (cc);
+  };
+}
 
 -- new lists hold no statements
 pub empty_tables : (t : Tables) → t.symbols.names ≡ [] → t.infos.items ≡ [] → t.labels.names ≡ [] → t.named.items ≡ [] → t.log.items ≡ [] → t.flat.items ≡ []
-    → HaveScopes [] t.scopes → t.essentials.items ≡ [] → t.hypotheses.items ≡ [] → t.distinct.stated ≡ [] → t.bytes ≡ 0 → AreTables t × (database_of t ≡ record { statements = []; bytes = 0 })
+    → HaveScopes [] t.scopes → t.essentials.items ≡ [] → t.hypotheses.items ≡ []
+    → t.distinct.stated ≡ record { pairs = []; wide = [] } → t.bytes ≡ 0 → AreTables t
+    × (database_of t ≡ record { statements = []; bytes = 0 })
 empty_tables t e1 e2 e3 e4 e5 e6 scopes e7 hs e8 e9 =
     let none : statements_of t ≡ [] = rw (e1, e3, e6, e5) sentences_none in
     let i : AreInfos (statements_of t) t.symbols.names t.infos.items = rw (none, e1, e2) infos_none in

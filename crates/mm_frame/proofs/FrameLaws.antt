@@ -1,5 +1,5 @@
 -- Frames stay what they are as statements are added.
-use Rattle.std.proofs.Common.{◌≡◌, ℕ, ◌+◌, ◌<◌, inl, inr, length, take, List, [], ◌∷◌, ◌++◌, map, Contains, Some, sym, ap, ◌∙◌, subst, arith}
+use Rattle.std.proofs.Common.{◌≡◌, ℕ, ◌<◌, inl, inr, length, take, List, [], ◌∷◌, ◌++◌, map, Contains, Some, sym, ap, ◌∙◌, subst, arith}
 use Rattle.std.specs.List.{slice_get, slice_range}
 use Rattle.std.proofs.lemmas.Option.{slice_get_within}
 use Rattle.std.proofs.lemmas.List.{take-append-le}
@@ -10,19 +10,19 @@ use Rattle.mm_frame.specs.declared.piece.Piece.{Piece}
 use Rattle.mm_frame.specs.declared.part.Part.{Part}
 use Rattle.mm_frame.specs.declared.tables.LabelInfo.{LabelInfo}
 use Rattle.mm_frame.specs.Sentence.{Sentence, IsAssertion}
-use Rattle.mm_frame.specs.Active.{IsActive}
 use Rattle.mm_frame.specs.Rules.{AllMeant}
 use Rattle.mm_frame.specs.Frame.{AreMandatory, IsMandatoryPair}
 use Rattle.mm_frame.specs.Numbers.{symbols_of}
 use Rattle.mm_frame.specs.FramePlace.{FramePlace, AreHypotheses, ArePairs}
 use Rattle.mm_frame.specs.Mirror.Layout.{IsPartWithin, IsFrameInfo, AreFrames, AreLabelInfos, AreStated}
-use Rattle.mm_frame.specs.Mirror.Stated.{Stated}
+use Rattle.mm_frame.specs.Mirror.Stated.{AllStated}
 use Rattle.mm_frame.specs.Pieces.{variables_of, AreItsPieces, HavePatterns, HavePlaces}
 use Rattle.mm_text.proofs.Lists.{get_kept, get_pushed, pushed_cases, get_before}
 use Rattle.mm_frame.proofs.Numbered.{symbols_grow, symbols_unique, number_from_declared}
 use Rattle.mm_frame.proofs.Labelled.{labels_grow}
 use Rattle.mm_frame.proofs.Entries.{slice_left, longer}
 use Rattle.mm_frame.proofs.Meant.{meant_at}
+use Rattle.mm_frame.proofs.DistinctAt.{stated_kept}
 use Rattle.mm_frame.proofs.Patterns.{its_pieces_grow, patterns_grow}
 use Rattle.mm_frame.proofs.Needed.{used_declared, some_later}
 
@@ -130,22 +130,22 @@ old_number st e d symbols more place n x meant all all' there kind in_it at =
     let same : k ≡ n = symbols_unique (st ++ e ∷ []) k n x (symbols_grow st (e ∷ []) k x number) (subst (λ names. slice_get names n ≡ Some x) all' at) in
     subst (λ m. slice_get symbols m ≡ Some x) same old
 
-pub stated_other : (st : List Sentence) (e : Sentence) (symbols more : List (List ℕ)) (spans : List Stated) → AllMeant st → symbols ≡ symbols_of st → symbols ++ more ≡ symbols_of (st ++ e ∷ [])
-    → AreStated st symbols spans → ¬ (e.kind ≡ Distinct) → AreStated (st ++ e ∷ []) (symbols ++ more) spans
-stated_other st e symbols more spans meant all all' are other = record {
-  only = λ i span there.
-      let (d, at, kind, lt, x, y, at_x, at_y, in_x, in_y) = are.only i span there in
-      (d, get_kept st (e ∷ []) span.place d at, kind, lt, x, y, get_kept symbols more span.pair.0 x at_x, get_kept symbols more span.pair.1 y at_y, in_x, in_y);
-  each = λ place a b d x y there kind at_a at_b lt in_x in_y. elim (pushed_cases st e place d there) [
-    | inl before ↦
-        let within = slice_get_within st place d before in
-        let (i, span, at, pair, le, active) = are.each place a b d x y before kind (old_number st e d symbols more place a x meant all all' before kind in_x at_a) (old_number st e d symbols more place b y meant all all' before kind in_y at_b) lt in_x in_y in
-        (i, span, at, pair, le, subst (λ ys. IsActive ys span.place) (sym (take-append-le (place + 1) st (e ∷ []) (omega arith))) active)
-    | inr (last, same) ↦ absurd (other (ap (λ (t : Sentence). t.kind) same ∙ kind))
-  ];
-  apart = λ i j older newer lt at_i at_j same.
-      let (less, inactive) = are.apart i j older newer lt at_i at_j same in
-      let stated = are.only j newer at_j in
-      let within = slice_get_within st newer.place stated.0 stated.1 in
-      (less, subst (λ ys. ¬ (IsActive ys older.place)) (sym (take-append-le newer.place st (e ∷ []) (omega arith))) inactive);
-}
+pub stated_other : (st : List Sentence) (e : Sentence) (symbols more : List (List ℕ))
+    (stated : AllStated) → AllMeant st → symbols ≡ symbols_of st
+    → symbols ++ more ≡ symbols_of (st ++ e ∷ [])
+    → AreStated st symbols stated → ¬ (e.kind ≡ Distinct)
+    → AreStated (st ++ e ∷ []) (symbols ++ more) stated
+stated_other st e symbols more stated meant all all' are other =
+    let kept = stated_kept st e symbols more stated
+    (λ d place n x there kind in_it at. old_number st e d symbols more place n x meant all all'
+    there kind in_it at) are in
+    record {
+      only = kept.only;
+      each = λ place a b d x y there kind at_a at_b lt in_x in_y. elim
+          (pushed_cases st e place d there) [
+            | inl before ↦ kept.each place a b d x y before kind at_a at_b lt in_x in_y
+            | inr (last, same) ↦ absurd (other (ap (λ (t : Sentence). t.kind) same ∙ kind))
+          ];
+      apart = kept.apart;
+      wide = kept.wide;
+    }

@@ -25,6 +25,7 @@ pub mod Infos
 pub mod Labels
 pub mod FrameLaws
 pub mod FrameOf
+pub mod WideDistinct
 pub mod DistinctAt
 pub mod Order
 pub mod Repeats
@@ -53,4 +54,5 @@ pub mod OpenPlaces
 pub mod Separated
 pub mod Written
 pub mod NamedTables
+pub mod WideAdded
 pub mod SeparatedTables

@@ -1,5 +1,5 @@
 -- The variables that `$f` type, and their distinct pairs, by numbers.
-use Rattle.std.proofs.Common.{◌≡◌, ◌≢◌, ◌↔◌, ℕ, ◌<◌, ◌≤◌, inl, inr, length, take, List, [], ◌∷◌, map, Some, None, refl, sym, ap, subst, arith}
+use Rattle.std.proofs.Common.{◌≡◌, ◌≢◌, ◌↔◌, ℕ, ◌<◌, ◌≤◌, ◌⊎◌, inl, inr, length, take, List, [], ◌∷◌, map, Some, None, refl, sym, ap, subst, arith}
 use Rattle.std.specs.List.{slice_get}
 use Rattle.mm_text.specs.Statement.{FitsCount}
 use Rattle.mm_text.specs.declared.statement.Kind.TheVariants.{Floating}
@@ -10,11 +10,13 @@ use Rattle.mm_frame.specs.Numbers.{symbols_of, AreNumbers, IsNumberOf}
 use Rattle.std.specs.Prelude.{if◌then◌else◌, nat_lt}
 use Rattle.std.proofs.lemmas.Bool.{cases_order, lt-ltb, le-ltb}
 use Rattle.mm_frame.specs.declared.tables.Entry.{Entry}
-use Rattle.mm_frame.specs.Active.{IsActive}
 use Rattle.mm_frame.specs.Frame.{IsDistinct}
-use Rattle.mm_frame.specs.Mirror.Stated.{Stated, IsLatestStated}
+use Rattle.mm_frame.specs.Mirror.Stated.{AllStated, HasSpan}
+use Rattle.mm_frame.specs.Mirror.Wide.{IsHeld}
+use Rattle.mm_frame.specs.declared.wide.WideDistinct.{WideDistinct}
 use Rattle.mm_frame.proofs.Those.{distinct_other}
-use Rattle.mm_frame.proofs.DistinctAt.{latest_distinct, unstated_distinct}
+use Rattle.mm_frame.proofs.DistinctAt.{distinct_stated, span_distinct}
+use Rattle.mm_frame.proofs.WideDistinct.{held_distinct}
 use Rattle.mm_frame.specs.Mirror.Layout.{sentences_by, sentence_by, AreStated}
 use Rattle.mm_frame.proofs.Entries.{sentence_at, entry_at}
 
@@ -67,32 +69,52 @@ ordered_above a b le = ap (λ t. if t then (a, b) else (b, a)) (le-ltb a b le)
 names_number : (st : List Sentence) (names : List (List ℕ)) (x : List ℕ) (n : ℕ) → names ≡ symbols_of st → IsNumberOf st x n → slice_get names n ≡ Some x
 names_number st names x n all at = subst (λ ys. slice_get ys n ≡ Some x) (sym all) at
 
-latest_below : (st : List Sentence) (names : List (List ℕ)) (spans : List Stated) (a b q place : ℕ) (x y : List ℕ) → names ≡ symbols_of st → AreStated st names spans → IsNumberOf st x a → IsNumberOf st y b → a < b → q ≤ length st
-    → IsLatestStated spans (a, b) q (Some place) → (place < q) × (IsActive (take q st) place ↔ IsDistinct (take q st) x y)
-latest_below st names spans a b q place x y all are at_a at_b lt le (i, span, there, pair, is, before, last) =
-    let distinct = latest_distinct st names spans a b q i x y span all are (names_number st names x a all at_a) (names_number st names y b all at_b) lt le there pair (let h = before in let e = is in omega arith) last in
-    (before, subst (λ p. IsActive (take q st) p ↔ IsDistinct (take q st) x y) is distinct)
+stated_below : (st : List Sentence) (names : List (List ℕ)) (stated : AllStated) (a b q : ℕ)
+    (x y : List ℕ) → names ≡ symbols_of st → AreStated st names stated → IsNumberOf st x a
+    → IsNumberOf st y b → a < b
+    → (HasSpan st stated.pairs (a, b) q ⊎ IsHeld st stated.wide q a b) ↔ IsDistinct (take q st) x y
+stated_below st names stated a b q x y all are at_a at_b lt =
+    let here_a = names_number st names x a all at_a in
+    let here_b = names_number st names y b all at_b in (
+      (λ either. elim either [
+        | inl has ↦ span_distinct st names stated a b q x y all are here_a here_b lt has
+        | inr held ↦ held_distinct st names stated.wide a b q x y all are.wide here_a here_b
+            (λ same. omega arith) held
+      ]),
+      (λ distinct. distinct_stated st names stated a b q x y are here_a here_b lt distinct),
+    )
 
-pub latest_tells : (st : List Sentence) (names : List (List ℕ)) (spans : List Stated) (a b q place : ℕ) (x y : List ℕ) → names ≡ symbols_of st → AreStated st names spans → IsNumberOf st x a → IsNumberOf st y b → a ≢ b → q ≤ length st
-    → IsLatestStated spans (ordered a b) q (Some place) → (place < q) × (IsActive (take q st) place ↔ IsDistinct (take q st) x y)
-latest_tells st names spans a b q place x y all are at_a at_b apart le latest = elim (cases_order a b) [
+held_other : (st : List Sentence) (wide : List WideDistinct) (q a b : ℕ) → IsHeld st wide q a b
+    → IsHeld st wide q b a
+held_other st wide q a b (i, w, there, (before, in_a, in_b, active)) =
+    (i, w, there, (before, in_b, in_a, active))
+
+-- two numbers' symbols are a distinct pair where an active `$d` states their pair, or one of many
+-- variables holds them
+pub stated_tells : (st : List Sentence) (names : List (List ℕ)) (stated : AllStated) (a b q : ℕ)
+    (x y : List ℕ) → names ≡ symbols_of st → AreStated st names stated → IsNumberOf st x a
+    → IsNumberOf st y b → a ≢ b
+    → (HasSpan st stated.pairs (ordered a b) q ⊎ IsHeld st stated.wide q a b)
+    ↔ IsDistinct (take q st) x y
+stated_tells st names stated a b q x y all are at_a at_b apart = elim (cases_order a b) [
   | inl same ↦ absurd (apart same)
-  | inr (inl lt) ↦ latest_below st names spans a b q place x y all are at_a at_b lt le (subst (λ p. IsLatestStated spans p q (Some place)) (ordered_below a b lt) latest)
+  | inr (inl lt) ↦ subst (λ p. (HasSpan st stated.pairs p q ⊎ IsHeld st stated.wide q a b)
+      ↔ IsDistinct (take q st) x y) (sym (ordered_below a b lt))
+      (stated_below st names stated a b q x y all are at_a at_b lt)
   | inr (inr gt) ↦
-      let (before, tell) = latest_below st names spans b a q place y x all are at_b at_a gt le (subst (λ p. IsLatestStated spans p q (Some place)) (ordered_above a b (omega arith)) latest) in
-      (before, ((λ active. distinct_other (take q st) y x (tell.0 active)), (λ distinct. tell.1 (distinct_other (take q st) x y distinct))))
+      let tell = stated_below st names stated b a q y x all are at_b at_a gt in
+      let is = ordered_above a b (omega arith) in (
+        (λ either. distinct_other (take q st) y x (tell.0 (elim either [
+          | inl has ↦ inl (subst (λ p. HasSpan st stated.pairs p q) is has)
+          | inr held ↦ inr (held_other st stated.wide q a b held)
+        ]))),
+        (λ distinct. elim (tell.1 (distinct_other (take q st) x y distinct)) [
+          | inl has ↦ inl (subst (λ p. HasSpan st stated.pairs p q) (sym is) has)
+          | inr held ↦ inr (held_other st stated.wide q b a held)
+        ]),
+      )
 ]
 
 -- a symbol isn't distinct from itself
 pub same_tells : (st : List Sentence) (q a b : ℕ) (x y : List ℕ) → IsNumberOf st x a → IsNumberOf st y b → a ≡ b → ¬ (IsDistinct (take q st) x y)
 same_tells st q a b x y at_a at_b same distinct = distinct.0 (let at = subst (λ n. slice_get (symbols_of st) n ≡ Some x) same at_a in cc)
-
-pub none_tells : (st : List Sentence) (names : List (List ℕ)) (spans : List Stated) (a b q : ℕ) (x y : List ℕ) → names ≡ symbols_of st → AreStated st names spans → IsNumberOf st x a → IsNumberOf st y b
-    → IsLatestStated spans (ordered a b) q None → ¬ (IsDistinct (take q st) x y)
-none_tells st names spans a b q x y all are at_a at_b none distinct = elim (cases_order a b) [
-  | inl same ↦ same_tells st q a b x y at_a at_b same distinct
-  | inr (inl lt) ↦
-      unstated_distinct st names spans a b q x y are (names_number st names x a all at_a) (names_number st names y b all at_b) lt (subst (λ p. IsLatestStated spans p q None) (ordered_below a b lt) none) distinct
-  | inr (inr gt) ↦
-      unstated_distinct st names spans b a q y x are (names_number st names y b all at_b) (names_number st names x a all at_a) gt (subst (λ p. IsLatestStated spans p q None) (ordered_above a b (omega arith)) none) (distinct_other (take q st) x y distinct)
-]

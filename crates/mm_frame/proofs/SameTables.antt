@@ -1,5 +1,5 @@
 -- Lists that stay the same hold the same statements.
-use Rattle.std.proofs.Common.{◌≡◌, refl, Result, Ok, Err}
+use Rattle.std.proofs.Common.{◌≡◌, ◌∙◌, refl, Result, Ok, Err}
 use Rattle.std.specs.Result.{OnErr}
 use Rattle.mm_frame.specs.declared.tables.Tables.{Tables}
 use Rattle.mm_frame.specs.Mirror.ScopesOf.{HaveScopes}
@@ -7,6 +7,7 @@ use Rattle.mm_frame.specs.Form.{IsSound}
 use Rattle.mm_frame.specs.FramePlace.{HaveTypings}
 use Rattle.mm_frame.specs.Mirror.Layout.{AreTables, AreInfos, AreLabelInfos, AreEntries, AreEssentials, AreFrames, AreStated, statements_of}
 use Rattle.mm_frame.specs.Mirror.Grows.{SameLists, IsSame}
+use Rattle.mm_frame.specs.Mirror.Stated.{PairTable}
 
 pub same_tables : (t u : Tables) → AreTables t → SameLists t u → IsSame t u
 same_tables t u a s =
@@ -36,6 +37,25 @@ same_tables t u a s =
       };
       same = rw (st, s.bytes) refl;
     }
+
+-- the same lists, where what is stated was touched and is the same still
+pub same_but : (t u : Tables) (d : PairTable) → SameLists t u → d.stated ≡ u.distinct.stated
+    → SameLists t (record u { distinct = d })
+same_but t u d same stated = record {
+  symbols = same.symbols;
+  infos = same.infos;
+  labels = same.labels;
+  named = same.named;
+  log = same.log;
+  flat = same.flat;
+  scopes = same.scopes;
+  essentials = same.essentials;
+  hypotheses = same.hypotheses;
+  pairs = same.pairs;
+  pieces = same.pieces;
+  stated = stated ∙ same.stated;
+  bytes = same.bytes;
+}
 
 -- what holds either way
 pub on_err : {T E P : Type 0} (r : Result T E) → P → OnErr r P

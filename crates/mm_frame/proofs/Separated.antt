@@ -154,7 +154,9 @@ member_name names (m ∷ members) (x ∷ symbols) (suc u) a are there =
     let rest : map (slice_get names) (map (λ n. n.0) members) ≡ map Some symbols = cc in
     member_name names members symbols u a rest there
 
-name_member : (names : List (List ℕ)) (members : List Sym) (symbols : List (List ℕ)) (u : ℕ) (x : List ℕ) → map (slice_get names) (map (λ n. n.0) members) ≡ map Some symbols → slice_get symbols u ≡ Some x
+pub name_member : (names : List (List ℕ)) (members : List Sym) (symbols : List (List ℕ)) (u : ℕ)
+    (x : List ℕ) → map (slice_get names) (map (λ n. n.0) members) ≡ map Some symbols
+    → slice_get symbols u ≡ Some x
     → (a : Sym) × (slice_get members u ≡ Some a) × (slice_get names a.0 ≡ Some x)
 name_member names members [] u x are there = absurd (cc)
 name_member names [] (y ∷ symbols) u x are there = absurd (cc)

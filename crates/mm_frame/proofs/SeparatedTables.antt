@@ -13,20 +13,24 @@ use Rattle.mm_frame.specs.Form.{IsFormedSentence}
 use Rattle.mm_frame.specs.Numbers.{AreNumbers, declared_by, declared_in}
 use Rattle.mm_frame.specs.Mirror.ScopesOf.{HaveScopes}
 use Rattle.mm_frame.specs.Mirror.Layout.{AreTables, AreInfos, AreLabelInfos, AreEssentials, AreFrames, AreStated, names_by, statements_of}
-use Rattle.mm_frame.specs.Mirror.Grows.{Grows, entry_of}
-use Rattle.mm_frame.specs.Mirror.Separated.{ArePaired, stated_at}
+use Rattle.mm_frame.specs.Mirror.Grows.{Grows, HaveRoom, SameLists, entry_of}
+use Rattle.mm_frame.specs.Mirror.Stated.{PairTable}
+use Rattle.mm_frame.specs.Mirror.Separated.{ArePaired, EntersMembers, stated_at}
 use Rattle.mm_frame.proofs.Labels.{labels_none, essentials_other}
 use Rattle.mm_frame.proofs.Infos.{infos_other}
 use Rattle.mm_frame.proofs.Entries.{length-sentences}
 use Rattle.mm_frame.proofs.FrameLaws.{placed, frames_other}
 use Rattle.mm_frame.proofs.DistinctAt.{stated_push}
+use Rattle.mm_frame.proofs.WideAdded.{stated_wide}
+use Rattle.mm_frame.specs.declared.wide.WideDistinct.{WideDistinct}
+use Rattle.mm_frame.specs.Mirror.Wide.{IsNewWide}
 use Rattle.mm_frame.proofs.Separated.{member_name, new_from_paired}
 use Rattle.mm_frame.proofs.Written.{added_part, names_numbered, same_sentence}
 use Rattle.mm_frame.proofs.Typings.{typings_grow}
 use Rattle.mm_frame.proofs.Assembled.{AreAppended, AreGrown, assembled}
 
--- the lists with a `$d` of these members more, which adds these pairs
-pub record AreSeparated (t v : Tables) (members : List Sym) (added : List (ℕ × ℕ)) (size : ℕ) : Type 0 where
+-- the lists with a `$d` of these members more
+pub record AreSeparated (t v : Tables) (members : List Sym) (size : ℕ) : Type 0 where
   pub symbols : v.symbols.names ≡ t.symbols.names
   pub infos : v.infos.items ≡ t.infos.items
   pub labels : v.labels.names ≡ t.labels.names
@@ -38,7 +42,6 @@ pub record AreSeparated (t v : Tables) (members : List Sym) (added : List (ℕ �
   pub hypotheses : v.hypotheses.items ≡ t.hypotheses.items
   pub pairs : v.pairs.items ≡ t.pairs.items
   pub pieces : v.pieces.items ≡ t.pieces.items
-  pub stated : v.distinct.stated ≡ t.distinct.stated ++ map (stated_at (length (statements_of t))) added
   pub bytes : v.bytes ≡ t.bytes + size
 
 -- what a new `$d` says
@@ -49,9 +52,10 @@ pub record IsNewDistinct (t : Tables) (s : Sentence) (members : List Sym) : Type
   pub meant : IsMeant (statements_of t) s
   pub formed : IsFormedSentence s
 
-appended : (t v : Tables) (s : Sentence) (members : List Sym) (pairs : List (ℕ × ℕ)) (bytes : ℕ) → AreTables t → AreSeparated t v members pairs bytes → IsNewDistinct t s members
+appended : (t v : Tables) (s : Sentence) (members : List Sym) (bytes : ℕ) → AreTables t
+    → AreSeparated t v members bytes → IsNewDistinct t s members
     → AreAppended t v [] [] members (entry_of Distinct None (length t.flat.items) (length (t.flat.items ++ members))) s
-appended t v s members pairs bytes tables are new =
+appended t v s members bytes tables are new =
     let names = t.symbols.names in
     let whole : names ++ [] ≡ names = append-nil names in
     let numbers : map (slice_get names) (map (λ n. n.0) members) ≡ map Some s.symbols =
@@ -74,9 +78,10 @@ appended t v s members pairs bytes tables are new =
       label = λ id is. absurd (cc);
     }
 
-grown : (t v : Tables) (s : Sentence) (members : List Sym) (pairs : List (ℕ × ℕ)) (bytes : ℕ) → AreTables t → AreSeparated t v members pairs bytes → IsNewDistinct t s members
-    → ArePaired (statements_of t) members (length members) 0 pairs → AreGrown t v s
-grown t v s members pairs bytes tables are new paired =
+grown : (t v : Tables) (s : Sentence) (members : List Sym) (bytes : ℕ) → AreTables t
+    → AreSeparated t v members bytes → IsNewDistinct t s members
+    → AreStated (statements_of t ++ s ∷ []) t.symbols.names v.distinct.stated → AreGrown t v s
+grown t v s members bytes tables are new added =
     let st = statements_of t in
     let size : length t.log.items ≡ length st = sym (length-sentences t.symbols.names t.labels.names t.flat.items t.log.items) in
     let declares : declared_by s ≡ [] = ap (λ k. declared_in k s.symbols) new.kind in
@@ -92,13 +97,81 @@ grown t v s members pairs bytes tables are new paired =
     let distinct : v.pairs.items ≡ t.pairs.items ++ [] = are.pairs ∙ sym (append-nil t.pairs.items) in
     let pieces : v.pieces.items ≡ t.pieces.items ++ [] = are.pieces ∙ sym (append-nil t.pieces.items) in
     let frames : AreFrames (st ++ s ∷ []) v.hypotheses.items v.pairs.items v.pieces.items v.named.items = rw (hypotheses, distinct, pieces, are.named) others in
-    let stated : AreStated (st ++ s ∷ []) v.symbols.names v.distinct.stated = rw (are.symbols, are.stated)
-    (stated_push st s t.symbols.names t.distinct.stated (map (stated_at (length st)) pairs) tables.infos.all tables.stated new.kind
-    (new_from_paired st s t.symbols.names members pairs tables.infos.all new.kind new.meant new.numbered paired)) in
+    let stated : AreStated (st ++ s ∷ []) v.symbols.names v.distinct.stated = rw are.symbols added
+    in
     record { infos = infos; labels = labels; scopes = are.scopes s new.kind; essentials = essentials; frames = frames; typed = rw are.hypotheses (typings_grow st (s ∷ []) t.hypotheses.items tables.typed); stated = stated }
 
 -- The lists hold the `$d`.
-pub separated : (t v : Tables) (s : Sentence) (members : List Sym) (pairs : List (ℕ × ℕ)) (bytes : ℕ) → AreTables t → t.bytes + bytes ≤ most_bytes → 1 + length members ≤ bytes → AreSeparated t v members pairs bytes
-    → ArePaired (statements_of t) members (length members) 0 pairs → IsNewDistinct t s members → Grows t v s bytes
-separated t v s members pairs bytes tables room enough are paired new =
-    assembled t v s _ [] [] members bytes tables new.meant new.formed (appended t v s members pairs bytes tables are new) (grown t v s members pairs bytes tables are new paired) are.bytes (omega arith) room
+pub separated : (t v : Tables) (s : Sentence) (members : List Sym) (bytes : ℕ) → AreTables t
+    → t.bytes + bytes ≤ most_bytes → 1 + length members ≤ bytes → AreSeparated t v members bytes
+    → AreStated (statements_of t ++ s ∷ []) t.symbols.names v.distinct.stated
+    → IsNewDistinct t s members → Grows t v s bytes
+separated t v s members bytes tables room enough are stated new =
+    assembled t v s _ [] [] members bytes tables new.meant new.formed
+    (appended t v s members bytes tables are new)
+    (grown t v s members bytes tables are new stated) are.bytes (omega arith) room
+
+-- there is room whatever is stated
+pub has_room : (u : Tables) (d : PairTable) (n : ℕ) → HaveRoom u n
+    → HaveRoom (record u { distinct = d }) n
+has_room u d n room = record {
+  log = room.log;
+  flat = room.flat;
+  essentials = room.essentials;
+  named = room.named;
+  labels = room.labels;
+  scopes = room.scopes;
+  few = room.few;
+}
+
+-- the lists once room is made, something is stated and the members are written
+pub separated_after : (t u v : Tables) (d : PairTable) (members : List Sym) (bytes : ℕ)
+    → AreTables t → SameLists t u → EntersMembers (record u { distinct = d }) v members bytes
+    → AreSeparated t v members bytes
+separated_after t u v d members bytes tables same e =
+    let held : HaveScopes (statements_of t) u.scopes = rw
+    (same.scopes.blocks, same.scopes.ends, same.scopes.open_blocks) tables.scopes in
+    record {
+      symbols = e.symbols ∙ same.symbols;
+      infos = e.infos ∙ same.infos;
+      labels = e.labels ∙ same.labels;
+      named = e.named ∙ same.named;
+      log = e.log ∙ ap (λ xs. xs ++ entry_of Distinct None (length u.flat.items)
+          (length (u.flat.items ++ members)) ∷ []) same.log
+          ∙ ap (λ xs. t.log.items ++ entry_of Distinct None (length xs) (length (xs ++ members)) ∷
+          []) same.flat;
+      flat = e.flat ∙ ap (λ xs. xs ++ members) same.flat;
+      scopes = λ s is. e.scopes (statements_of t) s held is;
+      essentials = e.essentials ∙ same.essentials;
+      hypotheses = e.hypotheses ∙ same.hypotheses;
+      pairs = e.pairs ∙ same.pairs;
+      pieces = e.pieces ∙ same.pieces;
+      bytes = e.counted ∙ ap (λ (n : ℕ). n + bytes) same.bytes;
+    }
+
+-- What is stated once the pairs of its members are.
+pub pairs_stated : (t : Tables) (s : Sentence) (members : List Sym) (pairs : List (ℕ × ℕ))
+    → AreTables t → IsNewDistinct t s members
+    → ArePaired (statements_of t) members (length members) 0 pairs
+    → AreStated (statements_of t ++ s ∷ []) t.symbols.names
+    (record {
+      pairs = t.distinct.stated.pairs ++ map (stated_at (length (statements_of t)))
+          pairs;
+      wide = t.distinct.stated.wide;
+    })
+pairs_stated t s members pairs tables new paired =
+    let st = statements_of t in
+    stated_push st s t.symbols.names t.distinct.stated (map (stated_at (length st)) pairs)
+    tables.infos.all tables.stated new.kind
+    (new_from_paired st s t.symbols.names members pairs tables.infos.all new.kind new.meant
+    new.numbered paired)
+
+-- The same where its members are kept.
+pub members_stated : (t : Tables) (s : Sentence) (members : List Sym) (w : WideDistinct)
+    → AreTables t → IsNewDistinct t s members
+    → IsNewWide (statements_of t) t.distinct.stated.wide members w
+    → AreStated (statements_of t ++ s ∷ []) t.symbols.names
+    (record { pairs = t.distinct.stated.pairs; wide = t.distinct.stated.wide ++ w ∷ [] })
+members_stated t s members w tables new wide =
+    stated_wide (statements_of t) s t.symbols.names members t.distinct.stated w tables.infos.all
+    tables.stated new.kind new.numbered wide

@@ -19,3 +19,4 @@ pub mod ShortPieces
 pub mod Sought
 pub mod Stated
 pub mod Told
+pub mod Wide

@@ -5,6 +5,7 @@ mod answer;
 mod book;
 mod broken;
 mod distinct;
+mod distinct_at;
 mod frame;
 mod framing;
 mod guesses;
@@ -32,6 +33,7 @@ mod take_declared;
 mod take_distinct;
 mod take_labelled;
 mod take_statement;
+mod wide;
 
 pub use answer::{Found, RuleFault, Taken};
 pub use book::Book;

@@ -1,7 +1,8 @@
-//! Distinct pairs of variables, by the places of the `$d` that state them.
+//! Distinct pairs of variables, by the places of the `$d` that state them, and the `$d` of many
+//! variables.
 
 ghost use Rattle.std.specs.Prelude.{◌≡◌, ℕ, ◌+◌, ◌<◌, ◌≤◌, [], ◌∷◌, ◌++◌, length, map, slice_get};
-ghost use Rattle.std.specs.Prelude.{if◌then◌else◌, nat_lt, OnOk, Some};
+ghost use Rattle.std.specs.Prelude.{if◌then◌else◌, nat_lt, OnErr, OnOk, Some};
 ghost use Rattle.std.specs.Option.{option_and_then};
 ghost use Rattle.std.specs.Map.{update};
 ghost use Rattle.indexmap.specs.IndexMap.{get, spare};
@@ -9,6 +10,7 @@ ghost use Rattle.mm_frame.specs.Mirror.Stated.{IsLatestStated, IsLastSpan, AreOl
 ghost use Rattle.mm_frame.specs.Mirror.Stated.{near_place, newest_of, is_same_key};
 
 use crate::lists::{at, reserve_numbered};
+use crate::wide::WideDistinct;
 use indexmap::IndexMap;
 use mm_text::Seed;
 use std::alloc::{AllocError, Global};
@@ -25,7 +27,7 @@ pub(crate) struct Span {
     pub(crate) older: Option<u32>,
 }
 
-/// The pairs that were stated, in the order of their `$d`.
+/// The pairs that were stated, in the order of their `$d`, and the `$d` whose pairs are too many.
 #[derive(Drop)]
 pub struct Pairs {
     spans: Vec<Span>,
@@ -35,6 +37,8 @@ pub struct Pairs {
     near: Vec<Option<u32>>,
     /// That of each other pair.
     newest: IndexMap<(u32, u32), u32, Seed>,
+    /// The `$d` of many variables.
+    wide: Vec<WideDistinct>,
 }
 
 /// The pair of two numbers, the lesser one first.
@@ -142,7 +146,7 @@ impl Model for Pairs {
     ghost Value = { PairTable };
 
     ghost view = { λ p. record {
-      stated = map stated_by p.spans.items;
+      stated = record { pairs = map stated_by p.spans.items; wide = p.wide.items };
       room = min (min (vec_capacity p.spans - vec_len p.spans) (spare p.newest))
           (4294967295 - vec_len p.spans);
     } };
@@ -153,12 +157,13 @@ impl Model for Pairs {
 impl Pairs {
     /// No pairs, whose hashes begin from the seed. It takes no memory.
     pub(crate) fn new(alloc: Global, seed: Seed) -> Pairs
-        ensures { result.stated ≡ [] }
+        ensures { result.stated ≡ record { pairs = []; wide = [] } }
     {
         Pairs {
             spans: Vec::new(alloc),
             near: Vec::new(alloc),
             newest: IndexMap::with_hasher(alloc, seed),
+            wide: Vec::new(alloc),
         }
     }
 
@@ -183,7 +188,7 @@ impl Pairs {
 
     /// The place of the latest `$d` before a place that states a pair.
     pub(crate) fn latest(&self, pair: (u32, u32), before: usize) -> Option<usize>
-        ensures { IsLatestStated self.now.stated pair before result }
+        ensures { IsLatestStated self.now.stated.pairs pair before result }
     {
         latest_from(
             &self.spans,
@@ -196,8 +201,10 @@ impl Pairs {
     pub(crate) fn add(&mut self, pair: (u32, u32), place: usize)
         requires room { 0 < self.old.room }
         requires place { place < 4294967296 }
-        ensures stated { self.new.stated
-            ≡ self.old.stated ++ record { pair = pair; place = place } ∷ [] }
+        ensures stated { self.new.stated ≡ record {
+          pairs = self.old.stated.pairs ++ record { pair = pair; place = place } ∷ [];
+          wide = self.old.stated.wide;
+        } }
         ensures room { self.old.room ≤ self.new.room + 1 }
     {
         let number = self.spans.len() as u32;
@@ -208,5 +215,23 @@ impl Pairs {
             older,
         });
         note_newest(&mut self.near, &mut self.newest, pair, number);
+    }
+    /// The `$d` of many variables, in their order.
+    pub(crate) fn wide(&self) -> &[WideDistinct]
+        ensures { result.now ≡ self.now.stated.wide }
+    {
+        &self.wide
+    }
+
+    /// Takes a `$d` of many variables in.
+    pub(crate) fn widen(&mut self, wide: WideDistinct) -> Result<(), AllocError>
+        ensures ok { OnOk result (self.new.stated ≡ record {
+          pairs = self.old.stated.pairs;
+          wide = self.old.stated.wide ++ wide ∷ [];
+        }) }
+        ensures err { OnErr result (self.new.stated ≡ self.old.stated) }
+    {
+        self.wide.push(wide)?;
+        Ok(())
     }
 }

@@ -11,7 +11,7 @@ use crate::hypothesis::Hypothesis;
 use crate::lists::at;
 use crate::name_table::Names;
 use crate::number::{LabelId, Sym};
-use crate::pairs::{Pairs, in_order};
+use crate::pairs::Pairs;
 use crate::part::{Part, part_of};
 use crate::piece::ShortPiece;
 use crate::scopes::Scopes;
@@ -97,7 +97,7 @@ pub struct Tables<'a> {
     pub(crate) pairs: Vec<DistinctPair>,
     /// The patterns of all assertions and of their `$e`, one after the other.
     pub(crate) pieces: Vec<ShortPiece>,
-    /// The pairs that `$d` state.
+    /// What `$d` state.
     pub(crate) distinct: Pairs,
     /// How many bytes the statements' tokens have.
     pub(crate) bytes: u64,
@@ -105,10 +105,9 @@ pub struct Tables<'a> {
 
 impl<'a> Tables<'a> {
     ghost use Rattle.std.specs.Prelude.{◌≡◌, ◌↔◌, ◌<◌, ◌≤◌, ℕ, [], IfOk, IsTrue, List, MatchOption};
-    ghost use Rattle.std.specs.Prelude.{Some, length, map, slice_get, take};
+    ghost use Rattle.std.specs.Prelude.{Some, length, map, slice_get};
     ghost use Rattle.mm_text.specs.declared.statement.Kind.TheVariants.{Floating};
     ghost use Rattle.mm_frame.specs.Sentence.{Sentence, Types, IsHypothesis};
-    ghost use Rattle.mm_frame.specs.Frame.{IsDistinct};
     ghost use Rattle.mm_frame.specs.Numbers.{AreNumbers, IsNumberOf};
     ghost use Rattle.mm_frame.specs.Active.{IsActive};
     ghost use Rattle.mm_frame.specs.FramePlace.{IsTypingOf};
@@ -224,21 +223,5 @@ impl<'a> Tables<'a> {
             → (IsTrue result ↔ IsActive (statements_of self.now) place) }
     {
         self.scopes.is_active(place, self.log.len())
-    }
-
-    /// Whether two symbols are a distinct pair after the statements before a place.
-    pub(crate) fn is_distinct(&self, a: Sym, b: Sym, at: usize) -> bool
-        requires { AreTables self.now }
-        ensures { (x y : List ℕ) → IsNumberOf (statements_of self.now) x a.0
-            → IsNumberOf (statements_of self.now) y b.0 → at ≤ length (statements_of self.now)
-            → (IsTrue result ↔ IsDistinct (take at (statements_of self.now)) x y) }
-    {
-        if a.0 == b.0 {
-            return false;
-        }
-        match self.distinct.latest(in_order(a.0, b.0), at) {
-            Some(place) => self.scopes.is_active(place, at),
-            None => false,
-        }
     }
 }

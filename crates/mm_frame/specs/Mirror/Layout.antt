@@ -23,7 +23,9 @@ use Rattle.mm_frame.specs.Pieces.{variables_of, AreItsPieces, HavePatterns, Have
 use Rattle.mm_frame.specs.Database.{Database}
 use Rattle.mm_frame.specs.Mirror.Latest.{IsLatest}
 use Rattle.mm_frame.specs.Mirror.ScopesOf.{HaveScopes}
-use Rattle.mm_frame.specs.Mirror.Stated.{Stated}
+use Rattle.mm_frame.specs.Mirror.Stated.{Stated, AllStated}
+use Rattle.mm_frame.specs.Mirror.Wide.{AreWide}
+use Rattle.mm_frame.specs.declared.wide.WideDistinct.{WideDistinct}
 
 -- the names of some numbers
 abbrev pub names_by : List (List ℕ) → List Sym → List (List ℕ)
@@ -158,27 +160,42 @@ AreFrames statements hypotheses pairs pieces named =
     → slice_get statements info.place ≡ Some s
     → IsAssertion s.kind → IsFrameInfo statements hypotheses pairs pieces info
 
--- the pairs that were stated: each by an active `$d` at its place, and none while it was active by
--- the one before
+-- the pair is of two symbols of the `$d` at its place
+abbrev pub IsStatedThere : List Sentence → List (List ℕ) → Stated → Type 0
+IsStatedThere statements symbols span =
+    (d : Sentence) × (slice_get statements span.place ≡ Some d) × (d.kind ≡ Distinct)
+    × (span.pair.0 < span.pair.1)
+    × (x : List ℕ) × (y : List ℕ) × (slice_get symbols span.pair.0 ≡ Some x)
+    × (slice_get symbols span.pair.1 ≡ Some y)
+    × Contains d.symbols x × Contains d.symbols y
+
+-- two symbols were stated no later than at a place, as a pair or by a `$d` of many variables that
+-- holds both, by a `$d` that is active after the statement there
+abbrev pub AreCovered : List Sentence → AllStated → ℕ → ℕ → ℕ → Type 0
+AreCovered statements stated place a b =
+    ((i : ℕ) × (span : Stated) × (slice_get stated.pairs i ≡ Some span) × (span.pair ≡ (a, b))
+    × (span.place ≤ place)
+    × IsActive (take (place + 1) statements) span.place)
+    ⊎ ((i : ℕ) × (w : WideDistinct) × (slice_get stated.wide i ≡ Some w)
+    × Contains w.members.items a × Contains w.members.items b
+    × (w.place ≤ place)
+    × IsActive (take (place + 1) statements) w.place)
+
+-- what was stated: each pair by a `$d` at its place, and none while it was active by the one before
 pub record AreStated (statements : List Sentence) (symbols : List (List ℕ))
-    (spans : List Stated) : Type 0 where
-  pub only : (i : ℕ) (span : Stated) → slice_get spans i ≡ Some span
-      → (d : Sentence) × (slice_get statements span.place ≡ Some d) × (d.kind ≡ Distinct)
-      × (span.pair.0 < span.pair.1)
-      × (x : List ℕ) × (y : List ℕ) × (slice_get symbols span.pair.0 ≡ Some x)
-      × (slice_get symbols span.pair.1 ≡ Some y)
-      × Contains d.symbols x × Contains d.symbols y
+    (stated : AllStated) : Type 0 where
+  pub only : (i : ℕ) (span : Stated) → slice_get stated.pairs i ≡ Some span
+      → IsStatedThere statements symbols span
   pub each : (place a b : ℕ) (d : Sentence) (x y : List ℕ) → slice_get statements place ≡ Some d
       → d.kind ≡ Distinct
       → slice_get symbols a ≡ Some x → slice_get symbols b ≡ Some y → a < b → Contains d.symbols x
       → Contains d.symbols y
-      → (i : ℕ) × (span : Stated) × (slice_get spans i ≡ Some span) × (span.pair ≡ (a, b))
-      × (span.place ≤ place)
-      × IsActive (take (place + 1) statements) span.place
-  pub apart : (i j : ℕ) (older newer : Stated) → i < j → slice_get spans i ≡ Some older
-      → slice_get spans j ≡ Some newer
+      → AreCovered statements stated place a b
+  pub apart : (i j : ℕ) (older newer : Stated) → i < j → slice_get stated.pairs i ≡ Some older
+      → slice_get stated.pairs j ≡ Some newer
       → older.pair ≡ newer.pair
       → (older.place < newer.place) × ¬ (IsActive (take newer.place statements) older.place)
+  pub wide : AreWide statements symbols stated.wide
 
 -- all lists of a book, as they are between two statements
 pub record AreTables (t : Tables) : Type 0 where

@@ -1,10 +1,13 @@
 -- The pairs that `$d` state, and how they are linked. This file mirrors the code, and is cited by
 -- private contracts alone.
-use Rattle.std.specs.Prelude.{◌≡◌, ◌≢◌, ℕ, ◌+◌, ◌*◌, ◌<◌, ◌≤◌, List, length, slice_get}
+use Rattle.std.specs.Prelude.{◌≡◌, ◌≢◌, ℕ, ◌+◌, ◌*◌, ◌<◌, ◌≤◌, List, length, slice_get, take}
 use Rattle.std.specs.Prelude.{slice_index_or, Option, Some, None, Bool, ◌==◌, ◌&&◌}
 use Rattle.std.specs.Prelude.{if◌then◌else◌, nat_lt}
 use Rattle.indexmap.specs.IndexMap.{IndexMap, get}
 use Rattle.mm_frame.specs.declared.pairs.Span.{Span}
+use Rattle.mm_frame.specs.declared.wide.WideDistinct.{WideDistinct}
+use Rattle.mm_frame.specs.Sentence.{Sentence}
+use Rattle.mm_frame.specs.Active.{IsActive}
 
 -- a `$d` states a pair: the numbers of the two variables, the lesser one first, and the place of
 -- the `$d`
@@ -15,9 +18,14 @@ pub record Stated : Type 0 where
 abbrev pub stated_by : Span → Stated
 stated_by span = record { pair = span.pair; place = span.place }
 
--- what is seen of the pairs: those stated, and for how many more there is room
+-- what `$d` state: pairs, and the `$d` of many variables as they are
+pub record AllStated : Type 0 where
+  pub pairs : List Stated
+  pub wide : List WideDistinct
+
+-- what is seen of the pairs: what is stated, and for how many more pairs there is room
 pub record PairTable : Type 0 where
-  pub stated : List Stated
+  pub stated : AllStated
   pub room : ℕ
 
 -- the place before another that states the pair last, if there is one
@@ -30,6 +38,16 @@ IsLatestStated spans pair before (Some place) =
     × (span.place ≡ place) × (place < before)
     × ((j : ℕ) (other : Stated) → i < j → slice_get spans j ≡ Some other → other.pair ≡ pair
     → before ≤ other.place)
+
+-- a `$d` before a place that is active there states the pair
+pub record HasSpan (statements : List Sentence) (spans : List Stated) (pair : ℕ × ℕ)
+    (before : ℕ) : Type 0 where
+  pub i : ℕ
+  pub span : Stated
+  pub there : slice_get spans i ≡ Some span
+  pub same : span.pair ≡ pair
+  pub early : span.place < before
+  pub active : IsActive (take before statements) span.place
 
 -- the last of the first so many spans that has the pair, if there is one
 abbrev pub IsLastSpan : List Span → ℕ → ℕ × ℕ → Option ℕ → Type 0

@@ -5,5 +5,8 @@ use Rattle.mm_frame.proofs.take_distinct.state.Given as goal
 abbrev pub invariant-loop-pair : goal.invariant-loop-pair
 invariant-loop-pair l = record {
   room : length l.pairs ≤ l.distinct.room + l.pair-index;
-  stated : l.distinct.stated ≡ l.fn.distinct.stated ++ map (stated_at l.place) (take l.pair-index l.pairs);
+  stated : l.distinct.stated ≡ record {
+    pairs = l.fn.distinct.stated.pairs ++ map (stated_at l.place) (take l.pair-index l.pairs);
+    wide = l.fn.distinct.stated.wide;
+  };
 }

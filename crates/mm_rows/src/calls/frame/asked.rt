@@ -1,6 +1,6 @@
 //! What books answer: labels as a book grows, and frames.
 
-use crate::calls::frame::databases::{DEMO, DIST, LIMIT, TWICE};
+use crate::calls::frame::databases::{DEMO, DIST, LIMIT, TWICE, WIDE};
 use crate::calls::frame::questions::{Question, ask};
 use mm_frame::LabelKind;
 use std::test::Fail;
@@ -55,6 +55,22 @@ const PAIRS: [Question; 7] = [
     Question::Distinct(b"fin", b"vx", b"vy", false),
 ];
 
+const WIDE_PAIRS: [Question; 13] = [
+    Question::Frame(b"before", "f0 f69", 0),
+    Question::Distinct(b"before", b"f0", b"f69", false),
+    Question::Frame(b"inside", "f0 f69", 1),
+    Question::Pair(b"inside", b"f0", b"f69"),
+    Question::Distinct(b"inside", b"f69", b"f0", true),
+    Question::Distinct(b"inside", b"f0", b"f0", false),
+    Question::Distinct(b"inside", b"f0", b"fz", false),
+    Question::Frame(b"nested", "f0 fz", 0),
+    Question::Distinct(b"nested", b"f1", b"f69", true),
+    Question::Frame(b"still", "f0 f1", 1),
+    Question::Distinct(b"still", b"f0", b"f69", true),
+    Question::Frame(b"after", "f0 f69", 0),
+    Question::Distinct(b"after", b"f0", b"f1", false),
+];
+
 const VARIABLE_OF_HYPOTHESIS: [Question; 1] = [Question::Frame(b"end", "fx h", 0)];
 
 const TWO_BLOCKS: [Question; 1] = [Question::OneVariable(b"fx", b"fy", b"x")];
@@ -102,6 +118,11 @@ fn active(rt: HostRuntime) -> Result<(), Fail> {
 #[test]
 fn pairs(rt: HostRuntime) -> Result<(), Fail> {
     ask(&rt, rt.alloc(), (&DIST, 13), &PAIRS)
+}
+
+#[test]
+fn wide_pairs(rt: HostRuntime) -> Result<(), Fail> {
+    ask(&rt, rt.alloc(), (&WIDE, 17), &WIDE_PAIRS)
 }
 
 #[test]

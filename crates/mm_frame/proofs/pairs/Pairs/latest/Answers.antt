@@ -5,7 +5,8 @@ use Rattle.mm_frame.proofs.pairs.Pairs.latest.Goals as goal
 pub returns : goal.returns
 returns c =
     let spans = c.self.inside.spans.items in
-    let stated : map stated_by spans ≡ c.args.self.now.stated = ap (λ t. t.stated) c.self.view_is in
+    let stated : map stated_by spans ≡ c.args.self.now.stated.pairs = ap (λ t. t.stated.pairs)
+    c.self.view_is in
     let items = c.deref.ensures.value in
     let newest : c.newest_of.result ≡ newest_of c.self.inside.near.items c.self.inside.newest c.args.pair =
     c.newest_of.ensures ∙ ap (λ near. newest_of near c.self.inside.newest c.args.pair) c.deref-2.ensures.value in

@@ -1,0 +1,29 @@
+use Rattle.std.proofs.Common.{◌≤◌, length, arith}
+use Rattle.mm_frame.specs.declared.scopes.TheConstants.{NEVER}
+use Rattle.mm_frame.specs.Mirror.Layout.{statements_of}
+use Rattle.mm_frame.proofs.Entries.{length-sentences}
+use Rattle.mm_frame.proofs.DistinctAt.{latest_has, none_has}
+use Rattle.mm_frame.proofs.tables.Tables.is_stated.Goals as goal
+
+pub returns-in-Some : goal.returns-in-Some
+returns-in-Some c le =
+    let t = c.args.self.now in
+    let st = statements_of t in
+    let (before, tell) =
+    latest_has st t.symbols.names t.distinct.stated c.args.pair c.args.at c.in-Some.place
+    c.requires.stated le c.in-Some.ensures in
+    let small : length st ≤ NEVER = omega (
+      arith,
+      c.requires.counted,
+      c.requires.small,
+      length-sentences t.symbols.names t.labels.names t.flat.items t.log.items,
+    ) in
+    let active = c.is_active.ensures st c.requires.scopes small before le in
+    ((λ is. tell.0 (active.0 is)), (λ has. active.1 (tell.1 has)))
+
+pub returns-in-None : goal.returns-in-None
+returns-in-None c le =
+    let t = c.args.self.now in
+    let none = none_has (statements_of t) t.distinct.stated.pairs c.args.pair c.args.at
+    c.in-None.ensures in
+    ((λ is. absurd (cc)), (λ has. absurd (none has)))

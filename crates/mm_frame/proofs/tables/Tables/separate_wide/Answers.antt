@@ -1,0 +1,41 @@
+use Rattle.std.proofs.Common.{◌++◌, [], ◌∷◌, ap, sym, ◌∙◌, subst}
+use Rattle.mm_frame.specs.Mirror.Layout.{AreStated, statements_of}
+use Rattle.mm_frame.specs.Mirror.Stated.{AllStated}
+use Rattle.mm_frame.proofs.SameTables.{on_err, same_tables, same_but}
+use Rattle.mm_frame.proofs.SeparatedTables.{IsNewDistinct, has_room, separated, separated_after, members_stated}
+use Rattle.mm_frame.proofs.tables.Tables.separate_wide.Goals as goal
+
+pub returns-in_err-reserve-clause-err : goal.returns-in_err-reserve-clause-err
+returns-in_err-reserve-clause-err c = on_err _
+    (same_tables _ _ c.requires.tables c.reserve.ensures.same)
+
+pub returns-in_err-widen-clause-err : goal.returns-in_err-widen-clause-err
+returns-in_err-widen-clause-err c =
+    on_err _ (same_tables _ _ c.requires.tables
+    (same_but _ _ _ c.reserve.ensures.same c.in_err-widen.ensures.err))
+
+pub enter_members-requires-clause-room : goal.enter_members-requires-clause-room
+enter_members-requires-clause-room c = has_room _ _ _ c.in_ok-reserve.ensures.room
+
+pub returns-clause-ok : goal.returns-clause-ok
+returns-clause-ok c = (
+  c.enter_members.ensures.taken,
+  λ s kind label numbers meant formed.
+      let t = c.args.self.now in
+      let st = statements_of t in
+      let u = c.reserve.new.self in
+      let v = c.enter_members.new.self in
+      let members = c.args.numbers.now in
+      let w = c.in_ok-wide.wide in
+      let e = c.enter_members.ensures.entered in
+      let same = c.reserve.ensures.same in
+      let stated = e.stated ∙ c.in_ok-widen.ensures.ok
+      ∙ ap (λ (x : AllStated). record { pairs = x.pairs; wide = x.wide ++ w ∷ [] }) same.stated in
+      let new : IsNewDistinct t s members =
+      record { kind = kind; label = label; numbered = numbers; meant = meant; formed = formed } in
+      separated t v s members c.args.bytes c.requires.tables c.requires.room c.requires.enough
+      (separated_after t u v _ members c.args.bytes c.requires.tables same e)
+      (subst (AreStated (st ++ s ∷ []) t.symbols.names) (sym stated)
+      (members_stated t s members w c.requires.tables new c.in_ok-wide.ensures))
+      new,
+)
