@@ -62,14 +62,14 @@ no_pair before stack label m P all each b =
 
 -- ---- the first rule, by the rank below which none is broken
 
-below_8 : (Fits : List (List ℕ) → Type 0) (before : List Sentence) (stack : List (List (List ℕ))) (label : List ℕ) (other : ProofRule) → proof_rank other < 8 → ¬ (BreaksStep Fits other before stack label)
-below_8 Fits before stack label P8 less = absurd (omega arith)
-below_8 Fits before stack label P9 less = absurd (omega arith)
-below_8 Fits before stack label P10 less = absurd (omega arith)
-below_8 Fits before stack label P11 less = absurd (omega arith)
-below_8 Fits before stack label P12 less = absurd (omega arith)
-below_8 Fits before stack label L1 less = absurd (omega arith)
-below_8 Fits before stack label rule less = λ b. b
+below_P8 : (Fits : List (List ℕ) → Type 0) (before : List Sentence) (stack : List (List (List ℕ))) (label : List ℕ) (other : ProofRule) → proof_rank other < proof_rank P8 → ¬ (BreaksStep Fits other before stack label)
+below_P8 Fits before stack label P8 less = absurd (omega arith)
+below_P8 Fits before stack label P9 less = absurd (omega arith)
+below_P8 Fits before stack label P10 less = absurd (omega arith)
+below_P8 Fits before stack label P11 less = absurd (omega arith)
+below_P8 Fits before stack label P12 less = absurd (omega arith)
+below_P8 Fits before stack label L1 less = absurd (omega arith)
+below_P8 Fits before stack label rule less = λ b. b
 
 one_more : (Fits : List (List ℕ) → Type 0) (before : List Sentence) (stack : List (List (List ℕ))) (label : List ℕ) (rule : ProofRule) (n : ℕ) → ((other : ProofRule) → proof_rank other ≡ n → other ≡ rule)
     → ¬ (BreaksStep Fits rule before stack label) → ((other : ProofRule) → proof_rank other < n → ¬ (BreaksStep Fits other before stack label))
@@ -82,24 +82,24 @@ one_more Fits before stack label rule n one none below other less b = elim (case
 of_rank : (rule other : ProofRule) → proof_rank other ≡ proof_rank rule → other ≡ rule
 of_rank rule other same = same_Some other rule (sym (at_rank other) ∙ ap (slice_get ranked) same ∙ at_rank rule)
 
-below_9 : (Fits : List (List ℕ) → Type 0) (before : List Sentence) (stack : List (List (List ℕ))) (label : List ℕ) (m : MeetsHypotheses before stack label) → AllMeant before
-    → (other : ProofRule) → proof_rank other < 9 → ¬ (BreaksStep Fits other before stack label)
-below_9 Fits before stack label m all = one_more Fits before stack label P8 8 (of_rank P8) (meets_enough Fits before stack label all m) (below_8 Fits before stack label)
+below_P9 : (Fits : List (List ℕ) → Type 0) (before : List Sentence) (stack : List (List (List ℕ))) (label : List ℕ) (m : MeetsHypotheses before stack label) → AllMeant before
+    → (other : ProofRule) → proof_rank other < proof_rank P9 → ¬ (BreaksStep Fits other before stack label)
+below_P9 Fits before stack label m all = one_more Fits before stack label P8 (proof_rank P8) (of_rank P8) (meets_enough Fits before stack label all m) (below_P8 Fits before stack label)
 
-below_10 : (Fits : List (List ℕ) → Type 0) (before : List Sentence) (stack : List (List (List ℕ))) (label : List ℕ) (m : MeetsHypotheses before stack label) → AllMeant before → HasCodes before stack label m
-    → (other : ProofRule) → proof_rank other < 10 → ¬ (BreaksStep Fits other before stack label)
-below_10 Fits before stack label m all codes =
-    one_more Fits before stack label P9 9 (of_rank P9) (no_P9 Fits before stack label m all codes) (below_9 Fits before stack label m all)
+below_P10 : (Fits : List (List ℕ) → Type 0) (before : List Sentence) (stack : List (List (List ℕ))) (label : List ℕ) (m : MeetsHypotheses before stack label) → AllMeant before → HasCodes before stack label m
+    → (other : ProofRule) → proof_rank other < proof_rank P10 → ¬ (BreaksStep Fits other before stack label)
+below_P10 Fits before stack label m all codes =
+    one_more Fits before stack label P9 (proof_rank P9) (of_rank P9) (no_P9 Fits before stack label m all codes) (below_P9 Fits before stack label m all)
 
-below_11 : (Fits : List (List ℕ) → Type 0) (before : List Sentence) (stack : List (List (List ℕ))) (label : List ℕ) (m : MeetsHypotheses before stack label) → AllMeant before → HasCodes before stack label m
-    → HasEqual before stack label m → (other : ProofRule) → proof_rank other < 11 → ¬ (BreaksStep Fits other before stack label)
-below_11 Fits before stack label m all codes equal =
-    one_more Fits before stack label P10 10 (of_rank P10) (no_P10 Fits before stack label m all equal) (below_10 Fits before stack label m all codes)
+below_P11 : (Fits : List (List ℕ) → Type 0) (before : List Sentence) (stack : List (List (List ℕ))) (label : List ℕ) (m : MeetsHypotheses before stack label) → AllMeant before → HasCodes before stack label m
+    → HasEqual before stack label m → (other : ProofRule) → proof_rank other < proof_rank P11 → ¬ (BreaksStep Fits other before stack label)
+below_P11 Fits before stack label m all codes equal =
+    one_more Fits before stack label P10 (proof_rank P10) (of_rank P10) (no_P10 Fits before stack label m all equal) (below_P10 Fits before stack label m all codes)
 
-below_12 : (Fits : List (List ℕ) → Type 0) (before : List Sentence) (stack : List (List (List ℕ))) (label : List ℕ) (m : MeetsHypotheses before stack label) → AllMeant before → HasCodes before stack label m
-    → HasEqual before stack label m → EachPair before stack label m (ShareNoVariable before) → (other : ProofRule) → proof_rank other < 12 → ¬ (BreaksStep Fits other before stack label)
-below_12 Fits before stack label m all codes equal share =
-    one_more Fits before stack label P11 11 (of_rank P11) (no_pair before stack label m (ShareNoVariable before) all share) (below_11 Fits before stack label m all codes equal)
+below_P12 : (Fits : List (List ℕ) → Type 0) (before : List Sentence) (stack : List (List (List ℕ))) (label : List ℕ) (m : MeetsHypotheses before stack label) → AllMeant before → HasCodes before stack label m
+    → HasEqual before stack label m → EachPair before stack label m (ShareNoVariable before) → (other : ProofRule) → proof_rank other < proof_rank P12 → ¬ (BreaksStep Fits other before stack label)
+below_P12 Fits before stack label m all codes equal share =
+    one_more Fits before stack label P11 (proof_rank P11) (of_rank P11) (no_pair before stack label m (ShareNoVariable before) all share) (below_P11 Fits before stack label m all codes equal)
 
 -- ---- the rules, in their order
 
@@ -107,18 +107,18 @@ below_12 Fits before stack label m all codes equal share =
 pub first_P8 : (Fits : List (List ℕ) → Type 0) (before : List Sentence) (stack kept : List (List (List ℕ))) (label : List ℕ) (place : ℕ) (assertion : Sentence) (hypotheses : List Sentence)
     → Names before label place assertion hypotheses → length stack < length hypotheses → FirstAtMove Fits P8 before stack kept (name label)
 first_P8 Fits before stack kept label place assertion hypotheses names short =
-    record { broken = (place, assertion, hypotheses, names, short); first = below_8 Fits before stack label }
+    record { broken = (place, assertion, hypotheses, names, short); first = below_P8 Fits before stack label }
 
 -- a type code differs
 pub first_P9 : (Fits : List (List ℕ) → Type 0) (before : List Sentence) (stack kept : List (List (List ℕ))) (label : List ℕ) (m : MeetsHypotheses before stack label) → AllMeant before
     → SomePair m.hypotheses m.entries (λ h entry. (h.kind ≡ Floating) × (slice_get entry 0 ≢ slice_get h.symbols 0)) → FirstAtMove Fits P9 before stack kept (name label)
-first_P9 Fits before stack kept label m all pair = record { broken = (m, pair); first = below_9 Fits before stack label m all }
+first_P9 Fits before stack kept label m all pair = record { broken = (m, pair); first = below_P9 Fits before stack label m all }
 
 -- the type codes don't, but a `$e` does
 pub first_P10 : (Fits : List (List ℕ) → Type 0) (before : List Sentence) (stack kept : List (List (List ℕ))) (label : List ℕ) (m : MeetsHypotheses before stack label) → AllMeant before
     → HasCodes before stack label m
     → SomePair m.hypotheses m.entries (λ h entry. (h.kind ≡ Essential) × (entry ≢ instance_of m.σ h.symbols)) → FirstAtMove Fits P10 before stack kept (name label)
-first_P10 Fits before stack kept label m all codes pair = record { broken = (m, pair); first = below_10 Fits before stack label m all codes }
+first_P10 Fits before stack kept label m all codes pair = record { broken = (m, pair); first = below_P10 Fits before stack label m all codes }
 
 -- the hypotheses match, but what replaces a pair shares a variable
 pub first_P11 : (Fits : List (List ℕ) → Type 0) (before : List Sentence) (stack kept : List (List (List ℕ))) (label : List ℕ) (m : MeetsHypotheses before stack label) → AllMeant before
@@ -126,7 +126,7 @@ pub first_P11 : (Fits : List (List ℕ) → Type 0) (before : List Sentence) (st
     → (x y : List ℕ) (e f : List (List ℕ)) → IsMandatoryPair (take m.place before) m.assertion x y → m.σ x ≡ Some e → m.σ y ≡ Some f → ¬ (ShareNoVariable before e f)
     → FirstAtMove Fits P11 before stack kept (name label)
 first_P11 Fits before stack kept label m all codes equal x y e f pair at_x at_y shared =
-    record { broken = (m, x, y, e, f, pair, at_x, at_y, shared); first = below_11 Fits before stack label m all codes equal }
+    record { broken = (m, x, y, e, f, pair, at_x, at_y, shared); first = below_P11 Fits before stack label m all codes equal }
 
 -- it never does, but variables of it are no active pair
 pub first_P12 : (Fits : List (List ℕ) → Type 0) (before : List Sentence) (stack kept : List (List (List ℕ))) (label : List ℕ) (m : MeetsHypotheses before stack label) → AllMeant before
@@ -134,7 +134,7 @@ pub first_P12 : (Fits : List (List ℕ) → Type 0) (before : List Sentence) (st
     → (x y : List ℕ) (e f : List (List ℕ)) → IsMandatoryPair (take m.place before) m.assertion x y → m.σ x ≡ Some e → m.σ y ≡ Some f → ¬ (AreDistinct before e f)
     → FirstAtMove Fits P12 before stack kept (name label)
 first_P12 Fits before stack kept label m all codes equal share x y e f pair at_x at_y near =
-    record { broken = (m, x, y, e, f, pair, at_x, at_y, near); first = below_12 Fits before stack label m all codes equal share }
+    record { broken = (m, x, y, e, f, pair, at_x, at_y, near); first = below_P12 Fits before stack label m all codes equal share }
 
 -- the step by the assertion breaks no rule but the limit
 pub step_of_meets : (before : List Sentence) (stack : List (List (List ℕ))) (label : List ℕ) (m : MeetsHypotheses before stack label) → HasCodes before stack label m → HasEqual before stack label m

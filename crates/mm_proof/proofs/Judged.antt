@@ -11,7 +11,7 @@ use Rattle.mm_frame.specs.Active.{IsActive}
 use Rattle.mm_frame.specs.Frame.{IsMandatoryAt, AreMandatory, IsMandatoryPair}
 use Rattle.mm_frame.specs.Rules.{AllMeant}
 use Rattle.mm_proof.specs.declared.fault.ProofRule.{ProofRule}
-use Rattle.mm_proof.specs.declared.fault.ProofRule.TheVariants.{P1, P2, P3, P4, P5, P6, P7, P8, P9, P10, P11, P12, P13, P14, L1}
+use Rattle.mm_proof.specs.declared.fault.ProofRule.TheVariants.{P1, P2, P3, P4, P5, P6, P7, P8, P9, P10, P11, P12, P13, P14, P15, L1}
 use Rattle.mm_proof.specs.Substitution.{instance_of}
 use Rattle.mm_proof.specs.Tree.{Names, ShareNoVariable, AreDistinct}
 use Rattle.mm_proof.specs.Moves.{Move, name, again, mark, steps_in}
@@ -28,12 +28,13 @@ use Rattle.mm_proof.proofs.Verdicts.{ranked, at_rank}
 
 -- ---- the first of the rules that are broken
 
-rank_below : (rule : ProofRule) → proof_rank rule < 16
+rank_below : (rule : ProofRule) → proof_rank rule < 17
 rank_below P1 = omega arith
 rank_below P2 = omega arith
 rank_below P3 = omega arith
 rank_below P4 = omega arith
 rank_below P5 = omega arith
+rank_below P15 = omega arith
 rank_below P6 = omega arith
 rank_below P7 = omega arith
 rank_below P8 = omega arith
@@ -45,10 +46,10 @@ rank_below P13 = omega arith
 rank_below P14 = omega arith
 rank_below L1 = omega arith
 
-record First (Broken : ProofRule → Type 0) : Type 0 where
-  rule : ProofRule
-  broken : Broken rule
-  first : (other : ProofRule) → proof_rank other < proof_rank rule → ¬ (Broken other)
+pub record First (Broken : ProofRule → Type 0) : Type 0 where
+  pub rule : ProofRule
+  pub broken : Broken rule
+  pub first : (other : ProofRule) → proof_rank other < proof_rank rule → ¬ (Broken other)
 
 first_below : (Broken : ProofRule → Type 0) → ((rule : ProofRule) → Dec (Broken rule)) → (n : ℕ) → First Broken ⊎ ((rule : ProofRule) → proof_rank rule < n → ¬ (Broken rule))
 first_below Broken each zero = inr (λ rule h. absurd (omega arith))
@@ -73,8 +74,8 @@ first_below Broken each (suc n) = go (first_below Broken each n) (slice_get rank
     go (inr below) None e = inr (here below (λ rule r. absurd (none-some rule (sym e ∙ ap (slice_get ranked) (sym r) ∙ at_rank rule))))
     go (inr below) (Some q) e = at_q below q e (ℕ_discrete (proof_rank q) n) (each q)
 
-first_or_none : (Broken : ProofRule → Type 0) → ((rule : ProofRule) → Dec (Broken rule)) → First Broken ⊎ ((rule : ProofRule) → ¬ (Broken rule))
-first_or_none Broken each = ⊎_elim (λ f. inl f) (λ none. inr (λ rule. none rule (rank_below rule))) (first_below Broken each 16)
+pub first_or_none : (Broken : ProofRule → Type 0) → ((rule : ProofRule) → Dec (Broken rule)) → First Broken ⊎ ((rule : ProofRule) → ¬ (Broken rule))
+first_or_none Broken each = ⊎_elim (λ f. inl f) (λ none. inr (λ rule. none rule (rank_below rule))) (first_below Broken each 17)
 
 -- ---- the rules at a step by a label
 
@@ -94,7 +95,7 @@ limit_first Fits before stack label rest e all over step = (
 within_or_over : (Fits : List (List ℕ) → Type 0) (each : (e : List (List ℕ)) → Dec (Fits e)) (e : List (List ℕ)) → Fits e ⊎ (¬ (Fits e))
 within_or_over Fits each e = elim (each e) [ yes w ↦ inl w | no n ↦ inr n ]
 
-first_symbol_dec : (a b : Option (List ℕ)) → Dec (a ≡ b)
+pub first_symbol_dec : (a b : Option (List ℕ)) → Dec (a ≡ b)
 first_symbol_dec None None = yes refl
 first_symbol_dec None (Some b) = no (λ e. none-some b e)
 first_symbol_dec (Some a) None = no (λ e. none-some a (sym e))

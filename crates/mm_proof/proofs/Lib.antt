@@ -15,6 +15,7 @@ pub mod SaidMoves
 pub mod Saying
 pub mod Verdicts
 pub mod Judged
+pub mod KnownFronts
 pub mod Limits
 pub mod Marks
 pub mod Firsts
@@ -63,6 +64,12 @@ pub mod Listed
 pub mod ListingLoop
 pub mod ListingEnd
 pub mod FewMoves
+pub mod FrontTokens
+pub mod FormLists
+pub mod FormJudged
+pub mod UnderAnswers
+pub mod FormDecided
+pub mod FrontAnswers
 pub mod Unknown
 pub mod RowTable
 pub mod SubtreeNumbers
@@ -80,3 +87,5 @@ pub mod PackedTrees
 pub mod Widths
 pub mod Building
 pub mod SpelledProofs
+pub mod StrictForms
+pub mod BetweenLimits

@@ -8,7 +8,7 @@ use Rattle.mm_frame.specs.Active.{IsActive, IsTyped}
 use Rattle.mm_frame.specs.Frame.{IsMandatory, IsMandatoryAt, AreMandatory, IsMandatoryPair}
 use Rattle.mm_frame.specs.Rules.{AllMeant}
 use Rattle.mm_proof.specs.declared.fault.ProofRule.{ProofRule}
-use Rattle.mm_proof.specs.declared.fault.ProofRule.TheVariants.{P1, P2, P3, P4, P5, P6, P7, P8, P9, P10, P11, P12, P13, P14, L1}
+use Rattle.mm_proof.specs.declared.fault.ProofRule.TheVariants.{P1, P2, P3, P4, P5, P6, P7, P8, P9, P10, P11, P12, P13, P14, P15, L1}
 use Rattle.mm_proof.specs.Substitution.{IsOn, instance_of}
 use Rattle.mm_proof.specs.Tree.{Names, KeepsApart}
 use Rattle.mm_proof.specs.Proof.{MeetsHypotheses, BreaksStep}
@@ -236,6 +236,7 @@ step_breaks_none Fits P6 before stack label rest e all within step b = b
 step_breaks_none Fits P7 before stack label rest e all within step b = b
 step_breaks_none Fits P13 before stack label rest e all within step b = b
 step_breaks_none Fits P14 before stack label rest e all within step b = b
+step_breaks_none Fits P15 before stack label rest e all within step b = b
 
 -- a step that makes an expression over the limit breaks the limit
 pub step_breaks_limit : (Fits : List (List ℕ) → Type 0) (before : List Sentence) (stack : List (List (List ℕ))) (label : List ℕ) (rest : List (List (List ℕ))) (e : List (List ℕ))

@@ -12,7 +12,7 @@ use Rattle.mm_frame.specs.Sentence.{Sentence, SomeSentence, IsLabelled, IsHypoth
 use Rattle.mm_frame.specs.Active.{IsActive}
 use Rattle.mm_frame.specs.Rules.{AllMeant}
 use Rattle.mm_frame.proofs.Meant.{one_label}
-use Rattle.mm_proof.specs.declared.fault.ProofRule.TheVariants.{P1, P2, P3, P4, P5, P6, P7, P8, P9, P10, P11, P12, P13, P14, L1}
+use Rattle.mm_proof.specs.declared.fault.ProofRule.TheVariants.{P1, P2, P3, P4, P5, P6, P7, P8, P9, P10, P11, P12, P13, P14, P15, L1}
 use Rattle.mm_proof.specs.Tree.{Trees, none, tree, spelling, MayStandOver, Fit, DeriveAll}
 use Rattle.mm_proof.specs.Moves.{name}
 use Rattle.mm_proof.specs.Tokens.{opening_token, closing_token, IsNormal, IsCompressed, AreLabels, AreLetters}
@@ -93,6 +93,7 @@ whole_of before tokens labels meant ends only fits letters P3 (others, are, labe
     let f = fits label here in closed (stands_active before label f.0 meant f.1 place h there named kind)
 whole_of before tokens labels meant ends only fits letters P4 (text, are, broken) = letters text code.P4 are broken
 whole_of before tokens labels meant ends only fits letters P5 (text, are, broken) = letters text code.P5 are broken
+whole_of before tokens labels meant ends only fits letters P15 broken = broken
 whole_of before tokens labels meant ends only fits letters P6 broken = broken
 whole_of before tokens labels meant ends only fits letters P7 broken = broken
 whole_of before tokens labels meant ends only fits letters P8 broken = broken

@@ -44,7 +44,7 @@ for_known statements place (id ∷ ids) (l ∷ labels) label all (zero, within, 
 for_known statements place (id ∷ ids) (l ∷ labels) label all (suc k, within, is) =
     for_known statements place ids labels label all.1 (k, (let w : suc k < suc (length labels) = within in omega arith), is)
 
-not_two_kinds : (kind : Kind) → IsHypothesis kind → IsAssertion kind → ⊥
+pub not_two_kinds : (kind : Kind) → IsHypothesis kind → IsAssertion kind → ⊥
 not_two_kinds kind (inl f) (inl a) = absurd (let e : Floating ≡ Axiom = sym f ∙ a in cc)
 not_two_kinds kind (inl f) (inr p) = absurd (let e : Floating ≡ Provable = sym f ∙ p in cc)
 not_two_kinds kind (inr e) (inl a) = absurd (let x : Essential ≡ Axiom = sym e ∙ a in cc)

@@ -15,7 +15,7 @@ use Rattle.mm_frame.proofs.ReadLaws.{named_kind}
 use Rattle.mm_proof.specs.declared.fault.ProofRule.TheVariants.{P2, P4}
 use Rattle.mm_proof.specs.Tokens.{opening_token, closing_token, IsIncomplete, IsCompressed, AreLabels, SayMoves}
 use Rattle.mm_proof.specs.Moves.{Move}
-use Rattle.mm_proof.specs.Proof.{IsWhole}
+use Rattle.mm_proof.specs.Proof.{IsWhole, IsWithin, IsProvedWithin}
 use Rattle.mm_proof.specs.Steps.{IsProofNumber}
 use Rattle.mm_proof.specs.Parsed.{OfProof}
 use Rattle.mm_proof.specs.Verified.{TokensProve}
@@ -107,6 +107,10 @@ said_known : (before : List Sentence) (s : Sentence) (tokens : List (List ℕ)) 
 said_known before s tokens moves formed whole (inl normal) unknown = label_known before tokens tokens unknown.0 formed whole (inl (normal.0, refl)) unknown.1 unknown.2
 said_known before s tokens moves formed whole (inr said) unknown =
     compressed_known before tokens said.listed said.letters unknown.0 formed whole said.parts unknown.1 unknown.2
+
+pub within_known : (limit : ℕ) (st : List Sentence) (id : ℕ) (tokens : List (List ℕ)) → AllFormed st → IsIncomplete tokens
+    → OfProof st id (λ place s. ¬ (IsProvedWithin (IsWithin limit) (take place st) s tokens))
+within_known limit st id tokens formed unknown place s proof p = said_known (take place st) s tokens p.moves (allformed_front st place formed) p.whole p.said unknown
 
 -- what is proved has no unknown step
 pub proved_known : (limit : ℕ) (st : List Sentence) (id : ℕ) (tokens : List (List ℕ)) (used : List ℕ) → AllFormed st → (place : ℕ) × (s : Sentence) × IsProofNumber st id place s

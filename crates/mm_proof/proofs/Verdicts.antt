@@ -5,7 +5,7 @@ use Rattle.std.proofs.lemmas.Bool.{cases_order}
 use Rattle.mm_frame.specs.Sentence.{Sentence}
 use Rattle.mm_frame.specs.Rules.{AllMeant}
 use Rattle.mm_proof.specs.declared.fault.ProofRule.{ProofRule}
-use Rattle.mm_proof.specs.declared.fault.ProofRule.TheVariants.{P1, P2, P3, P4, P5, P6, P7, P8, P9, P10, P11, P12, P13, P14, L1}
+use Rattle.mm_proof.specs.declared.fault.ProofRule.TheVariants.{P1, P2, P3, P4, P5, P6, P7, P8, P9, P10, P11, P12, P13, P14, P15, L1}
 use Rattle.mm_proof.specs.Tree.{AnyExpression}
 use Rattle.mm_proof.specs.Moves.{Move, steps_in}
 use Rattle.mm_proof.specs.Proof.{IsWithin, proof_rank, BreaksWhole, Prove, IsProvedWithin, BreaksMove, FirstAtMove, Passed, IsMoveFault, BreaksEnd, IsEndFault, IsMovesFault, IsFault}
@@ -18,7 +18,7 @@ use Rattle.mm_proof.proofs.SaidMoves.{moves_once}
 -- ---- the first of the rules is one
 
 abbrev pub ranked : List ProofRule
-ranked = P1 ∷ P1 ∷ P2 ∷ P3 ∷ P4 ∷ P5 ∷ P6 ∷ P7 ∷ P8 ∷ P9 ∷ P10 ∷ P11 ∷ P12 ∷ L1 ∷ P13 ∷ P14 ∷ []
+ranked = P1 ∷ P1 ∷ P2 ∷ P3 ∷ P4 ∷ P5 ∷ P15 ∷ P6 ∷ P7 ∷ P8 ∷ P9 ∷ P10 ∷ P11 ∷ P12 ∷ L1 ∷ P13 ∷ P14 ∷ []
 
 pub at_rank : (rule : ProofRule) → slice_get ranked (proof_rank rule) ≡ Some rule
 at_rank P1 = refl
@@ -26,6 +26,7 @@ at_rank P2 = refl
 at_rank P3 = refl
 at_rank P4 = refl
 at_rank P5 = refl
+at_rank P15 = refl
 at_rank P6 = refl
 at_rank P7 = refl
 at_rank P8 = refl
@@ -38,7 +39,7 @@ at_rank P14 = refl
 at_rank L1 = refl
 
 -- two rules that are the first broken are one
-first_once : (Broken : ProofRule → Type 0) (r q : ProofRule) → Broken r → Broken q → ((other : ProofRule) → proof_rank other < proof_rank r → ¬ (Broken other))
+pub first_once : (Broken : ProofRule → Type 0) (r q : ProofRule) → Broken r → Broken q → ((other : ProofRule) → proof_rank other < proof_rank r → ¬ (Broken other))
     → ((other : ProofRule) → proof_rank other < proof_rank q → ¬ (Broken other)) → r ≡ q
 first_once Broken r q br bq fr fq = elim (cases_order (proof_rank r) (proof_rank q)) [
   | inl same ↦ same_Some r q (sym (at_rank r) ∙ ap (slice_get ranked) same ∙ at_rank q)
@@ -99,7 +100,7 @@ proved_no_fault Fits before s tokens rule step all p (inr f) =
 
 -- ---- two faults are one
 
-longer_passed : (Fits : List (List ℕ) → Type 0) (before : List Sentence) (earlier : List (Move (List ℕ))) (move : Move (List ℕ)) (more longer : List (Move (List ℕ)))
+pub longer_passed : (Fits : List (List ℕ) → Type 0) (before : List Sentence) (earlier : List (Move (List ℕ))) (move : Move (List ℕ)) (more longer : List (Move (List ℕ)))
     (stack kept last end : List (List (List ℕ))) (rule : ProofRule) → AllMeant before
     → longer ≡ earlier ++ move ∷ more → Passed Fits before longer last end → Passed Fits before earlier stack kept → FirstAtMove Fits rule before stack kept move → ⊥
 longer_passed Fits before earlier move more longer stack kept last end rule all parts whole passed fault =
@@ -116,7 +117,7 @@ same_move Fits before moves rule rule' step step' all f g a x =
       f.number ∙ ap (λ l. steps_in l + 1) a ∙ sym g.number,
     )
 
-two_moves : (Fits : List (List ℕ) → Type 0) (before : List Sentence) (moves : List (Move (List ℕ))) (rule rule' : ProofRule) (step step' : ℕ) → AllMeant before
+pub two_moves : (Fits : List (List ℕ) → Type 0) (before : List Sentence) (moves : List (Move (List ℕ))) (rule rule' : ProofRule) (step step' : ℕ) → AllMeant before
     → IsMoveFault Fits before moves rule step → IsMoveFault Fits before moves rule' step' → Same rule step rule' step'
 two_moves Fits before moves rule rule' step step' all f g = elim (compare_splits f.earlier f.move f.later g.earlier g.move g.later (sym f.parts ∙ g.parts)) [
   | inl same ↦ same_move Fits before moves rule rule' step step' all f g same.0 same.1

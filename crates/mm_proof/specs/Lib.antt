@@ -10,6 +10,9 @@ pub mod Tokens
 pub mod Proof
 pub mod Steps
 pub mod Profiles
+pub mod KnownFront
+pub mod Strict
+pub mod UnderProfile
 pub mod ReadSteps
 pub mod Sites
 pub mod Parsed
@@ -28,6 +31,7 @@ pub mod Buffer
 pub mod CodeSteps
 pub mod CodeVerify
 pub mod CodeRun
+pub mod CodeForm
 pub mod CodeApply
 pub mod CodeLines
 pub mod Subtrees

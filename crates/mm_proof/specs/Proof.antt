@@ -11,7 +11,7 @@ use Rattle.mm_frame.specs.Active.{IsActive, SomeActive}
 use Rattle.mm_frame.specs.Frame.{IsMandatory, IsMandatoryPair}
 use Rattle.mm_proof.specs.declared.fault.ProofRule.{ProofRule}
 use Rattle.mm_proof.specs.declared.fault.ProofRule.TheVariants.{P1, P2, P3, P4, P5, P6, P7, P8, P9}
-use Rattle.mm_proof.specs.declared.fault.ProofRule.TheVariants.{P10, P11, P12, P13, P14, L1}
+use Rattle.mm_proof.specs.declared.fault.ProofRule.TheVariants.{P10, P11, P12, P13, P14, P15, L1}
 use Rattle.mm_proof.specs.Substitution.{Expression, IsOn, instance_of}
 use Rattle.mm_proof.specs.Tree.{Trees, none, tree, Names, ShareNoVariable, AreDistinct, DeriveAll}
 use Rattle.mm_proof.specs.Tree.{AnyExpression}
@@ -45,16 +45,17 @@ proof_rank P2 = 2
 proof_rank P3 = 3
 proof_rank P4 = 4
 proof_rank P5 = 5
-proof_rank P6 = 6
-proof_rank P7 = 7
-proof_rank P8 = 8
-proof_rank P9 = 9
-proof_rank P10 = 10
-proof_rank P11 = 11
-proof_rank P12 = 12
-proof_rank L1 = 13
-proof_rank P13 = 14
-proof_rank P14 = 15
+proof_rank P15 = 6
+proof_rank P6 = 7
+proof_rank P7 = 8
+proof_rank P8 = 9
+proof_rank P9 = 10
+proof_rank P10 = 11
+proof_rank P11 = 12
+proof_rank P12 = 13
+proof_rank L1 = 14
+proof_rank P13 = 15
+proof_rank P14 = 16
 
 -- the proof breaks none of the rules that are judged over the whole of it
 abbrev pub IsWhole : List Sentence → List (List ℕ) → Type 0

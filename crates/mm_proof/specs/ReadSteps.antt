@@ -1,9 +1,11 @@
 -- The steps of a proof, as they are read.
-use Rattle.std.specs.Prelude.{ℕ, List}
+use Rattle.std.specs.Prelude.{ℕ, List, Bool}
 use Rattle.mm_proof.specs.Moves.{Move}
 use Rattle.mm_proof.specs.declared.profile.Profile.{Profile}
 
--- the moves, by numbers, and the profile under which they are judged
+-- The moves, by numbers; the profile under which they are judged; and whether they are those of the
+-- known front of an incomplete proof, not of a whole one.
 pub record ReadSteps : Type 0 where
   pub profile : Profile
+  pub front : Bool
   pub moves : List (Move ℕ)

@@ -1,7 +1,8 @@
 //! The expansion of a proof: the labels that it spells (the Metamath book, section 4.3 and
 //! appendix B).
 
-ghost use Rattle.std.specs.Prelude.{◌≡◌, ◌<◌, ◌≤◌, ◌⊎◌, take, length, Err, IfOk, IsOkUnless};
+ghost use Rattle.std.specs.Prelude.{◌≡◌, ◌<◌, ◌≤◌, ◌⊎◌, take, length, false, Err, IfOk};
+ghost use Rattle.std.specs.Prelude.{IsOkUnless};
 ghost use Rattle.mm_proof.specs.declared.fault.ExpandFault.TheVariants.{L2, Memory};
 ghost use Rattle.mm_proof.specs.OneTree.{MakeOneTree};
 ghost use Rattle.mm_proof.specs.Steps.{AreSteps};
@@ -31,6 +32,7 @@ pub fn expand(
     max: usize,
 ) -> Result<Vec<LabelId>, ExpandFault>
     requires steps { AreSteps book.now.statements id.0 steps.now.moves }
+    requires whole { steps.now.front ≡ false }
     requires makes { OfMoves book.now.statements id.0 steps.now.moves
         (λ place s moves. MakeOneTree (take place book.now.statements) moves) }
     // They are the spelling of the tree that the steps make.

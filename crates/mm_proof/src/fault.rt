@@ -6,8 +6,8 @@ ghost use Rattle.mm_proof.specs.declared.fault.ProofFault.TheVariants.{Memory};
 use std::alloc::{AllocError, AllocFailed};
 use thiserror::Error;
 
-/// What a proof may break. P1 to P5 are judged over the whole proof, P6 to P12 and L1 step by step,
-/// P13 and P14 at the end (the Metamath book, section 4.3 and appendix B).
+/// What a proof may break. P1 to P5 and then P15 are judged over the whole proof, P6 to P12 and L1
+/// step by step, P13 and P14 at the end (the Metamath book, section 4.3 and appendix B).
 #[derive(Clone, Copy, PartialEq, Eq, Debug)]
 pub enum ProofRule {
     /// The first token is `(`, and there is no `)` among the others.
@@ -20,6 +20,10 @@ pub enum ProofRule {
     P4,
     /// Leading digits are followed by `Z` or by the end of the letters.
     P5,
+    /// Under the strict profile: the list of a compressed proof holds a mandatory hypothesis or a
+    /// label twice, or a `Z` doesn't stand directly after a number of a listed label that is an
+    /// assertion's.
+    P15,
     /// A number is over those of hypotheses, listed labels and tags so far.
     P6,
     /// A `Z` before any step.
@@ -46,8 +50,8 @@ pub enum ProofRule {
 /// Why a proof isn't accepted.
 #[derive(Clone, Copy, PartialEq, Eq, Debug, Drop, Error)]
 pub enum ProofFault {
-    /// The first rule that the proof breaks, and the number of its step: 0 for P1 to P5, else from
-    /// 1 on; for P13 and P14 one more than the number of steps.
+    /// The first rule that the proof breaks, and the number of its step: 0 for P1 to P5 and P15,
+    /// else from 1 on; for P13 and P14 one more than the number of steps.
     #[error("the proof breaks {rule:?} at step {step}")]
     Rule { rule: ProofRule, step: usize },
     /// A growth was refused.

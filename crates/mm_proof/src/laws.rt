@@ -3,6 +3,8 @@
 ghost use Rattle.mm_proof.specs.Laws.{OneFit, OneTree, OneWord, MadeByWord, ByWord, BySpelling};
 ghost use Rattle.mm_proof.specs.Laws.{SomeProofVerdict, OneProofVerdict, LimitsAside};
 ghost use Rattle.mm_proof.specs.Laws.{MarkBeforeAnyStep, TagOverMarks};
+ghost use Rattle.mm_proof.specs.KnownFront.{OneFrontVerdict};
+ghost use Rattle.mm_proof.specs.UnderProfile.{OneVerdictUnder, OneFrontVerdictUnder};
 ghost use Rattle.mm_proof.specs.SharingLaws.{OnePacked, SomePacked};
 ghost use Rattle.mm_proof.specs.SharingLaws.{StepsMakeChildren, FewestSteps, ToldByPacked};
 
@@ -80,6 +82,34 @@ pub fn some_verdict()
 /// fault in two ways. This holds for each limit.
 pub fn one_verdict()
     ensures { OneProofVerdict }
+{}
+
+/// The known front of an incomplete proof has one verdict.
+///
+/// After statements that are in form and break no rule of meaning, the known front of a proof (the
+/// Metamath book, section 4.4.4) breaks no rule, or has a fault: the rules leave no case out, and
+/// no front is told to be allowed and at fault, or to be at fault in two ways. This holds for each
+/// limit.
+pub fn one_front_verdict()
+    ensures { OneFrontVerdict }
+{}
+
+/// Each proof has one verdict under a profile.
+///
+/// After statements that are in form and break no rule of meaning, the tokens of a proof prove
+/// their statement under the profile, or they have a fault: a rule, or the form that the profile
+/// demands of a compressed proof (the Metamath book, appendix B). No proof is told to be proved and
+/// at fault, or to be at fault in two ways.
+pub fn one_verdict_under()
+    ensures { OneVerdictUnder }
+{}
+
+/// Each known front has one verdict under a profile.
+///
+/// The same as of a whole proof holds of the known front of an incomplete one (the Metamath book,
+/// section 4.4.4).
+pub fn one_front_verdict_under()
+    ensures { OneFrontVerdictUnder }
 {}
 
 /// What the limit on an expression's length changes, and that it changes nothing else.

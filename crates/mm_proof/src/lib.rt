@@ -9,6 +9,8 @@ mod call_table;
 mod expansion;
 mod fault;
 mod flat;
+mod form;
+mod front;
 mod label_set;
 mod labels;
 mod laws;
@@ -40,8 +42,9 @@ pub use fault::{ExpandFault, ProofFault, ProofRule};
 pub use flat::Flat;
 pub use laws::{
     by_spelling, by_word, fewest_steps, limits_aside, made_by_word, mark_before_any_step, one_fit,
-    one_packed, one_tree, one_verdict, one_word, some_packed, some_verdict, steps_make_children,
-    tag_over_marks, told_by_packed,
+    one_front_verdict, one_front_verdict_under, one_packed, one_tree, one_verdict,
+    one_verdict_under, one_word, some_packed, some_verdict, steps_make_children, tag_over_marks,
+    told_by_packed,
 };
 pub use lines::{Line, Name, listing};
 pub use moves::{Parsed, Steps};

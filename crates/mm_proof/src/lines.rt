@@ -1,7 +1,7 @@
 //! The listing of a proof: its steps, one a line (the Metamath book, section 4.3 and appendix B).
 
 ghost use Rattle.std.specs.Prelude.{◌≡◌, ◌-◌, ◌<◌, ◌^◌, ℕ, List, [], length, take};
-ghost use Rattle.std.specs.Prelude.{slice_get, Some, Err};
+ghost use Rattle.std.specs.Prelude.{slice_get, Some, Err, false};
 ghost use Rattle.std.specs.Prelude.{IfOk, IfErr, IsOkUnless};
 ghost use Rattle.std.specs.List.{AllByRecursion};
 ghost use Rattle.mm_frame.specs.Sentence.{Sentence};
@@ -157,7 +157,7 @@ fn lines_of_proof(
 ///
 /// # Errors
 ///
-/// `Memory` where a growth was refused. Moves that don't prove the `$p` are answered with their
+/// `Memory` where a growth was refused. Moves, not of a front, that don't prove the `$p` are answered with their
 /// first fault, as `verify` does.
 pub fn listing(
     alloc: Global,
@@ -165,7 +165,8 @@ pub fn listing(
     id: LabelId,
     steps: &Steps,
 ) -> Result<Vec<Line>, ProofFault>
-    requires { AreSteps book.now.statements id.0 steps.now.moves }
+    requires steps { AreSteps book.now.statements id.0 steps.now.moves }
+    requires whole { steps.now.front ≡ false }
     // The lines are those of the steps: each with its name, and the expression that its tree
     // derives.
     ensures listed { IfOk result (λ lines. OfMoves book.now.statements id.0 steps.now.moves

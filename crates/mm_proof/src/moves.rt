@@ -1,6 +1,6 @@
 //! The moves of a proof, with numbers for labels.
 
-ghost use Rattle.std.specs.Prelude.{◌≤◌, length};
+ghost use Rattle.std.specs.Prelude.{◌≡◌, ◌≤◌, length};
 
 use crate::profile::Profile;
 use mm_frame::LabelId;
@@ -17,10 +17,12 @@ pub(crate) enum NumberedMove {
     Mark,
 }
 
-/// The moves of a proof, read from its tokens, and the profile under which they are judged.
+/// The moves of a proof, or of the known front of an incomplete one, read from its tokens, and the
+/// profile under which they are judged.
 #[derive(Drop)]
 pub struct Steps {
     pub(crate) profile: Profile,
+    pub(crate) front: bool,
     pub(crate) moves: Vec<NumberedMove>,
     /// As many as the tokens of a proof have bytes, at most.
     ghost few: { length moves.items ≤ 1073741824 },
@@ -33,14 +35,24 @@ impl Model for Steps {
 
     ghost use Rattle.mm_proof.specs.CodeSteps.{moves_in};
 
-    ghost view = { λ s. record { profile = s.profile; moves = moves_in s.moves.items } };
+    ghost view = { λ s. record { profile = s.profile; front = s.front; moves = moves_in s.moves.items } };
+}
+
+impl Steps {
+    /// Whether these are the moves of the known front of an incomplete proof: those before its first
+    /// unknown step (the Metamath book, section 4.4.4).
+    pub fn is_front(&self) -> bool
+        ensures { result ≡ self.now.front }
+    {
+        self.front
+    }
 }
 
 /// What the tokens of a proof are.
 #[derive(Drop)]
 pub enum Parsed {
-    /// A token holds a `?`: a step is unknown.
-    Incomplete,
+    /// A token holds a `?`: a step is unknown. These are the moves of the known front.
+    Incomplete(Steps),
     /// The moves.
     Steps(Steps),
 }

@@ -2,7 +2,7 @@
 //! and appendix B).
 
 ghost use Rattle.std.specs.Prelude.{◌≡◌, ◌≤◌, ◌<◌, ◌↔◌, ◌++◌, ℕ, List, [], length, take, Contains};
-ghost use Rattle.std.specs.Prelude.{All, IfOk, OnOk};
+ghost use Rattle.std.specs.Prelude.{All, IfOk, OnOk, false};
 ghost use Rattle.mm_code.specs.declared.code.Code.{Code};
 ghost use Rattle.mm_code.specs.Letters.{HasSpelling, IsExact};
 ghost use Rattle.mm_proof.specs.declared.subtrees.Subtree.{Subtree};
@@ -176,7 +176,7 @@ fn pack(
 
 /// The fully shared proof of the tree that the steps of the `$p` with this number make: each subtree
 /// of two or more nodes is made once, and tagged where it is used again. They are handed in where
-/// they make one tree: so does what `verify` accepts. The proof's own tree is never written out.
+/// they make one tree: so does a whole proof that `verify` accepts. The proof's own tree is never written out.
 ///
 /// # Errors
 ///
@@ -188,6 +188,7 @@ pub fn compress(
     steps: &Steps,
 ) -> Result<Packed, AllocError>
     requires steps { AreSteps book.now.statements id.0 steps.now.moves }
+    requires whole { steps.now.front ≡ false }
     requires makes { OfMoves book.now.statements id.0 steps.now.moves
         (λ place s moves. MakeOneTree (take place book.now.statements) moves) }
     // The labels and the codes are the fully shared proof of the tree that the steps make.

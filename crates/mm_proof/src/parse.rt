@@ -2,7 +2,7 @@
 //! Metamath book, section 4.3, section 4.4.4 and appendix B).
 
 ghost use Rattle.std.specs.Prelude.{◌≡◌, ◌↔◌, ◌+◌, ◌≤◌, ◌<◌, ◌∷◌, [], ℕ, List, Contains, All};
-ghost use Rattle.std.specs.Prelude.{◌++◌, length, map, take, slice_get, Some, Err};
+ghost use Rattle.std.specs.Prelude.{◌++◌, length, map, take, slice_get, Some, Ok, Err, true, false};
 ghost use Rattle.std.specs.Prelude.{IsTrue, IfOk, IfErr, OnOk, MatchOption};
 ghost use Rattle.std.specs.List.{AllZip, AllByRecursion, flat_map, sum_by};
 ghost use Rattle.mm_code.specs.Letters.{HasSpelling, Letters, LettersBreak};
@@ -16,14 +16,18 @@ ghost use Rattle.mm_proof.specs.Moves.{Move, name};
 ghost use Rattle.mm_proof.specs.Proof.{IsWholeFault};
 ghost use Rattle.mm_proof.specs.Steps.{AreSteps, IsProofNumber};
 ghost use Rattle.mm_proof.specs.ReadSteps.{ReadSteps};
+ghost use Rattle.mm_proof.specs.KnownFront.{known_front};
+ghost use Rattle.mm_proof.specs.Strict.{HasFormOf, IsTextFault};
 ghost use Rattle.mm_proof.specs.Parsed.{OfProof, SaySteps};
-ghost use Rattle.mm_proof.specs.CodeSteps.{IsReading, NumberSays, MayAllBeUsed, fault_behind};
+ghost use Rattle.mm_proof.specs.CodeSteps.{IsReading, NumberSays, MayAllBeUsed, AreFor, fault_behind};
 ghost use Rattle.mm_proof.specs.CodeSteps.{ids_in, label_ids, move_in, moves_in, token_texts};
 ghost use Rattle.mm_code.specs.Layout.{texts};
 ghost use Rattle.mm_proof.specs.CodeRun.{ArePicked, AreMarked};
 ghost use Rattle.mm_proof.specs.Sites.{IsSite};
 
 use crate::fault::{ProofFault, ProofRule};
+use crate::form::judge_form;
+use crate::front::known_front;
 use crate::labels::fill_numbers;
 use crate::moves::{NumberedMove, Parsed, Steps};
 use crate::picked::{Picked, fill_marked, fill_picked, unmark};
@@ -86,18 +90,6 @@ pub(crate) fn is_incomplete(tokens: &[Token]) -> bool
     false
 }
 
-// Whether some of the tokens, given by their bytes, holds a `?`.
-fn has_unknown(tokens: &[&[u8]]) -> bool
-    ensures { IsTrue result ↔ IsIncomplete (texts tokens.now) }
-{
-    for token in tokens {
-        if has_byte(token, b'?') {
-            return true;
-        }
-    }
-    false
-}
-
 // Fills the list with a step for each of the labels.
 fn fill_names(moves: &mut Vec<NumberedMove>, ids: &[LabelId]) -> Result<(), ProofFault>
     ensures ok { OnOk result (moves_in moves.new.items ≡ map name (ids_in ids.now)) }
@@ -117,6 +109,9 @@ fn fill_normal(lists: &mut ParseLists, site: &Site, tokens: &[Token]) -> Result<
         (token_texts tokens.now) (moves_in lists.new.moves.items)) }
     ensures picked { OnOk result
         (ArePicked (moves_in lists.new.moves.items) (ids_in lists.new.picked.ids.items)) }
+    ensures listed { OnOk result ((labels letters : List (List ℕ))
+        → IsCompressed (token_texts tokens.now) labels letters
+        → AreFor site.now.statements site.now.place (ids_in lists.new.ids.items) labels) }
     ensures fault { IfErr result (λ e. OnRule e (λ rule step. (step ≡ 0)
         × IsWholeFault (take site.now.place site.now.statements) (token_texts tokens.now) rule)) }
 {
@@ -298,6 +293,9 @@ pub(crate) fn read_compressed<'a>(
     ensures spelled { OnOk result (All HasSpelling lists.new.codes.items) }
     ensures usable { OnOk result
         (MayAllBeUsed site.now.statements site.now.place (ids_in lists.new.entries.items)) }
+    ensures listed { OnOk result ((labels letters : List (List ℕ))
+        → IsCompressed (opening_token ∷ token_texts rest.now) labels letters
+        → AreFor site.now.statements site.now.place (ids_in lists.new.ids.items) labels) }
     ensures fault { let tokens = opening_token ∷ token_texts rest.now in
         IfErr result (λ e. OnRule e (λ rule step. (step ≡ 0)
         × IsWholeFault (take site.now.place site.now.statements) tokens rule)) }
@@ -335,6 +333,9 @@ fn fill_compressed<'a>(
         (moves_in lists.new.moves.items)) }
     ensures picked { OnOk result
         (ArePicked (moves_in lists.new.moves.items) (ids_in lists.new.picked.ids.items)) }
+    ensures listed { OnOk result ((labels letters : List (List ℕ))
+        → IsCompressed (opening_token ∷ token_texts rest.now) labels letters
+        → AreFor site.now.statements site.now.place (ids_in lists.new.ids.items) labels) }
     ensures fault { let tokens = opening_token ∷ token_texts rest.now in
         IfErr result (λ e. OnRule e (λ rule step. (step ≡ 0)
         × IsWholeFault (take site.now.place site.now.statements) tokens rule)) }
@@ -358,6 +359,9 @@ fn fill_whole<'a>(
         (token_texts tokens.now) (moves_in lists.new.moves.items)) }
     ensures picked { OnOk result
         (ArePicked (moves_in lists.new.moves.items) (ids_in lists.new.picked.ids.items)) }
+    ensures listed { OnOk result ((labels letters : List (List ℕ))
+        → IsCompressed (token_texts tokens.now) labels letters
+        → AreFor site.now.statements site.now.place (ids_in lists.new.ids.items) labels) }
     ensures fault { IfErr result (λ e. OnRule e (λ rule step. (step ≡ 0)
         × IsWholeFault (take site.now.place site.now.statements) (token_texts tokens.now) rule)) }
 {
@@ -386,6 +390,11 @@ pub(crate) fn fill_steps<'a>(
     ensures picked { OnOk result
         (ArePicked (moves_in lists.new.moves.items) (ids_in lists.new.picked.ids.items)) }
 
+    // Those of the list, if there is one, are in the first list.
+    ensures listed { OnOk result ((labels letters : List (List ℕ))
+        → IsCompressed (token_texts tokens.now) labels letters
+        → AreFor site.now.statements site.now.place (ids_in lists.new.ids.items) labels) }
+
     // The rule is the first that is broken over the whole proof.
     ensures fault { IfErr result (λ e. OnRule e (λ rule step.
         OfProof site.now.statements site.now.number (λ place s. (step ≡ 0)
@@ -394,9 +403,79 @@ pub(crate) fn fill_steps<'a>(
     fill_whole(lists, site, tokens)
 }
 
-// The moves that the tokens, none of which holds a `?`, say as a proof of the `$p` with this
-// number.
+/// Fills the list with the moves that the tokens say as a proof of the `$p`, or tells the first of
+/// P1 to P5 that they break, or else P15, where the proof hasn't the form that the profile demands.
+pub(crate) fn fill_under<'a>(
+    alloc: Global,
+    lists: &mut ParseLists<'a>,
+    profile: Profile,
+    site: &Site,
+    tokens: &[Token<'a>],
+) -> Result<(), ProofFault>
+    requires { IsSite site.now }
+    // The moves are what the tokens say, and each may be made.
+    ensures steps { OnOk result (OfProof site.now.statements site.now.number
+        (λ place s. SaySteps site.now.statements place s
+        (token_texts tokens.now) (moves_in lists.new.moves.items))) }
+    ensures usable { OnOk result
+        (AreSteps site.now.statements site.now.number (moves_in lists.new.moves.items)) }
+
+    // The labels are those that the moves name.
+    ensures picked { OnOk result
+        (ArePicked (moves_in lists.new.moves.items) (ids_in lists.new.picked.ids.items)) }
+
+    // The proof has the form that the profile demands.
+    ensures form { OnOk result (OfProof site.now.statements site.now.number (λ place s.
+        HasFormOf profile (take place site.now.statements) s (token_texts tokens.now))) }
+
+    // The rule is the first that is broken over the whole proof.
+    ensures fault { IfErr result (λ e. OnRule e (λ rule step.
+        OfProof site.now.statements site.now.number (λ place s. (step ≡ 0)
+        × IsTextFault profile (take place site.now.statements) s (token_texts tokens.now) rule))) }
+{
+    fill_steps(lists, site, tokens)?;
+    match profile {
+        Profile::Strict => judge_form(alloc, site, tokens, &lists.ids, &lists.moves),
+        Profile::Lenient => Ok(()),
+    }
+}
+
+// The moves that the tokens say as a proof of the `$p` with this number, and whether they are those
+// of the known front of another.
 fn steps_of(
+    alloc: Global,
+    profile: Profile,
+    book: &Book,
+    id: LabelId,
+    tokens: &[Token],
+    front: bool,
+) -> Result<Steps, ProofFault>
+    requires proof { (place : ℕ) × (s : Sentence) × IsProofNumber book.now.statements id.0 place s }
+    requires filled { AllByRecursion (λ t. 1 ≤ length t) (token_texts tokens.now) }
+    requires room { sum_by length (token_texts tokens.now) ≤ 1073741824 }
+    ensures steps { IfOk result (λ steps. OfProof book.now.statements id.0
+        (λ place s. SaySteps book.now.statements place s (token_texts tokens.now) steps.moves)) }
+    ensures usable { IfOk result (λ steps. AreSteps book.now.statements id.0 steps.moves) }
+    ensures form { OnOk result (OfProof book.now.statements id.0 (λ place s.
+        HasFormOf profile (take place book.now.statements) s (token_texts tokens.now))) }
+    ensures profile { IfOk result (λ steps. steps.profile ≡ profile) }
+    ensures front { IfOk result (λ steps. steps.front ≡ front) }
+    ensures fault { IfErr result (λ e. OnRule e (λ rule step.
+        OfProof book.now.statements id.0 (λ place s. (step ≡ 0)
+        × IsTextFault profile (take place book.now.statements) s (token_texts tokens.now) rule))) }
+{
+    let site = Site::new(book, id, profile);
+    let mut lists = ParseLists::new(alloc);
+    fill_under(alloc, &mut lists, profile, &site, tokens)?;
+    Ok(Steps {
+        profile,
+        front,
+        moves: lists.moves,
+    })
+}
+
+// The moves that the known front of the tokens says as a proof of the `$p` with this number.
+fn front_steps(
     alloc: Global,
     profile: Profile,
     book: &Book,
@@ -406,21 +485,20 @@ fn steps_of(
     requires proof { (place : ℕ) × (s : Sentence) × IsProofNumber book.now.statements id.0 place s }
     requires filled { AllByRecursion (λ t. 1 ≤ length t) (token_texts tokens.now) }
     requires room { sum_by length (token_texts tokens.now) ≤ 1073741824 }
-    ensures steps { IfOk result (λ steps. OfProof book.now.statements id.0
-        (λ place s. SaySteps book.now.statements place s (token_texts tokens.now) steps.moves)) }
+    ensures steps { IfOk result (λ steps. OfProof book.now.statements id.0 (λ place s.
+        SaySteps book.now.statements place s (known_front (token_texts tokens.now)) steps.moves)) }
     ensures usable { IfOk result (λ steps. AreSteps book.now.statements id.0 steps.moves) }
+    ensures form { OnOk result (OfProof book.now.statements id.0 (λ place s.
+        HasFormOf profile (take place book.now.statements) s
+        (known_front (token_texts tokens.now)))) }
     ensures profile { IfOk result (λ steps. steps.profile ≡ profile) }
-    ensures fault { IfErr result (λ e. OnRule e (λ rule step.
-        OfProof book.now.statements id.0 (λ place s. (step ≡ 0)
-        × IsWholeFault (take place book.now.statements) (token_texts tokens.now) rule))) }
+    ensures front { IfOk result (λ steps. steps.front ≡ true) }
+    ensures fault { IfErr result (λ e. OnRule e (λ rule step. OfProof book.now.statements id.0
+        (λ place s. (step ≡ 0) × IsTextFault profile (take place book.now.statements) s
+        (known_front (token_texts tokens.now)) rule))) }
 {
-    let site = Site::new(book, id, profile);
-    let mut lists = ParseLists::new(alloc);
-    fill_steps(&mut lists, &site, tokens)?;
-    Ok(Steps {
-        profile,
-        moves: lists.moves,
-    })
+    let front = known_front(alloc, tokens)?;
+    steps_of(alloc, profile, book, id, &front, true)
 }
 
 // Tokens with these texts, which stand nowhere.
@@ -440,7 +518,8 @@ fn tokens_with<'a>(alloc: Global, pieces: &[&'a [u8]]) -> Result<Vec<Token<'a>>,
 
 impl Steps {
     /// The moves that the tokens say as a proof of the `$p` with this number, which are judged under
-    /// the profile; or that a step is unknown; or the first of P1 to P5 that they break, at step 0.
+    /// the profile; or, where a step is unknown, those of the known front; or the first of P1 to P5 and
+    /// then P15 that they break, at step 0. The front is judged as the tokens of a whole proof are.
     pub fn parse(
         alloc: Global,
         profile: Profile,
@@ -453,8 +532,10 @@ impl Steps {
         requires filled { AllByRecursion (λ t. 1 ≤ length t) (texts tokens.now) }
         requires room { sum_by length (texts tokens.now) ≤ 1073741824 }
         // A proof with an unknown step is told apart.
-        ensures incomplete { result ≡ Ok Parsed.Incomplete → IsIncomplete (texts tokens.now) }
-        ensures complete { IsIncomplete (texts tokens.now) → result ≡ Ok Parsed.Incomplete }
+        ensures incomplete { (steps : ReadSteps) → result ≡ Ok (Parsed.Incomplete steps)
+            → IsIncomplete (texts tokens.now) × (steps.front ≡ true) }
+        ensures complete { (steps : ReadSteps) → result ≡ Ok (Parsed.Steps steps)
+            → ¬ (IsIncomplete (texts tokens.now)) × (steps.front ≡ false) }
 
         // The moves are what the tokens say, and each may be made.
         ensures steps { (steps : ReadSteps) → result ≡ Ok (Parsed.Steps steps)
@@ -463,22 +544,52 @@ impl Steps {
         ensures usable { (steps : ReadSteps) → result ≡ Ok (Parsed.Steps steps)
             → AreSteps book.now.statements id.0 steps.moves }
 
+        // Those of a front are what it says, and each may be made.
+        ensures known { (steps : ReadSteps) → result ≡ Ok (Parsed.Incomplete steps)
+            → OfProof book.now.statements id.0 (λ place s. SaySteps book.now.statements place s
+            (known_front (texts tokens.now)) steps.moves) }
+        ensures known_usable { (steps : ReadSteps) → result ≡ Ok (Parsed.Incomplete steps)
+            → AreSteps book.now.statements id.0 steps.moves }
+
+        // The proof, or the front, has the form that the profile demands.
+        ensures form { (steps : ReadSteps) → result ≡ Ok (Parsed.Steps steps)
+            → OfProof book.now.statements id.0 (λ place s.
+            HasFormOf profile (take place book.now.statements) s (texts tokens.now)) }
+        ensures known_form { (steps : ReadSteps) → result ≡ Ok (Parsed.Incomplete steps)
+            → OfProof book.now.statements id.0 (λ place s.
+            HasFormOf profile (take place book.now.statements) s
+            (known_front (texts tokens.now))) }
+
         // They are judged under this profile.
         ensures profile { (steps : ReadSteps) → result ≡ Ok (Parsed.Steps steps)
             → steps.profile ≡ profile }
+        ensures known_profile { (steps : ReadSteps) → result ≡ Ok (Parsed.Incomplete steps)
+            → steps.profile ≡ profile }
 
         // The rule is the first that is broken over the whole proof.
-        ensures fault { (rule : ProofRule) → (step : ℕ) → result ≡ Err (ProofFault.Rule rule step)
+        ensures fault { ¬ (IsIncomplete (texts tokens.now)) → (rule : ProofRule) → (step : ℕ)
+            → result ≡ Err (ProofFault.Rule rule step)
             → OfProof book.now.statements id.0 (λ place s. (step ≡ 0)
-            × IsWholeFault (take place book.now.statements) (texts tokens.now) rule) }
+            × IsTextFault profile (take place book.now.statements) s (texts tokens.now) rule) }
+
+        // Where a step is unknown, it is the first that is broken over the whole front.
+        ensures known_fault { IsIncomplete (texts tokens.now) → (rule : ProofRule) → (step : ℕ)
+            → result ≡ Err (ProofFault.Rule rule step)
+            → OfProof book.now.statements id.0 (λ place s. (step ≡ 0)
+            × IsTextFault profile (take place book.now.statements) s
+            (known_front (texts tokens.now)) rule) }
     {
-        if has_unknown(tokens) {
-            return Ok(Parsed::Incomplete);
-        }
         let tokens = tokens_with(alloc, tokens)?;
-        match steps_of(alloc, profile, book, id, &tokens) {
-            Ok(steps) => Ok(Parsed::Steps(steps)),
-            Err(fault) => Err(fault),
+        if is_incomplete(&tokens) {
+            match front_steps(alloc, profile, book, id, &tokens) {
+                Ok(steps) => Ok(Parsed::Incomplete(steps)),
+                Err(fault) => Err(fault),
+            }
+        } else {
+            match steps_of(alloc, profile, book, id, &tokens, false) {
+                Ok(steps) => Ok(Parsed::Steps(steps)),
+                Err(fault) => Err(fault),
+            }
         }
     }
 }

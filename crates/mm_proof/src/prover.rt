@@ -13,9 +13,12 @@ ghost use Rattle.mm_frame.specs.Rules.{IsMeant, FirstBroken};
 ghost use Rattle.mm_frame.specs.Taken.{TakenAs};
 ghost use Rattle.mm_proof.specs.Answer.{OnRule, IsUnlessMemory};
 ghost use Rattle.mm_proof.specs.Tokens.{IsIncomplete, opening_token};
-ghost use Rattle.mm_proof.specs.Proof.{IsProvedWithin, IsWithin};
 ghost use Rattle.mm_proof.specs.Profiles.{limit_of};
 ghost use Rattle.mm_proof.specs.Sites.{IsSite};
+ghost use Rattle.mm_proof.specs.Strict.{HasFormOf};
+ghost use Rattle.mm_proof.specs.UnderProfile.{IsProvedUnder, IsFaultUnder, AreAllowedUnder};
+ghost use Rattle.mm_proof.specs.UnderProfile.{HaveFaultUnder, IsFrontAllowedUnder};
+ghost use Rattle.mm_proof.specs.UnderProfile.{IsFrontFaultUnder};
 ghost use Rattle.mm_proof.specs.Steps.{IsProofNumber};
 ghost use Rattle.mm_proof.specs.Parsed.{OfProof};
 ghost use Rattle.mm_proof.specs.Verified.{TokensProve, TokensFail};
@@ -23,12 +26,13 @@ ghost use Rattle.mm_proof.specs.CodeSteps.{ids_in, token_texts};
 
 use crate::fault::{ProofFault, ProofRule};
 use crate::flat::Flat;
-use crate::parse::{ParseLists, fill_steps, is_byte, is_incomplete, read_compressed};
+use crate::front::known_front;
+use crate::parse::{ParseLists, fill_steps, fill_under, is_byte, is_incomplete, read_compressed};
 use crate::profile::Profile;
 use crate::run::judgement_of_codes;
 use crate::site::Site;
 use crate::used::Named;
-use crate::verdict::judgement_in_frame;
+use crate::verdict::{judgement_in_frame, pass};
 use mm_frame::{Book, LabelId, RuleFault, Taken};
 use mm_text::{Seed, Statement, Token};
 use std::alloc::Global;
@@ -40,7 +44,7 @@ const STACK_SYMBOL_BYTES: usize = 16;
 /// What a proof without a fault is.
 #[derive(Clone, Copy, PartialEq, Eq, Debug)]
 pub enum Proved {
-    /// A token holds a `?`: a step is unknown.
+    /// A token holds a `?`: a step is unknown. The known front breaks no rule.
     Incomplete,
     /// It proves its statement.
     Complete,
@@ -142,10 +146,11 @@ impl<'a> Prover<'a> {
         self.book.take(statement)
     }
 
-    /// Whether the tokens are, under the profile, a proof of the `$p` with this number, unless one
-    /// of them holds a `?`; `used` then gives the assertions of its tree, and none where they are
-    /// not answered to be complete. Or the first of P1 to P14 and L1 that they break, with the
-    /// number of the step, 0 for P1 to P5.
+    /// Whether the tokens are, under the profile, a proof of the `$p` with this number; `used` then
+    /// gives the assertions of its tree, and none where they are not answered to be complete. Or
+    /// the first of P1 to P15 and L1 that they break, with the number of the step, 0 for P1 to P5
+    /// and P15. Where one of them holds a `?`, this is judged of the known front, and P13 and P14
+    /// aren't.
     ///
     /// It answers what `Steps::parse` and then `verify` do, in memory that all proofs use.
     pub fn prove(
@@ -156,35 +161,61 @@ impl<'a> Prover<'a> {
     ) -> Result<Proved, ProofFault>
         requires { (place : ℕ) × (s : Sentence)
             × IsProofNumber self.old.book.statements id.0 place s }
-        // A proof with an unknown step is told apart.
+        // A proof with an unknown step is told apart: its known front breaks no rule.
         ensures incomplete { result ≡ Ok Proved.Incomplete
-            → IsIncomplete (token_texts tokens.now) }
+            → IsIncomplete (token_texts tokens.now)
+            × OfProof self.old.book.statements id.0 (λ place s.
+            IsFrontAllowedUnder profile (take place self.old.book.statements) s
+            (token_texts tokens.now)) }
         ensures complete { IsIncomplete (token_texts tokens.now)
-            → result ≡ Ok Proved.Incomplete }
+            → ¬ (result ≡ Ok Proved.Complete) }
 
         // What is answered to be complete is proved, and these are the assertions of its tree.
         ensures proved { result ≡ Ok Proved.Complete
             → OfProof self.old.book.statements id.0 (λ place s.
             TokensProve (limit_of profile) (take place self.old.book.statements) s
             (token_texts tokens.now) self.new.used) }
+        ensures form { result ≡ Ok Proved.Complete
+            → OfProof self.old.book.statements id.0 (λ place s.
+            HasFormOf profile (take place self.old.book.statements) s (token_texts tokens.now)) }
 
         // The rule and the step are those of the first fault.
-        ensures fault { (rule : ProofRule) → (step : ℕ)
-            → result ≡ Err (ProofFault.Rule rule step)
+        ensures fault { ¬ (IsIncomplete (token_texts tokens.now))
+            → (rule : ProofRule) → (step : ℕ) → result ≡ Err (ProofFault.Rule rule step)
             → OfProof self.old.book.statements id.0 (λ place s.
-            TokensFail (limit_of profile) (take place self.old.book.statements) s
+            IsFaultUnder profile (take place self.old.book.statements) s
             (token_texts tokens.now) rule step) }
 
         // What is proved has no fault, unless memory is refused.
         ensures accepts { OfProof self.old.book.statements id.0 (λ place s.
-            IsProvedWithin (IsWithin (limit_of profile)) (take place self.old.book.statements) s
+            IsProvedUnder profile (take place self.old.book.statements) s
             (token_texts tokens.now) → IsOkUnless result ProofFault.Memory) }
 
         // What has a fault is answered with it, unless a step is unknown or memory is refused.
         ensures refuses { ¬ (IsIncomplete (token_texts tokens.now))
             → OfProof self.old.book.statements id.0 (λ place s.
             (rule : ProofRule) → (step : ℕ)
-            → TokensFail (limit_of profile) (take place self.old.book.statements) s
+            → IsFaultUnder profile (take place self.old.book.statements) s
+            (token_texts tokens.now) rule step → IsUnlessMemory result (Err (ProofFault.Rule rule step))) }
+
+        // Where a step is unknown, the rule and the step are those of the front's first fault.
+        ensures front_fault { IsIncomplete (token_texts tokens.now)
+            → (rule : ProofRule) → (step : ℕ) → result ≡ Err (ProofFault.Rule rule step)
+            → OfProof self.old.book.statements id.0 (λ place s.
+            IsFrontFaultUnder profile (take place self.old.book.statements) s
+            (token_texts tokens.now) rule step) }
+
+        // A front that breaks no rule is allowed, unless memory is refused.
+        ensures allows_front { IsIncomplete (token_texts tokens.now)
+            → OfProof self.old.book.statements id.0 (λ place s.
+            IsFrontAllowedUnder profile (take place self.old.book.statements) s
+            (token_texts tokens.now) → IsUnlessMemory result (Ok Proved.Incomplete)) }
+
+        // A front that has a fault is answered with it, unless memory is refused.
+        ensures refuses_front { IsIncomplete (token_texts tokens.now)
+            → OfProof self.old.book.statements id.0 (λ place s.
+            (rule : ProofRule) → (step : ℕ)
+            → IsFrontFaultUnder profile (take place self.old.book.statements) s
             (token_texts tokens.now) rule step → IsUnlessMemory result (Err (ProofFault.Rule rule step))) }
 
         // What is not answered to be complete uses nothing.
@@ -198,11 +229,37 @@ impl<'a> Prover<'a> {
             // No label and no letter holds a `?`, so a proof with one always comes here.
             Err(fault) => {
                 if is_incomplete(tokens) {
-                    Ok(Proved::Incomplete)
+                    self.allow(profile, id, tokens)
                 } else {
                     Err(fault)
                 }
             }
+        }
+    }
+
+    // Whether the known front of the tokens, one of which holds a `?`, breaks no rule.
+    fn allow(
+        &mut self,
+        profile: Profile,
+        id: LabelId,
+        tokens: &[Token<'a>],
+    ) -> Result<Proved, ProofFault>
+        requires { (place : ℕ) × (s : Sentence)
+            × IsProofNumber self.old.book.statements id.0 place s }
+        ensures allowed { IfOk result (λ proved. (proved ≡ Proved.Incomplete)
+            × OfProof self.old.book.statements id.0 (λ place s.
+            IsFrontAllowedUnder profile (take place self.old.book.statements) s
+            (token_texts tokens.now))) }
+        ensures fault { IfErr result (λ e. OnRule e (λ rule step.
+            OfProof self.old.book.statements id.0 (λ place s.
+            IsFrontFaultUnder profile (take place self.old.book.statements) s
+            (token_texts tokens.now) rule step))) }
+        ensures book { self.new.book ≡ self.old.book }
+        ensures used { self.new.used ≡ self.old.used }
+    {
+        match allow_tokens(&mut self.scratch, &self.book, id, tokens, profile) {
+            Ok(()) => Ok(Proved::Incomplete),
+            Err(fault) => Err(fault),
         }
     }
 
@@ -301,33 +358,67 @@ fn prove_in_frame<'a>(
     }
 }
 
-// Does as `prove_in_frame`, and leaves the list empty where they don't prove it.
-fn prove_anew<'a>(
+// Whether the tokens prove the `$p` with the number and have the form that the profile demands, by a
+// list of their moves: fills the list with the assertions of its tree, or tells their first fault.
+fn prove_under<'a>(
     scratch: &mut Scratch<'a>,
-    site: Site,
+    book: &Book,
+    id: LabelId,
     tokens: &[Token<'a>],
+    profile: Profile,
 ) -> Result<(), ProofFault>
-    requires { IsSite site }
-    ensures proved { OnOk result (OfProof site.entry.statements site.entry.number (λ place s.
-        TokensProve site.entry.limit (take place site.entry.statements) s (token_texts tokens.now)
+    requires { (place : ℕ) × (s : Sentence) × IsProofNumber book.now.statements id.0 place s }
+    ensures form { OnOk result (OfProof book.now.statements id.0 (λ place s.
+        HasFormOf profile (take place book.now.statements) s (token_texts tokens.now))) }
+    ensures proved { OnOk result (OfProof book.now.statements id.0 (λ place s.
+        TokensProve (limit_of profile) (take place book.now.statements) s (token_texts tokens.now)
         (ids_in scratch.new.named.ids.items))) }
     ensures fault { IfErr result (λ e. OnRule e (λ rule step.
-        OfProof site.entry.statements site.entry.number (λ place s.
-        TokensFail site.entry.limit (take place site.entry.statements) s (token_texts tokens.now)
+        OfProof book.now.statements id.0 (λ place s.
+        IsFaultUnder profile (take place book.now.statements) s (token_texts tokens.now)
         rule step))) }
-    ensures unproved { OnErr result (scratch.new.named.ids.items ≡ []) }
+    ensures sound { IsSound book.now.statements }
 {
-    match prove_in_frame(scratch, site, tokens) {
-        Ok(()) => Ok(()),
-        Err(fault) => {
-            scratch.named.ids.clear();
-            Err(fault)
-        }
-    }
+    let site = Site::new(book, id, profile);
+    let Scratch {
+        alloc,
+        lists,
+        store,
+        named,
+    } = scratch;
+    fill_under(*alloc, lists, profile, &site, tokens)?;
+    store.clear();
+    judgement_in_frame(store, named, &site, &lists.moves, &lists.picked.ids)
 }
 
 // Whether the tokens prove the `$p` with the number: fills the list with the assertions of its
-// tree, or tells their first fault, and then leaves it empty.
+// tree, or tells their first fault. The lenient profile demands no form, and needs no list of moves.
+fn prove_by_profile<'a>(
+    scratch: &mut Scratch<'a>,
+    book: &Book,
+    id: LabelId,
+    tokens: &[Token<'a>],
+    profile: Profile,
+) -> Result<(), ProofFault>
+    requires { (place : ℕ) × (s : Sentence) × IsProofNumber book.now.statements id.0 place s }
+    ensures form { OnOk result (OfProof book.now.statements id.0 (λ place s.
+        HasFormOf profile (take place book.now.statements) s (token_texts tokens.now))) }
+    ensures proved { OnOk result (OfProof book.now.statements id.0 (λ place s.
+        TokensProve (limit_of profile) (take place book.now.statements) s (token_texts tokens.now)
+        (ids_in scratch.new.named.ids.items))) }
+    ensures fault { IfErr result (λ e. OnRule e (λ rule step.
+        OfProof book.now.statements id.0 (λ place s.
+        IsFaultUnder profile (take place book.now.statements) s (token_texts tokens.now)
+        rule step))) }
+    ensures sound { IsSound book.now.statements }
+{
+    match profile {
+        Profile::Lenient => prove_in_frame(scratch, Site::new(book, id, profile), tokens),
+        Profile::Strict => prove_under(scratch, book, id, tokens, profile),
+    }
+}
+
+// Does as `prove_by_profile`, and leaves the list empty where they don't prove it.
 fn prove_tokens<'a>(
     scratch: &mut Scratch<'a>,
     book: &Book,
@@ -336,15 +427,74 @@ fn prove_tokens<'a>(
     profile: Profile,
 ) -> Result<(), ProofFault>
     requires { (place : ℕ) × (s : Sentence) × IsProofNumber book.now.statements id.0 place s }
+    ensures form { OnOk result (OfProof book.now.statements id.0 (λ place s.
+        HasFormOf profile (take place book.now.statements) s (token_texts tokens.now))) }
     ensures proved { OnOk result (OfProof book.now.statements id.0 (λ place s.
         TokensProve (limit_of profile) (take place book.now.statements) s (token_texts tokens.now)
         (ids_in scratch.new.named.ids.items))) }
     ensures fault { IfErr result (λ e. OnRule e (λ rule step.
         OfProof book.now.statements id.0 (λ place s.
-        TokensFail (limit_of profile) (take place book.now.statements) s (token_texts tokens.now)
+        IsFaultUnder profile (take place book.now.statements) s (token_texts tokens.now)
         rule step))) }
     ensures unproved { OnErr result (scratch.new.named.ids.items ≡ []) }
     ensures sound { IsSound book.now.statements }
 {
-    prove_anew(scratch, Site::new(book, id, profile), tokens)
+    match prove_by_profile(scratch, book, id, tokens, profile) {
+        Ok(()) => Ok(()),
+        Err(fault) => {
+            scratch.named.ids.clear();
+            Err(fault)
+        }
+    }
+}
+
+// Whether the known front of the tokens breaks no rule, or its first fault.
+fn allow_tokens<'a>(
+    scratch: &mut Scratch<'a>,
+    book: &Book,
+    id: LabelId,
+    tokens: &[Token<'a>],
+    profile: Profile,
+) -> Result<(), ProofFault>
+    requires { (place : ℕ) × (s : Sentence) × IsProofNumber book.now.statements id.0 place s }
+    ensures allowed { OnOk result (OfProof book.now.statements id.0 (λ place s.
+        IsFrontAllowedUnder profile (take place book.now.statements) s
+        (token_texts tokens.now))) }
+    ensures fault { IfErr result (λ e. OnRule e (λ rule step.
+        OfProof book.now.statements id.0 (λ place s.
+        IsFrontFaultUnder profile (take place book.now.statements) s
+        (token_texts tokens.now) rule step))) }
+    ensures named { scratch.new.named ≡ scratch.old.named }
+{
+    let front = known_front(scratch.alloc, tokens)?;
+    pass_tokens(scratch, book, id, &front, profile)
+}
+
+// Whether the tokens of a front of a proof of the `$p` break no rule, or their first fault.
+fn pass_tokens<'a>(
+    scratch: &mut Scratch<'a>,
+    book: &Book,
+    id: LabelId,
+    front: &[Token<'a>],
+    profile: Profile,
+) -> Result<(), ProofFault>
+    requires { (place : ℕ) × (s : Sentence) × IsProofNumber book.now.statements id.0 place s }
+    ensures allowed { OnOk result (OfProof book.now.statements id.0 (λ place s.
+        AreAllowedUnder profile (take place book.now.statements) s (token_texts front.now))) }
+    ensures fault { IfErr result (λ e. OnRule e (λ rule step.
+        OfProof book.now.statements id.0 (λ place s.
+        HaveFaultUnder profile (take place book.now.statements) s (token_texts front.now)
+        rule step))) }
+    ensures named { scratch.new.named ≡ scratch.old.named }
+{
+    let site = Site::new(book, id, profile);
+    let Scratch {
+        alloc,
+        lists,
+        store,
+        ..
+    } = scratch;
+    fill_under(*alloc, lists, profile, &site, front)?;
+    store.clear();
+    pass(store, &site, &lists.moves)
 }

@@ -1,6 +1,6 @@
 //! Whether two proofs spell one tree (the Metamath book, section 4.3 and appendix B).
 
-ghost use Rattle.std.specs.Prelude.{◌↔◌, ℕ, List, take, IfOk, IsTrue};
+ghost use Rattle.std.specs.Prelude.{◌≡◌, ◌↔◌, ℕ, List, take, IfOk, IsTrue, false};
 ghost use Rattle.mm_proof.specs.Moves.{Move};
 ghost use Rattle.mm_proof.specs.OneTree.{MakeOneTree, MakeSameTree};
 ghost use Rattle.mm_proof.specs.Steps.{AreNumberedMoves, AreSteps};
@@ -27,9 +27,11 @@ pub fn same(
     second: &Steps,
 ) -> Result<bool, AllocError>
     requires first { AreSteps book.now.statements id.0 first.now.moves }
+    requires first_whole { first.now.front ≡ false }
     requires first_makes { OfMoves book.now.statements id.0 first.now.moves
         (λ place s moves. MakeOneTree (take place book.now.statements) moves) }
     requires second { AreSteps book.now.statements id.0 second.now.moves }
+    requires second_whole { second.now.front ≡ false }
     requires second_makes { OfMoves book.now.statements id.0 second.now.moves
         (λ place s moves. MakeOneTree (take place book.now.statements) moves) }
     // It is true exactly if one tree is made by both.

@@ -3,13 +3,14 @@
 ghost use Rattle.std.specs.Prelude.{◌≡◌, ℕ};
 ghost use Rattle.mm_frame.specs.Sentence.{Sentence};
 ghost use Rattle.mm_frame.specs.Form.{IsSound};
-ghost use Rattle.mm_frame.specs.FramePlace.{AreItsSymbols};
+ghost use Rattle.mm_frame.specs.FramePlace.{AreHypotheses, AreItsSymbols};
 ghost use Rattle.mm_proof.specs.Profiles.{limit_of};
 ghost use Rattle.mm_proof.specs.Steps.{IsProofNumber};
+ghost use Rattle.mm_proof.specs.CodeSteps.{label_ids};
 ghost use Rattle.mm_proof.specs.Stores.{numbers_in};
 
 use crate::profile::Profile;
-use mm_frame::{Book, Frame, LabelId, Sym};
+use mm_frame::{Book, Frame, Hypothesis, LabelId, Sym};
 use std::marker::Model;
 
 /// Where a proof is judged: the book, the number of its `$p` and the frame of that, and the most
@@ -73,5 +74,14 @@ impl<'b, 'a> Site<'b, 'a> {
         ensures site { IsSite self.now }
     {
         self.own.expression()
+    }
+
+    /// The mandatory hypotheses of the `$p`, in database order.
+    pub(crate) fn hypotheses(&self) -> &'b [Hypothesis]
+        ensures ids { AreHypotheses
+            (record { statements = self.now.statements; place = self.now.place })
+            (label_ids result.now) }
+    {
+        self.own.hypotheses()
     }
 }

@@ -57,8 +57,8 @@ impl Named {
     }
 }
 
-// Whether the label is that of an assertion.
-fn is_assertion(book: &Book, id: LabelId) -> bool
+/// Whether the label is that of an assertion.
+pub(crate) fn is_assertion(book: &Book, id: LabelId) -> bool
     requires used { (place : ℕ) × (label : List ℕ)
         × MayBeUsed book.now.statements place label id.0 }
     ensures { IsTrue result ↔ IsAssertionNumber book.now.statements id.0 }

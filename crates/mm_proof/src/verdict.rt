@@ -1,7 +1,7 @@
 //! The verdict on the moves of a proof.
 
 ghost use Rattle.std.specs.Prelude.{◌≡◌, ◌≤◌, ℕ, List, [], ◌∷◌, ◌++◌, take, length, slice_get};
-ghost use Rattle.std.specs.Prelude.{Some, Ok, Err, IfOk, IfErr, OnOk, IsOkUnless};
+ghost use Rattle.std.specs.Prelude.{Some, Ok, Err, IfOk, IfErr, OnOk, IsOkUnless, true, false};
 ghost use Rattle.std.specs.List.{AllByRecursion};
 ghost use Rattle.mm_frame.specs.Sentence.{Sentence};
 ghost use Rattle.mm_frame.specs.Numbers.{IsNumbered};
@@ -10,6 +10,8 @@ ghost use Rattle.mm_proof.specs.Stores.{numbers_in};
 ghost use Rattle.mm_proof.specs.Moves.{Move};
 ghost use Rattle.mm_proof.specs.Proof.{Prove, IsWithin, IsMoveFault};
 ghost use Rattle.mm_proof.specs.Profiles.{limit_of};
+ghost use Rattle.mm_proof.specs.KnownFront.{Pass};
+ghost use Rattle.mm_proof.specs.Sites.{IsSite};
 ghost use Rattle.mm_proof.specs.Steps.{AreNumberedMoves, AreSteps};
 ghost use Rattle.mm_frame.specs.Form.{IsSound};
 ghost use Rattle.mm_proof.specs.CodeSteps.{MayBeUsed, ids_in, moves_in};
@@ -266,9 +268,61 @@ pub(crate) fn answer<S: Store>(
     }
 }
 
+// Whether all moves pass, or their first fault.
+pub(crate) fn pass<S: Store>(
+    store: &mut S,
+    site: &Site,
+    moves: &[NumberedMove],
+) -> Result<(), ProofFault>
+    requires site { IsSite site.now }
+    requires stack { S.stack store.old ≡ [] }
+    requires kept { S.kept store.old ≡ [] }
+    requires steps { AreSteps site.now.statements site.now.number (moves_in moves.now) }
+    ensures passed { OnOk result
+        (OfMoves site.now.statements site.now.number (moves_in moves.now) (λ place s names.
+        Pass (IsWithin site.now.limit) (take place site.now.statements) names)) }
+    ensures fault { IfErr result (λ e. OnRule e (λ rule step.
+        OfMoves site.now.statements site.now.number (moves_in moves.now) (λ place s names.
+        IsMoveFault (IsWithin site.now.limit) (take place site.now.statements) names rule step))) }
+{
+    run(store, site, moves)?;
+    Ok(())
+}
+
+// The answer on the moves of a front. The store is handed in empty.
+fn answer_front<S: Store>(
+    alloc: Global,
+    store: &mut S,
+    book: &Book,
+    id: LabelId,
+    steps: &Steps,
+) -> Result<Used, ProofFault>
+    requires stack { S.stack store.old ≡ [] }
+    requires kept { S.kept store.old ≡ [] }
+    requires steps { AreSteps book.now.statements id.0 steps.now.moves }
+    ensures empty { IfOk result (λ used. used ≡ []) }
+    ensures passed { OnOk result (OfMoves book.now.statements id.0 steps.now.moves
+        (λ place s names.
+        Pass (IsWithin (limit_of steps.now.profile)) (take place book.now.statements) names)) }
+    ensures fault { IfErr result (λ e. OnRule e (λ rule step.
+        OfMoves book.now.statements id.0 steps.now.moves (λ place s names.
+        IsMoveFault (IsWithin (limit_of steps.now.profile)) (take place book.now.statements) names
+        rule step))) }
+    ensures sound { IsSound book.now.statements }
+{
+    let site = Site::new(book, id, steps.profile);
+    pass(store, &site, &steps.moves)?;
+    Ok(Used {
+        labels: Vec::new(alloc),
+    })
+}
+
 /// Whether the moves prove the `$p` with this number, under the profile of the steps: the
 /// assertions of its tree, each once, in database order; or the first of P6 to P14 and L1 that they
 /// break, with the number of the step. The store is handed in empty.
+///
+/// Of the moves of a front it is told whether they pass: an empty list, or the first of P6 to P12
+/// and L1 that they break.
 pub fn verify<S: Store + Drop>(
     alloc: Global,
     mut store: S,
@@ -280,27 +334,62 @@ pub fn verify<S: Store + Drop>(
     requires kept { S.kept store ≡ [] }
     requires steps { AreSteps book.now.statements id.0 steps.now.moves }
     // What is answered `Ok` is proved, and these are the assertions of its tree.
-    ensures proved { IfOk result (λ used. OfMoves book.now.statements id.0 steps.now.moves
+    ensures proved { steps.now.front ≡ false
+        → IfOk result (λ used. OfMoves book.now.statements id.0 steps.now.moves
         (λ place s moves.
         ProvesUsing (limit_of steps.now.profile) book.now.statements place s moves used)) }
 
     // The rule and the step are those of the first fault.
-    ensures fault { (rule : ProofRule) → (step : ℕ) → result ≡ Err (ProofFault.Rule rule step)
+    ensures fault { steps.now.front ≡ false
+        → (rule : ProofRule) → (step : ℕ) → result ≡ Err (ProofFault.Rule rule step)
         → OfMoves book.now.statements id.0 steps.now.moves
         (λ place s moves.
         FailsWith (limit_of steps.now.profile) book.now.statements place s moves rule step) }
 
     // What is proved is answered `Ok`, unless memory is refused.
-    ensures accepts { OfMoves book.now.statements id.0 steps.now.moves (λ place s moves.
+    ensures accepts { steps.now.front ≡ false
+        → OfMoves book.now.statements id.0 steps.now.moves (λ place s moves.
         Prove (IsWithin (limit_of steps.now.profile)) (take place book.now.statements) s moves
         → IsOkUnless result ProofFault.Memory) }
 
     // What has a fault is answered with it, unless memory is refused.
-    ensures refuses { OfMoves book.now.statements id.0 steps.now.moves (λ place s moves.
+    ensures refuses { steps.now.front ≡ false
+        → OfMoves book.now.statements id.0 steps.now.moves (λ place s moves.
         (rule : ProofRule) → (step : ℕ)
         → FailsWith (limit_of steps.now.profile) book.now.statements place s moves rule step
         → IsUnlessMemory result (Err (ProofFault.Rule rule step))) }
+
+    // The moves of a front that is answered `Ok` pass, and no assertion is told.
+    ensures passed { steps.now.front ≡ true
+        → IfOk result (λ used. (used ≡ []) × OfMoves book.now.statements id.0 steps.now.moves
+        (λ place s moves. Pass (IsWithin (limit_of steps.now.profile))
+        (take place book.now.statements) moves)) }
+
+    // The rule and the step are those of the first fault of the front.
+    ensures front_fault { steps.now.front ≡ true
+        → (rule : ProofRule) → (step : ℕ) → result ≡ Err (ProofFault.Rule rule step)
+        → OfMoves book.now.statements id.0 steps.now.moves
+        (λ place s moves. IsMoveFault (IsWithin (limit_of steps.now.profile))
+        (take place book.now.statements) moves rule step) }
+
+    // A front that passes is answered `Ok`, unless memory is refused.
+    ensures accepts_front { steps.now.front ≡ true
+        → OfMoves book.now.statements id.0 steps.now.moves (λ place s moves.
+        Pass (IsWithin (limit_of steps.now.profile)) (take place book.now.statements) moves
+        → IsOkUnless result ProofFault.Memory) }
+
+    // A front that has a fault is answered with it, unless memory is refused.
+    ensures refuses_front { steps.now.front ≡ true
+        → OfMoves book.now.statements id.0 steps.now.moves (λ place s moves.
+        (rule : ProofRule) → (step : ℕ)
+        → IsMoveFault (IsWithin (limit_of steps.now.profile)) (take place book.now.statements) moves
+        rule step
+        → IsUnlessMemory result (Err (ProofFault.Rule rule step))) }
 {
-    let mut named = Named::new(alloc);
-    answer(alloc, &mut store, &mut named, book, id, steps)
+    if steps.is_front() {
+        answer_front(alloc, &mut store, book, id, steps)
+    } else {
+        let mut named = Named::new(alloc);
+        answer(alloc, &mut store, &mut named, book, id, steps)
+    }
 }

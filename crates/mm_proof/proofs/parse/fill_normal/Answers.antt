@@ -1,4 +1,4 @@
-use Rattle.std.proofs.Common.{ℕ, List, map, subst, sym, ap, ◌∙◌}
+use Rattle.std.proofs.Common.{slice_get, ℕ, List, map, subst, sym, ap, ◌∙◌}
 use Rattle.std.proofs.lemmas.Result.{err_from_is_err_and}
 use Rattle.mm_proof.specs.Moves.{Move, name}
 use Rattle.mm_proof.specs.declared.moves.NumberedMove.{NumberedMove}
@@ -30,3 +30,6 @@ pub returns-in_err-fill_numbers-clause-fault : goal.returns-in_err-fill_numbers-
 returns-in_err-fill_numbers-clause-fault c =
     let p = err_from_is_err_and c.from_residual.result c.from_residual.ensures.1 in
     rw (p.1, p.2, ← c.site.view_is) (on_rule_map c.in_err-fill_numbers.field-0.0 _ _ (λ rule step h. (h.0, labels_fault _ _ _ _ rule (normal_labels _ c.requires.normal) h.1)) c.in_err-fill_numbers.ensures.fault)
+
+pub returns-clause-listed : goal.returns-clause-listed
+returns-clause-listed c labels letters parts = absurd (c.requires.normal (ap (λ l. slice_get l 0) parts.whole))

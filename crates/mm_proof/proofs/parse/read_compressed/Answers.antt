@@ -4,10 +4,10 @@ use Rattle.std.proofs.lemmas.Result.{err_from_is_err_and}
 use Rattle.mm_code.specs.declared.code.CodeRule.TheVariants as code
 use Rattle.mm_frame.specs.Sentence.{Sentence}
 use Rattle.mm_frame.specs.FramePlace.{AreHypotheses}
-use Rattle.mm_proof.specs.CodeSteps.{NumberSays, MayAllBeUsed, ids_in, label_ids}
+use Rattle.mm_proof.specs.CodeSteps.{NumberSays, MayAllBeUsed, AreFor, ids_in, label_ids}
 use Rattle.mm_proof.proofs.Answering.{on_rule_map}
 use Rattle.mm_proof.proofs.TokenFacts.{labels_fault}
-use Rattle.mm_proof.proofs.Compressed.{reading_compressed, entries_usable, compressed_labels, letters_spelled, letter_broken}
+use Rattle.mm_proof.proofs.Compressed.{one_compressed, reading_compressed, entries_usable, compressed_labels, letters_spelled, letter_broken}
 use Rattle.mm_proof.proofs.parse.read_compressed.Goals as goal
 
 pub returns-clause-spelled : goal.returns-clause-spelled
@@ -41,3 +41,9 @@ returns-clause-usable c =
     subst (λ (ids : List ℕ). MayAllBeUsed c.site.inside.book.now.statements c.site.inside.own.place ids) (sym entries)
     (entries_usable c.site.inside.book.now.statements c.site.inside.own.place _ _ _ c.site.invariant.1.sound.0 c.site.invariant.1.sound.1 c.in_ok-fill_numbers.ensures.ok
     (subst (λ (st : List Sentence). AreHypotheses (record { statements = st; place = c.site.inside.own.place }) (label_ids c.hypotheses.result.now)) c.site.invariant.0 c.hypotheses.ensures.ids)))
+
+pub returns-clause-listed : goal.returns-clause-listed
+returns-clause-listed c labels letters parts =
+    rw (← c.site.view_is) (
+    subst (AreFor c.site.inside.book.now.statements c.site.inside.own.place (ids_in c.fill_numbers.new.ids.items))
+    (sym (one_compressed _ labels letters _ _ parts c.in-Some.ensures).0) c.in_ok-fill_numbers.ensures.ok)

@@ -9,7 +9,7 @@ invariant_of-result c =
     let proof = c.requires.proof in
     let st = c.args.book.now.statements in
     let said = rw (c.new-site.ensures.statements, c.new-site.ensures.number) at
-    c.in_ok-fill_steps.ensures.steps in
+    c.in_ok-fill_under.ensures.steps in
     let says = said proof.0 proof.1 proof.2 in
     let few = moves_bytes st (take proof.0 st) proof.1 (token_texts c.args.tokens.now) _ says.1
     c.requires.filled says.2 says.3 in
@@ -17,10 +17,14 @@ invariant_of-result c =
 
 pub returns-clause-steps : goal.returns-clause-steps
 returns-clause-steps c = rw (c.new-site.ensures.statements, c.new-site.ensures.number) at
-    c.in_ok-fill_steps.ensures.steps
+    c.in_ok-fill_under.ensures.steps
 
-pub returns-in_err-fill_steps-clause-fault : goal.returns-in_err-fill_steps-clause-fault
-returns-in_err-fill_steps-clause-fault c =
+pub returns-in_err-fill_under-clause-fault : goal.returns-in_err-fill_under-clause-fault
+returns-in_err-fill_under-clause-fault c =
     let p = err_from_is_err_and c.from_residual.result c.from_residual.ensures.1 in
     rw (p.1, p.2) (rw (c.new-site.ensures.statements, c.new-site.ensures.number) at
-    c.in_err-fill_steps.ensures.fault)
+    c.in_err-fill_under.ensures.fault)
+
+pub returns-clause-form : goal.returns-clause-form
+returns-clause-form c = rw (c.new-site.ensures.statements, c.new-site.ensures.number) at
+    c.in_ok-fill_under.ensures.form

@@ -1,0 +1,169 @@
+-- Labels that are new, one after the other.
+use Rattle.std.proofs.Common.{◌≡◌, ℕ, zero, suc, ◌+◌, ◌<◌, ◌≤◌, List, [], ◌∷◌, ◌++◌, length, take, get_or, slice_get, Contains, Bool, true, false, Some, ◌⊎◌, ◌↔◌, inl, inr, ⊎_elim, refl, sym, ap, subst, ◌∙◌, arith}
+use Rattle.std.proofs.lemmas.Option.{same_Some, slice_get_within}
+use Rattle.std.proofs.lemmas.Bool.{cases_lt}
+use Rattle.std.proofs.lemmas.List.{length-map}
+use Rattle.std.proofs.lemmas.List.Elements.{Contains-append_left, Contains-append_right, Contains-append_cases}
+use Rattle.mm_frame.specs.declared.number.LabelId.{LabelId}
+use Rattle.mm_frame.specs.Sentence.{Sentence}
+use Rattle.mm_proof.specs.declared.moves.NumberedMove.{NumberedMove}
+use Rattle.mm_proof.specs.declared.moves.NumberedMove.TheVariants as code
+use Rattle.mm_proof.specs.Moves.{Move, name, mark}
+use Rattle.mm_proof.specs.CodeSteps.{ids_in, move_in, moves_in}
+use Rattle.mm_proof.proofs.Running.{move_at}
+use Rattle.mm_proof.specs.CodeSharing.{AddsNew}
+use Rattle.mm_proof.specs.CodeForm.{AllNew, SomeOld, IsAfterAssertion, AreMarksStrict}
+
+only_one : (n x : ℕ) → Contains (n ∷ []) x → n ≡ x
+only_one n x (zero, within, is) = is
+only_one n x (suc k, within, is) = absurd (let w : suc k < 1 = within in omega arith)
+
+-- what is among them after one was put behind them
+added_has : (old : List ℕ) (n : ℕ) (b : Bool) (new : List ℕ) → AddsNew old n b new → (x : ℕ) → Contains new x ↔ (Contains old x ⊎ (n ≡ x))
+added_has old n false new a x = (
+  (λ h. inl (subst (λ l. Contains l x) a.1 h)),
+  λ h. subst (λ l. Contains l x) (sym a.1) (⊎_elim (λ o. o) (λ e. subst (Contains old) e a.0) h),
+)
+added_has old n true new a x = (
+  (λ h. ⊎_elim (λ o. inl o) (λ e. inr (only_one n x e)) (Contains-append_cases old (n ∷ []) x (subst (λ l. Contains l x) a.1 h))),
+  λ h. subst (λ l. Contains l x) (sym a.1)
+      (⊎_elim (λ o. Contains-append_left old (n ∷ []) x o) (λ e. Contains-append_right old (n ∷ []) x (0, omega arith, e)) h),
+)
+
+-- the numbers of one label more
+pub ids_more : (ids : List LabelId) (i : ℕ) (d : LabelId) → i < length ids → take (i + 1) (ids_in ids) ≡ take i (ids_in ids) ++ (get_or ids i d).0 ∷ []
+ids_more [] i d less = absurd (omega arith)
+ids_more (id ∷ ids) zero d less = refl
+ids_more (id ∷ ids) (suc i) d less =
+    let more : suc i + 1 ≡ suc (i + 1) = omega arith in
+    ap (λ n. take n (id.0 ∷ ids_in ids)) more ∙ ap (λ l. id.0 ∷ l) (ids_more ids i d (omega arith))
+
+pub id_at : (ids : List LabelId) (i : ℕ) (d : LabelId) → i < length ids → slice_get (ids_in ids) i ≡ Some (get_or ids i d).0
+id_at [] i d less = absurd (omega arith)
+id_at (id ∷ ids) zero d less = refl
+id_at (id ∷ ids) (suc i) d less = id_at ids i d (omega arith)
+
+-- so far each is new, and these are seen
+pub record NewSoFar (first seen ids : List ℕ) (i : ℕ) : Type 0 where
+  pub new : (j id : ℕ) → j < i → slice_get ids j ≡ Some id → ¬ (Contains first id) × ¬ (Contains (take j ids) id)
+  pub has : (x : ℕ) → Contains seen x ↔ (Contains first x ⊎ Contains (take i ids) x)
+
+nothing_in : (x : ℕ) (ids : List ℕ) → ¬ (Contains (take 0 ids) x)
+nothing_in x [] h = absurd (let w : h.0 < 0 = h.1 in omega arith)
+nothing_in x (n ∷ ids) h = absurd (let w : h.0 < 0 = h.1 in omega arith)
+
+pub new_none : (first : List ℕ) (ids : List ℕ) → NewSoFar first first ids 0
+new_none first ids = record {
+  new = λ j id less. absurd (omega arith);
+  has = λ x. ((λ h. inl h), λ h. ⊎_elim (λ f. f) (λ n. absurd (nothing_in x ids n)) h);
+}
+
+new_more : (first seen next : List ℕ) (ids : List LabelId) (i : ℕ) (d : LabelId) → i < length ids → NewSoFar first seen (ids_in ids) i → AddsNew seen (get_or ids i d).0 true next
+    → NewSoFar first next (ids_in ids) (i + 1)
+new_more first seen next ids i d less so a = record { new = new; has = has }
+  where
+    here : slice_get (ids_in ids) i ≡ Some (get_or ids i d).0
+    here = id_at ids i d less
+
+    new : (j id : ℕ) → j < i + 1 → slice_get (ids_in ids) j ≡ Some id → ¬ (Contains first id) × ¬ (Contains (take j (ids_in ids)) id)
+    new j id below at = elim (cases_lt j i) [
+      | inl l ↦ so.new j id l at
+      | inr m ↦
+          let same : j ≡ i = omega arith in
+          let one : (get_or ids i d).0 ≡ id = same_Some (get_or ids i d).0 id (sym here ∙ ap (slice_get (ids_in ids)) (sym same) ∙ at) in
+          let none = λ (h : Contains seen id). a.0 (subst (Contains seen) (sym one) h) in
+          ((λ f. none ((so.has id).1 (inl f))), λ t. none ((so.has id).1 (inr (subst (λ k. Contains (take k (ids_in ids)) id) same t))))
+    ]
+
+    has : (x : ℕ) → Contains next x ↔ (Contains first x ⊎ Contains (take (i + 1) (ids_in ids)) x)
+    has x =
+        let more = ids_more ids i d less in
+        let added = added_has seen (get_or ids i d).0 true next a x in (
+          (λ h. ⊎_elim
+              (λ s. ⊎_elim (λ f. inl f) (λ t. inr (subst (λ l. Contains l x) (sym more) (Contains-append_left (take i (ids_in ids)) ((get_or ids i d).0 ∷ []) x t))) ((so.has x).0 s))
+              (λ e. inr (subst (λ l. Contains l x) (sym more) (Contains-append_right (take i (ids_in ids)) ((get_or ids i d).0 ∷ []) x (0, omega arith, e)))) (added.0 h)),
+          λ h. added.1 (⊎_elim (λ f. inl ((so.has x).1 (inl f)))
+              (λ t. ⊎_elim (λ b. inl ((so.has x).1 (inr b))) (λ e. inr (only_one (get_or ids i d).0 x e)) (Contains-append_cases (take i (ids_in ids)) ((get_or ids i d).0 ∷ []) x (subst (λ l. Contains l x) more t))) h),
+        )
+
+pub new_all : (first seen : List ℕ) (ids : List LabelId) (i : ℕ) → length ids ≤ i → NewSoFar first seen (ids_in ids) i → AllNew first (ids_in ids)
+new_all first seen ids i past so j id at = so.new j id (omega (arith, slice_get_within (ids_in ids) j id at, length_ids ids)) at
+  where
+    length_ids : (l : List LabelId) → length (ids_in l) ≡ length l
+    length_ids [] = refl
+    length_ids (x ∷ l) = ap (λ n. suc n) (length_ids l)
+
+old_one : (first seen next : List ℕ) (ids : List LabelId) (i : ℕ) (d : LabelId) → i < length ids → NewSoFar first seen (ids_in ids) i → AddsNew seen (get_or ids i d).0 false next
+    → SomeOld first (ids_in ids)
+old_one first seen next ids i d less so a = (i, (get_or ids i d).0, id_at ids i d less, (so.has (get_or ids i d).0).0 a.0)
+
+-- ---- labels of hypotheses, put into a set one after the other
+
+pub set_more : (old new hids more : List ℕ) (n : ℕ) (b : Bool) → ((x : ℕ) → Contains old x ↔ Contains hids x) → AddsNew old n b new → more ≡ hids ++ n ∷ []
+    → (x : ℕ) → Contains new x ↔ Contains more x
+set_more old new hids more n b same a is x =
+    let added = added_has old n b new a x in (
+      (λ h. subst (λ l. Contains l x) (sym is)
+          (⊎_elim (λ o. Contains-append_left hids (n ∷ []) x ((same x).0 o)) (λ e. Contains-append_right hids (n ∷ []) x (0, omega arith, e)) (added.0 h))),
+      λ h. added.1 (⊎_elim (λ o. inl ((same x).1 o)) (λ e. inr (only_one n x e)) (Contains-append_cases hids (n ∷ []) x (subst (λ l. Contains l x) is h))),
+    )
+
+pub new_seen : (seen hids ids : List ℕ) → ((x : ℕ) → Contains seen x ↔ Contains hids x) → AllNew seen ids → AllNew hids ids
+new_seen seen hids ids same new j id at = let n = new j id at in ((λ h. n.0 ((same id).1 h)), n.1)
+
+pub old_seen : (seen hids ids : List ℕ) → ((x : ℕ) → Contains seen x ↔ Contains hids x) → SomeOld seen ids → SomeOld hids ids
+old_seen seen hids ids same (j, id, at, o) = (j, id, at, ⊎_elim (λ h. inl ((same id).0 h)) (λ t. inr t) o)
+
+-- ---- the code's moves
+
+pub move_name : (m : NumberedMove) (id : ℕ) → move_in m ≡ name id → (x : LabelId) × (m ≡ code.Name x)
+move_name (code.Name x) id e = (x, refl)
+move_name (code.Again tag) id e = absurd cc
+move_name code.Mark id e = absurd cc
+
+pub move_mark : (m : NumberedMove) → move_in m ≡ mark → m ≡ code.Mark
+move_mark (code.Name x) e = absurd cc
+move_mark (code.Again tag) e = absurd cc
+move_mark code.Mark e = refl
+
+pub one_name : (a b : ℕ) → ◌≡◌ {A = Move ℕ} (name a) (name b) → a ≡ b
+one_name a b e = cc
+
+-- one mark more
+marks_more : (st : List Sentence) (moves : List NumberedMove) (i : ℕ) (d : NumberedMove) → i < length moves
+    → ((k : ℕ) → k < i → slice_get (moves_in moves) k ≡ Some mark → IsAfterAssertion st (moves_in moves) k)
+    → (get_or moves i d ≡ code.Mark → IsAfterAssertion st (moves_in moves) i)
+    → (k : ℕ) → k < i + 1 → slice_get (moves_in moves) k ≡ Some mark → IsAfterAssertion st (moves_in moves) k
+marks_more st moves i d less before here k below at = elim (cases_lt k i) [
+  | inl l ↦ before k l at
+  | inr m ↦
+      let same : k ≡ i = omega arith in
+      let marked : move_in (get_or moves i d) ≡ mark = same_Some (move_in (get_or moves i d)) mark (sym (move_at moves i d less) ∙ ap (slice_get (moves_in moves)) (sym same) ∙ at) in
+      subst (IsAfterAssertion st (moves_in moves)) (sym same) (here (move_mark (get_or moves i d) marked))
+]
+
+pub marks_all : (st : List Sentence) (moves : List NumberedMove) (i : ℕ) → length moves ≤ i
+    → ((k : ℕ) → k < i → slice_get (moves_in moves) k ≡ Some mark → IsAfterAssertion st (moves_in moves) k) → AreMarksStrict st (moves_in moves)
+marks_all st moves i past before k at = before k (omega (arith, slice_get_within (moves_in moves) k mark at, length-map moves move_in)) at
+
+-- ---- what the code tells at once
+
+pub new_one : (first seen next : List ℕ) (ids : List LabelId) (i : ℕ) (d : LabelId) (b : Bool) → i < length ids → NewSoFar first seen (ids_in ids) i → AddsNew seen (get_or ids i d).0 b next → b ≡ true
+    → NewSoFar first next (ids_in ids) (i + 1)
+new_one first seen next ids i d b less so a is = new_more first seen next ids i d less so (subst (λ (c : Bool). AddsNew seen (get_or ids i d).0 c next) is a)
+
+pub old_here : (first seen next : List ℕ) (ids : List LabelId) (i : ℕ) (d : LabelId) (b : Bool) → i < length ids → NewSoFar first seen (ids_in ids) i → AddsNew seen (get_or ids i d).0 b next → b ≡ false
+    → SomeOld first (ids_in ids)
+old_here first seen next ids i d b less so a is = old_one first seen next ids i d less so (subst (λ (c : Bool). AddsNew seen (get_or ids i d).0 c next) is a)
+
+pub mark_here : (st : List Sentence) (moves : List NumberedMove) (i : ℕ) (d : NumberedMove) → i < length moves
+    → ((k : ℕ) → k < i → slice_get (moves_in moves) k ≡ Some mark → IsAfterAssertion st (moves_in moves) k)
+    → get_or moves i d ≡ code.Mark → IsAfterAssertion st (moves_in moves) i
+    → (k : ℕ) → k < i + 1 → slice_get (moves_in moves) k ≡ Some mark → IsAfterAssertion st (moves_in moves) k
+mark_here st moves i d less before is here = marks_more st moves i d less before (λ marked. here)
+
+pub no_mark : (st : List Sentence) (moves : List NumberedMove) (i : ℕ) (d : NumberedMove) → i < length moves
+    → ((k : ℕ) → k < i → slice_get (moves_in moves) k ≡ Some mark → IsAfterAssertion st (moves_in moves) k)
+    → ¬ (get_or moves i d ≡ code.Mark)
+    → (k : ℕ) → k < i + 1 → slice_get (moves_in moves) k ≡ Some mark → IsAfterAssertion st (moves_in moves) k
+no_mark st moves i d less before not_so = marks_more st moves i d less before (λ marked. absurd (not_so marked))

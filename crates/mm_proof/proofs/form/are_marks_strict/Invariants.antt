@@ -1,0 +1,8 @@
+use Rattle.std.proofs.Common.{◌≡◌, ℕ, ◌<◌, slice_get, Some}
+use Rattle.mm_proof.specs.Moves.{mark}
+use Rattle.mm_proof.specs.CodeSteps.{moves_in}
+use Rattle.mm_proof.specs.CodeForm.{IsAfterAssertion}
+use Rattle.mm_proof.proofs.form.are_marks_strict.Given as goal
+
+abbrev pub invariant-loop-place : goal.invariant-loop-place
+invariant-loop-place l = (k : ℕ) → k < l.place → slice_get (moves_in l.moves) k ≡ Some mark → IsAfterAssertion l.fn.book.statements (moves_in l.moves) k

@@ -1,0 +1,6 @@
+use Rattle.mm_proof.specs.CodeSteps.{ids_in}
+use Rattle.mm_proof.proofs.FormLists.{NewSoFar}
+use Rattle.mm_proof.proofs.form.are_new.Given as goal
+
+abbrev pub invariant-loop-id : goal.invariant-loop-id
+invariant-loop-id l = NewSoFar l.fn.seen l.seen (ids_in l.listed) l.id-index

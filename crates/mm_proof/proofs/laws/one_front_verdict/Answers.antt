@@ -1,0 +1,5 @@
+use Rattle.mm_proof.proofs.KnownFronts.{one_front_verdict_holds}
+use Rattle.mm_proof.proofs.laws.one_front_verdict.Goals as goal
+
+pub returns : goal.returns
+returns c = one_front_verdict_holds

@@ -1,0 +1,143 @@
+//! The strict form of a compressed proof: P15 (the Metamath book, appendix B).
+
+ghost use Rattle.std.specs.Prelude.{◌≡◌, ◌↔◌, ◌<◌, ℕ, List, Contains, IsTrue, IfOk, IfErr, OnOk};
+ghost use Rattle.std.specs.Prelude.{length, take, slice_get, Some, Err, true, false};
+ghost use Rattle.std.specs.List.{AllByRecursion};
+ghost use Rattle.mm_proof.specs.Answer.{OnRule};
+ghost use Rattle.mm_proof.specs.declared.fault.ProofRule.TheVariants.{P15};
+ghost use Rattle.mm_proof.specs.Tokens.{IsCompressed, opening_token};
+ghost use Rattle.mm_proof.specs.Sites.{IsSite};
+ghost use Rattle.mm_proof.specs.Steps.{AreSteps};
+ghost use Rattle.mm_proof.specs.Parsed.{OfProof, SaySteps};
+ghost use Rattle.mm_proof.specs.Strict.{IsStrict};
+ghost use Rattle.mm_proof.specs.CodeSteps.{AreFor, ids_in, label_ids, moves_in, token_texts};
+ghost use Rattle.mm_proof.specs.CodeRun.{MayBeMade};
+ghost use Rattle.mm_proof.specs.CodeForm.{AllNew, SomeOld, IsAfterAssertion, AreMarksStrict};
+ghost use Rattle.mm_proof.specs.CodeForm.{SomeMarkLoose};
+
+use crate::fault::{ProofFault, ProofRule};
+use crate::label_set::LabelSet;
+use crate::moves::NumberedMove;
+use crate::parse::is_byte;
+use crate::site::Site;
+use crate::used::is_assertion;
+use mm_frame::{Book, Hypothesis, LabelId};
+use mm_text::{Seed, Token};
+use std::alloc::{AllocError, Global};
+
+// The labels of the hypotheses.
+fn hypothesis_set(
+    alloc: Global,
+    seed: Seed,
+    hypotheses: &[Hypothesis],
+) -> Result<LabelSet, AllocError>
+    ensures { IfOk result (λ seen. (id : ℕ)
+        → Contains seen id ↔ Contains (label_ids hypotheses.now) id) }
+{
+    let mut seen = LabelSet::new(alloc, seed);
+    for hypothesis in hypotheses {
+        seen.add(hypothesis.id)?;
+    }
+    Ok(seen)
+}
+
+// Whether each of the labels is new: none of those that are seen, and none of those before it.
+fn are_new(seen: &mut LabelSet, listed: &[LabelId]) -> Result<bool, AllocError>
+    ensures new { IfOk result (λ new. new ≡ true → AllNew seen.old (ids_in listed.now)) }
+    ensures old { IfOk result (λ new. new ≡ false → SomeOld seen.old (ids_in listed.now)) }
+{
+    for id in listed {
+        if !seen.add(*id)? {
+            return Ok(false);
+        }
+    }
+    Ok(true)
+}
+
+// Whether the move before a place is a step by an assertion.
+fn is_after_assertion(book: &Book, moves: &[NumberedMove], place: usize) -> bool
+    requires within { place < length moves.now }
+    requires usable { (at : ℕ)
+        × AllByRecursion (MayBeMade book.now.statements at) (moves_in moves.now) }
+    ensures { IsTrue result ↔ IsAfterAssertion book.now.statements (moves_in moves.now) place }
+{
+    if place == 0 {
+        return false;
+    }
+    match moves[place - 1] {
+        NumberedMove::Name(id) => is_assertion(book, id),
+        _ => false,
+    }
+}
+
+// Whether each mark stands directly after a step by an assertion.
+fn are_marks_strict(book: &Book, moves: &[NumberedMove]) -> bool
+    requires { (at : ℕ)
+        × AllByRecursion (MayBeMade book.now.statements at) (moves_in moves.now) }
+    ensures strict { result ≡ true → AreMarksStrict book.now.statements (moves_in moves.now) }
+    ensures loose { result ≡ false → SomeMarkLoose book.now.statements (moves_in moves.now) }
+{
+    for (place, one) in moves.iter().enumerate() {
+        if let NumberedMove::Mark = one {
+            if !is_after_assertion(book, moves, place) {
+                return false;
+            }
+        }
+    }
+    true
+}
+
+// Whether the first of the tokens is `(`.
+fn is_compressed(tokens: &[Token]) -> bool
+    ensures { IsTrue result ↔ (slice_get (token_texts tokens.now) 0 ≡ Some opening_token) }
+{
+    match tokens {
+        [first, ..] => is_byte(first.text, b'('),
+        [] => false,
+    }
+}
+
+// That a proof hasn't the strict form.
+fn wrong_form() -> Result<(), ProofFault>
+    ensures { result ≡ Err (ProofFault.Rule P15 0) }
+{
+    Err(ProofFault::Rule {
+        rule: ProofRule::P15,
+        step: 0,
+    })
+}
+
+/// Whether the proof of the `$p` has the strict form, where these are the labels of its
+/// list, if it is compressed, and its moves: else P15.
+pub(crate) fn judge_form(
+    alloc: Global,
+    site: &Site,
+    tokens: &[Token],
+    listed: &[LabelId],
+    moves: &[NumberedMove],
+) -> Result<(), ProofFault>
+    requires site { IsSite site.now }
+    requires listed { (labels letters : List (List ℕ))
+        → IsCompressed (token_texts tokens.now) labels letters
+        → AreFor site.now.statements site.now.place (ids_in listed.now) labels }
+    requires says { OfProof site.now.statements site.now.number (λ place s.
+        SaySteps site.now.statements place s (token_texts tokens.now) (moves_in moves.now)) }
+    requires steps { AreSteps site.now.statements site.now.number (moves_in moves.now) }
+    ensures strict { OnOk result (OfProof site.now.statements site.now.number (λ place s.
+        IsStrict (take place site.now.statements) s (token_texts tokens.now))) }
+    ensures fault { IfErr result (λ e. OnRule e (λ rule step.
+        OfProof site.now.statements site.now.number (λ place s. (step ≡ 0) × (rule ≡ P15)
+        × ¬ (IsStrict (take place site.now.statements) s (token_texts tokens.now))))) }
+{
+    if !is_compressed(tokens) {
+        return Ok(());
+    }
+    let mut seen = hypothesis_set(alloc, site.book.seed(), site.hypotheses())?;
+    if !are_new(&mut seen, listed)? {
+        return wrong_form();
+    }
+    if !are_marks_strict(site.book, moves) {
+        return wrong_form();
+    }
+    Ok(())
+}

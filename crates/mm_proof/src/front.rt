@@ -1,0 +1,116 @@
+//! The known front of an incomplete proof: what stands before its first unknown step (the Metamath
+//! book, section 4.4.4 and appendix B).
+
+ghost use Rattle.std.specs.Prelude.{◌≡◌, ◌≤◌, ◌++◌, take, slice_get, length, IfOk};
+ghost use Rattle.std.specs.List.{position_or_len};
+ghost use Rattle.mm_text.specs.Items.{spells};
+ghost use Rattle.mm_proof.specs.Tokens.{closing_token};
+ghost use Rattle.mm_proof.specs.KnownFront.{is_question, is_unknown, begins_list, ends_list};
+ghost use Rattle.mm_proof.specs.KnownFront.{known_piece, known_front};
+ghost use Rattle.mm_proof.specs.CodeSteps.{token_texts};
+
+use mm_text::Token;
+use std::alloc::{AllocError, Global};
+
+// The place of the first `?` among the bytes, or how many they are.
+fn question_place(text: &[u8]) -> usize
+    ensures { result ≡ position_or_len is_question text.now }
+{
+    for (place, byte) in text.iter().enumerate() {
+        if *byte == b'?' {
+            return place;
+        }
+    }
+    text.len()
+}
+
+// Whether the token holds a `?`.
+fn is_unknown(text: &[u8]) -> bool
+    ensures { result ≡ is_unknown text.now }
+{
+    text.iter().any(|byte| *byte == b'?')
+}
+
+// How many tokens stand before the first that holds a `?`.
+fn known_count(tokens: &[Token]) -> usize
+    ensures first { result ≡ position_or_len is_unknown (token_texts tokens.now) }
+    ensures within { result ≤ length tokens.now }
+{
+    for (place, token) in tokens.iter().enumerate() {
+        if is_unknown(token.text) {
+            return place;
+        }
+    }
+    tokens.len()
+}
+
+// Whether the first token is `(`.
+fn begins_list(tokens: &[Token]) -> bool
+    ensures { result ≡ begins_list (token_texts tokens.now) }
+{
+    match tokens {
+        [first, ..] => matches!(first.text, b"("),
+        [] => false,
+    }
+}
+
+// Whether a token is `)`.
+fn is_closing(text: &[u8]) -> bool
+    ensures { result ≡ spells text.now closing_token }
+{
+    matches!(text, b")")
+}
+
+// Whether one of the tokens is `)`.
+fn ends_list(tokens: &[Token]) -> bool
+    ensures { result ≡ ends_list (token_texts tokens.now) }
+{
+    for token in tokens {
+        if is_closing(token.text) {
+            return true;
+        }
+    }
+    false
+}
+
+// The tokens before the one at a place, and what stands before the `?` in that one.
+fn text_up_to<'a>(
+    alloc: Global,
+    tokens: &[Token<'a>],
+    place: usize,
+) -> Result<Vec<Token<'a>>, AllocError>
+    requires { place ≤ length tokens.now }
+    ensures { IfOk result (λ text. token_texts text.items ≡ take place (token_texts tokens.now)
+        ++ known_piece (slice_get (token_texts tokens.now) place)) }
+{
+    let mut text = Vec::from_slice(alloc, &tokens[..place])?;
+    if let Some(token) = tokens.get(place) {
+        let known = &token.text[..question_place(token.text)];
+        if !known.is_empty() {
+            text.push(Token {
+                text: known,
+                ..*token
+            })?;
+        }
+    }
+    Ok(text)
+}
+
+/// The known front of a proof, as the tokens of a proof.
+pub(crate) fn known_front<'a>(
+    alloc: Global,
+    tokens: &[Token<'a>],
+) -> Result<Vec<Token<'a>>, AllocError>
+    ensures { IfOk result (λ front.
+        token_texts front.items ≡ known_front (token_texts tokens.now)) }
+{
+    let count = known_count(tokens);
+    let known = &tokens[..count];
+    if !begins_list(tokens) {
+        return Vec::from_slice(alloc, known);
+    }
+    if !ends_list(known) {
+        return Ok(Vec::new(alloc));
+    }
+    text_up_to(alloc, tokens, count)
+}
