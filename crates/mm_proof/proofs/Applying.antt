@@ -19,6 +19,8 @@ use Rattle.mm_frame.specs.declared.number.LabelKind.{LabelKind}
 use Rattle.mm_frame.specs.declared.number.LabelKind.TheVariants as kinds
 use Rattle.mm_text.specs.declared.statement.Kind.{Kind}
 use Rattle.mm_frame.specs.Laws.{OneNumber}
+use Rattle.mm_frame.proofs.Meant.{meant_at, allmeant_front}
+use Rattle.mm_frame.proofs.Labelled.{numbered_get}
 use Rattle.mm_proof.specs.declared.fault.ProofRule.TheVariants.{P8, P9, P10, P11, P12, L1}
 use Rattle.mm_proof.specs.Substitution.{instance_of}
 use Rattle.mm_proof.specs.Tree.{Names, ShareNoVariable, AreDistinct}
@@ -30,24 +32,23 @@ use Rattle.mm_proof.specs.CodeSteps.{MayBeUsed, label_ids}
 use Rattle.mm_proof.specs.CodeRun.{CarriesOn, StopsAt}
 use Rattle.mm_proof.specs.CodeApply.{IsAppliedAssertion, IsMatched, IsReady, IsEarlierScheme}
 use Rattle.mm_proof.proofs.Places.{get_take, get_from_take}
-use Rattle.mm_proof.proofs.Meaning.{meant_at, meant_front}
-use Rattle.mm_proof.proofs.Numbered.{numbered_at}
 use Rattle.mm_proof.proofs.OneStep.{StepTo, not_both_kinds}
 use Rattle.mm_proof.proofs.Replacements.{replaced_by, meets_of}
 use Rattle.mm_proof.proofs.Replacing.{replaces_by, replaced_named}
 use Rattle.mm_proof.proofs.Named.{name_is, named_is, below_is, typed_variables}
 use Rattle.mm_proof.proofs.Values.{pattern_says}
 use Rattle.mm_proof.proofs.Shared.{value_symbols, symbols_below}
-use Rattle.mm_proof.proofs.ByNumber.{share_turned, distinct_share_none, apart_turned}
+use Rattle.mm_proof.proofs.Turned.{share_turned, distinct_share_none, apart_turned}
 use Rattle.mm_proof.proofs.Firsts.{EachPair, first_P8, first_P9, first_P10, first_P11, first_P12, first_L1, step_of_meets, step_of_hypothesis}
 use Rattle.mm_proof.proofs.Forward.{passed_name}
+use Rattle.mm_proof.proofs.Running.{named_push}
 
 -- ---- names
 
 -- the label of a move is that of the statement with its number
 label_of : (st : List Sentence) (id at : ℕ) (s : Sentence) (label : List ℕ) → IsNumbered st id at s → IsNumberedMove st (name id) (name label) → IsLabelled label s
 label_of st id at s label n move =
-    let same : move.0 ≡ s = same_Some move.0 s (sym move.2 ∙ numbered_at st id at s n) in
+    let same : move.0 ≡ s = same_Some move.0 s (sym move.2 ∙ numbered_get st id at s n) in
     let label_is : move.1 ≡ label = (let e : name label ≡ name move.1 = move.4 in cc) in
     subst (λ (t : Sentence). IsLabelled label t) same (subst (λ (l : List ℕ). IsLabelled l move.0) label_is move.3)
 
@@ -73,7 +74,7 @@ named_count st entries = length-map entries (λ (e : List ℕ). map (name_at st)
 abbrev met : (st : List Sentence) (place id at : ℕ) (ids : List ℕ) (hs : List Sentence) (label : List ℕ) (stack : List (List ℕ)) (base : ℕ) → AllMeant st
     → IsAppliedAssertion st place id at ids hs → IsNumberedMove st (name id) (name label) → length (drop base stack) ≡ length hs → MeetsHypotheses (take place st) (all_names_at st stack) label
 met st place id at ids hs label stack base all c move paired =
-    meets_of (take place st) (all_names_at st stack) label at c.s hs (all_names_at st (take base stack)) (all_names_at st (drop base stack)) (meant_front st place all)
+    meets_of (take place st) (all_names_at st stack) label at c.s hs (all_names_at st (take base stack)) (all_names_at st (drop base stack)) (allmeant_front st place all)
     (names_of st place id at ids hs label c move) (named_split st stack base) (named_count st (drop base stack) ∙ paired)
 
 -- ---- pairs
@@ -95,13 +96,13 @@ stops_P8 limit st place id at ids hs stack c short label kept move =
 pub stops_P9 : (limit : ℕ) (st : List Sentence) (place id at : ℕ) (ids : List ℕ) (hs : List Sentence) (stack : List (List ℕ)) (base : ℕ) → AllMeant st → IsAppliedAssertion st place id at ids hs
     → length (drop base stack) ≡ length hs → SomePair hs (all_names_at st (drop base stack)) IsWrongCode → StopsAt limit st place id stack P9
 stops_P9 limit st place id at ids hs stack base all c paired pair label kept move =
-    first_P9 (IsWithin limit) (take place st) (all_names_at st stack) kept label (met st place id at ids hs label stack base all c move paired) (meant_front st place all) pair
+    first_P9 (IsWithin limit) (take place st) (all_names_at st stack) kept label (met st place id at ids hs label stack base all c move paired) (allmeant_front st place all) pair
 
 pub stops_P10 : (limit : ℕ) (st : List Sentence) (place id at : ℕ) (ids : List ℕ) (hs : List Sentence) (stack : List (List ℕ)) (base : ℕ) → AllMeant st → IsAppliedAssertion st place id at ids hs
     → length (drop base stack) ≡ length hs → EachEntry hs (all_names_at st (drop base stack)) IsRightCode
     → SomePair hs (all_names_at st (drop base stack)) (IsUnequal (replaced_by hs (all_names_at st (drop base stack)))) → StopsAt limit st place id stack P10
 stops_P10 limit st place id at ids hs stack base all c paired codes pair label kept move =
-    first_P10 (IsWithin limit) (take place st) (all_names_at st stack) kept label (met st place id at ids hs label stack base all c move paired) (meant_front st place all) codes pair
+    first_P10 (IsWithin limit) (take place st) (all_names_at st stack) kept label (met st place id at ids hs label stack base all c move paired) (allmeant_front st place all) codes pair
 
 -- the pair of names behind a pair of numbers, with what replaces it
 pair_found : (st : List Sentence) (place id at : ℕ) (ids : List ℕ) (hs : List Sentence) (pairs : List (ℕ × ℕ)) → (c : IsAppliedAssertion st place id at ids hs)
@@ -152,7 +153,7 @@ stops_P11 limit one st place id at ids hs stack base vs pairs all c paired typed
     let r = replaces_by one st vs hs (drop base stack) typed in
     let σ = replaced_by hs (all_names_at st (drop base stack)) in
     let p = pair_found st place id at ids hs pairs c mand found.0 found.1 found.2 in
-    first_P11 (IsWithin limit) (take place st) (all_names_at st stack) kept label (met st place id at ids hs label stack base all c move paired) (meant_front st place all) codes equal
+    first_P11 (IsWithin limit) (take place st) (all_names_at st stack) kept label (met st place id at ids hs label stack base all c move paired) (allmeant_front st place all) codes equal
     p.0 p.1 (names_at st found.3.0) (names_at st found.3.1) p.4
     (value_at st σ vs (drop base stack) p.0 found.1.0 found.3.0 r p.2 found.3.2) (value_at st σ vs (drop base stack) p.1 found.1.1 found.3.1 r p.3 found.3.3) found.3.4
 
@@ -165,7 +166,7 @@ stops_P12 limit one st place id at ids hs stack base vs pairs all c paired typed
     let r = replaces_by one st vs hs (drop base stack) typed in
     let σ = replaced_by hs (all_names_at st (drop base stack)) in
     let p = pair_found st place id at ids hs pairs c mand found.0 found.1 found.2 in
-    first_P12 (IsWithin limit) (take place st) (all_names_at st stack) kept label (met st place id at ids hs label stack base all c move paired) (meant_front st place all) codes equal
+    first_P12 (IsWithin limit) (take place st) (all_names_at st stack) kept label (met st place id at ids hs label stack base all c move paired) (allmeant_front st place all) codes equal
     (each_pair one st place id at ids hs label stack base vs pairs (ShareNoVariable (take place st)) (share_turned (take place st)) all c move paired typed mand share)
     p.0 p.1 (names_at st found.3.0) (names_at st found.3.1) p.4
     (value_at st σ vs (drop base stack) p.0 found.1.0 found.3.0 r p.2 found.3.2) (value_at st σ vs (drop base stack) p.1 found.1.1 found.3.1 r p.3 found.3.3) found.3.4
@@ -209,11 +210,8 @@ stops_L1 limit one st place id at stack base vs conclusion all ready as_many ove
     let made = made_named one st ready.hs vs (drop base stack) pattern ready.called.s.symbols ready.typed ready.concluded.1 in
     let size : length (names_at st (replaced_in (value_of vs (drop base stack)) pattern)) ≡ length (replaced_in (value_of vs (drop base stack)) pattern) = length-map _ (name_at st) in
     let said = ap length (made_is st place id at vs (drop base stack) conclusion as_many ready) in
-    first_L1 (IsWithin limit) (take place st) (all_names_at st stack) kept label (all_names_at st (take base stack)) _ (meant_front st place all)
+    first_L1 (IsWithin limit) (take place st) (all_names_at st stack) kept label (all_names_at st (take base stack)) _ (allmeant_front st place all)
     (λ within. let w = subst (IsWithin limit) (sym made) within in omega (arith, w, size, over, said)) (step_to one st place id at label stack base vs conclusion all ready as_many move)
-
-pushed_named : (st : List Sentence) (rest : List (List ℕ)) (made : List ℕ) → all_names_at st (rest ++ made ∷ []) ≡ all_names_at st rest ++ names_at st made ∷ []
-pushed_named st rest made = map-append (λ (e : List ℕ). map (name_at st) e) rest (made ∷ [])
 
 pub carries : (limit : ℕ) → OneNumber → (st : List Sentence) (place id at : ℕ) (stack : List (List ℕ)) (base : ℕ) (vs : List (Option ℕ)) (conclusion : List Piece) (made : List ℕ) → AllMeant st
     → IsReady st place id at vs (drop base stack) conclusion → length (drop base stack) ≡ length vs
@@ -224,9 +222,9 @@ carries limit one st place id at stack base vs conclusion made all ready as_many
     ∙ made_named one st ready.hs vs (drop base stack) ready.concluded.0 ready.called.s.symbols ready.typed ready.concluded.1 in
     let size : length (names_at st made) ≡ length made = length-map made (name_at st) in
     let fits : IsWithin limit (names_at st made) = omega (arith, within, size) in
-    let next = passed_name (IsWithin limit) (take place st) moves (all_names_at st stack) kept label (all_names_at st (take base stack)) e (meant_front st place all) passed
+    let next = passed_name (IsWithin limit) (take place st) moves (all_names_at st stack) kept label (all_names_at st (take base stack)) e (allmeant_front st place all) passed
     (step_to one st place id at label stack base vs conclusion all ready as_many move) (subst (IsWithin limit) whole fits) in
-    subst (λ l. Passed (IsWithin limit) (take place st) (moves ++ name label ∷ []) l kept) (sym (pushed_named st (take base stack) made ∙ ap (λ x. all_names_at st (take base stack) ++ x ∷ []) whole)) next
+    subst (λ l. Passed (IsWithin limit) (take place st) (moves ++ name label ∷ []) l kept) (sym (named_push st (take base stack) made ∙ ap (λ x. all_names_at st (take base stack) ++ x ∷ []) whole)) next
 
 -- ---- the symbols of what is made
 
@@ -363,7 +361,7 @@ pub stops_long : (limit : ℕ) (st : List Sentence) (place id : ℕ) (used : Lis
 stops_long limit st place id used stack expression all u kind numbers over label kept move =
     let is = named_is st expression u.s.symbols numbers in
     let size : length (names_at st expression) ≡ length expression = length-map expression (name_at st) in
-    first_L1 (IsWithin limit) (take place st) (all_names_at st stack) kept label (all_names_at st stack) u.s.symbols (meant_front st place all)
+    first_L1 (IsWithin limit) (take place st) (all_names_at st stack) kept label (all_names_at st stack) u.s.symbols (allmeant_front st place all)
     (λ within. let w = subst (IsWithin limit) (sym is) within in omega (arith, w, size, over)) (hypothesis_step st place id used label stack u kind move)
 
 pub pushes : (limit : ℕ) (st : List Sentence) (place id : ℕ) (used : List ℕ) (stack : List (List ℕ)) (expression : List ℕ) → AllMeant st → (u : MayBeUsed st place used id) → IsHypothesis u.s.kind
@@ -372,9 +370,9 @@ pushes limit st place id used stack expression all u kind numbers within label m
     let is = named_is st expression u.s.symbols numbers in
     let size : length (names_at st expression) ≡ length expression = length-map expression (name_at st) in
     let fits : IsWithin limit (names_at st expression) = omega (arith, within, size) in
-    let next = passed_name (IsWithin limit) (take place st) moves (all_names_at st stack) kept label (all_names_at st stack) u.s.symbols (meant_front st place all) passed
+    let next = passed_name (IsWithin limit) (take place st) moves (all_names_at st stack) kept label (all_names_at st stack) u.s.symbols (allmeant_front st place all) passed
     (hypothesis_step st place id used label stack u kind move) (subst (IsWithin limit) is fits) in
-    subst (λ l. Passed (IsWithin limit) (take place st) (moves ++ name label ∷ []) l kept) (sym (pushed_named st stack expression ∙ ap (λ x. all_names_at st stack ++ x ∷ []) is)) next
+    subst (λ l. Passed (IsWithin limit) (take place st) (moves ++ name label ∷ []) l kept) (sym (named_push st stack expression ∙ ap (λ x. all_names_at st stack ++ x ∷ []) is)) next
 
 hypothesis_use : (k : Kind) → IsHypothesis k → IsUse k
 hypothesis_use k (inl f) = inr (inl f)

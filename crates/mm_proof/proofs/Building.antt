@@ -6,6 +6,7 @@ use Rattle.std.proofs.lemmas.Option.{same_Some, none-some, slice_get_within}
 use Rattle.std.proofs.lemmas.Result.{err_from_is_err_and}
 use Rattle.std.proofs.lemmas.Slice.Zip.{AllZip-long}
 use Rattle.std.proofs.lemmas.List.{length-map, length-append, length-drop, take-append-drop, drop_all}
+use Rattle.mm_text.proofs.Lists.{zip_push, zip_left, zip_right, all_at}
 use Rattle.mm_frame.specs.Sentence.{Sentence}
 use Rattle.mm_frame.specs.Rules.{AllMeant}
 use Rattle.mm_proof.specs.declared.moves.NumberedMove.{NumberedMove}
@@ -18,7 +19,6 @@ use Rattle.mm_proof.specs.CodeSteps.{MayBeUsed, move_in, moves_in}
 use Rattle.mm_proof.specs.CodeRun.{MayBeMade}
 use Rattle.mm_proof.specs.Builders.{Holding, MakesItem, IsKept, RepeatsItem, KeepsItem, IsFull, IsTooLong, MakeTreeAt, IsBuilt}
 use Rattle.mm_proof.proofs.Making.{roots-beside, spelling-beside}
-use Rattle.mm_proof.proofs.Derived.{zip_left, zip_right, zip_push, all_at}
 use Rattle.mm_proof.proofs.Running.{move_at, last_split}
 use Rattle.mm_proof.proofs.Ending.{steps_made}
 use Rattle.mm_proof.proofs.Widths.{same_use}

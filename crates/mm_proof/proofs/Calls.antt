@@ -6,12 +6,12 @@ use Rattle.mm_frame.specs.Sentence.{Sentence, IsHypothesis, IsAssertion}
 use Rattle.mm_frame.specs.Numbers.{IsNumbered, IsAssertionNumber}
 use Rattle.mm_frame.specs.FramePlace.{AreHypotheses, HaveTypings, ArePairs}
 use Rattle.mm_frame.specs.Pieces.{variables_of, AreItsPieces, HavePatterns, HavePlaces}
+use Rattle.mm_frame.proofs.Labelled.{numbered_get}
 use Rattle.mm_proof.specs.CodeSteps.{label_ids}
 use Rattle.mm_proof.specs.CodeVerify.{pairs_in}
 use Rattle.mm_proof.specs.CodeApply.{IsEarlierScheme, IsCallOf, IsOfAssertion}
 use Rattle.mm_proof.specs.declared.call.Call.{Call}
 use Rattle.mm_proof.specs.declared.call.Call.TheVariants as call_kinds
-use Rattle.mm_proof.proofs.Numbered.{numbered_at}
 use Rattle.mm_proof.proofs.OneStep.{not_both_kinds}
 
 pub scheme_of : (own st : List Sentence) (place id at : ℕ) (s t : Sentence) (scheme : Scheme) → own ≡ st → IsNumbered st id at s → IsAssertion s.kind → at < place
@@ -45,6 +45,6 @@ called_assertion st at id (call_kinds.Assertion scheme) of is = (of.at, of.s, of
 pub assertion_called : (st : List Sentence) (at id : ℕ) (call : Call) → IsCallOf st at id call → IsAssertionNumber st id → IsOfAssertion call
 assertion_called st at id (call_kinds.Hypothesis symbols) of h =
     let used = of.1 in
-    let same : used.s ≡ h.1 = same_Some used.s h.1 (sym (numbered_at st id used.at used.s used.numbered) ∙ numbered_at st id h.0 h.1 h.2) in
+    let same : used.s ≡ h.1 = same_Some used.s h.1 (sym (numbered_get st id used.at used.s used.numbered) ∙ numbered_get st id h.0 h.1 h.2) in
     not_both_kinds h.1.kind (subst (λ (s : Sentence). IsHypothesis s.kind) same of.2) h.3
 assertion_called st at id (call_kinds.Assertion scheme) of h = tt

@@ -3,7 +3,9 @@ use Rattle.std.proofs.Common.{◌≡◌, ℕ, zero, suc, ◌+◌, ◌-◌, ◌<�
 use Rattle.std.specs.Prelude.{All, OnOk}
 use Rattle.std.specs.List.{AllZip}
 use Rattle.std.proofs.lemmas.Option.{slice_get-get_or, slice_get_past}
-use Rattle.std.proofs.lemmas.List.{map_more, take-map, take_all, length-map}
+use Rattle.std.proofs.lemmas.List.{map_more, take-map}
+use Rattle.std.proofs.lemmas.Slice.Zip.{AllZip-long}
+use Rattle.mm_text.proofs.Lists.{zip_push, zip_right}
 use Rattle.mm_code.specs.declared.code.Code.{Code}
 use Rattle.mm_code.specs.Letters.{HasSpelling}
 use Rattle.mm_frame.specs.Sentence.{Sentence}
@@ -13,7 +15,6 @@ use Rattle.mm_proof.specs.Moves.{Move, name, again}
 use Rattle.mm_proof.specs.CodeSteps.{MayBeUsed, MayAllBeUsed, NumberSays, IsReading, code_move, code_moves, entry_move, move_by, ids_in}
 use Rattle.mm_proof.specs.CodeApply.{IsCallOf}
 use Rattle.mm_proof.proofs.Compressed.{codes_say}
-use Rattle.mm_proof.proofs.Derived.{zip_push, zip_right}
 
 -- a front with one code more
 pub codes_front : (ids : List ℕ) (said : List Code) (i : ℕ) (d : Code) → i < length said
@@ -34,18 +35,8 @@ code_there ids [] i d less = absurd (omega arith)
 code_there ids (c ∷ said) zero d less = refl
 code_there ids (c ∷ said) (suc i) d less = code_there ids said i d (omega arith)
 
--- all of the codes
-pub codes_all : (ids : List ℕ) (said : List Code) (i : ℕ) → length said ≤ i → take i (code_moves ids said) ≡ code_moves ids said
-codes_all ids said i past = take_all i (code_moves ids said) (omega (arith, length-map said (code_move ids)))
-
-zip_long : {A B : Type 0} (R : A → B → Type 0) (xs : List A) (ys : List B) → AllZip R xs ys → length xs ≡ length ys
-zip_long R [] [] all = refl
-zip_long R [] (y ∷ ys) all = absurd all
-zip_long R (x ∷ xs) [] all = absurd all
-zip_long R (x ∷ xs) (y ∷ ys) all = ap suc (zip_long R xs ys all.1)
-
 pub calls_long : (st : List Sentence) (at : ℕ) (ids : List ℕ) (calls : List Call) → AllZip (IsCallOf st at) ids calls → length ids ≡ length calls
-calls_long st at ids calls all = zip_long (IsCallOf st at) ids calls all
+calls_long st at ids calls all = sym (AllZip-long (IsCallOf st at) ids calls all)
 
 -- the entry at the place of a call
 pub entry_of_call : (st : List Sentence) (at : ℕ) (ids : List ℕ) (calls : List Call) (place : ℕ) (d : Call) → AllZip (IsCallOf st at) ids calls → place < length calls

@@ -14,6 +14,7 @@ use Rattle.mm_code.specs.declared.code.CodeRule.TheVariants as code
 use Rattle.mm_code.specs.declared.code.CodeFault.{CodeFault}
 use Rattle.mm_code.specs.declared.code.CodeFault.TheVariants as code_fault
 use Rattle.mm_text.specs.declared.token.Token.{Token}
+use Rattle.mm_text.proofs.Lists.{zip_push, zip_append, split_at}
 use Rattle.mm_frame.specs.Sentence.{Sentence, IsLabelled, IsHypothesis}
 use Rattle.mm_frame.specs.Active.{IsActive}
 use Rattle.mm_frame.specs.Rules.{AllMeant}
@@ -31,12 +32,11 @@ use Rattle.mm_proof.specs.Steps.{IsUsable}
 use Rattle.mm_proof.specs.CodeSteps.{AreFor, NumberSays, IsReading, MayAllBeUsed, code_move, code_moves, move_by, move_in, moves_in, token_texts, fault_behind}
 use Rattle.mm_code.specs.Layout.{texts}
 use Rattle.mm_proof.specs.Answer.{OnRule}
-use Rattle.mm_proof.proofs.Places.{split_at, get_from_take}
+use Rattle.mm_proof.proofs.Places.{get_from_take}
 use Rattle.mm_proof.proofs.Frames.{those_hold}
 use Rattle.mm_proof.proofs.Ending.{may_be_used}
-use Rattle.mm_proof.proofs.LabelLists.{zip_push}
 use Rattle.mm_proof.proofs.TokenFacts.{HasLabels, labels_pass}
-use Rattle.mm_proof.proofs.Readings.{Stands, for_stands, zip_append, codes_named, whole_of}
+use Rattle.mm_proof.proofs.Readings.{Stands, for_stands, codes_named, whole_of}
 
 -- ---- codes, one after the other
 
@@ -87,14 +87,6 @@ compressed_labels tokens listed letters c = record {
   one = λ others are. ⊎_elim (λ n. absurd (n.0 (ap (λ l. slice_get l 0) c.whole))) (λ d. (one_compressed tokens others d.0 listed letters d.1 c).0) are;
   ends = λ b. b.1 (subst (λ l. Contains (drop 1 l) closing_token) (sym c.whole) (Contains-append_right listed (closing_token ∷ letters) closing_token (0, omega arith, refl)));
 }
-
--- a list that doesn't end
-pub no_end_fault : (before : List (Sentence)) (rest : List (List ℕ)) → ¬ (Contains rest closing_token) → IsWholeFault before (opening_token ∷ rest) P1
-no_end_fault before rest none = record { broken = (refl, none); first = λ other less. absurd (none_below other less) }
-  where
-    none_below : (other : ProofRule) → proof_rank other < proof_rank P1 → ⊥
-    none_below P1 less = omega arith
-    none_below other less = omega arith
 
 -- ---- letters at fault
 

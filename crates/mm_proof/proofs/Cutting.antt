@@ -121,7 +121,7 @@ each_one (tree label below right) made v has p c =
 
 -- ---- the steps so far
 
-after_make : (v : List Visit) (t u : Trees) → In (after [] v) u → In (after [] (v ++ makes t ∷ [])) u
+pub after_make : (v : List Visit) (t u : Trees) → In (after [] v) u → In (after [] (v ++ makes t ∷ [])) u
 after_make v t u h = subst (λ x. In x u) (sym (after-append [] v (makes t ∷ []))) (inr h)
 
 -- a tree that wasn't made, or is small

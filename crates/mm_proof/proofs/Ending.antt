@@ -3,12 +3,14 @@ use Rattle.std.proofs.Common.{◌≡◌, ℕ, ◌+◌, ◌<◌, List, [], ◌∷
 use Rattle.std.specs.List.{AllByRecursion}
 use Rattle.std.proofs.lemmas.Option.{same_Some}
 use Rattle.std.proofs.lemmas.List.{length-map}
+use Rattle.mm_text.proofs.Lists.{all_weaker}
 use Rattle.mm_frame.specs.Sentence.{Sentence, IsHypothesis, IsAssertion, IsLabelled}
 use Rattle.mm_frame.specs.Active.{IsActive}
 use Rattle.mm_frame.specs.Rules.{AllMeant}
 use Rattle.mm_frame.specs.Numbers.{symbols_of, labelled_sentences, IsNumbered}
 use Rattle.mm_frame.specs.FramePlace.{AreItsSymbols}
 use Rattle.mm_frame.specs.Laws.{OneNumber}
+use Rattle.mm_frame.proofs.Labelled.{numbered_from_get}
 use Rattle.mm_proof.specs.declared.fault.ProofRule.{ProofRule}
 use Rattle.mm_proof.specs.declared.fault.ProofFault.{ProofFault}
 use Rattle.mm_proof.specs.declared.fault.ProofFault.TheVariants.{Rule, Memory}
@@ -27,20 +29,14 @@ use Rattle.mm_proof.specs.CodeRun.{HasRun, MayBeMade, AreNamedNumbers, AreNamed,
 use Rattle.mm_proof.proofs.Places.{get_from_take}
 use Rattle.mm_proof.proofs.Meaning.{one_label}
 use Rattle.mm_proof.proofs.Named.{named_is, below_is, named_once}
-use Rattle.mm_proof.proofs.Numbered.{numbers_order_back}
-use Rattle.mm_proof.proofs.UsedNumbers.{placed, used_numbers}
+pub use Rattle.mm_proof.proofs.Numbered.{one_place}
+use Rattle.mm_proof.proofs.UsedNumbers.{used_numbers}
 use Rattle.mm_proof.proofs.Forward.{prove_at_end}
 use Rattle.mm_proof.proofs.Firsts.{end_fault}
 use Rattle.mm_proof.proofs.Running.{same_steps}
-use Rattle.mm_proof.proofs.Derived.{zip_once, all_mapped}
+use Rattle.mm_proof.proofs.Derived.{zip_once}
 
 -- ---- the statement with a number, and its moves
-
-pub one_place : (st : List Sentence) (id p q : ℕ) (s t : Sentence) → IsNumbered st id p s → IsNumbered st id q t → p ≡ q
-one_place st id p q s t n m =
-    let a = numbers_order_back st id id p q s t n m (omega arith) in
-    let b = numbers_order_back st id id q p t s m n (omega arith) in
-    omega arith
 
 one_move : (st : List Sentence) (x : Move ℕ) (y z : Move (List ℕ)) → IsNumberedMove st x y → IsNumberedMove st x z → y ≡ z
 one_move st (name id) y z a b =
@@ -62,7 +58,7 @@ usable_names st id xs place s names a n numbered =
 pub may_be_used : (st : List Sentence) (place id : ℕ) (s : Sentence) (label : List ℕ) → AllMeant st → slice_get (labelled_sentences st) id ≡ Some s → IsLabelled label s → IsUsable (take place st) label
     → MayBeUsed st place label id
 may_be_used st place id s label all there is (inl h) =
-    let p = placed st id s there in
+    let p = numbered_from_get st id s there in
     let t = get_from_take st place h.0 h.1 h.2 in
     let one : h.0 ≡ p.0 = one_label st h.0 p.0 h.1 s label all t.1 p.1.there h.4.0 is in
     let same : h.1 ≡ s = same_Some h.1 s (sym t.1 ∙ ap (slice_get st) one ∙ p.1.there) in
@@ -75,7 +71,7 @@ may_be_used st place id s label all there is (inl h) =
       kind = inl (subst (λ (x : Sentence). IsHypothesis x.kind) same h.4.1, subst (IsActive (take place st)) one h.3);
     }
 may_be_used st place id s label all there is (inr b) =
-    let p = placed st id s there in
+    let p = numbered_from_get st id s there in
     let t = get_from_take st place b.0 b.1 b.2 in
     let one : b.0 ≡ p.0 = one_label st b.0 p.0 b.1 s label all t.1 p.1.there b.3.0 is in
     let same : b.1 ≡ s = same_Some b.1 s (sym t.1 ∙ ap (slice_get st) one ∙ p.1.there) in
@@ -159,7 +155,7 @@ wrong_end limit st id own t xs stack kept count numbers rule at one n symbols ru
         rw w.0 (
           names_at st w.1,
           ap (all_names_at st) w.2,
-          λ same. w.3 (named_once one st w.1 numbers (all_mapped (IsSymbol st (take place st)) (λ k. k < length (symbols_of st)) w.1 (λ k i. i.below) entry) below (same ∙ sym symbols_are)),
+          λ same. w.3 (named_once one st w.1 numbers (all_weaker (IsSymbol st (take place st)) (λ k. k < length (symbols_of st)) (λ k i. i.below) w.1 entry) below (same ∙ sym symbols_are)),
         )
 
 -- a move breaks a rule

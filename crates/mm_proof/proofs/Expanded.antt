@@ -3,13 +3,13 @@ use Rattle.std.proofs.Common.{◌≡◌, ℕ, zero, suc, ◌+◌, List, [], ◌�
 use Rattle.std.specs.List.{AllByRecursion}
 use Rattle.std.proofs.lemmas.Option.{same_Some, none-some, slice_get-map}
 use Rattle.std.proofs.lemmas.List.{map-append}
+use Rattle.mm_text.proofs.Lists.{all_push, all_at}
 use Rattle.mm_frame.specs.Sentence.{Sentence}
 use Rattle.mm_frame.specs.Rules.{AllMeant}
 use Rattle.mm_proof.specs.Tree.{Trees, none, tree, spelling, beside, roots, Fit}
 use Rattle.mm_proof.specs.Moves.{Move, name, again, mark, MakesOne, Makes}
 use Rattle.mm_proof.specs.Expansion.{ExpandsOne, Expands, IsWord}
 use Rattle.mm_proof.proofs.Making.{roots-beside, spelling-beside, makes_join, makes_split, makes_once, fit_makes}
-use Rattle.mm_proof.proofs.Derived.{all_push, all_at}
 
 -- ---- what labels make spells them
 

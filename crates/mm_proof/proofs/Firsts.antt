@@ -17,7 +17,7 @@ use Rattle.mm_proof.specs.Moves.{Move, name, again, mark, is_step, steps_in}
 use Rattle.mm_proof.specs.Proof.{proof_rank, MeetsHypotheses, SomePair, SomeReplacedPair, BreaksStep, FirstAtMove, Passed, BreaksEnd, IsMovesFault}
 use Rattle.mm_proof.proofs.OneStep.{StepTo, agree, meets_enough, same_substituted}
 use Rattle.mm_proof.proofs.Verdicts.{ranked, at_rank}
-use Rattle.mm_proof.proofs.Judged.{limit_first, only_P6, only_P7}
+use Rattle.mm_proof.proofs.Judged.{limit_first, only_P6, only_P7, below_P8}
 
 -- ---- what a step meets is in order
 
@@ -61,15 +61,6 @@ no_pair before stack label m P all each b =
     b.8 (each b.1 b.2 b.3 b.4 pair (a.replacement b.1 ∙ b.6) (a.replacement b.2 ∙ b.7))
 
 -- ---- the first rule, by the rank below which none is broken
-
-below_P8 : (Fits : List (List ℕ) → Type 0) (before : List Sentence) (stack : List (List (List ℕ))) (label : List ℕ) (other : ProofRule) → proof_rank other < proof_rank P8 → ¬ (BreaksStep Fits other before stack label)
-below_P8 Fits before stack label P8 less = absurd (omega arith)
-below_P8 Fits before stack label P9 less = absurd (omega arith)
-below_P8 Fits before stack label P10 less = absurd (omega arith)
-below_P8 Fits before stack label P11 less = absurd (omega arith)
-below_P8 Fits before stack label P12 less = absurd (omega arith)
-below_P8 Fits before stack label L1 less = absurd (omega arith)
-below_P8 Fits before stack label rule less = λ b. b
 
 one_more : (Fits : List (List ℕ) → Type 0) (before : List Sentence) (stack : List (List (List ℕ))) (label : List ℕ) (rule : ProofRule) (n : ℕ) → ((other : ProofRule) → proof_rank other ≡ n → other ≡ rule)
     → ¬ (BreaksStep Fits rule before stack label) → ((other : ProofRule) → proof_rank other < n → ¬ (BreaksStep Fits other before stack label))
@@ -169,12 +160,6 @@ pub first_P7 : (Fits : List (List ℕ) → Type 0) (before : List Sentence) (kep
 first_P7 Fits before kept = record { broken = (refl, refl); first = only_P7 Fits before [] kept }
 
 -- ---- the faults
-
-pub move_fault : (Fits : List (List ℕ) → Type 0) (before : List Sentence) (s : Sentence) (moves earlier : List (Move (List ℕ))) (move : Move (List ℕ)) (later : List (Move (List ℕ)))
-    (stack kept : List (List (List ℕ))) (rule : ProofRule) (step : ℕ) → moves ≡ earlier ++ move ∷ later → Passed Fits before earlier stack kept → FirstAtMove Fits rule before stack kept move
-    → step ≡ steps_in earlier + 1 → IsMovesFault Fits before s moves rule step
-move_fault Fits before s moves earlier move later stack kept rule step parts passed fault number =
-    inl (record { earlier = earlier; move = move; later = later; parts = parts; number = number; stack = stack; kept = kept; passed = passed; fault = fault })
 
 pub end_fault : (Fits : List (List ℕ) → Type 0) (before : List Sentence) (s : Sentence) (moves : List (Move (List ℕ))) (stack kept : List (List (List ℕ))) (rule : ProofRule) (step : ℕ)
     → Passed Fits before moves stack kept → BreaksEnd rule stack s.symbols → step ≡ steps_in moves + 1 → IsMovesFault Fits before s moves rule step

@@ -9,6 +9,9 @@ use Rattle.mm_frame.specs.Sentence.{Sentence, SomeSentence, IsLabelled, IsAssert
 use Rattle.mm_frame.specs.Frame.{AreMandatory, IsMandatoryAt}
 use Rattle.mm_frame.specs.Form.{AllFormed}
 use Rattle.mm_text.specs.declared.statement.Kind.TheVariants.{Axiom, Provable}
+use Rattle.mm_text.proofs.Lists.{split_at}
+use Rattle.mm_frame.proofs.Decided.{dec_both, dec_as, dec_some, kind_dec, contains_dec, dec_not}
+use Rattle.mm_frame.proofs.Those.{those_unique}
 use Rattle.mm_proof.specs.declared.fault.ProofRule.{ProofRule}
 use Rattle.mm_proof.specs.declared.fault.ProofRule.TheVariants.{P15}
 use Rattle.mm_proof.specs.declared.profile.Profile.{Profile}
@@ -20,10 +23,7 @@ use Rattle.mm_proof.specs.Profiles.{limit_of}
 use Rattle.mm_proof.specs.KnownFront.{known_front, IsFrontAllowed, IsFrontFault}
 use Rattle.mm_proof.specs.Strict.{IsStrictList, MarkAssertions, IsStrict, HasFormOf}
 use Rattle.mm_proof.specs.UnderProfile.{IsProvedUnder, IsFaultUnder, IsFrontAllowedUnder, IsFrontFaultUnder, OneVerdictUnder, OneFrontVerdictUnder}
-use Rattle.mm_proof.proofs.Places.{split_at, get_take, get_from_take}
-use Rattle.mm_proof.proofs.Frames.{those_once}
-use Rattle.mm_proof.proofs.Decisions.{dec_both, dec_as, dec_some, kind_dec, contains_dec}
-use Rattle.mm_proof.proofs.Searches.{dec_not}
+use Rattle.mm_proof.proofs.Places.{get_take, get_from_take}
 use Rattle.mm_proof.proofs.SaidMoves.{some_moves, moves_once}
 use Rattle.mm_proof.proofs.Compressed.{one_compressed}
 use Rattle.mm_proof.proofs.Judged.{some_verdict_holds, first_symbol_dec}
@@ -67,7 +67,7 @@ list_from before s hs given labels mandatory labelled not_twice not_shared = rec
     | inr (inr more) ↦ absurd (not_twice (i, label, p, contains_at (take i labels) j label (get_take labels i j more ∙ q)))
   ];
   optional = λ hypotheses h label those has named among.
-      let same : hypotheses ≡ hs = those_once (IsMandatoryAt before s) 0 before hypotheses hs those mandatory in
+      let same : hypotheses ≡ hs = those_unique (IsMandatoryAt before s) 0 before hypotheses hs those mandatory in
       let at = at_contains hs h (subst (λ (l : List Sentence). Contains l h) same has) in
       let l = label_at hs given at.0 h labelled at.1 in
       let one : l.0 ≡ label = same_Some l.0 label (sym l.2 ∙ named) in

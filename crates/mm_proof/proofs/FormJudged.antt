@@ -4,11 +4,14 @@ use Rattle.std.specs.List.{AllByRecursion}
 use Rattle.std.proofs.lemmas.Option.{same_Some, none-some, slice_get_within, slice_get-get_or, get_or_from_slice_get}
 use Rattle.std.proofs.lemmas.Bool.{cases_order}
 use Rattle.std.proofs.lemmas.List.{length-append, length-take}
+use Rattle.mm_text.proofs.Lists.{zip_left, zip_right, all_at, split_at}
 use Rattle.mm_frame.specs.Sentence.{Sentence, SomeSentence, IsLabelled, IsHypothesis, IsAssertion}
 use Rattle.mm_frame.specs.Rules.{AllMeant}
 use Rattle.mm_frame.specs.Frame.{AreMandatory, IsMandatoryAt}
 use Rattle.mm_frame.specs.FramePlace.{AreHypotheses}
 use Rattle.mm_frame.specs.Numbers.{labelled_sentences, IsNumbered}
+use Rattle.mm_frame.proofs.Those.{those_unique}
+use Rattle.mm_frame.proofs.Labelled.{numbered_get, numbered_from_get}
 use Rattle.mm_proof.specs.Moves.{Move, name, again, mark}
 use Rattle.mm_proof.specs.Tokens.{IsCompressed, SayMoves, opening_token}
 use Rattle.mm_proof.specs.Steps.{IsNumberedMove, AreNumberedMoves, AreSteps, IsProofNumber, IsUsable, IsUsableMove}
@@ -17,14 +20,11 @@ use Rattle.mm_proof.specs.Parsed.{OfProof, SaySteps}
 use Rattle.mm_proof.specs.Strict.{IsStrictList, MarkAssertions, IsStrict}
 use Rattle.mm_proof.specs.CodeSteps.{AreFor, MayBeUsed}
 use Rattle.mm_proof.specs.CodeForm.{AllNew, SomeOld, AreMarksStrict, SomeMarkLoose}
-use Rattle.mm_proof.proofs.Places.{split_at, get_take, get_from_take}
+use Rattle.mm_proof.proofs.Places.{get_take, get_from_take}
 use Rattle.mm_proof.proofs.Meaning.{one_label, one_labelled}
-use Rattle.mm_proof.proofs.Frames.{those_once}
-use Rattle.mm_proof.proofs.Numbered.{numbered_at, one_place}
-use Rattle.mm_proof.proofs.UsedNumbers.{placed}
-use Rattle.mm_proof.proofs.Derived.{zip_left, zip_right, all_at}
-use Rattle.mm_proof.proofs.TokenFacts.{not_two_kinds}
+use Rattle.mm_proof.proofs.Numbered.{one_place}
 use Rattle.mm_proof.proofs.SaidMoves.{moves_once}
+use Rattle.mm_proof.proofs.OneStep.{not_both_kinds}
 
 -- ---- labels and their numbers
 
@@ -92,10 +92,10 @@ strict_list st place s hids ids labels all there h each new = record { once = on
     optional hypotheses g label mandatory has named among =
         let own : h.assertion ≡ s = same_Some h.assertion s (sym h.there ∙ there) in
         let mine = subst (λ (a : Sentence). AreMandatory (take place st) a h.hypotheses) own h.mandatory in
-        let same : hypotheses ≡ h.hypotheses = those_once (IsMandatoryAt (take place st) s) 0 (take place st) hypotheses h.hypotheses mandatory mine in
+        let same : hypotheses ≡ h.hypotheses = those_unique (IsMandatoryAt (take place st) s) 0 (take place st) hypotheses h.hypotheses mandatory mine in
         let at = at_contains h.hypotheses g (subst (λ (l : List Sentence). Contains l g) same has) in
         let n = hypothesis_number st hids h.hypotheses at.0 g h.numbered at.1 in
-        let p = placed st n.0 g n.2 in
+        let p = numbered_from_get st n.0 g n.2 in
         let l = at_contains labels label among in
         let b = zip_right (λ id k. MayBeUsed st place k id) ids labels l.0 label each l.1 in
         let one : n.0 ≡ b.0 = number_once st p.0 b.2.at n.0 b.0 g b.2.s label all p.1 b.2.numbered named b.2.named in
@@ -109,7 +109,7 @@ loose_list st place s hids ids labels there h each (j, id, at, inl among) strict
     let l = zip_left (λ n k. MayBeUsed st place k n) ids labels j id each at in
     let k = at_contains hids id among in
     let g = number_hypothesis st hids h.hypotheses k.0 id h.numbered k.1 in
-    let same : l.2.s ≡ g.0 = same_Some l.2.s g.0 (sym (numbered_at st id l.2.at l.2.s l.2.numbered) ∙ g.2) in
+    let same : l.2.s ≡ g.0 = same_Some l.2.s g.0 (sym (numbered_get st id l.2.at l.2.s l.2.numbered) ∙ g.2) in
     strict.optional h.hypotheses g.0 l.0 mine (contains_at h.hypotheses k.0 g.0 g.1) (subst (IsLabelled l.0) same l.2.named) (contains_at labels j l.0 l.1)
 loose_list st place s hids ids labels there h each (j, id, at, inr before) strict =
     let k = at_contains (take j ids) id before in
@@ -166,7 +166,7 @@ assertion_usable st place label p a all there named kind (inr b) = b
 assertion_usable st place label p a all there named kind (inl h) =
     let f = get_from_take st place h.0 h.1 h.2 in
     let same : h.1 ≡ a = one_labelled st h.0 p h.1 a label all f.1 there h.4.0 named in
-    absurd (not_two_kinds a.kind (subst (λ (x : Sentence). IsHypothesis x.kind) same h.4.1) kind)
+    absurd (not_both_kinds a.kind (subst (λ (x : Sentence). IsHypothesis x.kind) same h.4.1) kind)
 
 strict_marks : (st : List Sentence) (place : ℕ) (steps : List (Move ℕ)) (moves : List (Move (List ℕ))) → AllMeant st → AreNumberedMoves st steps moves
     → AllByRecursion (IsUsableMove (take place st)) moves → AreMarksStrict st steps → MarkAssertions (take place st) moves
@@ -179,7 +179,7 @@ strict_marks st place steps moves all numbered usable strict front after parts =
     let moved : slice_get moves s.0 ≡ Some (name label) = y.1 ∙ ap Some y.2.4 in
     let held : slice_get front s.0 ≡ Some (name label) = get_front front (mark ∷ after) s.0 (name label) (omega (arith, s.2)) (ap (λ l. slice_get l s.0) (sym parts) ∙ moved) in
     let last = last_of front s.0 (name label) s.2 held in
-    let same : y.2.0 ≡ s.4.1 = same_Some y.2.0 s.4.1 (sym y.2.2 ∙ numbered_at st s.1 s.4.0 s.4.1 s.4.2) in (
+    let same : y.2.0 ≡ s.4.1 = same_Some y.2.0 s.4.1 (sym y.2.2 ∙ numbered_get st s.1 s.4.0 s.4.1 s.4.2) in (
       last.0,
       label,
       last.1,
@@ -199,7 +199,7 @@ loose_marks st place steps moves all numbered (k, at, none) strict =
     let moved = get_from_take moves k (length m.0) (name m.1) held in
     let x = zip_right (IsNumberedMove st) steps moves (length m.0) (name m.1) numbered moved.1 in
     let b = by_label st x.0 m.1 x.2 in
-    let p = placed st b.id b.s b.there in
+    let p = numbered_from_get st b.id b.s b.there in
     let a = get_from_take st place m.3.0 m.3.1 m.3.2 in
     let same : m.3.1 ≡ b.s = one_labelled st m.3.0 p.0 m.3.1 b.s m.1 all a.1 p.1.there m.3.3.0 b.named in
     none (length m.0, b.id, long, x.1 ∙ ap Some b.is, (p.0, b.s, p.1, subst (λ (c : Sentence). IsAssertion c.kind) same m.3.3.1))

@@ -8,13 +8,14 @@ use Rattle.mm_frame.specs.declared.number.LabelId.{LabelId}
 use Rattle.mm_frame.specs.Sentence.{Sentence}
 use Rattle.mm_proof.specs.declared.moves.NumberedMove.{NumberedMove}
 use Rattle.mm_proof.specs.declared.moves.NumberedMove.TheVariants as code
-use Rattle.mm_proof.specs.Moves.{Move, name, mark}
+use Rattle.mm_proof.specs.Moves.{name, mark}
 use Rattle.mm_proof.specs.CodeSteps.{ids_in, move_in, moves_in}
 use Rattle.mm_proof.proofs.Running.{move_at}
 use Rattle.mm_proof.specs.CodeSharing.{AddsNew}
 use Rattle.mm_proof.specs.CodeForm.{AllNew, SomeOld, IsAfterAssertion, AreMarksStrict}
+use Rattle.mm_proof.proofs.Picking.{entry_at}
 
-only_one : (n x : ℕ) → Contains (n ∷ []) x → n ≡ x
+pub only_one : (n x : ℕ) → Contains (n ∷ []) x → n ≡ x
 only_one n x (zero, within, is) = is
 only_one n x (suc k, within, is) = absurd (let w : suc k < 1 = within in omega arith)
 
@@ -38,11 +39,6 @@ ids_more (id ∷ ids) (suc i) d less =
     let more : suc i + 1 ≡ suc (i + 1) = omega arith in
     ap (λ n. take n (id.0 ∷ ids_in ids)) more ∙ ap (λ l. id.0 ∷ l) (ids_more ids i d (omega arith))
 
-pub id_at : (ids : List LabelId) (i : ℕ) (d : LabelId) → i < length ids → slice_get (ids_in ids) i ≡ Some (get_or ids i d).0
-id_at [] i d less = absurd (omega arith)
-id_at (id ∷ ids) zero d less = refl
-id_at (id ∷ ids) (suc i) d less = id_at ids i d (omega arith)
-
 -- so far each is new, and these are seen
 pub record NewSoFar (first seen ids : List ℕ) (i : ℕ) : Type 0 where
   pub new : (j id : ℕ) → j < i → slice_get ids j ≡ Some id → ¬ (Contains first id) × ¬ (Contains (take j ids) id)
@@ -63,7 +59,7 @@ new_more : (first seen next : List ℕ) (ids : List LabelId) (i : ℕ) (d : Labe
 new_more first seen next ids i d less so a = record { new = new; has = has }
   where
     here : slice_get (ids_in ids) i ≡ Some (get_or ids i d).0
-    here = id_at ids i d less
+    here = entry_at ids i d less
 
     new : (j id : ℕ) → j < i + 1 → slice_get (ids_in ids) j ≡ Some id → ¬ (Contains first id) × ¬ (Contains (take j (ids_in ids)) id)
     new j id below at = elim (cases_lt j i) [
@@ -95,7 +91,7 @@ new_all first seen ids i past so j id at = so.new j id (omega (arith, slice_get_
 
 old_one : (first seen next : List ℕ) (ids : List LabelId) (i : ℕ) (d : LabelId) → i < length ids → NewSoFar first seen (ids_in ids) i → AddsNew seen (get_or ids i d).0 false next
     → SomeOld first (ids_in ids)
-old_one first seen next ids i d less so a = (i, (get_or ids i d).0, id_at ids i d less, (so.has (get_or ids i d).0).0 a.0)
+old_one first seen next ids i d less so a = (i, (get_or ids i d).0, entry_at ids i d less, (so.has (get_or ids i d).0).0 a.0)
 
 -- ---- labels of hypotheses, put into a set one after the other
 
@@ -125,9 +121,6 @@ pub move_mark : (m : NumberedMove) → move_in m ≡ mark → m ≡ code.Mark
 move_mark (code.Name x) e = absurd cc
 move_mark (code.Again tag) e = absurd cc
 move_mark code.Mark e = refl
-
-pub one_name : (a b : ℕ) → ◌≡◌ {A = Move ℕ} (name a) (name b) → a ≡ b
-one_name a b e = cc
 
 -- one mark more
 marks_more : (st : List Sentence) (moves : List NumberedMove) (i : ℕ) (d : NumberedMove) → i < length moves

@@ -2,20 +2,22 @@
 use Rattle.std.proofs.Common.{◌≡◌, ℕ, suc, List, [], ◌∷◌, ◌++◌, length, take, drop, map, slice_get, Some, None, inl, inr, ⊎_elim, refl, sym, ap, subst, ◌∙◌, option_map, arith}
 use Rattle.std.proofs.lemmas.Option.{same_Some, none-some, slice_get-map}
 use Rattle.std.proofs.lemmas.List.{length-map}
+use Rattle.mm_text.proofs.Lists.{zip_push, zip_right}
 use Rattle.mm_frame.specs.Sentence.{Sentence}
 use Rattle.mm_frame.specs.Frame.{IsMandatoryAt}
 use Rattle.mm_frame.specs.Rules.{AllMeant}
+use Rattle.mm_frame.proofs.Meant.{allmeant_front}
 use Rattle.mm_proof.specs.Substitution.{instance_of}
 use Rattle.mm_proof.specs.Tree.{Trees, none, tree, beside, MayStandOver, DeriveAll}
 use Rattle.mm_proof.specs.Moves.{Move, name, again, mark, Makes}
 use Rattle.mm_proof.specs.Proof.{Prove, Passed}
 use Rattle.mm_proof.proofs.Places.{get_beside}
-use Rattle.mm_proof.proofs.Meaning.{meant_front, code_is_constant}
+use Rattle.mm_proof.proofs.Meaning.{code_is_constant}
 use Rattle.mm_proof.proofs.Frames.{those_hold}
 use Rattle.mm_proof.proofs.OneStep.{Applies, StepTo}
 use Rattle.mm_proof.proofs.Runs.{typing_entry, absent}
 use Rattle.mm_proof.proofs.Making.{beside-none, makes_more, roots_derive}
-use Rattle.mm_proof.proofs.Derived.{zip_push, zip_right, derive_beside, derive_halves, single_derives}
+use Rattle.mm_proof.proofs.Derived.{derive_beside, derive_halves, single_derives}
 
 -- ---- the entries are the substituted hypotheses
 
@@ -39,7 +41,7 @@ entry_is before stack label rest e all p i h entry there at =
     let k = those_hold (IsMandatoryAt front m.assertion) 0 front m.hypotheses i h m.names.mandatory there in
     ⊎_elim (λ essential. p.equal i h entry there at essential)
     (λ t.
-    let constant : m.σ t.0 ≡ None = absent (m.σ t.0) (λ some. code_is_constant front k.0 h t.0 t.1 (meant_front before m.place all) k.1 t.2 ((m.on t.0).0 some).0) in
+    let constant : m.σ t.0 ≡ None = absent (m.σ t.0) (λ some. code_is_constant front k.0 h t.0 t.1 (allmeant_front before m.place all) k.1 t.2 ((m.on t.0).0 some).0) in
     let first : slice_get entry 0 ≡ Some t.0 = p.typed i h entry there at t.2.0 ∙ ap (λ l. slice_get l 0) t.2.1 in
     front_is entry t.0 first ∙ sym (ap (instance_of m.σ) t.2.1 ∙ typing_entry m.σ t.0 t.1 (drop 1 entry) constant (m.replaced i h entry t.0 t.1 there at t.2)))
     k.2.1

@@ -3,14 +3,6 @@ use Rattle.std.proofs.Common.{◌≡◌, ℕ, zero, suc, ◌+◌, List, [], ◌�
 use Rattle.std.proofs.lemmas.Option.{same_Some, none-some}
 use Rattle.mm_frame.specs.Frame.{AreThose}
 
--- there is one such list
-pub those_once : {X : Type 0} (P : ℕ → X → Type 0) (place : ℕ) (xs those others : List X) → AreThose P place xs those → AreThose P place xs others → those ≡ others
-those_once P place [] those others a b = a ∙ sym b
-those_once P place (x ∷ xs) those others (inl a) (inl b) = a.2 ∙ ap (λ l. x ∷ l) (those_once P (place + 1) xs a.1 b.1 a.3 b.3) ∙ sym b.2
-those_once P place (x ∷ xs) those others (inl a) (inr b) = absurd (b.0 a.0)
-those_once P place (x ∷ xs) those others (inr a) (inl b) = absurd (a.0 b.0)
-those_once P place (x ∷ xs) those others (inr a) (inr b) = those_once P (place + 1) xs those others a.1 b.1
-
 -- P holds of each of them
 pub those_hold : {X : Type 0} (P : ℕ → X → Type 0) (place : ℕ) (xs those : List X) (i : ℕ) (x : X) → AreThose P place xs those → slice_get those i ≡ Some x
     → (j : ℕ) × (slice_get xs j ≡ Some x) × P (place + j) x

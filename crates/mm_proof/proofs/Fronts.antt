@@ -2,6 +2,7 @@
 use Rattle.std.proofs.Common.{◌≡◌, ℕ, ◌<◌, ◌≤◌, List, [], ◌∷◌, ◌++◌, length, map, inl, ⊎_elim, refl, sym, ap, subst, ◌∙◌, append-nil, arith}
 use Rattle.std.specs.List.{AllZip}
 use Rattle.std.proofs.lemmas.Option.{slice_get_within}
+use Rattle.mm_text.proofs.Lists.{zip_push, zip_left, zip_front}
 use Rattle.mm_frame.specs.Sentence.{Sentence}
 use Rattle.mm_frame.specs.Rules.{AllMeant}
 use Rattle.mm_proof.specs.declared.fault.ProofRule.{ProofRule}
@@ -13,7 +14,7 @@ use Rattle.mm_proof.specs.Proof.{Prove, BreaksMove, FirstAtMove, Passed}
 use Rattle.mm_proof.proofs.OneStep.{StepTo, step_breaks_none}
 use Rattle.mm_proof.proofs.Runs.{tree_step, derived_once}
 use Rattle.mm_proof.proofs.Making.{makes_split, makes_once}
-use Rattle.mm_proof.proofs.Derived.{zip_push, zip_left, zip_front, zip_once, derive_beside, derive_apart, derive_single}
+use Rattle.mm_proof.proofs.Derived.{zip_once, derive_beside, derive_apart, derive_single}
 
 -- trees that keep expressions derive them
 abbrev pub KeepAll : (List (List ℕ) → Type 0) → List Sentence → List Trees → List (List (List ℕ)) → Type 0

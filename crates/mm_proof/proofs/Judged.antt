@@ -10,6 +10,8 @@ use Rattle.mm_frame.specs.Sentence.{Sentence, IsHypothesis, IsAssertion, IsLabel
 use Rattle.mm_frame.specs.Active.{IsActive}
 use Rattle.mm_frame.specs.Frame.{IsMandatoryAt, AreMandatory, IsMandatoryPair}
 use Rattle.mm_frame.specs.Rules.{AllMeant}
+use Rattle.mm_frame.proofs.Decided.{dec_both, dec_as, dec_some, kind_dec, symbol_dec, dec_not}
+use Rattle.mm_frame.proofs.Decided.{mandatory_at_dec, expression_dec}
 use Rattle.mm_proof.specs.declared.fault.ProofRule.{ProofRule}
 use Rattle.mm_proof.specs.declared.fault.ProofRule.TheVariants.{P1, P2, P3, P4, P5, P6, P7, P8, P9, P10, P11, P12, P13, P14, P15, L1}
 use Rattle.mm_proof.specs.Substitution.{instance_of}
@@ -19,8 +21,7 @@ use Rattle.mm_proof.specs.Steps.{IsUsable, IsUsableMove}
 use Rattle.mm_proof.specs.Proof.{IsWithin, proof_rank, BreaksWhole, Prove, MeetsHypotheses, SomePair, SomeReplacedPair, BreaksStep, BreaksMove, FirstAtMove, Passed, IsMovesFault}
 use Rattle.mm_proof.specs.Laws.{SomeProofVerdict}
 use Rattle.mm_proof.proofs.OneStep.{StepTo, hypothesis_or_assertion, meets_enough, Agree, agree, same_substituted, step_breaks_none, step_breaks_limit}
-use Rattle.mm_proof.proofs.Decisions.{dec_both, dec_as, dec_some, kind_dec, symbol_dec, expression_dec}
-use Rattle.mm_proof.proofs.Searches.{dec_not, mandatory_at_dec, those_of, share_dec, apart_dec, BothReplaced, some_pair_dec}
+use Rattle.mm_proof.proofs.Searches.{those_of, share_dec, apart_dec, BothReplaced, some_pair_dec}
 use Rattle.mm_proof.proofs.Replacements.{meets_of}
 use Rattle.mm_proof.proofs.Forward.{passed_none, passed_name, passed_again, passed_mark, prove_at_end}
 use Rattle.mm_proof.proofs.SaidMoves.{whole_dec, some_moves, moves_usable}
@@ -198,7 +199,7 @@ meets_outcome Fits each before stack label all m = ⊎_elim (λ f. inr (f.rule, 
     (first_or_none (λ rule. BreaksStep Fits rule before stack label) (meets_dec Fits each before stack label all m))
 
 -- below the entries that an assertion wants, P8 is the first rule broken
-below_P8 : (Fits : List (List ℕ) → Type 0) (before : List Sentence) (stack : List (List (List ℕ))) (label : List ℕ) (other : ProofRule) → proof_rank other < proof_rank P8 → ¬ (BreaksStep Fits other before stack label)
+pub below_P8 : (Fits : List (List ℕ) → Type 0) (before : List Sentence) (stack : List (List (List ℕ))) (label : List ℕ) (other : ProofRule) → proof_rank other < proof_rank P8 → ¬ (BreaksStep Fits other before stack label)
 below_P8 Fits before stack label P8 less = absurd (omega arith)
 below_P8 Fits before stack label P9 less = absurd (omega arith)
 below_P8 Fits before stack label P10 less = absurd (omega arith)

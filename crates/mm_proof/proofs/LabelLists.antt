@@ -1,10 +1,10 @@
 -- The labels of a proof, one after the other.
 use Rattle.std.proofs.Common.{◌≡◌, ℕ, zero, suc, ◌+◌, ◌<◌, ◌≤◌, List, [], ◌∷◌, ◌++◌, length, map, take, get_or, Contains, Bool, true, false, ⊎_elim, refl, sym, ap, subst, ◌∙◌, arith}
-use Rattle.std.specs.List.{AllZip}
 use Rattle.mm_text.specs.declared.token.Token.{Token}
 use Rattle.mm_frame.specs.Sentence.{Sentence}
 use Rattle.std.proofs.lemmas.List.{map_more, take-map, map-append, take_all, length-map}
 use Rattle.std.proofs.lemmas.List.Elements.{Contains-push, Contains-push_cases, Contains-append_left}
+use Rattle.mm_text.proofs.Lists.{zip_push}
 use Rattle.mm_frame.specs.declared.number.LabelId.{LabelId}
 use Rattle.mm_proof.specs.CodeSteps.{AreFor, IsIdle, IsUnknown, MayBeUsed, ids_in, token_texts}
 use Rattle.mm_proof.proofs.Places.{get_take}
@@ -23,12 +23,6 @@ SoFar statements place idle ids labels =
 
 pub texts_more : {T : Type 0} (f : T → List ℕ) (labels : List T) (i : ℕ) (d : T) → i < length labels → take (i + 1) (map f labels) ≡ take i (map f labels) ++ f (get_or labels i d) ∷ []
 texts_more f labels i d less = take-map f (i + 1) labels ∙ map_more f labels i d less ∙ ap (λ front. front ++ f (get_or labels i d) ∷ []) (sym (take-map f i labels))
-
-pub zip_push : {A B : Type 0} (R : A → B → Type 0) (xs : List A) (ys : List B) (x : A) (y : B) → AllZip R xs ys → R x y → AllZip R (xs ++ x ∷ []) (ys ++ y ∷ [])
-zip_push R [] [] x y all here = (here, tt)
-zip_push R [] (b ∷ ys) x y all here = absurd all
-zip_push R (a ∷ xs) [] x y all here = absurd all
-zip_push R (a ∷ xs) (b ∷ ys) x y all here = (all.0, zip_push R xs ys x y all.1 here)
 
 -- a label that is that of an earlier statement is known
 pub known_push : (P : List ℕ → Type 0) (labels : List (List ℕ)) (label : List ℕ) → ((l : List ℕ) → Contains labels l → ¬ (P l)) → ¬ (P label)

@@ -7,8 +7,8 @@ use Rattle.mm_code.specs.declared.code.CodeRule.{CodeRule}
 use Rattle.mm_code.specs.declared.code.CodeRule.TheVariants.{P4, P5}
 use Rattle.mm_code.specs.Letters.{Letters, SaysCode, LettersBreak as Breaks, HasSpelling, code_for}
 use Rattle.mm_code.specs.Mirror.Reading.{reading}
-use Rattle.mm_code.proofs.Found.{is_read}
-use Rattle.mm_code.proofs.Again.{is_read_again}
+use Rattle.mm_code.proofs.LettersFound.{is_read}
+use Rattle.mm_code.proofs.LettersAgain.{is_read_again}
 use Rattle.mm_code.proofs.Faults.{breaks_read, read_breaks}
 
 abbrev coded : List Code → Result (List Code) CodeRule

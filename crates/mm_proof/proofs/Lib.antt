@@ -21,7 +21,6 @@ pub mod Marks
 pub mod Firsts
 pub mod Exact
 pub mod Whole
-pub mod Grown
 pub mod Expanded
 pub mod ByWord
 pub mod Members
@@ -49,10 +48,7 @@ pub mod Replacing
 pub mod Shared
 pub mod Uses
 pub mod UsedNumbers
-pub mod Renamed
-pub mod Lookups
-pub mod Ties
-pub mod ByNumber
+pub mod Turned
 pub mod Running
 pub mod Naming
 pub mod Picking

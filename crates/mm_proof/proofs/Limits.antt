@@ -1,5 +1,6 @@
 -- What the limit on expressions changes, and that it changes nothing else.
 use Rattle.std.proofs.Common.{◌≡◌, ℕ, ◌+◌, List, [], ◌∷◌, ◌++◌, take, map, Option, ◌⊎◌, inl, inr, ⊎_elim, refl, sym, subst, ◌∙◌, append_assoc, append-nil}
+use Rattle.mm_text.proofs.Lists.{zip_left}
 use Rattle.mm_frame.specs.Sentence.{Sentence, IsHypothesis, IsLabelled}
 use Rattle.mm_frame.specs.Active.{SomeActive}
 use Rattle.mm_frame.specs.Frame.{IsMandatory}
@@ -12,7 +13,6 @@ use Rattle.mm_proof.specs.Moves.{Move, name, again, mark, steps_in, Makes}
 use Rattle.mm_proof.specs.Proof.{IsWithin, Prove, IsProvedWithin, IsProved, FirstAtMove, Passed, IsMovesFault, IsFault}
 use Rattle.mm_proof.specs.Laws.{LimitsAside}
 use Rattle.mm_proof.proofs.Forward.{passed_none, passed_name, passed_again, passed_mark, prove_at_end}
-use Rattle.mm_proof.proofs.Derived.{zip_left}
 use Rattle.mm_proof.proofs.Fronts.{Went, went_on, went_step, nothing_left, passed_once, proof_passed}
 use Rattle.mm_proof.proofs.Verdicts.{proved_no_fault, one_fault}
 use Rattle.mm_proof.proofs.Judged.{limit_first, last_entry, within_dec}

@@ -3,12 +3,12 @@ use Rattle.std.proofs.Common.{◌≡◌, ℕ, zero, suc, ◌+◌, ◌<◌, List,
 use Rattle.std.proofs.lemmas.Bool.{false≢true}
 use Rattle.std.proofs.lemmas.Option.{same_Some, none-some, slice_get_within}
 use Rattle.std.proofs.lemmas.List.{take-append-le, take_at, length-append}
+use Rattle.mm_text.proofs.Lists.{split_at, get_kept}
 use Rattle.mm_frame.specs.Sentence.{Sentence}
 use Rattle.mm_proof.specs.Tree.{none, tree, beside, roots, DeriveAll}
 use Rattle.mm_proof.specs.Moves.{Move, name, again, mark, is_step, steps_in, Makes}
 use Rattle.mm_proof.specs.Proof.{Passed}
 use Rattle.mm_proof.specs.Listing.{ListedStep, StandsAfter, MakeLast, IsListed, AreListed}
-use Rattle.mm_proof.proofs.Places.{split_at, get_append}
 use Rattle.mm_proof.proofs.Derived.{derive_halves, single_derives}
 use Rattle.mm_proof.proofs.Making.{makes_split, roots-beside, roots_derive}
 use Rattle.mm_proof.proofs.Limits.{derive_any}
@@ -58,7 +58,7 @@ step_before moves i move there is =
 pub stands_later : {X : Type 0} (moves more : List (Move X)) (tag step : ℕ) → StandsAfter moves tag step → StandsAfter (moves ++ more) tag step
 stands_later {X} moves more tag step s =
     let within : step + tag < length moves = slice_get_within moves (step + tag) mark s.0 in
-    (get_append moves more (step + tag) mark s.0, ap steps_in (take-append-le (step + tag) moves more (omega arith)) ∙ s.1)
+    (get_kept moves more (step + tag) mark s.0, ap steps_in (take-append-le (step + tag) moves more (omega arith)) ∙ s.1)
 
 -- the tag of a new mark stands after the last step
 pub stands_new : {X : Type 0} (moves : List (Move X)) (tag step : ℕ) → steps_in moves ≡ step → step + tag ≡ length moves → StandsAfter (moves ++ mark ∷ []) tag step

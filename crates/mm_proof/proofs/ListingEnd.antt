@@ -13,7 +13,6 @@ use Rattle.mm_proof.specs.Proof.{IsWithin, Passed}
 use Rattle.mm_proof.specs.CodeVerify.{all_names_at}
 use Rattle.mm_proof.specs.CodeRun.{HasRun}
 use Rattle.mm_proof.specs.CodeLines.{AreLinesAt, ListsProof}
-use Rattle.mm_proof.proofs.Answering.{on_rule_map}
 use Rattle.mm_proof.proofs.Numbered.{one_place}
 use Rattle.mm_proof.proofs.Forward.{prove_at_end}
 use Rattle.mm_proof.proofs.Ending.{its_symbols}
@@ -45,12 +44,6 @@ if_ok_at (Ok y) P x is h = subst P (same y x is) h
     same : {Y : Type 0} (y x : Y) → ◌≡◌ {A = Result Y ProofFault} (Ok y) (Ok x) → y ≡ x
     same y x e = cc
 if_ok_at (Err e) P x is h = absurd cc
-
--- what holds of an answer's rule and step
-pub if_rule_map : {X : Type 0} (r : Result X ProofFault) (P Q : ProofRule → ℕ → Type 0) → ((rule : ProofRule) (step : ℕ) → P rule step → Q rule step)
-    → IfErr r (λ e. OnRule e P) → IfErr r (λ e. OnRule e Q)
-if_rule_map (Ok x) P Q f h = tt
-if_rule_map (Err e) P Q f h = on_rule_map e P Q f h
 
 pub if_rule_at : {X : Type 0} (r : Result X ProofFault) (P : ProofRule → ℕ → Type 0) (rule : ProofRule) (step : ℕ) → r ≡ Err (Rule rule step) → IfErr r (λ e. OnRule e P) → P rule step
 if_rule_at (Ok x) P rule step is h = absurd cc

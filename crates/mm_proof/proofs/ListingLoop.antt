@@ -3,6 +3,7 @@ use Rattle.std.proofs.Common.{◌≡◌, ℕ, ◌+◌, ◌-◌, ◌<◌, ◌≤�
 use Rattle.std.proofs.lemmas.Option.{same_Some, slice_get_within}
 use Rattle.std.proofs.lemmas.List.{map-append, length-map, length-append, length-take-le, take_all}
 use Rattle.std.proofs.lemmas.Slice.Zip.{AllZip-long}
+use Rattle.mm_text.proofs.Lists.{zip_push, zip_front, all_at, zip_take, all_weaker}
 use Rattle.mm_frame.specs.declared.number.LabelId.{LabelId}
 use Rattle.mm_frame.specs.Sentence.{Sentence}
 use Rattle.mm_frame.specs.Numbers.{symbols_of, AreNumbers}
@@ -19,9 +20,8 @@ use Rattle.mm_proof.specs.CodeSteps.{move_in, moves_in}
 use Rattle.mm_proof.specs.CodeVerify.{IsSymbol, AreDeclaredSymbols, AreStackEntries, AreBelow, names_at, all_names_at}
 use Rattle.mm_proof.specs.CodeRun.{CarriesOn, HasRun}
 use Rattle.mm_proof.specs.CodeLines.{AreLinesAt}
-use Rattle.mm_proof.proofs.Derived.{zip_push, zip_front, all_mapped, all_at}
 use Rattle.mm_proof.proofs.Named.{number_of_name}
-use Rattle.mm_proof.proofs.Running.{Turn, front_more, last_split, same_steps, run_none, zip_take, more_name, more_again, more_mark}
+use Rattle.mm_proof.proofs.Running.{Turn, front_more, last_split, same_steps, run_none, more_name, more_again, more_mark}
 use Rattle.mm_proof.proofs.Listed.{old_or_new, stands_later, stands_new, listed_step, listed_mark, last_made, name_leaves}
 
 -- ---- numbers and names
@@ -92,7 +92,7 @@ line_more limit st place front x stack kept count lines line run last is calls o
     subst (λ l. Passed (IsWithin limit) before moves l (all_names_at st kept)) names (run.passed moves numbered) in
     let made : MakeLast before moves (names_at st e) = last_made (IsWithin limit) before moves (all_names_at st parts.0) (all_names_at st kept) (names_at st e) passed in
     let entry : AreDeclaredSymbols st before e = all_at (AreDeclaredSymbols st before) stack (length stack - 1) e run.entries last in
-    let below : AreBelow st e = all_mapped (IsSymbol st before) (λ k. k < length (symbols_of st)) e (λ k i. i.below) entry in
+    let below : AreBelow st e = all_weaker (IsSymbol st before) (λ k. k < length (symbols_of st)) (λ k i. i.below) e entry in
     let call = calls h.0 h.1 h.3 h.4 in
     let new : ListedStep = record { called = call.0; expression = names_at st e } in
     let was = old h.0 h.3 in (
@@ -213,11 +213,6 @@ tag_stands limit st place moves i stack kept stack' lines tags tag l pushed =
     let same : length tags ≡ length kept = l.turn.1 in
     let long : length stack' ≡ length stack + 1 = ap length pushed.2 ∙ length-append stack (pushed.0 ∷ []) in
     (omega arith, omega arith)
-
--- as many are listed as moves at most
-pub few_lines : (limit : ℕ) (st : List Sentence) (place : ℕ) (moves : List NumberedMove) (i : ℕ) (stack kept : List (List ℕ)) (lines : List Line) (tags : List ℕ) → Listing limit st place moves i stack kept lines tags
-    → i < length moves → length lines < length moves
-few_lines limit st place moves i stack kept lines tags l less = let sum : length lines + length tags ≡ i = l.turn.2 in omega arith
 
 -- at the end
 pub listing_end : (limit : ℕ) (st : List Sentence) (place : ℕ) (moves : List NumberedMove) (i : ℕ) (stack kept : List (List ℕ)) (lines : List Line) (tags : List ℕ) → Listing limit st place moves i stack kept lines tags

@@ -1,16 +1,17 @@
 -- Marks before any step, and tags over the marks.
-use Rattle.std.proofs.Common.{◌≡◌, ℕ, suc, ◌+◌, ◌<◌, ◌≤◌, List, [], ◌∷◌, ◌++◌, length, cond, not, slice_get, Some, ◌⊎◌, inl, inr, refl, sym, ap, subst, ◌∙◌, arith}
-use Rattle.std.specs.List.{AllZip}
+use Rattle.std.proofs.Common.{◌≡◌, ℕ, ◌+◌, ◌<◌, ◌≤◌, List, [], ◌∷◌, ◌++◌, length, cond, not, slice_get, Some, ◌⊎◌, inl, inr, refl, sym, ap, subst, ◌∙◌, arith}
 use Rattle.std.proofs.lemmas.List.{length-append}
 use Rattle.std.proofs.lemmas.List.Sums.{sum_by-cons}
+use Rattle.std.proofs.lemmas.Slice.Zip.{AllZip-long}
 use Rattle.mm_frame.specs.Sentence.{Sentence}
-use Rattle.mm_proof.specs.declared.fault.ProofRule.{ProofRule}
 use Rattle.mm_proof.specs.declared.fault.ProofRule.TheVariants.{P6, P7}
 use Rattle.mm_proof.specs.Tree.{Trees, none, tree, roots, DeriveAll}
 use Rattle.mm_proof.specs.Moves.{Move, name, again, mark, is_step, steps_in, MakesOne, Makes}
-use Rattle.mm_proof.specs.Proof.{IsWithin, proof_rank, BreaksMove, Passed, IsMovesFault}
+use Rattle.mm_proof.specs.Proof.{IsWithin, BreaksMove, Passed, IsMovesFault}
 use Rattle.mm_proof.specs.Laws.{MarkBeforeAnyStep, IsOverMarks, TagOverMarks, marks_in}
 use Rattle.mm_proof.proofs.Making.{roots-beside, roots_derive}
+use Rattle.mm_proof.proofs.Forward.{passed_none}
+use Rattle.mm_proof.proofs.Judged.{only_P6, only_P7}
 
 -- ## A mark before any step
 
@@ -68,12 +69,6 @@ mark_told Fits before s moves step (inl f) =
     begins_with Fits before moves f.earlier f.later f.stack f.kept f.move step f.parts f.number f.passed f.fault.broken
 mark_told Fits before s moves step (inr f) = absurd f.broken
 
-nothing_before : (Fits : List (List ℕ) → Type 0) (before : List Sentence) → Passed Fits before [] [] []
-nothing_before Fits before = record { trees = none; shelf = []; made = (refl, refl); derived = refl; kept_derived = tt }
-
-mark_first : (Fits : List (List ℕ) → Type 0) (before : List Sentence) (other : ProofRule) → proof_rank other < proof_rank P7 → ¬ (BreaksMove Fits other before [] [] mark)
-mark_first Fits before other less broken = let same : proof_rank other ≡ proof_rank P7 = ap proof_rank broken.0 in omega (arith, less, same)
-
 mark_faulty : (Fits : List (List ℕ) → Type 0) (before : List Sentence) (s : Sentence) (moves later : List (Move (List ℕ))) (step : ℕ) → step ≡ 1
     → moves ≡ mark ∷ later → IsMovesFault Fits before s moves P7 step
 mark_faulty Fits before s moves later step one parts = inl
@@ -85,8 +80,8 @@ mark_faulty Fits before s moves later step one parts = inl
       number = one;
       stack = [];
       kept = [];
-      passed = nothing_before Fits before;
-      fault = record { broken = (refl, refl); first = mark_first Fits before };
+      passed = passed_none Fits before;
+      fault = record { broken = (refl, refl); first = only_P7 Fits before [] [] };
     })
 
 pub mark_before_any_step_holds : MarkBeforeAnyStep
@@ -114,17 +109,11 @@ keeps_marks before (m ∷ moves) row last kept shelf made =
     let more : marks_in (m ∷ moves) ≡ cond (not (is_step m)) 1 0 + marks_in moves = marks_more m moves in
     omega (arith, rest, one, more)
 
-same_length : {A B : Type 0} (R : A → B → Type 0) (xs : List A) (ys : List B) → AllZip R xs ys → length xs ≡ length ys
-same_length R [] [] all = refl
-same_length R [] (y ∷ ys) all = absurd all
-same_length R (x ∷ xs) [] all = absurd all
-same_length R (x ∷ xs) (y ∷ ys) all = ap suc (same_length R xs ys all.1)
-
 -- as many are kept as there are marks
 kept_by_marks : (Fits : List (List ℕ) → Type 0) (before : List Sentence) (moves : List (Move (List ℕ))) (stack kept : List (List (List ℕ)))
     → Passed Fits before moves stack kept → length kept ≡ marks_in moves
 kept_by_marks Fits before moves stack kept p =
-    let shelf : length p.shelf ≡ length kept = same_length (λ t e. DeriveAll Fits before t (e ∷ [])) p.shelf kept p.kept_derived in
+    let shelf : length p.shelf ≡ length kept = sym (AllZip-long (λ t e. DeriveAll Fits before t (e ∷ [])) p.shelf kept p.kept_derived) in
     let marks : length p.shelf ≡ 0 + marks_in moves = keeps_marks before moves none p.trees [] p.shelf p.made in
     omega (arith, shelf, marks)
 
@@ -153,10 +142,6 @@ tag_told Fits before s moves step (inl f) =
     tag_over Fits before moves f.earlier f.later f.stack f.kept f.move step f.parts f.number f.passed f.fault.broken
 tag_told Fits before s moves step (inr f) = absurd f.broken
 
-tag_first : (Fits : List (List ℕ) → Type 0) (before : List Sentence) (stack kept : List (List (List ℕ))) (tag : ℕ) (other : ProofRule)
-    → proof_rank other < proof_rank P6 → ¬ (BreaksMove Fits other before stack kept (again tag))
-tag_first Fits before stack kept tag other less broken = let same : proof_rank other ≡ proof_rank P6 = ap proof_rank broken.0 in omega (arith, less, same)
-
 tag_faulty : (Fits : List (List ℕ) → Type 0) (before : List Sentence) (s : Sentence) (moves : List (Move (List ℕ))) (step : ℕ)
     → IsOverMarks Fits before moves step → IsMovesFault Fits before s moves P6 step
 tag_faulty Fits before s moves step h =
@@ -170,7 +155,7 @@ tag_faulty Fits before s moves step h =
       stack = h.stack;
       kept = h.kept;
       passed = h.passed;
-      fault = record { broken = (refl, subst (λ (n : ℕ). n ≤ h.tag) (sym count) h.over); first = tag_first Fits before h.stack h.kept h.tag };
+      fault = record { broken = (refl, subst (λ (n : ℕ). n ≤ h.tag) (sym count) h.over); first = only_P6 Fits before h.stack h.kept h.tag };
     })
 
 pub tag_over_marks_holds : TagOverMarks

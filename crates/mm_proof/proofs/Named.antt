@@ -4,6 +4,7 @@ use Rattle.std.specs.List.{AllByRecursion}
 use Rattle.std.proofs.lemmas.Option.{same_Some, none-some, slice_get_within, get_or_from_slice_get, slice_get-get_or, slice_get-map}
 use Rattle.std.proofs.lemmas.Bool.{false≢true, cases_lt}
 use Rattle.mm_text.specs.declared.statement.Kind.TheVariants.{Floating, Essential}
+use Rattle.mm_text.proofs.Lists.{all_at}
 use Rattle.mm_frame.specs.Sentence.{Sentence, Types}
 use Rattle.mm_frame.specs.Numbers.{symbols_of, labelled_sentences, IsNumberOf, AreNumbers}
 use Rattle.mm_frame.specs.FramePlace.{IsTypingOf, HaveTypings}
@@ -125,18 +126,13 @@ typed_variables st (x ∷ xs) (h ∷ hs) have are =
       typed_variables st xs hs (λ i y y_there. have (suc i) y y_there) rest,
     )
 
-pub all_get : {X : Type 0} (P : X → Type 0) (xs : List X) (i : ℕ) (x : X) → AllByRecursion P xs → slice_get xs i ≡ Some x → P x
-all_get P [] i x all at = absurd (none-some x at)
-all_get P (y ∷ xs) zero x all at = subst P (same_Some y x at) all.0
-all_get P (y ∷ xs) (suc i) x all at = all_get P xs i x all.1 at
-
 -- the entry at a place, by names
 pub entry_at : (st : List Sentence) (stack : List (List ℕ)) (base i : ℕ) (e : List ℕ) → slice_get stack (base + i) ≡ Some e → slice_get (all_names_at st (drop base stack)) i ≡ Some (names_at st e)
 entry_at st stack base i e at =
     slice_get-map (λ (l : List ℕ). map (name_at st) l) (drop base stack) i ∙ ap (option_map (λ (l : List ℕ). map (name_at st) l)) (drop_get stack base i ∙ at)
 
 pub entry_below : (st : List Sentence) (stack : List (List ℕ)) (base i : ℕ) (e : List ℕ) → AllByRecursion (AreBelow st) (drop base stack) → slice_get stack (base + i) ≡ Some e → AreBelow st e
-entry_below st stack base i e all at = all_get (AreBelow st) (drop base stack) i e all (drop_get stack base i ∙ at)
+entry_below st stack base i e all at = all_at (AreBelow st) (drop base stack) i e all (drop_get stack base i ∙ at)
 
 -- one entry more, of which this holds if it is there
 pub each_next : (hs : List Sentence) (entries : List (List (List ℕ))) (P : Sentence → List (List ℕ) → Type 0) (n : ℕ) (h : Sentence) → slice_get hs n ≡ Some h

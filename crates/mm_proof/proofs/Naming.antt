@@ -12,10 +12,10 @@ use Rattle.mm_frame.specs.declared.number.LabelKind.TheVariants as label_kinds
 use Rattle.mm_frame.specs.Sentence.{Sentence, IsAssertion}
 use Rattle.mm_frame.specs.Numbers.{labelled_sentences, IsAssertionNumber}
 use Rattle.mm_frame.specs.Taken.{kind_behind}
+use Rattle.mm_frame.proofs.Labelled.{numbered_get}
 use Rattle.mm_proof.specs.Moves.{Move}
 use Rattle.mm_proof.specs.CodeSteps.{MayBeUsed, ids_in}
 use Rattle.mm_proof.specs.CodeRun.{ArePicked, AreNamed}
-use Rattle.mm_proof.proofs.Numbered.{numbered_at}
 
 -- ---- one label more
 
@@ -54,7 +54,7 @@ pub assertion_kind : (st : List Sentence) (place id : ℕ) (r : LabelKind) → (
     → ((s : Sentence) → slice_get (labelled_sentences st) id ≡ Some s → s.kind ≡ kind_behind r) → (r ≡ label_kinds.Axiom) ⊎ (r ≡ label_kinds.Proof) → IsAssertionNumber st id
 assertion_kind st place id r used kind is =
     let m = used.1 in
-    let told = kind m.s (numbered_at st id m.at m.s m.numbered) in
+    let told = kind m.s (numbered_get st id m.at m.s m.numbered) in
     (m.at, m.s, m.numbered, ⊎_elim (λ e. inl (told ∙ ap kind_behind e)) (λ e. inr (told ∙ ap kind_behind e)) is)
 
 only_assertions : (r : LabelKind) → IsAssertion (kind_behind r) → (r ≡ label_kinds.Axiom → ⊥) → (r ≡ label_kinds.Proof → ⊥) → ⊥
@@ -68,7 +68,7 @@ only_assertions label_kinds.Proof k a p = p refl
 pub no_assertion : (st : List Sentence) (id : ℕ) (r : LabelKind) → ((s : Sentence) → slice_get (labelled_sentences st) id ≡ Some s → s.kind ≡ kind_behind r)
     → (r ≡ label_kinds.Axiom → ⊥) → (r ≡ label_kinds.Proof → ⊥) → IsAssertionNumber st id → ⊥
 no_assertion st id r kind a p h =
-    only_assertions r (subst IsAssertion (kind h.1 (numbered_at st id h.0 h.1 h.2)) h.3) a p
+    only_assertions r (subst IsAssertion (kind h.1 (numbered_get st id h.0 h.1 h.2)) h.3) a p
 
 -- ---- the loop
 

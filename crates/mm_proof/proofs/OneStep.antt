@@ -7,14 +7,17 @@ use Rattle.mm_frame.specs.Sentence.{Sentence, IsHypothesis, IsAssertion, IsLabel
 use Rattle.mm_frame.specs.Active.{IsActive, IsTyped}
 use Rattle.mm_frame.specs.Frame.{IsMandatory, IsMandatoryAt, AreMandatory, IsMandatoryPair}
 use Rattle.mm_frame.specs.Rules.{AllMeant}
+use Rattle.mm_frame.proofs.Those.{those_unique}
+use Rattle.mm_frame.proofs.Meant.{allmeant_front, meant_at}
+use Rattle.mm_frame.proofs.Needed.{mandatory_typed}
 use Rattle.mm_proof.specs.declared.fault.ProofRule.{ProofRule}
 use Rattle.mm_proof.specs.declared.fault.ProofRule.TheVariants.{P1, P2, P3, P4, P5, P6, P7, P8, P9, P10, P11, P12, P13, P14, P15, L1}
 use Rattle.mm_proof.specs.Substitution.{IsOn, instance_of}
 use Rattle.mm_proof.specs.Tree.{Names, KeepsApart}
 use Rattle.mm_proof.specs.Proof.{MeetsHypotheses, BreaksStep}
-use Rattle.mm_proof.proofs.Places.{get_beside, one_split, same_replacement}
-use Rattle.mm_proof.proofs.Meaning.{one_label, one_labelled, mandatory_typed}
-use Rattle.mm_proof.proofs.Frames.{those_once, those_have}
+use Rattle.mm_proof.proofs.Places.{get_beside, one_split}
+use Rattle.mm_proof.proofs.Meaning.{one_label, one_labelled}
+use Rattle.mm_proof.proofs.Frames.{those_have}
 
 -- the label is that of an active hypothesis, whose expression is pushed
 pub record Pushes (before : List Sentence) (stack : List (List (List ℕ))) (label : List ℕ) (rest : List (List (List ℕ))) (e : List (List ℕ)) : Type 0 where
@@ -95,9 +98,11 @@ one_replacement : (before : List Sentence) (label : List ℕ) (place : ℕ) (ass
 one_replacement before label place assertion hypotheses entries σ τ all names l on_σ on_τ s t x = go (σ x) (τ x) refl refl
   where
     mandatory_same : IsMandatory (take place before) assertion x → σ x ≡ τ x
-    mandatory_same m = same_replacement (σ x) (τ x) (λ differ. mandatory_typed before place assertion x all names.there (inr names.kind) m
-        (λ typed. let f = typing_among before label place assertion hypotheses x names m typed in
-        differ (one_entry hypotheses entries σ τ f.0 f.1 f.2 x l s t f.3 f.4)))
+    mandatory_same m =
+        let typed = mandatory_typed (take place before) assertion x (allmeant_front before place all)
+        (meant_at before place assertion all names.there) (inr names.kind) m in
+        let f = typing_among before label place assertion hypotheses x names m typed in
+        one_entry hypotheses entries σ τ f.0 f.1 f.2 x l s t f.3 f.4
 
     go : (a b : Option (List (List ℕ))) → σ x ≡ a → τ x ≡ b → σ x ≡ τ x
     go None None p q = p ∙ sym q
@@ -109,7 +114,7 @@ one_replacement before label place assertion hypotheses entries σ τ all names 
 pub one_frame : (before : List Sentence) (place place' : ℕ) (a a' : Sentence) (hypotheses hypotheses' : List Sentence) → place ≡ place' → a ≡ a'
     → AreMandatory (take place before) a hypotheses → AreMandatory (take place' before) a' hypotheses' → hypotheses ≡ hypotheses'
 one_frame before place place' a a' hypotheses hypotheses' p s m m' =
-    those_once (IsMandatoryAt (take place' before) a') 0 (take place' before) hypotheses hypotheses'
+    those_unique (IsMandatoryAt (take place' before) a') 0 (take place' before) hypotheses hypotheses'
     (subst (λ b. AreMandatory (take place' before) b hypotheses) s (subst (λ k. AreMandatory (take k before) a hypotheses) p m)) m'
 
 pub record Agree (before : List Sentence) (stack : List (List (List ℕ))) (label : List ℕ) (m n : MeetsHypotheses before stack label) : Type 0 where

@@ -3,6 +3,7 @@ use Rattle.std.proofs.Common.{◌≡◌, ℕ, ◌+◌, ◌<◌, List, [], ◌∷
 use Rattle.std.specs.List.{AllZip}
 use Rattle.std.proofs.lemmas.Option.{slice_get_within, slice_get-get_or}
 use Rattle.std.proofs.lemmas.Slice.Zip.{AllZip-long}
+use Rattle.mm_text.proofs.Lists.{zip_push, zip_left, zip_right, get_kept, cons_parts}
 use Rattle.mm_code.specs.declared.code.Code.{Code}
 use Rattle.mm_code.specs.declared.code.Code.TheVariants.{Number, Tag}
 use Rattle.mm_frame.specs.Sentence.{Sentence}
@@ -18,18 +19,13 @@ use Rattle.mm_proof.specs.Visits.{Visit, makes, repeats, keeps, visit, visits}
 use Rattle.mm_proof.specs.Spelled.{IsLabelNumber}
 use Rattle.mm_proof.specs.Subtrees.{AreOnce, IsTreeOf, IsSubtreeOf}
 use Rattle.mm_proof.specs.CodeSharing.{Adds, IsStepOf, IsEncoded, AreEncoded}
-use Rattle.mm_proof.proofs.Places.{get_append}
-use Rattle.mm_proof.proofs.Derived.{zip_left, zip_right, zip_push}
 use Rattle.mm_proof.proofs.Members.{In, Once, once_places}
 use Rattle.mm_proof.proofs.Tidy.{Marked}
 use Rattle.mm_proof.proofs.SharedOnce.{kept_stays}
 use Rattle.mm_proof.proofs.LedMoves.{Led}
-use Rattle.mm_proof.proofs.SubtreeNumbers.{one_label_of, tree_once, subtree_once}
+use Rattle.mm_proof.proofs.SubtreeNumbers.{one_label_of, tree_once}
 
 -- ---- the move that does the first visit
-
-heads : (x y : Visit) (v w : List Visit) → x ∷ v ≡ y ∷ w → (x ≡ y) × (v ≡ w)
-heads x y v w e = (cc, cc)
 
 -- the move is the first, and the others do the later visits
 record First (before : List Sentence) (moves : List (Move (List ℕ))) (move : Move (List ℕ)) (kept : List Trees) (last : Trees) (end : List Trees) (v : List Visit) : Type 0 where
@@ -43,16 +39,16 @@ led_makes : (before : List Sentence) (moves : List (Move (List ℕ))) (row : Tre
 led_makes before [] row kept last end label below v l = absurd (let e : [] ≡ makes (tree label below none) ∷ v = l.1 in cc)
 led_makes before (name m ∷ moves) row kept last end label below v l =
     let s = l.0 in
-    let h = heads (makes (tree m s.2.1 none)) (makes (tree label below none)) (visits before moves s.0 s.1 last end s.3) v l.1 in
+    let h = cons_parts (makes (tree m s.2.1 none)) (makes (tree label below none)) (visits before moves s.0 s.1 last end s.3) v l.1 in
     let same : m ≡ label = (let e : makes (tree m s.2.1 none) ≡ makes (tree label below none) = h.0 in cc) in
     record { others = moves; parts = ap (λ x. name x ∷ moves) same; row = s.0; led = subst (λ k. Led before moves s.0 k last end v) s.2.5 (s.3, h.1) }
 led_makes before (again tag ∷ moves) row kept last end label below v l =
     let s = l.0 in
-    let h = heads (repeats s.2.0) (makes (tree label below none)) (visits before moves s.0 s.1 last end s.3) v l.1 in
+    let h = cons_parts (repeats s.2.0) (makes (tree label below none)) (visits before moves s.0 s.1 last end s.3) v l.1 in
     absurd (let e : repeats s.2.0 ≡ makes (tree label below none) = h.0 in cc)
 led_makes before (mark ∷ moves) row kept last end label below v l =
     let s = l.0 in
-    let h = heads (keeps (tree s.2.1 s.2.2 none)) (makes (tree label below none)) (visits before moves s.0 s.1 last end s.3) v l.1 in
+    let h = cons_parts (keeps (tree s.2.1 s.2.2 none)) (makes (tree label below none)) (visits before moves s.0 s.1 last end s.3) v l.1 in
     absurd (let e : keeps (tree s.2.1 s.2.2 none) ≡ makes (tree label below none) = h.0 in cc)
 
 led_keeps : (before : List Sentence) (moves : List (Move (List ℕ))) (row : Trees) (kept : List Trees) (last : Trees) (end : List Trees) (t : Trees) (v : List Visit)
@@ -60,15 +56,15 @@ led_keeps : (before : List Sentence) (moves : List (Move (List ℕ))) (row : Tre
 led_keeps before [] row kept last end t v l = absurd (let e : [] ≡ keeps t ∷ v = l.1 in cc)
 led_keeps before (name m ∷ moves) row kept last end t v l =
     let s = l.0 in
-    let h = heads (makes (tree m s.2.1 none)) (keeps t) (visits before moves s.0 s.1 last end s.3) v l.1 in
+    let h = cons_parts (makes (tree m s.2.1 none)) (keeps t) (visits before moves s.0 s.1 last end s.3) v l.1 in
     absurd (let e : makes (tree m s.2.1 none) ≡ keeps t = h.0 in cc)
 led_keeps before (again tag ∷ moves) row kept last end t v l =
     let s = l.0 in
-    let h = heads (repeats s.2.0) (keeps t) (visits before moves s.0 s.1 last end s.3) v l.1 in
+    let h = cons_parts (repeats s.2.0) (keeps t) (visits before moves s.0 s.1 last end s.3) v l.1 in
     absurd (let e : repeats s.2.0 ≡ keeps t = h.0 in cc)
 led_keeps before (mark ∷ moves) row kept last end t v l =
     let s = l.0 in
-    let h = heads (keeps (tree s.2.1 s.2.2 none)) (keeps t) (visits before moves s.0 s.1 last end s.3) v l.1 in
+    let h = cons_parts (keeps (tree s.2.1 s.2.2 none)) (keeps t) (visits before moves s.0 s.1 last end s.3) v l.1 in
     let same : tree s.2.1 s.2.2 none ≡ t = (let e : keeps (tree s.2.1 s.2.2 none) ≡ keeps t = h.0 in cc) in
     record { others = moves; parts = refl; row = s.0; led = subst (λ k. Led before moves s.0 k last end v) (s.2.5 ∙ ap (λ x. kept ++ x ∷ []) same) (s.3, h.1) }
 
@@ -77,16 +73,16 @@ led_repeats : (before : List Sentence) (moves : List (Move (List ℕ))) (row : T
 led_repeats before [] row kept last end t v l = absurd (let e : [] ≡ repeats t ∷ v = l.1 in cc)
 led_repeats before (name m ∷ moves) row kept last end t v l =
     let s = l.0 in
-    let h = heads (makes (tree m s.2.1 none)) (repeats t) (visits before moves s.0 s.1 last end s.3) v l.1 in
+    let h = cons_parts (makes (tree m s.2.1 none)) (repeats t) (visits before moves s.0 s.1 last end s.3) v l.1 in
     absurd (let e : makes (tree m s.2.1 none) ≡ repeats t = h.0 in cc)
 led_repeats before (again tag ∷ moves) row kept last end t v l =
     let s = l.0 in
-    let h = heads (repeats s.2.0) (repeats t) (visits before moves s.0 s.1 last end s.3) v l.1 in
+    let h = cons_parts (repeats s.2.0) (repeats t) (visits before moves s.0 s.1 last end s.3) v l.1 in
     let same : s.2.0 ≡ t = (let e : repeats s.2.0 ≡ repeats t = h.0 in cc) in
     (tag, s.2.1 ∙ ap Some same, record { others = moves; parts = refl; row = s.0; led = subst (λ k. Led before moves s.0 k last end v) s.2.3 (s.3, h.1) })
 led_repeats before (mark ∷ moves) row kept last end t v l =
     let s = l.0 in
-    let h = heads (keeps (tree s.2.1 s.2.2 none)) (repeats t) (visits before moves s.0 s.1 last end s.3) v l.1 in
+    let h = cons_parts (keeps (tree s.2.1 s.2.2 none)) (repeats t) (visits before moves s.0 s.1 last end s.3) v l.1 in
     absurd (let e : keeps (tree s.2.1 s.2.2 none) ≡ repeats t = h.0 in cc)
 
 led_none : (before : List Sentence) (moves : List (Move (List ℕ))) (row : Trees) (kept : List Trees) (last : Trees) (end : List Trees) → Led before moves row kept last end [] → moves ≡ []
@@ -99,10 +95,6 @@ led_none before (move ∷ moves) row kept last end l =
 -- the one tree that a subtree is
 single : (st : List Sentence) (rows : List Row) (t : Subtree) (label : List ℕ) (below : Trees) → IsTreeOf st rows t label below → IsSubtreeOf st rows t (tree label below none)
 single st rows t label below is = (is, tt)
-
--- equal trees have equal numbers, and the other way round
-number_of_tree : (st : List Sentence) (rows : List Row) (t u : Subtree) (label : List ℕ) (below : Trees) → AllMeant st → AreOnce rows → IsTreeOf st rows t label below → IsSubtreeOf st rows u (tree label below none) → u ≡ t
-number_of_tree st rows t u label below all once is is' = subtree_once st rows u t label below all once is'.0 is
 
 tree_of_number : (st : List Sentence) (rows : List Row) (t : Subtree) (label : List ℕ) (below u : Trees) → IsTreeOf st rows t label below → IsSubtreeOf st rows t u → u ≡ tree label below none
 tree_of_number st rows t label below none is is' = absurd is'
@@ -124,7 +116,7 @@ not_tagged st rows numbers kept end t label below z is once stays has =
     let beside = zip_left (IsSubtreeOf st rows) numbers kept has.0 t z there in
     let old : slice_get kept has.0 ≡ Some tr = beside.1 ∙ ap Some (tree_of_number st rows t label below beside.0 is beside.2) in
     let less : has.0 < length kept = slice_get_within kept has.0 tr old in
-    let same : has.0 ≡ length kept = once_places end has.0 (length kept) tr once (stays has.0 tr (get_append kept (tr ∷ []) has.0 tr old)) (stays (length kept) tr (last_there kept tr)) in
+    let same : has.0 ≡ length kept = once_places end has.0 (length kept) tr once (stays has.0 tr (get_kept kept (tr ∷ []) has.0 tr old)) (stays (length kept) tr (last_there kept tr)) in
     omega (arith, less, same)
   where
     last_there : (kept : List Trees) (tr : Trees) → slice_get (kept ++ tr ∷ []) (length kept) ≡ Some tr

@@ -2,6 +2,7 @@
 use Rattle.std.proofs.Common.{◌≡◌, ℕ, List, [], ◌∷◌, ◌++◌, map, take, slice_get, Contains, Some, ◌↔◌, inl, inr, ⊎_elim, refl, sym, ap, subst, ◌∙◌}
 use Rattle.std.specs.List.{AllZip}
 use Rattle.std.proofs.lemmas.Option.{same_Some}
+use Rattle.mm_text.proofs.Lists.{zip_left, zip_right, zip_append}
 use Rattle.mm_code.specs.declared.code.Code.{Code}
 use Rattle.mm_frame.specs.declared.number.LabelId.{LabelId}
 use Rattle.mm_frame.specs.Sentence.{Sentence}
@@ -10,6 +11,7 @@ use Rattle.mm_frame.specs.Form.{AllFormed, IsSound}
 use Rattle.mm_frame.specs.Frame.{AreMandatory}
 use Rattle.mm_frame.specs.Numbers.{labelled_sentences, IsNumbered}
 use Rattle.mm_frame.specs.FramePlace.{FramePlace, AreHypotheses}
+use Rattle.mm_frame.proofs.Meant.{allmeant_front}
 use Rattle.mm_proof.specs.declared.subtrees.Subtree.{Subtree}
 use Rattle.mm_proof.specs.declared.subtrees.Row.{Row}
 use Rattle.mm_proof.specs.declared.sharing.SharedStep.{SharedStep}
@@ -25,10 +27,8 @@ use Rattle.mm_proof.specs.Subtrees.{AreOnce, IsTreeOf}
 use Rattle.mm_proof.specs.CodeSteps.{ids_in}
 use Rattle.mm_proof.specs.CodeSharing.{IsStepOf, AreSharedSteps, labels_made, AreFirstNumbers, AreEncoded, AreStepsPacked}
 use Rattle.mm_proof.proofs.Places.{get_from_take}
-use Rattle.mm_proof.proofs.Derived.{zip_left, zip_right}
 use Rattle.mm_proof.proofs.Expanded.{made_word}
 use Rattle.mm_proof.proofs.Ending.{one_place}
-use Rattle.mm_proof.proofs.Meaning.{meant_front}
 use Rattle.mm_proof.proofs.Members.{In, in_get, get_in, contains_in, in_contains, Once, once_places, places_once}
 use Rattle.mm_proof.proofs.SaidMoves.{labels_of, mandatory_active}
 use Rattle.mm_proof.proofs.PairOnce.{mandatory_once}
@@ -38,12 +38,6 @@ use Rattle.mm_proof.proofs.FirstUses.{labels_in, spelled_uses}
 use Rattle.mm_proof.proofs.PackedCodes.{Whole, codes_said}
 
 -- ---- numbers of labels
-
-zip_join : {A B : Type 0} (R : A → B → Type 0) (xs us : List A) (ys vs : List B) → AllZip R xs ys → AllZip R us vs → AllZip R (xs ++ us) (ys ++ vs)
-zip_join R [] us [] vs p q = q
-zip_join R [] us (y ∷ ys) vs p q = absurd p
-zip_join R (x ∷ xs) us [] vs p q = absurd p
-zip_join R (x ∷ xs) us (y ∷ ys) vs p q = (p.0, zip_join R xs us ys vs p.1 q)
 
 -- the numbers of the hypotheses are those of their labels
 own_labels : (st : List Sentence) (numbers : List ℕ) (hypotheses : List Sentence) (labels : List (List ℕ)) → map (slice_get (labelled_sentences st)) numbers ≡ map Some hypotheses
@@ -167,7 +161,7 @@ packed_steps st place s rows label below steps hypotheses ids codes all formed o
     let mandatory : AreMandatory before s own.hypotheses = subst (λ a. AreMandatory before a own.hypotheses) same own.mandatory in
     let named = labels_of before s own.hypotheses formed (λ i h e. let a = mandatory_active before s own.hypotheses i h mandatory e in (a.0, a.1, a.3)) in
     let numbers = own_labels st hypotheses own.hypotheses named.0 own.numbered named.1 in
-    let apart : Once hypotheses = numbers_once st hypotheses named.0 numbers (mandatory_once before s own.hypotheses named.0 (meant_front st place all) mandatory named.1) in
+    let apart : Once hypotheses = numbers_once st hypotheses named.0 numbers (mandatory_once before s own.hypotheses named.0 (allmeant_front st place all) mandatory named.1) in
     let given : packed.given ≡ hypotheses = first_all [] hypotheses packed.given apart (λ n h k. k) packed.own in
     let others : AreFirstNumbers hypotheses (labels_made steps) (ids_in ids) = subst (λ g. AreFirstNumbers g (labels_made steps) (ids_in ids)) given packed.others in
     let uses = named_uses st hypotheses (labels_made steps) (ids_in ids) named.0 (labels_in shared.visits) all numbers (step_labels st rows steps shared.visits shared.said) others in
@@ -175,7 +169,7 @@ packed_steps st place s rows label below steps hypotheses ids codes all formed o
     let whole : Whole st rows (hypotheses ++ ids_in ids) (named.0 ++ uses.labels) packed.repeated shared.visits moves.kept = record {
       meant = all;
       rows_once = once;
-      labelled = zip_join (IsLabelNumber st) hypotheses (ids_in ids) named.0 uses.labels numbers uses.are;
+      labelled = zip_append (IsLabelNumber st) hypotheses named.0 (ids_in ids) uses.labels numbers uses.are;
       repeats_are = repeats_of st rows steps shared.visits packed.repeated all once shared.said packed.each;
       end_once = moves.once;
     } in (

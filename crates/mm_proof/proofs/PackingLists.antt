@@ -3,6 +3,7 @@ use Rattle.std.proofs.Common.{◌≡◌, ℕ, suc, ◌+◌, ◌<◌, ◌≤◌, 
 use Rattle.std.proofs.lemmas.Option.{slice_get-get_or}
 use Rattle.std.proofs.lemmas.List.{length-append, map-append}
 use Rattle.std.proofs.lemmas.List.Elements.{Contains-push, Contains-push_cases, Contains-append_left}
+use Rattle.mm_text.proofs.Lists.{take_next}
 use Rattle.mm_code.specs.declared.code.Code.{Code}
 use Rattle.mm_frame.specs.declared.hypothesis.Hypothesis.{Hypothesis}
 use Rattle.mm_frame.specs.declared.number.LabelId.{LabelId}
@@ -11,14 +12,13 @@ use Rattle.mm_proof.specs.declared.sharing.SharedStep.{SharedStep}
 use Rattle.mm_proof.specs.declared.sharing.SharedStep.TheVariants.{Make, Repeat}
 use Rattle.mm_proof.specs.CodeSteps.{ids_in, label_ids}
 use Rattle.mm_proof.specs.CodeSharing.{Adds, AddsNew, labels_made, AreFirstNumbers, IsEncoded, AreEncoded, AreMadeBefore}
-use Rattle.mm_proof.proofs.Places.{take_get}
 use Rattle.mm_proof.proofs.Members.{In, contains_in, in_contains, get_in, in_left, in_right, in_apart}
 
 -- ---- a front with one more
 
 pub one_more : {X : Type 0} (xs : List X) (i : ℕ) (d x : X) → i < length xs → get_or xs i d ≡ x → take (i + 1) xs ≡ take i xs ++ x ∷ []
 one_more xs i d x less is =
-    ap (λ (k : ℕ). take k xs) (let e : i + 1 ≡ suc i = omega arith in e) ∙ take_get xs i x (slice_get-get_or xs i d less ∙ ap Some is)
+    ap (λ (k : ℕ). take k xs) (let e : i + 1 ≡ suc i = omega arith in e) ∙ take_next xs i x (slice_get-get_or xs i d less ∙ ap Some is)
 
 pub one_there : {X : Type 0} (xs : List X) (i : ℕ) (d x : X) → i < length xs → get_or xs i d ≡ x → Contains xs x
 one_there xs i d x less is = in_contains xs x (get_in xs i x (slice_get-get_or xs i d less ∙ ap Some is))
@@ -66,9 +66,6 @@ repeated_make trees steps t are u = (
   λ h. ⊎_elim (λ old. (are u).1 old) (λ e. absurd (made_or_repeated t u e)) (Contains-push_cases steps (Make t) (Repeat u) h),
 )
 
-pub repeated_none : AreRepeated [] []
-repeated_none t = (λ h. absurd (let less : h.0 < 0 = h.1 in omega arith), λ h. absurd (let less : h.0 < 0 = h.1 in omega arith))
-
 -- ---- first uses
 
 -- a number that was seen or listed lists nothing more
@@ -105,9 +102,6 @@ first_new seen (m ∷ numbers) listed n (inr u) unseen other =
 pub record Listing (seen labels numbers listed : List ℕ) : Type 0 where
   pub all : labels ≡ seen ++ listed
   pub first : AreFirstNumbers seen numbers listed
-
-pub listing_none : (seen : List ℕ) → Listing seen seen [] []
-listing_none seen = record { all = sym (append-nil seen); first = refl }
 
 pub listing_old : (seen labels labels' numbers listed : List ℕ) (n : ℕ) → Listing seen labels numbers listed → AddsNew labels n false labels' → Listing seen labels' (numbers ++ n ∷ []) listed
 listing_old seen labels labels' numbers listed n l a = record {
@@ -226,9 +220,6 @@ encoded_next labels repeated steps i d codes codes' kept kept' less few are is =
 -- each tree that was made and is repeated is tagged
 abbrev pub AreTaggedSo : (repeated kept : List Subtree) → List SharedStep → Type 0
 AreTaggedSo repeated kept steps = (t : Subtree) → Contains steps (Make t) → Contains repeated t → Contains kept t
-
-pub tagged_none : (repeated : List Subtree) → AreTaggedSo repeated [] []
-tagged_none repeated t h among = absurd (let less : h.0 < 0 = h.1 in omega arith)
 
 same_made : (t u : Subtree) → Make t ≡ Make u → t ≡ u
 same_made t u e = cc

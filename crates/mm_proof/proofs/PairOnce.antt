@@ -1,13 +1,11 @@
 -- A tree has one fully shared proof at most, and is told by it.
-use Rattle.std.proofs.Common.{◌≡◌, ℕ, zero, suc, ◌+◌, ◌<◌, List, [], ◌∷◌, ◌++◌, length, map}
-use Rattle.std.proofs.Common.{slice_get, Option, Some, ◌⊎◌, inl, inr, ⊎_elim, refl, sym, ap, subst}
-use Rattle.std.proofs.Common.{◌∙◌, arith}
+use Rattle.std.proofs.Common.{◌≡◌, ℕ, ◌+◌, ◌<◌, List, [], ◌∷◌, ◌++◌, length, map, slice_get, Some}
+use Rattle.std.proofs.Common.{◌⊎◌, inl, inr, ⊎_elim, refl, sym, ap, subst, ◌∙◌, arith}
 use Rattle.std.specs.List.{AllZip}
-use Rattle.std.proofs.lemmas.Option.{none-some}
 use Rattle.std.proofs.lemmas.Bool.{cases_order}
 use Rattle.mm_code.specs.declared.code.Code.{Code}
 use Rattle.mm_code.specs.declared.code.Code.TheVariants.{Number, Tag}
-use Rattle.mm_frame.specs.Sentence.{Sentence, IsLabelled}
+use Rattle.mm_frame.specs.Sentence.{Sentence}
 use Rattle.mm_frame.specs.Frame.{AreMandatory, IsMandatoryAt}
 use Rattle.mm_frame.specs.Rules.{AllMeant}
 use Rattle.mm_frame.proofs.Those.{mandatory_unique}
@@ -19,7 +17,7 @@ use Rattle.mm_proof.specs.SharingLaws.{OnePacked, ToldByPacked}
 use Rattle.mm_proof.proofs.Meaning.{one_label}
 use Rattle.mm_proof.proofs.Derived.{zip_once}
 use Rattle.mm_proof.proofs.Making.{makes_once}
-use Rattle.mm_proof.proofs.SaidMoves.{says_once, same_somes}
+use Rattle.mm_proof.proofs.SaidMoves.{says_once, same_somes, labelled_at}
 use Rattle.mm_proof.proofs.Replacements.{those_order}
 use Rattle.mm_proof.proofs.Members.{In, in_contains, in_apart, Once, once_places, places_once}
 use Rattle.mm_proof.proofs.SharedOnce.{shared_once}
@@ -56,41 +54,14 @@ uses_apart (label ∷ word) seen listed (inr p) =
 
 -- ---- the labels of mandatory hypotheses
 
-label_at : (hypotheses : List Sentence) (labels : List (List ℕ)) (i : ℕ) (label : List ℕ)
-    → map (λ (h : Sentence). h.label) hypotheses ≡ map Some labels → slice_get labels i ≡ Some label
-    → (h : Sentence) × (slice_get hypotheses i ≡ Some h) × IsLabelled label h
-label_at [] [] i label e there = absurd (none-some label there)
-label_at [] (l ∷ labels) i label e there = absurd (let p : [] ≡ Some l ∷ map Some labels = e in cc)
-label_at (h ∷ hypotheses) [] i label e there = absurd (none-some label there)
-label_at (h ∷ hypotheses) (l ∷ labels) zero label e there =
-    let p : h.label ∷ map (λ (g : Sentence). g.label) hypotheses ≡ Some l ∷ map Some labels = e in (
-      h,
-      refl,
-      (heads (h.label) (Some l) (map (λ (g : Sentence). g.label) hypotheses)
-          (map Some labels) p).0 ∙ there,
-    )
-  where
-    heads : (a b : Option (List ℕ)) (c d : List (Option (List ℕ))) → a ∷ c ≡ b ∷ d → (a ≡ b)
-        × (c ≡ d)
-    heads a b c d e = (cc, cc)
-label_at (h ∷ hypotheses) (l ∷ labels) (suc i) label e there =
-    let p : h.label ∷ map (λ (g : Sentence). g.label) hypotheses ≡ Some l ∷ map Some labels = e in
-    label_at hypotheses labels i label
-    (heads (h.label) (Some l) (map (λ (g : Sentence). g.label) hypotheses)
-    (map Some labels) p).1 there
-  where
-    heads : (a b : Option (List ℕ)) (c d : List (Option (List ℕ))) → a ∷ c ≡ b ∷ d → (a ≡ b)
-        × (c ≡ d)
-    heads a b c d e = (cc, cc)
-
 not_twice : (before : List Sentence) (s : Sentence) (hypotheses : List Sentence)
     (labels : List (List ℕ)) (i j : ℕ) (label : List ℕ) → AllMeant before
     → AreMandatory before s hypotheses
     → map (λ (h : Sentence). h.label) hypotheses ≡ map Some labels → slice_get labels i ≡ Some label
     → slice_get labels j ≡ Some label → i < j → ⊥
 not_twice before s hypotheses labels i j label all mandatory labelled p q less =
-    let a = label_at hypotheses labels i label labelled p in
-    let b = label_at hypotheses labels j label labelled q in
+    let a = labelled_at hypotheses labels i label labelled p in
+    let b = labelled_at hypotheses labels j label labelled q in
     let o = those_order (IsMandatoryAt before s) 0 before hypotheses i j a.0 b.0 mandatory less a.1
     b.1 in
     let same : o.0 ≡ o.1 = one_label before o.0 o.1 a.0 b.0 label all o.3 o.4 a.2 b.2 in

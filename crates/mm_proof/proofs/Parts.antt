@@ -3,7 +3,7 @@ use Rattle.std.proofs.Common.{◌≡◌, ℕ, zero, suc, ◌+◌, ◌-◌, ◌<�
 use Rattle.std.specs.List.{slice_range}
 use Rattle.std.specs.Result.{OnOk, OnErr}
 use Rattle.mm_frame.specs.declared.number.Sym.{Sym}
-use Rattle.mm_proof.specs.declared.flat.Entry.{Entry}
+use Rattle.mm_proof.specs.declared.entry.Entry.{Entry}
 use Rattle.mm_proof.specs.Stores.{numbers_in}
 use Rattle.mm_frame.specs.declared.piece.Piece.{Piece}
 use Rattle.mm_proof.specs.CodeVerify.{said_by, all_said_by}

@@ -6,6 +6,7 @@ use Rattle.std.proofs.lemmas.Bool.Decides.{Decides-eqb}
 use Rattle.std.proofs.lemmas.Option.{same_Some, none-some, slice_get_within, slice_get-get_or}
 use Rattle.std.proofs.lemmas.List.{map-append, take_all, length-map, get_or-set_same, get_or-set_other}
 use Rattle.std.proofs.lemmas.List.Elements.{Contains-push, Contains-push_cases, Contains-append_left}
+use Rattle.mm_text.proofs.Lists.{zip_left, zip_right, get_kept, get_pushed}
 use Rattle.mm_frame.specs.Sentence.{Sentence}
 use Rattle.mm_frame.specs.declared.number.LabelId.{LabelId}
 use Rattle.mm_proof.specs.declared.moves.NumberedMove.{NumberedMove}
@@ -15,8 +16,6 @@ use Rattle.mm_proof.specs.CodeSteps.{ids_in, move_in, moves_in}
 use Rattle.mm_proof.specs.CodeRun.{ArePicked, AreMarked, AreNamedNumbers}
 use Rattle.mm_proof.specs.declared.call.Call.{Call}
 use Rattle.mm_proof.specs.CodeApply.{IsCallOf, IsOfAssertion}
-use Rattle.mm_proof.proofs.Places.{get_append}
-use Rattle.mm_proof.proofs.Derived.{zip_left, zip_right}
 use Rattle.mm_proof.proofs.Calls.{called_assertion, assertion_called}
 use Rattle.mm_proof.proofs.Running.{front_more}
 
@@ -28,11 +27,7 @@ get_push [] x y (suc i) e = absurd (none-some y e)
 get_push (z ∷ xs) x y zero e = inl e
 get_push (z ∷ xs) x y (suc i) e = get_push xs x y i e
 
-get_last : {X : Type 0} (xs : List X) (x : X) → slice_get (xs ++ x ∷ []) (length xs) ≡ Some x
-get_last [] x = refl
-get_last (z ∷ xs) x = get_last xs x
-
-same_number : (a b : ℕ) → ◌≡◌ {A = Move ℕ} (name a) (name b) → a ≡ b
+pub same_number : (a b : ℕ) → ◌≡◌ {A = Move ℕ} (name a) (name b) → a ≡ b
 same_number a b e = cc
 
 no_name : (m : NumberedMove) → ((id : LabelId) → m ≡ code.Name id → ⊥) → (n : ℕ) → move_in m ≡ name n → ⊥
@@ -50,8 +45,8 @@ picked_more front ids id old n = (to, from)
   where
     to : Contains (ids_in (ids ++ id ∷ [])) n → (i : ℕ) × (slice_get (front ++ name id.0 ∷ []) i ≡ Some (name n))
     to h = elim (Contains-push_cases (ids_in ids) id.0 n (subst (λ l. Contains l n) (map-append (λ (i : LabelId). i.0) ids (id ∷ [])) h)) [
-      | inl c ↦ let o = (old n).0 c in (o.0, get_append front (name id.0 ∷ []) o.0 (name n) o.1)
-      | inr same ↦ (length front, get_last front (name id.0) ∙ ap (λ k. Some (name k)) same)
+      | inl c ↦ let o = (old n).0 c in (o.0, get_kept front (name id.0 ∷ []) o.0 (name n) o.1)
+      | inr same ↦ (length front, get_pushed front (name id.0) ∙ ap (λ k. Some (name k)) same)
     ]
 
     from : (i : ℕ) × (slice_get (front ++ name id.0 ∷ []) i ≡ Some (name n)) → Contains (ids_in (ids ++ id ∷ [])) n
@@ -64,7 +59,7 @@ picked_more front ids id old n = (to, from)
 pub picked_other : (front : List (Move ℕ)) (ids : List LabelId) (m : NumberedMove) → ((id : LabelId) → m ≡ code.Name id → ⊥) → ArePicked front (ids_in ids)
     → ArePicked (front ++ move_in m ∷ []) (ids_in ids)
 picked_other front ids m not old n = (
-  (λ c. let o = (old n).0 c in (o.0, get_append front (move_in m ∷ []) o.0 (name n) o.1)),
+  (λ c. let o = (old n).0 c in (o.0, get_kept front (move_in m ∷ []) o.0 (name n) o.1)),
   λ h. ⊎_elim (λ before. (old n).1 (h.0, before)) (λ same. absurd (no_name m not n same)) (get_push front (move_in m) (name n) h.0 h.1),
 )
 
@@ -98,7 +93,7 @@ none_more (m ∷ marks) none (suc place) = none_more marks (λ k. none (suc k)) 
 pub marked_other : (entries : List ℕ) (front : List (Move ℕ)) (m : Move ℕ) (marks : List Bool) → ((id : ℕ) → m ≡ name id → ⊥) → AreMarked entries front marks
     → AreMarked entries (front ++ m ∷ []) marks
 marked_other entries front m marks not old = record {
-  named = λ place t. let o = old.named place t in (o.0, o.1, o.2, get_append front (m ∷ []) o.0 (name o.1) o.3);
+  named = λ place t. let o = old.named place t in (o.0, o.1, o.2, get_kept front (m ∷ []) o.0 (name o.1) o.3);
   marked = λ i id e. ⊎_elim (λ there. old.marked i id there) (λ same. absurd (not id same)) (get_push front m (name id) i e);
 }
 
@@ -122,8 +117,8 @@ marked_more entries front place id marks there within old = record {
 
     back : (p : ℕ) → IsTrue (get_or (set marks place true) p false) → (b : Bool) → eqb p place ≡ b
         → (i : ℕ) × (n : ℕ) × (slice_get entries p ≡ Some n) × (slice_get (front ++ name id ∷ []) i ≡ Some (name n))
-    back p t true e = (length front, id, ap (slice_get entries) ((Decides-eqb p place).0 e) ∙ there, get_last front (name id))
-    back p t false e = let o = old.named p (sym (other p e) ∙ t) in (o.0, o.1, o.2, get_append front (name id ∷ []) o.0 (name o.1) o.3)
+    back p t true e = (length front, id, ap (slice_get entries) ((Decides-eqb p place).0 e) ∙ there, get_pushed front (name id))
+    back p t false e = let o = old.named p (sym (other p e) ∙ t) in (o.0, o.1, o.2, get_kept front (name id ∷ []) o.0 (name o.1) o.3)
 
 pub marked_push : (entries : List ℕ) (moves : List NumberedMove) (m : NumberedMove) (marks : List Bool) → AreMarked entries (moves_in moves ++ move_in m ∷ []) marks
     → AreMarked entries (moves_in (moves ++ m ∷ [])) marks

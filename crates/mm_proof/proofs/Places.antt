@@ -1,15 +1,7 @@
 -- Lists by place: the element at a place, in fronts and in sums of lists; and lists that can't differ.
-use Rattle.std.proofs.Common.{◌≡◌, ℕ, zero, suc, ◌<◌, List, [], ◌∷◌, ◌++◌, length, take, drop, slice_get, Option, Some, None, refl, sym, ap, ◌∙◌, arith}
-use Rattle.std.proofs.lemmas.Option.{same_Some, none-some, slice_get_within}
+use Rattle.std.proofs.Common.{◌≡◌, ℕ, zero, suc, ◌<◌, List, [], ◌∷◌, ◌++◌, length, take, drop, slice_get, Some, refl, sym, ap, ◌∙◌, arith}
+use Rattle.std.proofs.lemmas.Option.{none-some, slice_get_within}
 use Rattle.std.proofs.lemmas.List.{length-take, length-append, take_at, drop_at}
-use Rattle.std.proofs.Math.Decide.{ℕ_discrete}
-use mathlib.Core.List.{List-discrete}
-
--- the element at a place, with what stands before it and after it
-pub split_at : {X : Type 0} (xs : List X) (i : ℕ) (x : X) → slice_get xs i ≡ Some x → xs ≡ take i xs ++ x ∷ drop (suc i) xs
-split_at [] i x e = absurd (none-some x e)
-split_at (y ∷ xs) zero x e = ap (λ z. z ∷ xs) (same_Some y x e)
-split_at (y ∷ xs) (suc i) x e = ap (λ l. y ∷ l) (split_at xs i x e)
 
 pub get_take : {X : Type 0} (xs : List X) (n i : ℕ) → i < n → slice_get (take n xs) i ≡ slice_get xs i
 get_take xs zero i h = absurd (omega arith)
@@ -23,16 +15,6 @@ get_from_take xs n i x e =
     let within : i < length (take n xs) = slice_get_within (take n xs) i x e in
     let lt : i < n = omega (arith, length-take n xs) in
     (lt, sym (get_take xs n i lt) ∙ e)
-
-pub get_append : {X : Type 0} (xs ys : List X) (i : ℕ) (x : X) → slice_get xs i ≡ Some x → slice_get (xs ++ ys) i ≡ Some x
-get_append [] ys i x e = absurd (none-some x e)
-get_append (y ∷ xs) ys zero x e = e
-get_append (y ∷ xs) ys (suc i) x e = get_append xs ys i x e
-
-pub take_get : {X : Type 0} (xs : List X) (i : ℕ) (x : X) → slice_get xs i ≡ Some x → take (suc i) xs ≡ take i xs ++ x ∷ []
-take_get [] i x e = absurd (none-some x e)
-take_get (y ∷ xs) zero x e = ap (λ z. z ∷ []) (same_Some y x e)
-take_get (y ∷ xs) (suc i) x e = ap (λ l. y ∷ l) (take_get xs i x e)
 
 -- two lists of one length: where the one has an element, so has the other
 pub get_beside : {X Y : Type 0} (xs : List X) (ys : List Y) (i : ℕ) (x : X) → length ys ≡ length xs → slice_get xs i ≡ Some x → (y : Y) × (slice_get ys i ≡ Some y)
@@ -48,14 +30,3 @@ one_split {X} a b c d e l =
       sym (take_at a b (length c) n) ∙ ap (take (length c)) e ∙ take_at c d (length c) refl,
       sym (drop_at a b (length c) n) ∙ ap (drop (length c)) e ∙ drop_at c d (length c) refl,
     )
-
-unless_not : {P : Type 0} → Dec P → ¬ (¬ P) → P
-unless_not (yes p) h = p
-unless_not (no n) h = absurd (h n)
-
--- replacements that can't differ are equal
-pub same_replacement : (a b : Option (List (List ℕ))) → ¬ (¬ (a ≡ b)) → a ≡ b
-same_replacement None None h = refl
-same_replacement None (Some b) h = absurd (h (λ e. none-some b e))
-same_replacement (Some a) None h = absurd (h (λ e. none-some a (sym e)))
-same_replacement (Some a) (Some b) h = ap Some (unless_not (List-discrete (List-discrete ℕ_discrete) a b) (λ n. h (λ e. n (same_Some a b e))))

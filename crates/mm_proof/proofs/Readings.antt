@@ -1,12 +1,14 @@
 -- What the tokens of a proof say, once their labels have numbers and their letters are read.
-use Rattle.std.proofs.Common.{◌≡◌, ℕ, zero, suc, ◌+◌, ◌<◌, List, [], ◌∷◌, ◌++◌, length, map, take, slice_get, Some, ◌⊎◌, inl, inr, ⊎_elim, refl, sym, ap, subst, ◌∙◌, arith}
+use Rattle.std.proofs.Common.{◌≡◌, ℕ, ◌+◌, ◌<◌, List, [], ◌∷◌, ◌++◌, length, map, take, slice_get, Some, ◌⊎◌, inl, inr, ⊎_elim, refl, sym, ap, subst, ◌∙◌, arith}
 use Rattle.std.specs.List.{AllZip, AllByRecursion}
-use Rattle.std.proofs.lemmas.Option.{same_Some, none-some}
+use Rattle.std.proofs.lemmas.Slice.Zip.{AllZip-long}
+use Rattle.mm_text.proofs.Lists.{zip_left}
 use Rattle.mm_code.specs.declared.code.Code.{Code}
 use Rattle.mm_code.specs.declared.code.Code.TheVariants.{Number, Tag}
 use Rattle.mm_frame.specs.Sentence.{Sentence, IsLabelled}
 use Rattle.mm_frame.specs.Rules.{AllMeant}
 use Rattle.mm_frame.specs.Numbers.{labelled_sentences}
+use Rattle.mm_frame.proofs.Labelled.{numbered_get}
 use Rattle.mm_proof.specs.declared.fault.ProofRule.{ProofRule}
 use Rattle.mm_proof.specs.declared.fault.ProofRule.TheVariants.{P1, P2, P3, P4, P5}
 use Rattle.mm_proof.specs.Moves.{Move, name, again, mark}
@@ -15,7 +17,6 @@ use Rattle.mm_proof.specs.Proof.{proof_rank, BreaksWhole, IsWhole}
 use Rattle.mm_proof.specs.Steps.{IsNumberedMove, AreNumberedMoves, IsUsable, IsUsableMove}
 use Rattle.mm_proof.specs.CodeSteps.{AreFor, MayBeUsed, NumberSays, IsReading}
 use Rattle.mm_proof.proofs.Places.{get_take}
-use Rattle.mm_proof.proofs.Numbered.{numbered_at}
 use Rattle.mm_proof.proofs.TokenFacts.{labels_pass, normal_labels}
 
 -- ---- labels and their numbers
@@ -32,7 +33,7 @@ used_stands statements place id label m =
     let before = get_take statements place m.at m.before ∙ m.numbered.there in
     record {
       s = m.s;
-      there = numbered_at statements id m.at m.s m.numbered;
+      there = numbered_get statements id m.at m.s m.numbered;
       named = m.named;
       usable = ⊎_elim (λ h. inl (m.at, m.s, before, h.1, (m.named, h.0))) (λ a. inr (m.at, m.s, before, (m.named, a))) m.kind;
     }
@@ -43,24 +44,6 @@ for_stands statements place [] [] all = all
 for_stands statements place [] (l ∷ labels) all = absurd all
 for_stands statements place (id ∷ ids) [] all = absurd all
 for_stands statements place (id ∷ ids) (l ∷ labels) all = (used_stands statements place id l all.0, for_stands statements place ids labels all.1)
-
-pub zip_append : {A B : Type 0} (R : A → B → Type 0) (xs : List A) (ys : List B) (more : List A) (others : List B) → AllZip R xs ys → AllZip R more others → AllZip R (xs ++ more) (ys ++ others)
-zip_append R [] [] ms os all also = also
-zip_append R [] (y ∷ ys) ms os all also = absurd all
-zip_append R (x ∷ xs) [] ms os all also = absurd all
-zip_append R (x ∷ xs) (y ∷ ys) ms os all also = (all.0, zip_append R xs ys ms os all.1 also)
-
-zip_get : {A B : Type 0} (R : A → B → Type 0) (xs : List A) (ys : List B) (i : ℕ) (x : A) → AllZip R xs ys → slice_get xs i ≡ Some x → (y : B) × (slice_get ys i ≡ Some y) × R x y
-zip_get R [] ys i x all at = absurd (none-some x at)
-zip_get R (a ∷ xs) [] i x all at = absurd all
-zip_get R (a ∷ xs) (b ∷ ys) zero x all at = (b, refl, subst (λ z. R z b) (same_Some a x at) all.0)
-zip_get R (a ∷ xs) (b ∷ ys) (suc i) x all at = zip_get R xs ys i x all.1 at
-
-zip_length : {A B : Type 0} (R : A → B → Type 0) (xs : List A) (ys : List B) → AllZip R xs ys → length xs ≡ length ys
-zip_length R [] [] all = refl
-zip_length R [] (y ∷ ys) all = absurd all
-zip_length R (x ∷ xs) [] all = absurd all
-zip_length R (x ∷ xs) (y ∷ ys) all = ap suc (zip_length R xs ys all.1)
 
 -- ---- moves by numbers and by names
 
@@ -87,11 +70,11 @@ number_named statements place ids labels all n codes s steps here rest = go here
     go : ((id : ℕ) × (slice_get ids here.0 ≡ Some id) × (s ≡ name id)) ⊎ ((tag : ℕ) × (here.0 ≡ length ids + tag) × (s ≡ again tag))
         → Named statements place (Says labels) (Number n ∷ codes) (s ∷ steps)
     go (inl l) =
-        let at = zip_get (Stands statements place) ids labels here.0 l.0 all l.1 in
+        let at = zip_left (Stands statements place) ids labels here.0 l.0 all l.1 in
         one_named statements place (Says labels) (Number n) codes s steps (name at.0) (here.0, here.1, inl (at.0, at.1, refl))
         (subst (λ m. IsNumberedMove statements m (name at.0)) (sym l.2) (named_label statements place l.0 at.0 at.2)) at.2.usable rest
     go (inr t) =
-        let count = zip_length (Stands statements place) ids labels all in
+        let count = sym (AllZip-long (Stands statements place) ids labels all) in
         one_named statements place (Says labels) (Number n) codes s steps (again t.0) (here.0, here.1, inr (t.0, t.1 ∙ ap (λ k. k + t.0) count, refl))
         (subst (λ m. IsNumberedMove statements m (again t.0)) (sym t.2) refl) tt rest
 

@@ -6,20 +6,16 @@ use Rattle.mm_frame.specs.declared.rule.MeaningRule.TheVariants.{M12}
 use Rattle.mm_frame.specs.Sentence.{Sentence, Types}
 use Rattle.mm_frame.specs.Frame.{IsMandatory, IsMandatoryAt, AreThose, AreMandatory}
 use Rattle.mm_frame.specs.Rules.{AllMeant}
+use Rattle.mm_frame.proofs.Decided.{types_dec}
+use Rattle.mm_frame.proofs.Meant.{meant_at, allmeant_front}
+use Rattle.mm_frame.proofs.Needed.{mandatory_typed}
 use Rattle.mm_proof.specs.Tree.{Names}
 use Rattle.mm_proof.specs.Proof.{MeetsHypotheses}
 use Rattle.mm_proof.proofs.Places.{get_take, get_beside}
-use Rattle.mm_proof.proofs.Meaning.{meant_at, meant_front, mandatory_typed}
 use Rattle.mm_proof.proofs.Frames.{those_hold}
 use Rattle.mm_proof.proofs.OneStep.{typing_among}
 use Rattle.mm_proof.proofs.Runs.{typing_of, same_typing}
-use Rattle.mm_proof.proofs.Decisions.{dec_as, symbol_dec, active_earlier}
-use Rattle.mm_proof.proofs.Searches.{typing_so_dec}
-
--- ---- whether a statement is a `$f` of the variable
-
-pub typing_dec : (x : List ℕ) (h : Sentence) → Dec ((code : List ℕ) × Types code x h)
-typing_dec x h = dec_as (λ t. (t.0, subst (λ y. Types t.0 y h) t.3 t.2)) (λ t. (t.0, x, t.1, refl)) (typing_so_dec h (λ y. y ≡ x) (λ y. symbol_dec y x))
+use Rattle.mm_proof.proofs.Decisions.{active_earlier}
 
 -- ---- what the first `$f` of the variable gives
 
@@ -30,7 +26,7 @@ first_of (no n) a b = b
 abbrev pub replaced_by : List Sentence → List (List (List ℕ)) → List ℕ → Option (List (List ℕ))
 replaced_by [] entries x = None
 replaced_by (h ∷ hypotheses) [] x = None
-replaced_by (h ∷ hypotheses) (entry ∷ entries) x = first_of (typing_dec x h) (Some (drop 1 entry)) (replaced_by hypotheses entries x)
+replaced_by (h ∷ hypotheses) (entry ∷ entries) x = first_of (types_dec x h) (Some (drop 1 entry)) (replaced_by hypotheses entries x)
 
 -- each variable has one `$f` of these
 abbrev pub IsTypedOnce : List Sentence → Type 0
@@ -41,7 +37,7 @@ replaced_found : (hypotheses : List Sentence) (entries : List (List (List ℕ)))
     → (i : ℕ) × (f : Sentence) × (code : List ℕ) × (slice_get hypotheses i ≡ Some f) × Types code x f
 replaced_found [] entries x some = absurd cc
 replaced_found (h ∷ hypotheses) [] x some = absurd cc
-replaced_found (h ∷ hypotheses) (entry ∷ entries) x some = go (typing_dec x h) some (replaced_found hypotheses entries x)
+replaced_found (h ∷ hypotheses) (entry ∷ entries) x some = go (types_dec x h) some (replaced_found hypotheses entries x)
   where
     go : (d : Dec ((code : List ℕ) × Types code x h)) → IsSome (first_of d (Some (drop 1 entry)) (replaced_by hypotheses entries x))
         → (IsSome (replaced_by hypotheses entries x) → (i : ℕ) × (f : Sentence) × (code : List ℕ) × (slice_get hypotheses i ≡ Some f) × Types code x f)
@@ -56,13 +52,13 @@ pub replaced_at : (hypotheses : List Sentence) (entries : List (List (List ℕ))
     → slice_get hypotheses i ≡ Some f → slice_get entries i ≡ Some entry → Types code x f → replaced_by hypotheses entries x ≡ Some (drop 1 entry)
 replaced_at [] entries once i f entry code x there at types = absurd (none-some f there)
 replaced_at (h ∷ hypotheses) [] once i f entry code x there at types = absurd (none-some entry at)
-replaced_at (h ∷ hypotheses) (e ∷ entries) once zero f entry code x there at types = go (typing_dec x h)
+replaced_at (h ∷ hypotheses) (e ∷ entries) once zero f entry code x there at types = go (types_dec x h)
   where
     go : (d : Dec ((c : List ℕ) × Types c x h)) → first_of d (Some (drop 1 e)) (replaced_by hypotheses entries x) ≡ Some (drop 1 entry)
     go (yes t) = ap (λ l. Some (drop 1 l)) (same_Some e entry at)
     go (no n) = absurd (n (code, subst (λ s. Types code x s) (sym (same_Some h f there)) types))
 replaced_at (h ∷ hypotheses) (e ∷ entries) once (suc i) f entry code x there at types =
-    go (typing_dec x h) (replaced_at hypotheses entries (typed_once_later h hypotheses once) i f entry code x there at types)
+    go (types_dec x h) (replaced_at hypotheses entries (typed_once_later h hypotheses once) i f entry code x there at types)
   where
     go : (d : Dec ((c : List ℕ) × Types c x h)) → replaced_by hypotheses entries x ≡ Some (drop 1 entry)
         → first_of d (Some (drop 1 e)) (replaced_by hypotheses entries x) ≡ Some (drop 1 entry)
@@ -126,14 +122,16 @@ pub mandatory_found : (before : List Sentence) (label : List ℕ) (place : ℕ) 
     → AllMeant before → Names before label place assertion hypotheses → length entries ≡ length hypotheses → IsTypedOnce hypotheses
     → (x : List ℕ) → IsMandatory (take place before) assertion x → IsSome (replaced_by hypotheses entries x)
 mandatory_found before label place assertion hypotheses entries all names paired once x m = some_unless (replaced_by hypotheses entries x)
-    (λ none. mandatory_typed before place assertion x all names.there (inr names.kind) m
-    (λ typed. let f = typing_among before label place assertion hypotheses x names m typed in
+    (λ none.
+    let typed = mandatory_typed (take place before) assertion x (allmeant_front before place all)
+    (meant_at before place assertion all names.there) (inr names.kind) m in
+    let f = typing_among before label place assertion hypotheses x names m typed in
     let e = get_beside hypotheses entries f.0 f.1 paired f.3 in
-    none-some (drop 1 e.0) (sym none ∙ replaced_at hypotheses entries once f.0 f.1 e.0 f.2 x f.3 e.1 f.4)))
+    none-some (drop 1 e.0) (sym none ∙ replaced_at hypotheses entries once f.0 f.1 e.0 f.2 x f.3 e.1 f.4))
 
 pub names_once : (before : List Sentence) (label : List ℕ) (place : ℕ) (assertion : Sentence) (hypotheses : List Sentence) → AllMeant before
     → Names before label place assertion hypotheses → IsTypedOnce hypotheses
-names_once before label place assertion hypotheses all names = typed_once (take place before) assertion hypotheses (meant_front before place all) names.mandatory
+names_once before label place assertion hypotheses all names = typed_once (take place before) assertion hypotheses (allmeant_front before place all) names.mandatory
 
 -- Where there are as many entries as mandatory hypotheses, the step meets them.
 abbrev pub meets_of : (before : List Sentence) (stack : List (List (List ℕ))) (label : List ℕ) (place : ℕ) (assertion : Sentence) (hypotheses : List Sentence)

@@ -11,8 +11,9 @@ use Rattle.mm_frame.specs.Numbers.{symbols_of, IsNumberOf, AreNumbers}
 use Rattle.mm_frame.specs.Laws.{OneNumber}
 use Rattle.mm_proof.specs.Substitution.{instance_of}
 use Rattle.mm_frame.specs.Pieces.{is_of}
+use Rattle.mm_frame.proofs.Decided.{types_dec}
 use Rattle.mm_proof.specs.CodeVerify.{name_at, names_at, all_names_at, AreBelow, value_of, replaced_in, IsVariableOf, AreVariablesOf, IsEqual, IsUnequal, Replaces}
-use Rattle.mm_proof.proofs.Replacements.{replaced_by, first_of, typing_dec}
+use Rattle.mm_proof.proofs.Replacements.{replaced_by, first_of}
 use Rattle.mm_proof.proofs.Named.{name_is, named_is, below_is, number_of_name, named_once}
 
 -- one `$f` has one variable
@@ -45,7 +46,7 @@ value_named one st [] [] es n are below = refl
 value_named one st [] (h ∷ hs) es n are below = absurd are
 value_named one st (v ∷ vs) [] es n are below = absurd are
 value_named one st (v ∷ vs) (h ∷ hs) [] n are below = refl
-value_named one st (v ∷ vs) (h ∷ hs) (e ∷ es) n are below = go (typing_dec (name_at st n) h) (value_named one st vs hs es n are.1 below)
+value_named one st (v ∷ vs) (h ∷ hs) (e ∷ es) n are below = go (types_dec (name_at st n) h) (value_named one st vs hs es n are.1 below)
   where
     go : (d : Dec ((code : List ℕ) × Types code (name_at st n) h)) → replaced_by hs (all_names_at st es) (name_at st n) ≡ option_map (names_at st) (value_of vs es n)
         → first_of d (Some (drop 1 (names_at st e))) (replaced_by hs (all_names_at st es) (name_at st n)) ≡ option_map (names_at st) (cond (is_of n v) (Some (drop 1 e)) (value_of vs es n))

@@ -4,10 +4,9 @@ use Rattle.std.specs.List.{IsDistinct}
 use Rattle.std.proofs.lemmas.Map.Keys.{IsDistinct-head, IsDistinct-tail}
 use Rattle.std.proofs.lemmas.Bool.{false≢true}
 use Rattle.std.proofs.lemmas.Option.{same_Some, none-some}
+use Rattle.mm_text.proofs.Lists.{all_at, get_kept}
 use Rattle.mm_proof.specs.declared.subtrees.Row.{Row}
 use Rattle.mm_proof.specs.Subtrees.{AreOnce, KeepNumbers}
-use Rattle.mm_proof.proofs.Places.{get_append}
-use Rattle.mm_proof.proofs.Derived.{all_at}
 
 -- a row differs from those after it
 apart : (eq : Row → Row → Bool) → ((r : Row) → eq r r ≡ true) → (r : Row) (rows : List Row) (j : ℕ) (row : Row) → IsDistinct eq (r ∷ rows) → r ≡ row → slice_get rows j ≡ Some row → ⊥
@@ -26,4 +25,4 @@ once_of_distinct eq same (r ∷ rows) d (suc i) (suc j) row a b = ap suc (once_o
 -- a row more, or none, leaves the others where they were
 pub kept_inserted : (held : Bool) (row : Row) (rows new : List Row) → new ≡ (if held then rows else rows ++ row ∷ []) → KeepNumbers rows new
 kept_inserted true row rows new is place r there = subst (λ (l : List Row). slice_get l place ≡ Some r) (sym is) there
-kept_inserted false row rows new is place r there = subst (λ (l : List Row). slice_get l place ≡ Some r) (sym is) (get_append rows (row ∷ []) place r there)
+kept_inserted false row rows new is place r there = subst (λ (l : List Row). slice_get l place ≡ Some r) (sym is) (get_kept rows (row ∷ []) place r there)

@@ -1,9 +1,10 @@
 -- The moves of a proof, one after the other.
 use Rattle.std.proofs.Common.{◌≡◌, ℕ, zero, suc, ◌+◌, ◌<◌, ◌≤◌, ◌-◌, List, [], ◌∷◌, ◌++◌, length, Result, Err, take, drop, slice_get, get_or, Some, cond, refl, sym, ap, subst, ◌∙◌, arith}
-use Rattle.std.specs.List.{AllZip, AllByRecursion}
+use Rattle.std.specs.List.{AllByRecursion}
 use Rattle.std.specs.Result.{IsErrAnd}
 use Rattle.std.proofs.lemmas.Result.{err_from_is_err_and}
 use Rattle.std.proofs.lemmas.List.{map_more, take-map, map-append, length-map, length-append}
+use Rattle.mm_text.proofs.Lists.{zip_left, zip_front, all_push, all_at, split_at, zip_take}
 use Rattle.mm_frame.specs.declared.number.LabelId.{LabelId}
 use Rattle.mm_frame.specs.Sentence.{Sentence}
 use Rattle.mm_proof.specs.declared.fault.ProofFault.{ProofFault}
@@ -17,8 +18,6 @@ use Rattle.mm_proof.specs.Steps.{IsNumberedMove, AreNumberedMoves}
 use Rattle.mm_proof.specs.CodeSteps.{move_in, moves_in}
 use Rattle.mm_proof.specs.CodeVerify.{AreDeclaredSymbols, AreStackEntries, names_at, all_names_at}
 use Rattle.mm_proof.specs.CodeRun.{CarriesOn, StopsAt, HasRun}
-use Rattle.mm_proof.proofs.Places.{split_at}
-use Rattle.mm_proof.proofs.Derived.{zip_front, zip_left, all_push, all_at}
 use Rattle.mm_proof.proofs.Forward.{passed_none, passed_again, passed_mark}
 use Rattle.mm_proof.proofs.Firsts.{first_P6, first_P7, steps_in-append}
 
@@ -36,14 +35,6 @@ pub move_at : (moves : List NumberedMove) (i : ℕ) (d : NumberedMove) → i < l
 move_at [] i d less = absurd (omega arith)
 move_at (m ∷ moves) zero d less = refl
 move_at (m ∷ moves) (suc i) d less = move_at moves i d (omega arith)
-
-pub zip_take : {A B : Type 0} (R : A → B → Type 0) (xs : List A) (ys : List B) (i : ℕ) → AllZip R xs ys → AllZip R (take i xs) (take i ys)
-zip_take R [] [] zero z = tt
-zip_take R [] [] (suc i) z = tt
-zip_take R [] (y ∷ ys) i z = absurd z
-zip_take R (x ∷ xs) [] i z = absurd z
-zip_take R (x ∷ xs) (y ∷ ys) zero z = tt
-zip_take R (x ∷ xs) (y ∷ ys) (suc i) z = (z.0, zip_take R xs ys i z.1)
 
 same_kind : (st : List Sentence) (x : Move ℕ) (move : Move (List ℕ)) → IsNumberedMove st x move → is_step x ≡ is_step move
 same_kind st (name id) move n = sym (ap (λ (m : Move (List ℕ)). is_step m) n.4)
@@ -105,7 +96,7 @@ named_there st [] i e there = absurd cc
 named_there st (x ∷ entries) zero e there = let same : x ≡ e = cc in ap (λ (l : List ℕ). Some (names_at st l)) same
 named_there st (x ∷ entries) (suc i) e there = named_there st entries i e there
 
-named_push : (st : List Sentence) (entries : List (List ℕ)) (e : List ℕ) → all_names_at st (entries ++ e ∷ []) ≡ all_names_at st entries ++ names_at st e ∷ []
+pub named_push : (st : List Sentence) (entries : List (List ℕ)) (e : List ℕ) → all_names_at st (entries ++ e ∷ []) ≡ all_names_at st entries ++ names_at st e ∷ []
 named_push st entries e = map-append (names_at st) entries (e ∷ [])
 
 -- a step by a tag

@@ -8,9 +8,10 @@ use Rattle.mm_frame.specs.Sentence.{Sentence, IsHypothesis, IsLabelled, Types}
 use Rattle.mm_frame.specs.Active.{SomeActive}
 use Rattle.mm_frame.specs.Frame.{IsMandatory, IsMandatoryAt}
 use Rattle.mm_frame.specs.Rules.{AllMeant}
+use Rattle.mm_frame.proofs.Meant.{allmeant_front}
 use Rattle.mm_proof.specs.Substitution.{IsOn, instance_of}
 use Rattle.mm_proof.specs.Tree.{Trees, none, tree, spelling, Names, KeepsApart, DeriveAll}
-use Rattle.mm_proof.proofs.Meaning.{meant_front, code_is_constant}
+use Rattle.mm_proof.proofs.Meaning.{code_is_constant}
 use Rattle.mm_proof.proofs.Frames.{those_hold}
 use Rattle.mm_proof.proofs.OneStep.{StepTo, step_once}
 
@@ -24,13 +25,6 @@ pub runs_join : (Fits : List (List ℕ) → Type 0) (before : List Sentence) (la
     → Runs Fits before labels a b → Runs Fits before more b c → Runs Fits before (labels ++ more) a c
 runs_join Fits before [] more a b c r q = subst (λ s. Runs Fits before more s c) r q
 runs_join Fits before (label ∷ labels) more a b c r q = (r.0, r.1, r.2, r.3, runs_join Fits before labels more (r.0 ++ r.1 ∷ []) b c r.4 q)
-
-pub runs_split : (Fits : List (List ℕ) → Type 0) (before : List Sentence) (labels more : List (List ℕ)) (a c : List (List (List ℕ)))
-    → Runs Fits before (labels ++ more) a c → (b : List (List (List ℕ))) × Runs Fits before labels a b × Runs Fits before more b c
-runs_split Fits before [] more a c r = (a, refl, r)
-runs_split Fits before (label ∷ labels) more a c r =
-    let s = runs_split Fits before labels more (r.0 ++ r.1 ∷ []) c r.4 in
-    (s.0, (r.0, r.1, r.2, r.3, s.1), s.2)
 
 -- the same steps on the same stack lead to the same stack
 pub runs_once : (Fits Gits : List (List ℕ) → Type 0) (before : List Sentence) (labels : List (List ℕ)) (a b c : List (List (List ℕ))) → AllMeant before
@@ -86,7 +80,7 @@ entry_of before label place assertion hypotheses σ i f entry code x all names o
     let same = same_typing f t.0 t.1 code x t.2 types in
     let mandatory : IsMandatory (take place before) assertion x = subst (IsMandatory (take place before) assertion) same.1 t.3 in
     let constant : σ code ≡ None = absent (σ code) (λ some.
-    code_is_constant (take place before) t.4 f code x (meant_front before place all) t.5 types ((on code).0 some).0) in
+    code_is_constant (take place before) t.4 f code x (allmeant_front before place all) t.5 types ((on code).0 some).0) in
     let r = present (σ x) ((on x).1 mandatory) in
     let made : entry ≡ instance_of σ f.symbols =
     same_Some entry (instance_of σ f.symbols) (sym at ∙ slice_get-map (λ (h : Sentence). instance_of σ h.symbols) hypotheses i ∙ rw there refl) in

@@ -5,6 +5,7 @@ use Rattle.std.proofs.lemmas.Option.{same_Some, none-some, slice_get-map, slice_
 use Rattle.std.proofs.lemmas.Bool.{cases_lt}
 use Rattle.mm_text.specs.declared.statement.Kind.{Kind}
 use Rattle.mm_text.specs.declared.statement.Kind.TheVariants.{Floating, Essential, Axiom, Provable}
+use Rattle.mm_text.proofs.Lists.{cons_parts}
 use Rattle.mm_code.specs.declared.code.Code.{Code}
 use Rattle.mm_code.specs.declared.code.Code.TheVariants.{Number, Tag}
 use Rattle.mm_code.specs.declared.code.CodeRule.{CodeRule}
@@ -15,47 +16,34 @@ use Rattle.mm_frame.specs.Sentence.{Sentence, SomeSentence, IsHypothesis, IsAsse
 use Rattle.mm_frame.specs.Active.{IsActive}
 use Rattle.mm_frame.specs.Frame.{IsMandatoryAt, AreMandatory}
 use Rattle.mm_frame.specs.Form.{HasItsLabel, AllFormed}
+use Rattle.mm_frame.proofs.Decided.{dec_both, dec_as, dec_some, kind_dec, symbol_dec, contains_dec}
+use Rattle.mm_frame.proofs.Decided.{mandatory_at_dec, sentence_dec, label_dec, dec_not, dec_or}
+use Rattle.mm_frame.proofs.Decided.{active_dec}
+use Rattle.mm_frame.proofs.Those.{those_unique}
 use Rattle.mm_proof.specs.declared.fault.ProofRule.{ProofRule}
 use Rattle.mm_proof.specs.declared.fault.ProofRule.TheVariants.{P1, P2, P3, P4, P5}
 use Rattle.mm_proof.specs.Moves.{Move, name, again, mark}
 use Rattle.mm_proof.specs.Tokens.{opening_token, closing_token, IsNormal, IsCompressed, AreLabels, AreLetters, Says, SayMoves}
 use Rattle.mm_proof.specs.Steps.{IsUsable, IsUsableMove}
 use Rattle.mm_proof.specs.Proof.{BreaksWhole, IsWhole}
-use Rattle.mm_proof.proofs.Frames.{those_once, those_hold}
+use Rattle.mm_proof.proofs.Frames.{those_hold}
 use Rattle.mm_proof.proofs.Derived.{zip_once}
-use Rattle.mm_proof.proofs.Decisions.{dec_both, dec_as, dec_some, kind_dec, symbol_dec, contains_dec, active_dec}
-use Rattle.mm_proof.proofs.Searches.{dec_or, dec_not, dec_member, label_dec, sentence_dec, mandatory_at_dec, those_of}
+use Rattle.mm_proof.proofs.Searches.{dec_member, those_of, contains_first, contains_later, contains_cases}
 use Rattle.mm_proof.proofs.Letters.{coded_or_broken, breaks_dec, from_one}
 
 -- ---- the parts of a compressed proof
-
-contains_first : (y : List ℕ) (xs : List (List ℕ)) → Contains (y ∷ xs) y
-contains_first y xs = (0, omega arith, refl)
-
-contains_later : (y : List ℕ) (xs : List (List ℕ)) (x : List ℕ) → Contains xs x → Contains (y ∷ xs) x
-contains_later y xs x h = (suc h.0, let less : h.0 < length xs = h.1 in omega arith, h.2)
-
-contains_cases : (y : List ℕ) (xs : List (List ℕ)) (x : List ℕ) → Contains (y ∷ xs) x → (y ≡ x) ⊎ Contains xs x
-contains_cases y xs x h = go h.0 h.1 h.2
-  where
-    go : (k : ℕ) → k < length (y ∷ xs) → get_or (y ∷ xs) k x ≡ x → (y ≡ x) ⊎ Contains xs x
-    go zero less e = inl e
-    go (suc k) less e = inr (k, omega arith, e)
 
 contains_middle : (front : List (List ℕ)) (x : List ℕ) (end : List (List ℕ)) → Contains (front ++ x ∷ end) x
 contains_middle [] x end = contains_first x end
 contains_middle (y ∷ front) x end = contains_later y (front ++ x ∷ end) x (contains_middle front x end)
 
-heads : (x y : List ℕ) (xs ys : List (List ℕ)) → x ∷ xs ≡ y ∷ ys → (x ≡ y) × (xs ≡ ys)
-heads x y xs ys e = (cc, cc)
-
 -- a list parts in one way at its first element of a kind
 one_first : (x : List ℕ) (a b c d : List (List ℕ)) → a ++ x ∷ c ≡ b ++ x ∷ d → ¬ (Contains a x) → ¬ (Contains b x) → (a ≡ b) × (c ≡ d)
-one_first x [] [] c d e p q = (refl, (heads x x c d e).1)
-one_first x [] (y ∷ b) c d e p q = absurd (q (subst (λ z. Contains (z ∷ b) x) (heads x y c (b ++ x ∷ d) e).0 (contains_first x b)))
-one_first x (y ∷ a) [] c d e p q = absurd (p (subst (λ z. Contains (z ∷ a) x) (sym (heads y x (a ++ x ∷ c) d e).0) (contains_first x a)))
+one_first x [] [] c d e p q = (refl, (cons_parts x x c d e).1)
+one_first x [] (y ∷ b) c d e p q = absurd (q (subst (λ z. Contains (z ∷ b) x) (cons_parts x y c (b ++ x ∷ d) e).0 (contains_first x b)))
+one_first x (y ∷ a) [] c d e p q = absurd (p (subst (λ z. Contains (z ∷ a) x) (sym (cons_parts y x (a ++ x ∷ c) d e).0) (contains_first x a)))
 one_first x (y ∷ a) (z ∷ b) c d e p q =
-    let h = heads y z (a ++ x ∷ c) (b ++ x ∷ d) e in
+    let h = cons_parts y z (a ++ x ∷ c) (b ++ x ∷ d) e in
     let k = one_first x a b c d h.1 (λ i. p (contains_later y a x i)) (λ i. q (contains_later z b x i)) in
     (ap (λ w. w ∷ a) h.0 ∙ ap (λ l. z ∷ l) k.0, k.1)
 
@@ -76,7 +64,7 @@ normal_or_compressed tokens labels letters normal c = normal (ap (λ l. slice_ge
 
 pub compressed_once : (tokens l m a b : List (List ℕ)) → IsCompressed tokens l a → IsCompressed tokens m b → (l ≡ m) × (a ≡ b)
 compressed_once tokens l m a b c d =
-    one_first closing_token l m a b (heads opening_token opening_token (l ++ closing_token ∷ a) (m ++ closing_token ∷ b) (sym c.whole ∙ d.whole)).1 c.first d.first
+    one_first closing_token l m a b (cons_parts opening_token opening_token (l ++ closing_token ∷ a) (m ++ closing_token ∷ b) (sym c.whole ∙ d.whole)).1 c.first d.first
 
 pub labels_once : (tokens l m : List (List ℕ)) → AreLabels tokens l → AreLabels tokens m → l ≡ m
 labels_once tokens l m (inl p) (inl q) = p.1 ∙ sym q.1
@@ -162,9 +150,6 @@ whole_dec before tokens rule = no (λ b. b)
 
 -- ---- tokens say one row of moves
 
-one_name : (a b : List ℕ) → a ≡ b → (name a) ≡ (name b)
-one_name a b e = ap name e
-
 -- a code says one move
 pub says_once : (labels : List (List ℕ)) (c : Code) (a b : Move (List ℕ)) → Says labels c a → Says labels c b → a ≡ b
 says_once labels Tag a b p q = p ∙ sym q
@@ -200,7 +185,7 @@ moves_once before s tokens a b (inr p) (inr q) =
     let parts = compressed_once tokens p.listed q.listed p.letters q.letters p.parts q.parts in
     let codes : p.codes ≡ q.codes = one_reading_only (flat_map (λ piece. piece) q.letters) p.codes q.codes
     (subst (λ (l : List (List ℕ)). Letters (flat_map (λ piece. piece) l) p.codes) parts.1 p.coded) q.coded in
-    let hypotheses : p.hypotheses ≡ q.hypotheses = those_once (IsMandatoryAt before s) 0 before p.hypotheses q.hypotheses p.mandatory q.mandatory in
+    let hypotheses : p.hypotheses ≡ q.hypotheses = those_unique (IsMandatoryAt before s) 0 before p.hypotheses q.hypotheses p.mandatory q.mandatory in
     let labels : p.labels ≡ q.labels = same_somes p.labels q.labels (sym p.labelled ∙ ap (map (λ (h : Sentence). h.label)) hypotheses ∙ q.labelled) in
     let all : p.labels ++ p.listed ≡ q.labels ++ q.listed = ap (λ l. l ++ p.listed) labels ∙ ap (λ l. q.labels ++ l) parts.0 in
     let each : AllZip (Says (q.labels ++ q.listed)) q.codes a =
@@ -333,7 +318,7 @@ usable_codes before labels (c ∷ codes) (m ∷ moves) each z = (one c m z.0, us
         (λ l. subst (IsUsableMove before) (sym l.2) (each says.0 l.0 l.1))
         (λ t. subst (IsUsableMove before) (sym t.2) tt) says.2
 
-contained : (xs : List (List ℕ)) (i : ℕ) (x : List ℕ) → slice_get xs i ≡ Some x → Contains xs x
+pub contained : (xs : List (List ℕ)) (i : ℕ) (x : List ℕ) → slice_get xs i ≡ Some x → Contains xs x
 contained xs i x e = (i, slice_get_within xs i x e, get_or_from_slice_get xs i x x e)
 
 -- the labels of the mandatory hypotheses, and then those of the list
@@ -342,7 +327,7 @@ either_label [] b i x e = inr (i, e)
 either_label (y ∷ a) b zero x e = inl (0, e)
 either_label (y ∷ a) b (suc i) x e = ⊎_elim (λ h. inl (suc h.0, h.1)) (λ h. inr h) (either_label a b i x e)
 
-labelled_at : (hypotheses : List Sentence) (labels : List (List ℕ)) (i : ℕ) (label : List ℕ) → map (λ (h : Sentence). h.label) hypotheses ≡ map Some labels → slice_get labels i ≡ Some label
+pub labelled_at : (hypotheses : List Sentence) (labels : List (List ℕ)) (i : ℕ) (label : List ℕ) → map (λ (h : Sentence). h.label) hypotheses ≡ map Some labels → slice_get labels i ≡ Some label
     → (h : Sentence) × (slice_get hypotheses i ≡ Some h) × IsLabelled label h
 labelled_at hypotheses labels i label e there = go (slice_get hypotheses i) refl
   where

@@ -2,7 +2,7 @@
 use Rattle.std.proofs.Common.{◌≡◌, ℕ, ◌-◌, ◌≤◌, List, ◌++◌, take, length, Option, None, Some, IfSome, sym, ap, subst, ◌∙◌, arith}
 use Rattle.std.proofs.lemmas.List.{length-append, length-map, length-take, take-take}
 use Rattle.mm_frame.specs.declared.number.Sym.{Sym}
-use Rattle.mm_proof.specs.declared.flat.Entry.{Entry}
+use Rattle.mm_proof.specs.declared.entry.Entry.{Entry}
 use Rattle.mm_proof.specs.Buffer.{AreParts}
 use Rattle.mm_proof.specs.Stores.{numbers_in}
 

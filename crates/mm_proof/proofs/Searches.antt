@@ -1,31 +1,25 @@
 -- What can be decided of frames, and of what replaces the members of their pairs.
-use Rattle.std.proofs.Common.{◌≡◌, ◌≢◌, ℕ, zero, suc, ◌+◌, ◌<◌, List, [], ◌∷◌, length, get_or, Contains, Option, Some, None, ◌⊎◌, inl, inr, refl, sym, ap, subst, ◌∙◌, arith}
+use Rattle.std.proofs.Common.{◌≡◌, ◌≢◌, ℕ, zero, suc, ◌+◌, ◌<◌, List, [], ◌∷◌, length, get_or, Contains, Option, Some, None, ◌⊎◌, inl, inr, refl, sym, subst, ◌∙◌, arith}
 use Rattle.std.proofs.lemmas.Option.{same_Some, none-some}
-use Rattle.mm_text.specs.declared.statement.Kind.TheVariants.{Variables, Distinct, Floating, Essential}
-use Rattle.mm_frame.specs.Sentence.{Sentence, SomeSentence, IsLabelled, Declares, Types}
-use Rattle.mm_frame.specs.Active.{IsActive, SomeActive, IsVariable}
-use Rattle.mm_frame.specs.Frame.{IsMandatory, IsMandatoryAt, AreThose, IsDistinct, IsMandatoryPair}
+use Rattle.mm_text.specs.declared.statement.Kind.TheVariants.{Distinct}
+use Rattle.mm_frame.specs.Sentence.{Sentence}
+use Rattle.mm_frame.specs.Active.{IsActive, IsVariable}
+use Rattle.mm_frame.specs.Frame.{IsMandatory, AreThose, IsDistinct, IsMandatoryPair}
+use Rattle.mm_frame.proofs.Decided.{dec_both, dec_if, dec_as, dec_some, kind_dec, symbol_dec}
+use Rattle.mm_frame.proofs.Decided.{distinct_dec, mandatory_dec, active_dec, contains_dec}
+pub use Rattle.mm_frame.proofs.Decided.{dec_or, dec_not, label_dec, sentence_dec, some_active_dec}
+pub use Rattle.mm_frame.proofs.Decided.{variable_dec}
 use Rattle.mm_proof.specs.Tree.{ShareNoVariable, AreDistinct}
-use Rattle.mm_proof.proofs.Decisions.{dec_both, dec_if, dec_as, dec_some, kind_dec, symbol_dec, contains_dec, active_dec}
 
 -- ---- over the elements of a list
 
-pub dec_or : {A B : Type 0} → Dec A → Dec B → Dec (A ⊎ B)
-dec_or (yes a) b = yes (inl a)
-dec_or (no a) (yes b) = yes (inr b)
-dec_or (no a) (no b) = no (λ h. elim h [ inl x ↦ a x | inr y ↦ b y ])
-
-pub dec_not : {A : Type 0} → Dec A → Dec (¬ A)
-dec_not (yes a) = no (λ h. h a)
-dec_not (no a) = yes a
-
-contains_later : (y : List ℕ) (xs : List (List ℕ)) (x : List ℕ) → Contains xs x → Contains (y ∷ xs) x
+pub contains_later : (y : List ℕ) (xs : List (List ℕ)) (x : List ℕ) → Contains xs x → Contains (y ∷ xs) x
 contains_later y xs x h = (suc h.0, let less : h.0 < length xs = h.1 in omega arith, h.2)
 
-contains_first : (y : List ℕ) (xs : List (List ℕ)) → Contains (y ∷ xs) y
+pub contains_first : (y : List ℕ) (xs : List (List ℕ)) → Contains (y ∷ xs) y
 contains_first y xs = (0, omega arith, refl)
 
-contains_cases : (y : List ℕ) (xs : List (List ℕ)) (x : List ℕ) → Contains (y ∷ xs) x → (y ≡ x) ⊎ Contains xs x
+pub contains_cases : (y : List ℕ) (xs : List (List ℕ)) (x : List ℕ) → Contains (y ∷ xs) x → (y ≡ x) ⊎ Contains xs x
 contains_cases y xs x h = go h.0 h.1 h.2
   where
     go : (k : ℕ) → k < length (y ∷ xs) → get_or (y ∷ xs) k x ≡ x → (y ≡ x) ⊎ Contains xs x
@@ -67,56 +61,7 @@ those_of P each place (x ∷ xs) = go (each place x) (those_of P each (place + 1
     go (yes p) r = (x ∷ r.0, inl (p, r.0, refl, r.1))
     go (no n) r = (r.0, inr (n, r.1))
 
--- ---- statements
-
-pub label_dec : (label : List ℕ) (s : Sentence) → Dec (IsLabelled label s)
-label_dec label s = go s.label
-  where
-    go : (o : Option (List ℕ)) → Dec (o ≡ Some label)
-    go None = no (λ e. none-some label e)
-    go (Some l) = dec_as (λ e. ap Some e) (λ e. same_Some l label e) (symbol_dec l label)
-
-pub sentence_dec : (before : List Sentence) (P : Sentence → Type 0) → ((s : Sentence) → Dec (P s)) → Dec (SomeSentence before P)
-sentence_dec before P each = dec_some (λ k s. P s) (λ k s. each s) before
-
-pub some_active_dec : (before : List Sentence) (P : Sentence → Type 0) → ((s : Sentence) → Dec (P s)) → Dec (SomeActive before P)
-some_active_dec before P each = dec_as (λ h. (h.0, h.1, h.2, h.3.0, h.3.1)) (λ h. (h.0, h.1, h.2, (h.3, h.4)))
-    (dec_some (λ k s. IsActive before k × P s) (λ k s. dec_both (active_dec before k) (each s)) before)
-
-pub variable_dec : (before : List Sentence) (x : List ℕ) → Dec (IsVariable before x)
-variable_dec before x = sentence_dec before (Declares Variables x) (λ s. dec_both (kind_dec s.kind Variables) (contains_dec s.symbols x))
-
-pub mandatory_dec : (before : List Sentence) (s : Sentence) (x : List ℕ) → Dec (IsMandatory before s x)
-mandatory_dec before s x = dec_both (variable_dec before x)
-    (dec_or (contains_dec s.symbols x) (some_active_dec before (λ e. (e.kind ≡ Essential) × Contains e.symbols x) (λ e. dec_both (kind_dec e.kind Essential) (contains_dec e.symbols x))))
-
-two_heads : (a b c d : List ℕ) → a ∷ b ∷ [] ≡ c ∷ d ∷ [] → b ≡ d
-two_heads a b c d e = cc
-
--- a `$f` whose variable is so
-pub typing_so_dec : (h : Sentence) (P : List ℕ → Type 0) → ((x : List ℕ) → Dec (P x)) → Dec ((code : List ℕ) × (x : List ℕ) × Types code x h × P x)
-typing_so_dec h P each = go (kind_dec h.kind Floating) h.symbols refl
-  where
-    go : Dec (h.kind ≡ Floating) → (symbols : List (List ℕ)) → h.symbols ≡ symbols → Dec ((code : List ℕ) × (x : List ℕ) × Types code x h × P x)
-    go (no n) symbols e = no (λ t. n t.2.0)
-    go (yes k) [] e = no (λ t. let p : [] ≡ t.0 ∷ t.1 ∷ [] = sym e ∙ t.2.1 in absurd cc)
-    go (yes k) (a ∷ []) e = no (λ t. let p : a ∷ [] ≡ t.0 ∷ t.1 ∷ [] = sym e ∙ t.2.1 in absurd cc)
-    go (yes k) (a ∷ b ∷ c ∷ more) e = no (λ t. let p : a ∷ b ∷ c ∷ more ≡ t.0 ∷ t.1 ∷ [] = sym e ∙ t.2.1 in absurd cc)
-    go (yes k) (a ∷ b ∷ []) e = elim (each b) [
-      | yes s ↦ yes (a, b, (k, e), s)
-      | no n ↦ no (λ t. n (subst P (sym (two_heads a b t.0 t.1 (sym e ∙ t.2.1))) t.3))
-    ]
-
-pub mandatory_at_dec : (before : List Sentence) (s : Sentence) (place : ℕ) (h : Sentence) → Dec (IsMandatoryAt before s place h)
-mandatory_at_dec before s place h = dec_both (active_dec before place)
-    (dec_or (kind_dec h.kind Essential) (typing_so_dec h (IsMandatory before s) (mandatory_dec before s)))
-
 -- ---- pairs
-
-pub distinct_dec : (before : List Sentence) (x y : List ℕ) → Dec (IsDistinct before x y)
-distinct_dec before x y = dec_both (dec_not (symbol_dec x y))
-    (some_active_dec before (λ d. (d.kind ≡ Distinct) × Contains d.symbols x × Contains d.symbols y)
-    (λ d. dec_as (λ c. (c.0, c.1.0, c.1.1)) (λ c. (c.0, (c.1, c.2))) (dec_both (kind_dec d.kind Distinct) (dec_both (contains_dec d.symbols x) (contains_dec d.symbols y)))))
 
 pub share_dec : (before : List Sentence) (e f : List (List ℕ)) → Dec (ShareNoVariable before e f)
 share_dec before e f = dec_as (λ h u v c d. h u c v d) (λ h u c v d. h u v c d)

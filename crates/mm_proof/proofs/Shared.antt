@@ -16,8 +16,9 @@ use Rattle.mm_frame.specs.Pieces.{is_of}
 use Rattle.mm_proof.specs.CodeVerify.{name_at, names_at, IsSymbol, AreDeclaredSymbols, AreBelow, IsApartFromEach, AreStackEntries, value_of, EachValues, SomeValues, pairs_in}
 use Rattle.std.proofs.lemmas.Option.{same_Some}
 use Rattle.mm_frame.specs.Frame.{IsDistinct}
-use Rattle.mm_proof.proofs.Meaning.{not_both, some_in_front}
-use Rattle.mm_proof.proofs.Searches.{distinct_dec}
+use Rattle.mm_frame.proofs.Decided.{distinct_dec}
+use Rattle.mm_frame.proofs.Needed.{some_later}
+use Rattle.mm_frame.proofs.Meant.{one_role}
 use Rattle.mm_proof.proofs.Named.{one_name}
 
 pub number_at : (symbols : List Sym) (k : ℕ) (d : Sym) → k < length symbols → get_or (numbers_in symbols) k 0 ≡ (get_or symbols k d).0
@@ -38,7 +39,7 @@ symbol_at st before (n ∷ ns) (suc k) all less = symbol_at st before ns k all.1
 -- a variable of all statements that was declared before is a variable of those before
 pub variable_before : (st : List Sentence) (place n : ℕ) → AllMeant st → IsSymbol st (take place st) n → IsVariable st (name_at st n) → ¬ (¬ (IsVariable (take place st) (name_at st n)))
 variable_before st place n all s variable none =
-    s.declared (λ d. ⊎_elim (λ c. not_both st (name_at st n) all (some_in_front st place (Declares Constants (name_at st n)) c) variable) none d)
+    s.declared (λ d. ⊎_elim (λ c. one_role st (name_at st n) all (some_later st place (Declares Constants (name_at st n)) c) variable) none d)
 
 -- a name stands among the names as the number does among the numbers
 pub named_has : (st : List Sentence) (ns : List ℕ) (n : ℕ) → Contains ns n → Contains (names_at st ns) (name_at st n)
@@ -75,7 +76,7 @@ not_shared_told one st place e f se sf none u variable in_e in_f =
     let bi = (symbol_at st (take place st) e i.0 se i.1).below in
     let bj = (symbol_at st (take place st) f j.0 sf j.1).below in
     let same = one_name one st (get_or f j.0 0) (get_or e i.0 0) bj bi (j.2 ∙ sym i.2) in
-    none i.0 i.1 (subst (IsVariable st) (sym i.2) (some_in_front st place (Declares Variables u) variable)) (subst (Contains f) same (number_among f j.0 j.1))
+    none i.0 i.1 (subst (IsVariable st) (sym i.2) (some_later st place (Declares Variables u) variable)) (subst (Contains f) same (number_among f j.0 j.1))
 
 pub and_told : (V H : Type 0) (r : Bool) → (IsTrue r → H) → (H → IsTrue r) → V → MatchBool r (V × H) (V → ¬ H)
 and_told V H true to from v = (v, to refl)
@@ -108,7 +109,7 @@ pub distinct_told : (st : List Sentence) (place : ℕ) (e f : List ℕ) → ((k 
 distinct_told st place e f each u v var_u var_v in_e in_f =
     let i = has_named st e u in_e in
     let j = has_named st f v in_f in
-    let d = each i.0 i.1 (subst (IsVariable st) (sym i.2) (some_in_front st place (Declares Variables u) var_u)) j.0 j.1 (subst (IsVariable st) (sym j.2) (some_in_front st place (Declares Variables v) var_v)) in
+    let d = each i.0 i.1 (subst (IsVariable st) (sym i.2) (some_later st place (Declares Variables u) var_u)) j.0 j.1 (subst (IsVariable st) (sym j.2) (some_later st place (Declares Variables v) var_v)) in
     subst (λ (x : List ℕ). IsDistinct (take place st) x v) i.2 (subst (λ (y : List ℕ). IsDistinct (take place st) (name_at st (get_or e i.0 0)) y) j.2 d)
 
 -- one that isn't: they aren't

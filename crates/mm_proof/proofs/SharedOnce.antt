@@ -3,17 +3,17 @@ use Rattle.std.proofs.Common.{◌≡◌, ℕ, suc, ◌+◌, ◌<◌, List, [], �
 use Rattle.std.proofs.Common.{inl, inr, ⊎_elim, refl, sym, ap, subst, ◌∙◌, append_assoc, append-nil}
 use Rattle.std.proofs.Common.{arith}
 use Rattle.std.proofs.lemmas.Option.{same_Some, slice_get_within}
+use Rattle.mm_text.proofs.Lists.{get_kept, cons_parts}
 use Rattle.mm_frame.specs.Sentence.{Sentence}
 use Rattle.mm_proof.specs.Tree.{Trees, none, tree}
 use Rattle.mm_proof.specs.Moves.{Move, name, again, mark, Makes}
 use Rattle.mm_proof.specs.BigSubtrees.{StandOnce}
 use Rattle.mm_proof.specs.Visits.{Visit, makes, repeats, keeps, visits}
 use Rattle.mm_proof.specs.Sharing.{MakeOnce, KeepMade, ShareAll}
-use Rattle.mm_proof.proofs.Places.{get_append}
 use Rattle.mm_proof.proofs.Members.{In, in_get, get_in, contains_in, in_apart, Once, once_places}
 use Rattle.mm_proof.proofs.Covers.{strip, Covers, covers_made, Careful, one_cover}
 use Rattle.mm_proof.proofs.Tidy.{Tidy, tidy_careful, Marked, marked_once, tidy_marked, trees_kept}
-use Rattle.mm_proof.proofs.Tidy.{visit_kept, tidy_once, bare_front}
+use Rattle.mm_proof.proofs.Tidy.{same_repeated, same_kept, visit_kept, tidy_once, bare_front}
 
 -- ---- what is kept
 
@@ -31,7 +31,7 @@ kept_stays before (again tag ∷ moves) row kept row' kept' m i t h =
 kept_stays before (mark ∷ moves) row kept row' kept' m i t h =
     kept_stays before moves m.0 m.1 row' kept' m.3 i t
     (subst (λ k. slice_get k i ≡ Some t) (sym m.2.5)
-    (get_append kept (tree m.2.1 m.2.2 none ∷ []) i t h))
+    (get_kept kept (tree m.2.1 m.2.2 none ∷ []) i t h))
 
 -- the kept trees are those of the marks
 pub kept_are : (before : List Sentence) (moves : List (Move (List ℕ))) (row : Trees)
@@ -156,15 +156,6 @@ tidy_of before (mark ∷ moves) row kept row' kept' m done are once marked =
 same_label : (l m : List ℕ) (a b : Trees) → makes (tree l a none) ≡ makes (tree m b none) → l ≡ m
 same_label l m a b e = cc
 
-same_keep : (t u : Trees) → keeps t ≡ keeps u → t ≡ u
-same_keep t u e = cc
-
-same_repeat : (t u : Trees) → repeats t ≡ repeats u → t ≡ u
-same_repeat t u e = cc
-
-heads : (x y : Visit) (v w : List Visit) → x ∷ v ≡ y ∷ w → (x ≡ y) × (v ≡ w)
-heads x y v w e = (cc, cc)
-
 pub moves_once : (before : List Sentence) (moves moves' : List (Move (List ℕ))) (row row₂ : Trees)
     (kept kept₂ : List Trees) (row' row₂' : Trees) (kept' kept₂' : List Trees)
     (m : Makes before moves row kept row' kept') (n : Makes before moves' row₂ kept₂ row₂' kept₂')
@@ -178,14 +169,14 @@ moves_once before (a ∷ moves) [] row row₂ kept kept₂ row' row₂' kept' ke
     same = absurd cc
 moves_once before (name x ∷ moves)
     (name y ∷ moves') row row₂ kept kept₂ row' row₂' kept' kept₂' m n k l once same =
-    let h = heads _ _ _ _ same in
+    let h = cons_parts _ _ _ _ same in
     ap (λ z. name z ∷ moves) (same_label x y m.2.1 n.2.1 h.0)
     ∙ ap (λ z. name y ∷ z) (moves_once before moves moves' m.0 n.0 m.1 n.1 row' row₂' kept' kept₂'
     m.3 n.3 (m.2.5 ∙ k ∙ sym n.2.5) l once h.1)
 moves_once before (again x ∷ moves)
     (again y ∷ moves') row row₂ kept kept₂ row' row₂' kept' kept₂' m n k l once same =
-    let h = heads _ _ _ _ same in
-    let u : m.2.0 ≡ n.2.0 = same_repeat m.2.0 n.2.0 h.0 in
+    let h = cons_parts _ _ _ _ same in
+    let u : m.2.0 ≡ n.2.0 = same_repeated m.2.0 n.2.0 h.0 in
     let at_x : slice_get kept₂' x ≡ Some n.2.0 =
     subst (λ q. slice_get q x ≡ Some n.2.0) l
     (kept_stays before moves m.0 m.1 row' kept' m.3 x n.2.0
@@ -199,29 +190,29 @@ moves_once before (again x ∷ moves)
     m.3 n.3 (m.2.3 ∙ k ∙ sym n.2.3) l once h.1)
 moves_once before (mark ∷ moves)
     (mark ∷ moves') row row₂ kept kept₂ row' row₂' kept' kept₂' m n k l once same =
-    let h = heads _ _ _ _ same in
-    let t : tree m.2.1 m.2.2 none ≡ tree n.2.1 n.2.2 none = same_keep _ _ h.0 in
+    let h = cons_parts _ _ _ _ same in
+    let t : tree m.2.1 m.2.2 none ≡ tree n.2.1 n.2.2 none = same_kept _ _ h.0 in
     ap (λ z. mark ∷ z)
     (moves_once before moves moves' m.0 n.0 m.1 n.1 row' row₂' kept' kept₂' m.3 n.3
     (m.2.5 ∙ ap (λ q. q ++ tree m.2.1 m.2.2 none ∷ []) k ∙ ap (λ z. kept₂ ++ z ∷ []) t
     ∙ sym n.2.5) l once h.1)
 moves_once before (name x ∷ moves)
-    (again y ∷ moves') row row₂ kept kept₂ row' row₂' kept' kept₂' m n k l once same = let h = heads
+    (again y ∷ moves') row row₂ kept kept₂ row' row₂' kept' kept₂' m n k l once same = let h = cons_parts
     _ _ _ _ same in absurd (let e = h.0 in cc)
 moves_once before (name x ∷ moves)
-    (mark ∷ moves') row row₂ kept kept₂ row' row₂' kept' kept₂' m n k l once same = let h = heads _
+    (mark ∷ moves') row row₂ kept kept₂ row' row₂' kept' kept₂' m n k l once same = let h = cons_parts _
     _ _ _ same in absurd (let e = h.0 in cc)
 moves_once before (again x ∷ moves)
-    (name y ∷ moves') row row₂ kept kept₂ row' row₂' kept' kept₂' m n k l once same = let h = heads
+    (name y ∷ moves') row row₂ kept kept₂ row' row₂' kept' kept₂' m n k l once same = let h = cons_parts
     _ _ _ _ same in absurd (let e = h.0 in cc)
 moves_once before (again x ∷ moves)
-    (mark ∷ moves') row row₂ kept kept₂ row' row₂' kept' kept₂' m n k l once same = let h = heads _
+    (mark ∷ moves') row row₂ kept kept₂ row' row₂' kept' kept₂' m n k l once same = let h = cons_parts _
     _ _ _ same in absurd (let e = h.0 in cc)
 moves_once before (mark ∷ moves)
-    (name y ∷ moves') row row₂ kept kept₂ row' row₂' kept' kept₂' m n k l once same = let h = heads
+    (name y ∷ moves') row row₂ kept kept₂ row' row₂' kept' kept₂' m n k l once same = let h = cons_parts
     _ _ _ _ same in absurd (let e = h.0 in cc)
 moves_once before (mark ∷ moves)
-    (again y ∷ moves') row row₂ kept kept₂ row' row₂' kept' kept₂' m n k l once same = let h = heads
+    (again y ∷ moves') row row₂ kept kept₂ row' row₂' kept' kept₂' m n k l once same = let h = cons_parts
     _ _ _ _ same in absurd (let e = h.0 in cc)
 
 -- ---- moves that share all

@@ -6,6 +6,7 @@ use Rattle.mm_proof.specs.SharedSteps.{Careful}
 use Rattle.std.proofs.lemmas.List.{length-append, take_at, length-take}
 use Rattle.std.proofs.lemmas.List.Elements.{Contains-push, Contains-push_cases, Contains-append_left}
 use Rattle.std.proofs.lemmas.Slice.Zip.{AllZip-long}
+use Rattle.mm_text.proofs.Lists.{zip_push, zip_left, zip_take}
 use Rattle.mm_frame.specs.Sentence.{Sentence}
 use Rattle.mm_frame.specs.Rules.{AllMeant}
 use Rattle.mm_proof.specs.declared.subtrees.Subtree.{Subtree}
@@ -18,13 +19,11 @@ use Rattle.mm_proof.specs.BigSubtrees.{IsBig}
 use Rattle.mm_proof.specs.Visits.{Visit, makes, repeats}
 use Rattle.mm_proof.specs.Subtrees.{AreOnce, KeepNumbers, IsTreeOf, StandsFor}
 use Rattle.mm_proof.specs.CodeSharing.{IsStepOf, AreSharedSteps, IsRepeat, Shares, Sharing, SharingSteps, ShareSteps, AreMadeBefore}
-use Rattle.mm_proof.proofs.Derived.{zip_left, zip_push}
-use Rattle.mm_proof.proofs.Running.{zip_take}
 use Rattle.mm_proof.proofs.Members.{In, in_contains}
 use Rattle.mm_proof.proofs.Covers.{after, after-append}
 use Rattle.mm_proof.proofs.SubtreeNumbers.{tree_later, tree_once, subtree_once}
 use Rattle.mm_proof.proofs.SubtreeSteps.{subtrees_keep}
-use Rattle.mm_proof.proofs.Cutting.{leaf_small, parent_big, sharing_make, sharing_cut, sharing_repeat, sharing_leaf, sharing_keep}
+use Rattle.mm_proof.proofs.Cutting.{leaf_small, parent_big, sharing_make, sharing_cut, sharing_repeat, sharing_leaf, sharing_keep, after_make}
 
 -- ---- leaves and others
 
@@ -62,9 +61,6 @@ steps_later st old new steps keys row kept keep h = record {
 
 after_more : (v : List Visit) (t u : Trees) → In (after [] (v ++ makes t ∷ [])) u → (t ≡ u) ⊎ In (after [] v) u
 after_more v t u h = subst (λ x. In x u) (after-append [] v (makes t ∷ [])) h
-
-after_old : (v : List Visit) (t u : Trees) → In (after [] v) u → In (after [] (v ++ makes t ∷ [])) u
-after_old v t u h = subst (λ x. In x u) (sym (after-append [] v (makes t ∷ []))) (inr h)
 
 after_new : (v : List Visit) (t : Trees) → In (after [] (v ++ makes t ∷ [])) t
 after_new v t = subst (λ x. In x t) (sym (after-append [] v (makes t ∷ []))) (inl refl)
@@ -115,7 +111,7 @@ steps_make st rows t count steps steps' keys keys' rest below kept label all onc
         (λ e. absurd (small (subst IsBig (sym e) big)))
         (λ old. let g = h.known l b big old in (g.0, subst (λ x. Contains x g.0) (sym leaf.2) g.1, g.2))
         (after_more h.v tr (tree l b none) k))
-        (λ u k. let g = h.only u (subst (λ x. Contains x u) leaf.2 k) in (g.0, g.1, g.2, g.3, after_old h.v tr (tree g.0 g.1 none) g.4))
+        (λ u k. let g = h.only u (subst (λ x. Contains x u) leaf.2 k) in (g.0, g.1, g.2, g.3, after_make h.v tr (tree g.0 g.1 none) g.4))
     go (inr (inl cut)) =
         let big : IsBig tr = big_below st rows t.below label below is.stands cut.0 in
         let g = h.only t cut.1 in
@@ -143,7 +139,7 @@ steps_make st rows t count steps steps' keys keys' rest below kept label all onc
         (λ old. let q = h.known l b is' old in (q.0, subst (λ x. Contains x q.0) (sym new.3) (Contains-append_left keys (t ∷ []) q.0 q.1), q.2))
         (after_more h.v tr (tree l b none) k))
         (λ u k. ⊎_elim
-        (λ old. let q = h.only u old in (q.0, q.1, q.2, q.3, after_old h.v tr (tree q.0 q.1 none) q.4))
+        (λ old. let q = h.only u old in (q.0, q.1, q.2, q.3, after_make h.v tr (tree q.0 q.1 none) q.4))
         (λ e. (label, below, subst (λ x. IsTreeOf st rows x label below) e is, big, after_new h.v tr))
         (Contains-push_cases keys t u (subst (λ x. Contains x u) new.3 k)))
 
@@ -166,7 +162,7 @@ steps_repeat st rows t one steps keys row kept label below of among is h = go is
               (λ e. absurd (small (subst IsBig (sym e) big)))
               (λ old. h.known l b big old)
               (after_more h.v tr (tree l b none) k);
-          only = λ u k. let q = h.only u k in (q.0, q.1, q.2, q.3, after_old h.v tr (tree q.0 q.1 none) q.4);
+          only = λ u k. let q = h.only u k in (q.0, q.1, q.2, q.3, after_make h.v tr (tree q.0 q.1 none) q.4);
         }
     go (inr more) =
         let big : IsBig tr = big_below st rows t.below label below of.stands more.0 in

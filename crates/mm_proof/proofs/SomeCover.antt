@@ -3,10 +3,10 @@ use Rattle.std.proofs.Common.{◌≡◌, ℕ, ◌≤◌, List, [], ◌∷◌, �
 use Rattle.std.proofs.Common.{ap, subst, ◌∙◌, arith}
 use Rattle.std.proofs.lemmas.Bool.{cases_lt}
 use Rattle.std.proofs.lemmas.List.{length-append}
+use Rattle.mm_frame.proofs.Decided.{symbol_dec}
 use Rattle.mm_proof.specs.Tree.{Trees, none, tree, spelling}
 use Rattle.mm_proof.specs.BigSubtrees.{nodes, IsBig, IsSubtree}
 use Rattle.mm_proof.specs.Visits.{Visit, makes, repeats, keeps, trees_made}
-use Rattle.mm_proof.proofs.Decisions.{symbol_dec}
 use Rattle.mm_proof.proofs.Members.{In}
 use Rattle.mm_proof.proofs.Covers.{Covers, Careful, after, after-append, careful_join}
 use Rattle.mm_proof.proofs.Tidy.{Tidy, Marked, visit_made, made_visit}

@@ -6,6 +6,7 @@ use Rattle.mm_code.specs.declared.code.Code.{Code}
 use Rattle.mm_code.specs.declared.code.Code.TheVariants.{Number, Tag}
 use Rattle.mm_frame.specs.Sentence.{Sentence}
 use Rattle.mm_frame.specs.Frame.{AreMandatory, IsMandatoryAt}
+use Rattle.mm_frame.proofs.Decided.{contains_dec, mandatory_at_dec}
 use Rattle.mm_proof.specs.Tree.{Trees, none, tree, spelling}
 use Rattle.mm_proof.specs.Moves.{Move, name, again, mark, Makes}
 use Rattle.mm_proof.specs.Tokens.{Says}
@@ -13,8 +14,7 @@ use Rattle.mm_proof.specs.BigSubtrees.{IsSubtree}
 use Rattle.mm_proof.specs.Visits.{visits, trees_made}
 use Rattle.mm_proof.specs.Sharing.{AreFirstUses}
 use Rattle.mm_proof.specs.SharingLaws.{SomePacked}
-use Rattle.mm_proof.proofs.Decisions.{contains_dec}
-use Rattle.mm_proof.proofs.Searches.{mandatory_at_dec, those_of}
+use Rattle.mm_proof.proofs.Searches.{those_of}
 use Rattle.mm_proof.proofs.SaidMoves.{labels_of, mandatory_active}
 use Rattle.mm_proof.proofs.Members.{In, in_get, contains_in, in_left, in_right}
 use Rattle.mm_proof.proofs.ChildSums.{made_subtrees}

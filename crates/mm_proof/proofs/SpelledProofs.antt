@@ -1,6 +1,5 @@
 -- The labels of a tree, and the tokens of a fully shared proof of it, are a proof of what it derives.
-use Rattle.std.proofs.Common.{◌≡◌, ℕ, zero, suc, ◌<◌, List, [], ◌∷◌, ◌++◌, map, drop, length, slice_get, Contains, Some, ◌⊎◌, inl, inr, refl, sym, ap, subst, ◌∙◌, arith, append_assoc}
-use Rattle.std.proofs.lemmas.Option.{slice_get_within, get_or_from_slice_get}
+use Rattle.std.proofs.Common.{◌≡◌, ℕ, ◌<◌, List, [], ◌∷◌, ◌++◌, map, drop, slice_get, Contains, Some, ◌⊎◌, inl, inr, refl, sym, ap, subst, ◌∙◌, arith, append_assoc}
 use Rattle.std.specs.List.{flat_map}
 use Rattle.std.proofs.lemmas.List.Elements.{Contains-append_left, Contains-append_right, Contains-append_cases}
 use Rattle.mm_code.specs.declared.code.Code.{Code}
@@ -19,23 +18,12 @@ use Rattle.mm_proof.specs.Tokens.{opening_token, closing_token, IsNormal, IsComp
 use Rattle.mm_proof.specs.Proof.{BreaksWhole, IsWhole, IsProvedWithin}
 use Rattle.mm_proof.specs.Sharing.{AreFirstUses, IsPacked}
 use Rattle.mm_proof.proofs.Making.{derive_fits, fit_makes}
-use Rattle.mm_proof.proofs.SaidMoves.{normal_or_compressed, labels_once, letters_once}
+use Rattle.mm_proof.proofs.SaidMoves.{normal_or_compressed, labels_once, letters_once, contained}
 use Rattle.mm_proof.proofs.Letters.{coded_not_broken}
+use Rattle.mm_proof.proofs.Searches.{contains_first, contains_later, contains_cases}
+use Rattle.mm_proof.proofs.OneStep.{not_both_kinds}
 
 -- ---- members
-
-member_at : (xs : List (List ℕ)) (i : ℕ) (x : List ℕ) → slice_get xs i ≡ Some x → Contains xs x
-member_at xs i x e = (i, slice_get_within xs i x e, get_or_from_slice_get xs i x x e)
-
-member_first : (y : List ℕ) (xs : List (List ℕ)) → Contains (y ∷ xs) y
-member_first y xs = member_at (y ∷ xs) 0 y refl
-
-member_later : (y : List ℕ) (xs : List (List ℕ)) (x : List ℕ) → Contains xs x → Contains (y ∷ xs) x
-member_later y xs x h = (suc h.0, let less : h.0 < length xs = h.1 in omega arith, h.2)
-
-member_cases : (y : List ℕ) (xs : List (List ℕ)) (x : List ℕ) → Contains (y ∷ xs) x → (y ≡ x) ⊎ Contains xs x
-member_cases y xs x (zero, less, e) = inl e
-member_cases y xs x (suc i, less, e) = let h : suc i < length (y ∷ xs) = less in inr (i, let k : i < length xs = omega (arith, h) in k, e)
 
 no_member : (x : List ℕ) → Contains [] x → ⊥
 no_member x (i, less, e) = let h : i < 0 = less in absurd (omega (arith, h))
@@ -55,18 +43,12 @@ label_fits before (tree own below right) label fit c =
     go : (Contains (spelling below) label → (under : Trees) × MayStandOver before label under) → (Contains (spelling right) label → (under : Trees) × MayStandOver before label under)
         → (Contains (spelling below) label ⊎ Contains (own ∷ spelling right) label) → (under : Trees) × MayStandOver before label under
     go below_fits right_fits (inl h) = below_fits h
-    go below_fits right_fits (inr h) = later right_fits (member_cases own (spelling right) label h)
+    go below_fits right_fits (inr h) = later right_fits (contains_cases own (spelling right) label h)
 
 -- it is that of a statement
 pub stands_known : (before : List Sentence) (label : List ℕ) (below : Trees) → MayStandOver before label below → SomeSentence before (IsLabelled label)
 stands_known before label below (inl (bare, (place, h, there, active, (named, kind)))) = (place, h, there, named)
 stands_known before label below (inr (place, assertion, hypotheses, names, many)) = (place, assertion, names.there, names.named)
-
-not_both : (s : Sentence) → IsHypothesis s.kind → IsAssertion s.kind → ⊥
-not_both s (inl f) (inl a) = cc
-not_both s (inl f) (inr a) = cc
-not_both s (inr f) (inl a) = cc
-not_both s (inr f) (inr a) = cc
 
 -- a hypothesis with it is active
 stands_active : (before : List Sentence) (label : List ℕ) (below : Trees) → AllMeant before → MayStandOver before label below
@@ -77,7 +59,7 @@ stands_active before label below meant (inr (at, assertion, hypotheses, names, m
     let here : at ≡ place = one_label before label at place assertion h meant names.there there names.named named in
     let one : Some assertion ≡ Some h = sym names.there ∙ ap (slice_get before) here ∙ there in
     let same : assertion ≡ h = cc in
-    absurd (not_both h kind (subst (λ (s : Sentence). IsAssertion s.kind) same names.kind))
+    absurd (not_both_kinds h.kind kind (subst (λ (s : Sentence). IsAssertion s.kind) same names.kind))
 
 -- ---- proofs that break no rule over the whole of them
 
@@ -119,7 +101,7 @@ spelled_proves Fits before s label below meant apart derived =
     let trees : Trees = tree label below none in
     let tokens : List (List ℕ) = spelling trees in
     let fit : Fit before trees = derive_fits Fits before trees (s.symbols ∷ []) derived in
-    let normal : IsNormal tokens = λ e. apart (member_at tokens 0 opening_token e) in
+    let normal : IsNormal tokens = λ e. apart (contained tokens 0 opening_token e) in
     let whole : IsWhole before tokens = whole_of before tokens tokens meant (λ broken. normal broken.0) (λ others are. labels_once tokens others tokens are (inl (normal, refl)))
     (λ l used. label_fits before trees l fit used) (λ text rule are. absurd (normal_or_compressed tokens are.0 are.1 normal are.2)) in (
       record {
@@ -136,13 +118,13 @@ spelled_proves Fits before s label below meant apart derived =
 -- listed labels are among those of the tree
 first_used : (seen word listed : List (List ℕ)) (label : List ℕ) → AreFirstUses seen word listed → Contains listed label → Contains word label
 first_used seen [] listed label uses c = absurd (no_member label (subst (λ (ls : List (List ℕ)). Contains ls label) uses c))
-first_used seen (own ∷ word) listed label (inl (old, uses)) c = member_later own word label (first_used seen word listed label uses c)
+first_used seen (own ∷ word) listed label (inl (old, uses)) c = contains_later own word label (first_used seen word listed label uses c)
 first_used seen (own ∷ word) listed label (inr (new, others, e, uses)) c =
-    go (first_used (own ∷ seen) word others label uses) (member_cases own others label (subst (λ (ls : List (List ℕ)). Contains ls label) e c))
+    go (first_used (own ∷ seen) word others label uses) (contains_cases own others label (subst (λ (ls : List (List ℕ)). Contains ls label) e c))
   where
     go : (Contains others label → Contains word label) → ((own ≡ label) ⊎ Contains others label) → Contains (own ∷ word) label
-    go used (inl same) = subst (Contains (own ∷ word)) same (member_first own word)
-    go used (inr h) = member_later own word label (used h)
+    go used (inl same) = subst (Contains (own ∷ word)) same (contains_first own word)
+    go used (inr h) = contains_later own word label (used h)
 
 pub packed_listed : (before : List Sentence) (s : Sentence) (trees : Trees) (listed : List (List ℕ)) (codes : List Code) (label : List ℕ) → IsPacked before s trees listed codes → Contains listed label → Contains (spelling trees) label
 packed_listed before s trees listed codes label p c = first_used p.says.labels (spelling trees) listed label p.uses c
@@ -161,7 +143,7 @@ packed_proves Fits before s label below listed codes letters pieces meant p code
     } in
     let read : Letters (flat_map (λ piece. piece) pieces) codes = subst (λ (text : List ℕ). Letters text codes) (sym joined) coded in
     let closes : Contains (drop 1 tokens) closing_token =
-    Contains-append_left (listed ++ closing_token ∷ []) pieces closing_token (Contains-append_right listed (closing_token ∷ []) closing_token (member_first closing_token [])) in
+    Contains-append_left (listed ++ closing_token ∷ []) pieces closing_token (Contains-append_right listed (closing_token ∷ []) closing_token (contains_first closing_token [])) in
     let broken_not : (text : List ℕ) (rule : CodeRule) → AreLetters tokens text → ¬ (LettersBreak rule text) = λ text rule are broken.
     let same : text ≡ flat_map (λ piece. piece) pieces = letters_once tokens text (flat_map (λ piece. piece) pieces) are (listed, pieces, parts, refl) in
     coded_not_broken (flat_map (λ piece. piece) pieces) codes rule read (subst (LettersBreak rule) same broken) in (

@@ -4,13 +4,13 @@ use Rattle.std.proofs.lemmas.Option.{same_Some}
 use Rattle.mm_frame.specs.Sentence.{Sentence}
 use Rattle.mm_frame.specs.Rules.{AllMeant}
 use Rattle.mm_frame.specs.Numbers.{labelled_sentences}
+use Rattle.mm_frame.proofs.Labelled.{numbered_from_get}
 use Rattle.mm_proof.specs.declared.subtrees.Subtree.{Subtree}
 use Rattle.mm_proof.specs.declared.subtrees.Row.{Row}
 use Rattle.mm_proof.specs.Tree.{Trees, none, tree, beside, roots}
 use Rattle.mm_proof.specs.Spelled.{IsLabelNumber}
 use Rattle.mm_proof.specs.Subtrees.{AreOnce, IsNumberOfRow, KeepNumbers, StandsFor, IsTreeOf, AreTreesOf}
 use Rattle.mm_proof.proofs.Meaning.{one_label}
-use Rattle.mm_proof.proofs.UsedNumbers.{placed}
 
 -- ---- labels
 
@@ -21,8 +21,8 @@ one_label_of st id l m a b =
 
 pub one_number_of : (st : List Sentence) (i j : ℕ) (label : List ℕ) → AllMeant st → IsLabelNumber st i label → IsLabelNumber st j label → i ≡ j
 one_number_of st i j label all a b =
-    let p = placed st i a.s a.there in
-    let q = placed st j b.s b.there in
+    let p = numbered_from_get st i a.s a.there in
+    let q = numbered_from_get st j b.s b.there in
     let same : p.0 ≡ q.0 = one_label st p.0 q.0 a.s b.s label all p.1.there q.1.there a.named b.named in
     sym p.1.number ∙ ap (λ (k : ℕ). length (labelled_sentences (take k st))) same ∙ q.1.number
 

@@ -4,6 +4,7 @@ use Rattle.std.specs.List.{AllZip}
 use Rattle.std.proofs.lemmas.Option.{same_Some, none-some}
 use Rattle.std.proofs.lemmas.List.{length-append}
 use Rattle.std.proofs.Math.Seq.{drop-cons}
+use Rattle.mm_text.proofs.Lists.{zip_push, zip_right}
 use Rattle.mm_frame.specs.Sentence.{Sentence}
 use Rattle.mm_proof.specs.declared.subtrees.Subtree.{Subtree}
 use Rattle.mm_proof.specs.declared.subtrees.Row.{Row}
@@ -12,7 +13,6 @@ use Rattle.mm_proof.specs.Spelled.{IsLabelNumber}
 use Rattle.mm_proof.specs.Builders.{IsKept}
 use Rattle.mm_proof.specs.Subtrees.{AreOnce, KeepNumbers, IsNumberOfRow, IsTreeOf, AreTreesOf, StandsFor, IsSubtreeOf, AreSubtreesOf}
 use Rattle.mm_proof.proofs.Making.{roots-beside}
-use Rattle.mm_proof.proofs.Derived.{zip_right, zip_push}
 use Rattle.mm_proof.proofs.SubtreeNumbers.{stands_later, trees_later, trees_join, trees_count}
 
 -- ---- the number of a row

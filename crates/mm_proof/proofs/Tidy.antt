@@ -1,6 +1,7 @@
 -- What moves that share all do, said of each visit by those before it; and that it is told by the
 -- steps alone.
 use Rattle.std.proofs.Common.{◌≡◌, List, [], ◌∷◌, ◌⊎◌, inl, inr, ⊎_elim, refl, sym, ap, subst, ◌∙◌}
+use Rattle.mm_text.proofs.Lists.{cons_parts}
 use Rattle.mm_proof.specs.Tree.{Trees}
 use Rattle.mm_proof.specs.BigSubtrees.{IsBig}
 use Rattle.mm_proof.specs.Visits.{Visit, makes, repeats, keeps, trees_made}
@@ -21,10 +22,10 @@ Tidy done (keeps t ∷ v) = IsBig t × ((rest : List Visit) × (done ≡ makes t
 same_made : (t u : Trees) → makes t ≡ makes u → t ≡ u
 same_made t u e = cc
 
-same_repeated : (t u : Trees) → repeats t ≡ repeats u → t ≡ u
+pub same_repeated : (t u : Trees) → repeats t ≡ repeats u → t ≡ u
 same_repeated t u e = cc
 
-same_kept : (t u : Trees) → keeps t ≡ keeps u → t ≡ u
+pub same_kept : (t u : Trees) → keeps t ≡ keeps u → t ≡ u
 same_kept t u e = cc
 
 made_no_keep : (t u : Trees) → makes t ≡ keeps u → ⊥
@@ -44,9 +45,6 @@ keep_no_make t u e = cc
 
 keep_no_repeat : (t u : Trees) → keeps t ≡ repeats u → ⊥
 keep_no_repeat t u e = cc
-
-same_heads : (x y : Visit) (v w : List Visit) → x ∷ v ≡ y ∷ w → (x ≡ y) × (v ≡ w)
-same_heads x y v w e = (cc, cc)
 
 -- ---- what the visits that are done say
 
@@ -134,7 +132,7 @@ next_keeps : (x : Visit) (done v rest : List Visit) (t : Trees) → Tidy (x ∷ 
     → v ≡ keeps t ∷ rest → IsBig t × (x ≡ makes t)
 next_keeps x done v rest t c e =
     let d : Tidy (x ∷ done) (keeps t ∷ rest) = subst (Tidy (x ∷ done)) e c in
-    (d.0, (same_heads x (makes t) done d.1.0 d.1.1).0)
+    (d.0, (cons_parts x (makes t) done d.1.0 d.1.1).0)
 
 pub not_kept : (v done : List Visit) (t : Trees) → Tidy done v → In done (makes t) → IsNotNext v t
     → In v (keeps t) → ⊥
@@ -214,11 +212,11 @@ first_kept : (v : List Visit) → ((t : Trees) × (rest : List Visit) × (v ≡ 
 first_kept [] = inr (λ t rest e. cc, refl)
 first_kept (makes u ∷ v) = inr (
   λ t rest e. made_no_keep u t
-      (same_heads (makes u) (keeps t) v rest e).0,
+      (cons_parts (makes u) (keeps t) v rest e).0,
   refl,
 )
 first_kept (repeats u ∷ v) = inr
-    (λ t rest e. repeat_no_keep u t (same_heads (repeats u) (keeps t) v rest e).0, refl)
+    (λ t rest e. repeat_no_keep u t (cons_parts (repeats u) (keeps t) v rest e).0, refl)
 first_kept (keeps u ∷ v) = inl (u, v, refl)
 
 -- a mark follows only what is made

@@ -1,8 +1,6 @@
 -- The tokens of a proof: its parts, its labels, and what a list of labels that may be used tells.
-use Rattle.std.proofs.Common.{◌≡◌, ℕ, zero, suc, ◌+◌, ◌<◌, ◌≤◌, List, [], ◌∷◌, length, map, take, drop, get_or, slice_get, Contains, Some, inl, inr, ⊎_elim, refl, sym, ap, subst, ◌∙◌, arith}
+use Rattle.std.proofs.Common.{◌≡◌, ℕ, zero, suc, ◌+◌, ◌<◌, ◌≤◌, List, [], ◌∷◌, length, map, take, drop, get_or, slice_get, Contains, Some, inl, inr, ⊎_elim, refl, ap, subst, ◌∙◌, arith}
 use Rattle.std.proofs.lemmas.List.{take_all, length-map}
-use Rattle.mm_text.specs.declared.statement.Kind.{Kind}
-use Rattle.mm_text.specs.declared.statement.Kind.TheVariants.{Floating, Essential, Axiom, Provable}
 use Rattle.mm_frame.specs.Sentence.{Sentence, IsLabelled, IsHypothesis, IsAssertion}
 use Rattle.mm_frame.specs.Active.{IsActive}
 use Rattle.mm_frame.specs.Rules.{AllMeant}
@@ -14,6 +12,7 @@ use Rattle.mm_proof.specs.CodeSteps.{AreFor, MayBeUsed, BreaksLabels}
 use Rattle.mm_proof.proofs.Places.{get_take, get_from_take}
 use Rattle.mm_proof.proofs.Meaning.{one_label, one_labelled}
 use Rattle.mm_proof.proofs.LabelLists.{texts_more, known_push}
+use Rattle.mm_proof.proofs.OneStep.{not_both_kinds}
 
 -- ---- a token more, of which something doesn't hold
 
@@ -44,12 +43,6 @@ for_known statements place (id ∷ ids) (l ∷ labels) label all (zero, within, 
 for_known statements place (id ∷ ids) (l ∷ labels) label all (suc k, within, is) =
     for_known statements place ids labels label all.1 (k, (let w : suc k < suc (length labels) = within in omega arith), is)
 
-pub not_two_kinds : (kind : Kind) → IsHypothesis kind → IsAssertion kind → ⊥
-not_two_kinds kind (inl f) (inl a) = absurd (let e : Floating ≡ Axiom = sym f ∙ a in cc)
-not_two_kinds kind (inl f) (inr p) = absurd (let e : Floating ≡ Provable = sym f ∙ p in cc)
-not_two_kinds kind (inr e) (inl a) = absurd (let x : Essential ≡ Axiom = sym e ∙ a in cc)
-not_two_kinds kind (inr e) (inr p) = absurd (let x : Essential ≡ Provable = sym e ∙ p in cc)
-
 -- no hypothesis with such a label is idle
 used_not_idle : (statements : List Sentence) (place : ℕ) (label : List ℕ) (id : ℕ) → AllMeant statements → MayBeUsed statements place label id
     → (at : ℕ) (h : Sentence) → slice_get (take place statements) at ≡ Some h → IsLabelled label h → IsHypothesis h.kind → ¬ (¬ (IsActive (take place statements) at))
@@ -60,7 +53,7 @@ used_not_idle statements place label id all m at h there named kind idle =
     let same : m.s ≡ h = one_labelled statements m.at at m.s h label all here front.1 m.named named in
     elim m.kind [
       | inl active ↦ idle (subst (λ k. IsActive (take place statements) k) one active.1)
-      | inr assertion ↦ not_two_kinds h.kind kind (subst (λ (s : Sentence). IsAssertion s.kind) same assertion)
+      | inr assertion ↦ not_both_kinds h.kind kind (subst (λ (s : Sentence). IsAssertion s.kind) same assertion)
     ]
 
 -- ---- what the labels of a proof tell

@@ -3,6 +3,7 @@ use Rattle.std.proofs.Common.{◌≡◌, ℕ, List, take, Result, Ok, Err, inl, 
 use Rattle.std.specs.Result.{IfOk, IfErr, IsOkUnless}
 use Rattle.mm_frame.specs.Sentence.{Sentence}
 use Rattle.mm_frame.specs.Rules.{AllMeant}
+use Rattle.mm_frame.proofs.Meant.{allmeant_front}
 use Rattle.mm_proof.specs.declared.fault.ProofRule.{ProofRule}
 use Rattle.mm_proof.specs.declared.fault.ProofFault.{ProofFault}
 use Rattle.mm_proof.specs.declared.fault.ProofFault.TheVariants.{Rule, Memory}
@@ -17,8 +18,7 @@ use Rattle.mm_proof.specs.KnownFront.{HaveFault}
 use Rattle.mm_proof.specs.Strict.{HasFormOf}
 use Rattle.mm_proof.specs.UnderProfile.{IsProvedUnder, IsFaultUnder, HaveFaultUnder, IsFrontAllowedUnder, IsFrontFaultUnder}
 use Rattle.mm_proof.specs.Parsed.{OfProof}
-use Rattle.mm_proof.proofs.Meaning.{meant_front}
-use Rattle.mm_proof.proofs.Verdicts.{proved_no_fault, one_fault}
+use Rattle.mm_proof.proofs.Verdicts.{proved_no_fault, one_fault, Same}
 use Rattle.mm_proof.proofs.KnownFronts.{allowed_no_fault, one_front_fault}
 
 -- ---- what the lenient profile adds
@@ -44,9 +44,6 @@ proved_none profile before s tokens rule step all p (inl (z, inl w)) = proved_no
 proved_none profile before s tokens rule step all p (inl (z, inr x)) = x.2 p.0
 proved_none profile before s tokens rule step all p (inr (w, form, m, said, f)) = proved_no_fault (IsWithin (limit_of profile)) before s tokens rule step all p.1 (inr (w, m, said, f))
 
-abbrev pub Same : ProofRule → ℕ → ProofRule → ℕ → Type 0
-Same rule step rule' step' = (rule ≡ rule') × (step ≡ step')
-
 pub one_under : (profile : Profile) (before : List Sentence) (s : Sentence) (tokens : List (List ℕ)) (rule rule' : ProofRule) (step step' : ℕ) → AllMeant before
     → IsFaultUnder profile before s tokens rule step → IsFaultUnder profile before s tokens rule' step' → Same rule step rule' step'
 one_under profile before s tokens rule rule' step step' all (inl (z, inl w)) (inl (y, inl v)) = one_fault (IsWithin (limit_of profile)) before s tokens rule rule' step step' all (inl (z, w)) (inl (y, v))
@@ -67,16 +64,16 @@ pub accepted_under : (profile : Profile) → {X : Type 0} (r : Result X ProofFau
     → OfProof st id (λ place s. IsProvedUnder profile (take place st) s tokens → IsOkUnless r Memory)
 accepted_under profile (Ok x) st id tokens all f place s proof p = tt
 accepted_under profile (Err Memory) st id tokens all f place s proof p = refl
-accepted_under profile (Err (Rule rule step)) st id tokens all f place s proof p = absurd (proved_none profile (take place st) s tokens rule step (meant_front st place all) p (f place s proof))
+accepted_under profile (Err (Rule rule step)) st id tokens all f place s proof p = absurd (proved_none profile (take place st) s tokens rule step (allmeant_front st place all) p (f place s proof))
 
 pub refused_under : (profile : Profile) → {X : Type 0} (r : Result X ProofFault) (st : List Sentence) (id : ℕ) (tokens : List (List ℕ)) → AllMeant st
     → ((x : X) → r ≡ Ok x → OfProof st id (λ place s. IsProvedUnder profile (take place st) s tokens))
     → IfErr r (λ e. OnRule e (λ rule step. OfProof st id (λ place s. IsFaultUnder profile (take place st) s tokens rule step)))
     → OfProof st id (λ place s. (rule : ProofRule) (step : ℕ) → IsFaultUnder profile (take place st) s tokens rule step → IsUnlessMemory r (Err (Rule rule step)))
-refused_under profile (Ok x) st id tokens all p f place s proof rule step fault = absurd (proved_none profile (take place st) s tokens rule step (meant_front st place all) (p x refl place s proof) fault)
+refused_under profile (Ok x) st id tokens all p f place s proof rule step fault = absurd (proved_none profile (take place st) s tokens rule step (allmeant_front st place all) (p x refl place s proof) fault)
 refused_under profile (Err Memory) st id tokens all p f place s proof rule step fault = inr refl
 refused_under profile {X} (Err (Rule other at)) st id tokens all p f place s proof rule step fault =
-    let same = one_under profile (take place st) s tokens other rule at step (meant_front st place all) (f place s proof) fault in
+    let same = one_under profile (take place st) s tokens other rule at step (allmeant_front st place all) (f place s proof) fault in
     let refusal : ProofRule → ℕ → Result X ProofFault = λ r n. Err (Rule r n) in
     inl (ap (λ (r : ProofRule). refusal r at) same.0 ∙ ap (λ (n : ℕ). refusal rule n) same.1)
 
@@ -108,16 +105,16 @@ front_only : (profile : Profile) (e : ProofFault) (st : List Sentence) (id : ℕ
     → OnRule e (λ rule step. OfProof st id (λ place s. IsFrontFaultUnder profile (take place st) s tokens rule step))
     → OfProof st id (λ place s. IsFrontAllowedUnder profile (take place st) s tokens → e ≡ Memory)
 front_only profile Memory st id tokens all f place s proof p = refl
-front_only profile (Rule rule step) st id tokens all f place s proof p = absurd (front_none profile (take place st) s tokens rule step (meant_front st place all) p (f place s proof))
+front_only profile (Rule rule step) st id tokens all f place s proof p = absurd (front_none profile (take place st) s tokens rule step (allmeant_front st place all) p (f place s proof))
 
 pub front_refused : (profile : Profile) → {X : Type 0} (r : Result X ProofFault) (st : List Sentence) (id : ℕ) (tokens : List (List ℕ)) → AllMeant st
     → ((x : X) → r ≡ Ok x → OfProof st id (λ place s. IsFrontAllowedUnder profile (take place st) s tokens))
     → IfErr r (λ e. OnRule e (λ rule step. OfProof st id (λ place s. IsFrontFaultUnder profile (take place st) s tokens rule step)))
     → OfProof st id (λ place s. (rule : ProofRule) (step : ℕ) → IsFrontFaultUnder profile (take place st) s tokens rule step → IsUnlessMemory r (Err (Rule rule step)))
-front_refused profile (Ok x) st id tokens all p f place s proof rule step fault = absurd (front_none profile (take place st) s tokens rule step (meant_front st place all) (p x refl place s proof) fault)
+front_refused profile (Ok x) st id tokens all p f place s proof rule step fault = absurd (front_none profile (take place st) s tokens rule step (allmeant_front st place all) (p x refl place s proof) fault)
 front_refused profile (Err Memory) st id tokens all p f place s proof rule step fault = inr refl
 front_refused profile {X} (Err (Rule other at)) st id tokens all p f place s proof rule step fault =
-    let same = one_front_under profile (take place st) s tokens other rule at step (meant_front st place all) (f place s proof) fault in
+    let same = one_front_under profile (take place st) s tokens other rule at step (allmeant_front st place all) (f place s proof) fault in
     let refusal : ProofRule → ℕ → Result X ProofFault = λ r n. Err (Rule r n) in
     inl (ap (λ (r : ProofRule). refusal r at) same.0 ∙ ap (λ (n : ℕ). refusal rule n) same.1)
 

@@ -1,5 +1,5 @@
 -- A proof that breaks no rule over the whole of it holds no `?`: no label and no letter has such a byte.
-use Rattle.std.proofs.Common.{◌≡◌, ℕ, zero, suc, ◌<◌, ◌≤◌, List, [], ◌∷◌, ◌++◌, length, take, get_or, Contains, Any, Some, false, ◌⊎◌, inl, inr, refl, sym, ap, subst, ◌∙◌, arith}
+use Rattle.std.proofs.Common.{◌≡◌, ℕ, ◌<◌, ◌≤◌, List, [], ◌∷◌, ◌++◌, take, get_or, Contains, Any, Some, false, ◌⊎◌, inl, inr, refl, sym, ap, subst, ◌∙◌, arith}
 use Rattle.std.specs.List.{flat_map}
 use Rattle.std.proofs.lemmas.Option.{same_Some}
 use Rattle.std.proofs.lemmas.List.Elements.{Contains-append_left, Contains-append_right, Contains-append_cases}
@@ -19,6 +19,8 @@ use Rattle.mm_proof.specs.Proof.{IsWhole, IsWithin, IsProvedWithin}
 use Rattle.mm_proof.specs.Steps.{IsProofNumber}
 use Rattle.mm_proof.specs.Parsed.{OfProof}
 use Rattle.mm_proof.specs.Verified.{TokensProve}
+use Rattle.mm_proof.proofs.Searches.{contains_cases}
+use Rattle.mm_proof.proofs.FormLists.{only_one}
 
 -- ---- labels
 
@@ -52,24 +54,16 @@ label_known before tokens labels label formed whole are has unknown =
 
 -- ---- letters and parentheses
 
-byte_of : (b x : ℕ) → Contains (b ∷ []) x → b ≡ x
-byte_of b x (zero, within, is) = is
-byte_of b x (suc k, within, is) = absurd (let w : suc k < 1 = within in omega arith)
-
 opening_known : (token : List ℕ) → opening_token ≡ token → ¬ (Contains token 63)
-opening_known token same unknown = absurd (let e : 40 ≡ 63 = byte_of 40 63 (subst (λ t. Contains t 63) (sym same) unknown) in cc)
+opening_known token same unknown = absurd (let e : 40 ≡ 63 = only_one 40 63 (subst (λ t. Contains t 63) (sym same) unknown) in cc)
 
 closing_known : (token : List ℕ) → closing_token ≡ token → ¬ (Contains token 63)
-closing_known token same unknown = absurd (let e : 41 ≡ 63 = byte_of 41 63 (subst (λ t. Contains t 63) (sym same) unknown) in cc)
-
-first_or_later : (t : List ℕ) (tokens : List (List ℕ)) (token : List ℕ) → Contains (t ∷ tokens) token → (t ≡ token) ⊎ Contains tokens token
-first_or_later t tokens token (zero, within, is) = inl is
-first_or_later t tokens token (suc k, within, is) = inr (k, (let w : suc k < suc (length tokens) = within in omega arith), is)
+closing_known token same unknown = absurd (let e : 41 ≡ 63 = only_one 41 63 (subst (λ t. Contains t 63) (sym same) unknown) in cc)
 
 -- a byte of a piece is one of what the pieces are joined to
 among_joined : (pieces : List (List ℕ)) (piece : List ℕ) (b : ℕ) → Contains pieces piece → Contains piece b → Contains (flat_map (λ p. p) pieces) b
 among_joined [] piece b has byte = absurd (let w : has.0 < 0 = has.1 in omega arith)
-among_joined (p ∷ pieces) piece b has byte = elim (first_or_later p pieces piece has) [
+among_joined (p ∷ pieces) piece b has byte = elim (contains_cases p pieces piece has) [
   | inl same ↦ Contains-append_left p (flat_map (λ q. q) pieces) b (subst (λ q. Contains q b) (sym same) byte)
   | inr later ↦ Contains-append_right p (flat_map (λ q. q) pieces) b (among_joined pieces piece b later byte)
 ]
@@ -90,11 +84,11 @@ letters_known before tokens labels letters token whole parts has unknown =
 compressed_known : (before : List Sentence) (tokens labels letters : List (List ℕ)) (token : List ℕ) → AllFormed before → IsWhole before tokens → IsCompressed tokens labels letters
     → Contains tokens token → ¬ (Contains token 63)
 compressed_known before tokens labels letters token formed whole parts has =
-    elim (first_or_later opening_token (labels ++ closing_token ∷ letters) token (subst (λ ts. Contains ts token) parts.whole has)) [
+    elim (contains_cases opening_token (labels ++ closing_token ∷ letters) token (subst (λ ts. Contains ts token) parts.whole has)) [
       | inl same ↦ opening_known token same
       | inr rest ↦ elim (Contains-append_cases labels (closing_token ∷ letters) token rest) [
         | inl among ↦ label_known before tokens labels token formed whole (inr (letters, parts)) among
-        | inr behind ↦ elim (first_or_later closing_token letters token behind) [
+        | inr behind ↦ elim (contains_cases closing_token letters token behind) [
           | inl same ↦ closing_known token same
           | inr among ↦ letters_known before tokens labels letters token whole parts among
         ]

@@ -1,11 +1,13 @@
 -- The numbers of the assertions that a tree uses are those of the moves that make it.
-use Rattle.std.proofs.Common.{◌≡◌, ℕ, zero, suc, ◌<◌, List, [], ◌∷◌, length, take, slice_get, is_some, true, false, Bool, cond, Some, inl, inr, ◌↔◌, refl, sym, ap, subst, ◌∙◌, arith}
+use Rattle.std.proofs.Common.{◌≡◌, ℕ, ◌<◌, List, [], ◌∷◌, length, take, slice_get, Some, inl, inr, ◌↔◌, refl, sym, ap, subst, ◌∙◌, arith}
 use Rattle.std.specs.List.{AllByRecursion}
-use Rattle.std.proofs.lemmas.Option.{same_Some, none-some}
+use Rattle.std.proofs.lemmas.Option.{same_Some}
 use Rattle.std.proofs.lemmas.List.{take-take}
+use Rattle.mm_text.proofs.Lists.{zip_left, zip_right, all_at}
 use Rattle.mm_frame.specs.Sentence.{Sentence, IsAssertion, IsLabelled}
 use Rattle.mm_frame.specs.Rules.{AllMeant}
 use Rattle.mm_frame.specs.Numbers.{labelled_sentences, IsNumbered, IsAssertionNumber}
+use Rattle.mm_frame.proofs.Labelled.{numbered_from_get, numbered_get}
 use Rattle.mm_proof.specs.Tree.{Trees, none}
 use Rattle.mm_proof.specs.Moves.{Move, name, again, mark, Makes}
 use Rattle.mm_proof.specs.Steps.{IsNumberedMove, AreNumberedMoves, IsUsable, IsUsableMove}
@@ -13,54 +15,9 @@ use Rattle.mm_proof.specs.Used.{IsUsedNumber}
 use Rattle.mm_proof.proofs.Places.{get_take, get_from_take}
 use Rattle.mm_proof.proofs.Meaning.{one_label}
 use Rattle.mm_proof.proofs.OneStep.{hypothesis_or_assertion}
-use Rattle.mm_proof.proofs.Derived.{zip_left, zip_right, all_at}
 use Rattle.mm_proof.proofs.Uses.{labels_of_moves}
 
 -- ---- numbers and places
-
--- the labelled statement with a number has a place
-pub placed : (statements : List Sentence) (id : ℕ) (s : Sentence) → slice_get (labelled_sentences statements) id ≡ Some s → (place : ℕ) × IsNumbered statements id place s
-placed [] id s e = absurd (none-some s e)
-placed (t ∷ statements) id s e = go (is_some t.label) refl id e (placed statements)
-  where
-    go : (b : Bool) → is_some t.label ≡ b → (i : ℕ) → slice_get (cond b (t ∷ labelled_sentences statements) (labelled_sentences statements)) i ≡ Some s
-        → ((j : ℕ) (u : Sentence) → slice_get (labelled_sentences statements) j ≡ Some u → (place : ℕ) × IsNumbered statements j place u)
-        → (place : ℕ) × IsNumbered (t ∷ statements) i place s
-    go true is zero h rest =
-        (0, record { there = h; named = ap (λ (x : Sentence). is_some x.label) (sym (same_Some t s h)) ∙ is; number = refl })
-    go true is (suc i) h rest =
-        let p = rest i s h in (
-          suc p.0,
-          record {
-            there = p.1.there;
-            named = p.1.named;
-            number = ap (λ b. length (cond b (t ∷ labelled_sentences (take p.0 statements)) (labelled_sentences (take p.0 statements)))) is ∙ ap suc p.1.number;
-          },
-        )
-    go false is i h rest =
-        let p = rest i s h in (
-          suc p.0,
-          record {
-            there = p.1.there;
-            named = p.1.named;
-            number = ap (λ b. length (cond b (t ∷ labelled_sentences (take p.0 statements)) (labelled_sentences (take p.0 statements)))) is ∙ p.1.number;
-          },
-        )
-
--- a number is that of one statement
-numbered_reads : (statements : List Sentence) (id place : ℕ) (s : Sentence) → IsNumbered statements id place s → slice_get (labelled_sentences statements) id ≡ Some s
-numbered_reads statements id place s n = subst (λ k. slice_get (labelled_sentences statements) k ≡ Some s) n.number (reads statements place n.there n.named)
-  where
-    more : (b : Bool) (t : Sentence) (front whole : List Sentence) → slice_get (cond b (t ∷ whole) whole) (length (cond b (t ∷ front) front)) ≡ slice_get whole (length front)
-    more true t front whole = refl
-    more false t front whole = refl
-
-    reads : (statements : List Sentence) (place : ℕ) → slice_get statements place ≡ Some s → is_some s.label ≡ true
-        → slice_get (labelled_sentences statements) (length (labelled_sentences (take place statements))) ≡ Some s
-    reads [] place there named = absurd (none-some s there)
-    reads (t ∷ statements) zero there named =
-        let is : is_some t.label ≡ true = ap (λ (x : Sentence). is_some x.label) (same_Some t s there) ∙ named in rw is there
-    reads (t ∷ statements) (suc place) there named = more (is_some t.label) t (labelled_sentences (take place statements)) (labelled_sentences statements) ∙ reads statements place there named
 
 -- in a front it has the same number
 numbered_front : (statements : List Sentence) (id place end : ℕ) (s : Sentence) → place < end → IsNumbered statements id place s → IsNumbered (take end statements) id place s
@@ -112,7 +69,7 @@ used_numbers statements place xs moves row kept all numbered usable made id = (u
         let step = (labels_of_moves (take place statements) moves row kept made u.2).0 u.6 in
         let z = zip_right (IsNumberedMove statements) xs moves step.0 (name u.2) numbered step.1 in
         let by = named_by statements z.0 u.2 z.2 in
-        let p = placed statements by.0 by.1 by.3 in
+        let p = numbered_from_get statements by.0 by.1 by.3 in
         let one : u.0 ≡ p.0 = one_label statements u.0 p.0 u.1 by.1 u.2 all n.there p.1.there u.5 by.4 in
         let same : by.0 ≡ id = sym p.1.number ∙ ap (λ k. length (labelled_sentences (take k statements))) (sym one) ∙ n.number in
         ((step.0, z.1 ∙ ap Some (by.2 ∙ ap name same)), (u.0, u.1, n, u.4))
@@ -131,7 +88,7 @@ used_numbers statements place xs moves row kept all numbered usable made id = (u
         let p = h.1.0 in
         let a = h.1.1 in
         let n = h.1.2 in
-        let same : z.2.0 ≡ a = same_Some z.2.0 a (sym z.2.2 ∙ numbered_reads statements id p a n) in
+        let same : z.2.0 ≡ a = same_Some z.2.0 a (sym z.2.2 ∙ numbered_get statements id p a n) in
         let named : IsLabelled z.2.1 a = subst (λ s. IsLabelled z.2.1 s) same z.2.3 in
         let may : IsUsable (take place statements) z.2.1 =
         subst (IsUsableMove (take place statements)) z.2.4 (all_at (IsUsableMove (take place statements)) moves h.0.0 z.0 usable z.1) in

@@ -1,13 +1,14 @@
 -- The labels in the trees that moves make are those of the moves; so the assertions that are used are those of the moves.
-use Rattle.std.proofs.Common.{◌≡◌, ℕ, zero, suc, List, [], ◌∷◌, ◌++◌, get_or, slice_get, Contains, Some, ◌⊎◌, inl, inr, ⊎_elim, ◌↔◌, refl, sym, ap, subst, ◌∙◌, append_assoc, ◌≤◌, arith}
+use Rattle.std.proofs.Common.{◌≡◌, ℕ, zero, suc, List, [], ◌∷◌, ◌++◌, get_or, slice_get, Contains, Some, ◌⊎◌, inl, inr, ⊎_elim, ◌↔◌, refl, sym, ap, subst, ◌∙◌, ◌≤◌, arith}
 use Rattle.std.specs.List.{AllByRecursion}
 use Rattle.std.proofs.lemmas.Option.{same_Some, none-some}
 use Rattle.std.proofs.lemmas.List.Elements.{Contains-append_left, Contains-append_right, Contains-append_cases}
+use Rattle.mm_text.proofs.Lists.{all_push, all_at, all_weaker}
 use Rattle.mm_frame.specs.Sentence.{Sentence}
-use Rattle.mm_proof.specs.Tree.{Trees, none, tree, spelling, beside}
+use Rattle.mm_proof.specs.Tree.{Trees, none, tree, spelling}
 use Rattle.mm_proof.specs.Moves.{Move, name, again, mark, MakesOne, Makes}
 use Rattle.mm_proof.proofs.Making.{spelling-beside}
-use Rattle.mm_proof.proofs.Derived.{all_mapped, all_push, all_at}
+use Rattle.mm_proof.proofs.WordSteps.{spelling_over}
 
 -- some move is a step by the label
 abbrev pub IsStepOf : List (Move (List ℕ)) → List ℕ → Type 0
@@ -24,12 +25,6 @@ itself : (x : List ℕ) → Contains (x ∷ []) x
 itself x = (0, omega arith, refl)
 
 -- ---- rows
-
--- the labels of the row that a step by a label makes: those before it, and its own
-named_row : (rest below : Trees) (label : List ℕ) → spelling (beside rest (tree label below none)) ≡ spelling (beside rest below) ++ label ∷ []
-named_row rest below label =
-    spelling-beside rest (tree label below none) ∙ sym (append_assoc (spelling rest) (spelling below) (label ∷ []))
-    ∙ ap (λ l. l ++ label ∷ []) (sym (spelling-beside rest below))
 
 -- what is kept stands in the row
 abbrev KeptInRow : Trees → Trees → Type 0
@@ -53,7 +48,7 @@ not_mark x m p q = let e : mark ≡ name x = sym p ∙ q in absurd cc
 
 row_grows : (before : List Sentence) (move : Move (List ℕ)) (a b : Trees) (k l : List Trees) → AllByRecursion (KeptInRow a) k → MakesOne before move a k b l → RowGrows move a b l
 row_grows before (name label) a b k l inside m =
-    let word : spelling b ≡ spelling a ++ label ∷ [] = ap spelling m.4 ∙ named_row m.0 m.1 label ∙ ap (λ t. spelling t ++ label ∷ []) (sym m.2) in
+    let word : spelling b ≡ spelling a ++ label ∷ [] = ap spelling m.4 ∙ spelling_over m.0 m.1 label ∙ ap (λ t. spelling t ++ label ∷ []) (sym m.2) in
     let keeps : (x : List ℕ) → Contains (spelling a) x → Contains (spelling b) x =
     λ x h. subst (λ w. Contains w x) (sym word) (Contains-append_left (spelling a) (label ∷ []) x h) in
     record {
@@ -61,7 +56,7 @@ row_grows before (name label) a b k l inside m =
       gets = λ x e. subst (λ w. Contains w x) (sym word)
           (Contains-append_right (spelling a) (label ∷ []) x (subst (λ y. Contains (y ∷ []) x) (sym (same_name label x (name label) refl e)) (itself x)));
       no_more = λ x h. ⊎_elim (λ c. inl c) (λ c. inr (ap name (one_of label x c))) (Contains-append_cases (spelling a) (label ∷ []) x (subst (λ w. Contains w x) word h));
-      kept_in = subst (AllByRecursion (KeptInRow b)) (sym m.5) (all_mapped (KeptInRow a) (KeptInRow b) k (λ t p x h. keeps x (p x h)) inside);
+      kept_in = subst (AllByRecursion (KeptInRow b)) (sym m.5) (all_weaker (KeptInRow a) (KeptInRow b) (λ t p x h. keeps x (p x h)) k inside);
     }
 row_grows before (again tag) a b k l inside m =
     let word : spelling b ≡ spelling a ++ spelling m.0 = ap spelling m.2 ∙ spelling-beside a m.0 in
@@ -72,7 +67,7 @@ row_grows before (again tag) a b k l inside m =
       keeps = keeps;
       gets = λ x e. absurd (not_again tag x (again tag) refl e);
       no_more = λ x h. inl (⊎_elim (λ c. c) (λ c. inner x c) (Contains-append_cases (spelling a) (spelling m.0) x (subst (λ w. Contains w x) word h)));
-      kept_in = subst (AllByRecursion (KeptInRow b)) (sym m.3) (all_mapped (KeptInRow a) (KeptInRow b) k (λ t p x h. keeps x (p x h)) inside);
+      kept_in = subst (AllByRecursion (KeptInRow b)) (sym m.3) (all_weaker (KeptInRow a) (KeptInRow b) (λ t p x h. keeps x (p x h)) k inside);
     }
 row_grows before mark a b k l inside m =
     let t : Trees = tree m.1 m.2 none in
@@ -84,7 +79,7 @@ row_grows before mark a b k l inside m =
       gets = λ x e. absurd (not_mark x mark refl e);
       no_more = λ x h. inl (subst (λ r. Contains (spelling r) x) m.4 h);
       kept_in = subst (AllByRecursion (KeptInRow b)) (sym m.5)
-          (all_push (KeptInRow b) k t (all_mapped (KeptInRow a) (KeptInRow b) k (λ u p x h. keeps x (p x h)) inside) last);
+          (all_push (KeptInRow b) k t (all_weaker (KeptInRow a) (KeptInRow b) (λ u p x h. keeps x (p x h)) k inside) last);
     }
 
 -- ---- the labels of what moves make

@@ -1,5 +1,5 @@
 -- What replaces a symbol, by numbers: the entry of the hypothesis that types it.
-use Rattle.std.proofs.Common.{◌≡◌, ℕ, zero, suc, ◌+◌, ◌<◌, ◌≤◌, List, [], ◌∷◌, ◌++◌, length, take, drop, get_or, slice_get, Bool, false, eqb, ◌&&◌, Option, option_map, unwrap_or, Some, None, IsTrue, refl, sym, ap, ◌∙◌, arith}
+use Rattle.std.proofs.Common.{◌≡◌, ℕ, zero, suc, ◌+◌, ◌<◌, ◌≤◌, List, [], ◌∷◌, ◌++◌, length, take, drop, get_or, slice_get, Bool, eqb, ◌&&◌, Option, unwrap_or, Some, None, IsTrue, refl, sym, ap, ◌∙◌, arith}
 use Rattle.std.specs.List.{flat_map, AllByRecursion}
 use Rattle.std.specs.Cmp.Lexicographic.{pointwise}
 use Rattle.std.specs.Str.{bytes_eq}
@@ -9,17 +9,10 @@ use Rattle.std.proofs.lemmas.List.{length-map, take-map, take_more, append_assoc
 use Rattle.std.proofs.lemmas.List.Concat.{flat_map-append}
 use Rattle.mm_frame.specs.declared.number.Sym.{Sym}
 use Rattle.mm_proof.specs.Stores.{numbers_in}
-use Rattle.mm_frame.specs.declared.hypothesis.Hypothesis.{Hypothesis}
 use Rattle.mm_frame.specs.declared.piece.Piece.{Piece}
 use Rattle.mm_frame.specs.declared.piece.Piece.TheVariants.{Symbol, Value}
-use Rattle.mm_frame.specs.Pieces.{variables_of, is_of, IsNowhere, IsFirstAt, IsPieceOf, ArePieces}
+use Rattle.mm_frame.specs.Pieces.{IsNowhere, IsFirstAt, IsPieceOf, ArePieces}
 use Rattle.mm_proof.specs.CodeVerify.{value_of, replaced_in, said_by, all_said_by, IsWithinPlaces}
-
--- past the end there is none
-pub nowhere_past : (n : ℕ) (variables : List (Option ℕ)) (k : ℕ) → length variables ≤ k → is_of n (get_or variables k None) ≡ false
-nowhere_past n [] k past = refl
-nowhere_past n (v ∷ variables) zero past = absurd (omega arith)
-nowhere_past n (v ∷ variables) (suc k) past = nowhere_past n variables k (omega arith)
 
 pub value_nowhere : (n : ℕ) (variables : List (Option ℕ)) (entries : List (List ℕ)) → IsNowhere n variables → value_of variables entries n ≡ None
 value_nowhere n [] entries h = refl
@@ -156,7 +149,3 @@ pub within_at : (P : Piece → Type 0) (pieces : List Piece) (i : ℕ) (d : Piec
 within_at P [] i d all less = absurd (omega arith)
 within_at P (p ∷ pieces) zero d all less = all.0
 within_at P (p ∷ pieces) (suc i) d all less = within_at P pieces i d all.1 (omega arith)
-
--- there are as many variables as hypotheses
-pub variables_count : (hypotheses : List Hypothesis) → length (variables_of hypotheses) ≡ length hypotheses
-variables_count hypotheses = length-map hypotheses (λ h. option_map (λ typing. typing.1.0) h.typing)

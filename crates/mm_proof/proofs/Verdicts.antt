@@ -2,6 +2,7 @@
 use Rattle.std.proofs.Common.{◌≡◌, ◌≢◌, ℕ, ◌+◌, ◌<◌, List, [], ◌∷◌, ◌++◌, length, slice_get, Some, ◌⊎◌, inl, inr, ⊎_elim, refl, sym, ap, subst, ◌∙◌}
 use Rattle.std.proofs.lemmas.Option.{same_Some}
 use Rattle.std.proofs.lemmas.Bool.{cases_order}
+use Rattle.mm_text.proofs.Lists.{cons_parts}
 use Rattle.mm_frame.specs.Sentence.{Sentence}
 use Rattle.mm_frame.specs.Rules.{AllMeant}
 use Rattle.mm_proof.specs.declared.fault.ProofRule.{ProofRule}
@@ -52,15 +53,12 @@ first_once Broken r q br bq fr fq = elim (cases_order (proof_rank r) (proof_rank
 abbrev OneOfSplits : {X : Type 0} → List X → X → List X → X → Type 0
 OneOfSplits {X} a x b y = ((a ≡ b) × (x ≡ y)) ⊎ ((more : List X) × (b ≡ a ++ x ∷ more)) ⊎ ((more : List X) × (a ≡ b ++ y ∷ more))
 
-heads : {X : Type 0} (x y : X) (xs ys : List X) → x ∷ xs ≡ y ∷ ys → (x ≡ y) × (xs ≡ ys)
-heads x y xs ys e = (cc, cc)
-
 compare_splits : {X : Type 0} (a : List X) (x : X) (c b : List X) (y : X) (d : List X) → a ++ x ∷ c ≡ b ++ y ∷ d → OneOfSplits a x b y
-compare_splits [] x c [] y d e = inl (refl, (heads x y c d e).0)
-compare_splits [] x c (z ∷ b) y d e = inr (inl (b, ap (λ w. w ∷ b) (sym (heads x z c (b ++ y ∷ d) e).0)))
-compare_splits (z ∷ a) x c [] y d e = inr (inr (a, ap (λ w. w ∷ a) (heads z y (a ++ x ∷ c) d e).0))
+compare_splits [] x c [] y d e = inl (refl, (cons_parts x y c d e).0)
+compare_splits [] x c (z ∷ b) y d e = inr (inl (b, ap (λ w. w ∷ b) (sym (cons_parts x z c (b ++ y ∷ d) e).0)))
+compare_splits (z ∷ a) x c [] y d e = inr (inr (a, ap (λ w. w ∷ a) (cons_parts z y (a ++ x ∷ c) d e).0))
 compare_splits (z ∷ a) x c (w ∷ b) y d e =
-    let h = heads z w (a ++ x ∷ c) (b ++ y ∷ d) e in
+    let h = cons_parts z w (a ++ x ∷ c) (b ++ y ∷ d) e in
     elim (compare_splits a x c b y d h.1) [
       | inl same ↦ inl (ap (λ l. z ∷ l) same.0 ∙ ap (λ v. v ∷ b) h.0, same.1)
       | inr (inl more) ↦ inr (inl (more.0, ap (λ l. w ∷ l) more.1 ∙ ap (λ v. v ∷ (a ++ x ∷ more.0)) (sym h.0)))

@@ -1,26 +1,19 @@
 -- What is read as a proof at its own place, wherever the statement with its number stands.
-use Rattle.std.proofs.Common.{◌≡◌, ℕ, ◌≤◌, List, [], ◌∷◌, length, take, drop, get_or, slice_get, Result, Ok, Err, inl, inr, sym, ap, subst, ◌∙◌, refl, arith}
-use Rattle.std.specs.Result.{IfErr, IsOkUnless}
+use Rattle.std.proofs.Common.{◌≡◌, ℕ, ◌≤◌, List, [], ◌∷◌, length, take, drop, get_or, slice_get, inr, sym, ap, subst, ◌∙◌, arith}
 use Rattle.std.specs.List.{AllByRecursion}
 use Rattle.std.proofs.lemmas.Option.{same_Some}
 use Rattle.mm_text.specs.declared.token.Token.{Token}
 use Rattle.mm_frame.specs.Sentence.{Sentence}
-use Rattle.mm_frame.specs.Rules.{AllMeant}
 use Rattle.mm_frame.specs.Numbers.{IsNumbered}
 use Rattle.mm_proof.specs.declared.fault.ProofRule.{ProofRule}
-use Rattle.mm_proof.specs.declared.fault.ProofFault.{ProofFault}
-use Rattle.mm_proof.specs.declared.fault.ProofFault.TheVariants.{Rule, Memory}
-use Rattle.mm_proof.specs.Answer.{OnRule, IsUnlessMemory}
 use Rattle.mm_proof.specs.Moves.{Move}
 use Rattle.mm_proof.specs.Tokens.{SayMoves}
-use Rattle.mm_proof.specs.Proof.{IsWhole, IsWholeFault, IsProvedWithin, IsWithin}
+use Rattle.mm_proof.specs.Proof.{IsWhole, IsWholeFault}
 use Rattle.mm_proof.specs.Verified.{OfMoves, ProvesUsingNumbers, ProvesUsing, FailsWith, TokensProve, TokensFail}
 use Rattle.mm_proof.specs.Steps.{AreSteps, IsProofNumber, IsUsableMove}
 use Rattle.mm_proof.specs.Parsed.{OfProof, SaySteps}
 use Rattle.mm_proof.specs.CodeSteps.{IsReading, token_texts}
-use Rattle.mm_proof.proofs.Meaning.{meant_front}
 use Rattle.mm_proof.proofs.Numbered.{one_place}
-use Rattle.mm_proof.proofs.Verdicts.{proved_no_fault, one_fault}
 
 pub reading_said : (st : List Sentence) (id own : ℕ) (t : Sentence) (tokens : List (List ℕ)) (steps : List (Move ℕ)) → IsNumbered st id own t → IsReading st own tokens steps
     → OfProof st id (λ place s. SaySteps st place s tokens steps)
@@ -68,28 +61,6 @@ pub tokens_fail : (limit : ℕ) (st : List Sentence) (id : ℕ) (tokens : List (
     → OfMoves st id steps (λ place s moves. FailsWith limit st place s moves rule step) → OfProof st id (λ place s. TokensFail limit (take place st) s tokens rule step)
 tokens_fail limit st id tokens steps rule step says fails place s proof =
     let said = says place s proof in inr (said.0, said.1, said.2, fails place s said.1 proof said.3)
-
--- ---- exact answers
-
-pub tokens_accepted : (limit : ℕ) → {X : Type 0} (r : Result X ProofFault) (st : List Sentence) (id : ℕ) (tokens : List (List ℕ)) → AllMeant st
-    → IfErr r (λ e. OnRule e (λ rule step. OfProof st id (λ place s. TokensFail limit (take place st) s tokens rule step)))
-    → OfProof st id (λ place s. IsProvedWithin (IsWithin limit) (take place st) s tokens → IsOkUnless r Memory)
-tokens_accepted limit (Ok x) st id tokens all f place s proof p = tt
-tokens_accepted limit (Err Memory) st id tokens all f place s proof p = refl
-tokens_accepted limit (Err (Rule rule step)) st id tokens all f place s proof p =
-    absurd (proved_no_fault (IsWithin limit) (take place st) s tokens rule step (meant_front st place all) p (f place s proof))
-
-pub tokens_refused : (limit : ℕ) → {X : Type 0} (r : Result X ProofFault) (st : List Sentence) (id : ℕ) (tokens : List (List ℕ)) → AllMeant st
-    → ((x : X) → r ≡ Ok x → OfProof st id (λ place s. IsProvedWithin (IsWithin limit) (take place st) s tokens))
-    → IfErr r (λ e. OnRule e (λ rule step. OfProof st id (λ place s. TokensFail limit (take place st) s tokens rule step)))
-    → OfProof st id (λ place s. (rule : ProofRule) (step : ℕ) → TokensFail limit (take place st) s tokens rule step → IsUnlessMemory r (Err (Rule rule step)))
-tokens_refused limit (Ok x) st id tokens all p f place s proof rule step fault =
-    absurd (proved_no_fault (IsWithin limit) (take place st) s tokens rule step (meant_front st place all) (p x refl place s proof) fault)
-tokens_refused limit (Err Memory) st id tokens all p f place s proof rule step fault = inr refl
-tokens_refused limit {X} (Err (Rule other at)) st id tokens all p f place s proof rule step fault =
-    let same = one_fault (IsWithin limit) (take place st) s tokens other rule at step (meant_front st place all) (f place s proof) fault in
-    let refusal : ProofRule → ℕ → Result X ProofFault = λ r n. Err (Rule r n) in
-    inl (ap (λ (r : ProofRule). refusal r at) same.0 ∙ ap (λ (n : ℕ). refusal rule n) same.1)
 
 -- ---- the first of the tokens
 

@@ -4,6 +4,8 @@ use Rattle.std.proofs.lemmas.Option.{same_Some}
 use Rattle.mm_frame.specs.declared.scheme.Scheme.{Scheme}
 use Rattle.mm_frame.specs.Sentence.{Sentence, IsHypothesis}
 use Rattle.mm_frame.specs.Rules.{AllMeant}
+use Rattle.mm_frame.proofs.Meant.{allmeant_front}
+use Rattle.mm_frame.proofs.Labelled.{numbered_get}
 use Rattle.mm_proof.specs.Tree.{Trees, roots, Names, MayStandOver}
 use Rattle.mm_proof.specs.Moves.{name}
 use Rattle.mm_proof.specs.Steps.{IsNumberedMove}
@@ -11,8 +13,6 @@ use Rattle.mm_proof.specs.CodeSteps.{MayBeUsed}
 use Rattle.mm_proof.specs.CodeApply.{IsEarlierScheme}
 use Rattle.mm_proof.specs.Spelled.{IsLabelNumber}
 use Rattle.mm_proof.proofs.Places.{get_take}
-use Rattle.mm_proof.proofs.Meaning.{meant_front}
-use Rattle.mm_proof.proofs.Numbered.{numbered_at}
 use Rattle.mm_proof.proofs.Named.{as_many}
 use Rattle.mm_proof.proofs.OneStep.{hypothesis_or_assertion, one_names}
 use Rattle.mm_proof.proofs.Applying.{names_of, called_of}
@@ -25,10 +25,10 @@ pub width_hypothesis : (st : List Sentence) (place id : ℕ) (label : List ℕ) 
     → MayStandOver (take place st) label below → roots below ≡ 0
 width_hypothesis st place id label below all u h (inl p) = ap roots p.0
 width_hypothesis st place id label below all u h (inr p) =
-    absurd (hypothesis_or_assertion (take place st) u.at p.0 u.s p.1 label (meant_front st place all) (there_before st place id label u) p.3.there u.named p.3.named h p.3.kind)
+    absurd (hypothesis_or_assertion (take place st) u.at p.0 u.s p.1 label (allmeant_front st place all) (there_before st place id label u) p.3.there u.named p.3.named h p.3.kind)
 
 used_move : (st : List Sentence) (place id : ℕ) (label : List ℕ) → MayBeUsed st place label id → IsNumberedMove st (name id) (name label)
-used_move st place id label u = (u.s, label, numbered_at st id u.at u.s u.numbered, u.named, refl)
+used_move st place id label u = (u.s, label, numbered_get st id u.at u.s u.numbered, u.named, refl)
 
 -- an assertion stands over as many as it has hypotheses
 pub width_assertion : (st : List Sentence) (place id : ℕ) (label : List ℕ) (below : Trees) (scheme : Scheme) → AllMeant st → MayBeUsed st place label id → IsEarlierScheme st place id scheme
@@ -42,12 +42,12 @@ width_assertion st place id label below scheme all u is stands =
     go : MayStandOver (take place st) label below → (a : Sentence) (hs : List Sentence) → Names (take place st) label is.at a hs → length hs ≡ length scheme.hypotheses.now
         → roots below ≡ length scheme.hypotheses.now
     go (inl p) a hs names many =
-        absurd (hypothesis_or_assertion (take place st) p.1.0 is.at p.1.1 a label (meant_front st place all) p.1.2 names.there p.1.4.0 names.named p.1.4.1 names.kind)
+        absurd (hypothesis_or_assertion (take place st) p.1.0 is.at p.1.1 a label (allmeant_front st place all) p.1.2 names.there p.1.4.0 names.named p.1.4.1 names.kind)
     go (inr p) a hs names many =
-        p.4 ∙ ap length (one_names (take place st) label p.0 is.at p.1 a p.2 hs (meant_front st place all) p.3 names) ∙ many
+        p.4 ∙ ap length (one_names (take place st) label p.0 is.at p.1 a p.2 hs (allmeant_front st place all) p.3 names) ∙ many
 
 -- the same label may be used
 pub same_use : (st : List Sentence) (place id : ℕ) (used label : List ℕ) (s : Sentence) → MayBeUsed st place used id → IsLabelNumber st id label → MayBeUsed st place label id
 same_use st place id used label s u n =
-    let same : n.s ≡ u.s = same_Some n.s u.s (sym n.there ∙ numbered_at st id u.at u.s u.numbered) in
+    let same : n.s ≡ u.s = same_Some n.s u.s (sym n.there ∙ numbered_get st id u.at u.s u.numbered) in
     record { at = u.at; s = u.s; numbered = u.numbered; named = ap (λ (t : Sentence). t.label) (sym same) ∙ n.named; before = u.before; kind = u.kind }

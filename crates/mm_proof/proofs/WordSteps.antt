@@ -1,9 +1,10 @@
 -- The words of the trees of the moves so far, one move more.
-use Rattle.std.proofs.Common.{◌≡◌, ℕ, zero, suc, ◌+◌, ◌-◌, ◌≤◌, List, [], ◌∷◌, ◌++◌, length, take, drop, refl, sym, ap, subst, ◌∙◌, append_assoc, append-nil, arith}
+use Rattle.std.proofs.Common.{◌≡◌, ℕ, suc, ◌+◌, ◌-◌, ◌≤◌, List, [], ◌∷◌, ◌++◌, length, take, drop, refl, sym, ap, subst, ◌∙◌, append_assoc, append-nil, arith}
 use Rattle.std.specs.List.{AllZip, slice_range}
 use Rattle.std.proofs.lemmas.Option.{same_Some}
 use Rattle.std.proofs.lemmas.List.{length-append}
 use Rattle.std.proofs.Math.Seq.{take-append_seam, drop-append_seam}
+use Rattle.mm_text.proofs.Lists.{zip_push, zip_right, zip_take, zip_drop}
 use Rattle.mm_frame.specs.declared.number.LabelId.{LabelId}
 use Rattle.mm_frame.specs.Sentence.{Sentence}
 use Rattle.mm_proof.specs.declared.words.Part.{Part}
@@ -12,8 +13,6 @@ use Rattle.mm_proof.specs.Tree.{Trees, none, tree, spelling, beside, roots}
 use Rattle.mm_proof.specs.Builders.{IsKept}
 use Rattle.mm_proof.specs.Words.{AreParts, IsPartOf, ArePartsOf, IsLengthOf, AreLabelsOfWord}
 use Rattle.mm_proof.proofs.Making.{roots-beside, spelling-beside}
-use Rattle.mm_proof.proofs.Derived.{zip_push, zip_right}
-use Rattle.mm_proof.proofs.Running.{zip_take}
 
 -- ---- parts side by side
 
@@ -74,20 +73,6 @@ part_order word part t p =
 
 pub part_count : (word : List (List ℕ)) (part : Part) (t : Trees) → IsPartOf word part t → part.end - part.start ≡ length (spelling t)
 part_count word part t p = omega (arith, p.start, p.end)
-
--- what is paired with the word has a part in the same place
-zip_drop : {A B : Type 0} (R : A → B → Type 0) (xs : List A) (ys : List B) (n : ℕ) → AllZip R xs ys → AllZip R (drop n xs) (drop n ys)
-zip_drop R xs ys zero z = z
-zip_drop R [] [] (suc n) z = tt
-zip_drop R [] (y ∷ ys) (suc n) z = absurd z
-zip_drop R (x ∷ xs) [] (suc n) z = absurd z
-zip_drop R (x ∷ xs) (y ∷ ys) (suc n) z = zip_drop R xs ys n z.1
-
-pub zip_join : {A B : Type 0} (R : A → B → Type 0) (xs us : List A) (ys vs : List B) → AllZip R xs ys → AllZip R us vs → AllZip R (xs ++ us) (ys ++ vs)
-zip_join R [] us [] vs z w = w
-zip_join R [] us (y ∷ ys) vs z w = absurd z
-zip_join R (x ∷ xs) us [] vs z w = absurd z
-zip_join R (x ∷ xs) us (y ∷ ys) vs z w = (z.0, zip_join R xs us ys vs z.1 w)
 
 part_spells : (word : List (List ℕ)) (part : Part) (t : Trees) → IsPartOf word part t → slice_range word part.start part.end ≡ spelling t
 part_spells word part t p =

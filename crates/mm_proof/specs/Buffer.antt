@@ -1,7 +1,7 @@
 -- Entries of a flat store: ranges of its buffer.
 use Rattle.std.specs.Prelude.{◌≡◌, ℕ, ◌≤◌, List, map, slice_get, slice_range, Some}
 use Rattle.mm_frame.specs.declared.number.Sym.{Sym}
-use Rattle.mm_proof.specs.declared.flat.Entry.{Entry}
+use Rattle.mm_proof.specs.declared.entry.Entry.{Entry}
 use Rattle.mm_proof.specs.Stores.{numbers_in}
 
 -- the expressions that the entries name

@@ -8,7 +8,7 @@ ghost use Rattle.mm_proof.specs.Buffer.{AreParts, parts_of};
 ghost use Rattle.mm_proof.specs.Stores.{numbers_in};
 ghost use Rattle.mm_proof.specs.CodeVerify.{all_said_by, IsWithinPlaces};
 
-use crate::flat::Entry;
+use crate::entry::Entry;
 use crate::said::{put_part_behind, put_pieces};
 use mm_frame::{ShortPiece, Sym};
 use std::alloc::{AllocError, Global};

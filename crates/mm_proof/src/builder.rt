@@ -1,6 +1,7 @@
 //! What is built from the moves of a proof, one after the other.
 
 ghost use Rattle.std.specs.Prelude.{◌≡◌, ◌<◌, ◌≤◌, ℕ, List, [], take, length, IfOk, IfErr};
+ghost use Rattle.mm_text.specs.Files.{most_bytes};
 ghost use Rattle.mm_frame.specs.Form.{IsSound};
 ghost use Rattle.mm_proof.specs.Tree.{Trees, tree, none, spelling, MayStandOver, roots};
 ghost use Rattle.mm_proof.specs.OneTree.{MakeOneTree};
@@ -143,7 +144,7 @@ pub(crate) fn build<B: Builder>(
     requires nothing { B.holds builder.old builder.old book.now.statements [] none [] [] 0 }
     requires marks { (now : B) → KeepsItem (B.holds builder.old now book.now.statements) }
     ensures sound { IsSound book.now.statements }
-    ensures few { length steps.now.moves ≤ 1073741824 }
+    ensures few { length steps.now.moves ≤ most_bytes }
     ensures built { IfOk result (λ item. OfMoves book.now.statements id.0 steps.now.moves
         (λ place s moves. OfTree (take place book.now.statements) moves (λ t.
         IsBuilt (B.holds builder.old builder.new book.now.statements) moves t item))) }

@@ -9,16 +9,10 @@ ghost use Rattle.mm_proof.specs.Stores.{numbers_in};
 ghost use Rattle.mm_proof.specs.CodeVerify.{said_by, all_said_by, IsWithinPlaces};
 
 use crate::buffer::Buffer;
+use crate::entry::{Entry, value_start};
 use crate::store::{Store, put_last};
 use mm_frame::{Piece, ShortPiece, Sym};
 use std::alloc::{AllocError, Global};
-
-/// Where an expression stands in the buffer.
-#[derive(Clone, Copy)]
-pub(crate) struct Entry {
-    pub(crate) start: usize,
-    pub(crate) end: usize,
-}
 
 // The buffer is so long, at least, when its end is cut off for the first time.
 const FIRST_CUT: usize = 1 << 22;
@@ -130,21 +124,6 @@ fn append(symbols: &mut Buffer, expression: &[Sym]) -> Result<(), AllocError>
             symbols.append(expression)?;
             Ok(())
         }
-    }
-}
-
-// Where the value of an entry begins: behind its first symbol.
-pub(crate) fn value_start(entry: Entry) -> usize
-    requires { entry.start ≤ entry.end }
-    ensures order { entry.start ≤ result }
-    ensures within { result ≤ entry.end }
-    ensures behind { entry.start < entry.end → result ≡ entry.start + 1 }
-    ensures none { entry.end ≤ entry.start → result ≡ entry.end }
-{
-    if entry.start < entry.end {
-        entry.start + 1
-    } else {
-        entry.end
     }
 }
 

@@ -16,9 +16,9 @@ ghost use Rattle.mm_proof.specs.CodeForm.{AllNew, SomeOld, IsAfterAssertion, Are
 ghost use Rattle.mm_proof.specs.CodeForm.{SomeMarkLoose};
 
 use crate::fault::{ProofFault, ProofRule};
+use crate::front::is_byte;
 use crate::label_set::LabelSet;
 use crate::moves::NumberedMove;
-use crate::parse::is_byte;
 use crate::site::Site;
 use crate::used::is_assertion;
 use mm_frame::{Book, Hypothesis, LabelId};

@@ -1,7 +1,7 @@
 //! The known front of an incomplete proof: what stands before its first unknown step (the Metamath
 //! book, section 4.4.4 and appendix B).
 
-ghost use Rattle.std.specs.Prelude.{◌≡◌, ◌≤◌, ◌++◌, take, slice_get, length, IfOk};
+ghost use Rattle.std.specs.Prelude.{◌≡◌, ◌↔◌, ◌≤◌, [], ◌∷◌, ◌++◌, take, slice_get, length, IfOk, IsTrue};
 ghost use Rattle.std.specs.List.{position_or_len};
 ghost use Rattle.mm_text.specs.Items.{spells};
 ghost use Rattle.mm_proof.specs.Tokens.{closing_token};
@@ -11,6 +11,16 @@ ghost use Rattle.mm_proof.specs.CodeSteps.{token_texts};
 
 use mm_text::Token;
 use std::alloc::{AllocError, Global};
+
+/// Whether the token is the one byte.
+pub(crate) fn is_byte(token: &[u8], byte: u8) -> bool
+    ensures { IsTrue result ↔ (token.now ≡ byte ∷ []) }
+{
+    match token {
+        [only] => *only == byte,
+        _ => false,
+    }
+}
 
 // The place of the first `?` among the bytes, or how many they are.
 fn question_place(text: &[u8]) -> usize

@@ -6,6 +6,7 @@ mod buffer;
 mod builder;
 mod call;
 mod call_table;
+mod entry;
 mod expansion;
 mod fault;
 mod flat;

@@ -1,6 +1,7 @@
 //! The moves of a proof, with numbers for labels.
 
 ghost use Rattle.std.specs.Prelude.{◌≡◌, ◌≤◌, length};
+ghost use Rattle.mm_text.specs.Files.{most_bytes};
 
 use crate::profile::Profile;
 use mm_frame::LabelId;
@@ -25,7 +26,7 @@ pub struct Steps {
     pub(crate) front: bool,
     pub(crate) moves: Vec<NumberedMove>,
     /// As many as the tokens of a proof have bytes, at most.
-    ghost few: { length moves.items ≤ 1073741824 },
+    ghost few: { length moves.items ≤ most_bytes },
 }
 
 impl Model for Steps {

@@ -3,6 +3,7 @@
 
 ghost use Rattle.std.specs.Prelude.{◌≡◌, ◌≤◌, ◌<◌, ◌↔◌, ◌++◌, ℕ, List, [], length, take, Contains};
 ghost use Rattle.std.specs.Prelude.{All, IfOk, OnOk, false};
+ghost use Rattle.mm_text.specs.Files.{most_bytes};
 ghost use Rattle.mm_code.specs.declared.code.Code.{Code};
 ghost use Rattle.mm_code.specs.Letters.{HasSpelling, IsExact};
 ghost use Rattle.mm_proof.specs.declared.subtrees.Subtree.{Subtree};
@@ -98,7 +99,7 @@ fn encode(
     one: SharedStep,
 ) -> Result<(), AllocError>
     requires labels { length labels.now ≤ 2147483648 }
-    requires kept { length kept.old ≤ 1073741824 }
+    requires kept { length kept.old ≤ most_bytes }
     requires known { (t : Subtree) → one ≡ Make t → Contains labels.now t.label }
     requires made { (t : Subtree) → one ≡ Repeat t → Contains kept.old t }
     ensures said { OnOk result ((here : List Code) × (codes.new.items ≡ codes.old.items ++ here)
@@ -135,7 +136,7 @@ fn codes_of(
     steps: &[SharedStep],
 ) -> Result<Vec<Code>, AllocError>
     requires labels { length labels.now ≤ 2147483648 }
-    requires few { length steps.now ≤ 1073741824 }
+    requires few { length steps.now ≤ most_bytes }
     requires known { (t : Subtree) → Contains steps.now (Make t) → Contains labels.now t.label }
     requires each { (t : Subtree) → Contains steps.now (Repeat t) → Contains repeated.now t }
     requires made { AreMadeBefore steps.now }
@@ -159,8 +160,8 @@ fn pack(
     hypotheses: &[Hypothesis],
     steps: &[SharedStep],
 ) -> Result<Packed, AllocError>
-    requires hypotheses { length hypotheses.now < 1073741824 }
-    requires steps { length steps.now ≤ 1073741824 }
+    requires hypotheses { length hypotheses.now < most_bytes }
+    requires steps { length steps.now ≤ most_bytes }
     requires made { AreMadeBefore steps.now }
     ensures packed { IfOk result (λ packed. AreStepsPacked (label_ids hypotheses.now) steps.now
         (ids_in packed.labels.items) packed.codes.items) }

@@ -5,6 +5,7 @@ ghost use Rattle.std.specs.Prelude.{◌≡◌, ◌↔◌, ◌+◌, ◌≤◌, �
 ghost use Rattle.std.specs.Prelude.{◌++◌, length, map, take, slice_get, Some, Ok, Err, true, false};
 ghost use Rattle.std.specs.Prelude.{IsTrue, IfOk, IfErr, OnOk, MatchOption};
 ghost use Rattle.std.specs.List.{AllZip, AllByRecursion, flat_map, sum_by};
+ghost use Rattle.mm_text.specs.Files.{most_bytes};
 ghost use Rattle.mm_code.specs.Letters.{HasSpelling, Letters, LettersBreak};
 ghost use Rattle.mm_frame.specs.Sentence.{Sentence};
 ghost use Rattle.mm_frame.specs.Form.{IsSound};
@@ -27,7 +28,7 @@ ghost use Rattle.mm_proof.specs.Sites.{IsSite};
 
 use crate::fault::{ProofFault, ProofRule};
 use crate::form::judge_form;
-use crate::front::known_front;
+use crate::front::{is_byte, known_front};
 use crate::labels::fill_numbers;
 use crate::moves::{NumberedMove, Parsed, Steps};
 use crate::picked::{Picked, fill_marked, fill_picked, unmark};
@@ -176,16 +177,6 @@ fn fill_moves(
     }
     fill_marked(&mut picked.ids, entries, &picked.marks)?;
     Ok(())
-}
-
-/// Whether the token is the one byte.
-pub(crate) fn is_byte(token: &[u8], byte: u8) -> bool
-    ensures { IsTrue result ↔ (token.now ≡ byte ∷ []) }
-{
-    match token {
-        [only] => *only == byte,
-        _ => false,
-    }
 }
 
 // The place of the first `)`.
@@ -452,7 +443,7 @@ fn steps_of(
 ) -> Result<Steps, ProofFault>
     requires proof { (place : ℕ) × (s : Sentence) × IsProofNumber book.now.statements id.0 place s }
     requires filled { AllByRecursion (λ t. 1 ≤ length t) (token_texts tokens.now) }
-    requires room { sum_by length (token_texts tokens.now) ≤ 1073741824 }
+    requires room { sum_by length (token_texts tokens.now) ≤ most_bytes }
     ensures steps { IfOk result (λ steps. OfProof book.now.statements id.0
         (λ place s. SaySteps book.now.statements place s (token_texts tokens.now) steps.moves)) }
     ensures usable { IfOk result (λ steps. AreSteps book.now.statements id.0 steps.moves) }
@@ -484,7 +475,7 @@ fn front_steps(
 ) -> Result<Steps, ProofFault>
     requires proof { (place : ℕ) × (s : Sentence) × IsProofNumber book.now.statements id.0 place s }
     requires filled { AllByRecursion (λ t. 1 ≤ length t) (token_texts tokens.now) }
-    requires room { sum_by length (token_texts tokens.now) ≤ 1073741824 }
+    requires room { sum_by length (token_texts tokens.now) ≤ most_bytes }
     ensures steps { IfOk result (λ steps. OfProof book.now.statements id.0 (λ place s.
         SaySteps book.now.statements place s (known_front (token_texts tokens.now)) steps.moves)) }
     ensures usable { IfOk result (λ steps. AreSteps book.now.statements id.0 steps.moves) }
@@ -530,7 +521,7 @@ impl Steps {
         requires proof { (place : ℕ) × (s : Sentence)
             × IsProofNumber book.now.statements id.0 place s }
         requires filled { AllByRecursion (λ t. 1 ≤ length t) (texts tokens.now) }
-        requires room { sum_by length (texts tokens.now) ≤ 1073741824 }
+        requires room { sum_by length (texts tokens.now) ≤ most_bytes }
         // A proof with an unknown step is told apart.
         ensures incomplete { (steps : ReadSteps) → result ≡ Ok (Parsed.Incomplete steps)
             → IsIncomplete (texts tokens.now) × (steps.front ≡ true) }

@@ -4,6 +4,7 @@ ghost use Rattle.std.specs.Prelude.{◌≡◌, ◌≢◌, ℕ, ◌+◌, ◌<◌,
 ghost use Rattle.std.specs.Prelude.{IfOk, IfErr, OnOk, OnErr, IsOkUnless};
 ghost use Rattle.mm_text.specs.declared.statement.Kind.TheVariants.{Closing};
 ghost use Rattle.mm_text.specs.Statement.{plain_statement, HasForm, bytes_in};
+ghost use Rattle.mm_text.specs.Files.{most_bytes};
 ghost use Rattle.mm_frame.specs.declared.rule.MeaningRule.{MeaningRule};
 ghost use Rattle.mm_frame.specs.declared.answer.RuleFault.TheVariants.{Rule, Memory};
 ghost use Rattle.mm_frame.specs.Sentence.{Sentence, sentence_in};
@@ -26,8 +27,8 @@ ghost use Rattle.mm_proof.specs.CodeSteps.{ids_in, token_texts};
 
 use crate::fault::{ProofFault, ProofRule};
 use crate::flat::Flat;
-use crate::front::known_front;
-use crate::parse::{ParseLists, fill_steps, fill_under, is_byte, is_incomplete, read_compressed};
+use crate::front::{is_byte, known_front};
+use crate::parse::{ParseLists, fill_steps, fill_under, is_incomplete, read_compressed};
 use crate::profile::Profile;
 use crate::run::judgement_of_codes;
 use crate::site::Site;
@@ -130,7 +131,7 @@ impl<'a> Prover<'a> {
         requires closes { statement.now.kind ≡ Closing
             → close_marks self.old.book.statements < open_marks self.old.book.statements }
         requires room { self.old.book.bytes
-            + bytes_in (plain_statement statement.now) ≤ 1073741824 }
+            + bytes_in (plain_statement statement.now) ≤ most_bytes }
         ensures ok { IfOk result (λ taken.
             IsMeant self.old.book.statements (sentence_in statement.now)
             × (self.new.book ≡ record {

@@ -11,7 +11,7 @@ ghost use Rattle.mm_proof.specs.Buffer.{AreParts, parts_of};
 ghost use Rattle.mm_proof.specs.Stores.{numbers_in};
 ghost use Rattle.mm_proof.specs.CodeVerify.{said_by, all_said_by, IsWithinPlaces};
 
-use crate::flat::{Entry, value_start};
+use crate::entry::{Entry, value_start};
 use mm_frame::{ShortPiece, Sym};
 
 /// Puts a copy of a part of those that are used behind them.

@@ -4,6 +4,7 @@ use Rattle.std.proofs.lemmas.List.{length-drop}
 use Rattle.std.proofs.lemmas.Result.{IfOk-weaker}
 use Rattle.mm_frame.specs.Sentence.{Sentence}
 use Rattle.mm_frame.specs.Pieces.{variables_of}
+use Rattle.mm_frame.proofs.Patterns.{variables_counted}
 use Rattle.mm_proof.specs.declared.fault.ProofRule.{ProofRule}
 use Rattle.mm_proof.specs.declared.fault.ProofRule.TheVariants.{P8, P9}
 use Rattle.mm_proof.specs.CodeSteps.{label_ids}
@@ -11,7 +12,6 @@ use Rattle.mm_proof.specs.CodeVerify.{AreBelow, AreStackEntries}
 use Rattle.mm_proof.specs.CodeRun.{StopsAt}
 use Rattle.mm_proof.proofs.Named.{as_many}
 use Rattle.mm_proof.proofs.Patterned.{its_within}
-use Rattle.mm_proof.proofs.Values.{variables_count}
 use Rattle.mm_proof.proofs.Applying.{stops_P8, stops_P9, called_of, ready_of, entries_drop, entries_below}
 use Rattle.mm_proof.proofs.apply.apply.Goals as goal
 
@@ -55,7 +55,7 @@ conclude-requires-clause-within g c =
     let xs = c.args.scheme.now.hypotheses.now in
     let stack = g.S.Store.stack c.args.store.now in
     let base = c.len-count.result - length xs in
-    let size : length (variables_of xs) ≡ length (drop base stack) = omega (arith, length-drop base stack, c.len-count.ensures, c.if-count-scheme.false, variables_count xs) in
+    let size : length (variables_of xs) ≡ length (drop base stack) = omega (arith, length-drop base stack, c.len-count.ensures, c.if-count-scheme.false, variables_counted xs) in
     its_within c.args.book.now.statements (variables_of xs) _ of.s c.args.scheme.now.conclusion.now size of.concluded
 
 pub returns-in-Some-rule_broken-clause-fault : goal.returns-in-Some-rule_broken-clause-fault

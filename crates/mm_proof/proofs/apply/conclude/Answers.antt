@@ -1,11 +1,11 @@
 use Rattle.std.proofs.Common.{◌≡◌, ℕ, List, length, drop, take, refl, sym, subst, arith}
 use Rattle.std.proofs.lemmas.List.{length-drop}
 use Rattle.mm_frame.specs.Pieces.{variables_of}
+use Rattle.mm_frame.proofs.Patterns.{variables_counted}
 use Rattle.mm_proof.specs.declared.fault.ProofRule.{ProofRule}
 use Rattle.mm_proof.specs.declared.fault.ProofRule.TheVariants.{L1}
 use Rattle.mm_proof.specs.CodeRun.{CarriesOn, StopsAt}
 use Rattle.mm_proof.specs.CodeVerify.{all_said_by, AreStackEntries}
-use Rattle.mm_proof.proofs.Values.{variables_count}
 use Rattle.mm_proof.proofs.Applying.{stops_L1, carries, made_entries, match_true, match_false}
 use Rattle.mm_proof.proofs.apply.conclude.Goals as goal
 
@@ -14,7 +14,7 @@ returns-then-not-branch-clause-fault g c rule step is =
     let stack = g.S.Store.stack c.args.store.now in
     let xs = c.args.scheme.now.hypotheses.now in
     let vs = variables_of xs in
-    let count : length (drop c.args.base stack) ≡ length vs = omega (arith, length-drop c.args.base stack, c.requires.entries, variables_count xs) in
+    let count : length (drop c.args.base stack) ≡ length vs = omega (arith, length-drop c.args.base stack, c.requires.entries, variables_counted xs) in
     let over = (match_false c.in_ok-conclude.field-0 _ _ c.if-not-branch.true c.in_ok-conclude.ensures.said).0 in
     let same : L1 ≡ rule = cc in
     let number : step ≡ c.args.number = cc in (
@@ -28,7 +28,7 @@ returns-clause-carried g c st place id at sound ready =
     let stack = g.S.Store.stack c.args.store.now in
     let xs = c.args.scheme.now.hypotheses.now in
     let vs = variables_of xs in
-    let count : length (drop c.args.base stack) ≡ length vs = omega (arith, length-drop c.args.base stack, c.requires.entries, variables_count xs) in
+    let count : length (drop c.args.base stack) ≡ length vs = omega (arith, length-drop c.args.base stack, c.requires.entries, variables_counted xs) in
     let made = match_true c.in_ok-conclude.field-0 _ _ c.if-not-branch.false c.in_ok-conclude.ensures.said in
     let whole = all_said_by (drop c.args.base stack) c.args.scheme.now.conclusion.now in
     subst (λ (l : List (List ℕ)). CarriesOn c.args.limit st place id stack l) (sym made.1)
@@ -39,7 +39,7 @@ returns-clause-entries g c st place id at sound ready entries =
     let stack = g.S.Store.stack c.args.store.now in
     let xs = c.args.scheme.now.hypotheses.now in
     let vs = variables_of xs in
-    let count : length (drop c.args.base stack) ≡ length vs = omega (arith, length-drop c.args.base stack, c.requires.entries, variables_count xs) in
+    let count : length (drop c.args.base stack) ≡ length vs = omega (arith, length-drop c.args.base stack, c.requires.entries, variables_counted xs) in
     let made = match_true c.in_ok-conclude.field-0 _ _ c.if-not-branch.false c.in_ok-conclude.ensures.said in
     let whole = all_said_by (drop c.args.base stack) c.args.scheme.now.conclusion.now in
     subst (λ (l : List (List ℕ)). AreStackEntries st (take place st) l) (sym made.1)

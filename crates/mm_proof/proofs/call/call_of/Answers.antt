@@ -1,6 +1,7 @@
 use Rattle.std.proofs.Common.{◌≡◌, ◌<◌, ℕ, sym, subst}
 use Rattle.mm_frame.specs.Sentence.{IsHypothesis, IsAssertion}
-use Rattle.mm_proof.proofs.Numbered.{numbered_at, one_place}
+use Rattle.mm_frame.proofs.Labelled.{numbered_get}
+use Rattle.mm_proof.proofs.Numbered.{one_place}
 use Rattle.mm_proof.proofs.Applying.{is_hypothesis_kind, is_assertion_kind}
 use Rattle.mm_proof.proofs.Calls.{scheme_of}
 use Rattle.mm_proof.proofs.call.call_of.Goals as goal
@@ -8,12 +9,12 @@ use Rattle.mm_proof.proofs.call.call_of.Goals as goal
 pub frame-requires : goal.frame-requires
 frame-requires c =
     let u = c.requires.2 in
-    let there = numbered_at c.args.book.now.statements c.args.id.0 u.at u.s u.numbered in
+    let there = numbered_get c.args.book.now.statements c.args.id.0 u.at u.s u.numbered in
     (u.at, u.s, u.numbered, subst IsAssertion (sym (c.kind.ensures u.s there)) (is_assertion_kind c.kind.result c.in_default.not-Floating c.in_default.not-Essential))
 
 pub returns-in-Floating : goal.returns-in-Floating
 returns-in-Floating c place label u =
-    let there = numbered_at c.args.book.now.statements c.args.id.0 u.at u.s u.numbered in
+    let there = numbered_get c.args.book.now.statements c.args.id.0 u.at u.s u.numbered in
     (label, u, subst IsHypothesis (sym (c.kind.ensures u.s there)) (is_hypothesis_kind c.kind.result c.in-Floating.is), c.expression.ensures u.s there)
 
 pub returns-in_default : goal.returns-in_default

@@ -3,7 +3,7 @@ use Rattle.mm_frame.specs.Sentence.{Sentence}
 use Rattle.mm_frame.specs.Active.{IsActive}
 use Rattle.mm_frame.specs.Numbers.{IsNumbered}
 use Rattle.std.proofs.lemmas.Bool.{false≢true}
-use Rattle.mm_proof.proofs.Meaning.{some_in_front}
+use Rattle.mm_frame.proofs.Needed.{some_later}
 use Rattle.mm_proof.proofs.Places.{get_take}
 use Rattle.mm_proof.proofs.Numbered.{numbers_order, not_earlier}
 use Rattle.mm_proof.proofs.labels.use_of.Goals as goal
@@ -55,4 +55,4 @@ returns-in_default-2 c =
     not_earlier _ _ f.0 f.1 _ _ _ _ c.in-Hypothesis.ensures.sound.0 f.2 f.3 c.requires.own.1 (omega arith)
 
 pub returns-in_default-3 : goal.returns-in_default-3
-returns-in_default-3 c h = c.in_default.ensures.found (some_in_front _ _ _ h)
+returns-in_default-3 c h = c.in_default.ensures.found (some_later _ _ _ h)

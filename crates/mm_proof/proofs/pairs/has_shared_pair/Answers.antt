@@ -2,22 +2,22 @@ use Rattle.std.proofs.Common.{drop, take, arith}
 use Rattle.std.proofs.lemmas.Option.{slice_get_within, slice_get-get_or}
 use Rattle.mm_proof.specs.Tree.{ShareNoVariable}
 use Rattle.mm_frame.specs.Pieces.{variables_of}
+use Rattle.mm_frame.proofs.Patterns.{variables_counted}
 use Rattle.mm_proof.specs.CodeVerify.{names_at, value_of, pairs_in}
 use Rattle.mm_proof.proofs.Shared.{pair_at, pairs_more, pairs_length, no_pair}
-use Rattle.mm_proof.proofs.Values.{variables_count}
 use Rattle.mm_proof.proofs.pairs.has_shared_pair.Goals as goal
 
 pub is_shared_pair-requires-clause-first : goal.is_shared_pair-requires-clause-first
 is_shared_pair-requires-clause-first g c =
     let placed = c.requires.places c.loop-pair.pair-index _ (slice_get-get_or c.args.scheme.now.pairs.now c.loop-pair.pair-index no_pair c.loop-pair-test.true) in
     let within = placed.0.within in
-    omega (arith, within, variables_count c.args.scheme.now.hypotheses.now, c.requires.entries)
+    omega (arith, within, variables_counted c.args.scheme.now.hypotheses.now, c.requires.entries)
 
 pub is_shared_pair-requires-clause-second : goal.is_shared_pair-requires-clause-second
 is_shared_pair-requires-clause-second g c =
     let placed = c.requires.places c.loop-pair.pair-index _ (slice_get-get_or c.args.scheme.now.pairs.now c.loop-pair.pair-index no_pair c.loop-pair-test.true) in
     let within = placed.1.within in
-    omega (arith, within, variables_count c.args.scheme.now.hypotheses.now, c.requires.entries)
+    omega (arith, within, variables_counted c.args.scheme.now.hypotheses.now, c.requires.entries)
 
 pub returns-then-is_shared_pair : goal.returns-then-is_shared_pair
 returns-then-is_shared_pair g c =

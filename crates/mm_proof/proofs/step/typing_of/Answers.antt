@@ -2,8 +2,8 @@ use Rattle.std.proofs.Common.{◌≡◌, None, inl, inr, arith, subst, sym, ◌�
 use Rattle.std.proofs.lemmas.Option.{slice_get_within, same_Some}
 use Rattle.std.proofs.lemmas.Bool.{false≢true, cases_lt}
 use Rattle.mm_frame.specs.Pieces.{variables_of}
+use Rattle.mm_frame.proofs.Patterns.{variables_counted}
 use Rattle.mm_proof.proofs.Named.{hypothesis_at, typing_at, typing_some, entry_at, entry_below, each_more, as_many, no_hypothesis}
-use Rattle.mm_proof.proofs.Values.{variables_count}
 use Rattle.mm_proof.proofs.step.typing_of.Goals as goal
 use Rattle.mm_proof.proofs.step.typing_of.Goals.{then-floating, else-floating}
 
@@ -49,4 +49,4 @@ returns-clause-codes g c st have below hs are i h entry p q =
 
 pub returns-clause-floating : goal.returns-clause-floating
 returns-clause-floating g c floating is all k less =
-    c.loop-index.invariant.1 (same_Some c.loop-index.floating floating is ∙ all) k (omega (arith, variables_count c.args.hypotheses.now, c.loop-index-test.false))
+    c.loop-index.invariant.1 (same_Some c.loop-index.floating floating is ∙ all) k (omega (arith, variables_counted c.args.hypotheses.now, c.loop-index-test.false))

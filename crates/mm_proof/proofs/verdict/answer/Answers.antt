@@ -1,5 +1,6 @@
 use Rattle.std.proofs.Common.{ℕ, List, Result, Err, take, sym, subst, ◌∙◌}
 use Rattle.mm_frame.specs.declared.number.LabelId.{LabelId}
+use Rattle.mm_frame.proofs.Meant.{allmeant_front}
 use Rattle.mm_proof.specs.declared.fault.ProofFault.{ProofFault}
 use Rattle.mm_proof.specs.Proof.{IsWithin}
 use Rattle.mm_proof.specs.Profiles.{limit_of}
@@ -7,7 +8,6 @@ use Rattle.mm_proof.specs.CodeSteps.{ids_in}
 use Rattle.mm_proof.specs.Verified.{ProvesUsing}
 use Rattle.mm_proof.proofs.Ending.{same_moves, seen_moves, seen_limit}
 use Rattle.mm_proof.proofs.Answering.{on_rule_map}
-use Rattle.mm_proof.proofs.Meaning.{meant_front}
 use Rattle.mm_proof.proofs.Exact.{accepts, refuses}
 use Rattle.mm_proof.proofs.verdict.answer.Goals as goal
 
@@ -18,16 +18,16 @@ returns-in_ok-labels-in-Ok-clause-proved g c place s moves proof numbered =
 
 pub returns-in_ok-labels-in-Ok-clause-refuses : goal.returns-in_ok-labels-in-Ok-clause-refuses
 returns-in_ok-labels-in-Ok-clause-refuses g c place s moves proof numbered rule step fault =
-    refuses (IsWithin (limit_of c.args.steps.now.profile)) (take place c.args.book.now.statements) s moves _ (meant_front c.args.book.now.statements place c.judgement.ensures.sound.0)
+    refuses (IsWithin (limit_of c.args.steps.now.profile)) (take place c.args.book.now.statements) s moves _ (allmeant_front c.args.book.now.statements place c.judgement.ensures.sound.0)
     (λ x is. ((rw (seen_limit c.steps.view_is) at c.in-Ok.ensures.proved) place s moves proof (same_moves c.args.book.now.statements _ _ _ moves c.deref.ensures.value (seen_moves c.steps.view_is) numbered)).0) tt rule step fault
 
 pub returns-in-Err-clause-accepts : goal.returns-in-Err-clause-accepts
 returns-in-Err-clause-accepts g c place s moves proof numbered p =
     let r : Result (List ℕ) ProofFault = Err c.in-Err.fault in
-    accepts (IsWithin (limit_of c.args.steps.now.profile)) (take place c.args.book.now.statements) s moves r (meant_front c.args.book.now.statements place c.judgement.ensures.sound.0)
+    accepts (IsWithin (limit_of c.args.steps.now.profile)) (take place c.args.book.now.statements) s moves r (allmeant_front c.args.book.now.statements place c.judgement.ensures.sound.0)
     (on_rule_map c.in-Err.fault _ _ (λ rule step h. h place s moves proof (same_moves c.args.book.now.statements _ _ _ moves c.deref.ensures.value (seen_moves c.steps.view_is) numbered)) (rw (seen_limit c.steps.view_is) at c.in-Err.ensures.fault)) p
 
 pub returns-in-Err-clause-refuses : goal.returns-in-Err-clause-refuses
 returns-in-Err-clause-refuses g c place s moves proof numbered rule step fault =
-    refuses (IsWithin (limit_of c.args.steps.now.profile)) (take place c.args.book.now.statements) s moves (Err c.in-Err.fault) (meant_front c.args.book.now.statements place c.judgement.ensures.sound.0)
+    refuses (IsWithin (limit_of c.args.steps.now.profile)) (take place c.args.book.now.statements) s moves (Err c.in-Err.fault) (allmeant_front c.args.book.now.statements place c.judgement.ensures.sound.0)
     (λ x is. absurd cc) (on_rule_map c.in-Err.fault _ _ (λ r n h. h place s moves proof (same_moves c.args.book.now.statements _ _ _ moves c.deref.ensures.value (seen_moves c.steps.view_is) numbered)) (rw (seen_limit c.steps.view_is) at c.in-Err.ensures.fault)) rule step fault

@@ -1,10 +1,10 @@
 use Rattle.std.proofs.Common.{rules, ◌≡◌, ℕ, List, [], ◌∷◌, ◌++◌, length, sym, subst, arith}
 use Rattle.std.specs.Vec.{vec_len}
 use Rattle.std.proofs.lemmas.Slice.Zip.{AllZip-long}
+use Rattle.mm_text.proofs.Lists.{zip_push}
 use Rattle.mm_frame.specs.declared.number.LabelId.{LabelId}
 use Rattle.mm_proof.specs.Tree.{tree, none, spelling, beside}
 use Rattle.mm_proof.specs.Spelled.{IsLabelNumber, AreLabelsOf}
-use Rattle.mm_proof.proofs.Derived.{zip_push}
 use Rattle.mm_proof.proofs.WordSteps.{spelling_over, parts_make}
 use Rattle.mm_proof.proofs.words.VecLabelIdBuilder.make.Goals as goal
 
