@@ -15,9 +15,10 @@ use Rattle.mm_proof.specs.Moves.{Move, name, again, mark, MakesOne, Makes}
 use Rattle.mm_proof.specs.OneTree.{MakeTree}
 use Rattle.mm_proof.specs.Steps.{IsNumberedMove, AreNumberedMoves, AreSteps, IsProofNumber}
 use Rattle.mm_proof.specs.Spelled.{IsLabelNumber}
-use Rattle.mm_proof.specs.CodeSteps.{MayBeUsed, move_in, moves_in}
-use Rattle.mm_proof.specs.CodeRun.{MayBeMade}
-use Rattle.mm_proof.specs.Builders.{Holding, MakesItem, IsKept, RepeatsItem, KeepsItem, IsFull, IsTooLong, MakeTreeAt, IsBuilt}
+use Rattle.mm_proof.specs.Plain.{move_in, moves_in}
+use Rattle.mm_proof.specs.Mirror.CodeSteps.{MayBeUsed}
+use Rattle.mm_proof.specs.Mirror.CodeRun.{MayBeMade}
+use Rattle.mm_proof.specs.Mirror.Builders.{Holding, MakesItem, IsKept, RepeatsItem, KeepsItem, IsFull, IsTooLong, MakeTreeAt, IsBuilt}
 use Rattle.mm_proof.proofs.Making.{roots-beside, spelling-beside}
 use Rattle.mm_proof.proofs.Running.{move_at, last_split}
 use Rattle.mm_proof.proofs.Ending.{steps_made}

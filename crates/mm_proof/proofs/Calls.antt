@@ -7,9 +7,9 @@ use Rattle.mm_frame.specs.Numbers.{IsNumbered, IsAssertionNumber}
 use Rattle.mm_frame.specs.FramePlace.{AreHypotheses, HaveTypings, ArePairs}
 use Rattle.mm_frame.specs.Pieces.{variables_of, AreItsPieces, HavePatterns, HavePlaces}
 use Rattle.mm_frame.proofs.Labelled.{numbered_get}
-use Rattle.mm_proof.specs.CodeSteps.{label_ids}
-use Rattle.mm_proof.specs.CodeVerify.{pairs_in}
-use Rattle.mm_proof.specs.CodeApply.{IsEarlierScheme, IsCallOf, IsOfAssertion}
+use Rattle.mm_proof.specs.Plain.{label_ids}
+use Rattle.mm_proof.specs.Mirror.CodeVerify.{pairs_in}
+use Rattle.mm_proof.specs.Mirror.CodeApply.{IsEarlierScheme, IsCallOf, IsOfAssertion}
 use Rattle.mm_proof.specs.declared.call.Call.{Call}
 use Rattle.mm_proof.specs.declared.call.Call.TheVariants as call_kinds
 use Rattle.mm_proof.proofs.OneStep.{not_both_kinds}

@@ -12,8 +12,9 @@ use Rattle.mm_frame.specs.Sentence.{Sentence}
 use Rattle.mm_frame.specs.declared.number.LabelId.{LabelId}
 use Rattle.mm_proof.specs.declared.call.Call.{Call}
 use Rattle.mm_proof.specs.Moves.{Move, name, again}
-use Rattle.mm_proof.specs.CodeSteps.{MayBeUsed, MayAllBeUsed, NumberSays, IsReading, code_move, code_moves, entry_move, move_by, ids_in}
-use Rattle.mm_proof.specs.CodeApply.{IsCallOf}
+use Rattle.mm_proof.specs.Plain.{ids_in}
+use Rattle.mm_proof.specs.Mirror.CodeSteps.{MayBeUsed, MayAllBeUsed, NumberSays, IsReading, code_move, code_moves, entry_move, move_by}
+use Rattle.mm_proof.specs.Mirror.CodeApply.{IsCallOf}
 use Rattle.mm_proof.proofs.Compressed.{codes_say}
 
 -- a front with one code more

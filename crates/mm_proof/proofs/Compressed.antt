@@ -29,7 +29,8 @@ use Rattle.mm_proof.specs.Moves.{Move, name, again}
 use Rattle.mm_proof.specs.Tokens.{IsCompressed, AreLetters, opening_token, closing_token}
 use Rattle.mm_proof.specs.Proof.{proof_rank, BreaksWhole, IsWholeFault}
 use Rattle.mm_proof.specs.Steps.{IsUsable}
-use Rattle.mm_proof.specs.CodeSteps.{AreFor, NumberSays, IsReading, MayAllBeUsed, code_move, code_moves, move_by, move_in, moves_in, token_texts, fault_behind}
+use Rattle.mm_proof.specs.Plain.{move_in, moves_in, token_texts}
+use Rattle.mm_proof.specs.Mirror.CodeSteps.{AreFor, NumberSays, IsReading, MayAllBeUsed, code_move, code_moves, move_by, fault_behind}
 use Rattle.mm_code.specs.Layout.{texts}
 use Rattle.mm_proof.specs.Answer.{OnRule}
 use Rattle.mm_proof.proofs.Places.{get_from_take}

@@ -4,7 +4,7 @@ use Rattle.std.proofs.lemmas.List.{length-append}
 use Rattle.mm_proof.specs.Tree.{Trees, none, tree, spelling, beside, roots}
 use Rattle.mm_proof.specs.BigSubtrees.{IsBig, IsSubtree}
 use Rattle.mm_proof.specs.Visits.{Visit, makes, repeats}
-use Rattle.mm_proof.specs.CodeSharing.{Sharing}
+use Rattle.mm_proof.specs.Mirror.CodeSharing.{Sharing}
 use Rattle.mm_proof.proofs.Members.{In, in_apart}
 use Rattle.mm_proof.proofs.Covers.{Covers, covers_beside, covers_apart, covers_made_one, covers_one, Careful, after, after_has, after-append, careful_apart, careful_join}
 use Rattle.mm_proof.proofs.ChildSums.{sub_right}
@@ -121,7 +121,8 @@ each_one (tree label below right) made v has p c =
 
 -- ---- the steps so far
 
-pub after_make : (v : List Visit) (t u : Trees) → In (after [] v) u → In (after [] (v ++ makes t ∷ [])) u
+pub after_make : (v : List Visit) (t u : Trees) → In (after [] v) u
+    → In (after [] (v ++ makes t ∷ [])) u
 after_make v t u h = subst (λ x. In x u) (sym (after-append [] v (makes t ∷ []))) (inr h)
 
 -- a tree that wasn't made, or is small

@@ -1,5 +1,4 @@
--- What was active at an active place later stands active before; and what can be decided of statements,
--- handed on from mm_frame.
+-- What is active was so in each front; and what can be decided of statements, as mm_frame has it.
 use Rattle.std.proofs.Common.{ℕ, ◌<◌, List, length, take, inl, inr, sym, subst, arith}
 use Rattle.std.proofs.lemmas.Bool.{cases_lt}
 use Rattle.std.proofs.lemmas.List.{take_all}

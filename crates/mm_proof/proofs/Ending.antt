@@ -21,11 +21,12 @@ use Rattle.mm_proof.specs.Proof.{IsWithin, Passed, Prove, BreaksEnd, IsMoveFault
 use Rattle.mm_proof.specs.Profiles.{limit_of}
 use Rattle.mm_proof.specs.ReadSteps.{ReadSteps}
 use Rattle.mm_proof.specs.Steps.{IsNumberedMove, AreNumberedMoves, IsUsable, IsUsableMove, AreSteps}
-use Rattle.mm_proof.specs.CodeSteps.{MayBeUsed, moves_in}
+use Rattle.mm_proof.specs.Plain.{moves_in}
+use Rattle.mm_proof.specs.Mirror.CodeSteps.{MayBeUsed}
 use Rattle.mm_proof.specs.declared.moves.NumberedMove.{NumberedMove}
-use Rattle.mm_proof.specs.CodeVerify.{IsSymbol, AreStackEntries, AreBelow, names_at, all_names_at}
+use Rattle.mm_proof.specs.Mirror.CodeVerify.{IsSymbol, AreStackEntries, AreBelow, names_at, all_names_at}
 use Rattle.mm_proof.specs.Verified.{ProvesUsingNumbers, ProvesUsing, OfMoves}
-use Rattle.mm_proof.specs.CodeRun.{HasRun, MayBeMade, AreNamedNumbers, AreNamed, EndsWrong}
+use Rattle.mm_proof.specs.Mirror.CodeRun.{HasRun, MayBeMade, AreNamedNumbers, AreNamed, EndsWrong}
 use Rattle.mm_proof.proofs.Places.{get_from_take}
 use Rattle.mm_proof.proofs.Meaning.{one_label}
 use Rattle.mm_proof.proofs.Named.{named_is, below_is, named_once}

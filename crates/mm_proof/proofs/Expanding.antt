@@ -4,7 +4,7 @@ use Rattle.std.specs.Result.{IsErrAnd, IsOkUnless}
 use Rattle.std.proofs.lemmas.Result.{err_from_is_err_and}
 use Rattle.mm_proof.specs.declared.fault.ExpandFault.{ExpandFault}
 use Rattle.mm_proof.specs.declared.fault.ExpandFault.TheVariants.{L2, Memory}
-use Rattle.mm_proof.specs.Words.{IsLong}
+use Rattle.mm_proof.specs.Mirror.Words.{IsLong}
 
 -- the fault that is handed on is that memory is refused
 pub unless_memory : {X : Type 0} (r : Result X ExpandFault) (e : ExpandFault) → IsErrAnd r (λ f. f ≡ e) → ¬ (IsLong e) → IsOkUnless r Memory

@@ -13,7 +13,7 @@ use Rattle.mm_proof.specs.declared.moves.NumberedMove.{NumberedMove}
 use Rattle.mm_proof.specs.Moves.{Move, name}
 use Rattle.mm_proof.specs.Tokens.{Says, SayMoves, opening_token, closing_token}
 use Rattle.mm_proof.specs.Steps.{IsNumberedMove, AreNumberedMoves}
-use Rattle.mm_proof.specs.CodeSteps.{move_in, moves_in}
+use Rattle.mm_proof.specs.Plain.{move_in, moves_in}
 
 -- a piece of text that says a code has a letter
 piece_letters : (piece : List ℕ) (code : Code) → letter.SaysCode piece code → 1 ≤ length piece

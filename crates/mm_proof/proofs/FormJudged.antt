@@ -18,8 +18,8 @@ use Rattle.mm_proof.specs.Steps.{IsNumberedMove, AreNumberedMoves, AreSteps, IsP
 use Rattle.mm_proof.proofs.Ending.{usable_names}
 use Rattle.mm_proof.specs.Parsed.{OfProof, SaySteps}
 use Rattle.mm_proof.specs.Strict.{IsStrictList, MarkAssertions, IsStrict}
-use Rattle.mm_proof.specs.CodeSteps.{AreFor, MayBeUsed}
-use Rattle.mm_proof.specs.CodeForm.{AllNew, SomeOld, AreMarksStrict, SomeMarkLoose}
+use Rattle.mm_proof.specs.Mirror.CodeSteps.{AreFor, MayBeUsed}
+use Rattle.mm_proof.specs.Mirror.CodeForm.{AllNew, SomeOld, AreMarksStrict, SomeMarkLoose}
 use Rattle.mm_proof.proofs.Places.{get_take, get_from_take}
 use Rattle.mm_proof.proofs.Meaning.{one_label, one_labelled}
 use Rattle.mm_proof.proofs.Numbered.{one_place}

@@ -9,10 +9,10 @@ use Rattle.mm_frame.specs.Sentence.{Sentence}
 use Rattle.mm_proof.specs.declared.moves.NumberedMove.{NumberedMove}
 use Rattle.mm_proof.specs.declared.moves.NumberedMove.TheVariants as code
 use Rattle.mm_proof.specs.Moves.{name, mark}
-use Rattle.mm_proof.specs.CodeSteps.{ids_in, move_in, moves_in}
+use Rattle.mm_proof.specs.Plain.{ids_in, move_in, moves_in}
 use Rattle.mm_proof.proofs.Running.{move_at}
-use Rattle.mm_proof.specs.CodeSharing.{AddsNew}
-use Rattle.mm_proof.specs.CodeForm.{AllNew, SomeOld, IsAfterAssertion, AreMarksStrict}
+use Rattle.mm_proof.specs.Mirror.CodeSharing.{AddsNew}
+use Rattle.mm_proof.specs.Mirror.CodeForm.{AllNew, SomeOld, IsAfterAssertion, AreMarksStrict}
 use Rattle.mm_proof.proofs.Picking.{entry_at}
 
 pub only_one : (n x : ℕ) → Contains (n ∷ []) x → n ≡ x

@@ -13,8 +13,8 @@ use Rattle.mm_proof.specs.Proof.{IsWithin, IsMoveFault}
 use Rattle.mm_proof.specs.KnownFront.{Pass, AreAllowed, HaveFault}
 use Rattle.mm_proof.specs.Parsed.{OfProof, SaySteps}
 use Rattle.mm_proof.specs.Steps.{AreNumberedMoves}
-use Rattle.mm_proof.specs.CodeRun.{HasRun}
-use Rattle.mm_proof.specs.CodeVerify.{all_names_at}
+use Rattle.mm_proof.specs.Mirror.CodeRun.{HasRun}
+use Rattle.mm_proof.specs.Mirror.CodeVerify.{all_names_at}
 use Rattle.mm_proof.specs.Verified.{OfMoves}
 use Rattle.mm_proof.proofs.Ending.{one_place}
 use Rattle.mm_proof.proofs.Verdicts.{longer_passed, two_moves}

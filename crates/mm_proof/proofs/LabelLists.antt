@@ -6,7 +6,8 @@ use Rattle.std.proofs.lemmas.List.{map_more, take-map, map-append, take_all, len
 use Rattle.std.proofs.lemmas.List.Elements.{Contains-push, Contains-push_cases, Contains-append_left}
 use Rattle.mm_text.proofs.Lists.{zip_push}
 use Rattle.mm_frame.specs.declared.number.LabelId.{LabelId}
-use Rattle.mm_proof.specs.CodeSteps.{AreFor, IsIdle, IsUnknown, MayBeUsed, ids_in, token_texts}
+use Rattle.mm_proof.specs.Plain.{ids_in, token_texts}
+use Rattle.mm_proof.specs.Mirror.CodeSteps.{AreFor, IsIdle, IsUnknown, MayBeUsed}
 use Rattle.mm_proof.proofs.Places.{get_take}
 
 -- one of the labels is idle, or all may be used

@@ -10,9 +10,9 @@ use Rattle.mm_proof.specs.declared.fault.ProofFault.TheVariants.{Rule}
 use Rattle.mm_proof.specs.Answer.{OnRule}
 use Rattle.mm_proof.specs.Moves.{Move}
 use Rattle.mm_proof.specs.Proof.{IsWithin, Passed}
-use Rattle.mm_proof.specs.CodeVerify.{all_names_at}
-use Rattle.mm_proof.specs.CodeRun.{HasRun}
-use Rattle.mm_proof.specs.CodeLines.{AreLinesAt, ListsProof}
+use Rattle.mm_proof.specs.Mirror.CodeVerify.{all_names_at}
+use Rattle.mm_proof.specs.Mirror.CodeRun.{HasRun}
+use Rattle.mm_proof.specs.Mirror.CodeLines.{AreLinesAt, ListsProof}
 use Rattle.mm_proof.proofs.Numbered.{one_place}
 use Rattle.mm_proof.proofs.Forward.{prove_at_end}
 use Rattle.mm_proof.proofs.Ending.{its_symbols}

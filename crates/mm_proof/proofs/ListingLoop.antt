@@ -16,10 +16,10 @@ use Rattle.mm_proof.specs.Moves.{Move, name, again, mark, is_step, steps_in}
 use Rattle.mm_proof.specs.Proof.{IsWithin, Passed}
 use Rattle.mm_proof.specs.Steps.{IsNumberedMove, AreNumberedMoves}
 use Rattle.mm_proof.specs.Listing.{StepName, by_label, by_step, ListedStep, StandsAfter, IsCalled, MakeLast, AreListed, IsNameOf, TellsStep}
-use Rattle.mm_proof.specs.CodeSteps.{move_in, moves_in}
-use Rattle.mm_proof.specs.CodeVerify.{IsSymbol, AreDeclaredSymbols, AreStackEntries, AreBelow, names_at, all_names_at}
-use Rattle.mm_proof.specs.CodeRun.{CarriesOn, HasRun}
-use Rattle.mm_proof.specs.CodeLines.{AreLinesAt}
+use Rattle.mm_proof.specs.Plain.{move_in, moves_in}
+use Rattle.mm_proof.specs.Mirror.CodeVerify.{IsSymbol, AreDeclaredSymbols, AreStackEntries, AreBelow, names_at, all_names_at}
+use Rattle.mm_proof.specs.Mirror.CodeRun.{CarriesOn, HasRun}
+use Rattle.mm_proof.specs.Mirror.CodeLines.{AreLinesAt}
 use Rattle.mm_proof.proofs.Named.{number_of_name}
 use Rattle.mm_proof.proofs.Running.{Turn, front_more, last_split, same_steps, run_none, more_name, more_again, more_mark}
 use Rattle.mm_proof.proofs.Listed.{old_or_new, stands_later, stands_new, listed_step, listed_mark, last_made, name_leaves}

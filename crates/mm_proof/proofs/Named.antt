@@ -11,8 +11,8 @@ use Rattle.mm_frame.specs.FramePlace.{IsTypingOf, HaveTypings}
 use Rattle.mm_frame.specs.Pieces.{variables_of}
 use Rattle.mm_frame.specs.Laws.{OneNumber}
 use Rattle.mm_frame.specs.declared.hypothesis.Hypothesis.{Hypothesis}
-use Rattle.mm_proof.specs.CodeSteps.{label_ids}
-use Rattle.mm_proof.specs.CodeVerify.{name_at, names_at, AreBelow, IsRightCode, IsWrongCode, IsEqual, IsVariableOf, AreHypothesesOf, AreVariablesOf, all_names_at}
+use Rattle.mm_proof.specs.Plain.{label_ids}
+use Rattle.mm_proof.specs.Mirror.CodeVerify.{name_at, names_at, AreBelow, IsRightCode, IsWrongCode, IsEqual, IsVariableOf, AreHypothesesOf, AreVariablesOf, all_names_at}
 use Rattle.mm_frame.specs.declared.number.Sym.{Sym}
 use Rattle.mm_proof.proofs.Values.{drop_get}
 

@@ -14,8 +14,9 @@ use Rattle.mm_frame.specs.Numbers.{labelled_sentences, IsAssertionNumber}
 use Rattle.mm_frame.specs.Taken.{kind_behind}
 use Rattle.mm_frame.proofs.Labelled.{numbered_get}
 use Rattle.mm_proof.specs.Moves.{Move}
-use Rattle.mm_proof.specs.CodeSteps.{MayBeUsed, ids_in}
-use Rattle.mm_proof.specs.CodeRun.{ArePicked, AreNamed}
+use Rattle.mm_proof.specs.Plain.{ids_in}
+use Rattle.mm_proof.specs.Mirror.CodeSteps.{MayBeUsed}
+use Rattle.mm_proof.specs.Mirror.CodeRun.{ArePicked, AreNamed}
 
 -- ---- one label more
 

@@ -1,11 +1,11 @@
 -- Labels by their numbers, which rise with the places of their statements.
-use Rattle.std.proofs.Common.{◌≡◌, ℕ, ◌<◌, ◌≤◌, List, [], ◌∷◌, length, take, inl, inr, sym, ap, ◌∙◌, arith}
+use Rattle.std.proofs.Common.{◌≡◌, ℕ, ◌<◌, ◌≤◌, List, length, take, inl, inr, sym, ap, ◌∙◌, arith}
 use Rattle.std.proofs.lemmas.Bool.{cases_order, cases_lt}
 use Rattle.mm_frame.specs.Sentence.{Sentence, IsLabelled}
 use Rattle.mm_frame.specs.Numbers.{labelled_sentences, IsNumbered}
 use Rattle.mm_frame.specs.Rules.{AllMeant}
 use Rattle.mm_frame.proofs.Labelled.{numbered_rise, numbered_unique}
-use Rattle.mm_proof.specs.CodeSteps.{IsUnknown}
+use Rattle.mm_proof.specs.Mirror.CodeSteps.{IsUnknown}
 use Rattle.mm_proof.proofs.Places.{get_from_take}
 use Rattle.mm_proof.proofs.Meaning.{one_label}
 
@@ -14,13 +14,15 @@ pub numbers_order : (statements : List Sentence) (i j p q : ℕ) (s t : Sentence
 numbers_order statements i j p q s t n m less = elim (cases_order p q) [
   | inl same ↦ absurd (let e : i ≡ j = sym n.number ∙ ap (λ k. length (labelled_sentences (take k statements))) same ∙ m.number in omega arith)
   | inr (inl before) ↦ before
-  | inr (inr after) ↦ absurd (let r = numbered_rise statements j i q p t s m n after in omega (arith, r, less))
+  | inr (inr after) ↦
+      absurd (let r = numbered_rise statements j i q p t s m n after in omega (arith, r, less))
 ]
 
 -- a number that isn't less is that of no earlier statement
 pub numbers_order_back : (statements : List Sentence) (i j p q : ℕ) (s t : Sentence) → IsNumbered statements i p s → IsNumbered statements j q t → j ≤ i → q ≤ p
 numbers_order_back statements i j p q s t n m le = elim (cases_lt p q) [
-  | inl before ↦ absurd (let r = numbered_rise statements i j p q s t n m before in omega (arith, r, le))
+  | inl before ↦
+      absurd (let r = numbered_rise statements i j p q s t n m before in omega (arith, r, le))
   | inr after ↦ after
 ]
 

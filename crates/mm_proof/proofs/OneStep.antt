@@ -99,8 +99,9 @@ one_replacement before label place assertion hypotheses entries σ τ all names 
   where
     mandatory_same : IsMandatory (take place before) assertion x → σ x ≡ τ x
     mandatory_same m =
-        let typed = mandatory_typed (take place before) assertion x (allmeant_front before place all)
-        (meant_at before place assertion all names.there) (inr names.kind) m in
+        let front = allmeant_front before place all in
+        let meant = meant_at before place assertion all names.there in
+        let typed = mandatory_typed (take place before) assertion x front meant (inr names.kind) m in
         let f = typing_among before label place assertion hypotheses x names m typed in
         one_entry hypotheses entries σ τ f.0 f.1 f.2 x l s t f.3 f.4
 

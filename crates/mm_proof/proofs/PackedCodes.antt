@@ -17,8 +17,8 @@ use Rattle.mm_proof.specs.Moves.{Move, name, again, mark}
 use Rattle.mm_proof.specs.Tokens.{Says}
 use Rattle.mm_proof.specs.Visits.{Visit, makes, repeats, keeps, visit, visits}
 use Rattle.mm_proof.specs.Spelled.{IsLabelNumber}
-use Rattle.mm_proof.specs.Subtrees.{AreOnce, IsTreeOf, IsSubtreeOf}
-use Rattle.mm_proof.specs.CodeSharing.{Adds, IsStepOf, IsEncoded, AreEncoded}
+use Rattle.mm_proof.specs.Mirror.Subtrees.{AreOnce, IsTreeOf, IsSubtreeOf}
+use Rattle.mm_proof.specs.Mirror.CodeSharing.{Adds, IsStepOf, IsEncoded, AreEncoded}
 use Rattle.mm_proof.proofs.Members.{In, Once, once_places}
 use Rattle.mm_proof.proofs.Tidy.{Marked}
 use Rattle.mm_proof.proofs.SharedOnce.{kept_stays}

@@ -23,9 +23,9 @@ use Rattle.mm_proof.specs.Visits.{Visit, makes, repeats}
 use Rattle.mm_proof.specs.Sharing.{AreFirstUses}
 use Rattle.mm_proof.specs.Spelled.{IsLabelNumber, AreLabelsOf}
 use Rattle.mm_proof.specs.Packing.{ArePacked}
-use Rattle.mm_proof.specs.Subtrees.{AreOnce, IsTreeOf}
-use Rattle.mm_proof.specs.CodeSteps.{ids_in}
-use Rattle.mm_proof.specs.CodeSharing.{IsStepOf, AreSharedSteps, labels_made, AreFirstNumbers, AreEncoded, AreStepsPacked}
+use Rattle.mm_proof.specs.Mirror.Subtrees.{AreOnce, IsTreeOf}
+use Rattle.mm_proof.specs.Plain.{ids_in}
+use Rattle.mm_proof.specs.Mirror.CodeSharing.{IsStepOf, AreSharedSteps, labels_made, AreFirstNumbers, AreEncoded, AreStepsPacked}
 use Rattle.mm_proof.proofs.Places.{get_from_take}
 use Rattle.mm_proof.proofs.Expanded.{made_word}
 use Rattle.mm_proof.proofs.Ending.{one_place}

@@ -10,8 +10,8 @@ use Rattle.mm_frame.specs.declared.number.LabelId.{LabelId}
 use Rattle.mm_proof.specs.declared.subtrees.Subtree.{Subtree}
 use Rattle.mm_proof.specs.declared.sharing.SharedStep.{SharedStep}
 use Rattle.mm_proof.specs.declared.sharing.SharedStep.TheVariants.{Make, Repeat}
-use Rattle.mm_proof.specs.CodeSteps.{ids_in, label_ids}
-use Rattle.mm_proof.specs.CodeSharing.{Adds, AddsNew, labels_made, AreFirstNumbers, IsEncoded, AreEncoded, AreMadeBefore}
+use Rattle.mm_proof.specs.Plain.{ids_in, label_ids}
+use Rattle.mm_proof.specs.Mirror.CodeSharing.{Adds, AddsNew, labels_made, AreFirstNumbers, IsEncoded, AreEncoded, AreMadeBefore}
 use Rattle.mm_proof.proofs.Members.{In, contains_in, in_contains, get_in, in_left, in_right, in_apart}
 
 -- ---- a front with one more

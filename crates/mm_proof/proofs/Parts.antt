@@ -6,19 +6,14 @@ use Rattle.mm_frame.specs.declared.number.Sym.{Sym}
 use Rattle.mm_proof.specs.declared.entry.Entry.{Entry}
 use Rattle.mm_proof.specs.Stores.{numbers_in}
 use Rattle.mm_frame.specs.declared.piece.Piece.{Piece}
-use Rattle.mm_proof.specs.CodeVerify.{said_by, all_said_by}
+use Rattle.mm_proof.specs.Mirror.CodeVerify.{said_by, all_said_by}
 use Rattle.mm_proof.proofs.Values.{no_piece, said_appended}
-use Rattle.mm_proof.specs.Buffer.{parts_of, IsPart, AreParts}
+use Rattle.mm_proof.specs.Mirror.Buffer.{parts_of, IsPart, AreParts}
 use Rattle.std.proofs.lemmas.Option.{none-some, same_Some}
 use Rattle.mm_proof.proofs.RowLemmas.{read-behind}
-use Rattle.std.proofs.lemmas.List.{append_assoc, take-map, drop-map, drop-drop, take_at, drop-append-le, take-append-le, drop_at, length-drop, length-take, take_all, drop-take, take-take, length-append, map-append}
-
--- a range of a list stays as it is where the list grows
-pub part-append : {X : Type 0} (xs ys : List X) (i j : ℕ) → i ≤ j → j ≤ length xs → slice_range (xs ++ ys) i j ≡ slice_range xs i j
-part-append xs ys i j order within =
-    let front : i ≤ length xs = omega arith in
-    let room : j - i ≤ length (drop i xs) = omega (arith, length-drop i xs) in
-    ap (take (j - i)) (drop-append-le i xs ys front) ∙ take-append-le (j - i) (drop i xs) ys room
+use Rattle.std.proofs.lemmas.List.{append_assoc, take-map, drop-map, drop-drop, take_at, drop_at, length-drop, length-take, take_all, drop-take, take-take, length-append, map-append}
+use Rattle.mm_frame.proofs.Entries.{slice_left}
+pub use Rattle.mm_frame.proofs.Entries.{slice_left as part-append}
 
 -- a part of a front, from a place within it on
 pub cut-before : {X : Type 0} (n i : ℕ) (xs : List X) → i ≤ n → drop i (take n xs) ≡ take (n - i) (drop i xs)
@@ -41,7 +36,7 @@ part-new xs ys n is =
 pub parts-grow : (xs ys : List Sym) (entries : List Entry) → AreParts (length xs) entries → parts_of (xs ++ ys) entries ≡ parts_of xs entries
 parts-grow xs ys [] h = refl
 parts-grow xs ys (e ∷ entries) h =
-    let first = ap numbers_in (part-append xs ys e.start e.end (h 0 e refl).order (h 0 e refl).within) in
+    let first = ap numbers_in (slice_left xs ys e.start e.end (h 0 e refl).order (h 0 e refl).within) in
     let others = parts-grow xs ys entries (λ i a at. h (suc i) a at) in
     cc
 

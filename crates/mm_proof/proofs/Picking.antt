@@ -12,10 +12,10 @@ use Rattle.mm_frame.specs.declared.number.LabelId.{LabelId}
 use Rattle.mm_proof.specs.declared.moves.NumberedMove.{NumberedMove}
 use Rattle.mm_proof.specs.declared.moves.NumberedMove.TheVariants as code
 use Rattle.mm_proof.specs.Moves.{Move, name}
-use Rattle.mm_proof.specs.CodeSteps.{ids_in, move_in, moves_in}
-use Rattle.mm_proof.specs.CodeRun.{ArePicked, AreMarked, AreNamedNumbers}
+use Rattle.mm_proof.specs.Plain.{ids_in, move_in, moves_in}
+use Rattle.mm_proof.specs.Mirror.CodeRun.{ArePicked, AreMarked, AreNamedNumbers}
 use Rattle.mm_proof.specs.declared.call.Call.{Call}
-use Rattle.mm_proof.specs.CodeApply.{IsCallOf, IsOfAssertion}
+use Rattle.mm_proof.specs.Mirror.CodeApply.{IsCallOf, IsOfAssertion}
 use Rattle.mm_proof.proofs.Calls.{called_assertion, assertion_called}
 use Rattle.mm_proof.proofs.Running.{front_more}
 

@@ -1,5 +1,5 @@
 -- What the tokens of a proof say, once their labels have numbers and their letters are read.
-use Rattle.std.proofs.Common.{◌≡◌, ℕ, ◌+◌, ◌<◌, List, [], ◌∷◌, ◌++◌, length, map, take, slice_get, Some, ◌⊎◌, inl, inr, ⊎_elim, refl, sym, ap, subst, ◌∙◌, arith}
+use Rattle.std.proofs.Common.{◌≡◌, ℕ, ◌+◌, ◌<◌, List, [], ◌∷◌, length, map, take, slice_get, Some, ◌⊎◌, inl, inr, ⊎_elim, refl, sym, ap, subst, ◌∙◌, arith}
 use Rattle.std.specs.List.{AllZip, AllByRecursion}
 use Rattle.std.proofs.lemmas.Slice.Zip.{AllZip-long}
 use Rattle.mm_text.proofs.Lists.{zip_left}
@@ -15,7 +15,7 @@ use Rattle.mm_proof.specs.Moves.{Move, name, again, mark}
 use Rattle.mm_proof.specs.Tokens.{IsNormal, Says}
 use Rattle.mm_proof.specs.Proof.{proof_rank, BreaksWhole, IsWhole}
 use Rattle.mm_proof.specs.Steps.{IsNumberedMove, AreNumberedMoves, IsUsable, IsUsableMove}
-use Rattle.mm_proof.specs.CodeSteps.{AreFor, MayBeUsed, NumberSays, IsReading}
+use Rattle.mm_proof.specs.Mirror.CodeSteps.{AreFor, MayBeUsed, NumberSays, IsReading}
 use Rattle.mm_proof.proofs.Places.{get_take}
 use Rattle.mm_proof.proofs.TokenFacts.{labels_pass, normal_labels}
 

@@ -12,7 +12,7 @@ use Rattle.mm_frame.specs.Laws.{OneNumber}
 use Rattle.mm_proof.specs.Substitution.{instance_of}
 use Rattle.mm_frame.specs.Pieces.{is_of}
 use Rattle.mm_frame.proofs.Decided.{types_dec}
-use Rattle.mm_proof.specs.CodeVerify.{name_at, names_at, all_names_at, AreBelow, value_of, replaced_in, IsVariableOf, AreVariablesOf, IsEqual, IsUnequal, Replaces}
+use Rattle.mm_proof.specs.Mirror.CodeVerify.{name_at, names_at, all_names_at, AreBelow, value_of, replaced_in, IsVariableOf, AreVariablesOf, IsEqual, IsUnequal, Replaces}
 use Rattle.mm_proof.proofs.Replacements.{replaced_by, first_of}
 use Rattle.mm_proof.proofs.Named.{name_is, named_is, below_is, number_of_name, named_once}
 

@@ -6,7 +6,7 @@ use Rattle.std.proofs.lemmas.Bool.{false≢true}
 use Rattle.std.proofs.lemmas.Option.{same_Some, none-some}
 use Rattle.mm_text.proofs.Lists.{all_at, get_kept}
 use Rattle.mm_proof.specs.declared.subtrees.Row.{Row}
-use Rattle.mm_proof.specs.Subtrees.{AreOnce, KeepNumbers}
+use Rattle.mm_proof.specs.Mirror.Subtrees.{AreOnce, KeepNumbers}
 
 -- a row differs from those after it
 apart : (eq : Row → Row → Bool) → ((r : Row) → eq r r ≡ true) → (r : Row) (rows : List Row) (j : ℕ) (row : Row) → IsDistinct eq (r ∷ rows) → r ≡ row → slice_get rows j ≡ Some row → ⊥

@@ -15,9 +15,9 @@ use Rattle.mm_proof.specs.declared.moves.NumberedMove.TheVariants as code
 use Rattle.mm_proof.specs.Moves.{Move, name, again, mark, is_step, steps_in}
 use Rattle.mm_proof.specs.Proof.{IsWithin, Passed, FirstAtMove, IsMoveFault}
 use Rattle.mm_proof.specs.Steps.{IsNumberedMove, AreNumberedMoves}
-use Rattle.mm_proof.specs.CodeSteps.{move_in, moves_in}
-use Rattle.mm_proof.specs.CodeVerify.{AreDeclaredSymbols, AreStackEntries, names_at, all_names_at}
-use Rattle.mm_proof.specs.CodeRun.{CarriesOn, StopsAt, HasRun}
+use Rattle.mm_proof.specs.Plain.{move_in, moves_in}
+use Rattle.mm_proof.specs.Mirror.CodeVerify.{AreDeclaredSymbols, AreStackEntries, names_at, all_names_at}
+use Rattle.mm_proof.specs.Mirror.CodeRun.{CarriesOn, StopsAt, HasRun}
 use Rattle.mm_proof.proofs.Forward.{passed_none, passed_again, passed_mark}
 use Rattle.mm_proof.proofs.Firsts.{first_P6, first_P7, steps_in-append}
 

@@ -7,7 +7,7 @@ use Rattle.mm_proof.specs.declared.subtrees.Row.{Row}
 use Rattle.mm_proof.specs.Tree.{Trees}
 use Rattle.mm_proof.specs.Moves.{Move}
 use Rattle.mm_proof.specs.OneTree.{MakeTree, MakeOneTree, MakeSameTree}
-use Rattle.mm_proof.specs.Subtrees.{AreOnce, IsTreeOf}
+use Rattle.mm_proof.specs.Mirror.Subtrees.{AreOnce, IsTreeOf}
 use Rattle.mm_proof.proofs.SubtreeNumbers.{tree_once, subtree_once}
 
 -- the subtree is the tree that the moves make

@@ -3,7 +3,7 @@ use Rattle.std.proofs.Common.{◌≡◌, ℕ, ◌-◌, ◌≤◌, List, ◌++◌
 use Rattle.std.proofs.lemmas.List.{length-append, length-map, length-take, take-take}
 use Rattle.mm_frame.specs.declared.number.Sym.{Sym}
 use Rattle.mm_proof.specs.declared.entry.Entry.{Entry}
-use Rattle.mm_proof.specs.Buffer.{AreParts}
+use Rattle.mm_proof.specs.Mirror.Buffer.{AreParts}
 use Rattle.mm_proof.specs.Stores.{numbers_in}
 
 -- what is told of what is there, where it is told for each

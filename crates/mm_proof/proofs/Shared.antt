@@ -13,7 +13,7 @@ use Rattle.mm_frame.specs.Laws.{OneNumber}
 use Rattle.mm_proof.specs.Tree.{ShareNoVariable, AreDistinct}
 use Rattle.mm_proof.specs.Stores.{numbers_in}
 use Rattle.mm_frame.specs.Pieces.{is_of}
-use Rattle.mm_proof.specs.CodeVerify.{name_at, names_at, IsSymbol, AreDeclaredSymbols, AreBelow, IsApartFromEach, AreStackEntries, value_of, EachValues, SomeValues, pairs_in}
+use Rattle.mm_proof.specs.Mirror.CodeVerify.{name_at, names_at, IsSymbol, AreDeclaredSymbols, AreBelow, IsApartFromEach, AreStackEntries, value_of, EachValues, SomeValues, pairs_in}
 use Rattle.std.proofs.lemmas.Option.{same_Some}
 use Rattle.mm_frame.specs.Frame.{IsDistinct}
 use Rattle.mm_frame.proofs.Decided.{distinct_dec}

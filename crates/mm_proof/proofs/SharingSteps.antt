@@ -17,8 +17,8 @@ use Rattle.mm_proof.specs.declared.sharing.SharedStep.TheVariants as step
 use Rattle.mm_proof.specs.Tree.{Trees, none, tree, beside, roots}
 use Rattle.mm_proof.specs.BigSubtrees.{IsBig}
 use Rattle.mm_proof.specs.Visits.{Visit, makes, repeats}
-use Rattle.mm_proof.specs.Subtrees.{AreOnce, KeepNumbers, IsTreeOf, StandsFor}
-use Rattle.mm_proof.specs.CodeSharing.{IsStepOf, AreSharedSteps, IsRepeat, Shares, Sharing, SharingSteps, ShareSteps, AreMadeBefore}
+use Rattle.mm_proof.specs.Mirror.Subtrees.{AreOnce, KeepNumbers, IsTreeOf, StandsFor}
+use Rattle.mm_proof.specs.Mirror.CodeSharing.{IsStepOf, AreSharedSteps, IsRepeat, Shares, Sharing, SharingSteps, ShareSteps, AreMadeBefore}
 use Rattle.mm_proof.proofs.Members.{In, in_contains}
 use Rattle.mm_proof.proofs.Covers.{after, after-append}
 use Rattle.mm_proof.proofs.SubtreeNumbers.{tree_later, tree_once, subtree_once}

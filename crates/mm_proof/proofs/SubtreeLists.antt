@@ -6,7 +6,7 @@ use Rattle.std.proofs.lemmas.Option.{slice_get-get_or}
 use Rattle.std.proofs.lemmas.List.Quantifiers.{position-Some}
 use Rattle.std.proofs.lemmas.Map.Views.{Contains-from_any}
 use Rattle.mm_proof.specs.declared.subtrees.Subtree.{Subtree}
-use Rattle.mm_proof.specs.CodeSharing.{Adds, AddsNew}
+use Rattle.mm_proof.specs.Mirror.CodeSharing.{Adds, AddsNew}
 use Rattle.mm_proof.proofs.Members.{In, contains_in}
 
 -- the test of equality tells apart

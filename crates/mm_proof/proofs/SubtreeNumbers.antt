@@ -9,7 +9,7 @@ use Rattle.mm_proof.specs.declared.subtrees.Subtree.{Subtree}
 use Rattle.mm_proof.specs.declared.subtrees.Row.{Row}
 use Rattle.mm_proof.specs.Tree.{Trees, none, tree, beside, roots}
 use Rattle.mm_proof.specs.Spelled.{IsLabelNumber}
-use Rattle.mm_proof.specs.Subtrees.{AreOnce, IsNumberOfRow, KeepNumbers, StandsFor, IsTreeOf, AreTreesOf}
+use Rattle.mm_proof.specs.Mirror.Subtrees.{AreOnce, IsNumberOfRow, KeepNumbers, StandsFor, IsTreeOf, AreTreesOf}
 use Rattle.mm_proof.proofs.Meaning.{one_label}
 
 -- ---- labels

@@ -10,8 +10,8 @@ use Rattle.mm_proof.specs.declared.subtrees.Subtree.{Subtree}
 use Rattle.mm_proof.specs.declared.subtrees.Row.{Row}
 use Rattle.mm_proof.specs.Tree.{Trees, none, tree, beside, roots}
 use Rattle.mm_proof.specs.Spelled.{IsLabelNumber}
-use Rattle.mm_proof.specs.Builders.{IsKept}
-use Rattle.mm_proof.specs.Subtrees.{AreOnce, KeepNumbers, IsNumberOfRow, IsTreeOf, AreTreesOf, StandsFor, IsSubtreeOf, AreSubtreesOf}
+use Rattle.mm_proof.specs.Mirror.Builders.{IsKept}
+use Rattle.mm_proof.specs.Mirror.Subtrees.{AreOnce, KeepNumbers, IsNumberOfRow, IsTreeOf, AreTreesOf, StandsFor, IsSubtreeOf, AreSubtreesOf}
 use Rattle.mm_proof.proofs.Making.{roots-beside}
 use Rattle.mm_proof.proofs.SubtreeNumbers.{stands_later, trees_later, trees_join, trees_count}
 

@@ -1,7 +1,6 @@
 -- Pairs of expressions that are judged in the other order.
-use Rattle.std.proofs.Common.{◌≡◌, ◌≢◌, ℕ, List, refl, sym, ◌∙◌}
+use Rattle.std.proofs.Common.{ℕ, List, refl}
 use Rattle.mm_frame.specs.Sentence.{Sentence}
-use Rattle.mm_frame.specs.Frame.{IsDistinct}
 use Rattle.mm_frame.proofs.Those.{distinct_other}
 use Rattle.mm_proof.specs.Tree.{ShareNoVariable, AreDistinct}
 

@@ -12,7 +12,7 @@ use Rattle.mm_proof.specs.Stores.{numbers_in}
 use Rattle.mm_frame.specs.declared.piece.Piece.{Piece}
 use Rattle.mm_frame.specs.declared.piece.Piece.TheVariants.{Symbol, Value}
 use Rattle.mm_frame.specs.Pieces.{IsNowhere, IsFirstAt, IsPieceOf, ArePieces}
-use Rattle.mm_proof.specs.CodeVerify.{value_of, replaced_in, said_by, all_said_by, IsWithinPlaces}
+use Rattle.mm_proof.specs.Mirror.CodeVerify.{value_of, replaced_in, said_by, all_said_by, IsWithinPlaces}
 
 pub value_nowhere : (n : ℕ) (variables : List (Option ℕ)) (entries : List (List ℕ)) → IsNowhere n variables → value_of variables entries n ≡ None
 value_nowhere n [] entries h = refl

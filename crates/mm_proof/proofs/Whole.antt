@@ -12,7 +12,8 @@ use Rattle.mm_proof.specs.Proof.{IsWhole, IsWholeFault}
 use Rattle.mm_proof.specs.Verified.{OfMoves, ProvesUsingNumbers, ProvesUsing, FailsWith, TokensProve, TokensFail}
 use Rattle.mm_proof.specs.Steps.{AreSteps, IsProofNumber, IsUsableMove}
 use Rattle.mm_proof.specs.Parsed.{OfProof, SaySteps}
-use Rattle.mm_proof.specs.CodeSteps.{IsReading, token_texts}
+use Rattle.mm_proof.specs.Plain.{token_texts}
+use Rattle.mm_proof.specs.Mirror.CodeSteps.{IsReading}
 use Rattle.mm_proof.proofs.Numbered.{one_place}
 
 pub reading_said : (st : List Sentence) (id own : ℕ) (t : Sentence) (tokens : List (List ℕ)) (steps : List (Move ℕ)) → IsNumbered st id own t → IsReading st own tokens steps

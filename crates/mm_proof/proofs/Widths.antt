@@ -9,8 +9,8 @@ use Rattle.mm_frame.proofs.Labelled.{numbered_get}
 use Rattle.mm_proof.specs.Tree.{Trees, roots, Names, MayStandOver}
 use Rattle.mm_proof.specs.Moves.{name}
 use Rattle.mm_proof.specs.Steps.{IsNumberedMove}
-use Rattle.mm_proof.specs.CodeSteps.{MayBeUsed}
-use Rattle.mm_proof.specs.CodeApply.{IsEarlierScheme}
+use Rattle.mm_proof.specs.Mirror.CodeSteps.{MayBeUsed}
+use Rattle.mm_proof.specs.Mirror.CodeApply.{IsEarlierScheme}
 use Rattle.mm_proof.specs.Spelled.{IsLabelNumber}
 use Rattle.mm_proof.proofs.Places.{get_take}
 use Rattle.mm_proof.proofs.Named.{as_many}

@@ -10,8 +10,8 @@ use Rattle.mm_frame.specs.Sentence.{Sentence}
 use Rattle.mm_proof.specs.declared.words.Part.{Part}
 use Rattle.mm_proof.specs.declared.words.Length.{Length}
 use Rattle.mm_proof.specs.Tree.{Trees, none, tree, spelling, beside, roots}
-use Rattle.mm_proof.specs.Builders.{IsKept}
-use Rattle.mm_proof.specs.Words.{AreParts, IsPartOf, ArePartsOf, IsLengthOf, AreLabelsOfWord}
+use Rattle.mm_proof.specs.Mirror.Builders.{IsKept}
+use Rattle.mm_proof.specs.Mirror.Words.{AreParts, IsPartOf, ArePartsOf, IsLengthOf, AreLabelsOfWord}
 use Rattle.mm_proof.proofs.Making.{roots-beside, spelling-beside}
 
 -- ---- parts side by side

@@ -1,6 +1,8 @@
+pub mod Mirror
 pub mod Substitution
 pub mod Tree
 pub mod Moves
+pub mod Plain
 pub mod BigSubtrees
 pub mod Visits
 pub mod SharedSteps
@@ -14,7 +16,6 @@ pub mod KnownFront
 pub mod Strict
 pub mod UnderProfile
 pub mod ReadSteps
-pub mod Sites
 pub mod Parsed
 pub mod Used
 pub mod Listing
@@ -27,14 +28,3 @@ pub mod Spelled
 pub mod Packing
 pub mod Answer
 pub mod Stores
-pub mod Buffer
-pub mod CodeSteps
-pub mod CodeVerify
-pub mod CodeRun
-pub mod CodeForm
-pub mod CodeApply
-pub mod CodeLines
-pub mod Subtrees
-pub mod Words
-pub mod CodeSharing
-pub mod Builders

@@ -7,12 +7,12 @@ ghost use Rattle.mm_frame.specs.Sentence.{Sentence};
 ghost use Rattle.mm_frame.specs.Form.{IsSound};
 ghost use Rattle.mm_frame.specs.FramePlace.{ArePairs, HaveTypings};
 ghost use Rattle.mm_frame.specs.Pieces.{variables_of, HavePatterns, HavePlaces};
-ghost use Rattle.mm_proof.specs.CodeSteps.{label_ids};
-ghost use Rattle.mm_proof.specs.CodeVerify.{AreVariablesOf, AreStackEntries, EachIsSome};
-ghost use Rattle.mm_proof.specs.CodeVerify.{EachEntry, IsWithinPlaces};
-ghost use Rattle.mm_proof.specs.CodeVerify.{IsRightCode, all_names_at, pairs_in};
-ghost use Rattle.mm_proof.specs.CodeRun.{CarriesOn, StopsAt};
-ghost use Rattle.mm_proof.specs.CodeApply.{IsAppliedAssertion, IsMatched, IsReady, IsEarlierScheme};
+ghost use Rattle.mm_proof.specs.Plain.{label_ids};
+ghost use Rattle.mm_proof.specs.Mirror.CodeVerify.{AreVariablesOf, AreStackEntries, EachIsSome};
+ghost use Rattle.mm_proof.specs.Mirror.CodeVerify.{EachEntry, IsWithinPlaces};
+ghost use Rattle.mm_proof.specs.Mirror.CodeVerify.{IsRightCode, all_names_at, pairs_in};
+ghost use Rattle.mm_proof.specs.Mirror.CodeRun.{CarriesOn, StopsAt};
+ghost use Rattle.mm_proof.specs.Mirror.CodeApply.{IsAppliedAssertion, IsMatched, IsReady, IsEarlierScheme};
 
 use crate::fault::{ProofFault, ProofRule};
 use crate::pairs::{are_apart_pairs, has_shared_pair};

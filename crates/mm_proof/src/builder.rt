@@ -9,8 +9,9 @@ ghost use Rattle.mm_proof.specs.Steps.{AreSteps};
 ghost use Rattle.mm_proof.specs.Spelled.{OfSpelling};
 ghost use Rattle.mm_proof.specs.Packing.{OfTree};
 ghost use Rattle.mm_proof.specs.Verified.{OfMoves};
-ghost use Rattle.mm_proof.specs.CodeSteps.{MayBeUsed, moves_in};
-ghost use Rattle.mm_proof.specs.Builders.{KeepsItem, MakeTreeAt, IsBuilt};
+ghost use Rattle.mm_proof.specs.Plain.{moves_in};
+ghost use Rattle.mm_proof.specs.Mirror.CodeSteps.{MayBeUsed};
+ghost use Rattle.mm_proof.specs.Mirror.Builders.{KeepsItem, MakeTreeAt, IsBuilt};
 
 use crate::call::{Call, call_of};
 use crate::moves::{NumberedMove, Steps};
@@ -26,8 +27,8 @@ pub(crate) trait Builder {
     ghost use Rattle.mm_frame.specs.Sentence.{Sentence};
     ghost use Rattle.mm_proof.specs.Tree.{Trees};
     ghost use Rattle.mm_proof.specs.Spelled.{IsLabelNumber};
-    ghost use Rattle.mm_proof.specs.Builders.{MakesItem, RepeatsItem, IsOnShelf};
-    ghost use Rattle.mm_proof.specs.Builders.{IsFull, IsTooLong};
+    ghost use Rattle.mm_proof.specs.Mirror.Builders.{MakesItem, RepeatsItem, IsOnShelf};
+    ghost use Rattle.mm_proof.specs.Mirror.Builders.{IsFull, IsTooLong};
 
     /// What stands for a tree.
     type Item: Copy;

@@ -2,10 +2,10 @@
 
 ghost use Rattle.std.specs.Prelude.{◌≡◌, ℕ, List, take, Err, OnOk};
 ghost use Rattle.mm_frame.specs.Form.{IsSound};
-ghost use Rattle.mm_proof.specs.CodeSteps.{MayBeUsed};
-ghost use Rattle.mm_proof.specs.CodeVerify.{AreStackEntries};
-ghost use Rattle.mm_proof.specs.CodeRun.{CarriesOn, StopsAt};
-ghost use Rattle.mm_proof.specs.CodeApply.{IsCallOf};
+ghost use Rattle.mm_proof.specs.Mirror.CodeSteps.{MayBeUsed};
+ghost use Rattle.mm_proof.specs.Mirror.CodeVerify.{AreStackEntries};
+ghost use Rattle.mm_proof.specs.Mirror.CodeRun.{CarriesOn, StopsAt};
+ghost use Rattle.mm_proof.specs.Mirror.CodeApply.{IsCallOf};
 
 use crate::apply::apply;
 use crate::fault::{ProofFault, ProofRule};

@@ -16,9 +16,9 @@ pub(crate) struct CallTable<'e, 'b, 'a> {
 
 impl<'e, 'b, 'a> Model for CallTable<'e, 'b, 'a> {
     ghost use Rattle.std.specs.List.{AllZip};
-    ghost use Rattle.mm_proof.specs.CodeSteps.{ids_in};
-    ghost use Rattle.mm_proof.specs.CodeApply.{IsCallOf};
-    ghost use Rattle.mm_proof.specs.Sites.{CodeSite};
+    ghost use Rattle.mm_proof.specs.Plain.{ids_in};
+    ghost use Rattle.mm_proof.specs.Mirror.CodeApply.{IsCallOf};
+    ghost use Rattle.mm_proof.specs.Mirror.Sites.{CodeSite};
 
     ghost Value = { CodeSite };
 

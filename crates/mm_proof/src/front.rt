@@ -7,7 +7,7 @@ ghost use Rattle.mm_text.specs.Items.{spells};
 ghost use Rattle.mm_proof.specs.Tokens.{closing_token};
 ghost use Rattle.mm_proof.specs.KnownFront.{is_question, is_unknown, begins_list, ends_list};
 ghost use Rattle.mm_proof.specs.KnownFront.{known_piece, known_front};
-ghost use Rattle.mm_proof.specs.CodeSteps.{token_texts};
+ghost use Rattle.mm_proof.specs.Plain.{token_texts};
 
 use mm_text::Token;
 use std::alloc::{AllocError, Global};

@@ -1,7 +1,7 @@
 //! The labels that the numbers of a compressed proof stand for.
 
 ghost use Rattle.std.specs.Prelude.{◌≡◌, ◌≤◌, [], length, slice_get, Some, Contains, IfOk};
-ghost use Rattle.mm_proof.specs.CodeSharing.{AddsNew};
+ghost use Rattle.mm_proof.specs.Mirror.CodeSharing.{AddsNew};
 
 use indexmap::IndexSet;
 use mm_frame::LabelId;

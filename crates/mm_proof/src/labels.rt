@@ -4,7 +4,8 @@ ghost use Rattle.std.specs.Prelude.{◌≡◌, OnOk, IfErr};
 ghost use Rattle.mm_frame.specs.Sentence.{Sentence};
 ghost use Rattle.mm_frame.specs.Numbers.{IsNumbered};
 ghost use Rattle.mm_proof.specs.Answer.{OnRule};
-ghost use Rattle.mm_proof.specs.CodeSteps.{IsUseOf, AreFor, BreaksLabels, ids_in, token_texts};
+ghost use Rattle.mm_proof.specs.Plain.{ids_in, token_texts};
+ghost use Rattle.mm_proof.specs.Mirror.CodeSteps.{IsUseOf, AreFor, BreaksLabels};
 
 use crate::fault::{ProofFault, ProofRule};
 use mm_frame::{Book, Found, Frame, Guesses, LabelId};

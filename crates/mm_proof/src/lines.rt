@@ -16,9 +16,9 @@ ghost use Rattle.mm_proof.specs.Profiles.{limit_of};
 ghost use Rattle.mm_proof.specs.Steps.{AreNumberedMoves, AreSteps};
 ghost use Rattle.mm_proof.specs.Listing.{AreLinesOf};
 ghost use Rattle.mm_proof.specs.Verified.{OfMoves};
-ghost use Rattle.mm_proof.specs.CodeSteps.{moves_in};
-ghost use Rattle.mm_proof.specs.CodeRun.{MayBeMade, HasRun};
-ghost use Rattle.mm_proof.specs.CodeLines.{AreLinesAt, BreaksAt, ListsProof, FaultsProof};
+ghost use Rattle.mm_proof.specs.Plain.{moves_in};
+ghost use Rattle.mm_proof.specs.Mirror.CodeRun.{MayBeMade, HasRun};
+ghost use Rattle.mm_proof.specs.Mirror.CodeLines.{AreLinesAt, BreaksAt, ListsProof, FaultsProof};
 
 use crate::fault::ProofFault;
 use crate::flat::Flat;

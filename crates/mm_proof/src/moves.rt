@@ -34,7 +34,7 @@ impl Model for Steps {
 
     ghost Value = { ReadSteps };
 
-    ghost use Rattle.mm_proof.specs.CodeSteps.{moves_in};
+    ghost use Rattle.mm_proof.specs.Plain.{moves_in};
 
     ghost view = { λ s. record { profile = s.profile; front = s.front; moves = moves_in s.moves.items } };
 }

@@ -12,9 +12,9 @@ ghost use Rattle.mm_proof.specs.OneTree.{MakeOneTree};
 ghost use Rattle.mm_proof.specs.Packing.{OfTree, ArePacked};
 ghost use Rattle.mm_proof.specs.Steps.{AreSteps};
 ghost use Rattle.mm_proof.specs.Verified.{OfMoves};
-ghost use Rattle.mm_proof.specs.CodeSteps.{ids_in, label_ids};
-ghost use Rattle.mm_proof.specs.CodeSharing.{AreFirstNumbers, labels_made, IsEncoded, AreEncoded};
-ghost use Rattle.mm_proof.specs.CodeSharing.{AreStepsPacked, AreMadeBefore};
+ghost use Rattle.mm_proof.specs.Plain.{ids_in, label_ids};
+ghost use Rattle.mm_proof.specs.Mirror.CodeSharing.{AreFirstNumbers, labels_made, IsEncoded, AreEncoded};
+ghost use Rattle.mm_proof.specs.Mirror.CodeSharing.{AreStepsPacked, AreMadeBefore};
 
 use crate::builder::build;
 use crate::label_set::LabelSet;

@@ -8,11 +8,11 @@ ghost use Rattle.mm_frame.specs.Numbers.{symbols_of};
 ghost use Rattle.mm_frame.specs.Pieces.{variables_of, HasPlaces, HavePlaces};
 ghost use Rattle.mm_proof.specs.Tree.{ShareNoVariable, AreDistinct};
 ghost use Rattle.mm_proof.specs.Stores.{numbers_in};
-ghost use Rattle.mm_proof.specs.CodeVerify.{AreDeclaredSymbols, AreStackEntries, SomeValues};
-ghost use Rattle.mm_proof.specs.CodeVerify.{EachValues};
-ghost use Rattle.mm_proof.specs.CodeVerify.{SomePairValues, EachPairValues, pairs_in, value_of};
-ghost use Rattle.mm_proof.specs.CodeVerify.{IsApart, IsApartFromEach, name_at};
-ghost use Rattle.mm_proof.specs.CodeVerify.{names_at};
+ghost use Rattle.mm_proof.specs.Mirror.CodeVerify.{AreDeclaredSymbols, AreStackEntries, SomeValues};
+ghost use Rattle.mm_proof.specs.Mirror.CodeVerify.{EachValues};
+ghost use Rattle.mm_proof.specs.Mirror.CodeVerify.{SomePairValues, EachPairValues, pairs_in, value_of};
+ghost use Rattle.mm_proof.specs.Mirror.CodeVerify.{IsApart, IsApartFromEach, name_at};
+ghost use Rattle.mm_proof.specs.Mirror.CodeVerify.{names_at};
 
 use crate::store::Store;
 use crate::substitution::value_at;

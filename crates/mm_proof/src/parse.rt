@@ -20,11 +20,11 @@ ghost use Rattle.mm_proof.specs.ReadSteps.{ReadSteps};
 ghost use Rattle.mm_proof.specs.KnownFront.{known_front};
 ghost use Rattle.mm_proof.specs.Strict.{HasFormOf, IsTextFault};
 ghost use Rattle.mm_proof.specs.Parsed.{OfProof, SaySteps};
-ghost use Rattle.mm_proof.specs.CodeSteps.{IsReading, NumberSays, MayAllBeUsed, AreFor, fault_behind};
-ghost use Rattle.mm_proof.specs.CodeSteps.{ids_in, label_ids, move_in, moves_in, token_texts};
+ghost use Rattle.mm_proof.specs.Mirror.CodeSteps.{IsReading, NumberSays, MayAllBeUsed, AreFor, fault_behind};
+ghost use Rattle.mm_proof.specs.Plain.{ids_in, label_ids, move_in, moves_in, token_texts};
 ghost use Rattle.mm_code.specs.Layout.{texts};
-ghost use Rattle.mm_proof.specs.CodeRun.{ArePicked, AreMarked};
-ghost use Rattle.mm_proof.specs.Sites.{IsSite};
+ghost use Rattle.mm_proof.specs.Mirror.CodeRun.{ArePicked, AreMarked};
+ghost use Rattle.mm_proof.specs.Mirror.Sites.{IsSite};
 
 use crate::fault::{ProofFault, ProofRule};
 use crate::form::judge_form;

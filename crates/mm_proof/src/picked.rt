@@ -2,8 +2,8 @@
 
 ghost use Rattle.std.specs.Prelude.{◌≡◌, ℕ, List, [], length, OnOk};
 ghost use Rattle.mm_proof.specs.Moves.{Move};
-ghost use Rattle.mm_proof.specs.CodeSteps.{ids_in, moves_in};
-ghost use Rattle.mm_proof.specs.CodeRun.{ArePicked, AreMarked};
+ghost use Rattle.mm_proof.specs.Plain.{ids_in, moves_in};
+ghost use Rattle.mm_proof.specs.Mirror.CodeRun.{ArePicked, AreMarked};
 
 use crate::moves::NumberedMove;
 use mm_frame::LabelId;

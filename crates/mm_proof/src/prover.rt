@@ -15,7 +15,7 @@ ghost use Rattle.mm_frame.specs.Taken.{TakenAs};
 ghost use Rattle.mm_proof.specs.Answer.{OnRule, IsUnlessMemory};
 ghost use Rattle.mm_proof.specs.Tokens.{IsIncomplete, opening_token};
 ghost use Rattle.mm_proof.specs.Profiles.{limit_of};
-ghost use Rattle.mm_proof.specs.Sites.{IsSite};
+ghost use Rattle.mm_proof.specs.Mirror.Sites.{IsSite};
 ghost use Rattle.mm_proof.specs.Strict.{HasFormOf};
 ghost use Rattle.mm_proof.specs.UnderProfile.{IsProvedUnder, IsFaultUnder, AreAllowedUnder};
 ghost use Rattle.mm_proof.specs.UnderProfile.{HaveFaultUnder, IsFrontAllowedUnder};
@@ -23,7 +23,7 @@ ghost use Rattle.mm_proof.specs.UnderProfile.{IsFrontFaultUnder};
 ghost use Rattle.mm_proof.specs.Steps.{IsProofNumber};
 ghost use Rattle.mm_proof.specs.Parsed.{OfProof};
 ghost use Rattle.mm_proof.specs.Verified.{TokensProve, TokensFail};
-ghost use Rattle.mm_proof.specs.CodeSteps.{ids_in, token_texts};
+ghost use Rattle.mm_proof.specs.Plain.{ids_in, token_texts};
 
 use crate::fault::{ProofFault, ProofRule};
 use crate::flat::Flat;
@@ -75,7 +75,7 @@ impl<'a> Model for Prover<'a> {
 
     ghost Value = { Proving };
 
-    ghost use Rattle.mm_proof.specs.CodeSteps.{ids_in};
+    ghost use Rattle.mm_proof.specs.Plain.{ids_in};
 
     ghost view = { λ p. record { book = p.book; used = ids_in p.scratch.named.ids.items } };
 }

@@ -8,10 +8,11 @@ ghost use Rattle.mm_proof.specs.Answer.{OnRule};
 ghost use Rattle.mm_proof.specs.Moves.{Move};
 ghost use Rattle.mm_proof.specs.Proof.{IsWithin, Prove, FirstAtMove, IsMoveFault};
 ghost use Rattle.mm_proof.specs.Steps.{IsNumberedMove, AreNumberedMoves, AreSteps};
-ghost use Rattle.mm_proof.specs.CodeSteps.{MayAllBeUsed, entry_move, code_moves, ids_in};
-ghost use Rattle.mm_proof.specs.CodeVerify.{AreStackEntries, all_names_at};
-ghost use Rattle.mm_proof.specs.CodeRun.{HasRun, AreMarked};
-ghost use Rattle.mm_proof.specs.CodeApply.{IsCallOf};
+ghost use Rattle.mm_proof.specs.Plain.{ids_in};
+ghost use Rattle.mm_proof.specs.Mirror.CodeSteps.{MayAllBeUsed, entry_move, code_moves};
+ghost use Rattle.mm_proof.specs.Mirror.CodeVerify.{AreStackEntries, all_names_at};
+ghost use Rattle.mm_proof.specs.Mirror.CodeRun.{HasRun, AreMarked};
+ghost use Rattle.mm_proof.specs.Mirror.CodeApply.{IsCallOf};
 ghost use Rattle.mm_proof.specs.Verified.{OfMoves, ProvesUsingNumbers, FailsWith};
 
 use crate::call::{Call, call_of, step_by};

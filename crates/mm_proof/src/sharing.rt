@@ -1,7 +1,7 @@
 //! The steps of a fully shared proof, by the numbers of its subtrees.
 
 ghost use Rattle.std.specs.Prelude.{◌≡◌, [], OnOk};
-ghost use Rattle.mm_proof.specs.CodeSharing.{Shares, IsRepeat};
+ghost use Rattle.mm_proof.specs.Mirror.CodeSharing.{Shares, IsRepeat};
 
 use crate::builder::Builder;
 use crate::subtree_set::SubtreeSet;
@@ -80,7 +80,7 @@ impl SharedSteps {
 
 /// Each subtree of two or more nodes is made once, and repeated where it is used again.
 impl Builder for SharedSteps {
-    ghost use Rattle.mm_proof.specs.CodeSharing.{ShareSteps};
+    ghost use Rattle.mm_proof.specs.Mirror.CodeSharing.{ShareSteps};
 
     type Item = Subtree;
 

@@ -6,7 +6,7 @@ ghost use Rattle.mm_frame.specs.Form.{IsSound};
 ghost use Rattle.mm_frame.specs.FramePlace.{AreHypotheses, AreItsSymbols};
 ghost use Rattle.mm_proof.specs.Profiles.{limit_of};
 ghost use Rattle.mm_proof.specs.Steps.{IsProofNumber};
-ghost use Rattle.mm_proof.specs.CodeSteps.{label_ids};
+ghost use Rattle.mm_proof.specs.Plain.{label_ids};
 ghost use Rattle.mm_proof.specs.Stores.{numbers_in};
 
 use crate::profile::Profile;
@@ -25,7 +25,7 @@ pub(crate) struct Site<'b, 'a> {
 
 impl<'b, 'a> Model for Site<'b, 'a> {
     ghost use Rattle.std.specs.Prelude.{◌≡◌};
-    ghost use Rattle.mm_proof.specs.Sites.{ProofSite, IsSite};
+    ghost use Rattle.mm_proof.specs.Mirror.Sites.{ProofSite, IsSite};
 
     ghost Value = { ProofSite };
 
@@ -47,7 +47,7 @@ impl<'b, 'a> Model for Site<'b, 'a> {
 }
 
 impl<'b, 'a> Site<'b, 'a> {
-    ghost use Rattle.mm_proof.specs.Sites.{IsSite};
+    ghost use Rattle.mm_proof.specs.Mirror.Sites.{IsSite};
 
     /// Where the proof of the `$p` with the number is judged, under the profile.
     pub(crate) fn new(book: &'b Book<'a>, id: LabelId, profile: Profile) -> Site<'b, 'a>

@@ -8,10 +8,10 @@ ghost use Rattle.mm_frame.specs.Sentence.{Sentence};
 ghost use Rattle.mm_frame.specs.FramePlace.{IsTypingOf, HaveTypings};
 ghost use Rattle.mm_frame.specs.Pieces.{variables_of, HavePatterns};
 ghost use Rattle.mm_proof.specs.Stores.{numbers_in};
-ghost use Rattle.mm_proof.specs.CodeSteps.{label_ids};
-ghost use Rattle.mm_proof.specs.CodeVerify.{AreHypothesesOf, AreVariablesOf, EachIsSome};
-ghost use Rattle.mm_proof.specs.CodeVerify.{AreBelow, names_at, all_names_at, IsRightCode};
-ghost use Rattle.mm_proof.specs.CodeVerify.{IsWrongCode, IsEqual, IsUnequal, EachEntry, Replaces};
+ghost use Rattle.mm_proof.specs.Plain.{label_ids};
+ghost use Rattle.mm_proof.specs.Mirror.CodeVerify.{AreHypothesesOf, AreVariablesOf, EachIsSome};
+ghost use Rattle.mm_proof.specs.Mirror.CodeVerify.{AreBelow, names_at, all_names_at, IsRightCode};
+ghost use Rattle.mm_proof.specs.Mirror.CodeVerify.{IsWrongCode, IsEqual, IsUnequal, EachEntry, Replaces};
 ghost use Rattle.mm_proof.specs.Proof.{SomePair};
 
 use crate::store::Store;

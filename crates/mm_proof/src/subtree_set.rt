@@ -2,7 +2,7 @@
 
 ghost use Rattle.std.specs.Prelude.{◌≡◌, ◌≤◌, ◌↔◌, [], length, slice_get, Some, Contains};
 ghost use Rattle.std.specs.Prelude.{OnOk, IsTrue};
-ghost use Rattle.mm_proof.specs.CodeSharing.{Adds};
+ghost use Rattle.mm_proof.specs.Mirror.CodeSharing.{Adds};
 
 use crate::subtrees::Subtree;
 use indexmap::IndexSet;

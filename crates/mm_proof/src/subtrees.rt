@@ -3,8 +3,8 @@
 ghost use Rattle.std.specs.Prelude.{◌≡◌, ◌↔◌, List, [], IfOk, OnOk, IsTrue};
 ghost use Rattle.mm_frame.specs.Sentence.{Sentence};
 ghost use Rattle.mm_proof.specs.Tree.{Trees};
-ghost use Rattle.mm_proof.specs.Subtrees.{IsNumberOfRow, KeepNumbers, AreOnce, AreTreesOf};
-ghost use Rattle.mm_proof.specs.Subtrees.{StandsFor};
+ghost use Rattle.mm_proof.specs.Mirror.Subtrees.{IsNumberOfRow, KeepNumbers, AreOnce, AreTreesOf};
+ghost use Rattle.mm_proof.specs.Mirror.Subtrees.{StandsFor};
 
 use crate::builder::Builder;
 use indexmap::IndexSet;
@@ -37,7 +37,7 @@ pub(crate) struct Subtrees {
 impl Model for Subtrees {
     ghost use Rattle.std.specs.Prelude.{List};
     ghost use Rattle.mm_proof.specs.declared.subtrees.Row.{Row};
-    ghost use Rattle.mm_proof.specs.Subtrees.{AreOnce};
+    ghost use Rattle.mm_proof.specs.Mirror.Subtrees.{AreOnce};
 
     ghost Value = { List Row };
 
@@ -96,7 +96,7 @@ impl Subtrees {
 
 /// The number of each row of trees is put into the table, and nothing else is written.
 impl Builder for Subtrees {
-    ghost use Rattle.mm_proof.specs.Subtrees.{AreSubtreesOf};
+    ghost use Rattle.mm_proof.specs.Mirror.Subtrees.{AreSubtreesOf};
 
     type Item = Subtree;
 

@@ -5,9 +5,10 @@ ghost use Rattle.std.specs.List.{AllZip};
 ghost use Rattle.mm_frame.specs.Sentence.{Sentence};
 ghost use Rattle.mm_frame.specs.Numbers.{IsAssertionNumber};
 ghost use Rattle.mm_proof.specs.Moves.{Move};
-ghost use Rattle.mm_proof.specs.CodeSteps.{MayBeUsed, ids_in};
-ghost use Rattle.mm_proof.specs.CodeApply.{IsCallOf, IsOfAssertion};
-ghost use Rattle.mm_proof.specs.CodeRun.{ArePicked, AreMarked, AreNamedNumbers, AreNamed};
+ghost use Rattle.mm_proof.specs.Plain.{ids_in};
+ghost use Rattle.mm_proof.specs.Mirror.CodeSteps.{MayBeUsed};
+ghost use Rattle.mm_proof.specs.Mirror.CodeApply.{IsCallOf, IsOfAssertion};
+ghost use Rattle.mm_proof.specs.Mirror.CodeRun.{ArePicked, AreMarked, AreNamedNumbers, AreNamed};
 
 use crate::call::Call;
 use mm_frame::{Book, LabelId, LabelKind};
@@ -25,7 +26,7 @@ impl Model for Used {
 
     ghost Value = { List ℕ };
 
-    ghost use Rattle.mm_proof.specs.CodeSteps.{ids_in};
+    ghost use Rattle.mm_proof.specs.Plain.{ids_in};
 
     ghost view = { λ u. ids_in u.labels.items };
 }

@@ -3,7 +3,7 @@
 ghost use Rattle.std.specs.Prelude.{◌≡◌, ◌+◌, ◌<◌, ◌≤◌, ℕ, length, IfOk, IfErr};
 ghost use Rattle.mm_proof.specs.declared.fault.ExpandFault.TheVariants.{L2};
 ghost use Rattle.mm_proof.specs.Tree.{Trees, spelling};
-ghost use Rattle.mm_proof.specs.Words.{AreParts};
+ghost use Rattle.mm_proof.specs.Mirror.Words.{AreParts};
 
 use crate::builder::Builder;
 use crate::fault::ExpandFault;
@@ -49,7 +49,7 @@ pub(crate) struct Length {
 /// The labels are counted.
 impl Builder for Length {
     ghost use Rattle.std.proofs.Common.{subst};
-    ghost use Rattle.mm_proof.specs.Words.{IsLong, IsLengthOf};
+    ghost use Rattle.mm_proof.specs.Mirror.Words.{IsLong, IsLengthOf};
 
     type Item = Part;
 
@@ -85,7 +85,7 @@ impl Builder for Length {
 
 /// The labels are written one behind the other.
 impl Builder for Vec<LabelId> {
-    ghost use Rattle.mm_proof.specs.Words.{AreLabelsOfWord};
+    ghost use Rattle.mm_proof.specs.Mirror.Words.{AreLabelsOfWord};
 
     type Item = Part;
 

@@ -7,9 +7,9 @@ use Rattle.mm_frame.specs.Pieces.{variables_of}
 use Rattle.mm_frame.proofs.Patterns.{variables_counted}
 use Rattle.mm_proof.specs.declared.fault.ProofRule.{ProofRule}
 use Rattle.mm_proof.specs.declared.fault.ProofRule.TheVariants.{P8, P9}
-use Rattle.mm_proof.specs.CodeSteps.{label_ids}
-use Rattle.mm_proof.specs.CodeVerify.{AreBelow, AreStackEntries}
-use Rattle.mm_proof.specs.CodeRun.{StopsAt}
+use Rattle.mm_proof.specs.Plain.{label_ids}
+use Rattle.mm_proof.specs.Mirror.CodeVerify.{AreBelow, AreStackEntries}
+use Rattle.mm_proof.specs.Mirror.CodeRun.{StopsAt}
 use Rattle.mm_proof.proofs.Named.{as_many}
 use Rattle.mm_proof.proofs.Patterned.{its_within}
 use Rattle.mm_proof.proofs.Applying.{stops_P8, stops_P9, called_of, ready_of, entries_drop, entries_below}

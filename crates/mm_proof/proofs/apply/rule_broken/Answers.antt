@@ -1,7 +1,7 @@
 use Rattle.std.proofs.Common.{◌≡◌, length, drop, arith}
 use Rattle.std.proofs.lemmas.List.{length-drop}
 use Rattle.mm_frame.specs.Pieces.{variables_of}
-use Rattle.mm_proof.specs.CodeVerify.{pairs_in, all_names_at}
+use Rattle.mm_proof.specs.Mirror.CodeVerify.{pairs_in, all_names_at}
 use Rattle.mm_proof.proofs.Named.{as_many, typed_variables}
 use Rattle.mm_proof.proofs.Replacements.{replaced_by}
 use Rattle.mm_proof.proofs.Replacing.{replaces_by}

@@ -1,6 +1,6 @@
 use Rattle.std.proofs.Common.{inr, sym, ap, ◌∙◌}
 use Rattle.std.proofs.lemmas.Result.{IfOk-weaker, IfErr-weaker}
-use Rattle.mm_proof.specs.CodeSteps.{moves_in}
+use Rattle.mm_proof.specs.Plain.{moves_in}
 use Rattle.mm_proof.proofs.Ending.{seen_moves}
 use Rattle.mm_proof.proofs.Building.{make_tree_at}
 use Rattle.mm_proof.proofs.builder.build.Goals as goal

@@ -4,7 +4,7 @@ use Rattle.std.proofs.lemmas.List.{take_all, length-drop}
 use Rattle.std.proofs.lemmas.Option.{slice_get_read, same_Some}
 use Rattle.mm_proof.specs.Tree.{tree, none}
 use Rattle.mm_proof.specs.Spelled.{IsLabelNumber}
-use Rattle.mm_proof.specs.Builders.{MakesItem, IsBuilt}
+use Rattle.mm_proof.specs.Mirror.Builders.{MakesItem, IsBuilt}
 use Rattle.mm_proof.proofs.Building.{At, handed, next_make, make_within, at_make, make_long, repeat_within, next_repeat, at_repeat, repeat_long, next_keep, at_keep, only_item}
 use Rattle.mm_proof.proofs.builder.build_moves.Goals as goal
 use Rattle.mm_proof.proofs.builder.build_moves.Goals.{in-Name+in_ok-item-in-Name+in_ok-put_last-in-Name, in-Again+in_ok-item-in-Again+in_ok-put_last-in-Again, in-Mark+in_ok-put_last-in-Mark}

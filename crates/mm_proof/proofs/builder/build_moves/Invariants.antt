@@ -1,5 +1,5 @@
-use Rattle.mm_proof.specs.CodeSteps.{moves_in}
-use Rattle.mm_proof.specs.Builders.{MakeTreeAt}
+use Rattle.mm_proof.specs.Plain.{moves_in}
+use Rattle.mm_proof.specs.Mirror.Builders.{MakeTreeAt}
 use Rattle.mm_proof.proofs.Building.{At}
 use Rattle.mm_proof.proofs.builder.build_moves.Given as goal
 

@@ -2,7 +2,7 @@ use Rattle.std.proofs.Common.{◌≡◌, sym, subst, ◌∙◌}
 use Rattle.std.proofs.lemmas.Option.{same_Some}
 use Rattle.mm_frame.specs.Sentence.{Sentence, IsHypothesis}
 use Rattle.mm_frame.proofs.Labelled.{numbered_get}
-use Rattle.mm_proof.specs.CodeApply.{IsCallOf}
+use Rattle.mm_proof.specs.Mirror.CodeApply.{IsCallOf}
 use Rattle.mm_proof.proofs.Widths.{width_hypothesis, width_assertion}
 use Rattle.mm_proof.proofs.builder.width.Goals as goal
 

@@ -5,10 +5,10 @@ use Rattle.std.proofs.lemmas.Result.{on_ok_weaker}
 use Rattle.mm_proof.specs.declared.fault.ProofRule.{ProofRule}
 use Rattle.mm_proof.specs.declared.fault.ProofRule.TheVariants.{L1}
 use Rattle.mm_proof.specs.Stores.{numbers_in}
-use Rattle.mm_proof.specs.CodeRun.{CarriesOn, StopsAt}
-use Rattle.mm_proof.specs.CodeVerify.{AreStackEntries}
-use Rattle.mm_proof.specs.CodeApply.{IsCallOf, IsEarlierScheme}
-use Rattle.mm_proof.specs.Sites.{ProofSite, IsSite}
+use Rattle.mm_proof.specs.Mirror.CodeRun.{CarriesOn, StopsAt}
+use Rattle.mm_proof.specs.Mirror.CodeVerify.{AreStackEntries}
+use Rattle.mm_proof.specs.Mirror.CodeApply.{IsCallOf, IsEarlierScheme}
+use Rattle.mm_proof.specs.Mirror.Sites.{ProofSite, IsSite}
 use Rattle.mm_proof.proofs.Applying.{stops_long, pushes, pushed_entries}
 use Rattle.mm_proof.proofs.call.step_by.Goals as goal
 

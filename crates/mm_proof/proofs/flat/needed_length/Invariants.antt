@@ -1,6 +1,6 @@
 use Rattle.std.proofs.Common.{◌≡◌, ◌≤◌, ◌<◌, ℕ, Some, slice_get}
 use Rattle.mm_proof.specs.declared.entry.Entry.{Entry}
-use Rattle.mm_proof.specs.Buffer.{AreParts}
+use Rattle.mm_proof.specs.Mirror.Buffer.{AreParts}
 use Rattle.mm_proof.proofs.flat.needed_length.Given as goal
 
 abbrev pub invariant-loop-entry : goal.invariant-loop-entry

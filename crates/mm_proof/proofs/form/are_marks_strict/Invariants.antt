@@ -1,7 +1,7 @@
 use Rattle.std.proofs.Common.{◌≡◌, ℕ, ◌<◌, slice_get, Some}
 use Rattle.mm_proof.specs.Moves.{mark}
-use Rattle.mm_proof.specs.CodeSteps.{moves_in}
-use Rattle.mm_proof.specs.CodeForm.{IsAfterAssertion}
+use Rattle.mm_proof.specs.Plain.{moves_in}
+use Rattle.mm_proof.specs.Mirror.CodeForm.{IsAfterAssertion}
 use Rattle.mm_proof.proofs.form.are_marks_strict.Given as goal
 
 abbrev pub invariant-loop-place : goal.invariant-loop-place

@@ -1,4 +1,4 @@
-use Rattle.mm_proof.specs.CodeSteps.{ids_in}
+use Rattle.mm_proof.specs.Plain.{ids_in}
 use Rattle.mm_proof.proofs.FormLists.{new_none, new_one, new_all, old_here}
 use Rattle.mm_proof.proofs.form.are_new.Goals as goal
 

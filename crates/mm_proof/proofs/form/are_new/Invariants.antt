@@ -1,4 +1,4 @@
-use Rattle.mm_proof.specs.CodeSteps.{ids_in}
+use Rattle.mm_proof.specs.Plain.{ids_in}
 use Rattle.mm_proof.proofs.FormLists.{NewSoFar}
 use Rattle.mm_proof.proofs.form.are_new.Given as goal
 

@@ -1,7 +1,7 @@
 use Rattle.std.proofs.Common.{ℕ, List, take, Contains, ◌↔◌, refl, ap, subst, ◌∙◌}
 use Rattle.std.proofs.lemmas.List.{take_all}
 use Rattle.mm_frame.specs.declared.hypothesis.Hypothesis.{Hypothesis}
-use Rattle.mm_proof.specs.CodeSteps.{label_ids}
+use Rattle.mm_proof.specs.Plain.{label_ids}
 use Rattle.mm_proof.proofs.PackingLists.{one_more, label_ids-more}
 use Rattle.mm_proof.proofs.FormLists.{set_more}
 use Rattle.mm_proof.proofs.form.hypothesis_set.Goals as goal

@@ -4,8 +4,8 @@ use Rattle.std.proofs.lemmas.Option.{same_Some}
 use Rattle.mm_text.proofs.Lists.{all_at}
 use Rattle.mm_frame.specs.Numbers.{IsAssertionNumber}
 use Rattle.mm_proof.specs.Moves.{name}
-use Rattle.mm_proof.specs.CodeSteps.{move_in, moves_in}
-use Rattle.mm_proof.specs.CodeRun.{MayBeMade}
+use Rattle.mm_proof.specs.Plain.{move_in, moves_in}
+use Rattle.mm_proof.specs.Mirror.CodeRun.{MayBeMade}
 use Rattle.mm_proof.proofs.Running.{move_at}
 use Rattle.mm_proof.proofs.FormLists.{move_name}
 use Rattle.mm_proof.proofs.form.is_after_assertion.Goals as goal

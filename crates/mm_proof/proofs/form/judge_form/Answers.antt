@@ -1,10 +1,10 @@
 use Rattle.std.proofs.Common.{◌≡◌, List, refl, ap, sym, subst}
 use Rattle.std.specs.List.{AllByRecursion}
 use Rattle.mm_frame.specs.Sentence.{Sentence}
-use Rattle.mm_proof.specs.Sites.{ProofSite}
-use Rattle.mm_proof.specs.CodeSteps.{ids_in, label_ids, moves_in, token_texts}
-use Rattle.mm_proof.specs.CodeRun.{MayBeMade}
-use Rattle.mm_proof.specs.CodeForm.{AreMarksStrict, SomeMarkLoose}
+use Rattle.mm_proof.specs.Mirror.Sites.{ProofSite}
+use Rattle.mm_proof.specs.Plain.{ids_in, label_ids, moves_in, token_texts}
+use Rattle.mm_proof.specs.Mirror.CodeRun.{MayBeMade}
+use Rattle.mm_proof.specs.Mirror.CodeForm.{AreMarksStrict, SomeMarkLoose}
 use Rattle.mm_proof.proofs.Ending.{steps_made}
 use Rattle.mm_proof.proofs.FormLists.{new_seen, old_seen}
 use Rattle.mm_proof.proofs.FormJudged.{strict_all, old_fault, loose_fault}

@@ -1,7 +1,7 @@
 use Rattle.std.proofs.Common.{sym, ap, ◌∙◌}
 use Rattle.std.proofs.lemmas.Result.{IfOk-weaker}
 use Rattle.mm_proof.specs.KnownFront.{ends_list}
-use Rattle.mm_proof.specs.CodeSteps.{token_texts}
+use Rattle.mm_proof.specs.Plain.{token_texts}
 use Rattle.mm_proof.proofs.FrontTokens.{known_cut, known_joined, front_normal, front_open, front_closed}
 use Rattle.mm_proof.proofs.front.known_front.Goals as goal
 

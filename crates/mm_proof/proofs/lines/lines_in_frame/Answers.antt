@@ -1,7 +1,7 @@
 use Rattle.std.proofs.Common.{rules, ◌≡◌, ◌+◌, length, Err, ap, ◌∙◌}
 use Rattle.std.proofs.lemmas.Result.{err_from_is_err_and}
 use Rattle.std.specs.Vec.{vec_len}
-use Rattle.mm_proof.specs.CodeSteps.{moves_in}
+use Rattle.mm_proof.specs.Plain.{moves_in}
 use Rattle.mm_proof.proofs.Ending.{steps_made, wrong_end, wrong_move, on_rule_from}
 use Rattle.mm_proof.proofs.ListingEnd.{lists_end}
 use Rattle.mm_proof.proofs.lines.lines_in_frame.Goals as goal

@@ -2,8 +2,8 @@ use Rattle.std.proofs.Common.{rules, ◌≡◌, ◌+◌, Err, Some, length, refl
 use Rattle.std.specs.Vec.{vec_len}
 use Rattle.std.proofs.lemmas.Option.{slice_get_read}
 use Rattle.mm_text.proofs.Lists.{all_at}
-use Rattle.mm_proof.specs.CodeSteps.{move_in, moves_in}
-use Rattle.mm_proof.specs.CodeRun.{MayBeMade}
+use Rattle.mm_proof.specs.Plain.{move_in, moves_in}
+use Rattle.mm_proof.specs.Mirror.CodeRun.{MayBeMade}
 use Rattle.mm_proof.proofs.Running.{move_at, refused, run_fault, stops_first, again_first, mark_first}
 use Rattle.mm_proof.proofs.ListingLoop.{listing_none, listing_name, listing_again, listing_mark, name_stands, tag_stands, listing_end}
 use Rattle.mm_proof.proofs.lines.lines_of.Goals as goal

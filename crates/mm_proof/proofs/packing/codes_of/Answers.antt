@@ -1,6 +1,6 @@
 use Rattle.std.proofs.Common.{[], subst}
 use Rattle.std.proofs.lemmas.List.{take_all}
-use Rattle.mm_proof.specs.CodeSharing.{AreEncoded}
+use Rattle.mm_proof.specs.Mirror.CodeSharing.{AreEncoded}
 use Rattle.mm_proof.proofs.PackingLists.{one_there, encoded_next, repeated_tagged, tagged_next}
 use Rattle.mm_proof.proofs.packing.codes_of.Goals as goal
 

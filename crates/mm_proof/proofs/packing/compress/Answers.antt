@@ -2,8 +2,8 @@ use Rattle.std.proofs.Common.{subst, length, sym, ap, arith}
 use Rattle.std.proofs.lemmas.Result.{IfOk-weaker}
 use Rattle.std.proofs.lemmas.Slice.Zip.{AllZip-long}
 use Rattle.mm_proof.specs.Steps.{IsNumberedMove}
-use Rattle.mm_proof.specs.CodeSteps.{ids_in, label_ids}
-use Rattle.mm_proof.specs.CodeSharing.{AreStepsPacked, AreMadeBefore}
+use Rattle.mm_proof.specs.Plain.{ids_in, label_ids}
+use Rattle.mm_proof.specs.Mirror.CodeSharing.{AreStepsPacked, AreMadeBefore}
 use Rattle.mm_proof.proofs.SharingSteps.{shared_keep, steps_end, steps_made_before}
 use Rattle.mm_proof.proofs.PackedTrees.{packed_made}
 use Rattle.mm_proof.proofs.packing.compress.Goals as goal

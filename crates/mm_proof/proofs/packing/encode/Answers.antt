@@ -1,7 +1,7 @@
 use Rattle.std.proofs.Common.{◌+◌, ◌++◌, ◌∷◌, [], inl, inr, refl, sym, ap, subst, ◌∙◌, append_assoc}
 use Rattle.std.proofs.lemmas.Bool.{false≢true}
 use Rattle.mm_code.specs.declared.code.Code.TheVariants.{Number, Tag}
-use Rattle.mm_proof.specs.CodeSharing.{IsEncoded}
+use Rattle.mm_proof.specs.Mirror.CodeSharing.{IsEncoded}
 use Rattle.mm_proof.proofs.packing.encode.Goals as goal
 
 pub returns-then-has-clause-said : goal.returns-then-has-clause-said

@@ -1,6 +1,6 @@
 use Rattle.std.proofs.Common.{[], take, refl, sym, ap, subst, ◌∙◌}
-use Rattle.mm_proof.specs.CodeSteps.{label_ids}
-use Rattle.mm_proof.specs.CodeSharing.{AreFirstNumbers}
+use Rattle.mm_proof.specs.Plain.{label_ids}
+use Rattle.mm_proof.specs.Mirror.CodeSharing.{AreFirstNumbers}
 use Rattle.mm_proof.proofs.PackingLists.{one_more, label_ids-more, first_added}
 use Rattle.mm_proof.proofs.packing.hypothesis_labels.Goals as goal
 

@@ -1,6 +1,6 @@
 use Rattle.std.proofs.Common.{[], take}
-use Rattle.mm_proof.specs.CodeSteps.{label_ids}
-use Rattle.mm_proof.specs.CodeSharing.{AreFirstNumbers}
+use Rattle.mm_proof.specs.Plain.{label_ids}
+use Rattle.mm_proof.specs.Mirror.CodeSharing.{AreFirstNumbers}
 use Rattle.mm_proof.proofs.packing.hypothesis_labels.Given as goal
 
 abbrev pub invariant-loop-hypothesis : goal.invariant-loop-hypothesis

@@ -1,5 +1,5 @@
 use Rattle.std.proofs.Common.{take, ap, subst, ◌∙◌}
-use Rattle.mm_proof.specs.CodeSharing.{AddsNew, labels_made}
+use Rattle.mm_proof.specs.Mirror.CodeSharing.{AddsNew, labels_made}
 use Rattle.mm_proof.proofs.PackingLists.{one_more, ids_more, labels_made-make, labels_made-repeat, listing_old, listing_new, listing_made}
 use Rattle.mm_proof.proofs.packing.list_labels.Goals as goal
 use Rattle.mm_proof.proofs.packing.list_labels.Goals.{in-Make+in_ok-add-in-Make+then-branch+in_ok-push-in-Make, in-Make+in_ok-add-in-Make+else-branch, in-Repeat}

@@ -1,6 +1,6 @@
 use Rattle.std.proofs.Common.{take}
-use Rattle.mm_proof.specs.CodeSteps.{ids_in}
-use Rattle.mm_proof.specs.CodeSharing.{labels_made}
+use Rattle.mm_proof.specs.Plain.{ids_in}
+use Rattle.mm_proof.specs.Mirror.CodeSharing.{labels_made}
 use Rattle.mm_proof.proofs.PackingLists.{Listing}
 use Rattle.mm_proof.proofs.packing.list_labels.Given as goal
 

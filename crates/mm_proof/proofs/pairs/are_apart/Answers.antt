@@ -1,7 +1,7 @@
 use Rattle.std.proofs.Common.{ℕ, sym, subst, arith, below_more, get_or}
 use Rattle.std.proofs.lemmas.List.{length-map}
 use Rattle.mm_proof.specs.Stores.{numbers_in}
-use Rattle.mm_proof.specs.CodeVerify.{IsApartFromEach}
+use Rattle.mm_proof.specs.Mirror.CodeVerify.{IsApartFromEach}
 use Rattle.mm_proof.proofs.Shared.{number_at, symbol_below, distinct_told, near_told}
 use Rattle.mm_proof.proofs.pairs.are_apart.Goals as goal
 

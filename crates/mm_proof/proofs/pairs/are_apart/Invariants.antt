@@ -1,6 +1,6 @@
 use Rattle.std.proofs.Common.{ℕ, ◌<◌, get_or}
 use Rattle.mm_proof.specs.Stores.{numbers_in}
-use Rattle.mm_proof.specs.CodeVerify.{IsApartFromEach}
+use Rattle.mm_proof.specs.Mirror.CodeVerify.{IsApartFromEach}
 use Rattle.mm_proof.proofs.pairs.are_apart.Given as goal
 
 abbrev pub invariant-loop-symbol : goal.invariant-loop-symbol

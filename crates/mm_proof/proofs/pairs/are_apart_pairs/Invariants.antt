@@ -1,7 +1,7 @@
 use Rattle.std.proofs.Common.{ℕ, ◌<◌, ◌≡◌, Some, drop, take, slice_get}
 use Rattle.mm_proof.specs.Tree.{AreDistinct}
 use Rattle.mm_frame.specs.Pieces.{variables_of}
-use Rattle.mm_proof.specs.CodeVerify.{names_at, value_of, pairs_in, EachValues}
+use Rattle.mm_proof.specs.Mirror.CodeVerify.{names_at, value_of, pairs_in, EachValues}
 use Rattle.mm_proof.proofs.pairs.are_apart_pairs.Given as goal
 
 abbrev pub invariant-loop-pair : goal.invariant-loop-pair

@@ -1,7 +1,7 @@
 use Rattle.std.proofs.Common.{ℕ, ◌<◌, ◌≡◌, Some, drop, take, slice_get}
 use Rattle.mm_proof.specs.Tree.{ShareNoVariable}
 use Rattle.mm_frame.specs.Pieces.{variables_of}
-use Rattle.mm_proof.specs.CodeVerify.{names_at, value_of, pairs_in, EachValues}
+use Rattle.mm_proof.specs.Mirror.CodeVerify.{names_at, value_of, pairs_in, EachValues}
 use Rattle.mm_proof.proofs.pairs.has_shared_pair.Given as goal
 
 abbrev pub invariant-loop-pair : goal.invariant-loop-pair

@@ -1,7 +1,7 @@
 use Rattle.std.proofs.Common.{ℕ, sym, subst, arith, below_more, get_or}
 use Rattle.std.proofs.lemmas.List.{length-map}
 use Rattle.mm_proof.specs.Stores.{numbers_in}
-use Rattle.mm_proof.specs.CodeVerify.{IsApart}
+use Rattle.mm_proof.specs.Mirror.CodeVerify.{IsApart}
 use Rattle.mm_proof.proofs.Shared.{number_at, symbol_below}
 use Rattle.mm_proof.proofs.Named.{number_of_name}
 use Rattle.mm_proof.proofs.pairs.is_apart_from_each.Goals as goal

@@ -1,6 +1,6 @@
 use Rattle.std.proofs.Common.{ℕ, ◌<◌, get_or}
 use Rattle.mm_proof.specs.Stores.{numbers_in}
-use Rattle.mm_proof.specs.CodeVerify.{IsApart}
+use Rattle.mm_proof.specs.Mirror.CodeVerify.{IsApart}
 use Rattle.mm_proof.proofs.pairs.is_apart_from_each.Given as goal
 
 abbrev pub invariant-loop-symbol : goal.invariant-loop-symbol

@@ -1,7 +1,7 @@
 use Rattle.std.proofs.Common.{◌<◌, length, drop, take, sym, subst, arith}
 use Rattle.std.proofs.lemmas.List.{length-drop}
 use Rattle.mm_proof.specs.Tree.{ShareNoVariable}
-use Rattle.mm_proof.specs.CodeVerify.{AreDeclaredSymbols, names_at, value_of}
+use Rattle.mm_proof.specs.Mirror.CodeVerify.{AreDeclaredSymbols, names_at, value_of}
 use Rattle.mm_proof.proofs.Shared.{entry_symbols, values_told}
 use Rattle.mm_proof.proofs.Values.{value_placed}
 use Rattle.mm_proof.proofs.pairs.is_shared_pair.Goals as goal

@@ -2,7 +2,7 @@ use Rattle.std.proofs.Common.{ℕ, sym, subst, arith, below_more, get_or, Contai
 use Rattle.std.proofs.lemmas.List.{length-map}
 use Rattle.mm_frame.specs.Active.{IsVariable}
 use Rattle.mm_proof.specs.Stores.{numbers_in}
-use Rattle.mm_proof.specs.CodeVerify.{name_at}
+use Rattle.mm_proof.specs.Mirror.CodeVerify.{name_at}
 use Rattle.mm_proof.proofs.Shared.{number_at, symbol_below, shared_told, not_shared_told}
 use Rattle.mm_proof.proofs.pairs.share_variable.Goals as goal
 

@@ -1,7 +1,7 @@
 use Rattle.std.proofs.Common.{ℕ, ◌<◌, Contains, get_or}
 use Rattle.mm_frame.specs.Active.{IsVariable}
 use Rattle.mm_proof.specs.Stores.{numbers_in}
-use Rattle.mm_proof.specs.CodeVerify.{name_at}
+use Rattle.mm_proof.specs.Mirror.CodeVerify.{name_at}
 use Rattle.mm_proof.proofs.pairs.share_variable.Given as goal
 
 abbrev pub invariant-loop-symbol : goal.invariant-loop-symbol

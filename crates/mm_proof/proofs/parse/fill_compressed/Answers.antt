@@ -4,7 +4,8 @@ use Rattle.std.proofs.lemmas.Result.{on_ok_weaker}
 use Rattle.mm_code.specs.declared.code.Code.{Code}
 use Rattle.mm_code.specs.Letters.{HasSpelling}
 use Rattle.mm_frame.specs.declared.number.LabelId.{LabelId}
-use Rattle.mm_proof.specs.CodeSteps.{NumberSays, ids_in, moves_in}
+use Rattle.mm_proof.specs.Plain.{ids_in, moves_in}
+use Rattle.mm_proof.specs.Mirror.CodeSteps.{NumberSays}
 use Rattle.mm_proof.proofs.Answering.{memory_only}
 use Rattle.mm_proof.proofs.parse.fill_compressed.Goals as goal
 

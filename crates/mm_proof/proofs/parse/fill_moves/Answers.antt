@@ -1,4 +1,4 @@
-use Rattle.mm_proof.specs.CodeSteps.{ids_in, moves_in}
+use Rattle.mm_proof.specs.Plain.{ids_in, moves_in}
 use Rattle.mm_proof.proofs.Compressed.{codes_more}
 use Rattle.mm_proof.proofs.Picking.{marked_push}
 use Rattle.mm_proof.proofs.parse.fill_moves.Goals as goal

@@ -1,7 +1,8 @@
 use Rattle.std.proofs.Common.{◌≡◌, length, take}
 use Rattle.std.specs.List.{AllZip}
-use Rattle.mm_proof.specs.CodeSteps.{NumberSays, ids_in, moves_in}
-use Rattle.mm_proof.specs.CodeRun.{AreMarked}
+use Rattle.mm_proof.specs.Plain.{ids_in, moves_in}
+use Rattle.mm_proof.specs.Mirror.CodeSteps.{NumberSays}
+use Rattle.mm_proof.specs.Mirror.CodeRun.{AreMarked}
 use Rattle.mm_proof.proofs.parse.fill_moves.Given as goal
 
 abbrev pub invariant-loop-code : goal.invariant-loop-code

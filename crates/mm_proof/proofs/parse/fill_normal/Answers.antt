@@ -2,8 +2,9 @@ use Rattle.std.proofs.Common.{slice_get, ℕ, List, map, subst, sym, ap, ◌∙�
 use Rattle.std.proofs.lemmas.Result.{err_from_is_err_and}
 use Rattle.mm_proof.specs.Moves.{Move, name}
 use Rattle.mm_proof.specs.declared.moves.NumberedMove.{NumberedMove}
-use Rattle.mm_proof.specs.CodeSteps.{IsReading, ids_in, moves_in, token_texts}
-use Rattle.mm_proof.specs.CodeRun.{ArePicked}
+use Rattle.mm_proof.specs.Plain.{ids_in, moves_in, token_texts}
+use Rattle.mm_proof.specs.Mirror.CodeSteps.{IsReading}
+use Rattle.mm_proof.specs.Mirror.CodeRun.{ArePicked}
 use Rattle.mm_proof.proofs.Answering.{on_rule_map}
 use Rattle.mm_proof.proofs.TokenFacts.{labels_fault, normal_labels}
 use Rattle.mm_proof.proofs.Readings.{reading_normal}

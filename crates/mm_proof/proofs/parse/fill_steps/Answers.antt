@@ -1,5 +1,5 @@
 use Rattle.std.proofs.lemmas.Result.{on_ok_weaker}
-use Rattle.mm_proof.specs.CodeSteps.{token_texts, moves_in}
+use Rattle.mm_proof.specs.Plain.{token_texts, moves_in}
 use Rattle.mm_proof.proofs.Answering.{rules_map}
 use Rattle.mm_proof.proofs.Whole.{reading_said, reading_usable, whole_fault_there}
 use Rattle.mm_proof.proofs.parse.fill_steps.Goals as goal

@@ -2,7 +2,7 @@ use Rattle.std.proofs.Common.{take, inl, inr, subst}
 use Rattle.std.proofs.lemmas.Result.{err_from_is_err_and}
 use Rattle.mm_proof.specs.declared.profile.Profile.{Profile}
 use Rattle.mm_proof.specs.Strict.{HasFormOf}
-use Rattle.mm_proof.specs.CodeSteps.{token_texts}
+use Rattle.mm_proof.specs.Plain.{token_texts}
 use Rattle.mm_proof.proofs.Answering.{on_rule_map, rules_map}
 use Rattle.mm_proof.proofs.parse.fill_under.Goals as goal
 

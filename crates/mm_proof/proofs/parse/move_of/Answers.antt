@@ -1,7 +1,7 @@
 use Rattle.std.proofs.Common.{ap, sym, ◌∙◌, arith, ◌-◌, Some, length}
 use Rattle.std.proofs.lemmas.Bool.Decides.{Decides-ltb}
 use Rattle.mm_frame.specs.declared.number.LabelId.{LabelId}
-use Rattle.mm_proof.specs.CodeSteps.{ids_in}
+use Rattle.mm_proof.specs.Plain.{ids_in}
 use Rattle.mm_proof.specs.Moves.{again, mark}
 use Rattle.mm_proof.proofs.Picking.{marked_more, marked_other, entry_at}
 use Rattle.mm_proof.proofs.parse.move_of.Goals as goal

@@ -4,7 +4,8 @@ use Rattle.std.proofs.lemmas.Result.{err_from_is_err_and}
 use Rattle.mm_code.specs.declared.code.CodeRule.TheVariants as code
 use Rattle.mm_frame.specs.Sentence.{Sentence}
 use Rattle.mm_frame.specs.FramePlace.{AreHypotheses}
-use Rattle.mm_proof.specs.CodeSteps.{NumberSays, MayAllBeUsed, AreFor, ids_in, label_ids}
+use Rattle.mm_proof.specs.Plain.{ids_in, label_ids}
+use Rattle.mm_proof.specs.Mirror.CodeSteps.{NumberSays, MayAllBeUsed, AreFor}
 use Rattle.mm_proof.proofs.Answering.{on_rule_map}
 use Rattle.mm_proof.proofs.TokenFacts.{labels_fault}
 use Rattle.mm_proof.proofs.Compressed.{one_compressed, reading_compressed, entries_usable, compressed_labels, letters_spelled, letter_broken}

@@ -4,7 +4,7 @@ use Rattle.std.specs.List.{flat_map}
 use Rattle.std.proofs.lemmas.Result.{on_ok_weaker}
 use Rattle.mm_code.specs.declared.code.CodeRule.{CodeRule}
 use Rattle.mm_code.specs.Letters.{Letters, LettersBreak as Breaks, joined_tokens}
-use Rattle.mm_proof.specs.CodeSteps.{token_texts}
+use Rattle.mm_proof.specs.Plain.{token_texts}
 use Rattle.mm_code.specs.Layout.{texts}
 use Rattle.mm_proof.proofs.Compressed.{joined_texts, filled_unbroken}
 use Rattle.mm_proof.proofs.parse.read_letters.Goals as goal

@@ -1,6 +1,6 @@
 use Rattle.std.proofs.Common.{take, arith}
 use Rattle.std.proofs.lemmas.Result.{err_from_is_err_and}
-use Rattle.mm_proof.specs.CodeSteps.{token_texts}
+use Rattle.mm_proof.specs.Plain.{token_texts}
 use Rattle.mm_proof.proofs.FewMoves.{moves_bytes}
 use Rattle.mm_proof.proofs.parse.steps_of.Goals as goal
 

@@ -1,6 +1,6 @@
 use Rattle.std.proofs.Common.{take}
-use Rattle.mm_proof.specs.CodeSteps.{ids_in, moves_in}
-use Rattle.mm_proof.specs.CodeRun.{ArePicked}
+use Rattle.mm_proof.specs.Plain.{ids_in, moves_in}
+use Rattle.mm_proof.specs.Mirror.CodeRun.{ArePicked}
 use Rattle.mm_proof.proofs.picked.fill_picked.Given as goal
 
 abbrev pub invariant-loop-one : goal.invariant-loop-one

@@ -3,7 +3,7 @@ use Rattle.std.proofs.lemmas.Result.{err_from_is_err_and, on_ok_weaker}
 use Rattle.mm_proof.specs.declared.moves.NumberedMove.{NumberedMove}
 use Rattle.mm_proof.specs.Parsed.{OfProof, SaySteps}
 use Rattle.mm_proof.specs.Steps.{AreSteps}
-use Rattle.mm_proof.specs.CodeSteps.{moves_in, token_texts}
+use Rattle.mm_proof.specs.Plain.{moves_in, token_texts}
 use Rattle.mm_proof.proofs.Answering.{on_rule_map, rules_map}
 use Rattle.mm_proof.specs.Profiles.{limit_of}
 use Rattle.mm_proof.proofs.UnderAnswers.{have_under}

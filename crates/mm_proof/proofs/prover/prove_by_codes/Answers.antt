@@ -5,7 +5,8 @@ use Rattle.mm_code.specs.declared.code.Code.{Code}
 use Rattle.mm_code.specs.Letters.{HasSpelling}
 use Rattle.mm_frame.specs.declared.number.LabelId.{LabelId}
 use Rattle.mm_proof.specs.Tokens.{opening_token}
-use Rattle.mm_proof.specs.CodeSteps.{MayAllBeUsed, ids_in, code_moves, token_texts}
+use Rattle.mm_proof.specs.Plain.{ids_in, token_texts}
+use Rattle.mm_proof.specs.Mirror.CodeSteps.{MayAllBeUsed, code_moves}
 use Rattle.mm_proof.proofs.Answering.{rules_map, on_rule_map}
 use Rattle.mm_proof.proofs.Coded.{codes_read}
 use Rattle.mm_proof.proofs.Whole.{reading_said, reading_usable, whole_fault_there, tokens_prove, tokens_fail}

@@ -4,8 +4,8 @@ use Rattle.mm_frame.specs.declared.number.LabelId.{LabelId}
 use Rattle.mm_proof.specs.declared.moves.NumberedMove.{NumberedMove}
 use Rattle.mm_proof.specs.Parsed.{OfProof, SaySteps}
 use Rattle.mm_proof.specs.Steps.{AreSteps}
-use Rattle.mm_proof.specs.CodeSteps.{ids_in, moves_in, token_texts}
-use Rattle.mm_proof.specs.CodeRun.{ArePicked}
+use Rattle.mm_proof.specs.Plain.{ids_in, moves_in, token_texts}
+use Rattle.mm_proof.specs.Mirror.CodeRun.{ArePicked}
 use Rattle.mm_proof.proofs.Answering.{on_rule_map, rules_map}
 use Rattle.mm_proof.proofs.Whole.{in_any_order, tokens_prove, tokens_fail}
 use Rattle.mm_proof.proofs.prover.prove_by_moves.Goals as goal

@@ -1,6 +1,6 @@
 use Rattle.std.proofs.Common.{take}
 use Rattle.std.proofs.lemmas.Result.{on_ok_weaker}
-use Rattle.mm_proof.specs.CodeSteps.{token_texts}
+use Rattle.mm_proof.specs.Plain.{token_texts}
 use Rattle.mm_proof.proofs.Answering.{rules_map}
 use Rattle.mm_proof.proofs.UnderAnswers.{lenient_form, fault_under}
 use Rattle.mm_proof.proofs.prover.prove_by_profile.Goals as goal

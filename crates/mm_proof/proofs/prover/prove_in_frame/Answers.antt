@@ -6,7 +6,7 @@ use Rattle.mm_proof.specs.Answer.{OnRule}
 use Rattle.mm_proof.specs.Tokens.{opening_token}
 use Rattle.mm_proof.specs.Parsed.{OfProof}
 use Rattle.mm_proof.specs.Verified.{TokensProve, TokensFail}
-use Rattle.mm_proof.specs.CodeSteps.{ids_in, token_texts}
+use Rattle.mm_proof.specs.Plain.{ids_in, token_texts}
 use Rattle.mm_proof.proofs.Whole.{first_text}
 use Rattle.mm_proof.proofs.prover.prove_in_frame.Goals as goal
 

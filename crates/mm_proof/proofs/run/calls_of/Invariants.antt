@@ -1,7 +1,8 @@
 use Rattle.std.proofs.Common.{ℕ, take}
 use Rattle.std.specs.List.{AllZip}
-use Rattle.mm_proof.specs.CodeSteps.{MayAllBeUsed, ids_in}
-use Rattle.mm_proof.specs.CodeApply.{IsCallOf}
+use Rattle.mm_proof.specs.Plain.{ids_in}
+use Rattle.mm_proof.specs.Mirror.CodeSteps.{MayAllBeUsed}
+use Rattle.mm_proof.specs.Mirror.CodeApply.{IsCallOf}
 use Rattle.mm_proof.proofs.run.calls_of.Given as goal
 
 abbrev pub invariant-loop-id : goal.invariant-loop-id

@@ -2,8 +2,8 @@ use Rattle.std.proofs.Common.{Err, ap, subst, ◌∙◌}
 use Rattle.std.proofs.lemmas.Result.{err_from_is_err_and}
 use Rattle.mm_frame.specs.FramePlace.{AreItsSymbols}
 use Rattle.mm_proof.specs.Stores.{numbers_in}
-use Rattle.mm_proof.specs.CodeSteps.{code_moves}
-use Rattle.mm_proof.specs.Sites.{ProofSite, IsSite, CodeSite}
+use Rattle.mm_proof.specs.Mirror.CodeSteps.{code_moves}
+use Rattle.mm_proof.specs.Mirror.Sites.{ProofSite, IsSite, CodeSite}
 use Rattle.mm_proof.proofs.Ending.{proved_end, wrong_end, wrong_move, on_rule_from}
 use Rattle.mm_proof.proofs.run.derive_codes.Goals as goal
 

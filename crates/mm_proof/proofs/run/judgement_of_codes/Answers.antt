@@ -2,10 +2,11 @@ use Rattle.std.proofs.Common.{◌≡◌, ℕ, List, Bool, sym, subst, ◌∙◌}
 use Rattle.std.specs.List.{AllZip}
 use Rattle.std.proofs.lemmas.List.{length-map}
 use Rattle.mm_proof.specs.declared.call.Call.{Call}
-use Rattle.mm_proof.specs.CodeSteps.{MayAllBeUsed, ids_in, code_moves}
-use Rattle.mm_proof.specs.CodeApply.{IsCallOf}
-use Rattle.mm_proof.specs.CodeRun.{AreMarked}
-use Rattle.mm_proof.specs.Sites.{ProofSite, IsSite}
+use Rattle.mm_proof.specs.Plain.{ids_in}
+use Rattle.mm_proof.specs.Mirror.CodeSteps.{MayAllBeUsed, code_moves}
+use Rattle.mm_proof.specs.Mirror.CodeApply.{IsCallOf}
+use Rattle.mm_proof.specs.Mirror.CodeRun.{AreMarked}
+use Rattle.mm_proof.specs.Mirror.Sites.{ProofSite, IsSite}
 use Rattle.mm_proof.proofs.Coded.{calls_long}
 use Rattle.mm_proof.proofs.Ending.{proved_with}
 use Rattle.mm_proof.proofs.run.judgement_of_codes.Goals as goal

@@ -1,6 +1,6 @@
 use Rattle.std.proofs.Common.{◌≡◌, ◌+◌, [], ◌∷◌, Err, Some, length, refl, sym, ap, ◌∙◌, arith}
 use Rattle.mm_proof.specs.Moves.{mark}
-use Rattle.mm_proof.specs.CodeSteps.{code_move, code_moves}
+use Rattle.mm_proof.specs.Mirror.CodeSteps.{code_move, code_moves}
 use Rattle.mm_proof.proofs.Coded.{codes_front_with, code_there}
 use Rattle.mm_proof.proofs.Picking.{marked_other}
 use Rattle.std.proofs.lemmas.List.{length-append}

@@ -1,6 +1,6 @@
 use Rattle.std.proofs.Common.{◌+◌, ◌≡◌, take, length}
-use Rattle.mm_proof.specs.CodeSteps.{code_moves}
-use Rattle.mm_proof.specs.CodeRun.{HasRun, AreMarked}
+use Rattle.mm_proof.specs.Mirror.CodeSteps.{code_moves}
+use Rattle.mm_proof.specs.Mirror.CodeRun.{HasRun, AreMarked}
 use Rattle.mm_proof.proofs.run.run_codes.Given as goal
 
 abbrev pub invariant-loop-code : goal.invariant-loop-code

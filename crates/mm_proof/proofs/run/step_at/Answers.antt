@@ -4,10 +4,10 @@ use Rattle.std.proofs.lemmas.Bool.Decides.{Decides-ltb}
 use Rattle.std.proofs.lemmas.Result.{on_ok_weaker}
 use Rattle.mm_proof.specs.Moves.{Move, again}
 use Rattle.mm_proof.specs.Steps.{IsNumberedMove}
-use Rattle.mm_proof.specs.CodeSteps.{ids_in}
-use Rattle.mm_proof.specs.CodeVerify.{AreStackEntries}
-use Rattle.mm_proof.specs.CodeApply.{IsCallOf}
-use Rattle.mm_proof.specs.Sites.{CodeSite}
+use Rattle.mm_proof.specs.Plain.{ids_in}
+use Rattle.mm_proof.specs.Mirror.CodeVerify.{AreStackEntries}
+use Rattle.mm_proof.specs.Mirror.CodeApply.{IsCallOf}
+use Rattle.mm_proof.specs.Mirror.Sites.{CodeSite}
 use Rattle.mm_proof.proofs.Coded.{calls_long, entry_of_call, tag_of_place, tag_no_name, on_ok_both, on_ok_any}
 use Rattle.mm_proof.proofs.Picking.{marked_more, marked_other}
 use Rattle.mm_proof.proofs.Running.{run_name, run_again, stops_first, again_first}

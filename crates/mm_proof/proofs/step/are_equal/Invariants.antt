@@ -1,8 +1,8 @@
 use Rattle.std.proofs.Common.{ℕ, ◌<◌, ◌≡◌, List, Option, Some, drop, slice_get}
 use Rattle.mm_frame.specs.Sentence.{Sentence}
 use Rattle.mm_frame.specs.Pieces.{variables_of}
-use Rattle.mm_proof.specs.CodeSteps.{label_ids}
-use Rattle.mm_proof.specs.CodeVerify.{AreHypothesesOf, IsEqual, Replaces, all_names_at}
+use Rattle.mm_proof.specs.Plain.{label_ids}
+use Rattle.mm_proof.specs.Mirror.CodeVerify.{AreHypothesesOf, IsEqual, Replaces, all_names_at}
 use Rattle.mm_proof.proofs.step.are_equal.Given as goal
 
 abbrev pub invariant-loop-index : goal.invariant-loop-index

@@ -3,8 +3,8 @@ use Rattle.std.specs.List.{AllByRecursion, slice_index_or}
 use Rattle.mm_frame.specs.Sentence.{Sentence}
 use Rattle.mm_frame.specs.FramePlace.{HaveTypings}
 use Rattle.mm_frame.specs.Pieces.{variables_of}
-use Rattle.mm_proof.specs.CodeSteps.{label_ids}
-use Rattle.mm_proof.specs.CodeVerify.{AreBelow, AreHypothesesOf, IsRightCode, all_names_at}
+use Rattle.mm_proof.specs.Plain.{label_ids}
+use Rattle.mm_proof.specs.Mirror.CodeVerify.{AreBelow, AreHypothesesOf, IsRightCode, all_names_at}
 use Rattle.mm_proof.proofs.step.typing_of.Given as goal
 
 abbrev pub invariant-loop-index : goal.invariant-loop-index

@@ -2,7 +2,7 @@ use Rattle.std.proofs.Common.{sym, subst, get_or, false, arith, ◌∙◌}
 use Rattle.std.specs.Bool.{IsTrue}
 use Rattle.std.proofs.lemmas.Bool.{false≢true}
 use Rattle.mm_proof.specs.declared.call.Call.{Call}
-use Rattle.mm_proof.specs.CodeApply.{IsOfAssertion}
+use Rattle.mm_proof.specs.Mirror.CodeApply.{IsOfAssertion}
 use Rattle.mm_proof.proofs.Picking.{IsCalledAt, first_none, first_more, first_skipped, called_there, there_called, called_all}
 use Rattle.mm_proof.proofs.used.fill_called.Goals as goal
 use Rattle.mm_proof.proofs.used.fill_called.Goals.{then-is_called+in_ok-push, else-is_called}

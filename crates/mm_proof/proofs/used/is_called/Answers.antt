@@ -1,6 +1,6 @@
 use Rattle.std.proofs.Common.{sym, subst}
 use Rattle.std.proofs.lemmas.Bool.{false≢true}
-use Rattle.mm_proof.specs.CodeApply.{IsOfAssertion}
+use Rattle.mm_proof.specs.Mirror.CodeApply.{IsOfAssertion}
 use Rattle.mm_proof.proofs.used.is_called.Goals as goal
 
 pub returns-in-Hypothesis : goal.returns-in-Hypothesis

@@ -4,7 +4,7 @@ use Rattle.mm_frame.proofs.Meant.{allmeant_front}
 use Rattle.mm_proof.specs.declared.fault.ProofFault.{ProofFault}
 use Rattle.mm_proof.specs.Proof.{IsWithin}
 use Rattle.mm_proof.specs.Profiles.{limit_of}
-use Rattle.mm_proof.specs.CodeSteps.{ids_in}
+use Rattle.mm_proof.specs.Plain.{ids_in}
 use Rattle.mm_proof.specs.Verified.{ProvesUsing}
 use Rattle.mm_proof.proofs.Ending.{same_moves, seen_moves, seen_limit}
 use Rattle.mm_proof.proofs.Answering.{on_rule_map}

@@ -1,6 +1,6 @@
 use Rattle.std.proofs.Common.{Err, ap, ◌∙◌}
 use Rattle.std.proofs.lemmas.Result.{err_from_is_err_and}
-use Rattle.mm_proof.specs.CodeSteps.{moves_in}
+use Rattle.mm_proof.specs.Plain.{moves_in}
 use Rattle.mm_proof.proofs.Ending.{steps_made, proved_end, wrong_end, wrong_move, on_rule_from}
 use Rattle.mm_proof.proofs.verdict.derive.Goals as goal
 

@@ -1,7 +1,7 @@
 use Rattle.std.proofs.Common.{List, sym, subst}
 use Rattle.mm_frame.specs.declared.number.LabelId.{LabelId}
-use Rattle.mm_proof.specs.CodeSteps.{ids_in, moves_in}
-use Rattle.mm_proof.specs.CodeRun.{ArePicked}
+use Rattle.mm_proof.specs.Plain.{ids_in, moves_in}
+use Rattle.mm_proof.specs.Mirror.CodeRun.{ArePicked}
 use Rattle.mm_proof.proofs.verdict.judgement.Goals as goal
 
 pub new-site-requires : goal.new-site-requires

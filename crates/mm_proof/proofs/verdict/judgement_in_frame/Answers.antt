@@ -1,9 +1,10 @@
 use Rattle.std.proofs.Common.{ℕ, List, Contains, sym, subst}
 use Rattle.mm_text.proofs.Lists.{all_at}
-use Rattle.mm_proof.specs.CodeSteps.{MayBeUsed, ids_in, moves_in}
+use Rattle.mm_proof.specs.Plain.{ids_in, moves_in}
+use Rattle.mm_proof.specs.Mirror.CodeSteps.{MayBeUsed}
 use Rattle.mm_proof.specs.Moves.{name}
-use Rattle.mm_proof.specs.CodeRun.{MayBeMade, AreNamed}
-use Rattle.mm_proof.specs.Sites.{ProofSite, IsSite}
+use Rattle.mm_proof.specs.Mirror.CodeRun.{MayBeMade, AreNamed}
+use Rattle.mm_proof.specs.Mirror.Sites.{ProofSite, IsSite}
 use Rattle.mm_proof.proofs.Ending.{steps_made, proved_in_order}
 use Rattle.mm_proof.proofs.verdict.judgement_in_frame.Goals as goal
 

@@ -1,6 +1,6 @@
 use Rattle.std.proofs.Common.{Err, ap, ◌∙◌}
 use Rattle.std.proofs.lemmas.Result.{err_from_is_err_and}
-use Rattle.mm_proof.specs.CodeSteps.{moves_in}
+use Rattle.mm_proof.specs.Plain.{moves_in}
 use Rattle.mm_proof.proofs.Ending.{steps_made, on_rule_from}
 use Rattle.mm_proof.proofs.FrontAnswers.{has_passed, has_stopped}
 use Rattle.mm_proof.proofs.verdict.pass.Goals as goal

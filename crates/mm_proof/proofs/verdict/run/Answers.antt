@@ -1,7 +1,7 @@
 use Rattle.std.proofs.Common.{Err, Some, length, refl, sym, ap, ◌∙◌}
 use Rattle.mm_text.proofs.Lists.{all_at}
-use Rattle.mm_proof.specs.CodeSteps.{move_in, moves_in}
-use Rattle.mm_proof.specs.CodeRun.{MayBeMade}
+use Rattle.mm_proof.specs.Plain.{move_in, moves_in}
+use Rattle.mm_proof.specs.Mirror.CodeRun.{MayBeMade}
 use Rattle.mm_proof.proofs.Running.{run_none, move_at, refused, run_fault, stops_first, again_first, mark_first, more_name, more_again, more_mark}
 use Rattle.mm_proof.proofs.verdict.run.Goals as goal
 use Rattle.mm_proof.proofs.verdict.run.Goals.{in-Name+in_ok-step-in-Name, in-Again+in_ok-step_again-in-Again, in-Mark+in_ok-mark-in-Mark}

@@ -1,6 +1,6 @@
 use Rattle.std.proofs.Common.{◌+◌, ◌≡◌, take, length}
-use Rattle.mm_proof.specs.CodeSteps.{moves_in}
-use Rattle.mm_proof.specs.CodeRun.{HasRun}
+use Rattle.mm_proof.specs.Plain.{moves_in}
+use Rattle.mm_proof.specs.Mirror.CodeRun.{HasRun}
 use Rattle.mm_proof.proofs.verdict.run.Given as goal
 
 abbrev pub invariant-loop-one : goal.invariant-loop-one

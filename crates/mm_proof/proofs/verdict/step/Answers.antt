@@ -1,9 +1,9 @@
 use Rattle.std.proofs.Common.{◌≡◌, ℕ, List, sym, subst}
 use Rattle.std.proofs.lemmas.Result.{IfOk-weaker}
 use Rattle.mm_proof.specs.declared.call.Call.{Call}
-use Rattle.mm_proof.specs.CodeSteps.{MayBeUsed}
-use Rattle.mm_proof.specs.CodeApply.{IsCallOf}
-use Rattle.mm_proof.specs.Sites.{ProofSite}
+use Rattle.mm_proof.specs.Mirror.CodeSteps.{MayBeUsed}
+use Rattle.mm_proof.specs.Mirror.CodeApply.{IsCallOf}
+use Rattle.mm_proof.specs.Mirror.Sites.{ProofSite}
 use Rattle.mm_proof.proofs.verdict.step.Goals as goal
 
 -- what the label stands for, said of the statements of the site

@@ -1,5 +1,5 @@
 use Rattle.std.proofs.Common.{subst}
-use Rattle.mm_proof.specs.CodeSharing.{AddsNew}
+use Rattle.mm_proof.specs.Mirror.CodeSharing.{AddsNew}
 use Rattle.mm_proof.proofs.SubtreeLists.{inserted_new, numbers_told}
 use Rattle.mm_proof.proofs.label_set.LabelSet.add.Goals as goal
 

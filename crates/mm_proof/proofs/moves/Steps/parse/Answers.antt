@@ -6,7 +6,7 @@ use Rattle.mm_proof.specs.Answer.{OnRule}
 use Rattle.mm_proof.specs.KnownFront.{known_front}
 use Rattle.mm_proof.specs.Strict.{IsTextFault}
 use Rattle.mm_proof.specs.Parsed.{OfProof}
-use Rattle.mm_proof.specs.CodeSteps.{token_texts}
+use Rattle.mm_proof.specs.Plain.{token_texts}
 use Rattle.mm_code.specs.Layout.{texts}
 use Rattle.mm_proof.proofs.moves.Steps.parse.Goals as goal
 

@@ -4,7 +4,7 @@ use Rattle.mm_proof.specs.Answer.{OnRule}
 use Rattle.mm_proof.specs.UnderProfile.{IsFrontAllowedUnder, IsFrontFaultUnder}
 use Rattle.mm_proof.specs.Parsed.{OfProof}
 use Rattle.mm_proof.specs.Proving.{Proving}
-use Rattle.mm_proof.specs.CodeSteps.{token_texts}
+use Rattle.mm_proof.specs.Plain.{token_texts}
 use Rattle.mm_proof.proofs.prover.Prover.allow.Goals as goal
 use Rattle.mm_proof.proofs.prover.Prover.allow.Goals.{in-Ok, in-Err}
 

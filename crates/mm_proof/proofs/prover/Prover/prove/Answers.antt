@@ -18,7 +18,7 @@ use Rattle.mm_proof.specs.Steps.{IsProofNumber}
 use Rattle.mm_proof.specs.Profiles.{limit_of}
 use Rattle.mm_proof.specs.Proving.{Proving}
 use Rattle.mm_proof.specs.Verified.{TokensProve}
-use Rattle.mm_proof.specs.CodeSteps.{ids_in, token_texts}
+use Rattle.mm_proof.specs.Plain.{ids_in, token_texts}
 use Rattle.mm_proof.proofs.Unknown.{proved_known, within_known}
 use Rattle.mm_proof.proofs.ListingEnd.{if_ok_at, if_rule_at}
 use Rattle.mm_proof.proofs.UnderAnswers.{accepted_under, refused_under, front_allowed, front_refused}

@@ -1,6 +1,6 @@
 use Rattle.std.proofs.Common.{◌+◌, ◌≤◌, length, subst, sym}
 use Rattle.mm_proof.specs.Tree.{tree, none, beside}
-use Rattle.mm_proof.specs.CodeSharing.{SharingSteps}
+use Rattle.mm_proof.specs.Mirror.CodeSharing.{SharingSteps}
 use Rattle.mm_proof.proofs.Members.{get_in}
 use Rattle.mm_proof.proofs.SubtreeSteps.{kept_is, subtrees_repeat}
 use Rattle.mm_proof.proofs.SharingSteps.{steps_repeat, fewer_more}

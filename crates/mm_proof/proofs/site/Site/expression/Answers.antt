@@ -2,7 +2,7 @@ use Rattle.std.proofs.Common.{List, subst}
 use Rattle.mm_frame.specs.Sentence.{Sentence}
 use Rattle.mm_frame.specs.FramePlace.{AreItsSymbols}
 use Rattle.mm_proof.specs.Stores.{numbers_in}
-use Rattle.mm_proof.specs.Sites.{ProofSite, IsSite}
+use Rattle.mm_proof.specs.Mirror.Sites.{ProofSite, IsSite}
 use Rattle.mm_proof.proofs.site.Site.expression.Goals as goal
 
 pub returns-clause-symbols : goal.returns-clause-symbols

@@ -1,5 +1,5 @@
 use Rattle.std.proofs.Common.{subst}
-use Rattle.mm_proof.specs.CodeSharing.{Adds}
+use Rattle.mm_proof.specs.Mirror.CodeSharing.{Adds}
 use Rattle.mm_proof.proofs.SubtreeLists.{inserted_adds, same_fields, own_fields}
 use Rattle.mm_proof.proofs.subtree_set.SubtreeSet.add.Goals as goal
 

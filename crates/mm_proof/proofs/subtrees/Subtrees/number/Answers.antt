@@ -1,5 +1,5 @@
 use Rattle.std.proofs.Common.{rules, subst}
-use Rattle.mm_proof.specs.Subtrees.{KeepNumbers}
+use Rattle.mm_proof.specs.Mirror.Subtrees.{KeepNumbers}
 use Rattle.mm_proof.proofs.RowTable.{once_of_distinct, kept_inserted}
 use Rattle.mm_proof.proofs.subtrees.Subtrees.number.Goals as goal
 

@@ -1,5 +1,5 @@
 use Rattle.std.proofs.Common.{◌-◌, arith}
-use Rattle.mm_proof.specs.Subtrees.{KeepNumbers}
+use Rattle.mm_proof.specs.Mirror.Subtrees.{KeepNumbers}
 use Rattle.mm_proof.proofs.SubtreeSteps.{stands_more}
 use Rattle.mm_proof.proofs.subtrees.Subtrees.number_row.Goals as goal
 

@@ -1,7 +1,7 @@
 use Rattle.std.proofs.Common.{List, drop}
 use Rattle.mm_frame.specs.Sentence.{Sentence}
 use Rattle.mm_proof.specs.Tree.{Trees}
-use Rattle.mm_proof.specs.Subtrees.{AreOnce, KeepNumbers, AreTreesOf, StandsFor}
+use Rattle.mm_proof.specs.Mirror.Subtrees.{AreOnce, KeepNumbers, AreTreesOf, StandsFor}
 use Rattle.mm_proof.proofs.subtrees.Subtrees.number_row.Given as goal
 
 abbrev pub invariant-loop-place : goal.invariant-loop-place

@@ -7,7 +7,7 @@ use Rattle.mm_proof.specs.Tree.{Trees, none, tree, spelling, beside, roots}
 use Rattle.mm_proof.specs.Moves.{Move}
 use Rattle.mm_proof.specs.OneTree.{MakeTree}
 use Rattle.mm_proof.specs.Steps.{AreNumberedMoves}
-use Rattle.mm_proof.specs.CodeRun.{MayBeMade}
+use Rattle.mm_proof.specs.Mirror.CodeRun.{MayBeMade}
 
 -- that items stand for the trees of a row, and others for the kept trees, after so many steps
 abbrev pub Holding : Type 0 → Type 1

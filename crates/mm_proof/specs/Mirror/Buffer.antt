@@ -1,4 +1,4 @@
--- Entries of a flat store: ranges of its buffer.
+-- Entries of a flat store: ranges of its buffer. This mirrors the code.
 use Rattle.std.specs.Prelude.{◌≡◌, ℕ, ◌≤◌, List, map, slice_get, slice_range, Some}
 use Rattle.mm_frame.specs.declared.number.Sym.{Sym}
 use Rattle.mm_proof.specs.declared.entry.Entry.{Entry}

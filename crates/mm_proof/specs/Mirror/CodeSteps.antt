@@ -2,9 +2,6 @@
 use Rattle.std.specs.Prelude.{◌≡◌, ℕ, ◌+◌, ◌<◌, List, length, map, take, slice_get, Contains, Some}
 use Rattle.std.specs.Prelude.{◌-◌, ◌⊎◌, Option, None}
 use Rattle.std.specs.List.{AllZip, AllByRecursion}
-use Rattle.mm_text.specs.declared.token.Token.{Token}
-use Rattle.mm_frame.specs.declared.hypothesis.Hypothesis.{Hypothesis}
-use Rattle.mm_frame.specs.declared.number.LabelId.{LabelId}
 use Rattle.mm_frame.specs.Sentence.{Sentence, SomeSentence, IsLabelled, IsHypothesis, IsAssertion}
 use Rattle.mm_frame.specs.Active.{IsActive}
 use Rattle.mm_frame.specs.Numbers.{IsNumbered}
@@ -19,45 +16,13 @@ use Rattle.mm_proof.specs.Moves.{Move, name, again, mark}
 use Rattle.mm_proof.specs.Tokens.{SayMoves}
 use Rattle.mm_proof.specs.Proof.{IsWhole}
 use Rattle.mm_proof.specs.Steps.{AreNumberedMoves, IsUsableMove}
-use Rattle.mm_proof.specs.declared.moves.NumberedMove.{NumberedMove}
-use Rattle.mm_proof.specs.declared.moves.NumberedMove.TheVariants as code
 use Rattle.mm_proof.specs.declared.fault.ProofRule.{ProofRule}
 use Rattle.mm_proof.specs.declared.fault.ProofRule.TheVariants as rules
 use Rattle.mm_proof.specs.declared.labels.Use.{Use}
 use Rattle.mm_proof.specs.declared.labels.Use.TheVariants as uses
 
--- the move that the code's move stands for
-abbrev pub move_in : NumberedMove → Move ℕ
-move_in (code.Name id) = name id.0
-move_in (code.Again tag) = again tag
-move_in code.Mark = mark
-
-abbrev pub moves_in : List NumberedMove → List (Move ℕ)
-moves_in moves = map move_in moves
-
--- the bytes of the tokens
-abbrev pub token_texts : List Token → List (List ℕ)
-token_texts tokens = map (λ t. t.text.now) tokens
-
--- the numbers of labels
-abbrev pub ids_in : List LabelId → List ℕ
-ids_in ids = map (λ i. i.0) ids
-
--- the numbers of the labels of hypotheses
-abbrev pub label_ids : List Hypothesis → List ℕ
-label_ids hypotheses = map (λ h. h.id.0) hypotheses
-
--- the statement with this number stands before a place and has the label
-pub record IsEarlier (statements : List Sentence) (place : ℕ) (label : List ℕ)
-    (id : ℕ) : Type 0 where
-  pub at : ℕ
-  pub s : Sentence
-  pub numbered : IsNumbered statements id at s
-  pub named : IsLabelled label s
-  pub before : at < place
-  pub kind : IsHypothesis s.kind ⊎ IsAssertion s.kind
-
--- it is an assertion, or an active hypothesis
+-- the statement with this number stands before a place, has the label, and is an assertion or an
+-- active hypothesis
 pub record MayBeUsed (statements : List Sentence) (place : ℕ) (label : List ℕ)
     (id : ℕ) : Type 0 where
   pub at : ℕ
@@ -67,7 +32,7 @@ pub record MayBeUsed (statements : List Sentence) (place : ℕ) (label : List �
   pub before : at < place
   pub kind : (IsHypothesis s.kind × IsActive (take place statements) at) ⊎ IsAssertion s.kind
 
--- it is a hypothesis that isn't active
+-- the label is that of a hypothesis before a place that isn't active there
 pub record IsIdle (statements : List Sentence) (place : ℕ) (label : List ℕ) : Type 0 where
   pub at : ℕ
   pub s : Sentence

@@ -10,7 +10,7 @@ use Rattle.mm_proof.specs.Tree.{Trees, none, tree}
 use Rattle.mm_proof.specs.BigSubtrees.{IsBig}
 use Rattle.mm_proof.specs.Visits.{Visit, makes, repeats}
 use Rattle.mm_proof.specs.SharedSteps.{In, Covers, Careful, after}
-use Rattle.mm_proof.specs.Subtrees.{IsTreeOf, AreSubtreesOf}
+use Rattle.mm_proof.specs.Mirror.Subtrees.{IsTreeOf, AreSubtreesOf}
 use Rattle.mm_proof.specs.declared.subtrees.Subtree.{Subtree}
 use Rattle.mm_proof.specs.declared.subtrees.Row.{Row}
 use Rattle.mm_proof.specs.declared.sharing.SharedStep.{SharedStep}

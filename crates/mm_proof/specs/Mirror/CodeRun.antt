@@ -8,8 +8,8 @@ use Rattle.mm_proof.specs.declared.fault.ProofRule.TheVariants.{P13, P14}
 use Rattle.mm_proof.specs.Moves.{Move, name, again, mark, steps_in}
 use Rattle.mm_proof.specs.Proof.{IsWithin, Passed, FirstAtMove}
 use Rattle.mm_proof.specs.Steps.{IsNumberedMove, AreNumberedMoves}
-use Rattle.mm_proof.specs.CodeSteps.{MayBeUsed}
-use Rattle.mm_proof.specs.CodeVerify.{all_names_at, AreStackEntries}
+use Rattle.mm_proof.specs.Mirror.CodeSteps.{MayBeUsed}
+use Rattle.mm_proof.specs.Mirror.CodeVerify.{all_names_at, AreStackEntries}
 
 -- the step by the label with a number carries passed moves on: from the one stack to the other
 abbrev pub CarriesOn : (limit : ℕ) → List Sentence → (place id : ℕ) → (old new : List (List ℕ))

@@ -10,11 +10,12 @@ use Rattle.mm_frame.specs.declared.scheme.Scheme.{Scheme}
 use Rattle.mm_proof.specs.declared.call.Call.{Call}
 use Rattle.mm_proof.specs.declared.call.Call.TheVariants as calls
 use Rattle.mm_proof.specs.Stores.{numbers_in}
-use Rattle.mm_proof.specs.CodeSteps.{label_ids, MayBeUsed}
+use Rattle.mm_proof.specs.Plain.{label_ids}
+use Rattle.mm_proof.specs.Mirror.CodeSteps.{MayBeUsed}
 use Rattle.mm_proof.specs.Tree.{AreDistinct}
-use Rattle.mm_proof.specs.CodeVerify.{names_at, all_names_at, value_of, IsRightCode, IsEqual}
-use Rattle.mm_proof.specs.CodeVerify.{EachEntry, pairs_in}
-use Rattle.mm_proof.specs.CodeVerify.{Replaces, EachPairValues, AreHypothesesOf, AreVariablesOf}
+use Rattle.mm_proof.specs.Mirror.CodeVerify.{names_at, all_names_at, value_of, IsRightCode, IsEqual}
+use Rattle.mm_proof.specs.Mirror.CodeVerify.{EachEntry, pairs_in}
+use Rattle.mm_proof.specs.Mirror.CodeVerify.{Replaces, EachPairValues, AreHypothesesOf, AreVariablesOf}
 
 -- the number is that of an assertion before the place of the proof, and these are its hypotheses,
 -- with their numbers

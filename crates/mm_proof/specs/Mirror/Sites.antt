@@ -1,4 +1,4 @@
--- Where a proof is judged.
+-- Where a proof is judged, as the code carries it: it mirrors the code.
 use Rattle.std.specs.Prelude.{ℕ, List}
 use Rattle.mm_frame.specs.Sentence.{Sentence}
 use Rattle.mm_frame.specs.Form.{IsSound}

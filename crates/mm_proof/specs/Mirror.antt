@@ -1,0 +1,15 @@
+-- Mirrors of the code: what its lists hold and how they change, in the words of the code. Private
+-- clauses alone speak of them, and lemmas join them to the definitions, which are the other files
+-- of specs/.
+pub mod Buffer
+pub mod Builders
+pub mod CodeApply
+pub mod CodeForm
+pub mod CodeLines
+pub mod CodeRun
+pub mod CodeSharing
+pub mod CodeSteps
+pub mod CodeVerify
+pub mod Sites
+pub mod Subtrees
+pub mod Words

@@ -1,0 +1,29 @@
+-- Moves, tokens and labels without where they lie in memory.
+use Rattle.std.specs.Prelude.{ℕ, List, map}
+use Rattle.mm_text.specs.declared.token.Token.{Token}
+use Rattle.mm_frame.specs.declared.hypothesis.Hypothesis.{Hypothesis}
+use Rattle.mm_frame.specs.declared.number.LabelId.{LabelId}
+use Rattle.mm_proof.specs.Moves.{Move, name, again, mark}
+use Rattle.mm_proof.specs.declared.moves.NumberedMove.{NumberedMove}
+use Rattle.mm_proof.specs.declared.moves.NumberedMove.TheVariants as code
+
+-- the move that the code's move stands for
+abbrev pub move_in : NumberedMove → Move ℕ
+move_in (code.Name id) = name id.0
+move_in (code.Again tag) = again tag
+move_in code.Mark = mark
+
+abbrev pub moves_in : List NumberedMove → List (Move ℕ)
+moves_in moves = map move_in moves
+
+-- the bytes of the tokens
+abbrev pub token_texts : List Token → List (List ℕ)
+token_texts tokens = map (λ t. t.text.now) tokens
+
+-- the numbers of labels
+abbrev pub ids_in : List LabelId → List ℕ
+ids_in ids = map (λ i. i.0) ids
+
+-- the numbers of the labels of hypotheses
+abbrev pub label_ids : List Hypothesis → List ℕ
+label_ids hypotheses = map (λ h. h.id.0) hypotheses
