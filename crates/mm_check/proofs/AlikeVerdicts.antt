@@ -5,18 +5,16 @@ use Rattle.mm_text.specs.declared.fault.LoadRule.{LoadRule}
 use Rattle.mm_text.specs.declared.fault.LoadRule.TheVariants as load
 use Rattle.mm_text.specs.Token.{PlainToken}
 use Rattle.mm_text.specs.Statement.{PlainStatement, is_provable}
-use Rattle.mm_text.specs.Files.{PlainFile, total_bytes, HasTwins, BreaksLoad}
+use Rattle.mm_text.specs.Files.{most_bytes, PlainFile, total_bytes, HasTwins, BreaksLoad}
 use Rattle.mm_text.specs.Reading.{PlainFault, Reads}
-use Rattle.mm_text.specs.LineNumbers.{feeds_in}
-use Rattle.mm_text.specs.Alike.{token_on, statement_on, fault_on, AreAlike, AreReadAlike}
-use Rattle.mm_text.specs.Alike.{AlikeFilesAreReadAlike}
+use Rattle.mm_text.specs.Alike.{feeds_in, token_on, statement_on, fault_on, AreAlike, AreReadAlike, AlikeFilesAreReadAlike}
 use Rattle.mm_frame.specs.declared.rule.MeaningRule.{MeaningRule}
 use Rattle.mm_frame.specs.Sentence.{Sentence, sentence_of}
 use Rattle.mm_frame.specs.Rules.{FirstBroken, IsMeant}
 use Rattle.mm_proof.specs.declared.fault.ProofRule.{ProofRule}
-use Rattle.mm_proof.specs.Proof.{IsProvedWithin, IsWithin, IsFault}
+use Rattle.mm_proof.specs.UnderProfile.{IsProvedUnder, IsFaultUnder, IsFrontAllowedUnder}
+use Rattle.mm_proof.specs.UnderProfile.{IsFrontFaultUnder}
 use Rattle.mm_proof.specs.declared.profile.Profile.{Profile}
-use Rattle.mm_proof.specs.Profiles.{limit_of}
 use Rattle.mm_check.specs.declared.rule.Rule.{Rule}
 use Rattle.mm_check.specs.Verdict.{Verdict, Load, Refused, Incomplete, Yes, PlainRefusal, HasVerdict, Obeys, AllObey, HasFault, RefusesStatement, RefusesText, AreAccepted, CanBeRead, sentences, proof_of, is_proof, is_incomplete, is_unproved, label_of, unproved_of, proofs_of, refusal_of, text_refusal, text_rule, meaning_rule, proof_rule}
 use Rattle.mm_check.specs.Reply.{text_of, name_of, line_with, refusal_word, code_of}
@@ -112,21 +110,32 @@ moved {X} {Y} {Z} P x x' y y' z z' e f g h =
 abbrev ObeysAs : Profile → List Sentence → Sentence → List (List ℕ) → Type 0
 ObeysAs profile before x p =
     IsMeant before x
-    × (is_provable x.kind && not (is_incomplete p) ≡ true → IsProvedWithin (IsWithin (limit_of profile)) before x p)
+    × (is_provable x.kind && not (is_incomplete p) ≡ true → IsProvedUnder profile before x p)
+    × (is_provable x.kind && is_incomplete p ≡ true → IsFrontAllowedUnder profile before x p)
 
 pub obeys_alike : (profile : Profile) (before others : List Sentence) (s t : PlainStatement) → before ≡ others → sentence_of s ≡ sentence_of t → proof_of s ≡ proof_of t
     → Obeys profile before s → Obeys profile others t
 obeys_alike profile before others s t e f g obeyed =
     let moved_to : ObeysAs profile others (sentence_of t) (proof_of t) =
-    moved (ObeysAs profile) before others (sentence_of s) (sentence_of t) (proof_of s) (proof_of t) e f g (obeyed.meant, obeyed.proved) in
-    record { meant = moved_to.0; proved = moved_to.1 }
+    moved (ObeysAs profile) before others (sentence_of s) (sentence_of t) (proof_of s) (proof_of t) e f g
+    (obeyed.meant, obeyed.proved, obeyed.known) in
+    record { meant = moved_to.0; proved = moved_to.1; known = moved_to.2 }
+
+-- the fault of its proof, by the same
+abbrev IsProofFaultAs : Profile → ProofRule → ℕ → List Sentence → Sentence → List (List ℕ) → Type 0
+IsProofFaultAs profile rule step before x p =
+    ((is_provable x.kind && not (is_incomplete p) ≡ true)
+    × IsFaultUnder profile before x p rule step)
+    ⊎ ((is_provable x.kind && is_incomplete p ≡ true)
+    × IsFrontFaultUnder profile before x p rule step)
 
 -- its fault, by the same
 abbrev HasFaultAs : Profile → Rule → ℕ → List Sentence → Sentence → List (List ℕ) → Type 0
 HasFaultAs profile rule step before x p =
     ((broken : MeaningRule) × FirstBroken broken before x × (rule ≡ meaning_rule broken) × (step ≡ 0))
-    ⊎ (IsMeant before x × (is_provable x.kind && not (is_incomplete p) ≡ true)
-    × (broken : ProofRule) × IsFault (IsWithin (limit_of profile)) before x p broken step × (rule ≡ proof_rule broken))
+    ⊎ (IsMeant before x
+    × (broken : ProofRule) × IsProofFaultAs profile broken step before x p
+    × (rule ≡ proof_rule broken))
 
 fault_alike : (profile : Profile) (before others : List Sentence) (s t : PlainStatement) (rule : Rule) (step : ℕ) → before ≡ others → sentence_of s ≡ sentence_of t → proof_of s ≡ proof_of t
     → HasFault profile before s rule step → HasFault profile others t rule step
@@ -280,22 +289,22 @@ twins_alike files others alike twins =
     }
 
 -- a rule that the files break as a whole is broken by others, if it isn't the one on their length
-breaks_alike : (files others : List PlainFile) → AllZip AreAlike files others → total_bytes files ≤ 1073741824 → (rule : LoadRule)
+breaks_alike : (files others : List PlainFile) → AllZip AreAlike files others → total_bytes files ≤ most_bytes → (rule : LoadRule)
     → BreaksLoad files rule → BreaksLoad others rule
 breaks_alike files others alike small load.F1 broken = none_alike files others alike broken
 breaks_alike files others alike small load.F2 broken =
     (λ none. broken.0 (none_alike others files (alike_back files others alike) none), twins_alike files others alike broken.1)
 breaks_alike files others alike small load.F3 broken =
-    let large : 1073741824 < total_bytes files = broken.2 in absurd (omega arith)
+    let large : most_bytes < total_bytes files = broken.2 in absurd (omega arith)
 
-readable_alike : (files others : List PlainFile) → AllZip AreAlike files others → total_bytes others ≤ 1073741824 → CanBeRead files → CanBeRead others
+readable_alike : (files others : List PlainFile) → AllZip AreAlike files others → total_bytes others ≤ most_bytes → CanBeRead files → CanBeRead others
 readable_alike files others alike small readable rule broken =
     readable rule (breaks_alike others files (alike_back files others alike) small rule broken)
 
 -- ## The verdict
 
 -- files that show the same are accepted alike
-accepted_alike : (profile : Profile) → AlikeFilesAreReadAlike → (files others : List PlainFile) → AllZip AreAlike files others → total_bytes others ≤ 1073741824
+accepted_alike : (profile : Profile) → AlikeFilesAreReadAlike → (files others : List PlainFile) → AllZip AreAlike files others → total_bytes others ≤ most_bytes
     → (statements : List PlainStatement) → AreAccepted profile files statements
     → (same : List PlainStatement) × AreAccepted profile others same × (map (statement_on (feeds_in files)) statements ≡ map (statement_on (feeds_in others)) same)
 accepted_alike profile law files others alike small statements accepted =
@@ -311,7 +320,7 @@ accepted_alike profile law files others alike small statements accepted =
     )
 
 pub verdict_alike : (profile : Profile) → AlikeFilesAreReadAlike → (files others : List PlainFile) → AllZip AreAlike files others
-    → total_bytes files ≤ 1073741824 → total_bytes others ≤ 1073741824
+    → total_bytes files ≤ most_bytes → total_bytes others ≤ most_bytes
     → (verdict : Verdict) → HasVerdict profile files verdict → HasVerdict profile others verdict
 verdict_alike profile law files others alike small short (Load rule) holds =
     (holds.0, breaks_alike files others alike small holds.0 holds.1, holds.2)

@@ -4,7 +4,7 @@ use Rattle.std.specs.List.{AllByRecursion}
 use Rattle.mm_text.specs.declared.fault.LoadRule.{LoadRule}
 use Rattle.mm_text.specs.declared.fault.LoadRule.TheVariants as load
 use Rattle.mm_text.specs.Statement.{PlainStatement, HasForm}
-use Rattle.mm_text.specs.Files.{PlainFile, BreaksLoad, HasTwins, total_bytes}
+use Rattle.mm_text.specs.Files.{most_bytes, PlainFile, BreaksLoad, HasTwins, total_bytes}
 use Rattle.mm_text.specs.Reading.{PlainFault, Reads}
 use Rattle.mm_text.proofs.ReaderLaws.{each_has_one_reading}
 use Rattle.mm_text.proofs.FormedLaws.{readings_are_formed_in_place}
@@ -13,13 +13,14 @@ use Rattle.mm_frame.specs.Rules.{IsMeant}
 use Rattle.mm_frame.specs.Form.{IsFormedSentence, AllFormed}
 use Rattle.mm_frame.proofs.Uses.{formed_said}
 use Rattle.mm_proof.specs.declared.profile.Profile.{Profile}
-use Rattle.mm_proof.specs.Profiles.{limit_of}
+use Rattle.mm_proof.specs.declared.fault.ProofRule.{ProofRule}
 use Rattle.mm_proof.proofs.Decisions.{dec_both, dec_as, dec_some, dec_le, symbol_dec}
-use Rattle.mm_proof.proofs.Judged.{some_verdict_holds}
+use Rattle.mm_proof.proofs.FormDecided.{one_verdict_under_holds, one_front_verdict_under_holds}
 use Rattle.mm_check.specs.declared.rule.Rule.{Rule}
 use Rattle.mm_check.specs.Verdict.{PlainRefusal, Verdict, Load, Refused, Incomplete, Yes, Obeys, AllObey, AreAccepted, CanBeRead, HasFault, HasVerdict, RefusesStatement, sentences, load_rule, meaning_rule, proof_rule, refusal_of, text_refusal, proof_of, proofs_of, unproved_of, is_proof}
+use Rattle.mm_check.specs.Verdict.{is_unproved, IsProofFault}
 use Rattle.mm_check.proofs.Meanings.{some_meaning}
-use Rattle.mm_check.proofs.Unproved.{all_meant, one_more, no_statement}
+use Rattle.mm_check.proofs.Unproved.{all_meant, one_more, no_statement, proof_not_unproved}
 
 -- ## The files as a whole
 
@@ -46,10 +47,10 @@ some_load files some (yes twins) large = inl (load.F2, (some, twins))
 some_load files some (no none) (yes large) = inl (load.F3, (some, none, omega arith))
 some_load files some (no none) (no small) = inr (can_be_read files some none (omega arith))
   where
-    can_be_read : (files : List PlainFile) → files ≢ [] → ¬ (HasTwins files) → total_bytes files ≤ 1073741824 → CanBeRead files
+    can_be_read : (files : List PlainFile) → files ≢ [] → ¬ (HasTwins files) → total_bytes files ≤ most_bytes → CanBeRead files
     can_be_read files some none small load.F1 broken = some broken
     can_be_read files some none small load.F2 broken = none broken.1
-    can_be_read files some none small load.F3 broken = let large : 1073741824 < total_bytes files = broken.2 in absurd (omega arith)
+    can_be_read files some none small load.F3 broken = let large : most_bytes < total_bytes files = broken.2 in absurd (omega arith)
 
 judged_load : (files : List PlainFile) → ((rule : LoadRule) × BreaksLoad files rule) ⊎ CanBeRead files
 judged_load [] = inl (load.F1, refl)
@@ -62,26 +63,68 @@ formed_sentences [] all place s e = absurd cc
 formed_sentences (t ∷ statements) all zero s e = let same : sentence_of t ≡ s = cc in subst IsFormedSentence same (formed_said t all.0)
 formed_sentences (t ∷ statements) all (suc place) s e = formed_sentences statements all.1 place s e
 
+-- the proof of a statement breaks no rule, or has a fault
+proof_obeys_or_fails : (profile : Profile) (before : List PlainStatement) (s : PlainStatement)
+    → AllObey profile before → AllFormed (sentences before) → (a b : Bool) → is_proof s ≡ a
+    → is_unproved s ≡ b → IsMeant (sentences before) (sentence_of s)
+    → Obeys profile (sentences before) s
+    ⊎ ((rule : ProofRule) × (step : ℕ) × IsProofFault profile (sentences before) s rule step)
+proof_obeys_or_fails profile before s obeyed formed true b e f meant =
+    let law = one_verdict_under_holds profile (sentences before) (sentence_of s) (proof_of s)
+    (all_meant profile before obeyed) formed in
+    elim (law.0) [
+      | inl proved ↦ inl (record {
+        meant = meant;
+        proved = λ complete. proved;
+        known = λ open_one. let none = proof_not_unproved s e in absurd cc;
+      })
+      | inr fault ↦ inr (fault.0, fault.1, inl (e, fault.2))
+    ]
+proof_obeys_or_fails profile before s obeyed formed false true e f meant =
+    let law = one_front_verdict_under_holds profile (sentences before) (sentence_of s) (proof_of s)
+    (all_meant profile before obeyed) formed in
+    elim (law.0) [
+      | inl allowed ↦ inl (record {
+        meant = meant;
+        proved = λ complete. absurd cc;
+        known = λ open_one. allowed;
+      })
+      | inr fault ↦ inr (fault.0, fault.1, inr (f, fault.2))
+    ]
+proof_obeys_or_fails profile before s obeyed formed false false e f meant =
+    inl (record { meant = meant; proved = λ complete. absurd cc; known = λ open_one. absurd cc })
+
 -- a statement obeys the rules, or has a fault
-obeys_or_fails : (profile : Profile) (before : List PlainStatement) (s : PlainStatement) → AllObey profile before → AllFormed (sentences before) → (b : Bool) → is_proof s ≡ b
-    → IsMeant (sentences before) (sentence_of s) → Obeys profile (sentences before) s ⊎ ((rule : Rule) × (step : ℕ) × HasFault profile (sentences before) s rule step)
-obeys_or_fails profile before s obeyed formed false e meant = inl (record { meant = meant; proved = λ f. absurd cc })
-obeys_or_fails profile before s obeyed formed true e meant =
-    elim (some_verdict_holds (limit_of profile) (sentences before) (sentence_of s) (proof_of s) (all_meant profile before obeyed) formed) [
-      | inl proved ↦ inl (record { meant = meant; proved = λ f. proved })
-      | inr fault ↦ inr (proof_rule fault.0, fault.1, inr (meant, e, fault.0, fault.2, refl))
+obeys_or_fails : (profile : Profile) (before : List PlainStatement) (s : PlainStatement)
+    → AllObey profile before → AllFormed (sentences before)
+    → IsMeant (sentences before) (sentence_of s)
+    → Obeys profile (sentences before) s
+    ⊎ ((rule : Rule) × (step : ℕ) × HasFault profile (sentences before) s rule step)
+obeys_or_fails profile before s obeyed formed meant =
+    elim (proof_obeys_or_fails profile before s obeyed formed (is_proof s) (is_unproved s) refl refl
+    meant) [
+      | inl obeys ↦ inl obeys
+      | inr fault ↦ inr (proof_rule fault.0, fault.1, inr (meant, fault.0, fault.2, refl))
     ]
 
 judged_statement : (profile : Profile) (before : List PlainStatement) (s : PlainStatement) → AllObey profile before → AllFormed (sentences before)
     → Obeys profile (sentences before) s ⊎ ((rule : Rule) × (step : ℕ) × HasFault profile (sentences before) s rule step)
 judged_statement profile before s obeyed formed = elim (some_meaning (sentences before) (sentence_of s)) [
-  | inl meant ↦ obeys_or_fails profile before s obeyed formed (is_proof s) refl meant
+  | inl meant ↦ obeys_or_fails profile before s obeyed formed meant
   | inr broken ↦ inr (meaning_rule broken.0, 0, inl (broken.0, broken.1, refl, refl))
 ]
 
 formed_front : (front rest : List PlainStatement) → AllByRecursion HasForm (front ++ rest) → AllByRecursion HasForm front
 formed_front [] rest all = tt
 formed_front (s ∷ front) rest all = (all.0, formed_front front rest all.1)
+
+-- what comes before a statement says what is in form
+pub formed_before : (statements before : List PlainStatement) (s : PlainStatement)
+    (after : List PlainStatement) → AllByRecursion HasForm statements
+    → statements ≡ before ++ s ∷ after → AllFormed (sentences before)
+formed_before statements before s after formed split =
+    formed_sentences before
+    (formed_front before (s ∷ after) (subst (AllByRecursion HasForm) split formed))
 
 -- the first statement at fault, or that there is none
 judged_statements : (profile : Profile) (files : List PlainFile) (before later : List PlainStatement) → AllObey profile before → AllByRecursion HasForm (before ++ later)

@@ -18,9 +18,11 @@ use Rattle.mm_proof.specs.declared.prover.Proved.TheVariants as proved
 use Rattle.mm_proof.specs.Tokens.{IsIncomplete}
 use Rattle.mm_proof.specs.Steps.{IsProofNumber}
 use Rattle.mm_proof.specs.Parsed.{OfProof}
-use Rattle.mm_proof.specs.Verified.{TokensProve, TokensFail}
+use Rattle.mm_proof.specs.Verified.{TokensProve}
 use Rattle.mm_proof.specs.declared.profile.Profile.{Profile}
 use Rattle.mm_proof.specs.Profiles.{limit_of}
+use Rattle.mm_proof.specs.Strict.{HasFormOf}
+use Rattle.mm_proof.specs.UnderProfile.{IsFaultUnder, IsFrontAllowedUnder, IsFrontFaultUnder}
 use Rattle.mm_proof.proofs.Places.{one_split}
 use Rattle.mm_text.specs.Files.{PlainFile}
 use Rattle.mm_text.proofs.Lists.{get_pushed}
@@ -29,8 +31,9 @@ use Rattle.mm_check.specs.declared.rule.Rule.{Rule}
 use Rattle.mm_check.specs.declared.fault.CheckFault.{CheckFault}
 use Rattle.mm_check.specs.declared.progress.Progress.{Progress}
 use Rattle.mm_check.specs.Verdict.{Refused, proof_of, is_incomplete, proof_rule, refusal_of}
+use Rattle.mm_check.specs.Verdict.{IsProofFault}
 use Rattle.mm_check.specs.Mirror.Judged.{IsLastProof, IsJudged, Fails, RefusesProof, RefusesAfter}
-use Rattle.mm_check.proofs.Unproved.{proof_there}
+use Rattle.mm_check.proofs.Unproved.{proof_there, unproved_there}
 
 -- ## The tokens of the proof
 
@@ -110,44 +113,111 @@ last_number statements id s formed last before e =
 
 -- ## The verdict on its proof
 
--- a proof with no unknown step is complete
-is_complete : (tokens : List (List ℕ)) (s : PlainStatement) → tokens ≡ proof_of s → ¬ (IsIncomplete tokens) → is_incomplete (proof_of s) ≡ false
-is_complete tokens s same none = subst (λ (ts : List (List ℕ)). is_incomplete ts ≡ false) same (complete_is tokens none)
+-- what is said of the `$p` with the number, wherever it stands, is said of the last statement
+of_last : (P : List Sentence → Sentence → List (List ℕ) → Type 0) (statements : List Sentence)
+    (id : ℕ) (s : PlainStatement) (tokens : List (List ℕ)) → HasForm s → IsLastProof statements id s
+    → tokens ≡ proof_of s → (before : List Sentence) → statements ≡ before ++ sentence_of s ∷ []
+    → OfProof statements id (λ place t. P (take place statements) t tokens)
+    → P before (sentence_of s) (proof_of s)
+of_last P statements id s tokens formed last same before e said =
+    let number = last_number statements id s formed last before e in
+    let there = said (length before) (sentence_of s) number in
+    subst (λ (ts : List (List ℕ)). P before (sentence_of s) ts) same
+    (subst (λ (ss : List Sentence). P ss (sentence_of s) tokens)
+    (front_of statements before (sentence_of s) e) there)
 
--- what the prover says of the tokens of the statement with the number, wherever it stands, is said of the last one
-pub judged : (profile : Profile) (statements : List Sentence) (id : ℕ) (s : PlainStatement) (tokens : List (List ℕ)) (result : Result Proved ProofFault) (used : List ℕ) → HasForm s → IsLastProof statements id s
+-- a proof with no unknown step is complete
+is_complete : (tokens : List (List ℕ)) (s : PlainStatement) → tokens ≡ proof_of s
+    → ¬ (IsIncomplete tokens) → is_incomplete (proof_of s) ≡ false
+is_complete tokens s same none =
+    subst (λ (ts : List (List ℕ)). is_incomplete ts ≡ false) same (complete_is tokens none)
+
+-- the fault of the tokens, as all of a proof or as what is known of one, is that of the statement
+fails_as : (profile : Profile) (before : List Sentence) (s : PlainStatement)
+    (tokens : List (List ℕ)) (rule : ProofRule) (step : ℕ) → s.kind ≡ Provable
     → tokens ≡ proof_of s
-    → (result ≡ Ok proved.Incomplete → IsIncomplete tokens) → (IsIncomplete tokens → result ≡ Ok proved.Incomplete)
-    → (result ≡ Ok proved.Complete → OfProof statements id (λ place t. TokensProve (limit_of profile) (take place statements) t tokens used))
-    → ((rule : ProofRule) (step : ℕ) → result ≡ Err (faults.Rule rule step) → OfProof statements id (λ place t. TokensFail (limit_of profile) (take place statements) t tokens rule step))
+    → (¬ (IsIncomplete tokens)
+    → IsFaultUnder profile before (sentence_of s) (proof_of s) rule step)
+    → (IsIncomplete tokens
+    → IsFrontFaultUnder profile before (sentence_of s) (proof_of s) rule step)
+    → (b : Bool) → is_incomplete tokens ≡ b → IsProofFault profile before s rule step
+fails_as profile before s tokens rule step provable same fails front_fails true open_one =
+    inr (
+      unproved_there s provable (ap is_incomplete (sym same) ∙ open_one),
+      front_fails (some_unknown tokens open_one),
+    )
+fails_as profile before s tokens rule step provable same fails front_fails false complete =
+    inl (
+      proof_there s provable (ap is_incomplete (sym same) ∙ complete),
+      fails (λ h. let known = incomplete_is tokens h in absurd cc),
+    )
+
+-- what the prover says of the tokens of the statement with the number, wherever it stands, is said
+-- of the last one
+pub judged : (profile : Profile) (statements : List Sentence) (id : ℕ) (s : PlainStatement)
+    (tokens : List (List ℕ)) (result : Result Proved ProofFault) (used : List ℕ) → HasForm s
+    → IsLastProof statements id s → tokens ≡ proof_of s
+    → (result ≡ Ok proved.Incomplete → IsIncomplete tokens
+    × OfProof statements id (λ place t.
+    IsFrontAllowedUnder profile (take place statements) t tokens))
+    → (IsIncomplete tokens → ¬ (result ≡ Ok proved.Complete))
+    → (result ≡ Ok proved.Complete → OfProof statements id (λ place t.
+    TokensProve (limit_of profile) (take place statements) t tokens used))
+    → (result ≡ Ok proved.Complete → OfProof statements id (λ place t.
+    HasFormOf profile (take place statements) t tokens))
+    → (¬ (IsIncomplete tokens) → (rule : ProofRule) (step : ℕ)
+    → result ≡ Err (faults.Rule rule step) → OfProof statements id (λ place t.
+    IsFaultUnder profile (take place statements) t tokens rule step))
+    → (IsIncomplete tokens → (rule : ProofRule) (step : ℕ)
+    → result ≡ Err (faults.Rule rule step) → OfProof statements id (λ place t.
+    IsFrontFaultUnder profile (take place statements) t tokens rule step))
     → (before : List Sentence) → statements ≡ before ++ sentence_of s ∷ []
     → MatchResult result (IsJudged profile before s used) (Fails profile before s)
-judged profile statements id s tokens (Ok proved.Incomplete) used formed last same incomplete complete proves fails before e =
-    subst (λ (ts : List (List ℕ)). is_incomplete ts ≡ true) same (incomplete_is tokens (incomplete refl))
-judged profile statements id s tokens (Ok proved.Complete) used formed last same incomplete complete proves fails before e =
-    let Given : List Sentence → List (List ℕ) → Type 0 = λ ss ts. TokensProve (limit_of profile) ss (sentence_of s) ts used in
-    let there = proves refl (length before) (sentence_of s) (last_number statements id s formed last before e) in
+judged profile statements id s tokens (Ok proved.Incomplete) used formed last same
+    incomplete complete proves forms fails front_fails before e =
+    let open_one = incomplete refl in (
+      subst (λ (ts : List (List ℕ)). is_incomplete ts ≡ true) same (incomplete_is tokens open_one.0),
+      of_last (IsFrontAllowedUnder profile) statements id s tokens formed last same before e
+          open_one.1,
+    )
+judged profile statements id s tokens (Ok proved.Complete) used formed last same
+    incomplete complete proves forms fails front_fails before e =
+    let Proves : List Sentence → Sentence → List (List ℕ) → Type 0 =
+    λ ss t ts. TokensProve (limit_of profile) ss t ts used in
     let here : TokensProve (limit_of profile) before (sentence_of s) (proof_of s) used =
-    subst (λ (ts : List (List ℕ)). Given before ts) same (subst (λ (ss : List Sentence). Given ss tokens) (front_of statements before (sentence_of s) e) there) in
-    (is_complete tokens s same (λ h. let c = complete h in absurd cc), record { proof = here.proof; all = here.all })
-judged profile statements id s tokens (Err faults.Memory) used formed last same incomplete complete proves fails before e = tt
-judged profile statements id s tokens (Err (faults.Rule rule step)) used formed last same incomplete complete proves fails before e =
-    let Given : List Sentence → List (List ℕ) → Type 0 = λ ss ts. TokensFail (limit_of profile) ss (sentence_of s) ts rule step in
-    let there = fails rule step refl (length before) (sentence_of s) (last_number statements id s formed last before e) in
-    let here : TokensFail (limit_of profile) before (sentence_of s) (proof_of s) rule step =
-    subst (λ (ts : List (List ℕ)). Given before ts) same (subst (λ (ss : List Sentence). Given ss tokens) (front_of statements before (sentence_of s) e) there) in
-    (is_complete tokens s same (λ h. let c = complete h in absurd cc), here)
+    of_last Proves statements id s tokens formed last same before e (proves refl) in (
+      is_complete tokens s same (λ h. complete h refl),
+      record {
+        form = of_last (HasFormOf profile) statements id s tokens formed last same before e
+            (forms refl);
+        proof = here.proof;
+        all = here.all;
+      },
+    )
+judged profile statements id s tokens (Err faults.Memory) used formed last same
+    incomplete complete proves forms fails front_fails before e = tt
+judged profile statements id s tokens (Err (faults.Rule rule step)) used formed last same
+    incomplete complete proves forms fails front_fails before e =
+    fails_as profile before s tokens rule step last.provable same
+    (λ whole. of_last (λ ss t ts. IsFaultUnder profile ss t ts rule step)
+    statements id s tokens formed last same before e (fails whole rule step refl))
+    (λ open_one. of_last (λ ss t ts. IsFrontFaultUnder profile ss t ts rule step)
+    statements id s tokens formed last same before e (front_fails open_one rule step refl))
+    (is_incomplete tokens) refl
 
 -- a refusal for the proof of the last statement is one of the statement
-pub refuses_after : (profile : Profile) (files : List PlainFile) (p q : Progress) (s : PlainStatement) (fault : CheckFault) → IsMeant p.prover.book.statements (sentence_of s) → s.kind ≡ Provable
-    → q.prover.book.statements ≡ p.prover.book.statements ++ sentence_of s ∷ [] → q.count ≡ p.count → RefusesProof profile files q s fault
+pub refuses_after : (profile : Profile) (files : List PlainFile) (p q : Progress)
+    (s : PlainStatement) (fault : CheckFault)
+    → IsMeant p.prover.book.statements (sentence_of s)
+    → q.prover.book.statements ≡ p.prover.book.statements ++ sentence_of s ∷ []
+    → q.count ≡ p.count → RefusesProof profile files q s fault
     → RefusesAfter profile files p.prover.book.statements p.count s fault
-refuses_after profile files p q s fault meant provable book count (inl none) = inl none
-refuses_after profile files p q s fault meant provable book count (inr at) = inr (
+refuses_after profile files p q s fault meant book count (inl none) = inl none
+refuses_after profile files p q s fault meant book count (inr at) = inr (
   proof_rule at.0,
   at.1,
-  inr (meant, proof_there s provable at.2, at.0, at.3 p.prover.book.statements book, refl),
-  at.4 ∙ ap (λ (n : ℕ). Some (Refused (refusal_of files n s (proof_rule at.0) at.1))) count,
+  inr (meant, at.0, at.2 p.prover.book.statements book, refl),
+  at.3 ∙ ap (λ (n : ℕ). Some (Refused (refusal_of files n s (proof_rule at.0) at.1))) count,
 )
 
 -- refusals of one statement for one rule at one step

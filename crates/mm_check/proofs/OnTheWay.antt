@@ -6,7 +6,7 @@ use Rattle.mm_text.specs.declared.fault.LoadRule.TheVariants.{F1, F2, F3}
 use Rattle.mm_text.specs.declared.statement.Kind.{Kind}
 use Rattle.mm_text.specs.declared.statement.Kind.TheVariants.{Closing}
 use Rattle.mm_text.specs.Statement.{PlainStatement, bytes_in}
-use Rattle.mm_text.specs.Files.{PlainFile, total_bytes}
+use Rattle.mm_text.specs.Files.{most_bytes, PlainFile, total_bytes}
 use Rattle.mm_text.specs.Blocks as text
 use Rattle.mm_text.specs.Remaining.{Remaining}
 use Rattle.mm_text.proofs.FormedLaws.{readings_are_balanced, readings_fit, readings_few}
@@ -21,8 +21,8 @@ use Rattle.mm_check.proofs.Numbers.{count_by-one}
 
 -- ## The limit
 
-pub within_limit : (files : List PlainFile) → CanBeRead files → total_bytes files ≤ 1073741824
-within_limit files readable = elim (cases_lt 1073741824 (total_bytes files)) [
+pub within_limit : (files : List PlainFile) → CanBeRead files → total_bytes files ≤ most_bytes
+within_limit files readable = elim (cases_lt most_bytes (total_bytes files)) [
   | inl more ↦ absurd (readable F3 (readable F1, (λ twins. readable F2 (readable F1, twins)), more))
   | inr less ↦ less
 ]
@@ -74,7 +74,7 @@ closes profile files p old new s way taken closing =
 
 -- the next statement's bytes have room
 pub has_room : (profile : Profile) (files : List PlainFile) (p : Progress) (old new : Remaining) (s : PlainStatement) → IsUnderWay profile files p old → TakesNext old true s new
-    → p.prover.book.bytes + bytes_in s ≤ 1073741824
+    → p.prover.book.bytes + bytes_in s ≤ most_bytes
 has_room profile files p old new s way taken =
     let earlier : List PlainStatement = way.earlier in
     let whole : earlier ++ old.statements ≡ earlier ++ s ∷ new.statements = ap (λ (ss : List PlainStatement). earlier ++ ss) taken.0 in
@@ -83,13 +83,13 @@ has_room profile files p old new s way taken =
     omega (arith, fits, way.known.bytes, within_limit files way.readable, sum_by-append bytes_in earlier (s ∷ new.statements), sum_by-cons bytes_in s new.statements)
 
 -- the statements so far are few
-few : (profile : Profile) (files : List PlainFile) (p : Progress) (left : Remaining) (way : IsUnderWay profile files p left) → length way.earlier ≤ 1073741824
+few : (profile : Profile) (files : List PlainFile) (p : Progress) (left : Remaining) (way : IsUnderWay profile files p left) → length way.earlier ≤ most_bytes
 few profile files p left way =
     omega (arith, readings_few files (way.earlier ++ left.statements) left.ending way.reads, length-append way.earlier left.statements, within_limit files way.readable)
 
-pub count_small : (profile : Profile) (files : List PlainFile) (p : Progress) (left : Remaining) → IsUnderWay profile files p left → p.count ≤ 1073741824
+pub count_small : (profile : Profile) (files : List PlainFile) (p : Progress) (left : Remaining) → IsUnderWay profile files p left → p.count ≤ most_bytes
 count_small profile files p left way = omega (arith, few profile files p left way, way.known.count)
 
-pub proofs_small : (profile : Profile) (files : List PlainFile) (p : Progress) (left : Remaining) → IsUnderWay profile files p left → p.proofs ≤ 1073741824
+pub proofs_small : (profile : Profile) (files : List PlainFile) (p : Progress) (left : Remaining) → IsUnderWay profile files p left → p.proofs ≤ most_bytes
 proofs_small profile files p left way =
     omega (arith, few profile files p left way, way.known.proofs, count_by-le-length is_proof way.earlier)

@@ -3,7 +3,7 @@ use Rattle.std.proofs.Common.{◌≡◌, ℕ, zero, suc, ◌≤◌, List, [], �
 use Rattle.std.proofs.lemmas.List.Sums.{sum_by-cons}
 use Rattle.mm_text.specs.Token.{PlainToken}
 use Rattle.mm_text.specs.Statement.{PlainStatement, bytes_in}
-use Rattle.mm_text.specs.Files.{PlainFile}
+use Rattle.mm_text.specs.Files.{most_bytes, PlainFile}
 use Rattle.mm_text.specs.Reading.{PlainFault, Reads}
 use Rattle.mm_text.specs.Remaining.{Remaining}
 use Rattle.mm_text.proofs.FormedLaws.{readings_fit}
@@ -128,7 +128,7 @@ bytes_within (t ∷ statements) zero s e = let same : t ≡ s = cc in omega (ari
 bytes_within (t ∷ statements) (suc place) s e = omega (arith, bytes_within statements place s e, sum_by-cons bytes_in t statements)
 
 pub proof_fits : (files : List PlainFile) (statements : List PlainStatement) (place : ℕ) (s : PlainStatement) → CanBeRead files → Reads files statements None
-    → slice_get statements place ≡ Some s → sum_by length (proof_of s) ≤ 1073741824
+    → slice_get statements place ≡ Some s → sum_by length (proof_of s) ≤ most_bytes
 proof_fits files statements place s readable reads there =
     omega (arith, texts_bytes s.proof, bytes_within statements place s there, readings_fit files statements None reads, within_limit files readable)
 
@@ -156,7 +156,7 @@ shown_proof c statements label id t of all named stands =
 
 -- and there is room for them
 pub shown_room : (c : Conclusion) (statements : List PlainStatement) (label : List ℕ) (t : PlainStatement) → AreOf c statements → Stands statements label t
-    → sum_by length (proof_of t) ≤ 1073741824
+    → sum_by length (proof_of t) ≤ most_bytes
 shown_room c statements label t of (place, there, named) = proof_fits c.files statements place t of.accepted.readable of.accepted.reads there
 
 -- the steps that its tokens say are those of the theorem

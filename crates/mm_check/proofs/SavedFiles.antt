@@ -6,7 +6,7 @@ use Rattle.mm_text.specs.declared.fault.LoadRule.{LoadRule}
 use Rattle.mm_text.specs.declared.fault.LoadRule.TheVariants as load
 use Rattle.mm_text.specs.Token.{tokens_from}
 use Rattle.mm_text.specs.Statement.{PlainStatement, is_provable}
-use Rattle.mm_text.specs.Files.{PlainFile, total_bytes, BreaksLoad}
+use Rattle.mm_text.specs.Files.{most_bytes, PlainFile, total_bytes, BreaksLoad}
 use Rattle.mm_text.specs.Replaced.{placeless, with_bytes}
 use Rattle.mm_text.proofs.Lists.{same_length}
 use Rattle.mm_frame.specs.Sentence.{Sentence, sentence_of}
@@ -30,6 +30,7 @@ use Rattle.mm_check.proofs.Known.{unproved_of-append}
 use Rattle.mm_check.proofs.Rereading.{same_reading}
 use Rattle.mm_check.proofs.Saving.{with_bytes_is}
 use Rattle.mm_check.proofs.Trees.{any_proof}
+use Rattle.mm_check.proofs.Unproved.{proof_not_unproved}
 use Rattle.mm_check.proofs.Verdicts.{accepted_or_refused}
 use Rattle.mm_check.proofs.SavedTokens.{texts_in, words_after_feed, fine_complete}
 use Rattle.mm_check.proofs.SavedProofs.{ReadsAsProof, tree_is, tree_derives}
@@ -73,14 +74,6 @@ proved_anew profile front s root below moves text meant complete old told made r
       proof = here.0;
       spelled = here.1;
     }
-
-not_unproved : (a b : Bool) → (a && not b) ≡ true → (a && b) ≡ false
-not_unproved true true h = absurd cc
-not_unproved true false h = refl
-not_unproved false b h = absurd cc
-
-pub proof_not_unproved : (s : PlainStatement) → is_proof s ≡ true → is_unproved s ≡ false
-proof_not_unproved s h = not_unproved (is_provable s.kind) (is_incomplete (proof_of s)) h
 
 -- it is alike, one way and the other
 pub anew_alike : (profile : Profile) (front : List Sentence) (s : PlainStatement) (root : List ℕ) (below : Trees) (moves : List (Move (List ℕ))) (text : List ℕ) → AllMeant front → is_proof s ≡ true
@@ -208,14 +201,14 @@ some_files : (files : List PlainFile) (k : ℕ) (f : PlainFile) → slice_get fi
 some_files [] k f there e = absurd cc
 some_files (h ∷ files) k f there e = absurd cc
 
-pub readable_anew : (files : List PlainFile) (k : ℕ) (f : PlainFile) (bytes : List ℕ) → slice_get files k ≡ Some f → total_with files k bytes ≤ 1073741824 → CanBeRead files → CanBeRead (with_bytes files k bytes)
+pub readable_anew : (files : List PlainFile) (k : ℕ) (f : PlainFile) (bytes : List ℕ) → slice_get files k ≡ Some f → total_with files k bytes ≤ most_bytes → CanBeRead files → CanBeRead (with_bytes files k bytes)
 readable_anew files k f bytes there fits readable rule broken = by_rule rule (subst (λ (fs : List PlainFile). BreaksLoad fs rule) (with_bytes_is files k f bytes there) broken)
   where
     others : List PlainFile
     others = slice_set files k (record f { bytes = bytes })
 
-    small : total_bytes (slice_set files k (record f { bytes = bytes })) ≤ 1073741824
-    small = subst (λ (fs : List PlainFile). total_bytes fs ≤ 1073741824) (with_bytes_is files k f bytes there) fits
+    small : total_bytes (slice_set files k (record f { bytes = bytes })) ≤ most_bytes
+    small = subst (λ (fs : List PlainFile). total_bytes fs ≤ most_bytes) (with_bytes_is files k f bytes there) fits
 
     by_rule : (r : LoadRule) → BreaksLoad (slice_set files k (record f { bytes = bytes })) r → ⊥
     by_rule load.F1 e = none_back files k f (record f { bytes = bytes }) there e
@@ -223,7 +216,7 @@ readable_anew files k f bytes there fits readable rule broken = by_rule rule (su
         let (x, at_i, one) = named_back files k f bytes there twins.i twins.one twins.at_i in
         let (y, at_j, two) = named_back files k f bytes there twins.j twins.other twins.at_j in
         readable load.F2 (some_files files k f there, record { i = twins.i; j = twins.j; one = x; other = y; apart = twins.apart; at_i = at_i; at_j = at_j; same = one ∙ twins.same ∙ sym two })
-    by_rule load.F3 e = let large : 1073741824 < total_bytes (slice_set files k (record f { bytes = bytes })) = e.2 in let less = small in absurd (omega (arith, large, less))
+    by_rule load.F3 e = let large : most_bytes < total_bytes (slice_set files k (record f { bytes = bytes })) = e.2 in let less = small in absurd (omega (arith, large, less))
 
 -- ---- the verdict
 

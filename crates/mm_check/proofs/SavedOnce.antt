@@ -1,12 +1,11 @@
 -- Saving changes nothing that is answered, and saving again changes nothing.
 use Rattle.std.proofs.Common.{◌≡◌, ℕ, suc, ◌+◌, ◌≤◌, ◌<◌, List, [], ◌∷◌, ◌++◌, map, take, drop, length, slice_get, true, Some, None, inl, inr, refl, sym, ap, subst, ◌∙◌, arith, append_assoc, length-append, is_some}
 use Rattle.std.proofs.Math.Seq.{take-append_seam, drop-append_seam}
-use Rattle.std.proofs.lemmas.Option.{same_Some}
 use Rattle.mm_text.specs.Statement.{PlainStatement}
-use Rattle.mm_text.specs.Files.{PlainFile}
+use Rattle.mm_text.specs.Files.{most_bytes, PlainFile}
 use Rattle.mm_text.specs.Replaced.{placeless, with_span, with_bytes, IsProofSpan, AreReadBut}
 use Rattle.mm_text.proofs.ReplacedFiles.{replaced_proofs_are_read_holds}
-use Rattle.mm_text.proofs.ReplacedItems.{set_there}
+use Rattle.mm_text.proofs.ReplacedItems.{some_same, set_there}
 use Rattle.mm_text.proofs.ProofSpans.{proofs_stand_in_spans_holds}
 use Rattle.mm_code.specs.declared.code.Code.{Code}
 use Rattle.mm_code.specs.Letters.{SpellsCodes}
@@ -40,11 +39,11 @@ use Rattle.mm_check.proofs.Asked.{map-take}
 use Rattle.mm_check.proofs.Rereading.{same_reading, said_there, one_stands}
 use Rattle.mm_check.proofs.Saving.{provable_proof, with_bytes_is}
 use Rattle.mm_check.proofs.Trees.{any_proof}
-use Rattle.mm_check.proofs.Unproved.{all_meant}
+use Rattle.mm_check.proofs.Unproved.{all_meant, proof_not_unproved}
 use Rattle.mm_check.proofs.SavedTokens.{is_proof_text}
 use Rattle.mm_check.proofs.SavedProofs.{have_labels, ReadsAsProof, text_reads, tree_derives}
 use Rattle.mm_check.proofs.SavedStatements.{Carries, tree_carried, report_carried}
-use Rattle.mm_check.proofs.SavedFiles.{put_anew, IsProvedAnew, proved_anew, proof_not_unproved, anew_alike, alike_anew, carries_of, all_obey_anew, readable_anew, verdict_carried, same_left, same_count, same_many}
+use Rattle.mm_check.proofs.SavedFiles.{put_anew, IsProvedAnew, proved_anew, anew_alike, alike_anew, carries_of, all_obey_anew, readable_anew, verdict_carried, same_left, same_count, same_many}
 
 pub front_meant : (profile : Profile) (statements : List PlainStatement) (n : ℕ) → AllObey profile statements → AllMeant (sentences (take n statements))
 front_meant profile statements n obeyed = subst AllMeant (sym (map-take n statements)) (allmeant_front (sentences statements) n (all_meant profile statements obeyed))
@@ -62,7 +61,7 @@ pub record IsToPut (profile : Profile) (f : Form) (files : List PlainFile) (befo
   pub made : MakeTree (sentences before) moves root below
   pub laid : IsTextIn f (sentences before) (sentence_of s) (tree root below none) text
   pub handed : slice_get files s.first.file ≡ Some file
-  pub fits : total_with files s.first.file (with_span file.bytes s.span (10 ∷ text)) ≤ 1073741824
+  pub fits : total_with files s.first.file (with_span file.bytes s.span (10 ∷ text)) ≤ most_bytes
 
 abbrev files_anew : List PlainFile → PlainStatement → PlainFile → List ℕ → List PlainFile
 files_anew files s file text = with_bytes files s.first.file (with_span file.bytes s.span (10 ∷ text))
@@ -152,7 +151,7 @@ to_put profile f files statements label number bytes accepted sv fits =
       made = sv.proof.made;
       laid = sv.laid;
       handed = ap (slice_get files) (sym sv.home) ∙ sv.handed;
-      fits = subst (λ (n : ℕ). n ≤ 1073741824) (λ i. total_with files (sv.home i) (sv.whole i)) fits;
+      fits = subst (λ (n : ℕ). n ≤ most_bytes) (λ i. total_with files (sv.home i) (sv.whole i)) fits;
     }
 
 pub saving_changes_no_answer : SavingChangesNoAnswer
@@ -210,7 +209,7 @@ one_saved profile f files statements label number other bytes others accepted sv
     (subst (λ (n : ℕ). IsTextIn f (sentences (take n statements)) (sentence_of sw.s) (tree sw.root sw.below none) sw.text) here sw.laid)) in
     let text : sv.text ≡ sw.text = texts_once f front (sentence_of sv.s) sv.root sv.below sv.text sw.text (front_meant profile statements sv.place accepted.obeyed) sv.laid laid in
     let home : number ≡ other = sv.home ∙ ap (λ (s : PlainStatement). s.first.file) (sym same) ∙ sym sw.home in
-    let file : sv.file ≡ sw.file = same_Some sv.file sw.file (sym sv.handed ∙ ap (slice_get files) home ∙ sw.handed) in
+    let file : sv.file ≡ sw.file = some_same sv.file sw.file (sym sv.handed ∙ ap (slice_get files) home ∙ sw.handed) in
     (home, sv.whole ∙ (λ i. with_span (file i).bytes (sym same i).span (10 ∷ text i)) ∙ sym sw.whole)
 
 -- ---- no other fault where something is saved
@@ -259,7 +258,7 @@ one_save_answer profile form.Normal files statements label number bytes ask.L2 a
 one_save_answer profile form.Packed files statements label number bytes ask.L2 accepted sv why = absurd why
 one_save_answer profile f files statements label number bytes ask.F3 accepted sv (other, others, sw, over) =
     let once = one_saved profile f files statements label number other bytes others accepted sv sw in
-    inr (refl, subst (λ (n : ℕ). 1073741824 < n) (λ i. total_with files (sym once.0 i) (sym once.1 i)) over)
+    inr (refl, subst (λ (n : ℕ). most_bytes < n) (λ i. total_with files (sym once.0 i) (sym once.1 i)) over)
 one_save_answer profile form.Normal files statements label number bytes (ask.Text rule step) accepted sv why = absurd why
 one_save_answer profile form.Packed files statements label number bytes (ask.Text rule step) accepted sv why = absurd why
 one_save_answer profile f files statements label number bytes ask.Memory accepted sv why = inl refl

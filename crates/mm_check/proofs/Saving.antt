@@ -4,7 +4,7 @@ use Rattle.std.proofs.lemmas.List.Sums.{sum_by-cons}
 use Rattle.mm_text.specs.declared.file.File.{File}
 use Rattle.mm_text.specs.declared.statement.Kind.TheVariants.{Provable}
 use Rattle.mm_text.specs.Statement.{PlainStatement}
-use Rattle.mm_text.specs.Files.{PlainFile, plain_file, total_bytes}
+use Rattle.mm_text.specs.Files.{most_bytes, PlainFile, plain_file, total_bytes}
 use Rattle.mm_text.specs.Reading.{Reads, IsInPlace}
 use Rattle.mm_text.specs.Replaced.{with_span, with_bytes, IsProofSpan}
 use Rattle.mm_text.proofs.FormedLaws.{readings_are_formed_in_place}
@@ -74,17 +74,17 @@ total_replaced files k f bytes there =
     ap (λ (fs : List PlainFile). total_bytes fs + length f.bytes) (with_bytes_is files k f bytes there) ∙ replaced_at files k f (record f { bytes = bytes }) there
 
 -- whether there are too many
-pub over_is : (files : List PlainFile) (k : ℕ) (f : PlainFile) (bytes : List ℕ) (count total : ℕ) → slice_get files k ≡ Some f → total_bytes files ≤ 1073741824 → total ≡ total_bytes files → length bytes ≡ count
-    → IsTrue (nat_lt (1073741824 - (total - length f.bytes)) count) ↔ (1073741824 < total_with files k bytes)
+pub over_is : (files : List PlainFile) (k : ℕ) (f : PlainFile) (bytes : List ℕ) (count total : ℕ) → slice_get files k ≡ Some f → total_bytes files ≤ most_bytes → total ≡ total_bytes files → length bytes ≡ count
+    → IsTrue (nat_lt (most_bytes - (total - length f.bytes)) count) ↔ (most_bytes < total_with files k bytes)
 over_is files k f bytes count total there within same long =
     let own = file_within files k f there in
     let put = total_replaced files k f bytes there in (
-      λ h. let less : 1073741824 - (total - length f.bytes) < count = search (rules, h) in omega (arith, less, own, put, same, long, within),
-      λ h. let less : 1073741824 - (total - length f.bytes) < count = omega (arith, h, own, put, same, long, within) in search (rules, less),
+      λ h. let less : most_bytes - (total - length f.bytes) < count = search (rules, h) in omega (arith, less, own, put, same, long, within),
+      λ h. let less : most_bytes - (total - length f.bytes) < count = omega (arith, h, own, put, same, long, within) in search (rules, less),
     )
 
-pub file_over : (files : List File) (k : ℕ) (d : File) (bytes : List ℕ) (count total : ℕ) → k < length files → total_bytes (map plain_file files) ≤ 1073741824 → total ≡ total_bytes (map plain_file files) → length bytes ≡ count
-    → IsTrue (nat_lt (1073741824 - (total - length (slice_index_or files k d).bytes.now)) count) ↔ (1073741824 < total_with (map plain_file files) k bytes)
+pub file_over : (files : List File) (k : ℕ) (d : File) (bytes : List ℕ) (count total : ℕ) → k < length files → total_bytes (map plain_file files) ≤ most_bytes → total ≡ total_bytes (map plain_file files) → length bytes ≡ count
+    → IsTrue (nat_lt (most_bytes - (total - length (slice_index_or files k d).bytes.now)) count) ↔ (most_bytes < total_with (map plain_file files) k bytes)
 file_over files k d bytes count total less within same long =
     over_is (map plain_file files) k (plain_file (slice_index_or files k d)) bytes count total (file_at files k d less) within same long
 

@@ -1,5 +1,5 @@
 -- Statements one by one: those that are meant, and the `$p` whose proofs are incomplete.
-use Rattle.std.proofs.Common.{◌≡◌, List, [], ◌∷◌, ◌++◌, map, filter, Bool, true, false, ◌&&◌, cond, Option, refl, sym, ap, subst, ◌∙◌}
+use Rattle.std.proofs.Common.{◌≡◌, List, [], ◌∷◌, ◌++◌, map, filter, Bool, true, false, not, ◌&&◌, cond, Option, refl, sym, ap, subst, ◌∙◌}
 use Rattle.std.specs.List.{flat_map, AllByRecursion}
 use Rattle.std.specs.Option.{option_to_list, option_map}
 use Rattle.std.proofs.lemmas.Bool.{and_parts}
@@ -12,7 +12,7 @@ use Rattle.mm_frame.specs.Rules.{AllMeant, IsMeant}
 use Rattle.mm_proof.specs.declared.profile.Profile.{Profile}
 use Rattle.mm_check.specs.Verdict.{AllObey, Obeys, sentences, proof_of, label_of, unproved_of, is_incomplete, is_proof, is_unproved}
 use Rattle.mm_text.specs.Statement.{is_provable}
-use Rattle.mm_text.proofs.GrammarSteps.{is_provable-true}
+use Rattle.mm_text.proofs.StepFacts.{is_provable-true}
 use Rattle.mm_check.proofs.Known.{provable_label, unproved_of-append}
 
 -- a split of a list's images is that of a split of the list
@@ -55,6 +55,20 @@ provable_kind kind rest e = is_provable-true kind (and_parts (is_provable kind) 
 -- a `$p` whose proof isn't incomplete has a complete one
 pub proof_there : (s : PlainStatement) → s.kind ≡ Provable → is_incomplete (proof_of s) ≡ false → is_proof s ≡ true
 proof_there s provable complete = rw (provable, complete) refl
+
+-- one whose proof is incomplete is unproved
+pub unproved_there : (s : PlainStatement) → s.kind ≡ Provable → is_incomplete (proof_of s) ≡ true
+    → is_unproved s ≡ true
+unproved_there s provable open_one = rw (provable, open_one) refl
+
+-- what has a complete proof isn't unproved
+unproved_test : (a b : Bool) → (a && not b) ≡ true → (a && b) ≡ false
+unproved_test true true h = absurd cc
+unproved_test true false h = refl
+unproved_test false b h = absurd cc
+
+pub proof_not_unproved : (s : PlainStatement) → is_proof s ≡ true → is_unproved s ≡ false
+proof_not_unproved s h = unproved_test (is_provable s.kind) (is_incomplete (proof_of s)) h
 
 -- ## One more statement
 
@@ -105,7 +119,7 @@ not_listed : (s : PlainStatement) (after : List PlainStatement) → HasForm s �
     → (b : Bool) → is_incomplete (proof_of s) ≡ b → b ≡ false
 not_listed s after formed provable none false e = refl
 not_listed s after formed provable none true e =
-    let unproved : is_unproved s ≡ true = rw (provable, e) refl in
+    let unproved : is_unproved s ≡ true = unproved_there s provable e in
     let listed : flat_map label_of (cond true (s ∷ filter is_unproved after) (filter is_unproved after)) ≡ [] =
     subst (λ (b : Bool). flat_map label_of (cond b (s ∷ filter is_unproved after) (filter is_unproved after)) ≡ []) unproved none in
     let found = provable_label s.kind s.label formed.label (rw provable refl) in

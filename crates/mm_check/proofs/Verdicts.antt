@@ -11,10 +11,15 @@ use Rattle.mm_text.proofs.FormedLaws.{readings_are_formed_in_place}
 use Rattle.mm_frame.specs.declared.rule.MeaningRule.{MeaningRule}
 use Rattle.mm_frame.specs.Sentence.{Sentence, sentence_of}
 use Rattle.mm_frame.specs.Rules.{FirstBroken, AllMeant, rank}
+use Rattle.mm_frame.specs.Form.{AllFormed}
 use Rattle.mm_proof.specs.declared.profile.Profile.{Profile}
 use Rattle.mm_proof.specs.Profiles.{limit_of}
+use Rattle.mm_proof.specs.declared.fault.ProofRule.{ProofRule}
 use Rattle.mm_proof.specs.declared.fault.ProofRule.TheVariants as proof
-use Rattle.mm_proof.proofs.Verdicts.{one_verdict_holds}
+use Rattle.mm_proof.specs.Proof.{IsWithin, IsFault}
+use Rattle.mm_proof.specs.Strict.{HasFormOf}
+use Rattle.mm_proof.specs.UnderProfile.{IsFaultUnder}
+use Rattle.mm_proof.proofs.FormDecided.{one_verdict_under_holds, one_front_verdict_under_holds}
 use Rattle.mm_proof.proofs.Limits.{limits_aside_holds}
 use Rattle.mm_check.specs.declared.fault.CheckFault.{CheckFault}
 use Rattle.mm_check.specs.Conclusion.{Conclusion}
@@ -23,7 +28,10 @@ use Rattle.mm_check.specs.declared.rule.Rule.{Rule}
 use Rattle.mm_check.specs.declared.rule.Rule.TheVariants.{L1}
 use Rattle.mm_check.specs.Verdict.{Verdict, Load, Refused, Incomplete, Yes, PlainRefusal, Obeys, AllObey, AreAccepted, HasFault, HasVerdict, RefusesStatement, RefusesText, ObeyTheProfile, sentences, load_rule, meaning_rule, proof_rule, refusal_of, text_refusal, proof_of, proofs_of, unproved_of, is_incomplete}
 use Rattle.mm_check.proofs.Ranks.{ranked, ranked-rank, compared}
-use Rattle.mm_check.proofs.Unproved.{all_meant, none_unproved, complete_where_none, proof_there, provable_kind}
+use Rattle.mm_check.specs.Verdict.{IsProofFault}
+use Rattle.mm_check.proofs.Existence.{formed_before}
+use Rattle.mm_check.proofs.Unproved.{all_meant, none_unproved, complete_where_none, proof_there}
+use Rattle.mm_check.proofs.Unproved.{provable_kind, proof_not_unproved}
 
 -- ## The rules of the files as a whole
 
@@ -50,23 +58,56 @@ one_first before s a b f g = elim (compared (rank a) (rank b)) [
   ]
 ]
 
+-- a proof that breaks no rule has no fault, nor has what is known of one
+obeying_proof : (profile : Profile) (before : List Sentence) (s : PlainStatement)
+    (rule : ProofRule) (step : ℕ) → AllMeant before → AllFormed before → Obeys profile before s
+    → IsProofFault profile before s rule step → ⊥
+obeying_proof profile before s rule step meant formed obeyed (inl f) =
+    (one_verdict_under_holds profile before (sentence_of s) (proof_of s) meant formed).1
+    (obeyed.proved f.0) rule step f.1
+obeying_proof profile before s rule step meant formed obeyed (inr f) =
+    (one_front_verdict_under_holds profile before (sentence_of s) (proof_of s) meant formed).1
+    (obeyed.known f.0) rule step f.1
+
 -- what obeys the rules has no fault
-obeying_faultless : (profile : Profile) (before : List Sentence) (s : PlainStatement) (rule : Rule) (step : ℕ) → AllMeant before → Obeys profile before s
+obeying_faultless : (profile : Profile) (before : List Sentence) (s : PlainStatement)
+    (rule : Rule) (step : ℕ) → AllMeant before → AllFormed before → Obeys profile before s
     → HasFault profile before s rule step → ⊥
-obeying_faultless profile before s rule step meant obeyed (inl f) = obeyed.meant f.0 f.1.broken
-obeying_faultless profile before s rule step meant obeyed (inr f) =
-    (one_verdict_holds (limit_of profile) before (sentence_of s) (proof_of s) meant).0 (obeyed.proved f.1) f.2 step f.3
+obeying_faultless profile before s rule step meant formed obeyed (inl f) =
+    obeyed.meant f.0 f.1.broken
+obeying_faultless profile before s rule step meant formed obeyed (inr f) =
+    obeying_proof profile before s f.1 step meant formed obeyed f.2
+
+-- the fault of a proof is one, and so is that of what is known of one
+one_proof_fault : (profile : Profile) (before : List Sentence) (s : PlainStatement)
+    (rule rule' : ProofRule) (step step' : ℕ) → AllMeant before → AllFormed before
+    → IsProofFault profile before s rule step → IsProofFault profile before s rule' step'
+    → (rule ≡ rule') × (step ≡ step')
+one_proof_fault profile before s rule rule' step step' meant formed (inl f) (inl g) =
+    (one_verdict_under_holds profile before (sentence_of s) (proof_of s) meant formed).2
+    rule rule' step step' f.1 g.1
+one_proof_fault profile before s rule rule' step step' meant formed (inl f) (inr g) =
+    let none = proof_not_unproved s f.0 in let some = g.0 in absurd cc
+one_proof_fault profile before s rule rule' step step' meant formed (inr f) (inl g) =
+    let none = proof_not_unproved s g.0 in let some = f.0 in absurd cc
+one_proof_fault profile before s rule rule' step step' meant formed (inr f) (inr g) =
+    (one_front_verdict_under_holds profile before (sentence_of s) (proof_of s) meant formed).2
+    rule rule' step step' f.1 g.1
 
 -- the fault of a statement is one
-one_statement_fault : (profile : Profile) (before : List Sentence) (s : PlainStatement) (rule rule' : Rule) (step step' : ℕ) → AllMeant before
-    → HasFault profile before s rule step → HasFault profile before s rule' step' → (rule ≡ rule') × (step ≡ step')
-one_statement_fault profile before s rule rule' step step' meant (inl f) (inl g) =
+one_statement_fault : (profile : Profile) (before : List Sentence) (s : PlainStatement)
+    (rule rule' : Rule) (step step' : ℕ) → AllMeant before → AllFormed before
+    → HasFault profile before s rule step → HasFault profile before s rule' step'
+    → (rule ≡ rule') × (step ≡ step')
+one_statement_fault profile before s rule rule' step step' meant formed (inl f) (inl g) =
     (f.2 ∙ ap meaning_rule (one_first before (sentence_of s) f.0 g.0 f.1 g.1) ∙ sym g.2, f.3 ∙ sym g.3)
-one_statement_fault profile before s rule rule' step step' meant (inl f) (inr g) = absurd (g.0 f.0 f.1.broken)
-one_statement_fault profile before s rule rule' step step' meant (inr f) (inl g) = absurd (f.0 g.0 g.1.broken)
-one_statement_fault profile before s rule rule' step step' meant (inr f) (inr g) =
-    let same = (one_verdict_holds (limit_of profile) before (sentence_of s) (proof_of s) meant).1 f.2 g.2 step step' f.3 g.3 in
-    (f.4 ∙ ap proof_rule same.0 ∙ sym g.4, same.1)
+one_statement_fault profile before s rule rule' step step' meant formed (inl f) (inr g) =
+    absurd (g.0 f.0 f.1.broken)
+one_statement_fault profile before s rule rule' step step' meant formed (inr f) (inl g) =
+    absurd (f.0 g.0 g.1.broken)
+one_statement_fault profile before s rule rule' step step' meant formed (inr f) (inr g) =
+    let same = one_proof_fault profile before s f.1 g.1 step step' meant formed f.2 g.2 in
+    (f.3 ∙ ap proof_rule same.0 ∙ sym g.3, same.1)
 
 -- ## The first statement at fault
 
@@ -90,31 +131,43 @@ placed (w ∷ a) x c (z ∷ b) y d e =
     ]
 
 -- the statements before the first one at fault are determined, and so is its fault
-one_refused_statement : (profile : Profile) (files : List PlainFile) (statements : List PlainStatement) (a b : PlainRefusal)
-    → RefusesStatement profile files statements a → RefusesStatement profile files statements b → a ≡ b
-one_refused_statement profile files statements a b r q =
+one_refused_statement : (profile : Profile) (files : List PlainFile)
+    (statements : List PlainStatement) (a b : PlainRefusal) → AllByRecursion HasForm statements
+    → RefusesStatement profile files statements a → RefusesStatement profile files statements b
+    → a ≡ b
+one_refused_statement profile files statements a b formed r q =
+    let formed_r = formed_before statements r.before r.s r.after formed r.split in
+    let formed_q = formed_before statements q.before q.s q.after formed q.split in
     elim (placed r.before r.s r.after q.before q.s q.after (sym r.split ∙ q.split)) [
-      | earlier between e ↦ absurd (obeying_faultless profile (sentences r.before) r.s r.rule r.step (all_meant profile _ r.obeyed)
-          (q.obeyed r.before between r.s e) r.fault)
-      | later between e ↦ absurd (obeying_faultless profile (sentences q.before) q.s q.rule q.step (all_meant profile _ q.obeyed)
-          (r.obeyed q.before between q.s e) q.fault)
+      | earlier between e ↦ absurd (obeying_faultless profile (sentences r.before) r.s r.rule r.step
+          (all_meant profile _ r.obeyed) formed_r (q.obeyed r.before between r.s e) r.fault)
+      | later between e ↦ absurd (obeying_faultless profile (sentences q.before) q.s q.rule q.step
+          (all_meant profile _ q.obeyed) formed_q (r.obeyed q.before between q.s e) q.fault)
       | same e f ↦
-          let Faulty : List PlainStatement → PlainStatement → Type 0 = λ before s. HasFault profile (sentences before) s q.rule q.step in
+          let Faulty : List PlainStatement → PlainStatement → Type 0 =
+          λ before s. HasFault profile (sentences before) s q.rule q.step in
           let fault : HasFault profile (sentences r.before) r.s q.rule q.step =
-          subst (λ (before : List PlainStatement). Faulty before r.s) (sym e) (subst (λ (s : PlainStatement). Faulty q.before s) (sym f) q.fault) in
-          let one = one_statement_fault profile (sentences r.before) r.s r.rule q.rule r.step q.step (all_meant profile _ r.obeyed) r.fault fault in
-          r.refused ∙ ap (λ (before : List PlainStatement). refusal_of files (length before) r.s r.rule r.step) e
-          ∙ ap (λ (s : PlainStatement). refusal_of files (length q.before) s r.rule r.step) f
-          ∙ ap (λ (rule : Rule). refusal_of files (length q.before) q.s rule r.step) one.0
-          ∙ ap (λ (step : ℕ). refusal_of files (length q.before) q.s q.rule step) one.1
+          subst (λ (before : List PlainStatement). Faulty before r.s) (sym e)
+          (subst (λ (s : PlainStatement). Faulty q.before s) (sym f) q.fault) in
+          let one = one_statement_fault profile (sentences r.before) r.s r.rule q.rule r.step q.step
+          (all_meant profile _ r.obeyed) formed_r r.fault fault in
+          let Refusal : List PlainStatement → PlainStatement → Rule → ℕ → PlainRefusal =
+          λ before s rule step. refusal_of files (length before) s rule step in
+          r.refused ∙ ap (λ (before : List PlainStatement). Refusal before r.s r.rule r.step) e
+          ∙ ap (λ (s : PlainStatement). Refusal q.before s r.rule r.step) f
+          ∙ ap (λ (rule : Rule). Refusal q.before q.s rule r.step) one.0
+          ∙ ap (λ (step : ℕ). Refusal q.before q.s q.rule step) one.1
           ∙ sym q.refused
     ]
 
 -- where each statement obeys the rules, none is refused
-none_refused : (profile : Profile) (files : List PlainFile) (statements : List PlainStatement) (a : PlainRefusal) → AllObey profile statements
+none_refused : (profile : Profile) (files : List PlainFile) (statements : List PlainStatement)
+    (a : PlainRefusal) → AllByRecursion HasForm statements → AllObey profile statements
     → RefusesStatement profile files statements a → ⊥
-none_refused profile files statements a obeyed r =
-    obeying_faultless profile (sentences r.before) r.s r.rule r.step (all_meant profile _ r.obeyed) (obeyed r.before r.after r.s r.split) r.fault
+none_refused profile files statements a formed obeyed r =
+    obeying_faultless profile (sentences r.before) r.s r.rule r.step (all_meant profile _ r.obeyed)
+    (formed_before statements r.before r.s r.after formed r.split)
+    (obeyed r.before r.after r.s r.split) r.fault
 
 -- the fault of the text is one
 one_refused_text : (profile : Profile) (files : List PlainFile) (statements : List PlainStatement) (ending : Option PlainFault) (a b : PlainRefusal)
@@ -123,13 +176,19 @@ one_refused_text profile files statements ending a b r q =
     let same_fault : r.fault ≡ q.fault = cc (r.ended, q.ended) in
     r.refused ∙ ap (text_refusal files) same_fault ∙ sym q.refused
 
-one_refused : (profile : Profile) (files : List PlainFile) (statements : List PlainStatement) (ending : Option PlainFault) (a b : PlainRefusal)
+one_refused : (profile : Profile) (files : List PlainFile) (statements : List PlainStatement)
+    (ending : Option PlainFault) (a b : PlainRefusal) → AllByRecursion HasForm statements
     → RefusesStatement profile files statements a ⊎ RefusesText profile files statements ending a
-    → RefusesStatement profile files statements b ⊎ RefusesText profile files statements ending b → a ≡ b
-one_refused profile files statements ending a b (inl r) (inl q) = one_refused_statement profile files statements a b r q
-one_refused profile files statements ending a b (inl r) (inr q) = absurd (none_refused profile files statements a q.obeyed r)
-one_refused profile files statements ending a b (inr r) (inl q) = absurd (none_refused profile files statements b r.obeyed q)
-one_refused profile files statements ending a b (inr r) (inr q) = one_refused_text profile files statements ending a b r q
+    → RefusesStatement profile files statements b ⊎ RefusesText profile files statements ending b
+    → a ≡ b
+one_refused profile files statements ending a b formed (inl r) (inl q) =
+    one_refused_statement profile files statements a b formed r q
+one_refused profile files statements ending a b formed (inl r) (inr q) =
+    absurd (none_refused profile files statements a formed q.obeyed r)
+one_refused profile files statements ending a b formed (inr r) (inl q) =
+    absurd (none_refused profile files statements b formed r.obeyed q)
+one_refused profile files statements ending a b formed (inr r) (inr q) =
+    one_refused_text profile files statements ending a b r q
 
 -- ## The verdict
 
@@ -148,7 +207,8 @@ pub accepted_or_refused : (profile : Profile) (files : List PlainFile) (a b : Li
     → RefusesStatement profile files b refusal ⊎ RefusesText profile files b ending refusal → ⊥
 accepted_or_refused profile files a b ending refusal accepted reads (inl r) =
     let same = same_statements files a b None ending accepted.reads reads in
-    none_refused profile files b refusal (subst (AllObey profile) same accepted.obeyed) r
+    none_refused profile files b refusal (readings_are_formed_in_place files b ending reads).formed
+    (subst (AllObey profile) same accepted.obeyed) r
 accepted_or_refused profile files a b ending refusal accepted reads (inr r) =
     let same = same_ending files a b None ending accepted.reads reads in cc (same, r.ended)
 
@@ -167,7 +227,8 @@ one_verdict profile files (Refused a) (Refused b) h k =
     let Refuses : List PlainStatement → Option PlainFault → Type 0 = λ ss e. RefusesStatement profile files ss a ⊎ RefusesText profile files ss e a in
     let moved : RefusesStatement profile files k.1 a ⊎ RefusesText profile files k.1 k.2 a =
     subst (λ (e : Option PlainFault). Refuses k.1 e) ending (subst (λ (ss : List PlainStatement). Refuses ss h.2) statements h.4) in
-    ap Refused (one_refused profile files k.1 k.2 a b moved k.4)
+    ap Refused (one_refused profile files k.1 k.2 a b
+    (readings_are_formed_in_place files k.1 k.2 k.3).formed moved k.4)
 one_verdict profile files (Refused a) (Incomplete ls) h k = absurd (accepted_or_refused profile files k.0 h.1 h.2 a k.1 h.3 h.4)
 one_verdict profile files (Refused a) (Yes n p) h k = absurd (accepted_or_refused profile files k.0 h.1 h.2 a k.1 h.3 h.4)
 one_verdict profile files (Incomplete ls) (Load b) h k = absurd (h.1.readable k.0 k.1)
@@ -202,20 +263,53 @@ yes_obeys profile files n p h = record {
         (limits_aside_holds (limit_of profile) (sentences before) (sentence_of s) (proof_of s)
             (all_meant profile before (λ earlier later t e. h.1.obeyed earlier (later ++ s ∷ after) t
             (split ∙ ap (λ (xs : List PlainStatement). xs ++ s ∷ after) e ∙ append_assoc earlier (t ∷ later) (s ∷ after))))).0
-            ((h.1.obeyed before after s split).proved (proof_there s provable complete)),
+            ((h.1.obeyed before after s split).proved (proof_there s provable complete)).1,
+        ((h.1.obeyed before after s split).proved (proof_there s provable complete)).0,
       );
 }
 
+-- the fault of a proof that has the form is one of the other rules
+fault_aside : (profile : Profile) (before : List Sentence) (s : Sentence) (tokens : List (List ℕ))
+    (rule : ProofRule) (step : ℕ) → HasFormOf profile before s tokens
+    → IsFaultUnder profile before s tokens rule step
+    → IsFault (IsWithin (limit_of profile)) before s tokens rule step
+fault_aside profile before s tokens rule step form (inl (zero_step, inl whole)) =
+    inl (zero_step, whole)
+fault_aside profile before s tokens rule step form (inl (zero_step, inr none)) =
+    absurd (none.2 form)
+fault_aside profile before s tokens rule step form (inr (whole, formed, moves, said, fault)) =
+    inr (whole, moves, said, fault)
+
+-- where the profile is obeyed, the fault of a proof is that a step passes the limit
+proof_over : (profile : Profile) (files : List PlainFile) (obey : ObeyTheProfile profile files)
+    (before after : List PlainStatement) (s : PlainStatement)
+    → obey.statements ≡ before ++ s ∷ after → AllObey profile before
+    → (rule : ProofRule) (step : ℕ) → IsProofFault profile (sentences before) s rule step
+    → rule ≡ proof.L1
+proof_over profile files obey before after s split obeyed rule step (inl f) =
+    let law = limits_aside_holds (limit_of profile) (sentences before) (sentence_of s) (proof_of s)
+    (all_meant profile before obeyed) in
+    let proved = obey.proved before after s split
+    (provable_kind s.kind (not (is_incomplete (proof_of s))) f.0) in
+    law.2 proved.1 rule step
+    (fault_aside profile (sentences before) (sentence_of s) (proof_of s) rule step proved.2 f.1)
+proof_over profile files obey before after s split obeyed rule step (inr f) =
+    let provable = provable_kind s.kind (is_incomplete (proof_of s)) f.0 in
+    let complete = (obey.proved before after s split provable).0 in
+    let none = proof_not_unproved s (proof_there s provable complete) in
+    let some = f.0 in
+    absurd cc
+
 -- where the profile is obeyed, what is refused passes the limit
-over_the_limit : (profile : Profile) (files : List PlainFile) (obey : ObeyTheProfile profile files) (refusal : PlainRefusal) → RefusesStatement profile files obey.statements refusal
+over_the_limit : (profile : Profile) (files : List PlainFile) (obey : ObeyTheProfile profile files)
+    (refusal : PlainRefusal) → RefusesStatement profile files obey.statements refusal
     → refusal.rule ≡ L1
 over_the_limit profile files obey refusal r = elim (r.fault) [
   | inl f ↦ absurd (obey.meant r.before r.after r.s r.split f.0 f.1.broken)
   | inr f ↦
-      let law = limits_aside_holds (limit_of profile) (sentences r.before) (sentence_of r.s) (proof_of r.s) (all_meant profile _ r.obeyed) in
-      let proved = obey.proved r.before r.after r.s r.split (provable_kind r.s.kind (not (is_incomplete (proof_of r.s))) f.1) in
-      let over : f.2 ≡ proof.L1 = law.2 proved.1 f.2 r.step f.3 in
-      ap (λ (q : PlainRefusal). q.rule) r.refused ∙ f.4 ∙ ap proof_rule over
+      let over =
+      proof_over profile files obey r.before r.after r.s r.split r.obeyed f.1 r.step f.2 in
+      ap (λ (q : PlainRefusal). q.rule) r.refused ∙ f.3 ∙ ap proof_rule over
 ]
 
 pub profile_verdict : (profile : Profile) (files : List PlainFile) → ObeyTheProfile profile files → (v : Verdict) → HasVerdict profile files v

@@ -1,7 +1,7 @@
 -- The law of files that show the same: what comments say changes no reply to `check`.
 use Rattle.std.specs.Prelude.{◌≤◌, ℕ, List}
 use Rattle.std.specs.List.{AllZip}
-use Rattle.mm_text.specs.Files.{PlainFile, total_bytes}
+use Rattle.mm_text.specs.Files.{PlainFile, most_bytes, total_bytes}
 use Rattle.mm_text.specs.Alike.{AreAlike}
 use Rattle.mm_proof.specs.declared.profile.Profile.{Profile}
 use Rattle.mm_check.specs.Reply.{IsReply}
@@ -11,6 +11,6 @@ use Rattle.mm_check.specs.Reply.{IsReply}
 abbrev pub AlikeFilesHaveOneReply : Type 0
 AlikeFilesHaveOneReply =
     (profile : Profile) (files others : List PlainFile) → AllZip AreAlike files others
-    → total_bytes files ≤ 1073741824 → total_bytes others ≤ 1073741824
+    → total_bytes files ≤ most_bytes → total_bytes others ≤ most_bytes
     → (text : List ℕ) (status : ℕ)
     → IsReply profile files text status → IsReply profile others text status

@@ -11,12 +11,11 @@ use Rattle.mm_frame.specs.Sentence.{Sentence, sentence_of, IsLabelled}
 use Rattle.mm_proof.specs.declared.fault.ProofRule.{ProofRule}
 use Rattle.mm_proof.specs.declared.fault.ProofFault.{ProofFault}
 use Rattle.mm_proof.specs.declared.fault.ProofFault.TheVariants as proof_faults
-use Rattle.mm_proof.specs.declared.profile.Profile.TheVariants.{Lenient}
-use Rattle.mm_proof.specs.Profiles.{limit_of}
+use Rattle.mm_proof.specs.declared.profile.Profile.{Profile}
 use Rattle.mm_proof.specs.Moves.{Move}
 use Rattle.mm_proof.specs.Tokens.{SayMoves}
 use Rattle.mm_proof.specs.OneTree.{MakeSameTree}
-use Rattle.mm_proof.specs.Proof.{IsWithin, IsProvedWithin, IsFault}
+use Rattle.mm_proof.specs.UnderProfile.{IsProvedUnder, IsFaultUnder}
 use Rattle.mm_check.specs.declared.rule.Rule.{Rule}
 use Rattle.mm_check.specs.declared.rule.Rule.TheVariants.{F3, X1, X9, A3}
 use Rattle.mm_check.specs.declared.ask.AskFault.{AskFault}
@@ -52,15 +51,15 @@ BreaksText A3 text =
     × (hold_dollar (tokens_in text) ≡ false) × (is_incomplete (tokens_in text) ≡ true)
 BreaksText rule text = ⊥
 
--- the first fault of the text as a proof of the statement: one of the text alone, at step 0; else
--- that of the proof that its tokens are
-abbrev pub IsTextFault : (before : List Sentence) → Sentence → (text : List ℕ) → Rule → (step : ℕ)
-    → Type 0
-IsTextFault before s text rule step =
+-- the first fault of the text as a proof of the statement under the profile: one of the text alone,
+-- at step 0; else that of the proof that its tokens are
+abbrev pub IsTextFault : Profile → (before : List Sentence) → Sentence → (text : List ℕ) → Rule
+    → (step : ℕ) → Type 0
+IsTextFault profile before s text rule step =
     ((step ≡ 0) × BreaksText rule text)
     ⊎ (IsProofText text
     × (broken : ProofRule) × (rule ≡ proof_rule broken)
-    × IsFault (IsWithin (limit_of Lenient)) before s (tokens_in text) broken step)
+    × IsFaultUnder profile before s (tokens_in text) broken step)
 
 -- the fault that a fault of the handed proof is answered with
 abbrev pub text_fault : ProofFault → AskFault
@@ -74,9 +73,9 @@ pub record IsTheorem (statements : List PlainStatement) (label : List ℕ) (plac
   pub named : IsLabelled label (sentence_of s)
   pub complete : is_proof s ≡ true
 
--- The text is a proof of the theorem with the label, and this tells whether it makes the same tree
--- as the theorem's own proof.
-pub record IsCompared (statements : List PlainStatement) (label text : List ℕ)
+-- The text is a proof of the theorem with the label under the profile, and this tells whether it
+-- makes the same tree as the theorem's own proof.
+pub record IsCompared (profile : Profile) (statements : List PlainStatement) (label text : List ℕ)
     (same : Bool) : Type 0 where
   pub place : ℕ
   pub s : PlainStatement
@@ -84,14 +83,14 @@ pub record IsCompared (statements : List PlainStatement) (label text : List ℕ)
   pub moves : List (Move (List ℕ))
   pub told : SayMoves (sentences (take place statements)) (sentence_of s) (proof_of s) moves
   pub legal : IsProofText text
-  pub proved : IsProvedWithin (IsWithin (limit_of Lenient)) (sentences (take place statements))
-      (sentence_of s) (tokens_in text)
-  pub answer : IsTrue same ↔ MakeSameTree (sentences (take place statements)) moves proved.moves
+  pub proved : IsProvedUnder profile (sentences (take place statements)) (sentence_of s)
+      (tokens_in text)
+  pub answer : IsTrue same ↔ MakeSameTree (sentences (take place statements)) moves proved.1.moves
 
 -- Why the text is not compared with the theorem's proof: a fault of the question, or else of the
--- text as a proof of the theorem.
-abbrev pub IsSameFault : List PlainStatement → (label text : List ℕ) → AskFault → Type 0
-IsSameFault statements label text (Text rule step) =
+-- text as a proof of the theorem under the profile.
+abbrev pub IsSameFault : Profile → List PlainStatement → (label text : List ℕ) → AskFault → Type 0
+IsSameFault profile statements label text (Text rule step) =
     (place : ℕ) × (s : PlainStatement) × IsTheorem statements label place s
-    × IsTextFault (sentences (take place statements)) (sentence_of s) text rule step
-IsSameFault statements label text fault = IsAskFault statements label fault
+    × IsTextFault profile (sentences (take place statements)) (sentence_of s) text rule step
+IsSameFault profile statements label text fault = IsAskFault statements label fault

@@ -15,7 +15,7 @@ use Rattle.mm_check.specs.declared.rule.Rule.TheVariants.{X8, X9, S1, S2, S3, S4
 use Rattle.mm_check.specs.declared.rule.Rule.TheVariants.{M2, M3, M4, M5, M6, M7, M8, M9, M10, M11}
 use Rattle.mm_check.specs.declared.rule.Rule.TheVariants.{M12, M13, M14, M15, P1, P2, P3, P4, P5}
 use Rattle.mm_check.specs.declared.rule.Rule.TheVariants.{P6, P7, P8, P9, P10, P11, P12, P13, P14}
-use Rattle.mm_check.specs.declared.rule.Rule.TheVariants.{L1, L2, A1, A2, A3}
+use Rattle.mm_check.specs.declared.rule.Rule.TheVariants.{P15, L1, L2, A1, A2, A3}
 use Rattle.mm_check.specs.declared.fault.CheckFault.{CheckFault}
 use Rattle.mm_check.specs.Conclusion.{Conclusion}
 use Rattle.mm_check.specs.Answer.{verdict_of_answer, labels_at}
@@ -84,6 +84,7 @@ code_of P11 = codes "P11"
 code_of P12 = codes "P12"
 code_of P13 = codes "P13"
 code_of P14 = codes "P14"
+code_of P15 = codes "P15"
 code_of L1 = codes "L1"
 code_of L2 = codes "L2"
 code_of A1 = codes "A1"
@@ -238,9 +239,9 @@ same_status false = 1
 -- label
 abbrev pub IsSameReply : (label proof : List ℕ) → List PlainStatement → List ℕ → ℕ → Type 0
 IsSameReply label proof statements text status =
-    ((fault : AskFault) × IsSameFault statements label proof fault
+    ((fault : AskFault) × IsSameFault Lenient statements label proof fault
     × IsAskReply fault label text status)
-    ⊎ ((same : Bool) × IsCompared statements label proof same
+    ⊎ ((same : Bool) × IsCompared Lenient statements label proof same
     × (text ≡ same_text same) × (status ≡ same_status same))
 
 -- the reply to the question for the file in which the theorem with a label stands, with its proof in a
@@ -263,9 +264,10 @@ IsQuestionReply files Answers text status =
 
 -- ---- commands
 
--- This is the text and the status of the reply to a command.
+-- This is the text and the status of the reply to a command. Questions are answered where the lenient
+-- profile accepts the files.
 abbrev pub IsReplyTo : List PlainFile → Command → List ℕ → ℕ → Type 0
-IsReplyTo files Check text status = IsReply Lenient files text status
+IsReplyTo files (Check profile) text status = IsReply profile files text status
 IsReplyTo files (Axioms label) text status =
     IsQuestionReply files (IsAxiomsReply label.now) text status
 IsReplyTo files (Show label) text status = IsQuestionReply files (IsShowReply label.now) text status

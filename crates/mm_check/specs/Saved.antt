@@ -3,7 +3,7 @@
 -- this project's own.
 use Rattle.std.specs.Prelude.{◌≡◌, ℕ, ◌<◌, ◌≤◌, List, ◌∷◌, take, slice_get, Some}
 use Rattle.mm_text.specs.Statement.{PlainStatement}
-use Rattle.mm_text.specs.Files.{PlainFile, total_bytes}
+use Rattle.mm_text.specs.Files.{PlainFile, most_bytes, total_bytes}
 use Rattle.mm_text.specs.Replaced.{with_span, with_bytes}
 use Rattle.mm_frame.specs.Sentence.{Sentence, sentence_of}
 use Rattle.mm_proof.specs.declared.profile.Profile.TheVariants.{Lenient}
@@ -47,7 +47,7 @@ total_with files number bytes = total_bytes (with_bytes files number bytes)
 
 -- the files have no more bytes than they may, with these in the file with the number
 abbrev pub FitsSaved : List PlainFile → (number : ℕ) → (bytes : List ℕ) → Type 0
-FitsSaved files number bytes = total_with files number bytes ≤ 1073741824
+FitsSaved files number bytes = total_with files number bytes ≤ most_bytes
 
 -- why the theorem with the label has no proof that is written in this form
 abbrev pub IsFormFault : Form → List PlainStatement → (label : List ℕ) → AskFault → Type 0
@@ -60,7 +60,7 @@ abbrev pub IsSaveFault : Form → List PlainFile → List PlainStatement → (la
     → Type 0
 IsSaveFault form files statements label F3 =
     (number : ℕ) × (bytes : List ℕ) × IsSaved form files statements label number bytes
-    × (1073741824 < total_with files number bytes)
+    × (most_bytes < total_with files number bytes)
 IsSaveFault form files statements label fault = IsFormFault form statements label fault
 
 -- Why saving gives nothing: the verdict over the files isn't that they are accepted, or they are, and

@@ -1,15 +1,19 @@
 -- Laws of saving: what it changes, and that it changes nothing else.
-use Rattle.std.specs.Prelude.{◌≡◌, ℕ, ◌<◌, List, None, ◌↔◌, ◌⊎◌}
+use Rattle.std.specs.Prelude.{◌≡◌, ℕ, ◌<◌, List, take, None, ◌↔◌, ◌⊎◌}
 use Rattle.mm_text.specs.Statement.{PlainStatement}
-use Rattle.mm_text.specs.Files.{PlainFile}
+use Rattle.mm_text.specs.Files.{PlainFile, most_bytes}
 use Rattle.mm_text.specs.Replaced.{with_bytes}
 use Rattle.mm_text.specs.Reading.{Reads}
+use Rattle.mm_frame.specs.Sentence.{sentence_of}
 use Rattle.mm_proof.specs.declared.profile.Profile.{Profile}
+use Rattle.mm_proof.specs.declared.profile.Profile.TheVariants.{Strict}
+use Rattle.mm_proof.specs.Strict.{HasFormOf}
 use Rattle.mm_proof.specs.Tree.{Trees}
 use Rattle.mm_check.specs.declared.form.Form.{Form}
 use Rattle.mm_check.specs.declared.ask.AskFault.{AskFault}
 use Rattle.mm_check.specs.declared.ask.AskFault.TheVariants.{F3, Memory}
-use Rattle.mm_check.specs.Verdict.{Verdict, HasVerdict, AreAccepted, sentences}
+use Rattle.mm_check.specs.Verdict.{Verdict, HasVerdict, AreAccepted, sentences, proof_of}
+use Rattle.mm_check.specs.Compared.{IsTheorem}
 use Rattle.mm_check.specs.Rests.{HasTree, IsReport}
 use Rattle.mm_check.specs.Saved.{IsSaved, FitsSaved, IsSaveFault, total_with}
 
@@ -33,6 +37,18 @@ SavingChangesNoAnswer =
     → (same : List PlainStatement)
     × SayTheSame profile files (with_bytes files number bytes) statements same
 
+-- The proof that is put in has the strict form, whatever the profile is in which the files are
+-- accepted.
+abbrev pub SavedProofIsStrict : Type 0
+SavedProofIsStrict =
+    (profile : Profile) (form : Form) (files : List PlainFile)
+    (statements same : List PlainStatement) (label : List ℕ) (number : ℕ) (bytes : List ℕ)
+    → AreAccepted profile files statements
+    → IsSaved form files statements label number bytes → FitsSaved files number bytes
+    → Reads (with_bytes files number bytes) same None
+    → (place : ℕ) × (s : PlainStatement) × IsTheorem same label place s
+    × HasFormOf Strict (sentences (take place same)) (sentence_of s) (proof_of s)
+
 -- what is saved is one
 abbrev pub OneSaved : Type 0
 OneSaved =
@@ -52,7 +68,7 @@ OneSaveAnswer =
     → AreAccepted profile files statements
     → IsSaved form files statements label number bytes
     → IsSaveFault form files statements label fault
-    → (fault ≡ Memory) ⊎ ((fault ≡ F3) × (1073741824 < total_with files number bytes))
+    → (fault ≡ Memory) ⊎ ((fault ≡ F3) × (most_bytes < total_with files number bytes))
 
 -- Saving again gives equal bytes.
 abbrev pub SavingAgainChangesNothing : Type 0

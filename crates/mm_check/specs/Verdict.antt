@@ -1,8 +1,8 @@
 -- The verdict over the handed files: why they can't be taken, the first statement at fault,
 -- incomplete proofs, or yes.
-use Rattle.std.specs.Prelude.{◌≡◌, ◌≢◌, ℕ, ◌+◌, ◌==◌, ◌&&◌, List, [], ◌∷◌, ◌++◌, map, length}
-use Rattle.std.specs.Prelude.{count_by, filter, not, Bool, true, false, Option, Some}
-use Rattle.std.specs.Prelude.{None, option_map, ◌⊎◌}
+use Rattle.std.specs.Prelude.{◌≡◌, ◌≢◌, ℕ, ◌+◌, ◌==◌, ◌&&◌, List, [], ◌∷◌, ◌++◌, map, take, length}
+use Rattle.std.specs.Prelude.{count_by, filter, not, slice_get, Bool, true, false, Option, Some}
+use Rattle.std.specs.Prelude.{None, option_map, unwrap_or, ◌⊎◌}
 use Rattle.std.specs.List.{flat_map, list_any}
 use Rattle.std.specs.Option.{option_to_list}
 use Rattle.mm_text.specs.declared.fault.LoadRule.{LoadRule}
@@ -12,7 +12,6 @@ use Rattle.mm_text.specs.declared.fault.TextRule.TheVariants as text
 use Rattle.mm_text.specs.declared.statement.Kind.TheVariants.{Provable}
 use Rattle.mm_text.specs.Statement.{PlainStatement, is_provable}
 use Rattle.mm_text.specs.Files.{PlainFile, BreaksLoad}
-use Rattle.mm_text.specs.LineNumbers.{line_of}
 use Rattle.mm_text.specs.Reading.{PlainFault, Reads}
 use Rattle.mm_frame.specs.declared.rule.MeaningRule.{MeaningRule}
 use Rattle.mm_frame.specs.declared.rule.MeaningRule.TheVariants as meaning
@@ -20,16 +19,18 @@ use Rattle.mm_frame.specs.Sentence.{Sentence, sentence_of}
 use Rattle.mm_frame.specs.Rules.{FirstBroken, IsMeant}
 use Rattle.mm_proof.specs.declared.fault.ProofRule.{ProofRule}
 use Rattle.mm_proof.specs.declared.fault.ProofRule.TheVariants as proof
-use Rattle.mm_proof.specs.Proof.{IsProvedWithin, IsProved, IsWithin, IsFault}
 use Rattle.mm_proof.specs.declared.profile.Profile.{Profile}
-use Rattle.mm_proof.specs.Profiles.{limit_of}
+use Rattle.mm_proof.specs.Proof.{IsProved}
+use Rattle.mm_proof.specs.Strict.{HasFormOf}
+use Rattle.mm_proof.specs.UnderProfile.{IsProvedUnder, IsFaultUnder, IsFrontAllowedUnder}
+use Rattle.mm_proof.specs.UnderProfile.{IsFrontFaultUnder}
 use Rattle.mm_check.specs.declared.rule.Rule.{Rule}
 use Rattle.mm_check.specs.declared.rule.Rule.TheVariants.{F1, F2, F3, X1, X2, X3, X4, X5, X6, X7}
 use Rattle.mm_check.specs.declared.rule.Rule.TheVariants.{X8, X9, S1, S2, S3, S4, S5, S6, S7, M1}
 use Rattle.mm_check.specs.declared.rule.Rule.TheVariants.{M2, M3, M4, M5, M6, M7, M8, M9, M10, M11}
 use Rattle.mm_check.specs.declared.rule.Rule.TheVariants.{M12, M13, M14, M15, P1, P2, P3, P4, P5}
 use Rattle.mm_check.specs.declared.rule.Rule.TheVariants.{P6, P7, P8, P9, P10, P11, P12, P13, P14}
-use Rattle.mm_check.specs.declared.rule.Rule.TheVariants.{L1}
+use Rattle.mm_check.specs.declared.rule.Rule.TheVariants.{P15, L1}
 
 -- the rules of each layer by their codes
 abbrev pub load_rule : LoadRule → Rule
@@ -87,6 +88,7 @@ proof_rule proof.P11 = P11
 proof_rule proof.P12 = P12
 proof_rule proof.P13 = P13
 proof_rule proof.P14 = P14
+proof_rule proof.P15 = P15
 proof_rule proof.L1 = L1
 
 -- where and why a database is refused
@@ -104,6 +106,14 @@ pub data Verdict : Type 0 where
   Refused : (refusal : PlainRefusal) → Verdict
   Incomplete : (labels : List (List ℕ)) → Verdict
   Yes : (statements proofs : ℕ) → Verdict
+
+-- the line of a place in a text: one more than the number of line feeds before it
+abbrev pub line_in : List ℕ → ℕ → ℕ
+line_in bytes at = count_by (λ b. b == 10) (take at bytes) + 1
+
+-- the line of a place in one of the files; where there is no such file, the text is empty
+abbrev pub line_of : List PlainFile → ℕ → ℕ → ℕ
+line_of files file at = line_in (unwrap_or (option_map (λ f. f.bytes) (slice_get files file)) []) at
 
 -- the refusal at the first token of a statement, which comes after so many others
 abbrev pub refusal_of : List PlainFile → ℕ → PlainStatement → Rule → ℕ → PlainRefusal
@@ -145,12 +155,14 @@ is_proof s = is_provable s.kind && not (is_incomplete (proof_of s))
 abbrev pub sentences : List PlainStatement → List Sentence
 sentences statements = map sentence_of statements
 
--- The statement obeys the rules of the profile after those before it: it breaks no rule of meaning,
--- and as a `$p` with a complete proof it is proved, each step within the limit.
+-- The statement obeys the rules of the profile after those before it: it breaks no rule of meaning;
+-- as a `$p` with a complete proof it is proved, and what is known of an incomplete proof breaks no
+-- rule.
 pub record Obeys (profile : Profile) (before : List Sentence) (s : PlainStatement) : Type 0 where
   pub meant : IsMeant before (sentence_of s)
-  pub proved : is_proof s ≡ true
-      → IsProvedWithin (IsWithin (limit_of profile)) before (sentence_of s) (proof_of s)
+  pub proved : is_proof s ≡ true → IsProvedUnder profile before (sentence_of s) (proof_of s)
+  pub known : is_unproved s ≡ true
+      → IsFrontAllowedUnder profile before (sentence_of s) (proof_of s)
 
 -- each of the statements does
 abbrev pub AllObey : Profile → List PlainStatement → Type 0
@@ -158,15 +170,21 @@ AllObey profile statements =
     (before after : List PlainStatement) (s : PlainStatement) → statements ≡ before ++ s ∷ after
     → Obeys profile (sentences before) s
 
+-- the first fault of the proof of a `$p`: of all of it, if it is complete, else of what is known of it
+abbrev pub IsProofFault : Profile → List Sentence → PlainStatement → ProofRule → ℕ → Type 0
+IsProofFault profile before s rule step =
+    ((is_proof s ≡ true) × IsFaultUnder profile before (sentence_of s) (proof_of s) rule step)
+    ⊎ ((is_unproved s ≡ true)
+    × IsFrontFaultUnder profile before (sentence_of s) (proof_of s) rule step)
+
 -- The fault of a statement: the first rule of meaning that it breaks, else the first fault of its
--- proof, if that is complete.
+-- proof.
 abbrev pub HasFault : Profile → List Sentence → PlainStatement → Rule → ℕ → Type 0
 HasFault profile before s rule step =
     ((broken : MeaningRule) × FirstBroken broken before (sentence_of s)
     × (rule ≡ meaning_rule broken) × (step ≡ 0))
-    ⊎ (IsMeant before (sentence_of s) × (is_proof s ≡ true)
-    × (broken : ProofRule)
-    × IsFault (IsWithin (limit_of profile)) before (sentence_of s) (proof_of s) broken step
+    ⊎ (IsMeant before (sentence_of s)
+    × (broken : ProofRule) × IsProofFault profile before s broken step
     × (rule ≡ proof_rule broken))
 
 -- The first statement at fault, after statements that obey the rules.
@@ -236,7 +254,8 @@ HasVerdict profile files (Yes count proofs) =
     × (count ≡ length statements) × (proofs ≡ proofs_of statements)
 
 -- The files obey every rule of the profile, and each proof spells a derivation tree of its
--- assertion from active hypotheses and earlier assertions, respecting all distinct variables.
+-- assertion from active hypotheses and earlier assertions, respecting all distinct variables, and has
+-- the form that the profile demands.
 pub record ObeyTheProfile (profile : Profile) (files : List PlainFile) : Type 0 where
   pub handed : CanBeRead files
   pub statements : List PlainStatement
@@ -248,3 +267,4 @@ pub record ObeyTheProfile (profile : Profile) (files : List PlainFile) : Type 0 
       → statements ≡ before ++ s ∷ after → s.kind ≡ Provable
       → (is_incomplete (proof_of s) ≡ false)
       × IsProved (sentences before) (sentence_of s) (proof_of s)
+      × HasFormOf profile (sentences before) (sentence_of s) (proof_of s)

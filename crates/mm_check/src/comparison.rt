@@ -2,6 +2,7 @@
 
 ghost use Rattle.std.specs.Prelude.{◌≡◌, ◌≤◌, ℕ, false, length, IfOk, IfErr, OnOk};
 ghost use Rattle.std.specs.List.{AllByRecursion, sum_by};
+ghost use Rattle.mm_text.specs.Files.{most_bytes};
 ghost use Rattle.mm_code.specs.Layout.{texts};
 ghost use Rattle.mm_code.specs.Words.{tokens_in};
 ghost use Rattle.mm_frame.specs.Sentence.{Sentence};
@@ -41,7 +42,7 @@ fn proved_steps(
     requires proof { (place : ℕ) × (s : Sentence)
         × IsProofNumber book.now.statements id.0 place s }
     requires filled { AllByRecursion (λ t. 1 ≤ length t) (texts tokens.now) }
-    requires room { sum_by length (texts tokens.now) ≤ 1073741824 }
+    requires room { sum_by length (texts tokens.now) ≤ most_bytes }
     ensures complete { IfOk result (λ steps. is_incomplete (texts tokens.now) ≡ false) }
     ensures said { IfOk result (λ steps.
         SayWholeSteps book.now.statements id.0 (texts tokens.now) steps.moves) }

@@ -3,7 +3,7 @@
 ghost use Rattle.std.specs.Prelude.{◌≡◌, ◌+◌, ◌<◌, ◌≤◌, ◌^◌, map, OnOk, IfErr, option_map};
 ghost use Rattle.mm_text.specs.declared.statement.Kind.TheVariants.{Closing};
 ghost use Rattle.mm_text.specs.Statement.{plain_statement, HasForm, bytes_in};
-ghost use Rattle.mm_text.specs.Files.{plain_file};
+ghost use Rattle.mm_text.specs.Files.{most_bytes, plain_file};
 ghost use Rattle.mm_frame.specs.Active.{open_marks, close_marks};
 ghost use Rattle.mm_check.specs.Verdict.{refusal_of};
 ghost use Rattle.mm_check.specs.Mirror.Judged.{Takes, RefusesAfter, IsLastProof, JudgesProof};
@@ -51,8 +51,8 @@ fn refusal<'a>(
     }
 }
 
-/// The verdict on the proof of a `$p`, which the book took last: whether it is complete. Where it
-/// is, the prover has the assertions that it uses.
+/// The verdict on the proof of a `$p`, which the book took last, or on what is known of it, where a
+/// step is unknown. Where it is complete, the prover has the assertions that it uses.
 fn judge_proof<'a>(
     prover: &mut Prover<'a>,
     profile: Profile,
@@ -68,8 +68,8 @@ fn judge_proof<'a>(
     prover.prove(profile, id, &statement.proof)
 }
 
-/// Judges the proof of a `$p`, which the book took last, counts it and keeps what it uses, or notes
-/// that it is incomplete.
+/// Judges the proof of a `$p`, which the book took last, counts it and keeps what it uses; or judges
+/// what is known of it, and notes that it is incomplete.
 fn prove<'a>(
     profile: Profile,
     files: &[File<'a>],
@@ -115,7 +115,7 @@ pub(crate) fn judge<'a>(
         → close_marks progress.old.prover.book.statements
         < open_marks progress.old.prover.book.statements }
     requires room { progress.old.prover.book.bytes
-        + bytes_in (plain_statement statement.now) ≤ 1073741824 }
+        + bytes_in (plain_statement statement.now) ≤ most_bytes }
     requires count { progress.old.count < 2 ^ 62 }
     requires proofs { progress.old.proofs < 2 ^ 62 }
     ensures ok { OnOk result (Takes profile progress.old

@@ -42,4 +42,4 @@ pub use report::Report;
 pub use rule::Rule;
 pub use save::{SaveFault, saved};
 pub use status::Status;
-pub use verdict::check;
+pub use verdict::{check, check_with};

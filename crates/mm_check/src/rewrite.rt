@@ -2,7 +2,7 @@
 
 ghost use Rattle.std.specs.Prelude.{◌≡◌, ◌<◌, ◌≤◌, ◌↔◌, ◌∷◌, List, ℕ, map, length, IfOk, IfErr};
 ghost use Rattle.std.specs.Prelude.{IsTrue};
-ghost use Rattle.mm_text.specs.Files.{plain_file, total_bytes};
+ghost use Rattle.mm_text.specs.Files.{most_bytes, plain_file, total_bytes};
 ghost use Rattle.mm_text.specs.Replaced.{with_span};
 ghost use Rattle.mm_check.specs.Saved.{FitsSaved, total_with};
 ghost use Rattle.mm_check.specs.Mirror.Rewriting.{HoldsSpan, IsPutIn, IsPutFault};
@@ -35,9 +35,9 @@ fn with_text(
 /// Whether the files have more bytes than they may, with so many in the file with a number.
 fn is_over(files: &[File], number: usize, count: usize) -> bool
     requires there { number < length files.now }
-    requires within { total_bytes (map plain_file files.now) ≤ 1073741824 }
+    requires within { total_bytes (map plain_file files.now) ≤ most_bytes }
     ensures { (bytes : List ℕ) → length bytes ≡ count → IsTrue result
-        ↔ (1073741824 < total_with (map plain_file files.now) number bytes) }
+        ↔ (most_bytes < total_with (map plain_file files.now) number bytes) }
 {
     let others = size_of(files) - files[number].bytes.len();
     count > BYTE_LIMIT - others
@@ -52,7 +52,7 @@ pub(crate) fn put_in(
     text: &[u8],
 ) -> Result<Vec<u8>, AskFault>
     requires there { HoldsSpan (map plain_file files.now) number span }
-    requires within { total_bytes (map plain_file files.now) ≤ 1073741824 }
+    requires within { total_bytes (map plain_file files.now) ≤ most_bytes }
     ensures put { IfOk result (λ new.
         IsPutIn (map plain_file files.now) number span text.now new.items) }
     ensures fits { IfOk result (λ new.

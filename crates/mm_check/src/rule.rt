@@ -60,6 +60,7 @@ pub enum Rule {
     P12,
     P13,
     P14,
+    P15,
     L1,
     L2,
     A1,
@@ -121,6 +122,7 @@ impl Rule {
             Rule::P12 => b"P12",
             Rule::P13 => b"P13",
             Rule::P14 => b"P14",
+            Rule::P15 => b"P15",
             Rule::L1 => b"L1",
             Rule::L2 => b"L2",
             Rule::A1 => b"A1",
@@ -210,6 +212,7 @@ impl From<ProofRule> for Rule {
             ProofRule::P12 => Rule::P12,
             ProofRule::P13 => Rule::P13,
             ProofRule::P14 => Rule::P14,
+            ProofRule::P15 => Rule::P15,
             ProofRule::L1 => Rule::L1,
         }
     }

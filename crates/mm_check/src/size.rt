@@ -1,13 +1,13 @@
 //! The size of files.
 
 ghost use Rattle.std.specs.Prelude.{◌≡◌, ◌≤◌, map};
-ghost use Rattle.mm_text.specs.Files.{plain_file, total_bytes};
+ghost use Rattle.mm_text.specs.Files.{most_bytes, plain_file, total_bytes};
 
 use mm_text::File;
 
 /// How many bytes the files hold in all; where they hold more than they may, some number.
 pub(crate) fn size_of(files: &[File]) -> usize
-    ensures { total_bytes (map plain_file files.now) ≤ 1073741824
+    ensures { total_bytes (map plain_file files.now) ≤ most_bytes
         → result ≡ total_bytes (map plain_file files.now) }
 {
     let mut size: usize = 0;

@@ -3,9 +3,10 @@
 ghost use Rattle.std.specs.Prelude.{◌≡◌, ◌<◌, ◌≤◌, ◌==◌, take, length, slice_index, true};
 ghost use Rattle.std.specs.Prelude.{IfOk, IfErr};
 ghost use Rattle.std.specs.List.{AllByRecursion, list_any, list_all, sum_by};
-ghost use Rattle.mm_text.specs.Token.{is_printable, is_space as is_white_space};
+ghost use Rattle.mm_text.specs.Token.{is_printable};
+ghost use Rattle.mm_text.specs.Files.{most_bytes};
 ghost use Rattle.mm_code.specs.Layout.{texts};
-ghost use Rattle.mm_code.specs.Words.{tokens_in, LacksWhiteSpace};
+ghost use Rattle.mm_code.specs.Words.{is_white_space, tokens_in, LacksWhiteSpace};
 ghost use Rattle.mm_check.specs.Compared.{are_printable, hold_dollar};
 ghost use Rattle.mm_check.specs.Mirror.Comparisons.{IsLegalText, IsIllegal};
 
@@ -110,7 +111,7 @@ pub(crate) fn legal_tokens<'a>(alloc: Global, text: &'a [u8]) -> Result<Vec<&'a 
     ensures tokens { IfOk result (λ tokens. texts tokens.items ≡ tokens_in text.now) }
     ensures filled { IfOk result (λ tokens. AllByRecursion (λ t. 1 ≤ length t)
         (texts tokens.items)) }
-    ensures room { IfOk result (λ tokens. sum_by length (texts tokens.items) ≤ 1073741824) }
+    ensures room { IfOk result (λ tokens. sum_by length (texts tokens.items) ≤ most_bytes) }
     ensures legal { IfOk result (λ tokens. IsLegalText text.now) }
     ensures fault { IfErr result (IsIllegal text.now) }
 {

@@ -3,6 +3,7 @@
 ghost use Rattle.std.specs.Prelude.{◌≡◌, ◌≤◌, map, length, sum_by, IfOk, IfErr};
 ghost use Rattle.std.specs.List.{AllByRecursion};
 ghost use Rattle.mm_text.specs.Statement.{plain_statement};
+ghost use Rattle.mm_text.specs.Files.{most_bytes};
 ghost use Rattle.mm_proof.specs.Parsed.{OfProof, SaySteps};
 ghost use Rattle.mm_proof.specs.Steps.{AreSteps};
 ghost use Rattle.mm_check.specs.declared.ask.AskFault.TheVariants.{Memory};
@@ -34,7 +35,7 @@ fn steps_of(
 ) -> Result<Steps, AskFault>
     requires proof { IsProofOf profile book.now.statements id.0 (map (λ t. t.now) tokens.now) }
     requires filled { AllByRecursion (λ t. 1 ≤ length t) (map (λ t. t.now) tokens.now) }
-    requires room { sum_by length (map (λ t. t.now) tokens.now) ≤ 1073741824 }
+    requires room { sum_by length (map (λ t. t.now) tokens.now) ≤ most_bytes }
     ensures said { IfOk result (λ steps. OfProof book.now.statements id.0 (λ place s.
         SaySteps book.now.statements place s (map (λ t. t.now) tokens.now) steps.moves)) }
     ensures usable { IfOk result (λ steps. AreSteps book.now.statements id.0 steps.moves) }
@@ -60,7 +61,7 @@ pub(crate) fn theorem_of(
 ) -> Result<Theorem, AskFault>
     requires proof { IsProofOf profile book.now.statements id.0 (map (λ t. t.now) tokens.now) }
     requires filled { AllByRecursion (λ t. 1 ≤ length t) (map (λ t. t.now) tokens.now) }
-    requires room { sum_by length (map (λ t. t.now) tokens.now) ≤ 1073741824 }
+    requires room { sum_by length (map (λ t. t.now) tokens.now) ≤ most_bytes }
     ensures id { IfOk result (λ theorem. theorem.id.0 ≡ id.0) }
     ensures home { IfOk result (λ theorem.
         (theorem.file ≡ (plain_statement statement.now).first.file)

@@ -194,6 +194,7 @@ fn judge_all<'a>(
     ensures counts { IfOk result (KeepsCounts (map plain_file files.now)) }
     ensures uses { IfOk result (KeepsUses (map plain_file files.now)) }
     ensures files { IfOk result (KeepsFiles (map plain_file files.now)) }
+    ensures profile { IfOk result (λ checked. checked.profile ≡ profile) }
 {
     let mut statements = load(alloc, seed, files)?;
     let outcome = last_progress(alloc, seed, profile, files, &mut statements);
@@ -202,7 +203,64 @@ fn judge_all<'a>(
     Ok(Checked::new(profile, files, progress))
 }
 
-/// Checks the database that the files hold; the first one is the top file.
+/// Checks in a profile the database that the files hold; the first one is the top file.
+///
+/// A profile is what is demanded of the proofs beyond the language (`docs/LANGUAGE.md`).
+/// `Profile::Lenient` demands no form. `Profile::Strict` demands of each compressed proof, and of
+/// what is known of an incomplete one, that its list holds no mandatory hypothesis and no label
+/// twice, and that each `Z` stands directly after the number of an assertion in the list (the
+/// Metamath book, appendix B); else P15 is broken. The most symbols of an expression, L1, are
+/// 1,048,576 in the lenient profile and 16,777,216 in the strict one.
+///
+/// Limits and memory aside, the answer is yes exactly if the files obey every rule of the language,
+/// and each proof spells a derivation tree of its assertion from active hypotheses and earlier
+/// assertions, respecting all distinct variables (the Metamath book, chapter 4), and has the form
+/// that the profile demands.
+///
+/// # Errors
+///
+/// `Load` where the files can't be taken as a whole, else `Refused` with the first statement at
+/// fault and its rule; `Memory` where a growth was refused, and nothing is said of the files then.
+/// What stands before the first `?` of an incomplete proof is judged too (the Metamath book,
+/// section 4.4.4).
+pub fn check_with<'a>(
+    alloc: Global,
+    seed: Seed,
+    profile: Profile,
+    files: &'a [File<'a>],
+) -> Result<Checked<'a>, CheckFault<'a>>
+    // What is answered is the verdict over the files in the profile, and there is no other.
+    ensures verdict { IsVerdict profile (map plain_file files.now) result }
+    ensures only { IsOnlyVerdict profile (map plain_file files.now) result }
+
+    // Yes says that the profile is obeyed and each proof spells a derivation tree.
+    ensures yes { IsYes result → ObeyTheProfile profile (map plain_file files.now) }
+
+    // Such files get yes, the limit on expressions and memory aside.
+    ensures accepted { ObeyTheProfile profile (map plain_file files.now)
+        → IsYes result ⊎ IsOverLimit result ⊎ IsWantOfMemory result }
+
+    // The labels are those of the database, and so are the counts of statements and of accepted
+    // proofs, also where proofs are incomplete.
+    ensures labels { IfOk result (KeepsLabels (map plain_file files.now)) }
+    ensures counts { IfOk result (KeepsCounts (map plain_file files.now)) }
+
+    // Of each complete proof the assertions of its tree are kept.
+    ensures uses { IfOk result (KeepsUses (map plain_file files.now)) }
+
+    // So are the files, which questions read again.
+    ensures files { IfOk result (KeepsFiles (map plain_file files.now)) }
+
+    // A refusal's file is one of those that were handed in.
+    ensures file { NamesFile (map plain_file files.now) result }
+
+    // The profile is kept too, in which questions judge proofs again.
+    ensures profile { IfOk result (λ checked. checked.profile ≡ profile) }
+{
+    judge_all(alloc, seed, profile, files)
+}
+
+/// Checks the database that the files hold in the lenient profile; the first one is the top file.
 ///
 /// Limits and memory aside, the answer is yes exactly if the files obey every rule of the profile
 /// of the language (`docs/LANGUAGE.md`), and each proof spells a derivation tree of its assertion
@@ -213,6 +271,8 @@ fn judge_all<'a>(
 ///
 /// `Load` where the files can't be taken as a whole, else `Refused` with the first statement at
 /// fault and its rule; `Memory` where a growth was refused, and nothing is said of the files then.
+/// What stands before the first `?` of an incomplete proof is judged too (the Metamath book,
+/// section 4.4.4).
 pub fn check<'a>(
     alloc: Global,
     seed: Seed,
@@ -242,6 +302,9 @@ pub fn check<'a>(
 
     // A refusal's file is one of those that were handed in.
     ensures file { NamesFile (map plain_file files.now) result }
+
+    // The profile kept is the lenient one.
+    ensures profile { IfOk result (λ checked. checked.profile ≡ Lenient) }
 {
-    judge_all(alloc, seed, Profile::Lenient, files)
+    check_with(alloc, seed, Profile::Lenient, files)
 }

@@ -17,16 +17,18 @@ use Rattle.mm_proof.specs.declared.prover.Proved.{Proved}
 use Rattle.mm_proof.specs.declared.prover.Proved.TheVariants as proved
 use Rattle.mm_proof.specs.Answer.{OnRule}
 use Rattle.mm_proof.specs.Used.{AreUsedNumbers}
-use Rattle.mm_proof.specs.Proof.{IsProvedWithin, IsWithin, IsFault}
+use Rattle.mm_proof.specs.Proof.{IsProvedWithin, IsWithin}
 use Rattle.mm_proof.specs.declared.profile.Profile.{Profile}
 use Rattle.mm_proof.specs.Profiles.{limit_of}
+use Rattle.mm_proof.specs.Strict.{HasFormOf}
+use Rattle.mm_proof.specs.UnderProfile.{IsProvedUnder, IsFrontAllowedUnder}
 use Rattle.mm_check.specs.declared.rule.Rule.{Rule}
 use Rattle.mm_check.specs.declared.fault.CheckFault.{CheckFault}
 use Rattle.mm_check.specs.declared.progress.Progress.{Progress}
 use Rattle.mm_check.specs.Verdict.{Verdict, HasVerdict, Load, Refused, HasFault, Obeys, AllObey}
 use Rattle.mm_check.specs.Verdict.{CanBeRead, refusal_of, text_refusal, load_rule, proof_rule}
 use Rattle.mm_check.specs.Verdict.{sentences, proof_of, proofs_of, labels_of, unproved_of}
-use Rattle.mm_check.specs.Verdict.{is_incomplete, is_proof, is_unproved}
+use Rattle.mm_check.specs.Verdict.{is_incomplete, is_proof, is_unproved, IsProofFault}
 use Rattle.mm_check.specs.Answer.{verdict_of_fault}
 use Rattle.mm_check.specs.Conclusion.{ProofUses}
 use Rattle.mm_check.specs.Mirror.Ordered.{ordered}
@@ -68,25 +70,26 @@ pub record IsLastProof (statements : List Sentence) (id : ℕ) (s : PlainStateme
   pub number : id ≡ length (labelled_sentences before)
   pub provable : s.kind ≡ Provable
 
--- the proof of a `$p` after the statements before is proved, and these are the numbers of the
--- assertions in its tree, in any order, each once or more
+-- the proof of a `$p` after the statements before is proved and has the form that the profile
+-- demands, and these are the numbers of the assertions in its tree, in any order, each once or more
 pub record IsProvedUsing (profile : Profile) (before : List Sentence) (s : PlainStatement)
     (used : List ℕ) : Type 0 where
+  pub form : HasFormOf profile before (sentence_of s) (proof_of s)
   pub proof : IsProvedWithin (IsWithin (limit_of profile)) before (sentence_of s) (proof_of s)
   pub all : AreUsedNumbers before (tree_of proof) used
 
--- the proof is incomplete; or it is complete, and proved by a tree whose assertions have exactly
--- these numbers, in any order, each once or more
+-- the proof is incomplete, and what is known of it breaks no rule; or it is complete, and proved by
+-- a tree whose assertions have exactly these numbers, in any order, each once or more
 abbrev pub IsJudged : Profile → List Sentence → PlainStatement → List ℕ → Proved → Type 0
-IsJudged profile before s used proved.Incomplete = is_incomplete (proof_of s) ≡ true
+IsJudged profile before s used proved.Incomplete =
+    (is_incomplete (proof_of s) ≡ true)
+    × IsFrontAllowedUnder profile before (sentence_of s) (proof_of s)
 IsJudged profile before s used proved.Complete =
     (is_incomplete (proof_of s) ≡ false) × IsProvedUsing profile before s used
 
--- its proof is complete, and this is its fault; or memory was wanting
+-- this is the fault of its proof, or of what is known of it; or memory was wanting
 abbrev pub Fails : Profile → List Sentence → PlainStatement → ProofFault → Type 0
-Fails profile before s fault = OnRule fault (λ rule step.
-    (is_incomplete (proof_of s) ≡ false)
-    × IsFault (IsWithin (limit_of profile)) before (sentence_of s) (proof_of s) rule step)
+Fails profile before s fault = OnRule fault (IsProofFault profile before s)
 
 -- the verdict on the proof of the last statement, which uses these assertions if it is complete
 abbrev pub JudgesProof : Profile → List Sentence → PlainStatement → Result Proved ProofFault
@@ -104,12 +107,16 @@ pub record KeepsProof (profile : Profile) (before : List Sentence) (s : PlainSta
       × (new ≡ old ++ record { number = id; used = ordered used } ∷ [])
   pub none : complete ≡ false → new ≡ old
 
--- the proof of the last statement was counted, and what it uses kept, or it was noted as incomplete
+-- the proof of the last statement was counted, and what it uses kept; or what is known of it breaks
+-- no rule, and it was noted as incomplete
 pub record CountsProof (profile : Profile) (old : Progress) (id : ℕ) (s : PlainStatement)
     (new : Progress) : Type 0 where
   pub proved : (before : List Sentence) → old.prover.book.statements ≡ before ++ sentence_of s ∷ []
       → is_incomplete (proof_of s) ≡ false
-      → IsProvedWithin (IsWithin (limit_of profile)) before (sentence_of s) (proof_of s)
+      → IsProvedUnder profile before (sentence_of s) (proof_of s)
+  pub known : (before : List Sentence) → old.prover.book.statements ≡ before ++ sentence_of s ∷ []
+      → is_incomplete (proof_of s) ≡ true
+      → IsFrontAllowedUnder profile before (sentence_of s) (proof_of s)
   pub book : new.prover.book ≡ old.prover.book
   pub count : new.count ≡ old.count
   pub proofs : new.proofs ≡ old.proofs + (if is_incomplete (proof_of s) then 0 else 1)
@@ -119,13 +126,14 @@ pub record CountsProof (profile : Profile) (old : Progress) (id : ℕ) (s : Plai
   pub kept : (before : List Sentence) → old.prover.book.statements ≡ before ++ sentence_of s ∷ []
       → KeepsProof profile before s id (not (is_incomplete (proof_of s))) old.kept new.kept
 
--- Memory was wanting, or the last statement is refused for the fault of its proof.
+-- Memory was wanting, or the last statement is refused for the fault of its proof, or of what is
+-- known of it.
 abbrev pub RefusesProof : Profile → List PlainFile → Progress → PlainStatement → CheckFault → Type 0
 RefusesProof profile files old s fault =
     (verdict_of_fault fault ≡ None)
-    ⊎ ((rule : ProofRule) × (step : ℕ) × (is_incomplete (proof_of s) ≡ false)
+    ⊎ ((rule : ProofRule) × (step : ℕ)
     × ((before : List Sentence) → old.prover.book.statements ≡ before ++ sentence_of s ∷ []
-    → IsFault (IsWithin (limit_of profile)) before (sentence_of s) (proof_of s) rule step)
+    → IsProofFault profile before s rule step)
     × (verdict_of_fault fault
     ≡ Some (Refused (refusal_of files old.count s (proof_rule rule) step))))
 

@@ -2,7 +2,7 @@
 -- and is cited by private contracts alone.
 use Rattle.std.specs.Prelude.{◌≡◌, ℕ, ◌<◌, ◌≤◌, List, ◌∷◌, take, length, slice_get, Some, ◌⊎◌}
 use Rattle.mm_text.specs.Statement.{PlainStatement}
-use Rattle.mm_text.specs.Files.{PlainFile}
+use Rattle.mm_text.specs.Files.{most_bytes, PlainFile}
 use Rattle.mm_text.specs.Replaced.{with_span}
 use Rattle.mm_frame.specs.Sentence.{Sentence}
 use Rattle.mm_proof.specs.Moves.{Move}
@@ -58,4 +58,4 @@ abbrev pub IsPutFault : List PlainFile → (number : ℕ) → (span : ℕ × ℕ
 IsPutFault files number span text fault =
     (fault ≡ Memory)
     ⊎ ((fault ≡ F3) × (bytes : List ℕ) × IsPutIn files number span text bytes
-    × (1073741824 < total_with files number bytes))
+    × (most_bytes < total_with files number bytes))

@@ -1,6 +1,5 @@
 -- The refusal tells the fault of the statement.
-use Rattle.std.proofs.Common.{rules, ◌≡◌, Some, Err, inl, inr, map, refl, ap, ◌∙◌}
-use Rattle.mm_text.specs.declared.statement.Kind.TheVariants.{Provable}
+use Rattle.std.proofs.Common.{◌≡◌, Some, Err, inl, inr, map, refl, ap, ◌∙◌}
 use Rattle.mm_text.specs.Statement.{PlainStatement, plain_statement}
 use Rattle.mm_text.specs.Files.{plain_file}
 use Rattle.mm_frame.specs.Database.{Database}
@@ -15,10 +14,10 @@ pub returns-in_err-prove-in-Ok-Assertion-clause-refused : goal.returns-in_err-pr
 returns-in_err-prove-in-Ok-Assertion-clause-refused c =
     let s : PlainStatement = plain_statement c.args.statement.now in
     let files = map plain_file c.args.files.now in
-    let provable : c.args.statement.now.kind ≡ Provable = search rules in
     let fault : CheckFault = c.in_err-prove-in-Ok-Assertion.field-0.0 in
     passed_on c.from_residual.result fault (RefusesAfter c.args.profile files c.args.progress.now.prover.book.statements c.args.progress.now.count s) c.from_residual.ensures.1
-    (refuses_after c.args.profile files c.args.progress.now (record c.args.progress.now { prover = c.take.new.self }) s fault c.in-Ok-Assertion.ensures.ok.0 provable (ap (λ (d : Database). d.statements) c.in-Ok-Assertion.ensures.ok.1) refl
+    (refuses_after c.args.profile files c.args.progress.now (record c.args.progress.now { prover = c.take.new.self }) s fault
+    c.in-Ok-Assertion.ensures.ok.0 (ap (λ (d : Database). d.statements) c.in-Ok-Assertion.ensures.ok.1) refl
     c.in_err-prove-in-Ok-Assertion.ensures.refused)
 
 pub returns-in-Err-Rule-clause-refused : goal.returns-in-Err-Rule-clause-refused

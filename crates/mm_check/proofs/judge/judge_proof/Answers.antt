@@ -18,4 +18,5 @@ returns-clause-judged c =
     let same : token_texts c.deref.result.now ≡ proof_of s =
     ap token_texts c.deref.ensures.value ∙ texts_of c.args.statement.now.proof.items in
     judged c.args.profile c.args.prover.now.book.statements c.args.id.0 s (token_texts c.deref.result.now) c.prove.result c.prove.new.self.used c.requires.formed c.requires.last same
-    c.prove.ensures.incomplete c.prove.ensures.complete c.prove.ensures.proved c.prove.ensures.fault
+    c.prove.ensures.incomplete c.prove.ensures.complete c.prove.ensures.proved c.prove.ensures.form
+    c.prove.ensures.fault c.prove.ensures.front_fault

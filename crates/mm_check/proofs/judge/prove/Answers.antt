@@ -15,12 +15,10 @@ returns-in-Err-Rule-clause-refused c =
     let fails : (before : List Sentence) → c.args.progress.now.prover.book.statements ≡ before ++ sentence_of s ∷ [] → Fails c.args.profile before s (Rule c.in-Err-Rule.rule c.in-Err-Rule.step) =
     λ before e. subst (Fails c.args.profile before s) c.in-Err-Rule.field-0-is (c.in-Err-Rule.ensures.judged before e) in
     let rule : c.from.result ≡ proof_rule c.in-Err-Rule.rule = c.from.ensures ∙ ap proof_rule c.in-Err-Rule.rule-is in
-    let first = fails c.requires.last.before c.requires.last.whole in
     inr (
       c.in-Err-Rule.rule,
       c.in-Err-Rule.step,
-      first.0,
-      λ before e. (fails before e).1,
+      fails,
       ap (λ r. Some (Refused r)) c.refusal-refusal.ensures
           ∙ same_refusal (map plain_file c.args.files.now) c.args.progress.now.count s rule c.in-Err-Rule.step-is,
     )

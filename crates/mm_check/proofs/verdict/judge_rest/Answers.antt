@@ -1,7 +1,7 @@
 -- The course of checking, turn by turn.
 use Rattle.std.proofs.Common.{◌≤◌, Bool, true, false, List, map, Ok, sym, ap, subst, arith}
 use Rattle.mm_text.specs.Statement.{PlainStatement, plain_statement, HasForm}
-use Rattle.mm_text.specs.Files.{PlainFile, plain_file}
+use Rattle.mm_text.specs.Files.{most_bytes, PlainFile, plain_file}
 use Rattle.mm_check.specs.declared.progress.Progress.{Progress}
 use Rattle.mm_check.specs.Mirror.Judged.{TakesNext, TellsVerdict, IsUnderWay}
 use Rattle.mm_check.proofs.OnTheWay.{closes, has_room, count_small, proofs_small}
@@ -37,7 +37,7 @@ pub judge-requires-clause-count : goal.judge-requires-clause-count
 judge-requires-clause-count c =
     let way : IsUnderWay c.args.profile (map plain_file c.args.files.now) c.make_room.new.progress c.loop-statement.statements =
     subst (λ (p : Progress). IsUnderWay c.args.profile (map plain_file c.args.files.now) p c.loop-statement.statements) (sym c.make_room.ensures) c.loop-statement.invariant in
-    let small : c.make_room.new.progress.count ≤ 1073741824 =
+    let small : c.make_room.new.progress.count ≤ most_bytes =
     count_small c.args.profile (map plain_file c.args.files.now) c.make_room.new.progress c.loop-statement.statements way in
     omega (arith, small)
 
@@ -45,7 +45,7 @@ pub judge-requires-clause-proofs : goal.judge-requires-clause-proofs
 judge-requires-clause-proofs c =
     let way : IsUnderWay c.args.profile (map plain_file c.args.files.now) c.make_room.new.progress c.loop-statement.statements =
     subst (λ (p : Progress). IsUnderWay c.args.profile (map plain_file c.args.files.now) p c.loop-statement.statements) (sym c.make_room.ensures) c.loop-statement.invariant in
-    let small : c.make_room.new.progress.proofs ≤ 1073741824 =
+    let small : c.make_room.new.progress.proofs ≤ most_bytes =
     proofs_small c.args.profile (map plain_file c.args.files.now) c.make_room.new.progress c.loop-statement.statements way in
     omega (arith, small)
 

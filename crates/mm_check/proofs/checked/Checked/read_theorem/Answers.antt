@@ -3,7 +3,7 @@ use Rattle.std.proofs.Common.{◌≡◌, ℕ, ◌≤◌, List, map, length, sum_
 use Rattle.std.specs.List.{AllByRecursion}
 use Rattle.std.specs.Borrow.{Bor}
 use Rattle.mm_text.specs.Statement.{PlainStatement, plain_statement}
-use Rattle.mm_text.specs.Files.{PlainFile, plain_file}
+use Rattle.mm_text.specs.Files.{most_bytes, PlainFile, plain_file}
 use Rattle.mm_text.specs.Reading.{Reads}
 use Rattle.mm_frame.specs.Sentence.{Sentence}
 use Rattle.mm_check.specs.declared.ask.AskFault.{AskFault}
@@ -93,7 +93,7 @@ theorem_of-requires-clause-room c =
     c.in_ok-statement.ensures.found well.origin.statements (subst (λ (fs : List PlainFile). Reads fs well.origin.statements None) (sym files) own.accepted.reads) in
     let texts : map (λ (b : Bor (List ℕ)). b.now) c.deref.result.now ≡ proof_of (plain_statement c.in_ok-statement.statement) =
     ap (λ (ts : List (Bor (List ℕ))). map (λ (b : Bor (List ℕ)). b.now) ts) c.deref.ensures.value ∙ c.in_ok-tokens.ensures in
-    subst (λ (ts : List (List ℕ)). sum_by length ts ≤ 1073741824) (sym texts) (shown_room now well.origin.statements c.args.label.now t own stands)
+    subst (λ (ts : List (List ℕ)). sum_by length ts ≤ most_bytes) (sym texts) (shown_room now well.origin.statements c.args.label.now t own stands)
 
 pub returns-clause-read : goal.returns-clause-read
 returns-clause-read c =

@@ -1,7 +1,7 @@
 -- The bytes are the theorem's file with its proof in the form.
 use Rattle.std.proofs.Common.{◌≡◌, ℕ, ◌≤◌, List, map, None, sym, ap, subst, ◌∙◌}
 use Rattle.mm_text.specs.Statement.{PlainStatement}
-use Rattle.mm_text.specs.Files.{PlainFile, plain_file, total_bytes}
+use Rattle.mm_text.specs.Files.{most_bytes, PlainFile, plain_file, total_bytes}
 use Rattle.mm_text.specs.Reading.{Reads}
 use Rattle.mm_frame.specs.Sentence.{Sentence}
 use Rattle.mm_check.specs.declared.ask.AskFault.{AskFault}
@@ -58,7 +58,7 @@ put_in-requires-clause-within c =
     let well : IsKeptWell now.profile now.files now.sentences now.incomplete now.uses =
     subst (λ (v : Conclusion). IsKeptWell v.profile v.files v.sentences v.incomplete v.uses) c.self.view_is c.self.invariant in
     let files : map plain_file c.self.inside.files.now ≡ now.files = ap (λ (v : Conclusion). v.files) c.self.view_is in
-    subst (λ (fs : List PlainFile). total_bytes fs ≤ 1073741824) (sym files) (within_limit now.files well.origin.accepted.readable)
+    subst (λ (fs : List PlainFile). total_bytes fs ≤ most_bytes) (sym files) (within_limit now.files well.origin.accepted.readable)
 
 pub returns-in_err-bytes-clause-fault : goal.returns-in_err-bytes-clause-fault
 returns-in_err-bytes-clause-fault c =
