@@ -7,7 +7,9 @@ use Rattle.mm_text.specs.Token.{PlainToken}
 use Rattle.mm_text.specs.Statement.{PlainStatement, is_provable}
 use Rattle.mm_text.specs.Files.{most_bytes, PlainFile, total_bytes, HasTwins, BreaksLoad}
 use Rattle.mm_text.specs.Reading.{PlainFault, Reads}
-use Rattle.mm_text.specs.Alike.{feeds_in, token_on, statement_on, fault_on, AreAlike, AreReadAlike, AlikeFilesAreReadAlike}
+use Rattle.mm_text.specs.LineNumbers.{feeds_in}
+use Rattle.mm_text.specs.Alike.{token_on, statement_on, fault_on, AreAlike, AreReadAlike}
+use Rattle.mm_text.specs.Alike.{AlikeFilesAreReadAlike}
 use Rattle.mm_frame.specs.declared.rule.MeaningRule.{MeaningRule}
 use Rattle.mm_frame.specs.Sentence.{Sentence, sentence_of}
 use Rattle.mm_frame.specs.Rules.{FirstBroken, IsMeant}

@@ -26,7 +26,7 @@ use Rattle.mm_check.specs.Verdict.{sentences, proof_of, is_proof, is_unproved, i
 use Rattle.mm_text.specs.Statement.{is_provable}
 use Rattle.mm_check.specs.Rests.{IsAt, IsNumberWhere, AreInOrder, tree_of, HasTree, Uses, AreUses, RestsOn, IsNamed, IsReport}
 use Rattle.mm_check.specs.Answer.{IsKeptOf}
-use Rattle.mm_proof.specs.CodeSteps.{ids_in}
+use Rattle.mm_proof.specs.Plain.{ids_in}
 use Rattle.mm_check.specs.Mirror.Marks.{IsMarked, UsedIn, AreBackward, IsAxiomNumber}
 use Rattle.mm_check.proofs.Numbers.{count_labelled}
 use Rattle.mm_check.proofs.Order.{in_order_same}

@@ -1,5 +1,5 @@
 -- What is told of a handed text is told of it as a proof of the theorem.
-use Rattle.std.proofs.Common.{◌≡◌, ◌↔◌, ◌⊎◌, ℕ, Bool, IsTrue, List, take, inl, inr, refl, sym, subst}
+use Rattle.std.proofs.Common.{◌≡◌, ◌↔◌, ◌⊎◌, ℕ, Bool, true, false, IsTrue, List, take, inl, inr, refl, sym, subst, ◌∙◌}
 use Rattle.mm_text.specs.Statement.{PlainStatement}
 use Rattle.mm_code.specs.Words.{tokens_in}
 use Rattle.mm_frame.specs.Sentence.{Sentence, sentence_of}
@@ -7,25 +7,37 @@ use Rattle.mm_proof.specs.declared.fault.ProofRule.{ProofRule}
 use Rattle.mm_proof.specs.declared.fault.ProofFault.{ProofFault}
 use Rattle.mm_proof.specs.declared.fault.ProofFault.TheVariants as proof_faults
 use Rattle.mm_proof.specs.declared.profile.Profile.{Profile}
-use Rattle.mm_proof.specs.declared.profile.Profile.TheVariants.{Lenient}
 use Rattle.mm_proof.specs.Profiles.{limit_of}
 use Rattle.mm_proof.specs.Moves.{Move}
 use Rattle.mm_proof.specs.OneTree.{MakeSameTree}
 use Rattle.mm_proof.specs.Steps.{AreNumberedMoves}
 use Rattle.mm_proof.specs.ReadSteps.{ReadSteps}
+use Rattle.mm_proof.specs.Tokens.{IsIncomplete}
 use Rattle.mm_proof.specs.Parsed.{OfProof}
 use Rattle.mm_proof.specs.Verified.{OfMoves, FailsWith}
-use Rattle.mm_proof.specs.Proof.{IsWithin, IsProvedWithin, Prove}
-use Rattle.mm_check.specs.declared.rule.Rule.TheVariants.{A3}
+use Rattle.mm_proof.specs.Proof.{IsWithin, Prove}
+use Rattle.mm_proof.specs.Strict.{HasFormOf}
+use Rattle.mm_proof.specs.UnderProfile.{IsProvedUnder}
 use Rattle.mm_check.specs.declared.ask.AskFault.{AskFault}
 use Rattle.mm_check.specs.declared.ask.AskFault.TheVariants as ask
-use Rattle.mm_check.specs.Verdict.{sentences, proof_rule}
+use Rattle.mm_check.specs.Verdict.{sentences, is_incomplete, proof_rule}
 use Rattle.mm_check.specs.Rests.{IsAskFault}
 use Rattle.mm_check.specs.Compared.{IsProofText, IsTextFault, text_fault, IsCompared, IsSameFault}
 use Rattle.mm_check.specs.Mirror.Theorems.{SayWholeSteps, AreProvedSteps, AreStepsOf}
-use Rattle.mm_check.specs.Mirror.Comparisons.{IsLegalText, FailsAs, IsUnproved, AreRefused, IsTextRefused, IsComparedWith}
+use Rattle.mm_check.specs.Mirror.Comparisons.{FailsAs, IsUnproved, IsTextRefused, IsComparedWith}
 use Rattle.mm_check.proofs.Asked.{map-take}
+use Rattle.mm_check.proofs.Judging.{incomplete_is}
 use Rattle.mm_check.proofs.Theorems.{of_theorem}
+
+-- the tokens have the form that the profile demands of a proof of the `$p` with this number
+abbrev pub HaveForm : Profile → List Sentence → (id : ℕ) → (tokens : List (List ℕ)) → Type 0
+HaveForm profile st id tokens =
+    OfProof st id (λ place s. HasFormOf profile (take place st) s tokens)
+
+-- ---- a token with a `?`
+
+pub no_unknown : (tokens : List (List ℕ)) → is_incomplete tokens ≡ false → ¬ (IsIncomplete tokens)
+no_unknown tokens complete h = let no : true ≡ false = sym (incomplete_is tokens h) ∙ complete in cc
 
 -- ---- a fault of the handed proof
 
@@ -35,55 +47,74 @@ fails_as (proof_faults.Rule rule step) P tells = inr (rule, step, refl, tells ru
 fails_as proof_faults.Memory P tells = inl refl
 
 -- where the moves fail, the tokens do
-pub unproved_of : (st : List Sentence) (id : ℕ) (tokens : List (List ℕ)) (steps : ReadSteps) (fault : AskFault) → steps.profile ≡ Lenient → SayWholeSteps st id tokens steps.moves
-    → FailsAs st id steps fault → IsUnproved st id tokens fault
-unproved_of st id tokens steps fault lenient said (inl memory) = inl memory
-unproved_of st id tokens steps fault lenient said (inr (rule, step, is, fails)) =
+pub unproved_of : (profile : Profile) (st : List Sentence) (id : ℕ) (tokens : List (List ℕ))
+    (steps : ReadSteps) (fault : AskFault) → steps.profile ≡ profile
+    → SayWholeSteps st id tokens steps.moves → HaveForm profile st id tokens
+    → FailsAs st id steps fault → IsUnproved profile st id tokens fault
+unproved_of profile st id tokens steps fault under said form (inl memory) = inl memory
+unproved_of profile st id tokens steps fault under said form (inr (rule, step, is, fails)) =
     inr (
       rule,
       step,
       is,
       λ place s number.
           let told = said place s number in
-          let fault : FailsWith (limit_of Lenient) st place s told.1 rule step =
-          subst (λ (p : Profile). FailsWith (limit_of p) st place s told.1 rule step) lenient (fails place s told.1 number told.3) in
-          inr (told.0, told.1, told.2, fault),
+          let fault : FailsWith (limit_of profile) st place s told.1 rule step =
+          subst (λ (p : Profile). FailsWith (limit_of p) st place s told.1 rule step) under
+          (fails place s told.1 number told.3) in
+          inr (told.0, form place s number, told.1, told.2, fault),
     )
 
 -- ---- a fault of the handed text
 
-pub text_refused : (st : List Sentence) (id : ℕ) (text : List ℕ) (fault : AskFault) → IsLegalText text → AreRefused st id (tokens_in text) fault → IsTextRefused st id text fault
-text_refused st id text fault legal (inl (incomplete, is)) =
-    inr (A3, 0, is, λ place s number. inl (refl, (legal.taken, legal.printable, legal.plain, incomplete)))
-text_refused st id text fault legal (inr (complete, inl memory)) = inl memory
-text_refused st id text fault legal (inr (complete, inr (rule, step, is, fails))) =
-    let whole : IsProofText text = record { taken = legal.taken; printable = legal.printable; plain = legal.plain; complete = complete } in
-    inr (proof_rule rule, step, is, λ place s number. inr (whole, rule, refl, fails place s number))
+pub text_refused : (profile : Profile) (st : List Sentence) (id : ℕ) (text : List ℕ)
+    (fault : AskFault) → IsProofText text → IsUnproved profile st id (tokens_in text) fault
+    → IsTextRefused profile st id text fault
+text_refused profile st id text fault legal (inl memory) = inl memory
+text_refused profile st id text fault legal (inr (rule, step, is, fails)) =
+    inr (
+      proof_rule rule,
+      step,
+      is,
+      λ place s number.
+          inr (legal, rule, refl, fails place s number),
+    )
 
 -- ---- the comparison
 
-pub compared_with : (st : List Sentence) (id : ℕ) (own : List (Move ℕ)) (steps : ReadSteps) (text : List ℕ) (same : Bool) → IsProofText text → steps.profile ≡ Lenient
-    → SayWholeSteps st id (tokens_in text) steps.moves → AreProvedSteps st id steps
-    → OfMoves st id own (λ place s moves. (others : List (Move (List ℕ))) → AreNumberedMoves st steps.moves others → IsTrue same ↔ MakeSameTree (take place st) moves others)
-    → IsComparedWith st id own text same
-compared_with st id own steps text same legal lenient said proved told = (
+pub compared_with : (profile : Profile) (st : List Sentence) (id : ℕ) (own : List (Move ℕ))
+    (steps : ReadSteps) (text : List ℕ) (same : Bool) → IsProofText text
+    → steps.profile ≡ profile → SayWholeSteps st id (tokens_in text) steps.moves
+    → HaveForm profile st id (tokens_in text) → AreProvedSteps st id steps
+    → OfMoves st id own (λ place s moves. (others : List (Move (List ℕ)))
+    → AreNumberedMoves st steps.moves others
+    → IsTrue same ↔ MakeSameTree (take place st) moves others)
+    → IsComparedWith profile st id own text same
+compared_with profile st id own steps text same legal under said form proved told = (
   legal,
   λ place s moves number numbered.
       let says = said place s number in
-      let proves : Prove (IsWithin (limit_of Lenient)) (take place st) s says.1 =
-      subst (λ (p : Profile). Prove (IsWithin (limit_of p)) (take place st) s says.1) lenient (proved place s says.1 number says.3) in (
-        record { whole = says.0; moves = says.1; said = says.2; proves = proves },
+      let proves : Prove (IsWithin (limit_of profile)) (take place st) s says.1 =
+      subst (λ (p : Profile). Prove (IsWithin (limit_of p)) (take place st) s says.1) under
+      (proved place s says.1 number says.3) in (
+        (
+          form place s number,
+          record { whole = says.0; moves = says.1; said = says.2; proves = proves },
+        ),
         told place s moves number numbered says.1 says.3,
       ),
 )
 
 -- ---- told of the theorem
 
-pub compared_of : (ss : List Sentence) (statements : List PlainStatement) (label : List ℕ) (id : ℕ) (steps : List (Move ℕ)) (text : List ℕ) (same : Bool)
-    → ss ≡ sentences statements → AreStepsOf statements label id steps → IsComparedWith ss id steps text same → IsCompared statements label text same
-compared_of ss statements label id steps text same is r compared =
+pub compared_of : (profile : Profile) (ss : List Sentence) (statements : List PlainStatement)
+    (label : List ℕ) (id : ℕ) (steps : List (Move ℕ)) (text : List ℕ) (same : Bool)
+    → ss ≡ sentences statements → AreStepsOf statements label id steps
+    → IsComparedWith profile ss id steps text same → IsCompared profile statements label text same
+compared_of profile ss statements label id steps text same is r compared =
     let told = of_theorem ss statements label id steps
-    (λ before s moves. (p : IsProvedWithin (IsWithin (limit_of Lenient)) before s (tokens_in text)) × (IsTrue same ↔ MakeSameTree before moves p.moves)) is r compared.1 in
+    (λ before s moves. (p : IsProvedUnder profile before s (tokens_in text))
+    × (IsTrue same ↔ MakeSameTree before moves p.1.moves)) is r compared.1 in
     record {
       place = r.place;
       s = r.s;
@@ -95,22 +126,31 @@ compared_of ss statements label id steps text same is r compared =
       answer = told.1;
     }
 
-pub same_fault : (ss : List Sentence) (statements : List PlainStatement) (label : List ℕ) (id : ℕ) (steps : List (Move ℕ)) (text : List ℕ) (fault : AskFault)
-    → ss ≡ sentences statements → AreStepsOf statements label id steps → IsTextRefused ss id text fault → IsSameFault statements label text fault
-same_fault ss statements label id steps text fault is r (inl memory) = subst (IsSameFault statements label text) (sym memory) tt
-same_fault ss statements label id steps text fault is r (inr (rule, step, told, refused)) =
-    let here : OfProof (sentences statements) id (λ place s. IsTextFault (take place (sentences statements)) s text rule step) =
-    subst (λ (x : List Sentence). OfProof x id (λ place s. IsTextFault (take place x) s text rule step)) is refused in
-    let broken : IsTextFault (sentences (take r.place statements)) (sentence_of r.s) text rule step =
-    subst (λ (x : List Sentence). IsTextFault x (sentence_of r.s) text rule step) (sym (map-take r.place statements)) (here r.place (sentence_of r.s) r.number) in
-    subst (IsSameFault statements label text) (sym told)
+pub same_fault : (profile : Profile) (ss : List Sentence) (statements : List PlainStatement)
+    (label : List ℕ) (id : ℕ) (steps : List (Move ℕ)) (text : List ℕ) (fault : AskFault)
+    → ss ≡ sentences statements → AreStepsOf statements label id steps
+    → IsTextRefused profile ss id text fault → IsSameFault profile statements label text fault
+same_fault profile ss statements label id steps text fault is r (inl memory) =
+    subst (IsSameFault profile statements label text) (sym memory) tt
+same_fault profile ss statements label id steps text fault is r (inr (rule, step, told, refused)) =
+    let here : OfProof (sentences statements) id (λ place s.
+    IsTextFault profile (take place (sentences statements)) s text rule step) =
+    subst (λ (x : List Sentence). OfProof x id (λ place s.
+    IsTextFault profile (take place x) s text rule step)) is refused in
+    let broken : IsTextFault profile (sentences (take r.place statements)) (sentence_of r.s) text
+    rule step =
+    subst (λ (x : List Sentence). IsTextFault profile x (sentence_of r.s) text rule step)
+    (sym (map-take r.place statements)) (here r.place (sentence_of r.s) r.number) in
+    subst (IsSameFault profile statements label text) (sym told)
     (r.place, r.s, record { there = r.there; named = r.named; complete = r.complete }, broken)
 
-pub asked_fault : (statements : List PlainStatement) (label text : List ℕ) (fault : AskFault) → IsAskFault statements label fault → IsSameFault statements label text fault
-asked_fault statements label text ask.A1 h = h
-asked_fault statements label text ask.A2 h = h
-asked_fault statements label text ask.A3 h = h
-asked_fault statements label text ask.L2 h = h
-asked_fault statements label text ask.F3 h = h
-asked_fault statements label text (ask.Text rule step) h = absurd h
-asked_fault statements label text ask.Memory h = h
+pub asked_fault : (profile : Profile) (statements : List PlainStatement) (label text : List ℕ)
+    (fault : AskFault) → IsAskFault statements label fault
+    → IsSameFault profile statements label text fault
+asked_fault profile statements label text ask.A1 h = h
+asked_fault profile statements label text ask.A2 h = h
+asked_fault profile statements label text ask.A3 h = h
+asked_fault profile statements label text ask.L2 h = h
+asked_fault profile statements label text ask.F3 h = h
+asked_fault profile statements label text (ask.Text rule step) h = absurd h
+asked_fault profile statements label text ask.Memory h = h

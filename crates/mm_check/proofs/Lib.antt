@@ -31,3 +31,4 @@ pub mod SavedOnce
 pub mod Listings
 pub mod Reports
 pub mod AlikeVerdicts
+pub mod BetweenProfiles

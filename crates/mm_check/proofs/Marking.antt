@@ -9,7 +9,7 @@ use Rattle.mm_frame.proofs.NameLists.{get_mapped}
 use Rattle.std.proofs.lemmas.List.{map-append}
 use Rattle.mm_frame.specs.declared.number.LabelId.{LabelId}
 use Rattle.mm_text.proofs.Lists.{take_next, get_from_front}
-use Rattle.mm_proof.specs.CodeSteps.{ids_in}
+use Rattle.mm_proof.specs.Plain.{ids_in}
 use Rattle.mm_check.specs.Conclusion.{ProofUses}
 use Rattle.mm_check.specs.Rests.{AreRising, AreInOrder, RestsOn}
 use Rattle.mm_check.specs.Mirror.Marks.{IsMarked, UsedIn, AreBackward}

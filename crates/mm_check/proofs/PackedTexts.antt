@@ -10,7 +10,8 @@ use Rattle.mm_code.specs.declared.code.Code.{Code}
 use Rattle.mm_code.specs.declared.code.Code.TheVariants.{Number, Tag}
 use Rattle.mm_code.specs.Letters.{leading_letter, SaysCode, SpellsCodes, Letters}
 use Rattle.mm_code.specs.Layout.{CompressedLaidOut}
-use Rattle.mm_code.specs.Words.{is_white_space, tokens_in, LacksWhiteSpace, IsOneToken}
+use Rattle.mm_text.specs.Token.{is_space as is_white_space}
+use Rattle.mm_code.specs.Words.{tokens_in, LacksWhiteSpace, IsOneToken}
 use Rattle.mm_code.proofs.ReadBack.{compressed_read_back}
 use Rattle.mm_code.proofs.OneLayout.{one_text_of_compressed}
 use Rattle.mm_code.proofs.Unique.{one_text_only, one_reading_only}

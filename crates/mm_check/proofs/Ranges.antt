@@ -9,7 +9,7 @@ use Rattle.mm_check.specs.declared.kept.KeptProof.{KeptProof}
 use Rattle.mm_check.specs.Conclusion.{ProofUses}
 use Rattle.mm_check.specs.Mirror.Ordered.{ordered}
 use Rattle.mm_check.specs.Mirror.Ranges.{uses_at, uses_in, AreRangesWithin}
-use Rattle.mm_proof.specs.CodeSteps.{ids_in}
+use Rattle.mm_proof.specs.Plain.{ids_in}
 use Rattle.mm_check.proofs.Ordered.{ordered_holds}
 
 uses_grow : (xs ys : List LabelId) (proofs : List KeptProof) → AreRangesWithin (length xs) proofs → uses_in (xs ++ ys) proofs ≡ uses_in xs proofs

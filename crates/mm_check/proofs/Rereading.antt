@@ -11,9 +11,8 @@ use Rattle.mm_text.proofs.ReaderLaws.{each_has_one_reading}
 use Rattle.mm_frame.specs.Sentence.{Sentence, sentence_of, IsLabelled}
 use Rattle.mm_frame.specs.Rules.{AllMeant}
 use Rattle.mm_frame.proofs.Meant.{parts_at, one_label}
-use Rattle.mm_proof.specs.Proof.{IsProvedWithin, IsWithin}
 use Rattle.mm_proof.specs.declared.profile.Profile.{Profile}
-use Rattle.mm_proof.specs.Profiles.{limit_of}
+use Rattle.mm_proof.specs.UnderProfile.{IsProvedUnder}
 use Rattle.mm_check.specs.Conclusion.{Conclusion}
 use Rattle.mm_check.specs.Verdict.{AllObey, AreAccepted, CanBeRead, sentences, proof_of, is_proof, is_incomplete}
 use Rattle.mm_text.specs.Statement.{is_provable}
@@ -106,14 +105,16 @@ pub proof_stands : (profile : Profile) (statements : List PlainStatement) (id pl
     → IsProofOf profile (sentences statements) id (proof_of s)
 proof_stands profile statements id place s obeyed at complete =
     let parted : statements ≡ take place statements ++ s ∷ drop (suc place) statements = parts_at statements place s at.there in
-    let proved : IsProvedWithin (IsWithin (limit_of profile)) (sentences (take place statements)) (sentence_of s) (proof_of s) =
+    let proved : IsProvedUnder profile (sentences (take place statements)) (sentence_of s)
+    (proof_of s) =
     (obeyed (take place statements) (drop (suc place) statements) s parted).proved complete in
     record {
       place = place;
       s = sentence_of s;
       number = record { numbered = at.numbered; provable = provable_kind s.kind (not (is_incomplete (proof_of s))) complete };
       complete = λ h. complete_test (is_provable s.kind) (is_incomplete (proof_of s)) complete (incomplete_is (proof_of s) h);
-      proved = subst (λ (ss : List Sentence). IsProvedWithin (IsWithin (limit_of profile)) ss (sentence_of s) (proof_of s)) (map-take place statements) proved;
+      proved = subst (λ (ss : List Sentence).
+          IsProvedUnder profile ss (sentence_of s) (proof_of s)) (map-take place statements) proved;
     }
 
 -- ---- room for its tokens

@@ -9,6 +9,7 @@ use Rattle.mm_text.specs.Statement.{PlainStatement, is_provable}
 use Rattle.mm_text.specs.Files.{most_bytes, PlainFile, total_bytes, BreaksLoad}
 use Rattle.mm_text.specs.Replaced.{placeless, with_bytes}
 use Rattle.mm_text.proofs.Lists.{same_length}
+use Rattle.mm_code.proofs.TextTokens.{texts_in}
 use Rattle.mm_frame.specs.Sentence.{Sentence, sentence_of}
 use Rattle.mm_frame.specs.Rules.{AllMeant}
 use Rattle.mm_frame.proofs.Counts.{count_append}
@@ -18,7 +19,10 @@ use Rattle.mm_proof.specs.Moves.{Move}
 use Rattle.mm_proof.specs.Tokens.{SayMoves}
 use Rattle.mm_proof.specs.OneTree.{MakeTree}
 use Rattle.mm_proof.specs.Proof.{IsProvedWithin, IsProved, IsWithin}
+use Rattle.mm_proof.specs.Strict.{IsStrict, HasFormOf}
+use Rattle.mm_proof.specs.UnderProfile.{IsProvedUnder}
 use Rattle.mm_proof.specs.declared.profile.Profile.{Profile}
+use Rattle.mm_proof.specs.declared.profile.Profile.TheVariants.{Strict, Lenient}
 use Rattle.mm_proof.specs.Profiles.{limit_of}
 use Rattle.mm_proof.proofs.SpelledProofs.{IsProofBy}
 use Rattle.mm_check.specs.Verdict.{Verdict, Load, Refused, Incomplete, Yes, HasVerdict, AreAccepted, AllObey, Obeys, CanBeRead, sentences, proof_of, is_proof, is_unproved, is_incomplete, label_of, unproved_of, proofs_of}
@@ -32,7 +36,7 @@ use Rattle.mm_check.proofs.Saving.{with_bytes_is}
 use Rattle.mm_check.proofs.Trees.{any_proof}
 use Rattle.mm_check.proofs.Unproved.{proof_not_unproved}
 use Rattle.mm_check.proofs.Verdicts.{accepted_or_refused}
-use Rattle.mm_check.proofs.SavedTokens.{texts_in, words_after_feed, fine_complete}
+use Rattle.mm_check.proofs.SavedTokens.{words_after_feed, fine_complete}
 use Rattle.mm_check.proofs.SavedProofs.{ReadsAsProof, tree_is, tree_derives}
 use Rattle.mm_check.proofs.SavedStatements.{AreAlikeAt, alike_at, Carries, front_told}
 
@@ -48,9 +52,16 @@ put_anew s text = record s { proof = tokens_from s.first.file s.span.0 text; spa
 -- what is told of its proof
 pub record IsProvedAnew (profile : Profile) (front : List Sentence) (t : PlainStatement) (root : List ℕ) (below : Trees) : Type 0 where
   pub complete : is_proof t ≡ true
-  pub within : IsProvedWithin (IsWithin (limit_of profile)) front (sentence_of t) (proof_of t)
+  pub strict : IsStrict front (sentence_of t) (proof_of t)
+  pub under : IsProvedUnder profile front (sentence_of t) (proof_of t)
   pub proof : IsProved front (sentence_of t) (proof_of t)
   pub spelled : tree_of proof ≡ tree root below none
+
+-- the strict form is the one that either profile demands
+form_of_strict : (profile : Profile) (front : List Sentence) (s : Sentence)
+    (tokens : List (List ℕ)) → IsStrict front s tokens → HasFormOf profile front s tokens
+form_of_strict Strict front s tokens strict = strict
+form_of_strict Lenient front s tokens strict = tt
 
 complete_again : (s : PlainStatement) (tokens : List (List ℕ)) → is_proof s ≡ true → is_incomplete tokens ≡ false → (is_provable s.kind && not (is_incomplete tokens)) ≡ true
 complete_again s tokens complete known =
@@ -67,10 +78,17 @@ proved_anew profile front s root below moves text meant complete old told made r
     let within : IsProofBy Fits front (sentence_of s) ra.tokens root below = ra.proves Fits (tree_derives Fits front (sentence_of s) (proof_of s) moves root below meant old told made) in
     let any : IsProofBy AnyExpression front (sentence_of s) ra.tokens root below =
     ra.proves AnyExpression (tree_derives AnyExpression front (sentence_of s) (proof_of s) moves root below meant (any_proof profile front (sentence_of s) (proof_of s) old) told made) in
+    let strict : IsStrict front (sentence_of s) (proof_of t) =
+    subst (λ (ts : List (List ℕ)). IsStrict front (sentence_of s) ts) (sym tokens) ra.strict in
     let here : IsProofBy AnyExpression front (sentence_of s) (proof_of t) root below = subst (λ (ts : List (List ℕ)). IsProofBy AnyExpression front (sentence_of s) ts root below) (sym tokens) any in
     record {
       complete = complete_again s (proof_of t) complete (ap is_incomplete tokens ∙ fine_complete ra.tokens ra.fine);
-      within = subst (λ (ts : List (List ℕ)). IsProvedWithin Fits front (sentence_of s) ts) (sym tokens) within.0;
+      strict = strict;
+      under = (
+        form_of_strict profile front (sentence_of s) (proof_of t) strict,
+        subst (λ (ts : List (List ℕ)). IsProvedWithin Fits front (sentence_of s) ts) (sym tokens)
+            within.0,
+      );
       proof = here.0;
       spelled = here.1;
     }
@@ -153,7 +171,8 @@ carries_of before s t after later same own = record {
 
 -- ---- each obeys the rules
 
-seam_at : (before : List PlainStatement) (s : PlainStatement) (after : List PlainStatement) → slice_get (before ++ s ∷ after) (length before) ≡ Some s
+pub seam_at : (before : List PlainStatement) (s : PlainStatement) (after : List PlainStatement)
+    → slice_get (before ++ s ∷ after) (length before) ≡ Some s
 seam_at [] s after = refl
 seam_at (b ∷ before) s after = seam_at before s after
 

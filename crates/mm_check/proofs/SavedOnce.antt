@@ -1,11 +1,12 @@
 -- Saving changes nothing that is answered, and saving again changes nothing.
-use Rattle.std.proofs.Common.{◌≡◌, ℕ, suc, ◌+◌, ◌≤◌, ◌<◌, List, [], ◌∷◌, ◌++◌, map, take, drop, length, slice_get, true, Some, None, inl, inr, refl, sym, ap, subst, ◌∙◌, arith, append_assoc, length-append, is_some}
+use Rattle.std.proofs.Common.{◌≡◌, ℕ, suc, ◌+◌, ◌≤◌, ◌<◌, List, [], ◌∷◌, ◌++◌, map, take, drop, length, slice_get, true, false, Some, None, inl, inr, refl, sym, ap, subst, ◌∙◌, arith, append_assoc, length-append, is_some}
 use Rattle.std.proofs.Math.Seq.{take-append_seam, drop-append_seam}
+use Rattle.std.proofs.lemmas.Option.{same_Some}
 use Rattle.mm_text.specs.Statement.{PlainStatement}
 use Rattle.mm_text.specs.Files.{most_bytes, PlainFile}
 use Rattle.mm_text.specs.Replaced.{placeless, with_span, with_bytes, IsProofSpan, AreReadBut}
 use Rattle.mm_text.proofs.ReplacedFiles.{replaced_proofs_are_read_holds}
-use Rattle.mm_text.proofs.ReplacedItems.{some_same, set_there}
+use Rattle.mm_text.proofs.ReplacedItems.{set_there}
 use Rattle.mm_text.proofs.ProofSpans.{proofs_stand_in_spans_holds}
 use Rattle.mm_code.specs.declared.code.Code.{Code}
 use Rattle.mm_code.specs.Letters.{SpellsCodes}
@@ -22,6 +23,7 @@ use Rattle.mm_proof.specs.Moves.{Move, Makes}
 use Rattle.mm_proof.specs.Tokens.{SayMoves}
 use Rattle.mm_proof.specs.OneTree.{MakeTree}
 use Rattle.mm_proof.specs.Proof.{IsProvedWithin, IsWithin}
+use Rattle.mm_proof.specs.Strict.{IsStrict}
 use Rattle.mm_proof.specs.declared.profile.Profile.{Profile}
 use Rattle.mm_proof.specs.Profiles.{limit_of}
 use Rattle.mm_proof.proofs.Making.{makes_once, derive_fits}
@@ -32,9 +34,10 @@ use Rattle.mm_check.specs.declared.form.Form.TheVariants as form
 use Rattle.mm_check.specs.declared.ask.AskFault.TheVariants as ask
 use Rattle.mm_check.specs.Verdict.{AreAccepted, AllObey, Obeys, sentences, proof_of, is_proof, is_unproved}
 use Rattle.mm_check.specs.Rests.{IsNamed, IsAskFault}
+use Rattle.mm_check.specs.Compared.{IsTheorem}
 use Rattle.mm_check.specs.Forms.{HasProofTree, most_labels}
 use Rattle.mm_check.specs.Saved.{IsTextIn, IsSaved, FitsSaved, IsFormFault, total_with}
-use Rattle.mm_check.specs.SavedLaws.{SayTheSame, SavingChangesNoAnswer, OneSaved, OneSaveAnswer, SavingAgainChangesNothing}
+use Rattle.mm_check.specs.SavedLaws.{SayTheSame, SavingChangesNoAnswer, SavedProofIsStrict, OneSaved, OneSaveAnswer, SavingAgainChangesNothing}
 use Rattle.mm_check.proofs.Asked.{map-take}
 use Rattle.mm_check.proofs.Rereading.{same_reading, said_there, one_stands}
 use Rattle.mm_check.proofs.Saving.{provable_proof, with_bytes_is}
@@ -43,7 +46,7 @@ use Rattle.mm_check.proofs.Unproved.{all_meant, proof_not_unproved}
 use Rattle.mm_check.proofs.SavedTokens.{is_proof_text}
 use Rattle.mm_check.proofs.SavedProofs.{have_labels, ReadsAsProof, text_reads, tree_derives}
 use Rattle.mm_check.proofs.SavedStatements.{Carries, tree_carried, report_carried}
-use Rattle.mm_check.proofs.SavedFiles.{put_anew, IsProvedAnew, proved_anew, anew_alike, alike_anew, carries_of, all_obey_anew, readable_anew, verdict_carried, same_left, same_count, same_many}
+use Rattle.mm_check.proofs.SavedFiles.{put_anew, IsProvedAnew, proved_anew, anew_alike, alike_anew, carries_of, all_obey_anew, readable_anew, verdict_carried, same_left, same_count, same_many, seam_at}
 
 pub front_meant : (profile : Profile) (statements : List PlainStatement) (n : ℕ) → AllObey profile statements → AllMeant (sentences (take n statements))
 front_meant profile statements n obeyed = subst AllMeant (sym (map-take n statements)) (allmeant_front (sentences statements) n (all_meant profile statements obeyed))
@@ -77,7 +80,8 @@ anew_of profile f files before s after file text p =
     let front : List Sentence = sentences before in
     let Fits : List (List ℕ) → Type 0 = IsWithin (limit_of profile) in
     let meant : AllMeant front = meant_before profile before s after p.accepted.obeyed in
-    let old : IsProvedWithin Fits front (sentence_of s) (proof_of s) = (p.accepted.obeyed before after s refl).proved p.complete in
+    let old : IsProvedWithin Fits front (sentence_of s) (proof_of s) =
+    ((p.accepted.obeyed before after s refl).proved p.complete).1 in
     let fit : Fit front (tree p.root p.below none) =
     derive_fits Fits front (tree p.root p.below none) ((sentence_of s).symbols ∷ []) (tree_derives Fits front (sentence_of s) (proof_of s) p.moves p.root p.below meant old p.told p.made) in
     let labels = subst (λ (ss : List PlainStatement). (label : List ℕ) → SomeSentence (sentences ss) (IsLabelled label) → IsLabel label × (1 ≤ length label)) (take-append_seam before (s ∷ after))
@@ -99,7 +103,13 @@ are_put_anew profile f files before s after file text p =
     let new = both.1 in
     let read : AreReadBut (files_anew files s file text) before s after (10 ∷ text) =
     replaced_proofs_are_read_holds files before s after file (10 ∷ text) p.accepted.reads (provable_proof s p.complete) p.handed (is_proof_text text ra.tokens ra.read ra.fine ra.ends) in
-    let obeys : Obeys profile (sentences before) (put_anew s (10 ∷ text)) = record { meant = (p.accepted.obeyed before after s refl).meant; proved = λ complete. new.within } in
+    let t : PlainStatement = put_anew s (10 ∷ text) in
+    let obeys : Obeys profile (sentences before) t = record {
+      meant = (p.accepted.obeyed before after s refl).meant;
+      proved = λ complete. new.under;
+      known = λ unproved. absurd
+          (let none_left : is_unproved t ≡ false = proof_not_unproved t new.complete in cc);
+    } in
     record {
       later = read.later;
       accepted = record {
@@ -119,7 +129,8 @@ same_said profile f files before s after file text p put =
     let su : List PlainStatement = before ++ t ∷ put.later in
     let others : List PlainFile = files_anew files s file text in
     let meant : AllMeant front = meant_before profile before s after p.accepted.obeyed in
-    let old = any_proof profile front (sentence_of s) (proof_of s) ((p.accepted.obeyed before after s refl).proved p.complete) in
+    let old = any_proof profile front (sentence_of s) (proof_of s)
+    ((p.accepted.obeyed before after s refl).proved p.complete).1 in
     let both = anew_of profile f files before s after file text p in
     let new : IsProvedAnew profile front t p.root p.below = both.1 in
     let to : Carries st su = carries_of before s t after put.later put.same (anew_alike profile front s p.root p.below p.moves (10 ∷ text) meant p.complete p.told p.made new) in
@@ -168,6 +179,45 @@ saving_changes_no_answer profile f files statements label number bytes accepted 
           (subst (λ (fs : List PlainFile). SayTheSame profile files fs (before ++ sv.s ∷ after) su) others (same_said profile f files before sv.s after sv.file sv.text p put)),
     )
 
+-- the statement that has the label then has a proof in the strict form
+abbrev HasStrictProof : List PlainStatement → List ℕ → Type 0
+HasStrictProof statements label =
+    (place : ℕ) × (s : PlainStatement) × IsTheorem statements label place s
+    × IsStrict (sentences (take place statements)) (sentence_of s) (proof_of s)
+
+strict_anew : (profile : Profile) (f : Form) (files : List PlainFile)
+    (before : List PlainStatement) (s : PlainStatement) (after : List PlainStatement)
+    (file : PlainFile) (text label : List ℕ) → IsLabelled label (sentence_of s)
+    → IsToPut profile f files before s after file text → (later : List PlainStatement)
+    → HasStrictProof (before ++ put_anew s (10 ∷ text) ∷ later) label
+strict_anew profile f files before s after file text label named p later =
+    let t : PlainStatement = put_anew s (10 ∷ text) in
+    let su : List PlainStatement = before ++ t ∷ later in
+    let new = (anew_of profile f files before s after file text p).1 in
+    let front : sentences before ≡ sentences (take (length before) su) =
+    ap sentences (sym (take-append_seam before (t ∷ later))) in (
+      length before,
+      t,
+      record { there = seam_at before t later; named = named; complete = new.complete },
+      subst (λ (ss : List Sentence). IsStrict ss (sentence_of t) (proof_of t)) front new.strict,
+    )
+
+pub saved_proof_is_strict : SavedProofIsStrict
+saved_proof_is_strict profile f files statements same label number bytes accepted sv fits reads =
+    let before : List PlainStatement = take sv.place statements in
+    let after : List PlainStatement = drop (suc sv.place) statements in
+    let p = to_put profile f files statements label number bytes accepted sv fits in
+    let put = are_put_anew profile f files before sv.s after sv.file sv.text p in
+    let su : List PlainStatement = before ++ put_anew sv.s (10 ∷ sv.text) ∷ put.later in
+    let changed : files_anew files sv.s sv.file sv.text ≡ with_bytes files number bytes =
+    λ i. with_bytes files (sym sv.home i) (sym sv.whole i) in
+    let ok : AreAccepted profile (with_bytes files number bytes) su =
+    subst (λ (fs : List PlainFile). AreAccepted profile fs su) changed put.accepted in
+    let read : same ≡ su =
+    (same_reading (with_bytes files number bytes) same su None None reads ok.reads).0 in
+    subst (λ (ss : List PlainStatement). HasStrictProof ss label) (sym read)
+    (strict_anew profile f files before sv.s after sv.file sv.text label sv.proof.named p put.later)
+
 -- ---- what is saved is one
 
 texts_once : (f : Form) (front : List Sentence) (s : Sentence) (root : List ℕ) (below : Trees) (a b : List ℕ) → AllMeant front → IsTextIn f front s (tree root below none) a → IsTextIn f front s (tree root below none) b → a ≡ b
@@ -209,7 +259,7 @@ one_saved profile f files statements label number other bytes others accepted sv
     (subst (λ (n : ℕ). IsTextIn f (sentences (take n statements)) (sentence_of sw.s) (tree sw.root sw.below none) sw.text) here sw.laid)) in
     let text : sv.text ≡ sw.text = texts_once f front (sentence_of sv.s) sv.root sv.below sv.text sw.text (front_meant profile statements sv.place accepted.obeyed) sv.laid laid in
     let home : number ≡ other = sv.home ∙ ap (λ (s : PlainStatement). s.first.file) (sym same) ∙ sym sw.home in
-    let file : sv.file ≡ sw.file = some_same sv.file sw.file (sym sv.handed ∙ ap (slice_get files) home ∙ sw.handed) in
+    let file : sv.file ≡ sw.file = same_Some sv.file sw.file (sym sv.handed ∙ ap (slice_get files) home ∙ sw.handed) in
     (home, sv.whole ∙ (λ i. with_span (file i).bytes (sym same i).span (10 ∷ text i)) ∙ sym sw.whole)
 
 -- ---- no other fault where something is saved
@@ -297,7 +347,7 @@ again_saved profile f files label before s after file text named p put =
       root = p.root;
       below = p.below;
       proof = record {
-        there = seam before t put.later;
+        there = seam_at before t put.later;
         named = named;
         complete = new.complete;
         moves = new.proof.moves;
@@ -311,10 +361,6 @@ again_saved profile f files label before s after file text named p put =
       handed = ap (λ (fs : List PlainFile). slice_get fs s.first.file) (with_bytes_is files s.first.file file bytes p.handed) ∙ set_there files s.first.file file (record file { bytes = bytes }) p.handed;
       whole = sym (put_again s file.bytes (10 ∷ text) (proofs_stand_in_spans_holds files before s after file p.accepted.reads (provable_proof s p.complete) p.handed));
     }
-  where
-    seam : (ss : List PlainStatement) (x : PlainStatement) (more : List PlainStatement) → slice_get (ss ++ x ∷ more) (length ss) ≡ Some x
-    seam [] x more = refl
-    seam (b ∷ ss) x more = seam ss x more
 
 pub saving_again : SavingAgainChangesNothing
 saving_again profile f files statements same label number again bytes others accepted sv fits reads sw =

@@ -17,11 +17,13 @@ use Rattle.mm_frame.proofs.Meant.{parts_at}
 use Rattle.mm_frame.proofs.Numbered.{at_from_contains, contains_from_at}
 use Rattle.mm_proof.specs.Tree.{Trees, none, tree, spelling, Fit, DeriveAll}
 use Rattle.mm_proof.specs.Moves.{Move, Makes}
-use Rattle.mm_proof.specs.Tokens.{SayMoves, opening_token, closing_token}
+use Rattle.mm_proof.specs.Tokens.{SayMoves, IsNormal, opening_token, closing_token}
 use Rattle.mm_proof.specs.OneTree.{MakeTree}
 use Rattle.mm_proof.specs.Proof.{IsProvedWithin}
+use Rattle.mm_proof.specs.Strict.{IsStrict}
 use Rattle.mm_proof.proofs.Making.{makes_once}
 use Rattle.mm_proof.proofs.SaidMoves.{moves_once}
+use Rattle.mm_proof.proofs.StrictForms.{normal_is_strict, packed_is_strict}
 use Rattle.mm_proof.proofs.SpelledProofs.{label_fits, stands_known, IsProofBy, spelled_proves, packed_listed, packed_proves}
 use Rattle.mm_check.specs.declared.form.Form.{Form}
 use Rattle.mm_check.specs.declared.form.Form.TheVariants as form
@@ -88,6 +90,7 @@ pub record ReadsAsProof (before : List Sentence) (s : Sentence) (root : List ℕ
   pub read : tokens_in text ≡ tokens
   pub fine : AllByRecursion AreFine tokens
   pub ends : EndsLine text
+  pub strict : IsStrict before s tokens
   pub proves : (Fits : List (List ℕ) → Type 0) → DeriveAll Fits before (tree root below none) (s.symbols ∷ []) → IsProofBy Fits before s tokens root below
 
 abbrev IsWord : List ℕ → Type 0
@@ -104,12 +107,17 @@ normal_reads : (before : List Sentence) (s : Sentence) (root : List ℕ) (below 
 normal_reads before s root below text meant labels fit laid =
     let tokens : List (List ℕ) = spelling (tree root below none) in
     let words : AllByRecursion IsWord tokens = all_contained IsWord tokens (spelled_words before (tree root below none) labels fit) in
+    let apart : ¬ (Contains tokens opening_token) = λ c.
+    no_parenthesis 40 (omega arith)
+    (spelled_words before (tree root below none) labels fit opening_token c).0 in
+    let normal : IsNormal tokens = λ e. apart (contains_from_at tokens opening_token (0, e)) in
     record {
       tokens = tokens;
       read = normal_read_back tokens text (all_weaker IsWord IsOneToken one_token tokens words) laid;
       fine = all_weaker IsWord AreFine (λ label is. label_all_fine label is.0) tokens words;
       ends = normal_ends tokens text laid;
-      proves = λ Fits derived. spelled_proves Fits before s root below meant (λ c. no_parenthesis 40 (omega arith) (spelled_words before (tree root below none) labels fit opening_token c).0) derived;
+      strict = normal_is_strict before s tokens normal;
+      proves = λ Fits derived. spelled_proves Fits before s root below meant apart derived;
     }
 
 packed_reads : (before : List Sentence) (s : Sentence) (root : List ℕ) (below : Trees) (text : List ℕ) → AllMeant before → HaveLabels before → Fit before (tree root below none)
@@ -120,6 +128,8 @@ packed_reads before s root below text meant labels fit p =
     let letters : AreFine p.letters = letters_fine p.letters p.codes p.spelled in
     let (pieces, read, joined) = compressed_read_back p.listed p.letters text (all_weaker IsWord IsOneToken one_token p.listed words) (fine_lacks p.letters letters) p.laid in
     let listed : AllByRecursion AreFine p.listed = all_weaker IsWord AreFine (λ label is. label_all_fine label is.0) p.listed words in
+    let apart : ¬ (Contains (spelling trees) closing_token) = λ c.
+    no_parenthesis 41 (omega arith) (spelled_words before trees labels fit closing_token c).0 in
     let left : AreFine (40 ∷ []) = ((omega arith, (omega arith, ((λ e. omega (arith, e)), (λ e. omega (arith, e))))), tt) in
     let right : AreFine (41 ∷ []) = ((omega arith, (omega arith, ((λ e. omega (arith, e)), (λ e. omega (arith, e))))), tt) in
     record {
@@ -127,8 +137,10 @@ packed_reads before s root below text meant labels fit p =
       read = read;
       fine = tokens_joined (in_parentheses p.listed) pieces (left, tokens_joined p.listed ((41 ∷ []) ∷ []) listed (right, tt)) (cut_fine pieces (subst AreFine (sym joined) letters));
       ends = compressed_ends p.listed p.letters text p.laid;
+      strict = packed_is_strict before s trees p.listed p.codes p.letters pieces p.packed p.coded
+          joined apart;
       proves = λ Fits derived. packed_proves Fits before s root below p.listed p.codes p.letters pieces meant p.packed p.coded joined
-          (λ c. no_parenthesis 41 (omega arith) (spelled_words before trees labels fit closing_token c).0) derived;
+          apart derived;
     }
 
 pub text_reads : (f : Form) (before : List Sentence) (s : Sentence) (root : List ℕ) (below : Trees) (text : List ℕ) → AllMeant before → HaveLabels before → Fit before (tree root below none)

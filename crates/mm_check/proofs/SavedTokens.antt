@@ -1,86 +1,17 @@
 -- The tokens of a text that is laid out in lines are those of a proof.
-use Rattle.std.proofs.Common.{◌≡◌, ◌≢◌, ℕ, ◌+◌, ◌≤◌, ◌==◌, ◌||◌, ◌&&◌, List, [], ◌∷◌, ◌++◌, map, cond, Bool, true, false, refl, sym, ap, subst, ◌∙◌, arith, append_assoc, append-nil, eq-eqb}
+use Rattle.std.proofs.Common.{◌≡◌, ◌≢◌, ℕ, ◌+◌, ◌≤◌, ◌==◌, ◌||◌, ◌&&◌, List, [], ◌∷◌, ◌++◌, map, Bool, true, false, refl, sym, ap, subst, ◌∙◌, arith, append_assoc, append-nil}
 use Rattle.std.specs.Prelude.{nat_le}
-use Rattle.std.specs.List.{AllByRecursion, AllZip, flat_map, list_all, list_any, onto_first}
+use Rattle.std.specs.List.{AllByRecursion, AllZip, flat_map, list_all, list_any}
 use Rattle.std.proofs.lemmas.Bool.{leb-true, eqb-true, le-leb, ne_eqb, and_parts}
-use Rattle.mm_text.specs.Token.{PlainToken, is_space, is_printable, is_label_byte, IsLabel, HoldsNoDollar, with_byte, tokens_from}
+use Rattle.mm_text.specs.Token.{PlainToken, is_space, is_printable, is_label_byte, IsLabel, HoldsNoDollar, tokens_from}
 use Rattle.mm_text.specs.Replaced.{IsProofToken, IsProofText}
-use Rattle.mm_text.proofs.TokenLaws.{BeginFrom, tokens_from-nil, tokens_from-space, tokens_from-byte, tokens_from_begin, with_byte_apart}
 use Rattle.mm_code.specs.declared.code.Code.{Code}
 use Rattle.mm_code.specs.declared.code.Code.TheVariants.{Number, Tag}
 use Rattle.mm_code.specs.Letters.{IsLeadingDigit, leading_letter, last_letter, SaysCode, SpellsCodes}
 use Rattle.mm_code.specs.Layout.{indent, token_line, LaidOut, CompressedLaidOut, in_parentheses}
-use Rattle.mm_code.specs.Words.{is_white_space, tokens_in, LacksWhiteSpace}
-use Rattle.mm_code.proofs.ReadBack.{tokens_in-nil, tokens_in-space, tokens_in-end, tokens_in-on}
+use Rattle.mm_code.specs.Words.{texts_of, tokens_in, LacksWhiteSpace}
+use Rattle.mm_code.proofs.TextTokens.{texts_in, tokens_in-space}
 use Rattle.mm_check.specs.Verdict.{is_incomplete}
-use Rattle.mm_check.proofs.Texts.{tokens_in-last}
-
--- ---- the words of a text are the texts of its tokens
-
-same_of_five : (a b c d e : Bool) → (a || b || c || d || e) ≡ (a || c || b || d || e)
-same_of_five true b c d e = refl
-same_of_five false true true d e = refl
-same_of_five false true false d e = refl
-same_of_five false false true d e = refl
-same_of_five false false false d e = refl
-
-white_is : (b : ℕ) → is_space b ≡ is_white_space b
-white_is b = same_of_five (b == 32) (b == 9) (b == 10) (b == 12) (b == 13)
-
-abbrev pub texts_of : List PlainToken → List (List ℕ)
-texts_of tokens = map (λ t. t.text) tokens
-
--- a byte begins the first token
-begins_first : (file at b : ℕ) (tokens : List PlainToken) → (text : List ℕ) × (others : List PlainToken) × (with_byte file at b tokens ≡ record { text = text; file = file; at = at } ∷ others)
-begins_first file at b [] = (b ∷ [], [], refl)
-begins_first file at b (t ∷ tokens) =
-    elim (t.at == at + 1) as (λ joined. (text : List ℕ) × (others : List PlainToken)
-    × (cond joined (record { text = b ∷ t.text; file = file; at = at } ∷ tokens) (record { text = b ∷ []; file = file; at = at } ∷ t ∷ tokens) ≡ record { text = text; file = file; at = at } ∷ others)) [
-      | true ↦ (b ∷ t.text, tokens, refl)
-      | false ↦ (b ∷ [], t ∷ tokens, refl)
-    ]
-
-joined_first : (file at b : ℕ) (text : List ℕ) (tokens : List PlainToken) → with_byte file at b (record { text = text; file = file; at = at + 1 } ∷ tokens) ≡ record { text = b ∷ text; file = file; at = at } ∷ tokens
-joined_first file at b text tokens =
-    let same : (at + 1 == at + 1) ≡ true = eq-eqb _ _ refl in
-    simp same
-
--- a byte before one that is no white space
-byte_on : (file at b next : ℕ) (bytes : List ℕ) → is_space b ≡ false → is_space next ≡ false → texts_of (tokens_from file (at + 1) (next ∷ bytes)) ≡ tokens_in (next ∷ bytes)
-    → texts_of (tokens_from file at (b ∷ next ∷ bytes)) ≡ tokens_in (b ∷ next ∷ bytes)
-byte_on file at b next bytes dark dark_next rest =
-    let (text, others, e) = begins_first file (at + 1) next (tokens_from file (at + 1 + 1) bytes) in
-    let first : tokens_from file (at + 1) (next ∷ bytes) ≡ record { text = text; file = file; at = at + 1 } ∷ others = tokens_from-byte file (at + 1) next bytes dark_next ∙ e in
-    let read : text ∷ texts_of others ≡ tokens_in (next ∷ bytes) = sym (ap texts_of first) ∙ rest in
-    ap texts_of (tokens_from-byte file at b (next ∷ bytes) dark ∙ ap (with_byte file at b) first ∙ joined_first file at b text others)
-    ∙ ap (onto_first b) read
-    ∙ sym (tokens_in-on b next bytes (sym (white_is b) ∙ dark) (sym (white_is next) ∙ dark_next))
-
--- a byte before white space
-byte_alone : (file at b next : ℕ) (bytes : List ℕ) → is_space b ≡ false → is_space next ≡ true → texts_of (tokens_from file (at + 1) (next ∷ bytes)) ≡ tokens_in (next ∷ bytes)
-    → texts_of (tokens_from file at (b ∷ next ∷ bytes)) ≡ tokens_in (b ∷ next ∷ bytes)
-byte_alone file at b next bytes dark white rest =
-    let further : at + 1 + 1 ≡ at + 2 = omega arith in
-    let later : BeginFrom (at + 2) (tokens_from file (at + 1) (next ∷ bytes)) =
-    subst (BeginFrom (at + 2)) (sym (tokens_from-space file (at + 1) next bytes white))
-    (subst (λ (n : ℕ). BeginFrom n (tokens_from file (at + 1 + 1) bytes)) further (tokens_from_begin file (at + 1 + 1) bytes)) in
-    ap texts_of (tokens_from-byte file at b (next ∷ bytes) dark ∙ with_byte_apart file at b (tokens_from file (at + 1) (next ∷ bytes)) later)
-    ∙ ap (λ (ws : List (List ℕ)). (b ∷ []) ∷ ws) rest
-    ∙ sym (tokens_in-end b next bytes (sym (white_is b) ∙ dark) (sym (white_is next) ∙ white))
-
-pub texts_in : (file at : ℕ) (bytes : List ℕ) → texts_of (tokens_from file at bytes) ≡ tokens_in bytes
-texts_in file at [] = ap texts_of (tokens_from-nil file at) ∙ sym tokens_in-nil
-texts_in file at (b ∷ []) = go (is_space b) refl
-  where
-    go : (s : Bool) → is_space b ≡ s → texts_of (tokens_from file at (b ∷ [])) ≡ tokens_in (b ∷ [])
-    go true white = ap texts_of (tokens_from-space file at b [] white ∙ tokens_from-nil file (at + 1)) ∙ sym (tokens_in-space b [] (sym (white_is b) ∙ white) ∙ tokens_in-nil)
-    go false dark = ap texts_of (tokens_from-byte file at b [] dark ∙ ap (with_byte file at b) (tokens_from-nil file (at + 1))) ∙ sym (tokens_in-last b (sym (white_is b) ∙ dark))
-texts_in file at (b ∷ next ∷ bytes) = go (texts_in file (at + 1) (next ∷ bytes)) (is_space b) refl (is_space next) refl
-  where
-    go : texts_of (tokens_from file (at + 1) (next ∷ bytes)) ≡ tokens_in (next ∷ bytes) → (s : Bool) → is_space b ≡ s → (n : Bool) → is_space next ≡ n → texts_of (tokens_from file at (b ∷ next ∷ bytes)) ≡ tokens_in (b ∷ next ∷ bytes)
-    go rest true white n e = ap texts_of (tokens_from-space file at b (next ∷ bytes) white) ∙ rest ∙ sym (tokens_in-space b (next ∷ bytes) (sym (white_is b) ∙ white))
-    go rest false dark true white = byte_alone file at b next bytes dark white rest
-    go rest false dark false dark_next = byte_on file at b next bytes dark dark_next rest
 
 -- ---- bytes of labels and letters
 
@@ -173,7 +104,7 @@ cut_fine (piece ∷ pieces) h =
 
 -- ---- tokens of fine bytes
 
-fine_dark : (b : ℕ) → IsFine b → is_white_space b ≡ false
+fine_dark : (b : ℕ) → IsFine b → is_space b ≡ false
 fine_dark b f =
     let more = f.0 in
     let a : (b == 32) ≡ false = ne_eqb b 32 (λ e. omega (arith, e, more)) in
@@ -181,7 +112,7 @@ fine_dark b f =
     let d : (b == 9) ≡ false = ne_eqb b 9 (λ e. omega (arith, e, more)) in
     let g : (b == 12) ≡ false = ne_eqb b 12 (λ e. omega (arith, e, more)) in
     let h : (b == 13) ≡ false = ne_eqb b 13 (λ e. omega (arith, e, more)) in
-    λ i. a i || c i || d i || g i || h i
+    λ i. a i || d i || c i || g i || h i
 
 pub fine_lacks : (text : List ℕ) → AreFine text → LacksWhiteSpace text
 fine_lacks [] h = tt

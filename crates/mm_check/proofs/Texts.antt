@@ -1,10 +1,12 @@
 -- The tokens of a text, found one after the other.
 use Rattle.std.proofs.Common.{◌≡◌, ℕ, zero, suc, ◌<◌, ◌≤◌, Bool, true, false, ◌&&◌, ◌||◌, List, [], ◌∷◌, ◌++◌, map, take, drop, length, get_or, slice_index, refl, sym, ap, subst, ◌∙◌, arith, append_assoc, append-nil, length-append}
-use Rattle.std.specs.List.{list_any, list_all, AllByRecursion, onto_first}
+use Rattle.std.specs.List.{list_any, list_all, onto_first}
 use Rattle.std.proofs.lemmas.List.Sums.{sum_by-append}
 use Rattle.mm_text.proofs.Lists.{all_append}
-use Rattle.mm_code.specs.Words.{is_white_space, tokens_in, LacksWhiteSpace}
-use Rattle.mm_code.proofs.ReadBack.{tokens_in-nil, tokens_in-space, tokens_in-end, tokens_in-on}
+use Rattle.mm_text.specs.Token.{is_space as is_white_space}
+use Rattle.mm_code.specs.Words.{tokens_in, LacksWhiteSpace}
+use Rattle.mm_code.proofs.TextTokens.{tokens_in-nil, tokens_in-space, tokens_in-end, tokens_in-on}
+use Rattle.mm_code.proofs.TextTokens.{tokens_in-last}
 use Rattle.mm_check.specs.Mirror.Comparisons.{AreFrontTokens}
 
 -- ---- tests of each token
@@ -28,10 +30,6 @@ some_meets f p (t ∷ ts) (suc i) d less one = go (some_meets f p ts i d (omega 
     go later true e = subst (λ (b : Bool). (b || list_any p (map f ts)) ≡ true) (sym e) refl
 
 -- ---- tokens
-
-pub tokens_in-last : (byte : ℕ) → is_white_space byte ≡ false → tokens_in (byte ∷ []) ≡ (byte ∷ []) ∷ []
-unfolding tokens_in
-tokens_in-last byte dark = rw dark refl
 
 -- what follows a word begins with white space, if it begins with anything
 abbrev pub IsStop : List ℕ → Type 0

@@ -7,6 +7,7 @@ use Rattle.mm_frame.specs.declared.number.LabelId.{LabelId}
 use Rattle.mm_frame.specs.Sentence.{Sentence, sentence_of, IsLabelled}
 use Rattle.mm_frame.specs.Numbers.{labelled_sentences}
 use Rattle.mm_proof.specs.declared.profile.Profile.{Profile}
+use Rattle.mm_proof.specs.declared.fault.ProofRule.{ProofRule}
 use Rattle.mm_proof.specs.declared.fault.ExpandFault.{ExpandFault}
 use Rattle.mm_proof.specs.declared.fault.ExpandFault.TheVariants as expand
 use Rattle.mm_proof.specs.Profiles.{limit_of}
@@ -16,6 +17,8 @@ use Rattle.mm_proof.specs.OneTree.{MakeTree, MakeOneTree}
 use Rattle.mm_proof.specs.Spelled.{AreLabelsOf}
 use Rattle.mm_proof.specs.Packing.{OfTree}
 use Rattle.mm_proof.specs.Proof.{IsWithin, IsProvedWithin, Prove}
+use Rattle.mm_proof.specs.Strict.{IsTextFault}
+use Rattle.mm_proof.specs.UnderProfile.{IsProvedUnder}
 use Rattle.mm_proof.specs.ReadSteps.{ReadSteps}
 use Rattle.mm_proof.specs.Steps.{IsNumberedMove}
 use Rattle.mm_proof.specs.Verified.{OfMoves}
@@ -32,6 +35,13 @@ use Rattle.mm_check.proofs.Asked.{map-take}
 use Rattle.mm_check.proofs.Listings.{moves_prove}
 
 -- ---- the steps of a theorem prove it
+
+-- what is proved under a profile breaks no rule over the whole of its tokens, and has its form
+pub no_text_fault : (profile : Profile) (before : List Sentence) (s : Sentence)
+    (tokens : List (List ℕ)) (rule : ProofRule) → IsProvedUnder profile before s tokens
+    → ¬ (IsTextFault profile before s tokens rule)
+no_text_fault profile before s tokens rule proved (inl fault) = proved.1.whole rule fault.broken
+no_text_fault profile before s tokens rule proved (inr wrong) = wrong.2 proved.0
 
 one_move : (st : List Sentence) (x : Move ℕ) (y z : Move (List ℕ)) → IsNumberedMove st x y → IsNumberedMove st x z → y ≡ z
 one_move st (name id) y z a b =
@@ -52,7 +62,7 @@ steps_prove profile st id tokens steps proof under said place s moves number num
     let same : proof.s ≡ s = same_Some proof.s s (sym proof.number.numbered.there ∙ ap (slice_get st) here ∙ number.numbered.there) in
     let proved : IsProvedWithin Fits (take place st) s tokens =
     subst (λ (t : Sentence). IsProvedWithin Fits (take place st) t tokens) same
-    (subst (λ (p : ℕ). IsProvedWithin Fits (take p st) proof.s tokens) here proof.proved) in
+    (subst (λ (p : ℕ). IsProvedWithin Fits (take p st) proof.s tokens) here proof.proved.1) in
     let proves : Prove Fits (take place st) s told.0 = moves_prove Fits (take place st) s tokens told.0 proved told.1 in
     let those : told.0 ≡ moves = zip_once (IsNumberedMove st) (IsNumberedMove st) steps.moves told.0 moves (one_move st) told.2 numbered in
     subst (λ (p : Profile). Prove (IsWithin (limit_of p)) (take place st) s moves) (sym under)

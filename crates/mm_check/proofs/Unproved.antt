@@ -12,7 +12,7 @@ use Rattle.mm_frame.specs.Rules.{AllMeant, IsMeant}
 use Rattle.mm_proof.specs.declared.profile.Profile.{Profile}
 use Rattle.mm_check.specs.Verdict.{AllObey, Obeys, sentences, proof_of, label_of, unproved_of, is_incomplete, is_proof, is_unproved}
 use Rattle.mm_text.specs.Statement.{is_provable}
-use Rattle.mm_text.proofs.StepFacts.{is_provable-true}
+use Rattle.mm_text.proofs.GrammarSteps.{is_provable-true}
 use Rattle.mm_check.proofs.Known.{provable_label, unproved_of-append}
 
 -- a split of a list's images is that of a split of the list

@@ -1,8 +1,8 @@
 -- The verdict over the handed files: why they can't be taken, the first statement at fault,
 -- incomplete proofs, or yes.
-use Rattle.std.specs.Prelude.{◌≡◌, ◌≢◌, ℕ, ◌+◌, ◌==◌, ◌&&◌, List, [], ◌∷◌, ◌++◌, map, take, length}
-use Rattle.std.specs.Prelude.{count_by, filter, not, slice_get, Bool, true, false, Option, Some}
-use Rattle.std.specs.Prelude.{None, option_map, unwrap_or, ◌⊎◌}
+use Rattle.std.specs.Prelude.{◌≡◌, ◌≢◌, ℕ, ◌+◌, ◌==◌, ◌&&◌, List, [], ◌∷◌, ◌++◌, map, length}
+use Rattle.std.specs.Prelude.{count_by, filter, not, Bool, true, false, Option, Some}
+use Rattle.std.specs.Prelude.{None, option_map, ◌⊎◌}
 use Rattle.std.specs.List.{flat_map, list_any}
 use Rattle.std.specs.Option.{option_to_list}
 use Rattle.mm_text.specs.declared.fault.LoadRule.{LoadRule}
@@ -12,6 +12,7 @@ use Rattle.mm_text.specs.declared.fault.TextRule.TheVariants as text
 use Rattle.mm_text.specs.declared.statement.Kind.TheVariants.{Provable}
 use Rattle.mm_text.specs.Statement.{PlainStatement, is_provable}
 use Rattle.mm_text.specs.Files.{PlainFile, BreaksLoad}
+use Rattle.mm_text.specs.LineNumbers.{line_of}
 use Rattle.mm_text.specs.Reading.{PlainFault, Reads}
 use Rattle.mm_frame.specs.declared.rule.MeaningRule.{MeaningRule}
 use Rattle.mm_frame.specs.declared.rule.MeaningRule.TheVariants as meaning
@@ -106,14 +107,6 @@ pub data Verdict : Type 0 where
   Refused : (refusal : PlainRefusal) → Verdict
   Incomplete : (labels : List (List ℕ)) → Verdict
   Yes : (statements proofs : ℕ) → Verdict
-
--- the line of a place in a text: one more than the number of line feeds before it
-abbrev pub line_in : List ℕ → ℕ → ℕ
-line_in bytes at = count_by (λ b. b == 10) (take at bytes) + 1
-
--- the line of a place in one of the files; where there is no such file, the text is empty
-abbrev pub line_of : List PlainFile → ℕ → ℕ → ℕ
-line_of files file at = line_in (unwrap_or (option_map (λ f. f.bytes) (slice_get files file)) []) at
 
 -- the refusal at the first token of a statement, which comes after so many others
 abbrev pub refusal_of : List PlainFile → ℕ → PlainStatement → Rule → ℕ → PlainRefusal

@@ -1,7 +1,7 @@
 //! A database in which nothing is at fault.
 
 ghost use Rattle.std.specs.Prelude.{◌≡◌, ◌<◌, ◌↔◌, List, [], map, length, slice_get, Contains};
-ghost use Rattle.std.specs.Prelude.{true, Some, None, IsTrue, IfOk, IfErr};
+ghost use Rattle.std.specs.Prelude.{true, false, Some, None, IsTrue, IfOk, IfErr};
 ghost use Rattle.std.specs.List.{AllByRecursion};
 
 use crate::ask::AskFault;
@@ -209,6 +209,7 @@ impl<'a> Checked<'a> {
             AreSteps self.now.sentences theorem.id.0 theorem.steps.moves) }
         ensures proved { IfOk result (λ theorem.
             AreProvedSteps self.now.sentences theorem.id.0 theorem.steps) }
+        ensures whole { IfOk result (λ theorem. theorem.steps.front ≡ false) }
         ensures read { IfOk result (λ theorem. (statements : List PlainStatement)
             → Reads self.now.files statements None
             → (self.now.sentences ≡ sentences statements)
@@ -281,7 +282,7 @@ impl<'a> Checked<'a> {
     }
 
     /// Whether a text, as a proof of the `$p` with this label, is the same proof as its own: whether
-    /// both make the same tree.
+    /// both make the same tree. It is judged under the profile that the database obeys.
     ///
     /// The text is cut into tokens by white space, and has no comments.
     ///
@@ -290,17 +291,18 @@ impl<'a> Checked<'a> {
     /// As for `axioms`, before anything is said of the text; then `Text` with the first rule that
     /// the text breaks, and its step: `F3` where it has over 1,073,741,824 bytes, `X1` where a token
     /// holds a byte that none may hold, `X9` where one holds a `$`, `A3` where one holds a `?`, all
-    /// of them at step 0; then the rules of a proof, `P1` to `P14` and `L1`.
+    /// of them at step 0; then the rules of a proof: `P1` to `P5`; `P15` where the profile is strict
+    /// and the text hasn't the form that it demands; `P6` to `P14` and `L1`.
     pub fn same_text(&self, alloc: Global, label: &[u8], text: &[u8]) -> Result<bool, AskFault>
         ensures compared { IfOk result (λ same. (statements : List PlainStatement)
             → Reads self.now.files statements None
-            → IsCompared statements label.now text.now same) }
+            → IsCompared self.now.profile statements label.now text.now same) }
         ensures fault { IfErr result (λ fault. (statements : List PlainStatement)
             → Reads self.now.files statements None
-            → IsSameFault statements label.now text.now fault) }
+            → IsSameFault self.now.profile statements label.now text.now fault) }
     {
         let theorem = self.read_theorem(alloc, label)?;
-        is_same(alloc, &self.book, &theorem, text)
+        is_same(alloc, self.profile, &self.book, &theorem, text)
     }
 
     /// The number of the file in which the `$p` with this label stands, and the bytes of that file

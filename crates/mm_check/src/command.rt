@@ -11,6 +11,7 @@ ghost use Rattle.mm_check.specs.declared.command.RunFault.TheVariants.{Memory};
 use crate::form::Form;
 use crate::question::{Question, Reply, axioms_reply, check_reply, question_reply};
 use crate::status::Status;
+use mm_proof::Profile;
 use mm_text::{Counted, File, Seed};
 use std::alloc::{AllocError, Global};
 use std::io::Write;
@@ -19,8 +20,9 @@ use thiserror::Error;
 /// What the program is asked.
 #[derive(Clone, Copy, PartialEq, Eq, Debug)]
 pub enum Command<'a> {
-    /// Whether the database is accepted.
-    Check,
+    /// Whether the database is accepted under this profile. All other commands ask under the
+    /// lenient one.
+    Check { profile: Profile },
     /// What the theorem with this label rests on.
     Axioms { label: &'a [u8] },
     /// How the theorem with this label is proved, step by step.
@@ -75,7 +77,7 @@ fn reply_to(
         reply.text.items (number_of reply.status)) }
 {
     match command {
-        Command::Check => check_reply(alloc, seed, files),
+        Command::Check { profile } => check_reply(alloc, seed, *profile, files),
         Command::Axioms { label } => axioms_reply(alloc, seed, files, label),
         Command::Show { label } => question_reply(alloc, seed, files, &Question::Show, label),
         Command::Normal { label, whole } => {

@@ -1,30 +1,31 @@
 //! Whether a text that is handed in is the same proof as a theorem's own.
 
-ghost use Rattle.std.specs.Prelude.{◌≡◌, ◌≤◌, ℕ, false, length, IfOk, IfErr, OnOk};
+ghost use Rattle.std.specs.Prelude.{◌≡◌, ◌≤◌, ℕ, false, length, take, IfOk, IfErr, OnOk};
 ghost use Rattle.std.specs.List.{AllByRecursion, sum_by};
 ghost use Rattle.mm_text.specs.Files.{most_bytes};
 ghost use Rattle.mm_code.specs.Layout.{texts};
 ghost use Rattle.mm_code.specs.Words.{tokens_in};
 ghost use Rattle.mm_frame.specs.Sentence.{Sentence};
-ghost use Rattle.mm_proof.specs.declared.profile.Profile.TheVariants.{Lenient};
+ghost use Rattle.mm_proof.specs.Parsed.{OfProof};
 ghost use Rattle.mm_proof.specs.Steps.{AreSteps, IsProofNumber};
+ghost use Rattle.mm_proof.specs.Strict.{HasFormOf};
 ghost use Rattle.mm_check.specs.Verdict.{is_incomplete};
 ghost use Rattle.mm_check.specs.Compared.{IsProofText};
 ghost use Rattle.mm_check.specs.Mirror.Theorems.{SayWholeSteps, AreProvedSteps};
-ghost use Rattle.mm_check.specs.Mirror.Comparisons.{FailsAs, AreRefused, IsTextRefused};
+ghost use Rattle.mm_check.specs.Mirror.Comparisons.{FailsAs, IsUnproved, IsTextRefused};
 ghost use Rattle.mm_check.specs.Mirror.Comparisons.{IsComparedWith};
 
 use crate::ask::AskFault;
-use crate::rule::Rule;
-use crate::text::legal_tokens;
+use crate::text::proof_tokens;
 use crate::theorem::Theorem;
 use mm_frame::{Book, LabelId};
 use mm_proof::{Flat, Parsed, Profile, Steps, same, verify};
 use std::alloc::Global;
 
-/// Whether the steps prove the `$p`, or their first fault.
+/// Whether the steps of a whole proof prove the `$p`, or their first fault.
 fn judge_steps(alloc: Global, book: &Book, id: LabelId, steps: &Steps) -> Result<(), AskFault>
-    requires { AreSteps book.now.statements id.0 steps.now.moves }
+    requires steps { AreSteps book.now.statements id.0 steps.now.moves }
+    requires whole { steps.now.front ≡ false }
     ensures proved { OnOk result (AreProvedSteps book.now.statements id.0 steps.now) }
     ensures fault { IfErr result (FailsAs book.now.statements id.0 steps.now) }
 {
@@ -32,9 +33,11 @@ fn judge_steps(alloc: Global, book: &Book, id: LabelId, steps: &Steps) -> Result
     Ok(())
 }
 
-/// The steps that the tokens say, where they are a proof of the `$p`.
+/// The steps that the tokens, none of which holds a `?`, say, where they are a proof of the `$p`
+/// under the profile.
 fn proved_steps(
     alloc: Global,
+    profile: Profile,
     book: &Book,
     id: LabelId,
     tokens: &[&[u8]],
@@ -43,54 +46,68 @@ fn proved_steps(
         × IsProofNumber book.now.statements id.0 place s }
     requires filled { AllByRecursion (λ t. 1 ≤ length t) (texts tokens.now) }
     requires room { sum_by length (texts tokens.now) ≤ most_bytes }
-    ensures complete { IfOk result (λ steps. is_incomplete (texts tokens.now) ≡ false) }
+    requires complete { is_incomplete (texts tokens.now) ≡ false }
     ensures said { IfOk result (λ steps.
         SayWholeSteps book.now.statements id.0 (texts tokens.now) steps.moves) }
+    ensures form { OnOk result (OfProof book.now.statements id.0 (λ place s.
+        HasFormOf profile (take place book.now.statements) s (texts tokens.now))) }
     ensures usable { IfOk result (λ steps. AreSteps book.now.statements id.0 steps.moves) }
     ensures proved { IfOk result (λ steps. AreProvedSteps book.now.statements id.0 steps) }
-    ensures profile { IfOk result (λ steps. steps.profile ≡ Lenient) }
-    ensures fault { IfErr result (AreRefused book.now.statements id.0 (texts tokens.now)) }
+    ensures profile { IfOk result (λ steps. steps.profile ≡ profile) }
+    ensures whole { IfOk result (λ steps. steps.front ≡ false) }
+    ensures fault { IfErr result (IsUnproved profile book.now.statements id.0 (texts tokens.now)) }
 {
-    match Steps::parse(alloc, Profile::Lenient, book, id, tokens)? {
+    match Steps::parse(alloc, profile, book, id, tokens)? {
         Parsed::Steps(steps) => {
             judge_steps(alloc, book, id, &steps)?;
             Ok(steps)
         }
-        Parsed::Incomplete => Err(AskFault::Text {
-            rule: Rule::A3,
-            step: 0,
-        }),
+        // No token holds a `?`.
+        Parsed::Incomplete(_) => unreachable!(),
     }
 }
 
-/// The steps that a text says, where it is a proof of the `$p`.
-fn handed_steps(alloc: Global, book: &Book, id: LabelId, text: &[u8]) -> Result<Steps, AskFault>
+/// The steps that a text says, where it is a proof of the `$p` under the profile.
+fn handed_steps(
+    alloc: Global,
+    profile: Profile,
+    book: &Book,
+    id: LabelId,
+    text: &[u8],
+) -> Result<Steps, AskFault>
     requires { (place : ℕ) × (s : Sentence) × IsProofNumber book.now.statements id.0 place s }
     ensures legal { IfOk result (λ steps. IsProofText text.now) }
     ensures said { IfOk result (λ steps.
         SayWholeSteps book.now.statements id.0 (tokens_in text.now) steps.moves) }
+    ensures form { OnOk result (OfProof book.now.statements id.0 (λ place s.
+        HasFormOf profile (take place book.now.statements) s (tokens_in text.now))) }
     ensures usable { IfOk result (λ steps. AreSteps book.now.statements id.0 steps.moves) }
     ensures proved { IfOk result (λ steps. AreProvedSteps book.now.statements id.0 steps) }
-    ensures profile { IfOk result (λ steps. steps.profile ≡ Lenient) }
-    ensures fault { IfErr result (IsTextRefused book.now.statements id.0 text.now) }
+    ensures profile { IfOk result (λ steps. steps.profile ≡ profile) }
+    ensures whole { IfOk result (λ steps. steps.front ≡ false) }
+    ensures fault { IfErr result (IsTextRefused profile book.now.statements id.0 text.now) }
 {
-    let tokens = legal_tokens(alloc, text)?;
-    proved_steps(alloc, book, id, &tokens)
+    let tokens = proof_tokens(alloc, text)?;
+    proved_steps(alloc, profile, book, id, &tokens)
 }
 
-/// Whether a text, a proof of the theorem, makes the same tree as the theorem's own proof.
+/// Whether a text, a proof of the theorem under the profile, makes the same tree as the theorem's
+/// own proof.
 pub(crate) fn is_same(
     alloc: Global,
+    profile: Profile,
     book: &Book,
     theorem: &Theorem,
     text: &[u8],
 ) -> Result<bool, AskFault>
     requires steps { AreSteps book.now.statements theorem.now.id.0 theorem.now.steps.moves }
     requires proved { AreProvedSteps book.now.statements theorem.now.id.0 theorem.now.steps }
-    ensures compared { IfOk result (IsComparedWith book.now.statements theorem.now.id.0
+    requires whole { theorem.now.steps.front ≡ false }
+    ensures compared { IfOk result (IsComparedWith profile book.now.statements theorem.now.id.0
         theorem.now.steps.moves text.now) }
-    ensures fault { IfErr result (IsTextRefused book.now.statements theorem.now.id.0 text.now) }
+    ensures fault { IfErr result (IsTextRefused profile book.now.statements theorem.now.id.0
+        text.now) }
 {
-    let steps = handed_steps(alloc, book, theorem.id, text)?;
+    let steps = handed_steps(alloc, profile, book, theorem.id, text)?;
     Ok(same(alloc, book, theorem.id, &theorem.steps, &steps)?)
 }

@@ -1,6 +1,6 @@
 //! The normal and the packed proof of a theorem, as texts.
 
-ghost use Rattle.std.specs.Prelude.{◌≡◌, ◌⊎◌, ◌<◌, ◌≤◌, List, ℕ, length, take, IfOk, IfErr};
+ghost use Rattle.std.specs.Prelude.{◌≡◌, ◌⊎◌, ◌<◌, ◌≤◌, List, ℕ, length, take, false, IfOk, IfErr};
 ghost use Rattle.mm_code.specs.Layout.{texts};
 ghost use Rattle.mm_proof.specs.Tree.{spelling};
 ghost use Rattle.mm_proof.specs.Spelled.{AreLabelsOf, OfSpelling};
@@ -43,6 +43,7 @@ fn names_of<'a>(
 fn labels_of(alloc: Global, book: &Book, theorem: &Theorem) -> Result<Vec<LabelId>, AskFault>
     requires steps { AreSteps book.now.statements theorem.now.id.0 theorem.now.steps.moves }
     requires proved { AreProvedSteps book.now.statements theorem.now.id.0 theorem.now.steps }
+    requires whole { theorem.now.steps.front ≡ false }
     ensures spelled { IfOk result (λ labels.
         OfMoves book.now.statements theorem.now.id.0 theorem.now.steps.moves
         (λ place s moves. OfSpelling (take place book.now.statements) moves (λ spelled.
@@ -68,6 +69,7 @@ pub(crate) fn normal_text(
 ) -> Result<Vec<u8>, AskFault>
     requires steps { AreSteps book.now.statements theorem.now.id.0 theorem.now.steps.moves }
     requires proved { AreProvedSteps book.now.statements theorem.now.id.0 theorem.now.steps }
+    requires whole { theorem.now.steps.front ≡ false }
     ensures text { IfOk result (λ text.
         OfMoves book.now.statements theorem.now.id.0 theorem.now.steps.moves
         (λ place s moves. OfTree (take place book.now.statements) moves
@@ -90,6 +92,7 @@ pub(crate) fn packed_text(
 ) -> Result<Vec<u8>, AskFault>
     requires steps { AreSteps book.now.statements theorem.now.id.0 theorem.now.steps.moves }
     requires proved { AreProvedSteps book.now.statements theorem.now.id.0 theorem.now.steps }
+    requires whole { theorem.now.steps.front ≡ false }
     ensures text { IfOk result (λ text.
         OfMoves book.now.statements theorem.now.id.0 theorem.now.steps.moves
         (λ place s moves. OfTree (take place book.now.statements) moves
@@ -111,6 +114,7 @@ pub(crate) fn proof_text(
 ) -> Result<Vec<u8>, AskFault>
     requires steps { AreSteps book.now.statements theorem.now.id.0 theorem.now.steps.moves }
     requires proved { AreProvedSteps book.now.statements theorem.now.id.0 theorem.now.steps }
+    requires whole { theorem.now.steps.front ≡ false }
     ensures text { IfOk result (λ text. IsTextOf form book.now.statements theorem.now.id.0
         theorem.now.steps.moves text.items) }
     ensures fault { IfErr result (IsTextFault form book.now.statements theorem.now.id.0

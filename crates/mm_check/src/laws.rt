@@ -2,8 +2,8 @@
 
 ghost use Rattle.mm_check.specs.Alike.{AlikeFilesHaveOneReply};
 ghost use Rattle.mm_check.specs.FormLaws.{PackedTextsTell};
-ghost use Rattle.mm_check.specs.Laws.{OneVerdict, SomeVerdict, OneReport};
-ghost use Rattle.mm_check.specs.SavedLaws.{SavingChangesNoAnswer, OneSaved};
+ghost use Rattle.mm_check.specs.Laws.{OneVerdict, SomeVerdict, BetweenProfiles, OneReport};
+ghost use Rattle.mm_check.specs.SavedLaws.{SavingChangesNoAnswer, SavedProofIsStrict, OneSaved};
 ghost use Rattle.mm_check.specs.SavedLaws.{OneSaveAnswer, SavingAgainChangesNothing};
 
 /// Files have at most one verdict: it can't be said of them both that they obey the rules and that
@@ -15,6 +15,13 @@ pub fn one_verdict()
 /// Files of every kind have a verdict: the rules leave no case out.
 pub fn some_verdict()
     ensures { SomeVerdict }
+{}
+
+/// Files that are accepted under one profile are accepted under the other, with the same numbers of
+/// statements and of proofs, or refused by a rule that is the other's own: under the strict profile
+/// `P15`, the form of a proof; under the lenient one `L1`, the length of an expression.
+pub fn between_profiles()
+    ensures { BetweenProfiles }
 {}
 
 /// What a theorem rests on is told in one way: two reports over statements that obey the rules,
@@ -41,6 +48,12 @@ pub fn packed_texts_tell()
 /// and unproved theorems.
 pub fn saving_changes_no_answer()
     ensures { SavingChangesNoAnswer }
+{}
+
+/// The proof that saving puts in has the strict form, whatever the profile is in which the files
+/// are accepted.
+pub fn saved_proof_is_strict()
+    ensures { SavedProofIsStrict }
 {}
 
 /// What is saved of a theorem in a form is one: one number of a file, and its bytes.

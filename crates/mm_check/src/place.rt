@@ -2,7 +2,7 @@
 
 ghost use Rattle.std.specs.Prelude.{◌≡◌, map};
 ghost use Rattle.mm_text.specs.Files.{plain_file};
-ghost use Rattle.mm_check.specs.Verdict.{line_in, line_of as line_at};
+ghost use Rattle.mm_text.specs.LineNumbers.{line_in, line_of as line_at};
 
 use mm_text::File;
 

@@ -27,9 +27,10 @@ use crate::reply::{push_label, push_labels, status_of, text_of};
 use crate::report::Report;
 use crate::rule::Rule;
 use crate::status::Status;
-use crate::verdict::check;
+use crate::verdict::{check, check_with};
 use crate::words::{push_number, push_word};
 use mm_frame::LabelId;
+use mm_proof::Profile;
 use mm_text::{File, Seed};
 use std::alloc::{AllocError, Global};
 
@@ -259,6 +260,7 @@ fn same_answer(
     label: &[u8],
     proof: &[u8],
 ) -> Result<Reply, AllocError>
+    requires { checked.now.profile ≡ Lenient }
     ensures { IfOk result (λ reply. (statements : List PlainStatement)
         → Reads checked.now.files statements None
         → IsSameReply label.now proof.now statements reply.text.items (number_of reply.status)) }
@@ -302,6 +304,7 @@ fn answer_to(
     question: &Question,
     label: &[u8],
 ) -> Result<Reply, AllocError>
+    requires { checked.now.profile ≡ Lenient }
     ensures { IfOk result (λ reply. (statements : List PlainStatement)
         → Reads checked.now.files statements None
         → Answers checked.now.files question.now label.now statements reply.text.items
@@ -333,12 +336,17 @@ fn verdict_reply(
     Ok(Reply { text, status })
 }
 
-/// The reply to `check`.
-pub(crate) fn check_reply(alloc: Global, seed: Seed, files: &[File]) -> Result<Reply, AllocError>
+/// The reply to `check` under a profile.
+pub(crate) fn check_reply(
+    alloc: Global,
+    seed: Seed,
+    profile: Profile,
+    files: &[File],
+) -> Result<Reply, AllocError>
     ensures { IfOk result (λ reply.
-        IsReply Lenient (map plain_file files.now) reply.text.items (number_of reply.status)) }
+        IsReply profile (map plain_file files.now) reply.text.items (number_of reply.status)) }
 {
-    let answer = check(alloc, seed, files);
+    let answer = check_with(alloc, seed, profile, files);
     let reply = verdict_reply(alloc, files, &answer);
     drop(answer);
     reply
@@ -391,6 +399,7 @@ fn answer_or_verdict(
 ) -> Result<Reply, AllocError>
     requires verdict { IsVerdict Lenient (map plain_file files.now) answer.now }
     requires files { IfOk answer.now (KeepsFiles (map plain_file files.now)) }
+    requires profile { IfOk answer.now (λ checked. checked.profile ≡ Lenient) }
     ensures { IfOk result (λ reply. IsQuestionReply (map plain_file files.now)
         (Answers (map plain_file files.now) question.now label.now) reply.text.items
         (number_of reply.status)) }

@@ -1,7 +1,7 @@
 //! The listing of a proof, as text.
 
 ghost use Rattle.std.specs.Prelude.{◌≡◌, ◌<◌, ◌++◌, List, take, length, OnOk, IfOk};
-ghost use Rattle.std.specs.Prelude.{IfErr};
+ghost use Rattle.std.specs.Prelude.{false, IfErr};
 ghost use Rattle.std.specs.List.{AllZip, AllByRecursion};
 ghost use Rattle.mm_frame.specs.Numbers.{symbols_of};
 ghost use Rattle.mm_proof.specs.Stores.{numbers_in};
@@ -81,6 +81,7 @@ fn text_of(alloc: Global, book: &Book, lines: &[Line]) -> Result<Vec<u8>, AllocE
 fn lines_of(alloc: Global, book: &Book, theorem: &Theorem) -> Result<Vec<Line>, AskFault>
     requires steps { AreSteps book.now.statements theorem.now.id.0 theorem.now.steps.moves }
     requires proved { AreProvedSteps book.now.statements theorem.now.id.0 theorem.now.steps }
+    requires whole { theorem.now.steps.front ≡ false }
     ensures listed { IfOk result (λ lines.
         OfMoves book.now.statements theorem.now.id.0 theorem.now.steps.moves
         (λ place s moves. AreLinesOf book.now.statements (take place book.now.statements) moves
@@ -102,6 +103,7 @@ pub(crate) fn listing_text(
 ) -> Result<Vec<u8>, AskFault>
     requires steps { AreSteps book.now.statements theorem.now.id.0 theorem.now.steps.moves }
     requires proved { AreProvedSteps book.now.statements theorem.now.id.0 theorem.now.steps }
+    requires whole { theorem.now.steps.front ≡ false }
     ensures text { IfOk result (λ text.
         OfMoves book.now.statements theorem.now.id.0 theorem.now.steps.moves
         (λ place s moves. IsListingOf (take place book.now.statements) moves text.items)) }

@@ -3,12 +3,13 @@
 ghost use Rattle.std.specs.Prelude.{◌≡◌, ◌<◌, ◌≤◌, ◌==◌, take, length, slice_index, true};
 ghost use Rattle.std.specs.Prelude.{IfOk, IfErr};
 ghost use Rattle.std.specs.List.{AllByRecursion, list_any, list_all, sum_by};
-ghost use Rattle.mm_text.specs.Token.{is_printable};
+ghost use Rattle.mm_text.specs.Token.{is_printable, is_space as is_white_space};
 ghost use Rattle.mm_text.specs.Files.{most_bytes};
 ghost use Rattle.mm_code.specs.Layout.{texts};
-ghost use Rattle.mm_code.specs.Words.{is_white_space, tokens_in, LacksWhiteSpace};
-ghost use Rattle.mm_check.specs.Compared.{are_printable, hold_dollar};
-ghost use Rattle.mm_check.specs.Mirror.Comparisons.{IsLegalText, IsIllegal};
+ghost use Rattle.mm_code.specs.Words.{tokens_in, LacksWhiteSpace};
+ghost use Rattle.mm_check.specs.Verdict.{is_incomplete};
+ghost use Rattle.mm_check.specs.Compared.{are_printable, hold_dollar, IsProofText};
+ghost use Rattle.mm_check.specs.Mirror.Comparisons.{IsIllegal};
 
 use crate::ask::AskFault;
 use crate::rule::Rule;
@@ -99,6 +100,25 @@ fn any_dollar(tokens: &[&[u8]]) -> bool
     false
 }
 
+/// Whether a token holds a `?`.
+fn has_question(token: &[u8]) -> bool
+    ensures { result ≡ list_any (λ b. b == 63) token.now }
+{
+    token.iter().any(|byte| *byte == b'?')
+}
+
+/// Whether some token holds a `?`.
+fn any_question(tokens: &[&[u8]]) -> bool
+    ensures { result ≡ is_incomplete (texts tokens.now) }
+{
+    for token in tokens {
+        if has_question(token) {
+            return true;
+        }
+    }
+    false
+}
+
 /// A fault of the text alone.
 fn broken<T>(rule: Rule) -> Result<T, AskFault>
     ensures { result ≡ Err (AskFault.Text rule 0) }
@@ -106,13 +126,13 @@ fn broken<T>(rule: Rule) -> Result<T, AskFault>
     Err(AskFault::Text { rule, step: 0 })
 }
 
-/// The tokens of a text, where they may stand in a proof, be it an incomplete one.
-pub(crate) fn legal_tokens<'a>(alloc: Global, text: &'a [u8]) -> Result<Vec<&'a [u8]>, AskFault>
+/// The tokens of a text, where they may stand in a proof with no unknown step.
+pub(crate) fn proof_tokens<'a>(alloc: Global, text: &'a [u8]) -> Result<Vec<&'a [u8]>, AskFault>
     ensures tokens { IfOk result (λ tokens. texts tokens.items ≡ tokens_in text.now) }
     ensures filled { IfOk result (λ tokens. AllByRecursion (λ t. 1 ≤ length t)
         (texts tokens.items)) }
     ensures room { IfOk result (λ tokens. sum_by length (texts tokens.items) ≤ most_bytes) }
-    ensures legal { IfOk result (λ tokens. IsLegalText text.now) }
+    ensures legal { IfOk result (λ tokens. IsProofText text.now) }
     ensures fault { IfErr result (IsIllegal text.now) }
 {
     if text.len() > MOST_BYTES {
@@ -124,6 +144,9 @@ pub(crate) fn legal_tokens<'a>(alloc: Global, text: &'a [u8]) -> Result<Vec<&'a 
     }
     if any_dollar(&tokens) {
         return broken(Rule::X9);
+    }
+    if any_question(&tokens) {
+        return broken(Rule::A3);
     }
     Ok(tokens)
 }

@@ -1,6 +1,6 @@
 //! A theorem and the steps of its proof.
 
-ghost use Rattle.std.specs.Prelude.{◌≡◌, ◌≤◌, map, length, sum_by, IfOk, IfErr};
+ghost use Rattle.std.specs.Prelude.{◌≡◌, ◌≤◌, map, length, sum_by, false, IfOk, IfErr};
 ghost use Rattle.std.specs.List.{AllByRecursion};
 ghost use Rattle.mm_text.specs.Statement.{plain_statement};
 ghost use Rattle.mm_text.specs.Files.{most_bytes};
@@ -15,8 +15,8 @@ use mm_proof::{Parsed, Profile, ProofFault, Steps};
 use mm_text::Statement;
 use std::alloc::Global;
 
-/// A `$p` whose proof is complete, by its number: the steps of that proof, and the file and the span
-/// in which it stands.
+/// A `$p` whose proof is complete, by its number: the steps of that proof, which are those of the
+/// whole of it, and the file and the span in which it stands.
 #[derive(Drop)]
 pub(crate) struct Theorem {
     pub(crate) id: LabelId,
@@ -40,12 +40,13 @@ fn steps_of(
         SaySteps book.now.statements place s (map (λ t. t.now) tokens.now) steps.moves)) }
     ensures usable { IfOk result (λ steps. AreSteps book.now.statements id.0 steps.moves) }
     ensures profile { IfOk result (λ steps. steps.profile ≡ profile) }
+    ensures whole { IfOk result (λ steps. steps.front ≡ false) }
     ensures memory { IfErr result (λ fault. fault ≡ Memory) }
 {
     match Steps::parse(alloc, profile, book, id, tokens) {
         Ok(Parsed::Steps(steps)) => Ok(steps),
         Err(ProofFault::Memory) => Err(AskFault::Memory),
-        Ok(Parsed::Incomplete) => unreachable!(),
+        Ok(Parsed::Incomplete(_)) => unreachable!(),
         Err(ProofFault::Rule { .. }) => unreachable!(),
     }
 }
@@ -72,6 +73,7 @@ pub(crate) fn theorem_of(
         AreSteps book.now.statements theorem.id.0 theorem.steps.moves) }
     ensures proved { IfOk result (λ theorem.
         AreProvedSteps book.now.statements theorem.id.0 theorem.steps) }
+    ensures whole { IfOk result (λ theorem. theorem.steps.front ≡ false) }
     ensures memory { IfErr result (λ fault. fault ≡ Memory) }
 {
     let steps = steps_of(alloc, profile, book, id, tokens)?;

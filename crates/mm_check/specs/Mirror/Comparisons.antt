@@ -1,38 +1,29 @@
 -- What the code of `same` knows on its way. This file mirrors the code, and is cited by private
 -- contracts alone.
-use Rattle.std.specs.Prelude.{◌≡◌, ◌↔◌, ◌⊎◌, ℕ, ◌+◌, ◌≤◌, Bool, true, false, IsTrue, List, ◌++◌, take, length}
+use Rattle.std.specs.Prelude.{◌≡◌, ◌↔◌, ◌⊎◌, ℕ, ◌+◌, ◌≤◌, Bool, IsTrue, List, ◌++◌, take, length}
 use Rattle.std.specs.List.{AllByRecursion, sum_by}
-use Rattle.mm_text.specs.Files.{most_bytes}
 use Rattle.mm_code.specs.Words.{tokens_in}
 use Rattle.mm_frame.specs.Sentence.{Sentence}
 use Rattle.mm_proof.specs.declared.fault.ProofRule.{ProofRule}
-use Rattle.mm_proof.specs.declared.profile.Profile.TheVariants.{Lenient}
+use Rattle.mm_proof.specs.declared.profile.Profile.{Profile}
 use Rattle.mm_proof.specs.Profiles.{limit_of}
 use Rattle.mm_proof.specs.Moves.{Move}
 use Rattle.mm_proof.specs.OneTree.{MakeSameTree}
-use Rattle.mm_proof.specs.Proof.{IsWithin, IsProvedWithin, IsFault}
+use Rattle.mm_proof.specs.UnderProfile.{IsProvedUnder, IsFaultUnder}
 use Rattle.mm_proof.specs.Parsed.{OfProof}
 use Rattle.mm_proof.specs.ReadSteps.{ReadSteps}
 use Rattle.mm_proof.specs.Verified.{OfMoves, FailsWith}
 use Rattle.mm_check.specs.declared.rule.Rule.{Rule}
-use Rattle.mm_check.specs.declared.rule.Rule.TheVariants.{A3}
 use Rattle.mm_check.specs.declared.ask.AskFault.{AskFault}
 use Rattle.mm_check.specs.declared.ask.AskFault.TheVariants as ask
-use Rattle.mm_check.specs.Verdict.{is_incomplete, proof_rule}
-use Rattle.mm_check.specs.Compared.{are_printable, hold_dollar, IsProofText, BreaksText}
-use Rattle.mm_check.specs.Compared.{IsTextFault}
+use Rattle.mm_check.specs.Verdict.{proof_rule}
+use Rattle.mm_check.specs.Compared.{IsProofText, BreaksText, IsTextFault}
 
 -- the tokens of the front of a text, where those of the rest complete them
 pub record AreFrontTokens (text : List ℕ) (tokens : List (List ℕ)) (rest : List ℕ) : Type 0 where
   pub whole : tokens ++ tokens_in rest ≡ tokens_in text
   pub filled : AllByRecursion (λ t. 1 ≤ length t) tokens
   pub room : sum_by length tokens + length rest ≤ length text
-
--- the text's tokens may stand in a proof, but for `?`
-pub record IsLegalText (text : List ℕ) : Type 0 where
-  pub taken : length text ≤ most_bytes
-  pub printable : are_printable (tokens_in text) ≡ true
-  pub plain : hold_dollar (tokens_in text) ≡ false
 
 -- the fault is one of the text alone, or a refused growth
 abbrev pub IsIllegal : List ℕ → AskFault → Type 0
@@ -47,31 +38,29 @@ FailsAs statements id steps fault =
     × OfMoves statements id steps.moves (λ place s moves.
     FailsWith (limit_of steps.profile) statements place s moves rule step))
 
--- the fault is one of the tokens as a proof of the `$p` with this number, or a refused growth
-abbrev pub IsUnproved : List Sentence → (id : ℕ) → (tokens : List (List ℕ)) → AskFault → Type 0
-IsUnproved statements id tokens fault =
+-- the fault is one of the tokens as a proof of the `$p` with this number under the profile, or a
+-- refused growth
+abbrev pub IsUnproved : Profile → List Sentence → (id : ℕ) → (tokens : List (List ℕ)) → AskFault
+    → Type 0
+IsUnproved profile statements id tokens fault =
     (fault ≡ ask.Memory) ⊎ ((rule : ProofRule) × (step : ℕ) × (fault ≡ ask.Text (proof_rule rule) step)
     × OfProof statements id (λ place s.
-    IsFault (IsWithin (limit_of Lenient)) (take place statements) s tokens rule step))
+    IsFaultUnder profile (take place statements) s tokens rule step))
 
--- the tokens, which may hold a `?`, are refused as a proof of the `$p` with this number
-abbrev pub AreRefused : List Sentence → (id : ℕ) → (tokens : List (List ℕ)) → AskFault → Type 0
-AreRefused statements id tokens fault =
-    ((is_incomplete tokens ≡ true) × (fault ≡ ask.Text A3 0))
-    ⊎ ((is_incomplete tokens ≡ false) × IsUnproved statements id tokens fault)
-
--- the fault is one of the text as a proof of the `$p` with this number, or a refused growth
-abbrev pub IsTextRefused : List Sentence → (id : ℕ) → (text : List ℕ) → AskFault → Type 0
-IsTextRefused statements id text fault =
+-- the fault is one of the text as a proof of the `$p` with this number under the profile, or a
+-- refused growth
+abbrev pub IsTextRefused : Profile → List Sentence → (id : ℕ) → (text : List ℕ) → AskFault → Type 0
+IsTextRefused profile statements id text fault =
     (fault ≡ ask.Memory) ⊎ ((rule : Rule) × (step : ℕ) × (fault ≡ ask.Text rule step)
-    × OfProof statements id (λ place s. IsTextFault (take place statements) s text rule step))
+    × OfProof statements id (λ place s.
+    IsTextFault profile (take place statements) s text rule step))
 
--- the text is a proof of the `$p` with this number, and this tells whether it makes the same tree
--- as the steps
-abbrev pub IsComparedWith : List Sentence → (id : ℕ) → List (Move ℕ) → (text : List ℕ) → Bool
-    → Type 0
-IsComparedWith statements id steps text same =
+-- the text is a proof of the `$p` with this number under the profile, and this tells whether it
+-- makes the same tree as the steps
+abbrev pub IsComparedWith : Profile → List Sentence → (id : ℕ) → List (Move ℕ) → (text : List ℕ)
+    → Bool → Type 0
+IsComparedWith profile statements id steps text same =
     IsProofText text
     × OfMoves statements id steps (λ place s moves.
-    (p : IsProvedWithin (IsWithin (limit_of Lenient)) (take place statements) s (tokens_in text))
-    × (IsTrue same ↔ MakeSameTree (take place statements) moves p.moves))
+    (p : IsProvedUnder profile (take place statements) s (tokens_in text))
+    × (IsTrue same ↔ MakeSameTree (take place statements) moves p.1.moves))

@@ -10,6 +10,7 @@ use Rattle.mm_text.specs.Files.{PlainFile, BreaksLoad}
 use Rattle.mm_text.specs.Reading.{PlainFault, Reads}
 use Rattle.mm_text.specs.Remaining.{Remaining}
 use Rattle.mm_frame.specs.Sentence.{Sentence, sentence_of}
+use Rattle.mm_frame.specs.Rules.{IsMeant}
 use Rattle.mm_frame.specs.Numbers.{labelled_sentences}
 use Rattle.mm_proof.specs.declared.fault.ProofRule.{ProofRule}
 use Rattle.mm_proof.specs.declared.fault.ProofFault.{ProofFault}
@@ -21,7 +22,7 @@ use Rattle.mm_proof.specs.Proof.{IsProvedWithin, IsWithin}
 use Rattle.mm_proof.specs.declared.profile.Profile.{Profile}
 use Rattle.mm_proof.specs.Profiles.{limit_of}
 use Rattle.mm_proof.specs.Strict.{HasFormOf}
-use Rattle.mm_proof.specs.UnderProfile.{IsProvedUnder, IsFrontAllowedUnder}
+use Rattle.mm_proof.specs.UnderProfile.{IsFrontAllowedUnder}
 use Rattle.mm_check.specs.declared.rule.Rule.{Rule}
 use Rattle.mm_check.specs.declared.fault.CheckFault.{CheckFault}
 use Rattle.mm_check.specs.declared.progress.Progress.{Progress}
@@ -107,16 +108,12 @@ pub record KeepsProof (profile : Profile) (before : List Sentence) (s : PlainSta
       × (new ≡ old ++ record { number = id; used = ordered used } ∷ [])
   pub none : complete ≡ false → new ≡ old
 
--- the proof of the last statement was counted, and what it uses kept; or what is known of it breaks
--- no rule, and it was noted as incomplete
+-- The proof of the last statement was counted, and what it uses kept; or what is known of it breaks
+-- no rule, and it was noted as incomplete. So it obeys the rules, if it breaks none of meaning.
 pub record CountsProof (profile : Profile) (old : Progress) (id : ℕ) (s : PlainStatement)
     (new : Progress) : Type 0 where
-  pub proved : (before : List Sentence) → old.prover.book.statements ≡ before ++ sentence_of s ∷ []
-      → is_incomplete (proof_of s) ≡ false
-      → IsProvedUnder profile before (sentence_of s) (proof_of s)
-  pub known : (before : List Sentence) → old.prover.book.statements ≡ before ++ sentence_of s ∷ []
-      → is_incomplete (proof_of s) ≡ true
-      → IsFrontAllowedUnder profile before (sentence_of s) (proof_of s)
+  pub obeys : (before : List Sentence) → old.prover.book.statements ≡ before ++ sentence_of s ∷ []
+      → IsMeant before (sentence_of s) → Obeys profile before s
   pub book : new.prover.book ≡ old.prover.book
   pub count : new.count ≡ old.count
   pub proofs : new.proofs ≡ old.proofs + (if is_incomplete (proof_of s) then 0 else 1)

@@ -6,25 +6,26 @@ use Rattle.mm_text.specs.Remaining.{Remaining}
 use Rattle.mm_frame.specs.Sentence.{Sentence, sentence_of, IsLabelled}
 use Rattle.mm_proof.specs.Moves.{Move}
 use Rattle.mm_proof.specs.Tokens.{IsIncomplete, SayMoves}
-use Rattle.mm_proof.specs.Proof.{Prove, IsProvedWithin, IsWithin}
+use Rattle.mm_proof.specs.Proof.{Prove, IsWithin}
 use Rattle.mm_proof.specs.declared.profile.Profile.{Profile}
 use Rattle.mm_proof.specs.Profiles.{limit_of}
 use Rattle.mm_proof.specs.Steps.{AreNumberedMoves, IsProofNumber}
 use Rattle.mm_proof.specs.ReadSteps.{ReadSteps}
 use Rattle.mm_proof.specs.Parsed.{OfProof, SaySteps}
+use Rattle.mm_proof.specs.UnderProfile.{IsProvedUnder}
 use Rattle.mm_proof.specs.Verified.{OfMoves}
 use Rattle.mm_proof.specs.Listing.{ListedStep, AreListed}
 use Rattle.mm_check.specs.Verdict.{proof_of, is_proof, sentences}
 use Rattle.mm_check.specs.Shown.{listing_text, Stands}
 
--- the tokens are a complete proof of the `$p` with this number, each step within the limit
+-- the tokens are a complete proof of the `$p` with this number under the profile
 pub record IsProofOf (profile : Profile) (statements : List Sentence) (id : ℕ)
     (tokens : List (List ℕ)) : Type 0 where
   pub place : ℕ
   pub s : Sentence
   pub number : IsProofNumber statements id place s
   pub complete : ¬ (IsIncomplete tokens)
-  pub proved : IsProvedWithin (IsWithin (limit_of profile)) (take place statements) s tokens
+  pub proved : IsProvedUnder profile (take place statements) s tokens
 
 -- the steps of the `$p` with this number are the moves that the tokens say
 abbrev pub SayStepsOf : List Sentence → (id : ℕ) → (tokens : List (List ℕ)) → List (Move ℕ) → Type 0

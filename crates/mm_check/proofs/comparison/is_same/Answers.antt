@@ -11,5 +11,7 @@ same-requires-clause-second_makes c = steps_make c.args.book.now.statements c.ar
 
 pub returns-clause-compared : goal.returns-clause-compared
 returns-clause-compared c =
-    compared_with c.args.book.now.statements c.args.theorem.now.id.0 c.args.theorem.now.steps.moves c.in_ok-steps.steps c.args.text.now _ c.in_ok-steps.ensures.legal c.in_ok-steps.ensures.profile
-    c.in_ok-steps.ensures.said c.in_ok-steps.ensures.proved c.in_ok-same.ensures
+    let read = c.in_ok-steps.ensures in
+    compared_with c.args.profile c.args.book.now.statements c.args.theorem.now.id.0
+    c.args.theorem.now.steps.moves c.in_ok-steps.steps c.args.text.now _ read.legal read.profile
+    read.said read.form read.proved c.in_ok-same.ensures

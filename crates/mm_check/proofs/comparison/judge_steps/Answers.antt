@@ -15,7 +15,8 @@ returns-in_err-_used-clause-fault c =
     (fails_as c.in_err-_used.field-0.0
     (λ (rule : ProofRule) (step : ℕ). OfMoves c.args.book.now.statements c.args.id.0 c.args.steps.now.moves
     (λ place s moves. FailsWith (limit_of c.args.steps.now.profile) c.args.book.now.statements place s moves rule step))
-    (λ rule step is. c.in_err-_used.ensures.fault rule step (ap Err is)))
+    (λ rule step is. c.in_err-_used.ensures.fault c.requires.whole rule step (ap Err is)))
 
 pub returns-clause-proved : goal.returns-clause-proved
-returns-clause-proved c = λ place s moves number numbered. (c.in_ok-_used.ensures.proved place s moves number numbered).0
+returns-clause-proved c = λ place s moves number numbered.
+    (c.in_ok-_used.ensures.proved c.requires.whole place s moves number numbered).0

@@ -1,5 +1,5 @@
 -- The refusal tells the fault of the statement.
-use Rattle.std.proofs.Common.{◌≡◌, Some, Err, inl, inr, map, refl, ap, ◌∙◌}
+use Rattle.std.proofs.Common.{rules, Some, Err, inl, inr, map, refl, ap, ◌∙◌}
 use Rattle.mm_text.specs.Statement.{PlainStatement, plain_statement}
 use Rattle.mm_text.specs.Files.{plain_file}
 use Rattle.mm_frame.specs.Database.{Database}
@@ -28,3 +28,15 @@ returns-in-Err-Rule-clause-refused c =
       inl (c.in-Err-Rule.rule, c.take.ensures.rule c.in-Err-Rule.rule (c.in-Err-Rule.is ∙ ap Err c.in-Err-Rule.field-0-is), c.from.ensures ∙ ap meaning_rule c.in-Err-Rule.rule-is, refl),
       ap (λ r. Some (Refused r)) c.refusal-refusal.ensures,
     )
+
+-- each part by itself, as one search for all of them takes too many steps
+pub returns-clause-ok : goal.returns-clause-ok
+returns-clause-ok c = record {
+  obeys = search rules;
+  statements = search rules;
+  bytes = search rules;
+  count = search rules;
+  proofs = search rules;
+  incomplete = search rules;
+  kept = search rules;
+}

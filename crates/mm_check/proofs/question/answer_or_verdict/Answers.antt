@@ -3,6 +3,7 @@ use Rattle.std.proofs.Common.{◌≡◌, List, map, None, IfSome, subst}
 use Rattle.mm_text.specs.Statement.{PlainStatement}
 use Rattle.mm_text.specs.Files.{PlainFile, plain_file}
 use Rattle.mm_text.specs.Reading.{Reads}
+use Rattle.mm_proof.specs.declared.profile.Profile.TheVariants.{Lenient}
 use Rattle.mm_check.specs.declared.question.Reply.{Reply}
 use Rattle.mm_check.specs.Conclusion.{Conclusion}
 use Rattle.mm_check.specs.Status.{number_of}
@@ -11,6 +12,11 @@ use Rattle.mm_check.specs.Mirror.Questions.{Answers}
 use Rattle.mm_check.specs.Reply.{IsQuestionReply, Tells, status_of}
 use Rattle.mm_check.proofs.Replies.{made, made_both, at_ok, question_read, question_refused}
 use Rattle.mm_check.proofs.question.answer_or_verdict.Goals as goal
+
+pub answer_to-requires : goal.answer_to-requires
+answer_to-requires c =
+    at_ok c.args.answer.now c.in-Ok.checked (λ kept. kept.profile ≡ Lenient) c.in-Ok.is
+    c.requires.profile
 
 pub returns-in-Ok : goal.returns-in-Ok
 returns-in-Ok c =

@@ -1,19 +1,29 @@
 -- The proof is complete, and breaks no rule over the whole of it.
 use Rattle.std.proofs.Common.{Ok, Err, ap, ◌∙◌}
+use Rattle.mm_check.proofs.Theorems.{no_text_fault}
 use Rattle.mm_check.proofs.theorem.steps_of.Goals as goal
 
 pub unreachable-requires : goal.unreachable-requires
-unreachable-requires c = c.requires.proof.complete (c.parse.ensures.incomplete (c.in-Ok-Incomplete.is ∙ ap Ok c.in-Ok-Incomplete.field-0-is))
+unreachable-requires c =
+    let told = c.parse.ensures.incomplete c.in-Ok-Incomplete.field-0-0
+    (c.in-Ok-Incomplete.is ∙ ap Ok c.in-Ok-Incomplete.field-0-is) in
+    c.requires.proof.complete told.0
 
 pub unreachable-requires-in-Err-Rule : goal.unreachable-requires-in-Err-Rule
 unreachable-requires-in-Err-Rule c =
+    let proof = c.requires.proof in
     let rule = c.in-Err-Rule.field-0-0 in
-    let fault = c.parse.ensures.fault rule c.in-Err-Rule.field-0-1 (c.in-Err-Rule.is ∙ ap Err c.in-Err-Rule.field-0-is)
-    c.requires.proof.place c.requires.proof.s c.requires.proof.number in
-    c.requires.proof.proved.whole rule fault.1.broken
+    let fault = c.parse.ensures.fault proof.complete rule c.in-Err-Rule.field-0-1
+    (c.in-Err-Rule.is ∙ ap Err c.in-Err-Rule.field-0-is) proof.place proof.s proof.number in
+    no_text_fault _ _ _ _ rule proof.proved fault.1
 
 pub returns-in-Ok-Steps-clause-said : goal.returns-in-Ok-Steps-clause-said
 returns-in-Ok-Steps-clause-said c = c.parse.ensures.steps c.in-Ok-Steps.steps (c.in-Ok-Steps.is ∙ ap Ok c.in-Ok-Steps.field-0-is)
 
 pub returns-in-Ok-Steps-clause-profile : goal.returns-in-Ok-Steps-clause-profile
 returns-in-Ok-Steps-clause-profile c = c.parse.ensures.profile c.in-Ok-Steps.steps (c.in-Ok-Steps.is ∙ ap Ok c.in-Ok-Steps.field-0-is)
+
+pub returns-in-Ok-Steps-clause-whole : goal.returns-in-Ok-Steps-clause-whole
+returns-in-Ok-Steps-clause-whole c =
+    (c.parse.ensures.complete c.in-Ok-Steps.steps
+    (c.in-Ok-Steps.is ∙ ap Ok c.in-Ok-Steps.field-0-is)).1

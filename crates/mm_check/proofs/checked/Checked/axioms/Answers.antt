@@ -7,7 +7,7 @@ use Rattle.mm_check.specs.Conclusion.{Conclusion, ProofUses, labels_in}
 use Rattle.mm_check.specs.declared.ask.AskFault.{AskFault}
 use Rattle.mm_check.specs.Answer.{IsKeptOf}
 use Rattle.mm_check.specs.Rests.{AreInOrder, RestsOn, IsAskFault}
-use Rattle.mm_proof.specs.CodeSteps.{ids_in}
+use Rattle.mm_proof.specs.Plain.{ids_in}
 use Rattle.mm_check.specs.Mirror.Marks.{IsKeptWell, IsMarked, UsedIn, IsAxiomNumber}
 use Rattle.mm_check.proofs.Rereading.{read_statements, passed_on}
 use Rattle.mm_check.proofs.Asked.{report_of, all_within, all_among, axiom_within}
