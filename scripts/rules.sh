@@ -23,6 +23,7 @@ made() {
         }
         code = ""
         body = ""
+        told = 0
     }
     # a text in lines of at most 80 bytes, without the asterisks of its variables
     function wrapped(text,    words, count, i, line, lines) {
@@ -82,20 +83,23 @@ made() {
         next
     }
     code == "" { next }
+    # Causes and remedies, and further examples, stand in the document alone: what is proved of the
+    # program holds each byte of its texts.
+    /^(Usual cause|Remedy): / || (told && !/^$/) { next }
     # A question is no part of its file: the file alone breaks no rule of questions.
     /^```mm$/ {
         body = body (code ~ /^A/ || code == "L2" ? "\nA file:\n" : "\nThis file breaks it:\n")
         fenced = 1
         next
     }
-    /^```reply$/ { body = body "\nThe reply:\n"; fenced = 1; next }
+    /^```reply$/ { body = body "\nThe reply:\n"; fenced = replied = 1; next }
     /^```reply / {
         sub(/^```reply /, "")
         body = body "\nThe reply to `mm " $0 " f.mm`:\n"
-        fenced = 1
+        fenced = replied = 1
         next
     }
-    /^```$/ { fenced = 0; next }
+    /^```$/ { told = replied; fenced = replied = 0; next }
     fenced { body = body "    " $0 "\n"; next }
     /^$/ { finish() }
     END {
@@ -103,7 +107,7 @@ made() {
         if (name == "rules") {
             printf "//! The rules, as `mm explain` tells them. "
             printf "Made by scripts/rules.sh from docs/RULES.md: edit that.\n\n"
-            printf "use crate::texts::RuleText;\n\n"
+            printf "use crate::rule_text::RuleText;\n\n"
             printf "pub(crate) const RULES: &[RuleText<'"'"'static>] = &[\n%s];\n", rules
         } else {
             printf "//! The codes of the rules. "

@@ -13,8 +13,8 @@ cd "$folder"
 failures=0
 
 # The program is built first, so that no message of the launcher is among the bytes that are
-# compared.
-"$mm" help >/dev/null
+# compared. A text alone, as the help, would be printed by an old program.
+"$mm" check "$top/examples/first.mm" >/dev/null
 
 # ends STATUS OUT ERR WORDS..: the program, run with these words, ends so. The two texts are written
 # by printf's rules.
@@ -141,11 +141,24 @@ cp "$top/examples/first.mm" -- -first.mm
 printf '$c a $.\n$c a $.\n' >twice.mm
 printf '$c a $.\np $a a $.\nq $p a $= ? $.\nr $p a $= q $.\n' >open.mm
 : >empty.mm
+printf '$c a $. one $a a $.\np $p a $= ( one one ) B $.\n' >loose.mm
+printf '$c a $. one $a a $.\np $p a $=\n      ( one )\n      A\n$.\n' >tight.mm
+printf '$c a $. one $a a $.\np $p a $= nope ? $.\n' >front.mm
 printf 'tze tze tpl' >proof.txt
 cp first.mm ./-
 
 ends 0 'yes 7 statements 1 proofs\n' '' check first.mm
 ends 0 'yes 7 statements 1 proofs\n' '' check -- -first.mm
+ends 0 'yes 7 statements 1 proofs\n' '' check --strict first.mm
+ends 0 'yes 7 statements 1 proofs\n' '' check first.mm --strict
+ends 0 'yes 19 statements 1 proofs\n' '' check --strict demo0c.mm
+ends 4 '' 'mm: cannot read --strict\n' check -- --strict first.mm
+ends 0 'yes 3 statements 1 proofs\n' '' check loose.mm
+ends 1 'no loose.mm 2 p P15 0\n' '' check --strict loose.mm
+ends 0 'one\n' '' axioms p loose.mm
+prints tight.mm packed --file p loose.mm
+ends 0 'yes 3 statements 1 proofs\n' '' check --strict tight.mm
+ends 1 'no front.mm 2 p P2 0\n' '' check front.mm
 ends 0 'yes 19 statements 1 proofs\n' '' check demo0.mm
 ends 0 'yes 19 statements 1 proofs\n' '' check demo0c.mm
 ends 0 'yes 6 statements 1 proofs\n' '' check top.mm terms.mm rules.mm symbols.mm
@@ -154,6 +167,13 @@ ends 1 'no top.mm 2 - X7 0\n' '' check top.mm terms.mm symbols.mm
 ends 0 'yes 0 statements 0 proofs\n' '' check empty.mm
 ends 0 'yes 7 statements 1 proofs\n' '' check -
 ends 0 'tze\ntpl\n' '' axioms th first.mm
+ends 3 'step\n? open\n' '' axioms half rests.mm
+ends 0 'one\nstep\n' '' axioms full rests.mm
+ends 3 'ask A3 open\n' '' axioms open rests.mm
+ends 1 'ask A2 h\n' '' axioms h rests.mm
+ends 0 '1 nil e\n2 nil e\n3 cat e\n4 @3 e\n5 cat e\n' '' show th steps.mm
+ends 0 '      ( nil cat )\n      AABZCB\n' '' packed th shared.mm
+ends 3 'incomplete 2\nu1\nu2\n' '' check unfinished.mm
 ends 0 'tze\ntpl\nweq\nwim\na1\na2\nmp\n' '' axioms th1 demo0c.mm
 ends 0 '1 tze term 0\n2 tze term 0\n3 tpl term ( 0 + 0 )\n' '' show th first.mm
 ends 0 '      tze tze tpl\n' '' normal th first.mm
@@ -207,12 +227,14 @@ misused show th
 misused axioms -th first.mm
 misused show --file th first.mm
 misused packed --file --file th first.mm
-misused check --strict first.mm
+misused axioms --strict th first.mm
+misused check --strict
+misused check --strict --strict first.mm
 misused check -first.mm
 misused help nonsense
 misused explain P8 P9
 begins 2 '' 'error: the following required arguments were not provided:' axioms th
-begins 2 '' "error: unexpected argument '--strict' found" check --strict first.mm
+begins 2 '' "error: unexpected argument '--strict' found" axioms --strict th first.mm
 unknown M222 M2
 unknown p8 P8
 unknown X0 X1

@@ -11,7 +11,7 @@ use Rattle.std.specs.Io.KnownBytes.{Appends}
 use Rattle.mm_text.specs.Device.{inner_of}
 use Rattle.mm_text.specs.declared.counted.Counted.{Counted}
 use Rattle.mm_tool.specs.Ending.{BreaksOff, TakesWhole, TellsLine, IsUnknownCode, error_line}
-use Rattle.mm_tool.specs.declared.texts.RuleText.{RuleText}
+use Rattle.mm_tool.specs.declared.rule_text.RuleText.{RuleText}
 use Rattle.mm_tool.specs.declared.texts.Texts.{Texts}
 use Rattle.mm_tool.specs.declared.stop.Stop.{Stop}
 
@@ -30,13 +30,6 @@ tells_both contents first second a b d one (inr ((k, less, put), counted)) =
       ),
       counted ∙ ap (λ n. n + 1) one.1,
     )
-
--- Where the first part broke off, both did.
-pub breaks_first : {E : Type 0} (contents : E → Option (List ℕ)) (first second : List ℕ) (a b : Counted E)
-    → BreaksOff contents first a b → TellsLine contents (first ++ second) a b
-breaks_first contents first second a b ((k, less, put), counted) =
-    let Put : List ℕ → Type 0 = λ text. Appends (contents (inner_of a)) (contents (inner_of b)) text in
-    inr ((k, omega (arith, length-append first second), subst Put (sym (take-append-le k first second (omega arith))) put), counted)
 
 -- The line that was told is that of the stop.
 pub tells_stop : {E : Type 0} (contents : E → Option (List ℕ)) (stop this : Stop) (a b : Counted E) → stop ≡ this

@@ -4,11 +4,12 @@ use Rattle.std.proofs.lemmas.List.{map-append, take_more}
 use Rattle.std.proofs.lemmas.List.Sums.{sum_by-append, sum_by_push}
 use Rattle.std.specs.List.{AllByRecursion, AllZip}
 use Rattle.mm_text.specs.Alike.{AreAlike}
-use Rattle.mm_text.specs.Files.{PlainFile, total_bytes}
+use Rattle.mm_text.specs.Files.{most_bytes, PlainFile, total_bytes}
 use Rattle.mm_check.specs.Alike.{AlikeFilesHaveOneReply}
 use Rattle.mm_check.specs.Reply.{IsReplyTo}
 use Rattle.mm_check.specs.declared.command.Command.{Command}
 use Rattle.mm_check.specs.declared.command.Command.TheVariants.{Check}
+use Rattle.mm_proof.specs.declared.profile.Profile.{Profile}
 use Rattle.mm_tool.specs.declared.files.Comments.{Comments}
 use Rattle.mm_tool.specs.declared.files.Comments.TheVariants.{Kept, LeftOut}
 use Rattle.mm_tool.specs.Folder.{KnownFile, MayHold, Unknown, Absent, Holds}
@@ -74,16 +75,16 @@ fewer_bytes (whole ∷ wholes) (read ∷ reads) all =
     let other = byte_count read reads in
     omega (arith, rest, first, one, other)
 
-pub reply_over : AlikeFilesHaveOneReply → (comments : Comments) (command : Command) (max : ℕ) → (comments ≡ LeftOut → (command ≡ Check) × (max ≤ 1073741824)) → (wholes reads : List PlainFile) → AllZip (IsReadAs comments) wholes reads → total_bytes wholes ≤ max
+pub reply_over : AlikeFilesHaveOneReply → (comments : Comments) (command : Command) (max : ℕ) → (comments ≡ LeftOut → ((profile : Profile) × (command ≡ Check profile)) × (max ≤ most_bytes)) → (wholes reads : List PlainFile) → AllZip (IsReadAs comments) wholes reads → total_bytes wholes ≤ max
     → (text : List ℕ) (status : ℕ) → IsReplyTo reads command text status → IsReplyTo wholes command text status
 reply_over law Kept command max only wholes reads all within text status reply =
     subst (λ l. IsReplyTo l command text status) (same_files wholes reads all) reply
 reply_over law LeftOut command max only wholes reads all within text status reply =
-    let (is, few) = only refl in
+    let (named, few) = only refl in
     let fewer = fewer_bytes wholes reads all in
-    subst (λ k. IsReplyTo wholes k text status) (sym is)
-    (law _ reads wholes (alike_files wholes reads all) (omega (arith, fewer, within, few)) (omega (arith, within, few)) text status
-    (subst (λ k. IsReplyTo reads k text status) is reply))
+    subst (λ k. IsReplyTo wholes k text status) (sym named.1)
+    (law named.0 reads wholes (alike_files wholes reads all) (omega (arith, fewer, within, few)) (omega (arith, within, few)) text status
+    (subst (λ k. IsReplyTo reads k text status) named.1 reply))
 
 -- ## One file
 

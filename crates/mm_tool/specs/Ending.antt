@@ -21,7 +21,7 @@ use Rattle.mm_tool.specs.Words.{AsksHelp, AsksVersion, AsksExplain, AsksRun, Ask
 use Rattle.mm_tool.specs.Words.{AreRefusedWords}
 use Rattle.mm_tool.specs.declared.folder.ArgumentFault.{ArgumentFault}
 use Rattle.mm_tool.specs.declared.folder.ArgumentFault.TheVariants as argument
-use Rattle.mm_tool.specs.declared.texts.RuleText.{RuleText}
+use Rattle.mm_tool.specs.declared.rule_text.RuleText.{RuleText}
 use Rattle.mm_tool.specs.declared.texts.Texts.{Texts}
 use Rattle.mm_tool.specs.declared.stop.Stop.{Stop}
 use Rattle.mm_tool.specs.declared.stop.Stop.TheVariants.{Usage, NotText, CannotRead, CannotWrite}

@@ -1,7 +1,7 @@
 -- What the words ask for, as `clap` defines which words a command line takes and what it finds in
 -- them. The first word is the program's name.
 use Rattle.std.specs.Prelude.{◌≡◌, ◌≢◌, ◌↔◌, List, [], map, Some, Bool, true, IsTrue, codes}
-use Rattle.std.specs.Prelude.{unwrap_or, ◌⊎◌}
+use Rattle.std.specs.Prelude.{unwrap_or, false, ◌⊎◌}
 use Rattle.clap.specs.Lexer.{usize_max}
 use Rattle.clap.specs.Words.{App, Row, Rule, Text, IsAmong, all_of, fault_of, first_of, new_app}
 use Rattle.clap.specs.Words.{new_rule, subcommand_of, subcommand_rows_of, with_rule}
@@ -14,6 +14,8 @@ use Rattle.clap.specs.declared.error.kind.ErrorKind.TheVariants.{OutOfMemory}
 use Rattle.mm_check.specs.declared.command.Command.{Command}
 use Rattle.mm_check.specs.declared.command.Command.TheVariants.{Check, Axioms, Show, Normal}
 use Rattle.mm_check.specs.declared.command.Command.TheVariants.{Packed, Same}
+use Rattle.mm_proof.specs.declared.profile.Profile.{Profile}
+use Rattle.mm_proof.specs.declared.profile.Profile.TheVariants.{Strict, Lenient}
 use Rattle.mm_tool.specs.declared.words.Request.{Request}
 use Rattle.mm_tool.specs.declared.words.Request.TheVariants.{Help, Version, Explain, Run}
 use Rattle.mm_tool.specs.declared.words.Request.TheVariants.{Compare}
@@ -42,6 +44,13 @@ file_rule = record (new_rule (codes "file")) {
   action = Some SetTrue;
 }
 
+-- `--strict`: a flag
+abbrev pub strict_rule : Rule
+strict_rule = record (new_rule (codes "strict")) {
+  long = Some (codes "strict");
+  action = Some SetTrue;
+}
+
 -- `PROOF`: one
 abbrev pub proof_rule : Rule
 proof_rule = record (new_rule (codes "PROOF")) {
@@ -56,9 +65,9 @@ code_rule = record (new_rule (codes "CODE")) {
   action = Some Append;
 }
 
--- `check FILES..`
+-- `check [--strict] FILES..`
 abbrev pub check_line : App
-check_line = with_rule (new_app (codes "check")) files_rule
+check_line = with_rule (with_rule (new_app (codes "check")) strict_rule) files_rule
 
 -- a question about the theorem with a label: the command's name, and then `LABEL FILES..`
 abbrev pub question_line : Text → App
@@ -119,7 +128,7 @@ forms_line =
     with_subcommand
     (with_subcommand (with_subcommand database_line normal_line.top) packed_line.top) same_line.top
 
--- `mm check FILES..`, `mm axioms LABEL FILES..`, `mm show LABEL FILES..`,
+-- `mm check [--strict] FILES..`, `mm axioms LABEL FILES..`, `mm show LABEL FILES..`,
 -- `mm normal [--file] LABEL FILES..`, `mm packed [--file] LABEL FILES..`,
 -- `mm same LABEL PROOF FILES..`, `mm explain [CODE]`, `mm help`, `mm --version`, and everywhere
 -- `--help`
@@ -155,12 +164,6 @@ AsksExplain words asked =
     (rows : List Row) × Commands words (codes "explain") rows
     × (unwrap_or (all_of (codes "CODE") rows) [] ≡ asked)
 
--- They ask to check the files with these names.
-abbrev pub AsksCheck : List Text → List Text → Type 0
-AsksCheck words names =
-    (rows : List Row) × Commands words (codes "check") rows
-    × (unwrap_or (all_of (codes "FILES") rows) [] ≡ names)
-
 -- They ask, by the command with this name, about the theorem with this label in the files with
 -- these names.
 abbrev pub AsksQuestion : Text → List Text → Text → List Text → Type 0
@@ -174,6 +177,19 @@ AsksQuestion name words label names =
 abbrev pub IsGiven : (flag : Text) → List Row → Bool → Type 0
 IsGiven flag rows given =
     IsTrue given ↔ (unwrap_or (first_of flag rows) [] ≡ codes "true")
+
+-- the profile is the strict one
+abbrev pub is_strict : Profile → Bool
+is_strict Strict = true
+is_strict Lenient = false
+
+-- They ask to check the files with these names under this profile: by `--strict` the strict one,
+-- else the lenient one.
+abbrev pub AsksCheck : List Text → Profile → List Text → Type 0
+AsksCheck words profile names =
+    (rows : List Row) × Commands words (codes "check") rows
+    × IsGiven (codes "strict") rows (is_strict profile)
+    × (unwrap_or (all_of (codes "FILES") rows) [] ≡ names)
 
 -- They ask, by the command with this name, for the proof of the theorem with this label in the files
 -- with these names, or by `--file` for its whole file.
@@ -196,7 +212,7 @@ AsksSame words label proof names =
 -- They ask to run this command over the files with these names. A command that has the bytes of a
 -- further file is no words' own.
 abbrev pub AsksRun : List Text → Command → List Text → Type 0
-AsksRun words Check names = AsksCheck words names
+AsksRun words (Check profile) names = AsksCheck words profile names
 AsksRun words (Axioms label) names = AsksQuestion (codes "axioms") words label.now names
 AsksRun words (Show label) names = AsksQuestion (codes "show") words label.now names
 AsksRun words (Normal label whole) names = AsksForm (codes "normal") words label.now whole names

@@ -2,7 +2,7 @@
 
 /// A line for each code.
 pub(crate) const CODES: &str =
-    "F1: no file was handed in (by the library alone: the program asks for one).
+    "F1: no file was handed in, which only the library can answer: the program asks for a file.
 F2: two handed names are equal, as in `mm check f.mm f.mm`.
 F3: the files hold more than 1,073,741,824 bytes in all.
 X1: a token, in a comment too, holds a byte outside 0x21 to 0x7E.
@@ -42,23 +42,30 @@ M12: the variable of a `$f` has an active `$f`.
 M13: an earlier `$f`, active or not, gave the variable of that name another type code.
 M14: the first symbol of an `$e`, `$a` or `$p` is a variable.
 M15: a variable in an `$e`, `$a` or `$p` has no active `$f`.
-P1: the first token of the proof is `(`, and there is no `)` among the others.
-P2: a label, in a normal proof or in the list of a compressed one, isn't that of an earlier \
-     statement; the `$p` itself isn't earlier.
+P1: the first token of a complete proof is `(`, and there is no `)` among the others.
+P2: the proof names a label, in a normal proof or in the list of a compressed one, that isn't \
+     that of a statement before this `$p`.
 P3: a label is that of a hypothesis that isn't active.
 P4: a byte of the letters isn't one of `A` to `Z`.
-P5: leading digits are followed by `Z`, or by the end of the letters.
-P6: a number exceeds m + n + t, with m mandatory hypotheses, n listed labels and t tags so far.
+P5: leading digits are followed by `Z`, by the end of the letters, or by a `?`.
+P15: under the strict profile, the list of a compressed proof names a mandatory hypothesis, or \
+     a label twice; or a `Z` doesn't stand directly after a number of a listed label that is an \
+     assertion's.
+P6: a number in the letters exceeds m + n + t, with m mandatory hypotheses, n listed labels \
+     and t tags so far.
 P7: a `Z` comes before any step.
-P8: the stack holds fewer entries than the assertion has mandatory hypotheses.
-P9: the type code of a `$f` differs from the first symbol of its entry.
-P10: an `$e`, substituted, differs from its entry.
-P11: the replacements of a mandatory distinct pair share a variable.
-P12: a pair of variables, one from each of these replacements, isn't an active pair where the \
-     `$p` stands.
-L1: a step pushes an expression of more than 1,048,576 symbols, its type code counted.
-P13: at the end the stack doesn't hold exactly one entry.
-P14: that entry differs from the expression of the `$p`.
+P8: the step's assertion has more mandatory hypotheses than the stack holds entries.
+P9: the entry that the step takes for a `$f` doesn't begin with the type code of that `$f`.
+P10: the entry that the step takes for an `$e` isn't that `$e` with its variables replaced.
+P11: the step replaces two variables that its assertion keeps distinct by expressions that \
+     share a variable.
+P12: the step replaces two variables that its assertion keeps distinct, and a variable of the \
+     one replacement and a variable of the other aren't an active distinct pair where the `$p` \
+     stands.
+L1: a step pushes an expression of more than 1,048,576 symbols, its type code counted; under \
+     the strict profile, of more than 16,777,216.
+P13: at the end of a complete proof the stack doesn't hold exactly one entry.
+P14: the one entry at the end of a complete proof isn't the expression of the `$p`.
 A1: no statement has the asked label.
 A2: the asked label isn't that of a `$p`, but of an axiom or a hypothesis.
 A3: the proof of the asked `$p` is incomplete.

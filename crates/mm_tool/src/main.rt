@@ -4,6 +4,7 @@
 mod code_lines;
 mod files;
 mod folder;
+mod rule_text;
 mod rules;
 mod serve;
 mod stop;
@@ -14,7 +15,7 @@ use folder::Host;
 use mm_text::{Counted, Seed};
 use std::process::ExitCode;
 use std::random::RandomSource;
-use texts::TEXTS;
+use texts::program_texts;
 
 /// A seed from the system's random source, or the one that everybody knows where that gives none.
 fn seed_from(source: &impl RandomSource) -> Seed {
@@ -31,7 +32,8 @@ fn main(rt: HostRuntime) -> ExitCode {
     let mut err = Counted::new(rt.stderr());
     let host = Host(&rt);
     let seed = seed_from(&rt);
-    ExitCode::from(serve::start(rt.alloc(), seed, &host, &host, &TEXTS, &mut out, &mut err))
+    let texts = program_texts();
+    ExitCode::from(serve::start(rt.alloc(), seed, &host, &host, &texts, &mut out, &mut err))
 }
 
 #[cfg(test)]

@@ -1,11 +1,12 @@
 //! The rules, as `mm explain` tells them. Made by scripts/rules.sh from docs/RULES.md: edit that.
 
-use crate::texts::RuleText;
+use crate::rule_text::RuleText;
 
 pub(crate) const RULES: &[RuleText<'static>] = &[
     RuleText {
         code: "F1",
-        text: "F1: no file was handed in (by the library alone: the program asks for one).
+        text: "F1: no file was handed in, which only the library can answer: the program asks
+for a file.
 It has no place. Reply: `load F1`
 ",
     },
@@ -31,13 +32,6 @@ This file breaks it:
 
 The reply:
     no f.mm 1 - X1 0
-
-This file breaks it:
-    $c a $.
-    $( é $)
-
-The reply:
-    no f.mm 2 - X1 0
 ",
     },
     RuleText {
@@ -61,12 +55,6 @@ This file breaks it:
 
 The reply:
     no f.mm 1 - X3 0
-
-This file breaks it:
-    $( one $( two $)
-
-The reply:
-    no f.mm 1 - X3 0
 ",
     },
     RuleText {
@@ -79,18 +67,6 @@ This file breaks it:
 
 The reply:
     no f.mm 1 p X4 0
-
-This file breaks it:
-    $]
-
-The reply:
-    no f.mm 1 - X4 0
-
-This file breaks it:
-    $[ a.mm $)
-
-The reply:
-    no f.mm 1 - X4 0
 ",
     },
     RuleText {
@@ -103,13 +79,6 @@ This file breaks it:
 
 The reply:
     no f.mm 1 - X5 0
-
-This file breaks it:
-    $[ a.mm
-    b.mm $]
-
-The reply:
-    no f.mm 2 - X5 0
 ",
     },
     RuleText {
@@ -122,13 +91,6 @@ This file breaks it:
 
 The reply:
     no f.mm 1 - X6 0
-
-This file breaks it:
-    p $a
-    $[ $x
-
-The reply:
-    no f.mm 2 p X6 0
 ",
     },
     RuleText {
@@ -217,12 +179,6 @@ This file breaks it:
 
 The reply:
     no f.mm 1 p S4 0
-
-This file breaks it:
-    $c a ${ $.
-
-The reply:
-    no f.mm 1 - S4 0
 ",
     },
     RuleText {
@@ -236,18 +192,6 @@ This file breaks it:
 
 The reply:
     no f.mm 1 - S5 0
-
-This file breaks it:
-    $d x $.
-
-The reply:
-    no f.mm 1 - S5 0
-
-This file breaks it:
-    p $f a b c $.
-
-The reply:
-    no f.mm 1 p S5 0
 ",
     },
     RuleText {
@@ -299,13 +243,6 @@ Place: the statement's first token.
 
 This file breaks it:
     $c a $. $v x $.
-    $c x $.
-
-The reply:
-    no f.mm 2 - M2 0
-
-This file breaks it:
-    ${ $v x $. $}
     $c x $.
 
 The reply:
@@ -374,14 +311,6 @@ This file breaks it:
 
 The reply:
     no f.mm 1 p M7 0
-
-This file breaks it:
-    $c a $.
-    ${ $v x $. $}
-    p $a a x $.
-
-The reply:
-    no f.mm 3 p M7 0
 ",
     },
     RuleText {
@@ -488,8 +417,8 @@ The reply:
     },
     RuleText {
         code: "P1",
-        text: "P1: the first token of the proof is `(`, and there is no `)` among the others.
-Step 0.
+        text: "P1: the first token of a complete proof is `(`, and there is no `)` among the
+others. Step 0.
 Place: the statement's first token.
 
 This file breaks it:
@@ -502,8 +431,8 @@ The reply:
     },
     RuleText {
         code: "P2",
-        text: "P2: a label, in a normal proof or in the list of a compressed one, isn't that of
-an earlier statement; the `$p` itself isn't earlier. Step 0, whatever the steps
+        text: "P2: the proof names a label, in a normal proof or in the list of a compressed
+one, that isn't that of a statement before this `$p`. Step 0, whatever the steps
 before it do, and whether or not a listed label is used.
 Place: the statement's first token.
 
@@ -512,13 +441,6 @@ This file breaks it:
 
 The reply:
     no f.mm 1 p P2 0
-
-This file breaks it:
-    $c a $. one $a a $.
-    p $p a $= ( one two ) A $.
-
-The reply:
-    no f.mm 2 p P2 0
 ",
     },
     RuleText {
@@ -550,7 +472,8 @@ The reply:
     },
     RuleText {
         code: "P5",
-        text: "P5: leading digits are followed by `Z`, or by the end of the letters. Step 0.
+        text: "P5: leading digits are followed by `Z`, by the end of the letters, or by a `?`.
+Step 0.
 Place: the statement's first token.
 
 This file breaks it:
@@ -559,19 +482,29 @@ This file breaks it:
 
 The reply:
     no f.mm 2 p P5 0
+",
+    },
+    RuleText {
+        code: "P15",
+        text: "P15: under the strict profile, the list of a compressed proof names a mandatory
+hypothesis, or a label twice; or a `Z` doesn't stand directly after a number of
+a listed label that is an assertion's. Step 0; it is judged over the whole
+proof, after P5. Here the list names `one` twice.
+Place: the statement's first token.
 
 This file breaks it:
     $c a $. one $a a $.
-    p $p a $= ( one ) AU $.
+    p $p a $= ( one one ) B $.
 
-The reply:
-    no f.mm 2 p P5 0
+The reply to `mm check --strict f.mm`:
+    no f.mm 2 p P15 0
 ",
     },
     RuleText {
         code: "P6",
-        text: "P6: a number exceeds m + n + t, with m mandatory hypotheses, n listed labels and
-t tags so far. Here m and t are 0, n is 1, and the number is 2.
+        text: "P6: a number in the letters exceeds m + n + t, with m mandatory hypotheses, n
+listed labels and t tags so far. Here m and t are 0, n is 1, and the number is
+2.
 Place: the statement's first token.
 
 This file breaks it:
@@ -584,7 +517,8 @@ The reply:
     },
     RuleText {
         code: "P7",
-        text: "P7: a `Z` comes before any step. Step 1, and it comes before P6 there.
+        text: "P7: a `Z` comes before any step. Step 1, and it is judged before P6 there. Under
+the strict profile it is P15.
 Place: the statement's first token.
 
 This file breaks it:
@@ -597,8 +531,8 @@ The reply:
     },
     RuleText {
         code: "P8",
-        text: "P8: the stack holds fewer entries than the assertion has mandatory hypotheses.
-Here `two` has one, `fx`.
+        text: "P8: the step's assertion has more mandatory hypotheses than the stack holds
+entries. Here `two` has one, `fx`.
 Place: the statement's first token.
 
 This file breaks it:
@@ -611,8 +545,8 @@ The reply:
     },
     RuleText {
         code: "P9",
-        text: "P9: the type code of a `$f` differs from the first symbol of its entry. Here `a`
-is asked for, and the entry is `b`.
+        text: "P9: the entry that the step takes for a `$f` doesn't begin with the type code of
+that `$f`. Here `a` is asked for, and the entry is `b`.
 Place: the statement's first token.
 
 This file breaks it:
@@ -625,8 +559,9 @@ The reply:
     },
     RuleText {
         code: "P10",
-        text: "P10: an `$e`, substituted, differs from its entry. Here the entry of `fx`
-replaces `x` by `b`, so that `h` becomes `|- b`, and its entry is `|- b b`.
+        text: "P10: the entry that the step takes for an `$e` isn't that `$e` with its
+variables replaced. Here the entry of `fx` replaces `x` by `b`, so that `h`
+becomes `|- b`, and its entry is `|- b b`.
 Place: the statement's first token.
 
 This file breaks it:
@@ -641,8 +576,8 @@ The reply:
     },
     RuleText {
         code: "P11",
-        text: "P11: the replacements of a mandatory distinct pair share a variable. Here both
-are `x`.
+        text: "P11: the step replaces two variables that its assertion keeps distinct by
+expressions that share a variable. Here both are `x`.
 Place: the statement's first token.
 
 This file breaks it:
@@ -656,9 +591,10 @@ The reply:
     },
     RuleText {
         code: "P12",
-        text: "P12: a pair of variables, one from each of these replacements, isn't an active
-pair where the `$p` stands. Here the pair is `y`, `x`, and the `$d` of line 2 is
-no longer active.
+        text: "P12: the step replaces two variables that its assertion keeps distinct, and a
+variable of the one replacement and a variable of the other aren't an active
+distinct pair where the `$p` stands. Here the pair is `y`, `x`, and the `$d` of
+line 2 is no longer active.
 Place: the statement's first token.
 
 This file breaks it:
@@ -673,8 +609,9 @@ The reply:
     RuleText {
         code: "L1",
         text: "L1: a step pushes an expression of more than 1,048,576 symbols, its type code
-counted. Here step 1 pushes 2 symbols, and each further step twice as many as
-the one before: step 20 pushes 1,048,576.
+counted; under the strict profile, of more than 16,777,216. Here step 1 pushes 2
+symbols, and each further step twice as many as the one before: step 20 pushes
+1,048,576.
 Place: the statement's first token.
 
 This file breaks it:
@@ -687,8 +624,8 @@ The reply:
     },
     RuleText {
         code: "P13",
-        text: "P13: at the end the stack doesn't hold exactly one entry. An empty proof leaves
-none, and its step is 1.
+        text: "P13: at the end of a complete proof the stack doesn't hold exactly one entry. An
+empty proof leaves none, and its step is 1.
 Place: the statement's first token.
 
 This file breaks it:
@@ -701,7 +638,8 @@ The reply:
     },
     RuleText {
         code: "P14",
-        text: "P14: that entry differs from the expression of the `$p`.
+        text: "P14: the one entry at the end of a complete proof isn't the expression of the
+`$p`.
 Place: the statement's first token.
 
 This file breaks it:

@@ -11,14 +11,16 @@ ghost use Rattle.mm_tool.specs.Ending.{IsExplanation, IsUnknownCode, IsExplanati
 ghost use Rattle.mm_tool.specs.Ending.{IsSameReplyOver, StopsSame};
 ghost use Rattle.mm_tool.specs.Ending.{StopsRun, TakesWhole, TellsLine, error_line, stop_status};
 ghost use Rattle.mm_check.specs.declared.command.Command.TheVariants.{Check};
+ghost use Rattle.mm_proof.specs.declared.profile.Profile.{Profile};
 ghost use Rattle.mm_tool.specs.Folder.{plain_read};
 ghost use Rattle.mm_tool.specs.declared.files.Comments.TheVariants.{LeftOut};
 ghost use Rattle.mm_tool.specs.declared.stop.Stop.TheVariants.{CannotWrite};
 
 use crate::files::{Comments, FileFault, ReadFile, read_file, read_files};
 use crate::folder::{Arguments, Folder};
+use crate::rule_text::RuleText;
 use crate::stop::Stop;
-use crate::texts::{RuleText, Texts};
+use crate::texts::Texts;
 use crate::words::{Comparison, Request, request_of};
 use mm_check::{Command, Status, alike_files_have_one_reply, run};
 use mm_text::{BYTE_LIMIT, Counted, File, Seed};
@@ -73,10 +75,11 @@ fn plain_files<'f>(alloc: Global, files: &'f [ReadFile<'_>]) -> Result<Vec<File<
 /// What becomes of comments as files are read for a command. Its law is about `check`, and about
 /// files that `check` takes.
 fn comments_for(command: &Command<'_>, max: usize) -> Comments
-    ensures { result ≡ LeftOut → (command.now ≡ Check) × (max ≤ BYTE_LIMIT) }
+    ensures { result ≡ LeftOut → ((profile : Profile) × (command.now ≡ Check profile))
+        × (max ≤ BYTE_LIMIT) }
 {
     match command {
-        Command::Check if max <= BYTE_LIMIT => Comments::LeftOut,
+        Command::Check { .. } if max <= BYTE_LIMIT => Comments::LeftOut,
         _ => Comments::Kept,
     }
 }

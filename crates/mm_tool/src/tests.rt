@@ -9,10 +9,16 @@ use crate::texts::Texts;
 use failing::{FailingFolder, Wordless, failing_writer};
 use folder::{Entry, Shelf};
 use mm_check::{Command, Status};
+use mm_proof::Profile;
 use mm_text::{Counted, Seed};
 use std::alloc::Global;
 use std::cell::Cell;
 use std::io::ErrorKind;
+
+/// What `mm check` asks without an option.
+const CHECK: Command<'static> = Command::Check {
+    profile: Profile::Lenient,
+};
 
 const FIRST: &[u8] = b"$c 0 + ( ) term $.
 $v t r $.
@@ -92,6 +98,10 @@ fn replies(rt: HostRuntime) {
             b"yes 7 statements 1 proofs\n".as_slice(),
         ),
         (
+            ["mm", "check", "--strict", "first.mm"].as_slice(),
+            b"yes 7 statements 1 proofs\n".as_slice(),
+        ),
+        (
             ["mm", "axioms", "th", "first.mm"].as_slice(),
             b"tze\ntpl\n".as_slice(),
         ),
@@ -140,7 +150,7 @@ fn refuses_files_that_are_too_long(rt: HostRuntime) {
         rt.alloc(),
         Seed::known(),
         &folder,
-        &Command::Check,
+        &CHECK,
         &names,
         7,
         &mut out,
@@ -153,7 +163,7 @@ fn refuses_files_that_are_too_long(rt: HostRuntime) {
         rt.alloc(),
         Seed::known(),
         &folder,
-        &Command::Check,
+        &CHECK,
         &names,
         8,
         &mut out,

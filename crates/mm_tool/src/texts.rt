@@ -1,15 +1,8 @@
 //! The texts that the program prints as they stand.
 
 use crate::code_lines::CODES;
+use crate::rule_text::RuleText;
 use crate::rules::RULES;
-
-/// A rule, as `mm explain` tells it.
-#[derive(Clone, Copy)]
-pub(crate) struct RuleText<'t> {
-    pub(crate) code: &'t str,
-    /// The rule, where its place is, and a file that breaks it with the reply.
-    pub(crate) text: &'t str,
-}
 
 /// The texts, each of which ends with a line feed.
 #[derive(Clone, Copy)]
@@ -26,9 +19,11 @@ const HELP: &str = "Verifies databases of the Metamath language.
 Usage: mm <COMMAND>
 
 Commands:
-  check FILES..          checks each statement and each proof of a database; the top file comes
+  check [--strict] FILES..
+                         checks each statement and each proof of a database; the top file comes
                          first, then the files that are included, each under the very name that
-                         stands in its `$[ NAME $]`
+                         stands in its `$[ NAME $]`. With --strict compressed proofs must have the
+                         strict form (`mm explain P15`), and expressions may be longer
   axioms LABEL FILES..   checks the database, and lists the axioms that the theorem with this
                          label rests on
   show LABEL FILES..     checks the database, and lists the steps of the proof of the theorem with
@@ -54,13 +49,15 @@ Replies of check, on standard output:
       Each statement obeys the rules of the language, and each proof derives what its statement
       says. N counts all statements, `${` and `$}` too, and M the proofs. Status 0.
   incomplete N, and then a label on each of N lines
-      Nothing is at fault, but the proofs of these statements hold a `?`. Status 3.
+      Nothing is at fault, but the proofs of these statements hold a `?`. What stands before it is
+      checked. Status 3.
   no FILE LINE LABEL RULE STEP
       The first statement at fault: where it stands; its label, or - where it has none; the code of
       the rule that it breaks, which `mm explain RULE` explains; and the step of its proof, from 1,
       or 0 where no step is at fault. Status 1.
   limit FILE LINE LABEL L1 STEP
-      A step of a proof made an expression of more than 1048576 symbols. Status 4.
+      A step of a proof made an expression of more than 1048576 symbols, with --strict of
+      more than 16777216. Status 4.
   load F2
       Two of the files have the same name. Status 4.
   load F3
@@ -112,6 +109,7 @@ Where there is no reply, a line on standard error says why.
 
 Examples:
   mm check set.mm
+  mm check --strict set.mm
   mm axioms id set.mm
   mm show id set.mm
   mm packed id set.mm
@@ -121,10 +119,25 @@ Examples:
 
 const VERSION: &str = "mm 0.1.0, proved with rattle-kit-13f logic dac8208d650f15bf\n";
 
+// Each long text comes from a call, so that what is proved of a caller doesn't hold its bytes.
+fn help() -> &'static str {
+    HELP
+}
+
+fn codes() -> &'static str {
+    CODES
+}
+
+fn rules() -> &'static [RuleText<'static>] {
+    RULES
+}
+
 /// The texts of the program.
-pub(crate) const TEXTS: Texts<'static> = Texts {
-    help: HELP,
-    version: VERSION,
-    codes: CODES,
-    rules: RULES,
-};
+pub(crate) fn program_texts() -> Texts<'static> {
+    Texts {
+        help: help(),
+        version: VERSION,
+        codes: codes(),
+        rules: rules(),
+    }
+}

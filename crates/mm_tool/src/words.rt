@@ -9,11 +9,13 @@ ghost use Rattle.mm_tool.specs.Words.{AreMatchesOf, bare_line, check_line, code_
 ghost use Rattle.mm_tool.specs.Words.{command_line, database_line, explain_line, files_rule};
 ghost use Rattle.mm_tool.specs.Words.{help_line, label_rule, question_line, show_line};
 ghost use Rattle.mm_tool.specs.Words.{proof_rule, normal_line, packed_line, same_line, forms_line};
+ghost use Rattle.mm_tool.specs.Words.{is_strict, strict_rule};
 ghost use Rattle.mm_tool.specs.Words.{NamesNoForm, IsGiven, file_rule, form_line};
 
 use crate::stop::Stop;
 use clap::error::ErrorKind;
 use clap::{Arg, ArgAction, ArgMatches, Command, Error};
+use mm_proof::Profile;
 use std::alloc::{AllocError, Global};
 
 const PROGRAM: &str = "mm";
@@ -39,6 +41,8 @@ const FILES: &str = "FILES";
 const LABEL: &str = "LABEL";
 
 const FILE: &str = "file";
+
+const STRICT: &str = "strict";
 
 /// What `clap` finds for a flag that is given.
 const GIVEN: &str = "true";
@@ -101,6 +105,16 @@ fn file_argument<'a>(alloc: Global) -> Arg<'a>
     Arg::new(alloc, FILE).long(FILE).action(ArgAction::SetTrue)
 }
 
+/// The flag that asks for the strict profile, for `clap`.
+fn strict_argument<'a>(alloc: Global) -> Arg<'a>
+    ensures rule { rule_of result ≡ strict_rule }
+    ensures local { result.global ≡ false }
+{
+    Arg::new(alloc, STRICT)
+        .long(STRICT)
+        .action(ArgAction::SetTrue)
+}
+
 /// The name of the file with a proof's text, for `clap`.
 fn proof_argument<'a>(alloc: Global) -> Arg<'a>
     ensures rule { rule_of result ≡ proof_rule }
@@ -126,6 +140,7 @@ fn check_command<'a>(alloc: Global) -> Result<Command<'a>, AllocError>
 {
     Command::new(alloc, CHECK)
         .about("checks each statement and each proof of a database")
+        .arg(strict_argument(alloc))?
         .arg(files_argument(alloc))
 }
 
@@ -309,6 +324,16 @@ fn is_given(command: &ArgMatches, flag: &str) -> bool
     asked_word(command, flag) == GIVEN
 }
 
+/// The profile that is asked for, in the matches of the command: by the flag the strict one.
+fn asked_profile(command: &ArgMatches, flag: &str) -> Profile
+    ensures { IsGiven flag.now (rows_of (found_of command.now)) (is_strict result) }
+{
+    match is_given(command, flag) {
+        true => Profile::Strict,
+        false => Profile::Lenient,
+    }
+}
+
 /// What these matches of the words ask for by the commands `normal`, `packed` and `same`; nothing
 /// where they name none of these.
 fn form_request<'a>(
@@ -357,7 +382,9 @@ fn request_of_matches<'a>(
 {
     if let Some(check) = matches.subcommand_matches(CHECK) {
         return Ok(Request::Run {
-            command: mm_check::Command::Check,
+            command: mm_check::Command::Check {
+                profile: asked_profile(check, STRICT),
+            },
             names: values_of(alloc, check, FILES)?,
         });
     }

@@ -1,6 +1,6 @@
 -- One more rule has another code.
 use Rattle.std.proofs.Common.{◌≢◌, sym, ◌∙◌}
-use Rattle.mm_tool.specs.declared.texts.RuleText.{RuleText}
+use Rattle.mm_tool.specs.declared.rule_text.RuleText.{RuleText}
 use Rattle.mm_tool.proofs.Tellings.{all_more, different}
 use Rattle.mm_tool.proofs.serve.rule_with.Goals as goal
 

@@ -11,3 +11,16 @@ returns-in-Some-clause-request c = λ words met. (
   c.is_given-whole.ensures,
   sym c.in_ok-names.ensures,
 )
+
+pub returns-in-Some-subcommand_matches-clause-request :
+    goal.returns-in-Some-subcommand_matches-clause-request
+returns-in-Some-subcommand_matches-clause-request c = λ words met. (
+  _,
+  commands_met words c.args.matches.now _ _ met
+      (c.in-Some-subcommand_matches.ensures.found.0 refl)
+      c.in-Some-subcommand_matches.ensures.rows,
+  sym (c.as_bytes-label-in-Some-subcommand_matches.ensures.value
+      ∙ c.asked_word-in-Some-subcommand_matches.ensures),
+  c.is_given-whole-in-Some-subcommand_matches.ensures,
+  sym c.in_ok-names-2.ensures,
+)

@@ -11,6 +11,7 @@ pub returns-in-Some-clause-request : goal.returns-in-Some-clause-request
 returns-in-Some-clause-request c = λ words met. (
   _,
   commands_met words c.args.matches.now _ _ met (c.in-Some.ensures.found.0 refl) c.in-Some.ensures.rows,
+  c.asked_profile.ensures,
   sym c.in_ok-values_of.ensures,
 )
 

@@ -1,0 +1,9 @@
+//! A rule, as `mm explain` tells it.
+
+/// A rule by its code, and what is told of it.
+#[derive(Clone, Copy)]
+pub(crate) struct RuleText<'t> {
+    pub(crate) code: &'t str,
+    /// The rule, where its place is, and a file that breaks it with the reply.
+    pub(crate) text: &'t str,
+}
