@@ -6,6 +6,7 @@ mod code;
 mod failing;
 mod frame;
 mod load;
+mod profiles;
 mod proof;
 mod save;
 mod text;

@@ -1,14 +1,15 @@
-//! The examples of `docs/LANGUAGE.md`, and questions.
+//! The examples of `docs/LANGUAGE.md`, and those of other commands than `mm check`.
 //! Made by `docs/make-examples`: edit the documents, and run it.
 
 use crate::Part::Text;
 use crate::Row;
-use crate::tests::{compare, compare_questions};
-use mm_check::Command::{self, Axioms, Normal, Packed, Show};
+use crate::tests::{compare, compare_commands};
+use mm_check::Command::{self, Axioms, Check, Normal, Packed, Show};
+use mm_proof::Profile;
 use std::test::Fail;
 
 /// The examples of `docs/LANGUAGE.md`.
-const LANGUAGE: [Row; 9] = [
+const LANGUAGE_1: [Row; 9] = [
     Row {
         name: "Comments (book, 4.1.2 and 4.4.1), in docs/LANGUAGE.md",
         files: &[(b"f.mm", &[Text(b"$( A constant, $( in a comment.\n")])],
@@ -156,28 +157,72 @@ const LANGUAGE: [Row; 9] = [
         status: 0,
     },
     Row {
-        name: "Incomplete proofs (book, 4.4.4), in docs/LANGUAGE.md",
+        name: "Two profiles (own), in docs/LANGUAGE.md",
         files: &[(
             b"f.mm",
             &[
-                Text(b"$c a $. one $a a $.\n"),
-                Text(b"u1 $p a $= ? $.\n"),
-                Text(b"u2 $p a $= ( one ) A? $.\n"),
-                Text(b"th $p a $= u1 $.\n"),
+                Text(b"$c + ( ) term $.\n"),
+                Text(b"$v t r $.\n"),
+                Text(b"tt $f term t $.\n"),
+                Text(b"tr $f term r $.\n"),
+                Text(b"plus $a term ( t + r ) $.\n"),
+                Text(b"th $p term ( t + t ) $= ( plus ) AZCB $.\n"),
             ],
         )],
-        reply: b"incomplete 2\nu1\nu2\n",
-        status: 3,
+        reply: b"yes 6 statements 1 proofs\n",
+        status: 0,
     },
 ];
 
 #[test]
-fn language(rt: HostRuntime) -> Result<(), Fail> {
-    compare(&rt, rt.alloc(), &LANGUAGE)
+fn language_1(rt: HostRuntime) -> Result<(), Fail> {
+    compare(&rt, rt.alloc(), &LANGUAGE_1)
 }
 
-/// The questions among the examples.
-const QUESTIONS: [(Command<'static>, Row); 5] = [
+/// The next examples of `docs/LANGUAGE.md`.
+const LANGUAGE_2: [Row; 1] = [Row {
+    name: "Incomplete proofs (book, 4.4.4), in docs/LANGUAGE.md",
+    files: &[(
+        b"f.mm",
+        &[
+            Text(b"$c a $. one $a a $.\n"),
+            Text(b"u1 $p a $= ? $.\n"),
+            Text(b"u2 $p a $= ( one ) A? $.\n"),
+            Text(b"th $p a $= u1 $.\n"),
+        ],
+    )],
+    reply: b"incomplete 2\nu1\nu2\n",
+    status: 3,
+}];
+
+#[test]
+fn language_2(rt: HostRuntime) -> Result<(), Fail> {
+    compare(&rt, rt.alloc(), &LANGUAGE_2)
+}
+
+/// The other commands among the examples.
+const COMMANDS_1: [(Command<'static>, Row); 9] = [
+    (
+        Check {
+            profile: Profile::Strict,
+        },
+        Row {
+            name: "Two profiles (own), in docs/LANGUAGE.md",
+            files: &[(
+                b"f.mm",
+                &[
+                    Text(b"$c + ( ) term $.\n"),
+                    Text(b"$v t r $.\n"),
+                    Text(b"tt $f term t $.\n"),
+                    Text(b"tr $f term r $.\n"),
+                    Text(b"plus $a term ( t + r ) $.\n"),
+                    Text(b"th $p term ( t + t ) $= ( plus ) AZCB $.\n"),
+                ],
+            )],
+            reply: b"no f.mm 6 th P15 0\n",
+            status: 1,
+        },
+    ),
     (
         Packed {
             label: b"th",
@@ -195,6 +240,71 @@ const QUESTIONS: [(Command<'static>, Row); 5] = [
                 ],
             )],
             reply: b"      ( nil cat )\n      AABZCB\n",
+            status: 0,
+        },
+    ),
+    (
+        Check {
+            profile: Profile::Strict,
+        },
+        Row {
+            name: "P15, in docs/RULES.md",
+            files: &[(
+                b"f.mm",
+                &[Text(b"$c a $. one $a a $.\np $p a $= ( one one ) B $.\n")],
+            )],
+            reply: b"no f.mm 2 p P15 0\n",
+            status: 1,
+        },
+    ),
+    (
+        Check {
+            profile: Profile::Strict,
+        },
+        Row {
+            name: "P15, in docs/RULES.md",
+            files: &[(
+                b"f.mm",
+                &[
+                    Text(b"$c a b $. $v x $. fx $f a x $. two $a a x b $.\n"),
+                    Text(b"p $p a x b $= ( fx two ) BC $.\n"),
+                ],
+            )],
+            reply: b"no f.mm 2 p P15 0\n",
+            status: 1,
+        },
+    ),
+    (
+        Check {
+            profile: Profile::Strict,
+        },
+        Row {
+            name: "P15, in docs/RULES.md",
+            files: &[(
+                b"f.mm",
+                &[
+                    Text(b"$c a b $. $v x $. fx $f a x $. two $a a x b $.\n"),
+                    Text(b"p $p a x b $= ( two ) AZB $.\n"),
+                ],
+            )],
+            reply: b"no f.mm 2 p P15 0\n",
+            status: 1,
+        },
+    ),
+    (
+        Check {
+            profile: Profile::Strict,
+        },
+        Row {
+            name: "P15, in docs/RULES.md",
+            files: &[(
+                b"f.mm",
+                &[
+                    Text(b"$c a b $. $v x $. fx $f a x $. two $a a x b $.\n"),
+                    Text(b"p $p a x b $= ( two ) AB $.\n"),
+                ],
+            )],
+            reply: b"yes 5 statements 1 proofs\n",
             status: 0,
         },
     ),
@@ -234,30 +344,37 @@ const QUESTIONS: [(Command<'static>, Row); 5] = [
             status: 3,
         },
     ),
-    (
-        Normal {
-            label: b"p",
-            whole: false,
-        },
-        Row {
-            name: "L2, in docs/RULES.md",
-            files: &[(
-                b"f.mm",
-                &[
-                    Text(b"$c e $. $v x y $. fx $f e x $. fy $f e y $. nil $a e $. cat "),
-                    Text(b"$a e x y $.\n"),
-                    Text(b"p $p e $= ( nil cat )\n"),
-                    Text(b"  AABZCBZDBZEBZFBZGBZHBZIBZJBZKBZLBZMB\n"),
-                    Text(b"  ZNBZOBZPBZQBZRBZSBZTBZUABZUBBZUCBZUDBZUEB $.\n"),
-                ],
-            )],
-            reply: b"ask L2 p\n",
-            status: 4,
-        },
-    ),
 ];
 
 #[test]
-fn questions(rt: HostRuntime) -> Result<(), Fail> {
-    compare_questions(&rt, rt.alloc(), &QUESTIONS)
+fn commands_1(rt: HostRuntime) -> Result<(), Fail> {
+    compare_commands(&rt, rt.alloc(), &COMMANDS_1)
+}
+
+/// The next other commands among the examples.
+const COMMANDS_2: [(Command<'static>, Row); 1] = [(
+    Normal {
+        label: b"p",
+        whole: false,
+    },
+    Row {
+        name: "L2, in docs/RULES.md",
+        files: &[(
+            b"f.mm",
+            &[
+                Text(b"$c e $. $v x y $. fx $f e x $. fy $f e y $. nil $a e $. cat "),
+                Text(b"$a e x y $.\n"),
+                Text(b"p $p e $= ( nil cat )\n"),
+                Text(b"  AABZCBZDBZEBZFBZGBZHBZIBZJBZKBZLBZMB\n"),
+                Text(b"  ZNBZOBZPBZQBZRBZSBZTBZUABZUBBZUCBZUDBZUEB $.\n"),
+            ],
+        )],
+        reply: b"ask L2 p\n",
+        status: 4,
+    },
+)];
+
+#[test]
+fn commands_2(rt: HostRuntime) -> Result<(), Fail> {
+    compare_commands(&rt, rt.alloc(), &COMMANDS_2)
 }

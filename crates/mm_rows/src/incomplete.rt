@@ -1,8 +1,9 @@
-//! The acceptance cases of incomplete proofs: those with a token that holds `?`.
+//! The acceptance cases of incomplete proofs, those with a token that holds `?`, in which nothing is
+//! at fault or the fault is elsewhere.
 
 use crate::Part::{Text, Times};
 use crate::Row;
-use crate::databases::{DIST, FIRST_HEAD, HEAD, LIMIT};
+use crate::databases::{FIRST_HEAD, HEAD, LIMIT};
 
 /// Incomplete proofs are listed, and faults elsewhere come first.
 pub(crate) const LISTED: [Row; 7] = [
@@ -210,106 +211,6 @@ pub(crate) const AFTER_UNKNOWN: [Row; 7] = [
             &[Text(HEAD), Text(b"u1 $p |- t = t $= ( nope ? ) a $.\n")],
         )],
         reply: b"incomplete 1\nu1\n",
-        status: 3,
-    },
-];
-
-/// What stands before the unknown step would break a rule, which is not told as long as known
-/// fronts are not judged.
-pub(crate) const FAULTY_FRONTS: [Row; 10] = [
-    Row {
-        name: "too few entries before the unknown step",
-        files: &[(
-            b"h.mm",
-            &[Text(HEAD), Text(b"u1 $p |- t = t $= tt weq ? $.\n")],
-        )],
-        reply: b"incomplete 1\nu1\n",
-        status: 3,
-    },
-    Row {
-        name: "an unknown label before the unknown step",
-        files: &[(
-            b"h.mm",
-            &[Text(HEAD), Text(b"u1 $p |- t = t $= nope ? $.\n")],
-        )],
-        reply: b"incomplete 1\nu1\n",
-        status: 3,
-    },
-    Row {
-        name: "a hypothesis of a closed block before the unknown step",
-        files: &[(
-            b"h.mm",
-            &[Text(HEAD), Text(b"u1 $p |- t = t $= min ? $.\n")],
-        )],
-        reply: b"incomplete 1\nu1\n",
-        status: 3,
-    },
-    Row {
-        name: "an unknown listed label before the unknown step",
-        files: &[(
-            b"h.mm",
-            &[Text(HEAD), Text(b"u1 $p |- t = t $= ( nope ) A? $.\n")],
-        )],
-        reply: b"incomplete 1\nu1\n",
-        status: 3,
-    },
-    Row {
-        name: "too great a number before the unknown step",
-        files: &[(
-            b"h.mm",
-            &[Text(HEAD), Text(b"u1 $p |- t = t $= ( tze ) AC? $.\n")],
-        )],
-        reply: b"incomplete 1\nu1\n",
-        status: 3,
-    },
-    Row {
-        name: "leading digits before the unknown step",
-        files: &[(
-            b"h.mm",
-            &[Text(HEAD), Text(b"u1 $p |- t = t $= ( tze ) U? $.\n")],
-        )],
-        reply: b"incomplete 1\nu1\n",
-        status: 3,
-    },
-    Row {
-        name: "a small letter before the unknown step",
-        files: &[(
-            b"h.mm",
-            &[Text(HEAD), Text(b"u1 $p |- t = t $= ( tze ) a? $.\n")],
-        )],
-        reply: b"incomplete 1\nu1\n",
-        status: 3,
-    },
-    Row {
-        name: "a tag before any step before the unknown step",
-        files: &[(
-            b"h.mm",
-            &[Text(HEAD), Text(b"u1 $p |- t = t $= ( tze ) Z? $.\n")],
-        )],
-        reply: b"incomplete 1\nu1\n",
-        status: 3,
-    },
-    Row {
-        name: "two distinct variables replaced by one before the unknown step",
-        files: &[(
-            b"dist.mm",
-            &[Text(DIST), Text(b"t5 $p |- z R z $= vz vz ax ? $.\n")],
-        )],
-        reply: b"incomplete 1\nt5\n",
-        status: 3,
-    },
-    Row {
-        name: "too long an expression before the unknown step",
-        files: &[(
-            b"limit.mm",
-            &[
-                Text(LIMIT),
-                Text(b"th $p f $= ( one odd end ) A"),
-                Times(b"B", 20),
-                Text(b"? $.\n"),
-            ],
-        )],
-        reply: b"incomplete 1\nth\n",
         status: 3,
     },
 ];

@@ -22,6 +22,8 @@ mod files;
 #[cfg(test)]
 mod forms;
 #[cfg(test)]
+mod fronts;
+#[cfg(test)]
 mod incomplete;
 #[cfg(test)]
 mod names;
@@ -29,6 +31,8 @@ mod names;
 mod one_file;
 #[cfg(test)]
 mod orders;
+#[cfg(test)]
+mod profiles;
 #[cfg(test)]
 mod proofs;
 #[cfg(test)]

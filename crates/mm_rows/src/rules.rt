@@ -533,7 +533,7 @@ fn rules_7(rt: HostRuntime) -> Result<(), Fail> {
 }
 
 /// The next examples of `docs/RULES.md`.
-const RULES_8: [Row; 6] = [
+const RULES_8: [Row; 9] = [
     Row {
         name: "L1, in docs/RULES.md",
         files: &[(
@@ -579,7 +579,38 @@ const RULES_8: [Row; 6] = [
         name: "Incomplete proofs, in docs/RULES.md",
         files: &[(
             b"f.mm",
+            &[
+                Text(b"$c a $. one $a a $.\n"),
+                Text(b"p $p a $= one ? nope ( $.\n"),
+                Text(b"q $p a $= p $.\n"),
+            ],
+        )],
+        reply: b"incomplete 1\np\n",
+        status: 3,
+    },
+    Row {
+        name: "Incomplete proofs, in docs/RULES.md",
+        files: &[(
+            b"f.mm",
             &[Text(b"$c a $. one $a a $.\np $p a $= nope ( ? $.\nq $p a $= p $.\n")],
+        )],
+        reply: b"no f.mm 2 p P2 0\n",
+        status: 1,
+    },
+    Row {
+        name: "Incomplete proofs, in docs/RULES.md",
+        files: &[(
+            b"f.mm",
+            &[Text(b"$c a $. one $a a $.\np $p a $= ( one ) U?a $.\n")],
+        )],
+        reply: b"no f.mm 2 p P5 0\n",
+        status: 1,
+    },
+    Row {
+        name: "Incomplete proofs, in docs/RULES.md",
+        files: &[(
+            b"f.mm",
+            &[Text(b"$c a $. one $a a $.\np $p a $= ( nope ? ) a $.\n")],
         )],
         reply: b"incomplete 1\np\n",
         status: 3,

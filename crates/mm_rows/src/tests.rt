@@ -2,10 +2,11 @@
 
 use crate::databases::{DEMO, HEAD};
 use crate::{
-    Part, Row, compressed, damaged, files, incomplete, names, one_file, orders, proofs, questions,
-    scopes,
+    Part, Row, compressed, damaged, files, fronts, incomplete, names, one_file, orders, profiles,
+    proofs, questions, scopes,
 };
 use mm_check::{Checked, Command, RunFault, check, run};
+use mm_proof::Profile;
 use mm_text::{Counted, File, Seed, Statement, Statements};
 use std::alloc::Global;
 use std::process::Abort;
@@ -97,16 +98,31 @@ fn compare_case(rt: &impl Abort, alloc: Global, command: &Command, row: &Row) ->
     )
 }
 
-/// Runs the cases of a table of `check`.
-pub(crate) fn compare(rt: &impl Abort, alloc: Global, rows: &[Row]) -> Result<(), Fail> {
+/// What the program is asked by `check` without an option.
+pub(crate) const CHECK: Command<'static> = Command::Check {
+    profile: Profile::Lenient,
+};
+
+/// Runs the cases of a table of `check` under a profile.
+fn compare_under(
+    rt: &impl Abort,
+    alloc: Global,
+    profile: Profile,
+    rows: &[Row],
+) -> Result<(), Fail> {
     for row in rows {
-        compare_case(rt, alloc, &Command::Check, row)?;
+        compare_case(rt, alloc, &Command::Check { profile }, row)?;
     }
     Ok(())
 }
 
-/// Runs the cases of a table of questions.
-pub(crate) fn compare_questions(
+/// Runs the cases of a table of `check`.
+pub(crate) fn compare(rt: &impl Abort, alloc: Global, rows: &[Row]) -> Result<(), Fail> {
+    compare_under(rt, alloc, Profile::Lenient, rows)
+}
+
+/// Runs the cases of a table of commands.
+pub(crate) fn compare_commands(
     rt: &impl Abort,
     alloc: Global,
     rows: &[(Command<'static>, Row)],
@@ -254,8 +270,43 @@ fn after_unknown(rt: HostRuntime) -> Result<(), Fail> {
 }
 
 #[test]
-fn faulty_fronts(rt: HostRuntime) -> Result<(), Fail> {
-    compare(&rt, rt.alloc(), &incomplete::FAULTY_FRONTS)
+fn faults_of_tokens_of_fronts(rt: HostRuntime) -> Result<(), Fail> {
+    compare(&rt, rt.alloc(), &fronts::FAULTS_OF_TOKENS)
+}
+
+#[test]
+fn faults_of_steps_of_fronts(rt: HostRuntime) -> Result<(), Fail> {
+    compare(&rt, rt.alloc(), &fronts::FAULTS_OF_STEPS)
+}
+
+#[test]
+fn strict_proofs(rt: HostRuntime) -> Result<(), Fail> {
+    compare_under(&rt, rt.alloc(), Profile::Strict, &profiles::ACCEPTED)
+}
+
+#[test]
+fn saved_proofs_are_strict(rt: HostRuntime) -> Result<(), Fail> {
+    compare_under(&rt, rt.alloc(), Profile::Strict, &profiles::SAVED)
+}
+
+#[test]
+fn loose_proofs(rt: HostRuntime) -> Result<(), Fail> {
+    compare_under(&rt, rt.alloc(), Profile::Strict, &profiles::LOOSE)
+}
+
+#[test]
+fn order_of_the_strict_form(rt: HostRuntime) -> Result<(), Fail> {
+    compare_under(&rt, rt.alloc(), Profile::Strict, &profiles::ORDER)
+}
+
+#[test]
+fn limits_of_the_strict_profile(rt: HostRuntime) -> Result<(), Fail> {
+    compare_under(&rt, rt.alloc(), Profile::Strict, &profiles::LIMITS)
+}
+
+#[test]
+fn fronts_under_the_strict_profile(rt: HostRuntime) -> Result<(), Fail> {
+    compare_under(&rt, rt.alloc(), Profile::Strict, &profiles::FRONTS)
 }
 
 #[test]
@@ -330,32 +381,32 @@ fn nested_blocks(rt: HostRuntime) -> Result<(), Fail> {
 
 #[test]
 fn axioms(rt: HostRuntime) -> Result<(), Fail> {
-    compare_questions(&rt, rt.alloc(), &questions::AXIOMS)
+    compare_commands(&rt, rt.alloc(), &questions::AXIOMS)
 }
 
 #[test]
 fn unproved_theorems(rt: HostRuntime) -> Result<(), Fail> {
-    compare_questions(&rt, rt.alloc(), &questions::UNPROVED)
+    compare_commands(&rt, rt.alloc(), &questions::UNPROVED)
 }
 
 #[test]
 fn unanswered_axioms(rt: HostRuntime) -> Result<(), Fail> {
-    compare_questions(&rt, rt.alloc(), &questions::AXIOMS_UNANSWERED)
+    compare_commands(&rt, rt.alloc(), &questions::AXIOMS_UNANSWERED)
 }
 
 #[test]
 fn steps_of_proofs(rt: HostRuntime) -> Result<(), Fail> {
-    compare_questions(&rt, rt.alloc(), &questions::STEPS)
+    compare_commands(&rt, rt.alloc(), &questions::STEPS)
 }
 
 #[test]
 fn unanswered_steps(rt: HostRuntime) -> Result<(), Fail> {
-    compare_questions(&rt, rt.alloc(), &questions::STEPS_UNANSWERED)
+    compare_commands(&rt, rt.alloc(), &questions::STEPS_UNANSWERED)
 }
 
 #[test]
 fn axioms_of_refused_files(rt: HostRuntime) -> Result<(), Fail> {
-    compare_questions(&rt, rt.alloc(), &questions::AXIOMS_REFUSED)
+    compare_commands(&rt, rt.alloc(), &questions::AXIOMS_REFUSED)
 }
 
 /// What is done to the byte in a place.
@@ -414,7 +465,7 @@ fn sweep_span(rt: &impl Abort, alloc: Global, damage: Damage, line: &str) -> Res
             bytes: bytes.as_slice(),
         }];
         let wanted = (reply.as_slice(), span.status);
-        expect_reply(rt, alloc, &Command::Check, &files, wanted, line)?;
+        expect_reply(rt, alloc, &CHECK, &files, wanted, line)?;
     }
     Ok(())
 }
@@ -491,7 +542,7 @@ fn ten_thousand_files(rt: HostRuntime) -> Result<(), Fail> {
     expect_reply(
         &rt,
         alloc,
-        &Command::Check,
+        &CHECK,
         &files,
         (yes, 0),
         "files that include each other",

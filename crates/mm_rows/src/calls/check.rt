@@ -1,6 +1,7 @@
 //! One happy path of each public call, and writers that fail in the middle of a reply.
 
 use crate::calls::failing::failing_writer;
+use crate::tests::CHECK;
 use mm_check::{
     AskFault, CheckFault, Checked, Command, Report, Rule, RunFault, Status, check, run,
 };
@@ -162,7 +163,7 @@ fn replies_of_first(
 #[test]
 fn writes_the_reply(rt: HostRuntime) -> Result<(), Fail> {
     let answer = (Status::Done, REPLY);
-    assert!(rt; replies_of_first(rt.alloc(), &Command::Check, answer)?);
+    assert!(rt; replies_of_first(rt.alloc(), &CHECK, answer)?);
     Ok(())
 }
 
@@ -201,7 +202,7 @@ fn refuses_no_files(rt: HostRuntime) -> Result<(), Fail> {
     let fault = fault_of(rt.alloc(), &[])?;
     assert!(rt; matches!(fault, CheckFault::Load(Rule::F1)));
     let answer = (Status::Stopped, b"load F1\n".as_slice());
-    assert!(rt; replies(rt.alloc(), &Command::Check, &[], answer)?);
+    assert!(rt; replies(rt.alloc(), &CHECK, &[], answer)?);
     Ok(())
 }
 
@@ -224,14 +225,7 @@ fn faults_have_messages(rt: HostRuntime) -> Result<(), Fail> {
 /// counted alone, and has written what comes before it.
 fn stops_writing(alloc: Global, fails_at: usize, answers_zero: bool) -> bool {
     let mut out = failing_writer(alloc, fails_at, answers_zero);
-    let answer = run(
-        alloc,
-        Seed::known(),
-        &Command::Check,
-        &file(FIRST),
-        &mut out,
-    )
-    .err();
+    let answer = run(alloc, Seed::known(), &CHECK, &file(FIRST), &mut out).err();
     let faults = out.faults();
     let out = out.into_inner();
     answer == Some(RunFault::Device)

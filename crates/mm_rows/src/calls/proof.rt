@@ -1,11 +1,14 @@
 //! Both stores, and the verdicts on proofs of small databases with either.
 
 mod forms;
+mod fronts;
+mod prover;
 
 ghost use Rattle.std.specs.Prelude.{◌≡◌, ◌≤◌, ◌++◌, ◌∷◌, [], ℕ, map, length, IfOk, IfSome, OnOk};
 ghost use Rattle.std.specs.List.{AllByRecursion, sum_by};
 ghost use Rattle.mm_text.specs.Statement.{plain_statement, HasForm, bytes_in};
 ghost use Rattle.mm_text.specs.declared.statement.Kind.TheVariants.{Provable};
+ghost use Rattle.mm_text.specs.Files.{most_bytes};
 ghost use Rattle.mm_frame.specs.declared.answer.Taken.TheVariants.{Assertion};
 ghost use Rattle.mm_frame.specs.Sentence.{Sentence, sentence_in};
 ghost use Rattle.mm_frame.specs.Taken.{TakenAs};
@@ -16,8 +19,9 @@ use mm_frame::{Book, Found, LabelId, Piece, ShortPiece, Sym, Taken};
 use mm_proof::{
     Flat, Line, Name, Parsed, Profile, ProofFault, ProofRule, Rows, Steps, Store, Used,
     by_spelling, by_word, fewest_steps, limits_aside, listing, made_by_word, mark_before_any_step,
-    one_fit, one_packed, one_tree, one_verdict, one_word, some_packed, some_verdict,
-    steps_make_children, tag_over_marks, told_by_packed, verify,
+    one_fit, one_front_verdict, one_front_verdict_under, one_packed, one_tree, one_verdict,
+    one_verdict_under, one_word, some_packed, some_verdict, steps_make_children, tag_over_marks,
+    told_by_packed, verify,
 };
 use mm_text::{File, Kind, Seed, Statement, Statements, Token};
 use std::alloc::{AllocError, Global};
@@ -134,7 +138,7 @@ fn take<'a>(book: &mut Book<'a>, statement: &Statement<'a>) -> Result<Taken, Fai
     ensures book { IfOk result (λ taken. book.new.statements
         ≡ book.old.statements ++ sentence_in statement.now ∷ []) }
     ensures formed { IfOk result (λ taken. HasForm (plain_statement statement.now)) }
-    ensures room { IfOk result (λ taken. bytes_in (plain_statement statement.now) ≤ 1073741824) }
+    ensures room { IfOk result (λ taken. bytes_in (plain_statement statement.now) ≤ most_bytes) }
 {
     let bytes = bytes_of(statement).ok_or("a long statement")?;
     if book.bytes() > ROOM || bytes > ROOM - book.bytes() {
@@ -187,7 +191,7 @@ fn take_theorem<'a>(
     ensures proof { IfOk result (λ id. (place : ℕ) × (s : Sentence)
         × IsProofNumber book.new.statements id.0 place s) }
     ensures formed { OnOk result (HasForm (plain_statement into.new)) }
-    ensures room { OnOk result (bytes_in (plain_statement into.new) ≤ 1073741824) }
+    ensures room { OnOk result (bytes_in (plain_statement into.new) ≤ most_bytes) }
 {
     for _ in 0..u64::MAX {
         read_next(statements, into)?;
@@ -202,9 +206,9 @@ fn take_theorem<'a>(
 /// The tokens of the proof of a statement.
 fn tokens_of<'a>(alloc: Global, statement: &Statement<'a>) -> Result<Vec<&'a [u8]>, AllocError>
     requires formed { HasForm (plain_statement statement.now) }
-    requires room { bytes_in (plain_statement statement.now) ≤ 1073741824 }
+    requires room { bytes_in (plain_statement statement.now) ≤ most_bytes }
     ensures filled { IfOk result (λ v. AllByRecursion (λ x. 1 ≤ length x) (texts v.items)) }
-    ensures room { IfOk result (λ v. sum_by length (texts v.items) ≤ 1073741824) }
+    ensures room { IfOk result (λ v. sum_by length (texts v.items) ≤ most_bytes) }
 {
     let tokens = texts_of(alloc, &statement.proof)?;
     Ok(tokens)
@@ -229,7 +233,7 @@ fn take_proof<'a>(
         × IsProofNumber book.new.statements taken.0.0 place s) }
     ensures filled { IfOk result (λ taken.
         AllByRecursion (λ x. 1 ≤ length x) (texts taken.1.items)) }
-    ensures room { IfOk result (λ taken. sum_by length (texts taken.1.items) ≤ 1073741824) }
+    ensures room { IfOk result (λ taken. sum_by length (texts taken.1.items) ≤ most_bytes) }
 {
     let id = take_theorem(statements, book, into)?;
     let tokens = tokens_of(alloc, into)?;
@@ -245,7 +249,7 @@ fn theorem_from<'a>(
     ensures proof { IfOk result (λ t. (place : ℕ) × (s : Sentence)
         × IsProofNumber t.book.statements t.id.0 place s) }
     ensures filled { IfOk result (λ t. AllByRecursion (λ x. 1 ≤ length x) (texts t.tokens.items)) }
-    ensures room { IfOk result (λ t. sum_by length (texts t.tokens.items) ≤ 1073741824) }
+    ensures room { IfOk result (λ t. sum_by length (texts t.tokens.items) ≤ most_bytes) }
 {
     let mut book = Book::new(alloc, Seed::known())?;
     match take_proof(alloc, statements, &mut book, into) {
@@ -262,7 +266,7 @@ fn first_theorem<'a>(alloc: Global, files: &'a [File<'a>]) -> Result<Theorem<'a>
     ensures proof { IfOk result (λ t. (place : ℕ) × (s : Sentence)
         × IsProofNumber t.book.statements t.id.0 place s) }
     ensures filled { IfOk result (λ t. AllByRecursion (λ x. 1 ≤ length x) (texts t.tokens.items)) }
-    ensures room { IfOk result (λ t. sum_by length (texts t.tokens.items) ≤ 1073741824) }
+    ensures room { IfOk result (λ t. sum_by length (texts t.tokens.items) ≤ most_bytes) }
 {
     let mut statements = reader(alloc, files)?;
     let mut statement = Statement::empty(alloc);
@@ -281,7 +285,7 @@ fn proved<S: Store + Drop>(
     requires proof { (place : ℕ) × (s : Sentence)
         × IsProofNumber theorem.now.book.statements theorem.now.id.0 place s }
     requires filled { AllByRecursion (λ x. 1 ≤ length x) (texts theorem.now.tokens.items) }
-    requires room { sum_by length (texts theorem.now.tokens.items) ≤ 1073741824 }
+    requires room { sum_by length (texts theorem.now.tokens.items) ≤ most_bytes }
     requires stack { S.stack store ≡ [] }
     requires kept { S.kept store ≡ [] }
 {
@@ -292,7 +296,7 @@ fn proved<S: Store + Drop>(
         theorem.id,
         &theorem.tokens,
     )? {
-        Parsed::Incomplete => Ok(None),
+        Parsed::Incomplete(_) => Ok(None),
         Parsed::Steps(steps) => {
             let used = verify(alloc, store, &theorem.book, theorem.id, &steps)?;
             Ok(Some(used))
@@ -320,7 +324,7 @@ fn is_proved_with<S: Store + Drop>(
     requires proof { (place : ℕ) × (s : Sentence)
         × IsProofNumber theorem.now.book.statements theorem.now.id.0 place s }
     requires filled { AllByRecursion (λ x. 1 ≤ length x) (texts theorem.now.tokens.items) }
-    requires room { sum_by length (texts theorem.now.tokens.items) ≤ 1073741824 }
+    requires room { sum_by length (texts theorem.now.tokens.items) ≤ most_bytes }
     requires stack { S.stack store ≡ [] }
     requires kept { S.kept store ≡ [] }
 {
@@ -342,7 +346,7 @@ fn is_proved_by_both(alloc: Global, theorem: &Theorem, names: &[&[u8]]) -> Resul
     requires proof { (place : ℕ) × (s : Sentence)
         × IsProofNumber theorem.now.book.statements theorem.now.id.0 place s }
     requires filled { AllByRecursion (λ x. 1 ≤ length x) (texts theorem.now.tokens.items) }
-    requires room { sum_by length (texts theorem.now.tokens.items) ≤ 1073741824 }
+    requires room { sum_by length (texts theorem.now.tokens.items) ≤ most_bytes }
 {
     Ok(
         is_proved_with(alloc, Flat::new(alloc), theorem, names)?
@@ -424,7 +428,7 @@ fn listing_of(alloc: Global, theorem: &Theorem) -> Result<Vec<Line>, Fail>
     requires proof { (place : ℕ) × (s : Sentence)
         × IsProofNumber theorem.now.book.statements theorem.now.id.0 place s }
     requires filled { AllByRecursion (λ x. 1 ≤ length x) (texts theorem.now.tokens.items) }
-    requires room { sum_by length (texts theorem.now.tokens.items) ≤ 1073741824 }
+    requires room { sum_by length (texts theorem.now.tokens.items) ≤ most_bytes }
 {
     match Steps::parse(
         alloc,
@@ -433,8 +437,8 @@ fn listing_of(alloc: Global, theorem: &Theorem) -> Result<Vec<Line>, Fail>
         theorem.id,
         &theorem.tokens,
     )? {
-        Parsed::Incomplete => Err(Fail::from("incomplete")),
         Parsed::Steps(steps) => Ok(listing(alloc, &theorem.book, theorem.id, &steps)?),
+        Parsed::Incomplete(_) => Err(Fail::from("incomplete")),
     }
 }
 
@@ -469,7 +473,7 @@ fn shares_a_step(alloc: Global, theorem: &Theorem) -> Result<bool, Fail>
     requires proof { (place : ℕ) × (s : Sentence)
         × IsProofNumber theorem.now.book.statements theorem.now.id.0 place s }
     requires filled { AllByRecursion (λ x. 1 ≤ length x) (texts theorem.now.tokens.items) }
-    requires room { sum_by length (texts theorem.now.tokens.items) ≤ 1073741824 }
+    requires room { sum_by length (texts theorem.now.tokens.items) ≤ most_bytes }
 {
     let lines = listing_of(alloc, theorem)?;
     let answer = are_shared_steps(&theorem.book, &lines);
@@ -505,7 +509,7 @@ fn passes_the_limit(alloc: Global, theorem: &Theorem) -> bool
     requires proof { (place : ℕ) × (s : Sentence)
         × IsProofNumber theorem.now.book.statements theorem.now.id.0 place s }
     requires filled { AllByRecursion (λ x. 1 ≤ length x) (texts theorem.now.tokens.items) }
-    requires room { sum_by length (texts theorem.now.tokens.items) ≤ 1073741824 }
+    requires room { sum_by length (texts theorem.now.tokens.items) ≤ most_bytes }
 {
     let rule = ProofRule::L1;
     let passed = Some(ProofFault::Rule { rule, step: 21 });
@@ -599,6 +603,9 @@ fn laws_are_called() {
     by_spelling();
     some_verdict();
     one_verdict();
+    one_front_verdict();
+    one_verdict_under();
+    one_front_verdict_under();
     limits_aside();
     mark_before_any_step();
     tag_over_marks();

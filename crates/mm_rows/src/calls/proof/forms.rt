@@ -1,7 +1,8 @@
 //! The forms of proofs: what they spell, and whether two of them spell one tree.
 
-ghost use Rattle.std.specs.Prelude.{◌≤◌, ℕ, length, take, IfOk};
+ghost use Rattle.std.specs.Prelude.{◌≡◌, ◌≤◌, ℕ, length, take, false, IfOk, OnOk};
 ghost use Rattle.std.specs.List.{AllByRecursion, sum_by};
+ghost use Rattle.mm_text.specs.Files.{most_bytes};
 ghost use Rattle.mm_frame.specs.Sentence.{Sentence};
 ghost use Rattle.mm_proof.specs.OneTree.{MakeOneTree};
 ghost use Rattle.mm_proof.specs.Steps.{AreSteps, IsProofNumber};
@@ -21,22 +22,34 @@ use std::test::Fail;
 /// The most labels of a laid-out proof.
 const MOST: usize = 16_777_216;
 
+/// Whether the steps of a whole proof prove the `$p`.
+fn judge_steps(alloc: Global, book: &Book, id: LabelId, steps: &Steps) -> Result<(), Fail>
+    requires steps { AreSteps book.now.statements id.0 steps.now.moves }
+    requires whole { steps.now.front ≡ false }
+    ensures makes { OnOk result (OfMoves book.now.statements id.0 steps.now.moves
+        (λ place s moves. MakeOneTree (take place book.now.statements) moves)) }
+{
+    let _used = verify(alloc, Flat::new(alloc), book, id, steps)?;
+    Ok(())
+}
+
 /// The steps of a proof that is accepted.
 fn accepted_steps(alloc: Global, book: &Book, id: LabelId, tokens: &[&[u8]]) -> Result<Steps, Fail>
     requires proof { (place : ℕ) × (s : Sentence)
         × IsProofNumber book.now.statements id.0 place s }
     requires filled { AllByRecursion (λ x. 1 ≤ length x) (texts tokens.now) }
-    requires room { sum_by length (texts tokens.now) ≤ 1073741824 }
+    requires room { sum_by length (texts tokens.now) ≤ most_bytes }
     ensures steps { IfOk result (λ steps. AreSteps book.now.statements id.0 steps.moves) }
+    ensures whole { IfOk result (λ steps. steps.front ≡ false) }
     ensures makes { IfOk result (λ steps. OfMoves book.now.statements id.0 steps.moves
         (λ place s moves. MakeOneTree (take place book.now.statements) moves)) }
 {
     match Steps::parse(alloc, Profile::Lenient, book, id, tokens)? {
-        Parsed::Incomplete => Err(Fail::from("incomplete")),
-        Parsed::Steps(steps) => match verify(alloc, Flat::new(alloc), book, id, &steps) {
-            Ok(_) => Ok(steps),
-            Err(_) => Err(Fail::from("not accepted")),
-        },
+        Parsed::Steps(steps) => {
+            judge_steps(alloc, book, id, &steps)?;
+            Ok(steps)
+        }
+        Parsed::Incomplete(_) => Err(Fail::from("incomplete")),
     }
 }
 
@@ -49,7 +62,7 @@ fn expanded(
     requires proof { (place : ℕ) × (s : Sentence)
         × IsProofNumber theorem.now.book.statements theorem.now.id.0 place s }
     requires filled { AllByRecursion (λ x. 1 ≤ length x) (texts theorem.now.tokens.items) }
-    requires room { sum_by length (texts theorem.now.tokens.items) ≤ 1073741824 }
+    requires room { sum_by length (texts theorem.now.tokens.items) ≤ most_bytes }
 {
     let steps = accepted_steps(alloc, &theorem.book, theorem.id, &theorem.tokens)?;
     Ok(expand(alloc, &theorem.book, theorem.id, &steps, max))
@@ -75,7 +88,7 @@ fn has_spelling(
     requires proof { (place : ℕ) × (s : Sentence)
         × IsProofNumber theorem.now.book.statements theorem.now.id.0 place s }
     requires filled { AllByRecursion (λ x. 1 ≤ length x) (texts theorem.now.tokens.items) }
-    requires room { sum_by length (texts theorem.now.tokens.items) ≤ 1073741824 }
+    requires room { sum_by length (texts theorem.now.tokens.items) ≤ most_bytes }
 {
     match expanded(alloc, theorem, max)? {
         Ok(ids) => Ok(are_labels(&theorem.book, &ids, labels)),
@@ -124,9 +137,9 @@ fn is_same(alloc: Global, theorem: &Theorem, tokens: &[&[u8]]) -> Result<bool, F
     requires proof { (place : ℕ) × (s : Sentence)
         × IsProofNumber theorem.now.book.statements theorem.now.id.0 place s }
     requires filled { AllByRecursion (λ x. 1 ≤ length x) (texts theorem.now.tokens.items) }
-    requires room { sum_by length (texts theorem.now.tokens.items) ≤ 1073741824 }
+    requires room { sum_by length (texts theorem.now.tokens.items) ≤ most_bytes }
     requires others_filled { AllByRecursion (λ x. 1 ≤ length x) (texts tokens.now) }
-    requires others_room { sum_by length (texts tokens.now) ≤ 1073741824 }
+    requires others_room { sum_by length (texts tokens.now) ≤ most_bytes }
 {
     let first = accepted_steps(alloc, &theorem.book, theorem.id, &theorem.tokens)?;
     let second = accepted_steps(alloc, &theorem.book, theorem.id, tokens)?;
@@ -199,7 +212,7 @@ fn packed_of(alloc: Global, theorem: &Theorem) -> Result<Packed, Fail>
     requires proof { (place : ℕ) × (s : Sentence)
         × IsProofNumber theorem.now.book.statements theorem.now.id.0 place s }
     requires filled { AllByRecursion (λ x. 1 ≤ length x) (texts theorem.now.tokens.items) }
-    requires room { sum_by length (texts theorem.now.tokens.items) ≤ 1073741824 }
+    requires room { sum_by length (texts theorem.now.tokens.items) ≤ most_bytes }
 {
     let steps = accepted_steps(alloc, &theorem.book, theorem.id, &theorem.tokens)?;
     Ok(compress(alloc, &theorem.book, theorem.id, &steps)?)

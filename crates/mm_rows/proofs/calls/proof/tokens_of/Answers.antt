@@ -5,6 +5,7 @@ use Rattle.std.proofs.lemmas.List.Sums.{sum_by-cons}
 use Rattle.mm_text.specs.declared.token.Token.{Token}
 use Rattle.mm_text.specs.Token.{PlainToken, plain_token}
 use Rattle.mm_text.specs.Statement.{PlainStatement, plain_statement, HasForm, bytes_in}
+use Rattle.mm_text.specs.Files.{most_bytes}
 use Rattle.mm_code.specs.Layout.{texts}
 use Rattle.mm_rows.proofs.calls.proof.tokens_of.Goals as goal
 
@@ -37,7 +38,7 @@ returns-clause-room c =
     let s : PlainStatement = plain_statement c.args.statement.now in
     let same : texts c.in_ok-tokens.tokens.items ≡ map (λ (t : PlainToken). t.text) s.proof =
     c.in_ok-tokens.ensures ∙ ap (λ (ts : List Token). map (λ (t : Token). t.text.now) ts) c.deref.ensures.value ∙ plain_texts c.args.statement.now.proof.items in
-    let room : bytes_in s ≤ 1073741824 = c.requires.room in
+    let room : bytes_in s ≤ most_bytes = c.requires.room in
     let bytes : sum_by (λ (t : List ℕ). length t) (texts c.in_ok-tokens.tokens.items) ≡ sum_by (λ (t : PlainToken). length t.text) s.proof =
     ap (λ (ts : List (List ℕ)). sum_by (λ (t : List ℕ). length t) ts) same ∙ bytes_of_texts s.proof in
     omega (arith, bytes, room)
