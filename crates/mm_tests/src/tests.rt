@@ -1,0 +1,555 @@
+//! Each table of cases is one test. Those of the documents' examples stand with their tables.
+
+use crate::databases::{DEMO, HEAD};
+use crate::{
+    Case, Part, compressed, damaged, files, fronts, incomplete, names, one_file, orders, profiles,
+    proofs, questions, scopes,
+};
+use mm_check::{Checked, Command, RunFault, check, run};
+use mm_proof::Profile;
+use mm_text::{Counted, File, Seed, Statement, Statements};
+use std::alloc::Global;
+use std::process::Abort;
+use std::str::from_utf8;
+use std::test::Fail;
+
+/// The bytes of the pieces, one after the other.
+pub(crate) fn joined(alloc: Global, parts: &[Part]) -> Result<Vec<u8>, Fail> {
+    let mut bytes = Vec::new(alloc);
+    for part in parts {
+        match part {
+            Part::Text(text) => bytes.extend_from_slice(text)?,
+            Part::Times(text, times) => {
+                for _ in 0..*times {
+                    bytes.extend_from_slice(text)?;
+                }
+            }
+        }
+    }
+    Ok(bytes)
+}
+
+/// What a command replies to the files, and its status.
+fn reply_to(
+    alloc: Global,
+    command: &Command,
+    files: &[File<'_>],
+) -> Result<(Vec<u8>, u8), RunFault> {
+    let mut out = Counted::new(Vec::new(alloc));
+    let status = run(alloc, Seed::known(), command, files, &mut out)?;
+    Ok((out.into_inner(), status.number()))
+}
+
+/// What a command replies to the files is this text, with this status.
+pub(crate) fn expect_reply(
+    rt: &impl Abort,
+    alloc: Global,
+    command: &Command,
+    files: &[File<'_>],
+    wanted: (&[u8], u8),
+    name: &str,
+) -> Result<(), Fail> {
+    let (reply, status) = reply_to(alloc, command, files)?;
+    let is_wanted = (reply.as_slice(), status) == wanted;
+    let text = from_utf8(&reply)?;
+    assert!(rt; is_wanted, "in the case {name}: {text}");
+    Ok(())
+}
+
+/// The bytes of each file of a case.
+pub(crate) fn contents_of(
+    alloc: Global,
+    files: &[(&'static [u8], &'static [Part])],
+) -> Result<Vec<Vec<u8>>, Fail> {
+    let mut contents = Vec::new(alloc);
+    for (_, parts) in files {
+        contents.push(joined(alloc, parts)?)?;
+    }
+    Ok(contents)
+}
+
+/// The files of a case, with these bytes.
+pub(crate) fn files_of<'a>(
+    alloc: Global,
+    names: &[(&'static [u8], &'static [Part])],
+    contents: &'a [Vec<u8>],
+) -> Result<Vec<File<'a>>, Fail> {
+    let mut files = Vec::new(alloc);
+    for ((name, _), bytes) in names.iter().zip(contents.iter()) {
+        files.push(File {
+            name,
+            bytes: bytes.as_slice(),
+        })?;
+    }
+    Ok(files)
+}
+
+/// Runs a case, and compares the text and the status of the reply.
+fn compare_case(
+    rt: &impl Abort,
+    alloc: Global,
+    command: &Command,
+    case: &Case,
+) -> Result<(), Fail> {
+    let contents = contents_of(alloc, case.files)?;
+    let files = files_of(alloc, case.files, &contents)?;
+    expect_reply(
+        rt,
+        alloc,
+        command,
+        &files,
+        (case.reply, case.status),
+        case.name,
+    )
+}
+
+/// What the program is asked by `check` without an option.
+pub(crate) const CHECK: Command<'static> = Command::Check {
+    profile: Profile::Lenient,
+};
+
+/// Runs the cases of a table of `check` under a profile.
+fn compare_under(
+    rt: &impl Abort,
+    alloc: Global,
+    profile: Profile,
+    cases: &[Case],
+) -> Result<(), Fail> {
+    for case in cases {
+        compare_case(rt, alloc, &Command::Check { profile }, case)?;
+    }
+    Ok(())
+}
+
+/// Runs the cases of a table of `check`.
+pub(crate) fn compare(rt: &impl Abort, alloc: Global, cases: &[Case]) -> Result<(), Fail> {
+    compare_under(rt, alloc, Profile::Lenient, cases)
+}
+
+/// Runs the cases of a table of commands.
+pub(crate) fn compare_commands(
+    rt: &impl Abort,
+    alloc: Global,
+    cases: &[(Command<'static>, Case)],
+) -> Result<(), Fail> {
+    for (command, case) in cases {
+        compare_case(rt, alloc, command, case)?;
+    }
+    Ok(())
+}
+
+#[test]
+fn whole_files(rt: HostRuntime) -> Result<(), Fail> {
+    compare(&rt, rt.alloc(), &one_file::WHOLE_FILES)
+}
+
+#[test]
+fn tokens(rt: HostRuntime) -> Result<(), Fail> {
+    compare(&rt, rt.alloc(), &one_file::TOKENS)
+}
+
+#[test]
+fn forms(rt: HostRuntime) -> Result<(), Fail> {
+    compare(&rt, rt.alloc(), &one_file::FORMS)
+}
+
+#[test]
+fn keywords_in_statements(rt: HostRuntime) -> Result<(), Fail> {
+    compare(&rt, rt.alloc(), &one_file::KEYWORDS_IN_STATEMENTS)
+}
+
+#[test]
+fn keywords_between_statements(rt: HostRuntime) -> Result<(), Fail> {
+    compare(&rt, rt.alloc(), &one_file::KEYWORDS_BETWEEN_STATEMENTS)
+}
+
+#[test]
+fn declarations(rt: HostRuntime) -> Result<(), Fail> {
+    compare(&rt, rt.alloc(), &one_file::DECLARATIONS)
+}
+
+#[test]
+fn meaning(rt: HostRuntime) -> Result<(), Fail> {
+    compare(&rt, rt.alloc(), &one_file::MEANING)
+}
+
+#[test]
+fn steps(rt: HostRuntime) -> Result<(), Fail> {
+    compare(&rt, rt.alloc(), &one_file::STEPS)
+}
+
+#[test]
+fn further_forms(rt: HostRuntime) -> Result<(), Fail> {
+    compare(&rt, rt.alloc(), &one_file::FURTHER_FORMS)
+}
+
+#[test]
+fn blocks(rt: HostRuntime) -> Result<(), Fail> {
+    compare(&rt, rt.alloc(), &scopes::BLOCKS)
+}
+
+#[test]
+fn hypotheses(rt: HostRuntime) -> Result<(), Fail> {
+    compare(&rt, rt.alloc(), &scopes::HYPOTHESES)
+}
+
+#[test]
+fn names(rt: HostRuntime) -> Result<(), Fail> {
+    compare(&rt, rt.alloc(), &names::NAMES)
+}
+
+#[test]
+fn comments(rt: HostRuntime) -> Result<(), Fail> {
+    compare(&rt, rt.alloc(), &files::COMMENTS)
+}
+
+#[test]
+fn inclusions(rt: HostRuntime) -> Result<(), Fail> {
+    compare(&rt, rt.alloc(), &files::INCLUSIONS)
+}
+
+#[test]
+fn places_of_inclusions(rt: HostRuntime) -> Result<(), Fail> {
+    compare(&rt, rt.alloc(), &files::PLACES_OF_INCLUSIONS)
+}
+
+#[test]
+fn after_head(rt: HostRuntime) -> Result<(), Fail> {
+    compare(&rt, rt.alloc(), &proofs::AFTER_HEAD)
+}
+
+#[test]
+fn order_after_head(rt: HostRuntime) -> Result<(), Fail> {
+    compare(&rt, rt.alloc(), &proofs::ORDER_AFTER_HEAD)
+}
+
+#[test]
+fn whole_language(rt: HostRuntime) -> Result<(), Fail> {
+    compare(&rt, rt.alloc(), &proofs::WHOLE_LANGUAGE)
+}
+
+#[test]
+fn listed(rt: HostRuntime) -> Result<(), Fail> {
+    compare(&rt, rt.alloc(), &incomplete::LISTED)
+}
+
+/// Whether 20 statements and one complete proof are counted beside the incomplete proof of `u1`.
+fn is_counted_beside(checked: &Checked) -> bool {
+    match checked.incomplete() {
+        [only] => {
+            checked.statements() == 20
+                && checked.proofs() == 1
+                && checked.name(*only) == b"u1".as_slice()
+        }
+        _ => false,
+    }
+}
+
+#[test]
+fn counted_beside_incomplete(rt: HostRuntime) -> Result<(), Fail> {
+    let mut bytes = Vec::from_slice(rt.alloc(), HEAD)?;
+    bytes.extend_from_slice(b"u1 $p |- t = t $= ? $. u2 $p |- t = t $= tt u1 $.\n")?;
+    let files = [File {
+        name: b"h.mm",
+        bytes: bytes.as_slice(),
+    }];
+    match check(rt.alloc(), Seed::known(), &files) {
+        Ok(checked) => {
+            let is_right = is_counted_beside(&checked);
+            drop(checked);
+            assert!(rt; is_right);
+            Ok(())
+        }
+        Err(_) => Err(Fail::from("refused")),
+    }
+}
+
+#[test]
+fn known_fronts(rt: HostRuntime) -> Result<(), Fail> {
+    compare(&rt, rt.alloc(), &incomplete::KNOWN_FRONTS)
+}
+
+#[test]
+fn after_unknown(rt: HostRuntime) -> Result<(), Fail> {
+    compare(&rt, rt.alloc(), &incomplete::AFTER_UNKNOWN)
+}
+
+#[test]
+fn faults_of_tokens_of_fronts(rt: HostRuntime) -> Result<(), Fail> {
+    compare(&rt, rt.alloc(), &fronts::FAULTS_OF_TOKENS)
+}
+
+#[test]
+fn faults_of_steps_of_fronts(rt: HostRuntime) -> Result<(), Fail> {
+    compare(&rt, rt.alloc(), &fronts::FAULTS_OF_STEPS)
+}
+
+#[test]
+fn strict_proofs(rt: HostRuntime) -> Result<(), Fail> {
+    compare_under(&rt, rt.alloc(), Profile::Strict, &profiles::ACCEPTED)
+}
+
+#[test]
+fn saved_proofs_are_strict(rt: HostRuntime) -> Result<(), Fail> {
+    compare_under(&rt, rt.alloc(), Profile::Strict, &profiles::SAVED)
+}
+
+#[test]
+fn loose_proofs(rt: HostRuntime) -> Result<(), Fail> {
+    compare_under(&rt, rt.alloc(), Profile::Strict, &profiles::LOOSE)
+}
+
+#[test]
+fn order_of_the_strict_form(rt: HostRuntime) -> Result<(), Fail> {
+    compare_under(&rt, rt.alloc(), Profile::Strict, &profiles::ORDER)
+}
+
+#[test]
+fn limits_of_the_strict_profile(rt: HostRuntime) -> Result<(), Fail> {
+    compare_under(&rt, rt.alloc(), Profile::Strict, &profiles::LIMITS)
+}
+
+#[test]
+fn fronts_under_the_strict_profile(rt: HostRuntime) -> Result<(), Fail> {
+    compare_under(&rt, rt.alloc(), Profile::Strict, &profiles::FRONTS)
+}
+
+#[test]
+fn accepted(rt: HostRuntime) -> Result<(), Fail> {
+    compare(&rt, rt.alloc(), &compressed::ACCEPTED)
+}
+
+#[test]
+fn doublings(rt: HostRuntime) -> Result<(), Fail> {
+    compare(&rt, rt.alloc(), &compressed::DOUBLINGS)
+}
+
+#[test]
+fn faults_of_steps(rt: HostRuntime) -> Result<(), Fail> {
+    compare(&rt, rt.alloc(), &compressed::FAULTS_OF_STEPS)
+}
+
+#[test]
+fn faults_of_text(rt: HostRuntime) -> Result<(), Fail> {
+    compare(&rt, rt.alloc(), &compressed::FAULTS_OF_TEXT)
+}
+
+#[test]
+fn great_numbers(rt: HostRuntime) -> Result<(), Fail> {
+    compare(&rt, rt.alloc(), &compressed::GREAT_NUMBERS)
+}
+
+#[test]
+fn listed_places(rt: HostRuntime) -> Result<(), Fail> {
+    compare(&rt, rt.alloc(), &compressed::LISTED_PLACES)
+}
+
+#[test]
+fn past_the_list(rt: HostRuntime) -> Result<(), Fail> {
+    compare(&rt, rt.alloc(), &compressed::PAST_THE_LIST)
+}
+
+#[test]
+fn order_of_text(rt: HostRuntime) -> Result<(), Fail> {
+    compare(&rt, rt.alloc(), &orders::TEXT)
+}
+
+#[test]
+fn order_of_files(rt: HostRuntime) -> Result<(), Fail> {
+    compare(&rt, rt.alloc(), &orders::FILES)
+}
+
+#[test]
+fn order_of_meaning(rt: HostRuntime) -> Result<(), Fail> {
+    compare(&rt, rt.alloc(), &orders::MEANING)
+}
+
+#[test]
+fn order_of_proofs(rt: HostRuntime) -> Result<(), Fail> {
+    compare(&rt, rt.alloc(), &orders::PROOFS)
+}
+
+#[test]
+fn frames(rt: HostRuntime) -> Result<(), Fail> {
+    compare(&rt, rt.alloc(), &orders::FRAMES)
+}
+
+#[test]
+fn long_hypotheses(rt: HostRuntime) -> Result<(), Fail> {
+    compare(&rt, rt.alloc(), &orders::LONG_HYPOTHESES)
+}
+
+#[test]
+fn nested_blocks(rt: HostRuntime) -> Result<(), Fail> {
+    compare(&rt, rt.alloc(), &damaged::NESTED_BLOCKS)
+}
+
+#[test]
+fn axioms(rt: HostRuntime) -> Result<(), Fail> {
+    compare_commands(&rt, rt.alloc(), &questions::AXIOMS)
+}
+
+#[test]
+fn unproved_theorems(rt: HostRuntime) -> Result<(), Fail> {
+    compare_commands(&rt, rt.alloc(), &questions::UNPROVED)
+}
+
+#[test]
+fn unanswered_axioms(rt: HostRuntime) -> Result<(), Fail> {
+    compare_commands(&rt, rt.alloc(), &questions::AXIOMS_UNANSWERED)
+}
+
+#[test]
+fn steps_of_proofs(rt: HostRuntime) -> Result<(), Fail> {
+    compare_commands(&rt, rt.alloc(), &questions::STEPS)
+}
+
+#[test]
+fn unanswered_steps(rt: HostRuntime) -> Result<(), Fail> {
+    compare_commands(&rt, rt.alloc(), &questions::STEPS_UNANSWERED)
+}
+
+#[test]
+fn axioms_of_refused_files(rt: HostRuntime) -> Result<(), Fail> {
+    compare_commands(&rt, rt.alloc(), &questions::AXIOMS_REFUSED)
+}
+
+/// What is done to the byte in a place.
+#[derive(Clone, Copy)]
+enum Damage {
+    Cut,
+    Put(u8),
+}
+
+/// The demonstration database, damaged in a place.
+fn damaged_at(alloc: Global, damage: Damage, place: usize) -> Result<Vec<u8>, Fail> {
+    let mut bytes = Vec::from_slice(alloc, DEMO)?;
+    match damage {
+        Damage::Cut => bytes.truncate(place),
+        Damage::Put(put) => {
+            if let Some(byte) = bytes.get_mut(place) {
+                *byte = put;
+            }
+        }
+    }
+    Ok(bytes)
+}
+
+/// The places from one to before another, and the reply and the status at each of them.
+#[derive(Clone, Copy)]
+struct Span<'a> {
+    first: usize,
+    end: usize,
+    status: u8,
+    reply: &'a str,
+}
+
+/// The span that a line of a table tells.
+fn span_of(line: &str) -> Option<Span<'_>> {
+    let (first, rest) = line.split_once(' ')?;
+    let (end, rest) = rest.split_once(' ')?;
+    let (status, reply) = rest.split_once(' ')?;
+    Some(Span {
+        first: first.parse().ok()?,
+        end: end.parse().ok()?,
+        status: status.parse().ok()?,
+        reply,
+    })
+}
+
+/// Checks the demonstration database with each place of a span damaged, which a line of a table
+/// tells.
+fn sweep_span(rt: &impl Abort, alloc: Global, damage: Damage, line: &str) -> Result<(), Fail> {
+    let span = span_of(line).ok_or("a line of the table")?;
+    let mut reply = Vec::from_slice(alloc, span.reply.as_bytes())?;
+    reply.push(b'\n')?;
+    for place in span.first..span.end {
+        let bytes = damaged_at(alloc, damage, place)?;
+        let files = [File {
+            name: b"demo0.mm",
+            bytes: bytes.as_slice(),
+        }];
+        let wanted = (reply.as_slice(), span.status);
+        expect_reply(rt, alloc, &CHECK, &files, wanted, line)?;
+    }
+    Ok(())
+}
+
+/// Checks the demonstration database with each place of the spans damaged.
+fn sweep(rt: &impl Abort, alloc: Global, damage: Damage, spans: &str) -> Result<(), Fail> {
+    for line in spans.lines() {
+        sweep_span(rt, alloc, damage, line)?;
+    }
+    Ok(())
+}
+
+#[test]
+fn cut(rt: HostRuntime) -> Result<(), Fail> {
+    sweep(&rt, rt.alloc(), Damage::Cut, damaged::CUT)
+}
+
+#[test]
+fn with_dollar(rt: HostRuntime) -> Result<(), Fail> {
+    sweep(&rt, rt.alloc(), Damage::Put(b'$'), damaged::WITH_DOLLAR)
+}
+
+#[test]
+fn span_of_the_demonstration(rt: HostRuntime) -> Result<(), Fail> {
+    let files = [File {
+        name: b"demo0.mm",
+        bytes: DEMO,
+    }];
+    let Ok(mut statements) = Statements::new(rt.alloc(), Seed::known(), &files) else {
+        return Err(Fail::from("refused"));
+    };
+    let mut statement = Statement::empty(rt.alloc());
+    for _ in 0..19 {
+        assert!(rt; matches!(statements.read(&mut statement), Ok(true)));
+    }
+    assert_eq!(rt; statement.first.text, b"th1".as_slice());
+    assert_eq!(rt; statement.span, (390, 519));
+    assert!(rt; matches!(statements.read(&mut statement), Ok(false)));
+    Ok(())
+}
+
+/// Names of files, one for each number.
+fn numbered_names(alloc: Global, count: usize) -> Result<Vec<String>, Fail> {
+    let mut names = Vec::new(alloc);
+    for number in 0..count {
+        names.push(format!(in alloc; "f{number}")?)?;
+    }
+    Ok(names)
+}
+
+/// The contents of files that each include the next one; the last one is empty.
+fn including_next(alloc: Global, names: &[String]) -> Result<Vec<String>, Fail> {
+    let mut contents = Vec::new(alloc);
+    for name in names.iter().skip(1) {
+        contents.push(format!(in alloc; "$[ {name} $]\n")?)?;
+    }
+    contents.push(String::new(alloc))?;
+    Ok(contents)
+}
+
+#[test]
+fn ten_thousand_files(rt: HostRuntime) -> Result<(), Fail> {
+    let alloc = rt.alloc();
+    let names = numbered_names(alloc, 10_000)?;
+    let contents = including_next(alloc, &names)?;
+    let mut files = Vec::new(alloc);
+    for (name, content) in names.iter().zip(contents.iter()) {
+        files.push(File {
+            name: name.as_bytes(),
+            bytes: content.as_bytes(),
+        })?;
+    }
+    let yes: &[u8] = b"yes 0 statements 0 proofs\n";
+    expect_reply(
+        &rt,
+        alloc,
+        &CHECK,
+        &files,
+        (yes, 0),
+        "files that include each other",
+    )
+}
