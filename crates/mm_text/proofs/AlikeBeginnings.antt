@@ -1,10 +1,9 @@
 -- A list of tokens and one of the same texts are beginnings of statements alike.
 use Rattle.std.proofs.Common.{◌≡◌, ℕ, ◌≤◌, length, map, List, [], ◌∷◌, ◌++◌, Bool, true, false, cond, refl, sym, ap, subst, ◌∙◌, Some, None, inl, inr}
 use Rattle.std.specs.Prelude.{option_map}
-use Rattle.std.specs.List.{list_all}
 use Rattle.mm_text.specs.declared.statement.Kind.{Kind}
 use Rattle.mm_text.specs.declared.statement.Kind.TheVariants.{Constants, Variables, Distinct, Floating, Essential, Axiom, Provable, Opening, Closing}
-use Rattle.mm_text.specs.Token.{PlainToken, IsLabel, is_label_byte, HoldsNoDollar}
+use Rattle.mm_text.specs.Token.{PlainToken, IsLabel, is_label, HoldsNoDollar}
 use Rattle.mm_text.specs.Statement.{IsHead, IsBareHead, IsLabelledHead, AreSymbols, label_in}
 use Rattle.mm_text.specs.Reading.{IsBeginning, IsNothing, IsLone, IsBody, IsInProof}
 use Rattle.mm_text.specs.Alike.{token_on}
@@ -20,8 +19,8 @@ module _ (h k : ℕ → ℕ → ℕ) where
   label_alike [] others e = ap (λ (x : List PlainToken). option_map (token_on k) (label_in x)) (sym (nil_split (token_on h) (token_on k) others e))
   label_alike (t ∷ tokens) others e =
       let (u, rest, whole, first, later) = cons_split (token_on h) (token_on k) t tokens others e in
-      go (list_all is_label_byte t.text) u first
-      ∙ ap (λ (x : List ℕ). option_map (token_on k) (cond (list_all is_label_byte x) (Some u) None)) (text_alike t u first)
+      go (is_label t.text) u first
+      ∙ ap (λ (x : List ℕ). option_map (token_on k) (cond (is_label x) (Some u) None)) (text_alike t u first)
       ∙ ap (λ (x : List PlainToken). option_map (token_on k) (label_in x)) (sym whole)
     where
       go : (b : Bool) (u : PlainToken) → token_on h t ≡ token_on k u → option_map (token_on h) (cond b (Some t) None) ≡ option_map (token_on k) (cond b (Some u) None)

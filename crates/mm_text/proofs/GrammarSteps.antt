@@ -1,12 +1,11 @@
 -- What a token makes of an unfinished statement is what the grammar says.
 use Rattle.std.proofs.Common.{◌≡◌, ◌≢◌, ℕ, ◌+◌, length, List, [], ◌∷◌, ◌++◌, Bool, true, false, cond, refl, sym, ap, subst, ◌∙◌, codes, Some, None, arith, append_assoc, inl, inr}
-use Rattle.std.specs.List.{list_all}
 use Rattle.std.proofs.lemmas.List.{length-append}
 use Rattle.std.proofs.lemmas.Bool.{both_ways, cond_both, eqb-true, eqb-false, leb-true, le-leb, eq-eqb}
 use Rattle.mm_text.specs.Items.{spells}
 use Rattle.mm_text.specs.declared.statement.Kind.{Kind}
 use Rattle.mm_text.specs.declared.statement.Kind.TheVariants.{Constants, Variables, Distinct, Floating, Essential, Axiom, Provable, Opening, Closing}
-use Rattle.mm_text.specs.Token.{PlainToken, IsLabel, is_label_byte, HoldsNoDollar}
+use Rattle.mm_text.specs.Token.{PlainToken, IsLabel, is_label, HoldsNoDollar}
 use Rattle.mm_text.specs.Statement.{PlainStatement, IsHead, HasBody, AreSymbols, FitsCount, keyword_of, Spells, IsTail, EndsAtOnce}
 use Rattle.mm_text.specs.Reading.{closes_symbols, Meets}
 use Rattle.mm_text.specs.Mirror.Reader.{Part, Between, Labelled, InBody, InProof, Step, More, Whole, Opened, Closed, Faulty, step, at_start, after_label, in_body, in_proof, is_keyword, bare_statement, has_count, is_full}
@@ -77,7 +76,7 @@ StepsTo tokens t Opened = (tokens ≡ []) × (t.text ≡ codes "${")
 StepsTo tokens t Closed = (tokens ≡ []) × (t.text ≡ codes "$}")
 StepsTo tokens t (Faulty rule) = (statements : List PlainStatement) → Meets statements tokens t rule
 
-begun_bare : (kind : Kind) (tokens : List PlainToken) (t : PlainToken) → tokens ≡ [] → IsHead kind (t ∷ []) → HasBody kind → list_all is_label_byte t.text ≡ false
+begun_bare : (kind : Kind) (tokens : List PlainToken) (t : PlainToken) → tokens ≡ [] → IsHead kind (t ∷ []) → HasBody kind → is_label t.text ≡ false
     → IsPartBody (bare_statement kind t None) (tokens ++ t ∷ [])
 begun_bare kind tokens t d h long e = record {
   head = t ∷ [];
@@ -110,8 +109,8 @@ begun_labelled kind label tokens t d h long e = record {
 }
 
 -- `$c`, `$v` and `$d`
-bare_right : (kind : Kind) (tokens : List PlainToken) (t : PlainToken) → tokens ≡ [] → t.text ≡ keyword_of kind → HasBody kind → IsHead kind (t ∷ []) → list_all is_label_byte (keyword_of kind) ≡ false → StepsTo tokens t (More (InBody (bare_statement kind t None)))
-bare_right kind tokens t d e long h none = begun_bare kind tokens t d h long (ap (list_all is_label_byte) e ∙ none)
+bare_right : (kind : Kind) (tokens : List PlainToken) (t : PlainToken) → tokens ≡ [] → t.text ≡ keyword_of kind → HasBody kind → IsHead kind (t ∷ []) → is_label (keyword_of kind) ≡ false → StepsTo tokens t (More (InBody (bare_statement kind t None)))
+bare_right kind tokens t d e long h none = begun_bare kind tokens t d h long (ap is_label e ∙ none)
 
 at_start_right : (tokens : List PlainToken) (t : PlainToken) → tokens ≡ [] → StepsTo tokens t (at_start t)
 at_start_right tokens t d =
@@ -127,7 +126,7 @@ at_start_right tokens t d =
     (λ l. (d, same_text-true t.text (codes "$}") l))
     (λ nl. cond_both (is_keyword t.text) _ _ (StepsTo tokens t)
     (λ k statements. (d, is_keyword-true t.text k, same_text-false t.text (codes "$c") nc, same_text-false t.text (codes "$v") nv, same_text-false t.text (codes "$d") nd, same_text-false t.text (codes "${") no, same_text-false t.text (codes "$}") nl))
-    (λ nk. cond_both (list_all is_label_byte t.text) _ _ (StepsTo tokens t)
+    (λ nk. cond_both (is_label t.text) _ _ (StepsTo tokens t)
     (λ l. (ap (λ (x : List PlainToken). x ++ t ∷ []) d, l))
     (λ none statements. (d, is_keyword-false t.text nk, λ l. both_ways _ none l))))))))
 

@@ -1,6 +1,5 @@
 -- A reading of items is what the reader computes, so there is one reading.
 use Rattle.std.proofs.Common.{◌≡◌, ◌≢◌, ℕ, ◌==◌, length, List, [], ◌∷◌, ◌++◌, true, false, cond, refl, sym, ap, subst, ◌∙◌, codes, Option, Some, None, append_assoc, ◌⊎◌, inl, inr, lit<}
-use Rattle.std.specs.List.{list_all}
 use Rattle.std.proofs.lemmas.List.{append-nil}
 use Rattle.std.proofs.lemmas.Bool.{cond-true, cond-false, cond_both, false_from_ne_true, false≢true, eq-eqb, eqb-true}
 use Rattle.mm_text.specs.Items.{spells}
@@ -9,7 +8,7 @@ use Rattle.mm_text.specs.declared.fault.TextRule.{TextRule}
 use Rattle.mm_text.specs.declared.fault.TextRule.TheVariants.{X6, X8, S1, S2, S3, S4, S5, S6, S7}
 use Rattle.mm_text.specs.declared.statement.Kind.{Kind}
 use Rattle.mm_text.specs.declared.statement.Kind.TheVariants.{Floating, Opening, Closing}
-use Rattle.mm_text.specs.Token.{PlainToken, is_label_byte, HoldsNoDollar}
+use Rattle.mm_text.specs.Token.{PlainToken, is_label, HoldsNoDollar}
 use Rattle.mm_text.specs.Statement.{PlainStatement, HasBody, SpellsAll, IsKeyword, FitsCount}
 use Rattle.mm_text.specs.Items.{Item, Plain, Wrong, Inclusion, End, plain_tokens, HoldNoFault}
 use Rattle.mm_text.specs.Blocks.{AreBalanced, AreClosed, IsInnermost}
@@ -63,7 +62,7 @@ breaks_S2 tokens t m = record {
       ∙ cond-false (spells t.text (codes "${")) _ _ (other_than t.text (codes "${") m.1 (13, lit< tt, refl))
       ∙ cond-false (spells t.text (codes "$}")) _ _ (other_than t.text (codes "$}") m.1 (14, lit< tt, refl))
       ∙ cond-false (is_keyword t.text) _ _ (is_keyword-ne t.text m.1)
-      ∙ cond-false (list_all is_label_byte t.text) _ _ (false_from_ne_true _ m.2);
+      ∙ cond-false (is_label t.text) _ _ (false_from_ne_true _ m.2);
 }
 
 breaks_S3 : (tokens : List PlainToken) (t : PlainToken) → MeetsS3 tokens t → Breaks tokens t S3
@@ -252,7 +251,7 @@ start_long t =
     (λ _. cond_both (spells t.text (codes "${")) _ _ IsLongStep (λ _. tt)
     (λ _. cond_both (spells t.text (codes "$}")) _ _ IsLongStep (λ _. tt)
     (λ _. cond_both (is_keyword t.text) _ _ IsLongStep (λ _. tt)
-    (λ _. cond_both (list_all is_label_byte t.text) _ _ IsLongStep (λ _. tt) (λ _. tt)))))))
+    (λ _. cond_both (is_label t.text) _ _ IsLongStep (λ _. tt) (λ _. tt)))))))
 
 label_long : (label t : PlainToken) → IsLongStep (after_label label t)
 label_long label t =

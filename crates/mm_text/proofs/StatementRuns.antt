@@ -1,13 +1,12 @@
 -- Tokens that spell statements, or begin one, lead the reader to those statements.
 use Rattle.std.proofs.Common.{◌≡◌, ℕ, ◌+◌, ◌<◌, ◌≤◌, length, List, [], ◌∷◌, ◌++◌, true, false, cond, refl, sym, ap, subst, ◌∙◌, codes, Option, Some, None, arith, append_assoc, ◌⊎◌, inl, inr}
-use Rattle.std.specs.List.{list_all}
 use Rattle.std.proofs.lemmas.List.{append-nil, length-append}
 use Rattle.std.proofs.lemmas.Bool.{cond-true, cond-false, ne_eqb, false_from_ne_true}
 use Rattle.mm_text.specs.Items.{spells}
 use Rattle.mm_text.specs.declared.fault.TextRule.TheVariants.{S5}
 use Rattle.mm_text.specs.declared.statement.Kind.{Kind}
 use Rattle.mm_text.specs.declared.statement.Kind.TheVariants.{Constants, Variables, Distinct, Floating, Essential, Axiom, Provable, Opening, Closing}
-use Rattle.mm_text.specs.Token.{PlainToken, IsLabel, is_label_byte}
+use Rattle.mm_text.specs.Token.{PlainToken, IsLabel, is_label}
 use Rattle.mm_text.specs.Statement.{PlainStatement, IsHead, HasBody, IsBareHead, IsLabelledHead, AreSymbols, FitsCount, label_in, keyword_of, Spells, SpellsAll, IsTail, EndsAtOnce, EndsInProof}
 use Rattle.mm_text.specs.Reading.{closes_symbols}
 use Rattle.mm_text.specs.Mirror.Reader.{Part, Between, Labelled, InBody, InProof, More, Whole, Faulty, step, is_keyword, bare_statement, has_count, is_full}
@@ -42,7 +41,7 @@ start_label t h =
     ∙ cond-false (spells t.text (codes "${")) _ _ (label_ne t.text (codes "${") h refl)
     ∙ cond-false (spells t.text (codes "$}")) _ _ (label_ne t.text (codes "$}") h refl)
     ∙ cond-false (is_keyword t.text) _ _ (label-is_keyword t.text h)
-    ∙ cond-true (list_all is_label_byte t.text) _ _ h
+    ∙ cond-true (is_label t.text) _ _ h
 
 label_floating : (label t : PlainToken) → t.text ≡ codes "$f" → step (Labelled label) t ≡ More (InBody (bare_statement Floating label (Some label)))
 unfolding step
@@ -115,11 +114,11 @@ abbrev fresh : Kind → PlainToken → Option PlainToken → Part
 fresh kind first label = InBody (bare_statement kind first label)
 
 bare_run : (kind : Kind) (head : List PlainToken) (first : PlainToken) (others : List PlainToken) (label : Option PlainToken) (rest : List PlainToken)
-    → ((t : PlainToken) → t.text ≡ keyword_of kind → step Between t ≡ More (fresh kind t None)) → list_all is_label_byte (keyword_of kind) ≡ false
+    → ((t : PlainToken) → t.text ≡ keyword_of kind → step Between t ≡ More (fresh kind t None)) → is_label (keyword_of kind) ≡ false
     → IsBareHead kind head → head ≡ first ∷ others → label ≡ label_in head → run Between (head ++ rest) ≡ run (fresh kind first label) rest
 bare_run kind head first others label rest starts no_label h f l =
     let parts = cons_parts h.keyword first [] others (sym h.tokens ∙ f) in
-    let none : None ≡ label = sym (l ∙ ap label_in h.tokens ∙ cond-false (list_all is_label_byte h.keyword.text) _ _ (ap (list_all is_label_byte) h.sign ∙ no_label)) in
+    let none : None ≡ label = sym (l ∙ ap label_in h.tokens ∙ cond-false (is_label h.keyword.text) _ _ (ap is_label h.sign ∙ no_label)) in
     ap (λ (x : List PlainToken). run Between (x ++ rest)) h.tokens
     ∙ run-more Between (fresh kind h.keyword None) h.keyword rest (starts h.keyword h.sign)
     ∙ (λ i. run (fresh kind (parts.0 i) (none i)) rest)
@@ -129,7 +128,7 @@ labelled_run : (kind : Kind) (head : List PlainToken) (first : PlainToken) (othe
     → IsLabelledHead kind head → head ≡ first ∷ others → label ≡ label_in head → run Between (head ++ rest) ≡ run (fresh kind first label) rest
 labelled_run kind head first others label rest goes h f l =
     let parts = cons_parts h.label first (h.keyword ∷ []) others (sym h.tokens ∙ f) in
-    let some : Some h.label ≡ label = sym (l ∙ ap label_in h.tokens ∙ cond-true (list_all is_label_byte h.label.text) _ _ h.named) in
+    let some : Some h.label ≡ label = sym (l ∙ ap label_in h.tokens ∙ cond-true (is_label h.label.text) _ _ h.named) in
     ap (λ (x : List PlainToken). run Between (x ++ rest)) h.tokens
     ∙ run-more Between (Labelled h.label) h.label (h.keyword ∷ rest) (start_label h.label h.named)
     ∙ run-more (Labelled h.label) (fresh kind h.label (Some h.label)) h.keyword rest (goes h.label h.keyword h.sign)
@@ -264,12 +263,12 @@ no_symbols : (symbols : List PlainToken) → length symbols ≡ 0 → symbols �
 no_symbols [] e = refl
 no_symbols (t ∷ symbols) e = absurd (omega arith)
 
-pub block_sign : (tokens : List PlainToken) (s : PlainStatement) (kind : Kind) (h : Spells tokens s) → s.kind ≡ kind → IsBareHead kind h.head → list_all is_label_byte (keyword_of kind) ≡ false → length s.symbols ≡ 0
+pub block_sign : (tokens : List PlainToken) (s : PlainStatement) (kind : Kind) (h : Spells tokens s) → s.kind ≡ kind → IsBareHead kind h.head → is_label (keyword_of kind) ≡ false → length s.symbols ≡ 0
     → h.tail ≡ [] → s.proof ≡ [] → s.span ≡ (0, 0) → IsBlockSign tokens s kind
 block_sign tokens s kind h k b no_label none tail proof span =
     let symbols = no_symbols s.symbols none in
     let first = (cons_parts b.keyword s.first [] h.first.0 (sym b.tokens ∙ h.first.1)).0 in
-    let label : s.label ≡ None = h.label ∙ ap label_in b.tokens ∙ cond-false (list_all is_label_byte b.keyword.text) _ _ (ap (list_all is_label_byte) b.sign ∙ no_label) in
+    let label : s.label ≡ None = h.label ∙ ap label_in b.tokens ∙ cond-false (is_label b.keyword.text) _ _ (ap is_label b.sign ∙ no_label) in
     record {
       sign = b.keyword;
       alone = h.whole ∙ (λ i. (b.tokens i ++ symbols i) ++ tail i);
@@ -324,7 +323,7 @@ pub whole_run : (tokens : List PlainToken) (statements : List PlainStatement) �
 whole_run tokens statements h = spelled_run tokens tokens [] statements Between (sym (append-nil tokens)) h refl
 
 -- a `${` or a `$}` alone
-pub spells_sign : (kind : Kind) (tokens : List PlainToken) (t : PlainToken) → tokens ≡ [] → t.text ≡ keyword_of kind → list_all is_label_byte (keyword_of kind) ≡ false
+pub spells_sign : (kind : Kind) (tokens : List PlainToken) (t : PlainToken) → tokens ≡ [] → t.text ≡ keyword_of kind → is_label (keyword_of kind) ≡ false
     → IsHead kind (t ∷ []) → FitsCount kind 0 → IsTail (bare_statement kind t None) kind [] → Spells (tokens ++ t ∷ []) (bare_statement kind t None)
 spells_sign kind tokens t none sign no_label begins count ends = record {
   head = t ∷ [];
@@ -332,7 +331,7 @@ spells_sign kind tokens t none sign no_label begins count ends = record {
   whole = ap (λ (x : List PlainToken). x ++ t ∷ []) none;
   begins = begins;
   first = ([], refl);
-  label = sym (cond-false (list_all is_label_byte t.text) _ _ (ap (list_all is_label_byte) sign ∙ no_label));
+  label = sym (cond-false (is_label t.text) _ _ (ap is_label sign ∙ no_label));
   symbols = tt;
   count = count;
   ends = ends;

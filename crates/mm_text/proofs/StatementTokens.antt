@@ -1,12 +1,12 @@
 -- What holds of all tokens of a reading holds of those of its statements.
 use Rattle.std.proofs.Common.{◌≡◌, ℕ, ◌+◌, ◌≤◌, length, List, [], ◌∷◌, ◌++◌, sym, ap, subst, ◌∙◌, Option, Some, None, IfSome, append_assoc, arith}
 use Rattle.std.specs.Prelude.{sum_by}
-use Rattle.std.specs.List.{AllByRecursion, list_all}
+use Rattle.std.specs.List.{AllByRecursion}
 use Rattle.std.proofs.lemmas.Bool.{cond_both}
 use Rattle.std.proofs.lemmas.List.Sums.{sum_by-append, sum_by-cons}
 use Rattle.mm_text.specs.declared.statement.Kind.{Kind}
 use Rattle.mm_text.specs.declared.statement.Kind.TheVariants.{Constants, Variables, Distinct, Floating, Essential, Axiom, Provable, Opening, Closing}
-use Rattle.mm_text.specs.Token.{PlainToken, is_label_byte}
+use Rattle.mm_text.specs.Token.{PlainToken, is_label}
 use Rattle.mm_text.specs.Statement.{PlainStatement, label_in, Spells, SpellsAll, IsTail, bytes_in}
 use Rattle.mm_text.specs.Items.{Item, plain_tokens}
 use Rattle.mm_text.specs.Reading.{PlainFault, ReadsAs}
@@ -22,7 +22,7 @@ all_right P (t ∷ a) b h = all_right P a b h.1
 
 if_label : (P : PlainToken → Type 0) (tokens : List PlainToken) → AllByRecursion P tokens → IfSome (label_in tokens) P
 if_label P [] h = tt
-if_label P (t ∷ tokens) h = cond_both (list_all is_label_byte t.text) _ _ (λ (o : Option PlainToken). IfSome o P) (λ _. h.0) (λ _. tt)
+if_label P (t ∷ tokens) h = cond_both (is_label t.text) _ _ (λ (o : Option PlainToken). IfSome o P) (λ _. h.0) (λ _. tt)
 
 proof_of_tail : (P : PlainToken → Type 0) (s : PlainStatement) (kind : Kind) (tail : List PlainToken) → IsTail s kind tail → AllByRecursion P tail → AllByRecursion P s.proof
 proof_of_tail P s Constants tail k h = subst (AllByRecursion P) (sym k.proof) tt

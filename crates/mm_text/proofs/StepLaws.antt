@@ -1,6 +1,6 @@
 -- The plain reader, one token at a time.
 use Rattle.std.proofs.Common.{◌≡◌, ℕ, ◌+◌, ◌==◌, List, [], ◌∷◌, ◌++◌, length, true, false, cond, if◌then◌else◌, Option, Some, None, refl, sym, ap, ◌∙◌, codes}
-use Rattle.std.specs.List.{list_any, list_all}
+use Rattle.std.specs.List.{list_any}
 use Rattle.std.specs.Cmp.Lexicographic.{bytes_decides}
 use Rattle.std.proofs.lemmas.Bool.{false≢true}
 use Rattle.mm_text.specs.Items.{spells}
@@ -10,7 +10,7 @@ use Rattle.mm_text.specs.declared.statement.Kind.{Kind}
 use Rattle.mm_text.specs.declared.statement.Kind.TheVariants.{Opening, Closing}
 use Rattle.mm_text.specs.declared.class.Keyword.{Keyword}
 use Rattle.mm_text.specs.declared.class.Keyword.TheVariants as keyword
-use Rattle.mm_text.specs.Token.{PlainToken, HoldsNoDollar, is_label_byte}
+use Rattle.mm_text.specs.Token.{PlainToken, HoldsNoDollar, is_label}
 use Rattle.mm_text.specs.Statement.{PlainStatement}
 use Rattle.mm_text.specs.Items.{Item, Plain, Wrong, Inclusion, End}
 use Rattle.mm_text.specs.Mirror.Class.{keyword_bytes}
@@ -134,7 +134,7 @@ pub step_begins_none : (t : PlainToken) (k : Keyword) → t.text ≡ keyword_byt
 unfolding start_by
 step_begins_none t k e b begins = start_keyword t k e b ∙ ap (start_by t) begins
 
-start_word : (t : PlainToken) → HoldsNoDollar t.text → step Between t ≡ cond (list_all is_label_byte t.text) (More (Labelled t)) (Faulty S2)
+start_word : (t : PlainToken) → HoldsNoDollar t.text → step Between t ≡ cond (is_label t.text) (More (Labelled t)) (Faulty S2)
 unfolding step
 start_word t word =
     let constants = other_text t.text (codes "$c") word refl in
@@ -145,10 +145,10 @@ start_word t word =
     let none = symbol-is_keyword t.text word in
     rw none (simp (constants, variables, distinct, opening, closing))
 
-pub step_label : (t : PlainToken) → HoldsNoDollar t.text → list_all is_label_byte t.text ≡ true → step Between t ≡ More (Labelled t)
+pub step_label : (t : PlainToken) → HoldsNoDollar t.text → is_label t.text ≡ true → step Between t ≡ More (Labelled t)
 step_label t word named = start_word t word ∙ ap (λ b. cond b (More (Labelled t)) (Faulty S2)) named
 
-pub step_no_label : (t : PlainToken) → HoldsNoDollar t.text → list_all is_label_byte t.text ≡ false → step Between t ≡ Faulty S2
+pub step_no_label : (t : PlainToken) → HoldsNoDollar t.text → is_label t.text ≡ false → step Between t ≡ Faulty S2
 step_no_label t word named = start_word t word ∙ ap (λ b. cond b (More (Labelled t)) (Faulty S2)) named
 
 -- ---- the token after a label

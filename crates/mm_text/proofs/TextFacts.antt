@@ -1,5 +1,5 @@
 -- Texts of tokens: keywords, labels, and texts that hold no `$`.
-use Rattle.std.proofs.Common.{◌≡◌, ◌≢◌, ℕ, zero, suc, ◌<◌, ◌==◌, length, get_or, List, [], ◌∷◌, Bool, true, false, refl, sym, ap, ◌∙◌, Contains, arith, ◌⊎◌, inl, inr}
+use Rattle.std.proofs.Common.{◌≡◌, ◌≢◌, ℕ, zero, suc, ◌<◌, ◌≤◌, ◌==◌, length, get_or, List, [], ◌∷◌, Bool, true, false, refl, sym, ap, ◌∙◌, Contains, arith, ◌⊎◌, inl, inr}
 use Rattle.std.specs.List.{list_any, list_all}
 use Rattle.std.specs.Cmp.Lexicographic.{bytes_decides}
 use Rattle.std.proofs.lemmas.Bool.{or_parts, or_cases, or_left, or_right, and_parts, false≢true, both_ways, false_from_ne_true, eqb-true}
@@ -66,6 +66,16 @@ no_keyword text none = any_of_dollars text keywords refl none
 no_dollar-begins : (text : List ℕ) → HoldsNoDollar text → begins_dollar text ≡ false
 no_dollar-begins [] h = refl
 no_dollar-begins (b ∷ bytes) h = (or_parts (b == 36) (list_any (λ x. x == 36) bytes) h).0
+
+-- a label has a byte
+pub label_held : (text : List ℕ) → IsLabel text → 1 ≤ length text
+label_held [] h = absurd (false≢true h)
+label_held (b ∷ bytes) h = omega arith
+
+-- and no other bytes than a label may hold
+pub label_bytes : (text : List ℕ) → IsLabel text → list_all is_label_byte text ≡ true
+label_bytes [] h = refl
+label_bytes (b ∷ bytes) h = h
 
 label-begins : (text : List ℕ) → IsLabel text → begins_dollar text ≡ false
 label-begins [] h = refl

@@ -2,13 +2,13 @@
 use Rattle.std.specs.Prelude.{◌≡◌, ℕ, ◌+◌, ◌≤◌, List, [], ◌∷◌, ◌++◌, length, sum_by, map}
 use Rattle.std.specs.Prelude.{if◌then◌else◌, codes, Bool, true, false, Option, Some, None}
 use Rattle.std.specs.Prelude.{Contains, option_map}
-use Rattle.std.specs.List.{AllByRecursion, list_all}
+use Rattle.std.specs.List.{AllByRecursion}
 use Rattle.mm_text.specs.declared.statement.Kind.{Kind}
 use Rattle.mm_text.specs.declared.statement.Kind.TheVariants.{Constants, Variables, Distinct}
 use Rattle.mm_text.specs.declared.statement.Kind.TheVariants.{Floating, Essential, Axiom, Provable}
 use Rattle.mm_text.specs.declared.statement.Kind.TheVariants.{Opening, Closing}
 use Rattle.mm_text.specs.declared.statement.Statement.{Statement}
-use Rattle.mm_text.specs.Token.{PlainToken, plain_token, IsLabel, is_label_byte, HoldsNoDollar}
+use Rattle.mm_text.specs.Token.{PlainToken, plain_token, IsLabel, is_label, HoldsNoDollar}
 
 -- a statement without where it lies in memory
 pub record PlainStatement : Type 0 where
@@ -102,7 +102,7 @@ HasBody kind = Unit {0}
 -- the label of the statement of which these are the first tokens, if it has one
 abbrev pub label_in : List PlainToken → Option PlainToken
 label_in [] = None
-label_in (t ∷ tokens) = if list_all is_label_byte t.text then Some t else None
+label_in (t ∷ tokens) = if is_label t.text then Some t else None
 
 -- tokens that hold no `$`: symbols, or tokens of a proof
 abbrev pub AreSymbols : List PlainToken → Type 0

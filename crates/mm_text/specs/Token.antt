@@ -27,9 +27,13 @@ is_label_byte b =
     (nat_le 65 b && nat_le b 90) || (nat_le 97 b && nat_le b 122) || (nat_le 48 b && nat_le b 57)
     || b == 45 || b == 95 || b == 46
 
--- a label has no other byte
+-- a label has at least one byte, and none but these
+abbrev pub is_label : List ℕ → Bool
+is_label [] = false
+is_label (b ∷ bytes) = list_all is_label_byte (b ∷ bytes)
+
 abbrev pub IsLabel : List ℕ → Type 0
-IsLabel text = list_all is_label_byte text ≡ true
+IsLabel text = is_label text ≡ true
 
 -- a math symbol, and a token of a proof, holds no `$`
 abbrev pub HoldsNoDollar : List ℕ → Type 0

@@ -2,7 +2,7 @@
 
 ghost use Rattle.std.specs.Prelude.{◌≡◌, true};
 ghost use Rattle.std.specs.List.{list_all};
-ghost use Rattle.mm_text.specs.Token.{is_label_byte};
+ghost use Rattle.mm_text.specs.Token.{is_label_byte, is_label};
 ghost use Rattle.mm_text.specs.Items.{holds_dollar};
 ghost use Rattle.mm_text.specs.Mirror.Class.{IsReadApart, ClassIs};
 
@@ -47,12 +47,19 @@ pub enum Class {
 }
 
 /// Whether each byte may stand in a label.
-pub fn is_label(text: &[u8]) -> bool
+fn are_label_bytes(text: &[u8]) -> bool
     ensures { result ≡ list_all is_label_byte text.now }
 {
     text.iter().all(
         |byte| matches!(*byte, b'A'..=b'Z' | b'a'..=b'z' | b'0'..=b'9' | b'-' | b'_' | b'.'),
     )
+}
+
+/// Whether it may be a label: it has a byte, and each may stand in a label.
+pub fn is_label(text: &[u8]) -> bool
+    ensures { result ≡ is_label text.now }
+{
+    !text.is_empty() && are_label_bytes(text)
 }
 
 /// What a token that holds a `$` is, outside comments and inclusions and where it begins none.

@@ -5,7 +5,7 @@ use Rattle.std.specs.Prelude.{ℕ, ◌+◌, ◌==◌, nat_le, List, [], ◌∷�
 use Rattle.std.specs.Prelude.{false, if◌then◌else◌, codes, drop, ◌&&◌, Option, Some, None}
 use Rattle.std.specs.Prelude.{option_map}
 use Rattle.std.specs.Option.{is_none}
-use Rattle.std.specs.List.{list_any, list_all}
+use Rattle.std.specs.List.{list_any}
 use Rattle.mm_text.specs.Items.{spells}
 use Rattle.mm_text.specs.declared.fault.TextRule.{TextRule}
 use Rattle.mm_text.specs.declared.fault.TextRule.TheVariants.{X6, X8, S1, S2, S3, S4, S5, S6, S7}
@@ -14,7 +14,7 @@ use Rattle.mm_text.specs.declared.statement.Kind.{Kind}
 use Rattle.mm_text.specs.declared.statement.Kind.TheVariants.{Constants, Variables, Distinct}
 use Rattle.mm_text.specs.declared.statement.Kind.TheVariants.{Floating, Essential, Axiom, Provable}
 use Rattle.mm_text.specs.declared.statement.Kind.TheVariants.{Opening, Closing}
-use Rattle.mm_text.specs.Token.{PlainToken, is_label_byte}
+use Rattle.mm_text.specs.Token.{PlainToken, is_label}
 use Rattle.mm_text.specs.Statement.{PlainStatement, keywords, is_provable}
 use Rattle.mm_text.specs.Items.{Item, Plain, Wrong, Inclusion, End}
 use Rattle.mm_text.specs.Reading.{PlainFault}
@@ -52,7 +52,7 @@ at_start t =
     else (if spells t.text (codes "${") then Opened
     else (if spells t.text (codes "$}") then Closed
     else (if is_keyword t.text then Faulty S1
-    else (if list_all is_label_byte t.text then More (Labelled t) else Faulty S2))))))
+    else (if is_label t.text then More (Labelled t) else Faulty S2))))))
 
 -- the token after a label
 abbrev pub after_label : PlainToken → PlainToken → Step
