@@ -13,8 +13,7 @@ use Rattle.mm_frame.specs.Numbers.{symbols_of}
 use Rattle.mm_frame.specs.Mirror.Stated.{Stated, AllStated, HasSpan, IsLatestStated}
 use Rattle.mm_frame.specs.Mirror.Wide.{AreWide, IsHeld}
 use Rattle.mm_frame.specs.Mirror.Layout.{AreStated, IsStatedThere, AreCovered}
-use Rattle.mm_text.proofs.Lists.{get_kept, get_pushed, pushed_cases, get_before, get_from_front, get_in_front}
-use Rattle.mm_frame.proofs.Entries.{append_cases}
+use Rattle.mm_text.proofs.Lists.{get_kept, get_pushed, pushed_cases, get_before, get_from_front, get_in_front, get_after, append_cases}
 use Rattle.mm_frame.proofs.ScopeLaws.{all_taken}
 use Rattle.mm_frame.proofs.WideDistinct.{active_shorter, wide_grow}
 use Rattle.mm_frame.proofs.Stays.{active_last, active_stays, active_nest}
@@ -149,17 +148,6 @@ pub record AreNew (st : List Sentence) (e : Sentence) (symbols : List (List ℕ)
 stays_distinct : (e : Sentence) → e.kind ≡ Distinct → ¬ (e.kind ≡ Closing)
 stays_distinct e kind closes = absurd (cc)
 
-cases_of_append : {X : Type 0} (xs ys : List X) (i : ℕ) (x : X) → slice_get (xs ++ ys) i ≡ Some x → (slice_get xs i ≡ Some x) ⊎ ((j : ℕ) × (i ≡ length xs + j) × (slice_get ys j ≡ Some x))
-cases_of_append [] ys i x there = inr (i, omega arith, there)
-cases_of_append (z ∷ xs) ys zero x there = inl there
-cases_of_append (z ∷ xs) ys (suc i) x there = elim (cases_of_append xs ys i x there) [ inl before ↦ inl before | inr (j, is, at) ↦ inr (j, omega arith, at) ]
-
-get_after : {X : Type 0} (xs ys : List X) (i : ℕ) (x : X) → slice_get ys i ≡ Some x → slice_get (xs ++ ys) (length xs + i) ≡ Some x
-get_after [] ys i x there = let e : i ≡ 0 + i = omega arith in subst (λ n. slice_get ys n ≡ Some x) e there
-get_after (z ∷ xs) ys i x there =
-    let e : suc (length xs + i) ≡ length (z ∷ xs) + i = omega arith in
-    subst (λ n. slice_get (z ∷ xs ++ ys) n ≡ Some x) e (get_after xs ys i x there)
-
 -- what was stated, where a statement is added, and symbols whose numbers the `$d` before it don't
 -- hold
 pub record AreKept (st : List Sentence) (e : Sentence) (symbols : List (List ℕ))
@@ -244,7 +232,7 @@ stated_push st e symbols stated new all are kind news =
     record {
       only = λ i span there. elim (append_cases spans new i span there) [
         | inl before ↦ kept.only i span before
-        | inr (j, at) ↦
+        | inr (j, is, at) ↦
             let (place, lt, x, y, at_x, at_y, in_x, in_y, apart) = news.only j span at in
             (e, subst (λ n. slice_get (st ++ e ∷ []) n ≡ Some e) (sym place) (get_pushed st e), kind, lt, x, y, at_x, at_y, in_x, in_y)
       ];
@@ -293,11 +281,11 @@ stated_push st e symbols stated new all are kind news =
                   ]
             ]
       ];
-      apart = λ i j older newer lt at_i at_j same. elim (cases_of_append spans new j newer at_j) [
+      apart = λ i j older newer lt at_i at_j same. elim (append_cases spans new j newer at_j) [
         | inl j_before ↦ kept.apart i j older newer lt
             (get_before spans new i older (let h = slice_get_within spans j newer j_before in omega
             arith) at_i) j_before same
-        | inr (k, j_is, j_new) ↦ elim (cases_of_append spans new i older at_i) [
+        | inr (k, j_is, j_new) ↦ elim (append_cases spans new i older at_i) [
           | inl i_before ↦ old_new i k older newer i_before j_new same
           | inr (m, i_is, i_new) ↦ absurd (let h = news.once m k older newer i_new j_new same in omega arith)
         ]

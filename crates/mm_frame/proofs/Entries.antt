@@ -1,5 +1,5 @@
 -- A book's lists say the same statements as more is appended to them.
-use Rattle.std.proofs.Common.{◌≡◌, ℕ, zero, suc, ◌-◌, ◌<◌, ◌≤◌, ◌⊎◌, inl, inr, length, take, drop, List, [], ◌∷◌, ◌++◌, map, Option, Some, None, refl, ap, ◌∙◌, subst, length-append, arith}
+use Rattle.std.proofs.Common.{◌≡◌, ℕ, zero, suc, ◌+◌, ◌-◌, ◌<◌, ◌≤◌, ◌⊎◌, inl, inr, length, take, drop, List, [], ◌∷◌, ◌++◌, map, Option, Some, None, refl, ap, ◌∙◌, subst, length-append, arith}
 use Rattle.std.specs.List.{slice_get, slice_range}
 use Rattle.std.specs.Option.{unwrap_or, option_map}
 use Rattle.std.proofs.lemmas.Option.{slice_get_within, slice_get-map}
@@ -10,7 +10,7 @@ use Rattle.mm_frame.specs.declared.number.Sym.{Sym}
 use Rattle.mm_frame.specs.declared.tables.Entry.{Entry}
 use Rattle.mm_frame.specs.Sentence.{Sentence}
 use Rattle.mm_frame.specs.Mirror.Layout.{names_by, label_by, sentence_by, sentences_by, IsPartWithin, AreEntries}
-use Rattle.mm_text.proofs.Lists.{pushed_cases, get_from_front, get_within}
+use Rattle.mm_text.proofs.Lists.{pushed_cases, get_from_front, get_within, get_dropped}
 use Rattle.mm_frame.proofs.Numbered.{At}
 
 -- what is read before the end stays
@@ -24,14 +24,9 @@ slice_left xs ys i j ordered within =
     let rest = length-drop i xs in
     ap (take (j - i)) (drop-append-le i xs ys (omega arith)) ∙ take-append-le (j - i) (drop i xs) ys (omega arith)
 
-pub get_dropped : {X : Type 0} (xs : List X) (n i : ℕ) (x : X) → slice_get (drop n xs) i ≡ Some x → (j : ℕ) × (slice_get xs j ≡ Some x)
-get_dropped xs zero i x there = (i, there)
-get_dropped [] (suc n) i x there = absurd (cc)
-get_dropped (z ∷ xs) (suc n) i x there = let (j, at) = get_dropped xs n i x there in (suc j, at)
-
 -- what a part of a list has, the list has
 pub get_sliced : {X : Type 0} (xs : List X) (a b i : ℕ) (x : X) → slice_get (slice_range xs a b) i ≡ Some x → (j : ℕ) × (slice_get xs j ≡ Some x)
-get_sliced xs a b i x there = get_dropped xs a i x (get_from_front (drop a xs) (b - a) i x there)
+get_sliced xs a b i x there = (a + i, get_dropped a xs i x (get_from_front (drop a xs) (b - a) i x there))
 
 pub append_cases : {X : Type 0} (xs ys : List X) (i : ℕ) (x : X) → slice_get (xs ++ ys) i ≡ Some x → (slice_get xs i ≡ Some x) ⊎ At ys x
 append_cases [] ys i x there = inr (i, there)

@@ -15,7 +15,7 @@ use Rattle.mm_frame.proofs.Numbered.{at_from_contains, contains_from_at}
 use Rattle.mm_frame.proofs.Labelled.{numbered_get, numbered_at, labelled_grow}
 use Rattle.mm_frame.proofs.Those.{Rise, those_by_places}
 use Rattle.mm_frame.proofs.Needed.{mandatory_places, latest_is_variable}
-use Rattle.mm_frame.proofs.Meant.{get_parted}
+use Rattle.mm_text.proofs.Lists.{get_parted}
 use Rattle.mm_frame.proofs.FrameLaws.{at_place}
 
 same_at : (st : List Sentence) (p : ℕ) (s t : Sentence) → slice_get st p ≡ Some s → slice_get st p ≡ Some t → s ≡ t

@@ -8,9 +8,8 @@ use Rattle.std.proofs.lemmas.List.{take-append-le}
 use Rattle.std.proofs.Math.Seq.{take-append_seam}
 use Rattle.mm_frame.specs.Sentence.{Sentence}
 use Rattle.mm_frame.specs.Numbers.{labelled_sentences, IsNumbered}
-use Rattle.mm_text.proofs.Lists.{get_kept, get_pushed, get_before, get_in_front}
+use Rattle.mm_text.proofs.Lists.{get_kept, get_pushed, get_before, get_in_front, get_parted, split_at}
 use Rattle.mm_frame.proofs.Actives.{fronts}
-use Rattle.mm_frame.proofs.Meant.{parts_at, get_parted}
 
 pub labelled_append : (st more : List Sentence) → labelled_sentences (st ++ more) ≡ labelled_sentences st ++ labelled_sentences more
 labelled_append st more = filter-append (λ (s : Sentence). is_some s.label) st more
@@ -29,7 +28,7 @@ labelled_pass st e is = labelled_append st (e ∷ []) ∙ ap (λ ys. labelled_se
 labelled_parts : (st : List Sentence) (p : ℕ) (s : Sentence) → slice_get st p ≡ Some s → is_some s.label ≡ true → labelled_sentences st ≡ labelled_sentences (take p st) ++ s ∷ labelled_sentences (drop (suc p) st)
 labelled_parts st p s there named =
     let rest : labelled_sentences (s ∷ drop (suc p) st) ≡ s ∷ labelled_sentences (drop (suc p) st) = ap (λ c. cond c (s ∷ labelled_sentences (drop (suc p) st)) (labelled_sentences (drop (suc p) st))) named in
-    ap labelled_sentences (parts_at st p s there) ∙ labelled_append (take p st) (s ∷ drop (suc p) st) ∙ ap (λ ys. labelled_sentences (take p st) ++ ys) rest
+    ap labelled_sentences (split_at st p s there) ∙ labelled_append (take p st) (s ∷ drop (suc p) st) ∙ ap (λ ys. labelled_sentences (take p st) ++ ys) rest
 
 pub numbered_get : (st : List Sentence) (id p : ℕ) (s : Sentence) → IsNumbered st id p s → slice_get (labelled_sentences st) id ≡ Some s
 numbered_get st id p s numbered =

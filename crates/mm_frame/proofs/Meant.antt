@@ -1,5 +1,5 @@
 -- What it gives that no statement breaks a rule after those before it.
-use Rattle.std.proofs.Common.{◌≡◌, ◌≢◌, ◌↔◌, ℕ, zero, suc, ◌<◌, ◌≤◌, ◌⊎◌, inl, inr, length, take, drop, List, [], ◌∷◌, ◌++◌, Some, None, refl, sym, ap, ◌∙◌, subst, append_assoc, arith}
+use Rattle.std.proofs.Common.{◌≡◌, ◌≢◌, ◌↔◌, ℕ, suc, ◌<◌, ◌≤◌, ◌⊎◌, inl, inr, length, take, drop, List, [], ◌∷◌, ◌++◌, Some, None, sym, ap, ◌∙◌, subst, append_assoc, arith}
 use Rattle.std.specs.List.{slice_get}
 use Rattle.std.specs.Bool.{Decides}
 use Rattle.std.specs.Str.{bytes_eq}
@@ -15,23 +15,13 @@ use Rattle.mm_frame.specs.Active.{IsActive, SomeActive, IsConstant, IsVariable, 
 use Rattle.mm_frame.specs.Rules.{IsMeant, AllMeant}
 use Rattle.mm_frame.specs.Form.{IsFormedSentence, AllFormed, HasItsLabel}
 use Rattle.mm_frame.specs.Mirror.Latest.{IsLatest}
-use Rattle.mm_text.proofs.Lists.{pushed_cases, get_from_front, get_in_front}
+use Rattle.mm_text.proofs.Lists.{pushed_cases, get_from_front, get_in_front, get_parted, split_at}
 use Rattle.mm_frame.proofs.Actives.{unclosed_shorter}
 use Rattle.mm_frame.proofs.Stays.{active_falls}
 
--- the statements before one, it, and those after it
-pub parts_at : {X : Type 0} (xs : List X) (i : ℕ) (x : X) → slice_get xs i ≡ Some x → xs ≡ take i xs ++ x ∷ drop (suc i) xs
-parts_at [] i x there = absurd (cc)
-parts_at (z ∷ xs) zero x there = let e : z ≡ x = cc in ap (λ y. y ∷ xs) e
-parts_at (z ∷ xs) (suc i) x there = ap (λ ys. z ∷ ys) (parts_at xs i x there)
-
-pub get_parted : {X : Type 0} (before after : List X) (x : X) → slice_get (before ++ x ∷ after) (length before) ≡ Some x
-get_parted [] after x = refl
-get_parted (z ∷ before) after x = get_parted before after x
-
 -- the statement at a place breaks no rule after those before it
 pub meant_at : (st : List Sentence) (p : ℕ) (s : Sentence) → AllMeant st → slice_get st p ≡ Some s → IsMeant (take p st) s
-meant_at st p s meant there = meant (take p st) (drop (suc p) st) s (parts_at st p s there)
+meant_at st p s meant there = meant (take p st) (drop (suc p) st) s (split_at st p s there)
 
 pub meant_from_places : (st : List Sentence) → ((p : ℕ) (s : Sentence) → slice_get st p ≡ Some s → IsMeant (take p st) s) → AllMeant st
 meant_from_places st each before after s parts =

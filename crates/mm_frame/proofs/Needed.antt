@@ -29,9 +29,6 @@ pub used_declared : (before : List Sentence) (s : Sentence) (x : List ℕ) → I
 used_declared before s x meant in_use in_it =
     unless_not (dec_or (constant_dec before x) (variable_dec before x)) (λ none. meant M7 (in_use, (x, in_it, λ active. none (declared_by_active before x active))))
 
-first_of_two : (symbols : List (List ℕ)) (code x : List ℕ) → symbols ≡ code ∷ x ∷ [] → Contains symbols code
-first_of_two symbols code x e = subst (λ l. Contains l code) (sym e) (0, omega arith, refl)
-
 second_of_two : (symbols : List (List ℕ)) (code x : List ℕ) → symbols ≡ code ∷ x ∷ [] → Contains symbols x
 second_of_two symbols code x e = subst (λ l. Contains l x) (sym e) (1, omega arith, refl)
 

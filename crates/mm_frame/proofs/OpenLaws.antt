@@ -11,7 +11,7 @@ use Rattle.mm_text.specs.Blocks.{is_closing}
 use Rattle.mm_text.specs.Blocks.{is_opening}
 use Rattle.mm_frame.specs.Mirror.Scopes.{IsUnclosed}
 use Rattle.mm_frame.specs.Laws.{IsInnermostOpen, OpenBlocks, ActiveStatements}
-use Rattle.mm_text.proofs.Lists.{get_kept, get_pushed, get_in_front, pushed_cases}
+use Rattle.mm_text.proofs.Lists.{get_kept, get_pushed, get_in_front, pushed_cases, get_dropped}
 use Rattle.mm_frame.proofs.Counts.{openings-append, closings-append, unclosed_pushed, unclosed_all, unclosed_new, unclosed_front}
 use Rattle.mm_frame.proofs.ScopeLaws.{openings_one, closings_one, length_pushed, open_before}
 use Rattle.mm_frame.proofs.Stays.{open_stays, active_last, active_stays, active_falls}
@@ -48,14 +48,6 @@ opening_law st e p other = (
     | inr (kind, last) ↦ subst (λ q. IsOpen (st ++ e ∷ []) q) (sym last) (open_last st e kind)
   ]),
 )
-
--- an element of what lies past a place, in the whole list
-get_dropped : {X : Type 0} (n : ℕ) (xs : List X) (k : ℕ) (x : X) → slice_get (drop n xs) k ≡ Some x → slice_get xs (n + k) ≡ Some x
-get_dropped zero xs k x there = let e : k ≡ 0 + k = omega arith in subst (λ j. slice_get xs j ≡ Some x) e there
-get_dropped (suc n) [] k x there = absurd (cc)
-get_dropped (suc n) (y ∷ xs) k x there =
-    let e : suc (n + k) ≡ suc n + k = omega arith in
-    subst (λ j. slice_get (y ∷ xs) j ≡ Some x) e (get_dropped n xs k x there)
 
 -- the two parts of a list at an element of it
 part_counts : (st : List Sentence) (m : ℕ) (x : Sentence) → slice_get st m ≡ Some x

@@ -114,7 +114,3 @@ stated_tells st names stated a b q x y all are at_a at_b apart = elim (cases_ord
         ]),
       )
 ]
-
--- a symbol isn't distinct from itself
-pub same_tells : (st : List Sentence) (q a b : ℕ) (x y : List ℕ) → IsNumberOf st x a → IsNumberOf st y b → a ≡ b → ¬ (IsDistinct (take q st) x y)
-same_tells st q a b x y at_a at_b same distinct = distinct.0 (let at = subst (λ n. slice_get (symbols_of st) n ≡ Some x) same at_a in cc)

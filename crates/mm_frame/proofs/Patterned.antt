@@ -1,6 +1,6 @@
 -- The patterns of an assertion and of its `$e` are made.
 use Rattle.std.proofs.Common.{◌≡◌, ℕ, zero, suc, ◌+◌, ◌<◌, ◌≤◌, inl, inr, false, length, get_or, take, set, List, [], ◌∷◌, ◌++◌, map, Option, option_map, Some, None, refl, sym, ap, ◌∙◌, subst, Result, Ok, Err, append-nil, append_assoc, arith}
-use Rattle.std.specs.List.{slice_get, AllZip}
+use Rattle.std.specs.List.{slice_get}
 use Rattle.std.specs.Option.{is_none}
 use Rattle.std.specs.Result.{IfOk}
 use Rattle.std.proofs.lemmas.List.{length-map, take_more, map-append}
@@ -21,7 +21,7 @@ use Rattle.mm_frame.specs.Mirror.Gathered.{AreRisingPlaces}
 use Rattle.mm_frame.specs.Mirror.Layout.{statements_of}
 use Rattle.mm_frame.specs.Mirror.Naming.{part_after}
 use Rattle.mm_frame.specs.Mirror.Patterned.{IsLonger, IsPatternAt, told, AreSameButPatterns, AreMandatoryOf, HaveFirstPatterns, ArePatterned}
-use Rattle.mm_text.proofs.Lists.{get_within, get_set_cases}
+use Rattle.mm_text.proofs.Lists.{get_within, get_set_cases, zip_push}
 use Rattle.mm_frame.proofs.NameLists.{get_mapped, get_unmapped}
 use Rattle.mm_frame.proofs.Labelled.{numbered_at, numbered_get}
 use Rattle.mm_frame.proofs.Entries.{length-sentences, longer}
@@ -173,12 +173,6 @@ longer_more xs ys zs (a, first) (b, second) = (a ++ b, second ∙ ap (λ ws. ws 
 pub longer_front : {X : Type 0} (xs ys : List X) → IsLonger xs ys → take (length xs) ys ≡ xs
 longer_front xs ys (a, is) = ap (take (length xs)) is ∙ take-append_seam xs a
 
-pieces_push : {A B : Type 0} (R : A → B → Type 0) (xs : List A) (ys : List B) (x : A) (y : B) → AllZip R xs ys → R x y → AllZip R (xs ++ x ∷ []) (ys ++ y ∷ [])
-pieces_push R [] [] x y all is = (is, tt)
-pieces_push R [] (z ∷ ys) x y all is = absurd all
-pieces_push R (z ∷ xs) [] x y all is = absurd all
-pieces_push R (z ∷ xs) (w ∷ ys) x y all is = (all.0, pieces_push R xs ys x y all.1 is)
-
 -- one piece more
 pub pieces_step : (variables : List (Option ℕ)) (symbols : List Sym) (i : ℕ) (d : Sym) (more : List Piece) (p : Piece) → i < length symbols → ArePieces variables (map (λ n. n.0) (take i symbols)) more
     → IsPieceOf variables (get_or symbols i d).0 p → ArePieces variables (map (λ n. n.0) (take (i + 1) symbols)) (more ++ p ∷ [])
@@ -186,7 +180,7 @@ pieces_step variables symbols i d more p lt are is =
     let number : Sym → ℕ = λ n. n.0 in
     let x = get_or symbols i d in
     subst (λ ns. ArePieces variables ns (more ++ p ∷ [])) (sym (ap (map number) (take_more symbols i d lt) ∙ map-append number (take i symbols) (x ∷ [])))
-    (pieces_push (IsPieceOf variables) (map number (take i symbols)) more x.0 p are is)
+    (zip_push (IsPieceOf variables) (map number (take i symbols)) more x.0 p are is)
 
 pub same_part : (a b c d : ℕ) → a ≡ c → b ≡ d → ◌≡◌ {A = Part} (record { start = a; end = b }) (record { start = c; end = d })
 same_part a b c d first second = ap (λ (n : ℕ). let p : Part = record { start = n; end = b } in p) first ∙ ap (λ (n : ℕ). let p : Part = record { start = c; end = n } in p) second

@@ -2,6 +2,8 @@
 use Rattle.std.proofs.Common.{◌≡◌, ◌↔◌, ℕ, ◌+◌, ◌<◌, ◌≤◌, inl, inr, length, take, List, [], ◌∷◌, map, Option, Some, None, slice_range, refl, sym, ap, ◌∙◌, subst, arith}
 use Rattle.std.specs.List.{slice_get}
 use Rattle.mm_text.specs.declared.statement.Kind.{Kind}
+use Rattle.mm_text.specs.declared.statement.Kind.TheVariants.{Floating, Essential, Axiom, Provable}
+use Rattle.mm_text.specs.Token.{IsLabel}
 use Rattle.mm_text.specs.Files.{most_bytes}
 use Rattle.mm_frame.specs.declared.distinct.DistinctPair.{DistinctPair}
 use Rattle.mm_frame.specs.declared.hypothesis.Hypothesis.{Hypothesis}
@@ -9,7 +11,7 @@ use Rattle.mm_frame.specs.declared.number.Sym.{Sym}
 use Rattle.mm_frame.specs.declared.piece.Piece.{Piece}
 use Rattle.mm_frame.specs.declared.tables.Entry.{Entry}
 use Rattle.mm_frame.specs.declared.tables.LabelInfo.{LabelInfo}
-use Rattle.mm_frame.specs.Sentence.{Sentence, IsLabelled, IsAssertion}
+use Rattle.mm_frame.specs.Sentence.{Sentence, SomeSentence, IsLabelled, IsAssertion}
 use Rattle.mm_frame.specs.Form.{HasItsLabel, AllFormed}
 use Rattle.mm_frame.specs.Numbers.{labelled_sentences, IsNumbered, IsLabelNumber}
 use Rattle.mm_frame.specs.FramePlace.{AreHypotheses, HaveTypings, ArePairs}
@@ -18,7 +20,7 @@ use Rattle.mm_frame.specs.Mirror.Layout.{sentences_by, sentence_by, statements_o
 use Rattle.mm_frame.specs.declared.tables.Tables.{Tables}
 use Rattle.mm_frame.specs.Frame.{AreThose, IsMandatoryAt}
 use Rattle.std.proofs.lemmas.List.{length-map, length-take-le}
-use Rattle.std.proofs.lemmas.Option.{slice_get_within}
+use Rattle.std.proofs.lemmas.Option.{slice_get_within, same_Some}
 use Rattle.mm_text.proofs.Lists.{get_within}
 use Rattle.mm_frame.proofs.NameLists.{get_mapped, get_unmapped}
 use Rattle.mm_frame.proofs.Labelled.{numbered_get, numbered_within, numbered_unique, numbered_from_get}
@@ -97,6 +99,20 @@ entry_kind symbols labels flat log place e s there said =
 -- a labelled statement's kind is one with a label
 pub named_kind : (st : List Sentence) (place : ℕ) (s : Sentence) (l : List ℕ) → AllFormed st → slice_get st place ≡ Some s → IsLabelled l s → HasItsLabel s.kind (Some l)
 named_kind st place s l formed there named = subst (λ (o : Option (List ℕ)). HasItsLabel s.kind o) named (formed place s there).label
+
+-- a label that a kind of statement has is a label by its bytes
+label_of_kind : (kind : Kind) (l : List ℕ) → HasItsLabel kind (Some l) → IsLabel l
+label_of_kind Floating l has = subst IsLabel (sym (same_Some l has.0 has.1)) has.2
+label_of_kind Essential l has = subst IsLabel (sym (same_Some l has.0 has.1)) has.2
+label_of_kind Axiom l has = subst IsLabel (sym (same_Some l has.0 has.1)) has.2
+label_of_kind Provable l has = subst IsLabel (sym (same_Some l has.0 has.1)) has.2
+label_of_kind kind l has = absurd cc
+
+-- and so is that of a statement
+pub label_named : (st : List Sentence) (l : List ℕ) → AllFormed st → SomeSentence st (IsLabelled l)
+    → IsLabel l
+label_named st l formed (place, s, there, named) =
+    label_of_kind s.kind l (named_kind st place s l formed there named)
 
 -- a part of the hypotheses of all assertions
 pub frame_hypotheses : (st : List Sentence) (labels : List (List ℕ)) (named : List LabelInfo) (log : List Entry) (hs : List Hypothesis) (pairs : List DistinctPair) (pieces : List Piece) (id place : ℕ) (s : Sentence) (info : LabelInfo) (part : List Hypothesis)

@@ -2,8 +2,10 @@
 -- those that the crates above need too stand here.
 use Rattle.std.proofs.Common.{◌≡◌, ℕ, zero, suc, ◌+◌, ◌<◌, List, [], ◌∷◌, ◌++◌, map, length, take}
 use Rattle.std.proofs.Common.{drop, set, get_or, refl, ap, sym, subst, ◌∙◌, ◌⊎◌, inl, inr, Some, arith}
-use Rattle.std.specs.List.{AllByRecursion, AllZip, slice_get}
-use Rattle.std.proofs.lemmas.List.{length-map}
+use Rattle.std.proofs.Common.{Bool, true}
+use Rattle.std.specs.List.{AllByRecursion, AllZip, slice_get, list_any}
+use Rattle.std.proofs.lemmas.List.{length-map, get_or-map}
+use Rattle.std.proofs.lemmas.List.Folds.{list_any_at}
 use Rattle.std.proofs.lemmas.Option.{same_Some, none-some}
 
 -- ---- lists from their parts
@@ -94,6 +96,12 @@ get_before (z ∷ xs) ys (suc i) x lt there = get_before xs ys i x (omega arith)
 pub get_pushed : {A : Type 0} (xs : List A) (y : A) → slice_get (xs ++ y ∷ []) (length xs) ≡ Some y
 get_pushed [] y = refl
 get_pushed (z ∷ xs) y = get_pushed xs y
+
+-- the element between two parts
+pub get_parted : {A : Type 0} (xs ys : List A) (x : A)
+    → slice_get (xs ++ x ∷ ys) (length xs) ≡ Some x
+get_parted [] ys x = refl
+get_parted (z ∷ xs) ys x = get_parted xs ys x
 
 -- an element of a list and one more is of the list, or is the one more
 pub pushed_cases : {A : Type 0} (xs : List A) (y : A) (i : ℕ) (x : A)
@@ -233,6 +241,15 @@ pub all_at : {A : Type 0} (P : A → Type 0) (xs : List A) (i : ℕ) (x : A) →
 all_at P [] i x a e = absurd (none-some x e)
 all_at P (y ∷ xs) zero x a e = subst P (same_Some y x e) a.0
 all_at P (y ∷ xs) (suc i) x a e = all_at P xs i x a.1 e
+
+-- ---- lists of which some are so
+
+-- some passes a test where what a function makes of the element at a place does
+pub any_found : {A B : Type 0} (f : A → B) (p : B → Bool) (xs : List A) (i : ℕ) (d : A)
+    → i < length xs → p (f (get_or xs i d)) ≡ true → list_any p (map f xs) ≡ true
+any_found f p xs i d within so =
+    list_any_at p (map f xs) i (f d) (omega (arith, length-map xs f))
+    (ap p (get_or-map f xs i d (f d) within) ∙ so)
 
 -- ---- two lists of which a function of the one is a function of the other
 
