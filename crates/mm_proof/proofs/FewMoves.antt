@@ -1,18 +1,28 @@
--- Tokens say as many moves as they have bytes, at most.
-use Rattle.std.proofs.Common.{ℕ, ◌≤◌, List, [], ◌∷◌, ◌++◌, length, map, inl, inr, ap, arith}
+-- Tokens that break no rule over the whole proof say as many moves as they have bytes, at most: each
+-- label has a byte, and each letter is one.
+use Rattle.std.proofs.Common.{ℕ, ◌≤◌, List, [], ◌∷◌, ◌++◌, length, map, take, get_or, Contains, inl, inr, refl, ap, arith}
 use Rattle.std.specs.List.{flat_map, sum_by, AllZip, AllByRecursion}
+use Rattle.std.proofs.lemmas.Bool.{false≢true}
 use Rattle.std.proofs.lemmas.List.{length-map, length-append}
 use Rattle.std.proofs.lemmas.List.Concat.{length-flat_map}
+use Rattle.std.proofs.lemmas.List.Elements.{Contains-get_or}
 use Rattle.std.proofs.lemmas.List.Sums.{sum_by-append}
 use Rattle.std.proofs.lemmas.Slice.Zip.{AllZip-long}
+use Rattle.mm_text.proofs.Lists.{all_places}
 use Rattle.mm_code.specs.declared.code.Code.{Code}
 use Rattle.mm_code.specs.declared.code.Code.TheVariants.{Number, Tag}
 use Rattle.mm_code.specs.Letters as letter
 use Rattle.mm_frame.specs.Sentence.{Sentence}
+use Rattle.mm_frame.specs.Form.{AllFormed}
+use Rattle.mm_frame.proofs.Meant.{allformed_front}
+use Rattle.mm_frame.proofs.ReadLaws.{label_named}
+use Rattle.mm_proof.specs.declared.fault.ProofRule.TheVariants.{P2}
 use Rattle.mm_proof.specs.declared.moves.NumberedMove.{NumberedMove}
 use Rattle.mm_proof.specs.Moves.{Move, name}
-use Rattle.mm_proof.specs.Tokens.{Says, SayMoves, opening_token, closing_token}
-use Rattle.mm_proof.specs.Steps.{IsNumberedMove, AreNumberedMoves}
+use Rattle.mm_proof.specs.Tokens.{Says, AreLabels, SayMoves, opening_token, closing_token}
+use Rattle.mm_proof.specs.Proof.{IsWhole}
+use Rattle.mm_proof.specs.Parsed.{SaySteps}
+use Rattle.mm_proof.specs.Steps.{IsNumberedMove}
 use Rattle.mm_proof.specs.Plain.{move_in, moves_in}
 
 -- a piece of text that says a code has a letter
@@ -37,30 +47,55 @@ codes_letters text codes l =
     let most = pieces_letters l.spells.pieces l.spelled l.spells.each in
     omega (arith, most, ap length l.are_codes, length-map l.spelled letter.code_for, ap length l.spells.joined, length-flat_map (λ (piece : List ℕ). piece) l.spells.pieces)
 
--- as many tokens as bytes at most
-tokens_bytes : (tokens : List (List ℕ)) → AllByRecursion (λ t. 1 ≤ length t) tokens → length tokens ≤ sum_by length tokens
-tokens_bytes [] filled = omega arith
-tokens_bytes (t ∷ tokens) filled =
-    let first = filled.0 in
-    let others = tokens_bytes tokens filled.1 in
+-- as many tokens as bytes at most, if each has one
+tokens_bytes : (tokens : List (List ℕ)) → AllByRecursion (λ t. 1 ≤ length t) tokens
+    → length tokens ≤ sum_by length tokens
+tokens_bytes [] held = omega arith
+tokens_bytes (t ∷ tokens) held =
+    let first = held.0 in
+    let others = tokens_bytes tokens held.1 in
     let all = sum_by-append length (t ∷ []) tokens in
     omega (arith, first, others, all)
 
-said_moves : (before : List Sentence) (s : Sentence) (tokens : List (List ℕ)) (moves : List (Move (List ℕ))) → AllByRecursion (λ t. 1 ≤ length t) tokens
+-- each label is that of an earlier statement, so it has a byte
+label_some : (before : List Sentence) (tokens labels : List (List ℕ)) (label : List ℕ)
+    → AllFormed before → IsWhole before tokens → AreLabels tokens labels → Contains labels label
+    → 1 ≤ length label
+label_some before tokens labels [] formed whole are has =
+    absurd (whole P2 (labels, are, [], has, λ found. false≢true (label_named before [] formed found)))
+label_some before tokens labels (b ∷ label) formed whole are has = omega arith
+
+labels_some : (before : List Sentence) (tokens labels : List (List ℕ)) → AllFormed before
+    → IsWhole before tokens → AreLabels tokens labels
+    → AllByRecursion (λ t. 1 ≤ length t) labels
+labels_some before tokens labels formed whole are =
+    all_places (λ (t : List ℕ). 1 ≤ length t) labels [] (λ k within.
+    label_some before tokens labels (get_or labels k []) formed whole are
+    (Contains-get_or labels k [] within))
+
+said_moves : (before : List Sentence) (s : Sentence) (tokens : List (List ℕ))
+    (moves : List (Move (List ℕ))) → AllFormed before → IsWhole before tokens
     → SayMoves before s tokens moves → length moves ≤ sum_by length tokens
-said_moves before s tokens moves filled (inl n) =
-    omega (arith, tokens_bytes tokens filled, ap length n.1, length-map tokens (λ (l : List ℕ). name l))
-said_moves before s tokens moves filled (inr c) =
+said_moves before s tokens moves formed whole (inl n) =
+    let held = labels_some before tokens tokens formed whole (inl (n.0, refl)) in
+    omega (arith, tokens_bytes tokens held, ap length n.1, length-map tokens (λ (l : List ℕ). name l))
+said_moves before s tokens moves formed whole (inr c) =
     let most = codes_letters (flat_map (λ piece. piece) c.letters) c.codes c.coded in
     let long = AllZip-long (Says (c.labels ++ c.listed)) c.codes moves c.each in
     let text = length-flat_map (λ (piece : List ℕ). piece) c.letters in
-    let whole = ap (sum_by length) c.parts.whole in
+    let all = ap (sum_by length) c.parts.whole in
     let head = sum_by-append length (opening_token ∷ c.listed) (closing_token ∷ c.letters) in
     let tail = sum_by-append length (closing_token ∷ []) c.letters in
-    omega (arith, most, long, text, whole, head, tail)
+    omega (arith, most, long, text, all, head, tail)
 
 -- the moves that tokens say, as the code holds them, are as many as bytes at most
-pub moves_bytes : (st before : List Sentence) (s : Sentence) (tokens : List (List ℕ)) (held : List NumberedMove) (moves : List (Move (List ℕ))) → AllByRecursion (λ t. 1 ≤ length t) tokens
-    → SayMoves before s tokens moves → AreNumberedMoves st (moves_in held) moves → length held ≤ sum_by length tokens
-moves_bytes st before s tokens held moves filled said numbered =
-    omega (arith, said_moves before s tokens moves filled said, AllZip-long (IsNumberedMove st) (moves_in held) moves numbered, length-map held move_in)
+pub moves_bytes : (st : List Sentence) (place : ℕ) (s : Sentence) (tokens : List (List ℕ))
+    (held : List NumberedMove) → AllFormed st → SaySteps st place s tokens (moves_in held)
+    → length held ≤ sum_by length tokens
+moves_bytes st place s tokens held formed says =
+    omega (
+      arith,
+      said_moves (take place st) s tokens says.1 (allformed_front st place formed) says.0 says.2,
+      AllZip-long (IsNumberedMove st) (moves_in held) says.1 says.3,
+      length-map held move_in,
+    )

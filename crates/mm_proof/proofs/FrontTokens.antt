@@ -1,6 +1,6 @@
 -- The tokens of the known front: what of the whole's tokens holds of them.
-use Rattle.std.proofs.Common.{◌≡◌, ℕ, zero, suc, ◌+◌, ◌<◌, ◌≤◌, List, [], ◌∷◌, ◌++◌, length, map, take, get_or, slice_get, Option, Some, None, Bool, true, false, if◌then◌else◌, ◌==◌, append-nil, refl, sym, ap, ◌∙◌, arith}
-use Rattle.std.specs.List.{AllByRecursion, list_any, sum_by, position_or_len, before_first}
+use Rattle.std.proofs.Common.{◌≡◌, ℕ, zero, suc, ◌+◌, ◌<◌, ◌≤◌, List, [], ◌∷◌, ◌++◌, length, map, take, get_or, slice_get, Some, None, Bool, true, false, if◌then◌else◌, ◌==◌, append-nil, refl, sym, ap, ◌∙◌, arith}
+use Rattle.std.specs.List.{list_any, sum_by, position_or_len, before_first}
 use Rattle.std.proofs.lemmas.Bool.{or_parts, or_from, or_left, or_right}
 use Rattle.std.proofs.lemmas.List.{length-take}
 use Rattle.std.proofs.lemmas.List.Sums.{sum_by-append, sum_by-take-le}
@@ -8,40 +8,6 @@ use Rattle.mm_text.specs.declared.token.Token.{Token}
 use Rattle.mm_proof.specs.Plain.{token_texts}
 use Rattle.mm_proof.specs.KnownFront.{is_question, is_unknown, token_of, known_piece, known_tokens, known_text, known_front, begins_list, ends_list}
 use Rattle.mm_proof.proofs.TokenFacts.{text_at}
-
--- ---- each holds a byte
-
-abbrev pub Filled : List (List ℕ) → Type 0
-Filled tokens = AllByRecursion (λ t. 1 ≤ length t) tokens
-
-token_filled : (text : List ℕ) → Filled (token_of text)
-token_filled [] = tt
-token_filled (b ∷ text) = ((omega arith), tt)
-
-piece_filled : (o : Option (List ℕ)) → Filled (known_piece o)
-piece_filled None = tt
-piece_filled (Some t) = token_filled (before_first is_question t)
-
--- a front of the tokens, and another list
-cut_filled : (tokens others : List (List ℕ)) (n : ℕ) → Filled tokens → Filled others → Filled (take n tokens ++ others)
-cut_filled [] others zero all also = also
-cut_filled [] others (suc n) all also = also
-cut_filled (t ∷ tokens) others zero all also = also
-cut_filled (t ∷ tokens) others (suc n) all also = (all.0, cut_filled tokens others n all.1 also)
-
-take_filled : (tokens : List (List ℕ)) (n : ℕ) → Filled tokens → Filled (take n tokens)
-take_filled [] zero all = tt
-take_filled [] (suc n) all = tt
-take_filled (t ∷ tokens) zero all = tt
-take_filled (t ∷ tokens) (suc n) all = (all.0, take_filled tokens n all.1)
-
-pub front_filled : (tokens : List (List ℕ)) → Filled tokens → Filled (known_front tokens)
-front_filled tokens all = by (begins_list tokens) (ends_list (known_tokens tokens))
-  where
-    by : (begun ended : Bool) → Filled (if begun then (if ended then known_text tokens else []) else known_tokens tokens)
-    by true true = cut_filled tokens (known_piece (slice_get tokens (position_or_len is_unknown tokens))) (position_or_len is_unknown tokens) all (piece_filled (slice_get tokens (position_or_len is_unknown tokens)))
-    by true false = tt
-    by false ended = take_filled tokens (position_or_len is_unknown tokens) all
 
 -- ---- they have as many bytes at most
 

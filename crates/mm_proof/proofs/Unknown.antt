@@ -1,17 +1,15 @@
 -- A proof that breaks no rule over the whole of it holds no `?`: no label and no letter has such a byte.
-use Rattle.std.proofs.Common.{◌≡◌, ℕ, ◌<◌, ◌≤◌, List, [], ◌∷◌, ◌++◌, take, get_or, Contains, Any, Some, false, inl, inr, refl, sym, ap, subst, ◌∙◌, arith}
+use Rattle.std.proofs.Common.{◌≡◌, ℕ, ◌<◌, ◌≤◌, List, [], ◌∷◌, ◌++◌, take, get_or, Contains, Any, false, inl, inr, refl, sym, ap, subst, ◌∙◌, arith}
 use Rattle.std.specs.List.{flat_map}
-use Rattle.std.proofs.lemmas.Option.{same_Some}
 use Rattle.std.proofs.lemmas.List.Elements.{Contains-append_left, Contains-append_right, Contains-append_cases}
 use Rattle.std.proofs.lemmas.List.Folds.{list_all_at}
-use Rattle.mm_text.specs.declared.statement.Kind.{Kind}
-use Rattle.mm_text.specs.declared.statement.Kind.TheVariants.{Floating, Essential, Axiom, Provable}
 use Rattle.mm_text.specs.Token.{IsLabel, is_label_byte}
+use Rattle.mm_text.proofs.TextFacts.{label_bytes}
 use Rattle.mm_code.specs.Letters.{IsLetter}
 use Rattle.mm_frame.specs.Sentence.{Sentence}
-use Rattle.mm_frame.specs.Form.{AllFormed, HasItsLabel}
+use Rattle.mm_frame.specs.Form.{AllFormed}
 use Rattle.mm_frame.proofs.Meant.{allformed_front}
-use Rattle.mm_frame.proofs.ReadLaws.{named_kind}
+use Rattle.mm_frame.proofs.ReadLaws.{label_named}
 use Rattle.mm_proof.specs.declared.fault.ProofRule.TheVariants.{P2, P4}
 use Rattle.mm_proof.specs.Tokens.{opening_token, closing_token, IsIncomplete, IsCompressed, AreLabels, SayMoves}
 use Rattle.mm_proof.specs.Moves.{Move}
@@ -24,33 +22,16 @@ use Rattle.mm_proof.proofs.FormLists.{only_one}
 
 -- ---- labels
 
-label_said : (l : List ℕ) → (k : List ℕ) × (Some l ≡ Some k) × IsLabel k → IsLabel l
-label_said l has = subst IsLabel (sym (same_Some l has.0 has.1)) has.2
-
-label_formed : (kind : Kind) (l : List ℕ) → HasItsLabel kind (Some l) → IsLabel l
-label_formed Floating l has = label_said l has
-label_formed Essential l has = label_said l has
-label_formed Axiom l has = label_said l has
-label_formed Provable l has = label_said l has
-label_formed kind l has = absurd cc
-
 formed_known : (l : List ℕ) → IsLabel l → ¬ (Contains l 63)
 formed_known l formed has =
     let other : is_label_byte (get_or l has.0 63) ≡ false = ap is_label_byte has.2 in
-    absurd (let e = sym formed ∙ list_all_at is_label_byte l has.0 63 has.1 other in cc)
+    absurd (let e = sym (label_bytes l formed) ∙ list_all_at is_label_byte l has.0 63 has.1 other in cc)
 
 -- each label is that of an earlier statement
 label_known : (before : List Sentence) (tokens labels : List (List ℕ)) (label : List ℕ) → AllFormed before → IsWhole before tokens → AreLabels tokens labels
     → Contains labels label → ¬ (Contains label 63)
 label_known before tokens labels label formed whole are has unknown =
-    whole P2 (
-      labels,
-      are,
-      label,
-      has,
-      λ found.
-          formed_known label (label_formed found.1.kind label (named_kind before found.0 found.1 label formed found.2 found.3)) unknown,
-    )
+    whole P2 (labels, are, label, has, λ found. formed_known label (label_named before label formed found) unknown)
 
 -- ---- letters and parentheses
 

@@ -442,7 +442,6 @@ fn steps_of(
     front: bool,
 ) -> Result<Steps, ProofFault>
     requires proof { (place : ℕ) × (s : Sentence) × IsProofNumber book.now.statements id.0 place s }
-    requires filled { AllByRecursion (λ t. 1 ≤ length t) (token_texts tokens.now) }
     requires room { sum_by length (token_texts tokens.now) ≤ most_bytes }
     ensures steps { IfOk result (λ steps. OfProof book.now.statements id.0
         (λ place s. SaySteps book.now.statements place s (token_texts tokens.now) steps.moves)) }
@@ -474,7 +473,6 @@ fn front_steps(
     tokens: &[Token],
 ) -> Result<Steps, ProofFault>
     requires proof { (place : ℕ) × (s : Sentence) × IsProofNumber book.now.statements id.0 place s }
-    requires filled { AllByRecursion (λ t. 1 ≤ length t) (token_texts tokens.now) }
     requires room { sum_by length (token_texts tokens.now) ≤ most_bytes }
     ensures steps { IfOk result (λ steps. OfProof book.now.statements id.0 (λ place s.
         SaySteps book.now.statements place s (known_front (token_texts tokens.now)) steps.moves)) }
@@ -520,7 +518,6 @@ impl Steps {
     ) -> Result<Parsed, ProofFault>
         requires proof { (place : ℕ) × (s : Sentence)
             × IsProofNumber book.now.statements id.0 place s }
-        requires filled { AllByRecursion (λ t. 1 ≤ length t) (texts tokens.now) }
         requires room { sum_by length (texts tokens.now) ≤ most_bytes }
         // A proof with an unknown step is told apart.
         ensures incomplete { (steps : ReadSteps) → result ≡ Ok (Parsed.Incomplete steps)

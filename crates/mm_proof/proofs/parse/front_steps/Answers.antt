@@ -1,16 +1,12 @@
-use Rattle.std.proofs.Common.{ℕ, List, take, length, arith, ap, subst, sym, ◌∙◌, ◌≡◌}
+use Rattle.std.proofs.Common.{ℕ, List, take, length, arith, ap, subst, ◌∙◌, ◌≡◌}
 use Rattle.std.specs.Prelude.{IfOk, IfErr, OnOk}
 use Rattle.std.specs.List.{sum_by}
 use Rattle.mm_proof.specs.Answer.{OnRule}
 use Rattle.mm_proof.specs.Strict.{HasFormOf, IsTextFault}
 use Rattle.mm_proof.specs.Parsed.{OfProof, SaySteps}
 use Rattle.mm_proof.specs.Plain.{token_texts}
-use Rattle.mm_proof.proofs.FrontTokens.{Filled, front_filled, front_room}
+use Rattle.mm_proof.proofs.FrontTokens.{front_room}
 use Rattle.mm_proof.proofs.parse.front_steps.Goals as goal
-
-pub steps_of-requires-clause-filled : goal.steps_of-requires-clause-filled
-steps_of-requires-clause-filled c =
-    subst Filled (sym (ap token_texts c.deref.ensures.value ∙ c.in_ok-front.ensures)) (front_filled (token_texts c.args.tokens.now) c.requires.filled)
 
 pub steps_of-requires-clause-room : goal.steps_of-requires-clause-room
 steps_of-requires-clause-room c =

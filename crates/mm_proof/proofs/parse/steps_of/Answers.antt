@@ -1,4 +1,4 @@
-use Rattle.std.proofs.Common.{take, arith}
+use Rattle.std.proofs.Common.{arith}
 use Rattle.std.proofs.lemmas.Result.{err_from_is_err_and}
 use Rattle.mm_proof.specs.Plain.{token_texts}
 use Rattle.mm_proof.proofs.FewMoves.{moves_bytes}
@@ -11,8 +11,8 @@ invariant_of-result c =
     let said = rw (c.new-site.ensures.statements, c.new-site.ensures.number) at
     c.in_ok-fill_under.ensures.steps in
     let says = said proof.0 proof.1 proof.2 in
-    let few = moves_bytes st (take proof.0 st) proof.1 (token_texts c.args.tokens.now) _ says.1
-    c.requires.filled says.2 says.3 in
+    let few = moves_bytes st proof.0 proof.1 (token_texts c.args.tokens.now) _
+    c.new-site.ensures.sound.1 says in
     (omega (arith, few, c.requires.room), tt)
 
 pub returns-clause-steps : goal.returns-clause-steps
