@@ -6,7 +6,8 @@ use Rattle.std.proofs.lemmas.List.{length-take}
 use Rattle.std.proofs.lemmas.List.Sums.{sum_by-append, sum_by-take-le}
 use Rattle.mm_text.specs.declared.token.Token.{Token}
 use Rattle.mm_proof.specs.Plain.{token_texts}
-use Rattle.mm_proof.specs.KnownFront.{is_question, is_unknown, token_of, known_piece, known_tokens, known_text, known_front, begins_list, ends_list}
+use Rattle.mm_proof.specs.Tokens.{is_question, is_unknown}
+use Rattle.mm_proof.specs.KnownFront.{token_of, known_piece, known_tokens, known_text, known_front, begins_list, ends_list}
 use Rattle.mm_proof.proofs.TokenFacts.{text_at}
 
 -- ---- they have as many bytes at most

@@ -2,7 +2,8 @@
 use Rattle.std.proofs.Common.{◌≡◌, ℕ, ◌<◌, ◌≤◌, List, [], ◌∷◌, ◌++◌, take, get_or, Contains, Any, false, inl, inr, refl, sym, ap, subst, ◌∙◌, arith}
 use Rattle.std.specs.List.{flat_map}
 use Rattle.std.proofs.lemmas.List.Elements.{Contains-append_left, Contains-append_right, Contains-append_cases}
-use Rattle.std.proofs.lemmas.List.Folds.{list_all_at}
+use Rattle.std.proofs.lemmas.List.Folds.{list_all_at, Any-from_list_any}
+use Rattle.std.proofs.lemmas.Bool.{eqb-true}
 use Rattle.mm_text.specs.Token.{IsLabel, is_label_byte}
 use Rattle.mm_text.proofs.TextFacts.{label_bytes}
 use Rattle.mm_code.specs.Letters.{IsLetter}
@@ -11,7 +12,7 @@ use Rattle.mm_frame.specs.Form.{AllFormed}
 use Rattle.mm_frame.proofs.Meant.{allformed_front}
 use Rattle.mm_frame.proofs.ReadLaws.{label_named}
 use Rattle.mm_proof.specs.declared.fault.ProofRule.TheVariants.{P2, P4}
-use Rattle.mm_proof.specs.Tokens.{opening_token, closing_token, IsIncomplete, IsCompressed, AreLabels, SayMoves}
+use Rattle.mm_proof.specs.Tokens.{is_question, is_unknown, opening_token, closing_token, IsIncomplete, IsCompressed, AreLabels, SayMoves}
 use Rattle.mm_proof.specs.Moves.{Move}
 use Rattle.mm_proof.specs.Proof.{IsWhole, IsWithin, IsProvedWithin}
 use Rattle.mm_proof.specs.Steps.{IsProofNumber}
@@ -76,12 +77,24 @@ compressed_known before tokens labels letters token formed whole parts has =
       ]
     ]
 
+-- where a step is unknown, there is a token that holds a `?`
+unknown_token : (tokens : List (List ℕ)) → IsIncomplete tokens
+    → (token : List ℕ) × Contains tokens token × Contains token 63
+unknown_token tokens unknown =
+    let token = Any-from_list_any is_unknown tokens unknown in
+    let byte = Any-from_list_any is_question token.1 token.4 in
+    let is : byte.1 ≡ 63 = eqb-true byte.1 63 byte.4 in
+    (token.1, (token.0, token.2, token.3), (byte.0, byte.2, subst (λ b. get_or token.1 byte.0 b ≡ b) is byte.3))
+
 -- tokens that break no rule over the whole proof, and say moves, hold no `?`
 said_known : (before : List Sentence) (s : Sentence) (tokens : List (List ℕ)) (moves : List (Move (List ℕ))) → AllFormed before → IsWhole before tokens
     → SayMoves before s tokens moves → ¬ (IsIncomplete tokens)
-said_known before s tokens moves formed whole (inl normal) unknown = label_known before tokens tokens unknown.0 formed whole (inl (normal.0, refl)) unknown.1 unknown.2
-said_known before s tokens moves formed whole (inr said) unknown =
-    compressed_known before tokens said.listed said.letters unknown.0 formed whole said.parts unknown.1 unknown.2
+said_known before s tokens moves formed whole said unknown = by_form said (unknown_token tokens unknown)
+  where
+    by_form : SayMoves before s tokens moves → ¬ ((token : List ℕ) × Contains tokens token × Contains token 63)
+    by_form (inl normal) (token, among, byte) = label_known before tokens tokens token formed whole (inl (normal.0, refl)) among byte
+    by_form (inr compressed) (token, among, byte) =
+        compressed_known before tokens compressed.listed compressed.letters token formed whole compressed.parts among byte
 
 pub within_known : (limit : ℕ) (st : List Sentence) (id : ℕ) (tokens : List (List ℕ)) → AllFormed st → IsIncomplete tokens
     → OfProof st id (λ place s. ¬ (IsProvedWithin (IsWithin limit) (take place st) s tokens))

@@ -1,6 +1,6 @@
 -- What is known of an incomplete proof: what stands before its first `?` (the Metamath book, section
 -- 4.4.4 and appendix B). That it is judged is this project's own.
-use Rattle.std.specs.Prelude.{◌≡◌, ℕ, ◌==◌, List, [], ◌∷◌, ◌++◌, Bool, false, Option, Some, None}
+use Rattle.std.specs.Prelude.{◌≡◌, ℕ, List, [], ◌∷◌, ◌++◌, Bool, false, Option, Some, None}
 use Rattle.std.specs.Prelude.{slice_get, if◌then◌else◌, ◌⊎◌}
 use Rattle.std.specs.List.{list_any, before_first, position_or_len}
 use Rattle.mm_text.specs.Items.{spells}
@@ -10,16 +10,8 @@ use Rattle.mm_frame.specs.Form.{AllFormed}
 use Rattle.mm_proof.specs.declared.fault.ProofRule.{ProofRule}
 use Rattle.mm_proof.specs.Substitution.{Expression}
 use Rattle.mm_proof.specs.Moves.{Move}
-use Rattle.mm_proof.specs.Tokens.{opening_token, closing_token, SayMoves}
+use Rattle.mm_proof.specs.Tokens.{is_question, is_unknown, opening_token, closing_token, SayMoves}
 use Rattle.mm_proof.specs.Proof.{IsWholeFault, IsWhole, IsWithin, Passed, IsMoveFault}
-
--- the byte is `?`
-abbrev pub is_question : ℕ → Bool
-is_question byte = byte == 63
-
--- a token holds a `?`
-abbrev pub is_unknown : List ℕ → Bool
-is_unknown token = list_any is_question token
 
 -- the tokens before the first that holds a `?`
 abbrev pub known_tokens : List (List ℕ) → List (List ℕ)

@@ -1,8 +1,8 @@
 -- The moves that the tokens of a proof say (the Metamath book, sections 4.1.4, 4.3, 4.4.3 and
 -- 4.4.4, appendix B).
-use Rattle.std.specs.Prelude.{◌≡◌, ◌≢◌, ℕ, ◌+◌, List, [], ◌∷◌, ◌++◌, length, map, slice_get}
-use Rattle.std.specs.Prelude.{Contains, Some, ◌⊎◌}
-use Rattle.std.specs.List.{flat_map, AllZip}
+use Rattle.std.specs.Prelude.{◌≡◌, ◌≢◌, ℕ, ◌+◌, ◌==◌, List, [], ◌∷◌, ◌++◌, length, map, slice_get}
+use Rattle.std.specs.Prelude.{Bool, true, Contains, Some, ◌⊎◌}
+use Rattle.std.specs.List.{flat_map, list_any, AllZip}
 use Rattle.mm_code.specs.declared.code.Code.{Code}
 use Rattle.mm_code.specs.declared.code.Code.TheVariants.{Number, Tag}
 use Rattle.mm_code.specs.Letters.{Letters}
@@ -10,9 +10,20 @@ use Rattle.mm_frame.specs.Sentence.{Sentence}
 use Rattle.mm_frame.specs.Frame.{AreMandatory}
 use Rattle.mm_proof.specs.Moves.{Move, name, again, mark}
 
--- some token holds a `?`: a step is unknown
+-- the byte is `?`
+abbrev pub is_question : ℕ → Bool
+is_question byte = byte == 63
+
+-- a token holds a `?`
+abbrev pub is_unknown : List ℕ → Bool
+is_unknown token = list_any is_question token
+
+-- some token holds a `?`: a step is unknown (the Metamath book, section 4.4.4)
+abbrev pub is_incomplete : List (List ℕ) → Bool
+is_incomplete tokens = list_any is_unknown tokens
+
 abbrev pub IsIncomplete : List (List ℕ) → Type 0
-IsIncomplete tokens = (token : List ℕ) × Contains tokens token × Contains token 63
+IsIncomplete tokens = is_incomplete tokens ≡ true
 
 -- `(` and `)`
 abbrev pub opening_token : List ℕ

@@ -4,8 +4,8 @@
 ghost use Rattle.std.specs.Prelude.{◌≡◌, ◌↔◌, ◌≤◌, [], ◌∷◌, ◌++◌, take, slice_get, length, IfOk, IsTrue};
 ghost use Rattle.std.specs.List.{position_or_len};
 ghost use Rattle.mm_text.specs.Items.{spells};
-ghost use Rattle.mm_proof.specs.Tokens.{closing_token};
-ghost use Rattle.mm_proof.specs.KnownFront.{is_question, is_unknown, begins_list, ends_list};
+ghost use Rattle.mm_proof.specs.Tokens.{is_question, is_unknown, closing_token};
+ghost use Rattle.mm_proof.specs.KnownFront.{begins_list, ends_list};
 ghost use Rattle.mm_proof.specs.KnownFront.{known_piece, known_front};
 ghost use Rattle.mm_proof.specs.Plain.{token_texts};
 
@@ -34,8 +34,8 @@ fn question_place(text: &[u8]) -> usize
     text.len()
 }
 
-// Whether the token holds a `?`.
-fn is_unknown(text: &[u8]) -> bool
+/// Whether the token holds a `?`.
+pub(crate) fn is_unknown(text: &[u8]) -> bool
     ensures { result ≡ is_unknown text.now }
 {
     text.iter().any(|byte| *byte == b'?')

@@ -1,17 +1,17 @@
 //! The tokens of a proof: whether a step is unknown, P1 to P5, and the moves that they say (the
 //! Metamath book, section 4.3, section 4.4.4 and appendix B).
 
-ghost use Rattle.std.specs.Prelude.{◌≡◌, ◌↔◌, ◌+◌, ◌≤◌, ◌<◌, ◌∷◌, [], ℕ, List, Contains, All};
+ghost use Rattle.std.specs.Prelude.{◌≡◌, ◌+◌, ◌≤◌, ◌<◌, ◌∷◌, [], ℕ, List, Contains, All};
 ghost use Rattle.std.specs.Prelude.{◌++◌, length, map, take, slice_get, Some, Ok, Err, true, false};
-ghost use Rattle.std.specs.Prelude.{IsTrue, IfOk, IfErr, OnOk, MatchOption};
-ghost use Rattle.std.specs.List.{AllZip, AllByRecursion, flat_map, sum_by};
+ghost use Rattle.std.specs.Prelude.{IfOk, IfErr, OnOk, MatchOption};
+ghost use Rattle.std.specs.List.{AllZip, flat_map, sum_by};
 ghost use Rattle.mm_text.specs.Files.{most_bytes};
 ghost use Rattle.mm_code.specs.Letters.{HasSpelling, Letters, LettersBreak};
 ghost use Rattle.mm_frame.specs.Sentence.{Sentence};
 ghost use Rattle.mm_frame.specs.Form.{IsSound};
 ghost use Rattle.mm_frame.specs.Numbers.{IsNumbered};
 ghost use Rattle.mm_proof.specs.Answer.{OnRule};
-ghost use Rattle.mm_proof.specs.Tokens.{IsIncomplete, IsNormal, IsCompressed};
+ghost use Rattle.mm_proof.specs.Tokens.{is_incomplete, IsIncomplete, IsNormal, IsCompressed};
 ghost use Rattle.mm_proof.specs.Tokens.{opening_token, closing_token};
 ghost use Rattle.mm_proof.specs.Moves.{Move, name};
 ghost use Rattle.mm_proof.specs.Proof.{IsWholeFault};
@@ -28,7 +28,7 @@ ghost use Rattle.mm_proof.specs.Mirror.Sites.{IsSite};
 
 use crate::fault::{ProofFault, ProofRule};
 use crate::form::judge_form;
-use crate::front::{is_byte, known_front};
+use crate::front::{is_byte, is_unknown, known_front};
 use crate::labels::fill_numbers;
 use crate::moves::{NumberedMove, Parsed, Steps};
 use crate::picked::{Picked, fill_marked, fill_picked, unmark};
@@ -72,19 +72,12 @@ impl<'a> ParseLists<'a> {
     }
 }
 
-// Whether the token holds the byte.
-fn has_byte(token: &[u8], byte: u8) -> bool
-    ensures { IsTrue result ↔ Contains token.now byte }
-{
-    token.contains(&byte)
-}
-
 /// Whether some token holds a `?`.
 pub(crate) fn is_incomplete(tokens: &[Token]) -> bool
-    ensures { IsTrue result ↔ IsIncomplete (token_texts tokens.now) }
+    ensures { result ≡ is_incomplete (token_texts tokens.now) }
 {
     for token in tokens {
-        if has_byte(token.text, b'?') {
+        if is_unknown(token.text) {
             return true;
         }
     }

@@ -1,6 +1,6 @@
 use Rattle.std.proofs.Common.{sym, ap, ◌∙◌}
 use Rattle.std.specs.List.{list_any}
-use Rattle.mm_proof.specs.KnownFront.{is_unknown}
+use Rattle.mm_proof.specs.Tokens.{is_unknown}
 use Rattle.mm_proof.proofs.FrontTokens.{any_more, first_at, first_past}
 use Rattle.mm_proof.proofs.TokenFacts.{front_all}
 use Rattle.mm_proof.proofs.front.known_count.Goals as goal

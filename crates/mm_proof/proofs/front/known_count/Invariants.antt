@@ -1,6 +1,6 @@
 use Rattle.std.proofs.Common.{◌≡◌, take, false}
 use Rattle.std.specs.List.{list_any}
-use Rattle.mm_proof.specs.KnownFront.{is_unknown}
+use Rattle.mm_proof.specs.Tokens.{is_unknown}
 use Rattle.mm_proof.specs.Plain.{token_texts}
 use Rattle.mm_proof.proofs.front.known_count.Given as goal
 

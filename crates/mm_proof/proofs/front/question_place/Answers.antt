@@ -1,6 +1,6 @@
 use Rattle.std.proofs.Common.{refl, sym, length, arith}
 use Rattle.std.proofs.lemmas.List.Sums.{position_or_len_is}
-use Rattle.mm_proof.specs.KnownFront.{is_question}
+use Rattle.mm_proof.specs.Tokens.{is_question}
 use Rattle.mm_proof.proofs.front.question_place.Goals as goal
 
 pub returns-then-byte-eq63 : goal.returns-then-byte-eq63

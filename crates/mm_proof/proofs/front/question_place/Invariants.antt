@@ -1,5 +1,5 @@
 use Rattle.std.proofs.Common.{◌≡◌, ℕ, ◌<◌, get_or, false}
-use Rattle.mm_proof.specs.KnownFront.{is_question}
+use Rattle.mm_proof.specs.Tokens.{is_question}
 use Rattle.mm_proof.proofs.front.question_place.Given as goal
 
 abbrev pub invariant-loop-place : goal.invariant-loop-place

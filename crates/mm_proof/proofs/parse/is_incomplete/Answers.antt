@@ -1,13 +1,20 @@
-use Rattle.std.proofs.Common.{subst, Contains, sym, ◌∙◌}
-use Rattle.std.proofs.lemmas.Bool.{false≢true}
-use Rattle.mm_proof.specs.Tokens.{IsIncomplete}
-use Rattle.mm_proof.proofs.TokenFacts.{none_more, front_all}
+use Rattle.std.proofs.Common.{sym, ap, ◌∙◌}
+use Rattle.mm_proof.specs.Tokens.{is_unknown, is_incomplete}
+use Rattle.mm_proof.proofs.FrontTokens.{any_more, any_found}
+use Rattle.mm_proof.proofs.TokenFacts.{front_all}
 use Rattle.mm_proof.proofs.parse.is_incomplete.Goals as goal
 
+pub returns-then-is_unknown : goal.returns-then-is_unknown
+returns-then-is_unknown c =
+    sym (any_found (λ t. t.text.now) is_unknown c.args.tokens.now c.loop-token.token-index _
+    c.loop-token-test.true (sym c.is_unknown.ensures ∙ c.if-is_unknown.true))
+
 pub loop-token-preserved : goal.loop-token-preserved
-loop-token-preserved c h =
-    none_more (λ t. t.text.now) (λ t. Contains t 63) c.args.tokens.now c.loop-token.token-index _ c.loop-token-test.true
-    (λ t among is. c.loop-token.invariant (t, among, is)) (λ has. false≢true (sym c.if-has_byte.false ∙ c.has_byte.ensures.1 has)) h.0 h.1 h.2
+loop-token-preserved c =
+    any_more (λ t. t.text.now) is_unknown c.args.tokens.now c.loop-token.token-index _
+    c.loop-token-test.true c.loop-token.invariant (sym c.is_unknown.ensures ∙ c.if-is_unknown.false)
 
 pub returns : goal.returns
-returns c = (λ f. absurd (false≢true f), λ h. absurd (c.loop-token.invariant (subst IsIncomplete (sym (front_all (λ t. t.text.now) c.args.tokens.now c.loop-token.token-index c.loop-token-test.false)) h)))
+returns c =
+    sym (ap is_incomplete (sym (front_all (λ t. t.text.now) c.args.tokens.now
+    c.loop-token.token-index c.loop-token-test.false)) ∙ c.loop-token.invariant)

@@ -83,14 +83,14 @@ returns-then-is_incomplete-clause-incomplete c is =
     let texts = token_texts c.args.tokens.now in
     let book : c.self.inside.book.statements ≡ st = ap (λ (v : Proving). v.book.statements) c.self.view_is in
     let allowed = subst (λ (l : List Sentence). IfOk c.allow.result (λ p. (p ≡ Incomplete) × FrontAllowed c.args.profile l c.args.id.0 texts)) book c.allow.ensures.allowed in
-    (c.is_incomplete.ensures.0 c.if-is_incomplete.true, (if_ok_at c.allow.result _ Incomplete is allowed).1)
+    (sym c.is_incomplete.ensures ∙ c.if-is_incomplete.true, (if_ok_at c.allow.result _ Incomplete is allowed).1)
 
 pub returns-then-is_incomplete-clause-accepts : goal.returns-then-is_incomplete-clause-accepts
 returns-then-is_incomplete-clause-accepts c place s proof p =
     let st = c.args.self.now.book.statements in
     let book : c.self.inside.book.statements ≡ st = ap (λ (v : Proving). v.book.statements) c.self.view_is in
     absurd (within_known (limit_of c.args.profile) st c.args.id.0 (token_texts c.args.tokens.now) (subst IsSound book c.prove_tokens.ensures.sound).1
-    (c.is_incomplete.ensures.0 c.if-is_incomplete.true) place s proof p.1)
+    (sym c.is_incomplete.ensures ∙ c.if-is_incomplete.true) place s proof p.1)
 
 pub returns-then-is_incomplete-clause-front_fault : goal.returns-then-is_incomplete-clause-front_fault
 returns-then-is_incomplete-clause-front_fault c unknown rule step is =
