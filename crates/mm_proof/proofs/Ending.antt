@@ -30,23 +30,14 @@ use Rattle.mm_proof.specs.Mirror.CodeRun.{HasRun, MayBeMade, AreNamedNumbers, Ar
 use Rattle.mm_proof.proofs.Places.{get_from_take}
 use Rattle.mm_proof.proofs.Meaning.{one_label}
 use Rattle.mm_proof.proofs.Named.{named_is, below_is, named_once}
-pub use Rattle.mm_proof.proofs.Numbered.{one_place}
+use Rattle.mm_proof.proofs.Numbered.{one_place, one_move}
 use Rattle.mm_proof.proofs.UsedNumbers.{used_numbers}
 use Rattle.mm_proof.proofs.Forward.{prove_at_end}
 use Rattle.mm_proof.proofs.Firsts.{end_fault}
 use Rattle.mm_proof.proofs.Running.{same_steps}
 use Rattle.mm_proof.proofs.Derived.{zip_once}
 
--- ---- the statement with a number, and its moves
-
-one_move : (st : List Sentence) (x : Move ℕ) (y z : Move (List ℕ)) → IsNumberedMove st x y → IsNumberedMove st x z → y ≡ z
-one_move st (name id) y z a b =
-    let same : a.0 ≡ b.0 = same_Some a.0 b.0 (sym a.2 ∙ b.2) in
-    let labelled_so : IsLabelled a.1 b.0 = subst (IsLabelled a.1) same a.3 in
-    let label : a.1 ≡ b.1 = same_Some a.1 b.1 (sym labelled_so ∙ b.3) in
-    a.4 ∙ ap name label ∙ sym b.4
-one_move st (again tag) y z a b = a ∙ sym b
-one_move st mark y z a b = a ∙ sym b
+-- ---- the moves of the statement with a number
 
 -- each of the moves may be made at the place
 pub usable_names : (st : List Sentence) (id : ℕ) (xs : List (Move ℕ)) (place : ℕ) (s : Sentence) (names : List (Move (List ℕ))) → AreSteps st id xs → IsNumbered st id place s

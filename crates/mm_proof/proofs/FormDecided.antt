@@ -9,7 +9,7 @@ use Rattle.mm_frame.specs.Sentence.{Sentence, SomeSentence, IsLabelled, IsAssert
 use Rattle.mm_frame.specs.Frame.{AreMandatory, IsMandatoryAt}
 use Rattle.mm_frame.specs.Form.{AllFormed}
 use Rattle.mm_text.specs.declared.statement.Kind.TheVariants.{Axiom, Provable}
-use Rattle.mm_text.proofs.Lists.{split_at}
+use Rattle.mm_text.proofs.Lists.{split_at, get_before, get_parted}
 use Rattle.mm_frame.proofs.Decided.{dec_both, dec_as, dec_some, kind_dec, contains_dec, dec_not}
 use Rattle.mm_frame.proofs.Those.{those_unique}
 use Rattle.mm_proof.specs.declared.fault.ProofRule.{ProofRule}
@@ -28,7 +28,7 @@ use Rattle.mm_proof.proofs.SaidMoves.{some_moves, moves_once}
 use Rattle.mm_proof.proofs.Compressed.{one_compressed}
 use Rattle.mm_proof.proofs.Judged.{some_verdict_holds, first_symbol_dec}
 use Rattle.mm_proof.proofs.KnownFronts.{one_front_verdict_holds}
-use Rattle.mm_proof.proofs.FormJudged.{contains_at, at_contains, get_middle, get_front, last_of}
+use Rattle.mm_proof.proofs.FormJudged.{contains_at, at_contains, last_of}
 use Rattle.mm_proof.proofs.UnderAnswers.{fault_under, have_under, proved_none, one_under, front_none, one_front_under}
 
 -- ---- the list
@@ -144,8 +144,8 @@ marks_from : (before : List Sentence) (moves : List (Move (List ℕ))) → ¬ (L
 marks_from before moves tight front after parts = go (after_dec before moves (length front))
   where
     go : Dec (After before moves (length front)) → (earlier : List (Move (List ℕ))) × (label : List ℕ) × (front ≡ earlier ++ name label ∷ []) × OfAssertion before label
-    go (yes a) = after_front before front a.0 a.1 (get_front front (mark ∷ after) a.0 a.1 (omega (arith, a.3.0)) (ap (λ l. slice_get l a.0) (sym parts) ∙ a.2)) a.3.0 a.3.1
-    go (no none) = absurd (tight (length front, mark, ap (λ l. slice_get l (length front)) parts ∙ get_middle front after mark, (refl, none)))
+    go (yes a) = after_front before front a.0 a.1 (get_before front (mark ∷ after) a.0 a.1 (omega (arith, a.3.0)) (ap (λ l. slice_get l a.0) (sym parts) ∙ a.2)) a.3.0 a.3.1
+    go (no none) = absurd (tight (length front, mark, ap (λ l. slice_get l (length front)) parts ∙ get_parted front after mark, (refl, none)))
 
 tight_from : (before : List Sentence) (moves : List (Move (List ℕ))) → MarkAssertions before moves → ¬ (Loose before moves)
 tight_from before moves strict (k, move, at, same) =
@@ -153,7 +153,7 @@ tight_from before moves strict (k, move, at, same) =
     let m = strict (take k moves) (drop (suc k) moves) (split_at moves k mark marked) in
     let within = slice_get_within moves k mark marked in
     let long : k ≡ length m.0 + 1 = omega (arith, ap length m.2, length-append m.0 (name m.1 ∷ []), length-take k moves, within) in
-    let held : slice_get (take k moves) (length m.0) ≡ Some (name m.1) = ap (λ l. slice_get l (length m.0)) m.2 ∙ get_middle m.0 [] (name m.1) in
+    let held : slice_get (take k moves) (length m.0) ≡ Some (name m.1) = ap (λ l. slice_get l (length m.0)) m.2 ∙ get_parted m.0 [] (name m.1) in
     let moved = get_from_take moves k (length m.0) (name m.1) held in
     same.1 (length m.0, name m.1, moved.1, (long, m.3))
 

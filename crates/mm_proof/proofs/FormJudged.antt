@@ -4,7 +4,7 @@ use Rattle.std.specs.List.{AllByRecursion}
 use Rattle.std.proofs.lemmas.Option.{same_Some, none-some, slice_get_within, slice_get-get_or, get_or_from_slice_get}
 use Rattle.std.proofs.lemmas.Bool.{cases_order}
 use Rattle.std.proofs.lemmas.List.{length-append, length-take}
-use Rattle.mm_text.proofs.Lists.{zip_left, zip_right, all_at, split_at}
+use Rattle.mm_text.proofs.Lists.{zip_left, zip_right, all_at, split_at, get_before, get_parted}
 use Rattle.mm_frame.specs.Sentence.{Sentence, SomeSentence, IsLabelled, IsHypothesis, IsAssertion}
 use Rattle.mm_frame.specs.Rules.{AllMeant}
 use Rattle.mm_frame.specs.Frame.{AreMandatory, IsMandatoryAt}
@@ -142,15 +142,6 @@ by_label st (name id) label n =
 by_label st (again tag) label n = absurd (let e : name label ≡ again tag = n in cc)
 by_label st mark label n = absurd (let e : name label ≡ mark = n in cc)
 
-pub get_middle : {X : Type 0} (front after : List X) (x : X) → slice_get (front ++ x ∷ after) (length front) ≡ Some x
-get_middle [] after x = refl
-get_middle (y ∷ front) after x = get_middle front after x
-
-pub get_front : {X : Type 0} (front after : List X) (i : ℕ) (x : X) → i < length front → slice_get (front ++ after) i ≡ Some x → slice_get front i ≡ Some x
-get_front [] after i x less e = absurd (omega arith)
-get_front (y ∷ front) after zero x less e = e
-get_front (y ∷ front) after (suc i) x less e = get_front front after i x (omega arith) e
-
 pub last_of : {X : Type 0} (xs : List X) (b : ℕ) (x : X) → length xs ≡ b + 1 → slice_get xs b ≡ Some x → (earlier : List X) × (xs ≡ earlier ++ x ∷ [])
 last_of [] b x long e = absurd (none-some x e)
 last_of (y ∷ []) zero x long e = ([], ap (λ z. z ∷ []) (same_Some y x e))
@@ -171,13 +162,13 @@ assertion_usable st place label p a all there named kind (inl h) =
 strict_marks : (st : List Sentence) (place : ℕ) (steps : List (Move ℕ)) (moves : List (Move (List ℕ))) → AllMeant st → AreNumberedMoves st steps moves
     → AllByRecursion (IsUsableMove (take place st)) moves → AreMarksStrict st steps → MarkAssertions (take place st) moves
 strict_marks st place steps moves all numbered usable strict front after parts =
-    let at : slice_get moves (length front) ≡ Some mark = ap (λ l. slice_get l (length front)) parts ∙ get_middle front after mark in
+    let at : slice_get moves (length front) ≡ Some mark = ap (λ l. slice_get l (length front)) parts ∙ get_parted front after mark in
     let x = zip_right (IsNumberedMove st) steps moves (length front) mark numbered at in
     let s = strict (length front) (x.1 ∙ ap Some (marks_mark st x.0 x.2)) in
     let y = zip_left (IsNumberedMove st) steps moves s.0 (name s.1) numbered s.3 in
     let label = y.2.1 in
     let moved : slice_get moves s.0 ≡ Some (name label) = y.1 ∙ ap Some y.2.4 in
-    let held : slice_get front s.0 ≡ Some (name label) = get_front front (mark ∷ after) s.0 (name label) (omega (arith, s.2)) (ap (λ l. slice_get l s.0) (sym parts) ∙ moved) in
+    let held : slice_get front s.0 ≡ Some (name label) = get_before front (mark ∷ after) s.0 (name label) (omega (arith, s.2)) (ap (λ l. slice_get l s.0) (sym parts) ∙ moved) in
     let last = last_of front s.0 (name label) s.2 held in
     let same : y.2.0 ≡ s.4.1 = same_Some y.2.0 s.4.1 (sym y.2.2 ∙ numbered_get st s.1 s.4.0 s.4.1 s.4.2) in (
       last.0,
@@ -195,7 +186,7 @@ loose_marks st place steps moves all numbered (k, at, none) strict =
     let m = strict (take k moves) (drop (suc k) moves) (split_at moves k mark marked) in
     let within = slice_get_within moves k mark marked in
     let long : k ≡ length m.0 + 1 = omega (arith, ap length m.2, length-append m.0 (name m.1 ∷ []), length-take k moves, within) in
-    let held : slice_get (take k moves) (length m.0) ≡ Some (name m.1) = ap (λ l. slice_get l (length m.0)) m.2 ∙ get_middle m.0 [] (name m.1) in
+    let held : slice_get (take k moves) (length m.0) ≡ Some (name m.1) = ap (λ l. slice_get l (length m.0)) m.2 ∙ get_parted m.0 [] (name m.1) in
     let moved = get_from_take moves k (length m.0) (name m.1) held in
     let x = zip_right (IsNumberedMove st) steps moves (length m.0) (name m.1) numbered moved.1 in
     let b = by_label st x.0 m.1 x.2 in

@@ -16,7 +16,7 @@ use Rattle.mm_proof.specs.Steps.{AreNumberedMoves}
 use Rattle.mm_proof.specs.Mirror.CodeRun.{HasRun}
 use Rattle.mm_proof.specs.Mirror.CodeVerify.{all_names_at}
 use Rattle.mm_proof.specs.Verified.{OfMoves}
-use Rattle.mm_proof.proofs.Ending.{one_place}
+use Rattle.mm_proof.proofs.Numbered.{one_place}
 use Rattle.mm_proof.proofs.Verdicts.{longer_passed, two_moves}
 
 -- ---- what has run, and what stopped

@@ -1,7 +1,7 @@
 -- The tokens of the known front: what of the whole's tokens holds of them.
 use Rattle.std.proofs.Common.{◌≡◌, ℕ, zero, suc, ◌+◌, ◌<◌, ◌≤◌, List, [], ◌∷◌, ◌++◌, length, map, take, get_or, slice_get, Some, None, Bool, true, false, if◌then◌else◌, ◌==◌, append-nil, refl, sym, ap, ◌∙◌, arith}
 use Rattle.std.specs.List.{list_any, sum_by, position_or_len, before_first}
-use Rattle.std.proofs.lemmas.Bool.{or_parts, or_from, or_left, or_right}
+use Rattle.std.proofs.lemmas.Bool.{or_parts, or_from}
 use Rattle.std.proofs.lemmas.List.{length-take}
 use Rattle.std.proofs.lemmas.List.Sums.{sum_by-append, sum_by-take-le}
 use Rattle.mm_text.specs.declared.token.Token.{Token}
@@ -44,11 +44,6 @@ any_more f p (t ∷ items) (suc i) d less none not_so =
     let parts = or_parts (p (f t)) (list_any p (take i (map f items))) none in
     let more : suc i + 1 ≡ suc (i + 1) = omega arith in
     ap (λ n. list_any p (take n (f t ∷ map f items))) more ∙ or_from (p (f t)) (list_any p (take (i + 1) (map f items))) parts.0 (any_more f p items i d (omega arith) parts.1 not_so)
-
-pub any_found : {T X : Type 0} (f : T → X) (p : X → Bool) (items : List T) (i : ℕ) (d : T) → i < length items → p (f (get_or items i d)) ≡ true → list_any p (map f items) ≡ true
-any_found f p [] i d less so = absurd (omega arith)
-any_found f p (t ∷ items) zero d less so = or_left (p (f t)) (list_any p (map f items)) so
-any_found f p (t ∷ items) (suc i) d less so = or_right (p (f t)) (list_any p (map f items)) (any_found f p items i d (omega arith) so)
 
 pub first_at : {T X : Type 0} (f : T → X) (p : X → Bool) (items : List T) (i : ℕ) (d : T) → i < length items → list_any p (take i (map f items)) ≡ false → p (f (get_or items i d)) ≡ true
     → i ≡ position_or_len p (map f items)

@@ -7,7 +7,6 @@ pub mod Making
 pub mod Derived
 pub mod Forward
 pub mod Fronts
-pub mod Decisions
 pub mod Searches
 pub mod Replacements
 pub mod Letters

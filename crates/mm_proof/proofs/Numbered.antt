@@ -1,10 +1,13 @@
--- Labels by their numbers, which rise with the places of their statements.
-use Rattle.std.proofs.Common.{◌≡◌, ℕ, ◌<◌, ◌≤◌, List, length, take, inl, inr, sym, ap, ◌∙◌, arith}
+-- Labels by their numbers, which rise with the places of their statements, and moves by theirs.
+use Rattle.std.proofs.Common.{◌≡◌, ℕ, ◌<◌, ◌≤◌, List, length, take, inl, inr, sym, ap, subst, ◌∙◌, arith}
 use Rattle.std.proofs.lemmas.Bool.{cases_order, cases_lt}
+use Rattle.std.proofs.lemmas.Option.{same_Some}
 use Rattle.mm_frame.specs.Sentence.{Sentence, IsLabelled}
 use Rattle.mm_frame.specs.Numbers.{labelled_sentences, IsNumbered}
 use Rattle.mm_frame.specs.Rules.{AllMeant}
 use Rattle.mm_frame.proofs.Labelled.{numbered_rise, numbered_unique}
+use Rattle.mm_proof.specs.Moves.{Move, name, again, mark}
+use Rattle.mm_proof.specs.Steps.{IsNumberedMove}
 use Rattle.mm_proof.specs.Mirror.CodeSteps.{IsUnknown}
 use Rattle.mm_proof.proofs.Places.{get_from_take}
 use Rattle.mm_proof.proofs.Meaning.{one_label}
@@ -39,3 +42,13 @@ not_earlier statements found at s id place own label all n named m le h =
 pub one_place : (statements : List Sentence) (id p q : ℕ) (s t : Sentence) → IsNumbered statements id p s → IsNumbered statements id q t → p ≡ q
 one_place statements id p q s t n m =
     (numbered_unique statements id p q s t n m).0
+
+-- a move by a number is that of one label
+pub one_move : (st : List Sentence) (x : Move ℕ) (y z : Move (List ℕ)) → IsNumberedMove st x y → IsNumberedMove st x z → y ≡ z
+one_move st (name id) y z a b =
+    let same : a.0 ≡ b.0 = same_Some a.0 b.0 (sym a.2 ∙ b.2) in
+    let labelled_so : IsLabelled a.1 b.0 = subst (IsLabelled a.1) same a.3 in
+    let label : a.1 ≡ b.1 = same_Some a.1 b.1 (sym labelled_so ∙ b.3) in
+    a.4 ∙ ap name label ∙ sym b.4
+one_move st (again tag) y z a b = a ∙ sym b
+one_move st mark y z a b = a ∙ sym b

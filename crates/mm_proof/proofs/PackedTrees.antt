@@ -28,7 +28,7 @@ use Rattle.mm_proof.specs.Plain.{ids_in}
 use Rattle.mm_proof.specs.Mirror.CodeSharing.{IsStepOf, AreSharedSteps, labels_made, AreFirstNumbers, AreEncoded, AreStepsPacked}
 use Rattle.mm_proof.proofs.Places.{get_from_take}
 use Rattle.mm_proof.proofs.Expanded.{made_word}
-use Rattle.mm_proof.proofs.Ending.{one_place}
+use Rattle.mm_proof.proofs.Numbered.{one_place}
 use Rattle.mm_proof.proofs.Members.{In, in_get, get_in, contains_in, in_contains, Once, once_places, places_once}
 use Rattle.mm_proof.proofs.SaidMoves.{labels_of, mandatory_active}
 use Rattle.mm_proof.proofs.PairOnce.{mandatory_once}

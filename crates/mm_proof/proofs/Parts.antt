@@ -13,7 +13,6 @@ use Rattle.std.proofs.lemmas.Option.{none-some, same_Some}
 use Rattle.mm_proof.proofs.RowLemmas.{read-behind}
 use Rattle.std.proofs.lemmas.List.{append_assoc, take-map, drop-map, drop-drop, take_at, drop_at, length-drop, length-take, take_all, drop-take, take-take, length-append, map-append}
 use Rattle.mm_frame.proofs.Entries.{slice_left}
-pub use Rattle.mm_frame.proofs.Entries.{slice_left as part-append}
 
 -- a part of a front, from a place within it on
 pub cut-before : {X : Type 0} (n i : ℕ) (xs : List X) → i ≤ n → drop i (take n xs) ≡ take (n - i) (drop i xs)

@@ -1,13 +1,15 @@
 -- The entries of an assertion's hypotheses give the replacement of its variables: what a step meets.
 use Rattle.std.proofs.Common.{◌≡◌, ℕ, zero, suc, ◌+◌, ◌<◌, List, [], ◌∷◌, ◌++◌, length, take, drop, slice_get, Option, Some, None, IsSome, inl, inr, refl, sym, ap, subst, ◌∙◌, arith}
 use Rattle.std.proofs.lemmas.Option.{same_Some, none-some}
-use Rattle.std.proofs.lemmas.Bool.{cases_order}
+use Rattle.std.proofs.lemmas.Bool.{cases_order, cases_lt}
+use Rattle.std.proofs.lemmas.List.{take_all}
 use Rattle.mm_frame.specs.declared.rule.MeaningRule.TheVariants.{M12}
 use Rattle.mm_frame.specs.Sentence.{Sentence, Types}
+use Rattle.mm_frame.specs.Active.{IsActive}
 use Rattle.mm_frame.specs.Frame.{IsMandatory, IsMandatoryAt, AreThose, AreMandatory}
 use Rattle.mm_frame.specs.Rules.{AllMeant}
 use Rattle.mm_frame.proofs.Decided.{types_dec}
-use Rattle.mm_frame.proofs.Meant.{meant_at, allmeant_front}
+use Rattle.mm_frame.proofs.Meant.{meant_at, allmeant_front, active_in_front}
 use Rattle.mm_frame.proofs.Needed.{mandatory_typed}
 use Rattle.mm_proof.specs.Tree.{Names}
 use Rattle.mm_proof.specs.Proof.{MeetsHypotheses}
@@ -15,7 +17,6 @@ use Rattle.mm_proof.proofs.Places.{get_take, get_beside}
 use Rattle.mm_proof.proofs.Frames.{those_hold}
 use Rattle.mm_proof.proofs.OneStep.{typing_among}
 use Rattle.mm_proof.proofs.Runs.{typing_of, same_typing}
-use Rattle.mm_proof.proofs.Decisions.{active_earlier}
 
 -- ---- what the first `$f` of the variable gives
 
@@ -89,6 +90,14 @@ those_order P place (y ∷ xs) those i j a b (inr t) less p q =
     let at_k : place + 1 + h.0 ≡ place + suc h.0 = omega arith in
     let at_l : place + 1 + h.1 ≡ place + suc h.1 = omega arith in
     (suc h.0, suc h.1, (let l : h.0 < h.1 = h.2 in omega arith), h.3, h.4, subst (λ k. P k a) at_k h.5, subst (λ k. P k b) at_l h.6)
+
+-- what is active was so in each front that has it
+active_earlier : (before : List Sentence) (i place : ℕ) → place < i → IsActive before place
+    → IsActive (take i before) place
+active_earlier before i place less active = elim (cases_lt i (length before)) [
+  | inl within ↦ active_in_front before place i less (omega arith) active
+  | inr past ↦ subst (λ l. IsActive l place) (sym (take_all i before past)) active
+]
 
 not_typed_twice : (before : List Sentence) (s : Sentence) (hypotheses : List Sentence) (i j : ℕ) (f g : Sentence) (code code' x : List ℕ) → AllMeant before
     → AreMandatory before s hypotheses → slice_get hypotheses i ≡ Some f → slice_get hypotheses j ≡ Some g → Types code x f → Types code' x g → i < j → ⊥

@@ -7,8 +7,7 @@ use Rattle.mm_frame.specs.Active.{IsActive, IsVariable}
 use Rattle.mm_frame.specs.Frame.{IsMandatory, AreThose, IsDistinct, IsMandatoryPair}
 use Rattle.mm_frame.proofs.Decided.{dec_both, dec_if, dec_as, dec_some, kind_dec, symbol_dec}
 use Rattle.mm_frame.proofs.Decided.{distinct_dec, mandatory_dec, active_dec, contains_dec}
-pub use Rattle.mm_frame.proofs.Decided.{dec_or, dec_not, label_dec, sentence_dec, some_active_dec}
-pub use Rattle.mm_frame.proofs.Decided.{variable_dec}
+use Rattle.mm_frame.proofs.Decided.{dec_not, variable_dec}
 use Rattle.mm_proof.specs.Tree.{ShareNoVariable, AreDistinct}
 
 -- ---- over the elements of a list

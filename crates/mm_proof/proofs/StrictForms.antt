@@ -17,11 +17,12 @@ use Rattle.mm_proof.specs.Tokens.{opening_token, closing_token, IsNormal, IsComp
 use Rattle.mm_proof.specs.Tokens.{SaysCompressed}
 use Rattle.mm_proof.specs.Sharing.{ShareAll, IsPacked}
 use Rattle.mm_proof.specs.Strict.{IsStrictList, MarkAssertions, IsStrict}
+use Rattle.mm_text.proofs.Lists.{get_before, get_parted}
 use Rattle.mm_proof.proofs.Members.{In, contains_in, once_places}
 use Rattle.mm_proof.proofs.SaidMoves.{compressed_once, moves_once}
 use Rattle.mm_proof.proofs.PairOnce.{uses_apart}
 use Rattle.mm_proof.proofs.SpelledProofs.{packed_listed}
-use Rattle.mm_proof.proofs.FormJudged.{get_middle, get_front, last_of, strict_normal}
+use Rattle.mm_proof.proofs.FormJudged.{last_of, strict_normal}
 
 -- a normal proof has no list and no marks
 pub normal_is_strict : (before : List Sentence) (s : Sentence) (tokens : List (List ℕ))
@@ -129,12 +130,12 @@ shared_marks : (before : List Sentence) (trees : Trees) (moves : List (Move (Lis
     → ShareAll before trees moves → MarkAssertions before moves
 shared_marks before trees moves s front after parts =
     let at : slice_get moves (length front) ≡ Some mark =
-    ap (λ l. slice_get l (length front)) parts ∙ get_middle front after mark in
+    ap (λ l. slice_get l (length front)) parts ∙ get_parted front after mark in
     let k = kept_there before moves none [] trees s.kept s.made (length front) at in
     let m = s.marked (length front) k.0 k.1 in
     let l = made_there before moves none [] trees s.kept s.made m.1 k.0 m.3 in
     let held : slice_get front m.1 ≡ Some (name l.label) =
-    get_front front (mark ∷ after) m.1 (name l.label) (omega (arith, m.2))
+    get_before front (mark ∷ after) m.1 (name l.label) (omega (arith, m.2))
     (ap (λ x. slice_get x m.1) (sym parts) ∙ l.there) in
     let last = last_of front m.1 (name l.label) m.2 held in (
       last.0,

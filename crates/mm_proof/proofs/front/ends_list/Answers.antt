@@ -2,7 +2,8 @@ use Rattle.std.proofs.Common.{sym, ap, ◌∙◌}
 use Rattle.mm_text.specs.Items.{spells}
 use Rattle.mm_proof.specs.Tokens.{closing_token}
 use Rattle.mm_proof.specs.KnownFront.{ends_list}
-use Rattle.mm_proof.proofs.FrontTokens.{any_more, any_found}
+use Rattle.mm_text.proofs.Lists.{any_found}
+use Rattle.mm_proof.proofs.FrontTokens.{any_more}
 use Rattle.mm_proof.proofs.TokenFacts.{front_all}
 use Rattle.mm_proof.proofs.front.ends_list.Goals as goal
 

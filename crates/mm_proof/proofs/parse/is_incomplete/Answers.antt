@@ -1,6 +1,7 @@
 use Rattle.std.proofs.Common.{sym, ap, ◌∙◌}
 use Rattle.mm_proof.specs.Tokens.{is_unknown, is_incomplete}
-use Rattle.mm_proof.proofs.FrontTokens.{any_more, any_found}
+use Rattle.mm_text.proofs.Lists.{any_found}
+use Rattle.mm_proof.proofs.FrontTokens.{any_more}
 use Rattle.mm_proof.proofs.TokenFacts.{front_all}
 use Rattle.mm_proof.proofs.parse.is_incomplete.Goals as goal
 
