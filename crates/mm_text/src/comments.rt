@@ -12,8 +12,7 @@ ghost use Rattle.mm_text.specs.Mirror.Place.{TakesWordAt, TakesShown, shown_at};
 ghost use Rattle.mm_text.specs.Files.{most_bytes};
 
 use crate::fault::TextRule;
-use crate::scan::{is_space, legal_end, skip_space, token_end, token_start};
-use crate::sought::{Odd, first_sought};
+use crate::scan::{is_quiet, is_space, legal_end, skip_space, token_end, token_start};
 use crate::token::Token;
 
 /// The place up to which a file was read.
@@ -146,14 +145,12 @@ fn comment_stop(bytes: &[u8], at: usize) -> usize
     ensures quiet { (k : ℕ) → at ≤ k → k < result → is_quiet (slice_index bytes.now k) ≡ true }
     ensures stops { result < length bytes.now → is_space (slice_index bytes.now result) ≡ false }
 {
-    let mut from = at;
-    'lines: loop {
-        let stop = first_sought::<Odd>(bytes, from);
-        if stop == bytes.len() || !is_space(bytes[stop]) {
+    for stop in at..bytes.len() {
+        if !is_quiet(bytes[stop]) {
             return stop;
         }
-        from = stop + 1;
     }
+    bytes.len()
 }
 
 /// Whether a `$` and another byte stand at a place and white space after them. A token that begins

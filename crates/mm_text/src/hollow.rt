@@ -9,11 +9,10 @@ ghost use Rattle.std.specs.Prelude.{◌≡◌, ◌+◌, ◌-◌, ◌<◌, ◌≤
 ghost use Rattle.std.specs.Prelude.{IfOk, IsOk, OnOk};
 ghost use Rattle.std.specs.Prelude.{slice_range};
 ghost use Rattle.mm_text.specs.Alike.{ShowAlike};
-ghost use Rattle.mm_text.specs.Mirror.Place.{is_quiet};
 ghost use Rattle.mm_text.specs.Mirror.Hollow.{IsAt, IsHollow, feeds, held, ink, last_before};
 ghost use Rattle.mm_text.specs.declared.hollow.State.TheVariants.{Inside, Marked};
 
-use crate::scan::is_space;
+use crate::scan::{is_quiet, is_space};
 use crate::sought::{Spoken, first_set, first_sought};
 use std::alloc::AllocError;
 use std::simd::prelude::*;
@@ -49,13 +48,6 @@ impl State {
             _ => State::Outside,
         }
     }
-}
-
-// Whether a comment goes on after the byte, which isn't at fault in one.
-fn is_quiet(byte: u8) -> bool
-    ensures { result ≡ is_quiet byte }
-{
-    byte != b'$' && (byte > b' ' && byte <= b'~' || is_space(byte))
 }
 
 // How many of 64 bytes from a place on come before a `$` that a `(` follows; all where there is

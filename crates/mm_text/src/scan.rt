@@ -5,7 +5,7 @@ ghost use Rattle.std.specs.Prelude.{slice_index, slice_range};
 ghost use Rattle.std.specs.List.{list_all};
 ghost use Rattle.mm_text.specs.Token.{is_space, tokens_from};
 ghost use Rattle.mm_text.specs.Items.{holds_dollar};
-ghost use Rattle.mm_text.specs.Mirror.Place.{is_legal, IsLegalFront, IsLegalUpTo};
+ghost use Rattle.mm_text.specs.Mirror.Place.{is_legal, is_quiet, IsLegalFront, IsLegalUpTo};
 
 use crate::sought::{Low, first_sought};
 
@@ -15,6 +15,13 @@ pub fn is_space(byte: u8) -> bool
 {
     // The first test alone turns away nearly every byte of a database.
     byte <= b' ' && matches!(byte, b' ' | b'\n' | b'\t' | b'\r' | 12)
+}
+
+/// Whether a comment goes on after a byte, which isn't at fault in one.
+pub fn is_quiet(byte: u8) -> bool
+    ensures { result ≡ is_quiet byte }
+{
+    byte != b'$' && (byte > b' ' && byte <= b'~' || is_space(byte))
 }
 
 /// The place of the first byte from a place on that isn't white space, or the file's end.

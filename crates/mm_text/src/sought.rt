@@ -2,7 +2,6 @@
 
 ghost use Rattle.std.specs.Prelude.{◌≡◌, ℕ, ◌<◌, ◌≤◌, nat_lt, true, false, length};
 ghost use Rattle.std.specs.Prelude.{slice_index};
-ghost use Rattle.mm_text.specs.Mirror.Place.{is_plain};
 ghost use Rattle.mm_text.specs.Mirror.Hollow.{is_spoken};
 ghost use Rattle.mm_text.specs.Mirror.Sought.{IsRunIn, first_set};
 
@@ -68,36 +67,6 @@ impl Sought for Low {
     fn passed_run(bytes: &[u8], at: usize) -> usize {
         let low = u8x16::from_slice(&bytes[at..]).simd_le(u8x16::splat(b'$'));
         first_set(low.to_bitmask(), 16)
-    }
-}
-
-/// `$`, and what is neither a printable byte nor a space nor a line feed: where a comment may end
-/// or be wrong, or stands white space that is rare.
-pub struct Odd;
-
-impl Sought for Odd {
-    ghost passed = { is_plain };
-
-    ghost lanes = { 64 };
-
-    // Comments are long: one question is enough for four vectors of the processor.
-    #[inline(always)]
-    fn lanes() -> usize {
-        64
-    }
-
-    fn is_passed(byte: u8) -> bool {
-        (byte == b'\n' || (byte >= b' ' && byte <= b'~')) && byte != b'$'
-    }
-
-    #[inline(always)]
-    fn passed_run(bytes: &[u8], at: usize) -> usize {
-        let block = u8x64::from_slice(&bytes[at..]);
-        // From a space on to `~` there are 95 bytes.
-        let unprintable = (block - u8x64::splat(b' ')).simd_ge(u8x64::splat(95));
-        let odd = unprintable & block.simd_ne(u8x64::splat(b'\n'))
-            | block.simd_eq(u8x64::splat(b'$'));
-        first_set(odd.to_bitmask(), 64)
     }
 }
 

@@ -3,7 +3,7 @@
 use Rattle.std.specs.Prelude.{◌≡◌, ℕ, ◌+◌, ◌<◌, ◌≤◌, ◌||◌, ◌&&◌, ◌==◌, not}
 use Rattle.std.specs.Prelude.{List, [], ◌∷◌, length, drop}
 use Rattle.std.specs.Prelude.{Bool, true, false, codes, Option, Some, None, Result, Ok, Err}
-use Rattle.std.specs.Prelude.{slice_index, nat_le}
+use Rattle.std.specs.Prelude.{slice_index}
 use Rattle.mm_text.specs.declared.comments.Place.{Place}
 use Rattle.mm_text.specs.declared.comments.Comment.{Comment}
 use Rattle.mm_text.specs.declared.comments.Comment.TheVariants.{Open, Closed}
@@ -22,10 +22,6 @@ is_legal b = is_printable b || is_space b
 -- a byte may stand in a file, and is no `$`
 abbrev pub is_quiet : ℕ → Bool
 is_quiet b = is_legal b && not (b == 36)
-
--- a printable byte, a space or a line feed, and no `$`, as nearly all bytes of comments are
-abbrev pub is_plain : ℕ → Bool
-is_plain b = (b == 10 || nat_le 32 b && nat_le b 126) && not (b == 36)
 
 -- the bytes up to a place may stand in a file
 pub record IsLegalFront (bytes : List ℕ) (stop : ℕ) : Type 0 where
