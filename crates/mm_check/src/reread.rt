@@ -34,6 +34,7 @@ fn reader<'a>(alloc: Global, seed: Seed, files: &'a [File<'a>]) -> Result<Statem
     match Statements::new(alloc, seed, files) {
         Ok(statements) => Ok(statements),
         Err(TextFault::Memory) => Err(AskFault::Memory),
+        // The files break no rule as a whole, and no token was read.
         Err(TextFault::Load(_) | TextFault::Fault { .. }) => unreachable!(),
     }
 }
@@ -49,6 +50,7 @@ fn next<'a>(statements: &mut Statements<'a>, into: &mut Statement<'a>) -> Result
     match statements.read(into) {
         Ok(more) => Ok(more),
         Err(TextFault::Memory) => Err(AskFault::Memory),
+        // The text has no fault: `check` read it to its end.
         Err(TextFault::Load(_) | TextFault::Fault { .. }) => unreachable!(),
     }
 }
@@ -71,6 +73,7 @@ fn seek<'a>(
             return Ok(());
         }
     }
+    // The statement is among those that were left.
     unreachable!()
 }
 

@@ -91,6 +91,7 @@ fn lines_of(alloc: Global, book: &Book, theorem: &Theorem) -> Result<Vec<Line>, 
     match listing(alloc, book, theorem.id, &theorem.steps) {
         Ok(lines) => Ok(lines),
         Err(ProofFault::Memory) => Err(AskFault::Memory),
+        // `check` accepted the proof under this profile.
         Err(ProofFault::Rule { .. }) => unreachable!(),
     }
 }

@@ -46,6 +46,7 @@ fn steps_of(
     match Steps::parse(alloc, profile, book, id, tokens) {
         Ok(Parsed::Steps(steps)) => Ok(steps),
         Err(ProofFault::Memory) => Err(AskFault::Memory),
+        // The proof is complete, and `check` accepted it under this profile.
         Ok(Parsed::Incomplete(_)) => unreachable!(),
         Err(ProofFault::Rule { .. }) => unreachable!(),
     }

@@ -28,6 +28,7 @@ fn place_among(hypotheses: &[Hypothesis], noted: &NotedPlaces, variable: Sym) ->
 {
     match noted.place_of(hypotheses, variable) {
         Some(place) => place as u32,
+        // Each mandatory variable has its `$f` among the hypotheses.
         None => unreachable!(),
     }
 }

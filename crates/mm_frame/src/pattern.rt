@@ -42,6 +42,7 @@ fn push_piece(pieces: &mut Vec<ShortPiece>, piece: Piece) -> Result<(), AllocErr
         Some(short) => pieces.push(short)?,
         None => {
             pieces.reserve(usize::MAX)?;
+            // More room than there can be is always refused.
             unreachable!()
         }
     }

@@ -41,6 +41,7 @@ pub(crate) fn label_place(tables: &Tables, id: LabelId) -> usize
 {
     match tables.label_info(id) {
         Some(info) => info.place as usize,
+        // Each number below the count of labels has an entry.
         None => unreachable!(),
     }
 }
@@ -54,6 +55,7 @@ pub(crate) fn label_text<'a>(tables: &Tables<'a>, id: LabelId) -> &'a [u8]
 {
     match tables.labels.name(id.0) {
         Some(text) => text,
+        // Each number below the count of labels has a name.
         None => unreachable!(),
     }
 }
@@ -67,6 +69,7 @@ pub(crate) fn label_symbols<'b>(tables: &'b Tables, id: LabelId) -> &'b [Sym]
 {
     match tables.label_info(id) {
         Some(info) => part_of(&tables.flat, info.symbols),
+        // Each number below the count of labels has an entry.
         None => unreachable!(),
     }
 }
@@ -81,6 +84,7 @@ fn kind_of(kind: Kind) -> LabelKind
         Kind::Essential => LabelKind::Essential,
         Kind::Axiom => LabelKind::Axiom,
         Kind::Provable => LabelKind::Proof,
+        // Only these kinds have labels.
         _ => unreachable!(),
     }
 }
@@ -94,6 +98,7 @@ pub(crate) fn label_kind(tables: &Tables, id: LabelId) -> LabelKind
 {
     match tables.label_info(id) {
         Some(info) => kind_of(info.kind),
+        // Each number below the count of labels has an entry.
         None => unreachable!(),
     }
 }
@@ -181,6 +186,7 @@ pub(crate) fn label_hypotheses<'b>(tables: &'b Tables, id: LabelId) -> &'b [Hypo
 {
     match tables.label_info(id) {
         Some(info) => part_of(&tables.hypotheses, info.hypotheses),
+        // Each number below the count of labels has an entry.
         None => unreachable!(),
     }
 }
@@ -200,6 +206,7 @@ pub(crate) fn label_pairs<'b>(tables: &'b Tables, id: LabelId) -> &'b [DistinctP
 {
     match tables.label_info(id) {
         Some(info) => part_of(&tables.pairs, info.pairs),
+        // Each number below the count of labels has an entry.
         None => unreachable!(),
     }
 }
@@ -219,6 +226,7 @@ pub(crate) fn label_scheme<'b>(tables: &'b Tables, id: LabelId) -> Scheme<'b>
             conclusion: part_of(&tables.pieces, info.conclusion),
             pieces: &tables.pieces,
         },
+        // Each number below the count of labels has an entry.
         None => unreachable!(),
     }
 }

@@ -52,6 +52,7 @@ impl Scopes {
         match at_place(&self.blocks, place) {
             Some(block) => match at_place(&self.ends, block as usize) {
                 Some(end) => at <= end as usize,
+                // Each block has an entry for its end.
                 None => unreachable!(),
             },
             None => false,
@@ -92,6 +93,7 @@ impl Scopes {
     {
         match self.open.last() {
             Some(block) => *block,
+            // A block is open.
             None => unreachable!(),
         }
     }

@@ -61,6 +61,7 @@ pub(crate) fn symbols_in<'b>(log: &[Entry], flat: &'b [Sym], place: usize) -> &'
 {
     match at(log, place) {
         Some(entry) => part_of(flat, entry.symbols),
+        // The place is below the count of statements.
         None => unreachable!(),
     }
 }

@@ -48,6 +48,7 @@ impl LabelSet {
     {
         match self.set.get_index_of(&id.0) {
             Some(place) => place,
+            // The label was put into the set.
             None => unreachable!(),
         }
     }

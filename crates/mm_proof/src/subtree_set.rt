@@ -57,6 +57,7 @@ impl SubtreeSet {
     {
         match self.set.get_index_of(&tree) {
             Some(place) => place,
+            // The subtree was put into the set.
             None => unreachable!(),
         }
     }

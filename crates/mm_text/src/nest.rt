@@ -154,6 +154,7 @@ impl<'a> Nest<'a> {
     {
         let begin = Place::begin(self.files[number].bytes, number);
         let Ok(()) = self.open.push(place) else {
+            // There is room for the places of all files.
             unreachable!();
         };
         self.named[number] = true;
