@@ -5,6 +5,7 @@ mod check;
 mod code;
 mod failing;
 mod frame;
+mod included;
 mod load;
 mod profiles;
 mod proof;

@@ -33,16 +33,16 @@ shown_token (Clear t) = t
 shown_token (Broken rule t) = t
 
 -- it is of the file with this number
-abbrev AtHome : ℕ → Shown → Type 0
+abbrev pub AtHome : ℕ → Shown → Type 0
 AtHome file s = (shown_token s).file ≡ file
 
 -- and so is the begin of an open comment
-abbrev BegunAtHome : ℕ → Option PlainToken → Type 0
+abbrev pub BegunAtHome : ℕ → Option PlainToken → Type 0
 BegunAtHome file None = Unit {0}
 BegunAtHome file (Some begin) = begin.file ≡ file
 
 -- what a file shows is of that file
-shown_at_home : (file : ℕ) (bytes : List ℕ) (begin : Option PlainToken) (tokens : List PlainToken) → BegunAtHome file begin → AllByRecursion (StandsIn file bytes) tokens → AllByRecursion (AtHome file) (without_comments begin tokens)
+pub shown_at_home : (file : ℕ) (bytes : List ℕ) (begin : Option PlainToken) (tokens : List PlainToken) → BegunAtHome file begin → AllByRecursion (StandsIn file bytes) tokens → AllByRecursion (AtHome file) (without_comments begin tokens)
 unfolding without_comments
 shown_at_home file bytes None [] b h = tt
 shown_at_home file bytes (Some begin) [] b h = (b, tt)

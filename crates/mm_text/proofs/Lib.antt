@@ -44,6 +44,7 @@ pub mod AlikeBeginnings
 pub mod AlikeEndings
 pub mod AlikeFronts
 pub mod AlikeReadings
+pub mod LeftOut
 pub mod Dropped
 pub mod ReplacedPieces
 pub mod AlteredItems

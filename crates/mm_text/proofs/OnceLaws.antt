@@ -34,7 +34,7 @@ module _ (w : Item → ℕ) (file : ℕ) (bound : (k : ℕ) (f : PlainFile) → 
 abbrev end_weight : ℕ → ℕ → ℕ
 end_weight file n = cond (n == file) 1 0
 
-no_tokens : (tokens : List PlainToken) → weigh_tokens (λ t. 0) tokens ≡ 0
+pub no_tokens : (tokens : List PlainToken) → weigh_tokens (λ t. 0) tokens ≡ 0
 no_tokens [] = refl
 no_tokens (t ∷ tokens) = omega (arith, no_tokens tokens)
 

@@ -11,5 +11,6 @@ pub mod Empty
 pub mod Laws
 pub mod LineNumbers
 pub mod Alike
+pub mod Included
 pub mod Mirror
 pub mod Replaced

@@ -3,6 +3,7 @@
 -- specs/.
 pub mod Class
 pub mod Hollow
+pub mod Included
 pub mod Names
 pub mod Nest
 pub mod Next

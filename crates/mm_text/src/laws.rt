@@ -2,6 +2,7 @@
 //! that does nothing: what it ensures is proved, and there is no need to call it.
 
 ghost use Rattle.mm_text.specs.Alike.{AlikeFilesAreReadAlike};
+ghost use Rattle.mm_text.specs.Included.{AlikeFilesLeaveOutTheSame, TopFileIsNeverLeftOut};
 ghost use Rattle.mm_text.specs.ItemLaws.{FilesArePutInOnce, InclusionsEnd, TokensFitFiles};
 ghost use Rattle.mm_text.specs.ItemLaws.{TopFileEndsLast};
 ghost use Rattle.mm_text.specs.Laws.{BeginningsBeginStatements, EachHasOneReading};
@@ -85,6 +86,17 @@ pub fn readings_fit()
 /// a fault of that rule on that line.
 pub fn alike_files_are_read_alike()
     ensures { AlikeFilesAreReadAlike }
+{}
+
+/// The first file is read in any case: whatever it holds, it isn't left out.
+pub fn top_file_is_never_left_out()
+    ensures { TopFileIsNeverLeftOut }
+{}
+
+/// What comments say includes no file: of files with the same names that show the same tokens
+/// outside comments, on the same lines, the same are left out.
+pub fn alike_files_leave_out_the_same()
+    ensures { AlikeFilesLeaveOutTheSame }
 {}
 
 /// The bytes of a proof stand in the file of its statement's first token, where the statement's span
