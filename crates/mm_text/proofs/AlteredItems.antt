@@ -62,7 +62,7 @@ still_unnamed (b ∷ named) zero (suc k) other h = h
 still_unnamed (b ∷ named) (suc n) zero other h = h
 still_unnamed (b ∷ named) (suc n) (suc k) other h = still_unnamed named n k (λ e. other (ap suc e)) h
 
-now_named : (named : List Bool) (k : ℕ) → slice_index_or (slice_set named k true) k true ≡ true
+pub now_named : (named : List Bool) (k : ℕ) → slice_index_or (slice_set named k true) k true ≡ true
 now_named [] k = refl
 now_named (b ∷ named) zero = refl
 now_named (b ∷ named) (suc k) = now_named named k

@@ -48,10 +48,12 @@ pub mod LeftOut
 pub mod Dropped
 pub mod ReplacedPieces
 pub mod AlteredItems
+pub mod RisingTokens
 pub mod ReplacedItems
 pub mod ReplacedReading
 pub mod ReplacedProofs
 pub mod StatementHomes
 pub mod ReplacedFiles
 pub mod ProofSpans
+pub mod FollowingSpans
 pub mod Hollowing

@@ -62,7 +62,7 @@ abbrev pub Rises : ℕ → ℕ → List PlainToken → Type 0
 Rises file n [] = Unit {0}
 Rises file n (t ∷ tokens) = (n ≤ t.at) × (t.file ≡ file) × Rises file (t.at + 1) tokens
 
-rises_earlier : (file m n : ℕ) (tokens : List PlainToken) → m ≤ n → Rises file n tokens → Rises file m tokens
+pub rises_earlier : (file m n : ℕ) (tokens : List PlainToken) → m ≤ n → Rises file n tokens → Rises file m tokens
 rises_earlier file m n [] h r = tt
 rises_earlier file m n (t ∷ tokens) h r = (omega (arith, r.0), r.1, r.2)
 

@@ -1,9 +1,9 @@
 -- The law of replaced proofs, by the file in which the statement stands.
-use Rattle.std.proofs.Common.{◌≡◌, ℕ, ◌+◌, List, [], ◌∷◌, ◌++◌, length, take, drop, refl, sym, ap, ◌∙◌, subst, Option, Some, None}
+use Rattle.std.proofs.Common.{◌≡◌, ℕ, ◌+◌, List, ◌∷◌, ◌++◌, length, take, drop, sym, ap, ◌∙◌, subst, Option, Some, None}
 use Rattle.std.specs.Prelude.{slice_get, slice_set}
 use Rattle.std.proofs.lemmas.Option.{same_Some}
 use Rattle.mm_text.specs.declared.statement.Kind.TheVariants.{Provable}
-use Rattle.mm_text.specs.Token.{PlainToken, tokens_from}
+use Rattle.mm_text.specs.Token.{tokens_from}
 use Rattle.mm_text.specs.Files.{PlainFile}
 use Rattle.mm_text.specs.Statement.{PlainStatement}
 use Rattle.mm_text.specs.Items.{items}
@@ -13,7 +13,7 @@ use Rattle.mm_text.proofs.TokenLaws.{BeginsWithSpace}
 use Rattle.mm_text.proofs.ReplacedPieces.{IsProofText as Spaced}
 use Rattle.mm_text.proofs.ReplacedReading.{proof_at}
 use Rattle.mm_text.proofs.ReplacedProofs.{replaced_proofs_are_read}
-use Rattle.mm_text.proofs.StatementHomes.{one_home}
+use Rattle.mm_text.proofs.StatementHomes.{ends_home}
 
 spaced : (text : List ℕ) → IsProofText text → Spaced text
 spaced text t = record {
@@ -26,10 +26,7 @@ pub equals_home : (files : List PlainFile) (before : List PlainStatement) (s : P
     → (proof_at (items files) before s after reads p).ends.equals.file ≡ s.first.file
 equals_home files before s after reads p =
     let a = proof_at (items files) before s after reads p in
-    let h = a.parts.here in
-    let k = a.ends in
-    one_home files (before ++ s ∷ after) before after reads s a.parts ((h.first.0 ++ s.symbols) ++ k.equals ∷ (s.proof ++ k.stop ∷ [])) (h.first.0 ++ s.symbols) (s.proof ++ k.stop ∷ []) k.equals
-    (h.whole ∙ ap (λ (l : List PlainToken). (l ++ s.symbols) ++ h.tail) h.first.1 ∙ ap (λ (l : List PlainToken). s.first ∷ ((h.first.0 ++ s.symbols) ++ l)) k.tokens) refl
+    (ends_home files (before ++ s ∷ after) before after reads s a.parts a.ends).0
 
 pub replaced_proofs_are_read_holds : ReplacedProofsAreRead
 replaced_proofs_are_read_holds files before s after file text reads p there is_text =

@@ -3,7 +3,7 @@ use Rattle.std.proofs.Common.{◌≡◌, ◌≢◌, List, [], ◌∷◌, ◌++�
 use Rattle.std.proofs.lemmas.List.{map-append}
 use Rattle.mm_text.specs.Token.{PlainToken, tokens_from}
 use Rattle.mm_text.specs.Files.{PlainFile}
-use Rattle.mm_text.specs.Statement.{PlainStatement, Spells, SpellsAll}
+use Rattle.mm_text.specs.Statement.{PlainStatement, EndsInProof, Spells, SpellsAll}
 use Rattle.mm_text.specs.Items.{Item, Plain, Clear, Shown, plain_tokens, without_comments, items}
 use Rattle.mm_text.specs.Reading.{Viable, IsBeginning}
 use Rattle.mm_text.specs.Mirror.Reader.{Part, Between}
@@ -68,3 +68,23 @@ one_home files statements before after v s p others earlier later u own there =
     (t.whole ∙ sym (append_assoc t.front (Plain s.first ∷ []) t.back)) (plain_tokens-append t.front (Plain s.first ∷ []) ∙ ap (λ (l : List PlainToken). l ++ s.first ∷ []) t.first) t.last in
     let stands = run_stands files t.front more s.first others (t.whole ∙ ap (λ (l : List Item). t.front ++ Plain s.first ∷ l) split) in
     run_home files s.first others earlier later u stands there ∙ sym (home files s.first others stands)
+
+-- the `$=` and the `$.` of a `$p` are
+pub ends_home : (files : List PlainFile) (statements before after : List PlainStatement)
+    (v : Viable (items files) statements []) (s : PlainStatement)
+    (p : Parts (plain_tokens (items files)) before s after) (k : EndsInProof s p.here.tail)
+    → (k.equals.file ≡ s.first.file) × (k.stop.file ≡ s.first.file)
+ends_home files statements before after v s p k =
+    let h = p.here in
+    let stated : List PlainToken = h.first.0 ++ s.symbols in
+    let others : List PlainToken = stated ++ k.equals ∷ (s.proof ++ k.stop ∷ []) in
+    let own : p.own ≡ s.first ∷ others =
+    h.whole ∙ ap (λ (l : List PlainToken). (l ++ s.symbols) ++ h.tail) h.first.1
+    ∙ ap (λ (l : List PlainToken). s.first ∷ (stated ++ l)) k.tokens in
+    let split : others ≡ (stated ++ k.equals ∷ s.proof) ++ k.stop ∷ [] =
+    sym (append_assoc stated (k.equals ∷ s.proof) (k.stop ∷ [])) in (
+      one_home files statements before after v s p others stated (s.proof ++ k.stop ∷ []) k.equals
+          own refl,
+      one_home files statements before after v s p others (stated ++ k.equals ∷ s.proof) [] k.stop
+          own split,
+    )

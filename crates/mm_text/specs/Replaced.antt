@@ -1,6 +1,6 @@
 -- Files in which other bytes stand between the `$=` and the `$.` of one statement (the Metamath book,
 -- sections 4.1.1 and 4.2.6).
-use Rattle.std.specs.Prelude.{◌≡◌, ℕ, ◌+◌, List, [], ◌∷◌, ◌++◌, map, take, drop, length, true}
+use Rattle.std.specs.Prelude.{◌≡◌, ℕ, ◌+◌, ◌≤◌, List, [], ◌∷◌, ◌++◌, map, take, drop, length, true}
 use Rattle.std.specs.Prelude.{Some, None, slice_get, slice_set}
 use Rattle.std.specs.List.{AllByRecursion, list_all}
 use Rattle.mm_text.specs.declared.statement.Kind.TheVariants.{Provable}
@@ -73,6 +73,14 @@ ProofsStandInSpans =
     (after : List PlainStatement) (file : PlainFile)
     → Reads files (before ++ s ∷ after) None → s.kind ≡ Provable
     → slice_get files s.first.file ≡ Some file → IsProofSpan s file.bytes
+
+-- in files without a fault the proof of a later `$p` stands behind that of an earlier one of the
+-- same file
+abbrev pub ProofSpansFollow : Type 0
+ProofSpansFollow =
+    (files : List PlainFile) (before between after : List PlainStatement) (s t : PlainStatement)
+    → Reads files (before ++ s ∷ between ++ t ∷ after) None → s.kind ≡ Provable
+    → t.kind ≡ Provable → s.first.file ≡ t.first.file → s.span.1 ≤ t.span.0
 
 -- files without a fault in which the proof of a statement is replaced are read so
 abbrev pub ReplacedProofsAreRead : Type 0

@@ -8,7 +8,8 @@ ghost use Rattle.mm_text.specs.ItemLaws.{TopFileEndsLast};
 ghost use Rattle.mm_text.specs.Laws.{BeginningsBeginStatements, EachHasOneReading};
 ghost use Rattle.mm_text.specs.Laws.{FaultsEndLongestFronts, ReadingsAreBalanced};
 ghost use Rattle.mm_text.specs.Laws.{ReadingsAreFormedInPlace, ReadingsFit, TokensAreLongestRuns};
-ghost use Rattle.mm_text.specs.Replaced.{ProofsStandInSpans, ReplacedProofsAreRead};
+ghost use Rattle.mm_text.specs.Replaced.{ProofSpansFollow, ProofsStandInSpans};
+ghost use Rattle.mm_text.specs.Replaced.{ReplacedProofsAreRead};
 
 /// The tokens of a file are its longest runs of bytes that aren't white space (the Metamath book,
 /// section 4.1.1): each token is the slice of the file at its place and such a run, each such run
@@ -103,6 +104,12 @@ pub fn alike_files_leave_out_the_same()
 /// says.
 pub fn proofs_stand_in_spans()
     ensures { ProofsStandInSpans }
+{}
+
+/// In one file proofs stand in the order of their statements, apart from each other: the proof of a
+/// later `$p` stands behind that of an earlier one.
+pub fn proof_spans_follow()
+    ensures { ProofSpansFollow }
 {}
 
 /// A proof may be replaced in the bytes of its file: with other tokens of a proof between its `$=`

@@ -2,7 +2,7 @@
 
 use mm_text::{
     File, Kind, LoadFault, LoadRule, Seed, Statement, Statements, TextFault, TextRule, Token,
-    WriteFault, alike_files_are_read_alike, one_reading, proofs_stand_in_spans,
+    WriteFault, alike_files_are_read_alike, one_reading, proof_spans_follow, proofs_stand_in_spans,
     replaced_proofs_are_read, tokens_are_longest_runs,
 };
 use std::alloc::Global;
@@ -416,5 +416,6 @@ fn laws_are_called() {
     one_reading();
     alike_files_are_read_alike();
     proofs_stand_in_spans();
+    proof_spans_follow();
     replaced_proofs_are_read();
 }

@@ -1,0 +1,86 @@
+-- In one file the proof of a later `$p` stands behind that of an earlier one.
+use Rattle.std.proofs.Common.{◌≡◌, ℕ, ◌<◌, List, [], ◌∷◌, ◌++◌, refl, sym, ap, ◌∙◌, subst}
+use Rattle.std.proofs.Common.{append_assoc, append-nil, arith}
+use Rattle.mm_text.specs.declared.statement.Kind.{Kind}
+use Rattle.mm_text.specs.declared.statement.Kind.TheVariants.{Provable}
+use Rattle.mm_text.specs.Token.{PlainToken}
+use Rattle.mm_text.specs.Statement.{PlainStatement, EndsInProof, IsTail, SpellsAll}
+use Rattle.mm_text.specs.Items.{plain_tokens, items}
+use Rattle.mm_text.specs.Replaced.{ProofSpansFollow}
+use Rattle.mm_text.proofs.RisingTokens.{tokens_in_order}
+use Rattle.mm_text.proofs.ReplacedReading.{Parts, parts_of}
+use Rattle.mm_text.proofs.StatementHomes.{ends_home}
+
+-- tokens that spell statements, and then others
+pub spells_append : (a b : List PlainToken) (xs ys : List PlainStatement) → SpellsAll a xs
+    → SpellsAll b ys → SpellsAll (a ++ b) (xs ++ ys)
+spells_append a b [] ys h k = subst (λ (l : List PlainToken). SpellsAll (l ++ b) ys) (sym h) k
+spells_append a b (x ∷ xs) ys h k = (
+  h.0,
+  h.1 ++ b,
+  ap (λ (l : List PlainToken). l ++ b) h.2 ∙ append_assoc h.0 h.1 b,
+  h.3,
+  spells_append h.1 b xs ys h.4 k,
+)
+
+-- an element in one part of a list, and one in a later part
+two_within : {A : Type 0} (f p : List A) (x : A) (b q : List A) (y : A) (r c : List A)
+    → (f ++ ((p ++ x ∷ []) ++ b)) ++ ((q ++ y ∷ r) ++ c)
+    ≡ (f ++ p) ++ x ∷ ((b ++ q) ++ y ∷ (r ++ c))
+two_within {A} f p x b q y r c =
+    let rest : List A = (q ++ y ∷ r) ++ c in
+    ap (λ (l : List A). (f ++ l) ++ rest) (append_assoc p (x ∷ []) b)
+    ∙ ap (λ (l : List A). l ++ rest) (sym (append_assoc f p (x ∷ b)))
+    ∙ append_assoc (f ++ p) (x ∷ b) rest
+    ∙ ap (λ (l : List A). (f ++ p) ++ x ∷ l)
+    (ap (λ (l : List A). b ++ l) (append_assoc q (y ∷ r) c) ∙ sym (append_assoc b q (y ∷ (r ++ c))))
+
+-- the `$=` and the `$.` of a `$p` that tokens spell
+pub ends_of : (tokens : List PlainToken) (before : List PlainStatement) (s : PlainStatement)
+    (after : List PlainStatement) (p : Parts tokens before s after) → s.kind ≡ Provable
+    → EndsInProof s p.here.tail
+ends_of tokens before s after p is =
+    subst (λ (kind : Kind). IsTail s kind p.here.tail) is p.here.ends
+
+pub proof_spans_follow_holds : ProofSpansFollow
+proof_spans_follow_holds files before between after s t reads p q home =
+    let tokens : List PlainToken = plain_tokens (items files) in
+    let all : List PlainStatement = (before ++ s ∷ between) ++ t ∷ after in
+    let finished : tokens ≡ reads.finished = reads.whole ∙ append-nil reads.finished in
+    let a = parts_of tokens (before ++ s ∷ between) t after
+    (subst (λ (l : List PlainToken). SpellsAll l all) (sym finished) reads.spelled) in
+    let b = parts_of a.front before s between a.earlier in
+    let rest : List PlainToken = a.own ++ a.back in
+    let split : tokens ≡ (b.front ++ (b.own ++ b.back)) ++ rest =
+    a.whole ∙ ap (λ (l : List PlainToken). l ++ rest) b.whole in
+    let first : Parts tokens before s (between ++ t ∷ after) = record {
+      front = b.front;
+      own = b.own;
+      back = b.back ++ rest;
+      whole = split ∙ append_assoc b.front (b.own ++ b.back) rest
+          ∙ ap (λ (l : List PlainToken). b.front ++ l) (append_assoc b.own b.back rest);
+      earlier = b.earlier;
+      here = b.here;
+      later = spells_append b.back rest between (t ∷ after) b.later
+          (a.own, a.back, refl, a.here, a.later);
+    } in
+    let k = ends_of tokens before s (between ++ t ∷ after) first p in
+    let l = ends_of tokens (before ++ s ∷ between) t after a q in
+    let stated : List PlainToken = (b.here.head ++ s.symbols) ++ k.equals ∷ s.proof in
+    let later : List PlainToken = a.here.head ++ t.symbols in
+    let own : b.own ≡ stated ++ k.stop ∷ [] =
+    b.here.whole ∙ ap (λ (x : List PlainToken). (b.here.head ++ s.symbols) ++ x) k.tokens
+    ∙ sym (append_assoc (b.here.head ++ s.symbols) (k.equals ∷ s.proof) (k.stop ∷ [])) in
+    let behind : List PlainToken = t.proof ++ l.stop ∷ [] in
+    let other : a.own ≡ later ++ l.equals ∷ behind =
+    a.here.whole ∙ ap (λ (x : List PlainToken). later ++ x) l.tokens in
+    let parted : tokens
+    ≡ (b.front ++ stated) ++ k.stop ∷ ((b.back ++ later) ++ l.equals ∷ (behind ++ a.back)) =
+    split ∙ (λ i. (b.front ++ (own i ++ b.back)) ++ (other i ++ a.back))
+    ∙ two_within b.front stated k.stop b.back later l.equals behind a.back in
+    let one = ends_home files all before (between ++ t ∷ after) reads s first k in
+    let two = ends_home files all (before ++ s ∷ between) after reads t a l in
+    let less : k.stop.at < l.equals.at =
+    tokens_in_order files (b.front ++ stated) (b.back ++ later) (behind ++ a.back) k.stop l.equals
+    parted (one.1 ∙ home ∙ sym two.0) in
+    omega (arith, ap (λ (x : ℕ × ℕ). x.1) k.span, ap (λ (x : ℕ × ℕ). x.0) l.span)
