@@ -214,6 +214,19 @@ module _ (h k : ℕ → ℕ → ℕ) where
   pieces_same file s r (Clear t ∷ a) (Broken rule u ∷ b) w z = absurd z.0
   pieces_same file s r (Broken rule t ∷ a) (Clear u ∷ b) w z = absurd z.0
 
+  -- the pieces of a file of whose places both tell the same
+  pub pieces_agree : (number : ℕ) (file : PlainFile)
+      → ((at : ℕ) → h number at ≡ k number at)
+      → AllZip (SamePiece h k) (pieces_of number file) (pieces_of number file)
+  pieces_agree number file agree =
+      let tokens : List PlainToken = tokens_from number 0 file.bytes in
+      let shown : List Shown = without_comments None tokens in
+      let stand = tokens_in_place number file.bytes in
+      let home = shown_at_home number file.bytes None tokens tt stand in
+      pieces_same number Outside Outside shown shown tt
+      (mapped_zip (shown_on h) (shown_on k) (SameShown h k) (shown_same h k) shown shown
+      (each_on h k number agree shown home))
+
   -- ---- putting in
 
   -- items that correspond are both faults, or neither is

@@ -8,20 +8,8 @@ use Rattle.mm_text.specs.Statement.{PlainStatement, EndsInProof, IsTail, SpellsA
 use Rattle.mm_text.specs.Items.{plain_tokens, items}
 use Rattle.mm_text.specs.Replaced.{ProofSpansFollow}
 use Rattle.mm_text.proofs.RisingTokens.{tokens_in_order}
-use Rattle.mm_text.proofs.ReplacedReading.{Parts, parts_of}
+use Rattle.mm_text.proofs.ReplacedReading.{Parts, parts_of, spells_append}
 use Rattle.mm_text.proofs.StatementHomes.{ends_home}
-
--- tokens that spell statements, and then others
-pub spells_append : (a b : List PlainToken) (xs ys : List PlainStatement) → SpellsAll a xs
-    → SpellsAll b ys → SpellsAll (a ++ b) (xs ++ ys)
-spells_append a b [] ys h k = subst (λ (l : List PlainToken). SpellsAll (l ++ b) ys) (sym h) k
-spells_append a b (x ∷ xs) ys h k = (
-  h.0,
-  h.1 ++ b,
-  ap (λ (l : List PlainToken). l ++ b) h.2 ∙ append_assoc h.0 h.1 b,
-  h.3,
-  spells_append h.1 b xs ys h.4 k,
-)
 
 -- an element in one part of a list, and one in a later part
 two_within : {A : Type 0} (f p : List A) (x : A) (b q : List A) (y : A) (r c : List A)

@@ -53,6 +53,7 @@ pub mod ReplacedItems
 pub mod ReplacedReading
 pub mod ReplacedProofs
 pub mod StatementHomes
+pub mod MovedSpans
 pub mod ReplacedFiles
 pub mod ProofSpans
 pub mod FollowingSpans

@@ -1,14 +1,16 @@
 -- The items of files of which one has other bytes between the `$=` and the `$.` of a statement.
-use Rattle.std.proofs.Common.{◌≡◌, ◌≢◌, ℕ, zero, suc, ◌+◌, List, [], ◌∷◌, ◌++◌, length, replicate, Bool, true, false, refl, sym, ap, ◌∙◌, subst, codes, Some}
+use Rattle.std.proofs.Common.{◌≡◌, ◌≢◌, ℕ, zero, suc, ◌+◌, List, [], ◌∷◌, ◌++◌, length, replicate}
+use Rattle.std.proofs.Common.{Bool, true, false, refl, sym, ap, ◌∙◌, subst, codes, Some, arith}
 use Rattle.std.specs.Prelude.{slice_get, slice_index_or, slice_set}
 use Rattle.std.specs.List.{AllZip}
 use Rattle.std.proofs.lemmas.Option.{same_Some}
 use Rattle.mm_text.specs.Token.{PlainToken, tokens_from}
 use Rattle.mm_text.specs.Files.{PlainFile}
-use Rattle.mm_text.specs.Items.{Piece, pieces_of, put_in, items}
-use Rattle.mm_text.proofs.AlikeItems.{SamePiece, SameNames, as_long, same_number}
+use Rattle.mm_text.specs.Items.{Item, Piece, pieces_of, put_in, items}
+use Rattle.mm_text.proofs.AlikeItems.{SamePiece, pieces_agree, SameNames, as_long, same_number}
 use Rattle.mm_text.proofs.FollowedItems.{StandsInFile}
-use Rattle.mm_text.proofs.ReplacedPieces.{nowhere, met, IsProofText, with_span, replaced_pieces}
+use Rattle.mm_text.proofs.ReplacedPieces.{further, further_elsewhere, met, IsProofText, with_span}
+use Rattle.mm_text.proofs.ReplacedPieces.{replaced_pieces}
 use Rattle.mm_text.proofs.AlteredItems.{SameOrAlter, put_in_within, put_in_before}
 
 -- ---- files of which one is another
@@ -51,47 +53,99 @@ replacing number text equals stop =
     let start : ℕ = equals.at + length equals.text in
     equals ∷ (tokens_from number start text ++ record stop { at = start + length text } ∷ [])
 
-module _ (text : List ℕ) (equals : PlainToken) (proof : List PlainToken) (stop : PlainToken) (is_text : IsProofText text) (sign : stop.text ≡ codes "$.") where
+module _ (text : List ℕ) (equals : PlainToken) (proof : List PlainToken) (stop : PlainToken)
+    (h j : ℕ → ℕ → ℕ) where
+  abbrev run : List PlainToken
+  run = equals ∷ (proof ++ stop ∷ [])
+
+  -- The pieces of a file and of the one with the other bytes. Of the places behind these the two
+  -- functions tell the same, and so they do of those in the other files.
+  record AreReplaced (k : ℕ) (f g : PlainFile) : Type 0 where
+    before : List Piece
+    after : List Piece
+    behind : List Piece
+    name : f.name ≡ g.name
+    old : pieces_of k f ≡ before ++ (met run ++ after)
+    new : pieces_of k g ≡ before ++ (met (replacing k text equals stop) ++ behind)
+    same : AllZip (SamePiece h j) after behind
+    still : (n : ℕ) (file : PlainFile) → n ≢ k
+        → AllZip (SamePiece h j) (pieces_of n file) (pieces_of n file)
+
+  abbrev Differ : ℕ → List Item → List Item → Type 0
+  Differ k its others = SameOrAlter h j run (replacing k text equals stop) its others
+
   -- in the top file
-  top_replaced : (top : PlainFile) (others : List PlainFile) (f g : PlainFile) (before after behind : List Piece) → slice_get (top ∷ others) 0 ≡ Some f → f.name ≡ g.name
-      → pieces_of 0 f ≡ before ++ (met (equals ∷ (proof ++ stop ∷ [])) ++ after) → pieces_of 0 g ≡ before ++ (met (replacing 0 text equals stop) ++ behind)
-      → AllZip (SamePiece nowhere nowhere) after behind
-      → SameOrAlter (equals ∷ (proof ++ stop ∷ [])) (replacing 0 text equals stop) (items (top ∷ others)) (items (with_file (top ∷ others) 0 g))
-  top_replaced top others f g before after behind there name old new same =
+  top_replaced : (top : PlainFile) (others : List PlainFile) (f g : PlainFile)
+      → slice_get (top ∷ others) 0 ≡ Some f → AreReplaced 0 f g
+      → Differ 0 (items (top ∷ others)) (items (with_file (top ∷ others) 0 g))
+  top_replaced top others f g there r =
       let files : List PlainFile = top ∷ others in
-      let named : List Bool = true ∷ replicate (length others) false in
-      let first : pieces_of 0 top ≡ before ++ (met (equals ∷ (proof ++ stop ∷ [])) ++ after) = ap (pieces_of 0) (same_Some top f there) ∙ old in
-      subst (λ (l : List Piece). SameOrAlter (equals ∷ (proof ++ stop ∷ [])) (replacing 0 text equals stop) (put_in files (length others) named l) (put_in (g ∷ others) (length others) named (pieces_of 0 g))) (sym first)
-      (subst (λ (l : List Piece). SameOrAlter (equals ∷ (proof ++ stop ∷ [])) (replacing 0 text equals stop) (put_in files (length others) named (before ++ (met (equals ∷ (proof ++ stop ∷ [])) ++ after))) (put_in (g ∷ others) (length others) named l)) (sym new)
-      (put_in_within files (g ∷ others) 0 f g (equals ∷ (proof ++ stop ∷ [])) (replacing 0 text equals stop) before after behind (same_number files (g ∷ others) (same_names files 0 f g there name))
-      (set_elsewhere files 0 g) there refl old new same (length others) named refl before after behind same))
+      let changed : List PlainFile = g ∷ others in
+      let long : ℕ = length others in
+      let named : List Bool = true ∷ replicate long false in
+      let first : pieces_of 0 top ≡ r.before ++ (met run ++ r.after) =
+      ap (pieces_of 0) (same_Some top f there) ∙ r.old in
+      let numbers = same_number files changed (same_names files 0 f g there r.name) in
+      let inner =
+      put_in_within h j files changed 0 f g run (replacing 0 text equals stop) r.before r.after
+      r.behind numbers (set_elsewhere files 0 g) there refl r.old r.new r.same r.still long named
+      refl r.before r.after r.behind r.same in
+      subst (λ (x : List Piece × List Piece).
+      Differ 0 (put_in files long named x.0) (put_in changed long named x.1))
+      (λ i. (sym first i, sym r.new i)) inner
 
   -- in another file
-  other_replaced : (top : PlainFile) (others : List PlainFile) (k : ℕ) (f g : PlainFile) (before after behind : List Piece) → slice_get (top ∷ others) (suc k) ≡ Some f → f.name ≡ g.name
-      → pieces_of (suc k) f ≡ before ++ (met (equals ∷ (proof ++ stop ∷ [])) ++ after) → pieces_of (suc k) g ≡ before ++ (met (replacing (suc k) text equals stop) ++ behind)
-      → AllZip (SamePiece nowhere nowhere) after behind
-      → SameOrAlter (equals ∷ (proof ++ stop ∷ [])) (replacing (suc k) text equals stop) (items (top ∷ others)) (items (with_file (top ∷ others) (suc k) g))
-  other_replaced top others k f g before after behind there name old new same =
+  other_replaced : (top : PlainFile) (others : List PlainFile) (k : ℕ) (f g : PlainFile)
+      → slice_get (top ∷ others) (suc k) ≡ Some f → AreReplaced (suc k) f g
+      → Differ (suc k) (items (top ∷ others)) (items (with_file (top ∷ others) (suc k) g))
+  other_replaced top others k f g there r =
       let files : List PlainFile = top ∷ others in
       let changed : List PlainFile = top ∷ with_file others k g in
       let named : List Bool = true ∷ replicate (length others) false in
-      let long : length others ≡ length (with_file others k g) = as_long others (with_file others k g) (same_names others k f g there name) in
-      subst (λ n. SameOrAlter (equals ∷ (proof ++ stop ∷ [])) (replacing (suc k) text equals stop) (put_in files (length others) named (pieces_of 0 top)) (put_in changed n (true ∷ replicate n false) (pieces_of 0 top))) long
-      (put_in_before files changed (suc k) f g (equals ∷ (proof ++ stop ∷ [])) (replacing (suc k) text equals stop) before after behind (same_number files changed (same_names files (suc k) f g there name))
-      (set_elsewhere files (suc k) g) there (set_there files (suc k) f g there) old new same (length others) named (not_named others k f there) (pieces_of 0 top))
+      let names = same_names others k f g there r.name in
+      let long : length others ≡ length (with_file others k g) =
+      as_long others (with_file others k g) names in
+      let numbers = same_number files changed (same_names files (suc k) f g there r.name) in
+      let inner =
+      put_in_before h j files changed (suc k) f g run (replacing (suc k) text equals stop) r.before
+      r.after r.behind numbers (set_elsewhere files (suc k) g) there
+      (set_there files (suc k) f g there) r.old r.new r.same r.still (length others) named
+      (not_named others k f there) (pieces_of 0 top) (r.still 0 top (λ e. omega (arith, e))) in
+      subst (λ n. Differ (suc k) (put_in files (length others) named (pieces_of 0 top))
+      (put_in changed n (true ∷ replicate n false) (pieces_of 0 top))) long inner
 
-  replaced_at : (files : List PlainFile) (k : ℕ) (f g : PlainFile) (before after behind : List Piece) → slice_get files k ≡ Some f → f.name ≡ g.name
-      → pieces_of k f ≡ before ++ (met (equals ∷ (proof ++ stop ∷ [])) ++ after) → pieces_of k g ≡ before ++ (met (replacing k text equals stop) ++ behind)
-      → AllZip (SamePiece nowhere nowhere) after behind
-      → SameOrAlter (equals ∷ (proof ++ stop ∷ [])) (replacing k text equals stop) (items files) (items (with_file files k g))
-  replaced_at [] k f g before after behind there name old new same = absurd cc
-  replaced_at (top ∷ others) zero f g before after behind there name old new same = top_replaced top others f g before after behind there name old new same
-  replaced_at (top ∷ others) (suc k) f g before after behind there name old new same = other_replaced top others k f g before after behind there name old new same
+  replaced_at : (files : List PlainFile) (k : ℕ) (f g : PlainFile) → slice_get files k ≡ Some f
+      → AreReplaced k f g → Differ k (items files) (items (with_file files k g))
+  replaced_at [] k f g there r = absurd cc
+  replaced_at (top ∷ others) zero f g there r = top_replaced top others f g there r
+  replaced_at (top ∷ others) (suc k) f g there r = other_replaced top others k f g there r
 
-  pub replaced_items : (files : List PlainFile) (s : StandsInFile files equals (proof ++ stop ∷ []))
-      → SameOrAlter (equals ∷ (proof ++ stop ∷ [])) (replacing s.number text equals stop) (items files)
-      (items (with_file files s.number (record s.place.file { bytes = with_span s.place.file.bytes (equals.at + length equals.text) stop.at text })))
-  replaced_items files s =
-      let r = replaced_pieces files text equals proof stop is_text sign s in
-      let g : PlainFile = record s.place.file { bytes = with_span s.place.file.bytes (equals.at + length equals.text) stop.at text } in
-      replaced_at files s.number s.place.file g r.before r.after r.others s.place.there refl r.old r.new r.same
+-- the items behind the tokens stand as far behind the other bytes as behind the old ones
+pub replaced_items : (text : List ℕ) (equals : PlainToken) (proof : List PlainToken)
+    (stop : PlainToken) → IsProofText text → stop.text ≡ codes "$." → (files : List PlainFile)
+    (s : StandsInFile files equals (proof ++ stop ∷ []))
+    → let start : ℕ = equals.at + length equals.text in
+    let bytes : List ℕ = with_span s.place.file.bytes start stop.at text in
+    SameOrAlter (further s.number (start + length text)) (further s.number stop.at)
+    (equals ∷ (proof ++ stop ∷ [])) (replacing s.number text equals stop) (items files)
+    (items (with_file files s.number (record s.place.file { bytes = bytes })))
+replaced_items text equals proof stop is_text sign files s =
+    let start : ℕ = equals.at + length equals.text in
+    let end : ℕ = start + length text in
+    let h : ℕ → ℕ → ℕ = further s.number end in
+    let j : ℕ → ℕ → ℕ = further s.number stop.at in
+    let r = replaced_pieces files text equals proof stop is_text sign s in
+    let bytes : List ℕ = with_span s.place.file.bytes start stop.at text in
+    let g : PlainFile = record s.place.file { bytes = bytes } in
+    replaced_at text equals proof stop h j files s.number s.place.file g s.place.there (record {
+      before = r.before;
+      after = r.after;
+      behind = r.others;
+      name = refl;
+      old = r.old;
+      new = r.new;
+      same = r.same;
+      still = λ n file other. pieces_agree h j n file (λ at.
+          further_elsewhere s.number end n at other
+          ∙ sym (further_elsewhere s.number stop.at n at other));
+    })

@@ -1,6 +1,9 @@
 -- The pieces of a file in which other bytes stand between the `$=` and the `$.` of a statement.
-use Rattle.std.proofs.Common.{◌≡◌, ℕ, ◌+◌, ◌-◌, List, [], ◌∷◌, ◌++◌, length, map, take, drop, true, false, refl, sym, ap, ◌∙◌, subst, codes, None, append_assoc, arith}
+use Rattle.std.proofs.Common.{◌≡◌, ◌≢◌, ℕ, ◌+◌, ◌-◌, ◌≤◌, ◌==◌, Bool, cond, eq-eqb, List, [], ◌∷◌}
+use Rattle.std.proofs.Common.{◌++◌, length, map, take, drop, true, false, refl, sym, ap, ◌∙◌, subst}
+use Rattle.std.proofs.Common.{codes, None, append_assoc, arith}
 use Rattle.std.specs.List.{AllZip, AllByRecursion, list_all}
+use Rattle.std.proofs.lemmas.Bool.{ne_eqb}
 use Rattle.std.proofs.lemmas.List.{map-append, length-append}
 use Rattle.std.proofs.Math.Seq.{take-append_seam, drop-append_seam}
 use Rattle.mm_text.specs.Token.{PlainToken, is_printable, tokens_from, HoldsNoDollar}
@@ -12,13 +15,21 @@ use Rattle.mm_text.proofs.InclusionLaws.{pieces-plain}
 use Rattle.mm_text.proofs.AlikeItems.{SamePiece, SameShown, shown_same, pieces_same}
 use Rattle.mm_text.proofs.Dropped.{seen, lines_seen}
 use Rattle.mm_text.proofs.CutTokens.{IsSpaced, Moves, replaced_between}
+use Rattle.mm_text.proofs.OnceLaws.{Rises, rises_earlier, tokens_rise}
 use Rattle.mm_text.proofs.FollowedItems.{IsPlainIn, AllPlainIn, StandsInFile}
 use Rattle.mm_text.proofs.CutShown.{clear_shown}
 use Rattle.mm_text.proofs.Lists.{mapped_zip}
 
--- no place matters
-abbrev pub nowhere : ℕ → ℕ → ℕ
-nowhere file at = 0
+-- places of the file with this number so much further on, and those of other files as they are
+abbrev pub further : ℕ → ℕ → ℕ → ℕ → ℕ
+further number by file at = cond (file == number) (at + by) at
+
+pub further_here : (number by at : ℕ) → further number by number at ≡ at + by
+further_here number by at = ap (λ (b : Bool). cond b (at + by) at) (eq-eqb number number refl)
+
+pub further_elsewhere : (number by file at : ℕ) → file ≢ number → further number by file at ≡ at
+further_elsewhere number by file at other =
+    ap (λ (b : Bool). cond b (at + by) at) (ne_eqb file number other)
 
 -- a token that a proof may have
 abbrev pub IsProofToken : PlainToken → Type 0
@@ -77,18 +88,43 @@ plain_append number (t ∷ tokens) others h k = (h.0, plain_append number tokens
 
 -- ---- tokens that stand elsewhere
 
-nowhere_twice : (line : ℕ → ℕ → ℕ) (tokens : List PlainToken) → map (token_on nowhere) (map (token_on line) tokens) ≡ map (token_on nowhere) tokens
-nowhere_twice line [] = refl
-nowhere_twice line (t ∷ tokens) = ap (λ (l : List PlainToken). token_on nowhere t ∷ l) (nowhere_twice line tokens)
+-- behind a token
+rises_behind : (file n : ℕ) (before : List PlainToken) (t : PlainToken) (after : List PlainToken)
+    → Rises file n (before ++ t ∷ after) → Rises file (t.at + 1) after
+rises_behind file n [] t after r = r.2
+rises_behind file n (u ∷ before) t after r = rises_behind file (u.at + 1) before t after r.2
 
-moved_pieces : (number : ℕ) (line : ℕ → ℕ → ℕ) (tokens : List PlainToken)
-    → AllZip (SamePiece nowhere nowhere) (pieces number Outside (without_comments None tokens)) (pieces number Outside (without_comments None (map (token_on line) tokens)))
-moved_pieces number line tokens =
-    let others : List PlainToken = map (token_on line) tokens in
-    let same : map (shown_on nowhere) (without_comments None tokens) ≡ map (shown_on nowhere) (without_comments None others) =
-    lines_seen nowhere None tokens ∙ ap (seen None) (sym (nowhere_twice line tokens)) ∙ sym (lines_seen nowhere None others) in
-    pieces_same nowhere nowhere number Outside Outside (without_comments None tokens) (without_comments None others) tt
-    (mapped_zip (shown_on nowhere) (shown_on nowhere) (SameShown nowhere nowhere) (shown_same nowhere nowhere) (without_comments None tokens) (without_comments None others) same)
+-- tokens from a place on, and the same from another place on, are as far behind these places
+moved_same : (number at to n : ℕ) (tokens : List PlainToken) → at ≤ n → Rises number n tokens
+    → map (token_on (further number to)) tokens
+    ≡ map (token_on (further number at)) (map (token_on (λ file m. to + (m - at))) tokens)
+moved_same number at to n [] from r = refl
+moved_same number at to n (t ∷ tokens) from r =
+    let behind : at ≤ t.at = omega (arith, r.0) in
+    let place : further number to t.file t.at ≡ further number at t.file (to + (t.at - at)) =
+    ap (λ file. further number to file t.at) r.1 ∙ further_here number to t.at ∙ omega arith
+    ∙ sym (further_here number at (to + (t.at - at)))
+    ∙ ap (λ file. further number at file (to + (t.at - at))) (sym r.1) in
+    λ i. record { text = t.text; file = t.file; at = place i }
+    ∷ moved_same number at to (t.at + 1) tokens (omega arith) r.2 i
+
+moved_pieces : (number at to : ℕ) (tokens : List PlainToken) → Rises number at tokens
+    → AllZip (SamePiece (further number to) (further number at))
+    (pieces number Outside (without_comments None tokens))
+    (pieces number Outside
+    (without_comments None (map (token_on (λ file n. to + (n - at))) tokens)))
+moved_pieces number at to tokens r =
+    let one : ℕ → ℕ → ℕ = further number to in
+    let two : ℕ → ℕ → ℕ = further number at in
+    let others : List PlainToken = map (token_on (λ file n. to + (n - at))) tokens in
+    let same : map (shown_on one) (without_comments None tokens)
+    ≡ map (shown_on two) (without_comments None others) =
+    lines_seen one None tokens ∙ ap (seen None) (moved_same number at to at tokens (omega arith) r)
+    ∙ sym (lines_seen two None others) in
+    pieces_same one two number Outside Outside (without_comments None tokens)
+    (without_comments None others) tt
+    (mapped_zip (shown_on one) (shown_on two) (SameShown one two) (shown_same one two)
+    (without_comments None tokens) (without_comments None others) same)
 
 -- ---- the file
 
@@ -100,10 +136,8 @@ pub record ReplacedPieces (number : ℕ) (file : PlainFile) (text : List ℕ) (e
   pub new : let start : ℕ = equals.at + length equals.text in
       pieces_of number (record file { bytes = with_span file.bytes start stop.at text })
       ≡ before ++ (met (equals ∷ (tokens_from number start text ++ record stop { at = start + length text } ∷ [])) ++ others)
-  pub same : AllZip (SamePiece nowhere nowhere) after others
-
-moves_to : (number at to : ℕ) → Moves (λ file n. to + (n - at)) number at to
-moves_to number at to i = omega arith
+  pub same : let end : ℕ = equals.at + length equals.text + length text in
+      AllZip (SamePiece (further number end) (further number stop.at)) after others
 
 pub replaced_pieces : (files : List PlainFile) (text : List ℕ) (equals : PlainToken) (proof : List PlainToken) (stop : PlainToken) → IsProofText text → stop.text ≡ codes "$."
     → (s : StandsInFile files equals (proof ++ stop ∷ [])) → ReplacedPieces s.number s.place.file text equals proof stop
@@ -120,13 +154,15 @@ replaced_pieces files text equals proof stop is_text sign s =
     let all : tokens_from number 0 file.bytes ≡ one.before ++ equals ∷ (two.before ++ stop ∷ two.after) = one.whole ∙ ap (λ (l : List PlainToken). one.before ++ equals ∷ l) two.whole in
     let b = replaced_between number file.bytes text one.before equals two.before stop two.after all is_text.spaced in
     let start : ℕ = equals.at + length equals.text in
-    let line : ℕ → ℕ → ℕ = λ f n. length b.front + length text + (n - stop.at) in
+    let line : ℕ → ℕ → ℕ = λ f n. start + length text + (n - stop.at) in
+    let moves : Moves line number stop.at (length b.front + length text) =
+    λ i. omega (arith, b.start) in
     let put : List PlainToken = tokens_from number (length b.front) text in
     let moved : PlainToken = token_on line stop in
     let later : List PlainToken = map (token_on line) two.after in
     let bytes : with_span file.bytes start stop.at text ≡ b.front ++ (text ++ b.back) = cut file.bytes b.front b.within b.back text start stop.at b.whole b.start b.stop in
     let told : without_comments None (tokens_from number 0 (b.front ++ (text ++ b.back))) ≡ map Clear r.tokens ++ (map Clear (equals ∷ (put ++ moved ∷ [])) ++ without_comments None later) =
-    ap (without_comments None) (b.tokens line (moves_to number stop.at (length b.front + length text)))
+    ap (without_comments None) (b.tokens line moves)
     ∙ one.others (put ++ moved ∷ later)
     ∙ ap (λ (l : List Shown). map Clear r.tokens ++ Clear equals ∷ l)
     (all_clear put (moved ∷ later) (is_text.tokens number (length b.front)) ∙ ap (λ (l : List Shown). map Clear put ++ l) (clear_stop moved later sign)
@@ -135,11 +171,17 @@ replaced_pieces files text equals proof stop is_text sign s =
     ap (λ (l : List Shown). pieces number Outside (l ++ more)) (sym r.clear) ∙ r.before more in
     let plain : AllPlainIn number (equals ∷ (put ++ moved ∷ [])) =
     (s.plain.0, plain_append number put (moved ∷ []) (all_plain number put (is_text.tokens number (length b.front))) (plain_stop number moved sign, tt)) in
-    let place : line stop.file stop.at ≡ start + length text = omega (arith, b.start) in
+    let place : line stop.file stop.at ≡ start + length text = omega arith in
     let found : pieces_of number (record file { bytes = with_span file.bytes start stop.at text }) ≡ r.front ++ (met (equals ∷ (put ++ moved ∷ [])) ++ pieces number Outside (without_comments None later)) =
     ap (λ (l : List ℕ). pieces number Outside (without_comments None (tokens_from number 0 l))) bytes
     ∙ ap (pieces number Outside) told ∙ reach (map Clear (equals ∷ (put ++ moved ∷ [])) ++ without_comments None later)
     ∙ ap (λ (l : List Piece). r.front ++ l) (pieces_met number (equals ∷ (put ++ moved ∷ [])) (without_comments None later) plain) in
+    let rise = tokens_rise number 0 file.bytes in
+    let behind : Rises number stop.at two.after =
+    rises_earlier number stop.at (stop.at + 1) two.after (omega arith)
+    (rises_behind number (equals.at + 1) two.before stop two.after
+    (rises_behind number 0 one.before equals (two.before ++ stop ∷ two.after)
+    (subst (Rises number 0) all rise))) in
     record {
       before = r.front;
       after = pieces number Outside s.rest;
@@ -149,7 +191,10 @@ replaced_pieces files text equals proof stop is_text sign s =
       new = found
           ∙ ap (λ (n : ℕ). r.front ++ (met (equals ∷ (put ++ record stop { at = n } ∷ [])) ++ pieces number Outside (without_comments None later))) place
           ∙ ap (λ (n : ℕ). r.front ++ (met (equals ∷ (tokens_from number n text ++ record stop { at = start + length text } ∷ [])) ++ pieces number Outside (without_comments None later))) (sym b.start);
-      same = subst (λ (l : List Shown). AllZip (SamePiece nowhere nowhere) (pieces number Outside l) (pieces number Outside (without_comments None later))) (sym two.later) (moved_pieces number line two.after);
+      same = subst (λ (l : List Shown).
+          AllZip (SamePiece (further number (start + length text)) (further number stop.at))
+          (pieces number Outside l) (pieces number Outside (without_comments None later)))
+          (sym two.later) (moved_pieces number stop.at (start + length text) two.after behind);
     }
   where
     cut : (bytes front within back text : List ℕ) (start stop : ℕ) → bytes ≡ front ++ (within ++ back) → start ≡ length front → stop ≡ length front + length within

@@ -6,10 +6,11 @@ use Rattle.std.proofs.lemmas.List.Sums.{sum_by-append, sum_by-cons}
 use Rattle.std.proofs.lemmas.Option.{same_Some}
 use Rattle.mm_text.specs.Token.{PlainToken, tokens_from, HoldsNoDollar}
 use Rattle.mm_text.specs.Files.{PlainFile}
-use Rattle.mm_text.specs.Statement.{PlainStatement, AreSymbols}
-use Rattle.mm_text.specs.Items.{Item, Plain, Clear, Shown, Piece, Met, plain_tokens, without_comments, pieces_of, items}
+use Rattle.mm_text.specs.Statement.{PlainStatement, AreSymbols, SpellsAll}
+use Rattle.mm_text.specs.Items.{Item, Plain, Wrong, Inclusion, End, Clear, Shown, Piece, Met}
+use Rattle.mm_text.specs.Items.{plain_tokens, without_comments, pieces_of, items}
 use Rattle.mm_text.specs.Reading.{Reads}
-use Rattle.mm_text.specs.Alike.{statement_on}
+use Rattle.mm_text.specs.Alike.{token_on, item_on, statement_on}
 use Rattle.mm_text.proofs.ItemFronts.{plain_tokens-append}
 use Rattle.mm_text.proofs.Weights.{weigh_pieces, weigh_pieces-append}
 use Rattle.mm_text.proofs.TokenWeights.{weight_of, file_weight}
@@ -17,11 +18,13 @@ use Rattle.mm_text.proofs.OnceLaws.{token_weight, one_token, tokens_rise, files_
 use Rattle.mm_text.proofs.CutTokens.{AllFrom, all_from}
 use Rattle.mm_text.proofs.CutShown.{clear_shown}
 use Rattle.mm_text.proofs.FollowedItems.{StandsInFile, run_stands}
-use Rattle.mm_text.proofs.ReplacedPieces.{nowhere, met, IsProofText, IsProofToken, with_span, replaced_pieces}
+use Rattle.mm_text.proofs.ReplacedPieces.{further, met, IsProofText, IsProofToken, with_span}
+use Rattle.mm_text.proofs.ReplacedPieces.{replaced_pieces}
 use Rattle.mm_text.proofs.AlteredItems.{SameItem, Alter, SameOrAlter}
 use Rattle.mm_text.proofs.ReplacedItems.{with_file, replaced_items, set_there}
-use Rattle.mm_text.proofs.ReplacedReading.{ProofAt, read_so}
-use Rattle.mm_text.proofs.Lists.{cons_parts, two_cuts}
+use Rattle.mm_text.proofs.ReplacedReading.{nowhere, ProofAt, read_so}
+use Rattle.mm_text.proofs.AlikeFronts.{plain_tokens_alike}
+use Rattle.mm_text.proofs.Lists.{cons_parts, two_cuts, zip_mapped, zip_weaker}
 
 -- ---- the file of a token
 
@@ -102,9 +105,12 @@ no_stop t h e = let dollar : true ≡ false = sym (ap (list_any (λ b. b == 36))
 plain_piece : (t u : PlainToken) → ◌≡◌ {A = Piece} (Met (Plain t)) (Met (Plain u)) → t ≡ u
 plain_piece t u e = cc
 
-same_run : (proof other : List PlainToken) (stop last : PlainToken) (x y : List Piece) → AreSymbols proof → AreSymbols other → stop.text ≡ codes "$." → last.text ≡ codes "$."
-    → met (other ++ last ∷ []) ++ x ≡ met (proof ++ stop ∷ []) ++ y → other ++ last ∷ [] ≡ proof ++ stop ∷ []
-same_run [] [] stop last x y h k s l e = ap (λ (t : PlainToken). t ∷ []) (plain_piece last stop (cons_parts (Met (Plain last)) (Met (Plain stop)) x y e).0)
+same_run : (proof other : List PlainToken) (stop last : PlainToken) (x y : List Piece)
+    → AreSymbols proof → AreSymbols other → stop.text ≡ codes "$." → last.text ≡ codes "$."
+    → met (other ++ last ∷ []) ++ x ≡ met (proof ++ stop ∷ []) ++ y
+    → (other ≡ proof) × (last ≡ stop)
+same_run [] [] stop last x y h k s l e =
+    (refl, plain_piece last stop (cons_parts (Met (Plain last)) (Met (Plain stop)) x y e).0)
 same_run [] (q ∷ other) stop last x y h k s l e =
     let same = plain_piece q stop (cons_parts (Met (Plain q)) (Met (Plain stop)) (met (other ++ last ∷ []) ++ x) y e).0 in
     absurd (no_stop q k.0 (ap (λ (t : PlainToken). t.text) same ∙ s))
@@ -113,7 +119,8 @@ same_run (p ∷ proof) [] stop last x y h k s l e =
     absurd (no_stop p h.0 (ap (λ (t : PlainToken). t.text) (sym same) ∙ l))
 same_run (p ∷ proof) (q ∷ other) stop last x y h k s l e =
     let parts = cons_parts (Met (Plain q)) (Met (Plain p)) (met (other ++ last ∷ []) ++ x) (met (proof ++ stop ∷ []) ++ y) e in
-    ap (λ (t : PlainToken). t ∷ (other ++ last ∷ [])) (plain_piece q p parts.0) ∙ ap (λ (l : List PlainToken). p ∷ l) (same_run proof other stop last x y h.1 k.1 s l parts.1)
+    let rest = same_run proof other stop last x y h.1 k.1 s l parts.1 in
+    (λ i. plain_piece q p parts.0 i ∷ rest.0 i, rest.1)
 
 are_symbols : (tokens : List PlainToken) → AllByRecursion IsProofToken tokens → AreSymbols tokens
 are_symbols [] h = tt
@@ -123,13 +130,24 @@ cancelled : (xs ys zs : List Item) → xs ++ ys ≡ xs ++ zs → ys ≡ zs
 cancelled [] ys zs e = e
 cancelled (x ∷ xs) ys zs e = cancelled xs ys zs (cons_parts x x (xs ++ ys) (xs ++ zs) e).1
 
-same_items : (its : List Item) → AllZip SameItem its its
-same_items [] = tt
-same_items (i ∷ its) = (refl, same_items its)
+same_items : (h j : ℕ → ℕ → ℕ) → h ≡ j → (its : List Item) → AllZip (SameItem h j) its its
+same_items h j e [] = tt
+same_items h j e (i ∷ its) = (ap (λ (l : ℕ → ℕ → ℕ). item_on l i) e, same_items h j e its)
+
+-- items that two functions of places tell alike are the same but for places
+same_nowhere : (h j : ℕ → ℕ → ℕ) (a b : Item) → SameItem h j a b → SameItem nowhere nowhere a b
+same_nowhere h j a b e = sym (twice h a) ∙ ap (item_on nowhere) e ∙ twice j b
+  where
+    twice : (l : ℕ → ℕ → ℕ) (i : Item) → item_on nowhere (item_on l i) ≡ item_on nowhere i
+    twice l (Plain t) = refl
+    twice l (Wrong rule t) = refl
+    twice l (Inclusion t) = refl
+    twice l (End file) = refl
 
 -- ---- the law
 
--- the files with another proof of the statement are read as the same statements, but for that proof, and but for places after it
+-- the files with another proof of the statement are read as the same statements, but for that
+-- proof, and but for places after it; the tokens there stand as far behind it as before
 pub record IsReadBut (files : List PlainFile) (before : List PlainStatement) (s : PlainStatement) (after : List PlainStatement) (text : List ℕ) (a : ProofAt (items files) before s after) : Type 0 where
   pub number : ℕ
   pub own_home : a.ends.equals.file ≡ number
@@ -140,6 +158,10 @@ pub record IsReadBut (files : List PlainFile) (before : List PlainStatement) (s 
   pub is : own ≡ record s { proof = tokens_from number s.span.0 text; span = (s.span.0, s.span.0 + length text) }
   pub reads : Reads (with_file files number (record file { bytes = with_span file.bytes s.span.0 s.span.1 text })) (before ++ own ∷ later) None
   pub same : map (statement_on nowhere) after ≡ map (statement_on nowhere) later
+  pub rest : List PlainToken
+  pub spelled : SpellsAll rest later
+  pub alike : map (token_on (further number (s.span.0 + length text))) a.parts.back
+      ≡ map (token_on (further number s.span.1)) rest
 
 module _ (files : List PlainFile) (before : List PlainStatement) (s : PlainStatement) (after : List PlainStatement) (text : List ℕ) (is_text : IsProofText text) (a : ProofAt (items files) before s after) where
   abbrev pub stands : StandsInFile files a.ends.equals (s.proof ++ a.ends.stop ∷ [])
@@ -160,17 +182,27 @@ module _ (files : List PlainFile) (before : List PlainStatement) (s : PlainState
   abbrev others : List PlainFile
   others = with_file files stands.number changed
 
+  -- the places after the proof, so much further on
+  abbrev one : ℕ → ℕ → ℕ
+  one = further stands.number (start + length text)
+
+  abbrev other : ℕ → ℕ → ℕ
+  other = further stands.number a.ends.stop.at
+
   abbrev Altered : Type 0
-  Altered = (rest : List Item) × AllZip SameItem a.back rest × (items others ≡ a.front ++ (map Plain (a.ends.equals ∷ (put ++ last ∷ [])) ++ rest))
+  Altered =
+      (rest : List Item) × AllZip (SameItem one other) a.back rest
+      × (items others ≡ a.front ++ (map Plain (a.ends.equals ∷ (put ++ last ∷ [])) ++ rest))
 
   -- where the items differ
-  where_altered : Alter (a.ends.equals ∷ (s.proof ++ a.ends.stop ∷ [])) (a.ends.equals ∷ (put ++ last ∷ [])) (items files) (items others) → Altered
+  where_altered : Alter one other (a.ends.equals ∷ (s.proof ++ a.ends.stop ∷ []))
+      (a.ends.equals ∷ (put ++ last ∷ [])) (items files) (items others) → Altered
   where_altered x =
       let own : List Item = map Plain (s.proof ++ a.ends.stop ∷ []) in
       let (front, tail) = item_cut files a.ends.equals a.front (own ++ a.back) x.front (own ++ x.old) a.whole x.here in
       let back : a.back ≡ x.old = cancelled own a.back x.old tail in (
         x.new,
-        subst (λ (l : List Item). AllZip SameItem l x.new) (sym back) x.same,
+        subst (λ (l : List Item). AllZip (SameItem one other) l x.new) (sym back) x.same,
         x.there ∙ ap (λ (l : List Item). l ++ (map Plain (a.ends.equals ∷ (put ++ last ∷ [])) ++ x.new)) (sym front),
       )
 
@@ -189,14 +221,16 @@ module _ (files : List PlainFile) (before : List PlainStatement) (s : PlainState
       let tail = one_cut stands.number changed a.ends.equals new.before (met (put ++ last ∷ []) ++ new.others) old.before (met (s.proof ++ a.ends.stop ∷ []) ++ old.after) new.new known in
       let run = same_run s.proof put a.ends.stop last new.others old.after a.ends.proof (are_symbols put (is_text.tokens stands.number start)) a.ends.end a.ends.end tail in (
         a.back,
-        same_items a.back,
-        told ∙ ap (λ (l : List PlainToken). a.front ++ (map Plain (a.ends.equals ∷ l) ++ a.back)) (sym run),
+        same_items one other (ap (λ (t : PlainToken). further stands.number t.at) run.1) a.back,
+        told ∙ (λ i. a.front
+            ++ (map Plain (a.ends.equals ∷ (sym run.0 i ++ sym run.1 i ∷ [])) ++ a.back)),
       )
 
   altered : Altered
   altered = go (replaced_items text a.ends.equals s.proof a.ends.stop is_text a.ends.end files stands)
     where
-      go : SameOrAlter (a.ends.equals ∷ (s.proof ++ a.ends.stop ∷ [])) (a.ends.equals ∷ (put ++ last ∷ [])) (items files) (items others) → Altered
+      go : SameOrAlter one other (a.ends.equals ∷ (s.proof ++ a.ends.stop ∷ []))
+          (a.ends.equals ∷ (put ++ last ∷ [])) (items files) (items others) → Altered
       go (inl e) = where_same e
       go (inr x) = where_altered x
 
@@ -207,7 +241,18 @@ replaced_proofs_are_read files before s after text reads a is_text =
     let tokens : List PlainToken = tokens_from st.number from text in
     let stop : PlainToken = record a.ends.stop { at = from + length text } in
     let (rest, same, e) = altered files before s after text is_text a in
-    let (later, read, more) = read_so (items files) before s after reads a (others files before s after text is_text a) tokens stop rest (are_symbols tokens (is_text.tokens st.number from)) a.ends.end same e in
+    let one : ℕ → ℕ → ℕ = further st.number (from + length text) in
+    let other : ℕ → ℕ → ℕ = further st.number a.ends.stop.at in
+    let placeless : AllZip (SameItem nowhere nowhere) a.back rest =
+    zip_weaker (SameItem one other) (SameItem nowhere nowhere) (same_nowhere one other) a.back rest
+    same in
+    let (later, read, spelled, more) =
+    read_so (items files) before s after reads a (others files before s after text is_text a) tokens
+    stop rest (are_symbols tokens (is_text.tokens st.number from)) a.ends.end placeless e in
+    let alike : map (token_on one) a.parts.back ≡ map (token_on other) (plain_tokens rest) =
+    ap (map (token_on one)) (sym a.left)
+    ∙ plain_tokens_alike one other a.back rest
+    (zip_mapped (item_on one) (item_on other) a.back rest same) in
     let two : from ≡ a.ends.equals.at + 2 = ap (λ (l : List ℕ). a.ends.equals.at + length l) a.ends.sign in
     let begin : from ≡ s.span.0 = two ∙ ap (λ (x : ℕ × ℕ). x.0) (sym a.ends.span) in
     let end : a.ends.stop.at ≡ s.span.1 = ap (λ (x : ℕ × ℕ). x.1) (sym a.ends.span) in
@@ -222,4 +267,10 @@ replaced_proofs_are_read files before s after text reads a is_text =
       is = (λ i. record s { proof = tokens_from st.number (begin i) text; span = ((sym two ∙ begin) i, begin i + length text) });
       reads = subst (λ (x : ℕ × ℕ). Reads (with_file files st.number (record st.place.file { bytes = with_span st.place.file.bytes x.0 x.1 text })) (before ++ own ∷ later) None) (λ i. (begin i, end i)) read;
       same = more;
+      rest = plain_tokens rest;
+      spelled = spelled;
+      alike = subst (λ (x : ℕ × ℕ).
+          map (token_on (further st.number (x.0 + length text))) a.parts.back
+          ≡ map (token_on (further st.number x.1)) (plain_tokens rest))
+          (λ i. (begin i, end i)) alike;
     }

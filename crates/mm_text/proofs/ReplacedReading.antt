@@ -1,14 +1,15 @@
 -- The reading of items in which a statement has another proof.
-use Rattle.std.proofs.Common.{◌≡◌, ◌+◌, List, [], ◌∷◌, ◌++◌, length, map, refl, sym, ap, ◌∙◌, subst, codes, Option, None, inr, append_assoc, append-nil}
+use Rattle.std.proofs.Common.{◌≡◌, ℕ, ◌+◌, List, [], ◌∷◌, ◌++◌, length, map, refl, sym, ap, ◌∙◌}
+use Rattle.std.proofs.Common.{subst, codes, None, inr, append_assoc, append-nil}
 use Rattle.std.specs.List.{AllZip}
-use Rattle.std.proofs.lemmas.List.{map-append}
+use Rattle.std.proofs.lemmas.List.{map-append, append_cancel_left, append_cancel_right}
 use Rattle.mm_text.specs.declared.statement.Kind.{Kind}
 use Rattle.mm_text.specs.declared.statement.Kind.TheVariants.{Provable}
 use Rattle.mm_text.specs.Token.{PlainToken}
 use Rattle.mm_text.specs.Files.{PlainFile}
 use Rattle.mm_text.specs.Statement.{PlainStatement, AreSymbols, IsHead, FitsCount, IsTail, EndsInProof, Spells, SpellsAll}
 use Rattle.mm_text.specs.Items.{Item, Plain, Wrong, Inclusion, End, plain_tokens, HoldNoFault, items}
-use Rattle.mm_text.specs.Reading.{PlainFault, Viable, Reads}
+use Rattle.mm_text.specs.Reading.{Viable, Reads}
 use Rattle.mm_text.specs.Alike.{statement_on, token_on, item_on}
 use Rattle.mm_text.specs.Mirror.Reader.{Between, InProof, PlainScope, outermost, PlainReading, with_statement, scope_after_statement, reading_of}
 use Rattle.mm_text.proofs.ItemFronts.{plain_tokens-append, clean_behind}
@@ -20,10 +21,13 @@ use Rattle.mm_text.proofs.StepLaws.{step_proof_token}
 use Rattle.mm_text.proofs.BlockFacts.{scope_of, balanced_front}
 use Rattle.mm_text.proofs.OneReading.{with_statements, front_reading, reads_reading}
 use Rattle.mm_text.proofs.ReaderLaws.{files_reading, reading_reads}
-use Rattle.mm_text.proofs.AlikeFronts.{viable_alike}
-use Rattle.mm_text.proofs.ReplacedPieces.{nowhere}
+use Rattle.mm_text.proofs.AlikeFronts.{viable_alike, statements_alike, plain_tokens_alike}
 use Rattle.mm_text.proofs.AlteredItems.{SameItem}
 use Rattle.mm_text.proofs.Lists.{cons_parts, nil_append, nil_split, zip_mapped}
+
+-- no place matters
+abbrev pub nowhere : ℕ → ℕ → ℕ
+nowhere file at = 0
 
 -- ---- the parts of tokens and items
 
@@ -50,6 +54,24 @@ parts_of tokens (b ∷ before) s after h =
       here = p.here;
       later = p.later;
     }
+
+-- tokens that spell statements, and then others
+pub spells_append : (a b : List PlainToken) (xs ys : List PlainStatement) → SpellsAll a xs
+    → SpellsAll b ys → SpellsAll (a ++ b) (xs ++ ys)
+spells_append a b [] ys h k = subst (λ (l : List PlainToken). SpellsAll (l ++ b) ys) (sym h) k
+spells_append a b (x ∷ xs) ys h k = (
+  h.0,
+  h.1 ++ b,
+  ap (λ (l : List PlainToken). l ++ b) h.2 ∙ append_assoc h.0 h.1 b,
+  h.3,
+  spells_append h.1 b xs ys h.4 k,
+)
+
+-- tokens spell one list of statements
+pub spelled_once : (tokens : List PlainToken) (xs ys : List PlainStatement) → SpellsAll tokens xs
+    → SpellsAll tokens ys → xs ≡ ys
+spelled_once tokens xs ys h k =
+    (runs_parts xs ys Between Between (sym (whole_run tokens xs h) ∙ whole_run tokens ys k)).0
 
 -- a token among those of items is one of them
 pub record TokenAt (its : List Item) (before : List PlainToken) (t : PlainToken) (after : List PlainToken) : Type 0 where
@@ -263,51 +285,110 @@ module _ (its : List Item) (before : List PlainStatement) (s : PlainStatement) (
       ∙ front_reading until (map Plain (proof ++ stop ∷ []) ++ rest) before (stated ++ a.ends.equals ∷ []) (InProof proving) front_viable begun_here
       ∙ ap (with_statements before) (proof_reading (scope_of before) proving proof stop rest h sign)
 
-  -- the same with items after it that are the old ones but for places
+  -- the old proof, and other items after it
+  abbrev before_rest : List Item → List Item
+  before_rest rest = a.front ++ (map Plain (a.ends.equals ∷ (s.proof ++ a.ends.stop ∷ [])) ++ rest)
+
+  -- the tokens of these
+  rest_tokens : (rest : List Item)
+      → plain_tokens (before_rest rest) ≡ (a.parts.front ++ a.parts.own) ++ plain_tokens rest
+  rest_tokens rest =
+      ap plain_tokens (sym (append_assoc a.front own rest)) ∙ plain_tokens-append until_end rest
+      ∙ ap (λ (l : List PlainToken). l ++ plain_tokens rest) same
+    where
+      own : List Item
+      own = map Plain (a.ends.equals ∷ (s.proof ++ a.ends.stop ∷ []))
+
+      until_end : List Item
+      until_end = a.front ++ own
+
+      same : plain_tokens until_end ≡ a.parts.front ++ a.parts.own
+      same =
+          append_cancel_right (plain_tokens until_end) (a.parts.front ++ a.parts.own) a.parts.back
+          (ap (λ (l : List PlainToken). plain_tokens until_end ++ l) (sym a.left)
+          ∙ sym (plain_tokens-append until_end a.back)
+          ∙ ap plain_tokens (append_assoc a.front own a.back ∙ sym a.whole) ∙ a.parts.whole
+          ∙ sym (append_assoc a.parts.front a.parts.own a.parts.back))
+
+  -- what is read after the proof where the items after it are the old ones but for places
   abbrev Later : List Item → Type 0
   Later rest = (others : List PlainStatement)
-      × (reading_of (scope_after_statement (scope_of before)) Between rest ≡ record { statements = others; ending = None })
+      × (reading_of (scope_after_statement (scope_of before)) Between rest
+      ≡ record { statements = others; ending = None })
+      × SpellsAll (plain_tokens rest) others
       × (map (statement_on nowhere) after ≡ map (statement_on nowhere) others)
 
-  later_read : (rest : List Item) → AllZip SameItem a.back rest → Later rest
-  later_read rest z =
-      let own : List Item = map Plain (a.ends.equals ∷ (s.proof ++ a.ends.stop ∷ [])) in
-      let mixed : List Item = a.front ++ (own ++ rest) in
-      let same_rest : map (item_on nowhere) a.back ≡ map (item_on nowhere) rest = zip_mapped (item_on nowhere) (item_on nowhere) a.back rest z in
-      let same_items : map (item_on nowhere) its ≡ map (item_on nowhere) mixed =
-      ap (map (item_on nowhere)) a.whole
-      ∙ map-append (item_on nowhere) a.front (own ++ a.back)
-      ∙ ap (λ (l : List Item). map (item_on nowhere) a.front ++ l) (map-append (item_on nowhere) own a.back ∙ ap (λ (l : List Item). map (item_on nowhere) own ++ l) same_rest ∙ sym (map-append (item_on nowhere) own rest))
-      ∙ sym (map-append (item_on nowhere) a.front (own ++ rest)) in
-      let (same, nothing, viable, spelled, unfinished) = viable_alike nowhere nowhere its mixed (before ++ s ∷ after) [] same_items v in
-      let none : nothing ≡ [] = nil_split (token_on nowhere) (token_on nowhere) nothing unfinished in
-      let read : reading_of outermost Between mixed ≡ record { statements = same; ending = None } = reads_reading mixed same None (subst (Viable mixed same) none viable) in
+  -- with these items after it the statements read are those that their tokens spell
+  rest_read : (rest : List Item) (same others : List PlainStatement)
+      → Viable (before_rest rest) same [] → SpellsAll (plain_tokens rest) others
+      → reading_of (scope_after_statement (scope_of before)) Between rest
+      ≡ record { statements = others; ending = None }
+  rest_read rest same others v told =
+      let mixed : List Item = before_rest rest in
       let r : PlainReading = reading_of (scope_after_statement (scope_of before)) Between rest in
-      let t : PlainStatement = record s { proof = s.proof; span = (a.ends.equals.at + 2, a.ends.stop.at) } in
-      let both : ◌≡◌ {A = PlainReading} (record { statements = before ++ t ∷ r.statements; ending = r.ending }) (record { statements = same; ending = None }) =
-      sym (statements_read before (with_statement t r)) ∙ sym (any_proof s.proof a.ends.stop rest a.ends.proof a.ends.end) ∙ read in
+      let t : PlainStatement = record s { span = (a.ends.equals.at + 2, a.ends.stop.at) } in
+      let read : reading_of outermost Between mixed ≡ record { statements = same; ending = None } =
+      reads_reading mixed same None v in
+      let both : ◌≡◌ {A = PlainReading}
+      (record { statements = before ++ t ∷ r.statements; ending = r.ending })
+      (record { statements = same; ending = None }) =
+      sym (statements_read before (with_statement t r))
+      ∙ sym (any_proof s.proof a.ends.stop rest a.ends.proof a.ends.end) ∙ read in
       let list : before ++ t ∷ r.statements ≡ same = ap (λ (x : PlainReading). x.statements) both in
-      let end : r.ending ≡ None = ap (λ (x : PlainReading). x.ending) both in (
-        r.statements,
-        ap (λ (e : Option PlainFault). record { statements = r.statements; ending = e }) end,
-        behind (statement_on nowhere) before before s t after r.statements refl (spelled ∙ ap (map (statement_on nowhere)) (sym list)),
-      )
-    where
-      behind : (f : PlainStatement → PlainStatement) (xs ys : List PlainStatement) (x y : PlainStatement) (us vs : List PlainStatement) → xs ≡ ys → map f (xs ++ x ∷ us) ≡ map f (ys ++ y ∷ vs) → map f us ≡ map f vs
-      behind f [] [] x y us vs e is = (cons_parts (f x) (f y) (map f us) (map f vs) is).1
-      behind f [] (z ∷ ys) x y us vs e is = absurd cc
-      behind f (z ∷ xs) [] x y us vs e is = absurd cc
-      behind f (z ∷ xs) (w ∷ ys) x y us vs e is = behind f xs ys x y us vs (cons_parts z w xs ys e).1 (cons_parts (f z) (f w) (map f (xs ++ x ∷ us)) (map f (ys ++ y ∷ vs)) is).1
+      let end : r.ending ≡ None = ap (λ (x : PlainReading). x.ending) both in
+      let tokens : plain_tokens mixed ≡ a.parts.front ++ (a.parts.own ++ plain_tokens rest) =
+      rest_tokens rest ∙ append_assoc a.parts.front a.parts.own (plain_tokens rest) in
+      let mine : SpellsAll (plain_tokens mixed) (before ++ s ∷ others) =
+      subst (λ (l : List PlainToken). SpellsAll l (before ++ s ∷ others)) (sym tokens)
+      (spells_append a.parts.front (a.parts.own ++ plain_tokens rest) before (s ∷ others)
+      a.parts.earlier (a.parts.own, plain_tokens rest, refl, a.parts.here, told)) in
+      let theirs : SpellsAll (plain_tokens mixed) same =
+      subst (λ (l : List PlainToken). SpellsAll l same) (sym (v.whole ∙ append-nil v.finished))
+      v.spelled in
+      let once : t ∷ r.statements ≡ s ∷ others =
+      append_cancel_left before (t ∷ r.statements) (s ∷ others)
+      (list ∙ sym (spelled_once (plain_tokens mixed) (before ++ s ∷ others) same mine theirs)) in
+      let is : r.statements ≡ others = (cons_parts t s r.statements others once).1 in
+      λ i. record { statements = is i; ending = end i }
+
+  later_read : (rest : List Item) → AllZip (SameItem nowhere nowhere) a.back rest → Later rest
+  later_read rest z =
+      let h : Item → Item = item_on nowhere in
+      let own : List Item = map Plain (a.ends.equals ∷ (s.proof ++ a.ends.stop ∷ [])) in
+      let mixed : List Item = before_rest rest in
+      let same_rest : map h a.back ≡ map h rest = zip_mapped h h a.back rest z in
+      let same_items : map h its ≡ map h mixed =
+      ap (map h) a.whole
+      ∙ map-append h a.front (own ++ a.back)
+      ∙ ap (λ (l : List Item). map h a.front ++ l)
+      (map-append h own a.back ∙ ap (λ (l : List Item). map h own ++ l) same_rest
+      ∙ sym (map-append h own rest))
+      ∙ sym (map-append h a.front (own ++ rest)) in
+      let (same, nothing, viable, spelled, unfinished) =
+      viable_alike nowhere nowhere its mixed (before ++ s ∷ after) [] same_items v in
+      let none : nothing ≡ [] = nil_split (token_on nowhere) (token_on nowhere) nothing unfinished in
+      let old : SpellsAll (plain_tokens a.back) after =
+      subst (λ (l : List PlainToken). SpellsAll l after) (sym a.left) a.parts.later in
+      let (others, told, alike) =
+      statements_alike nowhere nowhere (plain_tokens a.back) (plain_tokens rest) after
+      (plain_tokens_alike nowhere nowhere a.back rest same_rest) old in
+      (others, rest_read rest same others (subst (Viable mixed same) none viable) told, told, alike)
 
   -- files with these items read so
-  pub read_so : (others : List PlainFile) (proof : List PlainToken) (stop : PlainToken) (rest : List Item) → AreSymbols proof → stop.text ≡ codes "$." → AllZip SameItem a.back rest
+  pub read_so : (others : List PlainFile) (proof : List PlainToken) (stop : PlainToken)
+      (rest : List Item) → AreSymbols proof → stop.text ≡ codes "$."
+      → AllZip (SameItem nowhere nowhere) a.back rest
       → items others ≡ a.front ++ (map Plain (a.ends.equals ∷ (proof ++ stop ∷ [])) ++ rest)
       → (later : List PlainStatement) × Reads others (before ++ record s { proof = proof; span = (a.ends.equals.at + 2, stop.at) } ∷ later) None
+      × SpellsAll (plain_tokens rest) later
       × (map (statement_on nowhere) after ≡ map (statement_on nowhere) later)
   read_so others proof stop rest h sign z e =
-      let (later, read, same) = later_read rest z in
+      let (later, read, told, same) = later_read rest z in
       let o : PlainStatement = record s { proof = proof; span = (a.ends.equals.at + 2, stop.at) } in
       let found : files_reading others ≡ record { statements = before ++ o ∷ later; ending = None } =
       ap (reading_of outermost Between) e ∙ any_proof proof stop rest h sign ∙ ap (λ (r : PlainReading). with_statements before (with_statement o r)) read
       ∙ statements_read before (with_statement o (record { statements = later; ending = None })) in
-      (later, subst (λ (r : PlainReading). Reads others r.statements r.ending) found (reading_reads others), same)
+      let reads =
+      subst (λ (r : PlainReading). Reads others r.statements r.ending) found
+      (reading_reads others) in
+      (later, reads, told, same)

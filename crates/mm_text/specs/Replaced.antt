@@ -1,8 +1,8 @@
 -- Files in which other bytes stand between the `$=` and the `$.` of one statement (the Metamath book,
 -- sections 4.1.1 and 4.2.6).
-use Rattle.std.specs.Prelude.{◌≡◌, ℕ, ◌+◌, ◌≤◌, List, [], ◌∷◌, ◌++◌, map, take, drop, length, true}
-use Rattle.std.specs.Prelude.{Some, None, slice_get, slice_set}
-use Rattle.std.specs.List.{AllByRecursion, list_all}
+use Rattle.std.specs.Prelude.{◌≡◌, ◌≢◌, ℕ, ◌+◌, ◌≤◌, List, [], ◌∷◌, ◌++◌, map, take, drop, length}
+use Rattle.std.specs.Prelude.{true, Some, None, slice_get, slice_set}
+use Rattle.std.specs.List.{AllByRecursion, AllZip, list_all}
 use Rattle.mm_text.specs.declared.statement.Kind.TheVariants.{Provable}
 use Rattle.mm_text.specs.Token.{PlainToken, is_space, is_printable, tokens_from, HoldsNoDollar}
 use Rattle.mm_text.specs.Statement.{PlainStatement}
@@ -43,8 +43,18 @@ with_bytes files number bytes =
 abbrev pub placeless : PlainStatement → PlainStatement
 placeless s = statement_on (λ file at. 0) s
 
--- The others read as the same statements: those before one as they were, that one with the tokens of
--- the text as its proof, and those after it but for places.
+-- How a `$p` is read before and after bytes of the file with a number are replaced: the old ones
+-- ended at one place, those in their stead end at another. Of this file, its proof stands as far
+-- behind them as it did; of another file, it stands where it did.
+pub record IsMoved (number end other_end : ℕ) (s t : PlainStatement) : Type 0 where
+  pub home : s.first.file ≡ t.first.file
+  pub elsewhere : s.first.file ≢ number → s.span ≡ t.span
+  pub start : s.first.file ≡ number → s.span.0 + other_end ≡ t.span.0 + end
+  pub stop : s.first.file ≡ number → s.span.1 + other_end ≡ t.span.1 + end
+
+-- The others read as the same statements: those before one as they were, that one with the tokens
+-- of the text as its proof, and those after it but for places. The text ends elsewhere than the old
+-- proof did, and the proofs after it have moved by as much.
 pub record AreReadBut (others : List PlainFile) (before : List PlainStatement)
     (s : PlainStatement) (after : List PlainStatement) (text : List ℕ) : Type 0 where
   pub later : List PlainStatement
@@ -56,6 +66,8 @@ pub record AreReadBut (others : List PlainFile) (before : List PlainStatement)
       }
       ∷ later) None
   pub same : map placeless after ≡ map placeless later
+  pub moved : AllZip (λ u v. u.kind ≡ Provable
+      → IsMoved s.first.file s.span.1 (s.span.0 + length text) u v) after later
 
 -- the bytes of the statement's proof stand among these, where its span says
 pub record IsProofSpan (s : PlainStatement) (bytes : List ℕ) : Type 0 where

@@ -114,7 +114,8 @@ pub fn proof_spans_follow()
 
 /// A proof may be replaced in the bytes of its file: with other tokens of a proof between its `$=`
 /// and its `$.`, files without a fault are read as the same statements, but for that proof, and but
-/// for the places of what comes after it.
+/// for the places of what comes after it. Later proofs of that file stand as far behind it as they
+/// did, those of other files where they did.
 pub fn replaced_proofs_are_read()
     ensures { ReplacedProofsAreRead }
 {}

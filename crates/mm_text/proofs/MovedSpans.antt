@@ -1,0 +1,180 @@
+-- Where tokens have moved, so have the proofs of the statements that they spell.
+use Rattle.std.proofs.Common.{◌≡◌, ◌≢◌, ℕ, ◌+◌, List, [], ◌∷◌, ◌++◌, length, map, refl, sym}
+use Rattle.std.proofs.Common.{ap, ◌∙◌, subst, append_assoc, append-nil, arith}
+use Rattle.std.specs.List.{AllZip}
+use Rattle.std.proofs.lemmas.List.{length-append}
+use Rattle.mm_text.specs.declared.statement.Kind.{Kind}
+use Rattle.mm_text.specs.declared.statement.Kind.TheVariants.{Provable}
+use Rattle.mm_text.specs.Token.{PlainToken}
+use Rattle.mm_text.specs.Files.{PlainFile}
+use Rattle.mm_text.specs.Statement.{PlainStatement, IsHead, EndsInProof, IsTail, Spells, SpellsAll}
+use Rattle.mm_text.specs.Items.{plain_tokens, items}
+use Rattle.mm_text.specs.Reading.{Viable}
+use Rattle.mm_text.specs.Alike.{token_on, statement_on}
+use Rattle.mm_text.specs.Replaced.{IsMoved}
+use Rattle.mm_text.proofs.AlikeFronts.{statement_alike}
+use Rattle.mm_text.proofs.ReplacedPieces.{further, further_here, further_elsewhere}
+use Rattle.mm_text.proofs.ReplacedReading.{Parts, spells_append, spelled_once}
+use Rattle.mm_text.proofs.StatementHomes.{ends_home}
+use Rattle.mm_text.proofs.Lists.{append_split, cons_parts, nil_split, same_length}
+
+-- ---- the `$=` and the `$.` of a statement
+
+-- what corresponds behind parts that are as long as each other
+behind_alike : {A C : Type 0} (f g : A → C) (a b c d : List A) → length a ≡ length c
+    → map f (a ++ b) ≡ map g (c ++ d) → map f b ≡ map g d
+behind_alike f g [] b [] d long e = e
+behind_alike f g [] b (y ∷ c) d long e = absurd (omega arith)
+behind_alike f g (x ∷ a) b [] d long e = absurd (omega arith)
+behind_alike f g (x ∷ a) b (y ∷ c) d long e =
+    behind_alike f g a b c d (omega arith)
+    (cons_parts (f x) (g y) (map f (a ++ b)) (map g (c ++ d)) e).1
+
+-- before its symbols a `$p` has two tokens
+head_long : (tokens : List PlainToken) (s : PlainStatement) (h : Spells tokens s)
+    → s.kind ≡ Provable → length (h.head ++ s.symbols) ≡ 2 + length s.symbols
+head_long tokens s h p =
+    let head = subst (λ (kind : Kind). IsHead kind h.head) p h.begins in
+    length-append h.head s.symbols
+    ∙ ap (λ (l : List PlainToken). length l + length s.symbols) head.tokens
+
+-- the signs of a statement correspond to those of one to which it corresponds
+signs_alike : (h j : ℕ → ℕ → ℕ) (tokens others : List PlainToken) (s t : PlainStatement)
+    → map (token_on h) tokens ≡ map (token_on j) others → statement_on h s ≡ statement_on j t
+    → (a : Spells tokens s) (b : Spells others t) (k : EndsInProof s a.tail)
+    (l : EndsInProof t b.tail) → s.kind ≡ Provable → t.kind ≡ Provable
+    → (token_on h k.equals ≡ token_on j l.equals) × (token_on h k.stop ≡ token_on j l.stop)
+signs_alike h j tokens others s t e same a b k l p q =
+    let f : PlainToken → PlainToken = token_on h in
+    let g : PlainToken → PlainToken = token_on j in
+    let symbols : length s.symbols ≡ length t.symbols =
+    same_length f g s.symbols t.symbols (ap (λ (x : PlainStatement). x.symbols) same) in
+    let proofs : length s.proof ≡ length t.proof =
+    same_length f g s.proof t.proof (ap (λ (x : PlainStatement). x.proof) same) in
+    let tails : map f a.tail ≡ map g b.tail =
+    behind_alike f g (a.head ++ s.symbols) a.tail (b.head ++ t.symbols) b.tail
+    (head_long tokens s a p ∙ ap (λ (n : ℕ). 2 + n) symbols ∙ sym (head_long others t b q))
+    (ap (map f) (sym a.whole) ∙ e ∙ ap (map g) b.whole) in
+    let (equals, rest) =
+    cons_parts (f k.equals) (g l.equals) (map f (s.proof ++ k.stop ∷ []))
+    (map g (t.proof ++ l.stop ∷ [])) (ap (map f) (sym k.tokens) ∙ tails ∙ ap (map g) l.tokens) in
+    let stops = behind_alike f g s.proof (k.stop ∷ []) t.proof (l.stop ∷ []) proofs rest in
+    (equals, (cons_parts (f k.stop) (g l.stop) [] [] stops).0)
+
+-- ---- where the proof stands
+
+module _ (number end other_end : ℕ) where
+  abbrev was : ℕ → ℕ → ℕ
+  was = further number other_end
+
+  abbrev now : ℕ → ℕ → ℕ
+  now = further number end
+
+  -- a token of the file stands as far behind the end as before
+  place_here : (t u : PlainToken) → token_on was t ≡ token_on now u → t.file ≡ number
+      → t.at + other_end ≡ u.at + end
+  place_here t u e home =
+      let other : u.file ≡ number = ap (λ (x : PlainToken). x.file) (sym e) ∙ home in
+      sym (further_here number other_end t.at) ∙ ap (λ (n : ℕ). was n t.at) (sym home)
+      ∙ ap (λ (x : PlainToken). x.at) e ∙ ap (λ (n : ℕ). now n u.at) other
+      ∙ further_here number end u.at
+
+  -- a token of another file stands where it stood
+  place_elsewhere : (t u : PlainToken) → token_on was t ≡ token_on now u → t.file ≢ number
+      → t.at ≡ u.at
+  place_elsewhere t u e away =
+      let other : u.file ≢ number = λ same. away (ap (λ (x : PlainToken). x.file) e ∙ same) in
+      sym (further_elsewhere number other_end t.file t.at away) ∙ ap (λ (x : PlainToken). x.at) e
+      ∙ further_elsewhere number end u.file u.at other
+
+  -- and so does the proof between two signs
+  moved_by_signs : (s t : PlainStatement) (tail others : List PlainToken) (k : EndsInProof s tail)
+      (l : EndsInProof t others) → token_on was s.first ≡ token_on now t.first
+      → token_on was k.equals ≡ token_on now l.equals → token_on was k.stop ≡ token_on now l.stop
+      → k.equals.file ≡ s.first.file → k.stop.file ≡ s.first.file → IsMoved number end other_end s t
+  moved_by_signs s t tail others k l first equals stop one two = record {
+    home = ap (λ (x : PlainToken). x.file) first;
+    elsewhere = λ away.
+        let begin = place_elsewhere k.equals l.equals equals (λ e. away (sym one ∙ e)) in
+        let last = place_elsewhere k.stop l.stop stop (λ e. away (sym two ∙ e)) in
+        k.span ∙ (λ i. (begin i + 2, last i)) ∙ sym l.span;
+    start = λ here.
+        let begin = place_here k.equals l.equals equals (one ∙ here) in
+        omega (arith, begin, ap (λ (x : ℕ × ℕ). x.0) k.span, ap (λ (x : ℕ × ℕ). x.0) l.span);
+    stop = λ here.
+        let last = place_here k.stop l.stop stop (two ∙ here) in
+        omega (arith, last, ap (λ (x : ℕ × ℕ). x.1) k.span, ap (λ (x : ℕ × ℕ). x.1) l.span);
+  }
+
+  -- ---- statement by statement
+
+  -- a `$p` whose proof has moved so, or another statement
+  abbrev MovesSo : PlainStatement → PlainStatement → Type 0
+  MovesSo s t = s.kind ≡ Provable → IsMoved number end other_end s t
+
+  module _ (files : List PlainFile) (statements : List PlainStatement)
+      (v : Viable (items files) statements []) where
+    abbrev tokens : List PlainToken
+    tokens = plain_tokens (items files)
+
+    statement_moved : (before : List PlainStatement) (s : PlainStatement)
+        (after : List PlainStatement) (p : Parts tokens before s after) (others : List PlainToken)
+        (t : PlainStatement) → Spells others t
+        → map (token_on was) p.own ≡ map (token_on now) others
+        → statement_on was s ≡ statement_on now t → MovesSo s t
+    statement_moved before s after p others t b e same is =
+        let other : t.kind ≡ Provable = ap (λ (x : PlainStatement). x.kind) (sym same) ∙ is in
+        let k : EndsInProof s p.here.tail =
+        subst (λ (kind : Kind). IsTail s kind p.here.tail) is p.here.ends in
+        let l : EndsInProof t b.tail = subst (λ (kind : Kind). IsTail t kind b.tail) other b.ends in
+        let (equals, stop) = signs_alike was now p.own others s t e same p.here b k l is other in
+        let (one, two) = ends_home files statements before after v s p k in
+        moved_by_signs s t p.here.tail b.tail k l (ap (λ (x : PlainStatement). x.first) same) equals
+        stop one two
+
+    statements_moved : (before after : List PlainStatement) (front back others : List PlainToken)
+        → tokens ≡ front ++ back → SpellsAll front before → SpellsAll back after
+        → map (token_on was) back ≡ map (token_on now) others
+        → (later : List PlainStatement) × SpellsAll others later × AllZip MovesSo after later
+    statements_moved before [] front back others whole h k e =
+        let nothing = ap (map (token_on was)) (sym k) ∙ e in
+        ([], nil_split (token_on was) (token_on now) others nothing, tt)
+    statements_moved before (s ∷ after) front back others whole h k e =
+        let (mine, rest, split, fronts, rests) =
+        append_split (token_on was) (token_on now) k.0 k.1 others
+        (ap (map (token_on was)) (sym k.2) ∙ e) in
+        let (t, spelled, same) = statement_alike was now k.0 mine s fronts k.3 in
+        let told : tokens ≡ front ++ (k.0 ++ k.1) =
+        whole ∙ ap (λ (l : List PlainToken). front ++ l) k.2 in
+        let p : Parts tokens before s after = record {
+          front = front;
+          own = k.0;
+          back = k.1;
+          whole = told;
+          earlier = h;
+          here = k.3;
+          later = k.4;
+        } in
+        let passed : SpellsAll (front ++ k.0) (before ++ s ∷ []) =
+        spells_append front k.0 before (s ∷ []) h (k.0, [], sym (append-nil k.0), k.3, refl) in
+        let (later, all, moved) =
+        statements_moved (before ++ s ∷ []) after (front ++ k.0) k.1 rest
+        (told ∙ sym (append_assoc front k.0 k.1)) passed k.4 rests in
+        let own : MovesSo s t = statement_moved before s after p mine t spelled fronts same in
+        (t ∷ later, (mine, rest, split, spelled, all), (own, moved))
+
+    -- the statements behind one, and those that the tokens spell that correspond to theirs
+    pub moved_behind : (before : List PlainStatement) (s : PlainStatement)
+        (after : List PlainStatement) (p : Parts tokens before s after) (others : List PlainToken)
+        (later : List PlainStatement) → map (token_on was) p.back ≡ map (token_on now) others
+        → SpellsAll others later → AllZip MovesSo after later
+    moved_behind before s after p others later e spelled =
+        let whole = p.whole ∙ sym (append_assoc p.front p.own p.back) in
+        let passed : SpellsAll (p.front ++ p.own) (before ++ s ∷ []) =
+        spells_append p.front p.own before (s ∷ []) p.earlier
+        (p.own, [], sym (append-nil p.own), p.here, refl) in
+        let (found, all, moved) =
+        statements_moved (before ++ s ∷ []) after (p.front ++ p.own) p.back others whole passed
+        p.later e in
+        subst (λ (x : List PlainStatement). AllZip MovesSo after x)
+        (spelled_once others found later all spelled) moved
