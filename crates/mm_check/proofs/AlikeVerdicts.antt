@@ -17,8 +17,9 @@ use Rattle.mm_proof.specs.declared.fault.ProofRule.{ProofRule}
 use Rattle.mm_proof.specs.UnderProfile.{IsProvedUnder, IsFaultUnder, IsFrontAllowedUnder}
 use Rattle.mm_proof.specs.UnderProfile.{IsFrontFaultUnder}
 use Rattle.mm_proof.specs.declared.profile.Profile.{Profile}
+use Rattle.mm_proof.specs.Tokens.{is_incomplete}
 use Rattle.mm_check.specs.declared.rule.Rule.{Rule}
-use Rattle.mm_check.specs.Verdict.{Verdict, Load, Refused, Incomplete, Yes, PlainRefusal, HasVerdict, Obeys, AllObey, HasFault, RefusesStatement, RefusesText, AreAccepted, CanBeRead, sentences, proof_of, is_proof, is_incomplete, is_unproved, label_of, unproved_of, proofs_of, refusal_of, text_refusal, text_rule, meaning_rule, proof_rule}
+use Rattle.mm_check.specs.Verdict.{Verdict, Load, Refused, Incomplete, Yes, PlainRefusal, HasVerdict, Obeys, AllObey, HasFault, RefusesStatement, RefusesText, AreAccepted, CanBeRead, sentences, proof_of, is_proof, is_unproved, label_of, unproved_of, proofs_of, refusal_of, text_refusal, text_rule, meaning_rule, proof_rule}
 use Rattle.mm_check.specs.Reply.{text_of, name_of, line_with, refusal_word, code_of}
 use Rattle.mm_check.specs.Alike.{AlikeFilesHaveOneReply}
 use Rattle.mm_text.proofs.Lists.{cons_split, append_split, same_length}

@@ -21,8 +21,9 @@ use Rattle.mm_proof.specs.Proof.{IsProved}
 use Rattle.mm_proof.specs.Used.{IsUsedNumber}
 use Rattle.mm_proof.proofs.SaidMoves.{moves_once}
 use Rattle.mm_proof.proofs.Making.{makes_once}
+use Rattle.mm_proof.specs.Tokens.{is_incomplete}
 use Rattle.mm_check.specs.Conclusion.{Conclusion, ProofUses, numbers_of, labels_in}
-use Rattle.mm_check.specs.Verdict.{sentences, proof_of, is_proof, is_unproved, is_incomplete}
+use Rattle.mm_check.specs.Verdict.{sentences, proof_of, is_proof, is_unproved}
 use Rattle.mm_text.specs.Statement.{is_provable}
 use Rattle.mm_check.specs.Rests.{IsAt, IsNumberWhere, AreInOrder, tree_of, HasTree, Uses, AreUses, RestsOn, IsNamed, IsReport}
 use Rattle.mm_check.specs.Answer.{IsKeptOf}

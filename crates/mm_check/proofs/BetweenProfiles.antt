@@ -11,11 +11,12 @@ use Rattle.mm_proof.specs.declared.profile.Profile.TheVariants.{Strict, Lenient}
 use Rattle.mm_proof.specs.declared.fault.ProofRule.{ProofRule}
 use Rattle.mm_proof.specs.declared.fault.ProofRule.TheVariants as proof
 use Rattle.mm_proof.proofs.BetweenLimits.{only_form}
+use Rattle.mm_proof.specs.Tokens.{is_incomplete}
 use Rattle.mm_check.specs.declared.rule.Rule.TheVariants.{P15, L1}
 use Rattle.mm_check.specs.Verdict.{Verdict, Load, Refused, Incomplete, Yes, PlainRefusal}
 use Rattle.mm_check.specs.Verdict.{HasVerdict, AllObey, IsProofFault}
 use Rattle.mm_check.specs.Verdict.{RefusesStatement, ObeyTheProfile, sentences, proof_of, proofs_of}
-use Rattle.mm_check.specs.Verdict.{unproved_of, is_incomplete, proof_rule}
+use Rattle.mm_check.specs.Verdict.{unproved_of, proof_rule}
 use Rattle.mm_check.specs.Laws.{IsRefusedBy, BetweenProfiles}
 use Rattle.mm_check.proofs.Rereading.{same_reading}
 use Rattle.mm_check.proofs.Unproved.{all_meant, complete_where_none, provable_kind, proof_there}

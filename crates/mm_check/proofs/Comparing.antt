@@ -1,5 +1,5 @@
 -- What is told of a handed text is told of it as a proof of the theorem.
-use Rattle.std.proofs.Common.{◌≡◌, ◌↔◌, ◌⊎◌, ℕ, Bool, true, false, IsTrue, List, take, inl, inr, refl, sym, subst, ◌∙◌}
+use Rattle.std.proofs.Common.{◌≡◌, ◌↔◌, ◌⊎◌, ℕ, Bool, IsTrue, List, take, inl, inr, refl, sym, subst, ◌∙◌}
 use Rattle.mm_text.specs.Statement.{PlainStatement}
 use Rattle.mm_code.specs.Words.{tokens_in}
 use Rattle.mm_frame.specs.Sentence.{Sentence, sentence_of}
@@ -12,7 +12,6 @@ use Rattle.mm_proof.specs.Moves.{Move}
 use Rattle.mm_proof.specs.OneTree.{MakeSameTree}
 use Rattle.mm_proof.specs.Steps.{AreNumberedMoves}
 use Rattle.mm_proof.specs.ReadSteps.{ReadSteps}
-use Rattle.mm_proof.specs.Tokens.{IsIncomplete}
 use Rattle.mm_proof.specs.Parsed.{OfProof}
 use Rattle.mm_proof.specs.Verified.{OfMoves, FailsWith}
 use Rattle.mm_proof.specs.Proof.{IsWithin, Prove}
@@ -20,24 +19,18 @@ use Rattle.mm_proof.specs.Strict.{HasFormOf}
 use Rattle.mm_proof.specs.UnderProfile.{IsProvedUnder}
 use Rattle.mm_check.specs.declared.ask.AskFault.{AskFault}
 use Rattle.mm_check.specs.declared.ask.AskFault.TheVariants as ask
-use Rattle.mm_check.specs.Verdict.{sentences, is_incomplete, proof_rule}
+use Rattle.mm_check.specs.Verdict.{sentences, proof_rule}
 use Rattle.mm_check.specs.Rests.{IsAskFault}
 use Rattle.mm_check.specs.Compared.{IsProofText, IsTextFault, text_fault, IsCompared, IsSameFault}
 use Rattle.mm_check.specs.Mirror.Theorems.{SayWholeSteps, AreProvedSteps, AreStepsOf}
 use Rattle.mm_check.specs.Mirror.Comparisons.{FailsAs, IsUnproved, IsTextRefused, IsComparedWith}
 use Rattle.mm_check.proofs.Asked.{map-take}
-use Rattle.mm_check.proofs.Judging.{incomplete_is}
 use Rattle.mm_check.proofs.Theorems.{of_theorem}
 
 -- the tokens have the form that the profile demands of a proof of the `$p` with this number
 abbrev pub HaveForm : Profile → List Sentence → (id : ℕ) → (tokens : List (List ℕ)) → Type 0
 HaveForm profile st id tokens =
     OfProof st id (λ place s. HasFormOf profile (take place st) s tokens)
-
--- ---- a token with a `?`
-
-pub no_unknown : (tokens : List (List ℕ)) → is_incomplete tokens ≡ false → ¬ (IsIncomplete tokens)
-no_unknown tokens complete h = let no : true ≡ false = sym (incomplete_is tokens h) ∙ complete in cc
 
 -- ---- a fault of the handed proof
 

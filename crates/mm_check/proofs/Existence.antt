@@ -14,7 +14,7 @@ use Rattle.mm_frame.specs.Form.{IsFormedSentence, AllFormed}
 use Rattle.mm_frame.proofs.Uses.{formed_said}
 use Rattle.mm_proof.specs.declared.profile.Profile.{Profile}
 use Rattle.mm_proof.specs.declared.fault.ProofRule.{ProofRule}
-use Rattle.mm_proof.proofs.Decisions.{dec_both, dec_as, dec_some, dec_le, symbol_dec}
+use Rattle.mm_frame.proofs.Decided.{dec_both, dec_as, dec_some, dec_le, symbol_dec}
 use Rattle.mm_proof.proofs.FormDecided.{one_verdict_under_holds, one_front_verdict_under_holds}
 use Rattle.mm_check.specs.declared.rule.Rule.{Rule}
 use Rattle.mm_check.specs.Verdict.{PlainRefusal, Verdict, Load, Refused, Incomplete, Yes, Obeys, AllObey, AreAccepted, CanBeRead, HasFault, HasVerdict, RefusesStatement, sentences, load_rule, meaning_rule, proof_rule, refusal_of, text_refusal, proof_of, proofs_of, unproved_of, is_proof}

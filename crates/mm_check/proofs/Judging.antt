@@ -1,7 +1,6 @@
 -- What is said of the last statement's proof, from what the parser and the verifier say.
-use Rattle.std.proofs.Common.{◌≡◌, ℕ, zero, suc, ◌<◌, ◌≤◌, ◌==◌, List, [], ◌∷◌, ◌++◌, map, take, length, get_or, slice_get, is_some, Contains, Bool, true, false, ◌||◌, Option, Some, option_map, Result, Ok, Err, MatchResult, inl, inr, refl, sym, ap, subst, ◌∙◌, arith}
-use Rattle.std.specs.List.{AllByRecursion, list_any}
-use Rattle.std.proofs.lemmas.Bool.{eqb-true}
+use Rattle.std.proofs.Common.{◌≡◌, ℕ, ◌<◌, ◌≤◌, ◌==◌, List, [], ◌∷◌, ◌++◌, map, take, length, slice_get, is_some, Bool, true, false, ◌||◌, Option, Some, option_map, Result, Ok, Err, MatchResult, inl, inr, refl, sym, ap, subst, ◌∙◌}
+use Rattle.std.proofs.lemmas.Bool.{both_ways, false_from_ne_true}
 use Rattle.std.proofs.Math.Seq.{take-append_seam}
 use Rattle.mm_text.specs.declared.token.Token.{Token}
 use Rattle.mm_text.specs.declared.statement.Kind.{Kind}
@@ -15,7 +14,7 @@ use Rattle.mm_proof.specs.declared.fault.ProofFault.{ProofFault}
 use Rattle.mm_proof.specs.declared.fault.ProofFault.TheVariants as faults
 use Rattle.mm_proof.specs.declared.prover.Proved.{Proved}
 use Rattle.mm_proof.specs.declared.prover.Proved.TheVariants as proved
-use Rattle.mm_proof.specs.Tokens.{IsIncomplete}
+use Rattle.mm_proof.specs.Tokens.{is_incomplete, IsIncomplete}
 use Rattle.mm_proof.specs.Steps.{IsProofNumber}
 use Rattle.mm_proof.specs.Parsed.{OfProof}
 use Rattle.mm_proof.specs.Verified.{TokensProve}
@@ -30,7 +29,7 @@ use Rattle.mm_frame.specs.Rules.{IsMeant}
 use Rattle.mm_check.specs.declared.rule.Rule.{Rule}
 use Rattle.mm_check.specs.declared.fault.CheckFault.{CheckFault}
 use Rattle.mm_check.specs.declared.progress.Progress.{Progress}
-use Rattle.mm_check.specs.Verdict.{Refused, proof_of, is_incomplete, proof_rule, refusal_of}
+use Rattle.mm_check.specs.Verdict.{Refused, proof_of, proof_rule, refusal_of}
 use Rattle.mm_check.specs.Verdict.{IsProofFault}
 use Rattle.mm_check.specs.Mirror.Judged.{IsLastProof, IsJudged, Fails, RefusesProof, RefusesAfter}
 use Rattle.mm_check.proofs.Unproved.{proof_there, unproved_there}
@@ -40,52 +39,6 @@ use Rattle.mm_check.proofs.Unproved.{proof_there, unproved_there}
 pub texts_of : (tokens : List Token) → map (λ (t : Token). t.text.now) tokens ≡ map (λ (t : PlainToken). t.text) (map plain_token tokens)
 texts_of [] = refl
 texts_of (t ∷ tokens) = ap (λ (rest : List (List ℕ)). t.text.now ∷ rest) (texts_of tokens)
-
-pub filled_texts : (tokens : List PlainToken) → AllByRecursion (λ (t : PlainToken). 1 ≤ length t.text) tokens
-    → AllByRecursion (λ (t : List ℕ). 1 ≤ length t) (map (λ (t : PlainToken). t.text) tokens)
-filled_texts [] all = tt
-filled_texts (t ∷ tokens) all = (all.0, filled_texts tokens all.1)
-
--- ## Whether it is incomplete
-
-any_at : {X : Type 0} (p : X → Bool) (xs : List X) (x : X) (i : ℕ) → i < length xs → get_or xs i x ≡ x → p x ≡ true → list_any p xs ≡ true
-any_at p [] x i less e h = absurd (omega arith)
-any_at p (y ∷ ys) x zero less e h = let first : p y ≡ true = ap p e ∙ h in rw first refl
-any_at p (y ∷ ys) x (suc i) less e h = after_any (p y) (list_any p ys) (any_at p ys x i (omega arith) e h)
-  where
-    after_any : (a b : Bool) → b ≡ true → (a || b) ≡ true
-    after_any true b e = refl
-    after_any false b e = e
-
-first_63 : (b : ℕ) (token : List ℕ) → (list_any (λ b. b == 63) token ≡ true → Contains token 63) → (f : Bool) → (b == 63) ≡ f
-    → (f || list_any (λ b. b == 63) token) ≡ true → Contains (b ∷ token) 63
-first_63 b token later true same e = (0, omega arith, eqb-true b 63 same)
-first_63 b token later false same e = let rest = later e in (suc rest.0, let less : rest.0 < length token = rest.1 in omega arith, rest.2)
-
-some_63 : (token : List ℕ) → list_any (λ b. b == 63) token ≡ true → Contains token 63
-some_63 [] e = absurd cc
-some_63 (b ∷ token) e = first_63 b token (some_63 token) (b == 63) refl e
-
-first_unknown : (t : List ℕ) (tokens : List (List ℕ)) → (is_incomplete tokens ≡ true → IsIncomplete tokens) → (f : Bool) → list_any (λ b. b == 63) t ≡ f
-    → (f || is_incomplete tokens) ≡ true → IsIncomplete (t ∷ tokens)
-first_unknown t tokens later true same e = (t, (0, omega arith, refl), some_63 t same)
-first_unknown t tokens later false same e =
-    let rest = later e in
-    (rest.0, (suc rest.1.0, let less : rest.1.0 < length tokens = rest.1.1 in omega arith, rest.1.2), rest.2)
-
-some_unknown : (tokens : List (List ℕ)) → is_incomplete tokens ≡ true → IsIncomplete tokens
-some_unknown [] e = absurd cc
-some_unknown (t ∷ tokens) e = first_unknown t tokens (some_unknown tokens) (list_any (λ b. b == 63) t) refl e
-
-pub incomplete_is : (tokens : List (List ℕ)) → IsIncomplete tokens → is_incomplete tokens ≡ true
-incomplete_is tokens h = any_at (list_any (λ b. b == 63)) tokens h.0 h.1.0 h.1.1 h.1.2 (any_at (λ b. b == 63) h.0 63 h.2.0 h.2.1 h.2.2 refl)
-
-pub complete_is : (tokens : List (List ℕ)) → ¬ (IsIncomplete tokens) → is_incomplete tokens ≡ false
-complete_is tokens h = by_test (is_incomplete tokens) refl
-  where
-    by_test : (b : Bool) → is_incomplete tokens ≡ b → b ≡ false
-    by_test false e = refl
-    by_test true e = absurd (h (some_unknown tokens e))
 
 -- ## The number of the last statement
 
@@ -130,7 +83,7 @@ of_last P statements id s tokens formed last same before e said =
 is_complete : (tokens : List (List ℕ)) (s : PlainStatement) → tokens ≡ proof_of s
     → ¬ (IsIncomplete tokens) → is_incomplete (proof_of s) ≡ false
 is_complete tokens s same none =
-    subst (λ (ts : List (List ℕ)). is_incomplete ts ≡ false) same (complete_is tokens none)
+    subst (λ (ts : List (List ℕ)). is_incomplete ts ≡ false) same (false_from_ne_true _ none)
 
 -- the fault of the tokens, as all of a proof or as what is known of one, is that of the statement
 fails_as : (profile : Profile) (before : List Sentence) (s : PlainStatement)
@@ -144,12 +97,12 @@ fails_as : (profile : Profile) (before : List Sentence) (s : PlainStatement)
 fails_as profile before s tokens rule step provable same fails front_fails true open_one =
     inr (
       unproved_there s provable (ap is_incomplete (sym same) ∙ open_one),
-      front_fails (some_unknown tokens open_one),
+      front_fails open_one,
     )
 fails_as profile before s tokens rule step provable same fails front_fails false complete =
     inl (
       proof_there s provable (ap is_incomplete (sym same) ∙ complete),
-      fails (λ h. let known = incomplete_is tokens h in absurd cc),
+      fails (λ h. both_ways _ complete h),
     )
 
 -- what the prover says of the tokens of the statement with the number, wherever it stands, is said
@@ -176,7 +129,7 @@ pub judged : (profile : Profile) (statements : List Sentence) (id : ℕ) (s : Pl
 judged profile statements id s tokens (Ok proved.Incomplete) used formed last same
     incomplete complete proves forms fails front_fails before e =
     let open_one = incomplete refl in (
-      subst (λ (ts : List (List ℕ)). is_incomplete ts ≡ true) same (incomplete_is tokens open_one.0),
+      subst (λ (ts : List (List ℕ)). is_incomplete ts ≡ true) same open_one.0,
       of_last (IsFrontAllowedUnder profile) statements id s tokens formed last same before e
           open_one.1,
     )

@@ -8,8 +8,9 @@ use Rattle.mm_frame.specs.Sentence.{Sentence, SomeSentence, IsStated, IsUse, Dec
 use Rattle.mm_frame.specs.Active.{IsOpen, SomeActive, IsConstant, IsVariable, IsActiveSymbol, IsTyped}
 use Rattle.mm_frame.specs.Rules.{Breaks, FirstBroken, IsMeant, ItsLabel, ItsFirst, ItsTyping, rank}
 use Rattle.mm_frame.proofs.Decided.{constant_dec, typed_dec}
-use Rattle.mm_proof.proofs.Decisions.{dec_both, dec_as, dec_some, dec_le, kind_dec, symbol_dec, contains_dec, open_dec}
-use Rattle.mm_proof.proofs.Searches.{dec_or, dec_not, dec_member, label_dec, sentence_dec, some_active_dec, variable_dec}
+use Rattle.mm_frame.proofs.Decided.{dec_both, dec_as, dec_some, dec_le, kind_dec, symbol_dec, contains_dec, open_dec}
+use Rattle.mm_frame.proofs.Decided.{dec_or, dec_not, label_dec, sentence_dec, some_active_dec, variable_dec}
+use Rattle.mm_proof.proofs.Searches.{dec_member}
 use Rattle.mm_check.proofs.Ranks.{ranked, ranked-rank, rank-ranked, compared}
 
 -- ## What the rules ask

@@ -4,7 +4,8 @@ use Rattle.std.proofs.lemmas.Option.{same_Some, none-some, get_or_from_slice_get
 use Rattle.std.specs.List.{slice_range}
 use Rattle.std.proofs.lemmas.List.{map-append}
 use Rattle.mm_frame.specs.declared.number.LabelId.{LabelId}
-use Rattle.mm_proof.proofs.Parts.{part-append, part-new}
+use Rattle.mm_frame.proofs.Entries.{slice_left}
+use Rattle.mm_proof.proofs.Parts.{part-new}
 use Rattle.mm_check.specs.declared.kept.KeptProof.{KeptProof}
 use Rattle.mm_check.specs.Conclusion.{ProofUses}
 use Rattle.mm_check.specs.Mirror.Ordered.{ordered}
@@ -16,7 +17,7 @@ uses_grow : (xs ys : List LabelId) (proofs : List KeptProof) → AreRangesWithin
 uses_grow xs ys [] h = refl
 uses_grow xs ys (p ∷ proofs) h =
     let range : slice_range (xs ++ ys) p.start p.end ≡ slice_range xs p.start p.end =
-    part-append xs ys p.start p.end (h 0 p refl).order (h 0 p refl).within in
+    slice_left xs ys p.start p.end (h 0 p refl).order (h 0 p refl).within in
     let first : uses_at (xs ++ ys) p ≡ uses_at xs p = ap (λ (ls : List LabelId). record { number = p.id.0; used = ordered (ids_in ls) }) range in
     let others : uses_in (xs ++ ys) proofs ≡ uses_in xs proofs = uses_grow xs ys proofs (λ i q at. h (suc i) q at) in
     cc

@@ -8,24 +8,24 @@ use Rattle.mm_text.specs.Reading.{PlainFault, Reads}
 use Rattle.mm_text.specs.Remaining.{Remaining}
 use Rattle.mm_text.proofs.FormedLaws.{readings_fit}
 use Rattle.mm_text.proofs.ReaderLaws.{each_has_one_reading}
+use Rattle.mm_text.proofs.Lists.{split_at}
 use Rattle.mm_frame.specs.Sentence.{Sentence, sentence_of, IsLabelled}
 use Rattle.mm_frame.specs.Rules.{AllMeant}
-use Rattle.mm_frame.proofs.Meant.{parts_at, one_label}
+use Rattle.mm_frame.proofs.Meant.{one_label}
 use Rattle.mm_proof.specs.declared.profile.Profile.{Profile}
 use Rattle.mm_proof.specs.UnderProfile.{IsProvedUnder}
 use Rattle.mm_check.specs.Conclusion.{Conclusion}
-use Rattle.mm_check.specs.Verdict.{AllObey, AreAccepted, CanBeRead, sentences, proof_of, is_proof, is_incomplete}
+use Rattle.mm_check.specs.Verdict.{AllObey, AreAccepted, CanBeRead, sentences, proof_of, is_proof}
 use Rattle.mm_text.specs.Statement.{is_provable}
 use Rattle.mm_check.specs.Answer.{IsKeptOf}
 use Rattle.mm_check.specs.Mirror.Judged.{TakesNext}
 use Rattle.mm_check.specs.Mirror.Marks.{IsKeptFrom}
 use Rattle.mm_check.specs.Rests.{IsAt, IsNamed}
 use Rattle.mm_proof.specs.Moves.{Move}
-use Rattle.mm_proof.specs.Tokens.{SayMoves}
+use Rattle.mm_proof.specs.Tokens.{is_incomplete, SayMoves}
 use Rattle.mm_proof.specs.Steps.{IsProofNumber}
 use Rattle.mm_check.specs.Shown.{Stands}
 use Rattle.mm_check.specs.Mirror.Theorems.{IsStillLeft, IsProofOf, SayStepsOf, AreStepsOf}
-use Rattle.mm_check.proofs.Judging.{incomplete_is}
 use Rattle.mm_check.proofs.OnTheWay.{within_limit}
 use Rattle.mm_check.proofs.Asked.{map-take}
 use Rattle.mm_check.proofs.Unproved.{provable_kind}
@@ -104,7 +104,7 @@ complete_test false b e f = cc
 pub proof_stands : (profile : Profile) (statements : List PlainStatement) (id place : ℕ) (s : PlainStatement) → AllObey profile statements → IsAt statements id place s → is_proof s ≡ true
     → IsProofOf profile (sentences statements) id (proof_of s)
 proof_stands profile statements id place s obeyed at complete =
-    let parted : statements ≡ take place statements ++ s ∷ drop (suc place) statements = parts_at statements place s at.there in
+    let parted : statements ≡ take place statements ++ s ∷ drop (suc place) statements = split_at statements place s at.there in
     let proved : IsProvedUnder profile (sentences (take place statements)) (sentence_of s)
     (proof_of s) =
     (obeyed (take place statements) (drop (suc place) statements) s parted).proved complete in
@@ -112,7 +112,7 @@ proof_stands profile statements id place s obeyed at complete =
       place = place;
       s = sentence_of s;
       number = record { numbered = at.numbered; provable = provable_kind s.kind (not (is_incomplete (proof_of s))) complete };
-      complete = λ h. complete_test (is_provable s.kind) (is_incomplete (proof_of s)) complete (incomplete_is (proof_of s) h);
+      complete = λ h. complete_test (is_provable s.kind) (is_incomplete (proof_of s)) complete h;
       proved = subst (λ (ss : List Sentence).
           IsProvedUnder profile ss (sentence_of s) (proof_of s)) (map-take place statements) proved;
     }

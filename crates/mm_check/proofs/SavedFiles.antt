@@ -8,15 +8,14 @@ use Rattle.mm_text.specs.Token.{tokens_from}
 use Rattle.mm_text.specs.Statement.{PlainStatement, is_provable}
 use Rattle.mm_text.specs.Files.{most_bytes, PlainFile, total_bytes, BreaksLoad}
 use Rattle.mm_text.specs.Replaced.{placeless, with_bytes}
-use Rattle.mm_text.proofs.Lists.{same_length}
+use Rattle.mm_text.proofs.Lists.{same_length, split_at}
 use Rattle.mm_code.proofs.TextTokens.{texts_in}
 use Rattle.mm_frame.specs.Sentence.{Sentence, sentence_of}
 use Rattle.mm_frame.specs.Rules.{AllMeant}
 use Rattle.mm_frame.proofs.Counts.{count_append}
-use Rattle.mm_frame.proofs.Meant.{parts_at}
 use Rattle.mm_proof.specs.Tree.{Trees, none, tree, AnyExpression}
 use Rattle.mm_proof.specs.Moves.{Move}
-use Rattle.mm_proof.specs.Tokens.{SayMoves}
+use Rattle.mm_proof.specs.Tokens.{is_incomplete, SayMoves}
 use Rattle.mm_proof.specs.OneTree.{MakeTree}
 use Rattle.mm_proof.specs.Proof.{IsProvedWithin, IsProved, IsWithin}
 use Rattle.mm_proof.specs.Strict.{IsStrict, HasFormOf}
@@ -25,7 +24,7 @@ use Rattle.mm_proof.specs.declared.profile.Profile.{Profile}
 use Rattle.mm_proof.specs.declared.profile.Profile.TheVariants.{Strict, Lenient}
 use Rattle.mm_proof.specs.Profiles.{limit_of}
 use Rattle.mm_proof.proofs.SpelledProofs.{IsProofBy}
-use Rattle.mm_check.specs.Verdict.{Verdict, Load, Refused, Incomplete, Yes, HasVerdict, AreAccepted, AllObey, Obeys, CanBeRead, sentences, proof_of, is_proof, is_unproved, is_incomplete, label_of, unproved_of, proofs_of}
+use Rattle.mm_check.specs.Verdict.{Verdict, Load, Refused, Incomplete, Yes, HasVerdict, AreAccepted, AllObey, Obeys, CanBeRead, sentences, proof_of, is_proof, is_unproved, label_of, unproved_of, proofs_of}
 use Rattle.mm_check.specs.Rests.{tree_of}
 use Rattle.mm_check.specs.Saved.{total_with}
 use Rattle.mm_check.proofs.AlikeVerdicts.{moved, obeys_alike, same_sentence, same_proof, same_sentences, same_proofs, same_unproved}
@@ -184,7 +183,7 @@ obeys_at profile before s t after later own same obeyed new place y there =
     let (x, at, near) = near_at before t s later after (sym same) place y there in
     let front : sentences (take place st) ≡ sentences (take place su) = front_told st su place (said_alike before s t after later own same) in
     elim near [
-      | inl both ↦ obeys_alike profile (sentences (take place st)) (sentences (take place su)) x y front (sym both.0) (sym both.1) (obeyed (take place st) (drop (suc place) st) x (parts_at st place x at))
+      | inl both ↦ obeys_alike profile (sentences (take place st)) (sentences (take place su)) x y front (sym both.0) (sym both.1) (obeyed (take place st) (drop (suc place) st) x (split_at st place x at))
       | inr (is, both) ↦
           let here : sentences before ≡ sentences (take place su) = ap sentences (sym (ap (λ (n : ℕ). take n su) is ∙ take-append_seam before (t ∷ later))) in
           subst (λ (u : PlainStatement). Obeys profile (sentences (take place su)) u) (sym both.0) (subst (λ (ss : List Sentence). Obeys profile ss t) here new)

@@ -2,9 +2,11 @@
 use Rattle.std.proofs.Common.{◌≡◌, ℕ, suc, ◌+◌, ◌≤◌, ◌<◌, List, [], ◌∷◌, ◌++◌, map, take, drop, length, slice_get, true, false, Some, None, inl, inr, refl, sym, ap, subst, ◌∙◌, arith, append_assoc, length-append, is_some}
 use Rattle.std.proofs.Math.Seq.{take-append_seam, drop-append_seam}
 use Rattle.std.proofs.lemmas.Option.{same_Some}
-use Rattle.mm_text.specs.Statement.{PlainStatement}
+use Rattle.mm_text.specs.Statement.{PlainStatement, HasForm}
 use Rattle.mm_text.specs.Files.{most_bytes, PlainFile}
 use Rattle.mm_text.specs.Replaced.{placeless, with_span, with_bytes, IsProofSpan, AreReadBut}
+use Rattle.mm_text.proofs.Lists.{all_front, split_at}
+use Rattle.mm_text.proofs.FormedLaws.{readings_are_formed_in_place}
 use Rattle.mm_text.proofs.ReplacedFiles.{replaced_proofs_are_read_holds}
 use Rattle.mm_text.proofs.ReplacedItems.{set_there}
 use Rattle.mm_text.proofs.ProofSpans.{proofs_stand_in_spans_holds}
@@ -13,11 +15,11 @@ use Rattle.mm_code.specs.Letters.{SpellsCodes}
 use Rattle.mm_code.specs.Layout.{CompressedLaidOut}
 use Rattle.mm_code.proofs.OneLayout.{one_text_of_tokens, one_text_of_compressed}
 use Rattle.mm_code.proofs.Unique.{one_text_only}
-use Rattle.mm_text.specs.Token.{IsLabel}
-use Rattle.mm_frame.specs.Sentence.{Sentence, SomeSentence, sentence_of, IsLabelled}
+use Rattle.mm_frame.specs.Sentence.{Sentence, sentence_of, IsLabelled}
+use Rattle.mm_frame.specs.Form.{AllFormed}
 use Rattle.mm_frame.specs.Rules.{AllMeant}
 use Rattle.mm_frame.specs.Numbers.{labelled_sentences}
-use Rattle.mm_frame.proofs.Meant.{parts_at, allmeant_front, one_label}
+use Rattle.mm_frame.proofs.Meant.{allmeant_front, one_label}
 use Rattle.mm_proof.specs.Tree.{Trees, none, tree, spelling, Fit}
 use Rattle.mm_proof.specs.Moves.{Move, Makes}
 use Rattle.mm_proof.specs.Tokens.{SayMoves}
@@ -39,12 +41,13 @@ use Rattle.mm_check.specs.Forms.{HasProofTree, most_labels}
 use Rattle.mm_check.specs.Saved.{IsTextIn, IsSaved, FitsSaved, IsFormFault, total_with}
 use Rattle.mm_check.specs.SavedLaws.{SayTheSame, SavingChangesNoAnswer, SavedProofIsStrict, OneSaved, OneSaveAnswer, SavingAgainChangesNothing}
 use Rattle.mm_check.proofs.Asked.{map-take}
+use Rattle.mm_check.proofs.Existence.{formed_sentences}
 use Rattle.mm_check.proofs.Rereading.{same_reading, said_there, one_stands}
 use Rattle.mm_check.proofs.Saving.{provable_proof, with_bytes_is}
 use Rattle.mm_check.proofs.Trees.{any_proof}
 use Rattle.mm_check.proofs.Unproved.{all_meant, proof_not_unproved}
 use Rattle.mm_check.proofs.SavedTokens.{is_proof_text}
-use Rattle.mm_check.proofs.SavedProofs.{have_labels, ReadsAsProof, text_reads, tree_derives}
+use Rattle.mm_check.proofs.SavedProofs.{ReadsAsProof, text_reads, tree_derives}
 use Rattle.mm_check.proofs.SavedStatements.{Carries, tree_carried, report_carried}
 use Rattle.mm_check.proofs.SavedFiles.{put_anew, IsProvedAnew, proved_anew, anew_alike, alike_anew, carries_of, all_obey_anew, readable_anew, verdict_carried, same_left, same_count, same_many, seam_at}
 
@@ -84,9 +87,10 @@ anew_of profile f files before s after file text p =
     ((p.accepted.obeyed before after s refl).proved p.complete).1 in
     let fit : Fit front (tree p.root p.below none) =
     derive_fits Fits front (tree p.root p.below none) ((sentence_of s).symbols ∷ []) (tree_derives Fits front (sentence_of s) (proof_of s) p.moves p.root p.below meant old p.told p.made) in
-    let labels = subst (λ (ss : List PlainStatement). (label : List ℕ) → SomeSentence (sentences ss) (IsLabelled label) → IsLabel label × (1 ≤ length label)) (take-append_seam before (s ∷ after))
-    (have_labels files (before ++ s ∷ after) (length before) p.accepted.reads) in
-    let ra = text_reads f front (sentence_of s) p.root p.below text meant labels fit p.laid in
+    let formed : AllFormed front =
+    formed_sentences before (all_front HasForm before (s ∷ after)
+    (readings_are_formed_in_place files (before ++ s ∷ after) None p.accepted.reads).formed) in
+    let ra = text_reads f front (sentence_of s) p.root p.below text meant formed fit p.laid in
     (ra, proved_anew profile front s p.root p.below p.moves text meant p.complete old p.told p.made ra)
 
 pub record ArePutAnew (profile : Profile) (files : List PlainFile) (before : List PlainStatement) (s : PlainStatement) (after : List PlainStatement) (file : PlainFile) (text : List ℕ) : Type 0 where
@@ -151,7 +155,7 @@ same_said profile f files before s after file text p put =
 pub to_put : (profile : Profile) (f : Form) (files : List PlainFile) (statements : List PlainStatement) (label : List ℕ) (number : ℕ) (bytes : List ℕ) → AreAccepted profile files statements → (sv : IsSaved f files statements label number bytes)
     → FitsSaved files number bytes → IsToPut profile f files (take sv.place statements) sv.s (drop (suc sv.place) statements) sv.file sv.text
 to_put profile f files statements label number bytes accepted sv fits =
-    let parted : statements ≡ take sv.place statements ++ sv.s ∷ drop (suc sv.place) statements = parts_at statements sv.place sv.s sv.proof.there in
+    let parted : statements ≡ take sv.place statements ++ sv.s ∷ drop (suc sv.place) statements = split_at statements sv.place sv.s sv.proof.there in
     record {
       accepted = subst (λ (ss : List PlainStatement). AreAccepted profile files ss) parted accepted;
       complete = sv.proof.complete;
@@ -169,7 +173,7 @@ pub saving_changes_no_answer : SavingChangesNoAnswer
 saving_changes_no_answer profile f files statements label number bytes accepted sv fits =
     let before : List PlainStatement = take sv.place statements in
     let after : List PlainStatement = drop (suc sv.place) statements in
-    let parted : statements ≡ before ++ sv.s ∷ after = parts_at statements sv.place sv.s sv.proof.there in
+    let parted : statements ≡ before ++ sv.s ∷ after = split_at statements sv.place sv.s sv.proof.there in
     let p = to_put profile f files statements label number bytes accepted sv fits in
     let put = are_put_anew profile f files before sv.s after sv.file sv.text p in
     let su : List PlainStatement = before ++ put_anew sv.s (10 ∷ sv.text) ∷ put.later in

@@ -7,7 +7,8 @@ use Rattle.mm_frame.specs.Numbers.{IsNumbered}
 use Rattle.mm_proof.specs.Tree.{Trees}
 use Rattle.mm_proof.specs.Proof.{IsProved}
 use Rattle.mm_proof.specs.Used.{IsUsedNumber}
-use Rattle.mm_check.specs.Verdict.{sentences, proof_of, is_proof, is_unproved, is_incomplete}
+use Rattle.mm_proof.specs.Tokens.{is_incomplete}
+use Rattle.mm_check.specs.Verdict.{sentences, proof_of, is_proof, is_unproved}
 use Rattle.mm_check.specs.Rests.{IsAt, IsNumberWhere, AreInOrder, HasTree, Uses, IsClosed, RestsOn, IsReport, tree_of}
 use Rattle.mm_check.proofs.Asked.{map-take}
 

@@ -5,13 +5,14 @@ use Rattle.std.specs.List.{AllByRecursion, AllZip, flat_map, list_all, list_any}
 use Rattle.std.proofs.lemmas.Bool.{leb-true, eqb-true, le-leb, ne_eqb, and_parts}
 use Rattle.mm_text.specs.Token.{PlainToken, is_space, is_printable, is_label_byte, IsLabel, HoldsNoDollar, tokens_from}
 use Rattle.mm_text.specs.Replaced.{IsProofToken, IsProofText}
+use Rattle.mm_text.proofs.TextFacts.{label_held, label_bytes}
 use Rattle.mm_code.specs.declared.code.Code.{Code}
 use Rattle.mm_code.specs.declared.code.Code.TheVariants.{Number, Tag}
 use Rattle.mm_code.specs.Letters.{IsLeadingDigit, leading_letter, last_letter, SaysCode, SpellsCodes}
 use Rattle.mm_code.specs.Layout.{indent, token_line, LaidOut, CompressedLaidOut, in_parentheses}
-use Rattle.mm_code.specs.Words.{texts_of, tokens_in, LacksWhiteSpace}
+use Rattle.mm_code.specs.Words.{texts_of, tokens_in, LacksWhiteSpace, IsOneToken}
 use Rattle.mm_code.proofs.TextTokens.{texts_in, tokens_in-space}
-use Rattle.mm_check.specs.Verdict.{is_incomplete}
+use Rattle.mm_proof.specs.Tokens.{is_incomplete}
 
 -- ---- bytes of labels and letters
 
@@ -51,10 +52,14 @@ label_fine b h =
     (λ e. let r = label_is b 95 e in (fine_in b 95 95 (omega (arith, r)) (omega (arith, r)) (omega arith) (omega arith) (λ x. absurd (omega (arith, x))), omega (arith, r)))
     (λ e. let r = label_is b 46 e in (fine_in b 46 46 (omega (arith, r)) (omega (arith, r)) (omega arith) (omega arith) (λ x. omega arith), omega (arith, r)))
 
+bytes_fine : (text : List ℕ) → list_all is_label_byte text ≡ true → AreFine text
+bytes_fine [] h = tt
+bytes_fine (b ∷ text) h =
+    let both = and_parts (is_label_byte b) (list_all is_label_byte text) h in
+    ((label_fine b both.0).0, bytes_fine text both.1)
+
 pub label_all_fine : (text : List ℕ) → IsLabel text → AreFine text
-label_all_fine [] h = tt
-label_all_fine (b ∷ text) h =
-    let both = and_parts (is_label_byte b) (list_all is_label_byte text) h in ((label_fine b both.0).0, label_all_fine text both.1)
+label_all_fine text is = bytes_fine text (label_bytes text is)
 
 -- a parenthesis is no label
 pub no_parenthesis : (b : ℕ) → b ≤ 41 → ¬ (IsLabel (b ∷ []))
@@ -117,6 +122,10 @@ fine_dark b f =
 pub fine_lacks : (text : List ℕ) → AreFine text → LacksWhiteSpace text
 fine_lacks [] h = tt
 fine_lacks (b ∷ text) h = (fine_dark b h.0, fine_lacks text h.1)
+
+-- a label is one token
+pub label_token : (label : List ℕ) → IsLabel label → IsOneToken label
+label_token label is = (omega (arith, label_held label is), fine_lacks label (label_all_fine label is))
 
 fine_printable : (text : List ℕ) → AreFine text → list_all is_printable text ≡ true
 fine_printable [] h = refl

@@ -9,20 +9,20 @@ use Rattle.mm_text.specs.Reading.{Reads, IsInPlace}
 use Rattle.mm_text.specs.Replaced.{with_span, with_bytes, IsProofSpan}
 use Rattle.mm_text.proofs.FormedLaws.{readings_are_formed_in_place}
 use Rattle.mm_text.proofs.ProofSpans.{proofs_stand_in_spans_holds}
-use Rattle.mm_text.proofs.Lists.{all_at}
+use Rattle.mm_text.proofs.Lists.{all_at, split_at}
 use Rattle.mm_frame.specs.Sentence.{Sentence}
 use Rattle.mm_frame.specs.Rules.{AllMeant}
-use Rattle.mm_frame.proofs.Meant.{parts_at}
 use Rattle.mm_proof.specs.ReadSteps.{ReadSteps}
 use Rattle.mm_proof.specs.Packing.{OfTree}
 use Rattle.mm_proof.specs.declared.profile.Profile.{Profile}
+use Rattle.mm_proof.specs.Tokens.{is_incomplete}
 use Rattle.mm_check.specs.declared.form.Form.{Form}
 use Rattle.mm_check.specs.declared.form.Form.TheVariants as form
 use Rattle.mm_check.specs.declared.ask.AskFault.{AskFault}
 use Rattle.mm_check.specs.declared.ask.AskFault.TheVariants as ask
 use Rattle.mm_check.specs.declared.fault.CheckFault.{CheckFault}
 use Rattle.mm_check.specs.Conclusion.{Conclusion}
-use Rattle.mm_check.specs.Verdict.{AreAccepted, sentences, proof_of, is_proof, is_incomplete}
+use Rattle.mm_check.specs.Verdict.{AreAccepted, sentences, proof_of, is_proof}
 use Rattle.mm_check.specs.Answer.{verdict_of_answer, verdict_of_conclusion, IsVerdict}
 use Rattle.mm_check.specs.Rests.{IsAskFault}
 use Rattle.mm_check.specs.Shown.{Stands}
@@ -108,7 +108,7 @@ within_bytes s bytes p =
 pub holds_span : (files : List PlainFile) (statements : List PlainStatement) (place : ℕ) (s : PlainStatement) (number : ℕ) (span : ℕ × ℕ) → Reads files statements None → slice_get statements place ≡ Some s
     → is_proof s ≡ true → number ≡ s.first.file → span ≡ s.span → HoldsSpan files number span
 holds_span files statements place s number span reads there complete home same =
-    let parted : statements ≡ take place statements ++ s ∷ drop (suc place) statements = parts_at statements place s there in
+    let parted : statements ≡ take place statements ++ s ∷ drop (suc place) statements = split_at statements place s there in
     let (file, handed) = home_file files statements place s reads there in
     let stands : IsProofSpan s file.bytes =
     proofs_stand_in_spans_holds files (take place statements) s (drop (suc place) statements) file (subst (λ (ss : List PlainStatement). Reads files ss None) parted reads) (provable_proof s complete) handed in

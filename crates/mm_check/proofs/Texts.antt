@@ -1,33 +1,22 @@
 -- The tokens of a text, found one after the other.
 use Rattle.std.proofs.Common.{◌≡◌, ℕ, zero, suc, ◌<◌, ◌≤◌, Bool, true, false, ◌&&◌, ◌||◌, List, [], ◌∷◌, ◌++◌, map, take, drop, length, get_or, slice_index, refl, sym, ap, subst, ◌∙◌, arith, append_assoc, append-nil, length-append}
-use Rattle.std.specs.List.{list_any, list_all, onto_first}
+use Rattle.std.specs.List.{list_all, onto_first}
+use Rattle.std.proofs.lemmas.List.{length-map, get_or-map}
+use Rattle.std.proofs.lemmas.List.Folds.{list_all_at}
 use Rattle.std.proofs.lemmas.List.Sums.{sum_by-append}
-use Rattle.mm_text.proofs.Lists.{all_append}
 use Rattle.mm_text.specs.Token.{is_space as is_white_space}
 use Rattle.mm_code.specs.Words.{tokens_in, LacksWhiteSpace}
 use Rattle.mm_code.proofs.TextTokens.{tokens_in-nil, tokens_in-space, tokens_in-end, tokens_in-on}
 use Rattle.mm_code.proofs.TextTokens.{tokens_in-last}
 use Rattle.mm_check.specs.Mirror.Comparisons.{AreFrontTokens}
 
--- ---- tests of each token
+-- ---- a test of each token
 
-pub all_fail : {T X : Type 0} (f : T → X) (p : X → Bool) (ts : List T) (i : ℕ) (d : T) → i < length ts → p (f (get_or ts i d)) ≡ false → list_all p (map f ts) ≡ false
-all_fail f p [] i d less one = absurd (omega arith)
-all_fail f p (t ∷ ts) zero d less one = rw one refl
-all_fail f p (t ∷ ts) (suc i) d less one = go (all_fail f p ts i d (omega (arith, less)) one) (p (f t)) refl
-  where
-    go : list_all p (map f ts) ≡ false → (b : Bool) → p (f t) ≡ b → (p (f t) && list_all p (map f ts)) ≡ false
-    go later true e = subst (λ (b : Bool). (b && list_all p (map f ts)) ≡ false) (sym e) later
-    go later false e = subst (λ (b : Bool). (b && list_all p (map f ts)) ≡ false) (sym e) refl
-
-pub some_meets : {T X : Type 0} (f : T → X) (p : X → Bool) (ts : List T) (i : ℕ) (d : T) → i < length ts → p (f (get_or ts i d)) ≡ true → list_any p (map f ts) ≡ true
-some_meets f p [] i d less one = absurd (omega arith)
-some_meets f p (t ∷ ts) zero d less one = rw one refl
-some_meets f p (t ∷ ts) (suc i) d less one = go (some_meets f p ts i d (omega (arith, less)) one) (p (f t)) refl
-  where
-    go : list_any p (map f ts) ≡ true → (b : Bool) → p (f t) ≡ b → (p (f t) || list_any p (map f ts)) ≡ true
-    go later false e = subst (λ (b : Bool). (b || list_any p (map f ts)) ≡ true) (sym e) later
-    go later true e = subst (λ (b : Bool). (b || list_any p (map f ts)) ≡ true) (sym e) refl
+pub all_fail : {T X : Type 0} (f : T → X) (p : X → Bool) (ts : List T) (i : ℕ) (d : T)
+    → i < length ts → p (f (get_or ts i d)) ≡ false → list_all p (map f ts) ≡ false
+all_fail f p ts i d less one =
+    list_all_at p (map f ts) i (f d) (omega (arith, length-map ts f))
+    (ap p (get_or-map f ts i d (f d) less) ∙ one)
 
 -- ---- tokens
 
@@ -47,7 +36,6 @@ pub front_space : (text : List ℕ) (tokens : List (List ℕ)) (byte : ℕ) (byt
 front_space text tokens byte bytes front white =
     record {
       whole = ap (λ (ws : List (List ℕ)). tokens ++ ws) (sym (tokens_in-space byte bytes white)) ∙ front.whole;
-      filled = front.filled;
       room = (let room = front.room in omega arith);
     }
 
@@ -57,7 +45,6 @@ pub front_word : (text : List ℕ) (tokens : List (List ℕ)) (byte : ℕ) (word
 front_word text tokens byte word after front dark stop =
     record {
       whole = append_assoc tokens ((byte ∷ word) ∷ []) (tokens_in after) ∙ ap (λ (ws : List (List ℕ)). tokens ++ ws) (sym (tokens_in-word byte word after dark stop)) ∙ front.whole;
-      filled = all_append (λ (t : List ℕ). 1 ≤ length t) tokens ((byte ∷ word) ∷ []) front.filled (omega arith, tt);
       room = omega (arith, front.room, sum_by-append (length {A = ℕ}) tokens ((byte ∷ word) ∷ []), length-append (byte ∷ word) after);
     }
 

@@ -12,7 +12,7 @@ use Rattle.mm_proof.specs.declared.fault.ExpandFault.{ExpandFault}
 use Rattle.mm_proof.specs.declared.fault.ExpandFault.TheVariants as expand
 use Rattle.mm_proof.specs.Profiles.{limit_of}
 use Rattle.mm_proof.specs.Tree.{Trees, spelling}
-use Rattle.mm_proof.specs.Moves.{Move, name, again, mark}
+use Rattle.mm_proof.specs.Moves.{Move}
 use Rattle.mm_proof.specs.OneTree.{MakeTree, MakeOneTree}
 use Rattle.mm_proof.specs.Spelled.{AreLabelsOf}
 use Rattle.mm_proof.specs.Packing.{OfTree}
@@ -23,7 +23,7 @@ use Rattle.mm_proof.specs.ReadSteps.{ReadSteps}
 use Rattle.mm_proof.specs.Steps.{IsNumberedMove}
 use Rattle.mm_proof.specs.Verified.{OfMoves}
 use Rattle.mm_proof.proofs.Derived.{zip_once}
-use Rattle.mm_proof.proofs.Ending.{one_place}
+use Rattle.mm_proof.proofs.Numbered.{one_place, one_move}
 use Rattle.mm_check.specs.declared.ask.AskFault.{AskFault}
 use Rattle.mm_check.specs.declared.ask.AskFault.TheVariants as ask
 use Rattle.mm_check.specs.Verdict.{sentences}
@@ -42,15 +42,6 @@ pub no_text_fault : (profile : Profile) (before : List Sentence) (s : Sentence)
     → ¬ (IsTextFault profile before s tokens rule)
 no_text_fault profile before s tokens rule proved (inl fault) = proved.1.whole rule fault.broken
 no_text_fault profile before s tokens rule proved (inr wrong) = wrong.2 proved.0
-
-one_move : (st : List Sentence) (x : Move ℕ) (y z : Move (List ℕ)) → IsNumberedMove st x y → IsNumberedMove st x z → y ≡ z
-one_move st (name id) y z a b =
-    let same : a.0 ≡ b.0 = same_Some a.0 b.0 (sym a.2 ∙ b.2) in
-    let labelled_so : IsLabelled a.1 b.0 = subst (IsLabelled a.1) same a.3 in
-    let label : a.1 ≡ b.1 = same_Some a.1 b.1 (sym labelled_so ∙ b.3) in
-    a.4 ∙ ap name label ∙ sym b.4
-one_move st (again tag) y z a b = a ∙ sym b
-one_move st mark y z a b = a ∙ sym b
 
 pub steps_prove : (profile : Profile) (st : List Sentence) (id : ℕ) (tokens : List (List ℕ))
     (steps : ReadSteps) → IsProofOf profile st id tokens → steps.profile ≡ profile

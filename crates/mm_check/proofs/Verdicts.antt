@@ -21,12 +21,13 @@ use Rattle.mm_proof.specs.Strict.{HasFormOf}
 use Rattle.mm_proof.specs.UnderProfile.{IsFaultUnder}
 use Rattle.mm_proof.proofs.FormDecided.{one_verdict_under_holds, one_front_verdict_under_holds}
 use Rattle.mm_proof.proofs.Limits.{limits_aside_holds}
+use Rattle.mm_proof.specs.Tokens.{is_incomplete}
 use Rattle.mm_check.specs.declared.fault.CheckFault.{CheckFault}
 use Rattle.mm_check.specs.Conclusion.{Conclusion}
 use Rattle.mm_check.specs.Answer.{verdict_of_answer, IsVerdict, IsOnlyVerdict, IsYes, IsOverLimit, IsWantOfMemory}
 use Rattle.mm_check.specs.declared.rule.Rule.{Rule}
 use Rattle.mm_check.specs.declared.rule.Rule.TheVariants.{L1}
-use Rattle.mm_check.specs.Verdict.{Verdict, Load, Refused, Incomplete, Yes, PlainRefusal, Obeys, AllObey, AreAccepted, HasFault, HasVerdict, RefusesStatement, RefusesText, ObeyTheProfile, sentences, load_rule, meaning_rule, proof_rule, refusal_of, text_refusal, proof_of, proofs_of, unproved_of, is_incomplete}
+use Rattle.mm_check.specs.Verdict.{Verdict, Load, Refused, Incomplete, Yes, PlainRefusal, Obeys, AllObey, AreAccepted, HasFault, HasVerdict, RefusesStatement, RefusesText, ObeyTheProfile, sentences, load_rule, meaning_rule, proof_rule, refusal_of, text_refusal, proof_of, proofs_of, unproved_of}
 use Rattle.mm_check.proofs.Ranks.{ranked, ranked-rank, compared}
 use Rattle.mm_check.specs.Verdict.{IsProofFault}
 use Rattle.mm_check.proofs.Existence.{formed_before}

@@ -13,14 +13,14 @@ use Rattle.mm_proof.specs.declared.fault.ProofFault.{ProofFault}
 use Rattle.mm_proof.specs.declared.fault.ProofFault.TheVariants as proof_faults
 use Rattle.mm_proof.specs.declared.profile.Profile.{Profile}
 use Rattle.mm_proof.specs.Moves.{Move}
-use Rattle.mm_proof.specs.Tokens.{SayMoves}
+use Rattle.mm_proof.specs.Tokens.{is_incomplete, SayMoves}
 use Rattle.mm_proof.specs.OneTree.{MakeSameTree}
 use Rattle.mm_proof.specs.UnderProfile.{IsProvedUnder, IsFaultUnder}
 use Rattle.mm_check.specs.declared.rule.Rule.{Rule}
 use Rattle.mm_check.specs.declared.rule.Rule.TheVariants.{F3, X1, X9, A3}
 use Rattle.mm_check.specs.declared.ask.AskFault.{AskFault}
 use Rattle.mm_check.specs.declared.ask.AskFault.TheVariants.{Text, Memory}
-use Rattle.mm_check.specs.Verdict.{proof_of, is_proof, is_incomplete, proof_rule, sentences}
+use Rattle.mm_check.specs.Verdict.{proof_of, is_proof, proof_rule, sentences}
 use Rattle.mm_check.specs.Rests.{IsAskFault}
 
 -- each token holds only bytes that a token may hold

@@ -3,7 +3,7 @@
 use Rattle.std.specs.Prelude.{◌≡◌, ◌≢◌, ℕ, ◌+◌, ◌==◌, ◌&&◌, List, [], ◌∷◌, ◌++◌, map, length}
 use Rattle.std.specs.Prelude.{count_by, filter, not, Bool, true, false, Option, Some}
 use Rattle.std.specs.Prelude.{None, option_map, ◌⊎◌}
-use Rattle.std.specs.List.{flat_map, list_any}
+use Rattle.std.specs.List.{flat_map}
 use Rattle.std.specs.Option.{option_to_list}
 use Rattle.mm_text.specs.declared.fault.LoadRule.{LoadRule}
 use Rattle.mm_text.specs.declared.fault.LoadRule.TheVariants as load
@@ -21,6 +21,7 @@ use Rattle.mm_frame.specs.Rules.{FirstBroken, IsMeant}
 use Rattle.mm_proof.specs.declared.fault.ProofRule.{ProofRule}
 use Rattle.mm_proof.specs.declared.fault.ProofRule.TheVariants as proof
 use Rattle.mm_proof.specs.declared.profile.Profile.{Profile}
+use Rattle.mm_proof.specs.Tokens.{is_incomplete}
 use Rattle.mm_proof.specs.Proof.{IsProved}
 use Rattle.mm_proof.specs.Strict.{HasFormOf}
 use Rattle.mm_proof.specs.UnderProfile.{IsProvedUnder, IsFaultUnder, IsFrontAllowedUnder}
@@ -133,10 +134,6 @@ text_refusal files fault = record {
 -- the tokens of a statement's proof
 abbrev pub proof_of : PlainStatement → List (List ℕ)
 proof_of s = map (λ t. t.text) s.proof
-
--- some token of the proof holds a `?` (the Metamath book, section 4.4.4)
-abbrev pub is_incomplete : List (List ℕ) → Bool
-is_incomplete tokens = list_any (list_any (λ b. b == 63)) tokens
 
 -- a `$p` whose proof is incomplete, and one whose proof is complete
 abbrev pub is_unproved : PlainStatement → Bool

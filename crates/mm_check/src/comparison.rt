@@ -1,7 +1,7 @@
 //! Whether a text that is handed in is the same proof as a theorem's own.
 
 ghost use Rattle.std.specs.Prelude.{◌≡◌, ◌≤◌, ℕ, false, length, take, IfOk, IfErr, OnOk};
-ghost use Rattle.std.specs.List.{AllByRecursion, sum_by};
+ghost use Rattle.std.specs.List.{sum_by};
 ghost use Rattle.mm_text.specs.Files.{most_bytes};
 ghost use Rattle.mm_code.specs.Layout.{texts};
 ghost use Rattle.mm_code.specs.Words.{tokens_in};
@@ -9,7 +9,7 @@ ghost use Rattle.mm_frame.specs.Sentence.{Sentence};
 ghost use Rattle.mm_proof.specs.Parsed.{OfProof};
 ghost use Rattle.mm_proof.specs.Steps.{AreSteps, IsProofNumber};
 ghost use Rattle.mm_proof.specs.Strict.{HasFormOf};
-ghost use Rattle.mm_check.specs.Verdict.{is_incomplete};
+ghost use Rattle.mm_proof.specs.Tokens.{is_incomplete};
 ghost use Rattle.mm_check.specs.Compared.{IsProofText};
 ghost use Rattle.mm_check.specs.Mirror.Theorems.{SayWholeSteps, AreProvedSteps};
 ghost use Rattle.mm_check.specs.Mirror.Comparisons.{FailsAs, IsUnproved, IsTextRefused};
@@ -44,7 +44,6 @@ fn proved_steps(
 ) -> Result<Steps, AskFault>
     requires proof { (place : ℕ) × (s : Sentence)
         × IsProofNumber book.now.statements id.0 place s }
-    requires filled { AllByRecursion (λ t. 1 ≤ length t) (texts tokens.now) }
     requires room { sum_by length (texts tokens.now) ≤ most_bytes }
     requires complete { is_incomplete (texts tokens.now) ≡ false }
     ensures said { IfOk result (λ steps.

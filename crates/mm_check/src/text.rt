@@ -2,12 +2,12 @@
 
 ghost use Rattle.std.specs.Prelude.{◌≡◌, ◌<◌, ◌≤◌, ◌==◌, take, length, slice_index, true};
 ghost use Rattle.std.specs.Prelude.{IfOk, IfErr};
-ghost use Rattle.std.specs.List.{AllByRecursion, list_any, list_all, sum_by};
+ghost use Rattle.std.specs.List.{list_any, list_all, sum_by};
 ghost use Rattle.mm_text.specs.Token.{is_printable, is_space as is_white_space};
 ghost use Rattle.mm_text.specs.Files.{most_bytes};
 ghost use Rattle.mm_code.specs.Layout.{texts};
 ghost use Rattle.mm_code.specs.Words.{tokens_in, LacksWhiteSpace};
-ghost use Rattle.mm_check.specs.Verdict.{is_incomplete};
+ghost use Rattle.mm_proof.specs.Tokens.{is_unknown, is_incomplete};
 ghost use Rattle.mm_check.specs.Compared.{are_printable, hold_dollar, IsProofText};
 ghost use Rattle.mm_check.specs.Mirror.Comparisons.{IsIllegal};
 
@@ -43,8 +43,6 @@ fn word_len(text: &[u8]) -> usize
 /// The tokens of a text: its longest runs of bytes that aren't white space.
 fn tokens_of<'a>(alloc: Global, text: &'a [u8]) -> Result<Vec<&'a [u8]>, AllocError>
     ensures tokens { IfOk result (λ tokens. texts tokens.items ≡ tokens_in text.now) }
-    ensures filled { IfOk result (λ tokens. AllByRecursion (λ t. 1 ≤ length t)
-        (texts tokens.items)) }
     ensures room { IfOk result (λ tokens. sum_by length (texts tokens.items)
         ≤ length text.now) }
 {
@@ -102,7 +100,7 @@ fn any_dollar(tokens: &[&[u8]]) -> bool
 
 /// Whether a token holds a `?`.
 fn has_question(token: &[u8]) -> bool
-    ensures { result ≡ list_any (λ b. b == 63) token.now }
+    ensures { result ≡ is_unknown token.now }
 {
     token.iter().any(|byte| *byte == b'?')
 }
@@ -129,8 +127,6 @@ fn broken<T>(rule: Rule) -> Result<T, AskFault>
 /// The tokens of a text, where they may stand in a proof with no unknown step.
 pub(crate) fn proof_tokens<'a>(alloc: Global, text: &'a [u8]) -> Result<Vec<&'a [u8]>, AskFault>
     ensures tokens { IfOk result (λ tokens. texts tokens.items ≡ tokens_in text.now) }
-    ensures filled { IfOk result (λ tokens. AllByRecursion (λ t. 1 ≤ length t)
-        (texts tokens.items)) }
     ensures room { IfOk result (λ tokens. sum_by length (texts tokens.items) ≤ most_bytes) }
     ensures legal { IfOk result (λ tokens. IsProofText text.now) }
     ensures fault { IfErr result (IsIllegal text.now) }

@@ -1,7 +1,6 @@
 //! A theorem and the steps of its proof.
 
 ghost use Rattle.std.specs.Prelude.{◌≡◌, ◌≤◌, map, length, sum_by, false, IfOk, IfErr};
-ghost use Rattle.std.specs.List.{AllByRecursion};
 ghost use Rattle.mm_text.specs.Statement.{plain_statement};
 ghost use Rattle.mm_text.specs.Files.{most_bytes};
 ghost use Rattle.mm_proof.specs.Parsed.{OfProof, SaySteps};
@@ -34,7 +33,6 @@ fn steps_of(
     tokens: &[&[u8]],
 ) -> Result<Steps, AskFault>
     requires proof { IsProofOf profile book.now.statements id.0 (map (λ t. t.now) tokens.now) }
-    requires filled { AllByRecursion (λ t. 1 ≤ length t) (map (λ t. t.now) tokens.now) }
     requires room { sum_by length (map (λ t. t.now) tokens.now) ≤ most_bytes }
     ensures said { IfOk result (λ steps. OfProof book.now.statements id.0 (λ place s.
         SaySteps book.now.statements place s (map (λ t. t.now) tokens.now) steps.moves)) }
@@ -62,7 +60,6 @@ pub(crate) fn theorem_of(
     tokens: &[&[u8]],
 ) -> Result<Theorem, AskFault>
     requires proof { IsProofOf profile book.now.statements id.0 (map (λ t. t.now) tokens.now) }
-    requires filled { AllByRecursion (λ t. 1 ≤ length t) (map (λ t. t.now) tokens.now) }
     requires room { sum_by length (map (λ t. t.now) tokens.now) ≤ most_bytes }
     ensures id { IfOk result (λ theorem. theorem.id.0 ≡ id.0) }
     ensures home { IfOk result (λ theorem.

@@ -1,7 +1,7 @@
 -- What the code of `same` knows on its way. This file mirrors the code, and is cited by private
 -- contracts alone.
 use Rattle.std.specs.Prelude.{◌≡◌, ◌↔◌, ◌⊎◌, ℕ, ◌+◌, ◌≤◌, Bool, IsTrue, List, ◌++◌, take, length}
-use Rattle.std.specs.List.{AllByRecursion, sum_by}
+use Rattle.std.specs.List.{sum_by}
 use Rattle.mm_code.specs.Words.{tokens_in}
 use Rattle.mm_frame.specs.Sentence.{Sentence}
 use Rattle.mm_proof.specs.declared.fault.ProofRule.{ProofRule}
@@ -22,7 +22,6 @@ use Rattle.mm_check.specs.Compared.{IsProofText, BreaksText, IsTextFault}
 -- the tokens of the front of a text, where those of the rest complete them
 pub record AreFrontTokens (text : List ℕ) (tokens : List (List ℕ)) (rest : List ℕ) : Type 0 where
   pub whole : tokens ++ tokens_in rest ≡ tokens_in text
-  pub filled : AllByRecursion (λ t. 1 ≤ length t) tokens
   pub room : sum_by length tokens + length rest ≤ length text
 
 -- the fault is one of the text alone, or a refused growth

@@ -23,13 +23,14 @@ use Rattle.mm_proof.specs.declared.profile.Profile.{Profile}
 use Rattle.mm_proof.specs.Profiles.{limit_of}
 use Rattle.mm_proof.specs.Strict.{HasFormOf}
 use Rattle.mm_proof.specs.UnderProfile.{IsFrontAllowedUnder}
+use Rattle.mm_proof.specs.Tokens.{is_incomplete}
 use Rattle.mm_check.specs.declared.rule.Rule.{Rule}
 use Rattle.mm_check.specs.declared.fault.CheckFault.{CheckFault}
 use Rattle.mm_check.specs.declared.progress.Progress.{Progress}
 use Rattle.mm_check.specs.Verdict.{Verdict, HasVerdict, Load, Refused, HasFault, Obeys, AllObey}
 use Rattle.mm_check.specs.Verdict.{CanBeRead, refusal_of, text_refusal, load_rule, proof_rule}
 use Rattle.mm_check.specs.Verdict.{sentences, proof_of, proofs_of, labels_of, unproved_of}
-use Rattle.mm_check.specs.Verdict.{is_incomplete, is_proof, is_unproved, IsProofFault}
+use Rattle.mm_check.specs.Verdict.{is_proof, is_unproved, IsProofFault}
 use Rattle.mm_check.specs.Answer.{verdict_of_fault}
 use Rattle.mm_check.specs.Conclusion.{ProofUses}
 use Rattle.mm_check.specs.Mirror.Ordered.{ordered}

@@ -3,7 +3,7 @@ use Rattle.std.proofs.Common.{◌≡◌, ℕ, List, IfOk, OnOk, ap, subst, sym, 
 use Rattle.mm_code.specs.Layout.{texts}
 use Rattle.mm_code.specs.Words.{tokens_in}
 use Rattle.mm_proof.specs.ReadSteps.{ReadSteps}
-use Rattle.mm_check.specs.Verdict.{is_incomplete}
+use Rattle.mm_proof.specs.Tokens.{is_incomplete}
 use Rattle.mm_check.specs.Mirror.Theorems.{SayWholeSteps}
 use Rattle.mm_check.specs.Mirror.Comparisons.{IsUnproved}
 use Rattle.mm_check.proofs.Comparing.{HaveForm, text_refused}

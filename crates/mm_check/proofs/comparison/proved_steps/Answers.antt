@@ -1,12 +1,13 @@
 -- The steps are what the tokens say; a fault of theirs is one of the tokens.
 use Rattle.std.proofs.Common.{ℕ, List, take, Ok, Err, inl, ap}
+use Rattle.std.proofs.lemmas.Bool.{both_ways}
 use Rattle.mm_code.specs.Layout.{texts}
 use Rattle.mm_proof.specs.declared.fault.ProofRule.{ProofRule}
 use Rattle.mm_proof.specs.Parsed.{OfProof}
 use Rattle.mm_proof.specs.UnderProfile.{IsFaultUnder}
 use Rattle.mm_check.specs.Compared.{text_fault}
 use Rattle.mm_check.specs.Mirror.Comparisons.{IsUnproved}
-use Rattle.mm_check.proofs.Comparing.{fails_as, unproved_of, no_unknown}
+use Rattle.mm_check.proofs.Comparing.{fails_as, unproved_of}
 use Rattle.mm_check.proofs.Rereading.{passed_on}
 use Rattle.mm_check.proofs.comparison.proved_steps.Goals as goal
 
@@ -20,11 +21,11 @@ returns-in_err-steps-clause-fault c =
     (λ (rule : ProofRule) (step : ℕ). OfProof c.args.book.now.statements c.args.id.0 (λ place s.
     IsFaultUnder c.args.profile (take place c.args.book.now.statements) s tokens rule step))
     (λ rule step is place s number. inl (c.in_err-steps.ensures.fault
-    (no_unknown tokens c.requires.complete) rule step (ap Err is) place s number)))
+    (both_ways _ c.requires.complete) rule step (ap Err is) place s number)))
 
 pub unreachable-requires : goal.unreachable-requires
 unreachable-requires c =
-    no_unknown (texts c.args.tokens.now) c.requires.complete
+    both_ways _ c.requires.complete
     (c.in_ok-steps.ensures.incomplete c.in-Incomplete.field-0 (ap Ok c.in-Incomplete.is)).0
 
 pub judge_steps-requires-clause-whole : goal.judge_steps-requires-clause-whole

@@ -1,7 +1,7 @@
 -- None of the tokens so far holds one.
 use Rattle.std.proofs.Common.{◌≡◌, false, take}
 use Rattle.mm_code.specs.Layout.{texts}
-use Rattle.mm_check.specs.Verdict.{is_incomplete}
+use Rattle.mm_proof.specs.Tokens.{is_incomplete}
 use Rattle.mm_check.proofs.text.any_question.Given as goal
 
 abbrev pub invariant-loop-token : goal.invariant-loop-token

@@ -1,6 +1,5 @@
 -- What is read again under the label is the theorem.
 use Rattle.std.proofs.Common.{◌≡◌, ℕ, ◌≤◌, List, map, length, sum_by, true, None, IfOk, sym, ap, subst, ◌∙◌}
-use Rattle.std.specs.List.{AllByRecursion}
 use Rattle.std.specs.Borrow.{Bor}
 use Rattle.mm_text.specs.Statement.{PlainStatement, plain_statement}
 use Rattle.mm_text.specs.Files.{most_bytes, PlainFile, plain_file}
@@ -16,7 +15,6 @@ use Rattle.mm_check.specs.Mirror.Marks.{IsKeptWell}
 use Rattle.mm_check.specs.Rests.{IsNamed, IsAskFault}
 use Rattle.mm_check.specs.Shown.{Stands}
 use Rattle.mm_check.specs.Mirror.Theorems.{IsProofOf, SayStepsOf, AreProvedSteps, AreStepsOf}
-use Rattle.mm_check.proofs.Judging.{filled_texts}
 use Rattle.mm_check.proofs.Rereading.{AreOf, own_statements, read_statements, named_stands, passed_on, shown_proof, shown_room, theorem_steps}
 use Rattle.mm_check.specs.Mirror.Rewriting.{IsHomeOf}
 use Rattle.mm_frame.specs.Rules.{AllMeant}
@@ -73,13 +71,6 @@ theorem_of-requires-clause-proof c =
     (subst (λ (ss : List Sentence). IsProofOf now.profile ss id (map (λ (b : Bor (List ℕ)). b.now) c.deref.result.now)) (sym sentences)
     (subst (λ (ts : List (List ℕ)). IsProofOf now.profile now.sentences id ts) (sym texts)
     (shown_proof now well.origin.statements c.args.label.now id t own c.theorem.ensures.sound.0 named stands)))
-
-pub theorem_of-requires-clause-filled : goal.theorem_of-requires-clause-filled
-theorem_of-requires-clause-filled c =
-    let texts : map (λ (b : Bor (List ℕ)). b.now) c.deref.result.now ≡ proof_of (plain_statement c.in_ok-statement.statement) =
-    ap (λ (ts : List (Bor (List ℕ))). map (λ (b : Bor (List ℕ)). b.now) ts) c.deref.ensures.value ∙ c.in_ok-tokens.ensures in
-    subst (λ (ts : List (List ℕ)). AllByRecursion (λ (b : List ℕ). 1 ≤ length b) ts) (sym texts)
-    (filled_texts (plain_statement c.in_ok-statement.statement).proof c.in_ok-statement.ensures.formed.proof)
 
 pub theorem_of-requires-clause-room : goal.theorem_of-requires-clause-room
 theorem_of-requires-clause-room c =
