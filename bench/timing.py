@@ -20,6 +20,7 @@ BUILT = TOP / "crates/mm_tool/out/mm"
 DOCUMENT = TOP / "docs/PERFORMANCE.md"
 DATABASES = pathlib.Path("/usr/share/metamath/databases")
 LIMIT = 600  # seconds for one run
+INSTALL = "--install"
 
 
 class Run(NamedTuple):
@@ -118,7 +119,8 @@ def fastest(commands, runs):
 
 
 def install(*packages):
-    """Installs the packages that are missing, of those that the scripts use."""
+    """Looks for the packages that the scripts use, and installs those that are missing if the words
+    have --install; else says which they are, and ends the script."""
     present = {
         "hyperfine": lambda: shutil.which("hyperfine"),
         "metamath": lambda: shutil.which("metamath"),
@@ -131,6 +133,8 @@ def install(*packages):
         return
     asker = [] if os.geteuid() == 0 else ["sudo"]
     apt = [*asker, "apt-get", "install", "--yes", "--no-install-recommends", *missing]
+    if INSTALL not in sys.argv:
+        fail(f"needs {', '.join(missing)} (packages of Debian): {INSTALL} runs {' '.join(apt)}")
     say("installs " + " ".join(missing))
     with contextlib.suppress(OSError):
         if subprocess.run(apt, stdout=sys.stderr).returncode:
@@ -156,7 +160,11 @@ def program(given=None):
 
 
 class Parser(argparse.ArgumentParser):
-    """A parser whose help is the script's own text."""
+    """A parser whose help is the script's own text. Each script takes --install."""
+
+    def __init__(self, **options):
+        super().__init__(**options)
+        self.add_argument(INSTALL, action="store_true")
 
     def format_help(self):
         return self.description
