@@ -5,6 +5,7 @@ mod check;
 mod code;
 mod failing;
 mod frame;
+mod growths;
 mod included;
 mod load;
 mod profiles;

@@ -3,6 +3,7 @@
 mod alike;
 mod asked;
 mod databases;
+mod growths;
 mod guessed;
 mod questions;
 mod refused;

@@ -2,6 +2,7 @@
 
 mod forms;
 mod fronts;
+mod growths;
 mod prover;
 
 ghost use Rattle.std.specs.Prelude.{◌≡◌, ◌≤◌, ◌++◌, ◌∷◌, [], ℕ, map, length, IfOk, IfSome, OnOk};

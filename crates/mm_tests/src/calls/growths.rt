@@ -1,0 +1,197 @@
+//! Refused growths: of a reader of statements, of `run`, and of questions.
+//!
+//! The tests whose names begin with `growths` meet want of memory wherever it comes, look at what it
+//! leaves, and go on. With ample memory they are runs of happy paths. `scripts/failing` runs each of
+//! them with each of its requests for memory refused, one alone, in turn.
+
+use crate::databases::DEMO_COMPRESSED;
+use crate::tests::CHECK;
+use mm_check::{AskFault, CheckFault, Checked, Command, RunFault, Status, check, run};
+use mm_proof::Profile;
+use mm_text::{Counted, File, Seed, Statement, Statements, TextFault};
+use std::alloc::Global;
+use std::test::Fail;
+
+/// The demonstration database, with its theorem in a compressed proof.
+const FILES: [File<'static>; 1] = [File {
+    name: b"demo0c.mm",
+    bytes: DEMO_COMPRESSED,
+}];
+
+/// Another proof of its theorem.
+const PROOF: &[u8] = b"( tze tpl weq a2 wim a1 mp ) ABCZADZAADZAEZJJKFLIAAGHH";
+
+/// A test passes where this holds.
+fn expect(holds: bool, what: &'static str) -> Result<(), Fail> {
+    if holds { Ok(()) } else { Err(Fail::from(what)) }
+}
+
+/// Whether five more calls answer want of memory.
+fn answers_memory_again<'a>(statements: &mut Statements<'a>, into: &mut Statement<'a>) -> bool {
+    for _ in 0..5 {
+        if !matches!(statements.read(into), Err(TextFault::Memory)) {
+            return false;
+        }
+    }
+    true
+}
+
+/// Whether the statements are read to their end, or up to want of memory, which is then the answer
+/// for good.
+fn reads_on<'a>(statements: &mut Statements<'a>, into: &mut Statement<'a>) -> Result<bool, Fail> {
+    for _ in 0..30 {
+        match statements.read(into) {
+            Ok(true) => {}
+            Ok(false) => return Ok(true),
+            Err(TextFault::Memory) => return Ok(answers_memory_again(statements, into)),
+            Err(_) => return Err(Fail::from("a fault of the text")),
+        }
+    }
+    Err(Fail::from("too many statements"))
+}
+
+/// Whether the database is read so.
+fn is_read(alloc: Global) -> Result<bool, Fail> {
+    let mut statements = match Statements::new(alloc, Seed::known(), &FILES) {
+        Ok(statements) => statements,
+        Err(TextFault::Memory) => return Ok(true),
+        Err(_) => return Err(Fail::from("a fault of the files")),
+    };
+    let mut statement = Statement::empty(alloc);
+    let answer = reads_on(&mut statements, &mut statement);
+    drop(statement);
+    drop(statements);
+    answer
+}
+
+#[test]
+fn growths_of_a_reader(rt: HostRuntime) -> Result<(), Fail> {
+    expect(is_read(rt.alloc())?, "another answer after want of memory")
+}
+
+/// The reply to a command and its status; nothing where memory was wanting, and nothing is written
+/// then.
+fn reply_or_memory(alloc: Global, command: &Command) -> Result<Option<(Vec<u8>, Status)>, Fail> {
+    let mut out = Counted::new(Vec::new(alloc));
+    let answer = run(alloc, Seed::known(), command, &FILES, &mut out);
+    let text = out.into_inner();
+    match answer {
+        Ok(status) => Ok(Some((text, status))),
+        Err(RunFault::Memory) if text.is_empty() => Ok(None),
+        Err(RunFault::Memory) => Err(Fail::from("written before want of memory")),
+        Err(RunFault::Device) => Err(Fail::from("the writer failed")),
+    }
+}
+
+/// The reply to a command, asked once more where memory was wanting the first time.
+fn reply_to(alloc: Global, command: &Command) -> Result<(Vec<u8>, Status), Fail> {
+    if let Some(reply) = reply_or_memory(alloc, command)? {
+        return Ok(reply);
+    }
+    Ok(reply_or_memory(alloc, command)?.ok_or("memory is wanting twice")?)
+}
+
+/// A command is answered alike twice.
+fn expect_replies(alloc: Global, command: &Command) -> Result<(), Fail> {
+    let first = reply_to(alloc, command)?;
+    let second = reply_to(alloc, command)?;
+    expect(first == second && !first.0.is_empty(), "another reply")
+}
+
+#[test]
+fn growths_of_check(rt: HostRuntime) -> Result<(), Fail> {
+    expect_replies(rt.alloc(), &CHECK)?;
+    let profile = Profile::Strict;
+    expect_replies(rt.alloc(), &Command::Check { profile })
+}
+
+#[test]
+fn growths_of_questions(rt: HostRuntime) -> Result<(), Fail> {
+    let label = b"th1".as_slice();
+    expect_replies(rt.alloc(), &Command::Axioms { label })?;
+    expect_replies(rt.alloc(), &Command::Show { label })?;
+    expect_replies(rt.alloc(), &Command::Same { label, text: PROOF })
+}
+
+#[test]
+fn growths_of_forms(rt: HostRuntime) -> Result<(), Fail> {
+    let label = b"th1".as_slice();
+    for whole in [false, true] {
+        expect_replies(rt.alloc(), &Command::Normal { label, whole })?;
+        expect_replies(rt.alloc(), &Command::Packed { label, whole })?;
+    }
+    Ok(())
+}
+
+/// How many axioms a theorem rests on, as a text of so many bytes.
+fn axioms_text(alloc: Global, checked: &Checked, label: &[u8]) -> Result<Vec<u8>, AskFault> {
+    let report = checked.axioms(alloc, label)?;
+    let mut text = Vec::new(alloc);
+    for _ in &report.axioms {
+        text.push(b'a')?;
+    }
+    Ok(text)
+}
+
+/// What the call of a question answers, as a text.
+fn answer_of(alloc: Global, checked: &Checked, command: &Command) -> Result<Vec<u8>, AskFault> {
+    match command {
+        Command::Axioms { label } => axioms_text(alloc, checked, label),
+        Command::Show { label } => checked.show(alloc, label),
+        Command::Normal { label, .. } => checked.normal(alloc, label),
+        Command::Packed { label, .. } => checked.packed(alloc, label),
+        Command::Same { label, text } => {
+            let is_same = checked.same_text(alloc, label, text)?;
+            Ok(Vec::from_slice(alloc, if is_same { b"same" } else { b"no" })?)
+        }
+        _ => Err(AskFault::A1),
+    }
+}
+
+/// What the call answers, asked once more where memory was wanting the first time.
+fn ask_on(alloc: Global, checked: &Checked, command: &Command) -> Result<Vec<u8>, AskFault> {
+    match answer_of(alloc, checked, command) {
+        Err(AskFault::Memory) => answer_of(alloc, checked, command),
+        answer => answer,
+    }
+}
+
+/// Whether each question is answered alike twice.
+fn answers_alike(alloc: Global, checked: &Checked, asked: &[Command]) -> Result<bool, Fail> {
+    for command in asked {
+        let first = ask_on(alloc, checked, command)?;
+        if first.is_empty() || first != ask_on(alloc, checked, command)? {
+            return Ok(false);
+        }
+    }
+    Ok(true)
+}
+
+/// What is kept of the database, which is checked once more where memory was wanting the first time.
+fn checked_on<'a>(alloc: Global, files: &'a [File<'a>]) -> Result<Checked<'a>, Fail> {
+    match check(alloc, Seed::known(), files) {
+        Ok(checked) => Ok(checked),
+        Err(CheckFault::Memory) => match check(alloc, Seed::known(), files) {
+            Ok(checked) => Ok(checked),
+            Err(_) => Err(Fail::from("refused after want of memory")),
+        },
+        Err(_) => Err(Fail::from("refused")),
+    }
+}
+
+#[test]
+fn growths_of_calls(rt: HostRuntime) -> Result<(), Fail> {
+    let label = b"th1".as_slice();
+    let whole = false;
+    let asked = [
+        Command::Axioms { label },
+        Command::Show { label },
+        Command::Normal { label, whole },
+        Command::Packed { label, whole },
+        Command::Same { label, text: PROOF },
+    ];
+    let checked = checked_on(rt.alloc(), &FILES)?;
+    let answer = answers_alike(rt.alloc(), &checked, &asked);
+    drop(checked);
+    expect(answer?, "another answer after want of memory")
+}
