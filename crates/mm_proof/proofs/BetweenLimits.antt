@@ -44,7 +44,7 @@ derive_looser Fits More more before (tree label below right) es d = (
 )
 
 -- a proof in the lenient profile is one within the limit of the strict one
-within_strict : (before : List Sentence) (s : Sentence) (tokens : List (List ℕ))
+pub within_strict : (before : List Sentence) (s : Sentence) (tokens : List (List ℕ))
     → IsProvedUnder Lenient before s tokens
     → IsProvedWithin (IsWithin (limit_of Strict)) before s tokens
 within_strict before s tokens p =

@@ -2,9 +2,10 @@
 -- those that the crates above need too stand here.
 use Rattle.std.proofs.Common.{◌≡◌, ℕ, zero, suc, ◌+◌, ◌<◌, List, [], ◌∷◌, ◌++◌, map, length, take}
 use Rattle.std.proofs.Common.{drop, set, get_or, refl, ap, sym, subst, ◌∙◌, ◌⊎◌, inl, inr, Some, arith}
-use Rattle.std.proofs.Common.{Bool, true}
+use Rattle.std.proofs.Common.{Bool, true, filter}
 use Rattle.std.specs.List.{AllByRecursion, AllZip, slice_get, list_any}
 use Rattle.std.proofs.lemmas.List.{length-map, get_or-map}
+use Rattle.std.proofs.lemmas.List.Elements.{All-filter, All-from_recursion, recursion_from_All}
 use Rattle.std.proofs.lemmas.List.Folds.{list_any_at}
 use Rattle.std.proofs.lemmas.Option.{same_Some, none-some}
 
@@ -235,6 +236,19 @@ all_places P [] d h = tt
 all_places P (x ∷ xs) d h =
     (h 0 (omega arith), all_places P xs d (λ k within. h (suc k) (omega arith)))
 
+-- of each where it is said of what stands at each place
+pub all_there : {A : Type 0} (P : A → Type 0) (xs : List A)
+    → ((k : ℕ) (x : A) → slice_get xs k ≡ Some x → P x) → AllByRecursion P xs
+all_there P [] each = tt
+all_there P (x ∷ xs) each =
+    (each 0 x refl, all_there P xs (λ k y there. each (suc k) y there))
+
+-- of each that passes a test
+pub all_filtered : {A : Type 0} (P : A → Type 0) (test : A → Bool) (xs : List A)
+    → AllByRecursion P xs → AllByRecursion P (filter test xs)
+all_filtered P test xs all =
+    recursion_from_All P (filter test xs) (All-filter test P xs (All-from_recursion P xs all))
+
 -- of the element at a place
 pub all_at : {A : Type 0} (P : A → Type 0) (xs : List A) (i : ℕ) (x : A) → AllByRecursion P xs
     → slice_get xs i ≡ Some x → P x
@@ -407,3 +421,78 @@ zip_drop R [] [] (suc n) z = tt
 zip_drop R [] (y ∷ ys) (suc n) z = absurd z
 zip_drop R (x ∷ xs) [] (suc n) z = absurd z
 zip_drop R (x ∷ xs) (y ∷ ys) (suc n) z = zip_drop R xs ys n z.1
+
+-- lists that correspond are as long
+pub zip_length : {A B : Type 0} (R : A → B → Type 0) (xs : List A) (ys : List B) → AllZip R xs ys
+    → length xs ≡ length ys
+zip_length R [] [] zip = refl
+zip_length R [] (y ∷ ys) zip = absurd zip
+zip_length R (x ∷ xs) [] zip = absurd zip
+zip_length R (x ∷ xs) (y ∷ ys) zip = ap suc (zip_length R xs ys zip.1)
+
+-- what is said of each of the second is said of each of the first
+pub zip_each : {A B : Type 0} (R : A → B → Type 0) (P : A → Type 0) (Q : B → Type 0)
+    → ((x : A) (y : B) → R x y → Q y → P x) → (xs : List A) (ys : List B) → AllZip R xs ys
+    → AllByRecursion Q ys → AllByRecursion P xs
+zip_each R P Q step [] [] zip all = tt
+zip_each R P Q step [] (y ∷ ys) zip all = absurd zip
+zip_each R P Q step (x ∷ xs) [] zip all = absurd zip
+zip_each R P Q step (x ∷ xs) (y ∷ ys) zip all =
+    (step x y zip.0 all.0, zip_each R P Q step xs ys zip.1 all.1)
+
+-- lists that correspond in two ways
+pub zip_both : {A B : Type 0} (R S : A → B → Type 0) (xs : List A) (ys : List B) → AllZip R xs ys
+    → AllZip S xs ys → AllZip (λ x y. R x y × S x y) xs ys
+zip_both R S [] [] one other = tt
+zip_both R S [] (y ∷ ys) one other = absurd one
+zip_both R S (x ∷ xs) [] one other = absurd one
+zip_both R S (x ∷ xs) (y ∷ ys) one other =
+    ((one.0, other.0), zip_both R S xs ys one.1 other.1)
+
+-- and a list that corresponds to one that corresponds to another
+pub zip_on : {A B C : Type 0} (R : A → B → Type 0) (S : B → C → Type 0) (T : A → C → Type 0)
+    → ((x : A) (y : B) (z : C) → R x y → S y z → T x z)
+    → (xs : List A) (ys : List B) (zs : List C) → AllZip R xs ys → AllZip S ys zs → AllZip T xs zs
+zip_on R S T step [] [] [] one other = tt
+zip_on R S T step [] [] (z ∷ zs) one other = absurd other
+zip_on R S T step [] (y ∷ ys) zs one other = absurd one
+zip_on R S T step (x ∷ xs) [] zs one other = absurd one
+zip_on R S T step (x ∷ xs) (y ∷ ys) [] one other = absurd other
+zip_on R S T step (x ∷ xs) (y ∷ ys) (z ∷ zs) one other =
+    (step x y z one.0 other.0, zip_on R S T step xs ys zs one.1 other.1)
+
+-- what stands beside an element, beside those before it, and beside those after it
+pub record ZipParts {A B : Type 0} (R : A → B → Type 0) (xs : List A) (before : List B) (y : B)
+    (after : List B) : Type 0 where
+  pub front : List A
+  pub x : A
+  pub back : List A
+  pub whole : xs ≡ front ++ x ∷ back
+  pub earlier : AllZip R front before
+  pub here : R x y
+  pub later : AllZip R back after
+
+pub zip_parts : {A B : Type 0} (R : A → B → Type 0) (xs : List A) (before : List B) (y : B)
+    (after : List B) → AllZip R xs (before ++ y ∷ after) → ZipParts R xs before y after
+zip_parts R [] [] y after zip = absurd zip
+zip_parts R (x ∷ xs) [] y after zip = record {
+  front = [];
+  x = x;
+  back = xs;
+  whole = refl;
+  earlier = tt;
+  here = zip.0;
+  later = zip.1;
+}
+zip_parts R [] (b ∷ before) y after zip = absurd zip
+zip_parts {A} R (x ∷ xs) (b ∷ before) y after zip =
+    let rest = zip_parts R xs before y after zip.1 in
+    record {
+      front = x ∷ rest.front;
+      x = rest.x;
+      back = rest.back;
+      whole = ap (λ (l : List A). x ∷ l) rest.whole;
+      earlier = (zip.0, rest.earlier);
+      here = rest.here;
+      later = rest.later;
+    }
