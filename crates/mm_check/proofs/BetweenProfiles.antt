@@ -11,7 +11,6 @@ use Rattle.mm_proof.specs.declared.profile.Profile.TheVariants.{Strict, Lenient}
 use Rattle.mm_proof.specs.declared.fault.ProofRule.{ProofRule}
 use Rattle.mm_proof.specs.declared.fault.ProofRule.TheVariants as proof
 use Rattle.mm_proof.proofs.BetweenLimits.{only_form}
-use Rattle.mm_proof.specs.Tokens.{is_incomplete}
 use Rattle.mm_check.specs.declared.rule.Rule.TheVariants.{P15, L1}
 use Rattle.mm_check.specs.Verdict.{Verdict, Load, Refused, Incomplete, Yes, PlainRefusal}
 use Rattle.mm_check.specs.Verdict.{HasVerdict, AllObey, IsProofFault}
@@ -19,8 +18,7 @@ use Rattle.mm_check.specs.Verdict.{RefusesStatement, ObeyTheProfile, sentences, 
 use Rattle.mm_check.specs.Verdict.{unproved_of, proof_rule}
 use Rattle.mm_check.specs.Laws.{IsRefusedBy, BetweenProfiles}
 use Rattle.mm_check.proofs.Rereading.{same_reading}
-use Rattle.mm_check.proofs.Unproved.{all_meant, complete_where_none, provable_kind, proof_there}
-use Rattle.mm_check.proofs.Unproved.{proof_not_unproved}
+use Rattle.mm_check.proofs.Unproved.{all_meant, none_incomplete}
 use Rattle.mm_check.proofs.Existence.{some_verdict}
 use Rattle.mm_check.proofs.Verdicts.{yes_obeys, profile_verdict}
 
@@ -68,14 +66,9 @@ form_fault files n p h before after s split obeyed rule step (inl (complete, fau
     only_form (sentences before) (sentence_of s) (proof_of s) rule step
     (all_meant Strict before obeyed) ((h.1.obeyed before after s split).proved complete) fault
 form_fault files n p h before after s split obeyed rule step (inr (open_one, fault)) =
-    let provable = provable_kind s.kind (is_incomplete (proof_of s)) open_one in
     let formed = subst (λ (ss : List PlainStatement). AllByRecursion HasForm ss) split
     (readings_are_formed_in_place files h.0 None h.1.reads).formed in
-    let complete = complete_where_none before after s formed
-    (sym (ap unproved_of split) ∙ h.2) provable in
-    let none = proof_not_unproved s (proof_there s provable complete) in
-    let some = open_one in
-    absurd cc
+    absurd (none_incomplete before after s formed (sym (ap unproved_of split) ∙ h.2) open_one)
 
 -- so is that of the first statement at fault
 form_refused : (files : List PlainFile) (n p : ℕ) (h : HasVerdict Lenient files (Yes n p))

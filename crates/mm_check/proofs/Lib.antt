@@ -28,6 +28,15 @@ pub mod SavedProofs
 pub mod SavedStatements
 pub mod SavedFiles
 pub mod SavedOnce
+pub mod FileTheorems
+pub mod Woven
+pub mod SavedSpans
+pub mod SavedTexts
+pub mod SavedOrder
+pub mod AllSavedFiles
+pub mod AllSavedOnce
+pub mod AllSavedStrict
+pub mod AllSavedAgain
 pub mod Listings
 pub mod Reports
 pub mod AlikeVerdicts

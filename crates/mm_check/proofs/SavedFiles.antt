@@ -9,6 +9,7 @@ use Rattle.mm_text.specs.Statement.{PlainStatement, is_provable}
 use Rattle.mm_text.specs.Files.{most_bytes, PlainFile, total_bytes, BreaksLoad}
 use Rattle.mm_text.specs.Replaced.{placeless, with_bytes}
 use Rattle.mm_text.proofs.Lists.{same_length, split_at}
+use Rattle.mm_text.proofs.ReplacedItems.{set_there}
 use Rattle.mm_code.proofs.TextTokens.{texts_in}
 use Rattle.mm_frame.specs.Sentence.{Sentence, sentence_of}
 use Rattle.mm_frame.specs.Rules.{AllMeant}
@@ -27,6 +28,7 @@ use Rattle.mm_proof.proofs.SpelledProofs.{IsProofBy}
 use Rattle.mm_check.specs.Verdict.{Verdict, Load, Refused, Incomplete, Yes, HasVerdict, AreAccepted, AllObey, Obeys, CanBeRead, sentences, proof_of, is_proof, is_unproved, label_of, unproved_of, proofs_of}
 use Rattle.mm_check.specs.Rests.{tree_of}
 use Rattle.mm_check.specs.Saved.{total_with}
+use Rattle.mm_check.specs.SavedLaws.{SayTheSame}
 use Rattle.mm_check.proofs.AlikeVerdicts.{moved, obeys_alike, same_sentence, same_proof, same_sentences, same_proofs, same_unproved}
 use Rattle.mm_check.proofs.Asked.{same_tree}
 use Rattle.mm_check.proofs.Known.{unproved_of-append}
@@ -37,7 +39,8 @@ use Rattle.mm_check.proofs.Unproved.{proof_not_unproved}
 use Rattle.mm_check.proofs.Verdicts.{accepted_or_refused}
 use Rattle.mm_check.proofs.SavedTokens.{words_after_feed, fine_complete}
 use Rattle.mm_check.proofs.SavedProofs.{ReadsAsProof, tree_is, tree_derives}
-use Rattle.mm_check.proofs.SavedStatements.{AreAlikeAt, alike_at, Carries, front_told}
+use Rattle.mm_check.proofs.SavedStatements.{AreAlikeAt, alike_at, Carries, front_told, carries_self}
+use Rattle.mm_check.proofs.SavedStatements.{carries_on, tree_carried, report_carried}
 
 -- ---- the statement with its new proof
 
@@ -197,6 +200,48 @@ all_obey_anew profile before s t after later own same obeyed new earlier rest y 
     let front : take (length earlier) su ≡ earlier = ap (take (length earlier)) split ∙ take-append_seam earlier (y ∷ rest) in
     subst (λ (ss : List PlainStatement). Obeys profile (sentences ss) y) front (obeys_at profile before s t after later own same obeyed new (length earlier) y there)
 
+-- ---- one file among the files
+
+-- it is there with the new bytes
+pub handed_anew : (files : List PlainFile) (k : ℕ) (f : PlainFile) (bytes : List ℕ)
+    → slice_get files k ≡ Some f
+    → slice_get (with_bytes files k bytes) k ≡ Some (record f { bytes = bytes })
+handed_anew files k f bytes there =
+    ap (λ (fs : List PlainFile). slice_get fs k) (with_bytes_is files k f bytes there)
+    ∙ set_there files k f (record f { bytes = bytes }) there
+
+set_again : (files : List PlainFile) (k : ℕ) (f g : PlainFile)
+    → slice_set (slice_set files k f) k g ≡ slice_set files k g
+set_again [] k f g = refl
+set_again (h ∷ files) zero f g = refl
+set_again (h ∷ files) (suc k) f g = ap (λ (fs : List PlainFile). h ∷ fs) (set_again files k f g)
+
+-- its bytes are the last ones
+pub with_bytes_again : (files : List PlainFile) (k : ℕ) (f : PlainFile) (bytes others : List ℕ)
+    → slice_get files k ≡ Some f
+    → with_bytes (with_bytes files k bytes) k others ≡ with_bytes files k others
+with_bytes_again files k f bytes others there =
+    with_bytes_is (with_bytes files k bytes) k (record f { bytes = bytes }) others
+    (handed_anew files k f bytes there)
+    ∙ ap (λ (fs : List PlainFile). slice_set fs k (record f { bytes = others }))
+    (with_bytes_is files k f bytes there)
+    ∙ set_again files k (record f { bytes = bytes }) (record f { bytes = others })
+    ∙ sym (with_bytes_is files k f others there)
+
+set_own : (files : List PlainFile) (k : ℕ) (f : PlainFile) → slice_get files k ≡ Some f
+    → slice_set files k f ≡ files
+set_own [] k f there = absurd cc
+set_own (h ∷ files) zero f there =
+    let same : h ≡ f = cc in ap (λ (g : PlainFile). g ∷ files) (sym same)
+set_own (h ∷ files) (suc k) f there =
+    ap (λ (fs : List PlainFile). h ∷ fs) (set_own files k f there)
+
+-- and its own ones change nothing
+pub with_bytes_own : (files : List PlainFile) (k : ℕ) (f : PlainFile)
+    → slice_get files k ≡ Some f → with_bytes files k f.bytes ≡ files
+with_bytes_own files k f there =
+    with_bytes_is files k f f.bytes there ∙ set_own files k f there
+
 -- ---- the files as a whole
 
 named_back : (files : List PlainFile) (k : ℕ) (f : PlainFile) (bytes : List ℕ) → slice_get files k ≡ Some f → (i : ℕ) (x : PlainFile) → slice_get (slice_set files k (record f { bytes = bytes })) i ≡ Some x
@@ -270,3 +315,52 @@ same_count before s t after later e same =
 pub same_many : (before : List PlainStatement) (s t : PlainStatement) (after later : List PlainStatement) → map placeless after ≡ map placeless later → length (before ++ s ∷ after) ≡ length (before ++ t ∷ later)
 same_many before s t after later same =
     length-append before (s ∷ after) ∙ ap (λ (n : ℕ). length before + suc n) (same_length placeless placeless after later same) ∙ sym (length-append before (t ∷ later))
+
+-- ---- all that is answered
+
+-- What is said of the statements is said of the others: of each theorem, how many statements there
+-- are and how many proofs, and which theorems have none.
+pub record SayAlike (statements others : List PlainStatement) : Type 0 where
+  pub to : Carries statements others
+  pub from : Carries others statements
+  pub left : unproved_of statements ≡ unproved_of others
+  pub many : length statements ≡ length others
+  pub count : proofs_of statements ≡ proofs_of others
+
+pub say_themselves : (statements : List PlainStatement) → SayAlike statements statements
+say_themselves statements = record {
+  to = carries_self statements;
+  from = carries_self statements;
+  left = refl;
+  many = refl;
+  count = refl;
+}
+
+pub say_on : (statements others more : List PlainStatement) → SayAlike statements others
+    → SayAlike others more → SayAlike statements more
+say_on statements others more one other = record {
+  to = carries_on statements others more one.to other.to;
+  from = carries_on more others statements other.from one.from;
+  left = one.left ∙ other.left;
+  many = one.many ∙ other.many;
+  count = one.count ∙ other.count;
+}
+
+pub said_same : (profile : Profile) (files others : List PlainFile) (st su : List PlainStatement)
+    → AreAccepted profile files st → AreAccepted profile others su → SayAlike st su
+    → SayTheSame profile files others st su
+said_same profile files others st su one other alike = record {
+  accepted = other;
+  told = alike.to.told;
+  verdict = λ v. (
+    verdict_carried profile files others st su one other alike.left alike.many alike.count v,
+    verdict_carried profile others files su st other one (sym alike.left) (sym alike.many)
+        (sym alike.count) v,
+  );
+  trees = λ id place t.
+      (tree_carried st su id place t alike.to, tree_carried su st id place t alike.from);
+  rests = λ label axioms unproved. (
+    report_carried st su label axioms unproved alike.to alike.from,
+    report_carried su st label axioms unproved alike.from alike.to,
+  );
+}

@@ -1,14 +1,17 @@
 -- Saving changes nothing that is answered, and saving again changes nothing.
 use Rattle.std.proofs.Common.{◌≡◌, ℕ, suc, ◌+◌, ◌≤◌, ◌<◌, List, [], ◌∷◌, ◌++◌, map, take, drop, length, slice_get, true, false, Some, None, inl, inr, refl, sym, ap, subst, ◌∙◌, arith, append_assoc, length-append, is_some}
+use Rattle.std.specs.List.{AllZip}
 use Rattle.std.proofs.Math.Seq.{take-append_seam, drop-append_seam}
 use Rattle.std.proofs.lemmas.Option.{same_Some}
+use Rattle.mm_text.specs.declared.statement.Kind.TheVariants.{Provable}
 use Rattle.mm_text.specs.Statement.{PlainStatement, HasForm}
 use Rattle.mm_text.specs.Files.{most_bytes, PlainFile}
-use Rattle.mm_text.specs.Replaced.{placeless, with_span, with_bytes, IsProofSpan, AreReadBut}
+use Rattle.mm_text.specs.Reading.{Reads}
+use Rattle.mm_text.specs.Replaced.{placeless, with_span, with_bytes, IsProofSpan, IsMoved}
+use Rattle.mm_text.specs.Replaced.{AreReadBut}
 use Rattle.mm_text.proofs.Lists.{all_front, split_at}
 use Rattle.mm_text.proofs.FormedLaws.{readings_are_formed_in_place}
 use Rattle.mm_text.proofs.ReplacedFiles.{replaced_proofs_are_read_holds}
-use Rattle.mm_text.proofs.ReplacedItems.{set_there}
 use Rattle.mm_text.proofs.ProofSpans.{proofs_stand_in_spans_holds}
 use Rattle.mm_code.specs.declared.code.Code.{Code}
 use Rattle.mm_code.specs.Letters.{SpellsCodes}
@@ -39,17 +42,21 @@ use Rattle.mm_check.specs.Rests.{IsNamed, IsAskFault}
 use Rattle.mm_check.specs.Compared.{IsTheorem}
 use Rattle.mm_check.specs.Forms.{HasProofTree, most_labels}
 use Rattle.mm_check.specs.Saved.{IsTextIn, IsSaved, FitsSaved, IsFormFault, total_with}
-use Rattle.mm_check.specs.SavedLaws.{SayTheSame, SavingChangesNoAnswer, SavedProofIsStrict, OneSaved, OneSaveAnswer, SavingAgainChangesNothing}
+use Rattle.mm_check.specs.SavedLaws.{SavingChangesNoAnswer, SavedProofIsStrict, OneSaved}
+use Rattle.mm_check.specs.SavedLaws.{OneSaveAnswer, SavingAgainChangesNothing}
+use Rattle.mm_check.proofs.AlikeVerdicts.{moved}
 use Rattle.mm_check.proofs.Asked.{map-take}
 use Rattle.mm_check.proofs.Existence.{formed_sentences}
 use Rattle.mm_check.proofs.Rereading.{same_reading, said_there, one_stands}
-use Rattle.mm_check.proofs.Saving.{provable_proof, with_bytes_is}
+use Rattle.mm_check.proofs.Saving.{provable_proof}
 use Rattle.mm_check.proofs.Trees.{any_proof}
 use Rattle.mm_check.proofs.Unproved.{all_meant, proof_not_unproved}
 use Rattle.mm_check.proofs.SavedTokens.{is_proof_text}
 use Rattle.mm_check.proofs.SavedProofs.{ReadsAsProof, text_reads, tree_derives}
-use Rattle.mm_check.proofs.SavedStatements.{Carries, tree_carried, report_carried}
-use Rattle.mm_check.proofs.SavedFiles.{put_anew, IsProvedAnew, proved_anew, anew_alike, alike_anew, carries_of, all_obey_anew, readable_anew, verdict_carried, same_left, same_count, same_many, seam_at}
+use Rattle.mm_check.proofs.SavedFiles.{put_anew, IsProvedAnew, proved_anew, anew_alike, alike_anew}
+use Rattle.mm_check.proofs.SavedFiles.{carries_of, all_obey_anew, readable_anew, handed_anew}
+use Rattle.mm_check.proofs.SavedFiles.{same_left, same_count, same_many, seam_at}
+use Rattle.mm_check.proofs.SavedFiles.{SayAlike, said_same}
 
 pub front_meant : (profile : Profile) (statements : List PlainStatement) (n : ℕ) → AllObey profile statements → AllMeant (sentences (take n statements))
 front_meant profile statements n obeyed = subst AllMeant (sym (map-take n statements)) (allmeant_front (sentences statements) n (all_meant profile statements obeyed))
@@ -58,7 +65,8 @@ front_meant profile statements n obeyed = subst AllMeant (sym (map-take n statem
 
 -- what is known of a theorem whose proof is to be written anew
 pub record IsToPut (profile : Profile) (f : Form) (files : List PlainFile) (before : List PlainStatement) (s : PlainStatement) (after : List PlainStatement) (file : PlainFile) (text : List ℕ) : Type 0 where
-  pub accepted : AreAccepted profile files (before ++ s ∷ after)
+  pub reads : Reads files (before ++ s ∷ after) None
+  pub obeyed : AllObey profile (before ++ s ∷ after)
   pub complete : is_proof s ≡ true
   pub root : List ℕ
   pub below : Trees
@@ -67,9 +75,8 @@ pub record IsToPut (profile : Profile) (f : Form) (files : List PlainFile) (befo
   pub made : MakeTree (sentences before) moves root below
   pub laid : IsTextIn f (sentences before) (sentence_of s) (tree root below none) text
   pub handed : slice_get files s.first.file ≡ Some file
-  pub fits : total_with files s.first.file (with_span file.bytes s.span (10 ∷ text)) ≤ most_bytes
 
-abbrev files_anew : List PlainFile → PlainStatement → PlainFile → List ℕ → List PlainFile
+abbrev pub files_anew : List PlainFile → PlainStatement → PlainFile → List ℕ → List PlainFile
 files_anew files s file text = with_bytes files s.first.file (with_span file.bytes s.span (10 ∷ text))
 
 meant_before : (profile : Profile) (before : List PlainStatement) (s : PlainStatement) (after : List PlainStatement) → AllObey profile (before ++ s ∷ after) → AllMeant (sentences before)
@@ -82,23 +89,26 @@ pub anew_of : (profile : Profile) (f : Form) (files : List PlainFile) (before : 
 anew_of profile f files before s after file text p =
     let front : List Sentence = sentences before in
     let Fits : List (List ℕ) → Type 0 = IsWithin (limit_of profile) in
-    let meant : AllMeant front = meant_before profile before s after p.accepted.obeyed in
+    let meant : AllMeant front = meant_before profile before s after p.obeyed in
     let old : IsProvedWithin Fits front (sentence_of s) (proof_of s) =
-    ((p.accepted.obeyed before after s refl).proved p.complete).1 in
+    ((p.obeyed before after s refl).proved p.complete).1 in
     let fit : Fit front (tree p.root p.below none) =
     derive_fits Fits front (tree p.root p.below none) ((sentence_of s).symbols ∷ []) (tree_derives Fits front (sentence_of s) (proof_of s) p.moves p.root p.below meant old p.told p.made) in
     let formed : AllFormed front =
     formed_sentences before (all_front HasForm before (s ∷ after)
-    (readings_are_formed_in_place files (before ++ s ∷ after) None p.accepted.reads).formed) in
+    (readings_are_formed_in_place files (before ++ s ∷ after) None p.reads).formed) in
     let ra = text_reads f front (sentence_of s) p.root p.below text meant formed fit p.laid in
     (ra, proved_anew profile front s p.root p.below p.moves text meant p.complete old p.told p.made ra)
 
+-- the files with the text put in read as what obeys the profile
 pub record ArePutAnew (profile : Profile) (files : List PlainFile) (before : List PlainStatement) (s : PlainStatement) (after : List PlainStatement) (file : PlainFile) (text : List ℕ) : Type 0 where
   pub later : List PlainStatement
-  pub accepted : AreAccepted profile (files_anew files s file text) (before ++ put_anew s (10 ∷ text) ∷ later)
+  pub reads : Reads (files_anew files s file text) (before ++ put_anew s (10 ∷ text) ∷ later) None
+  pub obeyed : AllObey profile (before ++ put_anew s (10 ∷ text) ∷ later)
   pub same : map placeless after ≡ map placeless later
+  pub moved : AllZip (λ u v. u.kind ≡ Provable
+      → IsMoved s.first.file s.span.1 (s.span.0 + length (10 ∷ text)) u v) after later
 
--- the files with the text put in are accepted
 pub are_put_anew : (profile : Profile) (f : Form) (files : List PlainFile) (before : List PlainStatement) (s : PlainStatement) (after : List PlainStatement) (file : PlainFile) (text : List ℕ) → IsToPut profile f files before s after file text
     → ArePutAnew profile files before s after file text
 are_put_anew profile f files before s after file text p =
@@ -106,81 +116,135 @@ are_put_anew profile f files before s after file text p =
     let ra = both.0 in
     let new = both.1 in
     let read : AreReadBut (files_anew files s file text) before s after (10 ∷ text) =
-    replaced_proofs_are_read_holds files before s after file (10 ∷ text) p.accepted.reads (provable_proof s p.complete) p.handed (is_proof_text text ra.tokens ra.read ra.fine ra.ends) in
+    replaced_proofs_are_read_holds files before s after file (10 ∷ text) p.reads
+    (provable_proof s p.complete) p.handed
+    (is_proof_text text ra.tokens ra.read ra.fine ra.ends) in
     let t : PlainStatement = put_anew s (10 ∷ text) in
     let obeys : Obeys profile (sentences before) t = record {
-      meant = (p.accepted.obeyed before after s refl).meant;
+      meant = (p.obeyed before after s refl).meant;
       proved = λ complete. new.under;
       known = λ unproved. absurd
           (let none_left : is_unproved t ≡ false = proof_not_unproved t new.complete in cc);
     } in
     record {
       later = read.later;
-      accepted = record {
-        readable = readable_anew files s.first.file file (with_span file.bytes s.span (10 ∷ text)) p.handed p.fits p.accepted.readable;
-        reads = read.reads;
-        obeyed = all_obey_anew profile before s (put_anew s (10 ∷ text)) after read.later refl read.same p.accepted.obeyed obeys;
-      };
+      reads = read.reads;
+      obeyed = all_obey_anew profile before s t after read.later refl read.same p.obeyed obeys;
       same = read.same;
+      moved = read.moved;
     }
 
-pub same_said : (profile : Profile) (f : Form) (files : List PlainFile) (before : List PlainStatement) (s : PlainStatement) (after : List PlainStatement) (file : PlainFile) (text : List ℕ) (p : IsToPut profile f files before s after file text)
-    → (put : ArePutAnew profile files before s after file text) → SayTheSame profile files (files_anew files s file text) (before ++ s ∷ after) (before ++ put_anew s (10 ∷ text) ∷ put.later)
-same_said profile f files before s after file text p put =
+-- and say alike what is answered
+pub put_says_alike : (profile : Profile) (f : Form) (files : List PlainFile)
+    (before : List PlainStatement) (s : PlainStatement) (after : List PlainStatement)
+    (file : PlainFile) (text : List ℕ) → IsToPut profile f files before s after file text
+    → (later : List PlainStatement) → map placeless after ≡ map placeless later
+    → SayAlike (before ++ s ∷ after) (before ++ put_anew s (10 ∷ text) ∷ later)
+put_says_alike profile f files before s after file text p later same =
     let front : List Sentence = sentences before in
     let t : PlainStatement = put_anew s (10 ∷ text) in
-    let st : List PlainStatement = before ++ s ∷ after in
-    let su : List PlainStatement = before ++ t ∷ put.later in
-    let others : List PlainFile = files_anew files s file text in
-    let meant : AllMeant front = meant_before profile before s after p.accepted.obeyed in
+    let meant : AllMeant front = meant_before profile before s after p.obeyed in
     let old = any_proof profile front (sentence_of s) (proof_of s)
-    ((p.accepted.obeyed before after s refl).proved p.complete).1 in
-    let both = anew_of profile f files before s after file text p in
-    let new : IsProvedAnew profile front t p.root p.below = both.1 in
-    let to : Carries st su = carries_of before s t after put.later put.same (anew_alike profile front s p.root p.below p.moves (10 ∷ text) meant p.complete p.told p.made new) in
-    let from : Carries su st = carries_of before t s put.later after (sym put.same) (alike_anew profile front s p.root p.below p.moves (10 ∷ text) meant p.complete old p.told p.made new) in
-    let left = same_left before s t after put.later (proof_not_unproved s p.complete) (proof_not_unproved t new.complete) put.same in
-    let many = same_many before s t after put.later put.same in
-    let count = same_count before s t after put.later (p.complete ∙ sym new.complete) put.same in
+    ((p.obeyed before after s refl).proved p.complete).1 in
+    let new : IsProvedAnew profile front t p.root p.below =
+    (anew_of profile f files before s after file text p).1 in
     record {
-      accepted = put.accepted;
-      told = to.told;
-      verdict = λ v. (verdict_carried profile files others st su p.accepted put.accepted left many count v, verdict_carried profile others files su st put.accepted p.accepted (sym left) (sym many) (sym count) v);
-      trees = λ id place u. (tree_carried st su id place u to, tree_carried su st id place u from);
-      rests = λ label axioms unproved. (report_carried st su label axioms unproved to from, report_carried su st label axioms unproved from to);
+      to = carries_of before s t after later same
+          (anew_alike profile front s p.root p.below p.moves (10 ∷ text) meant p.complete p.told
+          p.made new);
+      from = carries_of before t s later after (sym same)
+          (alike_anew profile front s p.root p.below p.moves (10 ∷ text) meant p.complete old p.told
+          p.made new);
+      left = same_left before s t after later (proof_not_unproved s p.complete)
+          (proof_not_unproved t new.complete) same;
+      many = same_many before s t after later same;
+      count = same_count before s t after later (p.complete ∙ sym new.complete) same;
     }
 
 -- ---- what is saved is put in
 
-pub to_put : (profile : Profile) (f : Form) (files : List PlainFile) (statements : List PlainStatement) (label : List ℕ) (number : ℕ) (bytes : List ℕ) → AreAccepted profile files statements → (sv : IsSaved f files statements label number bytes)
-    → FitsSaved files number bytes → IsToPut profile f files (take sv.place statements) sv.s (drop (suc sv.place) statements) sv.file sv.text
-to_put profile f files statements label number bytes accepted sv fits =
-    let parted : statements ≡ take sv.place statements ++ sv.s ∷ drop (suc sv.place) statements = split_at statements sv.place sv.s sv.proof.there in
+-- a text of the tree of a proof
+pub to_put : (profile : Profile) (f : Form) (statements : List PlainStatement) (label : List ℕ)
+    (place : ℕ) (root : List ℕ) (below : Trees) (files : List PlainFile)
+    (before : List PlainStatement) (s : PlainStatement) (after : List PlainStatement)
+    (file : PlainFile) (text : List ℕ) → HasProofTree statements label place s root below
+    → IsTextIn f (sentences (take place statements)) (sentence_of s) (tree root below none) text
+    → sentences (take place statements) ≡ sentences before
+    → Reads files (before ++ s ∷ after) None → AllObey profile (before ++ s ∷ after)
+    → slice_get files s.first.file ≡ Some file
+    → IsToPut profile f files before s after file text
+to_put profile f statements label place root below files before s after file text proof laid front
+    reads obeyed handed = record {
+      reads = reads;
+      obeyed = obeyed;
+      complete = proof.complete;
+      root = root;
+      below = below;
+      moves = proof.moves;
+      told = subst (λ (ss : List Sentence). SayMoves ss (sentence_of s) (proof_of s) proof.moves)
+          front proof.told;
+      made = subst (λ (ss : List Sentence). MakeTree ss proof.moves root below) front proof.made;
+      laid = subst (λ (ss : List Sentence).
+          IsTextIn f ss (sentence_of s) (tree root below none) text) front laid;
+      handed = handed;
+    }
+
+-- what is known of the theorem that is saved, and of the files with it
+pub record IsPutAndRead (profile : Profile) (f : Form) (files : List PlainFile)
+    (statements : List PlainStatement) (label : List ℕ) (number : ℕ) (bytes : List ℕ)
+    (sv : IsSaved f files statements label number bytes) : Type 0 where
+  pub parted : statements ≡ take sv.place statements ++ sv.s ∷ drop (suc sv.place) statements
+  pub to_put : IsToPut profile f files (take sv.place statements) sv.s
+      (drop (suc sv.place) statements) sv.file sv.text
+  pub put : ArePutAnew profile files (take sv.place statements) sv.s
+      (drop (suc sv.place) statements) sv.file sv.text
+  pub changed : files_anew files sv.s sv.file sv.text ≡ with_bytes files number bytes
+  pub accepted : AreAccepted profile (with_bytes files number bytes)
+      (take sv.place statements ++ put_anew sv.s (10 ∷ sv.text) ∷ put.later)
+
+pub put_and_read : (profile : Profile) (f : Form) (files : List PlainFile)
+    (statements : List PlainStatement) (label : List ℕ) (number : ℕ) (bytes : List ℕ)
+    → AreAccepted profile files statements
+    → (sv : IsSaved f files statements label number bytes) → FitsSaved files number bytes
+    → IsPutAndRead profile f files statements label number bytes sv
+put_and_read profile f files statements label number bytes accepted sv fits =
+    let before : List PlainStatement = take sv.place statements in
+    let after : List PlainStatement = drop (suc sv.place) statements in
+    let parted : statements ≡ before ++ sv.s ∷ after = split_at statements sv.place sv.s sv.proof.there in
+    let p : IsToPut profile f files before sv.s after sv.file sv.text =
+    to_put profile f statements label sv.place sv.root sv.below files before sv.s after sv.file
+    sv.text sv.proof sv.laid refl
+    (subst (λ (ss : List PlainStatement). Reads files ss None) parted accepted.reads)
+    (subst (λ (ss : List PlainStatement). AllObey profile ss) parted accepted.obeyed)
+    (ap (slice_get files) (sym sv.home) ∙ sv.handed) in
+    let put = are_put_anew profile f files before sv.s after sv.file sv.text p in
+    let su : List PlainStatement = before ++ put_anew sv.s (10 ∷ sv.text) ∷ put.later in
+    let changed : files_anew files sv.s sv.file sv.text ≡ with_bytes files number bytes =
+    λ i. with_bytes files (sym sv.home i) (sym sv.whole i) in
     record {
-      accepted = subst (λ (ss : List PlainStatement). AreAccepted profile files ss) parted accepted;
-      complete = sv.proof.complete;
-      root = sv.root;
-      below = sv.below;
-      moves = sv.proof.moves;
-      told = sv.proof.told;
-      made = sv.proof.made;
-      laid = sv.laid;
-      handed = ap (slice_get files) (sym sv.home) ∙ sv.handed;
-      fits = subst (λ (n : ℕ). n ≤ most_bytes) (λ i. total_with files (sv.home i) (sv.whole i)) fits;
+      parted = parted;
+      to_put = p;
+      put = put;
+      changed = changed;
+      accepted = record {
+        readable = readable_anew files number sv.file bytes sv.handed fits accepted.readable;
+        reads = subst (λ (fs : List PlainFile). Reads fs su None) changed put.reads;
+        obeyed = put.obeyed;
+      };
     }
 
 pub saving_changes_no_answer : SavingChangesNoAnswer
 saving_changes_no_answer profile f files statements label number bytes accepted sv fits =
     let before : List PlainStatement = take sv.place statements in
     let after : List PlainStatement = drop (suc sv.place) statements in
-    let parted : statements ≡ before ++ sv.s ∷ after = split_at statements sv.place sv.s sv.proof.there in
-    let p = to_put profile f files statements label number bytes accepted sv fits in
-    let put = are_put_anew profile f files before sv.s after sv.file sv.text p in
-    let su : List PlainStatement = before ++ put_anew sv.s (10 ∷ sv.text) ∷ put.later in
-    let others : files_anew files sv.s sv.file sv.text ≡ with_bytes files number bytes = λ i. with_bytes files (sym sv.home i) (sym sv.whole i) in (
+    let r = put_and_read profile f files statements label number bytes accepted sv fits in
+    let su : List PlainStatement = before ++ put_anew sv.s (10 ∷ sv.text) ∷ r.put.later in
+    let alike : SayAlike (before ++ sv.s ∷ after) su =
+    put_says_alike profile f files before sv.s after sv.file sv.text r.to_put r.put.later
+    r.put.same in (
       su,
-      subst (λ (ss : List PlainStatement). SayTheSame profile files (with_bytes files number bytes) ss su) (sym parted)
-          (subst (λ (fs : List PlainFile). SayTheSame profile files fs (before ++ sv.s ∷ after) su) others (same_said profile f files before sv.s after sv.file sv.text p put)),
+      said_same profile files (with_bytes files number bytes) statements su accepted r.accepted
+          (subst (λ (ss : List PlainStatement). SayAlike ss su) (sym r.parted) alike),
     )
 
 -- the statement that has the label then has a proof in the strict form
@@ -210,17 +274,13 @@ pub saved_proof_is_strict : SavedProofIsStrict
 saved_proof_is_strict profile f files statements same label number bytes accepted sv fits reads =
     let before : List PlainStatement = take sv.place statements in
     let after : List PlainStatement = drop (suc sv.place) statements in
-    let p = to_put profile f files statements label number bytes accepted sv fits in
-    let put = are_put_anew profile f files before sv.s after sv.file sv.text p in
-    let su : List PlainStatement = before ++ put_anew sv.s (10 ∷ sv.text) ∷ put.later in
-    let changed : files_anew files sv.s sv.file sv.text ≡ with_bytes files number bytes =
-    λ i. with_bytes files (sym sv.home i) (sym sv.whole i) in
-    let ok : AreAccepted profile (with_bytes files number bytes) su =
-    subst (λ (fs : List PlainFile). AreAccepted profile fs su) changed put.accepted in
+    let r = put_and_read profile f files statements label number bytes accepted sv fits in
+    let su : List PlainStatement = before ++ put_anew sv.s (10 ∷ sv.text) ∷ r.put.later in
     let read : same ≡ su =
-    (same_reading (with_bytes files number bytes) same su None None reads ok.reads).0 in
+    (same_reading (with_bytes files number bytes) same su None None reads r.accepted.reads).0 in
     subst (λ (ss : List PlainStatement). HasStrictProof ss label) (sym read)
-    (strict_anew profile f files before sv.s after sv.file sv.text label sv.proof.named p put.later)
+    (strict_anew profile f files before sv.s after sv.file sv.text label sv.proof.named r.to_put
+    r.put.later)
 
 -- ---- what is saved is one
 
@@ -253,15 +313,37 @@ one_proof_tree profile statements label place other s t root under below beneath
     subst (λ (u : PlainStatement). HasProofTree statements label place u under beneath) same (subst (λ (n : ℕ). HasProofTree statements label n t under beneath) here k) in
     (here, (same, one_tree_made (sentences (take place statements)) (sentence_of s) (proof_of s) moved.moves h.moves under root beneath below (front_meant profile statements place obeyed) moved.told h.told moved.made h.made))
 
+-- and its text is one
+pub one_text_of : (profile : Profile) (f : Form) (statements : List PlainStatement) (label : List ℕ)
+    (place other : ℕ) (s t : PlainStatement) (root under : List ℕ) (below beneath : Trees)
+    (a b : List ℕ) → AllObey profile statements
+    → HasProofTree statements label place s root below
+    → HasProofTree statements label other t under beneath
+    → IsTextIn f (sentences (take place statements)) (sentence_of s) (tree root below none) a
+    → IsTextIn f (sentences (take other statements)) (sentence_of t) (tree under beneath none) b
+    → a ≡ b
+one_text_of profile f statements label place other s t root under below beneath a b obeyed h k one
+    two =
+    let (here, (same, trees)) = one_proof_tree profile statements label place other s t root under
+    below beneath obeyed h k in
+    let front : List Sentence = sentences (take place statements) in
+    let laid : IsTextIn f front (sentence_of s) (tree root below none) b =
+    subst (λ (u : Trees). IsTextIn f front (sentence_of s) u b) trees
+    (subst (λ (u : PlainStatement).
+    IsTextIn f front (sentence_of u) (tree under beneath none) b) same
+    (subst (λ (n : ℕ).
+    IsTextIn f (sentences (take n statements)) (sentence_of t) (tree under beneath none) b)
+    here two)) in
+    texts_once f front (sentence_of s) root below a b (front_meant profile statements place obeyed)
+    one laid
+
 pub one_saved : OneSaved
 one_saved profile f files statements label number other bytes others accepted sv sw =
-    let (here, (same, trees)) = one_proof_tree profile statements label sv.place sw.place sv.s sw.s sv.root sw.root sv.below sw.below accepted.obeyed sv.proof sw.proof in
-    let front : List Sentence = sentences (take sv.place statements) in
-    let laid : IsTextIn f front (sentence_of sv.s) (tree sv.root sv.below none) sw.text =
-    subst (λ (t : Trees). IsTextIn f front (sentence_of sv.s) t sw.text) trees
-    (subst (λ (s : PlainStatement). IsTextIn f front (sentence_of s) (tree sw.root sw.below none) sw.text) same
-    (subst (λ (n : ℕ). IsTextIn f (sentences (take n statements)) (sentence_of sw.s) (tree sw.root sw.below none) sw.text) here sw.laid)) in
-    let text : sv.text ≡ sw.text = texts_once f front (sentence_of sv.s) sv.root sv.below sv.text sw.text (front_meant profile statements sv.place accepted.obeyed) sv.laid laid in
+    let same : sw.s ≡ sv.s = (one_proof_tree profile statements label sv.place sw.place sv.s sw.s
+    sv.root sw.root sv.below sw.below accepted.obeyed sv.proof sw.proof).1.0 in
+    let text : sv.text ≡ sw.text =
+    one_text_of profile f statements label sv.place sw.place sv.s sw.s sv.root sw.root sv.below
+    sw.below sv.text sw.text accepted.obeyed sv.proof sw.proof sv.laid sw.laid in
     let home : number ≡ other = sv.home ∙ ap (λ (s : PlainStatement). s.first.file) (sym same) ∙ sym sw.home in
     let file : sv.file ≡ sw.file = same_Some sv.file sw.file (sym sv.handed ∙ ap (slice_get files) home ∙ sw.handed) in
     (home, sv.whole ∙ (λ i. with_span (file i).bytes (sym same i).span (10 ∷ text i)) ∙ sym sw.whole)
@@ -362,25 +444,26 @@ again_saved profile f files label before s after file text named p put =
       laid = subst (λ (ss : List Sentence). IsTextIn f ss (sentence_of s) (tree p.root p.below none) text) front p.laid;
       home = refl;
       file = record file { bytes = bytes };
-      handed = ap (λ (fs : List PlainFile). slice_get fs s.first.file) (with_bytes_is files s.first.file file bytes p.handed) ∙ set_there files s.first.file file (record file { bytes = bytes }) p.handed;
-      whole = sym (put_again s file.bytes (10 ∷ text) (proofs_stand_in_spans_holds files before s after file p.accepted.reads (provable_proof s p.complete) p.handed));
+      handed = handed_anew files s.first.file file bytes p.handed;
+      whole = sym (put_again s file.bytes (10 ∷ text)
+          (proofs_stand_in_spans_holds files before s after file p.reads
+          (provable_proof s p.complete) p.handed));
     }
 
 pub saving_again : SavingAgainChangesNothing
 saving_again profile f files statements same label number again bytes others accepted sv fits reads sw =
     let before : List PlainStatement = take sv.place statements in
     let after : List PlainStatement = drop (suc sv.place) statements in
-    let p = to_put profile f files statements label number bytes accepted sv fits in
-    let put = are_put_anew profile f files before sv.s after sv.file sv.text p in
-    let su : List PlainStatement = before ++ put_anew sv.s (10 ∷ sv.text) ∷ put.later in
-    let changed : files_anew files sv.s sv.file sv.text ≡ with_bytes files number bytes = λ i. with_bytes files (sym sv.home i) (sym sv.whole i) in
-    let ok : AreAccepted profile (with_bytes files number bytes) su = subst (λ (fs : List PlainFile). AreAccepted profile fs su) changed put.accepted in
-    let own : IsSaved f (with_bytes files number bytes) su label number bytes =
-    subst (λ (b : List ℕ). IsSaved f (with_bytes files number bytes) su label number b) (sym sv.whole)
-    (subst (λ (n : ℕ). IsSaved f (with_bytes files number bytes) su label n (with_span sv.file.bytes sv.s.span (10 ∷ sv.text))) (sym sv.home)
-    (subst (λ (fs : List PlainFile). IsSaved f fs su label sv.s.first.file (with_span sv.file.bytes sv.s.span (10 ∷ sv.text))) changed
-    (again_saved profile f files label before sv.s after sv.file sv.text sv.proof.named p put))) in
-    let read : same ≡ su = (same_reading (with_bytes files number bytes) same su None None reads ok.reads).0 in
-    let once = one_saved profile f (with_bytes files number bytes) su label number again bytes others ok own
-    (subst (λ (ss : List PlainStatement). IsSaved f (with_bytes files number bytes) ss label again others) read sw) in
+    let r = put_and_read profile f files statements label number bytes accepted sv fits in
+    let su : List PlainStatement = before ++ put_anew sv.s (10 ∷ sv.text) ∷ r.put.later in
+    let anew : List PlainFile = with_bytes files number bytes in
+    let own : IsSaved f anew su label number bytes =
+    moved (λ (fs : List PlainFile) (n : ℕ) (b : List ℕ). IsSaved f fs su label n b)
+    (files_anew files sv.s sv.file sv.text) anew sv.s.first.file number
+    (with_span sv.file.bytes sv.s.span (10 ∷ sv.text)) bytes r.changed (sym sv.home) (sym sv.whole)
+    (again_saved profile f files label before sv.s after sv.file sv.text sv.proof.named r.to_put
+    r.put) in
+    let read : same ≡ su = (same_reading anew same su None None reads r.accepted.reads).0 in
+    let once = one_saved profile f anew su label number again bytes others r.accepted own
+    (subst (λ (ss : List PlainStatement). IsSaved f anew ss label again others) read sw) in
     (sym once.0, sym once.1)

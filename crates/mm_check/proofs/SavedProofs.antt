@@ -1,5 +1,5 @@
 -- A text in one of the two forms is a proof of its theorem.
-use Rattle.std.proofs.Common.{◌≡◌, ℕ, suc, ◌≤◌, List, [], ◌∷◌, ◌++◌, Contains, refl, sym, subst, ◌∙◌, arith}
+use Rattle.std.proofs.Common.{◌≡◌, ℕ, suc, List, [], ◌∷◌, ◌++◌, Contains, refl, sym, subst, arith}
 use Rattle.std.specs.List.{AllByRecursion}
 use Rattle.mm_text.specs.Token.{IsLabel}
 use Rattle.mm_text.proofs.Lists.{all_weaker}

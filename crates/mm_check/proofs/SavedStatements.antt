@@ -44,6 +44,41 @@ pub record Carries (statements others : List PlainStatement) : Type 0 where
 pub front_told : (statements others : List PlainStatement) (place : ℕ) → sentences statements ≡ sentences others → sentences (take place statements) ≡ sentences (take place others)
 front_told statements others place told = map-take place statements ∙ ap (take place) told ∙ sym (map-take place others)
 
+-- to themselves
+pub carries_self : (statements : List PlainStatement) → Carries statements statements
+carries_self statements = record {
+  told = refl;
+  at = λ place s there.
+      (s, there, alike_at (sentences (take place statements)) s s refl refl);
+}
+
+-- and on
+alike_on : (front : List Sentence) (s t u : PlainStatement) → AreAlikeAt front s t
+    → AreAlikeAt front t u → AreAlikeAt front s u
+alike_on front s t u one other = record {
+  said = one.said ∙ other.said;
+  proofs = one.proofs ∙ other.proofs;
+  unproved = one.unproved ∙ other.unproved;
+  tree = λ complete p.
+      let (q, same) = one.tree complete p in
+      let (r, alike) = other.tree (sym one.proofs ∙ complete) q in
+      (r, same ∙ alike);
+}
+
+pub carries_on : (statements others more : List PlainStatement) → Carries statements others
+    → Carries others more → Carries statements more
+carries_on statements others more one other = record {
+  told = one.told ∙ other.told;
+  at = λ place s there.
+      let (t, here, alike) = one.at place s there in
+      let (u, found, further) = other.at place t here in
+      let front : sentences (take place others) ≡ sentences (take place statements) =
+      sym (front_told statements others place one.told) in
+      let moved : AreAlikeAt (sentences (take place statements)) t u =
+      subst (λ (ss : List Sentence). AreAlikeAt ss t u) front further in
+      (u, found, alike_on (sentences (take place statements)) s t u alike moved);
+}
+
 place_carried : (statements others : List PlainStatement) (id place : ℕ) (s t : PlainStatement) → sentences statements ≡ sentences others → sentence_of s ≡ sentence_of t → slice_get others place ≡ Some t
     → IsAt statements id place s → IsAt others id place t
 place_carried statements others id place s t told said there at = record {

@@ -135,6 +135,16 @@ complete_where_none before after s formed none provable =
     (no_part (unproved_of before) (unproved_of (s ∷ after)) (sym (unproved_of-append before (s ∷ after)) ∙ none)).1 in
     not_listed s after (first_formed before s after formed) provable rest (is_incomplete (proof_of s)) refl
 
+-- so none is incomplete
+pub none_incomplete : (before after : List PlainStatement) (s : PlainStatement)
+    → AllByRecursion HasForm (before ++ s ∷ after) → unproved_of (before ++ s ∷ after) ≡ []
+    → is_unproved s ≡ true → ⊥
+none_incomplete before after s formed none open_one =
+    let provable = provable_kind s.kind (is_incomplete (proof_of s)) open_one in
+    let complete = complete_where_none before after s formed none provable in
+    let proved = proof_not_unproved s (proof_there s provable complete) in
+    cc
+
 -- a statement that isn't an incomplete `$p` isn't listed
 not_unproved : (kind : Kind) (incomplete : Bool) → (kind ≡ Provable → incomplete ≡ false) → (is_provable kind && incomplete) ≡ false
 not_unproved Provable incomplete h = h refl

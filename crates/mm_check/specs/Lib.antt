@@ -7,9 +7,11 @@ pub mod Shown
 pub mod Forms
 pub mod Compared
 pub mod Saved
+pub mod AllSaved
 pub mod Answer
 pub mod Mirror
 pub mod Laws
 pub mod FormLaws
 pub mod SavedLaws
+pub mod AllSavedLaws
 pub mod Alike

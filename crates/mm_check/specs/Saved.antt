@@ -13,7 +13,7 @@ use Rattle.mm_check.specs.declared.form.Form.TheVariants.{Normal, Packed}
 use Rattle.mm_check.specs.declared.ask.AskFault.{AskFault}
 use Rattle.mm_check.specs.declared.ask.AskFault.TheVariants.{F3}
 use Rattle.mm_check.specs.declared.save.SaveFault.{SaveFault}
-use Rattle.mm_check.specs.declared.save.SaveFault.TheVariants.{Check, Ask}
+use Rattle.mm_check.specs.declared.save.SaveFault.TheVariants.{Check, Ask, TooLong}
 use Rattle.mm_check.specs.Verdict.{Verdict, HasVerdict, AreAccepted, sentences}
 use Rattle.mm_check.specs.Answer.{verdict_of_fault}
 use Rattle.mm_check.specs.Rests.{IsAskFault}
@@ -71,3 +71,4 @@ IsSavingFault form files label (Check fault) =
 IsSavingFault form files label (Ask fault) =
     (statements : List PlainStatement) × AreAccepted Lenient files statements
     × IsSaveFault form files statements label fault
+IsSavingFault form files label (TooLong other) = ⊥

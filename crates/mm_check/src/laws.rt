@@ -1,6 +1,9 @@
 //! Laws of verdicts and of reports. The functions do nothing: their contracts are the laws.
 
 ghost use Rattle.mm_check.specs.Alike.{AlikeFilesHaveOneReply};
+ghost use Rattle.mm_check.specs.AllSavedLaws.{SavingAllChangesNoAnswer, AllSavedProofsAreStrict};
+ghost use Rattle.mm_check.specs.AllSavedLaws.{OneAllSaved, SavingAllAgainChangesNothing};
+ghost use Rattle.mm_check.specs.AllSavedLaws.{SavingInTurnIsSavingAll, PackedFilesAreStrict};
 ghost use Rattle.mm_check.specs.FormLaws.{PackedTextsTell};
 ghost use Rattle.mm_check.specs.Laws.{OneVerdict, SomeVerdict, BetweenProfiles, OneReport};
 ghost use Rattle.mm_check.specs.SavedLaws.{SavingChangesNoAnswer, SavedProofIsStrict, OneSaved};
@@ -70,4 +73,39 @@ pub fn one_save_answer()
 /// Saving a theorem again in the same form gives equal bytes.
 pub fn saving_again_changes_nothing()
     ensures { SavingAgainChangesNothing }
+{}
+
+/// Saving all proofs of a file changes nothing that is answered: with the new bytes in place of the
+/// old, the files have the same verdict, each complete proof has the same tree, and each theorem
+/// rests on the same axioms and unproved theorems.
+pub fn saving_all_changes_no_answer()
+    ensures { SavingAllChangesNoAnswer }
+{}
+
+/// Each proof that saving all proofs of a file puts in has the strict form, whatever the profile is
+/// in which the files are accepted.
+pub fn all_saved_proofs_are_strict()
+    ensures { AllSavedProofsAreStrict }
+{}
+
+/// What is saved of all proofs of a file in a form is one: its bytes.
+pub fn one_all_saved()
+    ensures { OneAllSaved }
+{}
+
+/// Saving all proofs of a file again in the same form gives equal bytes.
+pub fn saving_all_again_changes_nothing()
+    ensures { SavingAllAgainChangesNothing }
+{}
+
+/// Saving the complete theorems of a file one after the other, in any order, each over the files
+/// with the bytes before in their place, gives the bytes that saving all of them at once gives.
+pub fn saving_in_turn_is_saving_all()
+    ensures { SavingInTurnIsSavingAll }
+{}
+
+/// Where every proof is complete, and each file was saved with its proofs packed, one file after
+/// the other in any order, the strict profile accepts the files.
+pub fn packed_files_are_strict()
+    ensures { PackedFilesAreStrict }
 {}

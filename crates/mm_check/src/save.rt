@@ -24,6 +24,10 @@ pub enum SaveFault<'a> {
     /// The question about the theorem has no answer.
     #[error("{0}")]
     Ask(AskFault),
+    /// Of a whole file that is saved: the normal proof of the `$p` with this label, which is the
+    /// first one, has over 16,777,216 labels.
+    #[error("a normal proof has too many labels")]
+    TooLong { label: &'a [u8] },
 }
 
 /// The number of the file in which the `$p` with a label stands, and the bytes of that file with the

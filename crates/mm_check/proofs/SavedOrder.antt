@@ -1,0 +1,389 @@
+-- Saving the theorems of a file one after the other gives what saving all of them at once gives.
+use Rattle.std.proofs.Common.{◌≡◌, ℕ, suc, ◌+◌, ◌<◌, List, [], ◌∷◌, ◌++◌, map, take, drop, length}
+use Rattle.std.proofs.Common.{slice_get, true, ◌⊎◌, inl, inr, Some, None, refl, sym, ap, subst}
+use Rattle.std.proofs.Common.{◌∙◌, arith}
+use Rattle.std.specs.List.{AllZip, AllByRecursion, Contains}
+use Rattle.std.proofs.lemmas.List.Elements.{recursion_from_All, All-contains_itself}
+use Rattle.std.proofs.lemmas.Option.{same_Some, slice_get_within}
+use Rattle.mm_text.specs.Statement.{PlainStatement}
+use Rattle.mm_text.specs.Files.{PlainFile}
+use Rattle.mm_text.specs.Replaced.{with_span, with_bytes}
+use Rattle.mm_text.proofs.Lists.{all_append, all_front, all_back, get_kept, get_after}
+use Rattle.mm_text.proofs.Lists.{all_there, all_filtered, zip_weaker, zip_append, zip_each}
+use Rattle.mm_text.proofs.Lists.{zip_length, zip_on, ZipParts, zip_parts}
+use Rattle.mm_frame.specs.Sentence.{Sentence, sentence_of, IsLabelled}
+use Rattle.mm_frame.proofs.Meant.{one_label}
+use Rattle.mm_proof.specs.declared.profile.Profile.{Profile}
+use Rattle.mm_proof.proofs.Searches.{contains_cases}
+use Rattle.mm_check.specs.declared.form.Form.{Form}
+use Rattle.mm_check.specs.Verdict.{AreAccepted, AllObey, sentences}
+use Rattle.mm_check.specs.Saved.{IsSaved, FitsSaved}
+use Rattle.mm_check.specs.AllSaved.{is_theorem_of, theorems_of, Replacement, IsReplacement}
+use Rattle.mm_check.specs.AllSaved.{with_replaced}
+use Rattle.mm_check.specs.AllSavedLaws.{AreSavedInTurn, IsLabelInFile, SavingInTurnIsSavingAll}
+use Rattle.mm_check.proofs.Rereading.{same_reading, said_there}
+use Rattle.mm_check.proofs.Unproved.{all_meant}
+use Rattle.mm_check.proofs.SavedStatements.{Carries, carries_self, carries_on}
+use Rattle.mm_check.proofs.SavedFiles.{put_anew, seam_at}
+use Rattle.mm_check.proofs.SavedOnce.{IsPutAndRead, put_and_read, put_says_alike, anew_of}
+use Rattle.mm_check.proofs.FileTheorems.{theorem_there, theorems_parted}
+use Rattle.mm_check.proofs.SavedTexts.{same_text}
+use Rattle.mm_check.proofs.Woven.{Slot, filled, woven, IsFor, IsCut, all_filled}
+use Rattle.mm_check.proofs.SavedSpans.{HasSlots, cut_into_slots, theorems_said, slots_put_anew}
+
+-- ---- other statements have other labels
+
+abbrev HasNot : List ℕ → PlainStatement → Type 0
+HasNot label s = ¬ (IsLabelled label (sentence_of s))
+
+others_named : (profile : Profile) (before : List PlainStatement) (s : PlainStatement)
+    (after : List PlainStatement) (label : List ℕ) → AllObey profile (before ++ s ∷ after)
+    → IsLabelled label (sentence_of s) → (place : ℕ) (t : PlainStatement)
+    → slice_get (before ++ s ∷ after) place ≡ Some t → ¬ (place ≡ length before)
+    → HasNot label t
+others_named profile before s after label obeyed named place t there other is =
+    let st : List PlainStatement = before ++ s ∷ after in
+    other (one_label (sentences st) label place (length before) (sentence_of t) (sentence_of s)
+    (all_meant profile st obeyed) (said_there st place t there)
+    (said_there st (length before) s (seam_at before s after)) is named)
+
+not_before : (profile : Profile) (before : List PlainStatement) (s : PlainStatement)
+    (after : List PlainStatement) (label : List ℕ) → AllObey profile (before ++ s ∷ after)
+    → IsLabelled label (sentence_of s) → AllByRecursion (HasNot label) before
+not_before profile before s after label obeyed named =
+    all_there (HasNot label) before
+    (λ k t there.
+    let less : k < length before = slice_get_within before k t there in
+    others_named profile before s after label obeyed named k t
+    (get_kept before (s ∷ after) k t there) (λ e. omega (arith, less, e)))
+
+not_after : (profile : Profile) (before : List PlainStatement) (s : PlainStatement)
+    (after : List PlainStatement) (label : List ℕ) → AllObey profile (before ++ s ∷ after)
+    → IsLabelled label (sentence_of s) → AllByRecursion (HasNot label) after
+not_after profile before s after label obeyed named =
+    all_there (HasNot label) after
+    (λ k t there. others_named profile before s after label obeyed named (length before + suc k) t
+    (get_after before (s ∷ after) (suc k) t there) (λ e. omega (arith, e)))
+
+-- ---- slots that are still to be filled
+
+-- it is filled, or its theorem's label is among these
+abbrev pub IsFilledOrAmong : (labels : List (List ℕ)) → Slot → Type 0
+IsFilledOrAmong labels slot =
+    (slot.now ≡ slot.put)
+    ⊎ ((label : List ℕ) × Contains labels label × IsLabelled label (sentence_of slot.owner))
+
+-- one that is filled, with all filled
+filled_again : (front : List Slot) (slot : Slot) (back : List Slot)
+    → map filled (front ++ filled slot ∷ back) ≡ map filled (front ++ slot ∷ back)
+filled_again [] slot back = refl
+filled_again (x ∷ front) slot back =
+    ap (λ (l : List Slot). filled x ∷ l) (filled_again front slot back)
+
+contains_none : {A : Type 0} (x : A) → Contains [] x → ⊥
+contains_none x (k, less, is) = omega (arith, less)
+
+all_are_filled : (slots : List Slot) → AllByRecursion (IsFilledOrAmong []) slots
+    → map filled slots ≡ slots
+all_are_filled [] all = refl
+all_are_filled (slot ∷ slots) all = λ i. own i ∷ all_are_filled slots all.1 i
+  where
+    now_put : IsFilledOrAmong [] slot → slot.put ≡ slot.now
+    now_put (inl is) = sym is
+    now_put (inr (label, among, named)) = absurd (contains_none label among)
+
+    own : filled slot ≡ slot
+    own = ap (λ (now : List ℕ). record slot { now = now }) (now_put all.0)
+
+-- a slot whose theorem has another label than the first one
+still_among : (label : List ℕ) (labels : List (List ℕ)) (slot : Slot)
+    → HasNot label slot.owner → IsFilledOrAmong (label ∷ labels) slot
+    → IsFilledOrAmong labels slot
+still_among label labels slot other (inl is) = inl is
+still_among label labels slot other (inr (own, among, named)) =
+    elim (contains_cases label labels own among) [
+      | inl same ↦ absurd (other (named ∙ ap (λ (l : List ℕ). Some l) (sym same)))
+      | inr later ↦ inr (own, later, named)
+    ]
+
+-- what is still to be filled once the slot of the first label is
+still_left : (label : List ℕ) (labels : List (List ℕ)) (slots : List Slot)
+    → AllByRecursion (λ slot. HasNot label slot.owner) slots
+    → AllByRecursion (IsFilledOrAmong (label ∷ labels)) slots
+    → AllByRecursion (IsFilledOrAmong labels) slots
+still_left label labels [] others all = tt
+still_left label labels (slot ∷ slots) others all = (
+  still_among label labels slot others.0 all.0,
+  still_left label labels slots others.1 all.1,
+)
+
+-- ---- the files on the way
+
+-- the slot is that of the statement
+abbrev Owns : Slot → PlainStatement → Type 0
+Owns slot s = sentence_of slot.owner ≡ sentence_of s
+
+-- The files are accepted, they say what the first ones said, and each theorem of the file stands in
+-- its slot.
+record AreOnTheWay (profile : Profile) (statements : List PlainStatement) (number : ℕ)
+    (first : List ℕ) (slots : List Slot) (files : List PlainFile)
+    (others : List PlainStatement) : Type 0 where
+  pub accepted : AreAccepted profile files others
+  pub carries : Carries statements others
+  pub has : HasSlots files others number first slots
+  pub owners : AllZip Owns slots (theorems_of number others)
+
+-- the slots of the others are those of other labels
+others_slots : (profile : Profile) (number : ℕ) (before : List PlainStatement) (s : PlainStatement)
+    (after : List PlainStatement) (label : List ℕ) (front back : List Slot)
+    → AllObey profile (before ++ s ∷ after) → IsLabelled label (sentence_of s)
+    → AllZip Owns front (theorems_of number before) → AllZip Owns back (theorems_of number after)
+    → AllByRecursion (λ slot. HasNot label slot.owner) front
+    × AllByRecursion (λ slot. HasNot label slot.owner) back
+others_slots profile number before s after label front back obeyed named one other = (
+  zip_each Owns (λ slot. HasNot label slot.owner) (HasNot label) owner front
+      (theorems_of number before) one
+      (all_filtered (HasNot label) (is_theorem_of number) before
+      (not_before profile before s after label obeyed named)),
+  zip_each Owns (λ slot. HasNot label slot.owner) (HasNot label) owner back
+      (theorems_of number after) other
+      (all_filtered (HasNot label) (is_theorem_of number) after
+      (not_after profile before s after label obeyed named)),
+)
+  where
+    owner : (slot : Slot) (t : PlainStatement) → Owns slot t → HasNot label t
+        → HasNot label slot.owner
+    owner slot t same other is = other (sym (ap (λ (x : Sentence). x.label) same) ∙ is)
+
+-- the slot of what is saved, and what is to stand there
+record IsSlotOf (slots : List Slot) (number : ℕ) (before : List PlainStatement)
+    (s : PlainStatement) (after : List PlainStatement) (text : List ℕ) : Type 0 where
+  pub parts : ZipParts Owns slots (theorems_of number before) s (theorems_of number after)
+  pub put : parts.x.put ≡ 10 ∷ text
+
+slot_of : (profile : Profile) (f : Form) (statements : List PlainStatement) (number : ℕ)
+    (first : List ℕ) (slots : List Slot) (files : List PlainFile) (others : List PlainStatement)
+    (label new : List ℕ) → AllObey profile statements
+    → AllByRecursion (IsFor (IsReplacement f statements)) slots
+    → AreOnTheWay profile statements number first slots files others
+    → (sv : IsSaved f files others label number new)
+    → others ≡ take sv.place others ++ sv.s ∷ drop (suc sv.place) others
+    → IsSlotOf slots number (take sv.place others) sv.s (drop (suc sv.place) others) sv.text
+slot_of profile f statements number first slots files others label new obeyed each on sv parted =
+    let before : List PlainStatement = take sv.place others in
+    let after : List PlainStatement = drop (suc sv.place) others in
+    let is : is_theorem_of number sv.s ≡ true =
+    theorem_there number sv.s sv.proof.complete (sym sv.home) in
+    let parts : ZipParts Owns slots (theorems_of number before) sv.s (theorems_of number after) =
+    zip_parts Owns slots (theorems_of number before) sv.s (theorems_of number after)
+    (subst (λ (ss : List PlainStatement). AllZip Owns slots ss)
+    (ap (theorems_of number) parted ∙ theorems_parted number before sv.s after is) on.owners) in
+    let own : AllByRecursion (IsFor (IsReplacement f statements)) (parts.x ∷ parts.back) =
+    all_back (IsFor (IsReplacement f statements)) parts.front (parts.x ∷ parts.back)
+    (subst (λ (l : List Slot). AllByRecursion (IsFor (IsReplacement f statements)) l) parts.whole
+    each) in
+    let (replacement, r, put) = own.0 in
+    record {
+      parts = parts;
+      put = sym put
+          ∙ same_text profile f statements others parts.x.owner sv.s replacement label sv.place
+          sv.root sv.below sv.text obeyed on.accepted.obeyed on.carries parts.here r
+          (record { proof = sv.proof; laid = sv.laid });
+    }
+
+-- one more is saved
+record IsOneFurther (profile : Profile) (statements : List PlainStatement) (number : ℕ)
+    (first : List ℕ) (slots : List Slot) (files : List PlainFile) (new : List ℕ)
+    (labels : List (List ℕ)) : Type 0 where
+  pub front : List Slot
+  pub slot : Slot
+  pub back : List Slot
+  pub whole : slots ≡ front ++ slot ∷ back
+  pub others : List PlainStatement
+  pub on : AreOnTheWay profile statements number first (front ++ filled slot ∷ back)
+      (with_bytes files number new) others
+  pub left : AllByRecursion (IsFilledOrAmong labels) (front ++ filled slot ∷ back)
+
+-- its slot is filled
+filled_on : (profile : Profile) (f : Form) (files : List PlainFile) (number : ℕ)
+    (others : List PlainStatement) (label new first : List ℕ) (slots : List Slot)
+    → (sv : IsSaved f files others label number new)
+    → (r : IsPutAndRead profile f files others label number new sv)
+    → HasSlots files others number first slots
+    → (o : IsSlotOf slots number (take sv.place others) sv.s (drop (suc sv.place) others) sv.text)
+    → HasSlots (with_bytes files number new)
+    (take sv.place others ++ put_anew sv.s (10 ∷ sv.text) ∷ r.put.later) number first
+    (o.parts.front ++ filled o.parts.x ∷ o.parts.back)
+filled_on profile f files number others label new first slots sv r has o =
+    let before : List PlainStatement = take sv.place others in
+    let after : List PlainStatement = drop (suc sv.place) others in
+    let s : PlainStatement = sv.s in
+    let slot : Slot = o.parts.x in
+    let t : PlainStatement = put_anew s (10 ∷ sv.text) in
+    let stands : HasSlots files (before ++ s ∷ after) number first
+    (o.parts.front ++ slot ∷ o.parts.back) =
+    subst (λ (l : List Slot). HasSlots files (before ++ s ∷ after) number first l) o.parts.whole
+    (subst (λ (ss : List PlainStatement). HasSlots files ss number first slots) r.parted has) in
+    subst (λ (bytes : List ℕ). HasSlots (with_bytes files number bytes) (before ++ t ∷ r.put.later)
+    number first (o.parts.front ++ filled slot ∷ o.parts.back))
+    (ap (λ (l : List ℕ). with_span sv.file.bytes s.span l) o.put ∙ sym sv.whole)
+    (slots_put_anew profile f files number before s after sv.file sv.text first o.parts.front slot
+    o.parts.back r.to_put r.put (sym sv.home) o.put
+    (zip_length Owns o.parts.front (theorems_of number before) o.parts.earlier) stands)
+
+one_further : (profile : Profile) (f : Form) (statements : List PlainStatement)
+    (number : ℕ) (first : List ℕ) (slots : List Slot) (files : List PlainFile)
+    (others : List PlainStatement) (label new : List ℕ) (labels : List (List ℕ))
+    → AllObey profile statements → AllByRecursion (IsFor (IsReplacement f statements)) slots
+    → AreOnTheWay profile statements number first slots files others
+    → IsSaved f files others label number new → FitsSaved files number new
+    → AllByRecursion (IsFilledOrAmong (label ∷ labels)) slots
+    → IsOneFurther profile statements number first slots files new labels
+one_further profile f statements number first slots files others label new labels obeyed each
+    on sv fits left =
+    let before : List PlainStatement = take sv.place others in
+    let after : List PlainStatement = drop (suc sv.place) others in
+    let s : PlainStatement = sv.s in
+    let t : PlainStatement = put_anew s (10 ∷ sv.text) in
+    let r = put_and_read profile f files others label number new on.accepted sv fits in
+    let o = slot_of profile f statements number first slots files others label new obeyed each on sv
+    r.parted in
+    let front : List Slot = o.parts.front in
+    let slot : Slot = o.parts.x in
+    let back : List Slot = o.parts.back in
+    let su : List PlainStatement = before ++ t ∷ r.put.later in
+    let anew = (anew_of profile f files before s after sv.file sv.text r.to_put).1 in
+    let new_is : is_theorem_of number t ≡ true =
+    theorem_there number t anew.complete (sym sv.home) in
+    let carried : Carries others su =
+    subst (λ (ss : List PlainStatement). Carries ss su) (sym r.parted)
+    (put_says_alike profile f files before s after sv.file sv.text r.to_put r.put.later
+    r.put.same).to in
+    let still : AllObey profile (before ++ s ∷ after) =
+    subst (λ (ss : List PlainStatement). AllObey profile ss) r.parted on.accepted.obeyed in
+    let apart = others_slots profile number before s after label front back still sv.proof.named
+    o.parts.earlier o.parts.later in
+    let among : AllByRecursion (IsFilledOrAmong (label ∷ labels)) (front ++ slot ∷ back) =
+    subst (λ (l : List Slot). AllByRecursion (IsFilledOrAmong (label ∷ labels)) l) o.parts.whole
+    left in
+    let owners : AllZip Owns (front ++ filled slot ∷ back)
+    (theorems_of number before ++ t ∷ theorems_of number r.put.later) =
+    zip_append Owns front (theorems_of number before) (filled slot ∷ back)
+    (t ∷ theorems_of number r.put.later) o.parts.earlier (
+      o.parts.here,
+      zip_on Owns (λ x y. sentence_of x ≡ sentence_of y) Owns
+          (λ x y z one other. one ∙ other) back (theorems_of number after)
+          (theorems_of number r.put.later) o.parts.later
+          (theorems_said number after r.put.later r.put.same),
+    ) in
+    record {
+      front = front;
+      slot = slot;
+      back = back;
+      whole = o.parts.whole;
+      others = su;
+      on = record {
+        accepted = r.accepted;
+        carries = carries_on statements others su on.carries carried;
+        has = filled_on profile f files number others label new first slots sv r on.has o;
+        owners = subst (λ (ss : List PlainStatement). AllZip Owns (front ++ filled slot ∷ back) ss)
+            (sym (theorems_parted number before t r.put.later new_is)) owners;
+      };
+      left = all_append (IsFilledOrAmong labels) front (filled slot ∷ back)
+          (still_left label labels front apart.0
+          (all_front (IsFilledOrAmong (label ∷ labels)) front (slot ∷ back) among)) (
+            inl refl,
+            still_left label labels back apart.1
+                (all_back (IsFilledOrAmong (label ∷ labels)) front (slot ∷ back) among).1,
+          );
+    }
+
+-- the slots are still for what is to be put in
+still_for : (R : PlainStatement → Replacement → Type 0) (front : List Slot) (slot : Slot)
+    (back : List Slot) → AllByRecursion (IsFor R) (front ++ slot ∷ back)
+    → AllByRecursion (IsFor R) (front ++ filled slot ∷ back)
+still_for R [] slot back all = all
+still_for R (x ∷ front) slot back all = (all.0, still_for R front slot back all.1)
+
+-- at the end all slots are filled
+all_in_turn : (profile : Profile) (f : Form) (statements : List PlainStatement)
+    (number : ℕ) (first : List ℕ) (labels : List (List ℕ)) (slots : List Slot)
+    (files : List PlainFile) (others : List PlainStatement) (bytes : List ℕ)
+    → AllObey profile statements → AllByRecursion (IsFor (IsReplacement f statements)) slots
+    → AreOnTheWay profile statements number first slots files others
+    → AllByRecursion (IsFilledOrAmong labels) slots
+    → AreSavedInTurn profile f files number labels bytes
+    → bytes ≡ woven first (map filled slots)
+all_in_turn profile f statements number first [] slots files others bytes obeyed each on left
+    (file, there, is) =
+    let same : file ≡ on.has.file = same_Some file on.has.file (sym there ∙ on.has.handed) in
+    is ∙ ap (λ (g : PlainFile). g.bytes) same ∙ on.has.whole
+    ∙ ap (woven first) (sym (all_are_filled slots left))
+all_in_turn profile f statements number first (label ∷ labels) slots files others bytes obeyed
+    each on left (ss, new, accepted, sv, fits, more) =
+    let same : ss ≡ others =
+    (same_reading files ss others None None accepted.reads on.accepted.reads).0 in
+    let here : IsSaved f files others label number new =
+    subst (λ (st : List PlainStatement). IsSaved f files st label number new) same sv in
+    let n = one_further profile f statements number first slots files others label new labels
+    obeyed each on here fits left in
+    let still : AllByRecursion (IsFor (IsReplacement f statements))
+    (n.front ++ filled n.slot ∷ n.back) =
+    still_for (IsReplacement f statements) n.front n.slot n.back
+    (subst (λ (l : List Slot). AllByRecursion (IsFor (IsReplacement f statements)) l) n.whole
+    each) in
+    all_in_turn profile f statements number first labels (n.front ++ filled n.slot ∷ n.back)
+    (with_bytes files number new) n.others bytes obeyed still n.on n.left more
+    ∙ ap (woven first)
+    (filled_again n.front n.slot n.back ∙ ap (map filled) (sym n.whole))
+
+-- ---- the law
+
+-- each slot is that of a theorem whose label is among those of the file
+among_labels : (f : Form) (statements : List PlainStatement) (number : ℕ) (labels : List (List ℕ))
+    → ((label : List ℕ) → IsLabelInFile statements number label → Contains labels label)
+    → (slots : List Slot) → AllByRecursion (IsFor (IsReplacement f statements)) slots
+    → AllByRecursion (λ slot. Contains (theorems_of number statements) slot.owner) slots
+    → AllByRecursion (IsFilledOrAmong labels) slots
+among_labels f statements number labels each [] all owned = tt
+among_labels f statements number labels each (slot ∷ slots) ((new, r, put), all) (own, owned) = (
+  inr (r.label, each r.label (slot.owner, own, r.proof.named), r.proof.named),
+  among_labels f statements number labels each slots all owned,
+)
+
+owned_there : (slots : List Slot) (statements all : List PlainStatement)
+    → AllZip (λ slot s. slot.owner ≡ s) slots statements
+    → AllByRecursion (λ s. Contains all s) statements
+    → AllByRecursion (λ slot. Contains all slot.owner) slots
+owned_there slots statements all zip there =
+    zip_each (λ slot s. slot.owner ≡ s) (λ slot. Contains all slot.owner) (λ s. Contains all s)
+    (λ slot s same own. subst (λ (t : PlainStatement). Contains all t) (sym same) own) slots
+    statements zip there
+
+pub saving_in_turn : SavingInTurnIsSavingAll
+saving_in_turn profile f files statements number labels bytes all accepted sv each turn =
+    let theorems : List PlainStatement = theorems_of number statements in
+    let c : IsCut (IsReplacement f statements) 0 sv.file.bytes theorems sv.replaced =
+    cut_into_slots (IsReplacement f statements) files statements number sv.file sv.replaced
+    accepted.reads sv.handed sv.each in
+    let on : AreOnTheWay profile statements number c.first c.slots files statements = record {
+      accepted = accepted;
+      carries = carries_self statements;
+      has = record { file = sv.file; handed = sv.handed; whole = c.whole; stand = c.stands };
+      owners = zip_weaker (λ slot s. slot.owner ≡ s) Owns (λ slot s same. ap sentence_of same)
+          c.slots theorems c.owners;
+    } in
+    let owned : AllByRecursion (λ slot. Contains theorems slot.owner) c.slots =
+    owned_there c.slots theorems theorems c.owners
+    (recursion_from_All (Contains theorems) theorems (All-contains_itself theorems)) in
+    let left : AllByRecursion (IsFilledOrAmong labels) c.slots =
+    among_labels f statements number labels (λ label. (each label).1) c.slots c.each owned in
+    let in_turn : bytes ≡ woven c.first (map filled c.slots) =
+    all_in_turn profile f statements number c.first labels c.slots files statements bytes
+    accepted.obeyed c.each on left turn in
+    let at_once : with_replaced sv.file.bytes sv.replaced ≡ woven c.first (map filled c.slots) =
+    ap (λ (l : List ℕ). with_replaced l sv.replaced) c.whole
+    ∙ all_filled [] c.first c.slots theorems sv.replaced c.stands
+    (zip_weaker (IsReplacement f statements) (λ s new. new.span ≡ s.span) (λ s new r. r.span)
+    theorems sv.replaced sv.each) c.texts in
+    in_turn ∙ sym at_once ∙ sym sv.whole

@@ -1,0 +1,104 @@
+-- A file in which each complete proof is written anew, in lines, and all else is kept. The forms of
+-- proofs are those of the Metamath book, sections 4.3 and 4.4.3 and appendix B; what is kept is this
+-- project's own.
+use Rattle.std.specs.Prelude.{◌≡◌, ℕ, ◌<◌, ◌==◌, ◌&&◌, List, [], ◌∷◌, ◌++◌, take, length, filter}
+use Rattle.std.specs.Prelude.{Bool, Some, slice_get}
+use Rattle.std.specs.List.{AllZip}
+use Rattle.mm_text.specs.Statement.{PlainStatement}
+use Rattle.mm_text.specs.Files.{PlainFile, most_bytes}
+use Rattle.mm_text.specs.Replaced.{with_span}
+use Rattle.mm_frame.specs.Sentence.{sentence_of}
+use Rattle.mm_proof.specs.declared.profile.Profile.TheVariants.{Lenient}
+use Rattle.mm_proof.specs.Tree.{Trees, none, tree, spelling}
+use Rattle.mm_check.specs.declared.form.Form.{Form}
+use Rattle.mm_check.specs.declared.form.Form.TheVariants.{Normal}
+use Rattle.mm_check.specs.declared.ask.AskFault.{AskFault}
+use Rattle.mm_check.specs.declared.ask.AskFault.TheVariants.{F3, Memory}
+use Rattle.mm_check.specs.declared.save.SaveFault.{SaveFault}
+use Rattle.mm_check.specs.declared.save.SaveFault.TheVariants.{Check, Ask, TooLong}
+use Rattle.mm_check.specs.Verdict.{Verdict, HasVerdict, AreAccepted, is_proof, sentences}
+use Rattle.mm_check.specs.Answer.{verdict_of_fault}
+use Rattle.mm_check.specs.Forms.{HasProofTree, most_labels}
+use Rattle.mm_check.specs.Saved.{IsTextIn, total_with}
+
+-- a `$p` with a complete proof that stands in the file with the number
+abbrev pub is_theorem_of : (number : ℕ) → PlainStatement → Bool
+is_theorem_of number s = is_proof s && (s.first.file == number)
+
+-- these, in the order of the database
+abbrev pub theorems_of : (number : ℕ) → List PlainStatement → List PlainStatement
+theorems_of number statements = filter (is_theorem_of number) statements
+
+-- a span of bytes, and what stands in its place
+pub record Replacement : Type 0 where
+  pub span : ℕ × ℕ
+  pub text : List ℕ
+
+-- what stands between the `$=` and the `$.` of the theorem is replaced by a line feed and its proof
+-- in this form
+pub record IsReplacement (form : Form) (statements : List PlainStatement) (s : PlainStatement)
+    (new : Replacement) : Type 0 where
+  pub label : List ℕ
+  pub place : ℕ
+  pub root : List ℕ
+  pub below : Trees
+  pub proof : HasProofTree statements label place s root below
+  pub text : List ℕ
+  pub laid : IsTextIn form (sentences (take place statements)) (sentence_of s) (tree root below none)
+      text
+  pub span : new.span ≡ s.span
+  pub put : new.text ≡ 10 ∷ text
+
+-- The bytes with several spans replaced, each of which stands after those before it. The last one is
+-- replaced first, so that each is replaced where it stood.
+abbrev pub with_replaced : List ℕ → List Replacement → List ℕ
+with_replaced bytes [] = bytes
+with_replaced bytes (new ∷ news) = with_span (with_replaced bytes news) new.span new.text
+
+-- These are the bytes of the file with the number in which each theorem whose proof is complete has
+-- its proof in this form.
+pub record IsAllSaved (form : Form) (files : List PlainFile) (statements : List PlainStatement)
+    (number : ℕ) (bytes : List ℕ) : Type 0 where
+  pub file : PlainFile
+  pub handed : slice_get files number ≡ Some file
+  pub replaced : List Replacement
+  pub each : AllZip (IsReplacement form statements) (theorems_of number statements) replaced
+  pub whole : bytes ≡ with_replaced file.bytes replaced
+
+-- The theorem with the label is the first one of the file whose normal proof has more labels than
+-- may be written.
+pub record IsFirstTooLong (statements : List PlainStatement) (number : ℕ)
+    (label : List ℕ) : Type 0 where
+  pub before : List PlainStatement
+  pub s : PlainStatement
+  pub after : List PlainStatement
+  pub split : theorems_of number statements ≡ before ++ s ∷ after
+  pub news : List Replacement
+  pub fit : AllZip (IsReplacement Normal statements) before news
+  pub place : ℕ
+  pub root : List ℕ
+  pub below : Trees
+  pub proof : HasProofTree statements label place s root below
+  pub long : most_labels < length (spelling (tree root below none))
+
+-- Why the file isn't written anew, where nothing is at fault: the files would have more bytes than
+-- they may, or memory was wanting.
+abbrev pub IsAllSaveFault : Form → List PlainFile → List PlainStatement → (number : ℕ) → AskFault
+    → Type 0
+IsAllSaveFault form files statements number F3 =
+    (bytes : List ℕ) × IsAllSaved form files statements number bytes
+    × (most_bytes < total_with files number bytes)
+IsAllSaveFault form files statements number Memory = Unit {0}
+IsAllSaveFault form files statements number fault = ⊥
+
+-- Why saving gives nothing: the verdict over the files isn't that they are accepted, or they are, and
+-- a normal proof is too long, or the file isn't written anew; or, in either part, memory was wanting.
+abbrev pub IsSavingAllFault : Form → List PlainFile → (number : ℕ) → SaveFault → Type 0
+IsSavingAllFault form files number (Check fault) =
+    (verdict : Verdict) → verdict_of_fault fault ≡ Some verdict → HasVerdict Lenient files verdict
+IsSavingAllFault form files number (TooLong label) =
+    (form ≡ Normal) × (statements : List PlainStatement) × AreAccepted Lenient files statements
+    × IsFirstTooLong statements number label.now
+IsSavingAllFault form files number (Ask fault) =
+    (statements : List PlainStatement) × AreAccepted Lenient files statements
+    × IsAllSaveFault form files statements number fault

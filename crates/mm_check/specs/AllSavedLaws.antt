@@ -1,0 +1,107 @@
+-- Laws of a file in which each complete proof is written anew: it is what saving one theorem after
+-- the other gives, in whichever order, and it changes nothing that is answered.
+use Rattle.std.specs.Prelude.{◌≡◌, ℕ, ◌<◌, ◌↔◌, List, [], ◌∷◌, take, length, slice_get, Contains}
+use Rattle.std.specs.Prelude.{Some, None}
+use Rattle.mm_text.specs.Statement.{PlainStatement}
+use Rattle.mm_text.specs.Files.{PlainFile}
+use Rattle.mm_text.specs.Replaced.{with_bytes}
+use Rattle.mm_text.specs.Reading.{Reads}
+use Rattle.mm_frame.specs.Sentence.{sentence_of, IsLabelled}
+use Rattle.mm_proof.specs.declared.profile.Profile.{Profile}
+use Rattle.mm_proof.specs.declared.profile.Profile.TheVariants.{Lenient, Strict}
+use Rattle.mm_proof.specs.Strict.{HasFormOf}
+use Rattle.mm_check.specs.declared.form.Form.{Form}
+use Rattle.mm_check.specs.declared.form.Form.TheVariants.{Packed}
+use Rattle.mm_check.specs.Verdict.{AreAccepted, sentences, proof_of, unproved_of}
+use Rattle.mm_check.specs.Compared.{IsTheorem}
+use Rattle.mm_check.specs.Saved.{IsSaved, FitsSaved}
+use Rattle.mm_check.specs.SavedLaws.{SayTheSame}
+use Rattle.mm_check.specs.AllSaved.{IsAllSaved, theorems_of}
+
+-- With the new bytes in place of the old, the verdict, each tree and each report are as they were.
+abbrev pub SavingAllChangesNoAnswer : Type 0
+SavingAllChangesNoAnswer =
+    (profile : Profile) (form : Form) (files : List PlainFile) (statements : List PlainStatement)
+    (number : ℕ) (bytes : List ℕ) → AreAccepted profile files statements
+    → IsAllSaved form files statements number bytes → FitsSaved files number bytes
+    → (same : List PlainStatement)
+    × SayTheSame profile files (with_bytes files number bytes) statements same
+
+-- Each proof that is put in has the strict form, whatever the profile is in which the files are
+-- accepted.
+abbrev pub AllSavedProofsAreStrict : Type 0
+AllSavedProofsAreStrict =
+    (profile : Profile) (form : Form) (files : List PlainFile)
+    (statements same : List PlainStatement) (number : ℕ) (bytes : List ℕ)
+    → AreAccepted profile files statements
+    → IsAllSaved form files statements number bytes → FitsSaved files number bytes
+    → Reads (with_bytes files number bytes) same None
+    → (label : List ℕ) (place : ℕ) (s : PlainStatement) → IsTheorem same label place s
+    → s.first.file ≡ number
+    → HasFormOf Strict (sentences (take place same)) (sentence_of s) (proof_of s)
+
+-- what is saved is one
+abbrev pub OneAllSaved : Type 0
+OneAllSaved =
+    (profile : Profile) (form : Form) (files : List PlainFile) (statements : List PlainStatement)
+    (number : ℕ) (bytes others : List ℕ) → AreAccepted profile files statements
+    → IsAllSaved form files statements number bytes
+    → IsAllSaved form files statements number others → bytes ≡ others
+
+-- Saving again gives equal bytes.
+abbrev pub SavingAllAgainChangesNothing : Type 0
+SavingAllAgainChangesNothing =
+    (profile : Profile) (form : Form) (files : List PlainFile)
+    (statements same : List PlainStatement) (number : ℕ) (bytes others : List ℕ)
+    → AreAccepted profile files statements
+    → IsAllSaved form files statements number bytes → FitsSaved files number bytes
+    → Reads (with_bytes files number bytes) same None
+    → IsAllSaved form (with_bytes files number bytes) same number others → others ≡ bytes
+
+-- The bytes of the file after the theorems with these labels were saved one after the other, each
+-- over the files with the bytes before in their place.
+abbrev pub AreSavedInTurn : Profile → Form → List PlainFile → (number : ℕ)
+    → (labels : List (List ℕ)) → (bytes : List ℕ) → Type 0
+AreSavedInTurn profile form files number [] bytes =
+    (file : PlainFile) × (slice_get files number ≡ Some file) × (bytes ≡ file.bytes)
+AreSavedInTurn profile form files number (label ∷ labels) bytes =
+    (statements : List PlainStatement) × (new : List ℕ)
+    × AreAccepted profile files statements
+    × IsSaved form files statements label number new × FitsSaved files number new
+    × AreSavedInTurn profile form (with_bytes files number new) number labels bytes
+
+-- the label is that of a theorem of the file whose proof is complete
+abbrev pub IsLabelInFile : List PlainStatement → (number : ℕ) → (label : List ℕ) → Type 0
+IsLabelInFile statements number label =
+    (s : PlainStatement) × Contains (theorems_of number statements) s
+    × IsLabelled label (sentence_of s)
+
+-- Saving each of them, one after the other in any order, gives these bytes.
+abbrev pub SavingInTurnIsSavingAll : Type 0
+SavingInTurnIsSavingAll =
+    (profile : Profile) (form : Form) (files : List PlainFile) (statements : List PlainStatement)
+    (number : ℕ) (labels : List (List ℕ)) (bytes all : List ℕ)
+    → AreAccepted profile files statements
+    → IsAllSaved form files statements number all
+    → ((label : List ℕ) → Contains labels label ↔ IsLabelInFile statements number label)
+    → AreSavedInTurn profile form files number labels bytes → bytes ≡ all
+
+-- The files after all proofs of the files with these numbers were saved, one file after the other.
+abbrev pub AreFilesSaved : Profile → Form → List PlainFile → (numbers : List ℕ)
+    → (others : List PlainFile) → Type 0
+AreFilesSaved profile form files [] others = others ≡ files
+AreFilesSaved profile form files (number ∷ numbers) others =
+    (statements : List PlainStatement) × (bytes : List ℕ)
+    × AreAccepted profile files statements
+    × IsAllSaved form files statements number bytes × FitsSaved files number bytes
+    × AreFilesSaved profile form (with_bytes files number bytes) numbers others
+
+-- Where every proof is complete, and each file was saved with its proofs packed, the strict profile
+-- accepts the files.
+abbrev pub PackedFilesAreStrict : Type 0
+PackedFilesAreStrict =
+    (files others : List PlainFile) (statements : List PlainStatement) (numbers : List ℕ)
+    → AreAccepted Lenient files statements → unproved_of statements ≡ []
+    → ((number : ℕ) → number < length files → Contains numbers number)
+    → AreFilesSaved Lenient Packed files numbers others
+    → (same : List PlainStatement) × AreAccepted Strict others same × (unproved_of same ≡ [])
