@@ -1,5 +1,5 @@
 -- What is told of a handed text is told of it as a proof of the theorem.
-use Rattle.std.proofs.Common.{◌≡◌, ◌↔◌, ◌⊎◌, ℕ, Bool, IsTrue, List, take, inl, inr, refl, sym, subst, ◌∙◌}
+use Rattle.std.proofs.Common.{◌≡◌, ◌↔◌, ◌⊎◌, ℕ, Bool, IsTrue, List, take, inl, inr, refl, sym, subst}
 use Rattle.mm_text.specs.Statement.{PlainStatement}
 use Rattle.mm_code.specs.Words.{tokens_in}
 use Rattle.mm_frame.specs.Sentence.{Sentence, sentence_of}

@@ -23,6 +23,9 @@ pub mod Texts
 pub mod Comparing
 pub mod PackedTexts
 pub mod Saving
+pub mod ReplacedSpans
+pub mod WrittenTheorems
+pub mod WrittenFiles
 pub mod SavedTokens
 pub mod SavedProofs
 pub mod SavedStatements

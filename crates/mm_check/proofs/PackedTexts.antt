@@ -1,5 +1,5 @@
 -- The text of a packed proof tells its labels and its codes.
-use Rattle.std.proofs.Common.{◌≡◌, ◌↔◌, ℕ, zero, suc, ◌<◌, ◌≤◌, ◌+◌, ◌&&◌, List, [], ◌∷◌, take, Contains, None, inl, inr, sym, ap, subst, ◌∙◌, arith, append_assoc}
+use Rattle.std.proofs.Common.{◌≡◌, ◌↔◌, ℕ, zero, suc, List, [], ◌∷◌, take, Contains, None, inl, inr, sym, ap, subst, ◌∙◌, arith, append_assoc}
 use Rattle.std.specs.List.{AllByRecursion, flat_map}
 use Rattle.mm_text.specs.Token.{IsLabel}
 use Rattle.mm_code.specs.Letters.{SpellsCodes, Letters}

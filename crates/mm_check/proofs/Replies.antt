@@ -10,7 +10,12 @@ use Rattle.mm_check.specs.Conclusion.{Conclusion}
 use Rattle.mm_check.specs.declared.fault.CheckFault.TheVariants as fault
 use Rattle.mm_check.specs.Verdict.{Verdict, Load, Refused, HasVerdict, AreAccepted}
 use Rattle.mm_check.specs.Answer.{verdict_of_answer, verdict_of_conclusion, verdict_where_incomplete, plain_refusal, verdict_of_fault, IsVerdict, KeepsFiles}
+use Rattle.mm_check.specs.declared.form.Form.{Form}
+use Rattle.mm_check.specs.declared.ask.AskFault.{AskFault}
+use Rattle.mm_check.specs.declared.ask.AskFault.TheVariants as ask
+use Rattle.mm_check.specs.AllSaved.{IsAllSaveFault}
 use Rattle.mm_check.specs.Reply.{IsReply, IsRefused, IsQuestionReply, Tells, text_of, status_of}
+use Rattle.mm_check.specs.Reply.{IsAskReply, IsAllSavedReply, name_of}
 
 reply_at : (profile : Profile) (files : List PlainFile) (told : Option Verdict) (text : List ℕ) (status : ℕ)
     → ((verdict : Verdict) → told ≡ Some verdict → HasVerdict profile files verdict)
@@ -74,3 +79,18 @@ made_both (Err e) P Q R f h k = tt
 -- what is said of an answer, at the value that it has
 pub at_ok : {X E : Type 0} (r : Result X E) (x : X) (P : X → Type 0) → r ≡ Ok x → IfOk r P → P x
 at_ok {X} {E} r x P e h = subst (λ (q : Result X E). IfOk q P) e h
+
+-- ---- a file with each complete proof written anew
+
+pub asked_all : (wanted : Form) (files : List PlainFile) (number : ℕ)
+    (statements : List PlainStatement) (fault : AskFault) (text : List ℕ) (status : ℕ)
+    → IsAllSaveFault wanted files statements number fault
+    → IsAskReply fault (name_of files number) text status
+    → IsAllSavedReply wanted files number statements text status
+asked_all wanted files number statements ask.A1 text status h reply = absurd h
+asked_all wanted files number statements ask.A2 text status h reply = absurd h
+asked_all wanted files number statements ask.A3 text status h reply = absurd h
+asked_all wanted files number statements ask.L2 text status h reply = absurd h
+asked_all wanted files number statements ask.F3 text status h reply = inr (inl (h, reply))
+asked_all wanted files number statements (ask.Text rule step) text status h reply = absurd h
+asked_all wanted files number statements ask.Memory text status h reply = absurd reply

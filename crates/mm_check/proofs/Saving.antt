@@ -1,5 +1,5 @@
 -- What is put into a file, and why nothing is.
-use Rattle.std.proofs.Common.{◌≡◌, ℕ, zero, suc, ◌+◌, ◌-◌, ◌<◌, ◌≤◌, ◌↔◌, List, [], ◌∷◌, ◌++◌, map, take, drop, length, slice_get, slice_set, slice_index_or, nat_lt, true, not, IsTrue, Option, Some, None, Result, Ok, inl, inr, refl, sym, ap, subst, ◌∙◌, arith, rules, length-append}
+use Rattle.std.proofs.Common.{◌≡◌, ℕ, zero, suc, ◌+◌, ◌-◌, ◌<◌, ◌≤◌, ◌↔◌, List, [], ◌∷◌, ◌++◌, map, take, drop, length, slice_get, slice_set, slice_index_or, true, not, Option, Some, None, Result, Ok, inl, inr, refl, sym, ap, subst, ◌∙◌, arith, length-append}
 use Rattle.std.proofs.lemmas.List.Sums.{sum_by-cons}
 use Rattle.mm_text.specs.declared.file.File.{File}
 use Rattle.mm_text.specs.declared.statement.Kind.TheVariants.{Provable}
@@ -73,20 +73,26 @@ pub total_replaced : (files : List PlainFile) (k : ℕ) (f : PlainFile) (bytes :
 total_replaced files k f bytes there =
     ap (λ (fs : List PlainFile). total_bytes fs + length f.bytes) (with_bytes_is files k f bytes there) ∙ replaced_at files k f (record f { bytes = bytes }) there
 
--- whether there are too many
-pub over_is : (files : List PlainFile) (k : ℕ) (f : PlainFile) (bytes : List ℕ) (count total : ℕ) → slice_get files k ≡ Some f → total_bytes files ≤ most_bytes → total ≡ total_bytes files → length bytes ≡ count
-    → IsTrue (nat_lt (most_bytes - (total - length f.bytes)) count) ↔ (most_bytes < total_with files k bytes)
-over_is files k f bytes count total there within same long =
+-- the most that it may have
+pub most_is : (files : List PlainFile) (k : ℕ) (f : PlainFile) (bytes : List ℕ) (total : ℕ)
+    → slice_get files k ≡ Some f → total_bytes files ≤ most_bytes → total ≡ total_bytes files
+    → (most_bytes - (total - length f.bytes) < length bytes)
+    ↔ (most_bytes < total_with files k bytes)
+most_is files k f bytes total there within same =
     let own = file_within files k f there in
     let put = total_replaced files k f bytes there in (
-      λ h. let less : most_bytes - (total - length f.bytes) < count = search (rules, h) in omega (arith, less, own, put, same, long, within),
-      λ h. let less : most_bytes - (total - length f.bytes) < count = omega (arith, h, own, put, same, long, within) in search (rules, less),
+      λ less. omega (arith, less, own, put, same, within),
+      λ over. omega (arith, over, own, put, same, within),
     )
 
-pub file_over : (files : List File) (k : ℕ) (d : File) (bytes : List ℕ) (count total : ℕ) → k < length files → total_bytes (map plain_file files) ≤ most_bytes → total ≡ total_bytes (map plain_file files) → length bytes ≡ count
-    → IsTrue (nat_lt (most_bytes - (total - length (slice_index_or files k d).bytes.now)) count) ↔ (most_bytes < total_with (map plain_file files) k bytes)
-file_over files k d bytes count total less within same long =
-    over_is (map plain_file files) k (plain_file (slice_index_or files k d)) bytes count total (file_at files k d less) within same long
+pub file_most : (files : List File) (k : ℕ) (d : File) (bytes : List ℕ) (total : ℕ)
+    → k < length files → total_bytes (map plain_file files) ≤ most_bytes
+    → total ≡ total_bytes (map plain_file files)
+    → (most_bytes - (total - length (slice_index_or files k d).bytes.now) < length bytes)
+    ↔ (most_bytes < total_with (map plain_file files) k bytes)
+file_most files k d bytes total less within same =
+    most_is (map plain_file files) k (plain_file (slice_index_or files k d)) bytes total
+    (file_at files k d less) within same
 
 -- ---- where a theorem stands
 
@@ -99,7 +105,7 @@ home_file files statements place s reads there =
 pub provable_proof : (s : PlainStatement) → is_proof s ≡ true → s.kind ≡ Provable
 provable_proof s complete = provable_kind s.kind (not (is_incomplete (proof_of s))) complete
 
-within_bytes : (s : PlainStatement) (bytes : List ℕ) → IsProofSpan s bytes → (s.span.0 ≤ length bytes) × (s.span.1 ≤ length bytes)
+pub within_bytes : (s : PlainStatement) (bytes : List ℕ) → IsProofSpan s bytes → (s.span.0 ≤ length bytes) × (s.span.1 ≤ length bytes)
 within_bytes s bytes p =
     let long : length bytes ≡ length p.front + (length p.within + length p.back) =
     ap length p.whole ∙ length-append p.front (p.within ++ p.back) ∙ ap (λ (n : ℕ). length p.front + n) (length-append p.within p.back) in

@@ -7,5 +7,6 @@ pub mod Theorems
 pub mod Questions
 pub mod Comparisons
 pub mod Rewriting
+pub mod AllSaving
 pub mod Marks
 pub mod Judged

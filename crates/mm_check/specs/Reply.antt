@@ -1,5 +1,5 @@
 -- The reply to a command: its text and its status, which are this project's own.
-use Rattle.std.specs.Prelude.{◌≡◌, ℕ, List, [], ◌∷◌, ◌++◌, map, length, slice_get, Option}
+use Rattle.std.specs.Prelude.{◌≡◌, ℕ, ◌<◌, List, [], ◌∷◌, ◌++◌, map, length, slice_get, Option}
 use Rattle.std.specs.Prelude.{Bool, true, false}
 use Rattle.std.specs.Prelude.{option_map, unwrap_or, Result, MatchOption, ◌⊎◌, codes, decimal}
 use Rattle.std.specs.List.{flat_map}
@@ -23,7 +23,7 @@ use Rattle.mm_check.specs.declared.ask.AskFault.{AskFault}
 use Rattle.mm_check.specs.declared.ask.AskFault.TheVariants as ask
 use Rattle.mm_check.specs.declared.command.Command.{Command}
 use Rattle.mm_check.specs.declared.command.Command.TheVariants.{Check, Axioms, Show, Normal}
-use Rattle.mm_check.specs.declared.command.Command.TheVariants.{Packed, Same}
+use Rattle.mm_check.specs.declared.command.Command.TheVariants.{Packed, Same, All}
 use Rattle.mm_check.specs.Rests.{IsAskFault, IsReport}
 use Rattle.mm_check.specs.Shown.{IsShown}
 use Rattle.mm_check.specs.declared.form.Form.{Form}
@@ -31,6 +31,7 @@ use Rattle.mm_check.specs.declared.form.Form.TheVariants as form
 use Rattle.mm_check.specs.Forms.{IsNormalOf, IsPackedOf, IsNormalFault}
 use Rattle.mm_check.specs.Compared.{IsCompared, IsSameFault}
 use Rattle.mm_check.specs.Saved.{IsSaved, FitsSaved, IsSaveFault}
+use Rattle.mm_check.specs.AllSaved.{IsAllSaved, IsFirstTooLong, IsAllSaveFault}
 use Rattle.mm_check.specs.Verdict.{Verdict, Load, Refused, Incomplete, Yes, HasVerdict, AreAccepted}
 use Rattle.mm_check.specs.Verdict.{labels_of}
 
@@ -253,6 +254,19 @@ IsSavedReply form files label statements text status =
     ⊎ ((number : ℕ) × IsSaved form files statements label number text
     × FitsSaved files number text × (status ≡ 0))
 
+-- the reply to the question for the file with a number, with each complete proof in a form: the bytes
+-- of the file, and nothing else; or the label of the first theorem whose proof is too long, or the
+-- name of the file, where the files would have too many bytes
+abbrev pub IsAllSavedReply : Form → List PlainFile → (number : ℕ) → List PlainStatement → List ℕ → ℕ
+    → Type 0
+IsAllSavedReply wanted files number statements text status =
+    ((label : List ℕ) × (wanted ≡ form.Normal) × IsFirstTooLong statements number label
+    × IsAskReply ask.L2 label text status)
+    ⊎ ((IsAllSaveFault wanted files statements number ask.F3
+    × IsAskReply ask.F3 (name_of files number) text status)
+    ⊎ (IsAllSaved wanted files statements number text × FitsSaved files number text
+    × (status ≡ 0)))
+
 -- The reply to a question about the database: the refusal, if it is refused, else the answer over
 -- its statements.
 abbrev pub IsQuestionReply : List PlainFile → (List PlainStatement → List ℕ → ℕ → Type 0) → List ℕ
@@ -263,6 +277,11 @@ IsQuestionReply files Answers text status =
     × Answers statements text status)
 
 -- ---- commands
+
+-- a file that the command asks for by its number is one of those that are handed in
+abbrev pub AsksHanded : List PlainFile → Command → Type 0
+AsksHanded files (All form number) = number < length files
+AsksHanded files command = Unit {0}
 
 -- This is the text and the status of the reply to a command. Questions are answered where the lenient
 -- profile accepts the files.
@@ -281,6 +300,8 @@ IsReplyTo files (Same label proof) text status =
     IsQuestionReply files (IsSameReply label.now proof.now) text status
 IsReplyTo files (Packed label true) text status =
     IsQuestionReply files (IsSavedReply form.Packed files label.now) text status
+IsReplyTo files (All wanted number) text status =
+    IsQuestionReply files (IsAllSavedReply wanted files number) text status
 
 -- The reply's text was put after what the writer held, where that is known.
 abbrev pub Writes : List PlainFile → Command → ℕ → Option (List ℕ) → Option (List ℕ) → Type 0

@@ -5,11 +5,14 @@ ghost use Rattle.mm_text.specs.Files.{plain_file};
 ghost use Rattle.mm_text.specs.Device.{faults_of, inner_of};
 ghost use Rattle.mm_check.specs.Status.{number_of};
 ghost use Rattle.mm_check.specs.Mirror.Questions.{question_in};
-ghost use Rattle.mm_check.specs.Reply.{IsReplyTo, Writes, WritesBeginningOf};
+ghost use Rattle.mm_check.specs.Reply.{AsksHanded, IsReplyTo, Writes};
+ghost use Rattle.mm_check.specs.Reply.{WritesBeginningOf};
 ghost use Rattle.mm_check.specs.declared.command.RunFault.TheVariants.{Memory};
 
 use crate::form::Form;
-use crate::question::{Question, Reply, axioms_reply, check_reply, question_reply};
+use crate::question::{
+    Question, Reply, all_saved_reply, axioms_reply, check_reply, question_reply,
+};
 use crate::status::Status;
 use mm_proof::Profile;
 use mm_text::{Counted, File, Seed};
@@ -34,6 +37,8 @@ pub enum Command<'a> {
     Packed { label: &'a [u8], whole: bool },
     /// Whether this text is the same proof as that of the theorem with this label.
     Same { label: &'a [u8], text: &'a [u8] },
+    /// The bytes of the handed file with this number, with each complete proof in this form.
+    All { form: Form, file: usize },
 }
 
 /// Why a reply wasn't written, or not to its end.
@@ -73,6 +78,7 @@ fn reply_to(
     command: &Command,
     files: &[File],
 ) -> Result<Reply, AllocError>
+    requires { AsksHanded (map plain_file files.now) command.now }
     ensures { IfOk result (λ reply. IsReplyTo (map plain_file files.now) command.now
         reply.text.items (number_of reply.status)) }
 {
@@ -101,6 +107,7 @@ fn reply_to(
         Command::Same { label, text } => {
             question_reply(alloc, seed, files, &Question::Same(text), label)
         }
+        Command::All { form, file } => all_saved_reply(alloc, seed, files, *form, *file),
     }
 }
 
@@ -118,7 +125,8 @@ pub fn run<W: Write>(
     files: &[File],
     out: &mut Counted<W>,
 ) -> Result<Status, RunFault>
-    requires { faults_of out.old < u64.MAX }
+    requires faults { faults_of out.old < u64.MAX }
+    requires asks { AsksHanded (map plain_file files.now) command.now }
     ensures reply { IfOk result (λ status. Writes (map plain_file files.now) command.now
         (number_of status) (W.contents (inner_of out.old)) (W.contents (inner_of out.new))) }
     ensures device { IsErrOf result RunFault.Device → WritesBeginningOf

@@ -9,11 +9,12 @@ ghost use Rattle.mm_text.specs.Reading.{Reads};
 ghost use Rattle.mm_proof.specs.declared.profile.Profile.TheVariants.{Lenient};
 ghost use Rattle.mm_check.specs.Answer.{verdict_of_answer, labels_at, IsVerdict};
 ghost use Rattle.mm_check.specs.Answer.{KeepsLabels, KeepsFiles};
-ghost use Rattle.mm_check.specs.Verdict.{labels_of};
+ghost use Rattle.mm_check.specs.Verdict.{AreAccepted, labels_of};
 ghost use Rattle.mm_check.specs.Status.{number_of};
 ghost use Rattle.mm_check.specs.Reply.{code_of, line_with, lines_of, status_of as status_at, Tells};
 ghost use Rattle.mm_check.specs.Reply.{IsReply, IsAskReply, IsAxiomsReply, IsShowReply};
 ghost use Rattle.mm_check.specs.Reply.{IsNormalReply, IsPackedReply, IsSavedReply, IsSameReply};
+ghost use Rattle.mm_check.specs.Reply.{IsAllSavedReply};
 ghost use Rattle.mm_check.specs.Reply.{same_text, same_status, text_status as text_status_at};
 ghost use Rattle.mm_check.specs.Mirror.Questions.{Answers};
 ghost use Rattle.mm_check.specs.Reply.{IsQuestionReply, report_text as report_text_at};
@@ -23,9 +24,10 @@ use crate::ask::AskFault;
 use crate::checked::Checked;
 use crate::fault::CheckFault;
 use crate::form::Form;
-use crate::reply::{push_label, push_labels, status_of, text_of};
+use crate::reply::{name_of, push_label, push_labels, status_of, text_of};
 use crate::report::Report;
 use crate::rule::Rule;
+use crate::save::SaveFault;
 use crate::status::Status;
 use crate::verdict::{check, check_with};
 use crate::words::{push_number, push_word};
@@ -424,6 +426,76 @@ pub(crate) fn question_reply(
 {
     let answer = check(alloc, seed, files);
     let reply = answer_or_verdict(alloc, files, &answer, question, label);
+    drop(answer);
+    reply
+}
+
+/// The reply of a database in which nothing is at fault to the question for the bytes of the file with
+/// a number, with each complete proof in a form.
+fn all_saved_answer(
+    alloc: Global,
+    files: &[File],
+    checked: &Checked,
+    form: Form,
+    number: usize,
+) -> Result<Reply, AllocError>
+    requires there { number < length files.now }
+    requires files { checked.now.files ≡ map plain_file files.now }
+    ensures { IfOk result (λ reply. (statements : List PlainStatement)
+        × AreAccepted checked.now.profile (map plain_file files.now) statements
+        × IsAllSavedReply form (map plain_file files.now) number statements reply.text.items
+        (number_of reply.status)) }
+{
+    match checked.saved_all(alloc, number, form) {
+        Ok(text) => Ok(Reply {
+            text,
+            status: Status::Done,
+        }),
+        Err(SaveFault::TooLong { label }) => ask_reply(alloc, label, AskFault::L2),
+        Err(SaveFault::Ask(fault)) => ask_reply(alloc, name_of(files, number), fault),
+        // The files are accepted.
+        Err(SaveFault::Check(_)) => unreachable!(),
+    }
+}
+
+/// The reply to the question for the file with a number, with each complete proof in a form, where
+/// this is the answer of `check`.
+fn all_saved_or_verdict(
+    alloc: Global,
+    files: &[File],
+    answer: &Result<Checked, CheckFault>,
+    form: Form,
+    number: usize,
+) -> Result<Reply, AllocError>
+    requires there { number < length files.now }
+    requires verdict { IsVerdict Lenient (map plain_file files.now) answer.now }
+    requires files { IfOk answer.now (KeepsFiles (map plain_file files.now)) }
+    requires profile { IfOk answer.now (λ checked. checked.profile ≡ Lenient) }
+    ensures { IfOk result (λ reply. IsQuestionReply (map plain_file files.now)
+        (IsAllSavedReply form (map plain_file files.now) number) reply.text.items
+        (number_of reply.status)) }
+{
+    match answer {
+        Ok(checked) => all_saved_answer(alloc, files, checked, form, number),
+        Err(_) => verdict_reply(alloc, files, answer),
+    }
+}
+
+/// The reply to the question for the file with a number, with each complete proof in a form.
+pub(crate) fn all_saved_reply(
+    alloc: Global,
+    seed: Seed,
+    files: &[File],
+    form: Form,
+    number: usize,
+) -> Result<Reply, AllocError>
+    requires { number < length files.now }
+    ensures { IfOk result (λ reply. IsQuestionReply (map plain_file files.now)
+        (IsAllSavedReply form (map plain_file files.now) number) reply.text.items
+        (number_of reply.status)) }
+{
+    let answer = check(alloc, seed, files);
+    let reply = all_saved_or_verdict(alloc, files, &answer, form, number);
     drop(answer);
     reply
 }

@@ -22,7 +22,7 @@ use mm_text::File;
 use std::alloc::{AllocError, Global};
 
 /// The name of a file; nothing where there is none.
-fn name_of<'a>(files: &[File<'a>], file: usize) -> &'a [u8]
+pub(crate) fn name_of<'a>(files: &[File<'a>], file: usize) -> &'a [u8]
     ensures { result.now ≡ name_at (map plain_file files.now) file }
 {
     match files.get(file) {

@@ -26,7 +26,11 @@ fn has_label(statement: &Statement, label: &[u8]) -> bool
 }
 
 /// A reader of files that can be read.
-fn reader<'a>(alloc: Global, seed: Seed, files: &'a [File<'a>]) -> Result<Statements<'a>, AskFault>
+pub(crate) fn reader<'a>(
+    alloc: Global,
+    seed: Seed,
+    files: &'a [File<'a>],
+) -> Result<Statements<'a>, AskFault>
     requires { CanBeRead (map plain_file files.now) }
     ensures unread { IfOk result (IsUnread (map plain_file files.now)) }
     ensures memory { IfErr result (λ fault. fault ≡ Memory) }
@@ -40,7 +44,10 @@ fn reader<'a>(alloc: Global, seed: Seed, files: &'a [File<'a>]) -> Result<Statem
 }
 
 /// Reads the next statement of a text without a fault; `false` where there is none.
-fn next<'a>(statements: &mut Statements<'a>, into: &mut Statement<'a>) -> Result<bool, AskFault>
+pub(crate) fn next<'a>(
+    statements: &mut Statements<'a>,
+    into: &mut Statement<'a>,
+) -> Result<bool, AskFault>
     requires { statements.old.ending ≡ None }
     ensures taken { IfOk result (λ more.
         TakesNext statements.old more (plain_statement into.new) statements.new) }
@@ -106,6 +113,21 @@ pub(crate) fn reread<'a>(
     }
 }
 
+/// Reads the texts of the tokens of a statement's proof, in place of what the list held.
+pub(crate) fn read_proof<'a>(
+    tokens: &mut Vec<&'a [u8]>,
+    statement: &Statement<'a>,
+) -> Result<(), AllocError>
+    ensures { OnOk result (map (λ t. t.now) tokens.new.items
+        ≡ proof_of (plain_statement statement.now)) }
+{
+    tokens.clear();
+    for token in &statement.proof {
+        tokens.push(token.text)?;
+    }
+    Ok(())
+}
+
 /// The texts of the tokens of a statement's proof.
 pub(crate) fn proof_of<'a>(
     alloc: Global,
@@ -115,8 +137,6 @@ pub(crate) fn proof_of<'a>(
         ≡ proof_of (plain_statement statement.now)) }
 {
     let mut tokens = Vec::with_capacity(alloc, statement.proof.len())?;
-    for token in &statement.proof {
-        tokens.push(token.text)?;
-    }
+    read_proof(&mut tokens, statement)?;
     Ok(tokens)
 }

@@ -5,6 +5,7 @@ ghost use Rattle.std.specs.Prelude.{IsTrue};
 ghost use Rattle.mm_text.specs.Files.{most_bytes, plain_file, total_bytes};
 ghost use Rattle.mm_text.specs.Replaced.{with_span};
 ghost use Rattle.mm_check.specs.Saved.{FitsSaved, total_with};
+ghost use Rattle.mm_check.specs.Mirror.AllSaving.{IsMostFor};
 ghost use Rattle.mm_check.specs.Mirror.Rewriting.{HoldsSpan, IsPutIn, IsPutFault};
 
 use crate::ask::AskFault;
@@ -32,6 +33,16 @@ fn with_text(
     Ok(new)
 }
 
+/// The most bytes that the file with a number may have, so that the files have no more than they may.
+pub(crate) fn most_for(files: &[File], number: usize) -> usize
+    requires there { number < length files.now }
+    requires within { total_bytes (map plain_file files.now) ≤ most_bytes }
+    ensures { IsMostFor (map plain_file files.now) number result }
+{
+    let others = size_of(files) - files[number].bytes.len();
+    BYTE_LIMIT - others
+}
+
 /// Whether the files have more bytes than they may, with so many in the file with a number.
 fn is_over(files: &[File], number: usize, count: usize) -> bool
     requires there { number < length files.now }
@@ -39,8 +50,7 @@ fn is_over(files: &[File], number: usize, count: usize) -> bool
     ensures { (bytes : List ℕ) → length bytes ≡ count → IsTrue result
         ↔ (most_bytes < total_with (map plain_file files.now) number bytes) }
 {
-    let others = size_of(files) - files[number].bytes.len();
-    count > BYTE_LIMIT - others
+    count > most_for(files, number)
 }
 
 /// The bytes of the file with a number, with a line feed and a text in place of those of a span.

@@ -1,9 +1,11 @@
 //! A file with the proof of one theorem written anew.
 
-ghost use Rattle.std.specs.Prelude.{List, map, IfOk, IfErr};
+ghost use Rattle.std.specs.Prelude.{◌≡◌, List, map, IfOk, IfErr};
 ghost use Rattle.mm_text.specs.Statement.{PlainStatement};
 ghost use Rattle.mm_text.specs.Files.{plain_file};
 ghost use Rattle.mm_proof.specs.declared.profile.Profile.TheVariants.{Lenient};
+ghost use Rattle.mm_check.specs.declared.ask.AskFault.TheVariants.{Memory};
+ghost use Rattle.mm_check.specs.declared.save.SaveFault.TheVariants.{Ask};
 ghost use Rattle.mm_check.specs.Verdict.{AreAccepted};
 ghost use Rattle.mm_check.specs.Saved.{IsSaved, FitsSaved, IsSavingFault};
 
@@ -12,7 +14,7 @@ use crate::fault::CheckFault;
 use crate::form::Form;
 use crate::verdict::check;
 use mm_text::{File, Seed};
-use std::alloc::Global;
+use std::alloc::{AllocError, Global};
 use thiserror::Error;
 
 /// Why a file isn't written anew.
@@ -28,6 +30,22 @@ pub enum SaveFault<'a> {
     /// first one, has over 16,777,216 labels.
     #[error("a normal proof has too many labels")]
     TooLong { label: &'a [u8] },
+}
+
+impl<'a> From<AskFault> for SaveFault<'a> {
+    ghost from_gives = { λ fault e. e ≡ Ask fault };
+
+    fn from(fault: AskFault) -> SaveFault<'a> {
+        SaveFault::Ask(fault)
+    }
+}
+
+impl<'a> From<AllocError> for SaveFault<'a> {
+    ghost from_gives = { λ _ e. e ≡ Ask Memory };
+
+    fn from(_e: AllocError) -> SaveFault<'a> {
+        SaveFault::Ask(AskFault::Memory)
+    }
 }
 
 /// The number of the file in which the `$p` with a label stands, and the bytes of that file with the

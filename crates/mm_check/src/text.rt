@@ -99,7 +99,7 @@ fn any_dollar(tokens: &[&[u8]]) -> bool
 }
 
 /// Whether a token holds a `?`.
-fn has_question(token: &[u8]) -> bool
+pub(crate) fn has_question(token: &[u8]) -> bool
     ensures { result ≡ is_unknown token.now }
 {
     token.iter().any(|byte| *byte == b'?')

@@ -46,3 +46,8 @@ pub returns-in-Same : goal.returns-in-Same
 returns-in-Same c =
     subst (λ (command : Command). IfOk c.question_reply-in-Same.result (λ (reply : Reply). IsReplyTo (map plain_file c.args.files.now) command
     reply.text.items (number_of reply.status))) (sym c.in-Same.is) c.question_reply-in-Same.ensures
+
+pub returns-in-All : goal.returns-in-All
+returns-in-All c =
+    subst (λ (command : Command). IfOk c.all_saved_reply.result (λ (reply : Reply). IsReplyTo (map plain_file c.args.files.now) command
+    reply.text.items (number_of reply.status))) (sym c.in-All.is) c.all_saved_reply.ensures

@@ -1,5 +1,5 @@
 -- A token that holds one is among them.
-use Rattle.std.proofs.Common.{◌==◌, ℕ, List, Bor, sym, ◌∙◌}
+use Rattle.std.proofs.Common.{ℕ, List, Bor, sym, ◌∙◌}
 use Rattle.mm_text.proofs.Lists.{any_found}
 use Rattle.mm_proof.specs.Tokens.{is_unknown}
 use Rattle.mm_check.proofs.text.any_question.Goals as goal

@@ -3,7 +3,7 @@ use Rattle.std.proofs.Common.{◌≤◌, List, map, length, ap, subst, ◌∙◌
 use Rattle.std.proofs.lemmas.List.{take_all}
 use Rattle.mm_text.specs.declared.token.Token.{Token}
 use Rattle.mm_check.proofs.Judging.{texts_of}
-use Rattle.mm_check.proofs.reread.proof_of.Goals as goal
+use Rattle.mm_check.proofs.reread.read_proof.Goals as goal
 
 pub returns : goal.returns
 returns c =

@@ -1,0 +1,211 @@
+-- What is told of a theorem whose proof is written anew.
+use Rattle.std.proofs.Common.{◌≡◌, ℕ, ◌<◌, List, length, slice_get}
+use Rattle.std.proofs.Common.{Some, inl, inr, refl, sym, ap, subst, ◌∙◌}
+use Rattle.std.proofs.lemmas.Option.{same_Some}
+use Rattle.mm_text.specs.declared.statement.Kind.TheVariants.{Provable}
+use Rattle.mm_text.specs.Statement.{PlainStatement}
+use Rattle.mm_frame.specs.declared.answer.Found.{Found}
+use Rattle.mm_frame.specs.declared.answer.Found.TheVariants as found
+use Rattle.mm_frame.specs.declared.number.LabelId.{LabelId}
+use Rattle.mm_frame.specs.Found.{Finds}
+use Rattle.mm_frame.specs.Rules.{AllMeant}
+use Rattle.mm_frame.specs.Sentence.{Sentence, SomeSentence, sentence_of, IsLabelled}
+use Rattle.mm_frame.specs.Numbers.{IsNumbered}
+use Rattle.mm_frame.proofs.Meant.{one_label}
+use Rattle.mm_proof.specs.declared.profile.Profile.{Profile}
+use Rattle.mm_proof.specs.Tokens.{SayMoves}
+use Rattle.mm_proof.specs.Packing.{OfTree}
+use Rattle.mm_proof.specs.ReadSteps.{ReadSteps}
+use Rattle.mm_proof.specs.Steps.{IsProofNumber}
+use Rattle.mm_proof.specs.Tree.{spelling}
+use Rattle.mm_check.specs.declared.form.Form.{Form}
+use Rattle.mm_check.specs.declared.form.Form.TheVariants as form
+use Rattle.mm_check.specs.declared.ask.AskFault.TheVariants as ask
+use Rattle.mm_check.specs.Verdict.{sentences, proof_of}
+use Rattle.mm_check.specs.Forms.{most_labels}
+use Rattle.mm_check.specs.Rests.{IsAt}
+use Rattle.mm_check.specs.Saved.{IsTextIn}
+use Rattle.mm_check.specs.AllSaved.{IsReplacement}
+use Rattle.mm_check.specs.Mirror.Theorems.{IsProofOf, SayStepsOf, AreProvedSteps, AreStepsOf}
+use Rattle.mm_check.specs.Mirror.Rewriting.{IsTextOf, IsTextFault}
+use Rattle.mm_check.specs.Mirror.AllSaving.{IsTheoremAmong, HasTooLongProof, replacement}
+use Rattle.mm_check.proofs.Asked.{map-take, hypothesis_other}
+use Rattle.mm_check.proofs.Rereading.{said_there, proof_stands}
+use Rattle.mm_check.proofs.Theorems.{of_theorem, tree_made, has_tree}
+use Rattle.mm_check.proofs.Saving.{provable_proof}
+
+-- ---- its number
+
+-- one statement has a label
+one_labelled : (told : List Sentence) (label : List ℕ) (p q : ℕ) (s t : Sentence) → AllMeant told
+    → slice_get told p ≡ Some s → slice_get told q ≡ Some t → IsLabelled label s
+    → IsLabelled label t → (p ≡ q) × (s ≡ t)
+one_labelled told label p q s t all here there named labelled =
+    let place : p ≡ q = one_label told label p q s t all here there named labelled in
+    (place, same_Some s t (sym here ∙ ap (slice_get told) place ∙ there))
+
+-- a `$p` under this label
+abbrev pub IsProofUnder : List Sentence → List ℕ → Type 0
+IsProofUnder told label = SomeSentence told (λ s. IsLabelled label s × (s.kind ≡ Provable))
+
+pub number_found : (told : List Sentence) (label : List ℕ) (id : LabelId) → AllMeant told
+    → IsProofUnder told label → Finds told label (found.Assertion id)
+    → (place : ℕ) (s : Sentence) → slice_get told place ≡ Some s → IsLabelled label s
+    → IsProofNumber told id.0 place s
+number_found told label id all (p, t, at, both) (q, u, numbered, labelled, kind) place s there named =
+    let same = one_labelled told label p place t s all at there both.0 named in
+    let found = one_labelled told label q place u s all numbered.there there labelled named in
+    record {
+      numbered =
+          subst (λ (n : ℕ). IsNumbered told id.0 n s) found.0
+          (subst (λ (v : Sentence). IsNumbered told id.0 q v) found.1 numbered);
+      provable = sym (ap (λ (v : Sentence). v.kind) same.1) ∙ both.1;
+    }
+
+-- nothing else is found
+pub found_so : (told : List Sentence) (label : List ℕ) (answer : Found) → AllMeant told
+    → IsProofUnder told label → Finds told label answer
+    → ((id : LabelId) → answer ≡ found.Assertion id → ⊥) → ⊥
+found_so told label found.None all (p, t, at, both) none other =
+    none (p, t, at, both.0)
+found_so told label (found.Hypothesis id active) all (p, t, at, both) (q, u, numbered, labelled, kind, is) other =
+    let same = one_labelled told label q p u t all numbered.there at labelled both.0 in
+    hypothesis_other u.kind kind (ap (λ (v : Sentence). v.kind) same.1 ∙ both.1)
+found_so told label (found.Assertion id) all under finds other = other id refl
+
+-- the theorem is one under its label
+pub theorem_under : (profile : Profile) (told : List Sentence) (s : PlainStatement)
+    (label : List ℕ) → IsTheoremAmong profile told s → IsLabelled label (sentence_of s)
+    → IsProofUnder told label
+theorem_under profile told s label t named = (
+  t.place,
+  sentence_of s,
+  subst (λ (ss : List Sentence). slice_get ss t.place ≡ Some (sentence_of s)) (sym t.same)
+      (said_there t.statements t.place s t.there),
+  (named, provable_proof s t.complete),
+)
+
+-- its number among what the statements say
+pub number_among : (profile : Profile) (told : List Sentence) (s : PlainStatement)
+    (label : List ℕ) (id : ℕ) (t : IsTheoremAmong profile told s) → IsLabelled label (sentence_of s)
+    → ((place : ℕ) (u : Sentence) → slice_get told place ≡ Some u → IsLabelled label u
+    → IsProofNumber told id place u)
+    → IsProofNumber told id t.place (sentence_of s)
+number_among profile told s label id t named numbers =
+    numbers t.place (sentence_of s)
+    (subst (λ (ss : List Sentence). slice_get ss t.place ≡ Some (sentence_of s)) (sym t.same)
+    (said_there t.statements t.place s t.there))
+    named
+
+-- ---- its proof
+
+pub proof_among : (profile : Profile) (told : List Sentence) (s : PlainStatement) (id : ℕ)
+    (tokens : List (List ℕ)) (t : IsTheoremAmong profile told s)
+    → IsProofNumber told id t.place (sentence_of s) → tokens ≡ proof_of s
+    → IsProofOf profile told id tokens
+proof_among profile told s id tokens t number texts =
+    let at : IsAt t.statements id t.place s = record {
+      there = t.there;
+      numbered =
+          subst (λ (ss : List Sentence). IsNumbered ss id t.place (sentence_of s)) t.same
+          number.numbered;
+    } in
+    subst (λ (ts : List (List ℕ)). IsProofOf profile told id ts) (sym texts)
+    (subst (λ (ss : List Sentence). IsProofOf profile ss id (proof_of s)) (sym t.same)
+    (proof_stands profile t.statements id t.place s t.obeyed at t.complete))
+
+steps_among : (profile : Profile) (told : List Sentence) (s : PlainStatement) (label : List ℕ)
+    (id : ℕ) (steps : ReadSteps) (t : IsTheoremAmong profile told s)
+    → IsLabelled label (sentence_of s) → IsProofNumber told id t.place (sentence_of s)
+    → SayStepsOf told id (proof_of s) steps.moves
+    → (r : AreStepsOf t.statements label id steps.moves) × (r.place ≡ t.place) × (r.s ≡ s)
+steps_among profile told s label id steps t named number said =
+    let own : IsProofNumber (sentences t.statements) id t.place (sentence_of s) =
+    subst (λ (ss : List Sentence). IsProofNumber ss id t.place (sentence_of s)) t.same number in
+    let here : SayStepsOf (sentences t.statements) id (proof_of s) steps.moves =
+    subst (λ (ss : List Sentence). SayStepsOf ss id (proof_of s) steps.moves) t.same said in
+    let moves = here t.place (sentence_of s) own in (
+      record {
+        place = t.place;
+        s = s;
+        there = t.there;
+        named = named;
+        complete = t.complete;
+        number = own;
+        moves = moves.0;
+        told =
+            subst (λ (ss : List Sentence). SayMoves ss (sentence_of s) (proof_of s) moves.0)
+            (sym (map-take t.place t.statements)) moves.1;
+        numbered = moves.2;
+      },
+      refl,
+      refl,
+    )
+
+replaced_so : (form : Form) (told : List Sentence) (statements : List PlainStatement)
+    (label : List ℕ) (id : ℕ) (steps : ReadSteps) (text : List ℕ) → told ≡ sentences statements
+    → (r : AreStepsOf statements label id steps.moves) → AreProvedSteps told id steps
+    → IsTextOf form told id steps.moves text
+    → IsReplacement form statements r.s (replacement r.s text)
+replaced_so form told statements label id steps text same r proved laid =
+    let made = tree_made told statements label id steps same r proved in
+    let written =
+    of_theorem told statements label id steps.moves
+    (λ before s moves. OfTree before moves (λ trees. IsTextIn form before s trees text)) same r laid in
+    record {
+      label = label;
+      place = r.place;
+      root = made.0;
+      below = made.1;
+      proof = has_tree statements label id steps.moves r made.0 made.1 made.2;
+      text = text;
+      laid = written made.0 made.1 made.2;
+      span = refl;
+      put = refl;
+    }
+
+-- written in a form
+pub theorem_replaced : (profile : Profile) (form : Form) (told : List Sentence)
+    (s : PlainStatement) (label : List ℕ) (id : ℕ) (steps : ReadSteps) (text : List ℕ)
+    (t : IsTheoremAmong profile told s) → IsLabelled label (sentence_of s)
+    → IsProofNumber told id t.place (sentence_of s)
+    → SayStepsOf told id (proof_of s) steps.moves → AreProvedSteps told id steps
+    → IsTextOf form told id steps.moves text
+    → IsReplacement form t.statements s (replacement s text)
+theorem_replaced profile form told s label id steps text t named number said proved laid =
+    let (r, place, same) = steps_among profile told s label id steps t named number said in
+    subst (λ (u : PlainStatement). IsReplacement form t.statements u (replacement u text)) same
+    (replaced_so form told t.statements label id steps text t.same r proved laid)
+
+-- its normal proof is too long
+long_so : (told : List Sentence) (statements : List PlainStatement) (label : List ℕ) (id : ℕ)
+    (steps : ReadSteps) → told ≡ sentences statements
+    → (r : AreStepsOf statements label id steps.moves) → AreProvedSteps told id steps
+    → IsTextFault form.Normal told id steps.moves ask.L2
+    → HasTooLongProof statements r.s label
+long_so told statements label id steps same r proved (inl memory) = absurd cc
+long_so told statements label id steps same r proved (inr (is, long)) =
+    let made = tree_made told statements label id steps same r proved in
+    let over =
+    of_theorem told statements label id steps.moves
+    (λ before s moves. OfTree before moves (λ trees. most_labels < length (spelling trees))) same r
+    long in
+    (r.place, made.0, made.1, has_tree statements label id steps.moves r made.0 made.1 made.2, over made.0 made.1 made.2)
+
+pub theorem_long : (profile : Profile) (f : Form) (told : List Sentence) (s : PlainStatement)
+    (label : List ℕ) (id : ℕ) (steps : ReadSteps) (t : IsTheoremAmong profile told s)
+    → IsLabelled label (sentence_of s) → IsProofNumber told id t.place (sentence_of s)
+    → SayStepsOf told id (proof_of s) steps.moves → AreProvedSteps told id steps
+    → f ≡ form.Normal → IsTextFault f told id steps.moves ask.L2
+    → HasTooLongProof t.statements s label
+theorem_long profile f told s label id steps t named number said proved normal fault =
+    let (r, place, same) = steps_among profile told s label id steps t named number said in
+    subst (λ (u : PlainStatement). HasTooLongProof t.statements u label) same
+    (long_so told t.statements label id steps t.same r proved
+    (subst (λ (g : Form). IsTextFault g told id steps.moves ask.L2) normal fault))
+
+-- only a normal proof is
+pub long_is_normal : (f : Form) (told : List Sentence) (id : ℕ) (steps : ReadSteps)
+    → IsTextFault f told id steps.moves ask.L2 → f ≡ form.Normal
+long_is_normal form.Normal told id steps fault = refl
+long_is_normal form.Packed told id steps fault = absurd cc
