@@ -1,9 +1,10 @@
 -- The statement that was taken last, where it is a `$p`.
-use Rattle.std.proofs.Common.{◌≡◌, ℕ, List, [], ◌∷◌, ◌++◌, take, length, slice_get, is_some, true, Option, Some, option_map, refl, sym, ap, ◌∙◌}
+use Rattle.std.proofs.Common.{◌≡◌, List, [], ◌∷◌, ◌++◌, take, length, slice_get, is_some, true, Option, option_map, refl, sym, ap, ◌∙◌}
 use Rattle.mm_text.specs.declared.statement.Kind.{Kind}
 use Rattle.mm_text.specs.declared.statement.Kind.TheVariants.{Provable}
 use Rattle.mm_text.specs.Token.{PlainToken}
-use Rattle.mm_text.specs.Statement.{PlainStatement, plain_statement, HasForm, HasLabel}
+use Rattle.mm_text.specs.Statement.{PlainStatement, HasForm, HasLabel}
+use Rattle.mm_text.proofs.Lists.{get_pushed}
 use Rattle.mm_frame.specs.declared.number.LabelId.{LabelId}
 use Rattle.mm_frame.specs.declared.answer.Taken.{Taken}
 use Rattle.mm_frame.specs.declared.answer.Taken.TheVariants.{Assertion}
@@ -11,10 +12,6 @@ use Rattle.mm_frame.specs.Sentence.{Sentence, sentence_of}
 use Rattle.mm_frame.specs.Numbers.{labelled_sentences}
 use Rattle.mm_frame.specs.Taken.{TakenAs, next_id}
 use Rattle.mm_proof.specs.Steps.{IsProofNumber}
-
-get_last : {X : Type 0} (xs : List X) (x : X) → slice_get (xs ++ x ∷ []) (length xs) ≡ Some x
-get_last [] x = refl
-get_last (y ∷ xs) x = get_last xs x
 
 take_front : {X : Type 0} (xs ys : List X) → take (length xs) (xs ++ ys) ≡ xs
 take_front [] ys = refl
@@ -34,7 +31,7 @@ pub last_number : (statements before : List Sentence) (s : PlainStatement) (take
     → s.kind ≡ Provable → TakenAs before s.kind taken → taken ≡ Assertion id → IsProofNumber statements id.0 (length before) (sentence_of s)
 last_number statements before s taken id formed e provable was f = record {
   numbered = record {
-    there = ap (λ (ss : List Sentence). slice_get ss (length before)) e ∙ get_last before (sentence_of s);
+    there = ap (λ (ss : List Sentence). slice_get ss (length before)) e ∙ get_pushed before (sentence_of s);
     named = is_labelled s.kind s.label formed.label provable;
     number = ap (λ (ss : List Sentence). length (labelled_sentences ss)) (ap (λ (ss : List Sentence). take (length before) ss) e ∙ take_front before (sentence_of s ∷ []))
         ∙ sym (ap (λ (i : LabelId). i.0) (number_of before s.kind taken id was provable f));

@@ -8,6 +8,7 @@ use Rattle.std.proofs.Math.Seq.{take-append-add}
 use Rattle.std.proofs.KnownBytes.{Appends-trans}
 use Rattle.std.specs.List.{AllByRecursion}
 use Rattle.std.specs.Io.KnownBytes.{Appends}
+use Rattle.mm_text.proofs.Lists.{all_push}
 use Rattle.mm_text.specs.Device.{inner_of}
 use Rattle.mm_text.specs.declared.counted.Counted.{Counted}
 use Rattle.mm_tool.specs.Ending.{BreaksOff, TakesWhole, TellsLine, IsUnknownCode, error_line}
@@ -38,14 +39,10 @@ tells_stop contents stop this a b same told =
     let Told : Stop → Type 0 = λ s. TellsLine contents (error_line s) a b in
     subst Told (sym same) told
 
--- What holds of each of a list, and of one more, holds of each of both.
-pub all_with : {X : Type 0} (P : X → Type 0) (xs : List X) (x : X) → AllByRecursion P xs → P x → AllByRecursion P (xs ++ x ∷ [])
-all_with P [] x h p = (p, tt)
-all_with P (y ∷ ys) x h p = (h.0, all_with P ys x h.1 p)
-
+-- What holds of each of a front, and of the next, holds of each of the front with the next.
 pub all_more : {X : Type 0} (P : X → Type 0) (xs : List X) (i : ℕ) (d : X) → i < length xs → AllByRecursion P (take i xs) → P (get_or xs i d)
     → AllByRecursion P (take (i + 1) xs)
-all_more P xs i d less h p = subst (AllByRecursion P) (sym (take_more xs i d less)) (all_with P (take i xs) (get_or xs i d) h p)
+all_more P xs i d less h p = subst (AllByRecursion P) (sym (take_more xs i d less)) (all_push P (take i xs) (get_or xs i d) h p)
 
 -- Texts that differ in a byte are two.
 pub different : (a b : List ℕ) → bytes_eq a b ≡ false → a ≢ b

@@ -2,7 +2,7 @@
 use Rattle.std.proofs.Common.{◌≡◌, ℕ, ◌+◌, ◌<◌, ◌≤◌, List, [], ◌∷◌, ◌++◌, length, map, take, get_or, refl, sym, ap, ap₂, ◌∙◌, subst, arith, Bor, Option, Some, IfSome}
 use Rattle.std.proofs.lemmas.List.{map-append, take_more}
 use Rattle.std.proofs.lemmas.List.Sums.{sum_by-append, sum_by_push}
-use Rattle.std.specs.List.{AllByRecursion, AllZip}
+use Rattle.std.specs.List.{AllZip}
 use Rattle.mm_text.specs.Alike.{AreAlike}
 use Rattle.mm_text.specs.Files.{most_bytes, PlainFile, total_bytes}
 use Rattle.mm_check.specs.Alike.{AlikeFilesHaveOneReply}
@@ -16,16 +16,6 @@ use Rattle.mm_tool.specs.Folder.{KnownFile, MayHold, Unknown, Absent, Holds}
 use Rattle.mm_tool.specs.ReadFiles.{IsReadAs}
 
 -- ## One file more
-
-pub more_each : {X : Type 0} (P : X → Type 0) (xs : List X) (x : X) → AllByRecursion P xs → P x → AllByRecursion P (xs ++ x ∷ [])
-more_each P [] x all one = (one, tt)
-more_each P (y ∷ xs) x all one = (all.0, more_each P xs x all.1 one)
-
-pub more_pairs : {X Y : Type 0} (R : X → Y → Type 0) (xs : List X) (ys : List Y) (x : X) (y : Y) → AllZip R xs ys → R x y → AllZip R (xs ++ x ∷ []) (ys ++ y ∷ [])
-more_pairs R [] [] x y all one = (one, tt)
-more_pairs R [] (b ∷ ys) x y all one = absurd all
-more_pairs R (a ∷ xs) [] x y all one = absurd all
-more_pairs R (a ∷ xs) (b ∷ ys) x y all one = (all.0, more_pairs R xs ys x y all.1 one)
 
 byte_count : (file : PlainFile) (files : List PlainFile) → total_bytes (file ∷ files) ≡ length file.bytes + total_bytes files
 byte_count file files =

@@ -4,9 +4,10 @@ mod forms;
 mod fronts;
 mod growths;
 mod prover;
+mod tokens;
 
 ghost use Rattle.std.specs.Prelude.{◌≡◌, ◌≤◌, ◌++◌, ◌∷◌, [], ℕ, map, length, IfOk, IfSome, OnOk};
-ghost use Rattle.std.specs.List.{AllByRecursion, sum_by};
+ghost use Rattle.std.specs.List.{sum_by};
 ghost use Rattle.mm_text.specs.Statement.{plain_statement, HasForm, bytes_in};
 ghost use Rattle.mm_text.specs.declared.statement.Kind.TheVariants.{Provable};
 ghost use Rattle.mm_text.specs.Files.{most_bytes};
@@ -191,7 +192,6 @@ fn take_theorem<'a>(
 ) -> Result<LabelId, Fail>
     ensures proof { IfOk result (λ id. (place : ℕ) × (s : Sentence)
         × IsProofNumber book.new.statements id.0 place s) }
-    ensures formed { OnOk result (HasForm (plain_statement into.new)) }
     ensures room { OnOk result (bytes_in (plain_statement into.new) ≤ most_bytes) }
 {
     for _ in 0..u64::MAX {
@@ -206,10 +206,8 @@ fn take_theorem<'a>(
 
 /// The tokens of the proof of a statement.
 fn tokens_of<'a>(alloc: Global, statement: &Statement<'a>) -> Result<Vec<&'a [u8]>, AllocError>
-    requires formed { HasForm (plain_statement statement.now) }
-    requires room { bytes_in (plain_statement statement.now) ≤ most_bytes }
-    ensures filled { IfOk result (λ v. AllByRecursion (λ x. 1 ≤ length x) (texts v.items)) }
-    ensures room { IfOk result (λ v. sum_by length (texts v.items) ≤ most_bytes) }
+    requires { bytes_in (plain_statement statement.now) ≤ most_bytes }
+    ensures { IfOk result (λ v. sum_by length (texts v.items) ≤ most_bytes) }
 {
     let tokens = texts_of(alloc, &statement.proof)?;
     Ok(tokens)
@@ -232,8 +230,6 @@ fn take_proof<'a>(
 ) -> Result<(LabelId, Vec<&'a [u8]>), Fail>
     ensures proof { IfOk result (λ taken. (place : ℕ) × (s : Sentence)
         × IsProofNumber book.new.statements taken.0.0 place s) }
-    ensures filled { IfOk result (λ taken.
-        AllByRecursion (λ x. 1 ≤ length x) (texts taken.1.items)) }
     ensures room { IfOk result (λ taken. sum_by length (texts taken.1.items) ≤ most_bytes) }
 {
     let id = take_theorem(statements, book, into)?;
@@ -249,7 +245,6 @@ fn theorem_from<'a>(
 ) -> Result<Theorem<'a>, Fail>
     ensures proof { IfOk result (λ t. (place : ℕ) × (s : Sentence)
         × IsProofNumber t.book.statements t.id.0 place s) }
-    ensures filled { IfOk result (λ t. AllByRecursion (λ x. 1 ≤ length x) (texts t.tokens.items)) }
     ensures room { IfOk result (λ t. sum_by length (texts t.tokens.items) ≤ most_bytes) }
 {
     let mut book = Book::new(alloc, Seed::known())?;
@@ -266,7 +261,6 @@ fn theorem_from<'a>(
 fn first_theorem<'a>(alloc: Global, files: &'a [File<'a>]) -> Result<Theorem<'a>, Fail>
     ensures proof { IfOk result (λ t. (place : ℕ) × (s : Sentence)
         × IsProofNumber t.book.statements t.id.0 place s) }
-    ensures filled { IfOk result (λ t. AllByRecursion (λ x. 1 ≤ length x) (texts t.tokens.items)) }
     ensures room { IfOk result (λ t. sum_by length (texts t.tokens.items) ≤ most_bytes) }
 {
     let mut statements = reader(alloc, files)?;
@@ -285,7 +279,6 @@ fn proved<S: Store + Drop>(
 ) -> Result<Option<Used>, ProofFault>
     requires proof { (place : ℕ) × (s : Sentence)
         × IsProofNumber theorem.now.book.statements theorem.now.id.0 place s }
-    requires filled { AllByRecursion (λ x. 1 ≤ length x) (texts theorem.now.tokens.items) }
     requires room { sum_by length (texts theorem.now.tokens.items) ≤ most_bytes }
     requires stack { S.stack store ≡ [] }
     requires kept { S.kept store ≡ [] }
@@ -324,7 +317,6 @@ fn is_proved_with<S: Store + Drop>(
 ) -> Result<bool, Fail>
     requires proof { (place : ℕ) × (s : Sentence)
         × IsProofNumber theorem.now.book.statements theorem.now.id.0 place s }
-    requires filled { AllByRecursion (λ x. 1 ≤ length x) (texts theorem.now.tokens.items) }
     requires room { sum_by length (texts theorem.now.tokens.items) ≤ most_bytes }
     requires stack { S.stack store ≡ [] }
     requires kept { S.kept store ≡ [] }
@@ -346,7 +338,6 @@ fn joined(alloc: Global, pieces: &[&[u8]]) -> Result<Vec<u8>, AllocError> {
 fn is_proved_by_both(alloc: Global, theorem: &Theorem, names: &[&[u8]]) -> Result<bool, Fail>
     requires proof { (place : ℕ) × (s : Sentence)
         × IsProofNumber theorem.now.book.statements theorem.now.id.0 place s }
-    requires filled { AllByRecursion (λ x. 1 ≤ length x) (texts theorem.now.tokens.items) }
     requires room { sum_by length (texts theorem.now.tokens.items) ≤ most_bytes }
 {
     Ok(
@@ -428,7 +419,6 @@ fn compressed_proof(rt: HostRuntime) -> Result<(), Fail> {
 fn listing_of(alloc: Global, theorem: &Theorem) -> Result<Vec<Line>, Fail>
     requires proof { (place : ℕ) × (s : Sentence)
         × IsProofNumber theorem.now.book.statements theorem.now.id.0 place s }
-    requires filled { AllByRecursion (λ x. 1 ≤ length x) (texts theorem.now.tokens.items) }
     requires room { sum_by length (texts theorem.now.tokens.items) ≤ most_bytes }
 {
     match Steps::parse(
@@ -473,7 +463,6 @@ fn are_shared_steps(book: &Book, lines: &[Line]) -> Result<bool, Fail> {
 fn shares_a_step(alloc: Global, theorem: &Theorem) -> Result<bool, Fail>
     requires proof { (place : ℕ) × (s : Sentence)
         × IsProofNumber theorem.now.book.statements theorem.now.id.0 place s }
-    requires filled { AllByRecursion (λ x. 1 ≤ length x) (texts theorem.now.tokens.items) }
     requires room { sum_by length (texts theorem.now.tokens.items) ≤ most_bytes }
 {
     let lines = listing_of(alloc, theorem)?;
@@ -509,7 +498,6 @@ fn nothing_is_expanded(rt: HostRuntime) -> Result<(), Fail> {
 fn passes_the_limit(alloc: Global, theorem: &Theorem) -> bool
     requires proof { (place : ℕ) × (s : Sentence)
         × IsProofNumber theorem.now.book.statements theorem.now.id.0 place s }
-    requires filled { AllByRecursion (λ x. 1 ≤ length x) (texts theorem.now.tokens.items) }
     requires room { sum_by length (texts theorem.now.tokens.items) ≤ most_bytes }
 {
     let rule = ProofRule::L1;

@@ -1,7 +1,7 @@
 //! The forms of proofs: what they spell, and whether two of them spell one tree.
 
 ghost use Rattle.std.specs.Prelude.{◌≡◌, ◌≤◌, ℕ, length, take, false, IfOk, OnOk};
-ghost use Rattle.std.specs.List.{AllByRecursion, sum_by};
+ghost use Rattle.std.specs.List.{sum_by};
 ghost use Rattle.mm_text.specs.Files.{most_bytes};
 ghost use Rattle.mm_frame.specs.Sentence.{Sentence};
 ghost use Rattle.mm_proof.specs.OneTree.{MakeOneTree};
@@ -37,7 +37,6 @@ fn judge_steps(alloc: Global, book: &Book, id: LabelId, steps: &Steps) -> Result
 fn accepted_steps(alloc: Global, book: &Book, id: LabelId, tokens: &[&[u8]]) -> Result<Steps, Fail>
     requires proof { (place : ℕ) × (s : Sentence)
         × IsProofNumber book.now.statements id.0 place s }
-    requires filled { AllByRecursion (λ x. 1 ≤ length x) (texts tokens.now) }
     requires room { sum_by length (texts tokens.now) ≤ most_bytes }
     ensures steps { IfOk result (λ steps. AreSteps book.now.statements id.0 steps.moves) }
     ensures whole { IfOk result (λ steps. steps.front ≡ false) }
@@ -61,7 +60,6 @@ fn expanded(
 ) -> Result<Result<Vec<LabelId>, ExpandFault>, Fail>
     requires proof { (place : ℕ) × (s : Sentence)
         × IsProofNumber theorem.now.book.statements theorem.now.id.0 place s }
-    requires filled { AllByRecursion (λ x. 1 ≤ length x) (texts theorem.now.tokens.items) }
     requires room { sum_by length (texts theorem.now.tokens.items) ≤ most_bytes }
 {
     let steps = accepted_steps(alloc, &theorem.book, theorem.id, &theorem.tokens)?;
@@ -87,7 +85,6 @@ fn has_spelling(
 ) -> Result<bool, Fail>
     requires proof { (place : ℕ) × (s : Sentence)
         × IsProofNumber theorem.now.book.statements theorem.now.id.0 place s }
-    requires filled { AllByRecursion (λ x. 1 ≤ length x) (texts theorem.now.tokens.items) }
     requires room { sum_by length (texts theorem.now.tokens.items) ≤ most_bytes }
 {
     match expanded(alloc, theorem, max)? {
@@ -136,9 +133,7 @@ fn spellings(rt: HostRuntime) -> Result<(), Fail> {
 fn is_same(alloc: Global, theorem: &Theorem, tokens: &[&[u8]]) -> Result<bool, Fail>
     requires proof { (place : ℕ) × (s : Sentence)
         × IsProofNumber theorem.now.book.statements theorem.now.id.0 place s }
-    requires filled { AllByRecursion (λ x. 1 ≤ length x) (texts theorem.now.tokens.items) }
     requires room { sum_by length (texts theorem.now.tokens.items) ≤ most_bytes }
-    requires others_filled { AllByRecursion (λ x. 1 ≤ length x) (texts tokens.now) }
     requires others_room { sum_by length (texts tokens.now) ≤ most_bytes }
 {
     let first = accepted_steps(alloc, &theorem.book, theorem.id, &theorem.tokens)?;
@@ -211,7 +206,6 @@ fn sameness(rt: HostRuntime) -> Result<(), Fail> {
 fn packed_of(alloc: Global, theorem: &Theorem) -> Result<Packed, Fail>
     requires proof { (place : ℕ) × (s : Sentence)
         × IsProofNumber theorem.now.book.statements theorem.now.id.0 place s }
-    requires filled { AllByRecursion (λ x. 1 ≤ length x) (texts theorem.now.tokens.items) }
     requires room { sum_by length (texts theorem.now.tokens.items) ≤ most_bytes }
 {
     let steps = accepted_steps(alloc, &theorem.book, theorem.id, &theorem.tokens)?;

@@ -1,7 +1,7 @@
 //! The known fronts of incomplete proofs: what is read of them, and what is told of their steps.
 
 ghost use Rattle.std.specs.Prelude.{◌≤◌, ℕ, length};
-ghost use Rattle.std.specs.List.{AllByRecursion, sum_by};
+ghost use Rattle.std.specs.List.{sum_by};
 ghost use Rattle.mm_text.specs.Files.{most_bytes};
 ghost use Rattle.mm_frame.specs.Sentence.{Sentence};
 ghost use Rattle.mm_proof.specs.Steps.{IsProofNumber};
@@ -63,7 +63,6 @@ fn is_told(verdict: Result<Used, ProofFault>, fault: Option<ProofFault>) -> bool
 fn has_front(alloc: Global, theorem: &Theorem, fault: Option<ProofFault>) -> Result<bool, Fail>
     requires proof { (place : ℕ) × (s : Sentence)
         × IsProofNumber theorem.now.book.statements theorem.now.id.0 place s }
-    requires filled { AllByRecursion (λ x. 1 ≤ length x) (texts theorem.now.tokens.items) }
     requires room { sum_by length (texts theorem.now.tokens.items) ≤ most_bytes }
 {
     let profile = Profile::Lenient;
@@ -81,7 +80,6 @@ fn has_front(alloc: Global, theorem: &Theorem, fault: Option<ProofFault>) -> Res
 fn is_whole(alloc: Global, theorem: &Theorem) -> Result<bool, Fail>
     requires proof { (place : ℕ) × (s : Sentence)
         × IsProofNumber theorem.now.book.statements theorem.now.id.0 place s }
-    requires filled { AllByRecursion (λ x. 1 ≤ length x) (texts theorem.now.tokens.items) }
     requires room { sum_by length (texts theorem.now.tokens.items) ≤ most_bytes }
 {
     let profile = Profile::Lenient;
@@ -95,7 +93,6 @@ fn is_whole(alloc: Global, theorem: &Theorem) -> Result<bool, Fail>
 fn fault_of(alloc: Global, theorem: &Theorem, profile: Profile) -> Option<ProofFault>
     requires proof { (place : ℕ) × (s : Sentence)
         × IsProofNumber theorem.now.book.statements theorem.now.id.0 place s }
-    requires filled { AllByRecursion (λ x. 1 ≤ length x) (texts theorem.now.tokens.items) }
     requires room { sum_by length (texts theorem.now.tokens.items) ≤ most_bytes }
 {
     Steps::parse(alloc, profile, &theorem.book, theorem.id, &theorem.tokens).err()

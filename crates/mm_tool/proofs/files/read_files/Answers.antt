@@ -1,10 +1,11 @@
 use Rattle.std.proofs.Common.{◌++◌, ◌∷◌, [], map, arith, sym, subst, ◌∙◌, ap}
 use Rattle.std.proofs.lemmas.List.{map-append}
 use Rattle.std.specs.List.{AllZip}
+use Rattle.mm_text.proofs.Lists.{all_push, zip_push}
 use Rattle.mm_tool.specs.Folder.{IsHeld, plain_read}
 use Rattle.mm_tool.specs.ReadFiles.{IsReadAs}
 use Rattle.mm_tool.proofs.FilesRead.{comes_next, file_fault_at, error_keeps}
-use Rattle.mm_tool.proofs.WholeFiles.{more_each, more_pairs, more_bytes, more_names}
+use Rattle.mm_tool.proofs.WholeFiles.{more_bytes, more_names}
 use Rattle.mm_tool.proofs.files.read_files.Goals as goal
 
 pub loop-name-preserved : goal.loop-name-preserved
@@ -13,11 +14,11 @@ loop-name-preserved g c =
     let (whole, name, is_held, size, read) = c.in_ok-file.ensures.read in (
       wholes ++ whole ∷ [],
       more_names wholes whole c.args.names.now c.loop-name.name-index _ c.loop-name-test.true named name,
-      more_each (IsHeld (g.F.Folder.holds c.args.folder.now)) wholes whole held is_held,
+      all_push (IsHeld (g.F.Folder.holds c.args.folder.now)) wholes whole held is_held,
       omega (arith, count, size, more_bytes wholes whole, c.in_ok-file.ensures.within),
       subst (λ l. AllZip (IsReadAs c.args.comments) (wholes ++ whole ∷ []) l)
           (sym (ap (map plain_read) c.in_ok-push.ensures.items ∙ map-append plain_read c.loop-name.files.items (c.in_ok-file.file ∷ [])))
-          (more_pairs (IsReadAs c.args.comments) wholes (map plain_read c.loop-name.files.items) whole (plain_read c.in_ok-file.file) reads read),
+          (zip_push (IsReadAs c.args.comments) wholes (map plain_read c.loop-name.files.items) whole (plain_read c.in_ok-file.file) reads read),
     )
 
 pub returns-in_err-file-clause-fault : goal.returns-in_err-file-clause-fault

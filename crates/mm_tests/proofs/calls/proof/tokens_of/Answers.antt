@@ -1,10 +1,10 @@
 -- The tokens of a proof are those of its statement.
-use Rattle.std.proofs.Common.{◌≡◌, ℕ, ◌+◌, ◌≤◌, List, [], ◌∷◌, map, length, refl, sym, ap, subst, ◌∙◌, arith}
-use Rattle.std.specs.List.{AllByRecursion, sum_by}
+use Rattle.std.proofs.Common.{◌≡◌, ℕ, ◌+◌, ◌≤◌, List, [], ◌∷◌, map, length, refl, sym, ap, ◌∙◌, arith}
+use Rattle.std.specs.List.{sum_by}
 use Rattle.std.proofs.lemmas.List.Sums.{sum_by-cons}
 use Rattle.mm_text.specs.declared.token.Token.{Token}
 use Rattle.mm_text.specs.Token.{PlainToken, plain_token}
-use Rattle.mm_text.specs.Statement.{PlainStatement, plain_statement, HasForm, bytes_in}
+use Rattle.mm_text.specs.Statement.{PlainStatement, plain_statement, bytes_in}
 use Rattle.mm_text.specs.Files.{most_bytes}
 use Rattle.mm_code.specs.Layout.{texts}
 use Rattle.mm_tests.proofs.calls.proof.tokens_of.Goals as goal
@@ -13,11 +13,6 @@ plain_texts : (tokens : List Token) → map (λ (t : Token). t.text.now) tokens 
 plain_texts [] = refl
 plain_texts (t ∷ tokens) = ap (λ (rest : List (List ℕ)). t.text.now ∷ rest) (plain_texts tokens)
 
-filled_texts : (tokens : List PlainToken) → AllByRecursion (λ (t : PlainToken). 1 ≤ length t.text) tokens
-    → AllByRecursion (λ (t : List ℕ). 1 ≤ length t) (map (λ (t : PlainToken). t.text) tokens)
-filled_texts [] all = tt
-filled_texts (t ∷ tokens) all = (all.0, filled_texts tokens all.1)
-
 bytes_of_texts : (tokens : List PlainToken) → sum_by (λ (t : List ℕ). length t) (map (λ (t : PlainToken). t.text) tokens) ≡ sum_by (λ (t : PlainToken). length t.text) tokens
 bytes_of_texts [] = refl
 bytes_of_texts (t ∷ tokens) =
@@ -25,20 +20,12 @@ bytes_of_texts (t ∷ tokens) =
     ∙ ap (λ (n : ℕ). length t.text + n) (bytes_of_texts tokens)
     ∙ sym (sum_by-cons (λ (t : PlainToken). length t.text) t tokens)
 
-pub returns-clause-filled : goal.returns-clause-filled
-returns-clause-filled c =
-    let s : PlainStatement = plain_statement c.args.statement.now in
-    let formed : HasForm s = c.requires.formed in
-    let same : texts c.in_ok-tokens.tokens.items ≡ map (λ (t : PlainToken). t.text) s.proof =
-    c.in_ok-tokens.ensures ∙ ap (λ (ts : List Token). map (λ (t : Token). t.text.now) ts) c.deref.ensures.value ∙ plain_texts c.args.statement.now.proof.items in
-    subst (λ (ts : List (List ℕ)). AllByRecursion (λ (t : List ℕ). 1 ≤ length t) ts) (sym same) (filled_texts s.proof formed.proof)
-
-pub returns-clause-room : goal.returns-clause-room
-returns-clause-room c =
+pub returns : goal.returns
+returns c =
     let s : PlainStatement = plain_statement c.args.statement.now in
     let same : texts c.in_ok-tokens.tokens.items ≡ map (λ (t : PlainToken). t.text) s.proof =
     c.in_ok-tokens.ensures ∙ ap (λ (ts : List Token). map (λ (t : Token). t.text.now) ts) c.deref.ensures.value ∙ plain_texts c.args.statement.now.proof.items in
-    let room : bytes_in s ≤ most_bytes = c.requires.room in
+    let room : bytes_in s ≤ most_bytes = c.requires in
     let bytes : sum_by (λ (t : List ℕ). length t) (texts c.in_ok-tokens.tokens.items) ≡ sum_by (λ (t : PlainToken). length t.text) s.proof =
     ap (λ (ts : List (List ℕ)). sum_by (λ (t : List ℕ). length t) ts) same ∙ bytes_of_texts s.proof in
     omega (arith, bytes, room)

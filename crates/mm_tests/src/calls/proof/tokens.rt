@@ -1,0 +1,51 @@
+//! Tokens that are handed in and stand in no file: one without bytes is no label.
+
+ghost use Rattle.std.specs.Prelude.{◌≤◌, ℕ, length};
+ghost use Rattle.std.specs.List.{sum_by};
+ghost use Rattle.mm_text.specs.Files.{most_bytes};
+ghost use Rattle.mm_frame.specs.Sentence.{Sentence};
+ghost use Rattle.mm_proof.specs.Steps.{IsProofNumber};
+ghost use Rattle.mm_code.specs.Layout.{texts};
+
+use crate::calls::proof::{SHARED, Theorem, first_theorem};
+use mm_proof::{Profile, ProofFault, ProofRule, Steps};
+use mm_text::File;
+use std::alloc::Global;
+use std::test::Fail;
+
+/// Whether the tokens, as a proof of the theorem, are refused for a label that isn't known.
+fn have_unknown_label(alloc: Global, theorem: &Theorem, tokens: &[&[u8]]) -> bool
+    requires proof { (place : ℕ) × (s : Sentence)
+        × IsProofNumber theorem.now.book.statements theorem.now.id.0 place s }
+    requires room { sum_by length (texts tokens.now) ≤ most_bytes }
+{
+    let rule = ProofRule::P2;
+    let parsed = Steps::parse(alloc, Profile::Lenient, &theorem.book, theorem.id, tokens);
+    parsed.err() == Some(ProofFault::Rule { rule, step: 0 })
+}
+
+/// Whether a token without bytes is no label: of a normal proof, of a list, and of a known front.
+fn empty_is_no_label(alloc: Global, theorem: &Theorem) -> bool
+    requires { (place : ℕ) × (s : Sentence)
+        × IsProofNumber theorem.now.book.statements theorem.now.id.0 place s }
+{
+    let normal: [&[u8]; 2] = [b"nil", b""];
+    let listed: [&[u8]; 3] = [b"(", b"", b")"];
+    let known: [&[u8]; 2] = [b"", b"?"];
+    have_unknown_label(alloc, theorem, &normal)
+        && have_unknown_label(alloc, theorem, &listed)
+        && have_unknown_label(alloc, theorem, &known)
+}
+
+#[test]
+fn token_without_bytes_is_no_label(rt: HostRuntime) -> Result<(), Fail> {
+    let files = [File {
+        name: b"cat.mm",
+        bytes: SHARED,
+    }];
+    let theorem = first_theorem(rt.alloc(), &files)?;
+    let answer = empty_is_no_label(rt.alloc(), &theorem);
+    drop(theorem);
+    assert!(rt; answer);
+    Ok(())
+}
