@@ -21,8 +21,8 @@ use Rattle.mm_proof.specs.declared.profile.Profile.TheVariants.{Lenient}
 use Rattle.mm_check.specs.declared.form.Form.{Form}
 use Rattle.mm_check.specs.declared.ask.AskFault.{AskFault}
 use Rattle.mm_check.specs.declared.ask.AskFault.TheVariants as ask
-use Rattle.mm_check.specs.declared.save.SaveFault.{SaveFault}
-use Rattle.mm_check.specs.declared.save.SaveFault.TheVariants as fault
+use Rattle.mm_check.specs.declared.save_fault.SaveFault.{SaveFault}
+use Rattle.mm_check.specs.declared.save_fault.SaveFault.TheVariants as fault
 use Rattle.mm_check.specs.declared.save_all.NewFile.{NewFile}
 use Rattle.mm_check.specs.Verdict.{AreAccepted}
 use Rattle.mm_check.specs.Saved.{FitsSaved, total_with}

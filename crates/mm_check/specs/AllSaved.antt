@@ -14,8 +14,8 @@ use Rattle.mm_check.specs.declared.form.Form.{Form}
 use Rattle.mm_check.specs.declared.form.Form.TheVariants.{Normal}
 use Rattle.mm_check.specs.declared.ask.AskFault.{AskFault}
 use Rattle.mm_check.specs.declared.ask.AskFault.TheVariants.{F3, Memory}
-use Rattle.mm_check.specs.declared.save.SaveFault.{SaveFault}
-use Rattle.mm_check.specs.declared.save.SaveFault.TheVariants.{Check, Ask, TooLong}
+use Rattle.mm_check.specs.declared.save_fault.SaveFault.{SaveFault}
+use Rattle.mm_check.specs.declared.save_fault.SaveFault.TheVariants.{Check, Ask, TooLong}
 use Rattle.mm_check.specs.Verdict.{Verdict, HasVerdict, AreAccepted, is_proof, sentences}
 use Rattle.mm_check.specs.Answer.{verdict_of_fault}
 use Rattle.mm_check.specs.Forms.{HasProofTree, most_labels}

@@ -21,6 +21,7 @@ mod rewrite;
 mod rule;
 mod save;
 mod save_all;
+mod save_fault;
 mod shown;
 mod size;
 mod status;
@@ -44,7 +45,7 @@ pub use laws::{
 pub use mm_frame::LabelId;
 pub use report::Report;
 pub use rule::Rule;
-pub use save::{SaveFault, saved};
-pub use save_all::saved_all;
+pub use save::{saved, saved_all};
+pub use save_fault::SaveFault;
 pub use status::Status;
 pub use verdict::{check, check_with};

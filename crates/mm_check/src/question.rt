@@ -27,7 +27,7 @@ use crate::form::Form;
 use crate::reply::{name_of, push_label, push_labels, status_of, text_of};
 use crate::report::Report;
 use crate::rule::Rule;
-use crate::save::SaveFault;
+use crate::save_fault::SaveFault;
 use crate::status::Status;
 use crate::verdict::{check, check_with};
 use crate::words::{push_number, push_word};

@@ -1,52 +1,18 @@
-//! A file with the proof of one theorem written anew.
+//! A file with the proof of one theorem written anew, or with all of its proofs.
 
-ghost use Rattle.std.specs.Prelude.{◌≡◌, List, map, IfOk, IfErr};
+ghost use Rattle.std.specs.Prelude.{◌≡◌, ◌<◌, List, map, length, IfOk, IfErr};
 ghost use Rattle.mm_text.specs.Statement.{PlainStatement};
 ghost use Rattle.mm_text.specs.Files.{plain_file};
 ghost use Rattle.mm_proof.specs.declared.profile.Profile.TheVariants.{Lenient};
-ghost use Rattle.mm_check.specs.declared.ask.AskFault.TheVariants.{Memory};
-ghost use Rattle.mm_check.specs.declared.save.SaveFault.TheVariants.{Ask};
 ghost use Rattle.mm_check.specs.Verdict.{AreAccepted};
 ghost use Rattle.mm_check.specs.Saved.{IsSaved, FitsSaved, IsSavingFault};
+ghost use Rattle.mm_check.specs.AllSaved.{IsAllSaved, IsSavingAllFault};
 
-use crate::ask::AskFault;
-use crate::fault::CheckFault;
 use crate::form::Form;
+use crate::save_fault::SaveFault;
 use crate::verdict::check;
 use mm_text::{File, Seed};
-use std::alloc::{AllocError, Global};
-use thiserror::Error;
-
-/// Why a file isn't written anew.
-#[derive(Debug, Drop, Error)]
-pub enum SaveFault<'a> {
-    /// The database isn't accepted.
-    #[error("{0}")]
-    Check(CheckFault<'a>),
-    /// The question about the theorem has no answer.
-    #[error("{0}")]
-    Ask(AskFault),
-    /// Of a whole file that is saved: the normal proof of the `$p` with this label, which is the
-    /// first one, has over 16,777,216 labels.
-    #[error("a normal proof has too many labels")]
-    TooLong { label: &'a [u8] },
-}
-
-impl<'a> From<AskFault> for SaveFault<'a> {
-    ghost from_gives = { λ fault e. e ≡ Ask fault };
-
-    fn from(fault: AskFault) -> SaveFault<'a> {
-        SaveFault::Ask(fault)
-    }
-}
-
-impl<'a> From<AllocError> for SaveFault<'a> {
-    ghost from_gives = { λ _ e. e ≡ Ask Memory };
-
-    fn from(_e: AllocError) -> SaveFault<'a> {
-        SaveFault::Ask(AskFault::Memory)
-    }
-}
+use std::alloc::Global;
 
 /// The number of the file in which the `$p` with a label stands, and the bytes of that file with the
 /// proof of the `$p` written in a form, in lines: they stand after a line feed, in place of the bytes
@@ -80,4 +46,37 @@ pub fn saved<'a>(
         Ok(new) => Ok(new),
         Err(fault) => Err(SaveFault::Ask(fault)),
     }
+}
+
+/// The bytes of the handed file with a number, with each complete proof written anew in a form, as
+/// `saved` writes that of one theorem. All other bytes are kept, incomplete proofs among them. No
+/// proof is kept by `check`, so the files are read again, once.
+///
+/// # Errors
+///
+/// `Check` where the files aren't accepted. Else, with `Form::Normal`, `TooLong` with the label of the
+/// first theorem of the file, in database order, whose normal proof has over 16,777,216 labels; else
+/// `Ask(F3)` where the files would have over 1,073,741,824 bytes in all. `Ask(Memory)` where a growth
+/// was refused.
+pub fn saved_all<'a>(
+    alloc: Global,
+    seed: Seed,
+    files: &'a [File<'a>],
+    number: usize,
+    form: Form,
+) -> Result<Vec<u8>, SaveFault<'a>>
+    requires { number < length files.now }
+    ensures saved { IfOk result (λ new. (statements : List PlainStatement)
+        × AreAccepted Lenient (map plain_file files.now) statements
+        × IsAllSaved form (map plain_file files.now) statements number new.items
+        × FitsSaved (map plain_file files.now) number new.items) }
+    ensures fault { IfErr result (IsSavingAllFault form (map plain_file files.now) number) }
+{
+    let checked = match check(alloc, seed, files) {
+        Ok(checked) => checked,
+        Err(fault) => return Err(SaveFault::Check(fault)),
+    };
+    let answer = checked.saved_all(alloc, number, form);
+    drop(checked);
+    answer
 }

@@ -7,13 +7,12 @@ ghost use Rattle.mm_text.specs.declared.statement.Kind.TheVariants.{Provable};
 ghost use Rattle.mm_text.specs.Statement.{PlainStatement, plain_statement, HasForm};
 ghost use Rattle.mm_text.specs.Files.{most_bytes, plain_file, total_bytes};
 ghost use Rattle.mm_frame.specs.Sentence.{Sentence, SomeSentence, sentence_in, IsLabelled};
-ghost use Rattle.mm_proof.specs.declared.profile.Profile.TheVariants.{Lenient};
 ghost use Rattle.mm_proof.specs.Steps.{IsProofNumber};
 ghost use Rattle.mm_proof.specs.Tokens.{is_unknown};
 ghost use Rattle.mm_check.specs.declared.ask.AskFault.TheVariants.{F3, Memory};
 ghost use Rattle.mm_check.specs.Verdict.{AreAccepted, proof_of};
 ghost use Rattle.mm_check.specs.Saved.{FitsSaved};
-ghost use Rattle.mm_check.specs.AllSaved.{IsAllSaved, IsSavingAllFault, IsReplacement};
+ghost use Rattle.mm_check.specs.AllSaved.{IsAllSaved, IsReplacement};
 ghost use Rattle.mm_check.specs.AllSaved.{is_theorem_of};
 ghost use Rattle.mm_check.specs.Mirror.AllSaving.{IsTheoremAmong, IsTheoremFault, replacement};
 ghost use Rattle.mm_check.specs.Mirror.AllSaving.{IsUpTo, PutsAfter, IsMostFor, AreReadAgain};
@@ -25,10 +24,9 @@ use crate::form::Form;
 use crate::forms::proof_text;
 use crate::reread::{next, read_proof, reader};
 use crate::rewrite::most_for;
-use crate::save::SaveFault;
+use crate::save_fault::SaveFault;
 use crate::text::has_question;
 use crate::theorem::theorem_of;
-use crate::verdict::check;
 use mm_frame::{Book, Found, LabelId};
 use mm_proof::Profile;
 use mm_text::{File, Kind, Seed, Statement, Statements};
@@ -259,37 +257,4 @@ pub(crate) fn all_written<'a>(
             Err(fault)
         }
     }
-}
-
-/// The bytes of the handed file with a number, with each complete proof written anew in a form, as
-/// `saved` writes that of one theorem. All other bytes are kept, incomplete proofs among them. No
-/// proof is kept by `check`, so the files are read again, once.
-///
-/// # Errors
-///
-/// `Check` where the files aren't accepted. Else, with `Form::Normal`, `TooLong` with the label of the
-/// first theorem of the file, in database order, whose normal proof has over 16,777,216 labels; else
-/// `Ask(F3)` where the files would have over 1,073,741,824 bytes in all. `Ask(Memory)` where a growth
-/// was refused.
-pub fn saved_all<'a>(
-    alloc: Global,
-    seed: Seed,
-    files: &'a [File<'a>],
-    number: usize,
-    form: Form,
-) -> Result<Vec<u8>, SaveFault<'a>>
-    requires { number < length files.now }
-    ensures saved { IfOk result (λ new. (statements : List PlainStatement)
-        × AreAccepted Lenient (map plain_file files.now) statements
-        × IsAllSaved form (map plain_file files.now) statements number new.items
-        × FitsSaved (map plain_file files.now) number new.items) }
-    ensures fault { IfErr result (IsSavingAllFault form (map plain_file files.now) number) }
-{
-    let checked = match check(alloc, seed, files) {
-        Ok(checked) => checked,
-        Err(fault) => return Err(SaveFault::Check(fault)),
-    };
-    let answer = checked.saved_all(alloc, number, form);
-    drop(checked);
-    answer
 }

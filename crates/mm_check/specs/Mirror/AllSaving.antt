@@ -13,8 +13,8 @@ use Rattle.mm_proof.specs.Tree.{Trees, none, tree, spelling}
 use Rattle.mm_check.specs.declared.form.Form.{Form}
 use Rattle.mm_check.specs.declared.form.Form.TheVariants.{Normal}
 use Rattle.mm_check.specs.declared.ask.AskFault.TheVariants.{Memory}
-use Rattle.mm_check.specs.declared.save.SaveFault.{SaveFault}
-use Rattle.mm_check.specs.declared.save.SaveFault.TheVariants.{Check, Ask, TooLong}
+use Rattle.mm_check.specs.declared.save_fault.SaveFault.{SaveFault}
+use Rattle.mm_check.specs.declared.save_fault.SaveFault.TheVariants.{Check, Ask, TooLong}
 use Rattle.mm_check.specs.declared.save_all.NewFile.{NewFile}
 use Rattle.mm_check.specs.Verdict.{AllObey, AreAccepted, is_proof, proof_of, sentences}
 use Rattle.mm_check.specs.Forms.{HasProofTree, most_labels}

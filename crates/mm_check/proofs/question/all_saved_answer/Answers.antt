@@ -4,8 +4,8 @@ use Rattle.mm_text.specs.Statement.{PlainStatement}
 use Rattle.mm_text.specs.Files.{PlainFile, plain_file}
 use Rattle.mm_check.specs.declared.ask.AskFault.{AskFault}
 use Rattle.mm_check.specs.declared.question.Reply.{Reply}
-use Rattle.mm_check.specs.declared.save.SaveFault.{SaveFault}
-use Rattle.mm_check.specs.declared.save.SaveFault.TheVariants as fault
+use Rattle.mm_check.specs.declared.save_fault.SaveFault.{SaveFault}
+use Rattle.mm_check.specs.declared.save_fault.SaveFault.TheVariants as fault
 use Rattle.mm_check.specs.Status.{number_of}
 use Rattle.mm_check.specs.Verdict.{AreAccepted}
 use Rattle.mm_check.specs.Reply.{IsAskReply, IsAllSavedReply}

@@ -2,7 +2,7 @@
 use Rattle.std.proofs.Common.{◌≡◌, List, map, IfSome, subst}
 use Rattle.mm_text.specs.Files.{PlainFile, plain_file}
 use Rattle.mm_check.specs.declared.ask.AskFault.{AskFault}
-use Rattle.mm_check.specs.declared.save.SaveFault.TheVariants as fault
+use Rattle.mm_check.specs.declared.save_fault.SaveFault.TheVariants as fault
 use Rattle.mm_check.specs.Mirror.AllSaving.{IsAllWritten, StopsWriting, IsWritingFault}
 use Rattle.mm_check.proofs.OnTheWay.{within_limit}
 use Rattle.mm_check.proofs.Rereading.{passed_on}

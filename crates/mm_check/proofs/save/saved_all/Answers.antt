@@ -7,7 +7,7 @@ use Rattle.mm_check.specs.AllSaved.{IsSavingAllFault}
 use Rattle.mm_check.specs.Mirror.AllSaving.{IsWritingFault}
 use Rattle.mm_check.proofs.Theorems.{why}
 use Rattle.mm_check.proofs.WrittenFiles.{SavesAll, saving_fault}
-use Rattle.mm_check.proofs.save_all.saved_all.Goals as goal
+use Rattle.mm_check.proofs.save.saved_all.Goals as goal
 
 pub returns-clause-saved : goal.returns-clause-saved
 returns-clause-saved c =

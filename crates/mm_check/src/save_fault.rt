@@ -1,0 +1,41 @@
+//! Why a file isn't written anew.
+
+ghost use Rattle.std.specs.Prelude.{◌≡◌};
+ghost use Rattle.mm_check.specs.declared.ask.AskFault.TheVariants.{Memory};
+ghost use Rattle.mm_check.specs.declared.save_fault.SaveFault.TheVariants.{Ask};
+
+use crate::ask::AskFault;
+use crate::fault::CheckFault;
+use std::alloc::AllocError;
+use thiserror::Error;
+
+/// Why a file isn't written anew.
+#[derive(Debug, Drop, Error)]
+pub enum SaveFault<'a> {
+    /// The database isn't accepted.
+    #[error("{0}")]
+    Check(CheckFault<'a>),
+    /// The question about the theorem has no answer.
+    #[error("{0}")]
+    Ask(AskFault),
+    /// Of a whole file that is saved: the normal proof of the `$p` with this label, which is the
+    /// first one, has over 16,777,216 labels.
+    #[error("a normal proof has too many labels")]
+    TooLong { label: &'a [u8] },
+}
+
+impl<'a> From<AskFault> for SaveFault<'a> {
+    ghost from_gives = { λ fault e. e ≡ Ask fault };
+
+    fn from(fault: AskFault) -> SaveFault<'a> {
+        SaveFault::Ask(fault)
+    }
+}
+
+impl<'a> From<AllocError> for SaveFault<'a> {
+    ghost from_gives = { λ _ e. e ≡ Ask Memory };
+
+    fn from(_e: AllocError) -> SaveFault<'a> {
+        SaveFault::Ask(AskFault::Memory)
+    }
+}
