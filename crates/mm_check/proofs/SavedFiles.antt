@@ -1,13 +1,16 @@
 -- Files in which one proof is put in for another are accepted alike.
-use Rattle.std.proofs.Common.{◌≡◌, ◌≢◌, ℕ, zero, suc, ◌+◌, ◌≤◌, ◌<◌, List, [], ◌∷◌, ◌++◌, map, take, drop, length, filter, flat_map, count_by, cond, slice_get, slice_set, Bool, true, false, not, ◌&&◌, Some, None, ◌⊎◌, inl, inr, refl, sym, ap, subst, ◌∙◌, arith, length-append}
-use Rattle.std.proofs.Math.Seq.{take-append_seam}
+use Rattle.std.proofs.Common.{◌≡◌, ◌≢◌, ℕ, zero, suc, ◌+◌, ◌≤◌, ◌<◌, List, [], ◌∷◌, ◌++◌, map, take}
+use Rattle.std.proofs.Common.{drop, length, filter, flat_map, count_by, cond, slice_get, slice_set}
+use Rattle.std.proofs.Common.{Bool, true, false, not, ◌&&◌, Some, None, ◌⊎◌, inl, inr, refl, sym}
+use Rattle.std.proofs.Common.{ap, subst, ◌∙◌, arith, append_assoc, length-append}
+use Rattle.std.proofs.Math.Seq.{take-append_seam, drop-append_seam}
 use Rattle.std.proofs.lemmas.Bool.{and_parts}
 use Rattle.mm_text.specs.declared.fault.LoadRule.{LoadRule}
 use Rattle.mm_text.specs.declared.fault.LoadRule.TheVariants as load
 use Rattle.mm_text.specs.Token.{tokens_from}
 use Rattle.mm_text.specs.Statement.{PlainStatement, is_provable}
 use Rattle.mm_text.specs.Files.{most_bytes, PlainFile, total_bytes, BreaksLoad}
-use Rattle.mm_text.specs.Replaced.{placeless, with_bytes}
+use Rattle.mm_text.specs.Replaced.{placeless, with_span, with_bytes}
 use Rattle.mm_text.proofs.Lists.{same_length, split_at}
 use Rattle.mm_text.proofs.ReplacedItems.{set_there}
 use Rattle.mm_code.proofs.TextTokens.{texts_in}
@@ -199,6 +202,22 @@ all_obey_anew profile before s t after later own same obeyed new earlier rest y 
     let there : slice_get su (length earlier) ≡ Some y = ap (λ (ss : List PlainStatement). slice_get ss (length earlier)) split ∙ seam_at earlier y rest in
     let front : take (length earlier) su ≡ earlier = ap (take (length earlier)) split ∙ take-append_seam earlier (y ∷ rest) in
     subst (λ (ss : List PlainStatement). Obeys profile (sentences ss) y) front (obeys_at profile before s t after later own same obeyed new (length earlier) y there)
+
+-- ---- the bytes of a file
+
+-- a text between two parts is replaced
+pub span_put : (front now back put : List ℕ) (span : ℕ × ℕ) → span.0 ≡ length front
+    → span.1 ≡ length front + length now
+    → with_span (front ++ (now ++ back)) span put ≡ front ++ (put ++ back)
+span_put front now back put span start stop =
+    let all : List ℕ = front ++ (now ++ back) in
+    let before : take span.0 all ≡ front =
+    ap (λ (n : ℕ). take n all) start ∙ take-append_seam front (now ++ back) in
+    let after : drop span.1 all ≡ back =
+    ap (λ (n : ℕ). drop n all) (stop ∙ sym (length-append front now))
+    ∙ ap (drop (length (front ++ now))) (sym (append_assoc front now back))
+    ∙ drop-append_seam (front ++ now) back in
+    λ i. before i ++ (put ++ after i)
 
 -- ---- one file among the files
 

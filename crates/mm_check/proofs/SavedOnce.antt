@@ -1,7 +1,9 @@
 -- Saving changes nothing that is answered, and saving again changes nothing.
-use Rattle.std.proofs.Common.{◌≡◌, ℕ, suc, ◌+◌, ◌≤◌, ◌<◌, List, [], ◌∷◌, ◌++◌, map, take, drop, length, slice_get, true, false, Some, None, inl, inr, refl, sym, ap, subst, ◌∙◌, arith, append_assoc, length-append, is_some}
+use Rattle.std.proofs.Common.{◌≡◌, ℕ, suc, ◌+◌, ◌≤◌, ◌<◌, List, [], ◌∷◌, ◌++◌, map, take, drop}
+use Rattle.std.proofs.Common.{length, slice_get, true, false, Some, None, inl, inr, refl, sym, ap}
+use Rattle.std.proofs.Common.{subst, ◌∙◌, arith, is_some}
 use Rattle.std.specs.List.{AllZip}
-use Rattle.std.proofs.Math.Seq.{take-append_seam, drop-append_seam}
+use Rattle.std.proofs.Math.Seq.{take-append_seam}
 use Rattle.std.proofs.lemmas.Option.{same_Some}
 use Rattle.mm_text.specs.declared.statement.Kind.TheVariants.{Provable}
 use Rattle.mm_text.specs.Statement.{PlainStatement, HasForm}
@@ -56,7 +58,7 @@ use Rattle.mm_check.proofs.SavedProofs.{ReadsAsProof, text_reads, tree_derives}
 use Rattle.mm_check.proofs.SavedFiles.{put_anew, IsProvedAnew, proved_anew, anew_alike, alike_anew}
 use Rattle.mm_check.proofs.SavedFiles.{carries_of, all_obey_anew, readable_anew, handed_anew}
 use Rattle.mm_check.proofs.SavedFiles.{same_left, same_count, same_many, seam_at}
-use Rattle.mm_check.proofs.SavedFiles.{SayAlike, said_same}
+use Rattle.mm_check.proofs.SavedFiles.{SayAlike, said_same, span_put}
 
 pub front_meant : (profile : Profile) (statements : List PlainStatement) (n : ℕ) → AllObey profile statements → AllMeant (sentences (take n statements))
 front_meant profile statements n obeyed = subst AllMeant (sym (map-take n statements)) (allmeant_front (sentences statements) n (all_meant profile statements obeyed))
@@ -404,14 +406,13 @@ one_save_answer profile f files statements label number bytes ask.Memory accepte
 -- a text put in place of itself changes nothing
 put_again : (s : PlainStatement) (bytes text : List ℕ) → IsProofSpan s bytes → with_span (with_span bytes s.span text) (s.span.0, s.span.0 + length text) text ≡ with_span bytes s.span text
 put_again s bytes text p =
-    let all : List ℕ = with_span bytes s.span text in
-    let first : take s.span.0 bytes ≡ p.front = ap (λ (n : ℕ). take n bytes) p.start ∙ ap (take (length p.front)) p.whole ∙ take-append_seam p.front (p.within ++ p.back) in
-    let is : all ≡ p.front ++ (text ++ drop s.span.1 bytes) = ap (λ (l : List ℕ). l ++ (text ++ drop s.span.1 bytes)) first in
-    let front : take s.span.0 all ≡ take s.span.0 bytes = ap (λ (n : ℕ). take n all) p.start ∙ ap (take (length p.front)) is ∙ take-append_seam p.front (text ++ drop s.span.1 bytes) ∙ sym first in
-    let back : drop (s.span.0 + length text) all ≡ drop s.span.1 bytes =
-    ap (λ (n : ℕ). drop (n + length text) all) p.start ∙ ap (λ (n : ℕ). drop n all) (sym (length-append p.front text))
-    ∙ ap (drop (length (p.front ++ text))) (is ∙ sym (append_assoc p.front text (drop s.span.1 bytes))) ∙ drop-append_seam (p.front ++ text) (drop s.span.1 bytes) in
-    λ i. front i ++ (text ++ back i)
+    let once : with_span bytes s.span text ≡ p.front ++ (text ++ p.back) =
+    ap (λ (l : List ℕ). with_span l s.span text) p.whole
+    ∙ span_put p.front p.within p.back text s.span p.start p.stop in
+    let span : ℕ × ℕ = (s.span.0, s.span.0 + length text) in
+    ap (λ (l : List ℕ). with_span l span text) once
+    ∙ span_put p.front text p.back text span p.start
+    (ap (λ (n : ℕ). n + length text) p.start) ∙ sym once
 
 -- the files with the text put in are saved as they are
 again_saved : (profile : Profile) (f : Form) (files : List PlainFile) (label : List ℕ) (before : List PlainStatement) (s : PlainStatement) (after : List PlainStatement) (file : PlainFile) (text : List ℕ) → IsLabelled label (sentence_of s)

@@ -2,12 +2,12 @@
 use Rattle.std.proofs.Common.{◌≡◌, ℕ, ◌+◌, ◌-◌, ◌≤◌, List, [], ◌∷◌, ◌++◌, map, take, drop, length}
 use Rattle.std.proofs.Common.{refl, sym, ap, subst, ◌∙◌, arith, append_assoc, length-append}
 use Rattle.std.proofs.Common.{length-drop}
-use Rattle.std.proofs.Math.Seq.{take-append_seam, drop-append_seam}
 use Rattle.std.proofs.lemmas.List.{take-append-drop, length-take-le}
 use Rattle.std.specs.List.{AllZip, AllByRecursion}
 use Rattle.mm_text.specs.Statement.{PlainStatement}
 use Rattle.mm_text.specs.Replaced.{with_span}
 use Rattle.mm_check.specs.AllSaved.{Replacement, with_replaced}
+use Rattle.mm_check.proofs.SavedFiles.{span_put}
 
 -- ---- slots
 
@@ -38,20 +38,6 @@ StandAt at first (slot ∷ slots) (s ∷ statements) =
     × StandAt (at + length first + length slot.now) slot.kept slots statements
 
 -- ---- one slot is filled
-
--- a text between two parts is replaced
-span_put : (front now back put : List ℕ) (span : ℕ × ℕ) → span.0 ≡ length front
-    → span.1 ≡ length front + length now
-    → with_span (front ++ (now ++ back)) span put ≡ front ++ (put ++ back)
-span_put front now back put span start stop =
-    let all : List ℕ = front ++ (now ++ back) in
-    let before : take span.0 all ≡ front =
-    ap (λ (n : ℕ). take n all) start ∙ take-append_seam front (now ++ back) in
-    let after : drop span.1 all ≡ back =
-    ap (λ (n : ℕ). drop n all) (stop ∙ sym (length-append front now))
-    ∙ ap (drop (length (front ++ now))) (sym (append_assoc front now back))
-    ∙ drop-append_seam (front ++ now) back in
-    λ i. before i ++ (put ++ after i)
 
 -- what stands before the rest, as one part
 abbrev passed : (before first now : List ℕ) → List ℕ
