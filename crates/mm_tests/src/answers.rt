@@ -2,8 +2,8 @@
 //! with the command.
 
 use crate::tests::{contents_of, expect_reply, files_of, joined};
-use crate::{Asked, forms, sameness, saving};
-use mm_check::{AskFault, Checked, Command, Form, SaveFault, check, saved};
+use crate::{Asked, forms, sameness, saving, saving_all};
+use mm_check::{AskFault, Checked, Command, Form, SaveFault, check, saved, saved_all};
 use mm_text::{File, Seed};
 use std::alloc::Global;
 use std::process::Abort;
@@ -58,6 +58,8 @@ fn saved_of(alloc: Global, label: &[u8], form: Form, files: &[File]) -> Result<A
         }
         Err(SaveFault::Ask(fault)) => Ok(Some(Err(fault))),
         Err(SaveFault::Check(_)) => Ok(None),
+        // That is told of a whole file alone.
+        Err(SaveFault::TooLong { .. }) => unreachable!(),
     }
 }
 
@@ -79,6 +81,7 @@ fn label_of<'a>(command: &Command<'a>) -> &'a [u8] {
         | Command::Normal { label, .. }
         | Command::Packed { label, .. }
         | Command::Same { label, .. } => label,
+        Command::All { .. } => b"",
     }
 }
 
@@ -92,6 +95,38 @@ fn fault_line(alloc: Global, label: &[u8], fault: AskFault) -> Result<Vec<u8>, F
     Ok(line.into_bytes())
 }
 
+/// The bytes of the file with a number with all proofs in a form, or the line that says why there are
+/// none; nothing where the files are refused.
+fn all_saved_of(
+    alloc: Global,
+    form: Form,
+    number: usize,
+    files: &[File],
+) -> Result<Option<Vec<u8>>, Fail> {
+    let Some(file) = files.get(number) else {
+        return Err(Fail::from("a file that is not handed in"));
+    };
+    match saved_all(alloc, Seed::known(), files, number, form) {
+        Ok(bytes) => Ok(Some(bytes)),
+        Err(SaveFault::TooLong { label }) => Ok(Some(fault_line(alloc, label, AskFault::L2)?)),
+        Err(SaveFault::Ask(fault)) => Ok(Some(fault_line(alloc, file.name, fault)?)),
+        Err(SaveFault::Check(_)) => Ok(None),
+    }
+}
+
+/// The text of what the call that goes with a command answers over the files; nothing where they are
+/// refused.
+fn text_of(alloc: Global, command: &Command, files: &[File]) -> Result<Option<Vec<u8>>, Fail> {
+    if let Command::All { form, file } = command {
+        return all_saved_of(alloc, *form, *file, files);
+    }
+    match called(alloc, command, files)? {
+        Some(Ok(text)) => Ok(Some(text)),
+        Some(Err(fault)) => Ok(Some(fault_line(alloc, label_of(command), fault)?)),
+        None => Ok(None),
+    }
+}
+
 /// Compares what the call that goes with a command answers; files that are refused have no answer.
 fn compare_call(
     rt: &impl Abort,
@@ -101,13 +136,9 @@ fn compare_call(
     reply: &[u8],
 ) -> Result<(), Fail> {
     let name = asked.name;
-    let text = match called(alloc, &asked.command, files)? {
-        Some(Ok(text)) => text,
-        Some(Err(fault)) => fault_line(alloc, label_of(&asked.command), fault)?,
-        None => {
-            assert!(rt; asked.status != 0, "refused in the case {name}");
-            return Ok(());
-        }
+    let Some(text) = text_of(alloc, &asked.command, files)? else {
+        assert!(rt; asked.status != 0, "refused in the case {name}");
+        return Ok(());
     };
     assert!(rt; text.as_slice() == reply, "by its call, in the case {name}");
     Ok(())
@@ -210,4 +241,19 @@ fn kept_bytes(rt: HostRuntime) -> Result<(), Fail> {
 #[test]
 fn not_saved(rt: HostRuntime) -> Result<(), Fail> {
     compare(&rt, rt.alloc(), &saving::NOT_SAVED)
+}
+
+#[test]
+fn files_saved_whole(rt: HostRuntime) -> Result<(), Fail> {
+    compare(&rt, rt.alloc(), &saving_all::SAVED)
+}
+
+#[test]
+fn kept_beside_all_proofs(rt: HostRuntime) -> Result<(), Fail> {
+    compare(&rt, rt.alloc(), &saving_all::KEPT)
+}
+
+#[test]
+fn files_not_saved_whole(rt: HostRuntime) -> Result<(), Fail> {
+    compare(&rt, rt.alloc(), &saving_all::NOT_SAVED)
 }

@@ -47,6 +47,8 @@ mod sameness;
 #[cfg(test)]
 mod saving;
 #[cfg(test)]
+mod saving_all;
+#[cfg(test)]
 mod scopes;
 #[cfg(test)]
 mod tests;

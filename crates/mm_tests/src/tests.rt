@@ -1,11 +1,15 @@
 //! Each table of cases is one test. Those of the documents' examples stand with their tables.
 
+ghost use Rattle.std.specs.Prelude.{map, IsTrue};
+ghost use Rattle.mm_text.specs.Files.{plain_file};
+ghost use Rattle.mm_check.specs.Reply.{AsksHanded};
+
 use crate::databases::{DEMO, HEAD};
 use crate::{
     Case, Part, compressed, damaged, files, fronts, incomplete, names, one_file, orders, profiles,
     proofs, questions, scopes,
 };
-use mm_check::{Checked, Command, RunFault, check, run};
+use mm_check::{Checked, Command, Status, check, run};
 use mm_proof::Profile;
 use mm_text::{Counted, File, Seed, Statement, Statements};
 use std::alloc::Global;
@@ -29,15 +33,28 @@ pub(crate) fn joined(alloc: Global, parts: &[Part]) -> Result<Vec<u8>, Fail> {
     Ok(bytes)
 }
 
+/// Whether a file that a command asks for by its number is handed in.
+pub(crate) fn asks_handed(command: &Command, files: &[File<'_>]) -> bool
+    ensures { IsTrue result → AsksHanded (map plain_file files.now) command.now }
+{
+    match command {
+        Command::All { file, .. } => *file < files.len(),
+        _ => true,
+    }
+}
+
 /// What a command replies to the files, and its status.
-fn reply_to(
+pub(crate) fn reply_to(
     alloc: Global,
     command: &Command,
     files: &[File<'_>],
-) -> Result<(Vec<u8>, u8), RunFault> {
+) -> Result<(Vec<u8>, Status), Fail> {
+    if !asks_handed(command, files) {
+        return Err(Fail::from("a file that is not handed in"));
+    }
     let mut out = Counted::new(Vec::new(alloc));
     let status = run(alloc, Seed::known(), command, files, &mut out)?;
-    Ok((out.into_inner(), status.number()))
+    Ok((out.into_inner(), status))
 }
 
 /// What a command replies to the files is this text, with this status.
@@ -50,7 +67,7 @@ pub(crate) fn expect_reply(
     name: &str,
 ) -> Result<(), Fail> {
     let (reply, status) = reply_to(alloc, command, files)?;
-    let is_wanted = (reply.as_slice(), status) == wanted;
+    let is_wanted = (reply.as_slice(), status.number()) == wanted;
     let text = from_utf8(&reply)?;
     assert!(rt; is_wanted, "in the case {name}: {text}");
     Ok(())

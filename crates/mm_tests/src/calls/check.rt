@@ -1,11 +1,11 @@
 //! One happy path of each public call, and writers that fail in the middle of a reply.
 
 use crate::calls::failing::failing_writer;
-use crate::tests::CHECK;
+use crate::tests::{CHECK, reply_to};
 use mm_check::{
     AskFault, CheckFault, Checked, Command, Report, Rule, RunFault, Status, check, run,
 };
-use mm_text::{Counted, File, Seed};
+use mm_text::{File, Seed};
 use std::alloc::Global;
 use std::test::Fail;
 
@@ -146,9 +146,8 @@ fn replies(
     files: &[File],
     (wanted, text): (Status, &[u8]),
 ) -> Result<bool, Fail> {
-    let mut out = Counted::new(Vec::new(alloc));
-    let status = run(alloc, Seed::known(), command, files, &mut out)?;
-    Ok(status == wanted && out.into_inner().as_slice() == text)
+    let (reply, status) = reply_to(alloc, command, files)?;
+    Ok(status == wanted && reply.as_slice() == text)
 }
 
 /// Whether the program answers the command over the first database so.

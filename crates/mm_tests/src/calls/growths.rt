@@ -5,8 +5,8 @@
 //! them with each of its requests for memory refused, one alone, in turn.
 
 use crate::databases::DEMO_COMPRESSED;
-use crate::tests::CHECK;
-use mm_check::{AskFault, CheckFault, Checked, Command, RunFault, Status, check, run};
+use crate::tests::{CHECK, asks_handed};
+use mm_check::{AskFault, CheckFault, Checked, Command, Form, RunFault, Status, check, run};
 use mm_proof::Profile;
 use mm_text::{Counted, File, Seed, Statement, Statements, TextFault};
 use std::alloc::Global;
@@ -72,6 +72,9 @@ fn growths_of_a_reader(rt: HostRuntime) -> Result<(), Fail> {
 /// The reply to a command and its status; nothing where memory was wanting, and nothing is written
 /// then.
 fn reply_or_memory(alloc: Global, command: &Command) -> Result<Option<(Vec<u8>, Status)>, Fail> {
+    if !asks_handed(command, &FILES) {
+        return Err(Fail::from("a file that is not handed in"));
+    }
     let mut out = Counted::new(Vec::new(alloc));
     let answer = run(alloc, Seed::known(), command, &FILES, &mut out);
     let text = out.into_inner();
@@ -119,6 +122,9 @@ fn growths_of_forms(rt: HostRuntime) -> Result<(), Fail> {
     for whole in [false, true] {
         expect_replies(rt.alloc(), &Command::Normal { label, whole })?;
         expect_replies(rt.alloc(), &Command::Packed { label, whole })?;
+    }
+    for form in [Form::Normal, Form::Packed] {
+        expect_replies(rt.alloc(), &Command::All { form, file: 0 })?;
     }
     Ok(())
 }

@@ -1,10 +1,13 @@
 //! Saving: the file with the proof of one theorem written anew, and all else kept.
 
+use crate::tests::reply_to;
 use mm_check::{
-    Command, Form, Status, one_save_answer, one_saved, packed_texts_tell, run, saved,
-    saving_again_changes_nothing, saving_changes_no_answer,
+    Command, Form, Status, all_saved_proofs_are_strict, one_all_saved, one_save_answer, one_saved,
+    packed_files_are_strict, packed_texts_tell, saved, saved_all, saving_again_changes_nothing,
+    saving_all_again_changes_nothing, saving_all_changes_no_answer, saving_changes_no_answer,
+    saving_in_turn_is_saving_all,
 };
-use mm_text::{Counted, File, Seed};
+use mm_text::{File, Seed};
 use std::alloc::Global;
 use std::test::Fail;
 
@@ -81,21 +84,13 @@ fn saving_again_gives_equal_bytes(rt: HostRuntime) -> Result<(), Fail> {
     Ok(())
 }
 
-/// What the program answers to a command over the two files.
-fn reply(alloc: Global, command: &Command) -> Result<(Status, Vec<u8>), Fail> {
-    let files = two_files(OLD);
-    let mut out = Counted::new(Vec::new(alloc));
-    let status = run(alloc, Seed::known(), command, &files, &mut out)?;
-    Ok((status, out.into_inner()))
-}
-
 #[test]
 fn the_whole_file_is_answered(rt: HostRuntime) -> Result<(), Fail> {
     let command = Command::Packed {
         label: b"th",
         whole: true,
     };
-    let (status, text) = reply(rt.alloc(), &command)?;
+    let (text, status) = reply_to(rt.alloc(), &command, &two_files(OLD))?;
     assert!(rt; status == Status::Done && text.as_slice() == PACKED);
     Ok(())
 }
@@ -106,9 +101,35 @@ fn unknown_labels_are_refused(rt: HostRuntime) -> Result<(), Fail> {
         label: b"none",
         whole: true,
     };
-    let (status, text) = reply(rt.alloc(), &command)?;
+    let (text, status) = reply_to(rt.alloc(), &command, &two_files(OLD))?;
     assert!(rt; status == Status::Refused && text.as_slice() == b"ask A1 none\n".as_slice());
     Ok(())
+}
+
+/// Whether the second file is saved with all its proofs in a form as these bytes.
+fn saves_all(alloc: Global, old: &[u8], form: Form, bytes: &[u8]) -> Result<bool, Fail> {
+    let files = two_files(old);
+    match saved_all(alloc, Seed::known(), &files, 1, form) {
+        Ok(new) => Ok(new.as_slice() == bytes),
+        Err(_) => Err(Fail::from("not saved")),
+    }
+}
+
+#[test]
+fn all_proofs_of_a_file_are_saved(rt: HostRuntime) -> Result<(), Fail> {
+    assert!(rt; saves_all(rt.alloc(), OLD, Form::Normal, NORMAL)?);
+    assert!(rt; saves_all(rt.alloc(), OLD, Form::Packed, PACKED)?);
+    Ok(())
+}
+
+#[test]
+fn laws_of_saving_whole_files_are_called() {
+    saving_all_changes_no_answer();
+    all_saved_proofs_are_strict();
+    one_all_saved();
+    saving_all_again_changes_nothing();
+    saving_in_turn_is_saving_all();
+    packed_files_are_strict();
 }
 
 #[test]
