@@ -1,5 +1,5 @@
 -- The proofs that saving whole files puts in have the strict form.
-use Rattle.std.proofs.Common.{◌≡◌, ℕ, zero, suc, ◌<◌, List, [], ◌∷◌, ◌++◌, take, length, slice_get}
+use Rattle.std.proofs.Common.{◌≡◌, ℕ, ◌<◌, List, [], ◌∷◌, ◌++◌, take, length, slice_get}
 use Rattle.std.proofs.Common.{Bool, true, false, not, ◌&&◌, Some, None, Contains, ◌⊎◌, inl, inr}
 use Rattle.std.proofs.Common.{refl, sym, ap, subst, ◌∙◌}
 use Rattle.std.specs.List.{AllByRecursion}
@@ -11,7 +11,7 @@ use Rattle.mm_text.specs.Files.{PlainFile}
 use Rattle.mm_text.specs.Replaced.{with_bytes}
 use Rattle.mm_text.proofs.FormedLaws.{readings_are_formed_in_place}
 use Rattle.mm_frame.specs.Sentence.{sentence_of}
-use Rattle.mm_frame.proofs.Numbered.{at_from_contains, contains_from_at}
+use Rattle.mm_frame.proofs.Numbered.{at_from_contains}
 use Rattle.mm_proof.specs.Strict.{IsStrict}
 use Rattle.mm_proof.specs.Tokens.{is_incomplete}
 use Rattle.mm_proof.specs.declared.profile.Profile.{Profile}
@@ -22,6 +22,7 @@ use Rattle.mm_check.specs.Verdict.{AreAccepted, sentences, proof_of, is_proof, u
 use Rattle.mm_check.specs.AllSaved.{is_theorem_of, Replacement}
 use Rattle.mm_check.specs.AllSavedLaws.{AllSavedProofsAreStrict, AreFilesSaved}
 use Rattle.mm_check.specs.AllSavedLaws.{PackedFilesAreStrict}
+use Rattle.mm_check.proofs.Reports.{first_or_later}
 use Rattle.mm_check.proofs.AlikeVerdicts.{moved}
 use Rattle.mm_check.proofs.Rereading.{same_reading}
 use Rattle.mm_check.proofs.Saving.{with_bytes_is, home_file}
@@ -92,16 +93,6 @@ record AreStrictFiles (P : ℕ → Type 0) (files : List PlainFile) : Type 0 whe
   pub none : unproved_of same ≡ []
   pub strict : AreStrictIn P same
 
--- a number of the list is the first, or one of the others
-first_or_other : (number : ℕ) (numbers : List ℕ) (n : ℕ) → Contains (number ∷ numbers) n
-    → (n ≡ number) ⊎ Contains numbers n
-first_or_other number numbers n c = by_place (at_from_contains (number ∷ numbers) n c)
-  where
-    by_place : (i : ℕ) × (slice_get (number ∷ numbers) i ≡ Some n)
-        → (n ≡ number) ⊎ Contains numbers n
-    by_place (zero, there) = inl (let same : number ≡ n = cc in sym same)
-    by_place (suc i, there) = inr (contains_from_at numbers n (i, there))
-
 none_holds : (n : ℕ) → Contains [] n → ⊥
 none_holds n c = let (i, there) = at_from_contains [] n c in cc
 
@@ -139,7 +130,7 @@ files_strict P (number ∷ numbers) files others statements accepted none strict
       none = more.none;
       strict = λ place s there complete so. more.strict place s there complete (elim so [
         | inl old ↦ inl (inl old)
-        | inr c ↦ elim (first_or_other number numbers s.first.file c) [
+        | inr c ↦ elim (first_or_later number numbers s.first.file c) [
           | inl is ↦ inl (inr is)
           | inr other ↦ inr other
         ]

@@ -1,6 +1,6 @@
 -- Bytes in which several spans are replaced, from the first one on.
-use Rattle.std.proofs.Common.{◌≡◌, ℕ, ◌+◌, ◌-◌, ◌<◌, ◌≤◌, List, [], ◌∷◌, ◌++◌, take, drop}
-use Rattle.std.proofs.Common.{length, slice_range, inl, inr, refl, sym, ap, subst, ◌∙◌, arith}
+use Rattle.std.proofs.Common.{◌≡◌, ℕ, ◌+◌, ◌-◌, ◌≤◌, List, [], ◌∷◌, ◌++◌, take, drop}
+use Rattle.std.proofs.Common.{length, slice_range, refl, sym, ap, subst, ◌∙◌, arith}
 use Rattle.std.proofs.Common.{append_assoc, append-nil, length-append}
 use Rattle.std.proofs.Math.ListN.{drop_of_length-le}
 use Rattle.std.proofs.lemmas.List.{take-append-le, drop-append-le, take-append-drop, take-take}
@@ -141,15 +141,3 @@ pub put_twice : (most : ℕ) (first then old between new : List ℕ)
 put_twice most first then old between new one other whole h =
     subst (λ (bytes : List ℕ). IsUpTo most bytes new) (append_assoc whole first then)
     (other (whole ++ first) (one whole h))
-
--- no more than the most: all of it
-pub up_to_most : (most : ℕ) (whole bytes : List ℕ) → IsUpTo most whole bytes
-    → length bytes ≤ most → bytes ≡ whole
-up_to_most most whole bytes (inl same) few = same
-up_to_most most whole bytes (inr (over, within)) few = absurd (omega (arith, over, few))
-
--- more than the most: all of it is more
-pub up_to_more : (most : ℕ) (whole bytes : List ℕ) → IsUpTo most whole bytes
-    → most < length bytes → most < length whole
-up_to_more most whole bytes (inl same) over = omega (arith, over, ap length same)
-up_to_more most whole bytes (inr (many, within)) over = omega (arith, over, within)

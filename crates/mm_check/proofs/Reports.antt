@@ -19,7 +19,7 @@ use Rattle.mm_check.proofs.Ordered.{holds_first, holds_later, rising_tail}
 first_less : (x : ℕ) (xs : List ℕ) (n : ℕ) → AreRising (x ∷ xs) → Contains xs n → x < n
 first_less x xs n rising h = let at = at_from_contains xs n h in rising 0 (suc at.0) x n (omega arith) refl at.1
 
-first_or_later : (x : ℕ) (xs : List ℕ) (n : ℕ) → Contains (x ∷ xs) n → (n ≡ x) ⊎ Contains xs n
+pub first_or_later : (x : ℕ) (xs : List ℕ) (n : ℕ) → Contains (x ∷ xs) n → (n ≡ x) ⊎ Contains xs n
 first_or_later x xs n h = let at = at_from_contains (x ∷ xs) n h in by_place at.0 at.1
   where
     by_place : (i : ℕ) → slice_get (x ∷ xs) i ≡ Some n → (n ≡ x) ⊎ Contains xs n

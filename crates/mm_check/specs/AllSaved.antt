@@ -1,6 +1,6 @@
--- A file in which each complete proof is written anew, in lines, and all else is kept. The forms of
--- proofs are those of the Metamath book, sections 4.3 and 4.4.3 and appendix B; what is kept is this
--- project's own.
+-- A file in which each complete proof is written anew, in lines, and all else is kept. The forms
+-- of proofs are those of the Metamath book, sections 4.3 and 4.4.3 and appendix B; what is kept is
+-- this project's own.
 use Rattle.std.specs.Prelude.{◌≡◌, ℕ, ◌<◌, ◌==◌, ◌&&◌, List, [], ◌∷◌, ◌++◌, take, length, filter}
 use Rattle.std.specs.Prelude.{Bool, Some, slice_get}
 use Rattle.std.specs.List.{AllZip}
@@ -44,13 +44,13 @@ pub record IsReplacement (form : Form) (statements : List PlainStatement) (s : P
   pub below : Trees
   pub proof : HasProofTree statements label place s root below
   pub text : List ℕ
-  pub laid : IsTextIn form (sentences (take place statements)) (sentence_of s) (tree root below none)
-      text
+  pub laid : IsTextIn form (sentences (take place statements)) (sentence_of s)
+      (tree root below none) text
   pub span : new.span ≡ s.span
   pub put : new.text ≡ 10 ∷ text
 
--- The bytes with several spans replaced, each of which stands after those before it. The last one is
--- replaced first, so that each is replaced where it stood.
+-- The bytes with several spans replaced, each of which stands after those before it. The last one
+-- is replaced first, so that each is replaced where it stood.
 abbrev pub with_replaced : List ℕ → List Replacement → List ℕ
 with_replaced bytes [] = bytes
 with_replaced bytes (new ∷ news) = with_span (with_replaced bytes news) new.span new.text
@@ -91,8 +91,9 @@ IsAllSaveFault form files statements number F3 =
 IsAllSaveFault form files statements number Memory = Unit {0}
 IsAllSaveFault form files statements number fault = ⊥
 
--- Why saving gives nothing: the verdict over the files isn't that they are accepted, or they are, and
--- a normal proof is too long, or the file isn't written anew; or, in either part, memory was wanting.
+-- Why saving gives nothing: the verdict over the files isn't that they are accepted, or they are,
+-- and a normal proof is too long, or the file isn't written anew; or, in either part, memory was
+-- wanting.
 abbrev pub IsSavingAllFault : Form → List PlainFile → (number : ℕ) → SaveFault → Type 0
 IsSavingAllFault form files number (Check fault) =
     (verdict : Verdict) → verdict_of_fault fault ≡ Some verdict → HasVerdict Lenient files verdict
