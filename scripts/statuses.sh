@@ -108,11 +108,15 @@ mute() {
     fi
 }
 
-# literal FILE: the first text of a source of the program, as the program has it.
+# literal FILE CONSTANT: the text of a constant of the program's source, as the program has it.
 literal() {
-    awk '
+    awk -v constant="const $2:" '
     { line = $0 }
-    !begun { if (!sub(/^[^"]*"/, "", line)) { next }; begun = 1 }
+    index(line, constant) { is_named = 1 }
+    !begun {
+        if (!is_named || !sub(/^[^"]*"/, "", line)) { next }
+        begun = 1
+    }
     line ~ /^";$/ { exit }
     {
         is_cut = sub(/\\$/, "", line)
@@ -122,6 +126,27 @@ literal() {
         printf is_cut ? "%s" : "%s\n", line
         was_cut = is_cut
     }' "$top/crates/mm_tool/src/$1"
+}
+
+# narrow FILE COLUMNS: no line of the text has more columns.
+narrow() {
+    if ! awk -v most="$2" 'length($0) > most { print; bad = 1 } END { exit bad }' "$1" >&2; then
+        echo "statuses.sh: these lines have more than $2 columns" >&2
+        failures=$((failures + 1))
+    fi
+}
+
+# mistaken WORD USE WORDS..: the program doesn't understand this one of the words, and says so and how
+# they are used.
+mistaken() {
+    word=$1
+    use=$2
+    shift 2
+    ends 2 '' "error: unexpected argument '$word' found
+
+Usage: $use
+
+For more information, try '--help'.\n" "$@"
 }
 
 # explanations: those of all rules, as the program has them.
@@ -189,16 +214,41 @@ ends 1 'ask A1 --file\n' '' packed -- --file first.mm
 ends 1 'ask A1 check\n' '' axioms -- check first.mm
 ends 1 'ask A1 --help\n' '' axioms -- --help first.mm
 ends 1 'ask A1 \n' '' axioms '' first.mm
-literal texts.rt >help.txt
-for words in --help -h help 'check --help' 'axioms --help' 'show -h' 'explain -h'; do
+literal texts.rt HELP >help.txt
+for words in --help -h help '--help check' '-h nonsense'; do
     prints help.txt $words
 done
+narrow help.txt 100
+commands='check axioms show normal packed same explain help version'
+for command in $commands; do
+    constant=$(echo "$command" | tr a-z A-Z)
+    literal pages.rt "$constant" >page.txt
+    narrow page.txt 80
+    prints page.txt help "$command"
+    prints page.txt "$command" --help
+    prints page.txt "$command" -h
+    if [ "$(sed 's/^Usage: mm \([a-z]*\).*/\1/;q' page.txt)" != "$command" ] ||
+        ! grep -q "^  $command\( \|$\)" help.txt; then
+        echo "statuses.sh: $command: its page or the help doesn't begin with its use" >&2
+        failures=$((failures + 1))
+    fi
+done
+literal pages.rt CHECK >page.txt
+prints page.txt check first.mm --help
+prints page.txt check --help --nonsense
+literal pages.rt PACKED >page.txt
+prints page.txt packed --file -h
+ends 2 '' "mm: no command has the name nonsense\nthe commands are $(echo $commands |
+    sed 's/ /, /g')\n" help nonsense
+ends 2 '' "mm: no command has the name \nthe commands are $(echo $commands |
+    sed 's/ /, /g')\n" help ''
 if command -v rt >/dev/null 2>&1; then
     printf 'mm 0.1.0, proved with %s\n' "$(rt version)" >version.txt
     prints version.txt --version
     prints version.txt -V
+    prints version.txt version
 fi
-literal code_lines.rt >codes.txt
+literal code_lines.rt CODES >codes.txt
 prints codes.txt explain
 explanations >rules.txt
 for code in $(sed 's/:.*//' codes.txt); do
@@ -231,8 +281,16 @@ misused axioms --strict th first.mm
 misused check --strict
 misused check --strict --strict first.mm
 misused check -first.mm
-misused help nonsense
+misused help check axioms
 misused explain P8 P9
+misused version first.mm
+mistaken --quiet 'mm check [--strict] FILES..' check --quiet first.mm
+mistaken -q 'mm check [--strict] FILES..' check -q first.mm
+mistaken -t 'mm axioms LABEL FILES..' axioms -th first.mm
+mistaken --quiet 'mm packed [--file] LABEL FILES..
+       mm packed --all NAME FILES..' packed --file th first.mm --quiet
+mistaken --quiet 'mm explain [CODE]' explain --quiet
+mistaken --quiet 'mm help [COMMAND]' help --quiet
 begins 2 '' 'error: the following required arguments were not provided:' axioms th
 begins 2 '' "error: unexpected argument '--strict' found" axioms --strict th first.mm
 unknown M222 M2
@@ -252,6 +310,32 @@ ends 4 '' 'mm: cannot read none.mm\n' axioms th none.mm
 ends 4 '' 'mm: cannot read none.mm\n' show th none.mm
 ends 4 '' 'mm: cannot read none.txt\n' same th none.txt none.mm
 ends 4 '' 'mm: cannot read .\n' check .
+
+# Words in the wrong order, and a name that stands for standard input elsewhere.
+taken() {
+    printf 'mm: cannot read %s\\n%smm: %s was taken for the label, and %s for a file: %s\\n' \
+        "$2" "${3-}" "$1" "$2" 'the label comes first'
+}
+input='mm: the name of standard input is /dev/stdin\n'
+for command in axioms show normal packed 'packed --file'; do
+    ends 4 '' "$(taken first.mm th)" $command first.mm th
+done
+ends 4 '' "$(taken first.mm th)" axioms first.mm first.mm th none.mm
+ends 4 '' "$(taken first.mm th)" same first.mm th proof.txt
+ends 4 '' "$(taken first.mm none.txt)" same first.mm none.txt th
+ends 4 '' "$(taken .mm th)" axioms .mm th
+ends 1 'ask A1 first.mm\n' '' axioms first.mm first.mm
+ends 4 '' 'mm: cannot read none\n' axioms first.mmm none
+ends 4 '' 'mm: cannot read none\n' axioms mm none
+ends 4 '' 'mm: cannot read none\n' check first.mm none
+mv ./- dash
+ends 4 '' "mm: cannot read -\n$input" check -
+ends 4 '' "mm: cannot read -\n$input" check first.mm -
+ends 4 '' "mm: cannot read -\n$input" show th -
+ends 4 '' "$(taken first.mm - "$input")" show first.mm -
+ends 4 '' 'mm: cannot read --\n' check -- --
+mv dash ./-
+ends 0 'yes 7 statements 1 proofs\n' '' check /dev/stdin <first.mm
 ends 4 '' 'mm: cannot read none.mm\n' check first.mm none.mm other.mm
 ends 4 '' 'mm: cannot read none.mm\n' check none.mm first.mm
 ends 4 '' 'mm: cannot read -x.mm\n' check -- -x.mm
@@ -275,6 +359,38 @@ for part in 1 2 3 4 5 6 7 8 9 10 11; do
 done
 ends 0 'yes 11 statements 0 proofs\n' '' check parts.mm $parts
 ends 4 '' 'mm: cannot read part12.mm\n' check parts.mm $parts part12.mm
+
+# A whole file with its proofs in a form. NAME is one of the files, by its very name.
+prints tight.mm packed --all loose.mm loose.mm
+prints tight.mm packed loose.mm loose.mm --all
+prints tight.mm packed --all tight.mm tight.mm
+prints saved.mm packed --all first.mm first.mm
+sed 's/[$]= .*/$=/' first.mm >long.mm
+printf '      tze tze tpl\n$.\n' >>long.mm
+prints long.mm normal --all first.mm first.mm
+prints long.mm normal --all saved.mm saved.mm
+printf '$c a $.\np $a a $.\nq $p a $= ? $.\nr $p a $=\n      ( q )\n      A\n$.\n' >half.mm
+prints half.mm packed --all open.mm open.mm
+printf '$c b $.\n$[ open.mm $]\ns $p a $= r $.\n' >over.mm
+printf '$c b $.\n$[ open.mm $]\ns $p a $=\n      ( r )\n      A\n$.\n' >above.mm
+prints half.mm packed --all open.mm over.mm open.mm
+prints above.mm packed --all over.mm over.mm open.mm
+prints empty.mm normal --all empty.mm empty.mm
+for form in normal packed; do
+    ends 2 '' "mm: none.mm is none of the files\nUsage: mm $form --all NAME FILES..\n" \
+        $form --all none.mm first.mm
+    ends 2 '' "mm: ./first.mm is none of the files\nUsage: mm $form --all NAME FILES..\n" \
+        $form --all ./first.mm first.mm
+    ends 2 '' "mm: --file and --all exclude each other\nUsage: mm $form --all NAME FILES..\n" \
+        $form --all --file first.mm first.mm
+    misused $form --all first.mm
+    misused $form --all --all first.mm first.mm
+    ends 4 'load F2\n' '' $form --all first.mm first.mm first.mm
+    ends 4 '' 'mm: cannot read none.mm\n' $form --all none.mm none.mm
+    ends 4 '' 'mm: cannot read none.mm\n' $form --all first.mm first.mm none.mm
+    ends 1 'no twice.mm 2 - M2 0\n' '' $form --all twice.mm twice.mm
+    ends 1 'ask A1 --all\n' '' $form -- --all first.mm
+done
 
 # Zeros, one more than the files may hold, of which the file system need not keep any.
 truncate -s 1073741825 long.mm
@@ -300,8 +416,13 @@ fi
 if [ -w /dev/full ]; then
     full 4 'mm: cannot write\n' check first.mm
     full 4 'mm: cannot write\n' help
+    full 4 'mm: cannot write\n' help check
+    full 4 'mm: cannot write\n' version
+    full 4 'mm: cannot write\n' packed --all first.mm first.mm
     mute 2 check
+    mute 2 help nonsense
     mute 4 check none.mm
+    mute 4 axioms first.mm th
 fi
 
 if [ "$failures" != 0 ]; then

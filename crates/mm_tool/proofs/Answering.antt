@@ -1,15 +1,17 @@
 -- How the words are answered, from how the parts of the program answer.
 use Rattle.std.proofs.Common.{◌≡◌, ℕ, ◌<◌, List, length, codes, Option, Result, Ok, Err, IfOk, IfErr, OnErr, inl, inr, refl, sym, subst, ap, ◌∙◌}
+use Rattle.std.proofs.Common.{Bor, Some, option_map, OnOk, IsErrAnd}
 use Rattle.mm_text.specs.declared.counted.Counted.{Counted}
 use Rattle.mm_check.specs.Status.{number_of}
 use Rattle.mm_check.specs.declared.command.Command.{Command}
 use Rattle.mm_check.specs.declared.status.Status.{Status}
 use Rattle.mm_text.specs.Files.{PlainFile}
-use Rattle.mm_tool.specs.Words.{AsksRun, AsksSame}
+use Rattle.mm_tool.specs.Words.{AsksHelp, AsksRun, AsksSame}
 use Rattle.mm_tool.specs.Folder.{KnownFile, MayHold}
 use Rattle.mm_tool.specs.Ending.{IsProofRead, IsSameReplyOver, IsSameCommand, StopsSame}
 use Rattle.mm_tool.specs.Ending.{BreaksOff, Ends, EndsUnread, AnswersWords, IsReplyOver, Stops, StopsRun, TakesWhole}
 use Rattle.mm_tool.specs.Ending.{TellsLine, error_line, stop_status, unread_stop}
+use Rattle.mm_tool.specs.Ending.{AddsLabel, IsHelpFault, label_of}
 use Rattle.mm_tool.specs.declared.folder.ArgumentFault.{ArgumentFault}
 use Rattle.mm_tool.specs.declared.folder.ArgumentFault.TheVariants as argument
 use Rattle.mm_tool.specs.declared.texts.Texts.{Texts}
@@ -26,49 +28,112 @@ stops_answer contents holds may_fail texts max words (Err s) text status old new
     let Stopped : Stop → Type 0 = λ s. Stops contents holds may_fail texts max words s old new in
     subst Stopped (sym stop) (text, status, answers, broke)
 
+-- An answer was written.
+pub answers_text : {O E : Type 0} (contents : O → Option (List ℕ)) (holds : List ℕ → KnownFile)
+    (texts : Texts) (max : ℕ) (words : List (List ℕ)) (r : Result Status E) (text : List ℕ)
+    (status : Status) (old new : Counted O) → IfOk r (λ given. given ≡ status)
+    → OnOk r (TakesWhole contents text old new)
+    → AnswersWords holds texts max words text (number_of status)
+    → IfOk r (λ s. (t : List ℕ) × AnswersWords holds texts max words t (number_of s)
+    × TakesWhole contents t old new)
+answers_text contents holds texts max words (Ok given) text status old new same written answers =
+    let Answers : Status → Type 0 = λ s. AnswersWords holds texts max words text (number_of s) in
+    (text, subst Answers (sym same) answers, written)
+answers_text contents holds texts max words (Err e) text status old new same written answers = tt
+
+-- No command has the name on which the words ask for help, or memory was wanting.
+pub stops_help : {O T : Type 0} (contents : O → Option (List ℕ)) (holds : List ℕ → KnownFile)
+    (may_fail : List ℕ → Type 0) (texts : Texts) (max : ℕ) (words : List (List ℕ))
+    (topic : Option (List ℕ)) (r : Result T Stop) (stop : Stop) (out : Counted O)
+    → AsksHelp words topic → IsHelpFault texts topic stop → IsErrAnd r (λ s. s ≡ stop)
+    → IfErr r (λ s. Stops contents holds may_fail texts max words s out out)
+stops_help contents holds may_fail texts max words topic (Ok v) stop out asked fault is = tt
+stops_help contents holds may_fail texts max words topic (Err s) (Usage text) out asked fault is =
+    let Stopped : Stop → Type 0 = λ t. Stops contents holds may_fail texts max words t out out in
+    subst Stopped (sym is) (inr (inr (topic, asked, fault)), (refl, refl))
+stops_help contents holds may_fail texts max words topic (Err s) NotText out asked fault is =
+    absurd fault
+stops_help contents holds may_fail texts max words topic (Err s) (CannotRead name label) out asked
+    fault is = absurd fault
+stops_help contents holds may_fail texts max words topic (Err s) CannotWrite out asked fault is =
+    absurd fault
+stops_help contents holds may_fail texts max words topic (Err s) Memory out asked fault is =
+    let Stopped : Stop → Type 0 = λ t. Stops contents holds may_fail texts max words t out out in
+    subst Stopped (sym is) (refl, refl)
+
 -- The command that the words ask for answers them.
-pub answers_command : {O E : Type 0} (contents : O → Option (List ℕ)) (holds : List ℕ → KnownFile) (texts : Texts) (max : ℕ)
-    (words : List (List ℕ)) (command : Command) (names : List (List ℕ)) (r : Result Status E) (old new : Counted O) → AsksRun words command names
-    → IfOk r (λ status. (text : List ℕ) × IsReplyOver holds command names max text (number_of status) × TakesWhole contents text old new)
-    → IfOk r (λ status. (text : List ℕ) × AnswersWords holds texts max words text (number_of status) × TakesWhole contents text old new)
-answers_command contents holds texts max words command names (Ok status) old new asked (text, reply, taken) =
-    (text, inr (inr (inr (inl (command, names, asked, reply)))), taken)
-answers_command contents holds texts max words command names (Err e) old new asked h = tt
+pub answers_command : {O : Type 0} (contents : O → Option (List ℕ)) (holds : List ℕ → KnownFile)
+    (texts : Texts) (max : ℕ) (words : List (List ℕ)) (command : Command)
+    (names : List (List ℕ)) (status : ℕ) (old new : Counted O) → AsksRun words command names
+    → ((text : List ℕ) × IsReplyOver holds command names max text status
+    × TakesWhole contents text old new)
+    → (text : List ℕ) × AnswersWords holds texts max words text status
+    × TakesWhole contents text old new
+answers_command contents holds texts max words command names status old new asked
+    (text, reply, taken) = (text, inr (inr (inr (inl (command, names, asked, reply)))), taken)
 
 -- Where that command ended without a reply, the words have no answer.
-pub stops_command : {O T : Type 0} (contents : O → Option (List ℕ)) (holds : List ℕ → KnownFile) (may_fail : List ℕ → Type 0)
-    (texts : Texts) (max : ℕ) (words : List (List ℕ)) (command : Command) (names : List (List ℕ)) (r : Result T Stop) (old new : Counted O) → AsksRun words command names
-    → IfErr r (λ stop. StopsRun contents holds may_fail command names max stop old new)
-    → IfErr r (λ stop. Stops contents holds may_fail texts max words stop old new)
-stops_command contents holds may_fail texts max words command names (Ok v) old new asked h = tt
-stops_command contents holds may_fail texts max words command names (Err (Usage text)) old new asked h = absurd h
-stops_command contents holds may_fail texts max words command names (Err NotText) old new asked h = absurd h
-stops_command contents holds may_fail texts max words command names (Err (CannotRead name)) old new asked h = (inl (command, names, asked, h.0), h.1)
-stops_command contents holds may_fail texts max words command names (Err CannotWrite) old new asked (text, status, reply, broke) =
+pub stops_command : {O : Type 0} (contents : O → Option (List ℕ)) (holds : List ℕ → KnownFile)
+    (may_fail : List ℕ → Type 0) (texts : Texts) (max : ℕ) (words : List (List ℕ))
+    (command : Command) (names : List (List ℕ)) (label : Option (Bor (List ℕ)))
+    (ended told : Stop) (old new : Counted O) → AsksRun words command names
+    → option_map (λ l. l.now) label ≡ label_of command → AddsLabel label ended told
+    → StopsRun contents holds may_fail command names max ended old new
+    → Stops contents holds may_fail texts max words told old new
+stops_command contents holds may_fail texts max words command names label (Usage text) told old new
+    asked given adds h = absurd h
+stops_command contents holds may_fail texts max words command names label NotText told old new
+    asked given adds h = absurd h
+stops_command contents holds may_fail texts max words command names label
+    (CannotRead name before) told old new asked given adds h =
+    let Stopped : Stop → Type 0 = λ s. Stops contents holds may_fail texts max words s old new in
+    subst Stopped (sym adds) (inl (command, names, asked, h.0, given), h.1)
+stops_command contents holds may_fail texts max words command names label CannotWrite told old new
+    asked given adds (text, status, reply, broke) =
+    let Stopped : Stop → Type 0 = λ s. Stops contents holds may_fail texts max words s old new in
+    subst Stopped (sym adds)
     (text, status, inr (inr (inr (inl (command, names, asked, reply)))), broke)
-stops_command contents holds may_fail texts max words command names (Err Memory) old new asked h = h
+stops_command contents holds may_fail texts max words command names label Memory told old new
+    asked given adds h =
+    let Stopped : Stop → Type 0 = λ s. Stops contents holds may_fail texts max words s old new in
+    subst Stopped (sym adds) h
 
 -- The comparison that the words ask for answers them.
-pub answers_same : {O E : Type 0} (contents : O → Option (List ℕ)) (holds : List ℕ → KnownFile) (texts : Texts) (max : ℕ)
-    (words : List (List ℕ)) (label proof : List ℕ) (names : List (List ℕ)) (r : Result Status E) (old new : Counted O) → AsksSame words label proof names
-    → IfOk r (λ status. (text : List ℕ) × IsSameReplyOver holds label proof names max text (number_of status) × TakesWhole contents text old new)
-    → IfOk r (λ status. (text : List ℕ) × AnswersWords holds texts max words text (number_of status) × TakesWhole contents text old new)
-answers_same contents holds texts max words label proof names (Ok status) old new asked (text, reply, taken) =
-    (text, inr (inr (inr (inr (label, proof, names, asked, reply)))), taken)
-answers_same contents holds texts max words label proof names (Err e) old new asked h = tt
+pub answers_same : {O : Type 0} (contents : O → Option (List ℕ)) (holds : List ℕ → KnownFile)
+    (texts : Texts) (max : ℕ) (words : List (List ℕ)) (label proof : List ℕ)
+    (names : List (List ℕ)) (status : ℕ) (old new : Counted O) → AsksSame words label proof names
+    → ((text : List ℕ) × IsSameReplyOver holds label proof names max text status
+    × TakesWhole contents text old new)
+    → (text : List ℕ) × AnswersWords holds texts max words text status
+    × TakesWhole contents text old new
+answers_same contents holds texts max words label proof names status old new asked
+    (text, reply, taken) = (text, inr (inr (inr (inr (label, proof, names, asked, reply)))), taken)
 
 -- Where it ended without a reply, the words have no answer.
-pub stops_same : {O T : Type 0} (contents : O → Option (List ℕ)) (holds : List ℕ → KnownFile) (may_fail : List ℕ → Type 0)
-    (texts : Texts) (max : ℕ) (words : List (List ℕ)) (label proof : List ℕ) (names : List (List ℕ)) (r : Result T Stop) (old new : Counted O) → AsksSame words label proof names
-    → IfErr r (λ stop. StopsSame contents holds may_fail label proof names max stop old new)
-    → IfErr r (λ stop. Stops contents holds may_fail texts max words stop old new)
-stops_same contents holds may_fail texts max words label proof names (Ok v) old new asked h = tt
-stops_same contents holds may_fail texts max words label proof names (Err (Usage text)) old new asked h = absurd h
-stops_same contents holds may_fail texts max words label proof names (Err NotText) old new asked h = absurd h
-stops_same contents holds may_fail texts max words label proof names (Err (CannotRead name)) old new asked h = (inr (label, proof, names, asked, h.0), h.1)
-stops_same contents holds may_fail texts max words label proof names (Err CannotWrite) old new asked (text, status, reply, broke) =
-    (text, status, inr (inr (inr (inr (label, proof, names, asked, reply)))), broke)
-stops_same contents holds may_fail texts max words label proof names (Err Memory) old new asked h = h
+pub stops_same : {O : Type 0} (contents : O → Option (List ℕ)) (holds : List ℕ → KnownFile)
+    (may_fail : List ℕ → Type 0) (texts : Texts) (max : ℕ) (words : List (List ℕ))
+    (asked_label proof : List ℕ) (names : List (List ℕ)) (label : Option (Bor (List ℕ)))
+    (ended told : Stop) (old new : Counted O) → AsksSame words asked_label proof names
+    → option_map (λ l. l.now) label ≡ Some asked_label → AddsLabel label ended told
+    → StopsSame contents holds may_fail asked_label proof names max ended old new
+    → Stops contents holds may_fail texts max words told old new
+stops_same contents holds may_fail texts max words asked_label proof names label (Usage text) told
+    old new asked given adds h = absurd h
+stops_same contents holds may_fail texts max words asked_label proof names label NotText told
+    old new asked given adds h = absurd h
+stops_same contents holds may_fail texts max words asked_label proof names label
+    (CannotRead name before) told old new asked given adds h =
+    let Stopped : Stop → Type 0 = λ s. Stops contents holds may_fail texts max words s old new in
+    subst Stopped (sym adds) (inr (asked_label, proof, names, asked, h.0, given), h.1)
+stops_same contents holds may_fail texts max words asked_label proof names label CannotWrite told
+    old new asked given adds (text, status, reply, broke) =
+    let Stopped : Stop → Type 0 = λ s. Stops contents holds may_fail texts max words s old new in
+    subst Stopped (sym adds)
+    (text, status, inr (inr (inr (inr (asked_label, proof, names, asked, reply)))), broke)
+stops_same contents holds may_fail texts max words asked_label proof names label Memory told
+    old new asked given adds h =
+    let Stopped : Stop → Type 0 = λ s. Stops contents holds may_fail texts max words s old new in
+    subst Stopped (sym adds) h
 
 -- A comparison ends as the command over the files does, once the proof is read.
 pub same_replies : {O E : Type 0} (contents : O → Option (List ℕ)) (holds : List ℕ → KnownFile) (max : ℕ) (label proof : List ℕ) (names : List (List ℕ)) (command : Command)
@@ -87,7 +152,7 @@ pub same_stops : {O T : Type 0} (contents : O → Option (List ℕ)) (holds : Li
 same_stops contents holds may_fail max label proof names command given (Ok v) old new read asks h = tt
 same_stops contents holds may_fail max label proof names command given (Err (Usage text)) old new read asks h = absurd h
 same_stops contents holds may_fail max label proof names command given (Err NotText) old new read asks h = absurd h
-same_stops contents holds may_fail max label proof names command given (Err (CannotRead name)) old new read asks h = (inr (given, read, h.0), h.1)
+same_stops contents holds may_fail max label proof names command given (Err (CannotRead name told)) old new read asks h = (inr (given, read, h.0), h.1)
 same_stops contents holds may_fail max label proof names command given (Err CannotWrite) old new read asks (text, status, reply, broke) =
     (text, status, inr (given, read, command, asks, reply), broke)
 same_stops contents holds may_fail max label proof names command given (Err Memory) old new read asks h = h

@@ -1,4 +1,10 @@
 -- From what `clap` ensures of a parse to what the words ask for.
+use Rattle.std.proofs.Common.{Bool, Bor, false, ℕ, ◌<◌, length, map, nat_lt, cond, codes}
+use Rattle.std.specs.List.{position, position_or_len}
+use Rattle.mm_text.proofs.NameLaws.{position-names}
+use borrow.Author.Tests.{ltb-true}
+use Rattle.std.specs.Global.{Vec}
+use Rattle.std.specs.Str.{bytes_eq}
 use Rattle.std.proofs.Common.{◌≡◌, ◌≢◌, List, [], Option, Some, None, option_map, Result, Ok, Err, IfOk, IfErr, IsSome, IfSome, inl, inr, refl, ap, subst, sym, ◌∙◌, true, unwrap_or}
 use Rattle.clap.specs.Words.{App, HasKind, HasMatchesOf, IsAmong, Row, Text, all_of, fault_of, first_of, first_value, is_simple, is_simple_and_free, kind_of, matched_of, raw_values, rows_of, subcommand_name_of, subcommand_of, subcommand_rows_of}
 use Rattle.clap.specs.declared.error.Error.{Error}
@@ -9,7 +15,14 @@ use Rattle.clap.specs.declared.parser.matches.ArgMatches.TheViews.{out-ArgMatche
 use Rattle.clap.specs.declared.parser.matches.Found.{Found}
 use Rattle.clap.proofs.OnLiterals.{clap_on_literals}
 use Rattle.clap.proofs.WalkLemmas.{first_value-rows, raw_values-rows}
-use Rattle.mm_tool.specs.Words.{AreMatchesOf, Asks, Commands, IsAccepted, IsFaultOfKind, IsOfKind, IsWordFault, command_line}
+use Rattle.mm_check.specs.declared.command.Command.{Command}
+use Rattle.mm_check.specs.declared.command.Command.TheVariants.{All, Axioms, Check, Normal}
+use Rattle.mm_check.specs.declared.command.Command.TheVariants.{Packed, Same, Show}
+use Rattle.mm_check.specs.declared.form.Form.{Form}
+use Rattle.mm_tool.specs.Ending.{AsksNamed}
+use Rattle.mm_tool.specs.Words.{AsksForm, AsksRun, IsAllFault, IsGiven, name_of_form}
+use Rattle.mm_tool.specs.Words.{number_among}
+use Rattle.mm_tool.specs.Words.{AreMatchesOf, Asks, Commands, IsAccepted, IsFaultOfKind, IsOfKind, IsWordFault, command_line, first_command}
 use Rattle.mm_tool.specs.declared.words.Request.{Request}
 use Rattle.mm_tool.specs.declared.words.Request.TheVariants.{Help, Version, Explain, Run, Compare}
 use Rattle.mm_tool.specs.declared.stop.Stop.{Stop}
@@ -53,15 +66,21 @@ among_faults words e kind (inr among) is other =
     subst Among is among
 
 -- Help or the version is the request only where the words ask for it.
-pub request_asked : (app : App) (words : List Text) (e : Error) (r : Result Request Stop) → app ≡ command_line
+pub request_asked : (app : App) (words : List Text) (topic : Option Text) (e : Error)
+    (r : Result Request Stop) → app ≡ command_line → topic ≡ first_command words
     → (is_simple_and_free app ≡ true → HasKind (fault_of app words) e)
-    → IfOk r (IsOfKind (kind_of e)) → IfOk r (Asks words)
-request_asked app words e (Ok Help) is kinds h = inl (among_faults words e DisplayHelp (kind_among app words e is kinds) h (λ same. absurd (cc)))
-request_asked app words e (Ok Version) is kinds h = among_faults words e DisplayVersion (kind_among app words e is kinds) h (λ same. absurd (cc))
-request_asked app words e (Ok (Explain asked)) is kinds h = absurd h
-request_asked app words e (Ok (Run command names)) is kinds h = absurd h
-request_asked app words e (Ok (Compare asked)) is kinds h = absurd h
-request_asked app words e (Err fault) is kinds h = h
+    → IfOk r (IsOfKind (kind_of e) topic) → IfOk r (Asks words)
+request_asked app words topic e (Ok (Help asked)) is first kinds h = inl (
+  among_faults words e DisplayHelp (kind_among app words e is kinds) h.0 (λ same. absurd (cc)),
+  sym first ∙ h.1,
+)
+request_asked app words topic e (Ok Version) is first kinds h =
+    inl (among_faults words e DisplayVersion (kind_among app words e is kinds) h
+    (λ same. absurd (cc)))
+request_asked app words topic e (Ok (Explain asked)) is first kinds h = absurd h
+request_asked app words topic e (Ok (Run command names)) is first kinds h = absurd h
+request_asked app words topic e (Ok (Compare asked)) is first kinds h = absurd h
+request_asked app words topic e (Err fault) is first kinds h = h
 
 -- Else the words are refused, or memory was wanting.
 pub fault_met : (app : App) (words : List Text) (e : Error) (r : Result Request Stop) → app ≡ command_line
@@ -71,7 +90,7 @@ fault_met app words e (Ok request) is kinds h = h
 fault_met app words e (Err (Usage text)) is kinds h =
     inl (kind_of e, among_faults words e (kind_of e) (kind_among app words e is kinds) refl h.0, h.1, h.2)
 fault_met app words e (Err NotText) is kinds h = absurd h
-fault_met app words e (Err (CannotRead name)) is kinds h = absurd h
+fault_met app words e (Err (CannotRead name label)) is kinds h = absurd h
 fault_met app words e (Err CannotWrite) is kinds h = absurd h
 fault_met app words e (Err Memory) is kinds h = tt
 
@@ -142,3 +161,112 @@ pub rows_there : {M X : Type 0} (rows_in : M → X) (o : Option M) (met : Option
     → (rows : X) × (met ≡ Some rows)
 rows_there rows_in None met there h = absurd (cc)
 rows_there rows_in (Some m) met there h = (rows_in m, h)
+
+-- A choice that found something found it where its test passed.
+chosen : (b : Bool) (i number : ℕ) → cond b (Some i) None ≡ Some number
+    → (b ≡ true) × (i ≡ number)
+chosen true i number e = (refl, cc)
+chosen false i number e = absurd (cc)
+
+-- A number that is found among names is that of one of them.
+pub number_found : (names : List Text) (name : Text) (number : ℕ)
+    → number_among names name ≡ Some number → number < length names
+number_found names name number found =
+    let place : ℕ = position_or_len (λ other. bytes_eq other name) names in
+    let (before, is) = chosen (nat_lt place (length names)) place number found in
+    let Below : ℕ → Type 0 = λ n. n < length names in
+    subst Below is (ltb-true place (length names) before)
+
+-- The file about which the words ask is one of those that they name.
+pub named_by_words : (words : List Text) (command : Command) (names : List Text)
+    → AsksRun words command names → AsksNamed command names
+named_by_words words (Check profile) names asked = tt
+named_by_words words (Axioms label) names asked = tt
+named_by_words words (Show label) names asked = tt
+named_by_words words (Normal label whole) names asked = tt
+named_by_words words (Packed label whole) names asked = tt
+named_by_words words (Same label text) names asked = tt
+named_by_words words (All form number) names (rows, commands, file, all, found, same) =
+    number_found names (unwrap_or (first_of (codes "LABEL") rows) []) number found
+
+-- The place of a name among names is that among their texts.
+pub number_named : (items given : List (Bor Text)) (name : Text) (found : Option ℕ)
+    → given ≡ items → found ≡ position (λ other. bytes_eq other.now name) given
+    → number_among (map (λ n. n.now) items) name ≡ found
+number_named items given name found same is =
+    sym (position-names (λ (n : Bor Text). n.now) (λ other. bytes_eq other name) items)
+    ∙ ap (position (λ (n : Bor Text). bytes_eq n.now name)) (sym same) ∙ sym is
+
+-- The words ask for all proofs of a file by the request for them.
+pub all_asked : (rows : List Row) (form : Form) (whole given : Bool) (name : Text)
+    (names : Vec (Bor Text)) (r : Result Request Stop)
+    → IsGiven (codes "file") rows whole → IsGiven (codes "all") rows given → given ≡ true
+    → name ≡ unwrap_or (first_of (codes "LABEL") rows) []
+    → map (λ n. n.now) names.items ≡ unwrap_or (all_of (codes "FILES") rows) []
+    → IfOk r (λ request. (number : ℕ) × (request ≡ Run (All form number) names) × (whole ≡ false)
+    × (number_among (map (λ n. n.now) names.items) name ≡ Some number))
+    → IfOk r (λ request. (words : List Text) → Commands words (name_of_form form) rows
+    → Asks words request)
+all_asked rows form whole given name names (Ok request) file all is_given word files
+    (number, is, alone, found) = λ words commands.
+    let Whole : Bool → Type 0 = IsGiven (codes "file") rows in
+    let Given : Bool → Type 0 = IsGiven (codes "all") rows in
+    let Found : Text → Type 0 =
+    λ t. number_among (map (λ n. n.now) names.items) t ≡ Some number in
+    subst (Asks words) (sym is) (
+      rows,
+      commands,
+      subst Whole alone file,
+      subst Given is_given all,
+      subst Found word found,
+      sym files,
+    )
+all_asked rows form whole given name names (Err stop) file all is_given word files h = tt
+
+-- Where there is no such request, the words are refused.
+pub all_refused : (rows : List Row) (form : Form) (whole given : Bool) (name : Text)
+    (names : List Text) (r : Result Request Stop)
+    → IsGiven (codes "file") rows whole → IsGiven (codes "all") rows given → given ≡ true
+    → name ≡ unwrap_or (first_of (codes "LABEL") rows) []
+    → names ≡ unwrap_or (all_of (codes "FILES") rows) []
+    → IfErr r (IsAllFault whole name names)
+    → IfErr r (λ stop. (words : List Text) → Commands words (name_of_form form) rows
+    → IsWordFault words stop)
+all_refused rows form whole given name names (Ok request) file all is_given word files h = tt
+all_refused rows form whole given name names (Err (Usage text)) file all is_given word files
+    (inl both) = λ words commands.
+    let Whole : Bool → Type 0 = IsGiven (codes "file") rows in
+    let Given : Bool → Type 0 = IsGiven (codes "all") rows in
+    inr (inr (form, rows, commands, subst Given is_given all, inl (subst Whole both file)))
+all_refused rows form whole given name names (Err (Usage text)) file all is_given word files
+    (inr none) = λ words commands.
+    let Given : Bool → Type 0 = IsGiven (codes "all") rows in
+    let Amiss : List Text → Type 0 = λ ns. number_among ns name ≡ None in
+    let Unnamed : Text → Type 0 =
+    λ t. number_among (unwrap_or (all_of (codes "FILES") rows) []) t ≡ None in
+    inr (inr (
+      form,
+      rows,
+      commands,
+      subst Given is_given all,
+      inr (subst Unnamed word (subst Amiss files none)),
+    ))
+all_refused rows form whole given name names (Err NotText) file all is_given word files h =
+    absurd h
+all_refused rows form whole given name names (Err (CannotRead read label)) file all is_given word
+    files h = absurd h
+all_refused rows form whole given name names (Err CannotWrite) file all is_given word files h =
+    absurd h
+all_refused rows form whole given name names (Err Memory) file all is_given word files h =
+    λ words commands. tt
+
+-- They ask for the proof of a theorem in a form, or for its file, where `--all` isn't given.
+pub form_asked : (words : List Text) (form : Form) (rows : List Row) (whole given : Bool)
+    (label : Text) (names : List Text) → Commands words (name_of_form form) rows
+    → IsGiven (codes "file") rows whole → IsGiven (codes "all") rows given → given ≡ false
+    → label ≡ unwrap_or (first_of (codes "LABEL") rows) []
+    → names ≡ unwrap_or (all_of (codes "FILES") rows) []
+    → AsksForm (name_of_form form) words label whole names
+form_asked words form rows whole given label names commands file all not_given word files =
+    let Given : Bool → Type 0 = IsGiven (codes "all") rows in
+    (rows, commands, sym word, file, subst Given not_given all, sym files)

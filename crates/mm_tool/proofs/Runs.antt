@@ -1,5 +1,15 @@
 -- How a command over files ends, from how its parts end.
 use Rattle.std.proofs.Common.{◌≡◌, ℕ, List, codes, Option, Result, Ok, Err, IfErr, IsErrAnd, IsErrOf, OnErr, ◌+◌, ◌≤◌, inl, inr, refl, sym, subst}
+use Rattle.std.proofs.Common.{◌<◌, length, map, ap, ◌∙◌}
+use Rattle.std.proofs.lemmas.List.{length-map}
+use Rattle.std.specs.List.{AllZip}
+use Rattle.mm_text.proofs.Lists.{zip_length}
+use Rattle.mm_check.specs.Reply.{AsksHanded}
+use Rattle.mm_check.specs.declared.command.Command.TheVariants.{All, Axioms, Check, Normal}
+use Rattle.mm_check.specs.declared.command.Command.TheVariants.{Packed, Same, Show}
+use Rattle.mm_tool.specs.ReadFiles.{IsReadAs}
+use Rattle.mm_tool.specs.Ending.{AsksNamed}
+use Rattle.mm_tool.specs.declared.files.Comments.{Comments}
 use Rattle.mm_text.specs.declared.counted.Counted.{Counted}
 use Rattle.mm_text.specs.Device.{faults_of, inner_of}
 use Rattle.mm_text.specs.Files.{PlainFile, total_bytes}
@@ -53,3 +63,25 @@ pub stops_at_run : {O T : Type 0} (contents : O → Option (List ℕ)) (holds : 
 stops_at_run contents holds may_fail command names max r fault given files old new is same held within device memory counted uncounted =
     error_keeps r (stop_of fault) (λ stop. StopsRun contents holds may_fail command names max stop old new) is
     (stops_run contents holds may_fail command names max fault files old new held within (λ e. let (text, status, reply, beginning) = device e in (text, status, same text status reply, beginning)) memory counted uncounted)
+
+-- The file about which a command asks is one of those that were read, of which there are as many as
+-- names.
+pub asks_handed : (command : Command) (names : List (List ℕ)) (files : List PlainFile)
+    → length files ≡ length names → AsksNamed command names → AsksHanded files command
+asks_handed (Check profile) names files same named = tt
+asks_handed (Axioms label) names files same named = tt
+asks_handed (Show label) names files same named = tt
+asks_handed (Normal label whole) names files same named = tt
+asks_handed (Packed label whole) names files same named = tt
+asks_handed (Same label text) names files same named = tt
+asks_handed (All form number) names files same named =
+    let Below : ℕ → Type 0 = λ n. number < n in
+    subst Below (sym same) named
+
+-- Of the files that were read there are as many as names.
+pub as_many : (comments : Comments) (names : List (List ℕ)) (wholes files : List PlainFile)
+    → map (λ f. f.name) wholes ≡ names → AllZip (IsReadAs comments) wholes files
+    → length files ≡ length names
+as_many comments names wholes files named reads =
+    sym (zip_length (IsReadAs comments) wholes files reads)
+    ∙ sym (length-map wholes (λ (f : PlainFile). f.name)) ∙ ap length named

@@ -1,36 +1,16 @@
 -- What is written in several parts, and what is found in a list.
-use Rattle.std.proofs.Common.{◌≡◌, ◌≢◌, false, ℕ, ◌+◌, ◌<◌, List, [], ◌∷◌, ◌++◌, length, length-append, take, get_or, slice_get, map, Bor, Option, Some, inl, inr, sym, ap, ◌∙◌, subst, arith}
+use Rattle.std.proofs.Common.{◌≡◌, ◌≢◌, false, ℕ, ◌+◌, ◌<◌, List, [], ◌∷◌, length, take, get_or, slice_get, map, Bor, Option, Some, sym, subst}
 use Rattle.std.proofs.lemmas.Slice.Eq.{bytes_eq-Decides}
 use Rattle.std.proofs.lemmas.Bool.Decides.{not_from_Decides}
 use Rattle.std.specs.Str.{bytes_eq}
-use Rattle.std.proofs.lemmas.List.{take-append-le, take_more}
-use Rattle.std.proofs.Math.Seq.{take-append-add}
-use Rattle.std.proofs.KnownBytes.{Appends-trans}
+use Rattle.std.proofs.lemmas.List.{take_more}
 use Rattle.std.specs.List.{AllByRecursion}
-use Rattle.std.specs.Io.KnownBytes.{Appends}
 use Rattle.mm_text.proofs.Lists.{all_push}
-use Rattle.mm_text.specs.Device.{inner_of}
 use Rattle.mm_text.specs.declared.counted.Counted.{Counted}
-use Rattle.mm_tool.specs.Ending.{BreaksOff, TakesWhole, TellsLine, IsUnknownCode, error_line}
+use Rattle.mm_tool.specs.Ending.{TellsLine, IsUnknownCode, error_line}
 use Rattle.mm_tool.specs.declared.rule_text.RuleText.{RuleText}
 use Rattle.mm_tool.specs.declared.texts.Texts.{Texts}
 use Rattle.mm_tool.specs.declared.stop.Stop.{Stop}
-
--- Where the second part was told after the first, both were.
-pub tells_both : {E : Type 0} (contents : E → Option (List ℕ)) (first second : List ℕ) (a b d : Counted E)
-    → TakesWhole contents first a b → TellsLine contents second b d → TellsLine contents (first ++ second) a d
-tells_both contents first second a b d one (inl other) =
-    inl (Appends-trans _ _ _ first second one.0 other.0, other.1 ∙ one.1)
-tells_both contents first second a b d one (inr ((k, less, put), counted)) =
-    let Put : List ℕ → Type 0 = λ text. Appends (contents (inner_of a)) (contents (inner_of d)) text in
-    inr (
-      (
-        length first + k,
-        omega (arith, length-append first second),
-        subst Put (sym (take-append-add first second k)) (Appends-trans _ _ _ first (take k second) one.0 put),
-      ),
-      counted ∙ ap (λ n. n + 1) one.1,
-    )
 
 -- The line that was told is that of the stop.
 pub tells_stop : {E : Type 0} (contents : E → Option (List ℕ)) (stop this : Stop) (a b : Counted E) → stop ≡ this

@@ -1,8 +1,10 @@
 -- How the program ends: with an answer on standard output and its status, or with a line on
 -- standard error.
 use Rattle.std.specs.Prelude.{◌≡◌, ◌≢◌, ℕ, ◌+◌, ◌<◌, ◌≤◌, length, List, [], ◌∷◌, ◌++◌, Option, Contains, codes}
-use Rattle.std.specs.Prelude.{string_bytes, ◌⊎◌}
-use Rattle.std.specs.List.{AllByRecursion}
+use Rattle.std.specs.Prelude.{string_bytes, ◌⊎◌, Bool, Some, None, nat_eq, option_map, if◌then◌else◌}
+use Rattle.std.specs.Borrow.{Bor}
+use Rattle.std.specs.List.{AllByRecursion, ends_with}
+use Rattle.std.specs.Str.{bytes_eq}
 use Rattle.std.specs.Io.KnownBytes.{Appends}
 use Rattle.mm_text.specs.Files.{PlainFile, total_bytes}
 use Rattle.mm_text.specs.Device.{faults_of, inner_of, AppendsBeginning}
@@ -10,7 +12,8 @@ use Rattle.mm_text.specs.declared.counted.Counted.{Counted}
 use Rattle.mm_check.specs.Reply.{IsReplyTo}
 use Rattle.mm_check.specs.Status.{number_of}
 use Rattle.mm_check.specs.declared.command.Command.{Command}
-use Rattle.mm_check.specs.declared.command.Command.TheVariants.{Same}
+use Rattle.mm_check.specs.declared.command.Command.TheVariants.{All, Axioms, Check, Normal}
+use Rattle.mm_check.specs.declared.command.Command.TheVariants.{Packed, Same, Show}
 use Rattle.mm_check.specs.declared.command.RunFault.{RunFault}
 use Rattle.mm_check.specs.declared.command.RunFault.TheVariants as run
 use Rattle.mm_check.specs.declared.status.Status.{Status}
@@ -21,6 +24,7 @@ use Rattle.mm_tool.specs.Words.{AsksHelp, AsksVersion, AsksExplain, AsksRun, Ask
 use Rattle.mm_tool.specs.Words.{AreRefusedWords}
 use Rattle.mm_tool.specs.declared.folder.ArgumentFault.{ArgumentFault}
 use Rattle.mm_tool.specs.declared.folder.ArgumentFault.TheVariants as argument
+use Rattle.mm_tool.specs.declared.pages.Page.{Page}
 use Rattle.mm_tool.specs.declared.rule_text.RuleText.{RuleText}
 use Rattle.mm_tool.specs.declared.texts.Texts.{Texts}
 use Rattle.mm_tool.specs.declared.stop.Stop.{Stop}
@@ -84,6 +88,25 @@ IsExplanation texts (code ∷ others) text =
     (rule : RuleText) × Contains texts.rules.now rule × (rule.code.now ≡ code)
     × (text ≡ rule.text.now)
 
+-- This is the page of the command with the asked name; where none is asked for, the whole help.
+abbrev pub IsHelp : Texts → (topic : Option Text) → List ℕ → Type 0
+IsHelp texts None text = text ≡ texts.help.now
+IsHelp texts (Some name) text =
+    (page : Page) × Contains texts.pages.now page × (page.command.now ≡ name)
+    × (text ≡ page.text.now)
+
+-- No command has the asked name.
+abbrev pub IsUnknownCommand : Texts → (topic : Option Text) → Type 0
+IsUnknownCommand texts None = ⊥
+IsUnknownCommand texts (Some name) =
+    AllByRecursion (λ page. page.command.now ≢ name) texts.pages.now
+
+-- why there is no help
+abbrev pub IsHelpFault : Texts → (topic : Option Text) → Stop → Type 0
+IsHelpFault texts topic (Usage text) = IsUnknownCommand texts topic
+IsHelpFault texts topic Memory = Unit {0}
+IsHelpFault texts topic other = ⊥
+
 -- No rule has the asked code.
 abbrev pub IsUnknownCode : Texts → List Text → Type 0
 IsUnknownCode texts [] = ⊥
@@ -98,7 +121,7 @@ IsExplanationFault texts asked other = ⊥
 -- This text, with this status, answers the words.
 abbrev pub AnswersWords : (List ℕ → KnownFile) → Texts → ℕ → List Text → List ℕ → ℕ → Type 0
 AnswersWords holds texts max words text status =
-    (AsksHelp words × (text ≡ texts.help.now) × (status ≡ 0))
+    ((topic : Option Text) × AsksHelp words topic × IsHelp texts topic text × (status ≡ 0))
     ⊎ ((AsksVersion words × (text ≡ texts.version.now) × (status ≡ 0))
     ⊎ (((asked : List Text) × AsksExplain words asked × IsExplanation texts asked text
     × (status ≡ 0))
@@ -123,24 +146,66 @@ unread_stop argument.Memory = Memory
 abbrev pub stop_status : Stop → Status
 stop_status (Usage text) = status.Usage
 stop_status NotText = status.Usage
-stop_status (CannotRead name) = status.Stopped
+stop_status (CannotRead name label) = status.Stopped
 stop_status CannotWrite = status.Stopped
 stop_status Memory = status.Stopped
+
+-- where the file `-` can't be read, how standard input is named
+abbrev pub input_line : (name : Text) → List ℕ
+input_line name =
+    if bytes_eq name (codes "-") then codes "mm: the name of standard input is /dev/stdin\n" else []
+
+-- a word looks like a file's name: it ends in `.mm`
+abbrev pub looks_like_file : Text → Bool
+looks_like_file word = ends_with nat_eq word (codes ".mm")
+
+-- where the word that was taken for the label looks like a file's name, which word was taken for
+-- what
+abbrev pub order_line : (name : Text) → (label : Option Text) → List ℕ
+order_line name None = []
+order_line name (Some label) = if looks_like_file label
+    then codes "mm: " ++ label ++ codes " was taken for the label, and "
+    ++ name ++ codes " for a file: the label comes first\n" else []
+
+-- what is said where the file with this name can't be read, and this word was taken for the label
+abbrev pub unread_lines : (name : Text) → (label : Option Text) → List ℕ
+unread_lines name label =
+    codes "mm: cannot read " ++ name ++ codes "\n" ++ input_line name ++ order_line name label
 
 -- what is said of it on standard error
 abbrev pub error_line : Stop → List ℕ
 error_line (Usage text) = string_bytes text
 error_line NotText = codes "mm: a word is not UTF-8\n"
-error_line (CannotRead name) = codes "mm: cannot read " ++ (name.now ++ codes "\n")
+error_line (CannotRead name label) = unread_lines name.now (option_map (λ l. l.now) label)
 error_line CannotWrite = codes "mm: cannot write\n"
 error_line Memory = codes "mm: out of memory\n"
+
+-- the label that a command asks about
+abbrev pub label_of : Command → Option Text
+label_of (Check profile) = None
+label_of (Axioms label) = Some label.now
+label_of (Show label) = Some label.now
+label_of (Normal label whole) = Some label.now
+label_of (Packed label whole) = Some label.now
+label_of (Same label text) = Some label.now
+label_of (All form number) = None
+
+-- the file about which a command asks is one of those with these names
+abbrev pub AsksNamed : Command → List Text → Type 0
+AsksNamed (All form number) names = number < length names
+AsksNamed other names = Unit {0}
+
+-- The end is the same; where a file can't be read, the word that was taken for the label is told too.
+abbrev pub AddsLabel : (label : Option (Bor Text)) → Stop → Stop → Type 0
+AddsLabel label (CannotRead name before) stop = stop ≡ CannotRead name label
+AddsLabel label other stop = stop ≡ other
 
 -- The command over the files with these names ended so, and that is what standard output shows of
 -- it.
 abbrev pub StopsRun : {O : Type 0} → (O → Option (List ℕ)) → (List ℕ → KnownFile)
     → (List ℕ → Type 0) → Command → List Text → ℕ
     → Stop → Counted O → Counted O → Type 0
-StopsRun contents holds may_fail command names max (CannotRead name) old new =
+StopsRun contents holds may_fail command names max (CannotRead name label) old new =
     IsUnreadable holds may_fail names max name.now × IsUntouched old new
 StopsRun contents holds may_fail command names max CannotWrite old new =
     (text : List ℕ) × (status : ℕ) × IsReplyOver holds command names max text status
@@ -161,7 +226,7 @@ IsProofUnreadable holds may_fail proof names max name =
 abbrev pub StopsSame : {O : Type 0} → (O → Option (List ℕ)) → (List ℕ → KnownFile)
     → (List ℕ → Type 0) → (label proof : Text) → List Text → ℕ
     → Stop → Counted O → Counted O → Type 0
-StopsSame contents holds may_fail label proof names max (CannotRead name) old new =
+StopsSame contents holds may_fail label proof names max (CannotRead name told) old new =
     IsProofUnreadable holds may_fail proof names max name.now × IsUntouched old new
 StopsSame contents holds may_fail label proof names max CannotWrite old new =
     (text : List ℕ) × (status : ℕ) × IsSameReplyOver holds label proof names max text status
@@ -175,14 +240,17 @@ abbrev pub Stops : {O : Type 0} → (O → Option (List ℕ)) → (List ℕ → 
     → Stop → Counted O → Counted O → Type 0
 Stops contents holds may_fail texts max words (Usage text) old new =
     (AreRefusedWords words
-    ⊎ ((asked : List Text) × AsksExplain words asked × IsUnknownCode texts asked))
+    ⊎ (((asked : List Text) × AsksExplain words asked × IsUnknownCode texts asked)
+    ⊎ ((topic : Option Text) × AsksHelp words topic × IsUnknownCommand texts topic)))
     × IsUntouched old new
 Stops contents holds may_fail texts max words NotText old new = ⊥
-Stops contents holds may_fail texts max words (CannotRead name) old new =
+Stops contents holds may_fail texts max words (CannotRead name told) old new =
     (((command : Command) × (names : List Text) × AsksRun words command names
-    × IsUnreadable holds may_fail names max name.now)
+    × IsUnreadable holds may_fail names max name.now
+    × (option_map (λ l. l.now) told ≡ label_of command))
     ⊎ ((label proof : Text) × (names : List Text) × AsksSame words label proof names
-    × IsProofUnreadable holds may_fail proof names max name.now))
+    × IsProofUnreadable holds may_fail proof names max name.now
+    × (option_map (λ l. l.now) told ≡ Some label)))
     × IsUntouched old new
 Stops contents holds may_fail texts max words CannotWrite old new =
     (text : List ℕ) × (status : ℕ) × AnswersWords holds texts max words text status

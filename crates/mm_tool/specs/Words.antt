@@ -1,8 +1,12 @@
 -- What the words ask for, as `clap` defines which words a command line takes and what it finds in
 -- them. The first word is the program's name.
 use Rattle.std.specs.Prelude.{◌≡◌, ◌≢◌, ◌↔◌, List, [], map, Some, Bool, true, IsTrue, codes}
+use Rattle.std.specs.Prelude.{ℕ, Option, None, find, option_and_then, option_map, position, slice_get}
 use Rattle.std.specs.Prelude.{unwrap_or, false, ◌⊎◌}
+use Rattle.std.specs.Str.{bytes_eq}
 use Rattle.clap.specs.Lexer.{usize_max}
+use Rattle.clap.specs.Simple.{label_of}
+use Rattle.clap.specs.Walk.{answers_to}
 use Rattle.clap.specs.Words.{App, Row, Rule, Text, IsAmong, all_of, fault_of, first_of, new_app}
 use Rattle.clap.specs.Words.{new_rule, subcommand_of, subcommand_rows_of, with_rule}
 use Rattle.clap.specs.Words.{with_subcommand}
@@ -12,8 +16,10 @@ use Rattle.clap.specs.declared.error.kind.ErrorKind.{ErrorKind}
 use Rattle.clap.specs.declared.error.kind.ErrorKind.TheVariants.{DisplayHelp, DisplayVersion}
 use Rattle.clap.specs.declared.error.kind.ErrorKind.TheVariants.{OutOfMemory}
 use Rattle.mm_check.specs.declared.command.Command.{Command}
-use Rattle.mm_check.specs.declared.command.Command.TheVariants.{Check, Axioms, Show, Normal}
-use Rattle.mm_check.specs.declared.command.Command.TheVariants.{Packed, Same}
+use Rattle.mm_check.specs.declared.command.Command.TheVariants.{Check, Axioms, Show, Same, All}
+use Rattle.mm_check.specs.declared.command.Command.TheVariants as command
+use Rattle.mm_check.specs.declared.form.Form.{Form}
+use Rattle.mm_check.specs.declared.form.Form.TheVariants.{Normal, Packed}
 use Rattle.mm_proof.specs.declared.profile.Profile.{Profile}
 use Rattle.mm_proof.specs.declared.profile.Profile.TheVariants.{Strict, Lenient}
 use Rattle.mm_tool.specs.declared.words.Request.{Request}
@@ -37,17 +43,10 @@ label_rule = record (new_rule (codes "LABEL")) {
   action = Some Set;
 }
 
--- `--file`: a flag
-abbrev pub file_rule : Rule
-file_rule = record (new_rule (codes "file")) {
-  long = Some (codes "file");
-  action = Some SetTrue;
-}
-
--- `--strict`: a flag
-abbrev pub strict_rule : Rule
-strict_rule = record (new_rule (codes "strict")) {
-  long = Some (codes "strict");
+-- a flag: `--file`, `--all` or `--strict`
+abbrev pub flag_rule : Text → Rule
+flag_rule name = record (new_rule name) {
+  long = Some name;
   action = Some SetTrue;
 }
 
@@ -65,9 +64,16 @@ code_rule = record (new_rule (codes "CODE")) {
   action = Some Append;
 }
 
+-- `[COMMAND]`: at most one
+abbrev pub topic_rule : Rule
+topic_rule = record (new_rule (codes "COMMAND")) {
+  range = Some (record { start_inclusive = 0; end_inclusive = 1 });
+  action = Some Append;
+}
+
 -- `check [--strict] FILES..`
 abbrev pub check_line : App
-check_line = with_rule (with_rule (new_app (codes "check")) strict_rule) files_rule
+check_line = with_rule (with_rule (new_app (codes "check")) (flag_rule (codes "strict"))) files_rule
 
 -- a question about the theorem with a label: the command's name, and then `LABEL FILES..`
 abbrev pub question_line : Text → App
@@ -81,16 +87,18 @@ axioms_line = question_line (codes "axioms")
 abbrev pub show_line : App
 show_line = question_line (codes "show")
 
--- a question for the proof of the theorem with a label in a form: the command's name, and then
--- `[--file] LABEL FILES..`
+-- a question for the proof of the theorem with a label in a form, or for all proofs of a file: the
+-- command's name, and then `[--file] LABEL FILES..` or `--all NAME FILES..`, where NAME stands in the
+-- place of LABEL
 abbrev pub form_line : Text → App
-form_line name = with_rule (with_rule (with_rule (new_app name) file_rule) label_rule) files_rule
+form_line name =
+    with_rule (with_rule (question_line name) (flag_rule (codes "file"))) (flag_rule (codes "all"))
 
--- `normal [--file] LABEL FILES..`
+-- `normal [--file] LABEL FILES..`, `normal --all NAME FILES..`
 abbrev pub normal_line : App
 normal_line = form_line (codes "normal")
 
--- `packed [--file] LABEL FILES..`
+-- `packed [--file] LABEL FILES..`, `packed --all NAME FILES..`
 abbrev pub packed_line : App
 packed_line = form_line (codes "packed")
 
@@ -102,9 +110,13 @@ same_line = with_rule (with_rule (with_rule (new_app (codes "same")) label_rule)
 abbrev pub explain_line : App
 explain_line = with_rule (new_app (codes "explain")) code_rule
 
--- `help`
+-- `help [COMMAND]`
 abbrev pub help_line : App
-help_line = new_app (codes "help")
+help_line = with_rule (new_app (codes "help")) topic_rule
+
+-- `version`
+abbrev pub version_line : App
+version_line = new_app (codes "version")
 
 abbrev pub bare_line : App
 bare_line = record (new_app (codes "mm")) {
@@ -129,11 +141,27 @@ forms_line =
     (with_subcommand (with_subcommand database_line normal_line.top) packed_line.top) same_line.top
 
 -- `mm check [--strict] FILES..`, `mm axioms LABEL FILES..`, `mm show LABEL FILES..`,
--- `mm normal [--file] LABEL FILES..`, `mm packed [--file] LABEL FILES..`,
--- `mm same LABEL PROOF FILES..`, `mm explain [CODE]`, `mm help`, `mm --version`, and everywhere
--- `--help`
+-- `mm normal [--file] LABEL FILES..`, `mm packed [--file] LABEL FILES..`, both with
+-- `--all NAME FILES..` too,
+-- `mm same LABEL PROOF FILES..`, `mm explain [CODE]`, `mm help [COMMAND]`, `mm version`,
+-- `mm --version`, and everywhere `--help`
 abbrev pub command_line : App
-command_line = with_subcommand (with_subcommand forms_line explain_line.top) help_line.top
+command_line =
+    with_subcommand
+    (with_subcommand (with_subcommand forms_line explain_line.top) help_line.top) version_line.top
+
+-- the names of the commands, in their order
+abbrev pub command_names : List Text
+command_names = map (λ s. s.name) command_line.subs
+
+-- the command that a word names
+abbrev pub command_of : Text → Option Text
+command_of word =
+    option_map (λ s. s.name) (find (λ s. answers_to word (label_of s)) command_line.subs)
+
+-- the command that the first word after the program's name names
+abbrev pub first_command : List Text → Option Text
+first_command words = option_and_then command_of (slice_get words 1)
 
 -- The words are accepted.
 abbrev pub IsAccepted : List Text → Type 0
@@ -148,15 +176,19 @@ abbrev pub AreMatchesOf : List Text → ArgMatches → Type 0
 AreMatchesOf words matches =
     IsAccepted words × (subcommand_rows_of matches ≡ subcommand_of command_line words)
 
--- They ask for help.
-abbrev pub AsksHelp : List Text → Type 0
-AsksHelp words =
-    IsAmong DisplayHelp (fault_of command_line words)
-    ⊎ ((rows : List Row) × Commands words (codes "help") rows)
+-- They ask for help on the command with this name, or without one for the whole help: by `--help`
+-- after that command or before any, or by `help` and perhaps a name.
+abbrev pub AsksHelp : List Text → (topic : Option Text) → Type 0
+AsksHelp words topic =
+    (IsAmong DisplayHelp (fault_of command_line words) × (first_command words ≡ topic))
+    ⊎ ((rows : List Row) × Commands words (codes "help") rows
+    × (first_of (codes "COMMAND") rows ≡ topic))
 
 -- They ask for the version.
 abbrev pub AsksVersion : List Text → Type 0
-AsksVersion words = IsAmong DisplayVersion (fault_of command_line words)
+AsksVersion words =
+    IsAmong DisplayVersion (fault_of command_line words)
+    ⊎ ((rows : List Row) × Commands words (codes "version") rows)
 
 -- They ask to explain these codes: none, or one.
 abbrev pub AsksExplain : List Text → List Text → Type 0
@@ -197,8 +229,35 @@ abbrev pub AsksForm : Text → List Text → (label : Text) → (whole : Bool) �
 AsksForm name words label whole names =
     (rows : List Row) × Commands words name rows
     × (unwrap_or (first_of (codes "LABEL") rows) [] ≡ label)
-    × IsGiven (codes "file") rows whole
+    × IsGiven (codes "file") rows whole × IsGiven (codes "all") rows false
     × (unwrap_or (all_of (codes "FILES") rows) [] ≡ names)
+
+-- the command that asks for proofs in a form
+abbrev pub name_of_form : Form → Text
+name_of_form Normal = codes "normal"
+name_of_form Packed = codes "packed"
+
+-- the number of the first of the files with these names that has the name
+abbrev pub number_among : List Text → (name : Text) → Option ℕ
+number_among names name = position (λ other. bytes_eq other name) names
+
+-- They ask, by the command of the form and `--all`, for the file with this number among those with
+-- these names, with each proof in that form: the first one whose name is the word before them.
+abbrev pub AsksAll : List Text → Form → (number : ℕ) → List Text → Type 0
+AsksAll words form number names =
+    (rows : List Row) × Commands words (name_of_form form) rows
+    × IsGiven (codes "file") rows false × IsGiven (codes "all") rows true
+    × (number_among names (unwrap_or (first_of (codes "LABEL") rows) []) ≡ Some number)
+    × (unwrap_or (all_of (codes "FILES") rows) [] ≡ names)
+
+-- They ask so with `--all`, and with `--file` too, or for a file that is none of those with the names.
+abbrev pub AsksAllAmiss : List Text → Type 0
+AsksAllAmiss words =
+    (form : Form) × (rows : List Row) × Commands words (name_of_form form) rows
+    × IsGiven (codes "all") rows true
+    × (IsGiven (codes "file") rows true
+    ⊎ (number_among (unwrap_or (all_of (codes "FILES") rows) [])
+    (unwrap_or (first_of (codes "LABEL") rows) []) ≡ None))
 
 -- They ask whether the text in the file with this name is the same proof as that of the theorem with
 -- this label in the files with these names.
@@ -215,13 +274,16 @@ abbrev pub AsksRun : List Text → Command → List Text → Type 0
 AsksRun words (Check profile) names = AsksCheck words profile names
 AsksRun words (Axioms label) names = AsksQuestion (codes "axioms") words label.now names
 AsksRun words (Show label) names = AsksQuestion (codes "show") words label.now names
-AsksRun words (Normal label whole) names = AsksForm (codes "normal") words label.now whole names
-AsksRun words (Packed label whole) names = AsksForm (codes "packed") words label.now whole names
+AsksRun words (command.Normal label whole) names =
+    AsksForm (name_of_form Normal) words label.now whole names
+AsksRun words (command.Packed label whole) names =
+    AsksForm (name_of_form Packed) words label.now whole names
+AsksRun words (All form number) names = AsksAll words form number names
 AsksRun words (Same label text) names = ⊥
 
 -- They ask for what the request says.
 abbrev pub Asks : List Text → Request → Type 0
-Asks words Help = AsksHelp words
+Asks words (Help topic) = AsksHelp words (option_map (λ name. name.now) topic)
 Asks words Version = AsksVersion words
 Asks words (Explain asked) = AsksExplain words (map (λ code. code.now) asked.items)
 Asks words (Run command names) = AsksRun words command (map (λ name. name.now) names.items)
@@ -241,17 +303,23 @@ NamesNoForm words =
     → ¬ Commands words (codes "normal") rows × ¬ Commands words (codes "packed") rows
     × ¬ Commands words (codes "same") rows
 
+-- They name no command that asks for a text of the program itself.
+abbrev pub NamesNoText : List Text → Type 0
+NamesNoText words =
+    (rows : List Row)
+    → ¬ Commands words (codes "explain") rows × ¬ Commands words (codes "help") rows
+    × ¬ Commands words (codes "version") rows
+
 -- They are accepted, but name no command.
 abbrev pub NamesNoCommand : List Text → Type 0
-NamesNoCommand words = IsAccepted words × NamesNoForm words
+NamesNoCommand words = IsAccepted words × NamesNoForm words × NamesNoText words
     × ((rows : List Row)
     → ¬ Commands words (codes "check") rows × ¬ Commands words (codes "axioms") rows
-    × ¬ Commands words (codes "show") rows × ¬ Commands words (codes "explain") rows
-    × ¬ Commands words (codes "help") rows)
+    × ¬ Commands words (codes "show") rows)
 
 -- The words aren't understood.
 abbrev pub AreRefusedWords : List Text → Type 0
-AreRefusedWords words = IsFaulty words ⊎ NamesNoCommand words
+AreRefusedWords words = IsFaulty words ⊎ (NamesNoCommand words ⊎ AsksAllAmiss words)
 
 -- why there is no request
 abbrev pub IsWordFault : List Text → Stop → Type 0
@@ -259,12 +327,20 @@ IsWordFault words (stop.Usage text) = AreRefusedWords words
 IsWordFault words stop.Memory = Unit {0}
 IsWordFault words other = ⊥
 
--- a request that stands in place of matches is one for help or for the version, which clap's answer
--- says by its kind
-abbrev pub IsOfKind : ErrorKind → Request → Type 0
-IsOfKind kind Help = kind ≡ DisplayHelp
-IsOfKind kind Version = kind ≡ DisplayVersion
-IsOfKind kind other = ⊥
+-- why there is no request for all proofs of the file with this name among those with these names:
+-- the file of one proof, `whole`, is asked for too, or the name is none of these
+abbrev pub IsAllFault : (whole : Bool) → (name : Text) → List Text → Stop → Type 0
+IsAllFault whole name names (stop.Usage text) = (whole ≡ true) ⊎ (number_among names name ≡ None)
+IsAllFault whole name names stop.Memory = Unit {0}
+IsAllFault whole name names other = ⊥
+
+-- a request that stands in place of matches is one for help, on this topic, or for the version,
+-- which clap's answer says by its kind
+abbrev pub IsOfKind : ErrorKind → (topic : Option Text) → Request → Type 0
+IsOfKind kind topic (Help asked) =
+    (kind ≡ DisplayHelp) × (topic ≡ option_map (λ name. name.now) asked)
+IsOfKind kind topic Version = kind ≡ DisplayVersion
+IsOfKind kind topic other = ⊥
 
 -- what clap's answer is where it is no such request
 abbrev pub IsFaultOfKind : ErrorKind → Stop → Type 0

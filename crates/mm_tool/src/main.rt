@@ -4,15 +4,20 @@
 mod code_lines;
 mod files;
 mod folder;
+mod help;
+mod pages;
 mod rule_text;
 mod rules;
+mod say;
 mod serve;
 mod stop;
 mod texts;
+mod unread;
 mod words;
 
 use folder::Host;
 use mm_text::{Counted, Seed};
+use pages::program_pages;
 use std::process::ExitCode;
 use std::random::RandomSource;
 use texts::program_texts;
@@ -32,7 +37,8 @@ fn main(rt: HostRuntime) -> ExitCode {
     let mut err = Counted::new(rt.stderr());
     let host = Host(&rt);
     let seed = seed_from(&rt);
-    let texts = program_texts();
+    let pages = program_pages();
+    let texts = program_texts(&pages);
     ExitCode::from(serve::start(rt.alloc(), seed, &host, &host, &texts, &mut out, &mut err))
 }
 

@@ -8,7 +8,7 @@ ghost use Rattle.mm_text.specs.Files.{plain_file};
 ghost use Rattle.mm_check.specs.Status.{number_of};
 ghost use Rattle.mm_tool.specs.Ending.{BreaksOff, Ends, EndsUnread, AnswersWords, IsReplyOver};
 ghost use Rattle.mm_tool.specs.Ending.{IsExplanation, IsUnknownCode, IsExplanationFault, Stops};
-ghost use Rattle.mm_tool.specs.Ending.{IsSameReplyOver, StopsSame};
+ghost use Rattle.mm_tool.specs.Ending.{AsksNamed, IsSameReplyOver, StopsSame};
 ghost use Rattle.mm_tool.specs.Ending.{StopsRun, TakesWhole, TellsLine, error_line, stop_status};
 ghost use Rattle.mm_check.specs.declared.command.Command.TheVariants.{Check};
 ghost use Rattle.mm_proof.specs.declared.profile.Profile.{Profile};
@@ -18,9 +18,11 @@ ghost use Rattle.mm_tool.specs.declared.stop.Stop.TheVariants.{CannotWrite};
 
 use crate::files::{Comments, FileFault, ReadFile, read_file, read_files};
 use crate::folder::{Arguments, Folder};
+use crate::help::help_text;
 use crate::rule_text::RuleText;
 use crate::stop::Stop;
 use crate::texts::Texts;
+use crate::unread::{asked_label, labelled, tell_unread};
 use crate::words::{Comparison, Request, request_of};
 use mm_check::{Command, Status, alike_files_have_one_reply, run};
 use mm_text::{BYTE_LIMIT, Counted, File, Seed};
@@ -31,8 +33,6 @@ use strsim::damerau_levenshtein;
 const TOO_LONG: &[u8] = b"load F3\n";
 
 const TOO_LONG_PROOF: &[u8] = b"text F3 0\n";
-
-const CANNOT_READ: &[u8] = b"mm: cannot read ";
 
 const CANNOT_WRITE: &[u8] = b"mm: cannot write\n";
 
@@ -101,7 +101,8 @@ pub(crate) fn run_over<'a, F: Folder, O: Write>(
     max: usize,
     out: &mut Counted<O>,
 ) -> Result<Status, Stop<'a>>
-    requires { faults_of out.old < u64.MAX }
+    requires faults { faults_of out.old < u64.MAX }
+    requires named { AsksNamed command.now (map (λ name. name.now) names.now) }
     ensures replies { IfOk result (λ status. (text : _) × IsReplyOver (F.holds folder.now)
         command.now (map (λ name. name.now) names.now) max text (number_of status)
         × TakesWhole O.contents text out.old out.new) }
@@ -112,7 +113,7 @@ pub(crate) fn run_over<'a, F: Folder, O: Write>(
     alike_files_have_one_reply();
     let files = match read_files(alloc, folder, names, max, comments_for(command, max)) {
         Ok(files) => files,
-        Err(FileFault::CannotRead(name)) => return Err(Stop::CannotRead(name)),
+        Err(FileFault::CannotRead(name)) => return Err(Stop::CannotRead { name, label: None }),
         Err(FileFault::TooLong) => return reply(out, TOO_LONG, Status::Stopped),
         Err(FileFault::Memory) => return Err(Stop::Memory),
     };
@@ -144,7 +145,7 @@ fn compare_over<'a, F: Folder, O: Write>(
 {
     let file = match read_file(alloc, folder, asked.proof, max, Comments::Kept) {
         Ok(file) => file,
-        Err(FileFault::CannotRead(name)) => return Err(Stop::CannotRead(name)),
+        Err(FileFault::CannotRead(name)) => return Err(Stop::CannotRead { name, label: None }),
         Err(FileFault::TooLong) => return reply(out, TOO_LONG_PROOF, Status::Stopped),
         Err(FileFault::Memory) => return Err(Stop::Memory),
     };
@@ -234,16 +235,27 @@ fn answer<'a, F: Folder, O: Write>(
         stop out.old out.new) }
 {
     match request_of(alloc, words)? {
-        Request::Help => reply(out, texts.help.as_bytes(), Status::Done),
+        Request::Help(topic) => {
+            let text = help_text(alloc, texts, topic)?;
+            reply(out, text.as_bytes(), Status::Done)
+        }
         Request::Version => reply(out, texts.version.as_bytes(), Status::Done),
         Request::Explain(asked) => {
             let text = explanation(alloc, texts, &asked)?;
             reply(out, text.as_bytes(), Status::Done)
         }
         Request::Run { command, names } => {
-            run_over(alloc, seed, folder, &command, &names, BYTE_LIMIT, out)
+            match run_over(alloc, seed, folder, &command, &names, BYTE_LIMIT, out) {
+                Ok(status) => Ok(status),
+                Err(stop) => Err(labelled(stop, asked_label(&command))),
+            }
         }
-        Request::Compare(asked) => compare_over(alloc, seed, folder, &asked, BYTE_LIMIT, out),
+        Request::Compare(asked) => {
+            match compare_over(alloc, seed, folder, &asked, BYTE_LIMIT, out) {
+                Ok(status) => Ok(status),
+                Err(stop) => Err(labelled(stop, Some(asked.label.as_bytes()))),
+            }
+        }
     }
 }
 
@@ -253,26 +265,6 @@ fn say<E: Write>(err: &mut Counted<E>, line: &[u8])
     ensures { TellsLine E.contents line.now err.old err.new }
 {
     let _ = err.write_all(line);
-}
-
-/// Writes a line in two parts, the second only where the first was written.
-fn say_both<E: Write>(err: &mut Counted<E>, first: &[u8], second: &[u8])
-    requires { faults_of err.old < u64.MAX }
-    ensures { TellsLine E.contents (first.now ++ second.now) err.old err.new }
-{
-    if err.write_all(first).is_ok() {
-        say(err, second);
-    }
-}
-
-/// Writes a line in three parts, each only where those before it were written.
-fn say_all<E: Write>(err: &mut Counted<E>, first: &[u8], second: &[u8], third: &[u8])
-    requires { faults_of err.old < u64.MAX }
-    ensures { TellsLine E.contents (first.now ++ (second.now ++ third.now)) err.old err.new }
-{
-    if err.write_all(first).is_ok() {
-        say_both(err, second, third);
-    }
 }
 
 /// Says on standard error why there is no answer, and gives back the status that goes with that.
@@ -291,8 +283,8 @@ pub(crate) fn tell<E: Write>(stop: &Stop<'_>, err: &mut Counted<E>) -> Status
             say(err, NOT_TEXT);
             Status::Usage
         }
-        Stop::CannotRead(name) => {
-            say_all(err, CANNOT_READ, name.as_bytes(), b"\n");
+        Stop::CannotRead { name, label } => {
+            let _ = tell_unread(err, name.as_bytes(), *label);
             Status::Stopped
         }
         Stop::CannotWrite => {

@@ -19,9 +19,13 @@ pub(crate) enum Stop<'a> {
     /// A word isn't UTF-8.
     #[error("a word is not UTF-8")]
     NotText,
-    /// The file with this name can't be opened or read.
-    #[error("cannot read {0}")]
-    CannotRead(&'a str),
+    /// The file with this name can't be opened or read; with the word that was taken for the label,
+    /// where the command has one.
+    #[error("cannot read {name}")]
+    CannotRead {
+        name: &'a str,
+        label: Option<&'a [u8]>,
+    },
     /// Standard output didn't take the whole answer.
     #[error("cannot write")]
     CannotWrite,

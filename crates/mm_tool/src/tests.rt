@@ -4,6 +4,7 @@
 mod failing;
 mod folder;
 
+use crate::pages::Page;
 use crate::serve::{run_over, serve, start};
 use crate::texts::Texts;
 use failing::{FailingFolder, Wordless, failing_writer};
@@ -68,6 +69,10 @@ const ENTRIES: [Entry; 4] = [
 /// Texts that these tests don't ask for: what takes the program's own takes long to prove.
 const TEXTS: Texts<'static> = Texts {
     help: "help\n",
+    pages: &[Page {
+        command: "check",
+        text: "check\n",
+    }],
     version: "version\n",
     codes: "codes\n",
     rules: &[],
@@ -113,6 +118,9 @@ fn replies(rt: HostRuntime) {
             ["mm", "packed", "--file", "th", "first.mm"].as_slice(),
             PACKED,
         ),
+        (["mm", "help", "check"].as_slice(), b"check\n".as_slice()),
+        (["mm", "check", "--help"].as_slice(), b"check\n".as_slice()),
+        (["mm", "version"].as_slice(), b"version\n".as_slice()),
     ] {
         let (status, out, err) = outcome_of(rt.alloc(), words);
         assert_eq!(rt; status, 0, "at {words:?}");
@@ -214,8 +222,14 @@ fn stops_at_a_failed_write(rt: HostRuntime) {
 
 const UNREAD: &[u8] = b"mm: cannot read none.mm\n";
 
+/// What is said of `mm axioms first.mm -`.
+const MISPLACED: &[u8] = b"mm: cannot read -
+mm: the name of standard input is /dev/stdin
+mm: first.mm was taken for the label, and - for a file: the label comes first
+";
+
 /// Whether the program stops at the call of standard error that fails, and ends as it would else.
-fn stops_telling(alloc: Global, fails_at: usize) -> bool {
+fn stops_telling(alloc: Global, words: &[&str], line: &[u8], fails_at: usize) -> bool {
     let entries = ENTRIES;
     let mut out = Counted::new(Vec::new(alloc));
     let mut err = failing_writer(alloc, fails_at);
@@ -224,22 +238,30 @@ fn stops_telling(alloc: Global, fails_at: usize) -> bool {
         Seed::known(),
         &Shelf(&entries),
         &TEXTS,
-        &["mm", "check", "none.mm"],
+        words,
         &mut out,
         &mut err,
     );
     let err = err.into_inner();
     status == 4
         && err.calls == fails_at
-        && UNREAD.get(..fails_at.saturating_sub(1)) == Some(err.taken.as_slice())
+        && line.get(..fails_at.saturating_sub(1)) == Some(err.taken.as_slice())
         && out.into_inner().is_empty()
 }
 
-// The line is written in three parts.
+// The lines are written in parts.
 #[test]
 fn stops_at_a_failed_line(rt: HostRuntime) {
-    for fails_at in 1..=UNREAD.len() {
-        assert!(rt; stops_telling(rt.alloc(), fails_at), "at {fails_at}");
+    for (words, line) in [
+        (["mm", "check", "none.mm"].as_slice(), UNREAD),
+        (["mm", "axioms", "first.mm", "-"].as_slice(), MISPLACED),
+    ] {
+        for fails_at in 1..=line.len() {
+            assert!(rt;
+                stops_telling(rt.alloc(), words, line, fails_at),
+                "at {fails_at}"
+            );
+        }
     }
 }
 

@@ -1,6 +1,9 @@
 //! The texts that the program prints as they stand.
 
+ghost use Rattle.std.specs.Prelude.{◌≡◌};
+
 use crate::code_lines::CODES;
+use crate::pages::Page;
 use crate::rule_text::RuleText;
 use crate::rules::RULES;
 
@@ -8,6 +11,8 @@ use crate::rules::RULES;
 #[derive(Clone, Copy)]
 pub(crate) struct Texts<'t> {
     pub(crate) help: &'t str,
+    /// A page for each command.
+    pub(crate) pages: &'t [Page<'t>],
     pub(crate) version: &'t str,
     /// A line for each code.
     pub(crate) codes: &'t str,
@@ -23,7 +28,9 @@ Commands:
                          checks each statement and each proof of a database; the top file comes
                          first, then the files that are included, each under the very name that
                          stands in its `$[ NAME $]`. With --strict compressed proofs must have the
-                         strict form (`mm explain P15`), and expressions may be longer
+                         strict form (`mm explain P15`), and expressions may be longer. Where a file
+                         was handed in and not included, a note on standard error says so: nothing
+                         in it was checked
   axioms LABEL FILES..   checks the database, and lists the axioms that the theorem with this
                          label rests on
   show LABEL FILES..     checks the database, and lists the steps of the proof of the theorem with
@@ -35,14 +42,26 @@ Commands:
   packed [--file] LABEL FILES..
                          likewise with the one compressed proof of the theorem with this label that
                          makes each part of it once
+  normal --all NAME FILES..
+  packed --all NAME FILES..
+                         checks the database, and writes the file NAME, which is one of FILES, with
+                         each complete proof in that form
   same LABEL PROOF FILES..
                          checks the database, and tells whether the text in the file PROOF is the
                          same proof as that of the theorem with this label
-  explain [CODE]         says what the rule with this code is; without a code, lists all codes
-  help                   prints this help, as does --help
+  explain [CODE]         says what the rule with this code is, its usual cause and the remedy; a
+                         reply line that names one, pasted, does as well; without a code, lists all
+                         codes
+  help [COMMAND]         prints this help, as does --help; or the page of that command, as does
+                         --help after it
+  version                prints the version, as does --version
 
 Options:
+  -h, --help       prints this help, or after a command the page of that command
   -V, --version    prints the version, and the kit that the program is proved with
+
+A word that begins with - and is no option stands after --, as in `mm check -- -x.mm`. The name of
+standard input is /dev/stdin.
 
 Replies of check, on standard output:
   yes N statements M proofs
@@ -56,12 +75,12 @@ Replies of check, on standard output:
       the rule that it breaks, which `mm explain RULE` explains; and the step of its proof, from 1,
       or 0 where no step is at fault. Status 1.
   limit FILE LINE LABEL L1 STEP
-      A step of a proof made an expression of more than 1048576 symbols, with --strict of
-      more than 16777216. Status 4.
+      A step of a proof made an expression of more than 1,048,576 symbols, with --strict of
+      more than 16,777,216. Status 4.
   load F2
       Two of the files have the same name. Status 4.
   load F3
-      The files hold more than 1073741824 bytes in all. Status 4.
+      The files hold more than 1,073,741,824 bytes in all. Status 4.
 
 Replies of axioms, on standard output:
   LABEL, one on each line
@@ -75,12 +94,13 @@ Reply of show, on standard output:
       expression of step N; and the symbols of its expression. Status 0.
 
 Replies of normal and packed, on standard output:
-  the proof, in lines; with --file the bytes of the file with it, and nothing else
+  the proof, in lines; with --file or --all the bytes of the file, and nothing else
       Status 0.
   ask L2 LABEL
-      The normal proof has more than 16777216 labels. Status 4.
-  ask F3 LABEL
-      With --file: the files would then hold more than 1073741824 bytes in all. Status 4.
+      The normal proof has more than 16,777,216 labels. With --all it is that of the first theorem
+      of the file of which this is so. Status 4.
+  ask F3 LABEL, with --all ask F3 NAME
+      The files would then hold more than 1,073,741,824 bytes in all. Status 4.
 
 Replies of same, on standard output:
   same, or different
@@ -105,7 +125,8 @@ Statuses:
   3  incomplete: a proof is unfinished, in the database or among those that are asked about
   4  a file, a device, a limit or memory stood in the way
 
-Where there is no reply, a line on standard error says why.
+Where there is no reply, standard error says why: which word is not understood, or which file cannot
+be read. Where a word may stand in the wrong place, it says what that word was taken for.
 
 Examples:
   mm check set.mm
@@ -113,8 +134,10 @@ Examples:
   mm axioms id set.mm
   mm show id set.mm
   mm packed id set.mm
+  mm packed --all set.mm set.mm
   mm same id proof.txt set.mm
   mm explain P8
+  mm help check
 ";
 
 const VERSION: &str = "mm 0.1.0, proved with rattle-kit-13f logic dac8208d650f15bf\n";
@@ -132,10 +155,13 @@ fn rules() -> &'static [RuleText<'static>] {
     RULES
 }
 
-/// The texts of the program.
-pub(crate) fn program_texts() -> Texts<'static> {
+/// The texts of the program, with these pages.
+pub(crate) fn program_texts<'t>(pages: &'t [Page<'t>]) -> Texts<'t>
+    ensures { result.pages ≡ pages.entry }
+{
     Texts {
         help: help(),
+        pages,
         version: VERSION,
         codes: codes(),
         rules: rules(),

@@ -1,6 +1,8 @@
 //! What the program is asked by its words.
 
 ghost use Rattle.std.specs.Prelude.{◌≡◌, [], List, map, IfOk, IfErr, IfSome, IfNone, false, unwrap_or};
+ghost use Rattle.std.specs.Prelude.{ℕ, option_map, position};
+ghost use Rattle.std.specs.Str.{bytes_eq};
 ghost use Rattle.clap.specs.Words.{Text, all_of, app_of, first_of, found_of, kind_of};
 ghost use Rattle.clap.specs.Words.{rows_of, rule_of};
 ghost use Rattle.clap.specs.declared.builder.command.Command.TheViews.{out-Command};
@@ -9,12 +11,16 @@ ghost use Rattle.mm_tool.specs.Words.{AreMatchesOf, bare_line, check_line, code_
 ghost use Rattle.mm_tool.specs.Words.{command_line, database_line, explain_line, files_rule};
 ghost use Rattle.mm_tool.specs.Words.{help_line, label_rule, question_line, show_line};
 ghost use Rattle.mm_tool.specs.Words.{proof_rule, normal_line, packed_line, same_line, forms_line};
-ghost use Rattle.mm_tool.specs.Words.{is_strict, strict_rule};
-ghost use Rattle.mm_tool.specs.Words.{NamesNoForm, IsGiven, file_rule, form_line};
+ghost use Rattle.mm_tool.specs.Words.{is_strict, flag_rule, Commands, IsAllFault, name_of_form};
+ghost use Rattle.mm_tool.specs.Words.{NamesNoForm, IsGiven, form_line, number_among};
+ghost use Rattle.mm_tool.specs.declared.words.Request.TheVariants.{Run};
+ghost use Rattle.mm_check.specs.declared.command.Command.TheVariants.{All};
+ghost use Rattle.mm_tool.specs.Words.{NamesNoText, first_command, topic_rule, version_line};
 
 use crate::stop::Stop;
 use clap::error::ErrorKind;
 use clap::{Arg, ArgAction, ArgMatches, Command, Error};
+use mm_check::Form;
 use mm_proof::Profile;
 use std::alloc::{AllocError, Global};
 
@@ -36,11 +42,15 @@ const EXPLAIN: &str = "explain";
 
 const HELP: &str = "help";
 
+const VERSION: &str = "version";
+
 const FILES: &str = "FILES";
 
 const LABEL: &str = "LABEL";
 
 const FILE: &str = "file";
+
+const ALL: &str = "all";
 
 const STRICT: &str = "strict";
 
@@ -50,6 +60,14 @@ const GIVEN: &str = "true";
 const PROOF: &str = "PROOF";
 
 const CODE: &str = "CODE";
+
+const COMMAND: &str = "COMMAND";
+
+/// How `clap` begins the advice to pass an unknown option as a value.
+const ADVICE: &str = "\n\n  tip: to pass '";
+
+/// How it begins the usage, which comes after that advice.
+const USAGE: &str = "\n\nUsage: ";
 
 /// The question whether the text in the file `proof` is the same proof as that of the theorem with
 /// a label, in the database in the files with these names.
@@ -63,8 +81,8 @@ pub(crate) struct Comparison<'a> {
 /// What the program is asked.
 #[derive(Drop)]
 pub(crate) enum Request<'a> {
-    /// To print the help.
-    Help,
+    /// To print the page of the command with this name, or without one the whole help.
+    Help(Option<&'a str>),
     /// To print the version.
     Version,
     /// To explain the rule with this code, or to list all codes.
@@ -97,22 +115,12 @@ fn label_argument<'a>(alloc: Global) -> Arg<'a>
     Arg::new(alloc, LABEL).required(true).action(ArgAction::Set)
 }
 
-/// The flag that asks for the whole file, for `clap`.
-fn file_argument<'a>(alloc: Global) -> Arg<'a>
-    ensures rule { rule_of result ≡ file_rule }
+/// The flag with this name, for `clap`.
+fn flag_argument<'a>(alloc: Global, name: &'a str) -> Arg<'a>
+    ensures rule { rule_of result ≡ flag_rule name.entry.now }
     ensures local { result.global ≡ false }
 {
-    Arg::new(alloc, FILE).long(FILE).action(ArgAction::SetTrue)
-}
-
-/// The flag that asks for the strict profile, for `clap`.
-fn strict_argument<'a>(alloc: Global) -> Arg<'a>
-    ensures rule { rule_of result ≡ strict_rule }
-    ensures local { result.global ≡ false }
-{
-    Arg::new(alloc, STRICT)
-        .long(STRICT)
-        .action(ArgAction::SetTrue)
+    Arg::new(alloc, name).long(name).action(ArgAction::SetTrue)
 }
 
 /// The name of the file with a proof's text, for `clap`.
@@ -133,6 +141,16 @@ fn code_argument<'a>(alloc: Global) -> Arg<'a>
         .action(ArgAction::Append)
 }
 
+/// The name of a command, for `clap`.
+fn topic_argument<'a>(alloc: Global) -> Arg<'a>
+    ensures rule { rule_of result ≡ topic_rule }
+    ensures local { result.global ≡ false }
+{
+    Arg::new(alloc, COMMAND)
+        .num_args(0..=1)
+        .action(ArgAction::Append)
+}
+
 /// The command `check`, for `clap`.
 fn check_command<'a>(alloc: Global) -> Result<Command<'a>, AllocError>
     ensures shape { IfOk result (λ command. app_of command ≡ check_line) }
@@ -140,7 +158,8 @@ fn check_command<'a>(alloc: Global) -> Result<Command<'a>, AllocError>
 {
     Command::new(alloc, CHECK)
         .about("checks each statement and each proof of a database")
-        .arg(strict_argument(alloc))?
+        .override_usage("mm check [--strict] FILES..")
+        .arg(flag_argument(alloc, STRICT))?
         .arg(files_argument(alloc))
 }
 
@@ -149,27 +168,32 @@ fn question_command<'a>(
     alloc: Global,
     name: &'a str,
     about: &'a str,
+    usage: &'a str,
 ) -> Result<Command<'a>, AllocError>
     ensures shape { IfOk result (λ command. app_of command ≡ question_line name.entry.now) }
     ensures local { IfOk result (λ command. (out-Command command).has_globals ≡ false) }
 {
     Command::new(alloc, name)
         .about(about)
+        .override_usage(usage)
         .arg(label_argument(alloc))?
         .arg(files_argument(alloc))
 }
 
 /// A command that asks for the proof of the theorem with a label in a form, or for its whole file
-/// with that proof, for `clap`.
-fn form_command<'a>(alloc: Global, name: &'a str, about: &'a str) -> Result<Command<'a>, AllocError>
+/// with that proof, or for a file with all its proofs in that form, for `clap`.
+fn form_command<'a>(
+    alloc: Global,
+    name: &'a str,
+    about: &'a str,
+    usage: &'a str,
+) -> Result<Command<'a>, AllocError>
     ensures shape { IfOk result (λ command. app_of command ≡ form_line name.entry.now) }
     ensures local { IfOk result (λ command. (out-Command command).has_globals ≡ false) }
 {
-    Command::new(alloc, name)
-        .about(about)
-        .arg(file_argument(alloc))?
-        .arg(label_argument(alloc))?
-        .arg(files_argument(alloc))
+    question_command(alloc, name, about, usage)?
+        .arg(flag_argument(alloc, FILE))?
+        .arg(flag_argument(alloc, ALL))
 }
 
 /// The command `axioms`, for `clap`.
@@ -177,7 +201,12 @@ fn axioms_command<'a>(alloc: Global) -> Result<Command<'a>, AllocError>
     ensures shape { IfOk result (λ command. app_of command ≡ axioms_line) }
     ensures local { IfOk result (λ command. (out-Command command).has_globals ≡ false) }
 {
-    question_command(alloc, AXIOMS, "lists the axioms that a theorem rests on")
+    question_command(
+        alloc,
+        AXIOMS,
+        "lists the axioms that a theorem rests on",
+        "mm axioms LABEL FILES..",
+    )
 }
 
 /// The command `show`, for `clap`.
@@ -185,7 +214,12 @@ fn show_command<'a>(alloc: Global) -> Result<Command<'a>, AllocError>
     ensures shape { IfOk result (λ command. app_of command ≡ show_line) }
     ensures local { IfOk result (λ command. (out-Command command).has_globals ≡ false) }
 {
-    question_command(alloc, SHOW, "lists the steps of the proof of a theorem")
+    question_command(
+        alloc,
+        SHOW,
+        "lists the steps of the proof of a theorem",
+        "mm show LABEL FILES..",
+    )
 }
 
 /// The command `normal`, for `clap`.
@@ -193,7 +227,12 @@ fn normal_command<'a>(alloc: Global) -> Result<Command<'a>, AllocError>
     ensures shape { IfOk result (λ command. app_of command ≡ normal_line) }
     ensures local { IfOk result (λ command. (out-Command command).has_globals ≡ false) }
 {
-    form_command(alloc, NORMAL, "writes the normal proof of a theorem")
+    form_command(
+        alloc,
+        NORMAL,
+        "writes the normal proof of a theorem",
+        "mm normal [--file] LABEL FILES..\n       mm normal --all NAME FILES..",
+    )
 }
 
 /// The command `packed`, for `clap`.
@@ -201,7 +240,12 @@ fn packed_command<'a>(alloc: Global) -> Result<Command<'a>, AllocError>
     ensures shape { IfOk result (λ command. app_of command ≡ packed_line) }
     ensures local { IfOk result (λ command. (out-Command command).has_globals ≡ false) }
 {
-    form_command(alloc, PACKED, "writes the fully shared proof of a theorem")
+    form_command(
+        alloc,
+        PACKED,
+        "writes the packed proof of a theorem",
+        "mm packed [--file] LABEL FILES..\n       mm packed --all NAME FILES..",
+    )
 }
 
 /// The command `same`, for `clap`.
@@ -211,6 +255,7 @@ fn same_command<'a>(alloc: Global) -> Result<Command<'a>, AllocError>
 {
     Command::new(alloc, SAME)
         .about("tells whether a proof's text is the same proof as that of a theorem")
+        .override_usage("mm same LABEL PROOF FILES..")
         .arg(label_argument(alloc))?
         .arg(proof_argument(alloc))?
         .arg(files_argument(alloc))
@@ -223,15 +268,27 @@ fn explain_command<'a>(alloc: Global) -> Result<Command<'a>, AllocError>
 {
     Command::new(alloc, EXPLAIN)
         .about("says what the rule with this code is; without a code, lists all codes")
+        .override_usage("mm explain [CODE]")
         .arg(code_argument(alloc))
 }
 
 /// The command `help`, for `clap`.
-fn help_command<'a>(alloc: Global) -> Command<'a>
-    ensures shape { app_of result ≡ help_line }
+fn help_command<'a>(alloc: Global) -> Result<Command<'a>, AllocError>
+    ensures shape { IfOk result (λ command. app_of command ≡ help_line) }
+    ensures local { IfOk result (λ command. (out-Command command).has_globals ≡ false) }
+{
+    Command::new(alloc, HELP)
+        .about("prints the help, or the page of a command")
+        .override_usage("mm help [COMMAND]")
+        .arg(topic_argument(alloc))
+}
+
+/// The command `version`, for `clap`.
+fn version_command<'a>(alloc: Global) -> Command<'a>
+    ensures shape { app_of result ≡ version_line }
     ensures local { (out-Command result).has_globals ≡ false }
 {
-    Command::new(alloc, HELP).about("prints the help")
+    Command::new(alloc, VERSION).about("prints the version")
 }
 
 /// The program's command line without its commands, for `clap`.
@@ -275,20 +332,55 @@ fn whole_command<'a>(alloc: Global) -> Result<Command<'a>, AllocError>
 {
     forms_command(alloc)?
         .subcommand(explain_command(alloc)?)?
-        .subcommand(help_command(alloc))
+        .subcommand(help_command(alloc)?)?
+        .subcommand(version_command(alloc))
 }
 
-/// What clap's answer in place of matches is to the program: help or the version where that was
-/// asked for, else a fault of the words.
-fn request_of_error<'a>(alloc: Global, error: &Error) -> Result<Request<'a>, Stop<'a>>
-    ensures request { IfOk result (IsOfKind (kind_of error.now)) }
+/// The command that the first word after the program's name names.
+fn first_topic<'a>(command: &Command<'a>, words: &[&str]) -> Option<&'a str>
+    requires { app_of command.now ≡ command_line }
+    ensures { option_map (λ name. name.now) result
+        ≡ first_command (map (λ word. word.now) words.now) }
+{
+    let word = words.get(1)?;
+    match command.find_subcommand(word) {
+        Some(named) => Some(named.get_name()),
+        None => None,
+    }
+}
+
+/// The parts of clap's text before and after its advice to pass an unknown option as a value.
+fn around_advice(text: &str) -> Option<(&str, &str)> {
+    let (found, advice) = text.split_once(ADVICE)?;
+    let (_, usage) = advice.split_once(USAGE)?;
+    Some((found, usage))
+}
+
+/// What is said of words that `clap` refuses: which word isn't understood, and the usage.
+fn refusal(alloc: Global, error: &Error) -> Result<String, AllocError> {
+    let text = format!(in alloc; "{error}")?;
+    match around_advice(&text) {
+        Some((found, usage)) => format!(in alloc; "{found}{USAGE}{usage}"),
+        None => format!(in alloc; "{text}"),
+    }
+}
+
+/// What clap's answer in place of matches is to the program: help on the topic or the version where
+/// that was asked for, else a fault of the words.
+fn request_of_error<'a>(
+    alloc: Global,
+    error: &Error,
+    topic: Option<&'a str>,
+) -> Result<Request<'a>, Stop<'a>>
+    ensures request { IfOk result (IsOfKind (kind_of error.now)
+        (option_map (λ name. name.now) topic.entry)) }
     ensures fault { IfErr result (IsFaultOfKind (kind_of error.now)) }
 {
     match error.kind() {
         ErrorKind::OutOfMemory => Err(Stop::Memory),
-        ErrorKind::DisplayHelp => Ok(Request::Help),
+        ErrorKind::DisplayHelp => Ok(Request::Help(topic)),
         ErrorKind::DisplayVersion => Ok(Request::Version),
-        _ => Err(Stop::Usage(format!(in alloc; "{error}")?)),
+        _ => Err(Stop::Usage(refusal(alloc, error)?)),
     }
 }
 
@@ -334,30 +426,98 @@ fn asked_profile(command: &ArgMatches, flag: &str) -> Profile
     }
 }
 
+/// The name of the command that asks for proofs in a form.
+fn form_name(form: Form) -> &'static str
+    ensures { result.now ≡ name_of_form form }
+{
+    match form {
+        Form::Normal => NORMAL,
+        Form::Packed => PACKED,
+    }
+}
+
+/// The number of the first of these names that is this one.
+fn number_of(names: &[&str], name: &str) -> Option<usize>
+    ensures { result ≡ position (λ other. bytes_eq other.now name.now) names.now }
+{
+    names.iter().position(|other| *other == name)
+}
+
+/// The request for the file with a name among these, with each proof in a form. It stands beside no
+/// request for the file of one proof, `whole`.
+fn all_request<'a>(
+    alloc: Global,
+    form: Form,
+    whole: bool,
+    name: &str,
+    names: Vec<&'a str>,
+) -> Result<Request<'a>, Stop<'a>>
+    ensures request { IfOk result (λ request. (number : ℕ)
+        × (request ≡ Run (All form number) names.entry) × (whole ≡ false)
+        × (number_among (map (λ n. n.now) names.entry.items) name.now ≡ Some number)) }
+    ensures fault { IfErr result (IsAllFault whole name.now
+        (map (λ n. n.now) names.entry.items)) }
+{
+    let command = form_name(form);
+    if whole {
+        return Err(Stop::Usage(format!(in alloc;
+            "mm: --file and --all exclude each other\nUsage: mm {command} --all NAME FILES..\n"
+        )?));
+    }
+    let Some(file) = number_of(&names, name) else {
+        return Err(Stop::Usage(format!(in alloc;
+            "mm: {name} is none of the files\nUsage: mm {command} --all NAME FILES..\n"
+        )?));
+    };
+    let command = mm_check::Command::All { form, file };
+    Ok(Request::Run { command, names })
+}
+
+/// What the matches of the command that asks for proofs in a form ask for.
+fn proof_request<'a>(
+    alloc: Global,
+    matches: &ArgMatches<'a>,
+    form: Form,
+) -> Result<Request<'a>, Stop<'a>>
+    ensures request { IfOk result (λ request. (words : List Text)
+        → Commands words (name_of_form form) (rows_of (found_of matches.now))
+        → Asks words request) }
+    ensures fault { IfErr result (λ stop. (words : List Text)
+        → Commands words (name_of_form form) (rows_of (found_of matches.now))
+        → IsWordFault words stop) }
+{
+    let word = asked_word(matches, LABEL);
+    let whole = is_given(matches, FILE);
+    let names = values_of(alloc, matches, FILES)?;
+    if is_given(matches, ALL) {
+        return all_request(alloc, form, whole, word, names);
+    }
+    let label = word.as_bytes();
+    let command = match form {
+        Form::Normal => mm_check::Command::Normal { label, whole },
+        Form::Packed => mm_check::Command::Packed { label, whole },
+    };
+    Ok(Request::Run { command, names })
+}
+
 /// What these matches of the words ask for by the commands `normal`, `packed` and `same`; nothing
 /// where they name none of these.
 fn form_request<'a>(
     alloc: Global,
     matches: &ArgMatches<'a>,
-) -> Result<Option<Request<'a>>, AllocError>
+) -> Result<Option<Request<'a>>, Stop<'a>>
     ensures request { IfOk result (λ asked. IfSome asked (λ request. (words : List Text)
         → AreMatchesOf words matches.now → Asks words request)) }
     ensures none { IfOk result (λ asked. IfNone asked ((words : List Text)
         → AreMatchesOf words matches.now → NamesNoForm words)) }
+    ensures fault { IfErr result (λ stop. (words : List Text)
+        → AreMatchesOf words matches.now → IsWordFault words stop) }
 {
     if let Some(normal) = matches.subcommand_matches(NORMAL) {
-        let label = asked_word(normal, LABEL).as_bytes();
-        let whole = is_given(normal, FILE);
-        let names = values_of(alloc, normal, FILES)?;
-        let command = mm_check::Command::Normal { label, whole };
-        return Ok(Some(Request::Run { command, names }));
+        return Ok(Some(proof_request(alloc, normal, Form::Normal)?));
     }
     if let Some(packed) = matches.subcommand_matches(PACKED) {
-        let label = asked_word(packed, LABEL).as_bytes();
-        let whole = is_given(packed, FILE);
-        let names = values_of(alloc, packed, FILES)?;
-        let command = mm_check::Command::Packed { label, whole };
-        return Ok(Some(Request::Run { command, names }));
+        return Ok(Some(proof_request(alloc, packed, Form::Packed)?));
     }
     if let Some(same) = matches.subcommand_matches(SAME) {
         return Ok(Some(Request::Compare(Comparison {
@@ -365,6 +525,29 @@ fn form_request<'a>(
             proof: asked_word(same, PROOF),
             names: values_of(alloc, same, FILES)?,
         })));
+    }
+    Ok(None)
+}
+
+/// What these matches of the words ask for by the commands `explain`, `help` and `version`; nothing
+/// where they name none of these.
+fn text_request<'a>(
+    alloc: Global,
+    matches: &ArgMatches<'a>,
+) -> Result<Option<Request<'a>>, AllocError>
+    ensures request { IfOk result (λ asked. IfSome asked (λ request. (words : List Text)
+        → AreMatchesOf words matches.now → Asks words request)) }
+    ensures none { IfOk result (λ asked. IfNone asked ((words : List Text)
+        → AreMatchesOf words matches.now → NamesNoText words)) }
+{
+    if let Some(explain) = matches.subcommand_matches(EXPLAIN) {
+        return Ok(Some(Request::Explain(values_of(alloc, explain, CODE)?)));
+    }
+    if let Some(help) = matches.subcommand_matches(HELP) {
+        return Ok(Some(Request::Help(help.get_str(COMMAND))));
+    }
+    if matches.subcommand_matches(VERSION).is_some() {
+        return Ok(Some(Request::Version));
     }
     Ok(None)
 }
@@ -407,11 +590,8 @@ fn request_of_matches<'a>(
     if let Some(request) = form_request(alloc, matches)? {
         return Ok(request);
     }
-    if let Some(explain) = matches.subcommand_matches(EXPLAIN) {
-        return Ok(Request::Explain(values_of(alloc, explain, CODE)?));
-    }
-    if matches.subcommand_matches(HELP).is_some() {
-        return Ok(Request::Help);
+    if let Some(request) = text_request(alloc, matches)? {
+        return Ok(request);
     }
     Err(Stop::Usage(command.render_usage()?))
 }
@@ -426,13 +606,14 @@ fn request_by<'a>(
     ensures request { IfOk result (Asks (map (λ word. word.now) words.entry.now)) }
     ensures fault { IfErr result (IsWordFault (map (λ word. word.now) words.entry.now)) }
 {
+    let topic = first_topic(command, words);
     match command.try_get_matches_from_mut(words) {
         Ok(matches) => {
             let request = request_of_matches(alloc, command, &matches);
             drop(matches);
             request
         }
-        Err(error) => request_of_error(alloc, &error),
+        Err(error) => request_of_error(alloc, &error, topic),
     }
 }
 

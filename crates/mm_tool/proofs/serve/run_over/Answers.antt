@@ -1,11 +1,13 @@
 -- What `read_files`, `reply` and `run` say of their failing is what is said of the command over the files.
-use Rattle.std.proofs.Common.{map, ap, ◌∙◌, subst, inl}
+use Rattle.std.proofs.Common.{List, ℕ, map, ap, ◌∙◌, subst, sym, inl}
+use Rattle.mm_text.specs.Files.{PlainFile}
+use Rattle.mm_check.specs.Reply.{AsksHanded}
 use Rattle.mm_text.specs.Files.{plain_file}
 use Rattle.mm_tool.specs.Folder.{IsFileFault, plain_read}
 use Rattle.mm_tool.specs.declared.files.FileFault.{FileFault}
 use Rattle.mm_check.specs.Reply.{IsReplyTo}
 use Rattle.mm_check.specs.Status.{number_of}
-use Rattle.mm_tool.proofs.Runs.{stops_at_run, stops_too_long}
+use Rattle.mm_tool.proofs.Runs.{as_many, asks_handed, stops_at_run, stops_too_long}
 use Rattle.mm_tool.proofs.WholeFiles.{reply_over}
 use Rattle.mm_tool.proofs.serve.run_over.Goals as goal
 
@@ -15,6 +17,18 @@ returns-in-Err-TooLong-clause-stops g c =
     (map (λ n. n.now) c.args.names.now) c.args.max fault in
     stops_too_long g.O.Write.contents (g.F.Folder.holds c.args.folder.now) (g.F.Folder.may_fail c.args.folder.now) c.args.command.now _ c.args.max c.reply.result
     _ _ c.reply.ensures.stop c.reply.ensures.beginning (subst Fault c.in-Err-TooLong.field-0-is c.in-Err-TooLong.ensures.fault)
+
+pub run-requires-clause-asks : goal.run-requires-clause-asks
+run-requires-clause-asks g c =
+    let (wholes, held, within, reads) = c.in-Ok.ensures.read in
+    let given = ap (map plain_file) c.deref-2.ensures.value ∙ c.in_ok-files.ensures
+    ∙ ap (map plain_read) c.deref.ensures.value in
+    let names : List (List ℕ) = map (λ n. n.now) c.args.names.now in
+    let Asks : List PlainFile → Type 0 = λ files. AsksHanded files c.args.command.now in
+    subst Asks (sym given)
+    (asks_handed c.args.command.now names (map plain_read c.in-Ok.files.items)
+    (as_many c.comments_for.result names wholes (map plain_read c.in-Ok.files.items) held.0 reads)
+    c.requires.named)
 
 pub returns-in_err-run-clause-stops : goal.returns-in_err-run-clause-stops
 returns-in_err-run-clause-stops g c =

@@ -1,5 +1,5 @@
 -- The words ask for what the parse found.
-use Rattle.std.proofs.Common.{map}
+use Rattle.std.proofs.Common.{map, option_map}
 use Rattle.clap.specs.Words.{app_of}
 use Rattle.mm_tool.proofs.Asked.{asked_by_matches, fault_met, matches_met, refused_by_matches, request_asked}
 use Rattle.mm_tool.proofs.words.request_by.Goals as goal
@@ -18,8 +18,9 @@ returns-in-Ok-clause-fault c =
 
 pub returns-in-Err-clause-request : goal.returns-in-Err-clause-request
 returns-in-Err-clause-request c =
-    request_asked (app_of c.args.command.now) _ c.in-Err.error c.request_of_error.result
-    c.requires c.in-Err.ensures.kinds c.request_of_error.ensures.request
+    request_asked (app_of c.args.command.now) _
+    (option_map (λ name. name.now) c.first_topic-topic.result) c.in-Err.error
+    c.request_of_error.result c.requires c.first_topic-topic.ensures c.in-Err.ensures.kinds c.request_of_error.ensures.request
 
 pub returns-in-Err-clause-fault : goal.returns-in-Err-clause-fault
 returns-in-Err-clause-fault c =

@@ -1,10 +1,9 @@
 -- The words ask for what their matches say.
-use Rattle.std.proofs.Common.{◌∙◌, Bor, List, Option, IsSome, IfNone, inr, refl, rules, subst, sym}
-use Rattle.clap.specs.Words.{Text, found_of, rows_of}
-use Rattle.mm_tool.specs.Words.{AreMatchesOf, NamesNoForm}
+use Rattle.std.proofs.Common.{◌∙◌, List, Option, IsSome, IfNone, inl, inr, refl, subst, sym}
+use Rattle.clap.specs.Words.{Text}
+use Rattle.mm_tool.specs.Words.{AreMatchesOf, NamesNoForm, NamesNoText}
 use Rattle.mm_tool.specs.declared.words.Request.{Request}
-use Rattle.clap.specs.declared.parser.matches.ArgMatches.{ArgMatches}
-use Rattle.mm_tool.proofs.Asked.{commands_met, none_there, not_commanded, rows_there}
+use Rattle.mm_tool.proofs.Asked.{commands_met, none_there, not_commanded}
 use Rattle.mm_tool.proofs.words.request_of_matches.Goals as goal
 
 pub returns-in-Some-clause-request : goal.returns-in-Some-clause-request
@@ -31,36 +30,29 @@ returns-in-Some-subcommand_matches-2-clause-request c = λ words met. (
   sym c.in_ok-values_of-3.ensures,
 )
 
-pub returns-in-Some-subcommand_matches-3-clause-request : goal.returns-in-Some-subcommand_matches-3-clause-request
-returns-in-Some-subcommand_matches-3-clause-request c = λ words met. (
-  _,
-  commands_met words c.args.matches.now _ _ met (c.in-Some-subcommand_matches-3.ensures.found.0 refl) c.in-Some-subcommand_matches-3.ensures.rows,
-  sym c.in_ok-values_of-4.ensures,
-)
-
-pub returns-then-is_some-clause-request : goal.returns-then-is_some-clause-request
-returns-then-is_some-clause-request c = λ words met.
-    let there : IsSome c.subcommand_matches-5.result = search rules in
-    let found = rows_there (λ (m : Bor ArgMatches). rows_of (found_of m.now)) c.subcommand_matches-5.result _ there c.subcommand_matches-5.ensures.rows in
-    inr (found.0, commands_met words c.args.matches.now _ found.0 met (c.subcommand_matches-5.ensures.found.0 there) found.1)
-
 pub returns-clause-fault : goal.returns-clause-fault
 returns-clause-fault c = λ words met.
-    let none : IsSome c.subcommand_matches.result → ⊥ = none_there c.subcommand_matches.result c.in_default.is in
-    let none_2 : IsSome c.subcommand_matches-2.result → ⊥ = none_there c.subcommand_matches-2.result c.in_default-subcommand_matches.is in
-    let none_3 : IsSome c.subcommand_matches-3.result → ⊥ = none_there c.subcommand_matches-3.result c.in_default-subcommand_matches-2.is in
-    let none_4 : IsSome c.subcommand_matches-4.result → ⊥ = none_there c.subcommand_matches-4.result c.in_default-subcommand_matches-3.is in
-    let none_5 : IsSome c.subcommand_matches-5.result → ⊥ = λ there. absurd (search rules) in
+    let none : IsSome c.subcommand_matches.result → ⊥ =
+    none_there c.subcommand_matches.result c.in_default.is in
+    let none_2 : IsSome c.subcommand_matches-2.result → ⊥ =
+    none_there c.subcommand_matches-2.result c.in_default-subcommand_matches.is in
+    let none_3 : IsSome c.subcommand_matches-3.result → ⊥ =
+    none_there c.subcommand_matches-3.result c.in_default-subcommand_matches-2.is in
     let other = not_commanded words c.args.matches.now in
-    let None_asks : Option Request → Type 0 = λ o. IfNone o ((asked : List Text) → AreMatchesOf asked c.args.matches.now → NamesNoForm asked) in
-    inr (
+    let NoForm : Option Request → Type 0 = λ o. IfNone o ((asked : List Text)
+    → AreMatchesOf asked c.args.matches.now → NamesNoForm asked) in
+    let NoText : Option Request → Type 0 = λ o. IfNone o ((asked : List Text)
+    → AreMatchesOf asked c.args.matches.now → NamesNoText asked) in
+    inr (inl (
       met.0,
-      (subst None_asks c.in_default-2.is c.in_ok-request.ensures.none) words met,
+      (subst NoForm c.in_default-2.is c.in_ok-request.ensures.none) words met,
+      (subst NoText c.in_default-3.is c.in_ok-request-2.ensures.none) words met,
       λ rows. (
-        λ asked. other _ rows met (λ named. none (c.subcommand_matches.ensures.found.1 named)) asked,
-        λ asked. other _ rows met (λ named. none_2 (c.subcommand_matches-2.ensures.found.1 named)) asked,
-        λ asked. other _ rows met (λ named. none_3 (c.subcommand_matches-3.ensures.found.1 named)) asked,
-        λ asked. other _ rows met (λ named. none_4 (c.subcommand_matches-4.ensures.found.1 named)) asked,
-        λ asked. other _ rows met (λ named. none_5 (c.subcommand_matches-5.ensures.found.1 named)) asked,
+        λ asked.
+            other _ rows met (λ named. none (c.subcommand_matches.ensures.found.1 named)) asked,
+        λ asked.
+            other _ rows met (λ named. none_2 (c.subcommand_matches-2.ensures.found.1 named)) asked,
+        λ asked.
+            other _ rows met (λ named. none_3 (c.subcommand_matches-3.ensures.found.1 named)) asked,
       ),
-    )
+    ))

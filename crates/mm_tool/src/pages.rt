@@ -1,0 +1,292 @@
+//! The page of each command, as `mm help COMMAND` tells it: at most 80 columns.
+
+ghost use Rattle.std.specs.Prelude.{◌≡◌, map};
+ghost use Rattle.mm_tool.specs.Words.{command_names};
+
+/// A command by its name, and what is told of it.
+#[derive(Clone, Copy)]
+pub(crate) struct Page<'t> {
+    pub(crate) command: &'t str,
+    /// How it is used, what it does, its options, its replies with their statuses, an example.
+    pub(crate) text: &'t str,
+}
+
+const CHECK: &str = "Usage: mm check [--strict] FILES..
+
+Checks each statement and each proof of a database. The top file comes first,
+then the files that are included, each under the very name that stands in its
+`$[ NAME $]`. Where a file was handed in and not included, a note on standard
+error says so: nothing in it was checked.
+
+Options:
+  --strict   compressed proofs must have the strict form (`mm explain P15`),
+             and expressions may have 16,777,216 symbols in place of 1,048,576
+
+Replies:
+  yes N statements M proofs                                         status 0
+      Each statement obeys the rules of the language, and each proof derives
+      what its statement says.
+  incomplete N, and then N labels, one on each line                 status 3
+      Nothing is at fault, but these proofs hold a `?`.
+  no FILE LINE LABEL RULE STEP                                      status 1
+      The first statement at fault; `mm explain RULE` explains the rule. LABEL
+      is - where it has none, and STEP is 0 where no step is at fault.
+  limit FILE LINE LABEL L1 STEP                                     status 4
+      This step of a proof made an expression of too many symbols.
+  load F2, or load F3                                               status 4
+      Two files have the same name; or all hold more than 1,073,741,824 bytes.
+
+Example:
+  mm check set.mm
+";
+
+const AXIOMS: &str = "Usage: mm axioms LABEL FILES..
+
+Checks the database, and lists the axioms that the theorem with this label
+rests on, in the order of the database.
+
+Replies:
+  LABEL, one on each line                                           status 0
+      The axioms.
+  ? LABEL, one on each line, after the axioms                       status 3
+      The theorems that it rests on and whose proofs hold a `?`.
+  ask A1 LABEL                                                      status 1
+      No statement has this label.
+  ask A2 LABEL                                                      status 1
+      It is the label of a hypothesis or of an axiom.
+  ask A3 LABEL                                                      status 3
+      The proof of this theorem holds a `?`.
+  no, limit or load                                                 status 1, 4
+      The database is refused: `mm help check`.
+
+Example:
+  mm axioms id set.mm
+";
+
+const SHOW: &str = "Usage: mm show LABEL FILES..
+
+Checks the database, and lists the steps of the proof of the theorem with this
+label.
+
+Replies:
+  STEP NAME EXPRESSION, one on each line                            status 0
+      A step: its number, from 1; the label that it names, or @N where it
+      repeats the expression of step N; and the symbols of its expression.
+  ask A1 LABEL                                                      status 1
+      No statement has this label.
+  ask A2 LABEL                                                      status 1
+      It is the label of a hypothesis or of an axiom.
+  ask A3 LABEL                                                      status 3
+      The proof of this theorem holds a `?`.
+  no, limit or load                                                 status 1, 4
+      The database is refused: `mm help check`.
+
+Example:
+  mm show id set.mm
+";
+
+const NORMAL: &str = "Usage: mm normal [--file] LABEL FILES..
+       mm normal --all NAME FILES..
+
+Checks the database, and writes the normal proof of the theorem with this label:
+each step as a label.
+
+Options:
+  --file   the whole file in which the theorem stands, with that proof in place
+           of its own
+  --all    the file NAME, which is one of FILES, with each complete proof so
+
+Replies:
+  the proof, in lines; with --file or --all the file, nothing else  status 0
+  ask L2 LABEL                                                      status 4
+      The normal proof has more than 16,777,216 labels; with --all, that of the
+      first such theorem of the file.
+  ask F3 LABEL, with --all ask F3 NAME                              status 4
+      The files would then hold more than 1,073,741,824 bytes.
+  ask A1 LABEL                                                      status 1
+      No statement has this label.
+  ask A2 LABEL                                                      status 1
+      It is the label of a hypothesis or of an axiom.
+  ask A3 LABEL                                                      status 3
+      The proof of this theorem holds a `?`.
+  no, limit or load                                                 status 1, 4
+      The database is refused: `mm help check`.
+
+Examples:
+  mm normal id set.mm
+  mm normal --all set.mm set.mm
+";
+
+const PACKED: &str = "Usage: mm packed [--file] LABEL FILES..
+       mm packed --all NAME FILES..
+
+Checks the database, and writes the packed proof of the theorem with this label:
+the one compressed proof that makes each part of it once.
+
+Options:
+  --file   the whole file in which the theorem stands, with that proof in place
+           of its own
+  --all    the file NAME, which is one of FILES, with each complete proof so
+
+Replies:
+  the proof, in lines; with --file or --all the file, nothing else  status 0
+  ask F3 LABEL, with --all ask F3 NAME                              status 4
+      The files would then hold more than 1,073,741,824 bytes.
+  ask A1 LABEL                                                      status 1
+      No statement has this label.
+  ask A2 LABEL                                                      status 1
+      It is the label of a hypothesis or of an axiom.
+  ask A3 LABEL                                                      status 3
+      The proof of this theorem holds a `?`.
+  no, limit or load                                                 status 1, 4
+      The database is refused: `mm help check`.
+
+Examples:
+  mm packed id set.mm
+  mm packed --all set.mm set.mm
+";
+
+const SAME: &str = "Usage: mm same LABEL PROOF FILES..
+
+Checks the database, and tells whether the text in the file PROOF is the same
+proof as that of the theorem with this label.
+
+Replies:
+  same                                                              status 0
+      Both proofs make the same tree.
+  different                                                         status 1
+      They make two.
+  text RULE STEP                                                    status 1
+      The text is no proof of the theorem: the rule that it breaks, and the
+      step. Status 3 for A3, a `?` in the text; status 4 for L1 and F3.
+  ask A1 LABEL                                                      status 1
+      No statement has this label.
+  ask A2 LABEL                                                      status 1
+      It is the label of a hypothesis or of an axiom.
+  ask A3 LABEL                                                      status 3
+      The proof of this theorem holds a `?`.
+  no, limit or load                                                 status 1, 4
+      The database is refused: `mm help check`.
+
+Example:
+  mm same id proof.txt set.mm
+";
+
+const EXPLAIN: &str = "Usage: mm explain [CODE]
+
+Says what the rule with this code is, its usual cause and the remedy; a reply
+line that names one, pasted, does as well. Without a code, lists all codes.
+
+Replies:
+  the rule, or the codes, one on each line                          status 0
+  Where no rule has the code, standard error names the nearest.     status 2
+
+Example:
+  mm explain P8
+";
+
+const HELP: &str = "Usage: mm help [COMMAND]
+
+Prints the help, as does `mm --help`; or the page of the command with this name,
+as does `mm COMMAND --help`.
+
+Replies:
+  the help, or the page                                             status 0
+  Where no command has the name, standard error says which do.      status 2
+
+Example:
+  mm help check
+";
+
+const VERSION: &str = "Usage: mm version
+
+Prints the version, and the kit that the program is proved with, as does
+`mm --version`.
+
+Reply:
+  mm VERSION, proved with KIT                                       status 0
+
+Example:
+  mm version
+";
+
+// Each text comes from a call, so that what is proved of a caller doesn't hold its bytes.
+fn check_page() -> &'static str {
+    CHECK
+}
+
+fn axioms_page() -> &'static str {
+    AXIOMS
+}
+
+fn show_page() -> &'static str {
+    SHOW
+}
+
+fn normal_page() -> &'static str {
+    NORMAL
+}
+
+fn packed_page() -> &'static str {
+    PACKED
+}
+
+fn same_page() -> &'static str {
+    SAME
+}
+
+fn explain_page() -> &'static str {
+    EXPLAIN
+}
+
+fn help_page() -> &'static str {
+    HELP
+}
+
+fn version_page() -> &'static str {
+    VERSION
+}
+
+/// A page for each command, in the order of the command line.
+pub(crate) fn program_pages() -> [Page<'static>; 9]
+    ensures { map (λ page. page.command.now) result ≡ command_names }
+{
+    [
+        Page {
+            command: "check",
+            text: check_page(),
+        },
+        Page {
+            command: "axioms",
+            text: axioms_page(),
+        },
+        Page {
+            command: "show",
+            text: show_page(),
+        },
+        Page {
+            command: "normal",
+            text: normal_page(),
+        },
+        Page {
+            command: "packed",
+            text: packed_page(),
+        },
+        Page {
+            command: "same",
+            text: same_page(),
+        },
+        Page {
+            command: "explain",
+            text: explain_page(),
+        },
+        Page {
+            command: "help",
+            text: help_page(),
+        },
+        Page {
+            command: "version",
+            text: version_page(),
+        },
+    ]
+}
