@@ -1,7 +1,8 @@
 #!/bin/sh
 # Writes crates/mm_tool/src/rules.rt and code_lines.rt, the texts of `mm explain`, from
-# docs/RULES.md: a rule that is built has a paragraph there that begins with its code in bold, or a
-# row in the table of the files. `scripts/rules.sh --check` compares them.
+# docs/RULES.md: a rule that is built has a paragraph there that begins with its code in bold, with
+# its usual cause and its remedy, or a row in the table of the files. Each section with rules is a
+# chapter. `scripts/rules.sh --check` compares them.
 set -eu
 top=$(CDPATH='' cd -- "$(dirname -- "$0")/.." && pwd)
 source=$top/docs/RULES.md
@@ -18,8 +19,9 @@ made() {
     function finish() {
         if (code != "") {
             codes = codes cut(quoted(sentence)) "\n"
-            rules = rules "    RuleText {\n        code: \"" code "\",\n"
-            rules = rules "        text: \"" quoted(body) "\",\n    },\n"
+            if (chapters[count] != chapter) { chapters[++count] = chapter }
+            rules[count] = rules[count] "    RuleText {\n        code: \"" code "\",\n"
+            rules[count] = rules[count] "        text: \"" quoted(body) "\",\n    },\n"
         }
         code = ""
         body = ""
@@ -67,10 +69,12 @@ made() {
         code = cells[2]
         sentence = summary(code ": " cells[3] ".")
         body = wrapped(code ": " cells[3] ".") "\nIt has no place. Reply: " cells[4] "\n"
+        body = body wrapped("Usual cause: " cells[5] ".") "\n" wrapped("Remedy: " cells[6] ".") "\n"
         finish()
         next
     }
-    /^## / { finish(); next }
+    # The last word of a heading names its chapter.
+    /^## / { finish(); chapter = tolower($NF); next }
     /^\*\*[A-Z][0-9]+\*\*: / {
         finish()
         code = $0
@@ -83,9 +87,9 @@ made() {
         next
     }
     code == "" { next }
-    # Causes and remedies, and further examples, stand in the document alone: what is proved of the
-    # program holds each byte of its texts.
-    /^(Usual cause|Remedy): / || (told && !/^$/) { next }
+    /^(Usual cause|Remedy): / { body = body wrapped($0) "\n"; next }
+    # Further examples stand in the document alone: one is enough beside a reply.
+    told && !/^$/ { next }
     # A question is no part of its file: the file alone breaks no rule of questions.
     /^```mm$/ {
         body = body (code ~ /^A/ || code == "L2" ? "\nA file:\n" : "\nThis file breaks it:\n")
@@ -105,10 +109,21 @@ made() {
     END {
         finish()
         if (name == "rules") {
+            type = "&'"'"'static [RuleText<'"'"'static>]"
             printf "//! The rules, as `mm explain` tells them. "
             printf "Made by scripts/rules.sh from docs/RULES.md: edit that.\n\n"
             printf "use crate::rule_text::RuleText;\n\n"
-            printf "pub(crate) const RULES: &[RuleText<'"'"'static>] = &[\n%s];\n", rules
+            printf "// What is proved of a function that names a constant holds each byte of it. So "
+            printf "each\n// chapter is a constant of its own, and comes from a call.\n"
+            for (i = 1; i <= count; i++) {
+                constant = toupper(chapters[i])
+                printf "\nconst %s: &[RuleText<'"'"'static>] = &[\n%s];\n", constant, rules[i]
+                printf "\nfn %s() -> %s {\n    %s\n}\n", chapters[i], type, constant
+                calls = calls "        " chapters[i] "(),\n"
+            }
+            printf "\n/// The chapters, in the order of their rules.\n"
+            printf "pub(crate) fn rule_chapters() -> [%s; %d] {\n", type, count
+            printf "    [\n%s    ]\n}\n", calls
         } else {
             printf "//! The codes of the rules. "
             printf "Made by scripts/rules.sh from docs/RULES.md: edit that.\n\n"

@@ -63,10 +63,22 @@ prints() {
     fi
 }
 
-# unknown CODE NEAREST: no rule has this code, and of those that there are this one is the nearest.
+# explains CODE WORDS..: these words ask for the rule with this code.
+explains() {
+    code=$1
+    shift
+    "$mm" explain "$code" >wanted.txt
+    prints wanted.txt explain "$@"
+}
+
+# unknown CODE NEAREST WORDS..: these words ask for this code, which no rule has, and of those that
+# there are this one is the nearest.
 unknown() {
-    ends 2 '' "mm: no rule has the code $1; the nearest is $2\n\`mm explain\` lists all codes\n" \
-        explain "$1"
+    code=$1
+    nearest=$2
+    shift 2
+    ends 2 '' "mm: no rule has the code $code; the nearest is $nearest\n\`mm explain\` lists all codes\n" \
+        explain "$@"
 }
 
 # misused WORDS..: the program refuses these words with status 2, and standard error says which it
@@ -95,14 +107,15 @@ full() {
     fi
 }
 
-# mute STATUS WORDS..: standard error takes nothing, and the program ends with this status all the
-# same.
+# mute STATUS OUT WORDS..: standard error takes nothing, and the program ends with this status, and
+# with this line on standard output or none, all the same.
 mute() {
     wanted=$1
-    shift
+    out=$2
+    shift 2
     status=0
     "$mm" "$@" >got.out 2>/dev/full || status=$?
-    if [ "$status" != "$wanted" ] || [ -s got.out ]; then
+    if [ "$status" != "$wanted" ] || [ "$(cat got.out)" != "$out" ]; then
         echo "statuses.sh: mm $*, with nobody to tell: status $status, wanted $wanted" >&2
         failures=$((failures + 1))
     fi
@@ -258,6 +271,12 @@ if [ ! -s told.txt ] || ! cmp -s told.txt rules.txt; then
     echo 'statuses.sh: mm explain: the rules are not those of rules.rt' >&2
     failures=$((failures + 1))
 fi
+for line in 'Usual cause: ' 'Remedy: '; do
+    if [ "$(grep -c "^$line" told.txt)" != "$(wc -l <codes.txt)" ]; then
+        echo "statuses.sh: mm explain: not each rule has a line '$line'" >&2
+        failures=$((failures + 1))
+    fi
+done
 ends 1 'no twice.mm 2 - M2 0\n' '' check twice.mm
 ends 1 'no twice.mm 2 - M2 0\n' '' axioms p twice.mm
 ends 1 'ask A1 none\n' '' axioms none first.mm
@@ -282,7 +301,6 @@ misused check --strict
 misused check --strict --strict first.mm
 misused check -first.mm
 misused help check axioms
-misused explain P8 P9
 misused version first.mm
 mistaken --quiet 'mm check [--strict] FILES..' check --quiet first.mm
 mistaken -q 'mm check [--strict] FILES..' check -q first.mm
@@ -293,9 +311,25 @@ mistaken --quiet 'mm explain [CODE]' explain --quiet
 mistaken --quiet 'mm help [COMMAND]' help --quiet
 begins 2 '' 'error: the following required arguments were not provided:' axioms th
 begins 2 '' "error: unexpected argument '--strict' found" axioms --strict th first.mm
-unknown M222 M2
-unknown p8 P8
-unknown X0 X1
+explains P8 p8
+explains P9 no set.mm 655068 x P9 4378
+explains P9 'no set.mm 655068 x P9 4378'
+explains M2 no 'two words.mm' 2 - M2 0
+explains L1 limit f.mm 2 p L1 21
+explains F2 load F2
+explains A1 ask A1 no
+explains P9 text P9 3
+explains F3 text F3 0
+unknown M222 M2 M222
+unknown m222 M2 m222
+unknown X0 X1 X0
+unknown P99 P9 no set.mm 655068 x P99 4378
+unknown 'P8 P9' P8 P8 P9
+unknown 'yes 7 statements 1 proofs' S1 yes 7 statements 1 proofs
+unknown no F1 no
+unknown no F1 no P9
+unknown load L1 load
+unknown '' F1 ''
 ends 2 '' 'mm: a word is not UTF-8\n' check "$(printf '\377')"
 ends 3 'incomplete 1\nq\n' '' check open.mm
 ends 3 '? q\n' '' axioms r open.mm
@@ -340,6 +374,31 @@ ends 4 '' 'mm: cannot read none.mm\n' check first.mm none.mm other.mm
 ends 4 '' 'mm: cannot read none.mm\n' check none.mm first.mm
 ends 4 '' 'mm: cannot read -x.mm\n' check -- -x.mm
 ends 4 '' 'mm: cannot read \n' check '' first.mm
+
+# A file that was handed in and not included is noted after a reply of any kind, in the order of the
+# words. Three have lines of their own.
+note() {
+    printf 'mm: note: %s was not included, so nothing in it was checked\\n' "$@"
+}
+ends 0 'yes 7 statements 1 proofs\n' "$(note empty.mm)" check first.mm empty.mm
+ends 1 'no twice.mm 2 - M2 0\n' "$(note first.mm)" check twice.mm first.mm
+ends 3 'incomplete 1\nq\n' "$(note first.mm)" check open.mm first.mm
+ends 0 'yes 6 statements 1 proofs\n' "$(note first.mm)" \
+    check top.mm terms.mm first.mm rules.mm symbols.mm
+ends 1 'no top.mm 2 - X7 0\n' "$(note first.mm)" check top.mm terms.mm first.mm symbols.mm
+ends 0 'tze\ntpl\n' "$(note empty.mm)" axioms th first.mm empty.mm
+ends 1 'ask A1 h\n' "$(note rests.mm)" axioms h first.mm rests.mm
+ends 0 'same\n' "$(note empty.mm)" same th proof.txt saved.mm empty.mm
+ends 0 'yes 7 statements 1 proofs\n' "$(note twice.mm empty.mm rests.mm)" \
+    check first.mm twice.mm empty.mm rests.mm
+ends 0 'yes 7 statements 1 proofs\n' \
+    "$(note twice.mm empty.mm rests.mm)mm: note: 1 more file was not included\n" \
+    check first.mm twice.mm empty.mm rests.mm open.mm
+ends 0 'yes 7 statements 1 proofs\n' \
+    "$(note open.mm twice.mm empty.mm)mm: note: 11 more files were not included\n" \
+    check first.mm open.mm twice.mm empty.mm rests.mm loose.mm tight.mm front.mm steps.mm \
+    demo0.mm demo0c.mm shared.mm unfinished.mm terms.mm rules.mm
+ends 4 'load F2\n' '' check first.mm empty.mm empty.mm
 
 # The file that is opened is the one that is named, beside another that could be taken for it: one of
 # the same last name in another folder, or one whose name lacks the blanks at both ends. And no word
@@ -419,10 +478,12 @@ if [ -w /dev/full ]; then
     full 4 'mm: cannot write\n' help check
     full 4 'mm: cannot write\n' version
     full 4 'mm: cannot write\n' packed --all first.mm first.mm
-    mute 2 check
-    mute 2 help nonsense
-    mute 4 check none.mm
-    mute 4 axioms first.mm th
+    mute 2 '' check
+    mute 2 '' help nonsense
+    mute 4 '' check none.mm
+    mute 4 '' axioms first.mm th
+    mute 0 'yes 7 statements 1 proofs' check first.mm empty.mm
+    full 4 'mm: cannot write\n' check first.mm empty.mm
 fi
 
 if [ "$failures" != 0 ]; then

@@ -246,7 +246,7 @@ refuses_text_alike profile files others ss us ending end refusal is ended r =
 -- ## The files as a whole
 
 -- alike is meant both ways
-alike_back : (files others : List PlainFile) → AllZip AreAlike files others → AllZip AreAlike others files
+pub alike_back : (files others : List PlainFile) → AllZip AreAlike files others → AllZip AreAlike others files
 alike_back [] [] alike = tt
 alike_back [] (g ∷ gs) alike = absurd alike
 alike_back (f ∷ fs) [] alike = absurd alike
@@ -259,7 +259,7 @@ none_alike [] (g ∷ gs) alike is = absurd alike
 none_alike (f ∷ fs) (g ∷ gs) alike is = cc is
 
 -- the file with the same number has the same name
-name_alike : (files others : List PlainFile) → AllZip AreAlike files others → (file : ℕ) → name_of files file ≡ name_of others file
+pub name_alike : (files others : List PlainFile) → AllZip AreAlike files others → (file : ℕ) → name_of files file ≡ name_of others file
 name_alike [] [] alike file = refl
 name_alike [] (g ∷ gs) alike file = absurd alike
 name_alike (f ∷ fs) [] alike file = absurd alike
@@ -292,7 +292,7 @@ twins_alike files others alike twins =
     }
 
 -- a rule that the files break as a whole is broken by others, if it isn't the one on their length
-breaks_alike : (files others : List PlainFile) → AllZip AreAlike files others → total_bytes files ≤ most_bytes → (rule : LoadRule)
+pub breaks_alike : (files others : List PlainFile) → AllZip AreAlike files others → total_bytes files ≤ most_bytes → (rule : LoadRule)
     → BreaksLoad files rule → BreaksLoad others rule
 breaks_alike files others alike small load.F1 broken = none_alike files others alike broken
 breaks_alike files others alike small load.F2 broken =

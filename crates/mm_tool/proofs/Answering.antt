@@ -10,7 +10,9 @@ use Rattle.mm_tool.specs.Words.{AsksHelp, AsksRun, AsksSame}
 use Rattle.mm_tool.specs.Folder.{KnownFile, MayHold}
 use Rattle.mm_tool.specs.Ending.{IsProofRead, IsSameReplyOver, IsSameCommand, StopsSame}
 use Rattle.mm_tool.specs.Ending.{BreaksOff, Ends, EndsUnread, AnswersWords, IsReplyOver, Stops, StopsRun, TakesWhole}
-use Rattle.mm_tool.specs.Ending.{TellsLine, error_line, stop_status, unread_stop}
+use Rattle.mm_tool.specs.Answer.{Outcome, outcome_of, quiet}
+use Rattle.mm_tool.specs.declared.answer.Answer.{Answer}
+use Rattle.mm_tool.specs.Ending.{TellsLine, TellsNotes, error_line, stop_status, unread_stop}
 use Rattle.mm_tool.specs.Ending.{AddsLabel, IsHelpFault, label_of}
 use Rattle.mm_tool.specs.declared.folder.ArgumentFault.{ArgumentFault}
 use Rattle.mm_tool.specs.declared.folder.ArgumentFault.TheVariants as argument
@@ -20,26 +22,24 @@ use Rattle.mm_tool.specs.declared.stop.Stop.TheVariants.{Usage, NotText, CannotR
 
 -- An answer broke off.
 pub stops_answer : {O T : Type 0} (contents : O → Option (List ℕ)) (holds : List ℕ → KnownFile) (may_fail : List ℕ → Type 0)
-    (texts : Texts) (max : ℕ) (words : List (List ℕ)) (r : Result T Stop) (text : List ℕ) (status : ℕ) (old new : Counted O)
-    → IfErr r (λ stop. stop ≡ CannotWrite) → OnErr r (BreaksOff contents text old new) → AnswersWords holds texts max words text status
+    (texts : Texts) (max : ℕ) (words : List (List ℕ)) (r : Result T Stop) (text : List ℕ) (outcome : Outcome) (old new : Counted O)
+    → IfErr r (λ stop. stop ≡ CannotWrite) → OnErr r (BreaksOff contents text old new) → AnswersWords holds texts max words text outcome
     → IfErr r (λ stop. Stops contents holds may_fail texts max words stop old new)
-stops_answer contents holds may_fail texts max words (Ok v) text status old new stop broke answers = tt
-stops_answer contents holds may_fail texts max words (Err s) text status old new stop broke answers =
+stops_answer contents holds may_fail texts max words (Ok v) text outcome old new stop broke answers = tt
+stops_answer contents holds may_fail texts max words (Err s) text outcome old new stop broke answers =
     let Stopped : Stop → Type 0 = λ s. Stops contents holds may_fail texts max words s old new in
-    subst Stopped (sym stop) (text, status, answers, broke)
+    subst Stopped (sym stop) (text, outcome, answers, broke)
 
 -- An answer was written.
 pub answers_text : {O E : Type 0} (contents : O → Option (List ℕ)) (holds : List ℕ → KnownFile)
-    (texts : Texts) (max : ℕ) (words : List (List ℕ)) (r : Result Status E) (text : List ℕ)
-    (status : Status) (old new : Counted O) → IfOk r (λ given. given ≡ status)
-    → OnOk r (TakesWhole contents text old new)
-    → AnswersWords holds texts max words text (number_of status)
-    → IfOk r (λ s. (t : List ℕ) × AnswersWords holds texts max words t (number_of s)
+    (texts : Texts) (max : ℕ) (words : List (List ℕ)) (r : Result Answer E) (text : List ℕ)
+    (outcome : Outcome) (old new : Counted O) → IfOk r (λ answer. outcome_of answer ≡ outcome)
+    → OnOk r (TakesWhole contents text old new) → AnswersWords holds texts max words text outcome
+    → IfOk r (λ answer. (t : List ℕ) × AnswersWords holds texts max words t (outcome_of answer)
     × TakesWhole contents t old new)
-answers_text contents holds texts max words (Ok given) text status old new same written answers =
-    let Answers : Status → Type 0 = λ s. AnswersWords holds texts max words text (number_of s) in
-    (text, subst Answers (sym same) answers, written)
-answers_text contents holds texts max words (Err e) text status old new same written answers = tt
+answers_text contents holds texts max words (Ok answer) text outcome old new same written answers =
+    (text, subst (AnswersWords holds texts max words text) (sym same) answers, written)
+answers_text contents holds texts max words (Err e) text outcome old new same written answers = tt
 
 -- No command has the name on which the words ask for help, or memory was wanting.
 pub stops_help : {O T : Type 0} (contents : O → Option (List ℕ)) (holds : List ℕ → KnownFile)
@@ -64,12 +64,12 @@ stops_help contents holds may_fail texts max words topic (Err s) Memory out aske
 -- The command that the words ask for answers them.
 pub answers_command : {O : Type 0} (contents : O → Option (List ℕ)) (holds : List ℕ → KnownFile)
     (texts : Texts) (max : ℕ) (words : List (List ℕ)) (command : Command)
-    (names : List (List ℕ)) (status : ℕ) (old new : Counted O) → AsksRun words command names
-    → ((text : List ℕ) × IsReplyOver holds command names max text status
+    (names : List (List ℕ)) (outcome : Outcome) (old new : Counted O) → AsksRun words command names
+    → ((text : List ℕ) × IsReplyOver holds command names max text outcome
     × TakesWhole contents text old new)
-    → (text : List ℕ) × AnswersWords holds texts max words text status
+    → (text : List ℕ) × AnswersWords holds texts max words text outcome
     × TakesWhole contents text old new
-answers_command contents holds texts max words command names status old new asked
+answers_command contents holds texts max words command names outcome old new asked
     (text, reply, taken) = (text, inr (inr (inr (inl (command, names, asked, reply)))), taken)
 
 -- Where that command ended without a reply, the words have no answer.
@@ -89,10 +89,10 @@ stops_command contents holds may_fail texts max words command names label
     let Stopped : Stop → Type 0 = λ s. Stops contents holds may_fail texts max words s old new in
     subst Stopped (sym adds) (inl (command, names, asked, h.0, given), h.1)
 stops_command contents holds may_fail texts max words command names label CannotWrite told old new
-    asked given adds (text, status, reply, broke) =
+    asked given adds (text, outcome, reply, broke) =
     let Stopped : Stop → Type 0 = λ s. Stops contents holds may_fail texts max words s old new in
     subst Stopped (sym adds)
-    (text, status, inr (inr (inr (inl (command, names, asked, reply)))), broke)
+    (text, outcome, inr (inr (inr (inl (command, names, asked, reply)))), broke)
 stops_command contents holds may_fail texts max words command names label Memory told old new
     asked given adds h =
     let Stopped : Stop → Type 0 = λ s. Stops contents holds may_fail texts max words s old new in
@@ -101,12 +101,13 @@ stops_command contents holds may_fail texts max words command names label Memory
 -- The comparison that the words ask for answers them.
 pub answers_same : {O : Type 0} (contents : O → Option (List ℕ)) (holds : List ℕ → KnownFile)
     (texts : Texts) (max : ℕ) (words : List (List ℕ)) (label proof : List ℕ)
-    (names : List (List ℕ)) (status : ℕ) (old new : Counted O) → AsksSame words label proof names
-    → ((text : List ℕ) × IsSameReplyOver holds label proof names max text status
+    (names : List (List ℕ)) (outcome : Outcome) (old new : Counted O)
+    → AsksSame words label proof names
+    → ((text : List ℕ) × IsSameReplyOver holds label proof names max text outcome
     × TakesWhole contents text old new)
-    → (text : List ℕ) × AnswersWords holds texts max words text status
+    → (text : List ℕ) × AnswersWords holds texts max words text outcome
     × TakesWhole contents text old new
-answers_same contents holds texts max words label proof names status old new asked
+answers_same contents holds texts max words label proof names outcome old new asked
     (text, reply, taken) = (text, inr (inr (inr (inr (label, proof, names, asked, reply)))), taken)
 
 -- Where it ended without a reply, the words have no answer.
@@ -126,10 +127,10 @@ stops_same contents holds may_fail texts max words asked_label proof names label
     let Stopped : Stop → Type 0 = λ s. Stops contents holds may_fail texts max words s old new in
     subst Stopped (sym adds) (inr (asked_label, proof, names, asked, h.0, given), h.1)
 stops_same contents holds may_fail texts max words asked_label proof names label CannotWrite told
-    old new asked given adds (text, status, reply, broke) =
+    old new asked given adds (text, outcome, reply, broke) =
     let Stopped : Stop → Type 0 = λ s. Stops contents holds may_fail texts max words s old new in
     subst Stopped (sym adds)
-    (text, status, inr (inr (inr (inr (asked_label, proof, names, asked, reply)))), broke)
+    (text, outcome, inr (inr (inr (inr (asked_label, proof, names, asked, reply)))), broke)
 stops_same contents holds may_fail texts max words asked_label proof names label Memory told
     old new asked given adds h =
     let Stopped : Stop → Type 0 = λ s. Stops contents holds may_fail texts max words s old new in
@@ -137,10 +138,10 @@ stops_same contents holds may_fail texts max words asked_label proof names label
 
 -- A comparison ends as the command over the files does, once the proof is read.
 pub same_replies : {O E : Type 0} (contents : O → Option (List ℕ)) (holds : List ℕ → KnownFile) (max : ℕ) (label proof : List ℕ) (names : List (List ℕ)) (command : Command)
-    (given : PlainFile) (r : Result Status E) (old new : Counted O) → IsProofRead holds proof max given → IsSameCommand label given.bytes command
-    → IfOk r (λ status. (text : List ℕ) × IsReplyOver holds command names max text (number_of status) × TakesWhole contents text old new)
-    → IfOk r (λ status. (text : List ℕ) × IsSameReplyOver holds label proof names max text (number_of status) × TakesWhole contents text old new)
-same_replies contents holds max label proof names command given (Ok status) old new read asks (text, reply, taken) =
+    (given : PlainFile) (r : Result Answer E) (old new : Counted O) → IsProofRead holds proof max given → IsSameCommand label given.bytes command
+    → IfOk r (λ answer. (text : List ℕ) × IsReplyOver holds command names max text (outcome_of answer) × TakesWhole contents text old new)
+    → IfOk r (λ answer. (text : List ℕ) × IsSameReplyOver holds label proof names max text (outcome_of answer) × TakesWhole contents text old new)
+same_replies contents holds max label proof names command given (Ok answer) old new read asks (text, reply, taken) =
     (text, inr (given, read, command, asks, reply), taken)
 same_replies contents holds max label proof names command given (Err e) old new read asks h = tt
 
@@ -153,8 +154,8 @@ same_stops contents holds may_fail max label proof names command given (Ok v) ol
 same_stops contents holds may_fail max label proof names command given (Err (Usage text)) old new read asks h = absurd h
 same_stops contents holds may_fail max label proof names command given (Err NotText) old new read asks h = absurd h
 same_stops contents holds may_fail max label proof names command given (Err (CannotRead name told)) old new read asks h = (inr (given, read, h.0), h.1)
-same_stops contents holds may_fail max label proof names command given (Err CannotWrite) old new read asks (text, status, reply, broke) =
-    (text, status, inr (given, read, command, asks, reply), broke)
+same_stops contents holds may_fail max label proof names command given (Err CannotWrite) old new read asks (text, outcome, reply, broke) =
+    (text, outcome, inr (given, read, command, asks, reply), broke)
 same_stops contents holds may_fail max label proof names command given (Err Memory) old new read asks h = h
 
 -- The line that the proof holds too many bytes broke off.
@@ -165,17 +166,28 @@ pub same_too_long : {O T : Type 0} (contents : O → Option (List ℕ)) (holds :
 same_too_long contents holds may_fail label proof names max (Ok v) old new stop broke long = tt
 same_too_long contents holds may_fail label proof names max (Err s) old new stop broke long =
     let Stopped : Stop → Type 0 = λ s. StopsSame contents holds may_fail label proof names max s old new in
-    subst Stopped (sym stop) (codes "text F3 0\n", 4, inl (long, refl, refl), broke)
+    subst Stopped (sym stop) (codes "text F3 0\n", quiet 4, inl (long, refl, refl), broke)
 
--- The words were answered, and standard error left alone.
-pub ends_answered : {O E : Type 0} (contents : O → Option (List ℕ)) (said : E → Option (List ℕ)) (holds : List ℕ → KnownFile)
-    (may_fail : List ℕ → Type 0) (texts : Texts) (max : ℕ) (words : List (List ℕ)) (status number : ℕ) (old new : Counted O) (err : Counted E)
-    → number ≡ status
-    → ((text : List ℕ) × AnswersWords holds texts max words text status × TakesWhole contents text old new)
-    → Ends contents said holds may_fail texts max words number old new err err
-ends_answered contents said holds may_fail texts max words status number old new err same (text, answers, taken) =
-    let Answered : ℕ → Type 0 = λ n. AnswersWords holds texts max words text n in
-    inl (record { text = text; answers = subst Answered (sym same) answers; written = taken; quiet = (refl, refl) })
+-- The words were answered, and standard error was told the notes.
+pub ends_answered : {O E : Type 0} (contents : O → Option (List ℕ)) (said : E → Option (List ℕ))
+    (holds : List ℕ → KnownFile) (may_fail : List ℕ → Type 0) (texts : Texts) (max : ℕ)
+    (words : List (List ℕ)) (outcome : Outcome) (number : ℕ) (notes : List ℕ)
+    (old new : Counted O) (err err' : Counted E)
+    → number ≡ outcome.status → notes ≡ outcome.notes → TellsNotes said notes err err'
+    → ((text : List ℕ) × AnswersWords holds texts max words text outcome
+    × TakesWhole contents text old new)
+    → Ends contents said holds may_fail texts max words number old new err err'
+ends_answered contents said holds may_fail texts max words outcome number notes old new err err'
+    same noted told (text, answers, taken) =
+    let Answered : ℕ → Type 0 =
+    λ n. AnswersWords holds texts max words text (record { status = n; notes = outcome.notes }) in
+    inl (record {
+      text = text;
+      notes = outcome.notes;
+      answers = subst Answered (sym same) answers;
+      written = taken;
+      noted = subst (λ n. TellsNotes said n err err') noted told;
+    })
 
 -- The words were not read, and standard error was told why.
 pub ends_unread : {O E : Type 0} (said : E → Option (List ℕ)) (may_fail : Type 0) (status : Status) (number : ℕ) (stop : Stop) (fault : ArgumentFault)

@@ -1,6 +1,9 @@
 pub mod Answering
 pub mod Asked
+pub mod AskedCodes
+pub mod Found
 pub mod FilesRead
+pub mod LeftOutNames
 pub mod PartsWritten
 pub mod Runs
 pub mod Tellings

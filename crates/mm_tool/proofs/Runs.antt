@@ -20,7 +20,9 @@ use Rattle.mm_check.specs.declared.command.RunFault.TheVariants as run
 use Rattle.mm_check.specs.declared.status.Status.{Status}
 use Rattle.mm_tool.proofs.FilesRead.{error_keeps}
 use Rattle.mm_tool.specs.Folder.{AreHeld, AreTooLong, KnownFile}
+use Rattle.mm_tool.specs.Answer.{Outcome, quiet}
 use Rattle.mm_tool.specs.Ending.{BreaksOff, StopsRun, stop_of}
+use Rattle.mm_tool.specs.Notes.{AreNotesOn}
 use Rattle.mm_tool.specs.declared.stop.Stop.{Stop}
 use Rattle.mm_tool.specs.declared.stop.Stop.TheVariants.{CannotWrite}
 
@@ -32,37 +34,38 @@ pub stops_too_long : {O T : Type 0} (contents : O → Option (List ℕ)) (holds 
 stops_too_long contents holds may_fail command names max (Ok v) old new stop broke long = tt
 stops_too_long contents holds may_fail command names max (Err s) old new stop broke long =
     let Stopped : Stop → Type 0 = λ s. StopsRun contents holds may_fail command names max s old new in
-    subst Stopped (sym stop) (codes "load F3\n", 4, inr (long, refl, refl), broke)
+    subst Stopped (sym stop) (codes "load F3\n", quiet 4, inr (long, refl, refl), broke)
 
 abbrev run_error : RunFault → Result Status RunFault
 run_error fault = Err fault
 
 -- The reply over the files that were read broke off, or memory for it was wanting.
 stops_run : {O : Type 0} (contents : O → Option (List ℕ)) (holds : List ℕ → KnownFile) (may_fail : List ℕ → Type 0)
-    (command : Command) (names : List (List ℕ)) (max : ℕ) (fault : RunFault) (files : List PlainFile) (old new : Counted O)
-    → AreHeld holds names files → total_bytes files ≤ max
+    (command : Command) (names : List (List ℕ)) (max : ℕ) (fault : RunFault) (files : List PlainFile) (notes : List ℕ) (old new : Counted O)
+    → AreHeld holds names files → total_bytes files ≤ max → AreNotesOn files notes
     → (IsErrOf (run_error fault) run.Device → WritesBeginningOf files command (contents (inner_of old)) (contents (inner_of new)))
     → (IsErrOf (run_error fault) run.Memory → inner_of new ≡ inner_of old)
     → (IsErrOf (run_error fault) run.Device → faults_of new ≡ faults_of old + 1)
     → ((IsErrOf (run_error fault) run.Device → ⊥) → faults_of new ≡ faults_of old)
     → StopsRun contents holds may_fail command names max (stop_of fault) old new
-stops_run contents holds may_fail command names max run.Device files old new held within device memory counted uncounted =
+stops_run contents holds may_fail command names max run.Device files notes old new held within noted device memory counted uncounted =
     let (text, status, reply, beginning) = device refl in
-    (text, status, inl (files, held, within, reply), (beginning, counted refl))
-stops_run contents holds may_fail command names max run.Memory files old new held within device memory counted uncounted =
+    let outcome : Outcome = record { status = status; notes = notes } in
+    (text, outcome, inl (files, held, within, reply, noted), (beginning, counted refl))
+stops_run contents holds may_fail command names max run.Memory files notes old new held within noted device memory counted uncounted =
     (memory refl, uncounted (λ other. absurd (cc)))
 
 pub stops_at_run : {O T : Type 0} (contents : O → Option (List ℕ)) (holds : List ℕ → KnownFile) (may_fail : List ℕ → Type 0)
-    (command : Command) (names : List (List ℕ)) (max : ℕ) (r : Result T Stop) (fault : RunFault) (given files : List PlainFile) (old new : Counted O)
-    → IsErrAnd r (λ stop. stop ≡ stop_of fault) → ((text : List ℕ) (status : ℕ) → IsReplyTo given command text status → IsReplyTo files command text status) → AreHeld holds names files → total_bytes files ≤ max
+    (command : Command) (names : List (List ℕ)) (max : ℕ) (r : Result T Stop) (fault : RunFault) (given files : List PlainFile) (notes : List ℕ) (old new : Counted O)
+    → IsErrAnd r (λ stop. stop ≡ stop_of fault) → ((text : List ℕ) (status : ℕ) → IsReplyTo given command text status → IsReplyTo files command text status) → AreHeld holds names files → total_bytes files ≤ max → AreNotesOn files notes
     → (IsErrOf (run_error fault) run.Device → WritesBeginningOf given command (contents (inner_of old)) (contents (inner_of new)))
     → (IsErrOf (run_error fault) run.Memory → inner_of new ≡ inner_of old)
     → (IsErrOf (run_error fault) run.Device → faults_of new ≡ faults_of old + 1)
     → ((IsErrOf (run_error fault) run.Device → ⊥) → faults_of new ≡ faults_of old)
     → IfErr r (λ stop. StopsRun contents holds may_fail command names max stop old new)
-stops_at_run contents holds may_fail command names max r fault given files old new is same held within device memory counted uncounted =
+stops_at_run contents holds may_fail command names max r fault given files notes old new is same held within noted device memory counted uncounted =
     error_keeps r (stop_of fault) (λ stop. StopsRun contents holds may_fail command names max stop old new) is
-    (stops_run contents holds may_fail command names max fault files old new held within (λ e. let (text, status, reply, beginning) = device e in (text, status, same text status reply, beginning)) memory counted uncounted)
+    (stops_run contents holds may_fail command names max fault files notes old new held within noted (λ e. let (text, status, reply, beginning) = device e in (text, status, same text status reply, beginning)) memory counted uncounted)
 
 -- The file about which a command asks is one of those that were read, of which there are as many as
 -- names.

@@ -36,7 +36,7 @@ more_names files file names i d within named name =
 -- ## The reply over what was read is that over the whole files
 
 -- nothing was left out
-same_files : (wholes reads : List PlainFile) → AllZip (IsReadAs Kept) wholes reads → reads ≡ wholes
+pub same_files : (wholes reads : List PlainFile) → AllZip (IsReadAs Kept) wholes reads → reads ≡ wholes
 same_files [] [] all = refl
 same_files [] (read ∷ reads) all = absurd all
 same_files (whole ∷ wholes) [] all = absurd all
@@ -48,13 +48,13 @@ same_files (whole ∷ wholes) (read ∷ reads) all =
     ap (λ f. f ∷ reads) first ∙ ap (λ l. whole ∷ l) rest
 
 -- what comments say was left out
-alike_files : (wholes reads : List PlainFile) → AllZip (IsReadAs LeftOut) wholes reads → AllZip AreAlike reads wholes
+pub alike_files : (wholes reads : List PlainFile) → AllZip (IsReadAs LeftOut) wholes reads → AllZip AreAlike reads wholes
 alike_files [] [] all = tt
 alike_files [] (read ∷ reads) all = absurd all
 alike_files (whole ∷ wholes) [] all = absurd all
 alike_files (whole ∷ wholes) (read ∷ reads) all = ((sym all.0.0, λ file. sym (all.0.1.0 file)), alike_files wholes reads all.1)
 
-fewer_bytes : (wholes reads : List PlainFile) → AllZip (IsReadAs LeftOut) wholes reads → total_bytes reads ≤ total_bytes wholes
+pub fewer_bytes : (wholes reads : List PlainFile) → AllZip (IsReadAs LeftOut) wholes reads → total_bytes reads ≤ total_bytes wholes
 fewer_bytes [] [] all = omega arith
 fewer_bytes [] (read ∷ reads) all = absurd all
 fewer_bytes (whole ∷ wholes) [] all = absurd all

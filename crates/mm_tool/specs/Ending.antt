@@ -1,6 +1,7 @@
 -- How the program ends: with an answer on standard output and its status, or with a line on
 -- standard error.
-use Rattle.std.specs.Prelude.{◌≡◌, ◌≢◌, ℕ, ◌+◌, ◌<◌, ◌≤◌, length, List, [], ◌∷◌, ◌++◌, Option, Contains, codes}
+use Rattle.std.specs.Prelude.{◌≡◌, ◌≢◌, ℕ, ◌+◌, ◌<◌, ◌≤◌, length, List, [], ◌∷◌, ◌++◌, Option}
+use Rattle.std.specs.Prelude.{Contains, codes}
 use Rattle.std.specs.Prelude.{string_bytes, ◌⊎◌, Bool, Some, None, nat_eq, option_map, if◌then◌else◌}
 use Rattle.std.specs.Borrow.{Bor}
 use Rattle.std.specs.List.{AllByRecursion, ends_with}
@@ -20,12 +21,14 @@ use Rattle.mm_check.specs.declared.status.Status.{Status}
 use Rattle.mm_check.specs.declared.status.Status.TheVariants as status
 use Rattle.clap.specs.Words.{Text}
 use Rattle.mm_tool.specs.Folder.{AreHeld, AreTooLong, IsHeld, IsUnreadable, KnownFile, MayHold}
+use Rattle.mm_tool.specs.Answer.{Outcome, quiet}
+use Rattle.mm_tool.specs.Explained.{IsExplanation, IsUnknownCode}
+use Rattle.mm_tool.specs.Notes.{AreNotesOn}
 use Rattle.mm_tool.specs.Words.{AsksHelp, AsksVersion, AsksExplain, AsksRun, AsksSame}
 use Rattle.mm_tool.specs.Words.{AreRefusedWords}
 use Rattle.mm_tool.specs.declared.folder.ArgumentFault.{ArgumentFault}
 use Rattle.mm_tool.specs.declared.folder.ArgumentFault.TheVariants as argument
 use Rattle.mm_tool.specs.declared.pages.Page.{Page}
-use Rattle.mm_tool.specs.declared.rule_text.RuleText.{RuleText}
 use Rattle.mm_tool.specs.declared.texts.Texts.{Texts}
 use Rattle.mm_tool.specs.declared.stop.Stop.{Stop}
 use Rattle.mm_tool.specs.declared.stop.Stop.TheVariants.{Usage, NotText, CannotRead, CannotWrite}
@@ -53,13 +56,13 @@ IsUntouched old new = (inner_of new ≡ inner_of old) × (faults_of new ≡ faul
 
 -- ---- answers
 
--- This is the reply to the command over the files with these names, or the one that says that they
--- hold too many bytes.
-abbrev pub IsReplyOver : (List ℕ → KnownFile) → Command → List Text → ℕ → List ℕ → ℕ → Type 0
-IsReplyOver holds command names max text status =
+-- This is the reply to the command over the files with these names, with the notes on those that
+-- weren't included; or the one that says that they hold too many bytes.
+abbrev pub IsReplyOver : (List ℕ → KnownFile) → Command → List Text → ℕ → List ℕ → Outcome → Type 0
+IsReplyOver holds command names max text outcome =
     ((files : List PlainFile) × AreHeld holds names files × (total_bytes files ≤ max)
-    × IsReplyTo files command text status)
-    ⊎ (AreTooLong holds names max × (text ≡ codes "load F3\n") × (status ≡ 4))
+    × IsReplyTo files command text outcome.status × AreNotesOn files outcome.notes)
+    ⊎ (AreTooLong holds names max × (text ≡ codes "load F3\n") × (outcome ≡ quiet 4))
 
 -- the command asks whether this text is the same proof as that of the theorem with this label
 abbrev pub IsSameCommand : (label text : List ℕ) → Command → Type 0
@@ -74,19 +77,13 @@ IsProofRead holds proof max given =
 -- This is the reply to the question whether the text in the file with this name is the same proof as
 -- that of the theorem with this label, or the one that says that it holds too many bytes.
 abbrev pub IsSameReplyOver : (List ℕ → KnownFile) → (label proof : Text) → List Text → ℕ
-    → List ℕ → ℕ → Type 0
-IsSameReplyOver holds label proof names max text status =
-    (MayHold (holds proof) (λ all. max < length all) × (text ≡ codes "text F3 0\n") × (status ≡ 4))
+    → List ℕ → Outcome → Type 0
+IsSameReplyOver holds label proof names max text outcome =
+    (MayHold (holds proof) (λ all. max < length all) × (text ≡ codes "text F3 0\n")
+    × (outcome ≡ quiet 4))
     ⊎ ((given : PlainFile) × IsProofRead holds proof max given
     × (command : Command) × IsSameCommand label given.bytes command
-    × IsReplyOver holds command names max text status)
-
--- This is the text of the rule with the asked code; where none is asked for, the list of the codes.
-abbrev pub IsExplanation : Texts → List Text → List ℕ → Type 0
-IsExplanation texts [] text = text ≡ texts.codes.now
-IsExplanation texts (code ∷ others) text =
-    (rule : RuleText) × Contains texts.rules.now rule × (rule.code.now ≡ code)
-    × (text ≡ rule.text.now)
+    × IsReplyOver holds command names max text outcome)
 
 -- This is the page of the command with the asked name; where none is asked for, the whole help.
 abbrev pub IsHelp : Texts → (topic : Option Text) → List ℕ → Type 0
@@ -107,28 +104,17 @@ IsHelpFault texts topic (Usage text) = IsUnknownCommand texts topic
 IsHelpFault texts topic Memory = Unit {0}
 IsHelpFault texts topic other = ⊥
 
--- No rule has the asked code.
-abbrev pub IsUnknownCode : Texts → List Text → Type 0
-IsUnknownCode texts [] = ⊥
-IsUnknownCode texts (code ∷ others) = AllByRecursion (λ rule. rule.code.now ≢ code) texts.rules.now
-
--- why there is no explanation
-abbrev pub IsExplanationFault : Texts → List Text → Stop → Type 0
-IsExplanationFault texts asked (Usage text) = IsUnknownCode texts asked
-IsExplanationFault texts asked Memory = Unit {0}
-IsExplanationFault texts asked other = ⊥
-
--- This text, with this status, answers the words.
-abbrev pub AnswersWords : (List ℕ → KnownFile) → Texts → ℕ → List Text → List ℕ → ℕ → Type 0
-AnswersWords holds texts max words text status =
-    ((topic : Option Text) × AsksHelp words topic × IsHelp texts topic text × (status ≡ 0))
-    ⊎ ((AsksVersion words × (text ≡ texts.version.now) × (status ≡ 0))
+-- This text answers the words, with this status and these notes.
+abbrev pub AnswersWords : (List ℕ → KnownFile) → Texts → ℕ → List Text → List ℕ → Outcome → Type 0
+AnswersWords holds texts max words text outcome =
+    ((topic : Option Text) × AsksHelp words topic × IsHelp texts topic text × (outcome ≡ quiet 0))
+    ⊎ ((AsksVersion words × (text ≡ texts.version.now) × (outcome ≡ quiet 0))
     ⊎ (((asked : List Text) × AsksExplain words asked × IsExplanation texts asked text
-    × (status ≡ 0))
+    × (outcome ≡ quiet 0))
     ⊎ (((command : Command) × (names : List Text) × AsksRun words command names
-    × IsReplyOver holds command names max text status)
+    × IsReplyOver holds command names max text outcome)
     ⊎ ((label proof : Text) × (names : List Text) × AsksSame words label proof names
-    × IsSameReplyOver holds label proof names max text status))))
+    × IsSameReplyOver holds label proof names max text outcome))))
 
 -- ---- ends without an answer
 
@@ -208,7 +194,7 @@ abbrev pub StopsRun : {O : Type 0} → (O → Option (List ℕ)) → (List ℕ �
 StopsRun contents holds may_fail command names max (CannotRead name label) old new =
     IsUnreadable holds may_fail names max name.now × IsUntouched old new
 StopsRun contents holds may_fail command names max CannotWrite old new =
-    (text : List ℕ) × (status : ℕ) × IsReplyOver holds command names max text status
+    (text : List ℕ) × (outcome : Outcome) × IsReplyOver holds command names max text outcome
     × BreaksOff contents text old new
 StopsRun contents holds may_fail command names max Memory old new = IsUntouched old new
 StopsRun contents holds may_fail command names max other old new = ⊥
@@ -229,7 +215,7 @@ abbrev pub StopsSame : {O : Type 0} → (O → Option (List ℕ)) → (List ℕ 
 StopsSame contents holds may_fail label proof names max (CannotRead name told) old new =
     IsProofUnreadable holds may_fail proof names max name.now × IsUntouched old new
 StopsSame contents holds may_fail label proof names max CannotWrite old new =
-    (text : List ℕ) × (status : ℕ) × IsSameReplyOver holds label proof names max text status
+    (text : List ℕ) × (outcome : Outcome) × IsSameReplyOver holds label proof names max text outcome
     × BreaksOff contents text old new
 StopsSame contents holds may_fail label proof names max Memory old new = IsUntouched old new
 StopsSame contents holds may_fail label proof names max other old new = ⊥
@@ -253,7 +239,7 @@ Stops contents holds may_fail texts max words (CannotRead name told) old new =
     × (option_map (λ l. l.now) told ≡ Some label)))
     × IsUntouched old new
 Stops contents holds may_fail texts max words CannotWrite old new =
-    (text : List ℕ) × (status : ℕ) × AnswersWords holds texts max words text status
+    (text : List ℕ) × (outcome : Outcome) × AnswersWords holds texts max words text outcome
     × BreaksOff contents text old new
 Stops contents holds may_fail texts max words Memory old new = IsUntouched old new
 
@@ -264,14 +250,22 @@ abbrev pub TellsLine : {E : Type 0} → (E → Option (List ℕ)) → List ℕ �
     → Type 0
 TellsLine contents line old new = TakesWhole contents line old new ⊎ BreaksOff contents line old new
 
--- The words were answered, with this status, and standard error is as it was.
-pub record EndsAnswered {O E : Type 0} (contents : O → Option (List ℕ))
+-- The notes were told, or a beginning of them, where a call failed. Where there are none, standard
+-- error wasn't called.
+abbrev pub TellsNotes : {E : Type 0} → (E → Option (List ℕ)) → List ℕ → Counted E → Counted E
+    → Type 0
+TellsNotes contents [] old new = IsUntouched old new
+TellsNotes contents (byte ∷ bytes) old new = TellsLine contents (byte ∷ bytes) old new
+
+-- The words were answered, with this status, and standard error was told the notes.
+pub record EndsAnswered {O E : Type 0} (contents : O → Option (List ℕ)) (said : E → Option (List ℕ))
     (holds : List ℕ → KnownFile) (texts : Texts) (max : ℕ)
     (words : List Text) (status : ℕ) (out out' : Counted O) (err err' : Counted E) : Type 0 where
   pub text : List ℕ
-  pub answers : AnswersWords holds texts max words text status
+  pub notes : List ℕ
+  pub answers : AnswersWords holds texts max words text (record { status = status; notes = notes })
   pub written : TakesWhole contents text out out'
-  pub quiet : IsUntouched err err'
+  pub noted : TellsNotes said notes err err'
 
 -- They weren't, for this reason, and standard error was told.
 pub record EndsStopped {O E : Type 0} (contents : O → Option (List ℕ)) (said : E → Option (List ℕ))
@@ -289,7 +283,7 @@ abbrev pub Ends : {O E : Type 0} → (O → Option (List ℕ)) → (E → Option
     → (List ℕ → KnownFile) → (List ℕ → Type 0) → Texts
     → ℕ → List Text → ℕ → Counted O → Counted O → Counted E → Counted E → Type 0
 Ends contents said holds may_fail texts max words status out out' err err' =
-    EndsAnswered contents holds texts max words status out out' err err'
+    EndsAnswered contents said holds texts max words status out out' err err'
     ⊎ EndsStopped contents said holds may_fail texts max words status out out' err err'
 
 -- The words weren't all read: one may not be UTF-8, or memory was wanting.

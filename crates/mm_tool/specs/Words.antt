@@ -57,10 +57,10 @@ proof_rule = record (new_rule (codes "PROOF")) {
   action = Some Set;
 }
 
--- `[CODE]`: at most one
+-- `[CODE..]`: any number
 abbrev pub code_rule : Rule
 code_rule = record (new_rule (codes "CODE")) {
-  range = Some (record { start_inclusive = 0; end_inclusive = 1 });
+  range = Some (record { start_inclusive = 0; end_inclusive = usize_max });
   action = Some Append;
 }
 
@@ -106,7 +106,7 @@ packed_line = form_line (codes "packed")
 abbrev pub same_line : App
 same_line = with_rule (with_rule (with_rule (new_app (codes "same")) label_rule) proof_rule) files_rule
 
--- `explain [CODE]`
+-- `explain [CODE..]`
 abbrev pub explain_line : App
 explain_line = with_rule (new_app (codes "explain")) code_rule
 
@@ -143,7 +143,7 @@ forms_line =
 -- `mm check [--strict] FILES..`, `mm axioms LABEL FILES..`, `mm show LABEL FILES..`,
 -- `mm normal [--file] LABEL FILES..`, `mm packed [--file] LABEL FILES..`, both with
 -- `--all NAME FILES..` too,
--- `mm same LABEL PROOF FILES..`, `mm explain [CODE]`, `mm help [COMMAND]`, `mm version`,
+-- `mm same LABEL PROOF FILES..`, `mm explain [CODE..]`, `mm help [COMMAND]`, `mm version`,
 -- `mm --version`, and everywhere `--help`
 abbrev pub command_line : App
 command_line =
@@ -190,7 +190,7 @@ AsksVersion words =
     IsAmong DisplayVersion (fault_of command_line words)
     ⊎ ((rows : List Row) × Commands words (codes "version") rows)
 
--- They ask to explain these codes: none, or one.
+-- They ask to explain the rule that these words name; without any, to list all codes.
 abbrev pub AsksExplain : List Text → List Text → Type 0
 AsksExplain words asked =
     (rows : List Row) × Commands words (codes "explain") rows

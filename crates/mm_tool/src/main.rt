@@ -1,10 +1,13 @@
 //! The program `mm`: verifies databases of the Metamath language.
 #![tactic(auto)]
 
+mod answer;
 mod code_lines;
+mod explain;
 mod files;
 mod folder;
 mod help;
+mod notes;
 mod pages;
 mod rule_text;
 mod rules;
@@ -18,6 +21,7 @@ mod words;
 use folder::Host;
 use mm_text::{Counted, Seed};
 use pages::program_pages;
+use rules::rule_chapters;
 use std::process::ExitCode;
 use std::random::RandomSource;
 use texts::program_texts;
@@ -38,7 +42,8 @@ fn main(rt: HostRuntime) -> ExitCode {
     let host = Host(&rt);
     let seed = seed_from(&rt);
     let pages = program_pages();
-    let texts = program_texts(&pages);
+    let chapters = rule_chapters();
+    let texts = program_texts(&pages, &chapters);
     ExitCode::from(serve::start(rt.alloc(), seed, &host, &host, &texts, &mut out, &mut err))
 }
 

@@ -2,30 +2,50 @@
 
 use crate::rule_text::RuleText;
 
-pub(crate) const RULES: &[RuleText<'static>] = &[
+// What is proved of a function that names a constant holds each byte of it. So each
+// chapter is a constant of its own, and comes from a call.
+
+const FILES: &[RuleText<'static>] = &[
     RuleText {
         code: "F1",
         text: "F1: no file was handed in, which only the library can answer: the program asks
 for a file.
 It has no place. Reply: `load F1`
+Usual cause: a caller of the library handed in an empty list.
+Remedy: hand in the top file at least.
 ",
     },
     RuleText {
         code: "F2",
         text: "F2: two handed names are equal, as in `mm check f.mm f.mm`.
 It has no place. Reply: `load F2`
+Usual cause: a file is named twice, as by itself and by a pattern of the shell.
+Remedy: name each file once.
 ",
     },
     RuleText {
         code: "F3",
         text: "F3: the files hold more than 1,073,741,824 bytes in all.
 It has no place. Reply: `load F3`
+Usual cause: several databases were handed in at once, or a file that is no
+database.
+Remedy: hand in the files of one database alone.
 ",
     },
+];
+
+fn files() -> &'static [RuleText<'static>] {
+    FILES
+}
+
+const TEXT: &[RuleText<'static>] = &[
     RuleText {
         code: "X1",
         text: "X1: a token, in a comment too, holds a byte outside 0x21 to 0x7E. Place: that
 token. Here it holds the two bytes 0xC3 and 0xA9.
+Usual cause: an accented letter, a typographic quote or a dash was typed or
+pasted.
+Remedy: write the token with ASCII characters alone, in a comment too.
 
 This file breaks it:
     $c é $.
@@ -37,6 +57,8 @@ The reply:
     RuleText {
         code: "X2",
         text: "X2: a file ends in a comment. Place: the `$(`.
+Usual cause: the `$)` of the file's last comment is missing.
+Remedy: end the comment with `$)`, with white space before the `$)`.
 
 This file breaks it:
     $c a $.
@@ -49,6 +71,8 @@ The reply:
     RuleText {
         code: "X3",
         text: "X3: in a comment, a token other than `$)` holds `$(` or `$)`. Place: that token.
+Usual cause: the comment before isn't closed, or its `$)` touches a word.
+Remedy: close the comment before with `$)`, with white space on both sides.
 
 This file breaks it:
     $( a$) $)
@@ -61,6 +85,10 @@ The reply:
         code: "X4",
         text: "X4: `$)` stands outside a comment, or `$]` outside an inclusion. Place: that
 token. So `$)` is X4 between `$[` and `$]` too.
+Usual cause: a comment or an inclusion was closed twice, or its `$(` or `$[` is
+missing or touches a word.
+Remedy: delete the token, or write the missing `$(` or `$[` with white space on
+both sides.
 
 This file breaks it:
     p $a $) $.
@@ -73,6 +101,10 @@ The reply:
         code: "X5",
         text: "X5: after `$[` comes a token with `$` where the name should stand, or after the
 name a token other than `$]`. Place: that token.
+Usual cause: the name or the `$]` of the inclusion is missing, or the name has
+white space in it.
+Remedy: write `$[ NAME $]`, with one word for the name and white space around
+it.
 
 This file breaks it:
     $[ $]
@@ -85,6 +117,9 @@ The reply:
         code: "X6",
         text: "X6: `$[` stands in a block or in a statement. Place: the `$[`. It is reported at
 once: the inclusion need not be whole, nor its file be handed in.
+Usual cause: a statement or a block before the inclusion isn't closed.
+Remedy: close the statement or the block, or move the inclusion to where none is
+open.
 
 This file breaks it:
     ${ $[ a.mm $] $}
@@ -96,6 +131,10 @@ The reply:
     RuleText {
         code: "X7",
         text: "X7: the name of a whole inclusion was not handed in. Place: the name.
+Usual cause: the included file wasn't handed in, or was handed in under another
+name, as with a folder before it.
+Remedy: hand the file in under the very name that stands in `$[ $]`, from the
+folder in which it lies: no path is resolved.
 
 This file breaks it:
     $[
@@ -109,6 +148,8 @@ The reply:
         code: "X8",
         text: "X8: a file ends in a statement. Place: the statement's first token, here the
 label in line 1.
+Usual cause: the `$.` of the file's last statement is missing.
+Remedy: end the statement with `$.` in the file in which it begins.
 
 This file breaks it:
     p $a
@@ -122,6 +163,8 @@ The reply:
         code: "X9",
         text: "X9: a token outside comments and inclusions holds `$` and is no keyword. Place:
 that token.
+Usual cause: a keyword is misspelled or touches a word, as in `b$.`.
+Remedy: write white space before and after each keyword.
 
 This file breaks it:
     $c a $.
@@ -131,10 +174,20 @@ The reply:
     no f.mm 2 - X9 0
 ",
     },
+];
+
+fn text() -> &'static [RuleText<'static>] {
+    TEXT
+}
+
+const STATEMENTS: &[RuleText<'static>] = &[
     RuleText {
         code: "S1",
         text: "S1: `$f`, `$e`, `$a`, `$p`, `$.` or `$=` stands where a statement should begin.
 Place: that token.
+Usual cause: the label is missing, or a `$.` too many ended the statement
+before.
+Remedy: write a label before the keyword, or delete the `$.` that is too many.
 
 This file breaks it:
     $a x $.
@@ -147,6 +200,10 @@ The reply:
         code: "S2",
         text: "S2: a token that is no keyword stands where a statement should begin, and holds
 a byte that a label may not hold. Place: that token.
+Usual cause: the label holds a character that labels can't have, or text stands
+outside a comment.
+Remedy: spell the label with letters, digits, `.`, `-` and `_` alone, or put the
+text into a comment.
 
 This file breaks it:
     a+ $a x $.
@@ -159,6 +216,10 @@ The reply:
         code: "S3",
         text: "S3: a label isn't followed by `$f`, `$e`, `$a` or `$p`. Place: the token that
 follows it.
+Usual cause: the keyword after the label is missing or misspelled, or text
+stands outside a comment.
+Remedy: write `$f`, `$e`, `$a` or `$p` after the label, or put the text into a
+comment.
 
 This file breaks it:
     p
@@ -173,6 +234,9 @@ The reply:
         text: "S4: a statement holds a keyword that can't stand in that place: `$.` before the
 `$=` of a `$p`, `$=` in any other place, or any other keyword. Place: that
 token.
+Usual cause: the `$.` of the statement before is missing, or a `$p` has no `$=`.
+Remedy: end the statement before this keyword with `$.`, or give the `$p` a `$=`
+and a proof, `?` as long as there is none.
 
 This file breaks it:
     p $p x $.
@@ -186,6 +250,9 @@ The reply:
         text: "S5: `$.` or `$=` ends the symbols after too few of them, or a `$f` has a third
 symbol. Place: that token. A `$d` needs two symbols, a `$f` exactly two, the
 others one.
+Usual cause: a symbol is left out, or a `$f` gives more than a type code and a
+variable.
+Remedy: write the symbols that are missing, or delete those that are too many.
 
 This file breaks it:
     $c $.
@@ -198,6 +265,8 @@ The reply:
         code: "S6",
         text: "S6: `$}` stands where a statement may begin, and no block is open. Place: that
 token.
+Usual cause: the `${` of the block is missing, or the block was closed before.
+Remedy: delete the `$}`, or write the `${` where the block begins.
 
 This file breaks it:
     $}
@@ -210,6 +279,8 @@ The reply:
         code: "S7",
         text: "S7: the top file ends and a block is open. Place: the innermost open `${`, here
 the one in line 2. It may stand in an included file.
+Usual cause: the `$}` of the block is missing.
+Remedy: write the `$}` where the block ends.
 
 This file breaks it:
     $c a $.
@@ -221,10 +292,20 @@ The reply:
     no f.mm 2 - S7 0
 ",
     },
+];
+
+fn statements() -> &'static [RuleText<'static>] {
+    STATEMENTS
+}
+
+const MEANING: &[RuleText<'static>] = &[
     RuleText {
         code: "M1",
         text: "M1: a `$c` stands in a block.
 Place: the statement's first token.
+Usual cause: the `$}` of a block before is missing, or a constant was declared
+beside the hypotheses that use it.
+Remedy: close the block before the `$c`, or move the `$c` out of it.
 
 This file breaks it:
     ${
@@ -240,6 +321,9 @@ The reply:
         text: "M2: a symbol of a `$c` was declared before, as a constant or a variable, active
 or not; or it stands twice in the `$c`.
 Place: the statement's first token.
+Usual cause: two places of the database declare the same symbol.
+Remedy: delete one of the two declarations, or give one of the symbols another
+name.
 
 This file breaks it:
     $c a $. $v x $.
@@ -254,6 +338,9 @@ The reply:
         text: "M3: a symbol of a `$v` is an active variable, was declared a constant, or stands
 twice in the `$v`.
 Place: the statement's first token.
+Usual cause: the variable is declared in the same block before, or in one around
+it.
+Remedy: delete the second declaration, or give the variable another name.
 
 This file breaks it:
     $v x x $.
@@ -266,6 +353,8 @@ The reply:
         code: "M4",
         text: "M4: a symbol of a `$c` or `$v` equals an earlier label.
 Place: the statement's first token.
+Usual cause: a statement has the name of a symbol that is declared further down.
+Remedy: give the symbol or the statement another name.
 
 This file breaks it:
     $c a $. p $a a $.
@@ -279,6 +368,8 @@ The reply:
         code: "M5",
         text: "M5: the label equals an earlier label, also one in a closed block.
 Place: the statement's first token.
+Usual cause: a statement was copied, and its label wasn't changed.
+Remedy: give the statement a label that no other has in the whole database.
 
 This file breaks it:
     $c a $. ${ p $e a $. $}
@@ -292,6 +383,8 @@ The reply:
         code: "M6",
         text: "M6: the label equals a symbol that was declared before, active or not.
 Place: the statement's first token.
+Usual cause: a statement has the name of a symbol.
+Remedy: give the statement another label.
 
 This file breaks it:
     $c a $. a $a a $.
@@ -305,6 +398,10 @@ The reply:
         text: "M7: a symbol of a `$d`, `$f`, `$e`, `$a` or `$p` isn't active: it was never
 declared, or only in a block that is closed.
 Place: the statement's first token.
+Usual cause: the symbol is misspelled, touches another as in `(x`, or was
+declared in a block that is closed.
+Remedy: spell the symbol as its declaration does, with white space around it, or
+declare it before the statement.
 
 This file breaks it:
     $c a $. p $a a z $.
@@ -317,6 +414,9 @@ The reply:
         code: "M8",
         text: "M8: a member of a `$d` is a constant.
 Place: the statement's first token.
+Usual cause: a constant has a name that is like that of the variable that was
+meant.
+Remedy: name variables alone in a `$d`.
 
 This file breaks it:
     $c a $. $v x $.
@@ -330,6 +430,8 @@ The reply:
         code: "M9",
         text: "M9: a member stands twice in a `$d`.
 Place: the statement's first token.
+Usual cause: a variable was meant to be another one.
+Remedy: name each variable of a `$d` once.
 
 This file breaks it:
     $v x $.
@@ -343,6 +445,8 @@ The reply:
         code: "M10",
         text: "M10: the type code of a `$f` is a variable.
 Place: the statement's first token.
+Usual cause: the type code and the variable are swapped.
+Remedy: write the type code first, a constant, and then the variable.
 
 This file breaks it:
     $v x y $. p $f x y $.
@@ -355,6 +459,8 @@ The reply:
         code: "M11",
         text: "M11: the second symbol of a `$f` is a constant.
 Place: the statement's first token.
+Usual cause: a symbol that was meant to be a variable is declared by `$c`.
+Remedy: declare the symbol by `$v`, or name a variable in its place.
 
 This file breaks it:
     $c a b $. p $f a b $.
@@ -367,6 +473,9 @@ The reply:
         code: "M12",
         text: "M12: the variable of a `$f` has an active `$f`.
 Place: the statement's first token.
+Usual cause: the variable was given a type code before, in this block or in one
+around it.
+Remedy: delete the second `$f`, or use another variable.
 
 This file breaks it:
     $c a b $. $v x $. fx $f a x $.
@@ -381,6 +490,8 @@ The reply:
         text: "M13: an earlier `$f`, active or not, gave the variable of that name another type
 code.
 Place: the statement's first token.
+Usual cause: a variable's name is used in two blocks for two types.
+Remedy: use a variable of another name for the other type.
 
 This file breaks it:
     $c a b $.
@@ -395,6 +506,8 @@ The reply:
         code: "M14",
         text: "M14: the first symbol of an `$e`, `$a` or `$p` is a variable.
 Place: the statement's first token.
+Usual cause: the type code before the expression, as `|-`, is missing.
+Remedy: begin the expression with a constant.
 
 This file breaks it:
     $v x $. p $a x $.
@@ -407,6 +520,9 @@ The reply:
         code: "M15",
         text: "M15: a variable in an `$e`, `$a` or `$p` has no active `$f`.
 Place: the statement's first token.
+Usual cause: the `$f` of the variable is missing, or stands in a block that is
+closed.
+Remedy: give the variable a type code by a `$f` before the statement.
 
 This file breaks it:
     $c a $. $v x $. p $a a x $.
@@ -415,11 +531,21 @@ The reply:
     no f.mm 1 p M15 0
 ",
     },
+];
+
+fn meaning() -> &'static [RuleText<'static>] {
+    MEANING
+}
+
+const PROOFS: &[RuleText<'static>] = &[
     RuleText {
         code: "P1",
         text: "P1: the first token of a complete proof is `(`, and there is no `)` among the
 others. Step 0.
 Place: the statement's first token.
+Usual cause: the `)` after the listed labels is missing, or touches a word.
+Remedy: write the `)` between the labels and the letters, with white space on
+both sides.
 
 This file breaks it:
     $c a $. one $a a $.
@@ -435,6 +561,10 @@ The reply:
 one, that isn't that of a statement before this `$p`. Step 0, whatever the steps
 before it do, and whether or not a listed label is used.
 Place: the statement's first token.
+Usual cause: a label is misspelled, or is that of a statement further down; the
+line is that of the theorem, not of the label.
+Remedy: spell each label of the proof as its statement does, or move the theorem
+below the statements that it uses.
 
 This file breaks it:
     $c a $. p $p a $= p $.
@@ -447,6 +577,10 @@ The reply:
         code: "P3",
         text: "P3: a label is that of a hypothesis that isn't active. Step 0.
 Place: the statement's first token.
+Usual cause: the proof uses a hypothesis of another theorem, whose block is
+closed.
+Remedy: use the hypotheses of the theorem's own block, or state the hypothesis
+there.
 
 This file breaks it:
     $c a $.
@@ -461,6 +595,9 @@ The reply:
         code: "P4",
         text: "P4: a byte of the letters isn't one of `A` to `Z`. Step 0.
 Place: the statement's first token.
+Usual cause: a label stands after the `)`, or a small letter or another
+character came among the letters.
+Remedy: write labels before the `)` and capitals alone after it.
 
 This file breaks it:
     $c a $. one $a a $.
@@ -475,6 +612,8 @@ The reply:
         text: "P5: leading digits are followed by `Z`, by the end of the letters, or by a `?`.
 Step 0.
 Place: the statement's first token.
+Usual cause: letters were lost as the proof was copied.
+Remedy: copy the letters again, or replace the proof.
 
 This file breaks it:
     $c a $. one $a a $.
@@ -491,6 +630,10 @@ hypothesis, or a label twice; or a `Z` doesn't stand directly after a number of
 a listed label that is an assertion's. Step 0; it is judged over the whole
 proof, after P5. Here the list names `one` twice.
 Place: the statement's first token.
+Usual cause: the program that wrote the proof tags hypotheses, or lists a label
+that has a number already.
+Remedy: write the proof anew by `mm packed --file`, which keeps to the strict
+form.
 
 This file breaks it:
     $c a $. one $a a $.
@@ -506,6 +649,10 @@ The reply to `mm check --strict f.mm`:
 listed labels and t tags so far. Here m and t are 0, n is 1, and the number is
 2.
 Place: the statement's first token.
+Usual cause: a label is missing in the list, or hypotheses of the theorem were
+removed after the proof was made.
+Remedy: restore the labels and hypotheses that the letters number, or replace
+the proof.
 
 This file breaks it:
     $c a $. one $a a $.
@@ -520,6 +667,8 @@ The reply:
         text: "P7: a `Z` comes before any step. Step 1, and it is judged before P6 there. Under
 the strict profile it is P15.
 Place: the statement's first token.
+Usual cause: letters were lost at the beginning as the proof was copied.
+Remedy: copy the letters again, or delete the `Z`.
 
 This file breaks it:
     $c a $. one $a a $.
@@ -534,6 +683,9 @@ The reply:
         text: "P8: the step's assertion has more mandatory hypotheses than the stack holds
 entries. Here `two` has one, `fx`.
 Place: the statement's first token.
+Usual cause: a step before this one is missing.
+Remedy: write the steps for all mandatory hypotheses of the assertion, in their
+order, before the step.
 
 This file breaks it:
     $c a b $. $v x $. fx $f a x $. one $a a b $. two $a a x x $.
@@ -548,6 +700,10 @@ The reply:
         text: "P9: the entry that the step takes for a `$f` doesn't begin with the type code of
 that `$f`. Here `a` is asked for, and the entry is `b`.
 Place: the statement's first token.
+Usual cause: there is a step too many or too few before this one, or two steps
+are swapped.
+Remedy: compare the steps before this one with the mandatory hypotheses of the
+assertion that it names, in their order.
 
 This file breaks it:
     $c a b $. $v x $. fx $f a x $. one $a b $. two $a a x x $.
@@ -563,6 +719,11 @@ The reply:
 variables replaced. Here the entry of `fx` replaces `x` by `b`, so that `h`
 becomes `|- b`, and its entry is `|- b b`.
 Place: the statement's first token.
+Usual cause: the hypothesis that the assertion wants isn't what the proof gives,
+as where a wrong theorem or a wrong replacement of a variable stands in the
+proof.
+Remedy: compare what the proof gives with the hypothesis, symbol by symbol, and
+change the step that proves it or the step that replaces the variable.
 
 This file breaks it:
     $c a b |- $. $v x $. fx $f a x $.
@@ -579,6 +740,10 @@ The reply:
         text: "P11: the step replaces two variables that its assertion keeps distinct by
 expressions that share a variable. Here both are `x`.
 Place: the statement's first token.
+Usual cause: the proof puts a variable into two places of which the assertion's
+`$d` says that they have none in common.
+Remedy: put another variable into one of the two places, or use an assertion
+without the `$d`.
 
 This file breaks it:
     $c a |- $. $v x y $. fx $f a x $. fy $f a y $.
@@ -596,6 +761,8 @@ variable of the one replacement and a variable of the other aren't an active
 distinct pair where the `$p` stands. Here the pair is `y`, `x`, and the `$d` of
 line 2 is no longer active.
 Place: the statement's first token.
+Usual cause: a `$d x y $.` is missing.
+Remedy: add a `$d` with the two variables before the theorem, in its block.
 
 This file breaks it:
     $c a |- $. $v x y $. fx $f a x $. fy $f a y $.
@@ -613,6 +780,8 @@ counted; under the strict profile, of more than 16,777,216. Here step 1 pushes 2
 symbols, and each further step twice as many as the one before: step 20 pushes
 1,048,576.
 Place: the statement's first token.
+Usual cause: each of many steps repeats the expression of the step before.
+Remedy: prove the theorem by lemmas with shorter expressions.
 
 This file breaks it:
     $c a b $. $v x $. fx $f a x $. one $a a b $. two $a a x x b $.
@@ -627,6 +796,9 @@ The reply:
         text: "P13: at the end of a complete proof the stack doesn't hold exactly one entry. An
 empty proof leaves none, and its step is 1.
 Place: the statement's first token.
+Usual cause: a step at the end is missing, or steps that nothing uses were left.
+Remedy: write the step that joins the entries, or delete the steps that are too
+many.
 
 This file breaks it:
     $c a b $. one $a a b $.
@@ -641,6 +813,9 @@ The reply:
         text: "P14: the one entry at the end of a complete proof isn't the expression of the
 `$p`.
 Place: the statement's first token.
+Usual cause: the proof proves something else than the statement says, as where
+one of the two was changed.
+Remedy: change the statement, or the steps that lead to another expression.
 
 This file breaks it:
     $c a b $. one $a a b $.
@@ -650,9 +825,18 @@ The reply:
     no f.mm 2 p P14 2
 ",
     },
+];
+
+fn proofs() -> &'static [RuleText<'static>] {
+    PROOFS
+}
+
+const QUESTIONS: &[RuleText<'static>] = &[
     RuleText {
         code: "A1",
         text: "A1: no statement has the asked label. Symbols aren't labels.
+Usual cause: the label is misspelled, or LABEL and a file are swapped.
+Remedy: give the label first, spelled as in the database, and then the files.
 
 A file:
     $c a b $. one $a a $.
@@ -665,6 +849,9 @@ The reply to `mm axioms b f.mm`:
     RuleText {
         code: "A2",
         text: "A2: the asked label isn't that of a `$p`, but of an axiom or a hypothesis.
+Usual cause: the label of an axiom or a hypothesis was taken for that of a
+theorem.
+Remedy: ask about a statement with a `$p`.
 
 A file:
     $c a b $. one $a a $.
@@ -677,6 +864,9 @@ The reply to `mm axioms one f.mm`:
     RuleText {
         code: "A3",
         text: "A3: the proof of the asked `$p` is incomplete.
+Usual cause: the proof has a `?` where a part of it is still to be found.
+Remedy: write the missing part of the proof; `mm check` lists all theorems whose
+proofs are incomplete.
 
 A file:
     $c a b $. one $a a $.
@@ -691,6 +881,9 @@ The reply to `mm show p f.mm`:
         text: "L2: the normal proof of the asked `$p` has more than 16,777,216 labels. It is
 judged after A1 to A3, for `mm normal` alone. Here each use of `cat` but the
 first takes the expression before it twice, so that there are 33,554,431 labels.
+Usual cause: the compressed proof shares parts that the normal one has to
+repeat.
+Remedy: ask for the packed proof, by `mm packed`.
 
 A file:
     $c e $. $v x y $. fx $f e x $. fy $f e y $. nil $a e $. cat $a e x y $.
@@ -703,3 +896,19 @@ The reply to `mm normal p f.mm`:
 ",
     },
 ];
+
+fn questions() -> &'static [RuleText<'static>] {
+    QUESTIONS
+}
+
+/// The chapters, in the order of their rules.
+pub(crate) fn rule_chapters() -> [&'static [RuleText<'static>]; 6] {
+    [
+        files(),
+        text(),
+        statements(),
+        meaning(),
+        proofs(),
+        questions(),
+    ]
+}

@@ -1,13 +1,13 @@
 //! The program over its words and devices.
 
-ghost use Rattle.std.specs.Prelude.{◌≡◌, ◌≢◌, ◌+◌, ◌<◌, ◌≤◌, ◌++◌, ◌⊎◌, map, codes, string_bytes};
-ghost use Rattle.std.specs.Prelude.{Contains, IfOk, IfErr, IfSome, IfNone, OnOk, OnErr};
-ghost use Rattle.std.specs.List.{AllByRecursion};
+ghost use Rattle.std.specs.Prelude.{◌≡◌, ◌+◌, ◌<◌, ◌≤◌, ◌++◌, ◌⊎◌, map, codes, string_bytes};
+ghost use Rattle.std.specs.Prelude.{IfOk, IfErr, IfSome, OnOk, OnErr};
 ghost use Rattle.mm_text.specs.Device.{faults_of, inner_of};
 ghost use Rattle.mm_text.specs.Files.{plain_file};
 ghost use Rattle.mm_check.specs.Status.{number_of};
 ghost use Rattle.mm_tool.specs.Ending.{BreaksOff, Ends, EndsUnread, AnswersWords, IsReplyOver};
-ghost use Rattle.mm_tool.specs.Ending.{IsExplanation, IsUnknownCode, IsExplanationFault, Stops};
+ghost use Rattle.mm_tool.specs.Answer.{outcome_of, quiet};
+ghost use Rattle.mm_tool.specs.Ending.{Stops, TellsNotes};
 ghost use Rattle.mm_tool.specs.Ending.{AsksNamed, IsSameReplyOver, StopsSame};
 ghost use Rattle.mm_tool.specs.Ending.{StopsRun, TakesWhole, TellsLine, error_line, stop_status};
 ghost use Rattle.mm_check.specs.declared.command.Command.TheVariants.{Check};
@@ -16,19 +16,20 @@ ghost use Rattle.mm_tool.specs.Folder.{plain_read};
 ghost use Rattle.mm_tool.specs.declared.files.Comments.TheVariants.{LeftOut};
 ghost use Rattle.mm_tool.specs.declared.stop.Stop.TheVariants.{CannotWrite};
 
+use crate::answer::Answer;
+use crate::explain::explanation;
 use crate::files::{Comments, FileFault, ReadFile, read_file, read_files};
 use crate::folder::{Arguments, Folder};
 use crate::help::help_text;
-use crate::rule_text::RuleText;
+use crate::notes::notes_on;
 use crate::stop::Stop;
 use crate::texts::Texts;
 use crate::unread::{asked_label, labelled, tell_unread};
 use crate::words::{Comparison, Request, request_of};
 use mm_check::{Command, Status, alike_files_have_one_reply, run};
-use mm_text::{BYTE_LIMIT, Counted, File, Seed};
+use mm_text::{BYTE_LIMIT, Counted, File, Seed, alike_files_leave_out_the_same};
 use std::alloc::{AllocError, Global};
 use std::io::Write;
-use strsim::damerau_levenshtein;
 
 const TOO_LONG: &[u8] = b"load F3\n";
 
@@ -40,20 +41,23 @@ const OUT_OF_MEMORY: &[u8] = b"mm: out of memory\n";
 
 const NOT_TEXT: &[u8] = b"mm: a word is not UTF-8\n";
 
-/// Writes an answer, and gives back the status that goes with it.
+/// Writes an answer without notes, with which this status goes.
 fn reply<'a, O: Write>(
     out: &mut Counted<O>,
     text: &[u8],
     status: Status,
-) -> Result<Status, Stop<'a>>
+) -> Result<Answer, Stop<'a>>
     requires { faults_of out.old < u64.MAX }
-    ensures status { IfOk result (λ given. given ≡ status) }
+    ensures outcome { IfOk result (λ answer. outcome_of answer ≡ quiet (number_of status)) }
     ensures all { OnOk result (TakesWhole O.contents text.now out.old out.new) }
     ensures stop { IfErr result (λ stop. stop ≡ CannotWrite) }
     ensures beginning { OnErr result (BreaksOff O.contents text.now out.old out.new) }
 {
     match out.write_all(text) {
-        Ok(()) => Ok(status),
+        Ok(()) => Ok(Answer {
+            status,
+            notes: None,
+        }),
         Err(_) => Err(Stop::CannotWrite),
     }
 }
@@ -85,7 +89,7 @@ fn comments_for(command: &Command<'_>, max: usize) -> Comments
 }
 
 /// Runs a command over the database in the files with these names, which may hold at most `max`
-/// bytes in all, and writes the reply.
+/// bytes in all, and writes the reply. The notes on files that weren't included are made before it.
 ///
 /// # Errors
 ///
@@ -100,17 +104,18 @@ pub(crate) fn run_over<'a, F: Folder, O: Write>(
     names: &[&'a str],
     max: usize,
     out: &mut Counted<O>,
-) -> Result<Status, Stop<'a>>
+) -> Result<Answer, Stop<'a>>
     requires faults { faults_of out.old < u64.MAX }
     requires named { AsksNamed command.now (map (λ name. name.now) names.now) }
-    ensures replies { IfOk result (λ status. (text : _) × IsReplyOver (F.holds folder.now)
-        command.now (map (λ name. name.now) names.now) max text (number_of status)
+    ensures replies { IfOk result (λ answer. (text : _) × IsReplyOver (F.holds folder.now)
+        command.now (map (λ name. name.now) names.now) max text (outcome_of answer)
         × TakesWhole O.contents text out.old out.new) }
     ensures stops { IfErr result (λ stop. StopsRun O.contents (F.holds folder.now)
         (F.may_fail folder.now) command.now
         (map (λ name. name.now) names.now) max stop out.old out.new) }
 {
     alike_files_have_one_reply();
+    alike_files_leave_out_the_same();
     let files = match read_files(alloc, folder, names, max, comments_for(command, max)) {
         Ok(files) => files,
         Err(FileFault::CannotRead(name)) => return Err(Stop::CannotRead { name, label: None }),
@@ -118,7 +123,9 @@ pub(crate) fn run_over<'a, F: Folder, O: Write>(
         Err(FileFault::Memory) => return Err(Stop::Memory),
     };
     let files = plain_files(alloc, &files)?;
-    Ok(run(alloc, seed, command, &files, out)?)
+    let notes = Some(notes_on(alloc, seed, &files)?);
+    let status = run(alloc, seed, command, &files, out)?;
+    Ok(Answer { status, notes })
 }
 
 /// Answers the question whether two proofs are the same, and writes the reply. The file with the
@@ -134,11 +141,11 @@ fn compare_over<'a, F: Folder, O: Write>(
     asked: &Comparison<'a>,
     max: usize,
     out: &mut Counted<O>,
-) -> Result<Status, Stop<'a>>
+) -> Result<Answer, Stop<'a>>
     requires { faults_of out.old < u64.MAX }
-    ensures replies { IfOk result (λ status. (text : _) × IsSameReplyOver (F.holds folder.now)
+    ensures replies { IfOk result (λ answer. (text : _) × IsSameReplyOver (F.holds folder.now)
         asked.now.label.now asked.now.proof.now (map (λ name. name.now) asked.now.names.items) max
-        text (number_of status) × TakesWhole O.contents text out.old out.new) }
+        text (outcome_of answer) × TakesWhole O.contents text out.old out.new) }
     ensures stops { IfErr result (λ stop. StopsSame O.contents (F.holds folder.now)
         (F.may_fail folder.now) asked.now.label.now asked.now.proof.now
         (map (λ name. name.now) asked.now.names.items) max stop out.old out.new) }
@@ -156,68 +163,7 @@ fn compare_over<'a, F: Folder, O: Write>(
     run_over(alloc, seed, folder, &command, &asked.names, max, out)
 }
 
-/// The rule with this code.
-fn rule_with<'t>(rules: &[RuleText<'t>], code: &str) -> Option<RuleText<'t>>
-    ensures found { IfSome result (λ rule. Contains rules.now rule × (rule.code.now ≡ code.now)) }
-    ensures unknown { IfNone result
-        (AllByRecursion (λ rule. rule.code.now ≢ code.now) rules.now) }
-{
-    for rule in rules {
-        if rule.code == code {
-            return Some(*rule);
-        }
-    }
-    None
-}
-
-/// The code that is nearest to one that no rule has. Codes have capitals, and so `p8` is near `P8`.
-fn nearest_code<'t>(
-    alloc: Global,
-    rules: &[RuleText<'t>],
-    code: &str,
-) -> Result<&'t str, AllocError> {
-    let capitals = code.to_ascii_uppercase(alloc)?;
-    let mut nearest = "X1";
-    let mut least = usize::MAX;
-    for rule in rules {
-        let distance = damerau_levenshtein(alloc, rule.code, &capitals)?;
-        if distance < least {
-            nearest = rule.code;
-            least = distance;
-        }
-    }
-    Ok(nearest)
-}
-
-/// What is said of a code that no rule has.
-fn unknown_code(alloc: Global, rules: &[RuleText<'_>], code: &str) -> Result<String, AllocError> {
-    let nearest = nearest_code(alloc, rules, code)?;
-    format!(in alloc;
-        "mm: no rule has the code {code}; the nearest is {nearest}\n`mm explain` lists all codes\n"
-    )
-}
-
-/// The text of the rule with the asked code; where none is asked for, the list of the codes.
-fn explanation<'t, 'a>(
-    alloc: Global,
-    texts: &Texts<'t>,
-    asked: &[&str],
-) -> Result<&'t str, Stop<'a>>
-    ensures text { IfOk result (λ text.
-        IsExplanation texts.now (map (λ code. code.now) asked.now) text.now) }
-    ensures unknown { IfErr result
-        (IsExplanationFault texts.now (map (λ code. code.now) asked.now)) }
-{
-    let Some(code) = asked.first() else {
-        return Ok(texts.codes);
-    };
-    match rule_with(texts.rules, code) {
-        Some(rule) => Ok(rule.text),
-        None => Err(Stop::Usage(unknown_code(alloc, texts.rules, code)?)),
-    }
-}
-
-/// Does what the words ask for, and gives back the status that goes with the answer.
+/// Does what the words ask for, and gives back what goes with the answer that was written.
 fn answer<'a, F: Folder, O: Write>(
     alloc: Global,
     seed: Seed,
@@ -225,10 +171,10 @@ fn answer<'a, F: Folder, O: Write>(
     texts: &Texts<'_>,
     words: &'a [&'a str],
     out: &mut Counted<O>,
-) -> Result<Status, Stop<'a>>
+) -> Result<Answer, Stop<'a>>
     requires { faults_of out.old < u64.MAX }
-    ensures answers { IfOk result (λ status. (text : _) × AnswersWords (F.holds folder.now)
-        texts.now BYTE_LIMIT (map (λ word. word.now) words.entry.now) text (number_of status)
+    ensures answers { IfOk result (λ answer. (text : _) × AnswersWords (F.holds folder.now)
+        texts.now BYTE_LIMIT (map (λ word. word.now) words.entry.now) text (outcome_of answer)
         × TakesWhole O.contents text out.old out.new) }
     ensures stops { IfErr result (λ stop. Stops O.contents (F.holds folder.now)
         (F.may_fail folder.now) texts.now BYTE_LIMIT (map (λ word. word.now) words.entry.now)
@@ -246,13 +192,13 @@ fn answer<'a, F: Folder, O: Write>(
         }
         Request::Run { command, names } => {
             match run_over(alloc, seed, folder, &command, &names, BYTE_LIMIT, out) {
-                Ok(status) => Ok(status),
+                Ok(answer) => Ok(answer),
                 Err(stop) => Err(labelled(stop, asked_label(&command))),
             }
         }
         Request::Compare(asked) => {
             match compare_over(alloc, seed, folder, &asked, BYTE_LIMIT, out) {
-                Ok(status) => Ok(status),
+                Ok(answer) => Ok(answer),
                 Err(stop) => Err(labelled(stop, Some(asked.label.as_bytes()))),
             }
         }
@@ -265,6 +211,16 @@ fn say<E: Write>(err: &mut Counted<E>, line: &[u8])
     ensures { TellsLine E.contents line.now err.old err.new }
 {
     let _ = err.write_all(line);
+}
+
+/// Writes notes to standard error, where there are any.
+fn tell_notes<E: Write>(err: &mut Counted<E>, notes: &[u8])
+    requires { faults_of err.old < u64.MAX }
+    ensures { TellsNotes E.contents notes.now err.old err.new }
+{
+    if !notes.is_empty() {
+        say(err, notes);
+    }
 }
 
 /// Says on standard error why there is no answer, and gives back the status that goes with that.
@@ -299,8 +255,9 @@ pub(crate) fn tell<E: Write>(stop: &Stop<'_>, err: &mut Counted<E>) -> Status
 }
 
 /// Runs the program over these words, the program's name first: reads the files that they name in
-/// the folder, writes the answer to standard output, or why there is none to standard error, and
-/// gives back the status with which the program ends:
+/// the folder, writes the answer to standard output, and to standard error why there is none, or
+/// after a reply which of these files weren't included; and gives back the status with which the
+/// program ends:
 ///
 /// - 0: the reply is yes, or what was asked for: axioms, steps, a proof, help, version or an
 ///   explanation; or two proofs are the same;
@@ -328,7 +285,10 @@ pub(crate) fn serve<F: Folder, O: Write, E: Write>(
         BYTE_LIMIT (map (λ word. word.now) words.entry.now) result out.old out.new err.old err.new }
 {
     match answer(alloc, seed, folder, texts, words, out) {
-        Ok(status) => status.number(),
+        Ok(answer) => {
+            tell_notes(err, answer.notes());
+            answer.status.number()
+        }
         Err(stop) => tell(&stop, err).number(),
     }
 }

@@ -75,7 +75,7 @@ const TEXTS: Texts<'static> = Texts {
     }],
     version: "version\n",
     codes: "codes\n",
-    rules: &[],
+    chapters: &[],
 };
 
 /// The status, and what was written to standard output and to standard error.
@@ -129,6 +129,44 @@ fn replies(rt: HostRuntime) {
     }
 }
 
+const NOTE: &[u8] = b"mm: note: four.mm was not included, so nothing in it was checked\n";
+
+// A reply of any kind is as it is without the note.
+#[test]
+fn notes_a_file_that_was_not_included(rt: HostRuntime) {
+    for (words, wanted, reply, note) in [
+        (
+            ["mm", "check", "first.mm", "four.mm"].as_slice(),
+            0,
+            b"yes 7 statements 1 proofs\n".as_slice(),
+            NOTE,
+        ),
+        (
+            ["mm", "check", "twice.mm", "four.mm"].as_slice(),
+            1,
+            b"no twice.mm 4 - M2 0\n".as_slice(),
+            NOTE,
+        ),
+        (
+            ["mm", "axioms", "tt", "first.mm", "four.mm"].as_slice(),
+            1,
+            b"ask A2 tt\n".as_slice(),
+            NOTE,
+        ),
+        (
+            ["mm", "check", "first.mm", "first.mm"].as_slice(),
+            4,
+            b"load F2\n".as_slice(),
+            b"".as_slice(),
+        ),
+    ] {
+        let (status, out, err) = outcome_of(rt.alloc(), words);
+        assert_eq!(rt; status, wanted, "at {words:?}");
+        assert!(rt; out.as_slice() == reply, "at {words:?}");
+        assert!(rt; err.as_slice() == note, "at {words:?}");
+    }
+}
+
 // What a comment says is left out as the file is read, but not its line feeds.
 #[test]
 fn counts_the_lines_of_comments(rt: HostRuntime) {
@@ -163,7 +201,8 @@ fn refuses_files_that_are_too_long(rt: HostRuntime) {
         7,
         &mut out,
     );
-    assert_eq!(rt; answer.ok(), Some(Status::Stopped));
+    let status = answer.ok().map(|answer| answer.status);
+    assert_eq!(rt; status, Some(Status::Stopped));
     assert!(rt; out.into_inner().as_slice() == b"load F3\n".as_slice());
 
     let mut out = Counted::new(Vec::new(rt.alloc()));

@@ -5,7 +5,6 @@ ghost use Rattle.std.specs.Prelude.{◌≡◌};
 use crate::code_lines::CODES;
 use crate::pages::Page;
 use crate::rule_text::RuleText;
-use crate::rules::RULES;
 
 /// The texts, each of which ends with a line feed.
 #[derive(Clone, Copy)]
@@ -16,7 +15,8 @@ pub(crate) struct Texts<'t> {
     pub(crate) version: &'t str,
     /// A line for each code.
     pub(crate) codes: &'t str,
-    pub(crate) rules: &'t [RuleText<'t>],
+    /// The rules, chapter after chapter.
+    pub(crate) chapters: &'t [&'t [RuleText<'t>]],
 }
 
 const HELP: &str = "Verifies databases of the Metamath language.
@@ -151,19 +151,19 @@ fn codes() -> &'static str {
     CODES
 }
 
-fn rules() -> &'static [RuleText<'static>] {
-    RULES
-}
-
-/// The texts of the program, with these pages.
-pub(crate) fn program_texts<'t>(pages: &'t [Page<'t>]) -> Texts<'t>
-    ensures { result.pages ≡ pages.entry }
+/// The texts of the program, with these pages and these chapters of rules.
+pub(crate) fn program_texts<'t>(
+    pages: &'t [Page<'t>],
+    chapters: &'t [&'t [RuleText<'t>]],
+) -> Texts<'t>
+    ensures pages { result.pages ≡ pages.entry }
+    ensures chapters { result.chapters ≡ chapters.entry }
 {
     Texts {
         help: help(),
         pages,
         version: VERSION,
         codes: codes(),
-        rules: rules(),
+        chapters,
     }
 }

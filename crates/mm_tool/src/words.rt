@@ -85,7 +85,7 @@ pub(crate) enum Request<'a> {
     Help(Option<&'a str>),
     /// To print the version.
     Version,
-    /// To explain the rule with this code, or to list all codes.
+    /// To explain the rule that these words name, or without any to list all codes.
     Explain(Vec<&'a str>),
     /// To run this command over the database in the files with these names, the top file first.
     Run {
@@ -131,13 +131,13 @@ fn proof_argument<'a>(alloc: Global) -> Arg<'a>
     Arg::new(alloc, PROOF).required(true).action(ArgAction::Set)
 }
 
-/// The code of a rule, for `clap`.
+/// The code of a rule, or the words of a reply that names one, for `clap`.
 fn code_argument<'a>(alloc: Global) -> Arg<'a>
     ensures rule { rule_of result ≡ code_rule }
     ensures local { result.global ≡ false }
 {
     Arg::new(alloc, CODE)
-        .num_args(0..=1)
+        .num_args(0..)
         .action(ArgAction::Append)
 }
 

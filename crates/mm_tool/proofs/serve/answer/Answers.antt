@@ -1,9 +1,9 @@
 -- The words are answered by the request that they make.
 use Rattle.std.proofs.Common.{ℕ, List, Bor, Option, Some, map, inl, inr, option_map, refl, subst}
 use Rattle.std.proofs.Common.{sym, ap}
-use Rattle.mm_check.specs.Status.{number_of}
-use Rattle.mm_check.specs.declared.status.Status.TheVariants.{Done}
-use Rattle.mm_tool.specs.Ending.{IsExplanation, IsHelp}
+use Rattle.mm_tool.specs.Answer.{outcome_of, quiet}
+use Rattle.mm_tool.specs.Ending.{IsHelp}
+use Rattle.mm_tool.specs.Explained.{IsExplanation}
 use Rattle.mm_tool.specs.Words.{Asks, AsksExplain, AsksHelp, AsksRun, AsksVersion}
 use Rattle.mm_tool.specs.declared.words.Request.TheVariants.{Compare}
 use Rattle.mm_tool.proofs.Answering.{answers_command, answers_same, answers_text, stops_answer}
@@ -21,7 +21,7 @@ returns-in-Help-clause-answers g c =
     subst (IsHelp c.args.texts.now topic) (sym c.as_bytes.ensures.value)
     c.in_ok-text-in-Help.ensures.text in
     answers_text g.O.Write.contents (g.F.Folder.holds c.args.folder.now) c.args.texts.now _ words
-    c.reply.result c.as_bytes.result.now Done _ _ c.reply.ensures.status
+    c.reply.result c.as_bytes.result.now (quiet 0) _ _ c.reply.ensures.outcome
     c.reply.ensures.all
     (inl (topic, asked, helps, refl))
 
@@ -36,7 +36,7 @@ returns-in-Help-clause-stops g c =
     c.in_ok-text-in-Help.ensures.text in
     stops_answer g.O.Write.contents (g.F.Folder.holds c.args.folder.now)
     (g.F.Folder.may_fail c.args.folder.now) c.args.texts.now _ words
-    c.reply.result c.as_bytes.result.now 0 _ _ c.reply.ensures.stop
+    c.reply.result c.as_bytes.result.now (quiet 0) _ _ c.reply.ensures.stop
     c.reply.ensures.beginning
     (inl (topic, asked, helps, refl))
 
@@ -46,7 +46,8 @@ returns-in-Version-clause-answers g c =
     let asked : AsksVersion words =
     subst (Asks words) c.in-Version.is c.in_ok-topic.ensures.request in
     answers_text g.O.Write.contents (g.F.Folder.holds c.args.folder.now) c.args.texts.now _ words
-    c.reply-in-Version.result c.as_bytes-in-Version.result.now Done _ _ c.reply-in-Version.ensures.status
+    c.reply-in-Version.result c.as_bytes-in-Version.result.now (quiet 0) _ _
+    c.reply-in-Version.ensures.outcome
     c.reply-in-Version.ensures.all
     (inr (inl (asked, c.as_bytes-in-Version.ensures.value, refl)))
 
@@ -57,7 +58,8 @@ returns-in-Version-clause-stops g c =
     subst (Asks words) c.in-Version.is c.in_ok-topic.ensures.request in
     stops_answer g.O.Write.contents (g.F.Folder.holds c.args.folder.now)
     (g.F.Folder.may_fail c.args.folder.now) c.args.texts.now _ words
-    c.reply-in-Version.result c.as_bytes-in-Version.result.now 0 _ _ c.reply-in-Version.ensures.stop
+    c.reply-in-Version.result c.as_bytes-in-Version.result.now (quiet 0) _ _
+    c.reply-in-Version.ensures.stop
     c.reply-in-Version.ensures.beginning
     (inr (inl (asked, c.as_bytes-in-Version.ensures.value, refl)))
 
@@ -74,7 +76,8 @@ returns-in-Explain-clause-answers g c =
     let explains : Explains c.as_bytes-in-Explain.result.now =
     subst Explains (sym c.as_bytes-in-Explain.ensures.value) c.in_ok-text-in-Explain.ensures.text in
     answers_text g.O.Write.contents (g.F.Folder.holds c.args.folder.now) c.args.texts.now _ words
-    c.reply-in-Explain.result c.as_bytes-in-Explain.result.now Done _ _ c.reply-in-Explain.ensures.status
+    c.reply-in-Explain.result c.as_bytes-in-Explain.result.now (quiet 0) _ _
+    c.reply-in-Explain.ensures.outcome
     c.reply-in-Explain.ensures.all
     (inr (inr (inl (_, here, explains, refl))))
 
@@ -92,7 +95,8 @@ returns-in-Explain-clause-stops g c =
     subst Explains (sym c.as_bytes-in-Explain.ensures.value) c.in_ok-text-in-Explain.ensures.text in
     stops_answer g.O.Write.contents (g.F.Folder.holds c.args.folder.now)
     (g.F.Folder.may_fail c.args.folder.now) c.args.texts.now _ words
-    c.reply-in-Explain.result c.as_bytes-in-Explain.result.now 0 _ _ c.reply-in-Explain.ensures.stop
+    c.reply-in-Explain.result c.as_bytes-in-Explain.result.now (quiet 0) _ _
+    c.reply-in-Explain.ensures.stop
     c.reply-in-Explain.ensures.beginning
     (inr (inr (inl (_, here, explains, refl))))
 
@@ -124,7 +128,7 @@ returns-in-Ok-clause-answers g c =
     let asked : Named c.in-Run.names.items =
     subst (Asks words) c.in-Run.is c.in_ok-topic.ensures.request in
     answers_command g.O.Write.contents (g.F.Folder.holds c.args.folder.now) c.args.texts.now _ words
-    c.in-Run.command _ (number_of c.in-Ok.status) _ _
+    c.in-Run.command _ (outcome_of c.in-Ok.answer) _ _
     (subst Named (sym c.deref-in-Run.ensures.value) asked) c.in-Ok.ensures.replies
 
 pub returns-in-Run-clause-stops : goal.returns-in-Run-clause-stops
@@ -147,7 +151,7 @@ returns-in-Ok-compare_over-clause-answers g c =
     subst (Asks words) c.in-Compare.is c.in_ok-topic.ensures.request in
     answers_same g.O.Write.contents (g.F.Folder.holds c.args.folder.now) c.args.texts.now _ words
     c.in-Compare.asked.label.now c.in-Compare.asked.proof.now _
-    (number_of c.in-Ok-compare_over.status) _ _ asked c.in-Ok-compare_over.ensures.replies
+    (outcome_of c.in-Ok-compare_over.answer) _ _ asked c.in-Ok-compare_over.ensures.replies
 
 pub returns-clause-stops : goal.returns-clause-stops
 returns-clause-stops g c =

@@ -1,7 +1,7 @@
 -- Once the proof is read, the comparison ends as the command over the files does.
 use Rattle.std.proofs.Common.{◌≤◌, ℕ, List, Bor, Err, IfOk, IfErr, length, map, ap, arith}
 use Rattle.std.proofs.Common.{subst, ◌∙◌}
-use Rattle.mm_check.specs.Status.{number_of}
+use Rattle.mm_tool.specs.Answer.{outcome_of}
 use Rattle.mm_check.specs.declared.command.Command.TheVariants.{Same}
 use Rattle.mm_tool.specs.Ending.{IsReplyOver, StopsRun, TakesWhole}
 use Rattle.mm_tool.proofs.Answering.{same_replies, same_stops, same_too_long}
@@ -21,9 +21,9 @@ returns-clause-replies g c =
     let within : length whole.bytes ≤ c.args.max =
     let few = c.in-Ok.ensures.within in omega (arith, count, few) in
     let Replied : List (Bor (List ℕ)) → Type 0 = λ names.
-    IfOk c.run_over.result (λ status. (text : List ℕ)
+    IfOk c.run_over.result (λ answer. (text : List ℕ)
     × IsReplyOver (g.F.Folder.holds c.args.folder.now) (Same c.as_bytes.result c.deref.result)
-    (map (λ name. name.now) names) c.args.max text (number_of status)
+    (map (λ name. name.now) names) c.args.max text (outcome_of answer)
     × TakesWhole g.O.Write.contents text c.args.out.now c.run_over.new.out) in
     same_replies g.O.Write.contents (g.F.Folder.holds c.args.folder.now) c.args.max
     c.args.asked.now.label.now c.args.asked.now.proof.now _

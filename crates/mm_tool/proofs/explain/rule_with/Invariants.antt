@@ -1,6 +1,6 @@
 use Rattle.std.proofs.Common.{◌≢◌, take}
 use Rattle.std.specs.List.{AllByRecursion}
-use Rattle.mm_tool.proofs.serve.rule_with.Given as goal
+use Rattle.mm_tool.proofs.explain.rule_with.Given as goal
 
 -- No rule so far has the code.
 abbrev pub invariant-loop-rule : goal.invariant-loop-rule

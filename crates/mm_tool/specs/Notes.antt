@@ -1,0 +1,42 @@
+-- The notes on files that were handed in and not included.
+use Rattle.std.specs.Prelude.{◌≡◌, ℕ, ◌-◌, ◌==◌, List, [], ◌++◌, length, map, take, codes, decimal}
+use Rattle.std.specs.Prelude.{if◌then◌else◌}
+use Rattle.std.specs.List.{flat_map}
+use Rattle.clap.specs.Words.{Text}
+use Rattle.mm_text.specs.declared.fault.LoadRule.{LoadRule}
+use Rattle.mm_text.specs.Files.{BreaksLoad, PlainFile}
+use Rattle.mm_text.specs.Included.{left_out}
+use Rattle.mm_check.specs.Reply.{name_of}
+
+-- the line on a file that wasn't included
+abbrev pub note_of : (name : Text) → List ℕ
+note_of name =
+    codes "mm: note: " ++ (name ++ codes " was not included, so nothing in it was checked\n")
+
+-- the line on so many more files
+abbrev pub more_note : ℕ → List ℕ
+more_note count =
+    codes "mm: note: " ++ (decimal count ++ codes " more files were not included\n")
+
+-- the line on how many more files there are; nothing where there are no more
+abbrev pub count_note : ℕ → List ℕ
+count_note count =
+    if count == 0 then []
+    else if count == 1 then codes "mm: note: 1 more file was not included\n"
+    else more_note count
+
+-- the notes on files with these names: a line on each of the first three, and one on how many more
+-- there are
+abbrev pub notes_on : List Text → List ℕ
+notes_on names = flat_map note_of (take 3 names) ++ count_note (length names - 3)
+
+-- These are the names of the files that weren't included, in their order. Of files that can't be
+-- taken as a whole nothing was included at all, and none is named.
+pub record AreLeftOut (files : List PlainFile) (names : List Text) : Type 0 where
+  pub whole : ((rule : LoadRule) → ¬ BreaksLoad files rule)
+      → names ≡ map (name_of files) (left_out files)
+  pub broken : (rule : LoadRule) → BreaksLoad files rule → names ≡ []
+
+-- These are the notes on the files.
+abbrev pub AreNotesOn : List PlainFile → List ℕ → Type 0
+AreNotesOn files notes = (names : List Text) × AreLeftOut files names × (notes ≡ notes_on names)

@@ -1,0 +1,27 @@
+//! What the program answers.
+
+ghost use Rattle.std.specs.Prelude.{◌≡◌};
+ghost use Rattle.mm_tool.specs.Answer.{outcome_of};
+
+use mm_check::Status;
+
+/// What goes with the text of an answer, once that is written.
+#[derive(Drop)]
+pub(crate) struct Answer {
+    /// The status with which the program ends.
+    pub(crate) status: Status,
+    /// What standard error is then told, where there is anything to tell.
+    pub(crate) notes: Option<Vec<u8>>,
+}
+
+impl Answer {
+    /// What standard error is told; nothing where there is nothing to tell.
+    pub(crate) fn notes(&self) -> &[u8]
+        ensures { result.now ≡ (outcome_of self.now).notes }
+    {
+        match &self.notes {
+            Some(notes) => notes,
+            None => &[],
+        }
+    }
+}
