@@ -146,6 +146,7 @@ fn label_of<'a>(statement: &Statement<'a>) -> &'a [u8]
 {
     match &statement.label {
         Some(label) => label.text,
+        // Each `$p` has a label.
         None => unreachable!(),
     }
 }
@@ -159,6 +160,7 @@ fn number_of(book: &Book, label: &[u8]) -> LabelId
 {
     match book.find(label) {
         Found::Assertion(id) => id,
+        // The book has a `$p` with this label.
         _ => unreachable!(),
     }
 }

@@ -3,6 +3,7 @@
 
 mod check;
 mod code;
+mod devices;
 mod failing;
 mod frame;
 mod growths;

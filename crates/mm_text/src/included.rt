@@ -73,6 +73,7 @@ pub fn left_out(alloc: Global, seed: Seed, files: &[File]) -> Result<Vec<usize>,
         Ok(cursor) => cursor,
         Err(TextFault::Load(_)) => return Ok(Vec::new(alloc)),
         Err(TextFault::Memory) => return Err(AllocError),
+        // No fault of the text comes before a token is read.
         Err(TextFault::Fault { .. }) => unreachable!(),
     };
     let mut met = vec![in alloc; false; files.len()]?;
