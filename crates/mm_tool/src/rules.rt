@@ -234,7 +234,8 @@ The reply:
         text: "S4: a statement holds a keyword that can't stand in that place: `$.` before the
 `$=` of a `$p`, `$=` in any other place, or any other keyword. Place: that
 token.
-Usual cause: the `$.` of the statement before is missing, or a `$p` has no `$=`.
+Usual cause: a `$.` is missing, that of the statement whose label the reply has,
+or of the one before where it has none; or a `$p` has no `$=`.
 Remedy: end the statement before this keyword with `$.`, or give the `$p` a `$=`
 and a proof, `?` as long as there is none.
 
@@ -683,7 +684,8 @@ The reply:
         text: "P8: the step's assertion has more mandatory hypotheses than the stack holds
 entries. Here `two` has one, `fx`.
 Place: the statement's first token.
-Usual cause: a step before this one is missing.
+Usual cause: a step before this one is missing or too many, or two steps are
+swapped.
 Remedy: write the steps for all mandatory hypotheses of the assertion, in their
 order, before the step.
 
@@ -700,8 +702,8 @@ The reply:
         text: "P9: the entry that the step takes for a `$f` doesn't begin with the type code of
 that `$f`. Here `a` is asked for, and the entry is `b`.
 Place: the statement's first token.
-Usual cause: there is a step too many or too few before this one, or two steps
-are swapped.
+Usual cause: there is a step too many or too few before this one, perhaps many
+steps before, or two steps are swapped.
 Remedy: compare the steps before this one with the mandatory hypotheses of the
 assertion that it names, in their order.
 
@@ -719,9 +721,10 @@ The reply:
 variables replaced. Here the entry of `fx` replaces `x` by `b`, so that `h`
 becomes `|- b`, and its entry is `|- b b`.
 Place: the statement's first token.
-Usual cause: the hypothesis that the assertion wants isn't what the proof gives,
-as where a wrong theorem or a wrong replacement of a variable stands in the
-proof.
+Usual cause: the hypothesis that the assertion wants isn't what the proof gives:
+a wrong theorem or a wrong replacement of a variable stands in the proof, or,
+perhaps many steps before, a step is missing, too many or swapped, or a letter
+is wrong.
 Remedy: compare what the proof gives with the hypothesis, symbol by symbol, and
 change the step that proves it or the step that replaces the variable.
 
@@ -796,9 +799,11 @@ The reply:
         text: "P13: at the end of a complete proof the stack doesn't hold exactly one entry. An
 empty proof leaves none, and its step is 1.
 Place: the statement's first token.
-Usual cause: a step at the end is missing, or steps that nothing uses were left.
-Remedy: write the step that joins the entries, or delete the steps that are too
-many.
+Usual cause: a step at the end is missing, a step anywhere before is one too
+many, a letter is wrong, or a block before the theorem isn't closed, so that it
+has one more hypothesis.
+Remedy: write the step that joins the entries, delete the step that is too many,
+or close the block with `$}`.
 
 This file breaks it:
     $c a b $. one $a a b $.
