@@ -1,5 +1,7 @@
 //! A statement for which memory was wanting is taken again, and the book is as one that wanted none.
 
+ghost use Rattle.mm_text.specs.Statement.{plain_statement, HasForm};
+
 use crate::calls::frame::alike::{are_books_alike, find_alike};
 use crate::calls::frame::databases::DEMO;
 use crate::calls::frame::taking::{empty_book, read, reader, take};
@@ -16,7 +18,9 @@ struct Books<'a> {
 }
 
 /// Takes a statement, once more where memory is wanting the first time.
-fn take_on<'a>(book: &mut Book<'a>, statement: &Statement<'a>) -> Result<Taken, Fail> {
+fn take_on<'a>(book: &mut Book<'a>, statement: &Statement<'a>) -> Result<Taken, Fail>
+    requires { HasForm (plain_statement statement.now) }
+{
     match take(book, statement)? {
         Ok(taken) => Ok(taken),
         Err(RuleFault::Memory) => Ok(take(book, statement)??),

@@ -39,19 +39,12 @@ fn keep_on<S: Store>(store: &mut S) -> Result<(), Fail> {
     Ok(store.keep()?)
 }
 
-/// Whether the stack has these entries, the last one first.
-fn has_last<S: Store>(store: &S, last: &[&[Sym]]) -> bool {
-    let mut left = store.len();
-    for expression in last {
-        if left == 0 || store.at(left - 1) != *expression {
-            return false;
-        }
-        left -= 1;
-    }
-    left == 0
+/// Whether the stack has the two entries that were pushed.
+fn holds_both<S: Store>(store: &S) -> bool {
+    store.len() == 2 && store.at(0) == FIRST && store.at(1) == SECOND
 }
 
-/// Pushes and keeps, and pushes what was kept; the lists are as if no growth had been refused.
+/// Pushes, keeps and pushes again; the stack is as if no growth had been refused.
 fn go_on<S: Store + Drop>(mut store: S) -> Result<(), Fail>
     requires stack { S.stack store ≡ [] }
     requires kept { S.kept store ≡ [] }
@@ -59,7 +52,7 @@ fn go_on<S: Store + Drop>(mut store: S) -> Result<(), Fail>
     push_on(&mut store, FIRST)?;
     keep_on(&mut store)?;
     push_on(&mut store, SECOND)?;
-    expect(has_last(&store, &[SECOND, FIRST]), "another stack")
+    expect(holds_both(&store), "another stack")
 }
 
 #[test]
