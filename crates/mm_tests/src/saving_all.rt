@@ -272,7 +272,7 @@ pub(crate) const KEPT: [Asked; 7] = [
         files: &[(
             b"first.mm",
             &[
-                Text(b"$( a $)"),
+                Text(b"$( a $)\n"),
                 Text(FIRST_HEAD),
                 Text(
                     b"th $p term ( 0 + 0 ) $( b $) $= $( c $. $) tze tze tpl $( d $) $. $( e $)\n",
@@ -281,7 +281,7 @@ pub(crate) const KEPT: [Asked; 7] = [
             ],
         )],
         reply: &[
-            Text(b"$( a $)"),
+            Text(b"$( a $)\n"),
             Text(FIRST_HEAD),
             Text(b"th $p term ( 0 + 0 ) $( b $) $=\n"),
             Text(b"      tze tze tpl\n"),
