@@ -49,19 +49,6 @@ last_told (w ∷ ws) first at tells =
     ∙ ap (slice_get (texts_in (w ∷ ws))) place
     ∙ sym (cond-true (tells_last w.now) _ _ here)
 
-pub second_told : (words : List (Bor (List ℕ))) (first : Bor (List ℕ))
-    → slice_get words 0 ≡ Some first → tells_last first.now ≡ false → tells_second first.now ≡ true
-    → option_copied (slice_get words 1) ≡ code_in_reply (texts_in words)
-second_told [] first at other tells = absurd (cc)
-second_told (w ∷ ws) first at other tells =
-    let same : w ≡ first = cc in
-    let not_last : tells_last w.now ≡ false =
-    subst (λ x. tells_last x.now ≡ false) (sym same) other in
-    let here : tells_second w.now ≡ true =
-    subst (λ x. tells_second x.now ≡ true) (sym same) tells in
-    sym (slice_get-map (λ (x : Bor (List ℕ)). x.now) (w ∷ ws) 1)
-    ∙ sym (cond-false (tells_last w.now) _ _ not_last ∙ cond-true (tells_second w.now) _ _ here)
-
 pub none_told : (words : List (Bor (List ℕ))) (first : Bor (List ℕ))
     → slice_get words 0 ≡ Some first → tells_last first.now ≡ false → tells_second first.now ≡ false
     → code_in_reply (texts_in words) ≡ None
