@@ -54,7 +54,7 @@ any_texts test (t ∷ tokens) = ap (λ (b : Bool). test t.text.now || b) (any_te
 pub front_of : (statements before : List Sentence) (s : Sentence) → statements ≡ before ++ s ∷ [] → take (length before) statements ≡ before
 front_of statements before s e = ap (λ (ss : List Sentence). take (length before) ss) e ∙ take-append_seam before (s ∷ [])
 
-labelled_said : (kind : Kind) (label : Option PlainToken) → HasLabel kind label → kind ≡ Provable → is_some (option_map (λ (t : PlainToken). t.text) label) ≡ true
+pub labelled_said : (kind : Kind) (label : Option PlainToken) → HasLabel kind label → kind ≡ Provable → is_some (option_map (λ (t : PlainToken). t.text) label) ≡ true
 labelled_said Provable label has e = ap (λ (o : Option PlainToken). is_some (option_map (λ (t : PlainToken). t.text) o)) has.1
 labelled_said kind label has e = absurd cc
 

@@ -1,5 +1,5 @@
 -- Statements of the files, read again, are those that were judged.
-use Rattle.std.proofs.Common.{◌≡◌, ℕ, zero, suc, ◌≤◌, List, [], ◌∷◌, ◌++◌, map, take, drop, length, sum_by, slice_get, Bool, true, false, not, ◌&&◌, Option, Some, None, Result, Ok, Err, IsErrAnd, IfErr, refl, sym, ap, subst, ◌∙◌, arith}
+use Rattle.std.proofs.Common.{◌≡◌, ℕ, zero, suc, ◌≤◌, List, [], ◌∷◌, ◌++◌, map, take, drop, length, sum_by, slice_get, Bool, true, false, not, ◌&&◌, Option, Some, None, refl, sym, ap, subst, ◌∙◌, arith}
 use Rattle.std.proofs.lemmas.List.Sums.{sum_by-cons}
 use Rattle.mm_text.specs.Token.{PlainToken}
 use Rattle.mm_text.specs.Statement.{PlainStatement, bytes_in}
@@ -184,8 +184,3 @@ theorem_steps c statements label id t steps of all named stands said =
       told = subst (λ (ss : List Sentence). SayMoves ss (sentence_of s) (proof_of s) told.0) (sym (map-take named.0 statements)) told.1;
       numbered = told.2;
     }
-
--- what holds of a fault that is passed on
-pub passed_on : {X E : Type 0} (result : Result X E) (fault : E) (Q : E → Type 0) → IsErrAnd result (λ e. e ≡ fault) → Q fault → IfErr result Q
-passed_on (Ok x) fault Q same q = absurd same
-passed_on (Err e) fault Q same q = subst Q (sym same) q

@@ -15,11 +15,8 @@ use Rattle.mm_frame.proofs.Numbered.{at_from_contains, contains_from_at}
 use Rattle.mm_frame.proofs.Labelled.{numbered_get, numbered_at, labelled_grow}
 use Rattle.mm_frame.proofs.Those.{Rise, those_by_places}
 use Rattle.mm_frame.proofs.Needed.{mandatory_places, latest_is_variable}
-use Rattle.mm_text.proofs.Lists.{get_parted}
+use Rattle.mm_text.proofs.Lists.{get_parted, one_there}
 use Rattle.mm_frame.proofs.FrameLaws.{at_place}
-
-same_at : (st : List Sentence) (p : ℕ) (s t : Sentence) → slice_get st p ≡ Some s → slice_get st p ≡ Some t → s ≡ t
-same_at st p s t one other = cc
 
 pub mandatory_gathered : (st : List Sentence) (essentials : List ℕ) (s : Sentence) (p : ℕ) (h : Sentence) → AllMeant st → IsMeant st s → IsStated s.kind → AreEssentials st essentials → slice_get st p ≡ Some h
     → IsMandatoryAt st s p h ↔ IsGathered st essentials s p
@@ -39,7 +36,7 @@ mandatory_gathered st essentials s p h meant last stated are there =
       (λ gathered. elim gathered [
         | inl (i, at) ↦
             let (e, at_p, kind, active) = are.only i p at in
-            places.1 (inl (ap (λ (t : Sentence). t.kind) (same_at st p h e there at_p) ∙ kind, active))
+            places.1 (inl (ap (λ (t : Sentence). t.kind) (one_there st p h e there at_p) ∙ kind, active))
         | inr (x, stands, latest) ↦ places.1 (inr (
           x,
           (
@@ -48,7 +45,7 @@ mandatory_gathered st essentials s p h meant last stated are there =
               | inl in_it ↦ inl in_it
               | inr (q, e, (i, at), at_q, in_e) ↦
                   let (d, at_d, kind, active) = are.only i q at in
-                  let same = same_at st q e d at_q at_d in
+                  let same = one_there st q e d at_q at_d in
                   inr (q, e, at_q, active, (ap (λ (t : Sentence). t.kind) same ∙ kind, in_e))
             ],
           ),

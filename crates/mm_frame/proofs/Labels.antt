@@ -18,6 +18,7 @@ use Rattle.mm_frame.proofs.Entries.{append_cases}
 use Rattle.mm_frame.proofs.ScopeLaws.{length_pushed}
 use Rattle.mm_frame.proofs.Stays.{active_last, active_stays, active_falls, active_nest}
 use Rattle.mm_frame.proofs.Meant.{active_in_front}
+use Rattle.mm_frame.proofs.Needed.{not_closing_essential}
 use Rattle.mm_frame.proofs.Labelled.{labelled_push, labelled_pass, numbered_grow, numbered_last}
 
 -- how many labels there are
@@ -113,9 +114,6 @@ essentials_other st places e are other stays = record {
 places_within : (st : List Sentence) (places : List ℕ) (i p : ℕ) → AreEssentials st places → slice_get places i ≡ Some p → p < length st
 places_within st places i p are there = let (s, at, kind, active) = are.only i p there in slice_get_within st p s at
 
-essential_stays : (e : Sentence) → e.kind ≡ Essential → ¬ (e.kind ≡ Closing)
-essential_stays e kind closes = absurd (cc)
-
 pub essentials_essential : (st : List Sentence) (places : List ℕ) (e : Sentence) → AreEssentials st places → e.kind ≡ Essential → AreEssentials (st ++ e ∷ []) (places ++ length st ∷ [])
 essentials_essential st places e are kind = record {
   rising = λ i j p q lt at_i at_j. elim (pushed_cases places (length st) j q at_j) [
@@ -127,7 +125,7 @@ essentials_essential st places e are kind = record {
         omega arith
   ];
   only = λ i p there. elim (pushed_cases places (length st) i p there) [
-    | inl before ↦ let (s, at, is, active) = are.only i p before in (s, get_kept st (e ∷ []) p s at, is, active_stays st e p (essential_stays e kind) active)
+    | inl before ↦ let (s, at, is, active) = are.only i p before in (s, get_kept st (e ∷ []) p s at, is, active_stays st e p (not_closing_essential e kind) active)
     | inr (last, same) ↦ (e, subst (λ n. slice_get (st ++ e ∷ []) n ≡ Some e) same (get_pushed st e), kind, subst (λ n. IsActive (st ++ e ∷ []) n) same (active_last st e))
   ];
   each = λ p s there is active. elim (pushed_cases st e p s there) [

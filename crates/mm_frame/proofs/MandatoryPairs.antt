@@ -14,14 +14,11 @@ use Rattle.mm_frame.specs.Frame.{IsMandatory, IsDistinct, IsMandatoryPair}
 use Rattle.mm_frame.specs.FramePlace.{ArePairs, IsSamePair}
 use Rattle.mm_frame.specs.Numbers.{symbols_of, IsNumberOf}
 use Rattle.mm_frame.specs.Mirror.Gathered.{ArePlaces, IsTypedBy, AreVariables, AreApart, AreFound}
-use Rattle.mm_text.proofs.Lists.{get_kept, get_pushed, get_parted, pushed_cases, get_from_front, get_within}
+use Rattle.mm_text.proofs.Lists.{get_kept, get_pushed, get_parted, pushed_cases, get_from_front, get_within, one_there}
 use Rattle.mm_frame.proofs.Numbered.{at_from_contains, contains_from_at, symbols_grow}
 use Rattle.mm_frame.proofs.Needed.{latest_from_active, mandatory_typed}
 use Rattle.mm_frame.proofs.Those.{distinct_other}
 use Rattle.mm_frame.proofs.FrameLaws.{at_place}
-
-pub one_sentence : (st : List Sentence) (p : ℕ) (s t : Sentence) → slice_get st p ≡ Some s → slice_get st p ≡ Some t → s ≡ t
-one_sentence st p s t one other = cc
 
 one_element : (xs : List Sym) (i j : ℕ) (a b : Sym) → i ≡ j → slice_get xs i ≡ Some a → slice_get xs j ≡ Some b → a ≡ b
 one_element xs i j a b same at_a at_b = let at = subst (λ m. slice_get xs m ≡ Some a) same at_a in cc
@@ -63,7 +60,7 @@ variables_pass st places p f variables there other are = record {
   each = λ k q g code x at_k at_q types. elim (pushed_cases places p k q at_k) [
     | inl before ↦ are.each k q g code x before at_q types
     | inr (last, same) ↦
-        let e = one_sentence st p f g there (subst (λ m. slice_get st m ≡ Some g) (sym same) at_q) in
+        let e = one_there st p f g there (subst (λ m. slice_get st m ≡ Some g) (sym same) at_q) in
         absurd (other (ap (λ (s : Sentence). s.kind) e ∙ types.0))
   ];
   once = are.once;
@@ -93,7 +90,7 @@ variables_more st places p f code x n variables there types number new are = rec
   each = λ k q g c y at_k at_q types_g. elim (pushed_cases places p k q at_k) [
     | inl before ↦ let (i, m, at, is) = are.each k q g c y before at_q types_g in (i, m, get_kept variables (n ∷ []) i m at, is)
     | inr (last, same) ↦
-        let e = one_sentence st p f g there (subst (λ m. slice_get st m ≡ Some g) (sym same) at_q) in
+        let e = one_there st p f g there (subst (λ m. slice_get st m ≡ Some g) (sym same) at_q) in
         let y_is : x ≡ y = second_of code x c y f.symbols types.1 (ap (λ (s : Sentence). s.symbols) e ∙ types_g.1) in
         (length variables, n, get_pushed variables n, subst (λ z. IsNumberOf st z n.0) y_is number)
   ];

@@ -61,7 +61,7 @@ active_after st k p e there other at active =
     let all : take (length st) st ≡ st = take-length st in
     subst (λ ys. IsActive ys k) all (active_nest st k p (length st) (omega arith) lt next (subst (λ ys. IsActive ys p) (sym all) active))
 
-not_closing_essential : (e : Sentence) → e.kind ≡ Essential → ¬ (e.kind ≡ Closing)
+pub not_closing_essential : (e : Sentence) → e.kind ≡ Essential → ¬ (e.kind ≡ Closing)
 not_closing_essential e kind closes = absurd (cc)
 
 -- a variable of a statement is a variable before it (by M7)

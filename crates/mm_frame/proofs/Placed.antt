@@ -18,14 +18,14 @@ use Rattle.mm_frame.specs.Numbers.{labelled_sentences, IsNumberOf}
 use Rattle.mm_frame.specs.Mirror.Gathered.{ArePlaces, AreThoseAt}
 use Rattle.mm_frame.specs.Pieces.{variables_of, is_of, IsNowhere, HasPlaces, HavePlaces}
 use Rattle.mm_frame.specs.Mirror.Patterned.{AreAmong}
-use Rattle.mm_text.proofs.Lists.{get_pushed, pushed_cases, get_within}
+use Rattle.mm_text.proofs.Lists.{get_pushed, pushed_cases, get_within, one_there}
 use Rattle.mm_frame.proofs.NameLists.{get_mapped}
 use Rattle.mm_frame.proofs.Numbered.{at_from_contains, symbols_grow, symbols_unique}
 use Rattle.mm_frame.proofs.Labelled.{numbered_at, numbered_get}
 use Rattle.mm_frame.proofs.Needed.{mandatory_typed}
 use Rattle.mm_frame.proofs.FrameLaws.{at_place}
 use Rattle.mm_frame.proofs.FrameOf.{place_named}
-use Rattle.mm_frame.proofs.MandatoryPairs.{one_sentence, second_of, pair_there}
+use Rattle.mm_frame.proofs.MandatoryPairs.{second_of, pair_there}
 use Rattle.mm_frame.proofs.Patterned.{id_same}
 
 -- the `$f` of the variable types it, and so it isn't nowhere
@@ -50,7 +50,7 @@ variable_among st more s places hs n x sound last stated are those mandatory num
     let id = id_same st places hs k p h those.numbers at at_h in
     let numbered = numbered_get st _ p f (numbered_at st p f there (place_named st s places k p f sound.1 are at there)) in
     let (e, at_e, typing) = those.typed k h at_h in
-    let same : e ≡ f = one_sentence (labelled_sentences st) h.id.0 e f at_e (subst (λ m. slice_get (labelled_sentences st) m ≡ Some f) id numbered) in
+    let same : e ≡ f = one_there (labelled_sentences st) h.id.0 e f at_e (subst (λ m. slice_get (labelled_sentences st) m ≡ Some f) id numbered) in
     let variable = get_or_from_slice_get (variables_of hs) k _ None (get_mapped (λ (g : Hypothesis). option_map (λ typing. typing.1.0) g.typing) hs k h at_h) in
     typed_somewhere st more n code x f _ h.typing types (subst (IsTypingOf st h.typing) same typing) number variable (nowhere k)
 
@@ -60,7 +60,7 @@ pub pairs_among : (st : List Sentence) (s : Sentence) (places : List ℕ) (hs : 
 pairs_among st s places hs pairs sound last stated are those pairs_are i pair there =
     let front : take (length st) (st ++ s ∷ []) ≡ st = take-append_seam st (s ∷ []) in
     let (x, y, at_x, at_y, mandatory) = pairs_are.only (pair.0.0, pair.1.0) (pair_there pairs i pair there) in
-    let same : pairs_are.assertion ≡ s = one_sentence (st ++ s ∷ []) (length st) pairs_are.assertion s pairs_are.there (get_pushed st s) in
+    let same : pairs_are.assertion ≡ s = one_there (st ++ s ∷ []) (length st) pairs_are.assertion s pairs_are.there (get_pushed st s) in
     let (apart, x_is, y_is) = subst (λ (t : Sentence). IsMandatoryPair st t x y) same (subst (λ ys. IsMandatoryPair ys pairs_are.assertion x y) front mandatory) in (
       variable_among st (s ∷ []) s places hs pair.0.0 x sound last stated are those x_is at_x,
       variable_among st (s ∷ []) s places hs pair.1.0 y sound last stated are those y_is at_y,

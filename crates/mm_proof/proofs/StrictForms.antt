@@ -23,6 +23,7 @@ use Rattle.mm_proof.proofs.SaidMoves.{compressed_once, moves_once}
 use Rattle.mm_proof.proofs.PairOnce.{uses_apart}
 use Rattle.mm_proof.proofs.SpelledProofs.{packed_listed}
 use Rattle.mm_proof.proofs.FormJudged.{last_of, strict_normal}
+use Rattle.mm_proof.proofs.UsedNumbers.{name_not_mark}
 
 -- a normal proof has no list and no marks
 pub normal_is_strict : (before : List Sentence) (s : Sentence) (tokens : List (List ℕ))
@@ -61,9 +62,6 @@ packed_list before s trees listed codes p =
 
 -- ---- the marks
 
-not_name : (label : List ℕ) → name label ≡ mark → ⊥
-not_name label e = cc
-
 not_again : (tag : ℕ) → ◌≡◌ {A = Move (List ℕ)} (again tag) mark → ⊥
 not_again tag e = cc
 
@@ -74,7 +72,7 @@ kept_there : (before : List Sentence) (moves : List (Move (List ℕ))) (row : Tr
     → (t : Trees) × (slice_get (visits before moves row kept row' kept' made) i ≡ Some (keeps t))
 kept_there before [] row kept row' kept' made i at = absurd (none-some mark at)
 kept_there before (name label ∷ moves) row kept row' kept' made zero at =
-    absurd (not_name label (same_Some (name label) mark at))
+    absurd (name_not_mark label (same_Some (name label) mark at))
 kept_there before (again tag ∷ moves) row kept row' kept' made zero at =
     absurd (not_again tag (same_Some (again tag) mark at))
 kept_there before (mark ∷ moves) row kept row' kept' made zero at =

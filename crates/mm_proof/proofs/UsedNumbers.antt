@@ -47,7 +47,7 @@ same_name a b e = cc
 name_or : (label : List ℕ) (tag : ℕ) → name label ≡ again tag → ⊥
 name_or label tag e = absurd cc
 
-name_not_mark : (label : List ℕ) → name label ≡ mark → ⊥
+pub name_not_mark : (label : List ℕ) → name label ≡ mark → ⊥
 name_not_mark label e = absurd cc
 
 -- a numbered step by a label has the label's number

@@ -1,9 +1,8 @@
 -- The statement that was taken last, where it is a `$p`.
-use Rattle.std.proofs.Common.{◌≡◌, List, [], ◌∷◌, ◌++◌, take, length, slice_get, is_some, true, Option, option_map, refl, sym, ap, ◌∙◌}
+use Rattle.std.proofs.Common.{◌≡◌, List, [], ◌∷◌, ◌++◌, take, length, slice_get, refl, sym, ap, ◌∙◌}
 use Rattle.mm_text.specs.declared.statement.Kind.{Kind}
 use Rattle.mm_text.specs.declared.statement.Kind.TheVariants.{Provable}
-use Rattle.mm_text.specs.Token.{PlainToken}
-use Rattle.mm_text.specs.Statement.{PlainStatement, HasForm, HasLabel}
+use Rattle.mm_text.specs.Statement.{PlainStatement, HasForm}
 use Rattle.mm_text.proofs.Lists.{get_pushed}
 use Rattle.mm_frame.specs.declared.number.LabelId.{LabelId}
 use Rattle.mm_frame.specs.declared.answer.Taken.{Taken}
@@ -12,14 +11,11 @@ use Rattle.mm_frame.specs.Sentence.{Sentence, sentence_of}
 use Rattle.mm_frame.specs.Numbers.{labelled_sentences}
 use Rattle.mm_frame.specs.Taken.{TakenAs, next_id}
 use Rattle.mm_proof.specs.Steps.{IsProofNumber}
+use Rattle.mm_check.proofs.Judging.{labelled_said}
 
 take_front : {X : Type 0} (xs ys : List X) → take (length xs) (xs ++ ys) ≡ xs
 take_front [] ys = refl
 take_front {X} (x ∷ xs) ys = ap (λ (zs : List X). x ∷ zs) (take_front xs ys)
-
-is_labelled : (kind : Kind) (label : Option PlainToken) → HasLabel kind label → kind ≡ Provable → is_some (option_map (λ (t : PlainToken). t.text) label) ≡ true
-is_labelled Provable label has e = ap (λ (o : Option PlainToken). is_some (option_map (λ (t : PlainToken). t.text) o)) has.1
-is_labelled kind label has e = absurd cc
 
 number_of : (before : List Sentence) (kind : Kind) (taken : Taken) (id : LabelId) → TakenAs before kind taken → kind ≡ Provable → taken ≡ Assertion id
     → id ≡ next_id before
@@ -32,7 +28,7 @@ pub last_number : (statements before : List Sentence) (s : PlainStatement) (take
 last_number statements before s taken id formed e provable was f = record {
   numbered = record {
     there = ap (λ (ss : List Sentence). slice_get ss (length before)) e ∙ get_pushed before (sentence_of s);
-    named = is_labelled s.kind s.label formed.label provable;
+    named = labelled_said s.kind s.label formed.label provable;
     number = ap (λ (ss : List Sentence). length (labelled_sentences ss)) (ap (λ (ss : List Sentence). take (length before) ss) e ∙ take_front before (sentence_of s ∷ []))
         ∙ sym (ap (λ (i : LabelId). i.0) (number_of before s.kind taken id was provable f));
   };

@@ -1,5 +1,6 @@
 mod Pieces
 pub mod Lists
+pub mod Results
 pub mod TokenLaws
 pub mod CutTokens
 pub mod Lanes

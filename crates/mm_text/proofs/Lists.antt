@@ -104,6 +104,11 @@ pub get_parted : {A : Type 0} (xs ys : List A) (x : A)
 get_parted [] ys x = refl
 get_parted (z ∷ xs) ys x = get_parted xs ys x
 
+-- one element stands at a place
+pub one_there : {A : Type 0} (xs : List A) (i : ℕ) (x y : A) → slice_get xs i ≡ Some x
+    → slice_get xs i ≡ Some y → x ≡ y
+one_there xs i x y at_x at_y = same_Some x y (sym at_x ∙ at_y)
+
 -- an element of a list and one more is of the list, or is the one more
 pub pushed_cases : {A : Type 0} (xs : List A) (y : A) (i : ℕ) (x : A)
     → slice_get (xs ++ y ∷ []) i ≡ Some x → (slice_get xs i ≡ Some x) ⊎ ((i ≡ length xs) × (y ≡ x))

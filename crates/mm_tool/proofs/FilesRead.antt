@@ -1,5 +1,5 @@
 -- From the reading of one file to that of all.
-use Rattle.std.proofs.Common.{◌≡◌, ℕ, suc, ◌+◌, ◌<◌, List, ◌∷◌, ◌++◌, length, map, take, drop, get_or, Result, Ok, Err, IfErr, IsErrOf, IsErrAnd, refl, sym, ap, ◌∙◌, subst, arith, Bor}
+use Rattle.std.proofs.Common.{◌≡◌, ℕ, suc, ◌+◌, ◌<◌, List, ◌∷◌, ◌++◌, length, map, take, drop, get_or, Result, Err, IsErrOf, refl, sym, ap, ◌∙◌, subst, arith, Bor}
 use Rattle.std.proofs.Math.Seq.{drop-cons}
 use Rattle.std.proofs.lemmas.List.{map-append}
 use Rattle.std.proofs.Common.{take-append-drop}
@@ -13,11 +13,6 @@ use Rattle.mm_tool.specs.declared.files.ReadFile.{ReadFile}
 
 abbrev texts_in : List (Bor (List ℕ)) → List (List ℕ)
 texts_in names = map (λ n. n.now) names
-
--- An error that is handed on keeps what is known of it.
-pub error_keeps : {T E : Type 0} (r : Result T E) (e : E) (P : E → Type 0) → IsErrAnd r (λ x. x ≡ e) → P e → IfErr r P
-error_keeps (Ok v) e P h p = tt
-error_keeps (Err x) e P h p = subst P (sym h) p
 
 -- the names are those before a place, the one there, and those after it
 pub texts_at : (names : List (Bor (List ℕ))) (i : ℕ) (d : Bor (List ℕ)) → i < length names

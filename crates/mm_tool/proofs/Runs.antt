@@ -18,7 +18,7 @@ use Rattle.mm_check.specs.declared.command.Command.{Command}
 use Rattle.mm_check.specs.declared.command.RunFault.{RunFault}
 use Rattle.mm_check.specs.declared.command.RunFault.TheVariants as run
 use Rattle.mm_check.specs.declared.status.Status.{Status}
-use Rattle.mm_tool.proofs.FilesRead.{error_keeps}
+use Rattle.mm_text.proofs.Results.{error_keeps}
 use Rattle.mm_tool.specs.Folder.{AreHeld, AreTooLong, KnownFile}
 use Rattle.mm_tool.specs.Answer.{Outcome, quiet}
 use Rattle.mm_tool.specs.Ending.{BreaksOff, StopsRun, stop_of}

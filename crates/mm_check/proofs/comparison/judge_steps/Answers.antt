@@ -6,12 +6,12 @@ use Rattle.mm_proof.specs.Verified.{OfMoves, FailsWith}
 use Rattle.mm_check.specs.Compared.{text_fault}
 use Rattle.mm_check.specs.Mirror.Comparisons.{FailsAs}
 use Rattle.mm_check.proofs.Comparing.{fails_as}
-use Rattle.mm_check.proofs.Rereading.{passed_on}
+use Rattle.mm_text.proofs.Results.{error_keeps}
 use Rattle.mm_check.proofs.comparison.judge_steps.Goals as goal
 
 pub returns-in_err-_used-clause-fault : goal.returns-in_err-_used-clause-fault
 returns-in_err-_used-clause-fault c =
-    passed_on c.from_residual.result (text_fault c.in_err-_used.field-0.0) (FailsAs c.args.book.now.statements c.args.id.0 c.args.steps.now) c.from_residual.ensures.1
+    error_keeps c.from_residual.result (text_fault c.in_err-_used.field-0.0) (FailsAs c.args.book.now.statements c.args.id.0 c.args.steps.now) c.from_residual.ensures.1
     (fails_as c.in_err-_used.field-0.0
     (λ (rule : ProofRule) (step : ℕ). OfMoves c.args.book.now.statements c.args.id.0 c.args.steps.now.moves
     (λ place s moves. FailsWith (limit_of c.args.steps.now.profile) c.args.book.now.statements place s moves rule step))

@@ -8,13 +8,13 @@ use Rattle.mm_proof.specs.UnderProfile.{IsFaultUnder}
 use Rattle.mm_check.specs.Compared.{text_fault}
 use Rattle.mm_check.specs.Mirror.Comparisons.{IsUnproved}
 use Rattle.mm_check.proofs.Comparing.{fails_as, unproved_of}
-use Rattle.mm_check.proofs.Rereading.{passed_on}
+use Rattle.mm_text.proofs.Results.{error_keeps}
 use Rattle.mm_check.proofs.comparison.proved_steps.Goals as goal
 
 pub returns-in_err-steps-clause-fault : goal.returns-in_err-steps-clause-fault
 returns-in_err-steps-clause-fault c =
     let tokens : List (List ℕ) = texts c.args.tokens.now in
-    passed_on c.from_residual.result (text_fault c.in_err-steps.field-0.0)
+    error_keeps c.from_residual.result (text_fault c.in_err-steps.field-0.0)
     (IsUnproved c.args.profile c.args.book.now.statements c.args.id.0 tokens)
     c.from_residual.ensures.1
     (fails_as c.in_err-steps.field-0.0
@@ -36,7 +36,7 @@ pub returns-in_err-judge_steps-in-Steps-clause-fault : goal.returns-in_err-judge
 returns-in_err-judge_steps-in-Steps-clause-fault c =
     let tokens : List (List ℕ) = texts c.args.tokens.now in
     let was = ap Ok c.in-Steps.is in
-    passed_on c.from_residual-in_err-judge_steps-in-Steps.result
+    error_keeps c.from_residual-in_err-judge_steps-in-Steps.result
     c.in_err-judge_steps-in-Steps.field-0.0
     (IsUnproved c.args.profile c.args.book.now.statements c.args.id.0 tokens)
     c.from_residual-in_err-judge_steps-in-Steps.ensures.1

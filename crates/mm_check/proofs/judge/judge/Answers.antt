@@ -8,14 +8,14 @@ use Rattle.mm_check.specs.Verdict.{Refused, meaning_rule}
 use Rattle.mm_check.specs.Mirror.Judged.{RefusesAfter}
 use Rattle.mm_check.proofs.Judging.{refuses_after}
 use Rattle.mm_check.proofs.judge.judge.Goals as goal
-use Rattle.mm_check.proofs.Rereading.{passed_on}
+use Rattle.mm_text.proofs.Results.{error_keeps}
 
 pub returns-in_err-prove-in-Ok-Assertion-clause-refused : goal.returns-in_err-prove-in-Ok-Assertion-clause-refused
 returns-in_err-prove-in-Ok-Assertion-clause-refused c =
     let s : PlainStatement = plain_statement c.args.statement.now in
     let files = map plain_file c.args.files.now in
     let fault : CheckFault = c.in_err-prove-in-Ok-Assertion.field-0.0 in
-    passed_on c.from_residual.result fault (RefusesAfter c.args.profile files c.args.progress.now.prover.book.statements c.args.progress.now.count s) c.from_residual.ensures.1
+    error_keeps c.from_residual.result fault (RefusesAfter c.args.profile files c.args.progress.now.prover.book.statements c.args.progress.now.count s) c.from_residual.ensures.1
     (refuses_after c.args.profile files c.args.progress.now (record c.args.progress.now { prover = c.take.new.self }) s fault
     c.in-Ok-Assertion.ensures.ok.0 (ap (λ (d : Database). d.statements) c.in-Ok-Assertion.ensures.ok.1) refl
     c.in_err-prove-in-Ok-Assertion.ensures.refused)

@@ -5,7 +5,7 @@ use Rattle.mm_check.specs.declared.ask.AskFault.{AskFault}
 use Rattle.mm_check.specs.declared.save_fault.SaveFault.TheVariants as fault
 use Rattle.mm_check.specs.Mirror.AllSaving.{IsAllWritten, StopsWriting, IsWritingFault}
 use Rattle.mm_check.proofs.OnTheWay.{within_limit}
-use Rattle.mm_check.proofs.Rereading.{passed_on}
+use Rattle.mm_text.proofs.Results.{error_keeps}
 use Rattle.mm_check.proofs.WrittenFiles.{nothing_written, all_written_is, all_written_not, stopped_is, handed_file}
 use Rattle.mm_check.proofs.save_all.all_written.Goals as goal
 
@@ -27,7 +27,7 @@ returns-in_err-finish-in-Ok-clause-fault c =
     subst (λ (fs : List PlainFile). IsAllWritten c.args.profile fs c.args.book.now.statements c.args.number c.args.form c.write_proofs-outcome.new.file c.write_proofs-outcome.new.statements)
     c.in_ok-statements.ensures.unread.same c.in-Ok.ensures.done in
     let why : AskFault = c.in_err-finish-in-Ok.field-0.0 in
-    passed_on c.from_residual-in_err-finish-in-Ok.result (fault.Ask why) (IsWritingFault c.args.profile c.args.form files c.args.number)
+    error_keeps c.from_residual-in_err-finish-in-Ok.result (fault.Ask why) (IsWritingFault c.args.profile c.args.form files c.args.number)
     c.from_residual-in_err-finish-in-Ok.ensures.1
     (all_written_not c.args.profile files c.args.book.now.statements c.args.number c.args.form c.write_proofs-outcome.new.file c.write_proofs-outcome.new.statements why done
     c.in_err-finish-in-Ok.ensures.fault)

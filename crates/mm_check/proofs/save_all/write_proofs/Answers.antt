@@ -4,7 +4,7 @@ use Rattle.mm_text.specs.Statement.{PlainStatement, plain_statement}
 use Rattle.mm_check.specs.AllSaved.{is_theorem_of}
 use Rattle.mm_check.specs.Mirror.Judged.{TakesNext}
 use Rattle.mm_check.specs.Mirror.AllSaving.{StopsWriting}
-use Rattle.mm_check.proofs.Rereading.{passed_on}
+use Rattle.mm_text.proofs.Results.{error_keeps}
 use Rattle.mm_check.proofs.WrittenFiles.{PutsText, theorem_met, span_stands, span_follows, passed_over, written_anew, stops_at, to_the_end}
 use Rattle.mm_check.proofs.save_all.write_proofs.Goals as goal
 
@@ -26,7 +26,7 @@ returns-in_err-text-clause-fault c =
     let taken : TakesNext c.loop-tokens.statements true s c.next.new.statements =
     subst (λ (b : Bool). TakesNext c.loop-tokens.statements b s c.next.new.statements) c.if-branch.true c.in_ok-next.ensures.taken in
     let is : is_theorem_of c.args.number s ≡ true = sym c.is_theorem.ensures ∙ c.if-is_theorem.true in
-    passed_on c.from_residual-in_err-text.result c.in_err-text.field-0.0
+    error_keeps c.from_residual-in_err-text.result c.in_err-text.field-0.0
     (StopsWriting c.args.profile c.args.form c.args.statements.now.files c.args.number)
     c.from_residual-in_err-text.ensures.1
     (stops_at c.args.profile c.args.statements.now.files c.args.book.now.statements c.args.number c.args.form c.loop-tokens.file c.loop-tokens.statements c.next.new.statements s

@@ -7,12 +7,12 @@ use Rattle.mm_check.specs.Mirror.Judged.{TakesNext, TellsVerdict, IsUnderWay}
 use Rattle.mm_check.proofs.OnTheWay.{closes, has_room, count_small, proofs_small}
 use Rattle.mm_check.proofs.Course.{goes_on, at_end, end_verdict, statement_verdict}
 use Rattle.mm_check.proofs.verdict.judge_rest.Goals as goal
-use Rattle.mm_check.proofs.Rereading.{passed_on}
+use Rattle.mm_text.proofs.Results.{error_keeps}
 
 pub returns-in_err-next-clause-refused : goal.returns-in_err-next-clause-refused
 returns-in_err-next-clause-refused c =
     let files : List PlainFile = map plain_file c.args.files.now in
-    passed_on c.from_residual.result c.in_err-next.field-0.0 (TellsVerdict c.args.profile files) c.from_residual.ensures.1
+    error_keeps c.from_residual.result c.in_err-next.field-0.0 (TellsVerdict c.args.profile files) c.from_residual.ensures.1
     (end_verdict c.args.profile files c.loop-statement.progress c.loop-statement.statements c.in_err-next.field-0.0 c.loop-statement.invariant c.in_err-next.ensures.refused)
 
 pub judge-requires-clause-closes : goal.judge-requires-clause-closes
@@ -68,7 +68,7 @@ returns-in_err-judge-clause-refused c =
     let s : PlainStatement = plain_statement c.next.new.into in
     let taken : TakesNext c.loop-statement.statements true s c.next.new.statements =
     subst (λ (b : Bool). TakesNext c.loop-statement.statements b s c.next.new.statements) c.if-branch.true c.in_ok-next.ensures.taken in
-    passed_on c.from_residual-in_err-judge.result c.in_err-judge.field-0.0 (TellsVerdict c.args.profile files) c.from_residual-in_err-judge.ensures.1
+    error_keeps c.from_residual-in_err-judge.result c.in_err-judge.field-0.0 (TellsVerdict c.args.profile files) c.from_residual-in_err-judge.ensures.1
     (statement_verdict c.args.profile files c.make_room.new.progress s c.loop-statement.statements c.next.new.statements c.in_err-judge.field-0.0
     way taken c.in_err-judge.ensures.refused)
 

@@ -9,7 +9,8 @@ use Rattle.mm_check.specs.Answer.{IsKeptOf}
 use Rattle.mm_check.specs.Rests.{AreInOrder, RestsOn, IsAskFault}
 use Rattle.mm_proof.specs.Plain.{ids_in}
 use Rattle.mm_check.specs.Mirror.Marks.{IsKeptWell, IsMarked, UsedIn, IsAxiomNumber}
-use Rattle.mm_check.proofs.Rereading.{read_statements, passed_on}
+use Rattle.mm_text.proofs.Results.{error_keeps}
+use Rattle.mm_check.proofs.Rereading.{read_statements}
 use Rattle.mm_check.proofs.Asked.{report_of, all_within, all_among, axiom_within}
 use Rattle.mm_check.proofs.checked.Checked.axioms.Goals as goal
 
@@ -19,7 +20,7 @@ returns-in_err-theorem-clause-fault c =
     let well : IsKeptWell now.profile now.files now.sentences now.incomplete now.uses =
     subst (λ (v : Conclusion). IsKeptWell v.profile v.files v.sentences v.incomplete v.uses)
     c.self.view_is c.self.invariant in
-    passed_on c.from_residual.result c.in_err-theorem.field-0.0
+    error_keeps c.from_residual.result c.in_err-theorem.field-0.0
     (λ (fault : AskFault). (statements : List PlainStatement) → Reads now.files statements None
     → IsAskFault statements c.args.label.now fault)
     c.from_residual.ensures.1

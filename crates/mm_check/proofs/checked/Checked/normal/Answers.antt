@@ -8,7 +8,7 @@ use Rattle.mm_text.specs.Statement.{PlainStatement}
 use Rattle.mm_text.specs.Reading.{Reads}
 use Rattle.mm_check.specs.declared.ask.AskFault.{AskFault}
 use Rattle.mm_check.specs.Forms.{IsNormalFault}
-use Rattle.mm_check.proofs.Rereading.{passed_on}
+use Rattle.mm_text.proofs.Results.{error_keeps}
 use Rattle.mm_check.proofs.Theorems.{normal_of, normal_fault, ask_fault, why}
 use Rattle.mm_check.proofs.checked.Checked.normal.Goals as goal
 
@@ -19,7 +19,7 @@ normal_text-requires-clause-proved c =
 
 pub returns-in_err-theorem-clause-fault : goal.returns-in_err-theorem-clause-fault
 returns-in_err-theorem-clause-fault c =
-    passed_on c.from_residual.result c.in_err-theorem.field-0.0
+    error_keeps c.from_residual.result c.in_err-theorem.field-0.0
     (λ (fault : AskFault). (statements : List PlainStatement) → Reads c.args.self.now.files statements None → IsNormalFault statements c.args.label.now fault)
     c.from_residual.ensures.1
     (λ statements reads. ask_fault statements c.args.label.now c.in_err-theorem.field-0.0 (c.in_err-theorem.ensures.fault statements reads))

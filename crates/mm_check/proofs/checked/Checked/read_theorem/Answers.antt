@@ -15,7 +15,8 @@ use Rattle.mm_check.specs.Mirror.Marks.{IsKeptWell}
 use Rattle.mm_check.specs.Rests.{IsNamed, IsAskFault}
 use Rattle.mm_check.specs.Shown.{Stands}
 use Rattle.mm_check.specs.Mirror.Theorems.{IsProofOf, SayStepsOf, AreProvedSteps, AreStepsOf}
-use Rattle.mm_check.proofs.Rereading.{AreOf, own_statements, read_statements, named_stands, passed_on, shown_proof, shown_room, theorem_steps}
+use Rattle.mm_text.proofs.Results.{error_keeps}
+use Rattle.mm_check.proofs.Rereading.{AreOf, own_statements, read_statements, named_stands, shown_proof, shown_room, theorem_steps}
 use Rattle.mm_check.specs.Mirror.Rewriting.{IsHomeOf}
 use Rattle.mm_frame.specs.Rules.{AllMeant}
 use Rattle.mm_check.proofs.Replies.{made, made_both}
@@ -27,7 +28,7 @@ returns-in_err-id-clause-fault c =
     let now : Conclusion = c.args.self.now in
     let well : IsKeptWell now.profile now.files now.sentences now.incomplete now.uses =
     subst (λ (v : Conclusion). IsKeptWell v.profile v.files v.sentences v.incomplete v.uses) c.self.view_is c.self.invariant in
-    passed_on c.from_residual.result c.in_err-id.field-0.0
+    error_keeps c.from_residual.result c.in_err-id.field-0.0
     (λ (fault : AskFault). (statements : List PlainStatement) → Reads now.files statements None → IsAskFault statements c.args.label.now fault)
     c.from_residual.ensures.1
     (λ statements reads. c.in_err-id.ensures.fault statements (read_statements now statements well.origin reads).kept)

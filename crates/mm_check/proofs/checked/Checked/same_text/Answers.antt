@@ -9,7 +9,7 @@ use Rattle.mm_text.specs.Statement.{PlainStatement}
 use Rattle.mm_text.specs.Reading.{Reads}
 use Rattle.mm_check.specs.declared.ask.AskFault.{AskFault}
 use Rattle.mm_check.specs.Compared.{IsCompared, IsSameFault}
-use Rattle.mm_check.proofs.Rereading.{passed_on}
+use Rattle.mm_text.proofs.Results.{error_keeps}
 use Rattle.mm_check.proofs.Theorems.{why}
 use Rattle.mm_check.proofs.Comparing.{compared_of, same_fault, asked_fault}
 use Rattle.mm_check.proofs.checked.Checked.same_text.Goals as goal
@@ -21,7 +21,7 @@ is_same-requires-clause-proved c =
 
 pub returns-in_err-theorem-clause-fault : goal.returns-in_err-theorem-clause-fault
 returns-in_err-theorem-clause-fault c =
-    passed_on c.from_residual.result c.in_err-theorem.field-0.0
+    error_keeps c.from_residual.result c.in_err-theorem.field-0.0
     (λ (fault : AskFault). (statements : List PlainStatement)
     → Reads c.args.self.now.files statements None
     → IsSameFault c.args.self.now.profile statements c.args.label.now c.args.text.now fault)

@@ -11,13 +11,13 @@ use Rattle.mm_check.specs.Mirror.Theorems.{AreProvedSteps}
 use Rattle.mm_check.specs.Saved.{IsSaveFault}
 use Rattle.mm_check.specs.Mirror.Rewriting.{HoldsSpan, IsPutIn, IsPutFault}
 use Rattle.mm_check.proofs.OnTheWay.{within_limit}
-use Rattle.mm_check.proofs.Rereading.{passed_on}
+use Rattle.mm_text.proofs.Results.{error_keeps}
 use Rattle.mm_check.proofs.Saving.{holds_span, saved_of, ask_save_fault, text_save_fault, put_save_fault}
 use Rattle.mm_check.proofs.checked.Checked.saved.Goals as goal
 
 pub returns-in_err-theorem-clause-fault : goal.returns-in_err-theorem-clause-fault
 returns-in_err-theorem-clause-fault c =
-    passed_on c.from_residual.result c.in_err-theorem.field-0.0
+    error_keeps c.from_residual.result c.in_err-theorem.field-0.0
     (λ (fault : AskFault). (statements : List PlainStatement) → Reads c.args.self.now.files statements None → IsSaveFault c.args.form c.args.self.now.files statements c.args.label.now fault)
     c.from_residual.ensures.1
     (λ statements reads. ask_save_fault c.args.form c.args.self.now.files statements c.args.label.now c.in_err-theorem.field-0.0 (c.in_err-theorem.ensures.fault statements reads))
@@ -32,7 +32,7 @@ returns-in_err-text-clause-fault c =
     let told : c.self.inside.book.statements ≡ c.args.self.now.sentences = ap (λ (v : Conclusion). v.sentences) c.self.view_is in
     let proved : AreProvedSteps c.self.inside.book.statements c.in_ok-theorem.theorem.id.0 c.in_ok-theorem.theorem.steps =
     subst (λ (ss : List Sentence). AreProvedSteps ss c.in_ok-theorem.theorem.id.0 c.in_ok-theorem.theorem.steps) (sym told) c.in_ok-theorem.ensures.proved in
-    passed_on c.from_residual-in_err-text.result c.in_err-text.field-0.0
+    error_keeps c.from_residual-in_err-text.result c.in_err-text.field-0.0
     (λ (fault : AskFault). (statements : List PlainStatement) → Reads c.args.self.now.files statements None → IsSaveFault c.args.form c.args.self.now.files statements c.args.label.now fault)
     c.from_residual-in_err-text.ensures.1
     (λ statements reads.
@@ -70,7 +70,7 @@ returns-in_err-bytes-clause-fault c =
     let put : IsPutFault now.files c.in_ok-theorem.theorem.file c.in_ok-theorem.theorem.span c.in_ok-text.text.items c.in_err-bytes.field-0.0 =
     subst (λ (fs : List PlainFile). IsPutFault fs c.in_ok-theorem.theorem.file c.in_ok-theorem.theorem.span c.in_ok-text.text.items c.in_err-bytes.field-0.0) files
     (subst (λ (text : List ℕ). IsPutFault (map plain_file c.self.inside.files.now) c.in_ok-theorem.theorem.file c.in_ok-theorem.theorem.span text c.in_err-bytes.field-0.0) c.deref.ensures.value c.in_err-bytes.ensures.fault) in
-    passed_on c.from_residual-in_err-bytes.result c.in_err-bytes.field-0.0
+    error_keeps c.from_residual-in_err-bytes.result c.in_err-bytes.field-0.0
     (λ (fault : AskFault). (statements : List PlainStatement) → Reads now.files statements None → IsSaveFault c.args.form now.files statements c.args.label.now fault)
     c.from_residual-in_err-bytes.ensures.1
     (λ statements reads.
