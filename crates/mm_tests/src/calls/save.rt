@@ -1,5 +1,8 @@
 //! Saving: the file with the proof of one theorem written anew, and all else kept.
 
+ghost use Rattle.std.specs.Prelude.{◌≡◌, ◌≤◌, length};
+
+use crate::databases::FIRST;
 use crate::tests::reply_to;
 use mm_check::{
     Command, Form, Status, all_saved_proofs_are_strict, one_all_saved, one_save_answer, one_saved,
@@ -8,7 +11,7 @@ use mm_check::{
     saving_in_turn_is_saving_all,
 };
 use mm_text::{File, Seed};
-use std::alloc::Global;
+use std::alloc::{AllocError, Global};
 use std::test::Fail;
 
 const OLD: &[u8] = b"\
@@ -119,6 +122,64 @@ fn saves_all(alloc: Global, old: &[u8], form: Form, bytes: &[u8]) -> Result<bool
 fn all_proofs_of_a_file_are_saved(rt: HostRuntime) -> Result<(), Fail> {
     assert!(rt; saves_all(rt.alloc(), OLD, Form::Normal, NORMAL)?);
     assert!(rt; saves_all(rt.alloc(), OLD, Form::Packed, PACKED)?);
+    Ok(())
+}
+
+/// Files that have as many bytes in all as there may be. The first one has these bytes; nothing of
+/// the others is read, of which each has those of the filler, and a longer part of it as its name.
+fn full_files<'a>(
+    alloc: Global,
+    first: &'a [u8],
+    filler: &'a [u8],
+) -> Result<Vec<File<'a>>, AllocError>
+    requires filler { length filler.now ≡ 2097152 }
+    requires first { length first.now ≤ length filler.now }
+{
+    let mut files = Vec::new(alloc);
+    files.push(File {
+        name: b"first.mm",
+        bytes: first,
+    })?;
+    for count in 1..512 {
+        files.push(File {
+            name: &filler[..count],
+            bytes: filler,
+        })?;
+    }
+    files.push(File {
+        name: filler,
+        bytes: &filler[first.len()..],
+    })?;
+    Ok(files)
+}
+
+/// The reply where a file is saved whole in normal form, and the files have as many bytes in all as
+/// there may be.
+fn saved_full(alloc: Global, first: &[u8]) -> Result<(Vec<u8>, Status), Fail> {
+    let mut filler = Vec::new(alloc);
+    filler.resize(2_097_152, b'f')?;
+    if first.len() > filler.len() {
+        return Err(Fail::from("the first file is longer than the filler"));
+    }
+    let files = full_files(alloc, first, &filler)?;
+    let command = Command::All {
+        form: Form::Normal,
+        file: 0,
+    };
+    reply_to(alloc, &command, &files)
+}
+
+#[test]
+fn files_that_would_be_too_large_are_not_saved(rt: HostRuntime) -> Result<(), Fail> {
+    let (text, status) = saved_full(rt.alloc(), FIRST)?;
+    assert!(rt; status == Status::Stopped && text.as_slice() == b"ask F3 first.mm\n".as_slice());
+    Ok(())
+}
+
+#[test]
+fn files_of_the_most_bytes_are_saved(rt: HostRuntime) -> Result<(), Fail> {
+    let (text, status) = saved_full(rt.alloc(), NORMAL)?;
+    assert!(rt; status == Status::Done && text.as_slice() == NORMAL);
     Ok(())
 }
 
