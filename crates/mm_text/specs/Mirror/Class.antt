@@ -1,5 +1,5 @@
--- What the reader's code tells of a token by its bytes alone. Private clauses speak of this; public
--- ones of `broken_outside`.
+-- What the reader's code tells of a token by its bytes alone. This file mirrors the code, and is
+-- cited by private contracts alone; public ones speak of `broken_outside`.
 use Rattle.std.specs.Prelude.{◌≡◌, ℕ, List, codes, Some, ◌⊎◌}
 use Rattle.mm_text.specs.declared.class.Keyword.{Keyword}
 use Rattle.mm_text.specs.declared.class.Keyword.TheVariants.{Constants, Variables, Distinct}

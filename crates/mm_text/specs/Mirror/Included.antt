@@ -1,4 +1,5 @@
--- For each file, whether an item of it was met. Private clauses speak of this.
+-- For each file, whether an item of it was met. This file mirrors the code, and is cited by private
+-- contracts alone.
 use Rattle.std.specs.Prelude.{ℕ, ◌<◌, List, [], ◌∷◌, length, Bool, true, false, not, filter}
 use Rattle.std.specs.Prelude.{slice_index_or, slice_set}
 use Rattle.std.specs.List.{AllByRecursion, range_with_len}

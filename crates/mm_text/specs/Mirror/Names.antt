@@ -1,4 +1,5 @@
--- The names of the handed files as the code keeps them. Private clauses speak of this.
+-- The names of the handed files as the code keeps them. This file mirrors the code, and is cited by
+-- private contracts alone.
 use Rattle.std.specs.Prelude.{◌≡◌, ℕ, List, map, Option, Result, Ok, Err, ⊤, position}
 use Rattle.mm_text.specs.declared.fault.LoadRule.TheVariants.{F2}
 use Rattle.mm_text.specs.declared.fault.TextFault.{TextFault}

@@ -1,4 +1,5 @@
--- What a cursor takes from the items that are left. Private clauses speak of this.
+-- What a cursor takes from the items that are left. This file mirrors the code, and is cited by
+-- private contracts alone.
 use Rattle.std.specs.Prelude.{◌≡◌, ◌<◌, List, [], ◌∷◌, Option, Some, None, Result, Ok, Err, ⊤}
 use Rattle.mm_text.specs.declared.class.Class.{Class}
 use Rattle.mm_text.specs.declared.class.Class.TheVariants as class

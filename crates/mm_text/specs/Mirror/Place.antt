@@ -1,5 +1,5 @@
 -- How the code goes through a file: from a place on, knowing up to where the bytes may stand in a
--- file. Private clauses speak of this.
+-- file. This file mirrors the code, and is cited by private contracts alone.
 use Rattle.std.specs.Prelude.{◌≡◌, ℕ, ◌+◌, ◌<◌, ◌≤◌, ◌||◌, ◌&&◌, ◌==◌, not}
 use Rattle.std.specs.Prelude.{List, [], ◌∷◌, length, drop}
 use Rattle.std.specs.Prelude.{Bool, true, false, codes, Option, Some, None, Result, Ok, Err}

@@ -1,6 +1,6 @@
--- The plain reader that the code computes: one token after the other, with what is unfinished. That
--- it gives the reading of the files is proved apart from the code; public clauses speak of the
--- reading.
+-- The plain reader that the code computes: one token after the other, with what is unfinished. This
+-- file mirrors the code, and is cited by private contracts alone: that it gives the reading of the
+-- files is proved apart from the code, and public clauses speak of the reading.
 use Rattle.std.specs.Prelude.{ℕ, ◌+◌, ◌==◌, nat_le, List, [], ◌∷◌, ◌++◌, length, Bool, true}
 use Rattle.std.specs.Prelude.{false, if◌then◌else◌, codes, drop, ◌&&◌, Option, Some, None}
 use Rattle.std.specs.Prelude.{option_map}

@@ -1,5 +1,5 @@
--- What the fields of a reader say of what it has still to give. Private clauses and the reader's
--- invariant speak of this.
+-- What the fields of a reader say of what it has still to give. This file mirrors the code, and is
+-- cited by private contracts and the reader's model and invariant.
 use Rattle.std.specs.Prelude.{◌≡◌, ℕ, ◌+◌, ◌≤◌, length, List, [], Bool, true, false, Some, None}
 use Rattle.std.specs.Prelude.{Result, Ok, Err, map}
 use Rattle.mm_text.specs.declared.fault.TextFault.{TextFault}

@@ -1,4 +1,5 @@
--- How the code looks for the first byte of a kind: so many bytes at once.
+-- How the code looks for the first byte of a kind: so many bytes at once. This file mirrors the
+-- code, and is cited by private contracts alone.
 use Rattle.std.specs.Prelude.{◌≡◌, ℕ, ◌+◌, ◌<◌, ◌≤◌, ◌==◌, if◌then◌else◌}
 use Rattle.std.specs.Int.{w64, trailing_zeros}
 use Rattle.std.specs.Prelude.{Bool, true, false, List, slice_index}

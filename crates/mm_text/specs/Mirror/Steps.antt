@@ -1,5 +1,5 @@
--- What the parts of the reader's code answer, in the words of the plain reader. Private clauses
--- speak of this.
+-- What the parts of the reader's code answer, in the words of the plain reader. This file mirrors
+-- the code, and is cited by private contracts alone.
 use Rattle.std.specs.Prelude.{◌≡◌, ℕ, ◌+◌, ◌<◌, List, ◌∷◌, Bool, true, false, Option, Some, None}
 use Rattle.std.specs.Prelude.{Result, Ok, Err, option_map, codes, reverse, if◌then◌else◌}
 use Rattle.mm_text.specs.Items.{spells}
