@@ -34,8 +34,9 @@ pub fn one_report()
 {}
 
 /// What comments say changes no reply (the Metamath book, section 4.1.2): files with the same names
-/// that show the same tokens outside comments, on the same lines, have the same reply to `check`,
-/// as long as neither are more bytes than can be taken.
+/// that show the same outside comments (the same tokens on the same lines, and the same fault of a
+/// comment, if there is one) have the same reply to `check`, as long as neither are more bytes than
+/// can be taken.
 pub fn alike_files_have_one_reply()
     ensures { AlikeFilesHaveOneReply }
 {}

@@ -28,7 +28,7 @@ use mm_proof::{Profile, Prover};
 use mm_text::{File, Seed, Statement, Statements, TextFault, TextRule, Token};
 use std::alloc::Global;
 
-/// Why the files can't be taken as a whole.
+/// A reader of the files, or why they can't be taken as a whole.
 fn load<'a>(
     alloc: Global,
     seed: Seed,

@@ -8,20 +8,20 @@ use crate::guesses::GUESSES;
 use std::hash::{Hash, Hasher};
 use std::marker::Model;
 
-// A name of so many bytes and more has ends,
+// A name of fewer bytes has no ends.
 const FEWEST_WITH_ENDS: usize = 2;
 
-// and one of so many bytes at most has no others.
+// A name of more bytes has some that are none of its ends.
 const MOST_IN_ENDS: usize = 16;
 
-// For a name's place among guesses, its back is turned by so many bits before it meets its front,
-// so that the two ends of a short name don't cancel each other.
+// For the place of a name's guess its back is turned by so many bits before it meets its front, so
+// that the two ends of a short name don't cancel each other.
 const BACK_TURN: u32 = 29;
 
-// Then they are spread by this factor, 2 to the 64 over the golden ratio,
+// What comes of them is multiplied by this, 2 to the 64 over the golden ratio.
 const SPREAD: u64 = 0x9e37_79b9_7f4a_7c15;
 
-// and the bits above so many, on which all bits of them have a say, are the place.
+// The place is what the product has from this bit on: all bits of the ends have a say in these.
 const PLACE_SHIFT: u32 = 52;
 
 // Two bytes from a place on, as a number.

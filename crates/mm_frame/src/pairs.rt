@@ -75,10 +75,10 @@ fn latest_from(spans: &[Span], newest: Option<u32>, before: usize) -> Option<usi
     None
 }
 
-// The two numbers of a pair that has a place in the table are below this,
+// A pair has a place in the table if both of its numbers are below this.
 const NEAR: u32 = 256;
 
-// and so many pairs are made of two of them.
+// So many pairs have a place in it.
 const NEAR_PAIRS: usize = 65_536;
 
 // The place of a pair in the table, if it may have one.

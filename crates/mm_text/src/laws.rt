@@ -82,9 +82,9 @@ pub fn readings_fit()
 {}
 
 /// What comments say has no effect (the Metamath book, section 4.1.2): files with the same names
-/// that show the same tokens outside comments, on the same lines, have the same readings, but for
-/// the places of their tokens. If in one of them a comment is at fault, then in the other there is
-/// a fault of that rule on that line.
+/// that show the same outside comments have the same readings, but for the places of their tokens.
+/// They show the same if they have the same tokens there on the same lines and, where a comment of
+/// the one is at fault, the other has a fault of that rule on that line.
 pub fn alike_files_are_read_alike()
     ensures { AlikeFilesAreReadAlike }
 {}
@@ -94,8 +94,8 @@ pub fn top_file_is_never_left_out()
     ensures { TopFileIsNeverLeftOut }
 {}
 
-/// What comments say includes no file: of files with the same names that show the same tokens
-/// outside comments, on the same lines, the same are left out.
+/// What comments say includes no file: of files with the same names that show the same outside
+/// comments the same are left out.
 pub fn alike_files_leave_out_the_same()
     ensures { AlikeFilesLeaveOutTheSame }
 {}
