@@ -13,10 +13,8 @@ ghost use Rattle.mm_check.specs.Mirror.Comparisons.{IsIllegal};
 
 use crate::ask::AskFault;
 use crate::rule::Rule;
+use mm_text::BYTE_LIMIT;
 use std::alloc::{AllocError, Global};
-
-// The most bytes of a text that is taken.
-const MOST_BYTES: usize = 1_073_741_824;
 
 /// Whether a byte is white space.
 fn is_space(byte: u8) -> bool
@@ -131,7 +129,7 @@ pub(crate) fn proof_tokens<'a>(alloc: Global, text: &'a [u8]) -> Result<Vec<&'a 
     ensures legal { IfOk result (λ tokens. IsProofText text.now) }
     ensures fault { IfErr result (IsIllegal text.now) }
 {
-    if text.len() > MOST_BYTES {
+    if text.len() > BYTE_LIMIT {
         return broken(Rule::F3);
     }
     let tokens = tokens_of(alloc, text)?;
