@@ -11,7 +11,7 @@ use Rattle.mm_text.specs.Files.{PlainFile}
 use Rattle.mm_text.specs.Replaced.{with_bytes}
 use Rattle.mm_text.proofs.FormedLaws.{readings_are_formed_in_place}
 use Rattle.mm_frame.specs.Sentence.{sentence_of}
-use Rattle.mm_frame.proofs.Numbered.{at_from_contains}
+use Rattle.mm_text.proofs.Lists.{at_from_contains}
 use Rattle.mm_proof.specs.Strict.{IsStrict}
 use Rattle.mm_proof.specs.Tokens.{is_incomplete}
 use Rattle.mm_proof.specs.declared.profile.Profile.{Profile}

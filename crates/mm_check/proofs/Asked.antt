@@ -12,7 +12,7 @@ use Rattle.mm_frame.specs.Taken.{kind_behind}
 use Rattle.mm_frame.specs.Sentence.{Sentence, SomeSentence, IsHypothesis, sentence_of, IsLabelled}
 use Rattle.mm_frame.specs.Rules.{AllMeant}
 use Rattle.mm_frame.specs.Numbers.{labelled_sentences, IsNumbered}
-use Rattle.mm_frame.proofs.Numbered.{at_from_contains, contains_from_at}
+use Rattle.mm_text.proofs.Lists.{at_from_contains, contains_from_at}
 use Rattle.mm_frame.proofs.Labelled.{numbered_get, numbered_some, numbered_unique, numbered_within}
 use Rattle.mm_frame.proofs.Meant.{allmeant_front}
 use Rattle.mm_proof.specs.Tree.{Trees, none as no_trees}

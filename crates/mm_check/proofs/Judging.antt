@@ -23,7 +23,7 @@ use Rattle.mm_proof.specs.declared.profile.Profile.{Profile}
 use Rattle.mm_proof.specs.Profiles.{limit_of}
 use Rattle.mm_proof.specs.Strict.{HasFormOf}
 use Rattle.mm_proof.specs.UnderProfile.{IsFaultUnder, IsFrontAllowedUnder, IsFrontFaultUnder}
-use Rattle.mm_proof.proofs.Places.{one_split}
+use Rattle.mm_text.proofs.Lists.{one_parting}
 use Rattle.mm_text.specs.Files.{PlainFile}
 use Rattle.mm_text.proofs.Lists.{get_pushed}
 use Rattle.mm_frame.specs.Rules.{IsMeant}
@@ -62,7 +62,7 @@ labelled_said kind label has e = absurd cc
 pub last_number : (statements : List Sentence) (id : ℕ) (s : PlainStatement) → HasForm s → IsLastProof statements id s
     → (before : List Sentence) → statements ≡ before ++ sentence_of s ∷ [] → IsProofNumber statements id (length before) (sentence_of s)
 last_number statements id s formed last before e =
-    let same : before ≡ last.before = (one_split before (sentence_of s ∷ []) last.before (sentence_of s ∷ []) (sym e ∙ last.whole) refl).0 in
+    let same : before ≡ last.before = (one_parting before (sentence_of s ∷ []) last.before (sentence_of s ∷ []) (sym e ∙ last.whole) refl).0 in
     record {
       numbered = record {
         there = ap (λ (ss : List Sentence). slice_get ss (length before)) e ∙ get_pushed before (sentence_of s);

@@ -2,8 +2,7 @@
 use Rattle.std.proofs.Common.{◌≡◌, ◌↔◌, ℕ, ◌<◌, List, [], ◌∷◌, ◌++◌, length, Contains, ◌⊎◌, inl, inr, sym, subst, arith}
 use Rattle.std.proofs.lemmas.List.Elements.{Contains-append_left}
 use Rattle.std.proofs.lemmas.Option.{slice_get_within}
-use Rattle.mm_frame.proofs.Numbered.{at_from_contains, contains_from_at}
-use Rattle.mm_text.proofs.Lists.{get_pushed, pushed_cases}
+use Rattle.mm_text.proofs.Lists.{get_pushed, pushed_cases, at_from_contains, contains_from_at}
 use Rattle.mm_check.specs.Rests.{AreRising, AreInOrder}
 
 -- the last of a list is in it, and so are those before it; nothing else is

@@ -4,7 +4,7 @@ use Rattle.std.specs.Prelude.{if◌then◌else◌, nat_lt}
 use Rattle.std.proofs.lemmas.Option.{same_Some, none-some}
 use Rattle.std.proofs.lemmas.Bool.Decides.{nat_tests}
 use Rattle.mm_frame.specs.Sentence.{Sentence}
-use Rattle.mm_frame.proofs.Numbered.{at_from_contains, contains_from_at}
+use Rattle.mm_text.proofs.Lists.{at_from_contains, contains_from_at}
 use Rattle.mm_proof.specs.Tree.{Trees}
 use Rattle.mm_proof.specs.Used.{AreUsedNumbers, AreUsed}
 use Rattle.mm_check.specs.Mirror.Ordered.{put, ordered}

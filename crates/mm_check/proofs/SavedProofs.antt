@@ -2,7 +2,7 @@
 use Rattle.std.proofs.Common.{◌≡◌, ℕ, suc, List, [], ◌∷◌, ◌++◌, Contains, refl, sym, subst, arith}
 use Rattle.std.specs.List.{AllByRecursion}
 use Rattle.mm_text.specs.Token.{IsLabel}
-use Rattle.mm_text.proofs.Lists.{all_weaker}
+use Rattle.mm_text.proofs.Lists.{all_weaker, at_from_contains, contains_from_at}
 use Rattle.mm_code.specs.Layout.{LaidOut, in_parentheses}
 use Rattle.mm_code.specs.Words.{tokens_in, IsOneToken}
 use Rattle.mm_code.proofs.ReadBack.{normal_read_back, compressed_read_back}
@@ -10,7 +10,6 @@ use Rattle.mm_frame.specs.Sentence.{Sentence}
 use Rattle.mm_frame.specs.Form.{AllFormed}
 use Rattle.mm_frame.specs.Rules.{AllMeant}
 use Rattle.mm_frame.proofs.ReadLaws.{label_named}
-use Rattle.mm_frame.proofs.Numbered.{at_from_contains, contains_from_at}
 use Rattle.mm_proof.specs.Tree.{Trees, none, tree, spelling, Fit, DeriveAll}
 use Rattle.mm_proof.specs.Moves.{Move, Makes}
 use Rattle.mm_proof.specs.Tokens.{SayMoves, IsNormal, opening_token, closing_token}

@@ -8,8 +8,8 @@ use Rattle.std.proofs.lemmas.List.{length-replicate, get_or-replicate, get_or-se
 use Rattle.std.proofs.lemmas.Option.{slice_get_within, get_or_from_slice_get, slice_get-get_or}
 use Rattle.mm_frame.specs.Mirror.NameTable.{AreByByte}
 use Rattle.mm_frame.specs.Numbers.{with_name}
-use Rattle.mm_text.proofs.Lists.{get_pushed, pushed_cases}
-use Rattle.mm_frame.proofs.Numbered.{at_from_contains, contains_from_at, with_name_cases, kept_with_name}
+use Rattle.mm_text.proofs.Lists.{get_pushed, pushed_cases, at_from_contains, contains_from_at}
+use Rattle.mm_frame.proofs.Numbered.{with_name_cases, kept_with_name}
 
 -- what is told of a text: its number among the names, or that it is none of them
 abbrev pub IsTold : List (List ℕ) → List ℕ → Option ℕ → Type 0

@@ -30,9 +30,9 @@ use Rattle.mm_frame.proofs.Written.{added_part, same_sentence}
 use Rattle.mm_frame.proofs.Typings.{typings_grow}
 use Rattle.mm_frame.proofs.Assembled.{AreGrown, AreAppended, assembled}
 use Rattle.mm_frame.proofs.Entries.{length-sentences, entry_at, get_sliced}
-use Rattle.mm_text.proofs.Lists.{get_within}
+use Rattle.mm_text.proofs.Lists.{get_within, at_from_contains}
 use Rattle.mm_frame.proofs.NameLists.{get_unmapped}
-use Rattle.mm_frame.proofs.Numbered.{at_from_contains, declared_from_number, symbols_unique}
+use Rattle.mm_frame.proofs.Numbered.{declared_from_number, symbols_unique}
 use Rattle.mm_frame.proofs.Labels.{labels_none, essentials_other}
 use Rattle.mm_frame.proofs.FrameLaws.{placed, frames_other, stated_other}
 

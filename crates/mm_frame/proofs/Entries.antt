@@ -1,5 +1,5 @@
 -- A book's lists say the same statements as more is appended to them.
-use Rattle.std.proofs.Common.{◌≡◌, ℕ, zero, suc, ◌+◌, ◌-◌, ◌<◌, ◌≤◌, ◌⊎◌, inl, inr, length, take, drop, List, [], ◌∷◌, ◌++◌, map, Option, Some, None, refl, ap, ◌∙◌, subst, length-append, arith}
+use Rattle.std.proofs.Common.{◌≡◌, ℕ, zero, suc, ◌+◌, ◌-◌, ◌<◌, ◌≤◌, inl, inr, length, take, drop, List, [], ◌∷◌, ◌++◌, map, Option, Some, None, refl, ap, ◌∙◌, subst, length-append, arith}
 use Rattle.std.specs.List.{slice_get, slice_range}
 use Rattle.std.specs.Option.{unwrap_or, option_map}
 use Rattle.std.proofs.lemmas.Option.{slice_get_within, slice_get-map}
@@ -10,8 +10,7 @@ use Rattle.mm_frame.specs.declared.number.Sym.{Sym}
 use Rattle.mm_frame.specs.declared.tables.Entry.{Entry}
 use Rattle.mm_frame.specs.Sentence.{Sentence}
 use Rattle.mm_frame.specs.Mirror.Layout.{names_by, label_by, sentence_by, sentences_by, IsPartWithin, AreEntries}
-use Rattle.mm_text.proofs.Lists.{pushed_cases, get_from_front, get_within, get_dropped}
-use Rattle.mm_frame.proofs.Numbered.{At}
+use Rattle.mm_text.proofs.Lists.{pushed_cases, get_from_front, get_within, get_dropped, append_cases}
 
 -- what is read before the end stays
 pub get_left : {X : Type 0} (xs ys : List X) (i : ℕ) → i < length xs → slice_get (xs ++ ys) i ≡ slice_get xs i
@@ -27,11 +26,6 @@ slice_left xs ys i j ordered within =
 -- what a part of a list has, the list has
 pub get_sliced : {X : Type 0} (xs : List X) (a b i : ℕ) (x : X) → slice_get (slice_range xs a b) i ≡ Some x → (j : ℕ) × (slice_get xs j ≡ Some x)
 get_sliced xs a b i x there = (a + i, get_dropped a xs i x (get_from_front (drop a xs) (b - a) i x there))
-
-pub append_cases : {X : Type 0} (xs ys : List X) (i : ℕ) (x : X) → slice_get (xs ++ ys) i ≡ Some x → (slice_get xs i ≡ Some x) ⊎ At ys x
-append_cases [] ys i x there = inr (i, there)
-append_cases (z ∷ xs) ys zero x there = inl there
-append_cases (z ∷ xs) ys (suc i) x there = append_cases xs ys i x there
 
 -- functions that agree at each element
 pub map_agree : {X Y : Type 0} (f g : X → Y) (xs : List X) → ((i : ℕ) (x : X) → slice_get xs i ≡ Some x → f x ≡ g x) → map f xs ≡ map g xs
@@ -118,7 +112,7 @@ entries_push symbols labels flat log a b c new entries within numbers label =
       ];
       numbered = λ i n there. elim (append_cases flat c i n there) [
         | inl before ↦ let lt = entries.numbered i n before in omega arith
-        | inr (j, after) ↦ numbers j n after
+        | inr (j, is, after) ↦ numbers j n after
       ];
       named = λ place e id there is. elim (pushed_cases log new place e there) [
         | inl before ↦ let lt = entries.named place e id before is in omega arith

@@ -11,11 +11,10 @@ use Rattle.mm_frame.specs.Numbers.{labelled_sentences}
 use Rattle.mm_frame.specs.FramePlace.{AreHypotheses}
 use Rattle.mm_frame.specs.Mirror.Layout.{AreEssentials}
 use Rattle.mm_frame.specs.Mirror.Gathered.{IsGathered, AreGathered, ArePlaces}
-use Rattle.mm_frame.proofs.Numbered.{at_from_contains, contains_from_at}
 use Rattle.mm_frame.proofs.Labelled.{numbered_get, numbered_at, labelled_grow}
 use Rattle.mm_frame.proofs.Those.{Rise, those_by_places}
 use Rattle.mm_frame.proofs.Needed.{mandatory_places, latest_is_variable}
-use Rattle.mm_text.proofs.Lists.{get_parted, one_there}
+use Rattle.mm_text.proofs.Lists.{get_parted, one_there, at_from_contains, contains_from_at}
 use Rattle.mm_frame.proofs.FrameLaws.{at_place}
 
 pub mandatory_gathered : (st : List Sentence) (essentials : List ℕ) (s : Sentence) (p : ℕ) (h : Sentence) → AllMeant st → IsMeant st s → IsStated s.kind → AreEssentials st essentials → slice_get st p ≡ Some h

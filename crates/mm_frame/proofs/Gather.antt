@@ -20,8 +20,7 @@ use Rattle.mm_frame.specs.Mirror.Latest.{IsLatest}
 use Rattle.mm_frame.specs.Mirror.Layout.{AreInfos, AreEssentials, GivesType, IsLatestIn}
 use Rattle.mm_frame.specs.Mirror.Gathered.{floating_of, floatings, IsIn, StandsIn, AreGathered, AreRisingPlaces}
 use Rattle.mm_text.proofs.Lists.{get_kept, get_pushed, pushed_cases, get_within}
-use Rattle.mm_frame.proofs.Numbered.{at_from_contains, contains_from_at}
-use Rattle.mm_frame.proofs.Entries.{append_cases}
+use Rattle.mm_text.proofs.Lists.{at_from_contains, contains_from_at, append_cases}
 
 -- one symbol more, with a `$f` or without
 pub floatings_some : (infos : List SymbolInfo) (xs : List Sym) (i : ℕ) (d : Sym) (p : ℕ) (old now : List ℕ) → i < length xs → floating_of infos (get_or xs i d) ≡ Some p → now ≡ old ++ floatings infos (take i xs)
@@ -171,7 +170,8 @@ gathered_more st names infos es q h s ns places are at_q numbers gathered =
           ]
           | inr (last, same) ↦ inl (subst (IsIn (es ++ q ∷ [])) same (length es, get_pushed es q))
         ]
-        | inr at ↦ let (x, in_it, latest) = (tell p).0 at in inr (x, inr (q, h, (length es, get_pushed es q), at_q, in_it), latest)
+        | inr (j, is, at) ↦ let (x, in_it, latest) = (tell p).0 (j, at) in
+            inr (x, inr (q, h, (length es, get_pushed es q), at_q, in_it), latest)
       ];
       each = λ p is. elim is [
         | inl (i, at) ↦ elim (pushed_cases es q i p at) [

@@ -15,7 +15,8 @@ use Rattle.mm_text.proofs.Lists.{get_kept, get_pushed, pushed_cases, get_before,
 use Rattle.mm_frame.proofs.ScopeLaws.{length_pushed}
 use Rattle.mm_frame.proofs.Meant.{meant_at}
 use Rattle.mm_frame.proofs.Needed.{typed_variable, some_later}
-use Rattle.mm_frame.proofs.Numbered.{At, at_from_contains, contains_from_at, symbols_push, symbols_unique, symbols_none, number_from_declared, with_name_cases}
+use Rattle.mm_text.proofs.Lists.{at_from_contains, contains_from_at}
+use Rattle.mm_frame.proofs.Numbered.{At, symbols_push, symbols_unique, symbols_none, number_from_declared, with_name_cases}
 
 -- the latest statement that is so, with one statement more
 pub latest_kept : (P : Sentence → Type 0) (st : List Sentence) (e : Sentence) (o : Option ℕ) → ¬ (P e) → IsLatestIn P st o → IsLatestIn P (st ++ e ∷ []) o

@@ -13,8 +13,7 @@ use Rattle.mm_frame.specs.Sentence.{Sentence}
 use Rattle.mm_frame.specs.Active.{IsActive}
 use Rattle.mm_frame.specs.Numbers.{labelled_sentences, IsNumbered}
 use Rattle.mm_frame.specs.Mirror.Layout.{AreLabelInfos, IsEntered, AreEssentials}
-use Rattle.mm_text.proofs.Lists.{get_kept, get_pushed, pushed_cases, get_before, get_within}
-use Rattle.mm_frame.proofs.Entries.{append_cases}
+use Rattle.mm_text.proofs.Lists.{get_kept, get_pushed, pushed_cases, get_before, get_within, append_cases}
 use Rattle.mm_frame.proofs.ScopeLaws.{length_pushed}
 use Rattle.mm_frame.proofs.Stays.{active_last, active_stays, active_falls, active_nest}
 use Rattle.mm_frame.proofs.Meant.{active_in_front}
@@ -158,7 +157,7 @@ essentials_closing st rest gone e are closes inactive last_active = record {
         let (i, at) = are.each p s before kind (active_falls st (e ∷ []) p (slice_get_within st p s before) active) in
         elim (append_cases rest gone i p at) [
           | inl kept ↦ (i, kept)
-          | inr (j, lost) ↦ absurd (inactive j p lost active)
+          | inr (j, is, lost) ↦ absurd (inactive j p lost active)
         ]
     | inr (last, same) ↦ absurd (let h = ap (λ (t : Sentence). t.kind) same in cc)
   ];

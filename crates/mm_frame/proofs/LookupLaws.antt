@@ -12,11 +12,10 @@ use Rattle.mm_frame.specs.Mirror.Latest.{IsLatest}
 use Rattle.mm_frame.specs.Mirror.Layout.{IsLatestIn, IsKnown, IsDeclared, GivesType, AreInfos}
 use Rattle.mm_frame.proofs.Meant.{latest_variable, latest_typed, constant_active, one_role, meant_at, one_code}
 use Rattle.mm_frame.proofs.Needed.{typed_variable, some_later}
-use Rattle.mm_frame.proofs.Numbered.{declared_from_number, number_from_declared, contains_from_at}
+use Rattle.mm_frame.proofs.Numbered.{declared_from_number, number_from_declared}
 use Rattle.mm_frame.proofs.Labelled.{numbered_from_get, numbered_get, numbered_at}
-use Rattle.mm_frame.proofs.Numbered.{at_from_contains}
 use Rattle.std.proofs.Math.Seq.{take-length}
-use Rattle.mm_text.proofs.Lists.{get_within}
+use Rattle.mm_text.proofs.Lists.{get_within, contains_from_at, at_from_contains}
 use Rattle.std.proofs.lemmas.Option.{slice_get_within}
 use Rattle.mm_frame.proofs.NameLists.{get_mapped, get_unmapped}
 

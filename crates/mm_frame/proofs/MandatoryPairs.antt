@@ -15,7 +15,8 @@ use Rattle.mm_frame.specs.FramePlace.{ArePairs, IsSamePair}
 use Rattle.mm_frame.specs.Numbers.{symbols_of, IsNumberOf}
 use Rattle.mm_frame.specs.Mirror.Gathered.{ArePlaces, IsTypedBy, AreVariables, AreApart, AreFound}
 use Rattle.mm_text.proofs.Lists.{get_kept, get_pushed, get_parted, pushed_cases, get_from_front, get_within, one_there}
-use Rattle.mm_frame.proofs.Numbered.{at_from_contains, contains_from_at, symbols_grow}
+use Rattle.mm_text.proofs.Lists.{at_from_contains, contains_from_at}
+use Rattle.mm_frame.proofs.Numbered.{symbols_grow}
 use Rattle.mm_frame.proofs.Needed.{latest_from_active, mandatory_typed}
 use Rattle.mm_frame.proofs.Those.{distinct_other}
 use Rattle.mm_frame.proofs.FrameLaws.{at_place}

@@ -33,9 +33,9 @@ use Rattle.mm_frame.specs.Mirror.Gathered.{ArePlaces, AreThoseAt}
 use Rattle.mm_frame.specs.Pieces.{variables_of, AreItsPieces, HavePatterns, HavePlaces}
 use Rattle.mm_frame.specs.Mirror.Patterned.{ArePatterned}
 use Rattle.mm_frame.proofs.FrameOf.{hypotheses_from_places}
-use Rattle.mm_text.proofs.Lists.{get_pushed, get_within}
+use Rattle.mm_text.proofs.Lists.{get_pushed, get_within, contains_from_at}
 use Rattle.mm_frame.proofs.LookupLaws.{label_number}
-use Rattle.mm_frame.proofs.Numbered.{contains_from_at, with_name_cases, symbols_push}
+use Rattle.mm_frame.proofs.Numbered.{with_name_cases, symbols_push}
 use Rattle.mm_frame.proofs.Labelled.{labelled_few}
 use Rattle.mm_frame.proofs.Labels.{labels_counted, labels_some, essentials_essential, essentials_other}
 use Rattle.mm_frame.proofs.Infos.{infos_other, infos_floating}

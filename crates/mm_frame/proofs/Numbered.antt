@@ -1,10 +1,9 @@
 -- Numbers of symbols: each name stands once among the declared symbols, and keeps its place as statements are added.
-use Rattle.std.proofs.Common.{◌≡◌, ℕ, zero, suc, ◌⊎◌, inl, inr, Bool, true, false, ◌||◌, length, List, [], ◌∷◌, ◌++◌, map, Contains, Some, refl, sym, ap, ◌∙◌, subst, append-nil}
+use Rattle.std.proofs.Common.{◌≡◌, ℕ, zero, suc, ◌⊎◌, inl, inr, Bool, true, false, ◌||◌, length, List, [], ◌∷◌, ◌++◌, map, Some, refl, sym, ap, ◌∙◌, subst, append-nil}
 use Rattle.std.specs.Prelude.{if◌then◌else◌}
 use Rattle.std.specs.List.{slice_get, fold, flat_map, list_any}
 use Rattle.std.specs.Str.{bytes_eq}
 use Rattle.std.specs.Bool.{Decides}
-use Rattle.std.proofs.lemmas.Option.{slice_get_within, get_or_from_slice_get, slice_get_read}
 use Rattle.std.proofs.lemmas.Bool.{cases_Bool, or_cases}
 use Rattle.std.proofs.lemmas.Slice.Eq.{bytes_eq-Decides}
 use Rattle.std.proofs.lemmas.List.Concat.{flat_map-append}
@@ -14,17 +13,12 @@ use Rattle.mm_text.specs.declared.statement.Kind.TheVariants.{Constants, Variabl
 use Rattle.mm_frame.specs.Sentence.{Sentence, SomeSentence, Declares}
 use Rattle.mm_frame.specs.Active.{IsConstant, IsVariable}
 use Rattle.mm_frame.specs.Numbers.{declared_in, declared_by, with_name, symbols_of, AreNumbers}
-use Rattle.mm_text.proofs.Lists.{get_kept, get_pushed, pushed_cases}
+use Rattle.mm_text.proofs.Lists.{get_kept, get_pushed, pushed_cases, append_cases}
+use Rattle.mm_text.proofs.Lists.{at_from_contains, contains_from_at}
 
 -- an element stands at some place
 abbrev pub At : {X : Type 0} → List X → X → Type 0
 At xs x = (i : ℕ) × (slice_get xs i ≡ Some x)
-
-pub at_from_contains : {X : Type 0} (xs : List X) (x : X) → Contains xs x → At xs x
-at_from_contains xs x (k, lt, is) = (k, slice_get_read xs (length xs) k x refl lt (sym is))
-
-pub contains_from_at : {X : Type 0} (xs : List X) (x : X) → At xs x → Contains xs x
-contains_from_at xs x (k, there) = (k, slice_get_within xs k x there, get_or_from_slice_get xs k x x there)
 
 -- what the test whether a name is among names tells
 found_at : (name : List ℕ) (names : List (List ℕ)) → list_any (bytes_eq name) names ≡ true → At names name
@@ -155,11 +149,6 @@ in_declared Provable symbols x (i, there) = absurd (cc)
 in_declared Opening symbols x (i, there) = absurd (cc)
 in_declared Closing symbols x (i, there) = absurd (cc)
 
-append_cases : {X : Type 0} (xs ys : List X) (i : ℕ) (x : X) → slice_get (xs ++ ys) i ≡ Some x → At xs x ⊎ At ys x
-append_cases [] ys i x there = inr (i, there)
-append_cases (z ∷ xs) ys zero x there = inl (0, there)
-append_cases (z ∷ xs) ys (suc i) x there = elim (append_cases xs ys i x there) [ inl (j, at) ↦ inl (suc j, at) | inr at ↦ inr at ]
-
 append_right : {X : Type 0} (xs ys : List X) (x : X) → At ys x → At (xs ++ ys) x
 append_right [] ys x at = at
 append_right (z ∷ xs) ys x at = let (i, there) = append_right xs ys x at in (suc i, there)
@@ -172,13 +161,13 @@ declared_from : (st : List Sentence) (x : List ℕ) (i : ℕ) → slice_get (fla
 declared_from [] x i there = absurd (cc)
 declared_from (s ∷ st) x i there = elim (append_cases (declared_by s) (flat_map declared_by st) i x there) [
   | inl here ↦
-      let (kind, at) = in_declared s.kind s.symbols x here in
+      let (kind, at) = in_declared s.kind s.symbols x (i, here) in
       let in_it = contains_from_at s.symbols x at in
       elim kind [
         | inl constants ↦ inl (0, s, refl, (constants, in_it))
         | inr variables ↦ inr (0, s, refl, (variables, in_it))
       ]
-  | inr (j, after) ↦ elim (declared_from st x j after) [
+  | inr (j, is, after) ↦ elim (declared_from st x j after) [
     | inl constant ↦ inl (further s st (Declares Constants x) constant)
     | inr variable ↦ inr (further s st (Declares Variables x) variable)
   ]

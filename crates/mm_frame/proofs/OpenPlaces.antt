@@ -12,7 +12,7 @@ use Rattle.mm_frame.specs.Laws.{IsInnermostOpen, AreOpen, OpenCount}
 use Rattle.mm_text.proofs.Lists.{get_kept, get_pushed, get_within, get_from_front, get_in_front, pushed_cases, take_next}
 use Rattle.mm_frame.proofs.Counts.{openings-append, closings-append}
 use Rattle.mm_frame.proofs.ScopeLaws.{openings_one, closings_one, length_pushed}
-use Rattle.mm_frame.proofs.Numbered.{at_from_contains, contains_from_at}
+use Rattle.mm_text.proofs.Lists.{at_from_contains, contains_from_at}
 use Rattle.mm_frame.proofs.Surplus.{block_cases}
 use Rattle.mm_frame.proofs.OpenLaws.{opening_law, closing_law}
 

@@ -18,9 +18,9 @@ use Rattle.mm_frame.specs.Numbers.{labelled_sentences, IsNumberOf}
 use Rattle.mm_frame.specs.Mirror.Gathered.{ArePlaces, AreThoseAt}
 use Rattle.mm_frame.specs.Pieces.{variables_of, is_of, IsNowhere, HasPlaces, HavePlaces}
 use Rattle.mm_frame.specs.Mirror.Patterned.{AreAmong}
-use Rattle.mm_text.proofs.Lists.{get_pushed, pushed_cases, get_within, one_there}
+use Rattle.mm_text.proofs.Lists.{get_pushed, pushed_cases, get_within, one_there, at_from_contains}
 use Rattle.mm_frame.proofs.NameLists.{get_mapped}
-use Rattle.mm_frame.proofs.Numbered.{at_from_contains, symbols_grow, symbols_unique}
+use Rattle.mm_frame.proofs.Numbered.{symbols_grow, symbols_unique}
 use Rattle.mm_frame.proofs.Labelled.{numbered_at, numbered_get}
 use Rattle.mm_frame.proofs.Needed.{mandatory_typed}
 use Rattle.mm_frame.proofs.FrameLaws.{at_place}

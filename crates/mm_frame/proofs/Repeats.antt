@@ -3,7 +3,7 @@ use Rattle.std.proofs.Common.{◌≡◌, ℕ, ◌<◌, List, Some}
 use Rattle.std.specs.List.{slice_get}
 use Rattle.mm_frame.specs.Sentence.{Sentence, StandsTwice}
 use Rattle.mm_frame.specs.Rules.{SomeSymbol}
-use Rattle.mm_frame.proofs.Numbered.{contains_from_at}
+use Rattle.mm_text.proofs.Lists.{contains_from_at}
 
 -- what stands at two places stands twice
 pub twice_some : (s : Sentence) (x : List ℕ) (i j : ℕ) → i < j → slice_get s.symbols i ≡ Some x → slice_get s.symbols j ≡ Some x → SomeSymbol s (StandsTwice s.symbols)

@@ -6,8 +6,8 @@ use Rattle.mm_text.specs.declared.token.Token.{Token}
 use Rattle.mm_text.specs.Token.{plain_token}
 use Rattle.mm_frame.specs.Sentence.{StandsTwice}
 use Rattle.mm_frame.specs.Numbers.{with_name}
-use Rattle.mm_frame.proofs.Numbered.{with_name_cases, contains_from_at}
-use Rattle.mm_text.proofs.Lists.{get_from_front, take_next}
+use Rattle.mm_frame.proofs.Numbered.{with_name_cases}
+use Rattle.mm_text.proofs.Lists.{get_from_front, take_next, contains_from_at}
 use Rattle.mm_frame.proofs.Symbols.{texts}
 
 -- the texts of tokens

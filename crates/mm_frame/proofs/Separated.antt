@@ -16,7 +16,8 @@ use Rattle.mm_frame.specs.Mirror.Stated.{Stated}
 use Rattle.mm_frame.specs.Mirror.Separated.{ordered_pair, stated_at, IsOld, IsFresh, IsPassed, ArePaired}
 use Rattle.mm_text.proofs.Lists.{get_kept, get_pushed, pushed_cases}
 use Rattle.mm_frame.proofs.NameLists.{get_mapped, get_unmapped}
-use Rattle.mm_frame.proofs.Numbered.{At, StandOnce, once_pushed, at_from_contains, contains_from_at, symbols_unique}
+use Rattle.mm_text.proofs.Lists.{at_from_contains, contains_from_at}
+use Rattle.mm_frame.proofs.Numbered.{At, StandOnce, once_pushed, symbols_unique}
 use Rattle.mm_frame.proofs.Repeats.{twice_some}
 use Rattle.mm_frame.proofs.Those.{distinct_other}
 use Rattle.mm_frame.proofs.DistinctAt.{AreNew}

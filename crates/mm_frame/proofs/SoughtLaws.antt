@@ -20,7 +20,7 @@ use Rattle.mm_frame.specs.Mirror.Sought.{IsOfNumber, IsSought, AreSought, HasNum
 use Rattle.mm_frame.proofs.LookupLaws.{known_number, unknown, untyped, some_of_active, active_symbol, both_ways}
 use Rattle.mm_frame.proofs.NameLists.{map_snoc}
 use Rattle.mm_frame.proofs.Needed.{used_declared}
-use Rattle.mm_frame.proofs.Numbered.{at_from_contains, contains_from_at}
+use Rattle.mm_text.proofs.Lists.{at_from_contains, contains_from_at}
 use Rattle.mm_frame.proofs.Places.{SomeAt, some_says}
 use Rattle.mm_text.proofs.Lists.{get_within, pushed_cases, take_next}
 use Rattle.mm_frame.proofs.RepeatsCode.{texts_of, text_at}

@@ -4,7 +4,8 @@ use Rattle.std.specs.List.{slice_get}
 use Rattle.std.proofs.lemmas.Bool.{cases_eq}
 use Rattle.mm_frame.specs.Sentence.{Sentence}
 use Rattle.mm_frame.specs.Frame.{AreThose, AreMandatory, IsMandatoryAt, IsDistinct}
-use Rattle.mm_frame.proofs.Numbered.{At, at_from_contains, contains_from_at}
+use Rattle.mm_text.proofs.Lists.{at_from_contains, contains_from_at}
+use Rattle.mm_frame.proofs.Numbered.{At}
 
 -- there is one list of those only
 pub those_unique : {X : Type 0} (P : ℕ → X → Type 0) (n : ℕ) (xs ys zs : List X) → AreThose P n xs ys → AreThose P n xs zs → ys ≡ zs

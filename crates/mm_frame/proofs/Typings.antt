@@ -10,9 +10,9 @@ use Rattle.mm_frame.specs.Form.{AllFormed}
 use Rattle.mm_frame.specs.Numbers.{labelled_sentences, AreNumbers, IsNumberOf}
 use Rattle.mm_frame.specs.FramePlace.{IsTypingOf, HasTyping, HaveTypings}
 use Rattle.mm_frame.specs.Mirror.Gathered.{ArePlaces}
-use Rattle.mm_text.proofs.Lists.{pushed_cases, get_within}
-use Rattle.mm_frame.proofs.Entries.{append_cases, get_sliced}
-use Rattle.mm_frame.proofs.Numbered.{symbols_grow, contains_from_at}
+use Rattle.mm_text.proofs.Lists.{pushed_cases, get_within, contains_from_at, append_cases}
+use Rattle.mm_frame.proofs.Entries.{get_sliced}
+use Rattle.mm_frame.proofs.Numbered.{symbols_grow}
 use Rattle.mm_frame.proofs.Labelled.{labelled_grow, numbered_at, numbered_get}
 use Rattle.mm_frame.proofs.FrameOf.{place_named}
 use Rattle.mm_frame.proofs.PairsOf.{two_parts}
@@ -31,7 +31,7 @@ typings_grow st more hs have i hypothesis there =
 pub typings_join : (st : List Sentence) (xs ys : List Hypothesis) → HaveTypings st xs → HaveTypings st ys → HaveTypings st (xs ++ ys)
 typings_join st xs ys first second i hypothesis there = elim (append_cases xs ys i hypothesis there) [
   | inl before ↦ first i hypothesis before
-  | inr (j, after) ↦ second j hypothesis after
+  | inr (j, is, after) ↦ second j hypothesis after
 ]
 
 pub typings_none : (st : List Sentence) → HaveTypings st []

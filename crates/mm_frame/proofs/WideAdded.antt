@@ -16,7 +16,8 @@ use Rattle.mm_frame.specs.Mirror.Layout.{AreStated}
 use Rattle.mm_frame.specs.Mirror.Wide.{IsWide, AreWide, IsNewWide}
 use Rattle.mm_text.proofs.Lists.{get_kept, get_pushed, pushed_cases, get_before}
 use Rattle.mm_frame.proofs.NameLists.{get_mapped, get_unmapped}
-use Rattle.mm_frame.proofs.Numbered.{at_from_contains, contains_from_at, symbols_unique}
+use Rattle.mm_text.proofs.Lists.{at_from_contains, contains_from_at}
+use Rattle.mm_frame.proofs.Numbered.{symbols_unique}
 use Rattle.mm_frame.proofs.ScopeLaws.{all_taken}
 use Rattle.mm_frame.proofs.Stays.{active_last}
 use Rattle.mm_frame.proofs.DistinctAt.{stated_more}

@@ -27,12 +27,13 @@ use Rattle.mm_proof.specs.Tree.{Names, ShareNoVariable, AreDistinct}
 use Rattle.mm_proof.specs.Moves.{name}
 use Rattle.mm_proof.specs.Proof.{MeetsHypotheses, SomePair, Passed, IsWithin}
 use Rattle.mm_proof.specs.Steps.{IsNumberedMove}
-use Rattle.mm_proof.specs.Mirror.CodeVerify.{name_at, names_at, all_names_at, value_of, replaced_in, all_said_by, pairs_in, IsSymbol, AreDeclaredSymbols, AreStackEntries, AreBelow, IsRightCode, IsWrongCode, IsEqual, IsUnequal, EachEntry, EachPairValues, SomePairValues, Replaces, AreVariablesOf}
+use Rattle.mm_proof.specs.Stores.{all_said_by}
+use Rattle.mm_proof.specs.Mirror.CodeVerify.{name_at, names_at, all_names_at, value_of, replaced_in, pairs_in, IsSymbol, AreDeclaredSymbols, AreStackEntries, AreBelow, IsRightCode, IsWrongCode, IsEqual, IsUnequal, EachEntry, EachPairValues, SomePairValues, Replaces, AreVariablesOf}
 use Rattle.mm_proof.specs.Plain.{label_ids}
 use Rattle.mm_proof.specs.Mirror.CodeSteps.{MayBeUsed}
 use Rattle.mm_proof.specs.Mirror.CodeRun.{CarriesOn, StopsAt}
 use Rattle.mm_proof.specs.Mirror.CodeApply.{IsAppliedAssertion, IsMatched, IsReady, IsEarlierScheme}
-use Rattle.mm_proof.proofs.Places.{get_take, get_from_take}
+use Rattle.mm_text.proofs.Lists.{get_take, get_from_take}
 use Rattle.mm_proof.proofs.OneStep.{StepTo, not_both_kinds}
 use Rattle.mm_proof.proofs.Replacements.{replaced_by, meets_of}
 use Rattle.mm_proof.proofs.Replacing.{replaces_by, replaced_named}

@@ -33,7 +33,7 @@ use Rattle.mm_proof.specs.Plain.{move_in, moves_in, token_texts}
 use Rattle.mm_proof.specs.Mirror.CodeSteps.{AreFor, NumberSays, IsReading, MayAllBeUsed, code_move, code_moves, move_by, fault_behind}
 use Rattle.mm_code.specs.Layout.{texts}
 use Rattle.mm_proof.specs.Answer.{OnRule}
-use Rattle.mm_proof.proofs.Places.{get_from_take}
+use Rattle.mm_text.proofs.Lists.{get_from_take}
 use Rattle.mm_proof.proofs.Frames.{those_hold}
 use Rattle.mm_proof.proofs.Ending.{may_be_used}
 use Rattle.mm_proof.proofs.TokenFacts.{HasLabels, labels_pass}

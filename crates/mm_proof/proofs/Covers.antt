@@ -7,7 +7,7 @@ use Rattle.mm_frame.specs.Sentence.{Sentence}
 use Rattle.mm_proof.specs.Tree.{Trees, none, tree, beside}
 use Rattle.mm_proof.specs.Moves.{Move, name, again, mark, Makes}
 use Rattle.mm_proof.specs.Visits.{Visit, makes, repeats, keeps, visits}
-pub use Rattle.mm_proof.specs.SharedSteps.{Covers, Careful, after}
+pub use Rattle.mm_proof.specs.Mirror.SharedSteps.{Covers, Careful, after}
 use Rattle.mm_proof.proofs.Members.{In, get_in, in_apart}
 
 -- the steps alone

@@ -27,7 +27,7 @@ use Rattle.mm_proof.specs.declared.moves.NumberedMove.{NumberedMove}
 use Rattle.mm_proof.specs.Mirror.CodeVerify.{IsSymbol, AreStackEntries, AreBelow, names_at, all_names_at}
 use Rattle.mm_proof.specs.Verified.{ProvesUsingNumbers, ProvesUsing, OfMoves}
 use Rattle.mm_proof.specs.Mirror.CodeRun.{HasRun, MayBeMade, AreNamedNumbers, AreNamed, EndsWrong}
-use Rattle.mm_proof.proofs.Places.{get_from_take}
+use Rattle.mm_text.proofs.Lists.{get_from_take}
 use Rattle.mm_proof.proofs.Meaning.{one_label}
 use Rattle.mm_proof.proofs.Named.{named_is, below_is, named_once}
 use Rattle.mm_proof.proofs.Numbered.{one_place, one_move}

@@ -23,12 +23,12 @@ use Rattle.mm_proof.specs.Profiles.{limit_of}
 use Rattle.mm_proof.specs.KnownFront.{known_front, IsFrontAllowed, IsFrontFault}
 use Rattle.mm_proof.specs.Strict.{IsStrictList, MarkAssertions, IsStrict, HasFormOf}
 use Rattle.mm_proof.specs.UnderProfile.{IsProvedUnder, IsFaultUnder, IsFrontAllowedUnder, IsFrontFaultUnder, OneVerdictUnder, OneFrontVerdictUnder}
-use Rattle.mm_proof.proofs.Places.{get_take, get_from_take}
+use Rattle.mm_text.proofs.Lists.{get_take, get_from_take, at_from_contains, contains_from_at}
 use Rattle.mm_proof.proofs.SaidMoves.{some_moves, moves_once}
 use Rattle.mm_proof.proofs.Compressed.{one_compressed}
 use Rattle.mm_proof.proofs.Judged.{some_verdict_holds, first_symbol_dec}
 use Rattle.mm_proof.proofs.KnownFronts.{one_front_verdict_holds}
-use Rattle.mm_proof.proofs.FormJudged.{contains_at, at_contains, last_of}
+use Rattle.mm_proof.proofs.FormJudged.{last_of}
 use Rattle.mm_proof.proofs.UnderAnswers.{fault_under, have_under, proved_none, one_under, front_none, one_front_under}
 
 -- ---- the list
@@ -63,12 +63,12 @@ list_from : (before : List Sentence) (s : Sentence) (hs : List Sentence) (given 
 list_from before s hs given labels mandatory labelled not_twice not_shared = record {
   once = λ i j label p q. elim (cases_order i j) [
     | inl e ↦ e
-    | inr (inl less) ↦ absurd (not_twice (j, label, q, contains_at (take j labels) i label (get_take labels j i less ∙ p)))
-    | inr (inr more) ↦ absurd (not_twice (i, label, p, contains_at (take i labels) j label (get_take labels i j more ∙ q)))
+    | inr (inl less) ↦ absurd (not_twice (j, label, q, contains_from_at (take j labels) label (i, get_take labels j i less ∙ p)))
+    | inr (inr more) ↦ absurd (not_twice (i, label, p, contains_from_at (take i labels) label (j, get_take labels i j more ∙ q)))
   ];
   optional = λ hypotheses h label those has named among.
       let same : hypotheses ≡ hs = those_unique (IsMandatoryAt before s) 0 before hypotheses hs those mandatory in
-      let at = at_contains hs h (subst (λ (l : List Sentence). Contains l h) same has) in
+      let at = at_from_contains hs h (subst (λ (l : List Sentence). Contains l h) same has) in
       let l = label_at hs given at.0 h labelled at.1 in
       let one : l.0 ≡ label = same_Some l.0 label (sym l.2 ∙ named) in
       not_shared (at.0, label, l.1 ∙ ap Some one, among);
@@ -76,7 +76,7 @@ list_from before s hs given labels mandatory labelled not_twice not_shared = rec
 
 not_twice_from : (before : List Sentence) (s : Sentence) (labels : List (List ℕ)) → IsStrictList before s labels → ¬ (Twice labels)
 not_twice_from before s labels strict (i, l, at, has) =
-    let k = at_contains (take i labels) l has in
+    let k = at_from_contains (take i labels) l has in
     let f = get_from_take labels i k.0 l k.1 in
     absurd (omega (arith, f.0, strict.once k.0 i l f.1 at))
 
@@ -84,7 +84,7 @@ not_shared_from : (before : List Sentence) (s : Sentence) (hs : List Sentence) (
     → IsStrictList before s labels → ¬ (Shared given labels)
 not_shared_from before s hs given labels mandatory labelled strict (i, l, at, has) =
     let h = hypothesis_at hs given i l labelled at in
-    strict.optional hs h.0 l mandatory (contains_at hs i h.0 h.1) h.2 has
+    strict.optional hs h.0 l mandatory (contains_from_at hs h.0 (i, h.1)) h.2 has
 
 list_dec : (before : List Sentence) (s : Sentence) (hs : List Sentence) (given labels : List (List ℕ)) → AreMandatory before s hs → map (λ h. h.label) hs ≡ map Some given → Dec (IsStrictList before s labels)
 list_dec before s hs given labels mandatory labelled = dec_as

@@ -1,7 +1,7 @@
 -- The strict form of a proof, by the numbers of its labels and of its moves.
 use Rattle.std.proofs.Common.{◌≡◌, ℕ, zero, suc, ◌+◌, ◌<◌, List, [], ◌∷◌, ◌++◌, length, map, take, drop, slice_get, Contains, Some, inl, inr, refl, sym, ap, subst, ◌∙◌, arith}
 use Rattle.std.specs.List.{AllByRecursion}
-use Rattle.std.proofs.lemmas.Option.{same_Some, none-some, slice_get_within, slice_get-get_or, get_or_from_slice_get}
+use Rattle.std.proofs.lemmas.Option.{same_Some, none-some, slice_get_within}
 use Rattle.std.proofs.lemmas.Bool.{cases_order}
 use Rattle.std.proofs.lemmas.List.{length-append, length-take}
 use Rattle.mm_text.proofs.Lists.{zip_left, zip_right, all_at, split_at, get_before, get_parted}
@@ -20,7 +20,7 @@ use Rattle.mm_proof.specs.Parsed.{OfProof, SaySteps}
 use Rattle.mm_proof.specs.Strict.{IsStrictList, MarkAssertions, IsStrict}
 use Rattle.mm_proof.specs.Mirror.CodeSteps.{AreFor, MayBeUsed}
 use Rattle.mm_proof.specs.Mirror.CodeForm.{AllNew, SomeOld, AreMarksStrict, SomeMarkLoose}
-use Rattle.mm_proof.proofs.Places.{get_take, get_from_take}
+use Rattle.mm_text.proofs.Lists.{get_take, get_from_take, at_from_contains, contains_from_at}
 use Rattle.mm_proof.proofs.Meaning.{one_label, one_labelled}
 use Rattle.mm_proof.proofs.Numbered.{one_place}
 use Rattle.mm_proof.proofs.SaidMoves.{moves_once}
@@ -40,12 +40,6 @@ label_once st place id k l m n =
     let same : m.s ≡ n.s = same_Some m.s n.s (sym m.numbered.there ∙ ap (slice_get st) at ∙ n.numbered.there) in
     let named : n.s.label ≡ Some k = subst (IsLabelled k) same m.named in
     same_Some k l (sym named ∙ n.named)
-
-pub contains_at : {X : Type 0} (xs : List X) (i : ℕ) (x : X) → slice_get xs i ≡ Some x → Contains xs x
-contains_at xs i x e = (i, slice_get_within xs i x e, get_or_from_slice_get xs i x x e)
-
-pub at_contains : {X : Type 0} (xs : List X) (x : X) → Contains xs x → (i : ℕ) × (slice_get xs i ≡ Some x)
-at_contains xs x c = (c.0, slice_get-get_or xs c.0 x c.1 ∙ ap Some c.2)
 
 -- a hypothesis stands where its number does
 hypothesis_number : (st : List Sentence) (ids : List ℕ) (hs : List Sentence) (i : ℕ) (h : Sentence) → map (slice_get (labelled_sentences st)) ids ≡ map Some hs → slice_get hs i ≡ Some h
@@ -70,7 +64,7 @@ number_hypothesis st (n ∷ ids) (g ∷ hs) (suc i) id e at =
 -- ---- the list
 
 no_twice : (hids ids : List ℕ) (i j id : ℕ) → AllNew hids ids → slice_get ids i ≡ Some id → slice_get ids j ≡ Some id → i < j → ⊥
-no_twice hids ids i j id new a b less = (new j id b).1 (contains_at (take j ids) i id (get_take ids j i less ∙ a))
+no_twice hids ids i j id new a b less = (new j id b).1 (contains_from_at (take j ids) id (i, get_take ids j i less ∙ a))
 
 strict_list : (st : List Sentence) (place : ℕ) (s : Sentence) (hids ids : List ℕ) (labels : List (List ℕ)) → AllMeant st → slice_get st place ≡ Some s
     → AreHypotheses (record { statements = st; place = place }) hids → AreFor st place ids labels → AllNew hids ids → IsStrictList (take place st) s labels
@@ -93,13 +87,13 @@ strict_list st place s hids ids labels all there h each new = record { once = on
         let own : h.assertion ≡ s = same_Some h.assertion s (sym h.there ∙ there) in
         let mine = subst (λ (a : Sentence). AreMandatory (take place st) a h.hypotheses) own h.mandatory in
         let same : hypotheses ≡ h.hypotheses = those_unique (IsMandatoryAt (take place st) s) 0 (take place st) hypotheses h.hypotheses mandatory mine in
-        let at = at_contains h.hypotheses g (subst (λ (l : List Sentence). Contains l g) same has) in
+        let at = at_from_contains h.hypotheses g (subst (λ (l : List Sentence). Contains l g) same has) in
         let n = hypothesis_number st hids h.hypotheses at.0 g h.numbered at.1 in
         let p = numbered_from_get st n.0 g n.2 in
-        let l = at_contains labels label among in
+        let l = at_from_contains labels label among in
         let b = zip_right (λ id k. MayBeUsed st place k id) ids labels l.0 label each l.1 in
         let one : n.0 ≡ b.0 = number_once st p.0 b.2.at n.0 b.0 g b.2.s label all p.1 b.2.numbered named b.2.named in
-        (new l.0 b.0 b.1).0 (subst (Contains hids) one (contains_at hids at.0 n.0 n.1))
+        (new l.0 b.0 b.1).0 (subst (Contains hids) one (contains_from_at hids n.0 (at.0, n.1)))
 
 loose_list : (st : List Sentence) (place : ℕ) (s : Sentence) (hids ids : List ℕ) (labels : List (List ℕ)) → slice_get st place ≡ Some s
     → AreHypotheses (record { statements = st; place = place }) hids → AreFor st place ids labels → SomeOld hids ids → ¬ (IsStrictList (take place st) s labels)
@@ -107,12 +101,12 @@ loose_list st place s hids ids labels there h each (j, id, at, inl among) strict
     let own : h.assertion ≡ s = same_Some h.assertion s (sym h.there ∙ there) in
     let mine = subst (λ (a : Sentence). AreMandatory (take place st) a h.hypotheses) own h.mandatory in
     let l = zip_left (λ n k. MayBeUsed st place k n) ids labels j id each at in
-    let k = at_contains hids id among in
+    let k = at_from_contains hids id among in
     let g = number_hypothesis st hids h.hypotheses k.0 id h.numbered k.1 in
     let same : l.2.s ≡ g.0 = same_Some l.2.s g.0 (sym (numbered_get st id l.2.at l.2.s l.2.numbered) ∙ g.2) in
-    strict.optional h.hypotheses g.0 l.0 mine (contains_at h.hypotheses k.0 g.0 g.1) (subst (IsLabelled l.0) same l.2.named) (contains_at labels j l.0 l.1)
+    strict.optional h.hypotheses g.0 l.0 mine (contains_from_at h.hypotheses g.0 (k.0, g.1)) (subst (IsLabelled l.0) same l.2.named) (contains_from_at labels l.0 (j, l.1))
 loose_list st place s hids ids labels there h each (j, id, at, inr before) strict =
-    let k = at_contains (take j ids) id before in
+    let k = at_from_contains (take j ids) id before in
     let f = get_from_take ids j k.0 id k.1 in
     let a = zip_left (λ n l. MayBeUsed st place l n) ids labels k.0 id each f.1 in
     let b = zip_left (λ n l. MayBeUsed st place l n) ids labels j id each at in

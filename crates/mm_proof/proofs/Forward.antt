@@ -11,7 +11,7 @@ use Rattle.mm_proof.specs.Substitution.{instance_of}
 use Rattle.mm_proof.specs.Tree.{Trees, none, tree, beside, MayStandOver, DeriveAll}
 use Rattle.mm_proof.specs.Moves.{Move, name, again, mark, Makes}
 use Rattle.mm_proof.specs.Proof.{Prove, Passed}
-use Rattle.mm_proof.proofs.Places.{get_beside}
+use Rattle.mm_text.proofs.Lists.{get_beside}
 use Rattle.mm_proof.proofs.Meaning.{code_is_constant}
 use Rattle.mm_proof.proofs.Frames.{those_hold}
 use Rattle.mm_proof.proofs.OneStep.{Applies, StepTo}

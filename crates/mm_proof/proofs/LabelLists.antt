@@ -8,7 +8,7 @@ use Rattle.mm_text.proofs.Lists.{zip_push}
 use Rattle.mm_frame.specs.declared.number.LabelId.{LabelId}
 use Rattle.mm_proof.specs.Plain.{ids_in, token_texts}
 use Rattle.mm_proof.specs.Mirror.CodeSteps.{AreFor, IsIdle, IsUnknown, MayBeUsed}
-use Rattle.mm_proof.proofs.Places.{get_take}
+use Rattle.mm_text.proofs.Lists.{get_take}
 
 -- one of the labels is idle, or all may be used
 abbrev pub IdleOr : List Sentence → ℕ → Bool → List ℕ → List (List ℕ) → Type 0

@@ -1,9 +1,9 @@
 -- One move more in a listing.
-use Rattle.std.proofs.Common.{◌≡◌, ℕ, zero, suc, ◌+◌, ◌<◌, List, [], ◌∷◌, ◌++◌, length, take, drop, slice_get, Some, true, ◌⊎◌, inl, inr, refl, sym, ap, subst, ◌∙◌, arith}
+use Rattle.std.proofs.Common.{◌≡◌, ℕ, suc, ◌+◌, ◌<◌, List, [], ◌∷◌, ◌++◌, length, take, drop, slice_get, Some, true, ◌⊎◌, inl, inr, refl, sym, ap, subst, ◌∙◌, arith}
 use Rattle.std.proofs.lemmas.Bool.{false≢true}
-use Rattle.std.proofs.lemmas.Option.{same_Some, none-some, slice_get_within}
+use Rattle.std.proofs.lemmas.Option.{slice_get_within}
 use Rattle.std.proofs.lemmas.List.{take-append-le, take_at, length-append}
-use Rattle.mm_text.proofs.Lists.{split_at, get_kept}
+use Rattle.mm_text.proofs.Lists.{split_at, get_kept, get_pushed, pushed_cases}
 use Rattle.mm_frame.specs.Sentence.{Sentence}
 use Rattle.mm_proof.specs.Tree.{none, tree, beside, roots, DeriveAll}
 use Rattle.mm_proof.specs.Moves.{Move, name, again, mark, is_step, steps_in, Makes}
@@ -18,20 +18,14 @@ use Rattle.mm_proof.proofs.Firsts.{steps_in-append}
 
 -- the new element
 pub get_new : {X : Type 0} (xs : List X) (x : X) (i : ℕ) → i ≡ length xs → slice_get (xs ++ x ∷ []) i ≡ Some x
-get_new [] x zero e = refl
-get_new [] x (suc i) e = absurd (omega arith)
-get_new (y ∷ xs) x zero e = absurd (omega arith)
-get_new (y ∷ xs) x (suc i) e = get_new xs x i (omega arith)
+get_new xs x i e = subst (λ n. slice_get (xs ++ x ∷ []) n ≡ Some x) (sym e) (get_pushed xs x)
 
 -- an element is an old one or the new one
 pub old_or_new : {X : Type 0} (xs : List X) (x y : X) (i : ℕ) → slice_get (xs ++ x ∷ []) i ≡ Some y
     → ((i < length xs) × (slice_get xs i ≡ Some y)) ⊎ ((i ≡ length xs) × (x ≡ y))
-old_or_new [] x y zero e = inr (refl, same_Some x y e)
-old_or_new [] x y (suc i) e = absurd (none-some y e)
-old_or_new (z ∷ xs) x y zero e = inl (omega arith, e)
-old_or_new (z ∷ xs) x y (suc i) e = elim (old_or_new xs x y i e) [
-  | inl h ↦ inl (let l = h.0 in omega arith, h.1)
-  | inr h ↦ inr (ap suc h.0, h.1)
+old_or_new xs x y i e = elim (pushed_cases xs x i y e) [
+  | inl there ↦ inl (slice_get_within xs i y there, there)
+  | inr last ↦ inr last
 ]
 
 -- ---- steps

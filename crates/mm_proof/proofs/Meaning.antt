@@ -10,7 +10,7 @@ use Rattle.mm_frame.specs.Active.{IsVariable}
 use Rattle.mm_frame.specs.Rules.{AllMeant}
 use Rattle.mm_frame.proofs.Meant.{meant_at, one_role}
 use Rattle.mm_frame.proofs.Needed.{some_later, used_declared}
-use Rattle.mm_proof.proofs.Places.{get_take}
+use Rattle.mm_text.proofs.Lists.{get_take}
 
 -- ---- labels
 

@@ -9,7 +9,7 @@ use Rattle.mm_frame.proofs.Labelled.{numbered_rise, numbered_unique}
 use Rattle.mm_proof.specs.Moves.{Move, name, again, mark}
 use Rattle.mm_proof.specs.Steps.{IsNumberedMove}
 use Rattle.mm_proof.specs.Mirror.CodeSteps.{IsUnknown}
-use Rattle.mm_proof.proofs.Places.{get_from_take}
+use Rattle.mm_text.proofs.Lists.{get_from_take}
 use Rattle.mm_proof.proofs.Meaning.{one_label}
 
 -- a lesser number is that of an earlier statement

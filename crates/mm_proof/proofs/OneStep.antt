@@ -15,7 +15,7 @@ use Rattle.mm_proof.specs.declared.fault.ProofRule.TheVariants.{P1, P2, P3, P4, 
 use Rattle.mm_proof.specs.Substitution.{IsOn, instance_of}
 use Rattle.mm_proof.specs.Tree.{Names, KeepsApart}
 use Rattle.mm_proof.specs.Proof.{MeetsHypotheses, BreaksStep}
-use Rattle.mm_proof.proofs.Places.{get_beside, one_split}
+use Rattle.mm_text.proofs.Lists.{get_beside, one_parting}
 use Rattle.mm_proof.proofs.Meaning.{one_label, one_labelled}
 use Rattle.mm_proof.proofs.Frames.{those_have}
 
@@ -131,7 +131,7 @@ agree before stack label all m n =
     let place : m.place ≡ n.place = one_label before m.place n.place m.assertion n.assertion label all m.names.there n.names.there m.names.named n.names.named in
     let assertion : m.assertion ≡ n.assertion = one_labelled before m.place n.place m.assertion n.assertion label all m.names.there n.names.there m.names.named n.names.named in
     let hypotheses : m.hypotheses ≡ n.hypotheses = one_frame before m.place n.place m.assertion n.assertion m.hypotheses n.hypotheses place assertion m.names.mandatory n.names.mandatory in
-    let parts = one_split m.rest m.entries n.rest n.entries (sym m.split ∙ n.split) (m.paired ∙ ap length hypotheses ∙ sym n.paired) in
+    let parts = one_parting m.rest m.entries n.rest n.entries (sym m.split ∙ n.split) (m.paired ∙ ap length hypotheses ∙ sym n.paired) in
     let on : IsOn (IsMandatory (take n.place before) n.assertion) m.σ =
     subst (λ b. IsOn (IsMandatory (take n.place before) b) m.σ) assertion (subst (λ k. IsOn (IsMandatory (take k before) m.assertion) m.σ) place m.on) in
     let replaced : Replaces n.hypotheses n.entries m.σ =

@@ -26,7 +26,7 @@ use Rattle.mm_proof.specs.Packing.{ArePacked}
 use Rattle.mm_proof.specs.Mirror.Subtrees.{AreOnce, IsTreeOf}
 use Rattle.mm_proof.specs.Plain.{ids_in}
 use Rattle.mm_proof.specs.Mirror.CodeSharing.{IsStepOf, AreSharedSteps, labels_made, AreFirstNumbers, AreEncoded, AreStepsPacked}
-use Rattle.mm_proof.proofs.Places.{get_from_take}
+use Rattle.mm_text.proofs.Lists.{get_from_take}
 use Rattle.mm_proof.proofs.Expanded.{made_word}
 use Rattle.mm_proof.proofs.Numbered.{one_place}
 use Rattle.mm_proof.proofs.Members.{In, in_get, get_in, contains_in, in_contains, Once, once_places, places_once}

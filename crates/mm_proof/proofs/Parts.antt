@@ -4,9 +4,8 @@ use Rattle.std.specs.List.{slice_range}
 use Rattle.std.specs.Result.{OnOk, OnErr}
 use Rattle.mm_frame.specs.declared.number.Sym.{Sym}
 use Rattle.mm_proof.specs.declared.entry.Entry.{Entry}
-use Rattle.mm_proof.specs.Stores.{numbers_in}
+use Rattle.mm_proof.specs.Stores.{numbers_in, said_by, all_said_by}
 use Rattle.mm_frame.specs.declared.piece.Piece.{Piece}
-use Rattle.mm_proof.specs.Mirror.CodeVerify.{said_by, all_said_by}
 use Rattle.mm_proof.proofs.Values.{no_piece, said_appended}
 use Rattle.mm_proof.specs.Mirror.Buffer.{parts_of, IsPart, AreParts}
 use Rattle.std.proofs.lemmas.Option.{none-some, same_Some}

@@ -11,7 +11,8 @@ use Rattle.mm_frame.specs.Sentence.{Sentence}
 use Rattle.mm_frame.specs.Numbers.{labelled_sentences}
 use Rattle.mm_frame.specs.Laws.{OneNumber}
 use Rattle.mm_frame.specs.Pieces.{AreItsPieces, HavePatterns}
-use Rattle.mm_proof.specs.Mirror.CodeVerify.{names_at, AreBelow, all_said_by, IsWithinPlaces, IsEqual, IsUnequal, Replaces}
+use Rattle.mm_proof.specs.Stores.{all_said_by, IsWithinPlaces}
+use Rattle.mm_proof.specs.Mirror.CodeVerify.{names_at, AreBelow, IsEqual, IsUnequal, Replaces}
 use Rattle.mm_proof.proofs.Values.{pattern_says, pattern_within}
 use Rattle.mm_proof.proofs.Replacing.{equal_told}
 

@@ -6,7 +6,7 @@ use Rattle.std.proofs.lemmas.Bool.Decides.{Decides-eqb}
 use Rattle.std.proofs.lemmas.Option.{same_Some, none-some, slice_get_within, slice_get-get_or}
 use Rattle.std.proofs.lemmas.List.{map-append, take_all, length-map, get_or-set_same, get_or-set_other}
 use Rattle.std.proofs.lemmas.List.Elements.{Contains-push, Contains-push_cases, Contains-append_left}
-use Rattle.mm_text.proofs.Lists.{zip_left, zip_right, get_kept, get_pushed}
+use Rattle.mm_text.proofs.Lists.{zip_left, zip_right, get_kept, get_pushed, pushed_cases}
 use Rattle.mm_frame.specs.Sentence.{Sentence}
 use Rattle.mm_frame.specs.declared.number.LabelId.{LabelId}
 use Rattle.mm_proof.specs.declared.moves.NumberedMove.{NumberedMove}
@@ -22,10 +22,10 @@ use Rattle.mm_proof.proofs.Running.{front_more}
 -- ---- one more at the end of a list
 
 get_push : {X : Type 0} (xs : List X) (x y : X) (i : ℕ) → slice_get (xs ++ x ∷ []) i ≡ Some y → (slice_get xs i ≡ Some y) ⊎ (x ≡ y)
-get_push [] x y zero e = inr (same_Some x y e)
-get_push [] x y (suc i) e = absurd (none-some y e)
-get_push (z ∷ xs) x y zero e = inl e
-get_push (z ∷ xs) x y (suc i) e = get_push xs x y i e
+get_push xs x y i e = elim (pushed_cases xs x i y e) [
+  | inl there ↦ inl there
+  | inr last ↦ inr last.1
+]
 
 pub same_number : (a b : ℕ) → ◌≡◌ {A = Move ℕ} (name a) (name b) → a ≡ b
 same_number a b e = cc

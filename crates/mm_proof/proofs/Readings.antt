@@ -16,7 +16,7 @@ use Rattle.mm_proof.specs.Tokens.{IsNormal, Says}
 use Rattle.mm_proof.specs.Proof.{proof_rank, BreaksWhole, IsWhole}
 use Rattle.mm_proof.specs.Steps.{IsNumberedMove, AreNumberedMoves, IsUsable, IsUsableMove}
 use Rattle.mm_proof.specs.Mirror.CodeSteps.{AreFor, MayBeUsed, NumberSays, IsReading}
-use Rattle.mm_proof.proofs.Places.{get_take}
+use Rattle.mm_text.proofs.Lists.{get_take}
 use Rattle.mm_proof.proofs.TokenFacts.{labels_pass, normal_labels}
 
 -- ---- labels and their numbers

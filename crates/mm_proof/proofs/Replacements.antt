@@ -13,7 +13,7 @@ use Rattle.mm_frame.proofs.Meant.{meant_at, allmeant_front, active_in_front}
 use Rattle.mm_frame.proofs.Needed.{mandatory_typed}
 use Rattle.mm_proof.specs.Tree.{Names}
 use Rattle.mm_proof.specs.Proof.{MeetsHypotheses}
-use Rattle.mm_proof.proofs.Places.{get_take, get_beside}
+use Rattle.mm_text.proofs.Lists.{get_take, get_beside}
 use Rattle.mm_proof.proofs.Frames.{those_hold}
 use Rattle.mm_proof.proofs.OneStep.{typing_among}
 use Rattle.mm_proof.proofs.Runs.{typing_of, same_typing}

@@ -9,7 +9,7 @@ use Rattle.mm_proof.specs.declared.fault.ProofRule.TheVariants.{P1, P2, P3, P4}
 use Rattle.mm_proof.specs.Tokens.{IsNormal, AreLabels, opening_token, closing_token}
 use Rattle.mm_proof.specs.Proof.{proof_rank, BreaksWhole, IsWholeFault}
 use Rattle.mm_proof.specs.Mirror.CodeSteps.{AreFor, MayBeUsed, BreaksLabels}
-use Rattle.mm_proof.proofs.Places.{get_take, get_from_take}
+use Rattle.mm_text.proofs.Lists.{get_take, get_from_take}
 use Rattle.mm_proof.proofs.Meaning.{one_label, one_labelled}
 use Rattle.mm_proof.proofs.LabelLists.{texts_more, known_push}
 use Rattle.mm_proof.proofs.OneStep.{not_both_kinds}

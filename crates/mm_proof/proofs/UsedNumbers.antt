@@ -12,7 +12,7 @@ use Rattle.mm_proof.specs.Tree.{Trees, none}
 use Rattle.mm_proof.specs.Moves.{Move, name, again, mark, Makes}
 use Rattle.mm_proof.specs.Steps.{IsNumberedMove, AreNumberedMoves, IsUsable, IsUsableMove}
 use Rattle.mm_proof.specs.Used.{IsUsedNumber}
-use Rattle.mm_proof.proofs.Places.{get_take, get_from_take}
+use Rattle.mm_text.proofs.Lists.{get_take, get_from_take}
 use Rattle.mm_proof.proofs.Meaning.{one_label}
 use Rattle.mm_proof.proofs.OneStep.{hypothesis_or_assertion}
 use Rattle.mm_proof.proofs.Uses.{labels_of_moves}

@@ -8,11 +8,11 @@ use Rattle.std.proofs.lemmas.Option.{same_Some, none-some, slice_get-get_or}
 use Rattle.std.proofs.lemmas.List.{length-map, take-map, take_more, append_assoc, append-nil, append_cancel_left, length-append, take_all, take_at, take-append-drop}
 use Rattle.std.proofs.lemmas.List.Concat.{flat_map-append}
 use Rattle.mm_frame.specs.declared.number.Sym.{Sym}
-use Rattle.mm_proof.specs.Stores.{numbers_in}
+use Rattle.mm_proof.specs.Stores.{numbers_in, said_by, all_said_by, IsWithinPlaces}
 use Rattle.mm_frame.specs.declared.piece.Piece.{Piece}
 use Rattle.mm_frame.specs.declared.piece.Piece.TheVariants.{Symbol, Value}
 use Rattle.mm_frame.specs.Pieces.{IsNowhere, IsFirstAt, IsPieceOf, ArePieces}
-use Rattle.mm_proof.specs.Mirror.CodeVerify.{value_of, replaced_in, said_by, all_said_by, IsWithinPlaces}
+use Rattle.mm_proof.specs.Mirror.CodeVerify.{value_of, replaced_in}
 
 pub value_nowhere : (n : ℕ) (variables : List (Option ℕ)) (entries : List (List ℕ)) → IsNowhere n variables → value_of variables entries n ≡ None
 value_nowhere n [] entries h = refl

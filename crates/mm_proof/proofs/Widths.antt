@@ -12,7 +12,7 @@ use Rattle.mm_proof.specs.Steps.{IsNumberedMove}
 use Rattle.mm_proof.specs.Mirror.CodeSteps.{MayBeUsed}
 use Rattle.mm_proof.specs.Mirror.CodeApply.{IsEarlierScheme}
 use Rattle.mm_proof.specs.Spelled.{IsLabelNumber}
-use Rattle.mm_proof.proofs.Places.{get_take}
+use Rattle.mm_text.proofs.Lists.{get_take}
 use Rattle.mm_proof.proofs.Named.{as_many}
 use Rattle.mm_proof.proofs.OneStep.{hypothesis_or_assertion, one_names}
 use Rattle.mm_proof.proofs.Applying.{names_of, called_of}

@@ -5,7 +5,6 @@ pub mod Moves
 pub mod Plain
 pub mod BigSubtrees
 pub mod Visits
-pub mod SharedSteps
 pub mod Sharing
 pub mod SharingLaws
 pub mod Tokens

@@ -10,6 +10,7 @@ pub mod CodeRun
 pub mod CodeSharing
 pub mod CodeSteps
 pub mod CodeVerify
+pub mod SharedSteps
 pub mod Sites
 pub mod Subtrees
 pub mod Words

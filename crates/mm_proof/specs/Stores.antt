@@ -1,6 +1,9 @@
--- What the stores' lists are as lists of numbers.
-use Rattle.std.specs.Prelude.{ℕ, List, map, Vec}
+-- What the stores' lists are as lists of numbers, and what pieces say over them.
+use Rattle.std.specs.Prelude.{ℕ, ◌<◌, List, [], ◌∷◌, map, drop, slice_index_or, Vec}
+use Rattle.std.specs.List.{flat_map}
 use Rattle.mm_frame.specs.declared.number.Sym.{Sym}
+use Rattle.mm_frame.specs.declared.piece.Piece.{Piece}
+use Rattle.mm_frame.specs.declared.piece.Piece.TheVariants as pieces
 
 -- the numbers of an expression's symbols
 abbrev pub numbers_in : List Sym → List ℕ
@@ -9,3 +12,17 @@ numbers_in symbols = map (λ s. s.0) symbols
 -- rows of symbols as expressions
 abbrev pub rows_in : {Z : Type 0} → List (Vec Sym Z) → List (List ℕ)
 rows_in rows = map (λ row. map (λ s. s.0) row.items) rows
+
+-- what the piece says, where the entries of the hypotheses are these
+abbrev pub said_by : List (List ℕ) → Piece → List ℕ
+said_by entries (pieces.Symbol symbol) = symbol.0 ∷ []
+said_by entries (pieces.Value place) = drop 1 (slice_index_or entries place [])
+
+-- what pieces say
+abbrev pub all_said_by : List (List ℕ) → List Piece → List ℕ
+all_said_by entries pieces = flat_map (said_by entries) pieces
+
+-- the piece names no place behind so many
+abbrev pub IsWithinPlaces : ℕ → Piece → Type 0
+IsWithinPlaces count (pieces.Symbol symbol) = Unit {0}
+IsWithinPlaces count (pieces.Value place) = place < count

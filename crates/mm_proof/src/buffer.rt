@@ -5,8 +5,7 @@ ghost use Rattle.std.specs.Prelude.{List, slice_range, OnOk, OnErr, MatchBool};
 ghost use Rattle.std.specs.List.{AllByRecursion};
 ghost use Rattle.mm_frame.specs.declared.number.Sym.{Sym};
 ghost use Rattle.mm_proof.specs.Mirror.Buffer.{AreParts, parts_of};
-ghost use Rattle.mm_proof.specs.Stores.{numbers_in};
-ghost use Rattle.mm_proof.specs.Mirror.CodeVerify.{all_said_by, IsWithinPlaces};
+ghost use Rattle.mm_proof.specs.Stores.{numbers_in, all_said_by, IsWithinPlaces};
 
 use crate::entry::Entry;
 use crate::said::{put_part_behind, put_pieces};

@@ -3,8 +3,7 @@
 ghost use Rattle.std.specs.Prelude.{◌≡◌, ◌+◌, ◌<◌, ◌≤◌, ◌^◌, [], ◌++◌, length, drop};
 ghost use Rattle.std.specs.Prelude.{slice_index_or, false, IfOk, MatchBool};
 ghost use Rattle.std.specs.List.{AllByRecursion};
-ghost use Rattle.mm_proof.specs.Stores.{numbers_in, rows_in};
-ghost use Rattle.mm_proof.specs.Mirror.CodeVerify.{said_by, all_said_by, IsWithinPlaces};
+ghost use Rattle.mm_proof.specs.Stores.{numbers_in, rows_in, said_by, all_said_by, IsWithinPlaces};
 
 use crate::store::{Store, put_last};
 use crate::substitution::{after_first, append_value};

@@ -8,8 +8,7 @@ ghost use Rattle.std.specs.Prelude.{slice_range, IfSome};
 ghost use Rattle.std.specs.List.{AllByRecursion};
 ghost use Rattle.mm_frame.specs.declared.number.Sym.{Sym};
 ghost use Rattle.mm_proof.specs.Mirror.Buffer.{AreParts, parts_of};
-ghost use Rattle.mm_proof.specs.Stores.{numbers_in};
-ghost use Rattle.mm_proof.specs.Mirror.CodeVerify.{said_by, all_said_by, IsWithinPlaces};
+ghost use Rattle.mm_proof.specs.Stores.{numbers_in, said_by, all_said_by, IsWithinPlaces};
 
 use crate::entry::{Entry, value_start};
 use mm_frame::{ShortPiece, Sym};

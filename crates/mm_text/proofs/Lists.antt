@@ -2,12 +2,14 @@
 -- those that the crates above need too stand here.
 use Rattle.std.proofs.Common.{◌≡◌, ℕ, zero, suc, ◌+◌, ◌<◌, List, [], ◌∷◌, ◌++◌, map, length, take}
 use Rattle.std.proofs.Common.{drop, set, get_or, refl, ap, sym, subst, ◌∙◌, ◌⊎◌, inl, inr, Some, arith}
-use Rattle.std.proofs.Common.{Bool, true, filter}
+use Rattle.std.proofs.Common.{Bool, true, filter, Contains}
 use Rattle.std.specs.List.{AllByRecursion, AllZip, slice_get, list_any}
-use Rattle.std.proofs.lemmas.List.{length-map, get_or-map}
+use Rattle.std.proofs.lemmas.List.{length-map, get_or-map, length-take, length-append}
+use Rattle.std.proofs.lemmas.List.{take_at, drop_at}
 use Rattle.std.proofs.lemmas.List.Elements.{All-filter, All-from_recursion, recursion_from_All}
 use Rattle.std.proofs.lemmas.List.Folds.{list_any_at}
-use Rattle.std.proofs.lemmas.Option.{same_Some, none-some}
+use Rattle.std.proofs.lemmas.Option.{same_Some, none-some, slice_get_within, slice_get_read}
+use Rattle.std.proofs.lemmas.Option.{get_or_from_slice_get}
 
 -- ---- lists from their parts
 
@@ -182,6 +184,51 @@ get_dropped (suc n) [] k x there = absurd (cc)
 get_dropped (suc n) (y ∷ xs) k x there =
     let e : suc (n + k) ≡ suc n + k = omega arith in
     subst (λ j. slice_get (y ∷ xs) j ≡ Some x) e (get_dropped n xs k x there)
+
+-- in a front stands what stands in the list
+pub get_take : {A : Type 0} (xs : List A) (n i : ℕ) → i < n
+    → slice_get (take n xs) i ≡ slice_get xs i
+get_take xs zero i h = absurd (omega arith)
+get_take [] (suc n) i h = refl
+get_take (x ∷ xs) (suc n) zero h = refl
+get_take (x ∷ xs) (suc n) (suc i) h = get_take xs n i (omega arith)
+
+-- what stands in a front stands in the list, and before the front's end
+pub get_from_take : {A : Type 0} (xs : List A) (n i : ℕ) (x : A) → slice_get (take n xs) i ≡ Some x
+    → (i < n) × (slice_get xs i ≡ Some x)
+get_from_take xs n i x e =
+    let within : i < length (take n xs) = slice_get_within (take n xs) i x e in
+    let lt : i < n = omega (arith, length-take n xs) in
+    (lt, sym (get_take xs n i lt) ∙ e)
+
+-- two lists of one length: where the one has an element, so has the other
+pub get_beside : {A B : Type 0} (xs : List A) (ys : List B) (i : ℕ) (x : A) → length ys ≡ length xs
+    → slice_get xs i ≡ Some x → (y : B) × (slice_get ys i ≡ Some y)
+get_beside [] ys i x l e = absurd (none-some x e)
+get_beside (x' ∷ xs) [] i x l e = absurd (omega arith)
+get_beside (x' ∷ xs) (y ∷ ys) zero x l e = (y, refl)
+get_beside (x' ∷ xs) (y ∷ ys) (suc i) x l e = get_beside xs ys i x (omega arith) e
+
+-- a list parts in one way only into a front and an end of known length
+pub one_parting : {A : Type 0} (a b c d : List A) → a ++ b ≡ c ++ d → length b ≡ length d
+    → (a ≡ c) × (b ≡ d)
+one_parting {A} a b c d e l =
+    let n : length a ≡ length c = omega (arith, length-append a b, length-append c d, ap length e)
+    in (
+      sym (take_at a b (length c) n) ∙ ap (take (length c)) e ∙ take_at c d (length c) refl,
+      sym (drop_at a b (length c) n) ∙ ap (drop (length c)) e ∙ drop_at c d (length c) refl,
+    )
+
+-- a member stands at a place
+pub at_from_contains : {A : Type 0} (xs : List A) (x : A) → Contains xs x
+    → (i : ℕ) × (slice_get xs i ≡ Some x)
+at_from_contains xs x (i, lt, is) = (i, slice_get_read xs (length xs) i x refl lt (sym is))
+
+-- what stands at a place is a member
+pub contains_from_at : {A : Type 0} (xs : List A) (x : A) → (i : ℕ) × (slice_get xs i ≡ Some x)
+    → Contains xs x
+contains_from_at xs x (i, there) =
+    (i, slice_get_within xs i x there, get_or_from_slice_get xs i x x there)
 
 -- an element of what is appended
 pub get_after : {A : Type 0} (xs ys : List A) (i : ℕ) (x : A) → slice_get ys i ≡ Some x

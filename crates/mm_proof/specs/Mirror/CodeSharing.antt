@@ -9,7 +9,7 @@ use Rattle.mm_frame.specs.Rules.{AllMeant}
 use Rattle.mm_proof.specs.Tree.{Trees, none, tree}
 use Rattle.mm_proof.specs.BigSubtrees.{IsBig}
 use Rattle.mm_proof.specs.Visits.{Visit, makes, repeats}
-use Rattle.mm_proof.specs.SharedSteps.{In, Covers, Careful, after}
+use Rattle.mm_proof.specs.Mirror.SharedSteps.{In, Covers, Careful, after}
 use Rattle.mm_proof.specs.Mirror.Subtrees.{IsTreeOf, AreSubtreesOf}
 use Rattle.mm_proof.specs.declared.subtrees.Subtree.{Subtree}
 use Rattle.mm_proof.specs.declared.subtrees.Row.{Row}

@@ -6,8 +6,6 @@ use Rattle.std.specs.List.{flat_map, AllByRecursion, AllZip}
 use Rattle.mm_text.specs.declared.statement.Kind.TheVariants.{Floating, Essential}
 use Rattle.mm_proof.specs.Substitution.{instance_of}
 use Rattle.mm_frame.specs.declared.distinct.DistinctPair.{DistinctPair}
-use Rattle.mm_frame.specs.declared.piece.Piece.{Piece}
-use Rattle.mm_frame.specs.declared.piece.Piece.TheVariants as pieces
 use Rattle.mm_frame.specs.Pieces.{is_of}
 use Rattle.mm_frame.specs.Sentence.{Sentence, Types}
 use Rattle.mm_frame.specs.Active.{IsConstant, IsVariable}
@@ -47,20 +45,6 @@ value_of (v ∷ variables) (e ∷ entries) n =
 -- the numbers with each variable replaced
 abbrev pub replaced_in : (ℕ → Option (List ℕ)) → List ℕ → List ℕ
 replaced_in σ ns = flat_map (λ n. unwrap_or (σ n) (n ∷ [])) ns
-
--- what the piece says, where the entries of the hypotheses are these
-abbrev pub said_by : List (List ℕ) → Piece → List ℕ
-said_by entries (pieces.Symbol symbol) = symbol.0 ∷ []
-said_by entries (pieces.Value place) = drop 1 (slice_index_or entries place [])
-
--- what pieces say
-abbrev pub all_said_by : List (List ℕ) → List Piece → List ℕ
-all_said_by entries pieces = flat_map (said_by entries) pieces
-
--- the piece names no place behind so many
-abbrev pub IsWithinPlaces : ℕ → Piece → Type 0
-IsWithinPlaces count (pieces.Symbol symbol) = Unit {0}
-IsWithinPlaces count (pieces.Value place) = place < count
 
 -- each hypothesis is a `$f`
 abbrev pub EachIsSome : List (Option ℕ) → Type 0

@@ -5,7 +5,8 @@ use Rattle.mm_frame.proofs.Patterns.{variables_counted}
 use Rattle.mm_proof.specs.declared.fault.ProofRule.{ProofRule}
 use Rattle.mm_proof.specs.declared.fault.ProofRule.TheVariants.{L1}
 use Rattle.mm_proof.specs.Mirror.CodeRun.{CarriesOn, StopsAt}
-use Rattle.mm_proof.specs.Mirror.CodeVerify.{all_said_by, AreStackEntries}
+use Rattle.mm_proof.specs.Stores.{all_said_by}
+use Rattle.mm_proof.specs.Mirror.CodeVerify.{AreStackEntries}
 use Rattle.mm_proof.proofs.Applying.{stops_L1, carries, made_entries, match_true, match_false}
 use Rattle.mm_proof.proofs.apply.conclude.Goals as goal
 

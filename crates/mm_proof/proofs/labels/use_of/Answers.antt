@@ -4,7 +4,7 @@ use Rattle.mm_frame.specs.Active.{IsActive}
 use Rattle.mm_frame.specs.Numbers.{IsNumbered}
 use Rattle.std.proofs.lemmas.Bool.{false≢true}
 use Rattle.mm_frame.proofs.Needed.{some_later}
-use Rattle.mm_proof.proofs.Places.{get_take}
+use Rattle.mm_text.proofs.Lists.{get_take}
 use Rattle.mm_proof.proofs.Numbered.{numbers_order, not_earlier}
 use Rattle.mm_proof.proofs.labels.use_of.Goals as goal
 

@@ -1,8 +1,7 @@
 use Rattle.std.proofs.Common.{◌≡◌, ◌++◌, drop, ap, ◌+◌, ◌∙◌, subst, length, arith}
 use Rattle.mm_frame.specs.declared.piece.Piece.{Piece}
 use Rattle.std.proofs.lemmas.List.{length-map}
-use Rattle.mm_proof.specs.Stores.{numbers_in, rows_in}
-use Rattle.mm_proof.specs.Mirror.CodeVerify.{said_by, IsWithinPlaces}
+use Rattle.mm_proof.specs.Stores.{numbers_in, rows_in, said_by, IsWithinPlaces}
 use Rattle.mm_proof.proofs.Values.{said_over, said_appended, within_at}
 use Rattle.mm_proof.proofs.rows.fill_said.Goals as goal
 

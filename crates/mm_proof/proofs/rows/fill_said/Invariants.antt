@@ -1,6 +1,5 @@
 use Rattle.std.proofs.Common.{◌≡◌, take, drop}
-use Rattle.mm_proof.specs.Stores.{numbers_in, rows_in}
-use Rattle.mm_proof.specs.Mirror.CodeVerify.{all_said_by}
+use Rattle.mm_proof.specs.Stores.{numbers_in, rows_in, all_said_by}
 use Rattle.mm_proof.proofs.rows.fill_said.Given as goal
 
 abbrev pub invariant-loop-piece : goal.invariant-loop-piece

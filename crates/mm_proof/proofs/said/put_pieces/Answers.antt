@@ -2,8 +2,7 @@ use Rattle.std.proofs.Common.{◌≡◌, ◌++◌, take, drop, ◌∙◌, subst,
 use Rattle.std.proofs.lemmas.List.{get_or_default}
 use Rattle.mm_frame.specs.declared.piece.Piece.{Piece}
 use Rattle.mm_proof.specs.Mirror.Buffer.{parts_of}
-use Rattle.mm_proof.specs.Stores.{numbers_in}
-use Rattle.mm_proof.specs.Mirror.CodeVerify.{said_by}
+use Rattle.mm_proof.specs.Stores.{numbers_in, said_by}
 use Rattle.mm_proof.proofs.Parts.{pieces-step}
 use Rattle.mm_proof.proofs.Values.{no_piece}
 use Rattle.mm_proof.proofs.Saying.{front_stays, parts_used}

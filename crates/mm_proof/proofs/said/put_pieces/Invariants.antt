@@ -1,8 +1,7 @@
 use Rattle.std.proofs.Common.{◌≡◌, ◌≤◌, List, ◌++◌, take, drop, length}
 use Rattle.mm_frame.specs.declared.number.Sym.{Sym}
 use Rattle.mm_proof.specs.Mirror.Buffer.{parts_of}
-use Rattle.mm_proof.specs.Stores.{numbers_in}
-use Rattle.mm_proof.specs.Mirror.CodeVerify.{all_said_by}
+use Rattle.mm_proof.specs.Stores.{numbers_in, all_said_by}
 use Rattle.mm_proof.proofs.said.put_pieces.Given as goal
 
 abbrev pub invariant-loop-piece : goal.invariant-loop-piece

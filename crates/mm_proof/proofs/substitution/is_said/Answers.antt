@@ -2,8 +2,7 @@ use Rattle.std.proofs.Common.{◌≡◌, ◌++◌, ℕ, List, drop, sym, ◌∙�
 use Rattle.std.proofs.lemmas.Bool.{false≢true}
 use Rattle.std.proofs.lemmas.Bool.Decides.{Decides-eqb}
 use Rattle.mm_frame.specs.declared.piece.Piece.{Piece}
-use Rattle.mm_proof.specs.Stores.{numbers_in}
-use Rattle.mm_proof.specs.Mirror.CodeVerify.{said_by, IsWithinPlaces}
+use Rattle.mm_proof.specs.Stores.{numbers_in, said_by, IsWithinPlaces}
 use Rattle.mm_proof.proofs.Values.{said_step, said_none, said_end, within_at}
 use Rattle.mm_proof.proofs.substitution.is_said.Goals as goal
 

@@ -1,7 +1,6 @@
 use Rattle.std.proofs.Common.{◌++◌, ◌∷◌, [], take, drop, ap, sym, ◌∙◌}
 use Rattle.std.proofs.lemmas.List.{take-map}
-use Rattle.mm_proof.specs.Stores.{numbers_in, rows_in}
-use Rattle.mm_proof.specs.Mirror.CodeVerify.{all_said_by}
+use Rattle.mm_proof.specs.Stores.{numbers_in, rows_in, all_said_by}
 use Rattle.mm_proof.proofs.Applying.{match_true}
 use Rattle.mm_proof.proofs.RowLemmas.{push-seen}
 use Rattle.mm_proof.proofs.rows.RowsStore.conclude.Goals as goal
